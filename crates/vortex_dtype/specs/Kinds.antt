@@ -1,0 +1,26 @@
+-- The eight integer kinds: their widths and signs.
+use Rattle.std.specs.Prelude.{ℕ, Bool, true, false}
+use Rattle.vortex_dtype.specs.declared.kinds.PType.{PType}
+use Rattle.vortex_dtype.specs.declared.kinds.PType.TheVariants.{U8, U16, U32, U64, I8, I16, I32, I64}
+
+-- how many bytes a number of the kind takes
+abbrev pub byte_width_of : PType → ℕ
+byte_width_of U8 = 1
+byte_width_of U16 = 2
+byte_width_of U32 = 4
+byte_width_of U64 = 8
+byte_width_of I8 = 1
+byte_width_of I16 = 2
+byte_width_of I32 = 4
+byte_width_of I64 = 8
+
+-- whether the kind has negative numbers
+abbrev pub is_signed_kind : PType → Bool
+is_signed_kind U8 = false
+is_signed_kind U16 = false
+is_signed_kind U32 = false
+is_signed_kind U64 = false
+is_signed_kind I8 = true
+is_signed_kind I16 = true
+is_signed_kind I32 = true
+is_signed_kind I64 = true

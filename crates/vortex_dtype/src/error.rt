@@ -1,0 +1,186 @@
+//! Why a call was refused.
+
+ghost use Rattle.std.specs.Prelude.{◌≡◌};
+ghost use Rattle.vortex_dtype.specs.declared.error.VortexError.TheVariants.{OutOfMemory};
+
+use std::alloc::{AllocError, AllocFailed};
+use std::marker::Model;
+use thiserror::Error;
+
+/// One step from a value to a part of it.
+///
+/// Of this port alone: upstream's refusals are messages.
+#[derive(Clone, Copy, Debug, PartialEq, Eq)]
+pub enum Step {
+    /// The element of a list at this place.
+    Element(usize),
+    /// The entry of a map at this place.
+    Entry(usize),
+    /// The key of an entry.
+    Key,
+    /// The value of an entry.
+    Value,
+    /// The field of a struct at this place.
+    Field(usize),
+    /// The child of a union.
+    Child,
+    /// The scalar inside a variant.
+    Inner,
+}
+
+/// What is wrong with a raw value at the end of a path.
+///
+/// Of this port alone: upstream's refusals are messages.
+#[derive(Clone, Copy, Debug, PartialEq, Eq)]
+pub enum Breach {
+    /// A null of a type that takes none.
+    NullNotAllowed,
+    /// A raw value of another kind than the type's.
+    WrongValue,
+    /// A list of fixed size, a struct or a map's entry with another number of parts.
+    WrongLength,
+    /// A union's value with an id that no variant has.
+    UnknownTypeId,
+    /// A null in place of a map's entry.
+    NullEntry,
+    /// A variant that holds a null of a type other than Null.
+    VariantNull,
+}
+
+/// Why parts do not make a type.
+///
+/// Of this port alone: upstream's refusals are messages.
+#[derive(Clone, Copy, Debug, PartialEq, Eq)]
+pub enum TypeCause {
+    /// The key type of a map takes a null.
+    NullableKey,
+    /// Names, types and ids are not equally many.
+    LengthsDiffer,
+    /// Two variants have one id.
+    RepeatedTypeId,
+}
+
+/// The steps from a value to the part that is meant, the outermost first.
+///
+/// A contract sees it as the list of its steps.
+#[derive(Debug, Drop)]
+pub struct Path {
+    steps: Vec<Step>,
+}
+
+impl Model for Path {
+    ghost use Rattle.std.specs.Prelude.{List};
+    ghost use Rattle.vortex_dtype.specs.declared.error.Step.{Step};
+
+    ghost Value = { List Step };
+
+    ghost view = { λ path. path.steps.items };
+}
+
+impl Path {
+    /// The path of these steps. Takes no memory.
+    pub fn of(steps: Vec<Step>) -> Path
+        ensures { result ≡ steps.items }
+    {
+        Path { steps }
+    }
+
+    /// The steps, the outermost first.
+    pub fn steps(&self) -> &[Step]
+        ensures { result.now ≡ self.now }
+    {
+        self.steps.as_slice()
+    }
+}
+
+impl PartialEq for Path {
+    ghost use Rattle.std.specs.Cmp.Lexicographic.{pointwise, lists_equiv};
+    ghost use Rattle.std.specs.Cmp.{partial_equiv_from_equiv};
+    ghost use Rattle.vortex_dtype.specs.contracts.error.StepEq.TheImpl.Laws.{laws-law as step_laws};
+
+    ghost eq = { pointwise ⟦<Step as PartialEq>⟧.eq };
+
+    ghost laws = { partial_equiv_from_equiv (lists_equiv step_laws) };
+
+    fn eq(&self, other: &Path) -> bool {
+        self.steps == other.steps
+    }
+}
+
+impl Eq for Path {
+    ghost use Rattle.std.specs.Cmp.Lexicographic.{lists_equiv};
+    ghost use Rattle.vortex_dtype.specs.contracts.error.StepEq.TheImpl.Laws.{laws-law as step_laws};
+
+    ghost laws = { lists_equiv step_laws };
+}
+
+/// Why a call was refused. Texts are for people and are not promised.
+///
+/// Stands for `vortex_error::VortexError`, whose refusals are messages.
+#[derive(Debug, Drop, PartialEq, Eq, Error)]
+pub enum VortexError {
+    /// A growth was refused.
+    #[error("out of memory")]
+    OutOfMemory,
+    /// The value is not valid for the type: the first breach in reading order, and the path to it.
+    #[error("the value is not valid: {breach:?} at {path:?}")]
+    Invalid { path: Path, breach: Breach },
+    /// A type or a value of another kind than the call takes.
+    #[error("a type or a value of another kind")]
+    WrongKind,
+    /// A child's type is not exactly the expected one.
+    #[error("child {index} has another type")]
+    WrongChild { index: usize },
+    /// Counts differ.
+    #[error("expected {expected} parts, found {found}")]
+    WrongLength { expected: usize, found: usize },
+    /// No variant has the id.
+    #[error("no variant has the id {id}")]
+    UnknownTypeId { id: u8 },
+    /// The table of casts or the target type refuses.
+    #[error("the value cannot be cast to the type")]
+    CannotCast,
+    /// The number does not fit.
+    #[error("the number is out of range")]
+    OutOfRange,
+    /// Another integer kind than was asked for.
+    #[error("the value has another integer kind")]
+    WrongPType,
+    /// A value was needed, and there is a null.
+    #[error("the value is null")]
+    IsNull,
+    /// No field has the name.
+    #[error("no field has the name")]
+    NoField,
+    /// The bytes are not UTF-8.
+    #[error("the bytes are not UTF-8")]
+    NotUtf8,
+    /// A null of a type other than Null inside a variant.
+    #[error("a variant holds no null of another type than Null")]
+    VariantNull,
+    /// More children than 32 bits count.
+    #[error("too many children")]
+    TooMany,
+    /// Reinterpretation between kinds of different widths.
+    #[error("the widths differ")]
+    WidthsDiffer,
+    /// The parts make no type.
+    #[error("the parts make no type: {cause:?}")]
+    BadType { cause: TypeCause },
+}
+
+impl From<AllocError> for VortexError {
+    ghost from_gives = { λ _ e. e ≡ OutOfMemory };
+
+    fn from(_error: AllocError) -> VortexError {
+        VortexError::OutOfMemory
+    }
+}
+
+impl<T: Drop> From<AllocFailed<T>> for VortexError {
+    ghost from_gives = { λ _ e. e ≡ OutOfMemory };
+
+    fn from(_error: AllocFailed<T>) -> VortexError {
+        VortexError::OutOfMemory
+    }
+}
