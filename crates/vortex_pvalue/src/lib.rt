@@ -1,13 +1,8 @@
-// A library with one function.
+//! Integer values: a kind and a whole number in its range.
 #![tactic(auto)]
 
-ghost use Rattle.std.specs.Prelude.{◌≡◌};
-ghost use Rattle.vortex_pvalue.specs.Echo.{echo_of};
+mod natives;
+mod pvalues;
 
-// The `ensures` clause is the contract: what `echo` returns is `echo_of` of its argument, a definition
-// in `specs/Echo.antt`, which a caller's clause can cite too.
-pub fn echo(x: usize) -> usize
-    ensures { result ≡ echo_of x }
-{
-    x
-}
+pub use natives::NativePType;
+pub use pvalues::PValue;
