@@ -1,5 +1,5 @@
 -- The eight integer kinds: their widths and signs.
-use Rattle.std.specs.Prelude.{ℕ, Bool, true, false}
+use Rattle.std.specs.Prelude.{ℕ, ◌==◌, Bool, true, false}
 use Rattle.vortex_dtype.specs.declared.kinds.PType.{PType}
 use Rattle.vortex_dtype.specs.declared.kinds.PType.TheVariants.{U8, U16, U32, U64, I8, I16, I32, I64}
 
@@ -24,3 +24,18 @@ is_signed_kind I8 = true
 is_signed_kind I16 = true
 is_signed_kind I32 = true
 is_signed_kind I64 = true
+
+-- the place of the kind among the eight
+abbrev pub kind_index : PType → ℕ
+kind_index U8 = 0
+kind_index U16 = 1
+kind_index U32 = 2
+kind_index U64 = 3
+kind_index I8 = 4
+kind_index I16 = 5
+kind_index I32 = 6
+kind_index I64 = 7
+
+-- whether the kinds are one
+abbrev pub same_kind : PType → PType → Bool
+same_kind k l = kind_index k == kind_index l

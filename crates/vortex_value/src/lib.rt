@@ -1,13 +1,8 @@
-// A library with one function.
+//! Raw values and scalars: a valid scalar is one type and one content.
 #![tactic(auto)]
 
-ghost use Rattle.std.specs.Prelude.{◌≡◌};
-ghost use Rattle.vortex_value.specs.Echo.{echo_of};
+mod scalars;
+mod values;
 
-// The `ensures` clause is the contract: what `echo` returns is `echo_of` of its argument, a definition
-// in `specs/Echo.antt`, which a caller's clause can cite too.
-pub fn echo(x: usize) -> usize
-    ensures { result ≡ echo_of x }
-{
-    x
-}
+pub use scalars::Scalar;
+pub use values::ScalarValue;

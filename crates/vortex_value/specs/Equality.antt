@@ -1,0 +1,49 @@
+-- When contents are equal.
+use Rattle.std.specs.Prelude.{◌≡◌, ◌↔◌, ℕ, ℤ, Bool, List}
+use Rattle.vortex_dtype.specs.TypeTree.{TypeTree, Same}
+use Rattle.vortex_value.specs.Content.{Content, null, truth, whole, text, string, sequence, tagged, typed, Contents, no_contents, content_then}
+
+-- equal, where typed children need types that are the same up to nullability and equal contents
+abbrev mutual
+  pub EqualContents : Content → Content → Type 0
+  EqualContents null null = Unit {0}
+  EqualContents (truth b) (truth c) = b ≡ c
+  EqualContents (whole z) (whole w) = z ≡ w
+  EqualContents (text bs) (text cs) = bs ≡ cs
+  EqualContents (string bs) (string cs) = bs ≡ cs
+  EqualContents (sequence cs) (sequence ds) = AllEqual cs ds
+  EqualContents (tagged i c) (tagged j d) = (i ≡ j) × EqualContents c d
+  EqualContents (typed t c) (typed u d) = Same t u × EqualContents c d
+  EqualContents _ _ = ⊥
+
+  -- equally many places, equal at each
+  pub AllEqual : Contents → Contents → Type 0
+  AllEqual no_contents no_contents = Unit {0}
+  AllEqual (content_then c cs) (content_then d ds) = EqualContents c d × AllEqual cs ds
+  AllEqual _ _ = ⊥
+
+-- no typed child stands in the content
+abbrev mutual
+  pub HasNoTyped : Content → Type 0
+  HasNoTyped null = Unit {0}
+  HasNoTyped (truth b) = Unit {0}
+  HasNoTyped (whole z) = Unit {0}
+  HasNoTyped (text bs) = Unit {0}
+  HasNoTyped (string bs) = Unit {0}
+  HasNoTyped (sequence cs) = HaveNoTyped cs
+  HasNoTyped (tagged id c) = HasNoTyped c
+  HasNoTyped (typed t c) = ⊥
+
+  pub HaveNoTyped : Contents → Type 0
+  HaveNoTyped no_contents = Unit {0}
+  HaveNoTyped (content_then c cs) = HasNoTyped c × HaveNoTyped cs
+
+-- Equality of contents is an equivalence.
+pub record EqualityIsAnEquivalence : Type 0 where
+  pub reflexive : (c : Content) → EqualContents c c
+  pub symmetric : (c d : Content) → EqualContents c d → EqualContents d c
+  pub transitive : (c d e : Content) → EqualContents c d → EqualContents d e → EqualContents c e
+
+-- Where no typed child stands, equal contents are one.
+abbrev pub EqualityAgreesWithoutTyped : Type 0
+EqualityAgreesWithoutTyped = (c d : Content) → HasNoTyped c → EqualContents c d ↔ (c ≡ d)

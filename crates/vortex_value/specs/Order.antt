@@ -1,0 +1,49 @@
+-- The order of contents.
+use Rattle.std.specs.Prelude.{◌≡◌, ℕ, ℤ, ◌==◌, Bool, true, false, List, Option, Some, None, if◌then◌else◌}
+use Rattle.std.specs.Cmp.Lexicographic.{slice_cmp}
+use Rattle.std.specs.Ordering.{nat_cmp, int_cmp, ordering_reverse, ordering_then, is_gt, partial_ordering_then}
+use Rattle.std.specs.declared.cmp.Ordering.{Ordering}
+use Rattle.std.specs.declared.cmp.Ordering.TheVariants.{Less, Equal, Greater}
+use Rattle.vortex_value.specs.Content.{Content, null, truth, whole, text, string, sequence, tagged, typed, Contents, no_contents, content_then}
+
+-- false is below true
+abbrev pub truth_cmp : Bool → Bool → Ordering
+truth_cmp false true = Less
+truth_cmp true false = Greater
+truth_cmp _ _ = Equal
+
+abbrev mutual
+  -- a null is below all others, numbers go by size, texts and strings by bytes, tagged children with one id by
+  -- their contents; tagged children with different ids, typed children and contents of two kinds have no order
+  pub order : Content → Content → Option Ordering
+  order null null = Some Equal
+  order null d = Some Less
+  order c null = Some Greater
+  order (truth b) (truth c) = Some (truth_cmp b c)
+  order (whole z) (whole w) = Some (int_cmp z w)
+  order (text bs) (text cs) = Some (slice_cmp nat_cmp bs cs)
+  order (string bs) (string cs) = Some (slice_cmp nat_cmp bs cs)
+  order (sequence cs) (sequence ds) = orders cs ds
+  order (tagged i c) (tagged j d) = if i == j then order c d else None
+  order _ _ = None
+
+  -- the first place whose order is not Equal decides; without one the shorter is below
+  pub orders : Contents → Contents → Option Ordering
+  orders no_contents no_contents = Some Equal
+  orders no_contents (content_then d ds) = Some Less
+  orders (content_then c cs) no_contents = Some Greater
+  orders (content_then c cs) (content_then d ds) = partial_ordering_then (order c d) (orders cs ds)
+
+-- the order seen from the other side
+abbrev pub reversed : Option Ordering → Option Ordering
+reversed None = None
+reversed (Some o) = Some (ordering_reverse o)
+
+-- The order is reversed when its sides are swapped.
+abbrev pub OrderIsReversed : Type 0
+OrderIsReversed = (c d : Content) → order c d ≡ reversed (order d c)
+
+-- If c against d and d against e are each Less or Equal, so is c against e, and Less where one of them was.
+abbrev pub OrderIsTransitive : Type 0
+OrderIsTransitive = (c d e : Content) (a b : Ordering) → order c d ≡ Some a → order d e ≡ Some b
+    → is_gt a ≡ false → is_gt b ≡ false → order c e ≡ Some (ordering_then a b)
