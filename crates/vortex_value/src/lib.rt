@@ -4,6 +4,8 @@
 mod cast;
 mod constructor;
 mod scalars;
+#[cfg(test)]
+mod tests;
 mod validate;
 mod values;
 
