@@ -1,48 +1,56 @@
 -- The trees of declared raw values and scalars.
-use Rattle.std.specs.Prelude.{◌≡◌, Option, Some, None}
+use Rattle.std.specs.Prelude.{List, [], ◌∷◌, map, Option, Some, None, option_map}
 use Rattle.vortex_dtype.specs.TypeOf.{type_of}
 use Rattle.vortex_dtype.specs.TypeTree.{TypeTree}
 use Rattle.vortex_pvalue.specs.Whole.{kind_of, whole_of}
-use Rattle.vortex_value.specs.Content.{Content, content}
-use Rattle.vortex_value.specs.RawTree.{RawTree, absent, raw_integer}
-use Rattle.vortex_value.specs.Validity.{Valid}
-use Rattle.vortex_value.specs.declared.scalars.Scalar.{Scalar}
-use Rattle.vortex_value.specs.declared.values.ScalarValue.{ScalarValue}
-use Rattle.vortex_value.specs.declared.values.ScalarValue.TheVariants.{Primitive}
+use Rattle.vortex_value.specs.RawTree.{RawTree, absent, raw_bool, raw_integer, raw_text, raw_bytes, raw_tuple, raw_union, raw_variant, RawTrees, no_raws, raw_then}
+use Rattle.vortex_value.specs.declared.scalars.Scalar.{Scalar, fold-Scalar}
+use Rattle.vortex_value.specs.declared.unions.UnionValue.{UnionValue, fold-UnionValue}
+use Rattle.vortex_value.specs.declared.values.ScalarValue.{ScalarValue, fold-ScalarValue}
+use Rattle.vortex_value.specs.declared.values.ScalarValue.TheOpen.{ScalarValue-F, Scalar-F, UnionValue-F}
+
+-- an optional tree as a tree
+abbrev pub raw_or_absent : Option RawTree → RawTree
+raw_or_absent None = absent
+raw_or_absent (Some v) = v
+
+-- a list of optional trees as the list that a tree holds
+abbrev pub raws_from : List (Option RawTree) → RawTrees
+raws_from [] = no_raws
+raws_from (v ∷ vs) = raw_then (raw_or_absent v) (raws_from vs)
+
+-- the tree of one level of a raw value: a scalar inside is the tree of a variant, a union's value that of a union
+abbrev pub value_step : ScalarValue-F RawTree RawTree RawTree → RawTree
+value_step (ScalarValue-F.Bool b) = raw_bool b
+value_step (ScalarValue-F.Primitive p) = raw_integer (kind_of p) (whole_of p)
+value_step (ScalarValue-F.Utf8 t) = raw_text t
+value_step (ScalarValue-F.Binary b) = raw_bytes b
+value_step (ScalarValue-F.Tuple vs) = raw_tuple (raws_from vs.items)
+value_step (ScalarValue-F.Union u) = u
+value_step (ScalarValue-F.Variant s) = s.value
+
+abbrev pub scalar_step : Scalar-F RawTree RawTree RawTree → RawTree
+scalar_step s = raw_variant (type_of s.dtype) (raw_or_absent s.value)
+
+abbrev pub union_step : UnionValue-F RawTree RawTree RawTree → RawTree
+union_step u = raw_union u.type_id (raw_or_absent (option_map (λ b. b.value) u.child))
 
 -- the tree of a raw value
 abbrev pub value_tree : ScalarValue → RawTree
-value_tree (Primitive p) = raw_integer (kind_of p) (whole_of p)
+value_tree = fold-ScalarValue RawTree RawTree RawTree value_step scalar_step union_step
+
+-- the tree of the variant that a scalar makes
+abbrev pub scalar_tree : Scalar → RawTree
+scalar_tree = fold-Scalar RawTree RawTree RawTree value_step scalar_step union_step
+
+-- the tree of a union's value
+abbrev pub union_tree : UnionValue → RawTree
+union_tree = fold-UnionValue RawTree RawTree RawTree value_step scalar_step union_step
 
 -- the tree of an optional raw value
 abbrev pub raw_of : Option ScalarValue → RawTree
-raw_of None = absent
-raw_of (Some v) = value_tree v
+raw_of v = raw_or_absent (option_map value_tree v)
 
--- the type of a scalar
-abbrev pub scalar_type : Scalar → TypeTree
-scalar_type x = type_of x.dtype
-
--- the raw value of a scalar
-abbrev pub scalar_raw : Scalar → RawTree
-scalar_raw x = raw_of x.value
-
--- the content of a scalar
-abbrev pub scalar_content : Scalar → Content
-scalar_content x = content (scalar_raw x)
-
--- the value is valid for the type
-abbrev pub IsValid : Scalar → Type 0
-IsValid x = Valid (scalar_type x) (scalar_raw x)
-
--- y is the scalar of this type and raw value
-pub record IsMadeOf (t : TypeTree) (v : RawTree) (y : Scalar) : Type 0 where
-  pub typed : scalar_type y ≡ t
-  pub value : scalar_raw y ≡ v
-
--- y is the one scalar of type t with content c: no other valid raw value of t has it
-pub record IsTheOne (t : TypeTree) (c : Content) (y : Scalar) : Type 0 where
-  pub typed : scalar_type y ≡ t
-  pub valid : IsValid y
-  pub same : scalar_content y ≡ c
-  pub only : (v : RawTree) → Valid t v → content v ≡ c → v ≡ scalar_raw y
+-- the trees of several
+abbrev pub raws_of : List (Option ScalarValue) → RawTrees
+raws_of vs = raws_from (map (option_map value_tree) vs)

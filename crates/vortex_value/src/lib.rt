@@ -1,13 +1,10 @@
 //! Raw values and scalars: a valid scalar is one type and one content.
 #![tactic(auto)]
 
-mod cast;
-mod constructor;
 mod scalars;
-#[cfg(test)]
-mod tests;
-mod validate;
+mod unions;
 mod values;
 
 pub use scalars::Scalar;
+pub use unions::UnionValue;
 pub use values::ScalarValue;

@@ -1,32 +1,28 @@
 //! Raw values.
 
-ghost use Rattle.std.specs.Prelude.{◌≡◌, IsOk, IfOk};
-
-use std::alloc::Global;
-use vortex_dtype::VortexError;
+use crate::scalars::Scalar;
+use crate::unions::UnionValue;
+use vortex_dtype::{BufferString, ByteBuffer};
 use vortex_pvalue::PValue;
 
-/// A raw value, whose type stands elsewhere.
+/// A raw value, whose type stands elsewhere. A contract sees it as a tree.
 ///
 /// Ports `vortex_array::scalar::ScalarValue`.
+#[cycle(value)]
 #[derive(Debug, Drop)]
 pub enum ScalarValue {
+    /// A truth value.
+    Bool(bool),
     /// An integer of a kind.
     Primitive(PValue),
-}
-
-impl ScalarValue {
-    ghost use Rattle.vortex_value.specs.RawOf.{value_tree};
-
-    /// A copy, integer kinds included. Of an integer it takes no memory.
-    ///
-    /// Ports the `Clone` of `ScalarValue`.
-    pub fn clone(&self, _alloc: Global) -> Result<ScalarValue, VortexError>
-        ensures copied { IfOk result (λ copy. value_tree copy ≡ value_tree self.now) }
-        ensures succeeds { IsOk result }
-    {
-        match self {
-            ScalarValue::Primitive(number) => Ok(ScalarValue::Primitive(*number)),
-        }
-    }
+    /// A text.
+    Utf8(BufferString),
+    /// A string of bytes.
+    Binary(ByteBuffer),
+    /// The parts of a list, a struct or a map, of which each entry is a tuple of two.
+    Tuple(Vec<Option<ScalarValue>>),
+    /// A union's id and child.
+    Union(UnionValue),
+    /// A scalar, which brings its type along.
+    Variant(Box<Scalar>),
 }
