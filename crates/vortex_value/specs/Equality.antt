@@ -1,6 +1,8 @@
 -- When contents are equal.
-use Rattle.std.specs.Prelude.{◌≡◌, ◌↔◌, ℕ, ℤ, Bool, List}
-use Rattle.vortex_dtype.specs.TypeTree.{TypeTree, Same}
+use Rattle.std.specs.Prelude.{◌≡◌, ◌↔◌, ℕ, ℤ, ◌==◌, ◌&&◌, not, Bool, true, false, List, IsTrue}
+use Rattle.std.specs.Ordering.{int_eq}
+use Rattle.vortex_dtype.specs.TypeEquality.{bytes_eq, tree_eq}
+use Rattle.vortex_dtype.specs.TypeTree.{TypeTree, Same, erase}
 use Rattle.vortex_value.specs.Content.{Content, null, truth, whole, text, string, sequence, tagged, typed, Contents, no_contents, content_then}
 
 -- equal, where typed children need types that are the same up to nullability and equal contents
@@ -21,6 +23,33 @@ abbrev mutual
   AllEqual no_contents no_contents = Unit {0}
   AllEqual (content_then c cs) (content_then d ds) = EqualContents c d × AllEqual cs ds
   AllEqual _ _ = ⊥
+
+-- whether the truth values are one
+abbrev pub same_truth : Bool → Bool → Bool
+same_truth true b = b
+same_truth false b = not b
+
+-- whether the types are the same up to nullability
+abbrev pub same_type : TypeTree → TypeTree → Bool
+same_type t u = tree_eq (erase t) (erase u)
+
+-- the test of equality
+abbrev mutual
+  pub equal : Content → Content → Bool
+  equal null null = true
+  equal (truth b) (truth c) = same_truth b c
+  equal (whole z) (whole w) = int_eq z w
+  equal (text bs) (text cs) = bytes_eq bs cs
+  equal (string bs) (string cs) = bytes_eq bs cs
+  equal (sequence cs) (sequence ds) = all_equal cs ds
+  equal (tagged i c) (tagged j d) = (i == j) && equal c d
+  equal (typed t c) (typed u d) = same_type t u && equal c d
+  equal _ _ = false
+
+  pub all_equal : Contents → Contents → Bool
+  all_equal no_contents no_contents = true
+  all_equal (content_then c cs) (content_then d ds) = equal c d && all_equal cs ds
+  all_equal _ _ = false
 
 -- no typed child stands in the content
 abbrev mutual
@@ -47,3 +76,7 @@ pub record EqualityIsAnEquivalence : Type 0 where
 -- Where no typed child stands, equal contents are one.
 abbrev pub EqualityAgreesWithoutTyped : Type 0
 EqualityAgreesWithoutTyped = (c d : Content) → HasNoTyped c → EqualContents c d ↔ (c ≡ d)
+
+-- The test passes exactly where contents are equal.
+abbrev pub EqualityIsDecided : Type 0
+EqualityIsDecided = (c d : Content) → IsTrue (equal c d) ↔ EqualContents c d

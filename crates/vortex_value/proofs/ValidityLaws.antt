@@ -1,0 +1,231 @@
+-- A raw value is valid exactly where it has no breach.
+use Rattle.std.proofs.Common.{◌≡◌, ◌≢◌, ◌↔◌, ℕ, suc, ℤ, Bool, true, false, ◌&&◌, not, ◌==◌, if◌then◌else◌, List, [], ◌∷◌, ◌++◌, Option, Some, None, Result, Ok, Err, IsOk, refl, sym, ap, arith, true≢false}
+use Rattle.std.proofs.lemmas.Bool.Decides.{Decides-eqb}
+use Rattle.vortex_dtype.specs.Kinds.{kind_index, same_kind}
+use Rattle.vortex_dtype.specs.TypeTree.{TypeTree, null_type, bool_type, integer_type, utf8_type, binary_type, list_type, fixed_size_list_type, map_type, struct_type, union_type, variant_type, TypeTrees, no_types, type_then, nullability_of, says_nullable, IsNullable, is_nullable, storage}
+use Rattle.vortex_dtype.specs.declared.error.Breach.TheVariants.{VariantNull}
+use Rattle.vortex_dtype.specs.declared.error.Step.{Step}
+use Rattle.vortex_dtype.specs.declared.error.Step.TheVariants.{Child, Inner}
+use Rattle.vortex_dtype.specs.declared.error.VortexError.{VortexError}
+use Rattle.vortex_dtype.specs.declared.error.VortexError.TheVariants.{OutOfMemory, Invalid}
+use Rattle.vortex_dtype.specs.declared.kinds.Nullability.{Nullability}
+use Rattle.vortex_dtype.specs.declared.kinds.Nullability.TheVariants.{NonNullable, Nullable}
+use Rattle.vortex_dtype.specs.declared.kinds.PType.{PType}
+use Rattle.vortex_dtype.specs.declared.kinds.PType.TheVariants.{U8, U16, U32, U64, I8, I16, I32, I64}
+use Rattle.vortex_pvalue.specs.Kinds.{InRange, in_range}
+use Rattle.vortex_pvalue.specs.RangeLaws.{in_range_true, in_range_back}
+use Rattle.vortex_value.specs.Breaches.{Found, here, under, first, count_types, is_null_type, child_breaches, breaches_at, element_breaches, entry_breaches, field_breaches, breaches, Refuses, Answers, ValidExactlyWithoutBreach}
+use Rattle.vortex_value.specs.RawTree.{RawTree, absent, raw_bool, raw_integer, raw_text, raw_bytes, raw_tuple, raw_union, raw_variant, RawTrees, no_raws, raw_then, count, is_absent}
+use Rattle.vortex_value.specs.Validity.{type_with, HasType, MayBeInside, ValidAt, EachValid, EntriesValid, FieldsValid, Valid}
+
+-- lists of breaches
+
+cons : {A : Type 0} (x : A) (xs : List A) → x ∷ xs ≢ []
+cons x xs e = cc
+
+when_none : (b : Bool) (f : Found) (fs : List Found) → (if b then [] else (f ∷ fs)) ≡ [] → b ≡ true
+when_none true f fs h = refl
+when_none false f fs h = absurd (cons f fs h)
+
+none_under : (s : Step) (fs : List Found) → under s fs ≡ [] → fs ≡ []
+none_under s [] h = refl
+none_under s (f ∷ fs) h = absurd (cons _ _ h)
+
+none_left : (fs gs : List Found) → fs ++ gs ≡ [] → fs ≡ []
+none_left [] gs h = refl
+none_left (f ∷ fs) gs h = absurd (cons f (fs ++ gs) h)
+
+none_right : (fs gs : List Found) → fs ++ gs ≡ [] → gs ≡ []
+none_right [] gs h = h
+none_right (f ∷ fs) gs h = absurd (cons f (fs ++ gs) h)
+
+none_first : (s : Step) (fs gs : List Found) → under s fs ++ gs ≡ [] → fs ≡ []
+none_first s fs gs h = none_under s fs (none_left (under s fs) gs h)
+
+both_none : (s : Step) (fs gs : List Found) → fs ≡ [] → gs ≡ [] → under s fs ++ gs ≡ []
+both_none s fs gs p q = rw (p, q)
+
+-- what the tests of a node say
+
+both : (b c : Bool) → (b && c) ≡ true → (b ≡ true) × (c ≡ true)
+both true true h = (refl, refl)
+both true false h = absurd (true≢false (sym h))
+both false c h = absurd (true≢false (sym h))
+
+one_index : (k l : PType) → kind_index k ≡ kind_index l → k ≡ l
+one_index U8 U8 h = refl
+one_index U16 U16 h = refl
+one_index U32 U32 h = refl
+one_index U64 U64 h = refl
+one_index I8 I8 h = refl
+one_index I16 I16 h = refl
+one_index I32 I32 h = refl
+one_index I64 I64 h = refl
+one_index _ _ h = absurd (omega arith)
+
+one_kind : (k l : PType) → same_kind k l ≡ true → k ≡ l
+one_kind k l h = one_index k l ((Decides-eqb (kind_index k) (kind_index l)).0 h)
+
+kind_itself : (k l : PType) → k ≡ l → same_kind k l ≡ true
+kind_itself k l h = (Decides-eqb (kind_index k) (kind_index l)).1 (ap kind_index h)
+
+integer_valid : (k l : PType) (z : ℤ) (fs : List Found) (f : Found) → (if same_kind l k && in_range k z then [] else (f ∷ fs)) ≡ [] → (l ≡ k) × InRange k z
+integer_valid k l z fs f h = let p = both (same_kind l k) (in_range k z) (when_none (same_kind l k && in_range k z) f fs h) in (one_kind l k p.0, in_range_back k z p.1)
+
+integer_none : (k l : PType) (z : ℤ) (fs : List Found) → l ≡ k → InRange k z → (if same_kind l k && in_range k z then [] else fs) ≡ []
+integer_none k l z fs p q = rw (kind_itself l k p, in_range_true k z q)
+
+says : (n : Nullability) → says_nullable n ≡ true → n ≡ Nullable
+says Nullable h = refl
+says NonNullable h = absurd (true≢false (sym h))
+
+null_valid : (t : TypeTree) (f : Found) (fs : List Found) → (if is_nullable t then [] else (f ∷ fs)) ≡ [] → IsNullable t
+null_valid t f fs h = says (nullability_of t) (when_none (is_nullable t) f fs h)
+
+null_none : (t : TypeTree) (fs : List Found) → IsNullable t → (if is_nullable t then [] else fs) ≡ []
+null_none t fs h = rw h
+
+lengths : (m n : ℕ) (f : Found) (fs gs : List Found) → (if m == n then fs else (f ∷ gs)) ≡ [] → (m ≡ n) × (fs ≡ [])
+lengths m n f fs gs h = by_test (m == n) refl h where
+  by_test : (b : Bool) → (m == n) ≡ b → (if b then fs else (f ∷ gs)) ≡ [] → (m ≡ n) × (fs ≡ [])
+  by_test true e h = ((Decides-eqb m n).0 e, h)
+  by_test false e h = absurd (cons _ _ h)
+
+lengths_none : (m n : ℕ) (fs gs : List Found) → m ≡ n → fs ≡ [] → (if m == n then fs else gs) ≡ []
+lengths_none m n fs gs p q = let e = (Decides-eqb m n).1 p in rw (e, q)
+
+child_valid : (f : TypeTree → List Found) (p : TypeTree → Type 0) → ((t : TypeTree) → f t ≡ [] → p t) → (o : Option TypeTree) → child_breaches o f ≡ [] → HasType o p
+child_valid f p each None h = absurd (cons _ _ h)
+child_valid f p each (Some t) h = each t (none_under Child (f t) h)
+
+child_none : (f : TypeTree → List Found) (p : TypeTree → Type 0) → ((t : TypeTree) → p t → f t ≡ []) → (o : Option TypeTree) → HasType o p → child_breaches o f ≡ []
+child_none f p each None h = absurd h
+child_none f p each (Some t) h = rw (each t h)
+
+is_null : (t : TypeTree) → is_null_type t ≡ true → t ≡ null_type
+is_null null_type h = refl
+is_null _ h = absurd (true≢false (sym h))
+
+may_be_inside : (t : TypeTree) (v : RawTree) → (is_absent v ≡ true → is_null_type t ≡ true) → MayBeInside t v
+may_be_inside t absent h = is_null t (h refl)
+may_be_inside t _ h = tt
+
+inside_null : (t : TypeTree) (v : RawTree) → MayBeInside t v → is_absent v ≡ true → is_null_type t ≡ true
+inside_null t absent h a = ap is_null_type h
+inside_null t _ h a = absurd (true≢false (sym a))
+
+inside : (a n : Bool) (fs : List Found) → (if a && not n then here VariantNull else under Inner fs) ≡ [] → (a ≡ true → n ≡ true) × (fs ≡ [])
+inside true true fs h = (λ _. refl, none_under Inner fs h)
+inside true false fs h = absurd (cons _ _ h)
+inside false n fs h = (λ e. absurd (true≢false (sym e)), none_under Inner fs h)
+
+inside_none : (a n : Bool) (fs : List Found) → (a ≡ true → n ≡ true) → fs ≡ [] → (if a && not n then here VariantNull else under Inner fs) ≡ []
+inside_none true n fs p q = rw (p refl, q)
+inside_none false n fs p q = rw q
+
+FieldsValid-count : (ts : TypeTrees) (vs : RawTrees) → FieldsValid ts vs → count vs ≡ count_types ts
+FieldsValid-count no_types no_raws h = refl
+FieldsValid-count (type_then t ts) (raw_then v vs) h = ap suc (FieldsValid-count ts vs h.1)
+FieldsValid-count _ _ h = absurd h
+
+entry_none : (k w : TypeTree) (i : ℕ) (x y : RawTree) (vs : RawTrees) → breaches_at (storage k) x ≡ [] → breaches_at (storage w) y ≡ [] → entry_breaches k w (suc i) vs ≡ []
+    → entry_breaches k w i (raw_then (raw_tuple (raw_then x (raw_then y no_raws))) vs) ≡ []
+entry_none k w i x y vs p q r = rw (p, q, r)
+
+no_fewer : (n : ℕ) → 0 ≡ suc n → ⊥
+no_fewer n h = omega arith
+
+-- where no breach is, the value is valid
+mutual
+  ValidAt-from_none : (t : TypeTree) (v : RawTree) → breaches_at t v ≡ [] → ValidAt t v
+  ValidAt-from_none t absent h = null_valid t _ _ h
+  ValidAt-from_none (bool_type n) (raw_bool b) h = tt
+  ValidAt-from_none (utf8_type n) (raw_text bs) h = tt
+  ValidAt-from_none (binary_type n) (raw_bytes bs) h = tt
+  ValidAt-from_none (integer_type k n) (raw_integer l z) h = integer_valid k l z _ _ h
+  ValidAt-from_none (list_type e n) (raw_tuple vs) h = EachValid-from_none e 0 vs h
+  ValidAt-from_none (fixed_size_list_type e size n) (raw_tuple vs) h =
+      let p = lengths (count vs) size _ (element_breaches e 0 vs) _ h in (p.0, EachValid-from_none e 0 vs p.1)
+  ValidAt-from_none (map_type k w sorted n) (raw_tuple vs) h = EntriesValid-from_none k w 0 vs h
+  ValidAt-from_none (struct_type names ts n) (raw_tuple vs) h =
+      let p = lengths (count vs) (count_types ts) _ (field_breaches 0 ts vs) _ h in FieldsValid-from_none 0 ts vs p.0 p.1
+  ValidAt-from_none (union_type names ts ids n) (raw_union id v) h =
+      child_valid (λ t. breaches_at (storage t) v) (λ t. ValidAt (storage t) v) (λ t. ValidAt-from_none (storage t) v) (type_with id ids ts) h
+  ValidAt-from_none (variant_type n) (raw_variant t v) h =
+      let p = inside (is_absent v) (is_null_type t) (breaches_at (storage t) v) h in
+      (may_be_inside t v p.0, ValidAt-from_none (storage t) v p.1)
+  ValidAt-from_none _ _ h = absurd (cons _ _ h)
+
+  EachValid-from_none : (e : TypeTree) (i : ℕ) (vs : RawTrees) → element_breaches e i vs ≡ [] → EachValid e vs
+  EachValid-from_none e i no_raws h = tt
+  EachValid-from_none e i (raw_then v vs) h =
+      (ValidAt-from_none (storage e) v (none_first _ _ _ h), EachValid-from_none e (suc i) vs (none_right _ _ h))
+
+  EntriesValid-from_none : (k w : TypeTree) (i : ℕ) (vs : RawTrees) → entry_breaches k w i vs ≡ [] → EntriesValid k w vs
+  EntriesValid-from_none k w i no_raws h = tt
+  EntriesValid-from_none k w i (raw_then (raw_tuple (raw_then x (raw_then y no_raws))) vs) h =
+      let entry = none_first _ _ _ h in (
+        ValidAt-from_none (storage k) x (none_first _ _ _ entry),
+        ValidAt-from_none (storage w) y (none_under _ _ (none_right _ _ entry)),
+        EntriesValid-from_none k w (suc i) vs (none_right _ _ h),
+      )
+  EntriesValid-from_none k w i _ h = absurd (cons _ _ h)
+
+  FieldsValid-from_none : (i : ℕ) (ts : TypeTrees) (vs : RawTrees) → count vs ≡ count_types ts → field_breaches i ts vs ≡ [] → FieldsValid ts vs
+  FieldsValid-from_none i no_types no_raws c h = tt
+  FieldsValid-from_none i (type_then t ts) (raw_then v vs) c h =
+      (ValidAt-from_none (storage t) v (none_first _ _ _ h), FieldsValid-from_none (suc i) ts vs (omega arith) (none_right _ _ h))
+  FieldsValid-from_none i no_types (raw_then v vs) c h = absurd (no_fewer _ (sym c))
+  FieldsValid-from_none i (type_then t ts) no_raws c h = absurd (no_fewer _ c)
+
+-- a valid value has no breach
+mutual
+  none-from_ValidAt : (t : TypeTree) (v : RawTree) → ValidAt t v → breaches_at t v ≡ []
+  none-from_ValidAt t absent h = null_none t _ h
+  none-from_ValidAt (bool_type n) (raw_bool b) h = refl
+  none-from_ValidAt (utf8_type n) (raw_text bs) h = refl
+  none-from_ValidAt (binary_type n) (raw_bytes bs) h = refl
+  none-from_ValidAt (integer_type k n) (raw_integer l z) h = integer_none k l z _ h.0 h.1
+  none-from_ValidAt (list_type e n) (raw_tuple vs) h = none-from_EachValid e 0 vs h
+  none-from_ValidAt (fixed_size_list_type e size n) (raw_tuple vs) h = lengths_none (count vs) size _ _ h.0 (none-from_EachValid e 0 vs h.1)
+  none-from_ValidAt (map_type k w sorted n) (raw_tuple vs) h = none-from_EntriesValid k w 0 vs h
+  none-from_ValidAt (struct_type names ts n) (raw_tuple vs) h =
+      lengths_none (count vs) (count_types ts) _ _ (FieldsValid-count ts vs h) (none-from_FieldsValid 0 ts vs h)
+  none-from_ValidAt (union_type names ts ids n) (raw_union id v) h =
+      child_none (λ t. breaches_at (storage t) v) (λ t. ValidAt (storage t) v) (λ t. none-from_ValidAt (storage t) v) (type_with id ids ts) h
+  none-from_ValidAt (variant_type n) (raw_variant t v) h =
+      inside_none (is_absent v) (is_null_type t) (breaches_at (storage t) v) (inside_null t v h.0) (none-from_ValidAt (storage t) v h.1)
+  none-from_ValidAt _ _ h = absurd h
+
+  none-from_EachValid : (e : TypeTree) (i : ℕ) (vs : RawTrees) → EachValid e vs → element_breaches e i vs ≡ []
+  none-from_EachValid e i no_raws h = refl
+  none-from_EachValid e i (raw_then v vs) h = both_none _ _ _ (none-from_ValidAt (storage e) v h.0) (none-from_EachValid e (suc i) vs h.1)
+
+  none-from_EntriesValid : (k w : TypeTree) (i : ℕ) (vs : RawTrees) → EntriesValid k w vs → entry_breaches k w i vs ≡ []
+  none-from_EntriesValid k w i no_raws h = refl
+  none-from_EntriesValid k w i (raw_then (raw_tuple (raw_then x (raw_then y no_raws))) vs) h =
+      entry_none k w i x y vs (none-from_ValidAt (storage k) x h.0) (none-from_ValidAt (storage w) y h.1) (none-from_EntriesValid k w (suc i) vs h.2)
+  none-from_EntriesValid k w i _ h = absurd h
+
+  none-from_FieldsValid : (i : ℕ) (ts : TypeTrees) (vs : RawTrees) → FieldsValid ts vs → field_breaches i ts vs ≡ []
+  none-from_FieldsValid i no_types no_raws h = refl
+  none-from_FieldsValid i (type_then t ts) (raw_then v vs) h = both_none _ _ _ (none-from_ValidAt (storage t) v h.0) (none-from_FieldsValid (suc i) ts vs h.1)
+  none-from_FieldsValid i _ _ h = absurd h
+
+-- a raw value is valid exactly where it has no breach
+pub valid_exactly_without_breach : ValidExactlyWithoutBreach
+valid_exactly_without_breach t v = (none-from_ValidAt (storage t) v, ValidAt-from_none (storage t) v)
+
+first_some : (fs : List Found) (f : Found) → first fs ≡ Some f → fs ≢ []
+first_some [] f h = absurd (let e : None ≡ Some f = h in cc)
+first_some (g ∷ fs) f h = cons g fs
+
+refused : (e : VortexError) (fs : List Found) → Refuses e fs → fs ≢ []
+refused OutOfMemory fs h = h
+refused (Invalid path breach) fs h = first_some fs _ h
+refused _ fs h = absurd h
+
+-- a check that answers as the breaches say passes exactly the valid values
+pub valid_answers : {A : Type 0} (r : Result A VortexError) (t : TypeTree) (v : RawTree) → Answers r (breaches t v) → IsOk r ↔ Valid t v
+valid_answers (Ok x) t v h = (λ _. ValidAt-from_none (storage t) v h, λ _. refl)
+valid_answers (Err e) t v h = (λ ok. absurd (true≢false (sym ok)), λ valid. absurd (refused e _ h (none-from_ValidAt (storage t) v valid)))
