@@ -88,10 +88,15 @@ abbrev mutual
 abbrev pub breaches : TypeTree → RawTree → List Found
 breaches t v = breaches_at (storage t) v
 
--- a refusal shows the first breach, or there was no memory for the path to one
+-- there is a breach, and the path to it has steps
+abbrev pub HasSteps : Option Found → Type 0
+HasSteps None = ⊥
+HasSteps (Some f) = f.0 ≢ []
+
+-- a refusal shows the first breach, or there was no memory for the steps to it
 abbrev pub Refuses : VortexError → List Found → Type 0
 Refuses (Invalid path breach) fs = first fs ≡ Some (path, breach)
-Refuses OutOfMemory fs = fs ≢ []
+Refuses OutOfMemory fs = HasSteps (first fs)
 Refuses _ fs = ⊥
 
 -- a check passes where there is no breach, and refuses where there is one

@@ -1,9 +1,12 @@
 //! Raw values and scalars: a valid scalar is one type and one content.
 #![tactic(auto)]
 
+mod compatible;
 pub mod laws;
+mod storage;
 mod scalars;
 mod unions;
+mod validate;
 mod values;
 
 pub use scalars::Scalar;

@@ -1,0 +1,89 @@
+-- Steps of the check of validity: what one level of a raw value and of a type is, and loops over parts.
+use Rattle.std.proofs.Common.{◌≡◌, ◌≢◌, ℕ, zero, suc, ◌<◌, ◌≤◌, Result, Bool, true, false, List, [], ◌∷◌, ◌++◌, length, Option, Some, None, option_map, Vec, Global, Box, drop, get_or, drop-cons, refl, sym, ap, ◌∙◌, subst, arith, rules, reverse}
+use Rattle.std.proofs.lemmas.List.{reverse-append}
+use Rattle.vortex_dtype.specs.declared.error.Breach.{Breach}
+use Rattle.vortex_dtype.specs.declared.error.Step.{Step}
+use Rattle.vortex_dtype.specs.declared.error.Step.TheVariants.{Element, Entry, Key, Value}
+use Rattle.vortex_dtype.specs.declared.error.Breach.TheVariants.{WrongLength}
+use Rattle.vortex_dtype.specs.TypeOf.{types_from}
+use Rattle.vortex_dtype.specs.TypeTree.{TypeTree, storage}
+use Rattle.vortex_value.specs.Breaches.{Found, HasSteps, count_types, first, here, under, breaches, breaches_at, element_breaches, entry_breaches, breaches_of_entry}
+use Rattle.vortex_value.specs.Faults.{Checks, Shows}
+use Rattle.vortex_value.specs.RawOf.{raw_of, raws_of, value_tree}
+use Rattle.vortex_value.specs.RawTree.{raw_tuple, count}
+use Rattle.vortex_value.specs.declared.validate.Fault.{Fault}
+use Rattle.vortex_value.specs.declared.validate.Fault.TheVariants.{NoMemory, First}
+use Rattle.vortex_value.specs.declared.values.ScalarValue.{ScalarValue}
+use Rattle.vortex_value.proofs.TypeSteps.{type_of-List, type_of-FixedSizeList, type_of-Map, type_of-Struct, type_of-Union, is_nullable-storage}
+use Rattle.vortex_value.proofs.ValueSteps.{value_tree-Tuple, count-raws_of}
+
+pub count_types-types_from : (ts : List TypeTree) → count_types (types_from ts) ≡ length ts
+count_types-types_from [] = refl
+count_types-types_from (t ∷ ts) = ap suc (count_types-types_from ts)
+
+pub Shows-more : (f : Fault) (fs gs : List Found) → Shows f fs → Shows f (fs ++ gs)
+Shows-more NoMemory [] gs h = absurd h
+Shows-more NoMemory (f ∷ fs) gs h = h
+Shows-more (First steps breach) [] gs h = cc
+Shows-more (First steps breach) (f ∷ fs) gs h = h
+
+-- a path from one level up has steps
+pub under-steps : (step : Step) (fs : List Found) → fs ≢ [] → HasSteps (first (under step fs))
+under-steps step [] h = h refl
+under-steps step (f ∷ fs) h = λ e. cc
+
+pub some-steps : (fs : List Found) → HasSteps (first fs) → fs ≢ []
+some-steps [] h = absurd h
+some-steps (f ∷ fs) h = λ e. cc
+
+pub some-first : (fs : List Found) (f : Found) → first fs ≡ Some f → fs ≢ []
+some-first [] f h = λ e. cc
+some-first (g ∷ fs) f h = λ e. cc
+
+-- a breach one level up has one step more at its front
+pub under-first : (step : Step) (steps : List Step) (breach : Breach) (fs : List Found) → first fs ≡ Some (reverse steps, breach) → first (under step fs) ≡ Some (reverse (steps ++ step ∷ []), breach)
+under-first step steps breach [] h = cc
+under-first step steps breach (f ∷ fs) h =
+    let e : f ≡ (reverse steps, breach) = cc in
+    rw (e, reverse-append) refl
+
+-- the elements from place i on
+pub elements_at : (e : TypeTree) (i : ℕ) (vs : List (Option ScalarValue)) (v : Option ScalarValue) → i < length vs → v ≡ get_or vs i v
+    → element_breaches e i (raws_of (drop i vs)) ≡ under (Element i) (breaches_at (storage e) (raw_of v)) ++ element_breaches e (suc i) (raws_of (drop (suc i) vs))
+elements_at e i vs v h is = rw (drop-cons vs i v, ← is)
+
+-- the entries from place i on
+pub entries_at : (k w : TypeTree) (i : ℕ) (vs : List (Option ScalarValue)) (v : Option ScalarValue) → i < length vs → v ≡ get_or vs i v
+    → entry_breaches k w i (raws_of (drop i vs)) ≡ under (Entry i) (breaches_of_entry k w (raw_of v)) ++ entry_breaches k w (suc i) (raws_of (drop (suc i) vs))
+entries_at k w i vs v h is = rw (drop-cons vs i v, ← is)
+
+-- a list of two is its two places
+two_places : {A : Type 0} (xs : List A) (x y : A) → length xs ≡ 2 → x ≡ get_or xs 0 x → y ≡ get_or xs 1 y → xs ≡ x ∷ y ∷ []
+two_places [] x y two a b = absurd (omega arith)
+two_places (u ∷ []) x y two a b = absurd (omega arith)
+two_places (u ∷ v ∷ []) x y two a b = rw (a, b)
+two_places (u ∷ v ∷ w ∷ us) x y two a b = absurd (omega arith)
+
+-- a tuple of another length is no entry
+pub no_entry : (k w : TypeTree) (vs : List (Option ScalarValue)) → (length vs ≢ 2) → breaches_of_entry k w (raw_tuple (raws_of vs)) ≡ here WrongLength
+no_entry k w [] h = refl
+no_entry k w (u ∷ []) h = refl
+no_entry k w (u ∷ v ∷ []) h = absurd (h refl)
+no_entry k w (u ∷ v ∷ x ∷ vs) h = refl
+
+-- the breaches of a pair
+pub entry_of : (k w : TypeTree) (vs : List (Option ScalarValue)) (x y : Option ScalarValue) → length vs ≡ 2 → x ≡ get_or vs 0 x → y ≡ get_or vs 1 y
+    → breaches_of_entry k w (raw_tuple (raws_of vs)) ≡ under Key (breaches k (raw_of x)) ++ under Value (breaches w (raw_of y))
+entry_of k w vs x y two a b = rw (two_places vs x y two a b)
+
+pub entry_with : (k w : TypeTree) (vs : List (Option ScalarValue)) (x : Option ScalarValue) → length vs ≡ 2 → x ≡ get_or vs 0 x
+    → breaches_of_entry k w (raw_tuple (raws_of vs)) ≡ under Key (breaches k (raw_of x)) ++ under Value (breaches w (raw_of (get_or vs 1 None)))
+entry_with k w [] x two a = absurd (omega arith)
+entry_with k w (u ∷ []) x two a = absurd (omega arith)
+entry_with k w (u ∷ v ∷ []) x two a = rw a
+entry_with k w (u ∷ v ∷ y ∷ vs) x two a = absurd (omega arith)
+
+pub Checks-both : (r : Result (Unit {0}) Fault) (fs gs : List Found) → fs ≡ [] → Checks r gs → Checks r (fs ++ gs)
+Checks-both r fs gs e h = rw e h
+
+pub ruleset shown = (elements_at, entries_at, value_tree-Tuple, count-raws_of, type_of-List, type_of-FixedSizeList, type_of-Map, type_of-Struct, type_of-Union, is_nullable-storage, Shows-more, count_types-types_from)

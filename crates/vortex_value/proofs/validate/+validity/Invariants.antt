@@ -1,0 +1,51 @@
+-- What is left to check in a loop, and that each call goes down the value.
+use Rattle.std.proofs.Common.{◌≡◌, ℕ, ◌+◌, ◌*◌, Option, Some, None, Bor, drop}
+use Rattle.vortex_dtype.specs.TypeOf.{map_of, type_of, types_of}
+use Rattle.vortex_value.specs.Breaches.{element_breaches, entry_breaches, field_breaches}
+use Rattle.vortex_value.specs.RawOf.{raws_of}
+use Rattle.vortex_value.specs.declared.values.ScalarValue.{ScalarValue, size-ScalarValue}
+use Rattle.vortex_value.proofs.validate.+validity.Given as goal
+
+abbrev pub invariant-check_elements-loop-index : goal.invariant-check_elements-loop-index
+invariant-check_elements-loop-index l =
+    element_breaches (type_of l.element) 0 (raws_of l.items) ≡ element_breaches (type_of l.element) l.index (raws_of (drop l.index l.items))
+
+abbrev pub invariant-check_entries-loop-index : goal.invariant-check_entries-loop-index
+invariant-check_entries-loop-index l =
+    entry_breaches (map_of l.map).key (map_of l.map).value 0 (raws_of l.items) ≡ entry_breaches (map_of l.map).key (map_of l.map).value l.index (raws_of (drop l.index l.items))
+
+abbrev pub invariant-check_fields-loop-index : goal.invariant-check_fields-loop-index
+invariant-check_fields-loop-index l =
+    field_breaches l.index-iterator.count (types_of l.index-iterator.iter.b.rest.now) (raws_of l.index-iterator.iter.a.rest.now) ≡ field_breaches 0 (types_of l.fields) (raws_of l.items)
+
+-- the size of a borrowed value, if there is one
+abbrev pub lent_size : Option (Bor ScalarValue) → ℕ
+lent_size None = 0
+lent_size (Some v) = size-ScalarValue v.now
+
+abbrev pub decreases-check : goal.decreases-check
+decreases-check l = 3 * lent_size l.value + 1
+
+abbrev pub decreases-check_value : goal.decreases-check_value
+decreases-check_value l = 3 * goal.size-check_value l
+
+abbrev pub decreases-check_elements : goal.decreases-check_elements
+decreases-check_elements l = 3 * goal.size-check_elements l + 2
+
+abbrev pub decreases-check_entries : goal.decreases-check_entries
+decreases-check_entries l = 3 * goal.size-check_entries l + 2
+
+abbrev pub decreases-check_entry : goal.decreases-check_entry
+decreases-check_entry l = 3 * lent_size l.entry + 1
+
+abbrev pub decreases-check_pair : goal.decreases-check_pair
+decreases-check_pair l = 3 * goal.size-check_pair l + 2
+
+abbrev pub decreases-check_fields : goal.decreases-check_fields
+decreases-check_fields l = 3 * goal.size-check_fields l + 2
+
+abbrev pub decreases-check_child : goal.decreases-check_child
+decreases-check_child l = 3 * goal.size-check_child l + 1
+
+abbrev pub decreases-check_variant : goal.decreases-check_variant
+decreases-check_variant l = 3 * goal.size-check_variant l

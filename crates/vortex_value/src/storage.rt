@@ -1,0 +1,29 @@
+//! What a type is below its extensions, and which type a union's id gives.
+
+ghost use Rattle.std.specs.Prelude.{◌≡◌, option_map};
+ghost use Rattle.vortex_dtype.specs.TypeOf.{type_of, types_from, variants_of};
+ghost use Rattle.vortex_dtype.specs.TypeTree.{storage};
+ghost use Rattle.vortex_value.specs.Validity.{type_with};
+
+use vortex_dtype::{DType, UnionVariants};
+
+/// The type below all extensions.
+pub(crate) fn storage_of(dtype: &DType) -> &DType
+    ensures { type_of result.now ≡ storage (type_of dtype.now) }
+{
+    match dtype {
+        DType::Extension(extension) => storage_of(extension.storage_dtype()),
+        _ => dtype,
+    }
+}
+
+/// The type of the variant with this id, if there is one.
+#[tactic(auto, using(crate::proofs::Variants::by_place))]
+pub(crate) fn variant_with(variants: &UnionVariants, id: u8) -> Option<&DType>
+    ensures { option_map (λ t. type_of t.now) result ≡ type_with id (variants_of variants.now).type_ids (types_from (variants_of variants.now).types) }
+{
+    match variants.tag_to_child_index(id) {
+        Some(index) => variants.variant_by_index(index),
+        None => None,
+    }
+}
