@@ -111,6 +111,12 @@ CastRefuses t p CannotCast = ¬ p
 CastRefuses t p OutOfMemory = ¬ (IsFlat t)
 CastRefuses t p _ = ⊥
 
+-- Null or a type of integers
+abbrev pub IsNullOrInteger : TypeTree → Type 0
+IsNullOrInteger null_type = Unit {0}
+IsNullOrInteger (integer_type k n) = Unit {0}
+IsNullOrInteger _ = ⊥
+
 -- the value w of type t is what a cast of the value v of type s gives
 pub record IsCast (s t : TypeTree) (v w : RawTree) : Type 0 where
   pub allowed : Allows s t (content v)
