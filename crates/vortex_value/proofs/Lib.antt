@@ -1,3 +1,4 @@
 pub mod OrderLaws
 pub mod Uniqueness
 pub mod ValidityLaws
+pub mod ValueSteps

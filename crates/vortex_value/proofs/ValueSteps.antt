@@ -1,0 +1,36 @@
+-- What the folds over raw values give at each node with parts, and the lists of their trees.
+use Rattle.std.proofs.Common.{◌≡◌, ℕ, suc, List, [], ◌∷◌, length, map, Option, Some, None, option_map, Vec, Box, Global, refl, ap, rules, arith}
+use Rattle.vortex_dtype.specs.TypeOf.{type_of}
+use Rattle.vortex_value.specs.RawOf.{raw_or_absent, value_tree, scalar_tree, union_tree, raw_of, raws_from, raws_of}
+use Rattle.vortex_value.specs.RawTree.{RawTrees, raw_tuple, raw_union, raw_variant, raw_then, count}
+use Rattle.vortex_value.specs.declared.scalars.Scalar.{Scalar}
+use Rattle.vortex_value.specs.declared.unions.UnionValue.{UnionValue}
+use Rattle.vortex_value.specs.declared.values.ScalarValue.{ScalarValue, Tuple, Union, Variant, the_lemmas}
+
+pub value_tree-Tuple : (vs : Vec (Option ScalarValue) Global) → value_tree (Tuple vs) ≡ raw_tuple (raws_of vs.items)
+value_tree-Tuple vs = search (rules, the_lemmas)
+
+pub value_tree-Union : (u : UnionValue) → value_tree (Union u) ≡ union_tree u
+value_tree-Union u = search (rules, the_lemmas)
+
+pub value_tree-Variant : (s : Box Scalar Global) → value_tree (Variant s) ≡ scalar_tree s.value
+value_tree-Variant s = search (rules, the_lemmas)
+
+-- the parts of a scalar's tree
+pub scalar_tree-parts : (s : Scalar) → scalar_tree s ≡ raw_variant (type_of s.dtype) (raw_of s.value)
+scalar_tree-parts s = search (rules, the_lemmas)
+
+-- the parts of the tree of a union's value
+pub union_tree-parts : (u : UnionValue) → union_tree u ≡ raw_union u.type_id (raw_or_absent (option_map (λ b. value_tree b.value) u.child))
+union_tree-parts u = search (rules, the_lemmas)
+
+-- as many trees as values
+pub count-raws_of : (vs : List (Option ScalarValue)) → count (raws_of vs) ≡ length vs
+count-raws_of [] = refl
+count-raws_of (v ∷ vs) = ap suc (count-raws_of vs)
+
+-- values with the same trees, place by place, have the same trees in all
+pub raws_of-same : (vs ws : List (Option ScalarValue)) → map (option_map value_tree) vs ≡ map (option_map value_tree) ws → raws_of vs ≡ raws_of ws
+raws_of-same vs ws h = ap raws_from h
+
+pub ruleset shown = (value_tree-Tuple, value_tree-Union, value_tree-Variant, scalar_tree-parts, union_tree-parts)
