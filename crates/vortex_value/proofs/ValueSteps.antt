@@ -1,6 +1,8 @@
 -- What the folds over raw values give at each node with parts, and the lists of their trees.
-use Rattle.std.proofs.Common.{◌≡◌, ℕ, suc, List, [], ◌∷◌, length, map, Option, Some, None, option_map, Vec, Box, Global, refl, ap, rules, arith}
+use Rattle.std.proofs.Common.{◌≡◌, ◌≢◌, ℕ, suc, Bool, true, false, ◌&&◌, List, [], ◌∷◌, length, map, Option, Some, None, option_map, Vec, Box, Global, refl, ap, rules, arith}
 use Rattle.vortex_dtype.specs.TypeOf.{type_of}
+use Rattle.vortex_value.specs.Content.{content, contents}
+use Rattle.vortex_value.specs.Equality.{equal, all_equal}
 use Rattle.vortex_value.specs.RawOf.{raw_or_absent, value_tree, scalar_tree, union_tree, raw_of, raws_from, raws_of}
 use Rattle.vortex_value.specs.RawTree.{RawTrees, raw_tuple, raw_union, raw_variant, raw_then, count}
 use Rattle.vortex_value.specs.declared.scalars.Scalar.{Scalar}
@@ -32,5 +34,16 @@ count-raws_of (v ∷ vs) = ap suc (count-raws_of vs)
 -- values with the same trees, place by place, have the same trees in all
 pub raws_of-same : (vs ws : List (Option ScalarValue)) → map (option_map value_tree) vs ≡ map (option_map value_tree) ws → raws_of vs ≡ raws_of ws
 raws_of-same vs ws h = ap raws_from h
+
+and_false : (b c : Bool) → c ≡ false → (b && c) ≡ false
+and_false true c h = h
+and_false false c h = refl
+
+-- tuples of different lengths are not equal
+pub all_equal-lengths : (vs ws : List (Option ScalarValue)) → length vs ≢ length ws → all_equal (contents (raws_of vs)) (contents (raws_of ws)) ≡ false
+all_equal-lengths [] [] h = absurd (h refl)
+all_equal-lengths [] (w ∷ ws) h = refl
+all_equal-lengths (v ∷ vs) [] h = refl
+all_equal-lengths (v ∷ vs) (w ∷ ws) h = and_false (equal (content (raw_of v)) (content (raw_of w))) _ (all_equal-lengths vs ws (omega arith))
 
 pub ruleset shown = (value_tree-Tuple, value_tree-Union, value_tree-Variant, scalar_tree-parts, union_tree-parts)

@@ -2,6 +2,7 @@
 #![tactic(auto)]
 
 mod copies;
+mod equality;
 pub mod laws;
 mod scalars;
 mod unions;
