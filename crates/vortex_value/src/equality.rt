@@ -130,14 +130,18 @@ impl Eq for UnionValue {
     ghost laws = { on_equiv (λ u. content (union_tree u)) equal-equiv };
 }
 
+#[tactic(auto, using(crate::proofs::ValueSteps::shown))]
 impl PartialEq for Scalar {
+    ghost use Rattle.std.specs.Prelude.{◌&&◌};
     ghost use Rattle.std.specs.Cmp.{partial_equiv_from_equiv};
     ghost use Rattle.std.proofs.lemmas.Cmp.{on_equiv};
+    ghost use Rattle.vortex_value.specs.Content.{typed};
     ghost use Rattle.vortex_value.specs.EqualityLaws.{equal-equiv};
+    ghost use Rattle.vortex_value.specs.Scalars.{scalar_type, scalar_content};
 
-    ghost eq = { λ a b. equal (content (scalar_tree a)) (content (scalar_tree b)) };
+    ghost eq = { λ a b. same_type (scalar_type a) (scalar_type b) && equal (scalar_content a) (scalar_content b) };
 
-    ghost laws = { partial_equiv_from_equiv (on_equiv (λ s. content (scalar_tree s)) equal-equiv) };
+    ghost laws = { partial_equiv_from_equiv (on_equiv (λ s. typed (scalar_type s) (scalar_content s)) equal-equiv) };
 
     fn eq(&self, other: &Scalar) -> bool {
         equal_scalars(self, other)
@@ -146,7 +150,9 @@ impl PartialEq for Scalar {
 
 impl Eq for Scalar {
     ghost use Rattle.std.proofs.lemmas.Cmp.{on_equiv};
+    ghost use Rattle.vortex_value.specs.Content.{typed};
     ghost use Rattle.vortex_value.specs.EqualityLaws.{equal-equiv};
+    ghost use Rattle.vortex_value.specs.Scalars.{scalar_type, scalar_content};
 
-    ghost laws = { on_equiv (λ s. content (scalar_tree s)) equal-equiv };
+    ghost laws = { on_equiv (λ s. typed (scalar_type s) (scalar_content s)) equal-equiv };
 }
