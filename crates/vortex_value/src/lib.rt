@@ -3,9 +3,11 @@
 
 mod cast;
 mod compatible;
+mod copies;
+mod equality;
 pub mod laws;
-mod storage;
 mod scalars;
+mod storage;
 mod unions;
 mod validate;
 mod values;

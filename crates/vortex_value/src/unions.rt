@@ -1,6 +1,14 @@
 //! The raw values of unions.
 
+ghost use Rattle.std.specs.Prelude.{◌≡◌, MatchResult, false};
+ghost use Rattle.std.specs.Option.{option_copied};
+ghost use Rattle.vortex_dtype.specs.declared.error.VortexError.TheVariants.{OutOfMemory};
+ghost use Rattle.vortex_value.specs.RawTree.{raw_union, is_absent};
+
+use crate::copies;
 use crate::values::ScalarValue;
+use std::alloc::Global;
+use vortex_dtype::VortexError;
 
 /// The id of the chosen variant and its value; no child is an inner null.
 ///
@@ -10,4 +18,59 @@ use crate::values::ScalarValue;
 pub struct UnionValue {
     pub type_id: u8,
     pub child: Option<Box<ScalarValue>>,
+}
+
+#[tactic(auto, using(crate::proofs::ValueSteps::shown))]
+impl UnionValue {
+    ghost use Rattle.vortex_value.specs.RawOf.{union_tree, raw_of};
+
+    /// The value of the variant with this id. `OutOfMemory` is its only refusal, and never without a
+    /// child.
+    ///
+    /// Upstream makes it as a literal.
+    pub fn new(
+        alloc: Global,
+        type_id: u8,
+        child: Option<ScalarValue>,
+    ) -> Result<UnionValue, VortexError>
+        ensures { MatchResult result
+            (λ made. union_tree made ≡ raw_union type_id (raw_of child))
+            (λ e. (e ≡ OutOfMemory) × (is_absent (raw_of child) ≡ false)) }
+    {
+        let child = match child {
+            Some(child) => Some(Box::new(alloc, child)?),
+            None => None,
+        };
+        Ok(UnionValue { type_id, child })
+    }
+
+    /// The id of the variant.
+    ///
+    /// Ports `UnionValue::type_id`.
+    pub fn type_id(&self) -> u8
+        ensures { result ≡ self.now.type_id }
+    {
+        self.type_id
+    }
+
+    /// The child; none exactly for an inner null.
+    ///
+    /// Ports `UnionValue::child_value`.
+    pub fn child_value(&self) -> Option<&ScalarValue>
+        ensures { union_tree self.now ≡ raw_union self.now.type_id (raw_of (option_copied result)) }
+    {
+        match &self.child {
+            Some(child) => Some(child),
+            None => None,
+        }
+    }
+
+    /// A copy: the same id and child.
+    ///
+    /// `OutOfMemory` is its only refusal. Ports the `Clone` of `UnionValue`.
+    pub fn clone(&self, alloc: Global) -> Result<UnionValue, VortexError>
+        ensures { MatchResult result (λ copy. union_tree copy ≡ union_tree self.now) (λ e. e ≡ OutOfMemory) }
+    {
+        copies::copy_union(alloc, self)
+    }
 }

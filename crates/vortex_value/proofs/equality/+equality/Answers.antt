@@ -1,0 +1,6 @@
+use Rattle.std.proofs.Common.{rules, sym, arith}
+use Rattle.vortex_value.proofs.ValueSteps.{all_equal-lengths, shown}
+use Rattle.vortex_value.proofs.equality.+equality.Goals as goal
+
+pub equal_tuples-returns-then-a-b : goal.equal_tuples-returns-then-a-b
+equal_tuples-returns-then-a-b t c = sym (all_equal-lengths c.args.a.now c.args.b.now (omega arith))

@@ -1,0 +1,8 @@
+use Rattle.std.proofs.Common.{sym}
+use Rattle.std.proofs.lemmas.Bool.Decides.{same_from_decides}
+use Rattle.vortex_dtype.specs.TypeOf.{type_of}
+use Rattle.vortex_value.specs.EqualityLaws.{same_type-Decides}
+use Rattle.vortex_value.proofs.equality.same_types.Goals as goal
+
+pub returns : goal.returns
+returns c = same_from_decides _ _ c.eq_ignore_nullability.ensures (same_type-Decides (type_of c.args.a.now) (type_of c.args.b.now))

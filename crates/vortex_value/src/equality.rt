@@ -1,0 +1,158 @@
+//! Equality of raw values and of scalars: integers as whole numbers, types up to nullability.
+
+ghost use Rattle.std.specs.Prelude.{◌≡◌};
+ghost use Rattle.vortex_dtype.specs.TypeOf.{type_of};
+ghost use Rattle.vortex_value.specs.Content.{content, contents};
+ghost use Rattle.vortex_value.specs.Equality.{equal, all_equal, same_type};
+ghost use Rattle.vortex_value.specs.RawOf.{value_tree, scalar_tree, union_tree, raws_of};
+
+use crate::scalars::Scalar;
+use crate::unions::UnionValue;
+use crate::values::ScalarValue;
+use vortex_dtype::DType;
+
+/// Whether two types are the same up to nullability.
+fn same_types(a: &DType, b: &DType) -> bool
+    ensures { result ≡ same_type (type_of a.now) (type_of b.now) }
+{
+    a.eq_ignore_nullability(b)
+}
+
+/// Whether the contents of two raw values are equal.
+#[cycle(equality)]
+#[tactic(auto, using(crate::proofs::ValueSteps::shown))]
+fn equal_values(a: &ScalarValue, b: &ScalarValue) -> bool
+    ensures { result ≡ equal (content (value_tree a.now)) (content (value_tree b.now)) }
+{
+    match (a, b) {
+        (ScalarValue::Bool(x), ScalarValue::Bool(y)) => x == y,
+        (ScalarValue::Primitive(x), ScalarValue::Primitive(y)) => x == y,
+        (ScalarValue::Utf8(x), ScalarValue::Utf8(y)) => x == y,
+        (ScalarValue::Binary(x), ScalarValue::Binary(y)) => x == y,
+        (ScalarValue::Tuple(xs), ScalarValue::Tuple(ys)) => equal_tuples(xs, ys),
+        (ScalarValue::Union(x), ScalarValue::Union(y)) => equal_unions(x, y),
+        (ScalarValue::Variant(x), ScalarValue::Variant(y)) => equal_scalars(x, y),
+        _ => false,
+    }
+}
+
+/// Whether there are equally many parts, equal place by place.
+#[cycle(equality)]
+fn equal_tuples(a: &[Option<ScalarValue>], b: &[Option<ScalarValue>]) -> bool
+    ensures { result ≡ all_equal (contents (raws_of a.now)) (contents (raws_of b.now)) }
+{
+    if a.len() != b.len() {
+        return false;
+    }
+    for (x, y) in a.iter().zip(b) {
+        match (x, y) {
+            (Some(x), Some(y)) => {
+                if !equal_values(x, y) {
+                    return false;
+                }
+            }
+            (None, None) => {}
+            _ => return false,
+        }
+    }
+    true
+}
+
+/// Whether the ids are one and the children equal.
+#[cycle(equality)]
+fn equal_unions(a: &UnionValue, b: &UnionValue) -> bool
+    ensures { result ≡ equal (content (union_tree a.now)) (content (union_tree b.now)) }
+{
+    if a.type_id != b.type_id {
+        return false;
+    }
+    match (&a.child, &b.child) {
+        (Some(x), Some(y)) => equal_values(x, y),
+        (None, None) => true,
+        _ => false,
+    }
+}
+
+/// Whether the types are the same up to nullability and the contents equal.
+#[cycle(equality)]
+fn equal_scalars(a: &Scalar, b: &Scalar) -> bool
+    ensures { result ≡ equal (content (scalar_tree a.now)) (content (scalar_tree b.now)) }
+{
+    if !same_types(&a.dtype, &b.dtype) {
+        return false;
+    }
+    match (&a.value, &b.value) {
+        (Some(x), Some(y)) => equal_values(x, y),
+        (None, None) => true,
+        _ => false,
+    }
+}
+
+impl PartialEq for ScalarValue {
+    ghost use Rattle.std.specs.Cmp.{partial_equiv_from_equiv};
+    ghost use Rattle.std.proofs.lemmas.Cmp.{on_equiv};
+    ghost use Rattle.vortex_value.specs.EqualityLaws.{equal-equiv};
+
+    ghost eq = { λ a b. equal (content (value_tree a)) (content (value_tree b)) };
+
+    ghost laws = { partial_equiv_from_equiv (on_equiv (λ v. content (value_tree v)) equal-equiv) };
+
+    fn eq(&self, other: &ScalarValue) -> bool {
+        equal_values(self, other)
+    }
+}
+
+impl Eq for ScalarValue {
+    ghost use Rattle.std.proofs.lemmas.Cmp.{on_equiv};
+    ghost use Rattle.vortex_value.specs.EqualityLaws.{equal-equiv};
+
+    ghost laws = { on_equiv (λ v. content (value_tree v)) equal-equiv };
+}
+
+impl PartialEq for UnionValue {
+    ghost use Rattle.std.specs.Cmp.{partial_equiv_from_equiv};
+    ghost use Rattle.std.proofs.lemmas.Cmp.{on_equiv};
+    ghost use Rattle.vortex_value.specs.EqualityLaws.{equal-equiv};
+
+    ghost eq = { λ a b. equal (content (union_tree a)) (content (union_tree b)) };
+
+    ghost laws = { partial_equiv_from_equiv (on_equiv (λ u. content (union_tree u)) equal-equiv) };
+
+    fn eq(&self, other: &UnionValue) -> bool {
+        equal_unions(self, other)
+    }
+}
+
+impl Eq for UnionValue {
+    ghost use Rattle.std.proofs.lemmas.Cmp.{on_equiv};
+    ghost use Rattle.vortex_value.specs.EqualityLaws.{equal-equiv};
+
+    ghost laws = { on_equiv (λ u. content (union_tree u)) equal-equiv };
+}
+
+#[tactic(auto, using(crate::proofs::ValueSteps::shown))]
+impl PartialEq for Scalar {
+    ghost use Rattle.std.specs.Prelude.{◌&&◌};
+    ghost use Rattle.std.specs.Cmp.{partial_equiv_from_equiv};
+    ghost use Rattle.std.proofs.lemmas.Cmp.{on_equiv};
+    ghost use Rattle.vortex_value.specs.Content.{typed};
+    ghost use Rattle.vortex_value.specs.EqualityLaws.{equal-equiv};
+    ghost use Rattle.vortex_value.specs.Scalars.{scalar_type, scalar_content};
+
+    ghost eq = { λ a b. same_type (scalar_type a) (scalar_type b) && equal (scalar_content a) (scalar_content b) };
+
+    ghost laws = { partial_equiv_from_equiv (on_equiv (λ s. typed (scalar_type s) (scalar_content s)) equal-equiv) };
+
+    fn eq(&self, other: &Scalar) -> bool {
+        equal_scalars(self, other)
+    }
+}
+
+impl Eq for Scalar {
+    ghost use Rattle.std.proofs.lemmas.Cmp.{on_equiv};
+    ghost use Rattle.vortex_value.specs.Content.{typed};
+    ghost use Rattle.vortex_value.specs.EqualityLaws.{equal-equiv};
+    ghost use Rattle.vortex_value.specs.Scalars.{scalar_type, scalar_content};
+
+    ghost laws = { on_equiv (λ s. typed (scalar_type s) (scalar_content s)) equal-equiv };
+}
