@@ -18,17 +18,18 @@ further : (t : TypeTree) (ts : List TypeTree) (m n : ℕ)
     → option_and_then (slice_get (t ∷ ts)) (cond (nat_lt (1 + m) (suc n)) (Some (1 + m)) None) ≡ option_and_then (slice_get ts) (cond (nat_lt m n) (Some m) None)
 further t ts m n = elim (cases_lt m n) [ inl h ↦ within h | inr h ↦ past h ]
   where
-  within : m < n → option_and_then (slice_get (t ∷ ts)) (cond (nat_lt (1 + m) (suc n)) (Some (1 + m)) None) ≡ option_and_then (slice_get ts) (cond (nat_lt m n) (Some m) None)
-  within h =
-      let a : nat_lt (1 + m) (suc n) ≡ true = grind (arith, nat_tests) in
-      let b : nat_lt m n ≡ true = grind (arith, nat_tests) in
-      let e : 1 + m ≡ suc m = omega arith in
-      rw (a, b, e) refl
-  past : n ≤ m → option_and_then (slice_get (t ∷ ts)) (cond (nat_lt (1 + m) (suc n)) (Some (1 + m)) None) ≡ option_and_then (slice_get ts) (cond (nat_lt m n) (Some m) None)
-  past h =
-      let a : nat_lt (1 + m) (suc n) ≡ false = grind (arith, nat_tests) in
-      let b : nat_lt m n ≡ false = grind (arith, nat_tests) in
-      rw (a, b) refl
+    within : m < n → option_and_then (slice_get (t ∷ ts)) (cond (nat_lt (1 + m) (suc n)) (Some (1 + m)) None) ≡ option_and_then (slice_get ts) (cond (nat_lt m n) (Some m) None)
+    within h =
+        let a : nat_lt (1 + m) (suc n) ≡ true = grind (arith, nat_tests) in
+        let b : nat_lt m n ≡ true = grind (arith, nat_tests) in
+        let e : 1 + m ≡ suc m = omega arith in
+        rw (a, b, e) refl
+
+    past : n ≤ m → option_and_then (slice_get (t ∷ ts)) (cond (nat_lt (1 + m) (suc n)) (Some (1 + m)) None) ≡ option_and_then (slice_get ts) (cond (nat_lt m n) (Some m) None)
+    past h =
+        let a : nat_lt (1 + m) (suc n) ≡ false = grind (arith, nat_tests) in
+        let b : nat_lt m n ≡ false = grind (arith, nat_tests) in
+        rw (a, b) refl
 
 some_first : (n : ℕ) → nat_lt 0 (suc n) ≡ true
 some_first n = grind (arith, nat_tests)
@@ -39,9 +40,9 @@ type_with-position id [] ts = refl
 type_with-position id (i ∷ is) [] = sym (none_there [] _ refl)
 type_with-position id (i ∷ is) (t ∷ ts) = by_test (i == id) refl (type_with-position id is ts)
   where
-  by_test : (b : Bool) → (i == id) ≡ b → type_with id is (types_from ts) ≡ option_and_then (slice_get ts) (position (λ j. j == id) is)
-      → type_with id (i ∷ is) (types_from (t ∷ ts)) ≡ option_and_then (slice_get (t ∷ ts)) (position (λ j. j == id) (i ∷ is))
-  by_test true e h = rw (e, some_first) refl
-  by_test false e h = rw e (h ∙ sym (further t ts (position_or_len (λ j. j == id) is) (length is)))
+    by_test : (b : Bool) → (i == id) ≡ b → type_with id is (types_from ts) ≡ option_and_then (slice_get ts) (position (λ j. j == id) is)
+        → type_with id (i ∷ is) (types_from (t ∷ ts)) ≡ option_and_then (slice_get (t ∷ ts)) (position (λ j. j == id) (i ∷ is))
+    by_test true e h = rw (e, some_first) refl
+    by_test false e h = rw e (h ∙ sym (further t ts (position_or_len (λ j. j == id) is) (length is)))
 
 pub ruleset by_place = (type_with-position)

@@ -2,14 +2,20 @@
 #![tactic(auto)]
 
 mod cast;
+#[cfg(test)]
+mod cast_tests;
 mod compatible;
 mod copies;
 mod equality;
+#[cfg(test)]
+mod fixtures;
 pub mod laws;
 mod scalars;
 mod storage;
 mod unions;
 mod validate;
+#[cfg(test)]
+mod validity_tests;
 mod values;
 
 pub use scalars::Scalar;

@@ -149,11 +149,7 @@ fn check_elements(
 
 #[cycle(validity)]
 #[tactic(auto, using(crate::proofs::ValidSteps::shown))]
-fn check_entries(
-    alloc: Global,
-    items: &[Option<ScalarValue>],
-    map: &MapDType,
-) -> Result<(), Fault>
+fn check_entries(alloc: Global, items: &[Option<ScalarValue>], map: &MapDType) -> Result<(), Fault>
     ensures { Checks result (entry_breaches (map_of map.now).key (map_of map.now).value 0 (raws_of items.now)) }
 {
     for (index, item) in items.iter().enumerate() {
@@ -185,18 +181,17 @@ fn check_pair(alloc: Global, parts: &[Option<ScalarValue>], map: &MapDType) -> R
         return Err(breach_here(alloc, Breach::WrongLength));
     }
     match below(Step::Key, check(alloc, parts[0].as_ref(), map.key_dtype())) {
-        Ok(()) => below(Step::Value, check(alloc, parts[1].as_ref(), map.value_dtype())),
+        Ok(()) => below(
+            Step::Value,
+            check(alloc, parts[1].as_ref(), map.value_dtype()),
+        ),
         Err(fault) => Err(fault),
     }
 }
 
 #[cycle(validity)]
 #[tactic(auto, using(crate::proofs::ValidSteps::shown))]
-fn check_fields(
-    alloc: Global,
-    items: &[Option<ScalarValue>],
-    fields: &[DType],
-) -> Result<(), Fault>
+fn check_fields(alloc: Global, items: &[Option<ScalarValue>], fields: &[DType]) -> Result<(), Fault>
     ensures { Checks result (field_breaches 0 (types_of fields.now) (raws_of items.now)) }
 {
     for (index, (item, field)) in items.iter().zip(fields).enumerate() {
