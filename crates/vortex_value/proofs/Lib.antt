@@ -1,3 +1,4 @@
+mod MakerLaws
 pub mod OrderLaws
 pub mod Uniqueness
 pub mod ValidityLaws

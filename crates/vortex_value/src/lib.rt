@@ -1,6 +1,7 @@
 //! Raw values and scalars: a valid scalar is one type and one content.
 #![tactic(auto)]
 
+mod constructor;
 pub mod laws;
 mod scalars;
 mod unions;
