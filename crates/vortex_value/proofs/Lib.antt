@@ -1,3 +1,4 @@
+mod ListMakers
 mod MakerLaws
 pub mod OrderLaws
 pub mod Uniqueness

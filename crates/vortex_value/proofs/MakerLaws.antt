@@ -4,10 +4,10 @@ use Rattle.std.proofs.lemmas.List.Quantifiers.{position-Some}
 use Rattle.vortex_dtype.specs.TypeEquality.{tree_eq}
 use Rattle.vortex_dtype.specs.TypeLaws.{tree_eq-Decides}
 use Rattle.vortex_dtype.specs.TypeOf.{VariantParts, types_from, type_of, ext_of, variants_of}
-use Rattle.vortex_dtype.specs.TypeTree.{TypeTree, extension_type, TypeTrees, no_types, type_then, IsNullable, as_nullable, storage}
+use Rattle.vortex_dtype.specs.TypeTree.{TypeTree, list_type, fixed_size_list_type, extension_type, TypeTrees, no_types, type_then, IsNullable, as_nullable, storage}
 use Rattle.vortex_dtype.specs.declared.error.VortexError.{VortexError}
 use Rattle.vortex_dtype.specs.declared.kinds.Nullability.{Nullability}
-use Rattle.vortex_dtype.specs.declared.types.DType.{DType, Extension, Union, the_lemmas}
+use Rattle.vortex_dtype.specs.declared.types.DType.{DType, List as ListType, FixedSizeList, Extension, Union, the_lemmas}
 use Rattle.vortex_dtype.specs.declared.types.ExtDType.{ExtDType}
 use Rattle.vortex_dtype.specs.declared.types.UnionVariants.{UnionVariants}
 use Rattle.vortex_dtype.specs.declared.error.VortexError.TheVariants.{UnknownTypeId}
@@ -111,3 +111,9 @@ type_of-Union v n = search (rules, the_lemmas)
 pub raw_of-Union : (id : ℕ) (child : Option (Box ScalarValue Global)) (value : Option ScalarValue) → option_map (λ b. b.value) child ≡ value
     → raw_of (Some (raw.Union (record { type_id = id; child = child }))) ≡ raw_union id (raw_of value)
 raw_of-Union id child value h = search (rules, the_values)
+
+pub type_of-List : (e : Box DType Global) (n : Nullability) → type_of (ListType e n) ≡ list_type (type_of e.value) n
+type_of-List e n = search (rules, the_lemmas)
+
+pub type_of-FixedSizeList : (e : Box DType Global) (size : ℕ) (n : Nullability) → type_of (FixedSizeList e size n) ≡ fixed_size_list_type (type_of e.value) size n
+type_of-FixedSizeList e size n = search (rules, the_lemmas)

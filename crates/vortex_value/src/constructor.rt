@@ -20,6 +20,8 @@ use vortex_dtype::{
 };
 use vortex_pvalue::{NativePType, PValue};
 
+mod lists;
+
 impl Scalar {
     /// The null of a type that takes one. Takes no memory.
     ///
