@@ -1,3 +1,4 @@
+pub mod ListMakers
 pub mod CompatibleSteps
 pub mod OrderLaws
 pub mod TypeSteps

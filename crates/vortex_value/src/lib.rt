@@ -9,6 +9,7 @@ mod copies;
 mod equality;
 #[cfg(test)]
 mod fixtures;
+mod constructor;
 pub mod laws;
 mod scalars;
 mod storage;
