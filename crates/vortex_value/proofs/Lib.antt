@@ -1,5 +1,6 @@
-pub mod ListMakers
 pub mod CompatibleSteps
+pub mod ListMakers
+pub mod MakerLaws
 pub mod OrderLaws
 pub mod TypeSteps
 pub mod Uniqueness
