@@ -10,3 +10,6 @@ mod pvalues;
 pub use natives::NativePType;
 pub use operators::NumericOperator;
 pub use pvalues::PValue;
+
+#[cfg(test)]
+mod tests;
