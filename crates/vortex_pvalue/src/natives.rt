@@ -21,7 +21,8 @@ pub trait NativePType: PrimInt {
     /// The integer as a value of its own kind.
     fn into_pvalue(self) -> PValue
         ensures whole { whole_of result ≡ Self.value self }
-        ensures kind { kind_of result ≡ PTYPE };
+        ensures kind { kind_of result ≡ PTYPE }
+        ensures in_range { InRange PTYPE (whole_of result) };
 
     /// The same number as this type, if it has it. Ports the conversions of `PValue` in `pvalue.rs`.
     fn from_pvalue(value: &PValue) -> Option<Self>

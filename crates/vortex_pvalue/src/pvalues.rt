@@ -1,14 +1,19 @@
 //! Integer values of any kind.
 
-ghost use Rattle.std.specs.Prelude.{◌≡◌, MatchResult, Some};
+ghost use Rattle.std.specs.Prelude.{◌≡◌, ◌↔◌, IsTrue, MatchOption, MatchResult, Some, pos, length, ◌≤◌};
 ghost use Rattle.std.proofs.Common.{rules};
 ghost use Rattle.std.specs.Cmp.Rules.{comparing, hashing};
 ghost use Rattle.std.specs.Hash as fed;
 ghost use Rattle.std.specs.Ordering.{int_cmp, int_eq, on, as_partial_cmp};
-ghost use Rattle.vortex_pvalue.specs.Kinds.{InRange, kind_text};
+ghost use Rattle.arrayvec.specs.ArrayVec.{array_vec_len};
+ghost use Rattle.vortex_dtype.specs.Kinds.{byte_width_of};
+ghost use Rattle.vortex_pvalue.specs.Bytes.{bytes_of};
+ghost use Rattle.vortex_pvalue.specs.KindLaws.{other_sign};
+ghost use Rattle.vortex_pvalue.specs.Kinds.{InRange, least_of, greatest_of, low, kind_text};
 ghost use Rattle.vortex_pvalue.specs.Whole.{whole_of, kind_of, pvalue_text};
 
 use crate::natives::NativePType;
+use arrayvec::ArrayVec;
 use std::cmp::Ordering;
 use std::fmt;
 use std::hash::{Hash, Hasher};
@@ -31,6 +36,72 @@ pub enum PValue {
 }
 
 impl PValue {
+    /// The least value of the kind.
+    ///
+    /// Ports `PValue::min_value`.
+    pub fn min_value(ptype: PType) -> PValue
+        ensures kind { kind_of result ≡ ptype }
+        ensures least { whole_of result ≡ least_of ptype }
+    {
+        match ptype {
+            PType::U8 => PValue::U8(u8::MIN),
+            PType::U16 => PValue::U16(u16::MIN),
+            PType::U32 => PValue::U32(u32::MIN),
+            PType::U64 => PValue::U64(u64::MIN),
+            PType::I8 => PValue::I8(i8::MIN),
+            PType::I16 => PValue::I16(i16::MIN),
+            PType::I32 => PValue::I32(i32::MIN),
+            PType::I64 => PValue::I64(i64::MIN),
+        }
+    }
+
+    /// The greatest value of the kind.
+    ///
+    /// Ports `PValue::max_value`.
+    pub fn max_value(ptype: PType) -> PValue
+        ensures kind { kind_of result ≡ ptype }
+        ensures greatest { whole_of result ≡ greatest_of ptype }
+    {
+        match ptype {
+            PType::U8 => PValue::U8(u8::MAX),
+            PType::U16 => PValue::U16(u16::MAX),
+            PType::U32 => PValue::U32(u32::MAX),
+            PType::U64 => PValue::U64(u64::MAX),
+            PType::I8 => PValue::I8(i8::MAX),
+            PType::I16 => PValue::I16(i16::MAX),
+            PType::I32 => PValue::I32(i32::MAX),
+            PType::I64 => PValue::I64(i64::MAX),
+        }
+    }
+
+    /// The kind's zero.
+    ///
+    /// Ports `PValue::zero`.
+    pub fn zero(ptype: &PType) -> PValue
+        ensures kind { kind_of result ≡ ptype.now }
+        ensures zero { whole_of result ≡ pos 0 }
+    {
+        match ptype {
+            PType::U8 => PValue::U8(0),
+            PType::U16 => PValue::U16(0),
+            PType::U32 => PValue::U32(0),
+            PType::U64 => PValue::U64(0),
+            PType::I8 => PValue::I8(0),
+            PType::I16 => PValue::I16(0),
+            PType::I32 => PValue::I32(0),
+            PType::I64 => PValue::I64(0),
+        }
+    }
+
+    /// Whether the number is zero.
+    ///
+    /// Ports `PValue::is_zero`.
+    pub fn is_zero(&self) -> bool
+        ensures { IsTrue result ↔ (whole_of self.now ≡ pos 0) }
+    {
+        self.whole() == 0
+    }
+
     /// The value's kind.
     ///
     /// Ports `PValue::ptype`.
@@ -50,6 +121,15 @@ impl PValue {
             PValue::I32(_) => PType::I32,
             PValue::I64(_) => PType::I64,
         }
+    }
+
+    /// Whether the value's kind is this one.
+    ///
+    /// Ports `PValue::is_instance_of`.
+    pub fn is_instance_of(&self, ptype: &PType) -> bool
+        ensures { IsTrue result ↔ (kind_of self.now ≡ ptype.now) }
+    {
+        self.ptype() == *ptype
     }
 
     /// The value as a whole number.
@@ -79,6 +159,141 @@ impl PValue {
     {
         T::from_pvalue(self).ok_or(VortexError::OutOfRange)
     }
+
+    /// The same number as an `i8`, or `None` where `i8` does not have it.
+    ///
+    /// Ports `PValue::as_i8`.
+    pub fn as_i8(self) -> Option<i8>
+        ensures { MatchOption result (¬ (InRange PType.I8 (whole_of self))) (λ n. n ≡ whole_of self) }
+    {
+        i8::from_pvalue(&self)
+    }
+
+    /// The same number as an `i16`, or `None` where `i16` does not have it.
+    ///
+    /// Ports `PValue::as_i16`.
+    pub fn as_i16(self) -> Option<i16>
+        ensures { MatchOption result (¬ (InRange PType.I16 (whole_of self))) (λ n. n ≡ whole_of self) }
+    {
+        i16::from_pvalue(&self)
+    }
+
+    /// The same number as an `i32`, or `None` where `i32` does not have it.
+    ///
+    /// Ports `PValue::as_i32`.
+    pub fn as_i32(self) -> Option<i32>
+        ensures { MatchOption result (¬ (InRange PType.I32 (whole_of self))) (λ n. n ≡ whole_of self) }
+    {
+        i32::from_pvalue(&self)
+    }
+
+    /// The same number as an `i64`, or `None` where `i64` does not have it.
+    ///
+    /// Ports `PValue::as_i64`.
+    pub fn as_i64(self) -> Option<i64>
+        ensures { MatchOption result (¬ (InRange PType.I64 (whole_of self))) (λ n. n ≡ whole_of self) }
+    {
+        i64::from_pvalue(&self)
+    }
+
+    /// The same number as a `u8`, or `None` where `u8` does not have it.
+    ///
+    /// Ports `PValue::as_u8`.
+    pub fn as_u8(self) -> Option<u8>
+        ensures { MatchOption result (¬ (InRange PType.U8 (whole_of self))) (λ n. pos n ≡ whole_of self) }
+    {
+        u8::from_pvalue(&self)
+    }
+
+    /// The same number as a `u16`, or `None` where `u16` does not have it.
+    ///
+    /// Ports `PValue::as_u16`.
+    pub fn as_u16(self) -> Option<u16>
+        ensures { MatchOption result (¬ (InRange PType.U16 (whole_of self))) (λ n. pos n ≡ whole_of self) }
+    {
+        u16::from_pvalue(&self)
+    }
+
+    /// The same number as a `u32`, or `None` where `u32` does not have it.
+    ///
+    /// Ports `PValue::as_u32`.
+    pub fn as_u32(self) -> Option<u32>
+        ensures { MatchOption result (¬ (InRange PType.U32 (whole_of self))) (λ n. pos n ≡ whole_of self) }
+    {
+        u32::from_pvalue(&self)
+    }
+
+    /// The same number as a `u64`, or `None` where `u64` does not have it.
+    ///
+    /// Ports `PValue::as_u64`.
+    pub fn as_u64(self) -> Option<u64>
+        ensures { MatchOption result (¬ (InRange PType.U64 (whole_of self))) (λ n. pos n ≡ whole_of self) }
+    {
+        u64::from_pvalue(&self)
+    }
+
+    /// The value of this kind that has the same bits.
+    ///
+    /// Asks a kind of the same width. Ports `PValue::reinterpret_cast`.
+    pub fn reinterpret_cast(&self, ptype: PType) -> PValue
+        requires { byte_width_of ptype ≡ byte_width_of (kind_of self.now) }
+        ensures kind { kind_of result ≡ ptype }
+        ensures low { whole_of result ≡ low ptype (whole_of self.now) }
+    {
+        if self.ptype() == ptype {
+            *self
+        } else {
+            self.with_other_sign()
+        }
+    }
+
+    /// The value of the same width and the other sign that has the same bits.
+    fn with_other_sign(&self) -> PValue
+        ensures kind { kind_of result ≡ other_sign (kind_of self.now) }
+        ensures low { whole_of result ≡ low (other_sign (kind_of self.now)) (whole_of self.now) }
+    {
+        match self {
+            PValue::U8(n) => PValue::I8(n.cast_signed()),
+            PValue::U16(n) => PValue::I16(n.cast_signed()),
+            PValue::U32(n) => PValue::I32(n.cast_signed()),
+            PValue::U64(n) => PValue::I64(n.cast_signed()),
+            PValue::I8(n) => PValue::U8(n.cast_unsigned()),
+            PValue::I16(n) => PValue::U16(n.cast_unsigned()),
+            PValue::I32(n) => PValue::U32(n.cast_unsigned()),
+            PValue::I64(n) => PValue::U64(n.cast_unsigned()),
+        }
+    }
+
+    /// The bytes of the number in two's complement, the lowest first: as many as the kind is wide.
+    ///
+    /// Ports `PValue`'s `ToBytes::to_le_bytes`.
+    pub fn to_le_bytes(&self) -> ArrayVec<u8, 8>
+        ensures bytes { result.items ≡ bytes_of (kind_of self.now) (whole_of self.now) }
+        ensures width { array_vec_len result ≡ byte_width_of (kind_of self.now) }
+    {
+        match self {
+            PValue::U8(n) => inline(&n.to_le_bytes()),
+            PValue::U16(n) => inline(&n.to_le_bytes()),
+            PValue::U32(n) => inline(&n.to_le_bytes()),
+            PValue::U64(n) => inline(&n.to_le_bytes()),
+            PValue::I8(n) => inline(&n.to_le_bytes()),
+            PValue::I16(n) => inline(&n.to_le_bytes()),
+            PValue::I32(n) => inline(&n.to_le_bytes()),
+            PValue::I64(n) => inline(&n.to_le_bytes()),
+        }
+    }
+}
+
+/// These bytes, held in the value itself.
+fn inline(bytes: &[u8]) -> ArrayVec<u8, 8>
+    requires { length bytes.now ≤ 8 }
+    ensures { result.items ≡ bytes.now }
+{
+    let mut held = ArrayVec::new();
+    for byte in bytes {
+        held.push(*byte);
+    }
+    held
 }
 
 /// The kind's name, as `u8`.

@@ -1,0 +1,3 @@
+pub mod LowNumbers
+pub mod Multiples
+pub mod Ranges

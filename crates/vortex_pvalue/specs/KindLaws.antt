@@ -1,0 +1,53 @@
+-- The laws of the kinds' numbers and of equality, order and hash of integer values.
+use Rattle.std.specs.Prelude.{◌≡◌, ◌↔◌, ◌≤ℤ◌, ℤ, Bool, true, Option, Some, IsTrue}
+use Rattle.std.specs.declared.cmp.Ordering.{Ordering}
+use Rattle.std.specs.declared.cmp.Ordering.TheVariants.{Equal}
+use Rattle.vortex_dtype.specs.Kinds.{byte_width_of}
+use Rattle.vortex_dtype.specs.declared.kinds.PType.{PType}
+use Rattle.vortex_dtype.specs.declared.kinds.PType.TheVariants.{U8, U16, U32, U64, I8, I16, I32, I64}
+use Rattle.vortex_pvalue.specs.Kinds.{InRange, in_range, IsLow, low, least_of, greatest_of}
+use Rattle.vortex_pvalue.specs.Whole.{whole_of}
+use Rattle.vortex_pvalue.specs.declared.pvalues.PValue.{PValue}
+
+-- the kind of the same width and the other sign
+abbrev pub other_sign : PType → PType
+other_sign U8 = I8
+other_sign U16 = I16
+other_sign U32 = I32
+other_sign U64 = I64
+other_sign I8 = U8
+other_sign I16 = U16
+other_sign I32 = U32
+other_sign I64 = U64
+
+-- the test of a range is true exactly where the range has the number
+abbrev pub TestIsRange : Type 0
+TestIsRange = (k : PType) (z : ℤ) → (in_range k z ≡ true) ↔ InRange k z
+
+-- a kind has the numbers from its least to its greatest, and no others
+abbrev pub RangeIsInterval : Type 0
+RangeIsInterval = (k : PType) (z : ℤ) → InRange k z ↔ ((least_of k ≤ℤ z) × (z ≤ℤ greatest_of k))
+
+-- each number has a low number in each kind, and `low` names it
+abbrev pub LowExists : Type 0
+LowExists = (k : PType) (z : ℤ) → IsLow k z (low k z)
+
+-- and it has only that one
+abbrev pub LowIsUnique : Type 0
+LowIsUnique = (k : PType) (z r : ℤ) → IsLow k z r → r ≡ low k z
+
+-- a number of a kind, reinterpreted in a kind of the same width and back, is itself
+abbrev pub ReinterpretsBack : Type 0
+ReinterpretsBack = (k l : PType) (z : ℤ) → byte_width_of k ≡ byte_width_of l → InRange k z → low k (low l z) ≡ z
+
+-- values are equal exactly where their numbers are, whatever their kinds
+abbrev pub EqualsByNumber : (PValue → PValue → Bool) → Type 0
+EqualsByNumber eq = (v w : PValue) → IsTrue (eq v w) ↔ (whole_of v ≡ whole_of w)
+
+-- an order says Equal exactly where values are equal
+abbrev pub AgreesWithOrder : (PValue → PValue → Bool) → (PValue → PValue → Option Ordering) → Type 0
+AgreesWithOrder eq cmp = (v w : PValue) → (cmp v w ≡ Some Equal) ↔ IsTrue (eq v w)
+
+-- equal values feed a hasher the same
+abbrev pub AgreesWithHash : {F : Type 0} → (PValue → PValue → Bool) → (PValue → F) → Type 0
+AgreesWithHash eq fed = (v w : PValue) → IsTrue (eq v w) → fed v ≡ fed w

@@ -1,0 +1,46 @@
+//! The laws of the kinds' numbers, and of equality, order and hash. They do nothing when they run.
+
+ghost use Rattle.vortex_pvalue.specs.KindLaws.{TestIsRange, RangeIsInterval, LowExists, LowIsUnique, ReinterpretsBack, EqualsByNumber, AgreesWithOrder, AgreesWithHash};
+ghost use Rattle.std.specs.Cmp.{IsEquivalence};
+
+use crate::pvalues::PValue;
+use std::hash::Hash;
+
+/// The test of a range is true exactly where the range has the number.
+pub fn test_is_range()
+    ensures { TestIsRange }
+{}
+
+/// A kind has the numbers from its least to its greatest, and no others.
+pub fn range_is_interval()
+    ensures { RangeIsInterval }
+{}
+
+/// In each kind there is one number that differs from a given one by a multiple of 2 to the power
+/// of the kind's bits.
+pub fn one_low_number()
+    ensures exists { LowExists }
+    ensures unique { LowIsUnique }
+{}
+
+/// A number of a kind, reinterpreted in a kind of the same width and back, is itself.
+pub fn reinterprets_back()
+    ensures { ReinterpretsBack }
+{}
+
+/// Values are equal exactly where their numbers are, whatever their kinds, and equality is an
+/// equivalence.
+pub fn equality()
+    ensures by_number { EqualsByNumber ⟦<PValue as PartialEq>⟧.eq }
+    ensures equivalence { IsEquivalence ⟦<PValue as PartialEq>⟧.eq }
+{}
+
+/// An order says Equal exactly where values are equal.
+pub fn order_agrees()
+    ensures { AgreesWithOrder ⟦<PValue as PartialEq>⟧.eq ⟦<PValue as PartialOrd>⟧.partial_cmp }
+{}
+
+/// Equal values feed a hasher the same.
+pub fn hash_agrees()
+    ensures { AgreesWithHash ⟦<PValue as PartialEq>⟧.eq ⟦<PValue as Hash>⟧.hash_input }
+{}
