@@ -1,56 +1,48 @@
--- The test of a number against a kind's range says what the range says.
-use Rattle.std.proofs.Common.{◌≡◌, ◌↔◌, ℤ, ◌<◌, ◌^◌, pos, negsuc, true, false, Bool, refl, arith}
-use Rattle.std.proofs.lemmas.Bool.Decides.{nat_tests}
+-- The test of a kind's range is the range. Upper crates cite these lemmas.
+use Rattle.std.proofs.Common.{◌≡◌, ◌↔◌, ◌^◌, ℕ, ℤ, Bool, true, false, pos, negsuc, FitsSigned, refl}
+use Rattle.std.specs.Int.{Width, w8, w16, w32, w64, FitsUnsignedBits}
+use Rattle.std.proofs.lemmas.Bool.Decides.{Decides-ltb}
 use Rattle.vortex_dtype.specs.declared.kinds.PType.{PType}
 use Rattle.vortex_dtype.specs.declared.kinds.PType.TheVariants.{U8, U16, U32, U64, I8, I16, I32, I64}
-use Rattle.vortex_pvalue.specs.Kinds.{InRange, in_range}
+use Rattle.vortex_pvalue.specs.KindLaws.{TestIsRange}
+use Rattle.vortex_pvalue.specs.Kinds.{InRange, in_range, in_unsigned, in_signed}
+use mir.Val.{hbits}
 
--- a number of the kind passes the test
-pub in_range_true : (kind : PType) (z : ℤ) → InRange kind z → in_range kind z ≡ true
-in_range_true U8 (pos n) h = grind (arith, nat_tests)
-in_range_true U8 (negsuc n) h = absurd h
-in_range_true U16 (pos n) h = grind (arith, nat_tests)
-in_range_true U16 (negsuc n) h = absurd h
-in_range_true U32 (pos n) h = grind (arith, nat_tests)
-in_range_true U32 (negsuc n) h = absurd h
-in_range_true U64 (pos n) h = grind (arith, nat_tests)
-in_range_true U64 (negsuc n) h = absurd h
-in_range_true I8 (pos n) h = let f : n < 2 ^ 7 = h.sfits in grind (arith, nat_tests)
-in_range_true I8 (negsuc n) h = let f : n < 2 ^ 7 = h.sfits in grind (arith, nat_tests)
-in_range_true I16 (pos n) h = let f : n < 2 ^ 15 = h.sfits in grind (arith, nat_tests)
-in_range_true I16 (negsuc n) h = let f : n < 2 ^ 15 = h.sfits in grind (arith, nat_tests)
-in_range_true I32 (pos n) h = let f : n < 2 ^ 31 = h.sfits in grind (arith, nat_tests)
-in_range_true I32 (negsuc n) h = let f : n < 2 ^ 31 = h.sfits in grind (arith, nat_tests)
-in_range_true I64 (pos n) h = let f : n < 2 ^ 63 = h.sfits in grind (arith, nat_tests)
-in_range_true I64 (negsuc n) h = let f : n < 2 ^ 63 = h.sfits in grind (arith, nat_tests)
+-- the test of an unsigned kind of so many bits
+unsigned_test : (bits : ℕ) (z : ℤ) → (in_unsigned bits z ≡ true) ↔ FitsUnsignedBits bits z
+unsigned_test bits (pos n) = Decides-ltb n (2 ^ bits)
+unsigned_test bits (negsuc n) = ((λ e. cc), (λ h. absurd h))
 
--- a number that passes the test is one of the kind
-pub in_range_back : (kind : PType) (z : ℤ) → in_range kind z ≡ true → InRange kind z
-in_range_back U8 (pos n) h = grind (arith, nat_tests)
-in_range_back U8 (negsuc n) h = cc
-in_range_back U16 (pos n) h = grind (arith, nat_tests)
-in_range_back U16 (negsuc n) h = cc
-in_range_back U32 (pos n) h = grind (arith, nat_tests)
-in_range_back U32 (negsuc n) h = cc
-in_range_back U64 (pos n) h = grind (arith, nat_tests)
-in_range_back U64 (negsuc n) h = cc
-in_range_back I8 (pos n) h = record { sfits = grind (arith, nat_tests) }
-in_range_back I8 (negsuc n) h = record { sfits = grind (arith, nat_tests) }
-in_range_back I16 (pos n) h = record { sfits = grind (arith, nat_tests) }
-in_range_back I16 (negsuc n) h = record { sfits = grind (arith, nat_tests) }
-in_range_back I32 (pos n) h = record { sfits = grind (arith, nat_tests) }
-in_range_back I32 (negsuc n) h = record { sfits = grind (arith, nat_tests) }
-in_range_back I64 (pos n) h = record { sfits = grind (arith, nat_tests) }
-in_range_back I64 (negsuc n) h = record { sfits = grind (arith, nat_tests) }
+-- the test of a signed kind of this width
+signed_test : (w : Width) (z : ℤ) → (in_signed (hbits w) z ≡ true) ↔ FitsSigned w z
+signed_test w (pos n) =
+    let d = Decides-ltb n (2 ^ hbits w) in
+    ((λ e. record { sfits = d.0 e }), (λ f. d.1 f.sfits))
+signed_test w (negsuc n) =
+    let d = Decides-ltb n (2 ^ hbits w) in
+    ((λ e. record { sfits = d.0 e }), (λ f. d.1 f.sfits))
 
 -- the test passes exactly the numbers of the kind
-pub in_range_exactly : (kind : PType) (z : ℤ) → in_range kind z ≡ true ↔ InRange kind z
-in_range_exactly kind z = (in_range_back kind z, in_range_true kind z)
+pub in_range_exactly : TestIsRange
+in_range_exactly U8 z = unsigned_test 8 z
+in_range_exactly U16 z = unsigned_test 16 z
+in_range_exactly U32 z = unsigned_test 32 z
+in_range_exactly U64 z = unsigned_test 64 z
+in_range_exactly I8 z = signed_test w8 z
+in_range_exactly I16 z = signed_test w16 z
+in_range_exactly I32 z = signed_test w32 z
+in_range_exactly I64 z = signed_test w64 z
+
+pub in_range_true : (k : PType) (z : ℤ) → InRange k z → in_range k z ≡ true
+in_range_true k z = (in_range_exactly k z).1
+
+pub in_range_back : (k : PType) (z : ℤ) → in_range k z ≡ true → InRange k z
+in_range_back k z = (in_range_exactly k z).0
 
 not_true : (b : Bool) → ¬ (b ≡ true) → b ≡ false
 not_true true h = absurd (h refl)
 not_true false h = refl
 
 -- a number that the kind does not have fails the test
-pub in_range_false : (kind : PType) (z : ℤ) → ¬ (InRange kind z) → in_range kind z ≡ false
-in_range_false kind z out = not_true (in_range kind z) (λ passed. out (in_range_back kind z passed))
+pub in_range_false : (k : PType) (z : ℤ) → ¬ (InRange k z) → in_range k z ≡ false
+in_range_false k z out = not_true (in_range k z) (λ passed. out (in_range_back k z passed))

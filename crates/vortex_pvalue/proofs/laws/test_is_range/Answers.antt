@@ -1,5 +1,5 @@
-use Rattle.vortex_pvalue.proofs.Ranges.{test_is_range}
+use Rattle.vortex_pvalue.specs.RangeLaws.{in_range_exactly}
 use Rattle.vortex_pvalue.proofs.laws.test_is_range.Goals as goal
 
 pub returns : goal.returns
-returns c = test_is_range
+returns c = in_range_exactly
