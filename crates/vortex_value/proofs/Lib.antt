@@ -1,7 +1,10 @@
 pub mod CompatibleSteps
+pub mod GivenItems
 pub mod ListMakers
 pub mod MakerLaws
+pub mod MapMakers
 pub mod OrderLaws
+pub mod StructMakers
 pub mod TypeSteps
 pub mod Uniqueness
 pub mod ValidSteps

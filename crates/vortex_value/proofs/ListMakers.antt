@@ -1,5 +1,5 @@
 -- Children of the right types make valid lists.
-use Rattle.std.proofs.Common.{◌≡◌, ◌≢◌, ◌≤◌, ◌<◌, ℕ, nat_lt, Bool, true, false, not, cond, List, [], ◌∷◌, length, Option, Some, None, position, get_or, refl, ap, subst, true≢false, suc, option_map, arith}
+use Rattle.std.proofs.Common.{◌≡◌, ◌≤◌, ◌<◌, ℕ, nat_lt, Bool, true, false, not, cond, List, [], ◌∷◌, length, Option, Some, None, position, get_or, refl, ap, subst, true≢false, suc, option_map, arith}
 use Rattle.std.proofs.lemmas.Bool.Decides.{nat_tests}
 use Rattle.std.proofs.lemmas.List.Elements.{All-tail}
 use Rattle.std.proofs.lemmas.List.Sums.{fails_before_first}
@@ -24,7 +24,7 @@ none_passes p xs h k d below =
     let past = not_before (position_or_len p xs) (length xs) h in
     fails_before_first p xs k d (omega arith)
 
-was_true : (b : Bool) → not b ≡ false → b ≡ true
+pub was_true : (b : Bool) → not b ≡ false → b ≡ true
 was_true true h = refl
 was_true false h = absurd (true≢false h)
 

@@ -1,10 +1,10 @@
 -- What the makers of scalars make is valid.
-use Rattle.std.proofs.Common.{◌≡◌, ℕ, zero, suc, ◌==◌, ◌<◌, Bool, true, false, if◌then◌else◌, List, [], ◌∷◌, length, Option, Some, None, position, slice_get, get_or, option_map, refl, sym, ◌∙◌, subst, true≢false, arith, rules}
+use Rattle.std.proofs.Common.{◌≡◌, ℕ, zero, suc, ◌==◌, ◌<◌, Bool, true, false, if◌then◌else◌, List, [], ◌∷◌, length, Option, Some, None, position, slice_get, get_or, option_map, Vec, refl, sym, ◌∙◌, subst, true≢false, arith, rules}
 use Rattle.std.proofs.lemmas.List.Quantifiers.{position-Some}
 use Rattle.vortex_dtype.specs.TypeEquality.{tree_eq}
 use Rattle.vortex_dtype.specs.TypeLaws.{tree_eq-Decides}
 use Rattle.vortex_dtype.specs.TypeOf.{VariantParts, types_from, type_of, ext_of, variants_of}
-use Rattle.vortex_dtype.specs.TypeTree.{TypeTree, list_type, fixed_size_list_type, extension_type, TypeTrees, no_types, type_then, IsNullable, as_nullable, storage}
+use Rattle.vortex_dtype.specs.TypeTree.{TypeTree, list_type, fixed_size_list_type, extension_type, IsNullable, as_nullable}
 use Rattle.vortex_dtype.specs.declared.error.VortexError.{VortexError}
 use Rattle.vortex_dtype.specs.declared.kinds.Nullability.{Nullability}
 use Rattle.vortex_dtype.specs.declared.types.DType.{DType, List as ListType, FixedSizeList, Extension, Union, the_lemmas}
@@ -12,8 +12,8 @@ use Rattle.vortex_dtype.specs.declared.types.ExtDType.{ExtDType}
 use Rattle.vortex_dtype.specs.declared.types.UnionVariants.{UnionVariants}
 use Rattle.vortex_dtype.specs.declared.error.VortexError.TheVariants.{UnknownTypeId}
 use Rattle.vortex_value.specs.Makers.{child_cause, union_cause, tagged_cause, union_of, extension_over}
-use Rattle.vortex_value.specs.RawOf.{raw_of}
-use Rattle.vortex_value.specs.RawTree.{RawTree, absent, raw_union}
+use Rattle.vortex_value.specs.RawOf.{raw_of, raws_of, value_tree}
+use Rattle.vortex_value.specs.RawTree.{RawTree, absent, raw_tuple, raw_union}
 use Rattle.vortex_value.specs.Scalars.{IsValid}
 use Rattle.vortex_value.specs.declared.values.ScalarValue.{ScalarValue, the_lemmas as the_values}
 use Rattle.vortex_value.specs.declared.values.ScalarValue as raw
@@ -117,3 +117,6 @@ type_of-List e n = search (rules, the_lemmas)
 
 pub type_of-FixedSizeList : (e : Box DType Global) (size : ℕ) (n : Nullability) → type_of (FixedSizeList e size n) ≡ fixed_size_list_type (type_of e.value) size n
 type_of-FixedSizeList e size n = search (rules, the_lemmas)
+
+pub value_tree-Tuple : (v : Vec (Option ScalarValue) Global) → value_tree (raw.Tuple v) ≡ raw_tuple (raws_of v.items)
+value_tree-Tuple v = search (rules, the_values)

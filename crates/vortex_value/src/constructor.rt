@@ -21,6 +21,8 @@ use vortex_dtype::{
 use vortex_pvalue::{NativePType, PValue};
 
 mod lists;
+mod maps;
+mod structs;
 
 impl Scalar {
     /// The null of a type that takes one. Takes no memory.
