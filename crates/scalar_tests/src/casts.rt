@@ -4,12 +4,12 @@ ghost use Rattle.vortex_dtype.specs.TypeOf.{type_of};
 ghost use Rattle.vortex_dtype.specs.TypeTree.{IsNullable};
 ghost use Rattle.vortex_value.specs.Scalars.{IsValid};
 
-use crate::{Scalar, ScalarValue};
 use std::alloc::Global;
 use std::test::Fail;
 use vortex_dtype::Nullability::{NonNullable, Nullable};
 use vortex_dtype::{DType, PType, VortexError};
 use vortex_pvalue::PValue;
+use vortex_value::{Scalar, ScalarValue};
 
 /// The type of integers of a kind that take a null.
 fn nullable(ptype: PType) -> DType
@@ -32,8 +32,13 @@ fn cast_text(alloc: Global, scalar: &Scalar, target: &DType) -> Result<String, F
     requires { IsValid scalar.now }
 {
     match scalar.cast(alloc, target) {
-        Ok(made) if made.dtype() == target => text_of(alloc, &made),
-        Ok(_) => Ok(String::from_str(alloc, "another type")?),
+        Ok(made) => {
+            if *made.dtype() == *target {
+                text_of(alloc, &made)
+            } else {
+                Ok(String::from_str(alloc, "another type")?)
+            }
+        }
         Err(VortexError::CannotCast) => Ok(String::from_str(alloc, "refused")?),
         Err(_) => Ok(String::from_str(alloc, "another refusal")?),
     }

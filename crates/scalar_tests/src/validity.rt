@@ -1,12 +1,12 @@
 //! The table of valid and invalid values, and the paths to first breaches.
 
 use crate::fixtures::*;
-use crate::{Scalar, ScalarValue};
 use std::alloc::Global;
 use std::test::Fail;
 use vortex_dtype::Nullability::{NonNullable, Nullable};
 use vortex_dtype::{Breach, DType, PType, Step, VortexError};
 use vortex_pvalue::PValue;
+use vortex_value::{Scalar, ScalarValue};
 
 type Raw = Option<ScalarValue>;
 
@@ -18,7 +18,7 @@ struct Row {
     invalid: Vec<Raw>,
 }
 
-fn row<const V: usize, const I: usize>(
+fn make_row<const V: usize, const I: usize>(
     alloc: Global,
     dtype: DType,
     valid: [Raw; V],
@@ -32,35 +32,35 @@ fn row<const V: usize, const I: usize>(
 }
 
 fn flat_rows(alloc: Global, rows: &mut Vec<Row>) -> Result<(), Fail> {
-    rows.push(row(alloc, DType::Null, [None], [truth(true)])?)?;
-    rows.push(row(alloc, DType::Bool(Nullable), [None], [integer(1)])?)?;
-    rows.push(row(
+    rows.push(make_row(alloc, DType::Null, [None], [truth(true)])?)?;
+    rows.push(make_row(alloc, DType::Bool(Nullable), [None], [integer(1)])?)?;
+    rows.push(make_row(
         alloc,
         DType::Bool(NonNullable),
         [truth(true)],
         [None, integer(1)],
     )?)?;
     let long = Some(ScalarValue::Primitive(PValue::I64(1)));
-    rows.push(row(alloc, I32, [integer(1)], [long])?)?;
+    rows.push(make_row(alloc, I32, [integer(1)], [long])?)?;
     let a = text(alloc, "a")?;
-    rows.push(row(alloc, DType::Utf8(NonNullable), [a], [truth(true)])?)?;
+    rows.push(make_row(alloc, DType::Utf8(NonNullable), [a], [truth(true)])?)?;
     let none = bytes(alloc, &[])?;
     let a = text(alloc, "a")?;
-    rows.push(row(alloc, DType::Binary(NonNullable), [none], [a])?)?;
+    rows.push(make_row(alloc, DType::Binary(NonNullable), [none], [a])?)?;
     let some = variant(alloc, DType::Bool(NonNullable), truth(true))?;
     let null = variant(alloc, DType::Null, None)?;
     let other = variant(alloc, DType::Bool(Nullable), None)?;
-    rows.push(row(alloc, DType::Variant(NonNullable), [null, some], [other])?)?;
+    rows.push(make_row(alloc, DType::Variant(NonNullable), [null, some], [other])?)?;
     Ok(())
 }
 
 fn list_rows(alloc: Global, rows: &mut Vec<Row>) -> Result<(), Fail> {
     let two = tuple(alloc, [integer(1), integer(1)])?;
     let with_null = tuple(alloc, [integer(1), None])?;
-    rows.push(row(alloc, list(alloc, I32)?, [two], [with_null, integer(1)])?)?;
+    rows.push(make_row(alloc, list(alloc, I32)?, [two], [with_null, integer(1)])?)?;
     let two = tuple(alloc, [integer(1), integer(1)])?;
     let one = tuple(alloc, [integer(1)])?;
-    rows.push(row(alloc, fixed_size_list(alloc, I32, 2)?, [two], [one])?)?;
+    rows.push(make_row(alloc, fixed_size_list(alloc, I32, 2)?, [two], [one])?)?;
     let map = DType::map(alloc, I32, DType::Bool(Nullable), false, NonNullable)?;
     let entry = tuple(alloc, [integer(1), None])?;
     let null_key = tuple(alloc, [None, None])?;
@@ -71,7 +71,7 @@ fn list_rows(alloc: Global, rows: &mut Vec<Row>) -> Result<(), Fail> {
         tuple(alloc, [null_key])?,
         tuple(alloc, [alone])?,
     ];
-    rows.push(row(alloc, map, [valid], invalid)?)?;
+    rows.push(make_row(alloc, map, [valid], invalid)?)?;
     Ok(())
 }
 
@@ -81,13 +81,13 @@ fn nested_rows(alloc: Global, rows: &mut Vec<Row>) -> Result<(), Fail> {
     let half = tuple(alloc, [integer(1), None])?;
     let nulls = tuple(alloc, [None, None])?;
     let one = tuple(alloc, [integer(1)])?;
-    rows.push(row(alloc, fields, [full, half], [nulls, one])?)?;
+    rows.push(make_row(alloc, fields, [full, half], [nulls, one])?)?;
     let right = union(alloc, 3, integer(1))?;
     let unknown = union(alloc, 4, integer(1))?;
     let null = union(alloc, 3, None)?;
-    rows.push(row(alloc, union_of_one(alloc)?, [right], [unknown, null])?)?;
+    rows.push(make_row(alloc, union_of_one(alloc)?, [right], [unknown, null])?)?;
     let wrapped = extension(alloc, I32)?;
-    rows.push(row(alloc, wrapped, [integer(1)], [None, truth(true)])?)?;
+    rows.push(make_row(alloc, wrapped, [integer(1)], [None, truth(true)])?)?;
     Ok(())
 }
 

@@ -1,6 +1,5 @@
 //! Types and raw values that tests are about.
 
-use crate::{Scalar, ScalarValue, UnionValue};
 use std::alloc::Global;
 use std::test::Fail;
 use vortex_dtype::Nullability::{NonNullable, Nullable};
@@ -9,6 +8,7 @@ use vortex_dtype::{
     UnionVariants, VortexError,
 };
 use vortex_pvalue::PValue;
+use vortex_value::{Scalar, ScalarValue, UnionValue};
 
 pub const I32: DType = DType::Primitive(PType::I32, NonNullable);
 
