@@ -1,7 +1,9 @@
 //! `run` over readers and writers in memory.
 
 use crate::rows::{RowsError, fault_line, run};
+use std::alloc::Global;
 use std::io::{self, Read, Write};
+use std::process::Abort;
 use std::test::Fail;
 
 /// Gives a byte a read for so many reads, and then ends or fails.
@@ -93,13 +95,12 @@ impl Write for Filling {
     }
 }
 
-/// What `run` writes of an input.
-fn compare(rt: HostRuntime, input: &[u8], want: &str) -> Result<(), Fail> {
-    let mut output = Vec::new(rt.alloc());
-    let done = run(rt.alloc(), &mut &input[..], &mut output);
+/// Sees that `run` writes this of an input.
+fn compare(rt: &impl Abort, alloc: Global, input: &[u8], want: &str) {
+    let mut output = Vec::new(alloc);
+    let done = run(alloc, &mut &input[..], &mut output);
     assert!(rt; matches!(&done, Ok(())));
     assert_eq!(rt; output.as_slice(), want.as_bytes(), "at {}", input.escape_ascii());
-    Ok(())
 }
 
 #[test]
@@ -112,9 +113,10 @@ fn writes_a_row_for_each_line(rt: HostRuntime) -> Result<(), Fail> {
         ("cast i32 1000 i16\ncast i32 1000 i8", "1000i16\nrefused\n"),
         ("cast i32 1000 i16\n\ncast i64 -0 u8\n", "1000i16\nbad line\n0u8\n"),
     ] {
-        compare(rt, input.as_bytes(), want)?;
+        compare(&rt, rt.alloc(), input.as_bytes(), want);
     }
-    compare(rt, &[255, 254, 10, 99], "bad line\nbad line\n")
+    compare(&rt, rt.alloc(), &[255, 254, 10, 99], "bad line\nbad line\n");
+    Ok(())
 }
 
 #[test]
@@ -154,7 +156,7 @@ fn knows_a_bad_line(rt: HostRuntime) -> Result<(), Fail> {
         "lower 2 0005ffea17",
         "upper 2 0005ffea17",
     ] {
-        compare(rt, input.as_bytes(), "bad line\n")?;
+        compare(&rt, rt.alloc(), input.as_bytes(), "bad line\n");
     }
     Ok(())
 }
@@ -187,7 +189,7 @@ fn knows_the_limits_of_each_kind(rt: HostRuntime) -> Result<(), Fail> {
         ("cast i64 -9223372036854775808 i64", "-9223372036854775808i64\n"),
         ("cast i64 -9223372036854775809 i64", "bad line\n"),
     ] {
-        compare(rt, input.as_bytes(), want)?;
+        compare(&rt, rt.alloc(), input.as_bytes(), want);
     }
     Ok(())
 }
@@ -220,7 +222,7 @@ fn casts_up_to_the_second_kinds_limits(rt: HostRuntime) -> Result<(), Fail> {
         ("cast i32 -00000000000000000001 i8", "-1i8\n"),
         ("cast u64 00000000000000000000 i8", "0i8\n"),
     ] {
-        compare(rt, input.as_bytes(), want)?;
+        compare(&rt, rt.alloc(), input.as_bytes(), want);
     }
     Ok(())
 }
