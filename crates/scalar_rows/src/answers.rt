@@ -1,8 +1,11 @@
 //! What one line gives.
 
-ghost use Rattle.std.specs.Prelude.{◌≡◌, ◌++◌, ◌∷◌, [], Some, true, false, IfNone, IfSome, OnOk};
+ghost use Rattle.std.specs.Prelude.{◌≡◌, ◌≢◌, ℤ, ◌++◌, ◌∷◌, [], Some, true, false, IfNone, IfSome, OnOk};
 ghost use Rattle.vortex_pvalue.specs.Kinds.{in_range};
 ghost use Rattle.vortex_pvalue.specs.Whole.{kind_of, whole_of};
+ghost use Rattle.vortex_value.specs.Content.{content, whole};
+ghost use Rattle.vortex_value.specs.RawOf.{raw_of};
+ghost use Rattle.vortex_value.specs.RawTree.{raw_integer};
 ghost use Rattle.scalar_rows.specs.Answers.{text_of};
 ghost use Rattle.scalar_rows.specs.Grammar.{answer_of, cast_operands, cast_text, kind_named, number_named};
 ghost use Rattle.scalar_rows.specs.Lines.{words_of};
@@ -10,8 +13,9 @@ ghost use Rattle.scalar_rows.specs.Lines.{words_of};
 use crate::numbers::{kind_named, number_named, push_value, value_of};
 use crate::words::cut_word;
 use std::alloc::{AllocError, Global};
-use vortex_dtype::PType;
+use vortex_dtype::{DType, Nullability, PType};
 use vortex_pvalue::PValue;
+use vortex_value::{Scalar, ScalarValue};
 
 /// What a line gives.
 #[derive(Clone, Copy, Debug)]
@@ -77,22 +81,32 @@ fn cast_words(alloc: Global, from: &[u8], number: &[u8], to: &[u8]) -> Answer
 }
 
 /// The number in another kind, where that has it.
-fn cast_number(_alloc: Global, number: PValue, kind: PType) -> Option<PValue>
+#[tactic(auto, using(crate::proofs::Castings::refused))]
+fn cast_number(alloc: Global, number: PValue, kind: PType) -> Option<PValue>
     ensures some { IfSome result (λ v. (kind_of v ≡ kind) × (whole_of v ≡ whole_of number)) }
     ensures range { IfSome result (λ _. in_range kind (whole_of number) ≡ true) }
     ensures none { IfNone result (in_range kind (whole_of number) ≡ false) }
 {
-    let whole = match number {
-        PValue::U8(n) => i128::from(n),
-        PValue::U16(n) => i128::from(n),
-        PValue::U32(n) => i128::from(n),
-        PValue::U64(n) => i128::from(n),
-        PValue::I8(n) => i128::from(n),
-        PValue::I16(n) => i128::from(n),
-        PValue::I32(n) => i128::from(n),
-        PValue::I64(n) => i128::from(n),
+    let own = number.ptype();
+    let Ok(source) = Scalar::primitive_value(number, own, Nullability::NonNullable) else {
+        return None;
     };
-    value_of(whole, kind)
+    let target = DType::Primitive(kind, Nullability::NonNullable);
+    let Ok(made) = source.cast(alloc, &target) else {
+        return None;
+    };
+    integer_of(&made.value)
+}
+
+/// The integer that a raw value holds.
+fn integer_of(value: &Option<ScalarValue>) -> Option<PValue>
+    ensures some { IfSome result (λ v. raw_of value.now ≡ raw_integer (kind_of v) (whole_of v)) }
+    ensures none { IfNone result ((z : ℤ) → content (raw_of value.now) ≢ whole z) }
+{
+    match value {
+        Some(ScalarValue::Primitive(value)) => Some(*value),
+        _ => None,
+    }
 }
 
 /// Writes the answer and a line feed.

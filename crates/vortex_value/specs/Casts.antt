@@ -1,6 +1,8 @@
 -- Which casts the table allows, which contents a type has, and the one value of a content.
 use Rattle.std.specs.Prelude.{◌≡◌, ℕ, true, false}
-use Rattle.vortex_dtype.specs.TypeTree.{TypeTree, null_type, bool_type, integer_type, utf8_type, binary_type, list_type, fixed_size_list_type, map_type, struct_type, union_type, variant_type, extension_type, TypeTrees, no_types, type_then, Same}
+use Rattle.vortex_dtype.specs.TypeTree.{TypeTree, null_type, bool_type, integer_type, utf8_type, binary_type, list_type, fixed_size_list_type, map_type, struct_type, union_type, variant_type, extension_type, TypeTrees, no_types, type_then, Same, IsFlat}
+use Rattle.vortex_dtype.specs.declared.error.VortexError.{VortexError}
+use Rattle.vortex_dtype.specs.declared.error.VortexError.TheVariants.{OutOfMemory, CannotCast}
 use Rattle.vortex_value.specs.Content.{Content, null, sequence, Contents, no_contents, content_then, content}
 use Rattle.vortex_value.specs.RawTree.{RawTree}
 use Rattle.vortex_value.specs.Validity.{Valid}
@@ -102,3 +104,15 @@ CanCast s t c = Allows s t c × Has t c
 -- Types that are the same up to nullability have one raw value of each content.
 abbrev pub OneValue : Type 0
 OneValue = (s t : TypeTree) (v w : RawTree) → Same s t → Valid s v → Valid t w → content v ≡ content w → v ≡ w
+
+-- what a refusal of a cast to t says: CannotCast, that p fails; want of memory, that values of t may take some
+abbrev pub CastRefuses : TypeTree → Type 0 → VortexError → Type 0
+CastRefuses t p CannotCast = ¬ p
+CastRefuses t p OutOfMemory = ¬ (IsFlat t)
+CastRefuses t p _ = ⊥
+
+-- the value w of type t is what a cast of the value v of type s gives
+pub record IsCast (s t : TypeTree) (v w : RawTree) : Type 0 where
+  pub allowed : Allows s t (content v)
+  pub valid : Valid t w
+  pub same : content w ≡ content v

@@ -1,5 +1,5 @@
 -- The trees of declared raw values and scalars.
-use Rattle.std.specs.Prelude.{Option, Some, None}
+use Rattle.std.specs.Prelude.{◌≡◌, Option, Some, None}
 use Rattle.vortex_dtype.specs.TypeOf.{type_of}
 use Rattle.vortex_dtype.specs.TypeTree.{TypeTree}
 use Rattle.vortex_pvalue.specs.Whole.{kind_of, whole_of}
@@ -34,3 +34,15 @@ scalar_content x = content (scalar_raw x)
 -- the value is valid for the type
 abbrev pub IsValid : Scalar → Type 0
 IsValid x = Valid (scalar_type x) (scalar_raw x)
+
+-- y is the scalar of this type and raw value
+pub record IsMadeOf (t : TypeTree) (v : RawTree) (y : Scalar) : Type 0 where
+  pub typed : scalar_type y ≡ t
+  pub value : scalar_raw y ≡ v
+
+-- y is the one scalar of type t with content c: no other valid raw value of t has it
+pub record IsTheOne (t : TypeTree) (c : Content) (y : Scalar) : Type 0 where
+  pub typed : scalar_type y ≡ t
+  pub valid : IsValid y
+  pub same : scalar_content y ≡ c
+  pub only : (v : RawTree) → Valid t v → content v ≡ c → v ≡ scalar_raw y

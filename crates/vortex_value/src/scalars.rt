@@ -1,7 +1,13 @@
 //! Scalars: a type and an optional raw value.
 
+ghost use Rattle.std.specs.Prelude.{◌≡◌, not, IsOk, IfOk, IfErr};
+ghost use Rattle.std.specs.Option.{option_copied};
+ghost use Rattle.vortex_dtype.specs.TypeTree.{IsFlat};
+ghost use Rattle.vortex_value.specs.RawTree.{is_absent};
+
 use crate::values::ScalarValue;
-use vortex_dtype::DType;
+use std::alloc::Global;
+use vortex_dtype::{DType, VortexError};
 
 /// A type and an optional raw value: none is the null.
 ///
@@ -11,4 +17,80 @@ use vortex_dtype::DType;
 pub struct Scalar {
     pub dtype: DType,
     pub value: Option<ScalarValue>,
+}
+
+impl Scalar {
+    ghost use Rattle.vortex_value.specs.RawOf.{IsMadeOf, IsValid, scalar_type, scalar_raw};
+
+    /// The type.
+    ///
+    /// Ports `Scalar::dtype`.
+    pub fn dtype(&self) -> &DType
+        ensures { result.now ≡ self.now.dtype }
+    {
+        &self.dtype
+    }
+
+    /// The raw value; none for a null.
+    ///
+    /// Ports `Scalar::value`.
+    pub fn value(&self) -> Option<&ScalarValue>
+        ensures { option_copied result ≡ self.now.value }
+    {
+        self.value.as_ref()
+    }
+
+    /// The raw value, by value.
+    ///
+    /// Ports `Scalar::into_value`.
+    pub fn into_value(self) -> Option<ScalarValue>
+        ensures { result ≡ self.value }
+    {
+        self.value
+    }
+
+    /// The type and the raw value, by value.
+    ///
+    /// Ports `Scalar::into_parts`.
+    pub fn into_parts(self) -> (DType, Option<ScalarValue>)
+        ensures dtype { result.0 ≡ self.dtype }
+        ensures value { result.1 ≡ self.value }
+    {
+        (self.dtype, self.value)
+    }
+
+    /// Whether the scalar is not null.
+    ///
+    /// Ports `Scalar::is_valid`.
+    pub fn is_valid(&self) -> bool
+        ensures { result ≡ not (is_absent (scalar_raw self.now)) }
+    {
+        self.value.is_some()
+    }
+
+    /// Whether the scalar is null.
+    ///
+    /// Ports `Scalar::is_null`.
+    pub fn is_null(&self) -> bool
+        ensures { result ≡ is_absent (scalar_raw self.now) }
+    {
+        self.value.is_none()
+    }
+
+    /// A copy: the exact type and the raw value, integer kinds included.
+    ///
+    /// `OutOfMemory` is its only refusal, and not for a valid scalar of a type whose values take no
+    /// memory. Ports the `Clone` of `Scalar`.
+    pub fn clone(&self, alloc: Global) -> Result<Scalar, VortexError>
+        ensures copied { IfOk result (IsMadeOf (scalar_type self.now) (scalar_raw self.now)) }
+        ensures refused { IfErr result (λ e. e ≡ VortexError.OutOfMemory) }
+        ensures flat { IsFlat (scalar_type self.now) → IsValid self.now → IsOk result }
+    {
+        let dtype = self.dtype.clone(alloc)?;
+        let value = match &self.value {
+            Some(value) => Some(value.clone(alloc)?),
+            None => None,
+        };
+        Ok(Scalar { dtype, value })
+    }
 }
