@@ -12,9 +12,8 @@ use Rattle.vortex_pvalue.specs.Kinds.{InRange, in_range}
 use Rattle.vortex_pvalue.specs.RangeLaws.{in_range_true, in_range_back}
 use Rattle.vortex_pvalue.specs.Whole.{kind_of, whole_of}
 use Rattle.vortex_pvalue.specs.declared.pvalues.PValue.{PValue}
-use Rattle.vortex_value.specs.Casts.{Allows, CanCast, CastRefuses, Has, integers}
-use Rattle.vortex_value.specs.Content.{Content, content, whole}
-use Rattle.vortex_value.specs.RawOf.{raw_of}
+use Rattle.vortex_value.specs.Casts.{CanCast, CastRefuses, integers}
+use Rattle.vortex_value.specs.Content.{content, whole}
 use Rattle.vortex_value.specs.RawTree.{RawTree, absent, raw_bool, raw_integer, raw_text, raw_bytes, raw_tuple, raw_union, raw_variant}
 use Rattle.vortex_value.specs.RawOf.{IsMadeOf, IsTheOne, scalar_content, scalar_raw, scalar_type}
 use Rattle.vortex_value.specs.Validity.{Valid}

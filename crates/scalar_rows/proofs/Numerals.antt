@@ -1,5 +1,5 @@
 -- The number that a row of digits represents, digit by digit.
-use Rattle.std.proofs.Common.{◌≡◌, ℕ, ◌<◌, ◌≤◌, ◌^◌, ◌+◌, ◌*◌, ◌-◌, ◌&&◌, true, false, Bool, List, [], ◌∷◌, length, get_or, drop, suc, zero, Option, None, Some, refl, arith, sym, ap, ◌∙◌, add-one, drop-cons, drop_of_length-le, pow-suc, nat_lt, nat_le, ◌==◌, ◌≢◌, take, pos, neg_ℤ}
+use Rattle.std.proofs.Common.{◌≡◌, ℕ, ◌<◌, ◌≤◌, ◌^◌, ◌+◌, ◌*◌, ◌-◌, ◌&&◌, true, false, Bool, List, [], ◌∷◌, length, get_or, drop, suc, zero, None, Some, refl, arith, sym, ap, ◌∙◌, add-one, drop-cons, drop_of_length-le, pow-suc, nat_lt, nat_le, ◌==◌, ◌≢◌, take, pos, neg_ℤ}
 use Rattle.std.proofs.lemmas.Bool.Decides.{nat_tests}
 use Rattle.std.proofs.lemmas.List.{take_rest}
 use Rattle.std.proofs.lemmas.Str.{digit_value_digit}

@@ -100,7 +100,12 @@ fn compare(rt: &impl Abort, alloc: Global, input: &[u8], want: &str) {
     let mut output = Vec::new(alloc);
     let done = run(alloc, &mut &input[..], &mut output);
     assert!(rt; matches!(&done, Ok(())));
-    assert_eq!(rt; output.as_slice(), want.as_bytes(), "at {}", input.escape_ascii());
+    assert_eq!(rt;
+        output.as_slice(),
+        want.as_bytes(),
+        "at {}",
+        input.escape_ascii()
+    );
 }
 
 #[test]
@@ -111,7 +116,10 @@ fn writes_a_row_for_each_line(rt: HostRuntime) -> Result<(), Fail> {
         ("\n\n", "bad line\nbad line\n"),
         ("hello", "bad line\n"),
         ("cast i32 1000 i16\ncast i32 1000 i8", "1000i16\nrefused\n"),
-        ("cast i32 1000 i16\n\ncast i64 -0 u8\n", "1000i16\nbad line\n0u8\n"),
+        (
+            "cast i32 1000 i16\n\ncast i64 -0 u8\n",
+            "1000i16\nbad line\n0u8\n",
+        ),
     ] {
         compare(&rt, rt.alloc(), input.as_bytes(), want);
     }
@@ -171,7 +179,10 @@ fn knows_the_limits_of_each_kind(rt: HostRuntime) -> Result<(), Fail> {
         ("cast u16 65536 u16", "bad line\n"),
         ("cast u32 4294967295 u32", "4294967295u32\n"),
         ("cast u32 4294967296 u32", "bad line\n"),
-        ("cast u64 18446744073709551615 u64", "18446744073709551615u64\n"),
+        (
+            "cast u64 18446744073709551615 u64",
+            "18446744073709551615u64\n",
+        ),
         ("cast i8 127 i8", "127i8\n"),
         ("cast i8 128 i8", "bad line\n"),
         ("cast i8 -128 i8", "-128i8\n"),
@@ -184,9 +195,15 @@ fn knows_the_limits_of_each_kind(rt: HostRuntime) -> Result<(), Fail> {
         ("cast i32 2147483648 i32", "bad line\n"),
         ("cast i32 -2147483648 i32", "-2147483648i32\n"),
         ("cast i32 -2147483649 i32", "bad line\n"),
-        ("cast i64 9223372036854775807 i64", "9223372036854775807i64\n"),
+        (
+            "cast i64 9223372036854775807 i64",
+            "9223372036854775807i64\n",
+        ),
         ("cast i64 9223372036854775808 i64", "bad line\n"),
-        ("cast i64 -9223372036854775808 i64", "-9223372036854775808i64\n"),
+        (
+            "cast i64 -9223372036854775808 i64",
+            "-9223372036854775808i64\n",
+        ),
         ("cast i64 -9223372036854775809 i64", "bad line\n"),
     ] {
         compare(&rt, rt.alloc(), input.as_bytes(), want);
@@ -214,7 +231,10 @@ fn casts_up_to_the_second_kinds_limits(rt: HostRuntime) -> Result<(), Fail> {
         ("cast i32 -32769 i16", "refused\n"),
         ("cast i64 -2147483648 i32", "-2147483648i32\n"),
         ("cast i64 -2147483649 i32", "refused\n"),
-        ("cast u64 9223372036854775807 i64", "9223372036854775807i64\n"),
+        (
+            "cast u64 9223372036854775807 i64",
+            "9223372036854775807i64\n",
+        ),
         ("cast u64 9223372036854775808 i64", "refused\n"),
         ("cast i8 -128 i64", "-128i64\n"),
         ("cast i64 -0 u8", "0u8\n"),
@@ -236,7 +256,10 @@ fn reads_a_byte_at_a_time(rt: HostRuntime) -> Result<(), Fail> {
     };
     let done = run(rt.alloc(), &mut reader, &mut output);
     assert!(rt; matches!(&done, Ok(())));
-    assert_eq!(rt; output.as_slice(), b"1000i16\nrefused\nbad line\n".as_slice());
+    assert_eq!(rt;
+        output.as_slice(),
+        b"1000i16\nrefused\nbad line\n".as_slice()
+    );
     Ok(())
 }
 
@@ -286,7 +309,10 @@ fn stops_at_a_failed_write(rt: HostRuntime) -> Result<(), Fail> {
             flushes: true,
         };
         let done = run(rt.alloc(), &mut &input[..], &mut writer);
-        assert!(rt; matches!(&done, Err(RowsError::Write)), "after {left} writes");
+        assert!(rt;
+            matches!(&done, Err(RowsError::Write)),
+            "after {left} writes"
+        );
     }
     let mut writer = Filling {
         left: 5,
