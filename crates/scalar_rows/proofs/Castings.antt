@@ -1,7 +1,7 @@
 -- What a cast of an integer says of the target's range.
-use Rattle.std.proofs.Common.{◌≡◌, ℤ, true, false, Bool, refl, sym, ap, ◌∙◌, subst, Option, None, Some, IfSome, IfNone, rules}
+use Rattle.std.proofs.Common.{◌≡◌, ℤ, true, false, refl, sym, ap, ◌∙◌, subst, Option, None, Some, IfSome, IfNone, rules}
 use Rattle.vortex_dtype.specs.TypeOf.{type_of}
-use Rattle.vortex_dtype.specs.TypeTree.{TypeTree, integer_type}
+use Rattle.vortex_dtype.specs.TypeTree.{TypeTree, integer_type, IsFlat}
 use Rattle.vortex_dtype.specs.declared.error.VortexError.{VortexError}
 use Rattle.vortex_dtype.specs.declared.error.VortexError.TheVariants.{OutOfMemory, CannotCast}
 use Rattle.vortex_dtype.specs.declared.kinds.Nullability.TheVariants.{NonNullable, Nullable}
@@ -9,7 +9,7 @@ use Rattle.vortex_dtype.specs.declared.kinds.Nullability.{Nullability}
 use Rattle.vortex_dtype.specs.declared.kinds.PType.{PType}
 use Rattle.vortex_dtype.specs.declared.types.DType.TheVariants.{Primitive}
 use Rattle.vortex_pvalue.specs.Kinds.{InRange, in_range}
-use Rattle.vortex_pvalue.specs.RangeLaws.{in_range_true, in_range_back}
+use Rattle.vortex_pvalue.specs.RangeLaws.{in_range_false, in_range_true}
 use Rattle.vortex_pvalue.specs.Whole.{kind_of, whole_of}
 use Rattle.vortex_pvalue.specs.declared.pvalues.PValue.{PValue}
 use Rattle.vortex_value.specs.Casts.{CanCast, CastRefuses, integers}
@@ -23,24 +23,20 @@ use Rattle.vortex_value.specs.declared.scalars.Scalar.{Scalar}
 can_cast : (own kind : PType) (z : ℤ) → InRange kind z → CanCast (integer_type own NonNullable) (integer_type kind NonNullable) (whole z)
 can_cast own kind z inside = (integers tt tt, record { value = raw_integer kind z; valid = (refl, inside); same = refl })
 
-not_true : (b : Bool) → (b ≡ true → ⊥) → b ≡ false
-not_true true h = absurd (h refl)
-not_true false h = refl
-
--- a refused cast is one of a number that the target's kind does not have
-refuses : (own kind : PType) (z : ℤ) (e : VortexError) → CastRefuses (integer_type kind NonNullable) (CanCast (integer_type own NonNullable) (integer_type kind NonNullable) (whole z)) e → in_range kind z ≡ false
-refuses own kind z CannotCast out = not_true (in_range kind z) (λ t. out (can_cast own kind z (in_range_back kind z t)))
-refuses own kind z OutOfMemory out = absurd (out tt)
-refuses own kind z _ out = absurd out
-
 -- the type of the target
 target_type : (kind : PType) (n : Nullability) → type_of (Primitive kind n) ≡ integer_type kind n
 target_type kind n = search rules
 
--- the same, of the scalar of a number
-pub refused : (source : Scalar) (own kind : PType) (z : ℤ) (e : VortexError) → IsMadeOf (integer_type own NonNullable) (raw_integer own z) source → CastRefuses (type_of (Primitive kind NonNullable)) (CanCast (scalar_type source) (type_of (Primitive kind NonNullable)) (scalar_content source)) e → in_range kind z ≡ false
-refused source own kind z e made out =
-    refuses own kind z e (rw (target_type kind NonNullable, made.typed, made.value) at out)
+-- a refusal without want of memory says that there is no such cast
+pub cannot : (kind : PType) (p : Type 0) (e : VortexError) → CastRefuses (type_of (Primitive kind NonNullable)) p e → ¬ p
+cannot kind p CannotCast out = out
+cannot kind p OutOfMemory out = let P : TypeTree → Type 0 = λ t. IsFlat t in absurd (out (subst P (sym (target_type kind NonNullable)) tt))
+cannot kind p _ out = absurd out
+
+-- a number that cannot be cast to the kind is not in its range
+pub refused : (source : Scalar) (own kind : PType) (z : ℤ) → IsMadeOf (integer_type own NonNullable) (raw_integer own z) source → ¬ (CanCast (scalar_type source) (type_of (Primitive kind NonNullable)) (scalar_content source)) → in_range kind z ≡ false
+refused source own kind z made out =
+    in_range_false kind z (λ inside. out (rw (target_type kind NonNullable, made.typed, made.value) (can_cast own kind z inside)))
 
 whole_same : {y z : ℤ} → whole y ≡ whole z → y ≡ z
 whole_same e = cc
