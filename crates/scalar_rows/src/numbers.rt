@@ -58,8 +58,8 @@ fn natural_named(digits: &[u8]) -> Option<u128>
     Some(number)
 }
 
-#[tactic(auto, using(crate::proofs::Numerals::after_minus, crate::proofs::Numerals::without_minus))]
 /// The number that the word represents: digits, after an optional minus sign.
+#[tactic(auto, using(crate::proofs::Numerals::after_minus, crate::proofs::Numerals::without_minus))]
 pub fn number_named(word: &[u8]) -> Option<i128>
     ensures { result ≡ number_named word.now }
 {
