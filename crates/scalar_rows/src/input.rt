@@ -1,0 +1,40 @@
+//! All that a reader has left.
+
+ghost use Rattle.std.specs.Prelude.{◌≡◌, ◌≢◌, IfErr, IfOk, IfSome, OnOk};
+ghost use Rattle.std.specs.Io.KnownBytes.{IsAtEnd};
+
+use crate::rows::RowsError;
+use std::alloc::Global;
+use std::io::Read;
+
+/// How many bytes one read asks for.
+const PIECE: usize = 4096;
+
+/// How many reads are made, the one that meets the end counted.
+const READS: u32 = 1_048_576;
+
+/// Reads to the end, in pieces.
+///
+/// `Read` for every error of the reader, and where the input has not ended within the reads that
+/// are made; `Memory` where no memory is left.
+#[tactic(auto, using(crate::proofs::KnownReads::Consumes_append, crate::proofs::KnownReads::Consumes_at_end))]
+pub fn read_all<R: Read>(alloc: Global, reader: &mut R) -> Result<Vec<u8>, RowsError>
+    ensures bytes { IfOk result (λ input. IfSome (R.remaining reader.old) (λ all. input.items ≡ all)) }
+    ensures end { OnOk result (IsAtEnd (R.remaining reader.new)) }
+    ensures fault { IfErr result (λ e. e ≢ RowsError.Write) }
+{
+    let mut input = Vec::new(alloc);
+    let mut piece = [0u8; PIECE];
+    for _turn in 0..READS {
+        let Ok(count) = reader.read(&mut piece) else {
+            return Err(RowsError::Read);
+        };
+        if count == 0 {
+            return Ok(input);
+        }
+        if input.extend_from_slice(&piece[..count]).is_err() {
+            return Err(RowsError::Memory);
+        }
+    }
+    Err(RowsError::Read)
+}

@@ -1,0 +1,75 @@
+//! From all lines to all answers.
+
+ghost use Rattle.std.specs.Prelude.{◌≡◌, ◌≢◌, IfErr, IfOk, IfSome, OnOk};
+ghost use Rattle.std.specs.Io.KnownBytes.{Appends, IsAtEnd};
+ghost use Rattle.scalar_rows.specs.Faults.{fault_text};
+ghost use Rattle.scalar_rows.specs.Grammar.{rows_of};
+
+use crate::answers::{answer_to, push_answer};
+use crate::input::read_all;
+use crate::words::first_line;
+use std::alloc::{AllocError, Global};
+use std::io::{Read, Write};
+
+/// Why the program stopped.
+#[derive(Debug, Drop)]
+pub enum RowsError {
+    /// A read failed, or the input did not end within the reads that are made.
+    Read,
+    /// A write, or the flush after it, failed.
+    Write,
+    /// No memory was left.
+    Memory,
+}
+
+/// What the program says of a fault.
+pub fn fault_line(fault: &RowsError) -> &'static str
+    ensures { result.now ≡ fault_text fault.now }
+{
+    match fault {
+        RowsError::Read => "read failed",
+        RowsError::Write => "write failed",
+        RowsError::Memory => "out of memory",
+    }
+}
+
+/// Reads all there is, and writes what its lines give and nothing else.
+///
+/// `Read` for every error of the reader, and where the input has not ended within 1,048,576 reads;
+/// `Memory` where no memory is left; after both nothing was written. `Write` for an error of the
+/// writer: how much went out is not known.
+pub fn run<R: Read, W: Write>(
+    alloc: Global,
+    reader: &mut R,
+    writer: &mut W,
+) -> Result<(), RowsError>
+    // What was written is the rows of all bytes that there were.
+    ensures rows { OnOk result (IfSome (R.remaining reader.old) (λ input.
+        Appends (W.contents writer.old) (W.contents writer.new) (rows_of input))) }
+    ensures end { OnOk result (IsAtEnd (R.remaining reader.new)) }
+    // After a fault other than one of the writer, nothing was written.
+    ensures untouched { IfErr result (λ e. e ≢ RowsError.Write → writer.new ≡ writer.old) }
+{
+    let input = read_all(alloc, reader)?;
+    let Ok(output) = rows(alloc, &input) else {
+        return Err(RowsError::Memory);
+    };
+    if writer.write_all(&output).is_err() || writer.flush().is_err() {
+        return Err(RowsError::Write);
+    }
+    Ok(())
+}
+
+/// What all lines give.
+fn rows(alloc: Global, input: &[u8]) -> Result<Vec<u8>, AllocError>
+    ensures { IfOk result (λ output. output.items ≡ rows_of input.now) }
+{
+    let mut output = Vec::new(alloc);
+    let mut rest = input;
+    while !rest.is_empty() {
+        let (line, after) = first_line(rest);
+        push_answer(&mut output, answer_to(alloc, line))?;
+        rest = after;
+    }
+    Ok(output)
+}

@@ -1,0 +1,106 @@
+#!/bin/sh
+# Runs the built program `scalar_rows` under real faults: a folder as its input, a full device as its output, and each
+# growth of memory refused in turn. The last line is 'N passed, M failed'; the status is 1 if any failed.
+set -eu
+top=$(CDPATH='' cd -- "$(dirname -- "$0")/.." && pwd)
+program=$top/crates/scalar_rows/out/scalar_rows
+folder=$(mktemp -d)
+trap 'rm -rf "$folder"' EXIT
+passed=0
+failed=0
+
+# judge NAME: whether `status`, "$folder/output" and "$folder/errors" are as wanted
+judge() {
+    name=$1 wanted_status=$2 wanted_output=$3 wanted_errors=$4
+    if [ "$status" = "$wanted_status" ] && cmp -s "$folder/output" "$wanted_output" && cmp -s "$folder/errors" "$wanted_errors"; then
+        passed=$((passed + 1))
+    else
+        failed=$((failed + 1))
+        echo "$name: status $status, not $wanted_status, or other words than wanted:"
+        head -c 200 "$folder/output"
+        head -c 200 "$folder/errors"
+    fi
+}
+
+# attempt COMMAND..: runs it, with its words on standard error kept
+attempt() {
+    status=0
+    "$@" 2> "$folder/errors" || status=$?
+}
+
+with_refusal() {
+    rm -f "$folder/refused"
+    attempt env FAIL_ALLOC="$1" FAIL_MARK="$folder/refused" LD_PRELOAD="$folder/refuse.so" "$program" < "$folder/input" > "$folder/output"
+}
+
+build_refusals() {
+    cat > "$folder/refuse.c" <<'C'
+#include <fcntl.h>
+#include <stdlib.h>
+#include <unistd.h>
+
+void *__libc_malloc(size_t size);
+void *__libc_realloc(void *old, size_t size);
+
+// Whether this growth is the one to refuse; the mark says that it was.
+static int refuse(void) {
+    static long left = -1;
+    if (left < 0) {
+        const char *count = getenv("FAIL_ALLOC");
+        left = count ? atol(count) : 0;
+    }
+    if (left == 0 || --left > 0) return 0;
+    int mark = open(getenv("FAIL_MARK"), O_CREAT | O_WRONLY, 0600);
+    if (mark >= 0) close(mark);
+    return 1;
+}
+
+void *malloc(size_t size) { return refuse() ? 0 : __libc_malloc(size); }
+void *realloc(void *old, size_t size) { return refuse() ? 0 : __libc_realloc(old, size); }
+C
+    cc -shared -fPIC -O1 -o "$folder/refuse.so" "$folder/refuse.c"
+}
+
+"$top/scalar_rows" --build < /dev/null
+build_refusals
+: > "$folder/nothing"
+echo 'read failed' > "$folder/read"
+echo 'write failed' > "$folder/write"
+echo 'out of memory' > "$folder/memory"
+for _line in 1 2 3 4 5 6 7 8 9 10 11 12 13 14 15 16 17 18 19 20; do
+    cat "$top/crates/scalar_rows/stdin" "$top/crates/scalar_rows/stdin" "$top/crates/scalar_rows/stdin"
+    cat "$top/crates/scalar_rows/stdout" >> "$folder/rows"
+    cat "$top/crates/scalar_rows/stdout" >> "$folder/rows"
+    cat "$top/crates/scalar_rows/stdout" >> "$folder/rows"
+done > "$folder/input"
+
+attempt "$program" < "$folder/input" > "$folder/output"
+judge 'ample memory' 0 "$folder/rows" "$folder/nothing"
+
+attempt "$program" ignored words --help < "$folder/input" > "$folder/output"
+judge 'words on the command line' 0 "$folder/rows" "$folder/nothing"
+
+attempt "$program" < "$folder" > "$folder/output"
+judge 'a folder as the input' 1 "$folder/nothing" "$folder/read"
+
+: > "$folder/output"
+attempt "$program" < "$folder/input" > /dev/full
+judge 'a full device as the output' 1 "$folder/nothing" "$folder/write"
+
+growth=1
+while [ "$growth" -le 100 ]; do
+    with_refusal "$growth"
+    if [ ! -e "$folder/refused" ]; then
+        break
+    fi
+    judge "growth $growth refused" 1 "$folder/nothing" "$folder/memory"
+    growth=$((growth + 1))
+done
+judge "no growth refused of $((growth - 1))" 0 "$folder/rows" "$folder/nothing"
+if [ "$growth" -lt 3 ]; then
+    failed=$((failed + 1))
+    echo "only $((growth - 1)) growths were refused"
+fi
+
+echo "$passed passed, $failed failed"
+[ "$failed" -eq 0 ]
