@@ -1,21 +1,20 @@
 -- What a cast of an integer says of the target's range.
 use Rattle.std.proofs.Common.{◌≡◌, ℤ, true, false, refl, sym, ap, ◌∙◌, subst, Option, None, Some, IfSome, IfNone, rules}
 use Rattle.vortex_dtype.specs.TypeOf.{type_of}
-use Rattle.vortex_dtype.specs.TypeTree.{TypeTree, integer_type, IsFlat}
-use Rattle.vortex_dtype.specs.declared.error.VortexError.{VortexError}
-use Rattle.vortex_dtype.specs.declared.error.VortexError.TheVariants.{OutOfMemory, CannotCast}
+use Rattle.vortex_dtype.specs.TypeTree.{TypeTree, integer_type}
 use Rattle.vortex_dtype.specs.declared.kinds.Nullability.TheVariants.{NonNullable, Nullable}
 use Rattle.vortex_dtype.specs.declared.kinds.Nullability.{Nullability}
 use Rattle.vortex_dtype.specs.declared.kinds.PType.{PType}
 use Rattle.vortex_dtype.specs.declared.types.DType.TheVariants.{Primitive}
+use Rattle.vortex_dtype.specs.declared.types.DType.TheFolds.{the_lemmas}
 use Rattle.vortex_pvalue.specs.Kinds.{InRange, in_range}
 use Rattle.vortex_pvalue.specs.RangeLaws.{in_range_false, in_range_true}
 use Rattle.vortex_pvalue.specs.Whole.{kind_of, whole_of}
 use Rattle.vortex_pvalue.specs.declared.pvalues.PValue.{PValue}
-use Rattle.vortex_value.specs.Casts.{CanCast, CastRefuses, integers}
+use Rattle.vortex_value.specs.Casts.{CanCast, IsNullOrInteger, integers}
 use Rattle.vortex_value.specs.Content.{content, whole}
 use Rattle.vortex_value.specs.RawTree.{RawTree, absent, raw_bool, raw_integer, raw_text, raw_bytes, raw_tuple, raw_union, raw_variant}
-use Rattle.vortex_value.specs.RawOf.{IsMadeOf, IsTheOne, scalar_content, scalar_raw, scalar_type}
+use Rattle.vortex_value.specs.Scalars.{IsMadeOf, IsTheOne, scalar_content, scalar_raw, scalar_type}
 use Rattle.vortex_value.specs.Validity.{Valid}
 use Rattle.vortex_value.specs.declared.scalars.Scalar.{Scalar}
 
@@ -25,13 +24,14 @@ can_cast own kind z inside = (integers tt tt, record { value = raw_integer kind 
 
 -- the type of the target
 target_type : (kind : PType) (n : Nullability) → type_of (Primitive kind n) ≡ integer_type kind n
-target_type kind n = search rules
+target_type kind n = search (rules, the_lemmas)
 
--- a refusal without want of memory says that there is no such cast
-pub cannot : (kind : PType) (p : Type 0) (e : VortexError) → CastRefuses (type_of (Primitive kind NonNullable)) p e → ¬ p
-cannot kind p CannotCast out = out
-cannot kind p OutOfMemory out = let P : TypeTree → Type 0 = λ t. IsFlat t in absurd (out (subst P (sym (target_type kind NonNullable)) tt))
-cannot kind p _ out = absurd out
+-- the types of the source and of the target are integer types
+pub integer_source : (source : Scalar) (own : PType) (z : ℤ) → IsMadeOf (integer_type own NonNullable) (raw_integer own z) source → IsNullOrInteger (scalar_type source)
+integer_source source own z made = rw made.typed tt
+
+pub integer_target : (kind : PType) → IsNullOrInteger (type_of (Primitive kind NonNullable))
+integer_target kind = let P : TypeTree → Type 0 = λ t. IsNullOrInteger t in subst P (sym (target_type kind NonNullable)) tt
 
 -- a number that cannot be cast to the kind is not in its range
 pub refused : (source : Scalar) (own kind : PType) (z : ℤ) → IsMadeOf (integer_type own NonNullable) (raw_integer own z) source → ¬ (CanCast (scalar_type source) (type_of (Primitive kind NonNullable)) (scalar_content source)) → in_range kind z ≡ false
