@@ -1,3 +1,11 @@
+pub mod Feeds
 pub mod Kinds
+pub mod Laws
+pub mod Names
+pub mod Parts
+pub mod Refusals
+pub mod Texts
+pub mod TypeEquality
+pub mod TypeLaws
 pub mod TypeOf
 pub mod TypeTree

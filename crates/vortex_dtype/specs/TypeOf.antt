@@ -1,9 +1,108 @@
--- The tree of a declared type.
-use Rattle.vortex_dtype.specs.TypeTree.{TypeTree, null_type, integer_type}
-use Rattle.vortex_dtype.specs.declared.types.DType.{DType}
-use Rattle.vortex_dtype.specs.declared.types.DType.TheVariants.{Null, Primitive}
+-- The tree of a declared type, and what its parts hold.
+use Rattle.std.specs.Prelude.{ℕ, List, [], ◌∷◌, Bool, map as list_map}
+use Rattle.vortex_dtype.specs.TypeTree.{TypeTree, TypeTrees, null_type, bool_type, integer_type, utf8_type, binary_type, list_type, fixed_size_list_type, map_type, struct_type, union_type, variant_type, extension_type, no_types, type_then}
+use Rattle.vortex_dtype.specs.declared.types.DType.{DType, fold-DType}
+use Rattle.vortex_dtype.specs.declared.types.DType.TheOpen.{DType-F, ExtDType-F, MapDType-F, StructFields-F, UnionVariants-F}
+use Rattle.vortex_dtype.specs.declared.types.ExtDType.{ExtDType, fold-ExtDType}
+use Rattle.vortex_dtype.specs.declared.types.MapDType.{MapDType, fold-MapDType}
+use Rattle.vortex_dtype.specs.declared.types.StructFields.{StructFields, fold-StructFields}
+use Rattle.vortex_dtype.specs.declared.types.UnionVariants.{UnionVariants, fold-UnionVariants}
+
+-- a map's key type, its value type, and whether its keys are sorted
+pub record MapParts : Type 0 where
+  pub key : TypeTree
+  pub value : TypeTree
+  pub keys_sorted : Bool
+
+-- the names of a struct's fields, and their types
+pub record FieldParts : Type 0 where
+  pub names : List (List ℕ)
+  pub types : List TypeTree
+
+-- the names of a union's variants, their types and their ids
+pub record VariantParts : Type 0 where
+  pub names : List (List ℕ)
+  pub types : List TypeTree
+  pub type_ids : List ℕ
+
+-- an extension's id, its metadata, and the type of what it stores
+pub record ExtensionParts : Type 0 where
+  pub id : List ℕ
+  pub metadata : List ℕ
+  pub storage : TypeTree
+
+-- a list of trees as the list that a tree holds
+abbrev pub types_from : List TypeTree → TypeTrees
+types_from [] = no_types
+types_from (t ∷ ts) = type_then t (types_from ts)
+
+-- one level of a type, each part of which is already seen as what it holds
+abbrev pub Level : (Type 0 → Type 0 → Type 0 → Type 0 → Type 0 → Type 0) → Type 0
+Level F = F TypeTree ExtensionParts MapParts FieldParts VariantParts
+
+-- the tree of one level
+abbrev pub type_step : Level DType-F → TypeTree
+type_step DType-F.Null = null_type
+type_step (DType-F.Bool n) = bool_type n
+type_step (DType-F.Primitive k n) = integer_type k n
+type_step (DType-F.Utf8 n) = utf8_type n
+type_step (DType-F.Binary n) = binary_type n
+type_step (DType-F.List e n) = list_type e.value n
+type_step (DType-F.FixedSizeList e size n) = fixed_size_list_type e.value size n
+type_step (DType-F.Map m n) = map_type m.key m.value m.keys_sorted n
+type_step (DType-F.Struct f n) = struct_type f.names (types_from f.types) n
+type_step (DType-F.Union v n) = union_type v.names (types_from v.types) v.type_ids n
+type_step (DType-F.Variant n) = variant_type n
+type_step (DType-F.Extension e) = extension_type e.id e.metadata e.storage
+
+abbrev pub extension_step : Level ExtDType-F → ExtensionParts
+extension_step e = record { id = e.id; metadata = e.metadata; storage = e.storage.value }
+
+abbrev pub map_step : Level MapDType-F → MapParts
+map_step m = record { key = m.key.value; value = m.value.value; keys_sorted = m.keys_sorted }
+
+abbrev pub fields_step : Level StructFields-F → FieldParts
+fields_step f = record { names = f.names.items; types = f.dtypes.items }
+
+abbrev pub variants_step : Level UnionVariants-F → VariantParts
+variants_step v = record { names = v.names.items; types = v.dtypes.items; type_ids = v.type_ids.items }
 
 -- the tree that a type stands for
 abbrev pub type_of : DType → TypeTree
-type_of Null = null_type
-type_of (Primitive k n) = integer_type k n
+type_of = fold-DType TypeTree ExtensionParts MapParts FieldParts VariantParts type_step extension_step map_step fields_step variants_step
+
+-- what an extension type holds
+abbrev pub ext_of : ExtDType → ExtensionParts
+ext_of = fold-ExtDType TypeTree ExtensionParts MapParts FieldParts VariantParts type_step extension_step map_step fields_step variants_step
+
+-- what a map type holds
+abbrev pub map_of : MapDType → MapParts
+map_of = fold-MapDType TypeTree ExtensionParts MapParts FieldParts VariantParts type_step extension_step map_step fields_step variants_step
+
+-- what a struct type holds
+abbrev pub fields_of : StructFields → FieldParts
+fields_of = fold-StructFields TypeTree ExtensionParts MapParts FieldParts VariantParts type_step extension_step map_step fields_step variants_step
+
+-- what a union type holds
+abbrev pub variants_of : UnionVariants → VariantParts
+variants_of = fold-UnionVariants TypeTree ExtensionParts MapParts FieldParts VariantParts type_step extension_step map_step fields_step variants_step
+
+-- the trees of several types
+abbrev pub types_of : List DType → TypeTrees
+types_of dtypes = types_from (list_map type_of dtypes)
+
+-- the types that are parts of a type, themselves: a recursion over types goes down them
+abbrev pub key_part : MapDType → DType
+key_part m = m.key.value
+
+abbrev pub value_part : MapDType → DType
+value_part m = m.value.value
+
+abbrev pub storage_part : ExtDType → DType
+storage_part e = e.storage.value
+
+abbrev pub field_parts : StructFields → List DType
+field_parts f = f.dtypes.items
+
+abbrev pub variant_parts : UnionVariants → List DType
+variant_parts v = v.dtypes.items

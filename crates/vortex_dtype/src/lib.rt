@@ -1,13 +1,21 @@
-//! The types of scalars, and why a call is refused.
+//! The types of scalars, the buffers that their values are kept in, and why a call is refused.
 //!
 //! A type is seen by contracts as a tree (`specs/TypeTree`), equal and hashed with or without
-//! nullability.
+//! nullability; a buffer as its list of bytes.
 #![tactic(auto)]
 
+mod buffer;
 mod error;
 mod kinds;
+pub mod laws;
+mod names;
+mod native;
 mod types;
 
+pub use buffer::{BufferString, ByteBuffer};
 pub use error::{Breach, Path, Step, TypeCause, VortexError};
 pub use kinds::{Nullability, PType};
-pub use types::DType;
+pub use names::{FieldName, FieldNames};
+pub use native::NativeDType;
+pub use types::variants::TypeIds;
+pub use types::{DType, ExtDType, MapDType, StructFields, UnionVariants};

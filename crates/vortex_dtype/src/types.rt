@@ -1,14 +1,315 @@
-//! The type of a scalar.
+//! The type of a scalar, and the parts that types are made of.
 
+ghost use Rattle.std.specs.Prelude.{◌≡◌, ◌⊎◌, ◌↔◌, IsTrue, MatchResult, option_map, fold, true, false};
+ghost use Rattle.vortex_dtype.specs.TypeTree.{Same, erase, is_nullable, as_nullable, nullability_of, map_type, IsFlat};
+ghost use Rattle.vortex_dtype.specs.TypeOf.{type_of, map_of, fields_of, variants_of, ext_of};
+ghost use Rattle.vortex_dtype.specs.Parts.{is_utf8_type, is_binary_type, is_map_type, is_union_type, is_extension_type, element_in, map_in, fields_in, variants_in, extension_in};
+ghost use Rattle.vortex_dtype.specs.Feeds.{tree_feed};
+ghost use Rattle.vortex_dtype.specs.declared.error.VortexError.TheVariants.{OutOfMemory, BadType};
+ghost use Rattle.vortex_dtype.specs.declared.error.TypeCause.TheVariants.{NullableKey};
+
+use crate::buffer::{BufferString, ByteBuffer};
+use crate::error::VortexError;
 use crate::kinds::{Nullability, PType};
+use crate::names::FieldName;
+use std::alloc::Global;
+use std::hash::Hasher;
 
-/// The type of a scalar.
+mod copies;
+mod equality;
+mod extensions;
+mod fields;
+mod hashing;
+mod maps;
+pub mod variants;
+
+/// The type of a scalar. A contract sees it as a tree.
 ///
 /// Ports `vortex_array::dtype::DType`.
+#[cycle(dtype)]
 #[derive(Debug, Drop)]
 pub enum DType {
     /// The type of nulls alone.
     Null,
+    /// Truth values.
+    Bool(Nullability),
     /// Integers of a kind.
     Primitive(PType, Nullability),
+    /// Texts.
+    Utf8(Nullability),
+    /// Strings of bytes.
+    Binary(Nullability),
+    /// Lists of any length.
+    List(Box<DType>, Nullability),
+    /// Lists of one length.
+    FixedSizeList(Box<DType>, u32, Nullability),
+    /// Maps from keys to values.
+    Map(MapDType, Nullability),
+    /// Structs with named fields.
+    Struct(StructFields, Nullability),
+    /// A value of one of several types.
+    Union(UnionVariants, Nullability),
+    /// A value of any type, which it brings along.
+    Variant(Nullability),
+    /// A type of another name over a storage type.
+    Extension(ExtDType),
+}
+
+/// A map's key and value types. The key takes no null: the maker `try_new` sees to it (a recursive
+/// type carries no fact of its own).
+///
+/// Ports `vortex_array::dtype::MapDType`.
+#[cycle(dtype)]
+#[derive(Debug, Drop)]
+pub struct MapDType {
+    key: Box<DType>,
+    value: Box<DType>,
+    keys_sorted: bool,
+}
+
+/// The names of a struct's fields and as many types, in order. Names may repeat. The maker `new`
+/// asks for equal lengths (a recursive type carries no fact of its own).
+///
+/// Ports `vortex_array::dtype::StructFields`.
+#[cycle(dtype)]
+#[derive(Debug, Drop)]
+pub struct StructFields {
+    names: Vec<FieldName>,
+    dtypes: Vec<DType>,
+}
+
+/// The names of a union's variants, as many types and as many ids, in order. Ids are distinct, names
+/// may repeat: the maker `try_new` sees to it (a recursive type carries no fact of its own).
+///
+/// Ports `vortex_array::dtype::UnionVariants`.
+#[cycle(dtype)]
+#[derive(Debug, Drop)]
+pub struct UnionVariants {
+    names: Vec<FieldName>,
+    dtypes: Vec<DType>,
+    type_ids: Vec<u8>,
+}
+
+/// An extension's id, its metadata and the type of what it stores.
+///
+/// Ports `vortex_array::dtype::extension::ExtDTypeRef`.
+#[cycle(dtype)]
+#[derive(Debug, Drop)]
+pub struct ExtDType {
+    id: BufferString,
+    metadata: ByteBuffer,
+    storage: Box<DType>,
+}
+
+impl DType {
+    /// The map type of these parts. `BadType` with `NullableKey` exactly where the key takes a null,
+    /// and this before any memory is asked for; else `OutOfMemory` where there is none.
+    ///
+    /// Ports `DType::map`.
+    pub fn map(
+        alloc: Global,
+        key: DType,
+        value: DType,
+        keys_sorted: bool,
+        nullability: Nullability,
+    ) -> Result<DType, VortexError>
+        ensures { MatchResult result
+            (λ t. (type_of t ≡ map_type (type_of key) (type_of value) keys_sorted nullability) × (is_nullable (type_of key) ≡ false))
+            (λ e. ((e ≡ OutOfMemory) × (is_nullable (type_of key) ≡ false)) ⊎ ((e ≡ BadType NullableKey) × (is_nullable (type_of key) ≡ true))) }
+    {
+        let map = MapDType::try_new(alloc, key, value, keys_sorted)?;
+        Ok(DType::Map(map, nullability))
+    }
+
+    /// Whether the type takes a null: what it says, for an extension what its storage says, and for
+    /// the type of nulls always.
+    ///
+    /// Ports `DType::nullability`.
+    pub fn nullability(&self) -> Nullability
+        ensures { result ≡ nullability_of (type_of self.now) }
+    {
+        match self {
+            DType::Null => Nullability::Nullable,
+            DType::Bool(n) | DType::Primitive(_, n) | DType::Utf8(n) | DType::Binary(n) => *n,
+            DType::List(_, n) | DType::FixedSizeList(_, _, n) => *n,
+            DType::Map(_, n) | DType::Struct(_, n) | DType::Union(_, n) | DType::Variant(n) => *n,
+            DType::Extension(extension) => extension.storage.nullability(),
+        }
+    }
+
+    /// Whether the type takes a null.
+    ///
+    /// Ports `DType::is_nullable`.
+    pub fn is_nullable(&self) -> bool
+        ensures { result ≡ is_nullable (type_of self.now) }
+    {
+        match self.nullability() {
+            Nullability::NonNullable => false,
+            Nullability::Nullable => true,
+        }
+    }
+
+    /// The same type with the outer nullability `Nullable`; for an extension, that of its storage.
+    /// Takes no memory.
+    ///
+    /// Ports `DType::as_nullable`.
+    #[cycle(as_nullable)]
+    pub fn as_nullable(self) -> DType
+        ensures { type_of result ≡ as_nullable (type_of self) }
+    {
+        match self {
+            DType::Null => DType::Null,
+            DType::Bool(_) => DType::Bool(Nullability::Nullable),
+            DType::Primitive(kind, _) => DType::Primitive(kind, Nullability::Nullable),
+            DType::Utf8(_) => DType::Utf8(Nullability::Nullable),
+            DType::Binary(_) => DType::Binary(Nullability::Nullable),
+            DType::List(element, _) => DType::List(element, Nullability::Nullable),
+            DType::FixedSizeList(element, size, _) => {
+                DType::FixedSizeList(element, size, Nullability::Nullable)
+            }
+            DType::Map(map, _) => DType::Map(map, Nullability::Nullable),
+            DType::Struct(fields, _) => DType::Struct(fields, Nullability::Nullable),
+            DType::Union(variants, _) => DType::Union(variants, Nullability::Nullable),
+            DType::Variant(_) => DType::Variant(Nullability::Nullable),
+            DType::Extension(extension) => DType::Extension(extension.as_nullable()),
+        }
+    }
+
+    /// Whether the types are equal once every nullability at every depth is erased.
+    ///
+    /// Ports `DType::eq_ignore_nullability`.
+    pub fn eq_ignore_nullability(&self, other: &DType) -> bool
+        ensures { IsTrue result ↔ Same (type_of self.now) (type_of other.now) }
+    {
+        equality::equal(false, self, other)
+    }
+
+    /// Feeds what the type says once every nullability at every depth is erased.
+    ///
+    /// Ports the hash that upstream's scalars take of their type.
+    pub fn hash_ignore_nullability<H: Hasher>(&self, state: &mut H)
+        ensures { state.new ≡ fold H.write state.old (tree_feed (erase (type_of self.now))) }
+    {
+        hashing::feed(false, self, state);
+    }
+
+    /// Whether the type is one of texts; an extension over one is not.
+    ///
+    /// Ports `DType::is_utf8`.
+    pub fn is_utf8(&self) -> bool
+        ensures { result ≡ is_utf8_type (type_of self.now) }
+    {
+        matches!(self, DType::Utf8(_))
+    }
+
+    /// Whether the type is one of strings of bytes; an extension over one is not.
+    ///
+    /// Ports `DType::is_binary`.
+    pub fn is_binary(&self) -> bool
+        ensures { result ≡ is_binary_type (type_of self.now) }
+    {
+        matches!(self, DType::Binary(_))
+    }
+
+    /// Whether the type is a map; an extension over one is not.
+    ///
+    /// Ports `DType::is_map`.
+    pub fn is_map(&self) -> bool
+        ensures { result ≡ is_map_type (type_of self.now) }
+    {
+        matches!(self, DType::Map(_, _))
+    }
+
+    /// Whether the type is a union; an extension over one is not.
+    ///
+    /// Ports `DType::is_union`.
+    pub fn is_union(&self) -> bool
+        ensures { result ≡ is_union_type (type_of self.now) }
+    {
+        matches!(self, DType::Union(_, _))
+    }
+
+    /// Whether the type is an extension.
+    ///
+    /// Ports `DType::is_extension`.
+    pub fn is_extension(&self) -> bool
+        ensures { result ≡ is_extension_type (type_of self.now) }
+    {
+        matches!(self, DType::Extension(_))
+    }
+
+    /// What a map type holds, and none exactly for another type.
+    ///
+    /// Ports `DType::as_map_opt`.
+    pub fn as_map_opt(&self) -> Option<&MapDType>
+        ensures { option_map (λ map. map_of map.now) result ≡ map_in (type_of self.now) }
+    {
+        match self {
+            DType::Map(map, _) => Some(map),
+            _ => None,
+        }
+    }
+
+    /// What a struct type holds, and none exactly for another type.
+    ///
+    /// Ports `DType::as_struct_fields_opt`.
+    #[tactic(auto, using(crate::proofs::TypeSteps::shown))]
+    pub fn as_struct_fields_opt(&self) -> Option<&StructFields>
+        ensures { option_map (λ fields. fields_of fields.now) result ≡ fields_in (type_of self.now) }
+    {
+        match self {
+            DType::Struct(fields, _) => Some(fields),
+            _ => None,
+        }
+    }
+
+    /// What a union type holds, and none exactly for another type.
+    ///
+    /// Ports `DType::as_union_variants_opt`.
+    #[tactic(auto, using(crate::proofs::TypeSteps::shown))]
+    pub fn as_union_variants_opt(&self) -> Option<&UnionVariants>
+        ensures { option_map (λ variants. variants_of variants.now) result ≡ variants_in (type_of self.now) }
+    {
+        match self {
+            DType::Union(variants, _) => Some(variants),
+            _ => None,
+        }
+    }
+
+    /// What an extension type holds, and none exactly for another type.
+    ///
+    /// Ports `DType::as_extension_opt`.
+    pub fn as_extension_opt(&self) -> Option<&ExtDType>
+        ensures { option_map (λ extension. ext_of extension.now) result ≡ extension_in (type_of self.now) }
+    {
+        match self {
+            DType::Extension(extension) => Some(extension),
+            _ => None,
+        }
+    }
+
+    /// The element type of a list, of fixed size or not, and none exactly for another type.
+    ///
+    /// Ports `DType::as_any_size_list_element_opt`.
+    pub fn as_any_size_list_element_opt(&self) -> Option<&DType>
+        ensures { option_map (λ element. type_of element.now) result ≡ element_in (type_of self.now) }
+    {
+        match self {
+            DType::List(element, _) => Some(element),
+            DType::FixedSizeList(element, _, _) => Some(element),
+            _ => None,
+        }
+    }
+
+    /// The same type, every nullability included, or `OutOfMemory`, which the type of nulls, truth
+    /// values and integers never answer.
+    ///
+    /// Ports `DType::clone`.
+    pub fn clone(&self, alloc: Global) -> Result<DType, VortexError>
+        ensures { MatchResult result
+            (λ copy. type_of copy ≡ type_of self.now)
+            (λ e. (e ≡ OutOfMemory) × ¬ (IsFlat (type_of self.now))) }
+    {
+        copies::copy(alloc, self)
+    }
 }

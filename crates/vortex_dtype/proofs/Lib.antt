@@ -1,0 +1,2 @@
+mod NullableLaws
+mod TypeSteps

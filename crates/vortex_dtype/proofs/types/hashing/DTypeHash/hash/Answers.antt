@@ -1,0 +1,6 @@
+use Rattle.std.proofs.Common.{◌∙◌}
+use Rattle.vortex_dtype.specs.TypeLaws.{trim-exact}
+use Rattle.vortex_dtype.proofs.types.hashing.DTypeHash.hash.Goals as goal
+
+pub returns : goal.returns
+returns g c = c.feed.ensures ∙ simp trim-exact

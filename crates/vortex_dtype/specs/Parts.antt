@@ -1,0 +1,68 @@
+-- Looking into types and their parts.
+use Rattle.std.specs.Prelude.{ℕ, List, [], ◌∷◌, Bool, true, false, Option, Some, None, position, slice_get, option_and_then}
+use Rattle.vortex_dtype.specs.TypeTree.{TypeTree, TypeTrees, utf8_type, binary_type, list_type, fixed_size_list_type, map_type, struct_type, union_type, extension_type, no_types, type_then, as_nullable}
+use Rattle.vortex_dtype.specs.TypeOf.{ExtensionParts, MapParts, FieldParts, VariantParts}
+use Rattle.vortex_dtype.specs.TypeEquality.{bytes_eq}
+
+-- the place of the first field with the name
+abbrev pub field_index : FieldParts → List ℕ → Option ℕ
+field_index f name = position (λ n. bytes_eq n name) f.names
+
+-- the type of the first field with the name
+abbrev pub type_named : FieldParts → List ℕ → Option TypeTree
+type_named f name = option_and_then (slice_get f.types) (field_index f name)
+
+-- the types that a tree holds, as a list
+abbrev pub types_in : TypeTrees → List TypeTree
+types_in no_types = []
+types_in (type_then t ts) = t ∷ types_in ts
+
+abbrev pub is_utf8_type : TypeTree → Bool
+is_utf8_type (utf8_type n) = true
+is_utf8_type _ = false
+
+abbrev pub is_binary_type : TypeTree → Bool
+is_binary_type (binary_type n) = true
+is_binary_type _ = false
+
+abbrev pub is_map_type : TypeTree → Bool
+is_map_type (map_type k v sorted n) = true
+is_map_type _ = false
+
+abbrev pub is_union_type : TypeTree → Bool
+is_union_type (union_type names ts ids n) = true
+is_union_type _ = false
+
+abbrev pub is_extension_type : TypeTree → Bool
+is_extension_type (extension_type id metadata t) = true
+is_extension_type _ = false
+
+-- the element type of a list, of fixed size or not
+abbrev pub element_in : TypeTree → Option TypeTree
+element_in (list_type e n) = Some e
+element_in (fixed_size_list_type e size n) = Some e
+element_in _ = None
+
+-- what a map type holds
+abbrev pub map_in : TypeTree → Option MapParts
+map_in (map_type k v sorted n) = Some (record { key = k; value = v; keys_sorted = sorted })
+map_in _ = None
+
+-- what a struct type holds
+abbrev pub fields_in : TypeTree → Option FieldParts
+fields_in (struct_type names ts n) = Some (record { names = names; types = types_in ts })
+fields_in _ = None
+
+-- what a union type holds
+abbrev pub variants_in : TypeTree → Option VariantParts
+variants_in (union_type names ts ids n) = Some (record { names = names; types = types_in ts; type_ids = ids })
+variants_in _ = None
+
+-- what an extension type holds
+abbrev pub extension_in : TypeTree → Option ExtensionParts
+extension_in (extension_type id metadata t) = Some (record { id = id; metadata = metadata; storage = t })
+extension_in _ = None
+
+-- the same extension over a storage that takes nulls
+abbrev pub nullable_extension : ExtensionParts → ExtensionParts
+nullable_extension e = record { id = e.id; metadata = e.metadata; storage = as_nullable e.storage }

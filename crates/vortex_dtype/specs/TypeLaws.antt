@@ -1,0 +1,246 @@
+-- The tests of equality decide equality of trees, and with nullability nothing is erased.
+use Rattle.std.proofs.Common.{◌≡◌, ◌≢◌, ℕ, suc, List, [], ◌∷◌, length, Bool, true, false, ◌&&◌, true≢false, refl, sym, ap, ◌∙◌, subst}
+use Rattle.std.specs.Bool.{Decides, beq}
+use Rattle.std.specs.Cmp.{IsEquivalence, first_so, second_so, booleans_Decides, unsigned_Decides}
+use Rattle.std.proofs.lemmas.Bool.Decides.{same_from_decides, Decides-like}
+use Rattle.std.proofs.lemmas.Slice.Eq.{slice_eq-Decides}
+use Rattle.vortex_dtype.specs.declared.kinds.Nullability.{Nullability}
+use Rattle.vortex_dtype.specs.declared.kinds.Nullability.TheVariants.{NonNullable, Nullable}
+use Rattle.vortex_dtype.specs.declared.kinds.PType.{PType}
+use Rattle.vortex_dtype.specs.declared.kinds.PType.TheVariants.{U8, U16, U32, U64, I8, I16, I32, I64}
+use Rattle.vortex_dtype.specs.declared.types.DType.{DType}
+use Rattle.vortex_dtype.specs.TypeTree.{TypeTree, TypeTrees, null_type, bool_type, integer_type, utf8_type, binary_type, list_type, fixed_size_list_type, map_type, struct_type, union_type, variant_type, extension_type, no_types, type_then, trim, trim_all}
+use Rattle.vortex_dtype.specs.TypeEquality.{nullability_eq, kind_eq, kind_code, bytes_eq, names_eq, tree_eq, trees_eq, map_eq, fields_eq, variants_eq, ext_eq}
+use Rattle.vortex_dtype.specs.TypeOf.{types_of, types_from, MapParts, FieldParts, VariantParts, ExtensionParts}
+use Rattle.vortex_dtype.specs.Parts.{types_in}
+
+-- two tests that pass, pass together
+both : (a b : Bool) → a ≡ true → b ≡ true → (a && b) ≡ true
+both true b p q = q
+both false b p q = p
+
+nullability_eq-same : (m n : Nullability) → nullability_eq m n ≡ true → m ≡ n
+nullability_eq-same NonNullable NonNullable e = refl
+nullability_eq-same NonNullable Nullable e = cc
+nullability_eq-same Nullable NonNullable e = cc
+nullability_eq-same Nullable Nullable e = refl
+
+nullability_eq-refl : (m : Nullability) → nullability_eq m m ≡ true
+nullability_eq-refl NonNullable = refl
+nullability_eq-refl Nullable = refl
+
+kind_eq-same : (j k : PType) → kind_eq j k ≡ true → j ≡ k
+kind_eq-same U8 U8 e = refl
+kind_eq-same U16 U16 e = refl
+kind_eq-same U32 U32 e = refl
+kind_eq-same U64 U64 e = refl
+kind_eq-same I8 I8 e = refl
+kind_eq-same I16 I16 e = refl
+kind_eq-same I32 I32 e = refl
+kind_eq-same I64 I64 e = refl
+kind_eq-same _ _ e = absurd (true≢false (sym e))
+
+kind_eq-refl : (k : PType) → kind_eq k k ≡ true
+kind_eq-refl k = (unsigned_Decides (kind_code k) (kind_code k)).1 refl
+
+bytes_eq-Decides : (xs ys : List ℕ) → Decides (bytes_eq xs ys) (xs ≡ ys)
+bytes_eq-Decides xs ys = slice_eq-Decides unsigned_Decides xs ys (bytes_eq xs ys) refl
+
+bytes_eq-refl : (xs : List ℕ) → bytes_eq xs xs ≡ true
+bytes_eq-refl xs = (bytes_eq-Decides xs xs).1 refl
+
+names_eq-Decides : (xs ys : List (List ℕ)) → Decides (names_eq xs ys) (xs ≡ ys)
+names_eq-Decides xs ys = slice_eq-Decides bytes_eq-Decides xs ys (names_eq xs ys) refl
+
+names_eq-refl : (xs : List (List ℕ)) → names_eq xs xs ≡ true
+names_eq-refl xs = (names_eq-Decides xs xs).1 refl
+
+-- trees that pass the test are one
+mutual
+  pub tree_eq-same : (s t : TypeTree) → tree_eq s t ≡ true → s ≡ t
+  tree_eq-same null_type null_type e = refl
+  tree_eq-same (bool_type m) (bool_type n) e = ap bool_type (nullability_eq-same m n e)
+  tree_eq-same (utf8_type m) (utf8_type n) e = ap utf8_type (nullability_eq-same m n e)
+  tree_eq-same (binary_type m) (binary_type n) e = ap binary_type (nullability_eq-same m n e)
+  tree_eq-same (variant_type m) (variant_type n) e = ap variant_type (nullability_eq-same m n e)
+  tree_eq-same (integer_type p m) (integer_type q n) e =
+      let a = kind_eq-same p q (first_so _ _ e) in
+      let z = nullability_eq-same m n (second_so _ _ e) in cc
+  tree_eq-same (list_type s m) (list_type t n) e =
+      let a = tree_eq-same s t (first_so _ _ e) in
+      let z = nullability_eq-same m n (second_so _ _ e) in cc
+  tree_eq-same (fixed_size_list_type s j m) (fixed_size_list_type t k n) e =
+      let f = first_so _ _ e in
+      let a = tree_eq-same s t (first_so _ _ f) in
+      let b = (unsigned_Decides j k).0 (second_so _ _ f) in
+      let z = nullability_eq-same m n (second_so _ _ e) in cc
+  tree_eq-same (map_type s u h m) (map_type t v k n) e =
+      let f = first_so _ _ e in
+      let g = first_so _ _ f in
+      let a = tree_eq-same s t (first_so _ _ g) in
+      let b = tree_eq-same u v (second_so _ _ g) in
+      let d = (booleans_Decides h k).0 (second_so _ _ f) in
+      let z = nullability_eq-same m n (second_so _ _ e) in cc
+  tree_eq-same (struct_type xs ss m) (struct_type ys ts n) e =
+      let f = first_so _ _ e in
+      let a = (names_eq-Decides xs ys).0 (first_so _ _ f) in
+      let b = trees_eq-same ss ts (second_so _ _ f) in
+      let z = nullability_eq-same m n (second_so _ _ e) in cc
+  tree_eq-same (union_type xs ss is m) (union_type ys ts js n) e =
+      let f = first_so _ _ e in
+      let g = first_so _ _ f in
+      let a = (names_eq-Decides xs ys).0 (first_so _ _ g) in
+      let b = trees_eq-same ss ts (second_so _ _ g) in
+      let d = (bytes_eq-Decides is js).0 (second_so _ _ f) in
+      let z = nullability_eq-same m n (second_so _ _ e) in cc
+  tree_eq-same (extension_type i x s) (extension_type j y t) e =
+      let f = first_so _ _ e in
+      let a = (bytes_eq-Decides i j).0 (first_so _ _ f) in
+      let b = (bytes_eq-Decides x y).0 (second_so _ _ f) in
+      let z = tree_eq-same s t (second_so _ _ e) in cc
+  tree_eq-same _ _ e = absurd (true≢false (sym e))
+
+  pub trees_eq-same : (ss ts : TypeTrees) → trees_eq ss ts ≡ true → ss ≡ ts
+  trees_eq-same no_types no_types e = refl
+  trees_eq-same (type_then s ss) (type_then t ts) e =
+      let a = tree_eq-same s t (first_so _ _ e) in
+      let z = trees_eq-same ss ts (second_so _ _ e) in cc
+  trees_eq-same _ _ e = absurd (true≢false (sym e))
+
+-- a tree passes the test with itself
+mutual
+  pub tree_eq-refl : (t : TypeTree) → tree_eq t t ≡ true
+  tree_eq-refl null_type = refl
+  tree_eq-refl (bool_type n) = nullability_eq-refl n
+  tree_eq-refl (utf8_type n) = nullability_eq-refl n
+  tree_eq-refl (binary_type n) = nullability_eq-refl n
+  tree_eq-refl (variant_type n) = nullability_eq-refl n
+  tree_eq-refl (integer_type p n) = both _ _ (kind_eq-refl p) (nullability_eq-refl n)
+  tree_eq-refl (list_type t n) = both _ _ (tree_eq-refl t) (nullability_eq-refl n)
+  tree_eq-refl (fixed_size_list_type t k n) = both _ _ (both _ _ (tree_eq-refl t) ((unsigned_Decides k k).1 refl)) (nullability_eq-refl n)
+  tree_eq-refl (map_type s t k n) = both _ _ (both _ _ (both _ _ (tree_eq-refl s) (tree_eq-refl t)) ((booleans_Decides k k).1 refl)) (nullability_eq-refl n)
+  tree_eq-refl (struct_type xs ts n) = both _ _ (both _ _ (names_eq-refl xs) (trees_eq-refl ts)) (nullability_eq-refl n)
+  tree_eq-refl (union_type xs ts is n) = both _ _ (both _ _ (both _ _ (names_eq-refl xs) (trees_eq-refl ts)) (bytes_eq-refl is)) (nullability_eq-refl n)
+  tree_eq-refl (extension_type i x t) = both _ _ (both _ _ (bytes_eq-refl i) (bytes_eq-refl x)) (tree_eq-refl t)
+
+  pub trees_eq-refl : (ts : TypeTrees) → trees_eq ts ts ≡ true
+  trees_eq-refl no_types = refl
+  trees_eq-refl (type_then t ts) = both _ _ (tree_eq-refl t) (trees_eq-refl ts)
+
+pub tree_eq-Decides : (s t : TypeTree) → Decides (tree_eq s t) (s ≡ t)
+tree_eq-Decides s t = (tree_eq-same s t, λ e. subst (λ u. tree_eq s u ≡ true) e (tree_eq-refl s))
+
+pub trees_eq-Decides : (ss ts : TypeTrees) → Decides (trees_eq ss ts) (ss ≡ ts)
+trees_eq-Decides ss ts = (trees_eq-same ss ts, λ e. subst (λ us. trees_eq ss us ≡ true) e (trees_eq-refl ss))
+
+-- where nullability counts, nothing is erased
+mutual
+  pub trim-exact : (t : TypeTree) → trim true t ≡ t
+  trim-exact null_type = refl
+  trim-exact (bool_type n) = refl
+  trim-exact (utf8_type n) = refl
+  trim-exact (binary_type n) = refl
+  trim-exact (variant_type n) = refl
+  trim-exact (integer_type p n) = refl
+  trim-exact (list_type t n) = ap (λ u. list_type u n) (trim-exact t)
+  trim-exact (fixed_size_list_type t k n) = ap (λ u. fixed_size_list_type u k n) (trim-exact t)
+  trim-exact (map_type s t k n) = let a = trim-exact s in let b = trim-exact t in cc
+  trim-exact (struct_type xs ts n) = ap (λ us. struct_type xs us n) (trim_all-exact ts)
+  trim-exact (union_type xs ts is n) = ap (λ us. union_type xs us is n) (trim_all-exact ts)
+  trim-exact (extension_type i x t) = ap (extension_type i x) (trim-exact t)
+
+  pub trim_all-exact : (ts : TypeTrees) → trim_all true ts ≡ ts
+  trim_all-exact no_types = refl
+  trim_all-exact (type_then t ts) = let a = trim-exact t in let b = trim_all-exact ts in cc
+
+-- a test that decides `≡` is an equivalence
+pub equiv-from_Decides : {K : Type 0} (E : K → K → Bool) → ((x y : K) → Decides (E x y) (x ≡ y)) → IsEquivalence E
+equiv-from_Decides E d = record {
+  refl = λ x. (d x x).1 refl;
+  symm = λ x y. same_from_decides (E x y) (E y x) (d x y) (Decides-like (E y x) sym sym (d y x));
+  congr = λ x y z e. ap (λ w. E w z) ((d x y).0 e);
+}
+
+pub tree_eq-equiv : IsEquivalence tree_eq
+tree_eq-equiv = equiv-from_Decides tree_eq tree_eq-Decides
+
+-- lists of types of different lengths are not equal
+pub trees_eq-lengths : (exact : Bool) (xs ys : List DType) → length xs ≢ length ys → false ≡ trees_eq (trim_all exact (types_of xs)) (trim_all exact (types_of ys))
+trees_eq-lengths exact [] [] h = absurd (h refl)
+trees_eq-lengths exact [] (y ∷ ys) h = refl
+trees_eq-lengths exact (x ∷ xs) [] h = refl
+trees_eq-lengths exact (x ∷ xs) (y ∷ ys) h =
+    either _ _ (trees_eq-lengths exact xs ys (λ e. h (ap suc e)))
+  where
+    either : (a b : Bool) → false ≡ b → false ≡ (a && b)
+    either true b e = e
+    either false b e = refl
+
+-- the list that a tree holds is the list that it was made of
+pub types_in-types_from : (ts : List TypeTree) → types_in (types_from ts) ≡ ts
+types_in-types_from [] = refl
+types_in-types_from (t ∷ ts) = ap (λ us. t ∷ us) (types_in-types_from ts)
+
+types_from-inj : (ss ts : List TypeTree) → types_from ss ≡ types_from ts → ss ≡ ts
+types_from-inj ss ts e = sym (types_in-types_from ss) ∙ ap types_in e ∙ types_in-types_from ts
+
+-- trees that are one once nothing is erased
+exact_trees : (s t : TypeTree) → tree_eq (trim true s) (trim true t) ≡ true → s ≡ t
+exact_trees s t e = sym (trim-exact s) ∙ tree_eq-same _ _ e ∙ trim-exact t
+
+exact_lists : (ss ts : List TypeTree) → trees_eq (trim_all true (types_from ss)) (trim_all true (types_from ts)) ≡ true → ss ≡ ts
+exact_lists ss ts e = types_from-inj ss ts (sym (trim_all-exact (types_from ss)) ∙ trees_eq-same _ _ e ∙ trim_all-exact (types_from ts))
+
+map_eq-same : (a b : MapParts) → map_eq true a b ≡ true → a ≡ b
+map_eq-same a b e =
+    let f = first_so _ _ e in
+    let k : a.key ≡ b.key = exact_trees a.key b.key (first_so _ _ f) in
+    let v : a.value ≡ b.value = exact_trees a.value b.value (second_so _ _ f) in
+    let s : a.keys_sorted ≡ b.keys_sorted = (booleans_Decides a.keys_sorted b.keys_sorted).0 (second_so _ _ e) in
+    λ i. record { key = k i; value = v i; keys_sorted = s i }
+
+map_eq-refl : (m : MapParts) → map_eq true m m ≡ true
+map_eq-refl m = both _ _ (both _ _ (tree_eq-refl (trim true m.key)) (tree_eq-refl (trim true m.value))) ((booleans_Decides m.keys_sorted m.keys_sorted).1 refl)
+
+pub map_eq-Decides : (a b : MapParts) → Decides (map_eq true a b) (a ≡ b)
+map_eq-Decides a b = (map_eq-same a b, λ e. subst (λ c. map_eq true a c ≡ true) e (map_eq-refl a))
+
+fields_eq-same : (f g : FieldParts) → fields_eq true f g ≡ true → f ≡ g
+fields_eq-same f g e =
+    let a : f.names ≡ g.names = (names_eq-Decides f.names g.names).0 (first_so _ _ e) in
+    let b : f.types ≡ g.types = exact_lists f.types g.types (second_so _ _ e) in
+    λ i. record { names = a i; types = b i }
+
+fields_eq-refl : (f : FieldParts) → fields_eq true f f ≡ true
+fields_eq-refl f = both _ _ (names_eq-refl f.names) (trees_eq-refl (trim_all true (types_from f.types)))
+
+pub fields_eq-Decides : (f g : FieldParts) → Decides (fields_eq true f g) (f ≡ g)
+fields_eq-Decides f g = (fields_eq-same f g, λ e. subst (λ h. fields_eq true f h ≡ true) e (fields_eq-refl f))
+
+variants_eq-same : (v w : VariantParts) → variants_eq true v w ≡ true → v ≡ w
+variants_eq-same v w e =
+    let f = first_so _ _ e in
+    let a : v.names ≡ w.names = (names_eq-Decides v.names w.names).0 (first_so _ _ f) in
+    let b : v.types ≡ w.types = exact_lists v.types w.types (second_so _ _ f) in
+    let c : v.type_ids ≡ w.type_ids = (bytes_eq-Decides v.type_ids w.type_ids).0 (second_so _ _ e) in
+    λ i. record { names = a i; types = b i; type_ids = c i }
+
+variants_eq-refl : (v : VariantParts) → variants_eq true v v ≡ true
+variants_eq-refl v = both _ _ (both _ _ (names_eq-refl v.names) (trees_eq-refl (trim_all true (types_from v.types)))) (bytes_eq-refl v.type_ids)
+
+pub variants_eq-Decides : (v w : VariantParts) → Decides (variants_eq true v w) (v ≡ w)
+variants_eq-Decides v w = (variants_eq-same v w, λ e. subst (λ x. variants_eq true v x ≡ true) e (variants_eq-refl v))
+
+ext_eq-same : (x y : ExtensionParts) → ext_eq true x y ≡ true → x ≡ y
+ext_eq-same x y e =
+    let f = first_so _ _ e in
+    let a : x.id ≡ y.id = (bytes_eq-Decides x.id y.id).0 (first_so _ _ f) in
+    let b : x.metadata ≡ y.metadata = (bytes_eq-Decides x.metadata y.metadata).0 (second_so _ _ f) in
+    let c : x.storage ≡ y.storage = exact_trees x.storage y.storage (second_so _ _ e) in
+    λ i. record { id = a i; metadata = b i; storage = c i }
+
+ext_eq-refl : (x : ExtensionParts) → ext_eq true x x ≡ true
+ext_eq-refl x = both _ _ (both _ _ (bytes_eq-refl x.id) (bytes_eq-refl x.metadata)) (tree_eq-refl (trim true x.storage))
+
+pub ext_eq-Decides : (x y : ExtensionParts) → Decides (ext_eq true x y) (x ≡ y)
+ext_eq-Decides x y = (ext_eq-same x y, λ e. subst (λ z. ext_eq true x z ≡ true) e (ext_eq-refl x))

@@ -1,0 +1,328 @@
+//! Shared, immutable bytes and texts. A contract sees each as its list of bytes.
+
+ghost use Rattle.std.specs.Prelude.{◌≡◌, ◌≤◌, ◌==◌, [], length, slice_range, IsUtf8, MatchResult, nat_eq, refl, Some};
+ghost use Rattle.std.specs.Ordering.{nat_cmp};
+ghost use Rattle.std.specs.Hash as fed;
+ghost use Rattle.std.specs.Cmp.Lexicographic.{pointwise, slice_cmp, nat_list_eq_equiv, nat_list_cmp_total, texts_ties, texts_po};
+ghost use Rattle.std.specs.Cmp.{partial_equiv_from_equiv};
+ghost use Rattle.std.specs.Cmp.Rules.{hashing};
+ghost use Rattle.std.proofs.Common.{rules};
+ghost use Rattle.vortex_dtype.specs.declared.error.VortexError.TheVariants.{OutOfMemory};
+
+use crate::error::VortexError;
+use bytes::Bytes;
+use std::alloc::Global;
+use std::cmp::Ordering;
+use std::hash::{Hash, Hasher};
+use std::marker::Model;
+use std::ops::Range;
+use std::str;
+
+/// Bytes that never change. Copies and slices share them.
+///
+/// Ports `vortex_buffer::ByteBuffer`. It keeps its allocator, so that a copy or a slice asks for none.
+#[derive(Debug, Drop)]
+pub struct ByteBuffer {
+    bytes: Bytes,
+    alloc: Global,
+}
+
+impl Model for ByteBuffer {
+    ghost use Rattle.std.specs.Prelude.{ℕ, List};
+
+    ghost Value = { List ℕ };
+
+    ghost view = { λ buffer. buffer.bytes };
+}
+
+impl ByteBuffer {
+    /// The buffer of no bytes, or `OutOfMemory`.
+    ///
+    /// Ports `ByteBuffer::empty`.
+    pub fn empty(alloc: Global) -> Result<ByteBuffer, VortexError>
+        ensures { MatchResult result (λ buffer. buffer ≡ []) (λ e. e ≡ OutOfMemory) }
+    {
+        ByteBuffer::from_slice(alloc, &[])
+    }
+
+    /// A buffer with a copy of these bytes, or `OutOfMemory`.
+    ///
+    /// Ports `ByteBuffer::copy_from`.
+    pub fn from_slice(alloc: Global, bytes: &[u8]) -> Result<ByteBuffer, VortexError>
+        ensures { MatchResult result (λ buffer. buffer ≡ bytes.now) (λ e. e ≡ OutOfMemory) }
+    {
+        let bytes = Bytes::copy_from_slice(alloc, bytes)?;
+        Ok(ByteBuffer { bytes, alloc })
+    }
+
+    /// The bytes.
+    ///
+    /// Ports `ByteBuffer::as_slice`.
+    pub fn as_slice(&self) -> &[u8]
+        ensures { result.now ≡ self.now }
+    {
+        self.bytes.as_slice()
+    }
+
+    /// How many bytes there are.
+    ///
+    /// Ports `ByteBuffer::len`.
+    pub fn len(&self) -> usize
+        ensures { result ≡ length self.now }
+    {
+        self.bytes.len()
+    }
+
+    /// Whether there are no bytes.
+    ///
+    /// Ports `ByteBuffer::is_empty`.
+    pub fn is_empty(&self) -> bool
+        ensures { result ≡ (length self.now == 0) }
+    {
+        self.bytes.is_empty()
+    }
+
+    /// The allocator that the buffer was made with, and that its copies and slices take.
+    pub fn allocator(&self) -> Global {
+        self.alloc
+    }
+
+    /// The bytes of a range, or `OutOfMemory`. The caller knows that the range lies within the buffer.
+    ///
+    /// Ports `ByteBuffer::slice`, which panics outside the buffer.
+    pub fn slice(&self, range: Range<usize>) -> Result<ByteBuffer, VortexError>
+        requires ordered { range.start ≤ range.end }
+        requires within { range.end ≤ length self.now }
+        ensures { MatchResult result (λ buffer. buffer ≡ slice_range self.now range.start range.end) (λ e. e ≡ OutOfMemory) }
+    {
+        let bytes = self.bytes.slice(range)?;
+        Ok(ByteBuffer {
+            bytes,
+            alloc: self.alloc,
+        })
+    }
+
+    /// A buffer of the same bytes, or `OutOfMemory`.
+    ///
+    /// Ports `ByteBuffer::clone`.
+    pub fn clone(&self) -> Result<ByteBuffer, VortexError>
+        ensures { MatchResult result (λ buffer. buffer ≡ self.now) (λ e. e ≡ OutOfMemory) }
+    {
+        let bytes = self.bytes.clone()?;
+        Ok(ByteBuffer {
+            bytes,
+            alloc: self.alloc,
+        })
+    }
+}
+
+impl PartialEq for ByteBuffer {
+    ghost eq = { pointwise nat_eq };
+
+    ghost laws = { partial_equiv_from_equiv nat_list_eq_equiv };
+
+    fn eq(&self, other: &ByteBuffer) -> bool {
+        self.as_slice() == other.as_slice()
+    }
+}
+
+impl Eq for ByteBuffer {
+    ghost laws = { nat_list_eq_equiv };
+}
+
+impl PartialOrd for ByteBuffer {
+    ghost partial_cmp = { λ x y. Some (slice_cmp nat_cmp x y) };
+
+    ghost laws = { texts_po };
+
+    fn partial_cmp(&self, other: &ByteBuffer) -> Option<Ordering> {
+        Some(self.cmp(other))
+    }
+}
+
+impl Ord for ByteBuffer {
+    ghost cmp = { slice_cmp nat_cmp };
+
+    ghost total = { nat_list_cmp_total };
+
+    ghost matches_partial_cmp = { λ x y. refl };
+
+    ghost matches_eq = { texts_ties };
+
+    fn cmp(&self, other: &ByteBuffer) -> Ordering {
+        self.as_slice().cmp(other.as_slice())
+    }
+}
+
+impl Hash for ByteBuffer {
+    ghost hash_input = { fed.slice fed.u8 };
+
+    ghost respects_eq = { Prim.search (hashing, rules) };
+
+    fn hash<H: Hasher>(&self, state: &mut H) {
+        self.as_slice().hash(state);
+    }
+}
+
+/// A text that never changes: a buffer whose bytes are UTF-8.
+///
+/// Ports `vortex_buffer::BufferString`.
+#[derive(Debug, Drop)]
+pub struct BufferString {
+    buffer: ByteBuffer,
+}
+
+impl Model for BufferString {
+    ghost use Rattle.std.specs.Prelude.{ℕ, List, IsUtf8};
+
+    ghost Value = { List ℕ };
+
+    ghost view = { λ string. string.buffer };
+
+    ghost invariant = { λ string. IsUtf8 string.buffer };
+}
+
+impl BufferString {
+    /// The empty text, or `OutOfMemory`.
+    ///
+    /// Ports `BufferString::empty`.
+    pub fn empty(alloc: Global) -> Result<BufferString, VortexError>
+        ensures { MatchResult result (λ string. string ≡ []) (λ e. e ≡ OutOfMemory) }
+    {
+        BufferString::from_str(alloc, "")
+    }
+
+    /// A copy of this text, or `OutOfMemory`.
+    ///
+    /// Ports `BufferString::from`, of a `&str`.
+    pub fn from_str(alloc: Global, text: &str) -> Result<BufferString, VortexError>
+        ensures { MatchResult result (λ string. string ≡ text.now) (λ e. e ≡ OutOfMemory) }
+    {
+        let buffer = ByteBuffer::from_slice(alloc, text.as_bytes())?;
+        Ok(BufferString { buffer })
+    }
+
+    /// The text.
+    ///
+    /// Ports `BufferString::as_str`.
+    pub fn as_str(&self) -> &str
+        ensures { result.now ≡ self.now }
+    {
+        unsafe { str::from_utf8_unchecked(self.buffer.as_slice()) }
+    }
+
+    /// How many bytes the text has.
+    ///
+    /// Ports `str::len`, to which a `BufferString` lends itself.
+    pub fn len(&self) -> usize
+        ensures { result ≡ length self.now }
+    {
+        self.buffer.len()
+    }
+
+    /// Whether the text is empty.
+    ///
+    /// Ports `str::is_empty`, to which a `BufferString` lends itself.
+    pub fn is_empty(&self) -> bool
+        ensures { result ≡ (length self.now == 0) }
+    {
+        self.buffer.is_empty()
+    }
+
+    /// The buffer of the text's bytes.
+    ///
+    /// Ports `BufferString::inner`.
+    pub fn inner(&self) -> &ByteBuffer
+        ensures content { result.now ≡ self.now }
+        ensures utf8 { IsUtf8 result.now }
+    {
+        &self.buffer
+    }
+
+    /// The buffer of the text's bytes, by value.
+    ///
+    /// Ports `BufferString::into_inner`.
+    pub fn into_inner(self) -> ByteBuffer
+        ensures content { result ≡ self }
+        ensures utf8 { IsUtf8 result }
+    {
+        let BufferString { buffer } = self;
+        buffer
+    }
+
+    /// The same text, or `OutOfMemory`.
+    ///
+    /// Ports `BufferString::clone`.
+    pub fn clone(&self) -> Result<BufferString, VortexError>
+        ensures { MatchResult result (λ string. string ≡ self.now) (λ e. e ≡ OutOfMemory) }
+    {
+        let buffer = self.buffer.clone()?;
+        Ok(BufferString { buffer })
+    }
+}
+
+/// The text of a buffer, or `NotUtf8` exactly where its bytes are not UTF-8. Takes no memory.
+///
+/// Ports `TryFrom<ByteBuffer> for BufferString`.
+impl TryFrom<ByteBuffer> for BufferString {
+    type Error = VortexError;
+
+    ghost use Rattle.vortex_dtype.specs.Texts.{IsTextOf};
+
+    ghost try_from_gives = { IsTextOf };
+
+    fn try_from(buffer: ByteBuffer) -> Result<BufferString, VortexError> {
+        match str::from_utf8(buffer.as_slice()) {
+            Ok(_) => Ok(BufferString { buffer }),
+            Err(_) => Err(VortexError::NotUtf8),
+        }
+    }
+}
+
+impl PartialEq for BufferString {
+    ghost eq = { pointwise nat_eq };
+
+    ghost laws = { partial_equiv_from_equiv nat_list_eq_equiv };
+
+    fn eq(&self, other: &BufferString) -> bool {
+        self.buffer == other.buffer
+    }
+}
+
+impl Eq for BufferString {
+    ghost laws = { nat_list_eq_equiv };
+}
+
+impl PartialOrd for BufferString {
+    ghost partial_cmp = { λ x y. Some (slice_cmp nat_cmp x y) };
+
+    ghost laws = { texts_po };
+
+    fn partial_cmp(&self, other: &BufferString) -> Option<Ordering> {
+        Some(self.cmp(other))
+    }
+}
+
+impl Ord for BufferString {
+    ghost cmp = { slice_cmp nat_cmp };
+
+    ghost total = { nat_list_cmp_total };
+
+    ghost matches_partial_cmp = { λ x y. refl };
+
+    ghost matches_eq = { texts_ties };
+
+    fn cmp(&self, other: &BufferString) -> Ordering {
+        self.buffer.cmp(&other.buffer)
+    }
+}
+
+impl Hash for BufferString {
+    ghost hash_input = { fed.slice fed.u8 };
+
+    ghost respects_eq = { Prim.search (hashing, rules) };
+
+    fn hash<H: Hasher>(&self, state: &mut H) {
+        self.buffer.hash(state);
+    }
+}

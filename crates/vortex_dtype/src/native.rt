@@ -1,0 +1,185 @@
+//! The type of the column that values of a Rust type make.
+
+ghost use Rattle.std.specs.Prelude.{◌≡◌, MatchResult};
+ghost use Rattle.vortex_dtype.specs.TypeTree.{TypeTree, as_nullable, bool_type, integer_type, utf8_type, binary_type, list_type};
+ghost use Rattle.vortex_dtype.specs.TypeOf.{type_of};
+ghost use Rattle.vortex_dtype.specs.declared.error.VortexError.TheVariants.{OutOfMemory};
+ghost use Rattle.vortex_dtype.specs.declared.kinds.Nullability.TheVariants.{NonNullable};
+ghost use Rattle.vortex_dtype.specs.declared.kinds.PType.TheVariants.{U8, U16, U32, U64, I8, I16, I32, I64};
+
+use crate::buffer::{BufferString, ByteBuffer};
+use crate::error::VortexError;
+use crate::kinds::{Nullability, PType};
+use crate::types::DType;
+use std::alloc::Global;
+
+/// A Rust type whose values make a column of one type.
+///
+/// Ports `vortex_array::dtype::NativeDType`.
+pub trait NativeDType {
+    ghost native_type: { TypeTree };
+
+    /// The column type, or `OutOfMemory`.
+    ///
+    /// Ports `NativeDType::dtype`.
+    fn dtype(alloc: Global) -> Result<DType, VortexError>
+        ensures { MatchResult result (λ dtype. type_of dtype ≡ native_type) (λ e. e ≡ OutOfMemory) };
+}
+
+/// Truth values, without nulls.
+impl NativeDType for bool {
+    ghost native_type = { bool_type NonNullable };
+
+    fn dtype(_alloc: Global) -> Result<DType, VortexError> {
+        Ok(DType::Bool(Nullability::NonNullable))
+    }
+}
+
+/// Integers of this kind, without nulls.
+impl NativeDType for u8 {
+    ghost native_type = { integer_type U8 NonNullable };
+
+    fn dtype(_alloc: Global) -> Result<DType, VortexError> {
+        Ok(DType::Primitive(PType::U8, Nullability::NonNullable))
+    }
+}
+
+/// Integers of this kind, without nulls.
+impl NativeDType for u16 {
+    ghost native_type = { integer_type U16 NonNullable };
+
+    fn dtype(_alloc: Global) -> Result<DType, VortexError> {
+        Ok(DType::Primitive(PType::U16, Nullability::NonNullable))
+    }
+}
+
+/// Integers of this kind, without nulls.
+impl NativeDType for u32 {
+    ghost native_type = { integer_type U32 NonNullable };
+
+    fn dtype(_alloc: Global) -> Result<DType, VortexError> {
+        Ok(DType::Primitive(PType::U32, Nullability::NonNullable))
+    }
+}
+
+/// Integers of this kind, without nulls.
+impl NativeDType for u64 {
+    ghost native_type = { integer_type U64 NonNullable };
+
+    fn dtype(_alloc: Global) -> Result<DType, VortexError> {
+        Ok(DType::Primitive(PType::U64, Nullability::NonNullable))
+    }
+}
+
+/// Integers of this kind, without nulls.
+impl NativeDType for i8 {
+    ghost native_type = { integer_type I8 NonNullable };
+
+    fn dtype(_alloc: Global) -> Result<DType, VortexError> {
+        Ok(DType::Primitive(PType::I8, Nullability::NonNullable))
+    }
+}
+
+/// Integers of this kind, without nulls.
+impl NativeDType for i16 {
+    ghost native_type = { integer_type I16 NonNullable };
+
+    fn dtype(_alloc: Global) -> Result<DType, VortexError> {
+        Ok(DType::Primitive(PType::I16, Nullability::NonNullable))
+    }
+}
+
+/// Integers of this kind, without nulls.
+impl NativeDType for i32 {
+    ghost native_type = { integer_type I32 NonNullable };
+
+    fn dtype(_alloc: Global) -> Result<DType, VortexError> {
+        Ok(DType::Primitive(PType::I32, Nullability::NonNullable))
+    }
+}
+
+/// Integers of this kind, without nulls.
+impl NativeDType for i64 {
+    ghost native_type = { integer_type I64 NonNullable };
+
+    fn dtype(_alloc: Global) -> Result<DType, VortexError> {
+        Ok(DType::Primitive(PType::I64, Nullability::NonNullable))
+    }
+}
+
+/// Integers of 64 bits, without nulls.
+impl NativeDType for usize {
+    ghost native_type = { integer_type U64 NonNullable };
+
+    fn dtype(_alloc: Global) -> Result<DType, VortexError> {
+        Ok(DType::Primitive(PType::U64, Nullability::NonNullable))
+    }
+}
+
+/// Texts, without nulls.
+impl NativeDType for String {
+    ghost native_type = { utf8_type NonNullable };
+
+    fn dtype(_alloc: Global) -> Result<DType, VortexError> {
+        Ok(DType::Utf8(Nullability::NonNullable))
+    }
+}
+
+/// Texts, without nulls.
+impl NativeDType for &str {
+    ghost native_type = { utf8_type NonNullable };
+
+    fn dtype(_alloc: Global) -> Result<DType, VortexError>
+        ensures { MatchResult result (λ dtype. type_of dtype ≡ utf8_type NonNullable) (λ e. e ≡ OutOfMemory) }
+    {
+        Ok(DType::Utf8(Nullability::NonNullable))
+    }
+}
+
+/// Texts, without nulls.
+impl NativeDType for BufferString {
+    ghost native_type = { utf8_type NonNullable };
+
+    fn dtype(_alloc: Global) -> Result<DType, VortexError> {
+        Ok(DType::Utf8(Nullability::NonNullable))
+    }
+}
+
+/// Strings of bytes, without nulls.
+impl NativeDType for ByteBuffer {
+    ghost native_type = { binary_type NonNullable };
+
+    fn dtype(_alloc: Global) -> Result<DType, VortexError> {
+        Ok(DType::Binary(Nullability::NonNullable))
+    }
+}
+
+/// Strings of bytes, without nulls.
+impl NativeDType for &[u8] {
+    ghost native_type = { binary_type NonNullable };
+
+    fn dtype(_alloc: Global) -> Result<DType, VortexError>
+        ensures { MatchResult result (λ dtype. type_of dtype ≡ binary_type NonNullable) (λ e. e ≡ OutOfMemory) }
+    {
+        Ok(DType::Binary(Nullability::NonNullable))
+    }
+}
+
+/// The type of what is held, made nullable.
+impl<T: NativeDType> NativeDType for Option<T> {
+    ghost native_type = { as_nullable T.native_type };
+
+    fn dtype(alloc: Global) -> Result<DType, VortexError> {
+        Ok(T::dtype(alloc)?.as_nullable())
+    }
+}
+
+/// Lists of the elements' type, without nulls.
+impl<T: NativeDType> NativeDType for Vec<T> {
+    ghost native_type = { list_type T.native_type NonNullable };
+
+    fn dtype(alloc: Global) -> Result<DType, VortexError> {
+        let element = T::dtype(alloc)?;
+        Ok(DType::List(Box::new(alloc, element)?, Nullability::NonNullable))
+    }
+}

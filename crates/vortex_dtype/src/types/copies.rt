@@ -1,0 +1,117 @@
+//! Copies of types and of their parts.
+
+ghost use Rattle.std.specs.Prelude.{◌≡◌, MatchResult, map};
+ghost use Rattle.vortex_dtype.specs.TypeTree.{IsFlat};
+ghost use Rattle.vortex_dtype.specs.TypeOf.{type_of, fields_of, variants_of, map_of, ext_of};
+ghost use Rattle.vortex_dtype.specs.declared.error.VortexError.TheVariants.{OutOfMemory};
+
+use super::{DType, ExtDType, MapDType, StructFields, UnionVariants};
+use crate::error::VortexError;
+use crate::names::FieldName;
+use std::alloc::Global;
+
+/// The same names.
+fn copy_names(alloc: Global, names: &[FieldName]) -> Result<Vec<FieldName>, VortexError>
+    ensures { MatchResult result (λ copies. copies.items ≡ names.now) (λ e. e ≡ OutOfMemory) }
+{
+    let mut copies = Vec::with_capacity(alloc, names.len())?;
+    for name in names {
+        copies.push(name.clone(alloc)?)?;
+    }
+    Ok(copies)
+}
+
+/// The same type, in a box of its own.
+#[cycle(copy)]
+fn copy_box(alloc: Global, dtype: &DType) -> Result<Box<DType>, VortexError>
+    ensures { MatchResult result (λ c. type_of c.value ≡ type_of dtype.now) (λ e. e ≡ OutOfMemory) }
+{
+    Ok(Box::new(alloc, copy(alloc, dtype)?)?)
+}
+
+/// The same types.
+#[cycle(copy)]
+fn copy_all(alloc: Global, dtypes: &[DType]) -> Result<Vec<DType>, VortexError>
+    ensures { MatchResult result (λ copies. map type_of copies.items ≡ map type_of dtypes.now) (λ e. e ≡ OutOfMemory) }
+{
+    let mut copies = Vec::with_capacity(alloc, dtypes.len())?;
+    for dtype in dtypes {
+        copies.push(copy(alloc, dtype)?)?;
+    }
+    Ok(copies)
+}
+
+/// The same type. Types whose values take no memory take none either.
+#[cycle(copy)]
+pub(super) fn copy(alloc: Global, dtype: &DType) -> Result<DType, VortexError>
+    ensures { MatchResult result
+        (λ c. type_of c ≡ type_of dtype.now)
+        (λ e. (e ≡ OutOfMemory) × ¬ (IsFlat (type_of dtype.now))) }
+{
+    match dtype {
+        DType::Null => Ok(DType::Null),
+        DType::Bool(n) => Ok(DType::Bool(*n)),
+        DType::Primitive(kind, n) => Ok(DType::Primitive(*kind, *n)),
+        DType::Utf8(n) => Ok(DType::Utf8(*n)),
+        DType::Binary(n) => Ok(DType::Binary(*n)),
+        DType::List(element, n) => Ok(DType::List(copy_box(alloc, element)?, *n)),
+        DType::FixedSizeList(element, size, n) => {
+            Ok(DType::FixedSizeList(copy_box(alloc, element)?, *size, *n))
+        }
+        DType::Map(map, n) => Ok(DType::Map(copy_map(alloc, map)?, *n)),
+        DType::Struct(fields, n) => Ok(DType::Struct(copy_fields(alloc, fields)?, *n)),
+        DType::Union(variants, n) => Ok(DType::Union(copy_variants(alloc, variants)?, *n)),
+        DType::Variant(n) => Ok(DType::Variant(*n)),
+        DType::Extension(extension) => Ok(DType::Extension(copy_extension(alloc, extension)?)),
+    }
+}
+
+/// The same map parts.
+#[cycle(copy)]
+pub(super) fn copy_map(alloc: Global, map: &MapDType) -> Result<MapDType, VortexError>
+    ensures { MatchResult result (λ c. map_of c ≡ map_of map.now) (λ e. e ≡ OutOfMemory) }
+{
+    Ok(MapDType {
+        key: copy_box(alloc, &map.key)?,
+        value: copy_box(alloc, &map.value)?,
+        keys_sorted: map.keys_sorted,
+    })
+}
+
+/// The same fields.
+#[cycle(copy)]
+pub(super) fn copy_fields(alloc: Global, fields: &StructFields) -> Result<StructFields, VortexError>
+    ensures { MatchResult result (λ c. fields_of c ≡ fields_of fields.now) (λ e. e ≡ OutOfMemory) }
+{
+    Ok(StructFields {
+        names: copy_names(alloc, &fields.names)?,
+        dtypes: copy_all(alloc, &fields.dtypes)?,
+    })
+}
+
+/// The same variants.
+#[cycle(copy)]
+pub(super) fn copy_variants(
+    alloc: Global,
+    variants: &UnionVariants,
+) -> Result<UnionVariants, VortexError>
+    ensures { MatchResult result (λ c. variants_of c ≡ variants_of variants.now) (λ e. e ≡ OutOfMemory) }
+{
+    Ok(UnionVariants {
+        names: copy_names(alloc, &variants.names)?,
+        dtypes: copy_all(alloc, &variants.dtypes)?,
+        type_ids: Vec::from_slice(alloc, &variants.type_ids)?,
+    })
+}
+
+/// The same extension.
+#[cycle(copy)]
+pub(super) fn copy_extension(alloc: Global, extension: &ExtDType) -> Result<ExtDType, VortexError>
+    ensures { MatchResult result (λ c. ext_of c ≡ ext_of extension.now) (λ e. e ≡ OutOfMemory) }
+{
+    Ok(ExtDType {
+        id: extension.id.clone()?,
+        metadata: extension.metadata.clone()?,
+        storage: copy_box(alloc, &extension.storage)?,
+    })
+}

@@ -1,0 +1,91 @@
+//! Extension types: a name and metadata over a storage type.
+
+ghost use Rattle.std.specs.Prelude.{◌≡◌, MatchResult};
+ghost use Rattle.vortex_dtype.specs.TypeOf.{type_of, ext_of, storage_part};
+ghost use Rattle.vortex_dtype.specs.Parts.{nullable_extension};
+ghost use Rattle.vortex_dtype.specs.declared.error.VortexError.TheVariants.{OutOfMemory};
+
+use super::copies::copy_extension;
+use super::{DType, ExtDType};
+use crate::buffer::{BufferString, ByteBuffer};
+use crate::error::VortexError;
+use std::alloc::Global;
+use std::mem;
+
+impl ExtDType {
+    /// The extension of this id and metadata over this storage type, or `OutOfMemory`.
+    ///
+    /// Ports `ExtDType::try_new`, which also asks the extension whether it takes the storage.
+    pub fn new(
+        alloc: Global,
+        id: BufferString,
+        metadata: ByteBuffer,
+        storage: DType,
+    ) -> Result<ExtDType, VortexError>
+        ensures { MatchResult result
+            (λ extension. ext_of extension ≡ record { id = id; metadata = metadata; storage = type_of storage })
+            (λ e. e ≡ OutOfMemory) }
+    {
+        Ok(ExtDType {
+            id,
+            metadata,
+            storage: Box::new(alloc, storage)?,
+        })
+    }
+
+    /// The id.
+    ///
+    /// Ports `ExtDType::id`.
+    pub fn id(&self) -> &BufferString
+        ensures { result.now ≡ (ext_of self.now).id }
+    {
+        &self.id
+    }
+
+    /// The metadata.
+    ///
+    /// Ports `ExtDType::metadata`.
+    pub fn metadata(&self) -> &ByteBuffer
+        ensures { result.now ≡ (ext_of self.now).metadata }
+    {
+        &self.metadata
+    }
+
+    /// The type of what the extension stores.
+    ///
+    /// Ports `ExtDType::storage_dtype`.
+    pub fn storage_dtype(&self) -> &DType
+        ensures part { result.now ≡ storage_part self.now }
+        ensures tree { type_of result.now ≡ (ext_of self.now).storage }
+    {
+        &self.storage
+    }
+
+    /// The same parts, or `OutOfMemory`.
+    ///
+    /// Ports `ExtDType::clone`.
+    pub fn clone(&self, alloc: Global) -> Result<ExtDType, VortexError>
+        ensures { MatchResult result (λ copy. ext_of copy ≡ ext_of self.now) (λ e. e ≡ OutOfMemory) }
+    {
+        copy_extension(alloc, self)
+    }
+
+    /// The same extension over its storage made nullable, in the box that it has.
+    #[cycle(as_nullable)]
+    pub(super) fn as_nullable(self) -> ExtDType
+        ensures { ext_of result ≡ nullable_extension (ext_of self) }
+    {
+        let ExtDType {
+            id,
+            metadata,
+            mut storage,
+        } = self;
+        let inner = mem::replace(&mut *storage, DType::Null);
+        *storage = inner.as_nullable();
+        ExtDType {
+            id,
+            metadata,
+            storage,
+        }
+    }
+}

@@ -1,0 +1,158 @@
+//! The fields of structs.
+
+ghost use Rattle.std.specs.Prelude.{◌≡◌, ◌⊎◌, MatchResult, IsOkAnd, Some, length, option_map, slice_get, position, map, true, false};
+ghost use Rattle.vortex_dtype.specs.Names.{names_in};
+ghost use Rattle.vortex_dtype.specs.Parts.{field_index, type_named};
+ghost use Rattle.vortex_dtype.specs.Refusals.{misses_a_name};
+ghost use Rattle.vortex_dtype.specs.TypeEquality.{bytes_eq};
+ghost use Rattle.vortex_dtype.specs.TypeOf.{type_of, fields_of, field_parts};
+ghost use Rattle.vortex_dtype.specs.declared.error.VortexError.TheVariants.{OutOfMemory, NoField};
+
+use super::copies::copy_fields;
+use super::{DType, StructFields};
+use crate::error::VortexError;
+use crate::names::{FieldName, FieldNames};
+use std::alloc::Global;
+
+impl StructFields {
+    /// The fields with these names and types. The caller knows that they are equally many. Takes no
+    /// memory.
+    ///
+    /// Ports `StructFields::new`, which panics where the lengths differ.
+    pub fn new(
+        _alloc: Global,
+        names: Vec<FieldName>,
+        dtypes: Vec<DType>,
+    ) -> Result<StructFields, VortexError>
+        requires { length names.items ≡ length dtypes.items }
+        ensures { IsOkAnd result (λ fields. fields_of fields ≡ record { names = names.items; types = map type_of dtypes.items }) }
+    {
+        Ok(StructFields { names, dtypes })
+    }
+
+    /// How many fields there are.
+    ///
+    /// Ports `StructFields::nfields`.
+    pub fn nfields(&self) -> usize
+        ensures { result ≡ length (fields_of self.now).types }
+    {
+        self.dtypes.len()
+    }
+
+    /// The names, in order.
+    ///
+    /// Ports `StructFields::names`.
+    pub fn names(&self) -> FieldNames<'_>
+        ensures { names_in result ≡ (fields_of self.now).names }
+    {
+        FieldNames::of(&self.names)
+    }
+
+    /// The types, in order. Of this port alone: what a recursion over types goes down.
+    pub fn dtypes(&self) -> &[DType]
+        ensures parts { result.now ≡ field_parts self.now }
+        ensures trees { map type_of result.now ≡ (fields_of self.now).types }
+    {
+        &self.dtypes
+    }
+
+    /// The place of the first field with the name, and none exactly where no field has it.
+    ///
+    /// Ports `StructFields::find`.
+    pub fn find(&self, name: &str) -> Option<usize>
+        ensures { result ≡ field_index (fields_of self.now) name.now }
+    {
+        find_name(&self.names, name)
+    }
+
+    /// The type of the field at this place, and none exactly past the end.
+    ///
+    /// Ports `StructFields::field_by_index`, which borrows nothing.
+    pub fn field_by_index(&self, index: usize) -> Option<&DType>
+        ensures part { option_map (λ dtype. dtype.now) result ≡ slice_get (field_parts self.now) index }
+        ensures tree { option_map (λ dtype. type_of dtype.now) result ≡ slice_get (fields_of self.now).types index }
+    {
+        dtype_at(&self.dtypes, index)
+    }
+
+    /// For each of the names, in their order, that name and the type of the first field that has it.
+    /// `NoField` exactly where some name is the name of no field, and this before any memory is asked
+    /// for; else `OutOfMemory` where there is none.
+    ///
+    /// Ports `StructFields::project`.
+    pub fn project(&self, alloc: Global, names: &[FieldName]) -> Result<StructFields, VortexError>
+        ensures { MatchResult result
+            (λ fields. ((fields_of fields).names ≡ names.now) × (map (type_named (fields_of self.now)) names.now ≡ map Some (fields_of fields).types))
+            (λ e. ((e ≡ NoField) × (misses_a_name (fields_of self.now) names.now ≡ true)) ⊎ ((e ≡ OutOfMemory) × (misses_a_name (fields_of self.now) names.now ≡ false))) }
+    {
+        if self.misses_a_name(names) {
+            return Err(VortexError::NoField);
+        }
+        self.project_found(alloc, names)
+    }
+
+    /// Whether some name is the name of no field.
+    fn misses_a_name(&self, names: &[FieldName]) -> bool
+        ensures { result ≡ misses_a_name (fields_of self.now) names.now }
+    {
+        for name in names {
+            if self.field(name.as_str()).is_none() {
+                return true;
+            }
+        }
+        false
+    }
+
+    /// The fields of these names, of which each is known to be a field's.
+    fn project_found(&self, alloc: Global, names: &[FieldName]) -> Result<StructFields, VortexError>
+        requires { misses_a_name (fields_of self.now) names.now ≡ false }
+        ensures { MatchResult result
+            (λ fields. ((fields_of fields).names ≡ names.now) × (map (type_named (fields_of self.now)) names.now ≡ map Some (fields_of fields).types))
+            (λ e. e ≡ OutOfMemory) }
+    {
+        let mut kept = Vec::with_capacity(alloc, names.len())?;
+        let mut dtypes = Vec::with_capacity(alloc, names.len())?;
+        for name in names {
+            let Some(dtype) = self.field(name.as_str()) else {
+                return Err(VortexError::NoField);
+            };
+            kept.push(name.clone(alloc)?)?;
+            dtypes.push(dtype.clone(alloc)?)?;
+        }
+        Ok(StructFields {
+            names: kept,
+            dtypes,
+        })
+    }
+
+    /// The type of the first field with the name.
+    fn field(&self, name: &str) -> Option<&DType>
+        ensures { option_map (λ dtype. type_of dtype.now) result ≡ type_named (fields_of self.now) name.now }
+    {
+        dtype_at(&self.dtypes, self.find(name)?)
+    }
+
+    /// The same names and types, or `OutOfMemory`.
+    ///
+    /// Ports `StructFields::clone`.
+    pub fn clone(&self, alloc: Global) -> Result<StructFields, VortexError>
+        ensures { MatchResult result (λ copy. fields_of copy ≡ fields_of self.now) (λ e. e ≡ OutOfMemory) }
+    {
+        copy_fields(alloc, self)
+    }
+}
+
+/// The place of the first of the names that is this text.
+fn find_name(names: &[FieldName], name: &str) -> Option<usize>
+    ensures { result ≡ position (λ n. bytes_eq n name.now) names.now }
+{
+    names.iter().position(|n| n.as_str() == name)
+}
+
+/// The type at this place.
+pub(super) fn dtype_at(dtypes: &[DType], index: usize) -> Option<&DType>
+    ensures part { option_map (λ dtype. dtype.now) result ≡ slice_get dtypes.now index }
+    ensures tree { option_map (λ dtype. type_of dtype.now) result ≡ slice_get (map type_of dtypes.now) index }
+{
+    dtypes.get(index)
+}

@@ -1,0 +1,78 @@
+//! The key and value types of maps.
+
+ghost use Rattle.std.specs.Prelude.{◌≡◌, ◌⊎◌, MatchResult, true, false};
+ghost use Rattle.vortex_dtype.specs.TypeTree.{is_nullable};
+ghost use Rattle.vortex_dtype.specs.TypeOf.{type_of, map_of, key_part, value_part};
+ghost use Rattle.vortex_dtype.specs.declared.error.VortexError.TheVariants.{OutOfMemory, BadType};
+ghost use Rattle.vortex_dtype.specs.declared.error.TypeCause.TheVariants.{NullableKey};
+
+use super::copies::copy_map;
+use super::{DType, MapDType};
+use crate::error::{TypeCause, VortexError};
+use std::alloc::Global;
+
+impl MapDType {
+    /// The parts of a map type. `BadType` with `NullableKey` exactly where the key takes a null, and
+    /// this before any memory is asked for; else `OutOfMemory` where there is none.
+    ///
+    /// Ports `MapDType::try_new`.
+    pub fn try_new(
+        alloc: Global,
+        key: DType,
+        value: DType,
+        keys_sorted: bool,
+    ) -> Result<MapDType, VortexError>
+        ensures { MatchResult result
+            (λ m. (map_of m ≡ record { key = type_of key; value = type_of value; keys_sorted = keys_sorted }) × (is_nullable (type_of key) ≡ false))
+            (λ e. ((e ≡ OutOfMemory) × (is_nullable (type_of key) ≡ false)) ⊎ ((e ≡ BadType NullableKey) × (is_nullable (type_of key) ≡ true))) }
+    {
+        if key.is_nullable() {
+            return Err(VortexError::BadType {
+                cause: TypeCause::NullableKey,
+            });
+        }
+        Ok(MapDType {
+            key: Box::new(alloc, key)?,
+            value: Box::new(alloc, value)?,
+            keys_sorted,
+        })
+    }
+
+    /// The key type. It takes no null, as `try_new` saw to.
+    ///
+    /// Ports `MapDType::key_dtype`.
+    pub fn key_dtype(&self) -> &DType
+        ensures part { result.now ≡ key_part self.now }
+        ensures tree { type_of result.now ≡ (map_of self.now).key }
+    {
+        &self.key
+    }
+
+    /// The value type.
+    ///
+    /// Ports `MapDType::value_dtype`.
+    pub fn value_dtype(&self) -> &DType
+        ensures part { result.now ≡ value_part self.now }
+        ensures tree { type_of result.now ≡ (map_of self.now).value }
+    {
+        &self.value
+    }
+
+    /// Whether the keys of the type's values are sorted.
+    ///
+    /// Ports `MapDType::keys_sorted`.
+    pub fn keys_sorted(&self) -> bool
+        ensures { result ≡ (map_of self.now).keys_sorted }
+    {
+        self.keys_sorted
+    }
+
+    /// The same parts, or `OutOfMemory`.
+    ///
+    /// Ports `MapDType::clone`.
+    pub fn clone(&self, alloc: Global) -> Result<MapDType, VortexError>
+        ensures { MatchResult result (λ copy. map_of copy ≡ map_of self.now) (λ e. e ≡ OutOfMemory) }
+    {
+        copy_map(alloc, self)
+    }
+}

@@ -1,0 +1,178 @@
+//! The variants of unions, and their ids.
+
+ghost use Rattle.std.specs.Prelude.{◌≡◌, ◌==◌, ◌<◌, MatchResult, None, Some, length, option_map, position, slice_get, map};
+ghost use Rattle.vortex_dtype.specs.Names.{names_in};
+ghost use Rattle.vortex_dtype.specs.Refusals.{repeats, variants_fault};
+ghost use Rattle.vortex_dtype.specs.TypeOf.{type_of, variants_of, variant_parts};
+ghost use Rattle.vortex_dtype.specs.declared.error.VortexError.TheVariants.{OutOfMemory};
+
+use super::copies::copy_variants;
+use super::fields::dtype_at;
+use super::{DType, UnionVariants};
+use crate::error::{TypeCause, VortexError};
+use crate::names::{FieldName, FieldNames};
+use std::alloc::Global;
+use std::slice;
+
+impl UnionVariants {
+    /// The variants with these names, types and ids. `BadType` with `LengthsDiffer` where they are not
+    /// equally many, and else with `RepeatedTypeId` where two ids are equal. Takes no memory.
+    ///
+    /// Ports `UnionVariants::try_new`.
+    pub fn try_new(
+        _alloc: Global,
+        names: Vec<FieldName>,
+        dtypes: Vec<DType>,
+        type_ids: Vec<u8>,
+    ) -> Result<UnionVariants, VortexError>
+        ensures { MatchResult result
+            (λ v. (variants_of v ≡ record { names = names.items; types = map type_of dtypes.items; type_ids = type_ids.items }) × (variants_fault (length names.items) (length dtypes.items) type_ids.items ≡ None))
+            (λ e. variants_fault (length names.items) (length dtypes.items) type_ids.items ≡ Some e) }
+    {
+        if names.len() != dtypes.len() || type_ids.len() != dtypes.len() {
+            return Err(VortexError::BadType {
+                cause: TypeCause::LengthsDiffer,
+            });
+        }
+        if repeats(&type_ids) {
+            return Err(VortexError::BadType {
+                cause: TypeCause::RepeatedTypeId,
+            });
+        }
+        Ok(UnionVariants {
+            names,
+            dtypes,
+            type_ids,
+        })
+    }
+
+    /// How many variants there are.
+    ///
+    /// Ports `UnionVariants::len`.
+    pub fn len(&self) -> usize
+        ensures { result ≡ length (variants_of self.now).type_ids }
+    {
+        self.type_ids.len()
+    }
+
+    /// The place of the variant with the id, and none exactly where no variant has it.
+    ///
+    /// Ports `UnionVariants::tag_to_child_index`.
+    pub fn tag_to_child_index(&self, tag: u8) -> Option<usize>
+        ensures { result ≡ position (λ id. id == tag) (variants_of self.now).type_ids }
+    {
+        find_id(&self.type_ids, tag)
+    }
+
+    /// The id of the variant at this place, which the caller knows to be below `len`.
+    ///
+    /// Ports `UnionVariants::child_index_to_tag`, which panics past the end.
+    pub fn child_index_to_tag(&self, index: usize) -> u8
+        requires { index < length (variants_of self.now).type_ids }
+        ensures { slice_get (variants_of self.now).type_ids index ≡ Some result }
+    {
+        id_at(&self.type_ids, index)
+    }
+
+    /// The type of the variant at this place, and none exactly past the end.
+    ///
+    /// Ports `UnionVariants::variant_by_index`, which borrows nothing.
+    pub fn variant_by_index(&self, index: usize) -> Option<&DType>
+        ensures part { option_map (λ dtype. dtype.now) result ≡ slice_get (variant_parts self.now) index }
+        ensures tree { option_map (λ dtype. type_of dtype.now) result ≡ slice_get (variants_of self.now).types index }
+    {
+        dtype_at(&self.dtypes, index)
+    }
+
+    /// The names, in order.
+    ///
+    /// Ports `UnionVariants::names`.
+    pub fn names(&self) -> FieldNames<'_>
+        ensures { names_in result ≡ (variants_of self.now).names }
+    {
+        FieldNames::of(&self.names)
+    }
+
+    /// The types, in order. Of this port alone: what a recursion over types goes down.
+    pub fn dtypes(&self) -> &[DType]
+        ensures parts { result.now ≡ variant_parts self.now }
+        ensures trees { map type_of result.now ≡ (variants_of self.now).types }
+    {
+        &self.dtypes
+    }
+
+    /// The same variants, or `OutOfMemory`.
+    ///
+    /// Ports `UnionVariants::clone`.
+    pub fn clone(&self, alloc: Global) -> Result<UnionVariants, VortexError>
+        ensures { MatchResult result (λ copy. variants_of copy ≡ variants_of self.now) (λ e. e ≡ OutOfMemory) }
+    {
+        copy_variants(alloc, self)
+    }
+}
+
+/// Whether some id stands at two places.
+fn repeats(ids: &[u8]) -> bool
+    ensures { result ≡ repeats ids.now }
+{
+    for i in 0..ids.len() {
+        if ids[i + 1..].contains(&ids[i]) {
+            return true;
+        }
+    }
+    false
+}
+
+/// The place of the first of the ids that is this one.
+fn find_id(ids: &[u8], tag: u8) -> Option<usize>
+    ensures { result ≡ position (λ id. id == tag) ids.now }
+{
+    ids.iter().position(|id| *id == tag)
+}
+
+/// The id at this place.
+fn id_at(ids: &[u8], index: usize) -> u8
+    requires { index < length ids.now }
+    ensures { slice_get ids.now index ≡ Some result }
+{
+    ids[index]
+}
+
+/// The ids of a union's variants, in order.
+///
+/// Ports the iterator that `UnionVariants::type_ids` gives.
+#[derive(Debug, Drop)]
+pub struct TypeIds<'a> {
+    ids: slice::Iter<'a, u8>,
+}
+
+impl<'a> Iterator for TypeIds<'a> {
+    type Item = u8;
+
+    ghost use Rattle.std.specs.Iterator.{YieldsFirst, item_count};
+    ghost use Rattle.vortex_dtype.specs.Names.{ids_left};
+
+    ghost next_gives = { YieldsFirst ids_left };
+
+    ghost remaining = { item_count ids_left };
+
+    /// The next id, and none after the last.
+    fn next(&mut self) -> Option<u8> {
+        self.ids.next().copied()
+    }
+}
+
+impl UnionVariants {
+    ghost use Rattle.vortex_dtype.specs.Names.{ids_left};
+
+    /// The ids, in order, each once.
+    ///
+    /// Ports `UnionVariants::type_ids`.
+    pub fn type_ids(&self) -> TypeIds<'_>
+        ensures { ids_left result ≡ (variants_of self.now).type_ids }
+    {
+        TypeIds {
+            ids: self.type_ids.iter(),
+        }
+    }
+}
