@@ -10,6 +10,8 @@ mod kinds;
 pub mod laws;
 mod names;
 mod native;
+#[cfg(test)]
+mod tests;
 mod types;
 
 pub use buffer::{BufferString, ByteBuffer};
