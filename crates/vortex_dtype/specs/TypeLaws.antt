@@ -1,6 +1,6 @@
 -- The tests of equality decide equality of trees, and with nullability nothing is erased.
 use Rattle.std.proofs.Common.{◌≡◌, ◌≢◌, ℕ, suc, List, [], ◌∷◌, length, Bool, true, false, ◌&&◌, true≢false, refl, sym, ap, ◌∙◌, subst}
-use Rattle.std.specs.Bool.{Decides, beq}
+use Rattle.std.specs.Bool.{Decides}
 use Rattle.std.specs.Cmp.{IsEquivalence, first_so, second_so, booleans_Decides, unsigned_Decides}
 use Rattle.std.proofs.lemmas.Bool.Decides.{same_from_decides, Decides-like}
 use Rattle.std.proofs.lemmas.Slice.Eq.{slice_eq-Decides}
