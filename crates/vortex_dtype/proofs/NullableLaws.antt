@@ -1,6 +1,6 @@
 -- A type made nullable takes a null, and differs in nullability alone.
-use Rattle.std.proofs.Common.{◌≡◌, refl, ap}
-use Rattle.vortex_dtype.specs.TypeTree.{TypeTree, null_type, bool_type, integer_type, utf8_type, binary_type, list_type, fixed_size_list_type, map_type, struct_type, union_type, variant_type, extension_type, Same, IsNullable, as_nullable, erase}
+use Rattle.std.proofs.Common.{refl, ap}
+use Rattle.vortex_dtype.specs.TypeTree.{TypeTree, null_type, bool_type, integer_type, utf8_type, binary_type, list_type, fixed_size_list_type, map_type, struct_type, union_type, variant_type, extension_type, Same, IsNullable, as_nullable}
 
 pub IsNullable-as_nullable : (t : TypeTree) → IsNullable (as_nullable t)
 IsNullable-as_nullable null_type = refl

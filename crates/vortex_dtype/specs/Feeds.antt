@@ -4,7 +4,8 @@ use Rattle.std.specs.Hash as fed
 use Rattle.std.specs.Hash.{HashWrites}
 use Rattle.vortex_dtype.specs.TypeTree.{TypeTree, TypeTrees, null_type, bool_type, integer_type, utf8_type, binary_type, list_type, fixed_size_list_type, map_type, struct_type, union_type, variant_type, extension_type, no_types, type_then, trim, trim_all}
 use Rattle.vortex_dtype.specs.TypeOf.{ExtensionParts, MapParts, FieldParts, VariantParts, types_from}
-use Rattle.vortex_dtype.specs.TypeEquality.{nullability_code, kind_code}
+use Rattle.vortex_dtype.specs.TypeEquality.{nullability_code}
+use Rattle.vortex_dtype.specs.Kinds.{kind_index}
 use Rattle.vortex_dtype.specs.declared.kinds.Nullability.{Nullability}
 use Rattle.vortex_dtype.specs.declared.kinds.PType.{PType}
 
@@ -14,7 +15,7 @@ nullability_feed n = fed.u8 (nullability_code n)
 
 -- an integer kind feeds its number
 abbrev pub kind_feed : PType → HashWrites
-kind_feed k = fed.u8 (kind_code k)
+kind_feed k = fed.u8 (kind_index k)
 
 -- a text, an id or metadata feeds its length and its bytes
 abbrev pub bytes_feed : List ℕ → HashWrites

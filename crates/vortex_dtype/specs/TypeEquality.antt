@@ -2,12 +2,11 @@
 use Rattle.std.specs.Prelude.{ℕ, ◌&&◌, ◌==◌, List, Bool, true, false, nat_eq}
 use Rattle.std.specs.Bool.{beq}
 use Rattle.std.specs.Cmp.Lexicographic.{pointwise}
+use Rattle.vortex_dtype.specs.Kinds.{same_kind}
 use Rattle.vortex_dtype.specs.TypeTree.{TypeTree, TypeTrees, null_type, bool_type, integer_type, utf8_type, binary_type, list_type, fixed_size_list_type, map_type, struct_type, union_type, variant_type, extension_type, no_types, type_then, trim, trim_all}
 use Rattle.vortex_dtype.specs.TypeOf.{ExtensionParts, MapParts, FieldParts, VariantParts, types_from}
 use Rattle.vortex_dtype.specs.declared.kinds.Nullability.{Nullability}
 use Rattle.vortex_dtype.specs.declared.kinds.Nullability.TheVariants.{NonNullable, Nullable}
-use Rattle.vortex_dtype.specs.declared.kinds.PType.{PType}
-use Rattle.vortex_dtype.specs.declared.kinds.PType.TheVariants.{U8, U16, U32, U64, I8, I16, I32, I64}
 
 -- a number for each nullability
 abbrev pub nullability_code : Nullability → ℕ
@@ -17,21 +16,6 @@ nullability_code Nullable = 1
 -- the two say the same of nulls
 abbrev pub nullability_eq : Nullability → Nullability → Bool
 nullability_eq m n = nullability_code m == nullability_code n
-
--- a number for each integer kind
-abbrev pub kind_code : PType → ℕ
-kind_code U8 = 0
-kind_code U16 = 1
-kind_code U32 = 2
-kind_code U64 = 3
-kind_code I8 = 4
-kind_code I16 = 5
-kind_code I32 = 6
-kind_code I64 = 7
-
--- the two are one kind
-abbrev pub kind_eq : PType → PType → Bool
-kind_eq j k = kind_code j == kind_code k
 
 -- the two have the same bytes
 abbrev pub bytes_eq : List ℕ → List ℕ → Bool
@@ -46,7 +30,7 @@ abbrev mutual
   pub tree_eq : TypeTree → TypeTree → Bool
   tree_eq null_type null_type = true
   tree_eq (bool_type m) (bool_type n) = nullability_eq m n
-  tree_eq (integer_type j m) (integer_type k n) = kind_eq j k && nullability_eq m n
+  tree_eq (integer_type j m) (integer_type k n) = same_kind j k && nullability_eq m n
   tree_eq (utf8_type m) (utf8_type n) = nullability_eq m n
   tree_eq (binary_type m) (binary_type n) = nullability_eq m n
   tree_eq (list_type s m) (list_type t n) = tree_eq s t && nullability_eq m n

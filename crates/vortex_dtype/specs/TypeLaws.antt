@@ -1,6 +1,6 @@
 -- The tests of equality decide equality of trees, and with nullability nothing is erased.
 use Rattle.std.proofs.Common.{◌≡◌, ◌≢◌, ℕ, suc, List, [], ◌∷◌, length, Bool, true, false, ◌&&◌, true≢false, refl, sym, ap, ◌∙◌, subst}
-use Rattle.std.specs.Bool.{Decides, beq}
+use Rattle.std.specs.Bool.{Decides}
 use Rattle.std.specs.Cmp.{IsEquivalence, first_so, second_so, booleans_Decides, unsigned_Decides}
 use Rattle.std.proofs.lemmas.Bool.Decides.{same_from_decides, Decides-like}
 use Rattle.std.proofs.lemmas.Slice.Eq.{slice_eq-Decides}
@@ -10,7 +10,8 @@ use Rattle.vortex_dtype.specs.declared.kinds.PType.{PType}
 use Rattle.vortex_dtype.specs.declared.kinds.PType.TheVariants.{U8, U16, U32, U64, I8, I16, I32, I64}
 use Rattle.vortex_dtype.specs.declared.types.DType.{DType}
 use Rattle.vortex_dtype.specs.TypeTree.{TypeTree, TypeTrees, null_type, bool_type, integer_type, utf8_type, binary_type, list_type, fixed_size_list_type, map_type, struct_type, union_type, variant_type, extension_type, no_types, type_then, trim, trim_all}
-use Rattle.vortex_dtype.specs.TypeEquality.{nullability_eq, kind_eq, kind_code, bytes_eq, names_eq, tree_eq, trees_eq, map_eq, fields_eq, variants_eq, ext_eq}
+use Rattle.vortex_dtype.specs.TypeEquality.{nullability_eq, bytes_eq, names_eq, tree_eq, trees_eq, map_eq, fields_eq, variants_eq, ext_eq}
+use Rattle.vortex_dtype.specs.Kinds.{kind_index, same_kind}
 use Rattle.vortex_dtype.specs.TypeOf.{types_of, types_from, MapParts, FieldParts, VariantParts, ExtensionParts}
 use Rattle.vortex_dtype.specs.Parts.{types_in}
 
@@ -29,19 +30,19 @@ nullability_eq-refl : (m : Nullability) → nullability_eq m m ≡ true
 nullability_eq-refl NonNullable = refl
 nullability_eq-refl Nullable = refl
 
-kind_eq-same : (j k : PType) → kind_eq j k ≡ true → j ≡ k
-kind_eq-same U8 U8 e = refl
-kind_eq-same U16 U16 e = refl
-kind_eq-same U32 U32 e = refl
-kind_eq-same U64 U64 e = refl
-kind_eq-same I8 I8 e = refl
-kind_eq-same I16 I16 e = refl
-kind_eq-same I32 I32 e = refl
-kind_eq-same I64 I64 e = refl
-kind_eq-same _ _ e = absurd (true≢false (sym e))
+same_kind-same : (j k : PType) → same_kind j k ≡ true → j ≡ k
+same_kind-same U8 U8 e = refl
+same_kind-same U16 U16 e = refl
+same_kind-same U32 U32 e = refl
+same_kind-same U64 U64 e = refl
+same_kind-same I8 I8 e = refl
+same_kind-same I16 I16 e = refl
+same_kind-same I32 I32 e = refl
+same_kind-same I64 I64 e = refl
+same_kind-same _ _ e = absurd (true≢false (sym e))
 
-kind_eq-refl : (k : PType) → kind_eq k k ≡ true
-kind_eq-refl k = (unsigned_Decides (kind_code k) (kind_code k)).1 refl
+same_kind-refl : (k : PType) → same_kind k k ≡ true
+same_kind-refl k = (unsigned_Decides (kind_index k) (kind_index k)).1 refl
 
 bytes_eq-Decides : (xs ys : List ℕ) → Decides (bytes_eq xs ys) (xs ≡ ys)
 bytes_eq-Decides xs ys = slice_eq-Decides unsigned_Decides xs ys (bytes_eq xs ys) refl
@@ -64,7 +65,7 @@ mutual
   tree_eq-same (binary_type m) (binary_type n) e = ap binary_type (nullability_eq-same m n e)
   tree_eq-same (variant_type m) (variant_type n) e = ap variant_type (nullability_eq-same m n e)
   tree_eq-same (integer_type p m) (integer_type q n) e =
-      let a = kind_eq-same p q (first_so _ _ e) in
+      let a = same_kind-same p q (first_so _ _ e) in
       let z = nullability_eq-same m n (second_so _ _ e) in cc
   tree_eq-same (list_type s m) (list_type t n) e =
       let a = tree_eq-same s t (first_so _ _ e) in
@@ -115,7 +116,7 @@ mutual
   tree_eq-refl (utf8_type n) = nullability_eq-refl n
   tree_eq-refl (binary_type n) = nullability_eq-refl n
   tree_eq-refl (variant_type n) = nullability_eq-refl n
-  tree_eq-refl (integer_type p n) = both _ _ (kind_eq-refl p) (nullability_eq-refl n)
+  tree_eq-refl (integer_type p n) = both _ _ (same_kind-refl p) (nullability_eq-refl n)
   tree_eq-refl (list_type t n) = both _ _ (tree_eq-refl t) (nullability_eq-refl n)
   tree_eq-refl (fixed_size_list_type t k n) = both _ _ (both _ _ (tree_eq-refl t) ((unsigned_Decides k k).1 refl)) (nullability_eq-refl n)
   tree_eq-refl (map_type s t k n) = both _ _ (both _ _ (both _ _ (tree_eq-refl s) (tree_eq-refl t)) ((booleans_Decides k k).1 refl)) (nullability_eq-refl n)

@@ -2,7 +2,8 @@
 
 ghost use Rattle.std.specs.Prelude.{◌≡◌, length};
 ghost use Rattle.vortex_dtype.specs.TypeTree.{keep, trim, trim_all};
-ghost use Rattle.vortex_dtype.specs.TypeEquality.{tree_eq, trees_eq, nullability_eq, kind_eq, names_eq, fields_eq, variants_eq, map_eq, ext_eq};
+ghost use Rattle.vortex_dtype.specs.TypeEquality.{tree_eq, trees_eq, nullability_eq, names_eq, fields_eq, variants_eq, map_eq, ext_eq};
+ghost use Rattle.vortex_dtype.specs.Kinds.{same_kind};
 ghost use Rattle.vortex_dtype.specs.TypeOf.{type_of, types_of, fields_of, variants_of, map_of, ext_of};
 
 use super::{DType, ExtDType, MapDType, StructFields, UnionVariants};
@@ -17,7 +18,7 @@ fn nullabilities_agree(exact: bool, a: Nullability, b: Nullability) -> bool
 }
 
 fn kinds_agree(a: PType, b: PType) -> bool
-    ensures { result ≡ kind_eq a b }
+    ensures { result ≡ same_kind a b }
 {
     a == b
 }
