@@ -6,6 +6,8 @@ mod equality;
 pub mod laws;
 mod scalars;
 mod unions;
+#[cfg(test)]
+mod value_tests;
 mod values;
 
 pub use scalars::Scalar;
