@@ -11,3 +11,5 @@ mod fixtures;
 mod types;
 #[cfg(test)]
 mod validity;
+#[cfg(test)]
+mod values;

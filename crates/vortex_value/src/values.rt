@@ -99,7 +99,7 @@ impl ScalarValue {
         ensures { value_tree self.now ≡ raw_tuple (raws_of result.now) }
     {
         match self {
-            ScalarValue::Tuple(values) => values,
+            ScalarValue::Tuple(parts) => parts,
             _ => unreachable!(),
         }
     }
@@ -152,7 +152,7 @@ impl ScalarValue {
         ensures { value_tree self ≡ raw_integer (kind_of result) (whole_of result) }
     {
         match self {
-            ScalarValue::Primitive(number) => number,
+            ScalarValue::Primitive(integer) => integer,
             _ => unreachable!(),
         }
     }
