@@ -3,12 +3,12 @@
 ghost use Rattle.std.specs.Prelude.{◌≡◌, ◌*◌, ◌%◌, ◌^◌, fold, bit_xor, length, IfOk};
 ghost use Rattle.vortex_dtype.specs.TypeOf.{variants_of};
 
+use std::hash::{Hash, Hasher};
+use std::process::Abort;
 use vortex_dtype::{
     BufferString, ByteBuffer, DType, ExtDType, FieldName, MapDType, NativeDType, Nullability,
     PType, StructFields, TypeCause, UnionVariants, VortexError,
 };
-use std::hash::{Hash, Hasher};
-use std::process::Abort;
 
 /// A hasher that keeps a digest of all the bytes that it is fed, in their order: where two digests
 /// differ, so do the feeds.

@@ -1,13 +1,13 @@
 //! Worked cases of copies, of parts and of equality, and each call that takes memory once on its
 //! happy path.
 
-use vortex_value::{Scalar, ScalarValue, UnionValue};
 use std::alloc::Global;
 use std::test::Fail;
 use vortex_dtype::{
     BufferString, ByteBuffer, DType, FieldName, Nullability, PType, UnionVariants, VortexError,
 };
 use vortex_pvalue::PValue;
+use vortex_value::{Scalar, ScalarValue, UnionValue};
 
 const NULLABLE: Nullability = Nullability::Nullable;
 
