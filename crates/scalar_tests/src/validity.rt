@@ -1,133 +1,104 @@
 //! The table of valid and invalid values, and the paths to first breaches.
 
 use crate::fixtures::*;
-use std::alloc::Global;
-use std::test::Fail;
+use std::process::Abort;
 use vortex_dtype::Nullability::{NonNullable, Nullable};
-use vortex_dtype::{Breach, DType, PType, Step, VortexError};
-use vortex_pvalue::PValue;
-use vortex_value::{Scalar, ScalarValue};
+use vortex_dtype::{Breach, DType, Step, VortexError};
+use vortex_value::Scalar;
 
-type Raw = Option<ScalarValue>;
-
-/// A type, values that are valid for it and values that are not.
-#[derive(Drop)]
-struct Row {
-    dtype: DType,
-    valid: Vec<Raw>,
-    invalid: Vec<Raw>,
+/// Sees that `is_compatible` and `validate` both take the value, or both refuse it.
+fn judge(rt: &(impl AllocGlobal + Abort), valid: bool, dtype: &DType, value: Raw) {
+    assert_eq!(rt; Scalar::is_compatible(dtype, value.as_ref()), valid);
+    let checked = Scalar::validate(rt.alloc(), dtype, value.as_ref());
+    assert_eq!(rt; checked.is_ok(), valid);
 }
 
-fn make_row<const V: usize, const I: usize>(
-    alloc: Global,
-    dtype: DType,
-    valid: [Raw; V],
-    invalid: [Raw; I],
-) -> Result<Row, Fail> {
-    Ok(Row {
-        dtype,
-        valid: Vec::from_array(alloc, valid)?,
-        invalid: Vec::from_array(alloc, invalid)?,
-    })
+fn takes(rt: &(impl AllocGlobal + Abort), dtype: &DType, value: Raw) {
+    judge(rt, true, dtype, value);
 }
 
-fn flat_rows(alloc: Global, rows: &mut Vec<Row>) -> Result<(), Fail> {
-    rows.push(make_row(alloc, DType::Null, [None], [truth(true)])?)?;
-    rows.push(make_row(alloc, DType::Bool(Nullable), [None], [integer(1)])?)?;
-    rows.push(make_row(
-        alloc,
-        DType::Bool(NonNullable),
-        [truth(true)],
-        [None, integer(1)],
-    )?)?;
-    let long = Some(ScalarValue::Primitive(PValue::I64(1)));
-    rows.push(make_row(alloc, I32, [integer(1)], [long])?)?;
-    let a = text(alloc, "a")?;
-    rows.push(make_row(alloc, DType::Utf8(NonNullable), [a], [truth(true)])?)?;
-    let none = bytes(alloc, &[])?;
-    let a = text(alloc, "a")?;
-    rows.push(make_row(alloc, DType::Binary(NonNullable), [none], [a])?)?;
-    let some = variant(alloc, DType::Bool(NonNullable), truth(true))?;
-    let null = variant(alloc, DType::Null, None)?;
-    let other = variant(alloc, DType::Bool(Nullable), None)?;
-    rows.push(make_row(alloc, DType::Variant(NonNullable), [null, some], [other])?)?;
-    Ok(())
-}
-
-fn list_rows(alloc: Global, rows: &mut Vec<Row>) -> Result<(), Fail> {
-    let two = tuple(alloc, [integer(1), integer(1)])?;
-    let with_null = tuple(alloc, [integer(1), None])?;
-    rows.push(make_row(alloc, list(alloc, I32)?, [two], [with_null, integer(1)])?)?;
-    let two = tuple(alloc, [integer(1), integer(1)])?;
-    let one = tuple(alloc, [integer(1)])?;
-    rows.push(make_row(alloc, fixed_size_list(alloc, I32, 2)?, [two], [one])?)?;
-    let map = DType::map(alloc, I32, DType::Bool(Nullable), false, NonNullable)?;
-    let entry = tuple(alloc, [integer(1), None])?;
-    let null_key = tuple(alloc, [None, None])?;
-    let alone = tuple(alloc, [integer(1)])?;
-    let valid = tuple(alloc, [entry])?;
-    let invalid = [
-        tuple(alloc, [None])?,
-        tuple(alloc, [null_key])?,
-        tuple(alloc, [alone])?,
-    ];
-    rows.push(make_row(alloc, map, [valid], invalid)?)?;
-    Ok(())
-}
-
-fn nested_rows(alloc: Global, rows: &mut Vec<Row>) -> Result<(), Fail> {
-    let fields = struct_of_two(alloc, I32, DType::Utf8(Nullable))?;
-    let full = tuple(alloc, [integer(1), text(alloc, "a")?])?;
-    let half = tuple(alloc, [integer(1), None])?;
-    let nulls = tuple(alloc, [None, None])?;
-    let one = tuple(alloc, [integer(1)])?;
-    rows.push(make_row(alloc, fields, [full, half], [nulls, one])?)?;
-    let right = union(alloc, 3, integer(1))?;
-    let unknown = union(alloc, 4, integer(1))?;
-    let null = union(alloc, 3, None)?;
-    rows.push(make_row(alloc, union_of_one(alloc)?, [right], [unknown, null])?)?;
-    let wrapped = extension(alloc, I32)?;
-    rows.push(make_row(alloc, wrapped, [integer(1)], [None, truth(true)])?)?;
-    Ok(())
+fn refuses(rt: &(impl AllocGlobal + Abort), dtype: &DType, value: Raw) {
+    judge(rt, false, dtype, value);
 }
 
 #[test]
-fn table_of_valid_values(rt: HostRuntime) -> Result<(), Fail> {
-    let alloc = rt.alloc();
-    let mut rows = Vec::new(alloc);
-    flat_rows(alloc, &mut rows)?;
-    list_rows(alloc, &mut rows)?;
-    nested_rows(alloc, &mut rows)?;
-    assert_eq!(rt; rows.len(), 13);
-    for row in rows {
-        for value in &row.valid {
-            assert!(rt; Scalar::is_compatible(&row.dtype, value.as_ref()));
-            assert!(rt; Scalar::validate(alloc, &row.dtype, value.as_ref()).is_ok());
-        }
-        for value in &row.invalid {
-            assert!(rt; !Scalar::is_compatible(&row.dtype, value.as_ref()));
-            assert!(rt; Scalar::validate(alloc, &row.dtype, value.as_ref()).is_err());
-        }
-    }
-    Ok(())
+fn table_of_flat_types(rt: HostRuntime) {
+    takes(&rt, &DType::Null, None);
+    refuses(&rt, &DType::Null, truth(true));
+    takes(&rt, &DType::Bool(Nullable), None);
+    refuses(&rt, &DType::Bool(Nullable), integer(1));
+    takes(&rt, &DType::Bool(NonNullable), truth(true));
+    refuses(&rt, &DType::Bool(NonNullable), None);
+    refuses(&rt, &DType::Bool(NonNullable), integer(1));
+    takes(&rt, &I32, integer(1));
+    refuses(&rt, &I32, long(1));
 }
 
-/// Whether `validate` and `try_new` both refuse with this path and breach.
-fn refuses(
-    alloc: Global,
+#[test]
+fn table_of_texts_and_variants(rt: HostRuntime) {
+    takes(&rt, &DType::Utf8(NonNullable), text(&rt, "a"));
+    refuses(&rt, &DType::Utf8(NonNullable), truth(true));
+    takes(&rt, &DType::Binary(NonNullable), bytes(&rt, &[]));
+    refuses(&rt, &DType::Binary(NonNullable), text(&rt, "a"));
+    let any = DType::Variant(NonNullable);
+    takes(&rt, &any, variant(&rt, DType::Null, None));
+    takes(
+        &rt,
+        &any,
+        variant(&rt, DType::Bool(NonNullable), truth(true)),
+    );
+    refuses(&rt, &any, variant(&rt, DType::Bool(Nullable), None));
+}
+
+#[test]
+fn table_of_lists_and_maps(rt: HostRuntime) {
+    let integers = list(&rt, I32);
+    takes(&rt, &integers, tuple(&rt, [integer(1), integer(1)]));
+    refuses(&rt, &integers, tuple(&rt, [integer(1), None]));
+    refuses(&rt, &integers, integer(1));
+    let pairs = fixed_size_list(&rt, I32, 2);
+    takes(&rt, &pairs, tuple(&rt, [integer(1), integer(1)]));
+    refuses(&rt, &pairs, tuple(&rt, [integer(1)]));
+    let entries = map(&rt, DType::Bool(Nullable), false);
+    takes(&rt, &entries, tuple(&rt, [tuple(&rt, [integer(1), None])]));
+    refuses(&rt, &entries, tuple(&rt, [None]));
+    refuses(&rt, &entries, tuple(&rt, [tuple(&rt, [None, None])]));
+    refuses(&rt, &entries, tuple(&rt, [tuple(&rt, [integer(1)])]));
+}
+
+#[test]
+fn table_of_structs_and_unions(rt: HostRuntime) {
+    let fields = struct_of_two(&rt, I32, DType::Utf8(Nullable));
+    takes(&rt, &fields, tuple(&rt, [integer(1), text(&rt, "a")]));
+    takes(&rt, &fields, tuple(&rt, [integer(1), None]));
+    refuses(&rt, &fields, tuple(&rt, [None, None]));
+    refuses(&rt, &fields, tuple(&rt, [integer(1)]));
+    let variants = union_of_one(&rt);
+    takes(&rt, &variants, union(&rt, 3, integer(1)));
+    refuses(&rt, &variants, union(&rt, 4, integer(1)));
+    refuses(&rt, &variants, union(&rt, 3, None));
+    let wrapped = extension(&rt, I32);
+    takes(&rt, &wrapped, integer(1));
+    refuses(&rt, &wrapped, truth(true));
+}
+
+/// Sees that `validate` and `try_new` both refuse with this path and breach.
+fn breaks(
+    rt: &(impl AllocGlobal + Abort),
     dtype: DType,
     value: Raw,
     steps: &[Step],
     breach: Breach,
-) -> Result<bool, Fail> {
-    let found = Scalar::validate(alloc, &dtype, value.as_ref());
-    let made = Scalar::try_new(alloc, dtype, value);
-    Ok(is_invalid(found, steps, breach) && is_invalid(made.map(|_| ()), steps, breach))
+) {
+    let found = Scalar::validate(rt.alloc(), &dtype, value.as_ref());
+    assert!(rt; is_invalid(found.err(), steps, breach));
+    let made = Scalar::try_new(rt.alloc(), dtype, value);
+    assert!(rt; is_invalid(made.err(), steps, breach));
 }
 
-fn is_invalid(answer: Result<(), VortexError>, steps: &[Step], breach: Breach) -> bool {
-    match answer {
-        Err(
+fn is_invalid(refusal: Option<VortexError>, steps: &[Step], breach: Breach) -> bool {
+    match refusal {
+        Some(
             VortexError::Invalid {
                 path,
                 breach: found,
@@ -138,86 +109,99 @@ fn is_invalid(answer: Result<(), VortexError>, steps: &[Step], breach: Breach) -
 }
 
 #[test]
-fn paths_in_lists_and_structs(rt: HostRuntime) -> Result<(), Fail> {
-    let alloc = rt.alloc();
-    let long = Some(ScalarValue::Primitive(PValue::I64(1)));
-    assert!(rt; refuses(alloc, I32, long, &[], Breach::WrongValue)?);
-    let lists = list(alloc, list(alloc, I32)?)?;
-    let value = tuple(alloc, [tuple(alloc, [integer(1)])?, tuple(alloc, [None])?])?;
+fn paths_in_lists(rt: HostRuntime) {
+    breaks(&rt, I32, long(1), &[], Breach::WrongValue);
+    let lists = list(&rt, list(&rt, I32));
+    let value = tuple(&rt, [tuple(&rt, [integer(1)]), tuple(&rt, [None])]);
     let path = [Step::Element(1), Step::Element(0)];
-    assert!(rt; refuses(alloc, lists, value, &path, Breach::NullNotAllowed)?);
-    let pair = fixed_size_list(alloc, I32, 2)?;
-    let one = tuple(alloc, [truth(true)])?;
-    assert!(rt; refuses(alloc, pair, one, &[], Breach::WrongLength)?);
-    let many = fixed_size_list(alloc, I32, u32::MAX)?;
-    assert!(rt; refuses(alloc, many, tuple(alloc, [])?, &[], Breach::WrongLength)?);
-    let structs = list(alloc, struct_of_one(alloc, I32)?)?;
-    let value = tuple(alloc, [tuple(alloc, [integer(1)])?, tuple(alloc, [None])?])?;
+    breaks(&rt, lists, value, &path, Breach::NullNotAllowed);
+    let pairs = fixed_size_list(&rt, I32, 2);
+    breaks(
+        &rt,
+        pairs,
+        tuple(&rt, [truth(true)]),
+        &[],
+        Breach::WrongLength,
+    );
+    let many = fixed_size_list(&rt, I32, u32::MAX);
+    breaks(&rt, many, tuple(&rt, []), &[], Breach::WrongLength);
+}
+
+#[test]
+fn paths_in_structs_and_extensions(rt: HostRuntime) {
+    let structs = list(&rt, struct_of_one(&rt, I32));
+    let value = tuple(&rt, [tuple(&rt, [integer(1)]), tuple(&rt, [None])]);
     let path = [Step::Element(1), Step::Field(0)];
-    assert!(rt; refuses(alloc, structs, value, &path, Breach::NullNotAllowed)?);
-    Ok(())
+    breaks(&rt, structs, value, &path, Breach::NullNotAllowed);
+    breaks(
+        &rt,
+        extension(&rt, I32),
+        truth(true),
+        &[],
+        Breach::WrongValue,
+    );
+}
+
+/// Sees how the map from integers to texts refuses the one entry.
+fn breaks_entry(rt: &(impl AllocGlobal + Abort), entry: Raw, steps: &[Step], breach: Breach) {
+    let texts = map(rt, DType::Utf8(Nullable), false);
+    breaks(rt, texts, tuple(rt, [entry]), steps, breach);
 }
 
 #[test]
-fn paths_in_maps(rt: HostRuntime) -> Result<(), Fail> {
-    let alloc = rt.alloc();
-    for (entry, steps, breach) in [
-        (
-            tuple(alloc, [None, text(alloc, "v")?])?,
-            2,
-            Breach::NullNotAllowed,
-        ),
-        (None, 1, Breach::NullEntry),
-        (tuple(alloc, [None, None, None])?, 1, Breach::WrongLength),
-        (integer(1), 1, Breach::WrongValue),
-    ] {
-        let map = DType::map(alloc, I32, DType::Utf8(Nullable), false, NonNullable)?;
-        let path = [Step::Entry(0), Step::Key];
-        assert!(rt; steps <= path.len());
-        assert!(rt; refuses(alloc, map, tuple(alloc, [entry])?, &path[..steps], breach)?);
-    }
-    let sorted = DType::map(alloc, I32, I32, true, NonNullable)?;
-    let two = tuple(alloc, [integer(2), integer(1)])?;
-    let one = tuple(alloc, [integer(1), integer(1)])?;
-    assert!(rt; Scalar::try_new(alloc, sorted, tuple(alloc, [two, one])?).is_ok());
-    Ok(())
+fn paths_in_maps(rt: HostRuntime) {
+    let null_key = tuple(&rt, [None, text(&rt, "v")]);
+    breaks_entry(
+        &rt,
+        null_key,
+        &[Step::Entry(0), Step::Key],
+        Breach::NullNotAllowed,
+    );
+    let wrong = tuple(&rt, [integer(1), integer(1)]);
+    breaks_entry(
+        &rt,
+        wrong,
+        &[Step::Entry(0), Step::Value],
+        Breach::WrongValue,
+    );
+    breaks_entry(&rt, None, &[Step::Entry(0)], Breach::NullEntry);
+    let three = tuple(&rt, [None, None, None]);
+    breaks_entry(&rt, three, &[Step::Entry(0)], Breach::WrongLength);
+    breaks_entry(&rt, integer(1), &[Step::Entry(0)], Breach::WrongValue);
+    let two = tuple(&rt, [integer(2), integer(1)]);
+    let one = tuple(&rt, [integer(1), integer(1)]);
+    takes(&rt, &map(&rt, I32, true), tuple(&rt, [two, one]));
 }
 
 #[test]
-fn paths_in_unions_and_variants(rt: HostRuntime) -> Result<(), Fail> {
-    let alloc = rt.alloc();
-    let dtype = union_of_two(alloc, Nullable)?;
-    let unknown = union(alloc, 7, integer(1))?;
-    assert!(rt; refuses(alloc, dtype, unknown, &[], Breach::UnknownTypeId)?);
-    let dtype = union_of_two(alloc, Nullable)?;
-    let null = union(alloc, 9, None)?;
-    assert!(rt; refuses(alloc, dtype, null, &[Step::Child], Breach::NullNotAllowed)?);
-    let dtype = DType::Variant(NonNullable);
-    let wrong = variant(alloc, I32, truth(true))?;
-    assert!(rt; refuses(alloc, dtype, wrong, &[Step::Inner], Breach::WrongValue)?);
-    let dtype = DType::Variant(NonNullable);
-    let null = variant(alloc, DType::Bool(NonNullable), None)?;
-    assert!(rt; refuses(alloc, dtype, null, &[], Breach::VariantNull)?);
-    let dtype = list(alloc, DType::Variant(NonNullable))?;
-    let null = tuple(alloc, [variant(alloc, DType::Bool(Nullable), None)?])?;
-    assert!(rt; refuses(alloc, dtype, null, &[Step::Element(0)], Breach::VariantNull)?);
-    let dtype = extension(alloc, I32)?;
-    assert!(rt; refuses(alloc, dtype, truth(true), &[], Breach::WrongValue)?);
-    Ok(())
+fn paths_in_unions(rt: HostRuntime) {
+    let unknown = union(&rt, 7, integer(1));
+    breaks(&rt, union_of_two(&rt), unknown, &[], Breach::UnknownTypeId);
+    let null = union(&rt, 9, None);
+    let path = [Step::Child];
+    breaks(&rt, union_of_two(&rt), null, &path, Breach::NullNotAllowed);
 }
 
 #[test]
-fn deep_nests(rt: HostRuntime) -> Result<(), Fail> {
-    let alloc = rt.alloc();
-    let dtype = nested_type(alloc, 64)?;
-    let value = nested_value(alloc, 64, integer(1))?;
-    let scalar = Scalar::try_new(alloc, dtype, value)?;
-    let copy = scalar.clone(alloc)?;
-    assert!(rt; copy == scalar);
-    let dtype = nested_type(alloc, 64)?;
-    let long = Some(ScalarValue::Primitive(PValue::I64(1)));
-    let value = nested_value(alloc, 64, long)?;
+fn paths_in_variants(rt: HostRuntime) {
+    let any = DType::Variant(NonNullable);
+    let wrong = variant(&rt, I32, truth(true));
+    breaks(&rt, any, wrong, &[Step::Inner], Breach::WrongValue);
+    let any = DType::Variant(NonNullable);
+    let null = variant(&rt, DType::Bool(NonNullable), None);
+    breaks(&rt, any, null, &[], Breach::VariantNull);
+    let many = list(&rt, DType::Variant(NonNullable));
+    let null = tuple(&rt, [variant(&rt, DType::Bool(Nullable), None)]);
+    breaks(&rt, many, null, &[Step::Element(0)], Breach::VariantNull);
+}
+
+#[test]
+fn deep_nests(rt: HostRuntime) {
+    let value = nested_value(&rt, 64, integer(1));
+    let made = Scalar::try_new(rt.alloc(), nested_type(&rt, 64), value).expect(&rt, "valid");
+    let copy = made.clone(rt.alloc()).expect(&rt, "a copy");
+    assert!(rt; copy == made);
+    let wrong = nested_value(&rt, 64, long(1));
     let path = [Step::Element(0); 64];
-    assert!(rt; refuses(alloc, dtype, value, &path, Breach::WrongValue)?);
-    Ok(())
+    breaks(&rt, nested_type(&rt, 64), wrong, &path, Breach::WrongValue);
 }
