@@ -3,6 +3,8 @@
 
 mod constructor;
 pub mod laws;
+#[cfg(test)]
+mod maker_tests;
 mod scalars;
 mod unions;
 mod values;
