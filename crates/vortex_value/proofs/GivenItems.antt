@@ -1,6 +1,6 @@
 -- Makers that keep the items of an iterable first.
 use Rattle.std.proofs.Common.{◌≡◌, ◌⊎◌, ◌<◌, ◌≤◌, ℕ, zero, suc, true, false, List, [], ◌∷◌, length, Option, Some, None, option_map, Result, Ok, Err, MatchOption, IfOk, IfErr, IfSome, get_or, inl, inr, refl, sym, subst, true≢false, arith}
-use Rattle.std.specs.Iterator.Runs.{Run, AllItems, ItemsAre, WholeRun, YieldsRun}
+use Rattle.std.specs.Iterator.Runs.{Run, AllItems, ItemsAre, YieldsRun}
 use Rattle.std.specs.List.{All, HoldsAt, slice_get}
 use Rattle.std.specs.Option.{is_none}
 use Rattle.vortex_dtype.specs.declared.error.VortexError.{VortexError}

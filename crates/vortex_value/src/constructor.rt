@@ -205,10 +205,7 @@ impl Scalar {
 }
 
 /// The raw value in memory of its own.
-fn boxed(
-    alloc: Global,
-    value: Option<ScalarValue>,
-) -> Result<Option<Box<ScalarValue>>, VortexError>
+fn boxed(alloc: Global, value: Option<ScalarValue>) -> Result<Option<Box<ScalarValue>>, VortexError>
     ensures { MatchResult result (λ kept. option_map (λ b. b.value) kept ≡ value) (λ e. e ≡ OutOfMemory) }
 {
     match value {

@@ -122,13 +122,23 @@ fn extension(alloc: Global) -> Result<ExtDType, VortexError> {
 }
 
 /// The list type of this element type.
-fn list_type(alloc: Global, element: DType, nullability: Nullability) -> Result<DType, VortexError> {
+fn list_type(
+    alloc: Global,
+    element: DType,
+    nullability: Nullability,
+) -> Result<DType, VortexError> {
     Ok(DType::List(Box::new(alloc, element)?, nullability))
 }
 
 /// The map type from integers to integers or null.
 fn map_type(alloc: Global) -> Result<DType, VortexError> {
-    DType::map(alloc, int_type(NonNullable), int_type(Nullable), true, NonNullable)
+    DType::map(
+        alloc,
+        int_type(NonNullable),
+        int_type(Nullable),
+        true,
+        NonNullable,
+    )
 }
 
 /// The call was refused for this cause.
@@ -393,7 +403,15 @@ fn structs_refuse_other_lengths_before_other_types(rt: HostRuntime) {
     let children = single(rt.alloc(), long(1)).expect(&rt, "children");
     let dtype = struct_type(rt.alloc()).expect(&rt, "a type");
     let few = struct_from(rt.alloc(), dtype, children);
-    assert!(rt; is_refused(few, VortexError::WrongLength { expected: 2, found: 1 }));
+    assert!(rt;
+        is_refused(
+            few,
+            VortexError::WrongLength {
+                expected: 2,
+                found: 1
+            }
+        )
+    );
 }
 
 #[test]
@@ -413,7 +431,15 @@ fn structs_are_made_of_other_iterators(rt: HostRuntime) {
     let children = pair(rt.alloc(), int(1), maybe_int(2)).expect(&rt, "children");
     let dtype = struct_type(rt.alloc()).expect(&rt, "a type");
     let few = struct_from_first(rt.alloc(), dtype, children, 1);
-    assert!(rt; is_refused(few, VortexError::WrongLength { expected: 2, found: 1 }));
+    assert!(rt;
+        is_refused(
+            few,
+            VortexError::WrongLength {
+                expected: 2,
+                found: 1
+            }
+        )
+    );
 }
 
 #[test]

@@ -115,10 +115,7 @@ fn is_entry_of(map: &MapDType, entry: &(Scalar, Scalar)) -> bool
 }
 
 /// The raw value of which these entries are the parts.
-fn entries_of(
-    alloc: Global,
-    entries: Vec<(Scalar, Scalar)>,
-) -> Result<ScalarValue, VortexError>
+fn entries_of(alloc: Global, entries: Vec<(Scalar, Scalar)>) -> Result<ScalarValue, VortexError>
     ensures { MatchResult result (λ value. value_tree value ≡ raw_tuple (raw_entries entries.items)) (λ e. e ≡ OutOfMemory) }
 {
     let mut values = Vec::with_capacity(alloc, entries.len())?;

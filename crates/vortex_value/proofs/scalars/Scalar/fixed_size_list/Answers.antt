@@ -18,5 +18,5 @@ returns-in_ok-tuple_of-in-Ok-clause-valid c =
     let accepted : list_cause (type_of c.args.element_dtype) c.args.children.items ≡ None = search rules in
     let size : c.in-Ok.size ≡ length c.args.children.items = search rules in
     scalar_valid (FixedSizeList boxed.field-0 c.in-Ok.size n) (Some tuple.field-0) (fixed_size_list_type e c.in-Ok.size n) (raw_tuple (raws_in xs))
-        (type_of-FixedSizeList boxed.field-0 c.in-Ok.size n ∙ ap (λ d. fixed_size_list_type (type_of d) c.in-Ok.size n) boxed.ensures.ok) tuple.ensures
-        (count_raws xs ∙ sym size, list_valid e xs accepted c.requires)
+    (type_of-FixedSizeList boxed.field-0 c.in-Ok.size n ∙ ap (λ d. fixed_size_list_type (type_of d) c.in-Ok.size n) boxed.ensures.ok) tuple.ensures
+    (count_raws xs ∙ sym size, list_valid e xs accepted c.requires)

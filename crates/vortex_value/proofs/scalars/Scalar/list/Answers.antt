@@ -17,4 +17,4 @@ returns-in_ok-tuple_of-in-Ok-clause-valid c =
     let tuple = c.in_ok-tuple_of-in-Ok in
     let accepted : list_cause (type_of c.args.element_dtype) c.args.children.items ≡ None = search rules in
     scalar_valid (List boxed.field-0 n) (Some tuple.field-0) (list_type e n) (raw_tuple (raws_in xs))
-        (type_of-List boxed.field-0 n ∙ ap (λ d. list_type (type_of d) n) boxed.ensures.ok) tuple.ensures (list_valid e xs accepted c.requires)
+    (type_of-List boxed.field-0 n ∙ ap (λ d. list_type (type_of d) n) boxed.ensures.ok) tuple.ensures (list_valid e xs accepted c.requires)

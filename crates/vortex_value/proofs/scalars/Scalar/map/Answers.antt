@@ -24,8 +24,8 @@ returns-clause-refused g c =
     let parts = map_in (type_of c.args.dtype) in
     let known : is_none (map_in (type_of c.args.dtype)) ≡ false = search rules in
     kind_known parts (IsErrAnd c.map_from.result (λ e. e ≡ WrongKind))
-        (λ o. IfErr c.map_from.result (λ e. (e ≡ OutOfMemory) ⊎ GivesAll gives steps c.args.entries (λ items. map_cause o items ≡ Some e))) known
-        (kept_refused gives steps c.args.entries it.result it.ensures.into_iter_gives run.0 run.1 run.2 c.in_ok-entries.entries.items run.3.0 (map_cause parts) c.map_from.result c.map_from.ensures.refused)
+    (λ o. IfErr c.map_from.result (λ e. (e ≡ OutOfMemory) ⊎ GivesAll gives steps c.args.entries (λ items. map_cause o items ≡ Some e))) known
+    (kept_refused gives steps c.args.entries it.result it.ensures.into_iter_gives run.0 run.1 run.2 c.in_ok-entries.entries.items run.3.0 (map_cause parts) c.map_from.result c.map_from.ensures.refused)
 
 pub returns-clause-made : goal.returns-clause-made
 returns-clause-made g c =
@@ -33,4 +33,4 @@ returns-clause-made g c =
     let run = c.in_ok-entries.ensures.runs tt in
     let tree = type_of c.args.dtype in
     kept_made g.I.IntoIterator.into_iter_gives g.I.IntoIter.Iterator.next_gives c.args.entries it.result it.ensures.into_iter_gives run.0 run.1 run.2 c.in_ok-entries.entries.items run.3.0
-        (map_cause (map_in tree)) (λ items x. IsMadeOf tree (raw_tuple (raw_entries items)) x) c.map_from.result c.map_from.ensures.refused c.map_from.ensures.made
+    (map_cause (map_in tree)) (λ items x. IsMadeOf tree (raw_tuple (raw_entries items)) x) c.map_from.result c.map_from.ensures.refused c.map_from.ensures.made

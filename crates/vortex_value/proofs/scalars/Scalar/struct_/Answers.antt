@@ -24,8 +24,8 @@ returns-clause-refused g c =
     let fields = fields_in (type_of c.args.dtype) in
     let known : is_none (fields_in (type_of c.args.dtype)) ≡ false = search rules in
     kind_known fields (IsErrAnd c.struct_from.result (λ e. e ≡ WrongKind))
-        (λ o. IfErr c.struct_from.result (λ e. (e ≡ OutOfMemory) ⊎ GivesAll gives steps c.args.children (λ items. struct_cause o items ≡ Some e))) known
-        (kept_refused gives steps c.args.children it.result it.ensures.into_iter_gives run.0 run.1 run.2 c.in_ok-children.children.items run.3.0 (struct_cause fields) c.struct_from.result c.struct_from.ensures.refused)
+    (λ o. IfErr c.struct_from.result (λ e. (e ≡ OutOfMemory) ⊎ GivesAll gives steps c.args.children (λ items. struct_cause o items ≡ Some e))) known
+    (kept_refused gives steps c.args.children it.result it.ensures.into_iter_gives run.0 run.1 run.2 c.in_ok-children.children.items run.3.0 (struct_cause fields) c.struct_from.result c.struct_from.ensures.refused)
 
 pub returns-clause-made : goal.returns-clause-made
 returns-clause-made g c =
@@ -33,4 +33,4 @@ returns-clause-made g c =
     let run = c.in_ok-children.ensures.runs tt in
     let tree = type_of c.args.dtype in
     kept_made g.I.IntoIterator.into_iter_gives g.I.IntoIter.Iterator.next_gives c.args.children it.result it.ensures.into_iter_gives run.0 run.1 run.2 c.in_ok-children.children.items run.3.0
-        (struct_cause (fields_in tree)) (λ items x. IsMadeOf tree (raw_tuple (raws_in items)) x) c.struct_from.result c.struct_from.ensures.refused c.struct_from.ensures.made
+    (struct_cause (fields_in tree)) (λ items x. IsMadeOf tree (raw_tuple (raws_in items)) x) c.struct_from.result c.struct_from.ensures.refused c.struct_from.ensures.made
