@@ -7,6 +7,8 @@ mod constructor;
 mod copies;
 mod equality;
 pub mod laws;
+#[cfg(test)]
+mod maker_tests;
 mod scalars;
 mod storage;
 mod unions;
