@@ -8,6 +8,8 @@ mod casts;
 #[cfg(test)]
 mod fixtures;
 #[cfg(test)]
+mod makers;
+#[cfg(test)]
 mod types;
 #[cfg(test)]
 mod validity;

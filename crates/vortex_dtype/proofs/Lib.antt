@@ -1,2 +1,2 @@
-mod NullableLaws
-mod TypeSteps
+pub mod NullableLaws
+pub mod TypeSteps

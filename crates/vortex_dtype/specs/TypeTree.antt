@@ -45,6 +45,7 @@ abbrev mutual
   trim exact (variant_type n) = variant_type (keep exact n)
   trim exact (extension_type id metadata t) = extension_type id metadata (trim exact t)
 
+  -- each of the types, so trimmed
   pub trim_all : Bool → TypeTrees → TypeTrees
   trim_all exact no_types = no_types
   trim_all exact (type_then t ts) = type_then (trim exact t) (trim_all exact ts)
@@ -53,6 +54,7 @@ abbrev mutual
 abbrev pub erase : TypeTree → TypeTree
 erase = trim false
 
+-- each of the types, with its nullabilities erased
 abbrev pub erase_all : TypeTrees → TypeTrees
 erase_all = trim_all false
 
@@ -79,6 +81,7 @@ nullability_of (extension_type id metadata t) = nullability_of t
 abbrev pub IsNullable : TypeTree → Type 0
 IsNullable t = nullability_of t ≡ Nullable
 
+-- whether this nullability lets nulls in
 abbrev pub says_nullable : Nullability → Bool
 says_nullable NonNullable = false
 says_nullable Nullable = true

@@ -15,7 +15,7 @@ use Rattle.vortex_dtype.specs.declared.kinds.PType.{PType}
 use Rattle.vortex_dtype.specs.declared.kinds.PType.TheVariants.{U8, U16, U32, U64, I8, I16, I32, I64}
 use Rattle.vortex_pvalue.specs.Kinds.{InRange, in_range}
 use Rattle.vortex_pvalue.specs.RangeLaws.{in_range_true, in_range_back}
-use Rattle.vortex_value.specs.Breaches.{Found, HasSteps, here, under, first, count_types, is_null_type, child_breaches, breaches_at, element_breaches, entry_breaches, field_breaches, breaches, Refuses, Answers, ValidExactlyWithoutBreach}
+use Rattle.vortex_value.specs.Breaches.{Found, HasSteps, here, under, first, count_types, is_null_type, child_breaches, breaches_at, element_breaches, entry_breaches, field_breaches, breaches, Refuses, ValidExactlyWithoutBreach}
 use Rattle.vortex_value.specs.RawTree.{RawTree, absent, raw_bool, raw_integer, raw_text, raw_bytes, raw_tuple, raw_union, raw_variant, RawTrees, no_raws, raw_then, count, is_absent}
 use Rattle.vortex_value.specs.Validity.{type_with, HasType, MayBeInside, ValidAt, EachValid, EntriesValid, FieldsValid, Valid}
 
@@ -229,6 +229,11 @@ refused : (e : VortexError) (fs : List Found) → Refuses e fs → fs ≢ []
 refused OutOfMemory fs h = has_some fs h
 refused (Invalid path breach) fs h = first_some fs _ h
 refused _ fs h = absurd h
+
+-- a check passes where there is no breach, and refuses where there is one
+abbrev pub Answers : {A : Type 0} → Result A VortexError → List Found → Type 0
+Answers (Ok x) fs = fs ≡ []
+Answers (Err e) fs = Refuses e fs
 
 -- a check that answers as the breaches say passes exactly the valid values
 pub valid_answers : {A : Type 0} (r : Result A VortexError) (t : TypeTree) (v : RawTree) → Answers r (breaches t v) → IsOk r ↔ Valid t v

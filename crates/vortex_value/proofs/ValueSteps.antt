@@ -3,7 +3,7 @@ use Rattle.std.proofs.Common.{◌≡◌, ◌≢◌, ℕ, suc, Bool, true, false,
 use Rattle.vortex_dtype.specs.TypeOf.{type_of}
 use Rattle.vortex_value.specs.Content.{content, contents}
 use Rattle.vortex_value.specs.Equality.{equal, all_equal}
-use Rattle.vortex_value.specs.RawOf.{raw_or_absent, value_tree, scalar_tree, union_tree, raw_of, raws_from, raws_of}
+use Rattle.vortex_value.specs.RawOf.{raw_or_absent, value_tree, scalar_tree, union_tree, raw_of, raws_of}
 use Rattle.vortex_value.specs.RawTree.{RawTrees, raw_tuple, raw_union, raw_variant, raw_then, count}
 use Rattle.vortex_value.specs.declared.scalars.Scalar.{Scalar}
 use Rattle.vortex_value.specs.declared.unions.UnionValue.{UnionValue}
@@ -30,10 +30,6 @@ union_tree-parts u = search (rules, the_lemmas)
 pub count-raws_of : (vs : List (Option ScalarValue)) → count (raws_of vs) ≡ length vs
 count-raws_of [] = refl
 count-raws_of (v ∷ vs) = ap suc (count-raws_of vs)
-
--- values with the same trees, place by place, have the same trees in all
-pub raws_of-same : (vs ws : List (Option ScalarValue)) → map (option_map value_tree) vs ≡ map (option_map value_tree) ws → raws_of vs ≡ raws_of ws
-raws_of-same vs ws h = ap raws_from h
 
 and_false : (b c : Bool) → c ≡ false → (b && c) ≡ false
 and_false true c h = h

@@ -1,5 +1,5 @@
 -- Every breach of validity with its path, in reading order, and what a check answers of them.
-use Rattle.std.specs.Prelude.{◌≡◌, ◌≢◌, ◌↔◌, ℕ, suc, ◌==◌, ◌&&◌, not, Bool, true, false, List, [], ◌∷◌, ◌++◌, Option, Some, None, Result, Ok, Err, if◌then◌else◌}
+use Rattle.std.specs.Prelude.{◌≡◌, ◌≢◌, ◌↔◌, ℕ, suc, ◌==◌, ◌&&◌, not, Bool, true, false, List, [], ◌∷◌, ◌++◌, Option, Some, None, if◌then◌else◌}
 use Rattle.vortex_dtype.specs.Kinds.{same_kind}
 use Rattle.vortex_dtype.specs.TypeTree.{TypeTree, null_type, bool_type, integer_type, utf8_type, binary_type, list_type, fixed_size_list_type, map_type, struct_type, union_type, variant_type, TypeTrees, no_types, type_then, is_nullable, storage}
 use Rattle.vortex_dtype.specs.declared.error.Breach.{Breach}
@@ -98,11 +98,6 @@ abbrev pub Refuses : VortexError → List Found → Type 0
 Refuses (Invalid path breach) fs = first fs ≡ Some (path, breach)
 Refuses OutOfMemory fs = HasSteps (first fs)
 Refuses _ fs = ⊥
-
--- a check passes where there is no breach, and refuses where there is one
-abbrev pub Answers : {A : Type 0} → Result A VortexError → List Found → Type 0
-Answers (Ok x) fs = fs ≡ []
-Answers (Err e) fs = Refuses e fs
 
 -- A raw value is valid exactly where it has no breach.
 abbrev pub ValidExactlyWithoutBreach : Type 0

@@ -1,20 +1,21 @@
 -- Which casts the table allows, which contents a type has, and the one value of a content.
 use Rattle.std.specs.Prelude.{◌≡◌, true, false}
-use Rattle.vortex_dtype.specs.TypeTree.{TypeTree, null_type, bool_type, integer_type, utf8_type, binary_type, list_type, fixed_size_list_type, map_type, struct_type, union_type, variant_type, extension_type, TypeTrees, no_types, type_then, Same, IsFlat}
-use Rattle.vortex_dtype.specs.declared.error.VortexError.{VortexError}
-use Rattle.vortex_dtype.specs.declared.error.VortexError.TheVariants.{OutOfMemory, CannotCast}
+use Rattle.vortex_dtype.specs.TypeTree.{TypeTree, null_type, bool_type, integer_type, utf8_type, binary_type, list_type, fixed_size_list_type, map_type, struct_type, union_type, variant_type, extension_type, TypeTrees, no_types, type_then, Same}
 use Rattle.vortex_value.specs.Content.{Content, null, sequence, Contents, no_contents, content_then, content}
 use Rattle.vortex_value.specs.RawTree.{RawTree}
 use Rattle.vortex_value.specs.Validity.{Valid}
 
+-- the null
 abbrev pub IsNull : Content → Type 0
 IsNull null = Unit {0}
 IsNull _ = ⊥
 
+-- one of the eight types of integers
 abbrev pub IsInteger : TypeTree → Type 0
 IsInteger (integer_type k n) = Unit {0}
 IsInteger _ = ⊥
 
+-- an extension, whatever its storage
 abbrev pub IsExtension : TypeTree → Type 0
 IsExtension (extension_type id metadata t) = Unit {0}
 IsExtension _ = ⊥
@@ -105,13 +106,7 @@ CanCast s t c = Allows s t c × Has t c
 abbrev pub OneValue : Type 0
 OneValue = (s t : TypeTree) (v w : RawTree) → Same s t → Valid s v → Valid t w → content v ≡ content w → v ≡ w
 
--- what a refusal of a cast to t says: CannotCast, that p fails; want of memory, that values of t may take some
-abbrev pub CastRefuses : TypeTree → Type 0 → VortexError → Type 0
-CastRefuses t p CannotCast = ¬ p
-CastRefuses t p OutOfMemory = ¬ (IsFlat t)
-CastRefuses t p _ = ⊥
-
--- Null or a type of integers
+-- Null, or a type of integers
 abbrev pub IsNullOrInteger : TypeTree → Type 0
 IsNullOrInteger null_type = Unit {0}
 IsNullOrInteger (integer_type k n) = Unit {0}

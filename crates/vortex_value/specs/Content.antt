@@ -31,6 +31,7 @@ abbrev mutual
   content (raw_union id v) = tagged id (content v)
   content (raw_variant t v) = typed t (content v)
 
+  -- what each of the values means
   pub contents : RawTrees → Contents
   contents no_raws = no_contents
   contents (raw_then v vs) = content_then (content v) (contents vs)

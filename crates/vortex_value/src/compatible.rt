@@ -140,7 +140,7 @@ fn inner_fits(scalar: &Scalar) -> bool
 impl Scalar {
     /// Whether the raw value, or its absence, is valid for the type. Takes no memory.
     ///
-    /// Ports `ScalarValue::is_compatible`.
+    /// Ports `Scalar::is_compatible`.
     pub fn is_compatible(dtype: &DType, value: Option<&ScalarValue>) -> bool
         ensures { IsTrue result ↔ Valid (type_of dtype.now) (raw_of (option_copied value.entry)) }
     {

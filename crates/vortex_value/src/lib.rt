@@ -7,8 +7,6 @@ mod constructor;
 mod copies;
 mod equality;
 pub mod laws;
-#[cfg(test)]
-mod maker_tests;
 mod scalars;
 mod storage;
 mod unions;

@@ -5,7 +5,6 @@ ghost use Rattle.std.specs.List.{All};
 ghost use Rattle.vortex_value.specs.Makers.{IsValidEntry};
 ghost use Rattle.vortex_value.specs.Scalars.{IsValid};
 
-use crate::{Scalar, ScalarValue};
 use std::alloc::Global;
 use vortex_dtype::Nullability::{NonNullable, Nullable};
 use vortex_dtype::{
@@ -13,6 +12,7 @@ use vortex_dtype::{
     UnionVariants, VortexError,
 };
 use vortex_pvalue::PValue;
+use vortex_value::{Scalar, ScalarValue};
 
 /// The type of 32-bit integers.
 fn int_type(nullability: Nullability) -> DType {
