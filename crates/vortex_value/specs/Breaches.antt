@@ -1,7 +1,7 @@
 -- Every breach of validity with its path, in reading order, and what a check answers of them.
 use Rattle.std.specs.Prelude.{◌≡◌, ◌≢◌, ◌↔◌, ℕ, suc, ◌==◌, ◌&&◌, not, Bool, true, false, List, [], ◌∷◌, ◌++◌, Option, Some, None, Result, Ok, Err, if◌then◌else◌}
 use Rattle.vortex_dtype.specs.Kinds.{same_kind}
-use Rattle.vortex_dtype.specs.TypeTree.{TypeTree, null_type, bool_type, integer_type, utf8_type, binary_type, list_type, fixed_size_list_type, map_type, struct_type, union_type, variant_type, extension_type, TypeTrees, no_types, type_then, is_nullable, storage}
+use Rattle.vortex_dtype.specs.TypeTree.{TypeTree, null_type, bool_type, integer_type, utf8_type, binary_type, list_type, fixed_size_list_type, map_type, struct_type, union_type, variant_type, TypeTrees, no_types, type_then, is_nullable, storage}
 use Rattle.vortex_dtype.specs.declared.error.Breach.{Breach}
 use Rattle.vortex_dtype.specs.declared.error.Breach.TheVariants.{NullNotAllowed, WrongValue, WrongLength, UnknownTypeId, NullEntry, VariantNull}
 use Rattle.vortex_dtype.specs.declared.error.Step.{Step}

@@ -1,5 +1,5 @@
 -- When contents are equal.
-use Rattle.std.specs.Prelude.{◌≡◌, ◌↔◌, ℕ, ℤ, ◌==◌, ◌&&◌, not, Bool, true, false, List, IsTrue}
+use Rattle.std.specs.Prelude.{◌≡◌, ◌↔◌, ◌==◌, ◌&&◌, not, Bool, true, false, IsTrue}
 use Rattle.std.specs.Ordering.{int_eq}
 use Rattle.vortex_dtype.specs.TypeEquality.{bytes_eq, tree_eq}
 use Rattle.vortex_dtype.specs.TypeTree.{TypeTree, Same, erase}

@@ -1,7 +1,6 @@
 -- The trees of declared raw values and scalars.
 use Rattle.std.specs.Prelude.{List, [], ◌∷◌, map, Option, Some, None, option_map}
 use Rattle.vortex_dtype.specs.TypeOf.{type_of}
-use Rattle.vortex_dtype.specs.TypeTree.{TypeTree}
 use Rattle.vortex_pvalue.specs.Whole.{kind_of, whole_of}
 use Rattle.vortex_value.specs.RawTree.{RawTree, absent, raw_bool, raw_integer, raw_text, raw_bytes, raw_tuple, raw_union, raw_variant, RawTrees, no_raws, raw_then}
 use Rattle.vortex_value.specs.declared.scalars.Scalar.{Scalar, fold-Scalar}

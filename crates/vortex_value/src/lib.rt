@@ -3,6 +3,7 @@
 
 mod cast;
 mod compatible;
+mod constructor;
 mod copies;
 mod equality;
 pub mod laws;

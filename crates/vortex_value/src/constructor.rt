@@ -1,0 +1,242 @@
+//! Makers of scalars: each answers a valid scalar of the stated type, or refuses by name.
+
+ghost use Rattle.std.specs.Prelude.{◌≡◌, ◌↔◌, IsOk, IfOk, IfErr, MatchResult, IsUtf8, option_map};
+ghost use Rattle.vortex_dtype.specs.TypeOf.{type_of, ext_of, variants_of};
+ghost use Rattle.vortex_dtype.specs.TypeTree.{IsNullable, as_nullable, bool_type, integer_type, utf8_type, binary_type, variant_type};
+ghost use Rattle.vortex_dtype.specs.declared.error.VortexError.TheVariants.{OutOfMemory};
+ghost use Rattle.vortex_dtype.specs.declared.kinds.Nullability.TheVariants.{NonNullable};
+ghost use Rattle.vortex_pvalue.specs.Whole.{kind_of, whole_of};
+ghost use Rattle.vortex_value.specs.Makers.{RefusesExactly, RefusesOrNoMemory, child_cause, union_cause, inside_cause, union_of, extension_over};
+ghost use Rattle.vortex_value.specs.RawTree.{absent, raw_bool, raw_integer, raw_text, raw_bytes, raw_union, raw_variant};
+ghost use Rattle.vortex_value.specs.Scalars.{IsMadeOf, IsValid, scalar_raw, scalar_type};
+
+use crate::scalars::Scalar;
+use crate::unions::UnionValue;
+use crate::values::ScalarValue;
+use std::alloc::Global;
+use vortex_dtype::{
+    BufferString, ByteBuffer, DType, ExtDType, NativeDType, Nullability, PType, UnionVariants,
+    VortexError,
+};
+use vortex_pvalue::{NativePType, PValue};
+
+mod lists;
+mod maps;
+mod structs;
+
+impl Scalar {
+    /// The null of a type that takes one. Takes no memory.
+    ///
+    /// Ports `Scalar::null`, which panics for a type that takes none.
+    #[tactic(auto, using(crate::proofs::MakerLaws::null_valid))]
+    pub fn null(dtype: DType) -> Scalar
+        requires { IsNullable (type_of dtype) }
+        ensures made { IsMadeOf (type_of dtype) absent result }
+        ensures valid { IsValid result }
+    {
+        Scalar { dtype, value: None }
+    }
+
+    /// The null of the column type of a Rust type, made nullable.
+    ///
+    /// `OutOfMemory` where the type finds none. Ports `Scalar::null_native`.
+    #[tactic(auto, using(crate::proofs::MakerLaws::takes_null))]
+    pub fn null_native<T: NativeDType>(alloc: Global) -> Result<Scalar, VortexError>
+        ensures made { IfOk result (IsMadeOf (as_nullable T.native_type) absent) }
+        ensures valid { IfOk result IsValid }
+        ensures refused { IfErr result (λ e. e ≡ OutOfMemory) }
+    {
+        Ok(Scalar::null(T::dtype(alloc)?.as_nullable()))
+    }
+
+    /// The scalar of a truth value. Takes no memory.
+    ///
+    /// Ports `Scalar::bool`.
+    pub fn bool(value: bool, nullability: Nullability) -> Scalar
+        ensures made { IsMadeOf (bool_type nullability) (raw_bool value) result }
+        ensures valid { IsValid result }
+    {
+        Scalar {
+            dtype: DType::Bool(nullability),
+            value: Some(ScalarValue::Bool(value)),
+        }
+    }
+
+    /// The scalar of an integer, of its own kind. Takes no memory.
+    ///
+    /// Ports `Scalar::primitive`.
+    pub fn primitive<T: NativePType>(value: T, nullability: Nullability) -> Scalar
+        ensures made { IsMadeOf (integer_type T.PTYPE nullability) (raw_integer T.PTYPE (T.value value)) result }
+        ensures valid { IsValid result }
+    {
+        Scalar {
+            dtype: DType::Primitive(T::PTYPE, nullability),
+            value: Some(ScalarValue::Primitive(value.into_pvalue())),
+        }
+    }
+
+    /// The scalar of an integer value that is of the kind asked for. Takes no memory.
+    ///
+    /// `WrongPType` exactly where it is of another kind. Ports `Scalar::primitive_value`, which panics
+    /// there.
+    pub fn primitive_value(
+        value: PValue,
+        ptype: PType,
+        nullability: Nullability,
+    ) -> Result<Scalar, VortexError>
+        ensures ok { IsOk result ↔ (kind_of value ≡ ptype) }
+        ensures made { IfOk result (IsMadeOf (integer_type ptype nullability) (raw_integer ptype (whole_of value))) }
+        ensures valid { IfOk result IsValid }
+        ensures refused { IfErr result (λ e. e ≡ VortexError.WrongPType) }
+    {
+        if value.ptype() != ptype {
+            return Err(VortexError::WrongPType);
+        }
+        Ok(Scalar {
+            dtype: DType::Primitive(ptype, nullability),
+            value: Some(ScalarValue::Primitive(value)),
+        })
+    }
+
+    /// The scalar of a text. Takes no memory.
+    ///
+    /// Ports `Scalar::utf8`.
+    pub fn utf8(text: BufferString, nullability: Nullability) -> Scalar
+        ensures made { IsMadeOf (utf8_type nullability) (raw_text text) result }
+        ensures valid { IsValid result }
+    {
+        Scalar {
+            dtype: DType::Utf8(nullability),
+            value: Some(ScalarValue::Utf8(text)),
+        }
+    }
+
+    /// The scalar of the text that these bytes are. Takes no memory.
+    ///
+    /// `NotUtf8` exactly where they are not UTF-8. Ports `Scalar::try_utf8`.
+    pub fn try_utf8(buffer: ByteBuffer, nullability: Nullability) -> Result<Scalar, VortexError>
+        ensures ok { IsOk result ↔ IsUtf8 buffer }
+        ensures made { IfOk result (IsMadeOf (utf8_type nullability) (raw_text buffer)) }
+        ensures valid { IfOk result IsValid }
+        ensures refused { IfErr result (λ e. e ≡ VortexError.NotUtf8) }
+    {
+        let text = BufferString::try_from(buffer)?;
+        Ok(Scalar::utf8(text, nullability))
+    }
+
+    /// The scalar of a string of bytes. Takes no memory.
+    ///
+    /// Ports `Scalar::binary`.
+    pub fn binary(buffer: ByteBuffer, nullability: Nullability) -> Scalar
+        ensures made { IsMadeOf (binary_type nullability) (raw_bytes buffer) result }
+        ensures valid { IsValid result }
+    {
+        Scalar {
+            dtype: DType::Binary(nullability),
+            value: Some(ScalarValue::Binary(buffer)),
+        }
+    }
+
+    /// The scalar of an extension type whose storage is this scalar. Takes no memory.
+    ///
+    /// `WrongChild` with 0 exactly where the storage's type is not exactly the extension's storage
+    /// type, nullability included. Ports `Scalar::extension_ref`, which panics there.
+    pub fn extension_ref(ext_dtype: ExtDType, storage: Scalar) -> Result<Scalar, VortexError>
+        requires { IsValid storage }
+        ensures refused { RefusesExactly (child_cause 0 (ext_of ext_dtype).storage (scalar_type storage)) result }
+        ensures made { IfOk result (IsMadeOf (extension_over (ext_of ext_dtype)) (scalar_raw storage)) }
+        ensures valid { IfOk result IsValid }
+    {
+        if let Some(cause) = child_cause(0, ext_dtype.storage_dtype(), &storage.dtype) {
+            return Err(cause);
+        }
+        Ok(Scalar {
+            dtype: DType::Extension(ext_dtype),
+            value: storage.value,
+        })
+    }
+
+    /// The scalar of a union with this child under this id. A null child makes an inner null, and the
+    /// union itself is not null.
+    ///
+    /// `UnknownTypeId` where no variant has the id, else `WrongChild` with the variant's place where
+    /// the child's type is not exactly the variant's; both before any memory is asked for. Else
+    /// `OutOfMemory` where there is none. Ports `Scalar::union`.
+    pub fn union(
+        alloc: Global,
+        variants: UnionVariants,
+        type_id: u8,
+        child: Scalar,
+        nullability: Nullability,
+    ) -> Result<Scalar, VortexError>
+        requires { IsValid child }
+        ensures refused { RefusesOrNoMemory (union_cause (variants_of variants) type_id (scalar_type child)) result }
+        ensures made { IfOk result (IsMadeOf (union_of (variants_of variants) nullability) (raw_union type_id (scalar_raw child))) }
+        ensures valid { IfOk result IsValid }
+    {
+        if let Some(cause) = union_cause(&variants, type_id, &child.dtype) {
+            return Err(cause);
+        }
+        let child = boxed(alloc, child.value)?;
+        Ok(Scalar {
+            dtype: DType::Union(variants, nullability),
+            value: Some(ScalarValue::Union(UnionValue { type_id, child })),
+        })
+    }
+
+    /// The scalar of a variant that holds this scalar, its exact type included.
+    ///
+    /// `VariantNull` exactly where the value is a null of a type other than Null, and this before any
+    /// memory is asked for; else `OutOfMemory` where there is none. Ports `Scalar::variant`.
+    pub fn variant(alloc: Global, value: Scalar) -> Result<Scalar, VortexError>
+        requires { IsValid value }
+        ensures refused { RefusesOrNoMemory (inside_cause (scalar_type value) (scalar_raw value)) result }
+        ensures made { IfOk result (IsMadeOf (variant_type NonNullable) (raw_variant (scalar_type value) (scalar_raw value))) }
+        ensures valid { IfOk result IsValid }
+    {
+        if value.value.is_none() && !matches!(value.dtype, DType::Null) {
+            return Err(VortexError::VariantNull);
+        }
+        Ok(Scalar {
+            dtype: DType::Variant(Nullability::NonNullable),
+            value: Some(ScalarValue::Variant(Box::new(alloc, value)?)),
+        })
+    }
+}
+
+/// The raw value in memory of its own.
+fn boxed(
+    alloc: Global,
+    value: Option<ScalarValue>,
+) -> Result<Option<Box<ScalarValue>>, VortexError>
+    ensures { MatchResult result (λ kept. option_map (λ b. b.value) kept ≡ value) (λ e. e ≡ OutOfMemory) }
+{
+    match value {
+        Some(value) => Ok(Some(Box::new(alloc, value)?)),
+        None => Ok(None),
+    }
+}
+
+/// The refusal of a child whose type is not exactly the expected one.
+fn child_cause(index: usize, expected: &DType, found: &DType) -> Option<VortexError>
+    ensures { result ≡ child_cause index (type_of expected.now) (type_of found.now) }
+{
+    if found == expected {
+        None
+    } else {
+        Some(VortexError::WrongChild { index })
+    }
+}
+
+/// The refusal of a child of this type under this id.
+fn union_cause(variants: &UnionVariants, type_id: u8, found: &DType) -> Option<VortexError>
+    ensures { result ≡ union_cause (variants_of variants.now) type_id (type_of found.now) }
+{
+    let Some(index) = variants.tag_to_child_index(type_id) else {
+        return Some(VortexError::UnknownTypeId { id: type_id });
+    };
+    let Some(expected) = variants.variant_by_index(index) else {
+        return Some(VortexError::UnknownTypeId { id: type_id });
+    };
+    child_cause(index, expected, found)
+}

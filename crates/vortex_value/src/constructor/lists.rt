@@ -1,0 +1,126 @@
+//! Makers of lists, of any length and of one length.
+
+ghost use Rattle.std.specs.Prelude.{◌≡◌, None, Some, length, map, IfOk, IfErr, MatchResult};
+ghost use Rattle.std.specs.List.{All};
+ghost use Rattle.vortex_dtype.specs.TypeOf.{type_of};
+ghost use Rattle.vortex_dtype.specs.TypeTree.{list_type, fixed_size_list_type};
+ghost use Rattle.vortex_dtype.specs.declared.error.VortexError.TheVariants.{OutOfMemory};
+ghost use Rattle.vortex_value.specs.Makers.{RefusesOrNoMemory, count_cause, list_cause, raws_in, wrong_place};
+ghost use Rattle.vortex_value.specs.RawOf.{value_tree};
+ghost use Rattle.vortex_value.specs.RawTree.{raw_tuple, no_raws};
+ghost use Rattle.vortex_value.specs.Scalars.{IsMadeOf, IsValid};
+
+use crate::scalars::Scalar;
+use crate::values::ScalarValue;
+use std::alloc::Global;
+use vortex_dtype::{DType, Nullability, VortexError};
+
+impl Scalar {
+    /// The list of these children.
+    ///
+    /// `WrongChild` with the first child whose type is not exactly the element type, nullability
+    /// included; else `TooMany` where there are more than `u32::MAX`; both before any memory is asked
+    /// for. Else `OutOfMemory` where there is none. Ports `Scalar::list`, which panics there.
+    pub fn list(
+        alloc: Global,
+        element_dtype: DType,
+        children: Vec<Scalar>,
+        nullability: Nullability,
+    ) -> Result<Scalar, VortexError>
+        requires { All IsValid children.items }
+        ensures refused { RefusesOrNoMemory (list_cause (type_of element_dtype) children.items) result }
+        ensures made { IfOk result (IsMadeOf (list_type (type_of element_dtype) nullability) (raw_tuple (raws_in children.items))) }
+        ensures valid { IfOk result IsValid }
+    {
+        match list_size(&element_dtype, &children) {
+            Err(cause) => Err(cause),
+            Ok(_) => Ok(Scalar {
+                dtype: DType::List(Box::new(alloc, element_dtype)?, nullability),
+                value: Some(tuple_of(alloc, children)?),
+            }),
+        }
+    }
+
+    /// The list of fixed size of these children, whose size is their number.
+    ///
+    /// Refuses as `list` does. Ports `Scalar::fixed_size_list`, which panics there.
+    pub fn fixed_size_list(
+        alloc: Global,
+        element_dtype: DType,
+        children: Vec<Scalar>,
+        nullability: Nullability,
+    ) -> Result<Scalar, VortexError>
+        requires { All IsValid children.items }
+        ensures refused { RefusesOrNoMemory (list_cause (type_of element_dtype) children.items) result }
+        ensures made { IfOk result (IsMadeOf (fixed_size_list_type (type_of element_dtype) (length children.items) nullability) (raw_tuple (raws_in children.items))) }
+        ensures valid { IfOk result IsValid }
+    {
+        match list_size(&element_dtype, &children) {
+            Err(cause) => Err(cause),
+            Ok(size) => Ok(Scalar {
+                dtype: DType::FixedSizeList(Box::new(alloc, element_dtype)?, size, nullability),
+                value: Some(tuple_of(alloc, children)?),
+            }),
+        }
+    }
+
+    /// The list of no children.
+    ///
+    /// `OutOfMemory` where there is none. Ports `Scalar::list_empty`.
+    pub fn list_empty(
+        alloc: Global,
+        element_dtype: DType,
+        nullability: Nullability,
+    ) -> Result<Scalar, VortexError>
+        ensures refused { IfErr result (λ e. e ≡ OutOfMemory) }
+        ensures made { IfOk result (IsMadeOf (list_type (type_of element_dtype) nullability) (raw_tuple no_raws)) }
+        ensures valid { IfOk result IsValid }
+    {
+        Ok(Scalar {
+            dtype: DType::List(Box::new(alloc, element_dtype)?, nullability),
+            value: Some(ScalarValue::Tuple(Vec::new(alloc))),
+        })
+    }
+}
+
+/// How many children a list of this element type has, or why they make none.
+fn list_size(element: &DType, children: &[Scalar]) -> Result<u32, VortexError>
+    ensures { MatchResult result
+        (λ size. (size ≡ length children.now) × (list_cause (type_of element.now) children.now ≡ None))
+        (λ e. list_cause (type_of element.now) children.now ≡ Some e) }
+{
+    match wrong_place(element, children) {
+        Some(index) => Err(VortexError::WrongChild { index }),
+        None => as_size(children.len()),
+    }
+}
+
+/// The place of the first child whose type is not exactly the expected one.
+fn wrong_place(expected: &DType, children: &[Scalar]) -> Option<usize>
+    ensures { result ≡ wrong_place (type_of expected.now) children.now }
+{
+    children.iter().position(|child| child.dtype != *expected)
+}
+
+/// The number of children as a list's size.
+fn as_size(count: usize) -> Result<u32, VortexError>
+    ensures { MatchResult result
+        (λ size. (size ≡ count) × (count_cause count ≡ None))
+        (λ e. count_cause count ≡ Some e) }
+{
+    if count > u32::MAX as usize {
+        return Err(VortexError::TooMany);
+    }
+    Ok(count as u32)
+}
+
+/// The raw value of which these children are the parts.
+pub(super) fn tuple_of(alloc: Global, children: Vec<Scalar>) -> Result<ScalarValue, VortexError>
+    ensures { MatchResult result (λ value. value_tree value ≡ raw_tuple (raws_in children.items)) (λ e. e ≡ OutOfMemory) }
+{
+    let mut values = Vec::with_capacity(alloc, children.len())?;
+    for child in children {
+        values.push(child.value)?;
+    }
+    Ok(ScalarValue::Tuple(values))
+}

@@ -1,0 +1,97 @@
+//! The maker of structs.
+
+ghost use Rattle.std.specs.Prelude.{◌≡◌, ◌⊎◌, None, Some, not, position, IfOk, IfErr, IsErrAnd, MatchOption};
+ghost use Rattle.std.specs.Iterator.{IsFiniteIterable};
+ghost use Rattle.std.specs.List.{All, zip};
+ghost use Rattle.vortex_dtype.specs.Parts.{fields_in};
+ghost use Rattle.vortex_dtype.specs.TypeEquality.{tree_eq};
+ghost use Rattle.vortex_dtype.specs.TypeOf.{type_of, fields_of};
+ghost use Rattle.vortex_dtype.specs.declared.error.VortexError.TheVariants.{OutOfMemory, WrongKind};
+ghost use Rattle.vortex_value.specs.Makers.{EachItem, GivesAll, RefusesOrNoMemory, fields_cause, raws_in, struct_cause};
+ghost use Rattle.vortex_value.specs.RawTree.{raw_tuple};
+ghost use Rattle.vortex_value.specs.Scalars.{IsMadeOf, IsValid, scalar_type};
+
+use super::lists::tuple_of;
+use crate::scalars::Scalar;
+use std::alloc::Global;
+use vortex_dtype::{DType, StructFields, VortexError};
+
+impl Scalar {
+    /// The struct of these children, in the order of its fields.
+    ///
+    /// `WrongKind` exactly where the type is no struct, before any child is taken. Then the children
+    /// are kept, which may find no memory; then `WrongLength` where they are not as many as the fields;
+    /// then `WrongChild` with the first whose type is not exactly its field's, nullability included.
+    /// Else `OutOfMemory` where there is none. Ports `Scalar::struct_`, which panics there.
+    pub fn struct_<I: IntoIterator<Item = Scalar>>(
+        alloc: Global,
+        dtype: DType,
+        children: I,
+    ) -> Result<Scalar, VortexError>
+        requires finite { IsFiniteIterable I.into_iter_gives I.IntoIter.can_next I.IntoIter.remaining children }
+        requires children { EachItem I.into_iter_gives I.IntoIter.next_gives children IsValid }
+        ensures refused { MatchOption (fields_in (type_of dtype))
+            (IsErrAnd result (λ e. e ≡ WrongKind))
+            (λ fields. IfErr result (λ e. (e ≡ OutOfMemory) ⊎ GivesAll I.into_iter_gives I.IntoIter.next_gives children (λ items. fields_cause fields.types items ≡ Some e))) }
+        ensures made { IfOk result (λ x. GivesAll I.into_iter_gives I.IntoIter.next_gives children
+            (λ items. (struct_cause (fields_in (type_of dtype)) items ≡ None) × IsMadeOf (type_of dtype) (raw_tuple (raws_in items)) x)) }
+        ensures valid { IfOk result IsValid }
+    {
+        let children = children.into_iter();
+        if dtype.as_struct_fields_opt().is_none() {
+            return Err(VortexError::WrongKind);
+        }
+        let children: Vec<Scalar> = children.collect(alloc)?;
+        struct_from(alloc, dtype, children)
+    }
+}
+
+/// The struct of these children, or why they make none.
+fn struct_from(alloc: Global, dtype: DType, children: Vec<Scalar>) -> Result<Scalar, VortexError>
+    requires { All IsValid children.items }
+    ensures refused { RefusesOrNoMemory (struct_cause (fields_in (type_of dtype)) children.items) result }
+    ensures made { IfOk result (IsMadeOf (type_of dtype) (raw_tuple (raws_in children.items))) }
+    ensures valid { IfOk result IsValid }
+{
+    match struct_cause(&dtype, &children) {
+        Some(cause) => Err(cause),
+        None => Ok(Scalar {
+            dtype,
+            value: Some(tuple_of(alloc, children)?),
+        }),
+    }
+}
+
+/// Why these children make no struct of this type.
+fn struct_cause(dtype: &DType, children: &[Scalar]) -> Option<VortexError>
+    ensures { result ≡ struct_cause (fields_in (type_of dtype.now)) children.now }
+{
+    match dtype.as_struct_fields_opt() {
+        Some(fields) => fields_cause(fields, children),
+        None => Some(VortexError::WrongKind),
+    }
+}
+
+/// Why these children do not fit these fields.
+fn fields_cause(fields: &StructFields, children: &[Scalar]) -> Option<VortexError>
+    ensures { result ≡ fields_cause (fields_of fields.now).types children.now }
+{
+    if fields.nfields() != children.len() {
+        return Some(VortexError::WrongLength {
+            expected: fields.nfields(),
+            found: children.len(),
+        });
+    }
+    match wrong_place(fields.dtypes(), children) {
+        Some(index) => Some(VortexError::WrongChild { index }),
+        None => None,
+    }
+}
+
+/// The place of the first child whose type is not exactly its field's.
+fn wrong_place(dtypes: &[DType], children: &[Scalar]) -> Option<usize>
+    ensures { result ≡ position (λ pair. not (tree_eq (scalar_type pair.1) (type_of pair.0))) (zip dtypes.now children.now) }
+{
+    let mut pairs = dtypes.iter().zip(children);
+    pairs.position(|(dtype, child)| child.dtype != *dtype)
+}
