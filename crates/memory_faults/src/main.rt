@@ -3,10 +3,11 @@
 //! every case with each growth of memory refused in turn.
 //!
 //! The word `list` prints the names of the cases, one a line. A name that ends in `_without_memory`
-//! is that of a call that promises to take none. No word, or another one, does nothing.
+//! is that of a call that takes none. No word, or another one, does nothing.
 #![tactic(auto)]
 
 mod buffers;
+mod makers;
 mod outcome;
 mod same;
 mod samples;
@@ -38,7 +39,8 @@ fn main(rt: HostRuntime) -> ExitCode {
 fn print_names(rt: &impl Print) -> io::Result<()> {
     print_each(rt, &buffers::NAMES)?;
     print_each(rt, &types::NAMES)?;
-    print_each(rt, &values::NAMES)
+    print_each(rt, &values::NAMES)?;
+    print_each(rt, &makers::NAMES)
 }
 
 /// Prints these names, one a line.
@@ -53,8 +55,27 @@ fn print_each(rt: &impl Print, names: &[&str]) -> io::Result<()> {
 fn status_of(alloc: Global, name: &str) -> u8 {
     match run(alloc, name) {
         Some(tried) => outcome_of(tried).status(),
+        None if is_listed(name) => Outcome::Wrong.status(),
         None => Outcome::Right.status(),
     }
+}
+
+/// Whether a case of this name is listed.
+fn is_listed(name: &str) -> bool {
+    stands_in(&buffers::NAMES, name)
+        || stands_in(&types::NAMES, name)
+        || stands_in(&values::NAMES, name)
+        || stands_in(&makers::NAMES, name)
+}
+
+/// Whether this name is among these.
+fn stands_in(names: &[&str], name: &str) -> bool {
+    for listed in names {
+        if *listed == name {
+            return true;
+        }
+    }
+    false
 }
 
 /// Runs the case of this name.
@@ -65,5 +86,8 @@ fn run(alloc: Global, name: &str) -> Option<Tried> {
     if let Some(tried) = types::run(alloc, name) {
         return Some(tried);
     }
-    values::run(alloc, name)
+    if let Some(tried) = values::run(alloc, name) {
+        return Some(tried);
+    }
+    makers::run(alloc, name)
 }

@@ -26,7 +26,7 @@ impl Outcome {
         }
     }
 
-    /// The same for a call that promises to take no memory: want of memory is wrong.
+    /// The same for a call that takes no memory: want of memory is wrong.
     pub fn without_memory(self) -> Outcome {
         match self {
             Outcome::Refused => Outcome::Wrong,

@@ -12,7 +12,7 @@ use vortex_dtype::{
 };
 
 pub const NAMES: [&str; 20] = [
-    "field_name_clone",
+    "field_name_clone_without_memory",
     "struct_fields_new_without_memory",
     "struct_fields_project",
     "struct_fields_project_of_a_missing_name_without_memory",
@@ -37,7 +37,7 @@ pub const NAMES: [&str; 20] = [
 /// Runs the case of this name.
 pub fn run(alloc: Global, name: &str) -> Option<Tried> {
     match name {
-        "field_name_clone" => Some(clone_of_a_name(alloc)),
+        "field_name_clone_without_memory" => Some(clone_of_a_name(alloc)),
         "struct_fields_new_without_memory" => Some(new_fields(alloc)),
         "struct_fields_project" => Some(project(alloc)),
         "struct_fields_project_of_a_missing_name_without_memory" => Some(project_missing(alloc)),
@@ -65,7 +65,7 @@ fn clone_of_a_name(alloc: Global) -> Tried {
     let given = name(alloc, FIRST)?;
     let kept = name(alloc, FIRST)?;
     let answer = given.clone(alloc);
-    Ok(judge_equal(answer, &kept, given == kept))
+    Ok(judge_equal(answer, &kept, given == kept).without_memory())
 }
 
 fn new_fields(alloc: Global) -> Tried {

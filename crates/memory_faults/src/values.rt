@@ -14,8 +14,8 @@ use vortex_value::{Scalar, ScalarValue, UnionValue};
 pub const NAMES: [&str; 21] = [
     "scalar_value_clone_of_a_truth_value_without_memory",
     "scalar_value_clone_of_an_integer_without_memory",
-    "scalar_value_clone_of_a_text",
-    "scalar_value_clone_of_bytes",
+    "scalar_value_clone_of_a_text_without_memory",
+    "scalar_value_clone_of_bytes_without_memory",
     "scalar_value_clone_of_a_tuple",
     "scalar_value_clone_of_a_union",
     "scalar_value_clone_of_a_variant",
@@ -40,8 +40,8 @@ pub fn run(alloc: Global, name: &str) -> Option<Tried> {
     match name {
         "scalar_value_clone_of_a_truth_value_without_memory" => Some(Ok(clone_of_truth(alloc))),
         "scalar_value_clone_of_an_integer_without_memory" => Some(Ok(clone_of_number(alloc))),
-        "scalar_value_clone_of_a_text" => Some(clone_of_text(alloc)),
-        "scalar_value_clone_of_bytes" => Some(clone_of_bytes(alloc)),
+        "scalar_value_clone_of_a_text_without_memory" => Some(clone_of_text(alloc)),
+        "scalar_value_clone_of_bytes_without_memory" => Some(clone_of_bytes(alloc)),
         "scalar_value_clone_of_a_tuple" => Some(clone_of_tuple(alloc)),
         "scalar_value_clone_of_a_union" => Some(clone_of_union(alloc)),
         "scalar_value_clone_of_a_variant" => Some(clone_of_variant(alloc)),
@@ -87,13 +87,13 @@ fn clone_of_number(alloc: Global) -> Outcome {
 fn clone_of_text(alloc: Global) -> Tried {
     let given = ScalarValue::Utf8(text(alloc)?);
     let kept = ScalarValue::Utf8(text(alloc)?);
-    Ok(clone_of(alloc, given, kept))
+    Ok(clone_of(alloc, given, kept).without_memory())
 }
 
 fn clone_of_bytes(alloc: Global) -> Tried {
     let given = ScalarValue::Binary(bytes(alloc)?);
     let kept = ScalarValue::Binary(bytes(alloc)?);
-    Ok(clone_of(alloc, given, kept))
+    Ok(clone_of(alloc, given, kept).without_memory())
 }
 
 fn clone_of_tuple(alloc: Global) -> Tried {
