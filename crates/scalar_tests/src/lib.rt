@@ -10,6 +10,8 @@ mod fixtures;
 #[cfg(test)]
 mod makers;
 #[cfg(test)]
+mod tour;
+#[cfg(test)]
 mod types;
 #[cfg(test)]
 mod validity;
