@@ -1,5 +1,6 @@
 // A library that is preloaded into a program and refuses one growth of its memory: the one whose number FAIL_ALLOC
-// gives, counted from 1 over all calls of malloc, calloc and realloc. The file that FAIL_MARK names then holds a byte.
+// gives, counted from 1 over all calls of malloc, calloc and realloc. Where FAIL_REST is set it refuses all later ones
+// too. The file that FAIL_MARK names then holds a byte.
 
 #include <fcntl.h>
 #include <stdlib.h>
@@ -18,14 +19,19 @@ static void leave_mark(void) {
     close(mark);
 }
 
-// Whether this growth is the one to refuse.
+// Whether this growth is one to refuse.
 static int refuse(void) {
     static long left = -1;
     if (left < 0) {
         const char *count = getenv("FAIL_ALLOC");
         left = count ? atol(count) : 0;
     }
-    if (left == 0 || --left > 0) return 0;
+    if (left == 0) return 0;
+    if (left > 1) {
+        left--;
+        return 0;
+    }
+    if (!getenv("FAIL_REST")) left = 0;
     leave_mark();
     return 1;
 }
