@@ -34,31 +34,7 @@ with_refusal() {
 }
 
 build_refusals() {
-    cat > "$folder/refuse.c" <<'C'
-#include <fcntl.h>
-#include <stdlib.h>
-#include <unistd.h>
-
-void *__libc_malloc(size_t size);
-void *__libc_realloc(void *old, size_t size);
-
-// Whether this growth is the one to refuse; the mark says that it was.
-static int refuse(void) {
-    static long left = -1;
-    if (left < 0) {
-        const char *count = getenv("FAIL_ALLOC");
-        left = count ? atol(count) : 0;
-    }
-    if (left == 0 || --left > 0) return 0;
-    int mark = open(getenv("FAIL_MARK"), O_CREAT | O_WRONLY, 0600);
-    if (mark >= 0) close(mark);
-    return 1;
-}
-
-void *malloc(size_t size) { return refuse() ? 0 : __libc_malloc(size); }
-void *realloc(void *old, size_t size) { return refuse() ? 0 : __libc_realloc(old, size); }
-C
-    cc -shared -fPIC -O1 -o "$folder/refuse.so" "$folder/refuse.c"
+    cc -shared -fPIC -O1 -o "$folder/refuse.so" "$top/tests/refuse_nth.c"
 }
 
 "$top/scalar_rows" --build < /dev/null

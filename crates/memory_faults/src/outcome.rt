@@ -3,7 +3,7 @@
 use vortex_dtype::VortexError;
 
 /// What a case comes to. Each is a status that the program ends with.
-#[derive(Clone, Copy, Debug, PartialEq, Eq)]
+#[derive(Clone, Copy)]
 pub enum Outcome {
     /// The call answered as with ample memory, and left its inputs as they were.
     Right,

@@ -9,9 +9,12 @@ use vortex_value::Scalar;
 /// The refusal shows the first element as a wrong value.
 fn blames_the_first_element(made: &Result<Scalar, VortexError>) -> bool {
     match made {
-        Err(VortexError::Invalid { path, breach: Breach::WrongValue }) => {
-            path.steps() == [Step::Element(0)].as_slice()
-        }
+        Err(
+            VortexError::Invalid {
+                path,
+                breach: Breach::WrongValue,
+            },
+        ) => { path.steps() == [Step::Element(0)].as_slice() }
         _ => false,
     }
 }
@@ -22,7 +25,12 @@ fn list_as_i8s(alloc: Global, thousand: Scalar) -> Result<Result<Scalar, VortexE
 {
     let i8s = DType::Primitive(PType::I8, Nullability::NonNullable);
     let i32s = DType::Primitive(PType::I32, Nullability::NonNullable);
-    let list = Scalar::list(alloc, i32s, vec![in alloc; thousand]?, Nullability::NonNullable)?;
+    let list = Scalar::list(
+        alloc,
+        i32s,
+        vec![in alloc; thousand]?,
+        Nullability::NonNullable,
+    )?;
     let (_, value) = list.clone(alloc)?.into_parts();
     let of_i8 = DType::List(Box::new(alloc, i8s)?, Nullability::NonNullable);
     Ok(Scalar::try_new(alloc, of_i8, value))
@@ -33,7 +41,9 @@ fn the_tour(rt: HostRuntime) {
     let i8s = DType::Primitive(PType::I8, Nullability::NonNullable);
     let i16s = DType::Primitive(PType::I16, Nullability::NonNullable);
     let thousand = Scalar::primitive(1000i32, Nullability::NonNullable);
-    let kept = thousand.cast(rt.alloc(), &i16s).expect(&rt, "the same number");
+    let kept = thousand
+        .cast(rt.alloc(), &i16s)
+        .expect(&rt, "the same number");
     assert!(rt; kept == Scalar::primitive(1000i16, Nullability::NonNullable));
     let refused = thousand.cast(rt.alloc(), &i8s);
     assert!(rt; matches!(refused, Err(VortexError::CannotCast)));
