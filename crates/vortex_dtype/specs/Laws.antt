@@ -1,5 +1,5 @@
 -- The laws of types: equality and sameness are equivalences, and a type made nullable is the same type.
-use Rattle.std.specs.Prelude.{◌≡◌, ◌↔◌, IsTrue}
+use Rattle.std.specs.Prelude.{◌≡◌, ◌↔◌, Bool, IsTrue}
 use Rattle.vortex_dtype.specs.TypeTree.{TypeTree, Same, IsNullable, as_nullable, erase}
 use Rattle.vortex_dtype.specs.TypeEquality.{tree_eq}
 use Rattle.vortex_dtype.specs.Feeds.{tree_feed}
@@ -7,6 +7,14 @@ use Rattle.vortex_dtype.specs.Feeds.{tree_feed}
 -- the test of equality, at which `==` is proved, passes exactly where the trees are one
 abbrev pub EqualityDecides : Type 0
 EqualityDecides = (s t : TypeTree) → IsTrue (tree_eq s t) ↔ (s ≡ t)
+
+-- a test of equality passes exactly where its two sides are seen as one
+abbrev pub EqualsBy : {A B : Type 0} → (A → B) → (A → A → Bool) → Type 0
+EqualsBy {A} seen eq = (x y : A) → IsTrue (eq x y) ↔ (seen x ≡ seen y)
+
+-- equal sides feed a hasher the same
+abbrev pub AgreesWithHash : {A F : Type 0} → (A → A → Bool) → (A → F) → Type 0
+AgreesWithHash {A} eq fed = (x y : A) → IsTrue (eq x y) → fed x ≡ fed y
 
 -- equality of types is reflexive, symmetric and transitive
 abbrev pub EqualityIsEquivalence : Type 0

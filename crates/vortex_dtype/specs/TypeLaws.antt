@@ -131,9 +131,6 @@ mutual
 pub tree_eq-Decides : (s t : TypeTree) → Decides (tree_eq s t) (s ≡ t)
 tree_eq-Decides s t = (tree_eq-same s t, λ e. subst (λ u. tree_eq s u ≡ true) e (tree_eq-refl s))
 
-pub trees_eq-Decides : (ss ts : TypeTrees) → Decides (trees_eq ss ts) (ss ≡ ts)
-trees_eq-Decides ss ts = (trees_eq-same ss ts, λ e. subst (λ us. trees_eq ss us ≡ true) e (trees_eq-refl ss))
-
 -- where nullability counts, nothing is erased
 mutual
   pub trim-exact : (t : TypeTree) → trim true t ≡ t

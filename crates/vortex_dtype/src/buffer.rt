@@ -82,12 +82,14 @@ impl ByteBuffer {
         self.bytes.is_empty()
     }
 
-    /// The allocator that the buffer was made with, and that its copies and slices take.
+    /// The allocator that the buffer was made with, and that its copies and slices take. Of this port
+    /// alone.
     pub fn allocator(&self) -> Global {
         self.alloc
     }
 
-    /// The bytes of a range, or `OutOfMemory`. The caller knows that the range lies within the buffer.
+    /// The bytes of a range, shared. `OutOfMemory` where they have as many owners as can be counted.
+    /// The caller knows that the range lies within the buffer.
     ///
     /// Ports `ByteBuffer::slice`, which panics outside the buffer.
     pub fn slice(&self, range: Range<usize>) -> Result<ByteBuffer, VortexError>
@@ -102,7 +104,8 @@ impl ByteBuffer {
         })
     }
 
-    /// A buffer of the same bytes, or `OutOfMemory`.
+    /// A buffer of the same bytes, shared. `OutOfMemory` where they have as many owners as can be
+    /// counted.
     ///
     /// Ports `ByteBuffer::clone`.
     pub fn clone(&self) -> Result<ByteBuffer, VortexError>
@@ -208,6 +211,7 @@ impl BufferString {
     pub fn as_str(&self) -> &str
         ensures { result.now ≡ self.now }
     {
+        // The invariant of the type: the bytes are UTF-8.
         unsafe { str::from_utf8_unchecked(self.buffer.as_slice()) }
     }
 
@@ -250,7 +254,7 @@ impl BufferString {
         buffer
     }
 
-    /// The same text, or `OutOfMemory`.
+    /// The same text, shared. `OutOfMemory` where it has as many owners as can be counted.
     ///
     /// Ports `BufferString::clone`.
     pub fn clone(&self) -> Result<BufferString, VortexError>

@@ -62,7 +62,7 @@ pub enum TypeCause {
 
 /// The steps from a value to the part that is meant, the outermost first.
 ///
-/// A contract sees it as the list of its steps.
+/// A contract sees it as the list of its steps. Of this port alone: upstream's refusals are messages.
 #[derive(Debug, Drop)]
 pub struct Path {
     steps: Vec<Step>,
@@ -169,6 +169,7 @@ pub enum VortexError {
     BadType { cause: TypeCause },
 }
 
+/// Want of memory, whatever was asked for.
 impl From<AllocError> for VortexError {
     ghost from_gives = { λ _ e. e ≡ OutOfMemory };
 
@@ -177,6 +178,7 @@ impl From<AllocError> for VortexError {
     }
 }
 
+/// Want of memory; what was to be kept is dropped.
 impl<T: Drop> From<AllocFailed<T>> for VortexError {
     ghost from_gives = { λ _ e. e ≡ OutOfMemory };
 

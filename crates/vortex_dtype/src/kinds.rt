@@ -8,7 +8,9 @@ ghost use Rattle.vortex_dtype.specs.Kinds.{byte_width_of, is_signed_kind};
 /// Ports `vortex_array::dtype::Nullability`.
 #[derive(Clone, Copy, Debug, PartialEq, Eq, Hash)]
 pub enum Nullability {
+    /// It does not.
     NonNullable,
+    /// It does.
     Nullable,
 }
 
@@ -17,13 +19,21 @@ pub enum Nullability {
 /// Ports the integer variants of `vortex_array::dtype::PType`.
 #[derive(Clone, Copy, Debug, PartialEq, Eq, Hash)]
 pub enum PType {
+    /// Unsigned of 1 byte.
     U8,
+    /// Unsigned of 2 bytes.
     U16,
+    /// Unsigned of 4 bytes.
     U32,
+    /// Unsigned of 8 bytes.
     U64,
+    /// Signed of 1 byte.
     I8,
+    /// Signed of 2 bytes.
     I16,
+    /// Signed of 4 bytes.
     I32,
+    /// Signed of 8 bytes.
     I64,
 }
 

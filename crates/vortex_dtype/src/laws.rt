@@ -1,6 +1,10 @@
 //! Laws of types, each the contract of a function that does nothing.
 
-ghost use Rattle.vortex_dtype.specs.Laws.{EqualityDecides, EqualityIsEquivalence, SameIsEquivalence, NullableIsSame, SameFeedSame};
+ghost use Rattle.vortex_dtype.specs.Laws.{AgreesWithHash, EqualityDecides, EqualityIsEquivalence, EqualsBy, SameIsEquivalence, NullableIsSame, SameFeedSame};
+ghost use Rattle.vortex_dtype.specs.TypeOf.{ext_of, fields_of, map_of, type_of, variants_of};
+
+use crate::types::{DType, ExtDType, MapDType, StructFields, UnionVariants};
+use std::hash::Hash;
 
 /// The test that `==` of types is proved to be passes exactly where the types are one tree.
 pub fn equality_decides()
@@ -10,6 +14,25 @@ pub fn equality_decides()
 /// Equality of types is an equivalence.
 pub fn equality_is_an_equivalence()
     ensures { EqualityIsEquivalence }
+{}
+
+/// Types are equal exactly where their trees are one, nullability counting, and so are the parts of
+/// maps, structs, unions and extensions where they hold the same.
+pub fn equality()
+    ensures types { EqualsBy type_of ⟦<DType as PartialEq>⟧.eq }
+    ensures maps { EqualsBy map_of ⟦<MapDType as PartialEq>⟧.eq }
+    ensures structs { EqualsBy fields_of ⟦<StructFields as PartialEq>⟧.eq }
+    ensures unions { EqualsBy variants_of ⟦<UnionVariants as PartialEq>⟧.eq }
+    ensures extensions { EqualsBy ext_of ⟦<ExtDType as PartialEq>⟧.eq }
+{}
+
+/// Equal types, and equal parts, feed every hasher the same.
+pub fn hash_agrees()
+    ensures types { AgreesWithHash ⟦<DType as PartialEq>⟧.eq ⟦<DType as Hash>⟧.hash_input }
+    ensures maps { AgreesWithHash ⟦<MapDType as PartialEq>⟧.eq ⟦<MapDType as Hash>⟧.hash_input }
+    ensures structs { AgreesWithHash ⟦<StructFields as PartialEq>⟧.eq ⟦<StructFields as Hash>⟧.hash_input }
+    ensures unions { AgreesWithHash ⟦<UnionVariants as PartialEq>⟧.eq ⟦<UnionVariants as Hash>⟧.hash_input }
+    ensures extensions { AgreesWithHash ⟦<ExtDType as PartialEq>⟧.eq ⟦<ExtDType as Hash>⟧.hash_input }
 {}
 
 /// To be the same type up to nullability is an equivalence.

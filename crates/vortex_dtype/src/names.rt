@@ -47,7 +47,7 @@ impl FieldName {
         self.text.as_str()
     }
 
-    /// The same name, or `OutOfMemory`.
+    /// The same name, its text shared. `OutOfMemory` where that has as many owners as can be counted.
     ///
     /// Ports `FieldName::clone`.
     pub fn clone(&self, _alloc: Global) -> Result<FieldName, VortexError>

@@ -186,7 +186,7 @@ impl DType {
 
     /// Feeds what the type says once every nullability at every depth is erased.
     ///
-    /// Ports the hash that upstream's scalars take of their type.
+    /// Ports `DType::hash_ignore_nullability`.
     pub fn hash_ignore_nullability<H: Hasher>(&self, state: &mut H)
         ensures { state.new ≡ fold H.write state.old (tree_feed (erase (type_of self.now))) }
     {

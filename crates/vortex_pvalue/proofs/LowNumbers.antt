@@ -94,14 +94,6 @@ one_low k z r s a b =
 pub low_is_unique : LowIsUnique
 low_is_unique k z r h = one_low k z r (low k z) h (low_exists k z)
 
--- the low number is of the kind
-pub low-in_range : (k : PType) (z : ℤ) → InRange k (low k z)
-low-in_range k z = (low_exists k z).in_range
-
--- a number of the kind is its own low number
-pub low_same : (k : PType) (z : ℤ) → InRange k z → low k z ≡ z
-low_same k z h = sym (low_is_unique k z z (record { in_range = h; differs = (pos 0, let none = zero-mul (2 ^ bits_of k) in omega (arith, ints)) }))
-
 -- a number of a kind, reinterpreted in a kind of the same width and back, is itself
 pub reinterprets_back : ReinterpretsBack
 reinterprets_back k l z w h =

@@ -9,22 +9,6 @@ use Rattle.vortex_pvalue.specs.KindLaws.{RangeIsInterval}
 use Rattle.vortex_pvalue.specs.Kinds.{InRange, in_range, least_of, greatest_of, bits_of}
 use Rattle.vortex_pvalue.specs.RangeLaws.{in_range_exactly, in_range_true}
 
--- a kind whose test is false has not the number
-pub false-in_range : (k : PType) (z : ℤ) → in_range k z ≡ false → ¬ (InRange k z)
-false-in_range k z e h = let t = in_range_true k z h in cc
-
--- a test is true or false
-either : (b : Bool) → (b ≡ true) ⊎ (b ≡ false)
-either true = inl refl
-either false = inr refl
-
--- a kind has the number or has it not
-pub range_decided : (k : PType) (z : ℤ) → InRange k z ⊎ ¬ (InRange k z)
-range_decided k z = elim (either (in_range k z)) [
-  | inl e ↦ inl ((in_range_exactly k z).0 e)
-  | inr e ↦ inr (false-in_range k z e)
-]
-
 -- a kind has the numbers from its least to its greatest, and no others
 pub range_is_interval : RangeIsInterval
 range_is_interval U8 z = unsigned-bounds 8 z

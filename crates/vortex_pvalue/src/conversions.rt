@@ -176,7 +176,7 @@ impl TryFrom<PValue> for i64 {
     }
 }
 
-/// The same number, or `OutOfRange` where `usize` does not have it. Ports `impl TryFrom<PValue> for usize`.
+/// The same number, or `OutOfRange` where 64 bits do not hold it. Ports `impl TryFrom<PValue> for usize`.
 impl TryFrom<PValue> for usize {
     type Error = VortexError;
 

@@ -25,13 +25,21 @@ use vortex_dtype::{PType, VortexError};
 /// variants of `vortex_array::scalar::PValue`.
 #[derive(Clone, Copy, Debug)]
 pub enum PValue {
+    /// Unsigned of 1 byte.
     U8(u8),
+    /// Unsigned of 2 bytes.
     U16(u16),
+    /// Unsigned of 4 bytes.
     U32(u32),
+    /// Unsigned of 8 bytes.
     U64(u64),
+    /// Signed of 1 byte.
     I8(i8),
+    /// Signed of 2 bytes.
     I16(i16),
+    /// Signed of 4 bytes.
     I32(i32),
+    /// Signed of 8 bytes.
     I64(i64),
 }
 

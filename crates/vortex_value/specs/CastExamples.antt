@@ -130,8 +130,8 @@ thousand_of_i32_to_i8_is_allowed = integers tt tt
 pub i8_has_no_thousand : ¬ (Has i8 (number 1000))
 i8_has_no_thousand h = yes_leb (number_needs_range I8 NonNullable (pos 1000) h).sfits
 
-pub present_i32_never_becomes_null_type : ¬ (Allows i32 null_type (number 5))
-present_i32_never_becomes_null_type = no_row (λ h. tell_apart is_integer h tt) absurd no (λ a b. b) no no no absurd
+pub no_number_of_i32_becomes_null : (z : ℤ) → ¬ (Allows i32 null_type (whole z))
+no_number_of_i32_becomes_null z = no_row (λ h. tell_apart is_integer h tt) absurd no (λ a b. b) no no no absurd
 
 -- nulls: to every type that takes one, but for maps that would become sorted
 
@@ -156,8 +156,8 @@ null_of_null_type_to_nullable_u64 = (a_null tt no, the_null refl)
 pub null_of_i32_to_nullable_utf8 : CanCast (or_null i32) (or_null utf8) null
 null_of_i32_to_nullable_utf8 = (a_null tt no, the_null refl)
 
-pub null_of_an_unsorted_map_to_the_sorted_one : ¬ (Allows unsorted_map sorted_map null)
-null_of_an_unsorted_map_to_the_sorted_one =
+pub null_of_an_unsorted_map_to_the_sorted_one_is_refused : ¬ (Allows unsorted_map sorted_map null)
+null_of_an_unsorted_map_to_the_sorted_one_is_refused =
     no_row (λ h. tell_apart (λ t. not (is_sorted_map t)) h tt) (λ h. tt) no (λ a b. a) no (λ h. h.1) no absurd
 
 pub null_of_an_unsorted_map_to_nullable_boolean : CanCast unsorted_map (or_null boolean) null
@@ -170,11 +170,11 @@ null_of_nullable_boolean_to_a_sorted_map = (a_null tt no, the_null refl)
 pub null_of_an_unsorted_map_to_an_extension_over_the_sorted_one : CanCast unsorted_map (extension_a sorted_map) null
 null_of_an_unsorted_map_to_an_extension_over_the_sorted_one = (a_null tt no, the_null refl)
 
-pub struct_with_that_null_to_one_with_the_sorted_map :
+pub struct_with_that_null_to_one_with_the_sorted_map_is_refused :
     ¬ (Allows (struct_of (codes "m" ∷ []) (unsorted_map ∷ [])) (struct_of (codes "m" ∷ []) (sorted_map ∷ [])) (parts (null ∷ [])))
-struct_with_that_null_to_one_with_the_sorted_map =
+struct_with_that_null_to_one_with_the_sorted_map_is_refused =
     no_row (λ h. tell_apart (λ t. not (is_sorted_map (first_field t))) h tt) absurd no (λ a b. a) no no
-    (λ h. null_of_an_unsorted_map_to_the_sorted_one h.0) absurd
+    (λ h. null_of_an_unsorted_map_to_the_sorted_one_is_refused h.0) absurd
   where
     first_field : TypeTree → TypeTree
     first_field (struct_type names (type_then t ts) n) = t
@@ -185,12 +185,12 @@ null_of_an_extension_over_an_unsorted_map_to_the_sorted_one = (a_null tt no, the
 
 -- an empty map is no null, and is refused too, also on the way into an extension
 
-pub empty_unsorted_map_to_the_sorted_one : ¬ (Allows unsorted_map sorted_map (parts []))
-empty_unsorted_map_to_the_sorted_one = no_row (λ h. tell_apart (λ t. not (is_sorted_map t)) h tt) absurd no (λ a b. a) no (λ h. h.0 tt) no absurd
+pub empty_unsorted_map_to_the_sorted_one_is_refused : ¬ (Allows unsorted_map sorted_map (parts []))
+empty_unsorted_map_to_the_sorted_one_is_refused = no_row (λ h. tell_apart (λ t. not (is_sorted_map t)) h tt) absurd no (λ a b. a) no (λ h. h.0 tt) no absurd
 
-pub empty_unsorted_map_to_an_extension_over_the_sorted_one : ¬ (Allows unsorted_map (extension_a sorted_map) (parts []))
-empty_unsorted_map_to_an_extension_over_the_sorted_one =
-    no_row (λ h. tell_apart (λ t. not (is_extension t)) h tt) absurd (λ h. empty_unsorted_map_to_the_sorted_one h.1) (λ a b. a) no no no absurd
+pub empty_unsorted_map_to_an_extension_over_the_sorted_one_is_refused : ¬ (Allows unsorted_map (extension_a sorted_map) (parts []))
+empty_unsorted_map_to_an_extension_over_the_sorted_one_is_refused =
+    no_row (λ h. tell_apart (λ t. not (is_extension t)) h tt) absurd (λ h. empty_unsorted_map_to_the_sorted_one_is_refused h.1) (λ a b. a) no no no absurd
 
 -- lists: element by element, whether of a fixed size or not
 
@@ -269,8 +269,8 @@ struct_of_a_null_and_a_list = (
   },
 )
 
-pub structs_of_other_counts : ¬ (Allows (a_and_b i32 i32) (struct_of (codes "a" ∷ []) (i32 ∷ [])) one_and_two)
-structs_of_other_counts = no_row (λ h. tell_apart has_two_fields h tt) absurd no (λ a b. a) no no (λ h. h.1) absurd
+pub structs_of_other_counts_are_refused : ¬ (Allows (a_and_b i32 i32) (struct_of (codes "a" ∷ []) (i32 ∷ [])) one_and_two)
+structs_of_other_counts_are_refused = no_row (λ h. tell_apart has_two_fields h tt) absurd no (λ a b. a) no no (λ h. h.1) absurd
   where
     has_two_fields : TypeTree → Bool
     has_two_fields (struct_type names (type_then s (type_then t ts)) n) = true
@@ -287,8 +287,8 @@ extension_to_the_nullable_one = (same_type refl, record { value = int 7; valid =
 pub extension_to_its_storage : CanCast (extension_a i32) i32 (number 7)
 extension_to_its_storage = (from_extension refl no, record { value = int 7; valid = i32_valid 7 tt; same = refl })
 
-pub extension_to_another_integer_kind : ¬ (Allows (extension_a i32) i64 (number 7))
-extension_to_another_integer_kind =
+pub extension_to_another_integer_kind_is_refused : ¬ (Allows (extension_a i32) i64 (number 7))
+extension_to_another_integer_kind_is_refused =
     no_row (λ h. tell_apart is_extension h tt) absurd no (λ a b. a) no no no (λ h. tell_apart (is_integer_of I32) h tt)
 
 pub extension_unwraps_one_level_alone : ¬ (Allows (extension_a (extension_b i32)) (extension_b i32) (number 7))
@@ -310,15 +310,15 @@ true_into_extensions_at_any_depth =
 
 -- texts, variants and unions: to their own type, and extensions over it
 
-pub text_to_binary : ¬ (Allows utf8 binary (text (codes "a")))
-text_to_binary = no_row (λ h. tell_apart is_utf8 h tt) absurd no (λ a b. a) no no no absurd
+pub text_to_binary_is_refused : ¬ (Allows utf8 binary (text (codes "a")))
+text_to_binary_is_refused = no_row (λ h. tell_apart is_utf8 h tt) absurd no (λ a b. a) no no no absurd
   where
     is_utf8 : TypeTree → Bool
     is_utf8 (utf8_type n) = true
     is_utf8 _ = false
 
-pub variant_of_a_u32_to_u32 : ¬ (Allows variant u32 (typed u32 (number 42)))
-variant_of_a_u32_to_u32 = no_row (λ h. tell_apart (λ t. not (is_integer t)) h tt) absurd no (λ a b. a) no no no absurd
+pub variant_of_a_u32_to_u32_is_refused : ¬ (Allows variant u32 (typed u32 (number 42)))
+variant_of_a_u32_to_u32_is_refused = no_row (λ h. tell_apart (λ t. not (is_integer t)) h tt) absurd no (λ a b. a) no no no absurd
 
 pub variant_to_a_nullable_variant : CanCast variant (or_null variant) (typed u32 (number 42))
 variant_to_a_nullable_variant =

@@ -214,8 +214,8 @@ utf8_takes_a = tt
 pub utf8_takes_no_truth_value : ¬ (Valid utf8 (raw_bool true))
 utf8_takes_no_truth_value h = h
 
-pub binary_takes_no_bytes_at_all : Valid binary (raw_bytes [])
-binary_takes_no_bytes_at_all = tt
+pub binary_takes_the_empty_string : Valid binary (raw_bytes [])
+binary_takes_the_empty_string = tt
 
 pub binary_takes_no_text : ¬ (Valid binary letter_a)
 binary_takes_no_text h = h

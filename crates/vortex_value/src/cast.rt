@@ -5,10 +5,8 @@ ghost use Rattle.vortex_dtype.specs.TypeOf.{type_of};
 ghost use Rattle.vortex_pvalue.specs.Kinds.{InRange};
 ghost use Rattle.vortex_pvalue.specs.Whole.{kind_of, whole_of};
 ghost use Rattle.vortex_value.specs.Casts.{CanCast, IsCast, IsNullOrInteger};
-ghost use Rattle.vortex_value.specs.Content.{content};
 ghost use Rattle.vortex_value.specs.RawOf.{raw_of};
-ghost use Rattle.vortex_value.specs.Scalars.{IsTheOne, IsValid, scalar_content, scalar_type};
-ghost use Rattle.vortex_value.specs.Validity.{Valid};
+ghost use Rattle.vortex_value.specs.Scalars.{IsTheOne, IsValid, scalar_content, scalar_raw, scalar_type};
 ghost use Rattle.vortex_dtype.specs.declared.error.VortexError.TheVariants.{CannotCast};
 
 use crate::scalars::Scalar;
@@ -38,7 +36,7 @@ impl Scalar {
         if !is_null_or_integer(&self.dtype) || !is_null_or_integer(target) {
             return Err(VortexError::CannotCast);
         }
-        let value = cast_number(target, &self.dtype, &self.value)?;
+        let value = cast_number(self, target)?;
         let dtype = target.clone(alloc)?;
         Ok(Scalar { dtype, value })
     }
@@ -51,20 +49,16 @@ fn is_null_or_integer(dtype: &DType) -> bool
     matches!(dtype, DType::Null | DType::Primitive(_, _))
 }
 
-/// The raw value that the target type has for the content of a value of the source type.
-fn cast_number(
-    target: &DType,
-    _source: &DType,
-    value: &Option<ScalarValue>,
-) -> Result<Option<ScalarValue>, VortexError>
-    requires source { IsNullOrInteger (type_of _source.now) }
+/// The raw value that the target type has for the scalar's content.
+fn cast_number(source: &Scalar, target: &DType) -> Result<Option<ScalarValue>, VortexError>
+    requires source { IsNullOrInteger (scalar_type source.now) }
     requires target { IsNullOrInteger (type_of target.now) }
-    requires valid { Valid (type_of _source.now) (raw_of value.now) }
+    requires valid { IsValid source.now }
     ensures { MatchResult result
-        (λ made. IsCast (type_of _source.now) (type_of target.now) (raw_of value.now) (raw_of made))
-        (λ e. (e ≡ CannotCast) × ¬ (CanCast (type_of _source.now) (type_of target.now) (content (raw_of value.now)))) }
+        (λ made. IsCast (scalar_type source.now) (type_of target.now) (scalar_raw source.now) (raw_of made))
+        (λ e. (e ≡ CannotCast) × ¬ (CanCast (scalar_type source.now) (type_of target.now) (scalar_content source.now))) }
 {
-    match (value, target) {
+    match (&source.value, target) {
         (None, _) if target.is_nullable() => Ok(None),
         (Some(ScalarValue::Primitive(number)), DType::Primitive(kind, _)) => {
             match number_of_kind(*number, *kind) {
@@ -100,8 +94,5 @@ fn native<T: NativePType>(number: PValue) -> Option<PValue>
     ensures range { IfSome result (λ made. InRange T.PTYPE (whole_of made)) }
     ensures none { IfNone result (¬ (InRange T.PTYPE (whole_of number))) }
 {
-    match T::from_pvalue(&number) {
-        Some(made) => Some(made.into_pvalue()),
-        None => None,
-    }
+    T::from_pvalue(&number).map(T::into_pvalue)
 }

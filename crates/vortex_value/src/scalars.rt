@@ -17,7 +17,9 @@ use vortex_dtype::{DType, VortexError};
 #[cycle(value)]
 #[derive(Debug, Drop)]
 pub struct Scalar {
+    /// The type.
     pub dtype: DType,
+    /// The raw value; none for a null.
     pub value: Option<ScalarValue>,
 }
 

@@ -16,7 +16,9 @@ use vortex_dtype::VortexError;
 #[cycle(value)]
 #[derive(Debug, Drop)]
 pub struct UnionValue {
+    /// The id of the chosen variant.
     pub type_id: u8,
+    /// Its value; none for an inner null.
     pub child: Option<Box<ScalarValue>>,
 }
 
@@ -27,7 +29,7 @@ impl UnionValue {
     /// The value of the variant with this id. `OutOfMemory` is its only refusal, and never without a
     /// child.
     ///
-    /// Upstream makes it as a literal.
+    /// Ports `UnionValue::new`, which is private there and takes memory silently.
     pub fn new(
         alloc: Global,
         type_id: u8,
@@ -59,10 +61,7 @@ impl UnionValue {
     pub fn child_value(&self) -> Option<&ScalarValue>
         ensures { union_tree self.now ≡ raw_union self.now.type_id (raw_of (option_copied result)) }
     {
-        match &self.child {
-            Some(child) => Some(child),
-            None => None,
-        }
+        self.child.as_deref()
     }
 
     /// A copy: the same id and child.

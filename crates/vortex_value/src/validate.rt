@@ -3,9 +3,8 @@
 ghost use Rattle.std.specs.Prelude.{◌≡◌, ◌≢◌, ◌↔◌, Err, List, IfErr, IfOk, IsOk, option_map};
 ghost use Rattle.std.specs.Option.{option_copied};
 ghost use Rattle.vortex_dtype.specs.TypeOf.{map_of, type_of, types_from, types_of, variants_of};
-ghost use Rattle.vortex_dtype.specs.TypeTree.{IsFlat, storage};
+ghost use Rattle.vortex_dtype.specs.TypeTree.{IsFlat, variant_type};
 ghost use Rattle.vortex_dtype.specs.declared.kinds.Nullability.TheVariants.{NonNullable};
-ghost use Rattle.vortex_dtype.specs.TypeTree.{variant_type};
 ghost use Rattle.vortex_value.specs.Breaches.{Found, Refuses, breaches, breaches_at, breaches_of_entry, child_breaches, element_breaches, entry_breaches, field_breaches, here, under};
 ghost use Rattle.vortex_value.specs.Faults.{Checks, Shows};
 ghost use Rattle.vortex_value.specs.RawOf.{raw_of, raws_of, scalar_tree, value_tree};
@@ -230,8 +229,9 @@ fn check_variant(alloc: Global, scalar: &Scalar) -> Result<(), Fault>
 impl Scalar {
     /// Tests that the raw value, or its absence, is valid for the type.
     ///
-    /// `Invalid` has the first breach in reading order and the path to it. A valid value takes no
-    /// memory, nor does any value of a type whose values take none. Ports `Scalar::validate`.
+    /// `Invalid` has the first breach in reading order and the path to it; `OutOfMemory` comes in its
+    /// place where the path has steps and there is no memory for them. A valid value takes none, nor
+    /// does any value of a type whose values take none. Ports `Scalar::validate`.
     pub fn validate(
         alloc: Global,
         dtype: &DType,
@@ -250,8 +250,9 @@ impl Scalar {
     /// The scalar of a type and a raw value, or of its absence.
     ///
     /// `Invalid` where the raw value is not valid for the type, with the first breach in reading
-    /// order and the path to it. A valid value takes no memory, nor does any value of a type whose
-    /// values take none. Ports `Scalar::try_new`.
+    /// order and the path to it; `OutOfMemory` comes in its place where the path has steps and there
+    /// is no memory for them. A valid value takes none, nor does any value of a type whose values
+    /// take none. Ports `Scalar::try_new`.
     pub fn try_new(
         alloc: Global,
         dtype: DType,

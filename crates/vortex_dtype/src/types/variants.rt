@@ -93,14 +93,6 @@ impl UnionVariants {
         FieldNames::of(&self.names)
     }
 
-    /// The types, in order. Of this port alone: what a recursion over types goes down.
-    pub fn dtypes(&self) -> &[DType]
-        ensures parts { result.now ≡ variant_parts self.now }
-        ensures trees { map type_of result.now ≡ (variants_of self.now).types }
-    {
-        &self.dtypes
-    }
-
     /// The same variants, or `OutOfMemory`.
     ///
     /// Ports `UnionVariants::clone`.
@@ -115,6 +107,7 @@ impl UnionVariants {
 fn repeats(ids: &[u8]) -> bool
     ensures { result ≡ repeats ids.now }
 {
+    // Ids are bytes, so of 257 two are equal: there are at most 257 turns.
     for i in 0..ids.len() {
         if ids[i + 1..].contains(&ids[i]) {
             return true;
@@ -141,7 +134,7 @@ fn id_at(ids: &[u8], index: usize) -> u8
 /// The ids of a union's variants, in order.
 ///
 /// Ports the iterator that `UnionVariants::type_ids` gives.
-#[derive(Debug, Drop)]
+#[derive(Drop)]
 pub struct TypeIds<'a> {
     ids: slice::Iter<'a, u8>,
 }

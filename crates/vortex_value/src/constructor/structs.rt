@@ -82,14 +82,14 @@ fn fields_cause(fields: &StructFields, children: &[Scalar]) -> Option<VortexErro
             found: children.len(),
         });
     }
-    match wrong_place(fields.dtypes(), children) {
+    match wrong_field(fields.dtypes(), children) {
         Some(index) => Some(VortexError::WrongChild { index }),
         None => None,
     }
 }
 
 /// The place of the first child whose type is not exactly its field's.
-fn wrong_place(dtypes: &[DType], children: &[Scalar]) -> Option<usize>
+fn wrong_field(dtypes: &[DType], children: &[Scalar]) -> Option<usize>
     ensures { result ≡ position (λ pair. not (tree_eq (scalar_type pair.1) (type_of pair.0))) (zip dtypes.now children.now) }
 {
     let mut pairs = dtypes.iter().zip(children);
