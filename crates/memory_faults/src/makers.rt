@@ -8,14 +8,14 @@ ghost use Rattle.vortex_value.specs.Scalars.{IsValid};
 use crate::outcome::{Outcome, Tried, judge_refusal};
 use crate::same::judge_scalar;
 use crate::samples::{
-    fields, integers, list_type, list_value, map_parts, names, pair, single, struct_value, text,
-    type_ids, union_value, variants,
+    extension, fields, integers, list_type, list_value, map_parts, names, pair, single,
+    struct_value, text, type_ids, union_value, variants,
 };
 use std::alloc::Global;
 use vortex_dtype::{DType, Nullability, PType, UnionVariants, VortexError};
 use vortex_value::{Scalar, ScalarValue, UnionValue};
 
-pub const NAMES: [&str; 18] = [
+pub const NAMES: [&str; 22] = [
     "scalar_null_native",
     "scalar_list",
     "scalar_list_of_a_wrong_child_without_memory",
@@ -26,7 +26,10 @@ pub const NAMES: [&str; 18] = [
     "scalar_map_of_a_wrong_entry",
     "scalar_map_of_another_kind_without_memory",
     "scalar_try_map",
+    "scalar_try_map_of_a_wrong_entry",
+    "scalar_try_map_of_another_kind_without_memory",
     "scalar_struct",
+    "scalar_struct_of_too_few_children",
     "scalar_struct_of_a_wrong_child",
     "scalar_struct_of_another_kind_without_memory",
     "scalar_union",
@@ -34,6 +37,7 @@ pub const NAMES: [&str; 18] = [
     "scalar_union_of_an_unknown_id_without_memory",
     "scalar_variant",
     "scalar_variant_of_a_typed_null_without_memory",
+    "scalar_extension_ref_without_memory",
 ];
 
 /// Runs the case of this name.
@@ -49,6 +53,8 @@ pub fn run(alloc: Global, name: &str) -> Option<Tried> {
         "scalar_map_of_a_wrong_entry" => Some(wrong_entry(alloc)),
         "scalar_map_of_another_kind_without_memory" => Some(map_of_another_kind(alloc)),
         "scalar_try_map" => Some(try_map(alloc)),
+        "scalar_try_map_of_a_wrong_entry" => Some(try_wrong_entry(alloc)),
+        "scalar_try_map_of_another_kind_without_memory" => Some(try_map_of_another_kind(alloc)),
         _ => run_others(alloc, name),
     }
 }
@@ -57,6 +63,7 @@ pub fn run(alloc: Global, name: &str) -> Option<Tried> {
 fn run_others(alloc: Global, name: &str) -> Option<Tried> {
     match name {
         "scalar_struct" => Some(struct_of_children(alloc)),
+        "scalar_struct_of_too_few_children" => Some(too_few_children(alloc)),
         "scalar_struct_of_a_wrong_child" => Some(wrong_field(alloc)),
         "scalar_struct_of_another_kind_without_memory" => Some(struct_of_another_kind(alloc)),
         "scalar_union" => Some(union(alloc)),
@@ -64,6 +71,7 @@ fn run_others(alloc: Global, name: &str) -> Option<Tried> {
         "scalar_union_of_an_unknown_id_without_memory" => Some(unknown_id(alloc)),
         "scalar_variant" => Some(variant(alloc)),
         "scalar_variant_of_a_typed_null_without_memory" => Some(Ok(typed_null(alloc))),
+        "scalar_extension_ref_without_memory" => Some(extension_ref(alloc)),
         _ => None,
     }
 }
@@ -94,6 +102,16 @@ fn elements(alloc: Global) -> Result<Vec<Scalar>, VortexError>
     ensures { IfOk result (λ children. All IsValid children.items) }
 {
     two(alloc, integer(42), null())
+}
+
+/// One child.
+fn one(alloc: Global, child: Scalar) -> Result<Vec<Scalar>, VortexError>
+    requires { IsValid child }
+    ensures { IfOk result (λ children. All IsValid children.items) }
+{
+    let mut children = Vec::with_capacity(alloc, 1)?;
+    children.push(child)?;
+    Ok(children)
 }
 
 /// Two children.
@@ -259,6 +277,21 @@ fn try_map(alloc: Global) -> Tried {
     Ok(judge_scalar(answer, &expected, true))
 }
 
+fn try_wrong_entry(alloc: Global) -> Tried {
+    let dtype = map_type(alloc)?;
+    let key = word(alloc)?;
+    let entries = entry(alloc, key, integer(42))?;
+    let answer = try_map_of(alloc, dtype, entries);
+    let expected = VortexError::WrongChild { index: 0 };
+    Ok(judge_refusal(answer, &expected, true))
+}
+
+fn try_map_of_another_kind(alloc: Global) -> Tried {
+    let entries = entries(alloc)?;
+    let answer = try_map_of(alloc, integers(), entries);
+    Ok(judge_refusal(answer, &VortexError::WrongKind, true).without_memory())
+}
+
 /// The type of the fields' structs.
 fn struct_type(alloc: Global) -> Result<DType, VortexError> {
     Ok(DType::Struct(fields(alloc)?, Nullability::NonNullable))
@@ -289,6 +322,18 @@ fn struct_of_children(alloc: Global) -> Tried {
     let children = field_values(alloc)?;
     let answer = struct_of(alloc, dtype, children);
     Ok(judge_scalar(answer, &expected, true))
+}
+
+fn too_few_children(alloc: Global) -> Tried {
+    let dtype = struct_type(alloc)?;
+    let list = list_scalar(alloc)?;
+    let children = one(alloc, list)?;
+    let answer = struct_of(alloc, dtype, children);
+    let expected = VortexError::WrongLength {
+        expected: 2,
+        found: 1,
+    };
+    Ok(judge_refusal(answer, &expected, true))
 }
 
 fn wrong_field(alloc: Global) -> Tried {
@@ -362,4 +407,15 @@ fn variant(alloc: Global) -> Tried {
 fn typed_null(alloc: Global) -> Outcome {
     let answer = Scalar::variant(alloc, null());
     judge_refusal(answer, &VortexError::VariantNull, true).without_memory()
+}
+
+fn extension_ref(alloc: Global) -> Tried {
+    let expected = Scalar {
+        dtype: DType::Extension(extension(alloc)?),
+        value: Some(list_value(alloc)?),
+    };
+    let ext_dtype = extension(alloc)?;
+    let storage = list_scalar(alloc)?;
+    let answer = Scalar::extension_ref(ext_dtype, storage);
+    Ok(judge_scalar(answer, &expected, true).without_memory())
 }

@@ -11,7 +11,7 @@ use vortex_dtype::{
     VortexError,
 };
 
-pub const NAMES: [&str; 20] = [
+pub const NAMES: [&str; 21] = [
     "field_name_clone_without_memory",
     "struct_fields_new_without_memory",
     "struct_fields_project",
@@ -29,6 +29,7 @@ pub const NAMES: [&str; 20] = [
     "dtype_map_of_a_nullable_key_without_memory",
     "dtype_clone",
     "dtype_clone_of_integers_without_memory",
+    "dtype_as_nullable_without_memory",
     "native_dtype_of_a_list",
     "native_dtype_of_lists_of_lists",
     "native_dtype_of_texts_without_memory",
@@ -54,6 +55,7 @@ pub fn run(alloc: Global, name: &str) -> Option<Tried> {
         "dtype_map_of_a_nullable_key_without_memory" => Some(map_of_a_nullable_key(alloc)),
         "dtype_clone" => Some(clone_of_a_type(alloc)),
         "dtype_clone_of_integers_without_memory" => Some(Ok(clone_of_integers(alloc))),
+        "dtype_as_nullable_without_memory" => Some(made_nullable(alloc)),
         "native_dtype_of_a_list" => Some(native_list(alloc)),
         "native_dtype_of_lists_of_lists" => Some(native_lists(alloc)),
         "native_dtype_of_texts_without_memory" => Some(Ok(native_texts(alloc))),
@@ -206,6 +208,12 @@ fn clone_of_integers(alloc: Global) -> Outcome {
     let given = integers();
     let answer = given.clone(alloc);
     judge_equal(answer, &integers(), given == integers()).without_memory()
+}
+
+fn made_nullable(alloc: Global) -> Tried {
+    let expected = DType::Map(map_parts(alloc)?, Nullability::Nullable);
+    let given = DType::Map(map_parts(alloc)?, Nullability::NonNullable);
+    Ok(judge_equal(Ok(given.as_nullable()), &expected, true).without_memory())
 }
 
 fn native_list(alloc: Global) -> Tried {

@@ -173,12 +173,19 @@ fn knows_a_bad_line(rt: HostRuntime) -> Result<(), Fail> {
 fn knows_the_limits_of_each_kind(rt: HostRuntime) -> Result<(), Fail> {
     for (input, want) in [
         ("cast u8 0 u8", "0u8\n"),
+        ("cast u8 -1 u8", "bad line\n"),
         ("cast u8 255 u8", "255u8\n"),
         ("cast u8 256 u8", "bad line\n"),
+        ("cast u16 0 u16", "0u16\n"),
+        ("cast u16 -1 u16", "bad line\n"),
         ("cast u16 65535 u16", "65535u16\n"),
         ("cast u16 65536 u16", "bad line\n"),
+        ("cast u32 0 u32", "0u32\n"),
+        ("cast u32 -1 u32", "bad line\n"),
         ("cast u32 4294967295 u32", "4294967295u32\n"),
         ("cast u32 4294967296 u32", "bad line\n"),
+        ("cast u64 0 u64", "0u64\n"),
+        ("cast u64 -1 u64", "bad line\n"),
         (
             "cast u64 18446744073709551615 u64",
             "18446744073709551615u64\n",

@@ -104,3 +104,16 @@ fn casts_nulls(rt: HostRuntime) -> Result<(), Fail> {
     assert_eq!(rt; cast_text(alloc, &five, &DType::Null)?.as_str(), "refused");
     Ok(())
 }
+
+#[test]
+fn a_literal_is_cast_once_it_is_validated(rt: HostRuntime) {
+    let literal = Scalar {
+        dtype: DType::Primitive(PType::I32, NonNullable),
+        value: Some(ScalarValue::Primitive(PValue::I32(1000))),
+    };
+    let checked = Scalar::validate(rt.alloc(), literal.dtype(), literal.value());
+    checked.expect(&rt, "a valid literal");
+    let target = DType::Primitive(PType::I16, NonNullable);
+    let made = literal.cast(rt.alloc(), &target).expect(&rt, "a cast");
+    assert_eq!(rt; made, Scalar::primitive(1000i16, NonNullable));
+}

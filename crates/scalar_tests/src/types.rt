@@ -7,7 +7,7 @@ use std::hash::{Hash, Hasher};
 use std::process::Abort;
 use vortex_dtype::{
     BufferString, ByteBuffer, DType, ExtDType, FieldName, MapDType, NativeDType, Nullability,
-    PType, StructFields, TypeCause, UnionVariants, VortexError,
+    PType, Path, Step, StructFields, TypeCause, UnionVariants, VortexError,
 };
 
 /// A hasher that keeps a digest of all the bytes that it is fed, in their order: where two digests
@@ -157,7 +157,9 @@ fn buffers_are_ordered_by_their_bytes(rt: HostRuntime) {
     assert!(rt; low < high);
     assert!(rt; empty < low);
     assert!(rt; fed(&low) != fed(&high));
-    assert!(rt; text(&rt, "aa") < text(&rt, "z"));
+    let word = text(&rt, "aa");
+    assert!(rt; word < text(&rt, "z"));
+    assert!(rt; fed(&word) == fed(word.inner()));
 }
 
 #[test]
@@ -215,11 +217,17 @@ fn fields_are_projected(rt: HostRuntime) {
         let name = projected.names().get(place).expect(&rt, "a name");
         assert!(rt; (name.as_str() == "b") == (place != 1), "at {place}");
     }
-    let missing = two_names(&rt, "a", "c");
-    assert_eq!(rt;
-        fields.project(rt.alloc(), &missing),
-        Err(VortexError::NoField)
-    );
+}
+
+#[test]
+fn missing_names_are_not_projected(rt: HostRuntime) {
+    let fields = two_fields(&rt, "a", "b");
+    let missing = vec![in rt.alloc(); name(&rt, "c")].expect(&rt, "a name");
+    let refused = fields.project(rt.alloc(), &missing);
+    assert_eq!(rt; refused, Err(VortexError::NoField));
+    let second = two_names(&rt, "a", "c");
+    let refused = fields.project(rt.alloc(), &second);
+    assert_eq!(rt; refused, Err(VortexError::NoField));
 }
 
 #[test]
@@ -234,6 +242,29 @@ fn variants_have_distinct_ids(rt: HostRuntime) {
     let alloc = rt.alloc();
     let none = UnionVariants::try_new(alloc, Vec::new(alloc), Vec::new(alloc), Vec::new(alloc));
     assert_eq!(rt; none.expect(&rt, "no variants").len(), 0);
+}
+
+#[test]
+fn variants_are_as_many_as_their_names(rt: HostRuntime) {
+    let alloc = rt.alloc();
+    let dtypes = vec![in alloc; i32s(NULLABLE)].expect(&rt, "a type");
+    let ids = Vec::from_slice(alloc, &[5, 5]).expect(&rt, "ids");
+    let made = UnionVariants::try_new(alloc, two_names(&rt, "int", "string"), dtypes, ids);
+    let cause = TypeCause::LengthsDiffer;
+    assert_eq!(rt; made, Err(VortexError::BadType { cause }));
+}
+
+#[test]
+fn ids_repeat_at_any_distance(rt: HostRuntime) {
+    let alloc = rt.alloc();
+    let mut names = two_names(&rt, "a", "b");
+    names.push(name(&rt, "c")).expect(&rt, "a name");
+    let mut dtypes = two_types(&rt, NULLABLE);
+    dtypes.push(DType::Null).expect(&rt, "a type");
+    let ids = Vec::from_slice(alloc, &[5, 9, 5]).expect(&rt, "ids");
+    let made = UnionVariants::try_new(alloc, names, dtypes, ids);
+    let cause = TypeCause::RepeatedTypeId;
+    assert_eq!(rt; made, Err(VortexError::BadType { cause }));
 }
 
 #[test]
@@ -255,7 +286,6 @@ fn variants_are_found_by_id(rt: HostRuntime) {
         variants.names().get(0).expect(&rt, "a name").as_str(),
         "int"
     );
-    assert_eq!(rt; variants.dtypes().len(), 2);
     assert!(rt; variants.clone(rt.alloc()).expect(&rt, "a copy") == variants);
 }
 
@@ -316,6 +346,13 @@ fn extensions_take_nulls_by_their_storage(rt: HostRuntime) {
     assert_eq!(rt; nullable.nullability(), NULLABLE);
     assert!(rt; plain.eq_ignore_nullability(&nullable));
     assert!(rt; plain != nullable);
+    assert_eq!(rt; plain.as_nullable(), nullable);
+}
+
+#[test]
+fn lists_made_nullable_keep_their_elements(rt: HostRuntime) {
+    let plain = list(&rt, i32s(NON_NULLABLE), NON_NULLABLE);
+    let nullable = list(&rt, i32s(NON_NULLABLE), NULLABLE);
     assert_eq!(rt; plain.as_nullable(), nullable);
 }
 
@@ -434,6 +471,60 @@ fn nullability_counts_where_it_is_asked_for(rt: HostRuntime) {
             "at {place}"
         );
     }
+}
+
+#[test]
+fn parts_feed_all_that_they_hold(rt: HostRuntime) {
+    let fields = two_fields(&rt, "a", "b");
+    assert!(rt; fed(&fields) != fed(&two_fields(&rt, "a", "c")));
+    let ids = variants(&rt, &[5, 9]);
+    assert!(rt; fed(&ids) != fed(&variants(&rt, &[5, 8])));
+    assert!(rt; fed(&PType::U8) != fed(&PType::I8));
+    assert!(rt; fed(&NULLABLE) != fed(&NON_NULLABLE));
+}
+
+#[test]
+fn parts_of_maps_and_extensions_feed_all_that_they_hold(rt: HostRuntime) {
+    let (sorted, unsorted) = (map(&rt, true), map(&rt, false));
+    let parts = sorted.as_map_opt().expect(&rt, "a map");
+    let others = unsorted.as_map_opt().expect(&rt, "a map");
+    assert!(rt; fed(parts) != fed(others));
+    let (a, b) = (sample(&rt, 11), sample(&rt, 18));
+    let parts = a.as_extension_opt().expect(&rt, "an extension");
+    let others = b.as_extension_opt().expect(&rt, "an extension");
+    assert!(rt; fed(parts) != fed(others));
+}
+
+/// The struct type of one field of this type.
+fn struct_of(rt: &(impl AllocGlobal + Abort), field: DType) -> DType {
+    let names = vec![in rt.alloc(); name(rt, "a")].expect(rt, "a name");
+    let dtypes = vec![in rt.alloc(); field].expect(rt, "a type");
+    if names.len() != dtypes.len() {
+        return DType::Null;
+    }
+    let fields = StructFields::new(rt.alloc(), names, dtypes).expect(rt, "fields");
+    DType::Struct(fields, NON_NULLABLE)
+}
+
+#[test]
+fn nullability_of_fields_counts_where_it_is_asked_for(rt: HostRuntime) {
+    let plain = struct_of(&rt, i32s(NON_NULLABLE));
+    let nullable = struct_of(&rt, i32s(NULLABLE));
+    assert!(rt; compared(&plain, &nullable) == [false, true, false, true]);
+}
+
+/// The path of these steps.
+fn path(rt: &(impl AllocGlobal + Abort), steps: &[Step]) -> Path {
+    Path::of(Vec::from_slice(rt.alloc(), steps).expect(rt, "steps"))
+}
+
+#[test]
+fn paths_are_equal_step_by_step(rt: HostRuntime) {
+    let first = path(&rt, &[Step::Element(0), Step::Inner]);
+    assert_eq!(rt; first, path(&rt, &[Step::Element(0), Step::Inner]));
+    assert_ne!(rt; first, path(&rt, &[Step::Element(1), Step::Inner]));
+    assert_ne!(rt; first, path(&rt, &[Step::Inner, Step::Element(0)]));
+    assert_ne!(rt; first, path(&rt, &[Step::Element(0)]));
 }
 
 /// A type under 64 lists.

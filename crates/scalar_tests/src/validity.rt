@@ -21,65 +21,73 @@ fn refuses(rt: &(impl AllocGlobal + Abort), dtype: &DType, value: Raw) {
     judge(rt, false, dtype, value);
 }
 
-#[test]
-fn table_of_flat_types(rt: HostRuntime) {
-    takes(&rt, &DType::Null, None);
-    refuses(&rt, &DType::Null, truth(true));
-    takes(&rt, &DType::Bool(Nullable), None);
-    refuses(&rt, &DType::Bool(Nullable), integer(1));
-    takes(&rt, &DType::Bool(NonNullable), truth(true));
-    refuses(&rt, &DType::Bool(NonNullable), None);
-    refuses(&rt, &DType::Bool(NonNullable), integer(1));
-    takes(&rt, &I32, integer(1));
-    refuses(&rt, &I32, long(1));
+/// Null, truth values and integers.
+fn flat_types(rt: &(impl AllocGlobal + Abort)) {
+    takes(rt, &DType::Null, None);
+    refuses(rt, &DType::Null, truth(true));
+    takes(rt, &DType::Bool(Nullable), None);
+    refuses(rt, &DType::Bool(Nullable), integer(1));
+    takes(rt, &DType::Bool(NonNullable), truth(true));
+    refuses(rt, &DType::Bool(NonNullable), None);
+    refuses(rt, &DType::Bool(NonNullable), integer(1));
+    takes(rt, &I32, integer(1));
+    refuses(rt, &I32, long(1));
 }
 
-#[test]
-fn table_of_texts_and_variants(rt: HostRuntime) {
-    takes(&rt, &DType::Utf8(NonNullable), text(&rt, "a"));
-    refuses(&rt, &DType::Utf8(NonNullable), truth(true));
-    takes(&rt, &DType::Binary(NonNullable), bytes(&rt, &[]));
-    refuses(&rt, &DType::Binary(NonNullable), text(&rt, "a"));
+/// Texts, strings of bytes and variants.
+fn texts_and_variants(rt: &(impl AllocGlobal + Abort)) {
+    takes(rt, &DType::Utf8(NonNullable), text(rt, "a"));
+    refuses(rt, &DType::Utf8(NonNullable), truth(true));
+    takes(rt, &DType::Binary(NonNullable), bytes(rt, &[]));
+    refuses(rt, &DType::Binary(NonNullable), text(rt, "a"));
     let any = DType::Variant(NonNullable);
-    takes(&rt, &any, variant(&rt, DType::Null, None));
+    takes(rt, &any, variant(rt, DType::Null, None));
     takes(
         &rt,
         &any,
-        variant(&rt, DType::Bool(NonNullable), truth(true)),
+        variant(rt, DType::Bool(NonNullable), truth(true)),
     );
-    refuses(&rt, &any, variant(&rt, DType::Bool(Nullable), None));
+    refuses(rt, &any, variant(rt, DType::Bool(Nullable), None));
+}
+
+/// Lists, of a fixed size or not, and maps.
+fn lists_and_maps(rt: &(impl AllocGlobal + Abort)) {
+    let integers = list(rt, I32);
+    takes(rt, &integers, tuple(rt, [integer(1), integer(1)]));
+    refuses(rt, &integers, tuple(rt, [integer(1), None]));
+    refuses(rt, &integers, integer(1));
+    let pairs = fixed_size_list(rt, I32, 2);
+    takes(rt, &pairs, tuple(rt, [integer(1), integer(1)]));
+    refuses(rt, &pairs, tuple(rt, [integer(1)]));
+    let entries = map(rt, DType::Bool(Nullable), false);
+    takes(rt, &entries, tuple(rt, [tuple(rt, [integer(1), None])]));
+    refuses(rt, &entries, tuple(rt, [None]));
+    refuses(rt, &entries, tuple(rt, [tuple(rt, [None, None])]));
+    refuses(rt, &entries, tuple(rt, [tuple(rt, [integer(1)])]));
+}
+
+/// Structs, unions and extensions.
+fn structs_and_unions(rt: &(impl AllocGlobal + Abort)) {
+    let fields = struct_of_two(rt, I32, DType::Utf8(Nullable));
+    takes(rt, &fields, tuple(rt, [integer(1), text(rt, "a")]));
+    takes(rt, &fields, tuple(rt, [integer(1), None]));
+    refuses(rt, &fields, tuple(rt, [None, None]));
+    refuses(rt, &fields, tuple(rt, [integer(1)]));
+    let variants = union_of_one(rt);
+    takes(rt, &variants, union(rt, 3, integer(1)));
+    refuses(rt, &variants, union(rt, 4, integer(1)));
+    refuses(rt, &variants, union(rt, 3, None));
+    let wrapped = extension(rt, I32);
+    takes(rt, &wrapped, integer(1));
+    refuses(rt, &wrapped, truth(true));
 }
 
 #[test]
-fn table_of_lists_and_maps(rt: HostRuntime) {
-    let integers = list(&rt, I32);
-    takes(&rt, &integers, tuple(&rt, [integer(1), integer(1)]));
-    refuses(&rt, &integers, tuple(&rt, [integer(1), None]));
-    refuses(&rt, &integers, integer(1));
-    let pairs = fixed_size_list(&rt, I32, 2);
-    takes(&rt, &pairs, tuple(&rt, [integer(1), integer(1)]));
-    refuses(&rt, &pairs, tuple(&rt, [integer(1)]));
-    let entries = map(&rt, DType::Bool(Nullable), false);
-    takes(&rt, &entries, tuple(&rt, [tuple(&rt, [integer(1), None])]));
-    refuses(&rt, &entries, tuple(&rt, [None]));
-    refuses(&rt, &entries, tuple(&rt, [tuple(&rt, [None, None])]));
-    refuses(&rt, &entries, tuple(&rt, [tuple(&rt, [integer(1)])]));
-}
-
-#[test]
-fn table_of_structs_and_unions(rt: HostRuntime) {
-    let fields = struct_of_two(&rt, I32, DType::Utf8(Nullable));
-    takes(&rt, &fields, tuple(&rt, [integer(1), text(&rt, "a")]));
-    takes(&rt, &fields, tuple(&rt, [integer(1), None]));
-    refuses(&rt, &fields, tuple(&rt, [None, None]));
-    refuses(&rt, &fields, tuple(&rt, [integer(1)]));
-    let variants = union_of_one(&rt);
-    takes(&rt, &variants, union(&rt, 3, integer(1)));
-    refuses(&rt, &variants, union(&rt, 4, integer(1)));
-    refuses(&rt, &variants, union(&rt, 3, None));
-    let wrapped = extension(&rt, I32);
-    takes(&rt, &wrapped, integer(1));
-    refuses(&rt, &wrapped, truth(true));
+fn table_of_valid_and_invalid_values(rt: HostRuntime) {
+    flat_types(&rt);
+    texts_and_variants(&rt);
+    lists_and_maps(&rt);
+    structs_and_unions(&rt);
 }
 
 /// Sees that `validate` and `try_new` both refuse with this path and breach.

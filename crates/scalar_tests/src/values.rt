@@ -216,6 +216,7 @@ fn unions_are_equal_by_id_and_child(rt: HostRuntime) -> Result<(), Fail> {
 fn integers_are_equal_as_whole_numbers(rt: HostRuntime) -> Result<(), Fail> {
     let number = |value: PValue| scalar(value, NON_NULLABLE);
     assert_ne!(rt; number(PValue::I32(0)), number(PValue::I32(1)));
+    assert_ne!(rt; number(PValue::I32(0)), number(PValue::I64(1)));
     assert_ne!(rt; number(PValue::I32(1)), number(PValue::I64(1)));
     assert_eq!(rt; number(PValue::I32(1)), scalar(PValue::I32(1), NULLABLE));
     let raw = |value: PValue| ScalarValue::Primitive(value);

@@ -1,5 +1,5 @@
 -- Steps of the test of validity: whether a list of breaches is empty, part by part.
-use Rattle.std.proofs.Common.{◌≡◌, ◌≢◌, ℕ, suc, ◌<◌, ◌==◌, ◌↔◌, ◌⊎◌, inl, inr, Bool, true, false, ◌&&◌, if◌then◌else◌, List, [], ◌∷◌, ◌++◌, length, Option, Some, None, drop, get_or, drop-cons, refl, sym, ap, ◌∙◌, arith, rules}
+use Rattle.std.proofs.Common.{◌≡◌, ℕ, suc, ◌<◌, ◌↔◌, ◌⊎◌, inl, inr, Bool, true, false, ◌&&◌, if◌then◌else◌, List, [], ◌∷◌, ◌++◌, length, Option, Some, None, drop, get_or, drop-cons, refl, sym, ◌∙◌, arith, rules}
 use Rattle.vortex_dtype.specs.TypeOf.{type_of, types_of}
 use Rattle.vortex_dtype.specs.TypeTree.{TypeTree, TypeTrees, variant_type, no_types, type_then}
 use Rattle.vortex_dtype.specs.declared.error.Breach.{Breach}

@@ -1,7 +1,7 @@
 -- Makers that keep the items of an iterable first.
-use Rattle.std.proofs.Common.{◌≡◌, ◌⊎◌, ◌<◌, ◌≤◌, ℕ, zero, suc, true, false, List, [], ◌∷◌, length, Option, Some, None, option_map, Result, Ok, Err, MatchOption, IfOk, IfErr, IfSome, get_or, inl, inr, refl, sym, subst, true≢false, arith}
-use Rattle.std.specs.Iterator.Runs.{Run, AllItems, ItemsAre, YieldsRun}
-use Rattle.std.specs.List.{All, HoldsAt, slice_get}
+use Rattle.std.proofs.Common.{◌≡◌, ◌⊎◌, ◌<◌, true, false, List, Option, Some, None, option_map, Result, Ok, Err, MatchOption, IfOk, IfErr, IfSome, get_or, inl, inr, refl, sym, subst, true≢false}
+use Rattle.std.specs.Iterator.Runs.{Run, AllItems}
+use Rattle.std.specs.List.{All}
 use Rattle.std.specs.Option.{is_none}
 use Rattle.vortex_dtype.specs.declared.error.VortexError.{VortexError}
 use Rattle.vortex_dtype.specs.declared.error.VortexError.TheVariants.{OutOfMemory}
@@ -50,27 +50,3 @@ module _ {U S A : Type 0} (gives : U → S → Type 0) (steps : S → Option A �
 pub kind_known : {F : Type 0} (o : Option F) (P : Type 0) (Q : Option F → Type 0) → is_none o ≡ false → Q o → MatchOption o P (λ f. Q (Some f))
 kind_known None P Q h q = absurd (true≢false h)
 kind_known (Some f) P Q h q = q
-
--- What holds of each element of a list holds of each item of an iterator over it: callers of the makers show by it that
--- the items are valid.
-
-below_length : {A : Type 0} (xs : List A) (k : ℕ) (x : A) → Some x ≡ slice_get xs k → k < length xs
-below_length [] k x h = cc
-below_length (y ∷ ys) zero x h = omega arith
-below_length (y ∷ ys) (suc k) x h = let below = below_length ys k x h in omega arith
-
-item_holds : {A : Type 0} (P : A → Type 0) (xs ys : List A) (k : ℕ) (o : Option A) → o ≡ slice_get ys k → length ys ≤ length xs → All P xs
-    → IfSome o (λ x. HoldsAt (λ y. x ≡ y) xs k) → IfSome o P
-item_holds P xs ys k None read few all at = tt
-item_holds P xs ys k (Some x) read few all at =
-    let below = below_length ys k x read in
-    subst P (sym (at x)) (all k x (omega arith))
-
-reads_items : {S A : Type 0} {steps : S → Option A → S → Type 0} (run : Run steps) (k : ℕ) → run.at k ≡ slice_get run.items k
-unfolding YieldsRun
-reads_items run k = run.gave.1 k
-
-pub each_item : {S A : Type 0} {steps : S → Option A → S → Type 0} (P : A → Type 0) (run : Run steps) (xs : List A) → All P xs → ItemsAre run xs → AllItems run P
-each_item P run xs all are k =
-    let few : length run.items ≤ length xs = let small = are.0 in let long = run.long in omega arith in
-    item_holds P xs run.items k (run.at k) (reads_items run k) few all (are.3 k)

@@ -1,5 +1,5 @@
 -- What the makers of scalars make is valid.
-use Rattle.std.proofs.Common.{◌≡◌, ℕ, zero, suc, ◌==◌, ◌<◌, Bool, true, false, if◌then◌else◌, List, [], ◌∷◌, length, Option, Some, None, position, slice_get, get_or, option_map, Vec, refl, sym, ◌∙◌, subst, true≢false, arith, rules}
+use Rattle.std.proofs.Common.{◌≡◌, ℕ, zero, suc, ◌==◌, ◌<◌, Bool, true, false, if◌then◌else◌, List, [], ◌∷◌, length, Option, Some, None, position, slice_get, get_or, Vec, refl, sym, ◌∙◌, subst, true≢false, arith, rules}
 use Rattle.std.proofs.lemmas.List.Quantifiers.{position-Some}
 use Rattle.vortex_dtype.specs.TypeEquality.{tree_eq}
 use Rattle.vortex_dtype.specs.TypeLaws.{tree_eq-Decides}
@@ -12,10 +12,11 @@ use Rattle.vortex_dtype.specs.declared.types.ExtDType.{ExtDType}
 use Rattle.vortex_dtype.specs.declared.types.UnionVariants.{UnionVariants}
 use Rattle.vortex_dtype.specs.declared.error.VortexError.TheVariants.{UnknownTypeId}
 use Rattle.vortex_value.specs.Makers.{child_cause, union_cause, tagged_cause, union_of, extension_over}
-use Rattle.vortex_value.specs.RawOf.{raw_of, raws_of, value_tree}
-use Rattle.vortex_value.specs.RawTree.{RawTree, absent, raw_tuple, raw_union}
+use Rattle.vortex_value.specs.RawOf.{raw_of, raws_of, union_tree, value_tree}
+use Rattle.vortex_value.specs.RawTree.{RawTree, absent, raw_tuple}
 use Rattle.vortex_value.specs.Scalars.{IsValid}
 use Rattle.vortex_value.specs.declared.values.ScalarValue.{ScalarValue, the_lemmas as the_values}
+use Rattle.vortex_value.specs.declared.unions.UnionValue.{UnionValue}
 use Rattle.vortex_value.specs.declared.values.ScalarValue as raw
 use Rattle.std.specs.declared.boxed.Box.{Box}
 use Rattle.std.specs.declared.alloc.Global.{Global}
@@ -108,9 +109,8 @@ type_of-Extension e = search (rules, the_lemmas)
 pub type_of-Union : (v : UnionVariants) (n : Nullability) → type_of (Union v n) ≡ union_of (variants_of v) n
 type_of-Union v n = search (rules, the_lemmas)
 
-pub raw_of-Union : (id : ℕ) (child : Option (Box ScalarValue Global)) (value : Option ScalarValue) → option_map (λ b. b.value) child ≡ value
-    → raw_of (Some (raw.Union (record { type_id = id; child = child }))) ≡ raw_union id (raw_of value)
-raw_of-Union id child value h = search (rules, the_values)
+pub raw_of-Union : (u : UnionValue) → raw_of (Some (raw.Union u)) ≡ union_tree u
+raw_of-Union u = search (rules, the_values)
 
 pub type_of-List : (e : Box DType Global) (n : Nullability) → type_of (ListType e n) ≡ list_type (type_of e.value) n
 type_of-List e n = search (rules, the_lemmas)

@@ -1,5 +1,5 @@
 -- Steps of the check of validity: what one level of a raw value and of a type is, and loops over parts.
-use Rattle.std.proofs.Common.{◌≡◌, ◌≢◌, ℕ, zero, suc, ◌<◌, ◌≤◌, Result, Bool, true, false, List, [], ◌∷◌, ◌++◌, length, Option, Some, None, option_map, Vec, Global, Box, drop, get_or, drop-cons, refl, sym, ap, ◌∙◌, subst, arith, rules, reverse}
+use Rattle.std.proofs.Common.{◌≡◌, ◌≢◌, ℕ, suc, ◌<◌, Result, List, [], ◌∷◌, ◌++◌, length, Option, Some, None, drop, get_or, drop-cons, refl, ap, arith, reverse}
 use Rattle.std.proofs.lemmas.List.{reverse-append}
 use Rattle.vortex_dtype.specs.declared.error.Breach.{Breach}
 use Rattle.vortex_dtype.specs.declared.error.Step.{Step}
@@ -9,8 +9,8 @@ use Rattle.vortex_dtype.specs.TypeOf.{types_from}
 use Rattle.vortex_dtype.specs.TypeTree.{TypeTree, storage}
 use Rattle.vortex_value.specs.Breaches.{Found, HasSteps, count_types, first, here, under, breaches, breaches_at, element_breaches, entry_breaches, breaches_of_entry}
 use Rattle.vortex_value.specs.Faults.{Checks, Shows}
-use Rattle.vortex_value.specs.RawOf.{raw_of, raws_of, value_tree}
-use Rattle.vortex_value.specs.RawTree.{raw_tuple, count}
+use Rattle.vortex_value.specs.RawOf.{raw_of, raws_of}
+use Rattle.vortex_value.specs.RawTree.{raw_tuple}
 use Rattle.vortex_value.specs.declared.validate.Fault.{Fault}
 use Rattle.vortex_value.specs.declared.validate.Fault.TheVariants.{NoMemory, First}
 use Rattle.vortex_value.specs.declared.values.ScalarValue.{ScalarValue}

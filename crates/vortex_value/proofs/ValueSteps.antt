@@ -1,10 +1,10 @@
 -- What the folds over raw values give at each node with parts, and the lists of their trees.
-use Rattle.std.proofs.Common.{◌≡◌, ◌≢◌, ℕ, suc, Bool, true, false, ◌&&◌, List, [], ◌∷◌, length, map, Option, Some, None, option_map, Vec, Box, Global, refl, ap, rules, arith}
+use Rattle.std.proofs.Common.{◌≡◌, ◌≢◌, suc, Bool, true, false, ◌&&◌, List, [], ◌∷◌, length, Option, option_map, Vec, Box, Global, refl, ap, rules, arith}
 use Rattle.vortex_dtype.specs.TypeOf.{type_of}
 use Rattle.vortex_value.specs.Content.{content, contents}
 use Rattle.vortex_value.specs.Equality.{equal, all_equal}
 use Rattle.vortex_value.specs.RawOf.{raw_or_absent, value_tree, scalar_tree, union_tree, raw_of, raws_of}
-use Rattle.vortex_value.specs.RawTree.{RawTrees, raw_tuple, raw_union, raw_variant, raw_then, count}
+use Rattle.vortex_value.specs.RawTree.{raw_tuple, raw_union, raw_variant, count}
 use Rattle.vortex_value.specs.declared.scalars.Scalar.{Scalar}
 use Rattle.vortex_value.specs.declared.unions.UnionValue.{UnionValue}
 use Rattle.vortex_value.specs.declared.values.ScalarValue.{ScalarValue, Tuple, Union, Variant, the_lemmas}

@@ -3,7 +3,7 @@
 use Rattle.std.proofs.Common.{ap, sym, ◌∙◌, subst}
 use Rattle.std.proofs.Math.Facts.{leb_yes, yes_leb}
 use Rattle.std.specs.Prelude.{◌≡◌, ◌==◌, ℕ, zero, suc, ℤ, pos, Bool, true, false, not, [], ◌∷◌, refl, codes}
-use Rattle.vortex_dtype.specs.TypeTree.{TypeTree, null_type, integer_type, utf8_type, list_type, fixed_size_list_type, struct_type, extension_type, type_then, IsNullable, storage, Same}
+use Rattle.vortex_dtype.specs.TypeTree.{TypeTree, null_type, integer_type, utf8_type, list_type, fixed_size_list_type, struct_type, union_type, extension_type, type_then, IsNullable, storage, Same}
 use Rattle.vortex_dtype.specs.declared.kinds.Nullability.TheVariants.{NonNullable}
 use Rattle.vortex_dtype.specs.declared.kinds.Nullability.{Nullability}
 use Rattle.vortex_dtype.specs.declared.kinds.PType.TheVariants.{U8, U32, U64, I8, I16, I32, I64}
@@ -14,7 +14,7 @@ use Rattle.vortex_value.specs.Chains.{Runs}
 use Rattle.vortex_value.specs.Content.{Content, null, truth, whole, text, sequence, tagged, typed, Contents, no_contents, content_then, content, contents}
 use Rattle.vortex_value.specs.RawTree.{RawTree, absent, raw_bool, raw_integer, raw_text, raw_tuple, raw_union, raw_variant, RawTrees, no_raws, raw_then, count}
 use Rattle.vortex_value.specs.Validity.{EachValid, Valid}
-use Rattle.vortex_value.specs.Examples.{i8, i16, i32, i64, u8, u32, u64, boolean, utf8, binary, variant, or_null, list_of, fixed_list_of, struct_of, extension_a, extension_b, a_and_b, int_or_string, unsorted_map, sorted_map, tuple, entry, int, parts, number, nested_list, nested_tuple, nested_parts, tell_apart, no_null, is_integer_of, is_sorted_map, i32_valid}
+use Rattle.vortex_value.specs.Examples.{i8, i16, i32, i64, u8, u32, u64, boolean, utf8, binary, variant, or_null, list_of, fixed_list_of, struct_of, union_of, extension_a, extension_b, a_and_b, int_or_string, unsorted_map, sorted_map, tuple, entry, int, parts, number, nested_list, nested_tuple, nested_parts, tell_apart, no_null, is_integer_of, is_sorted_map, i32_valid}
 
 -- What the proofs use. A content that a type has is known by cases: a null asks for a nullable type, a number for one
 -- in the kind's range, a sequence for parts that the element type has, and for as many as the size says.
@@ -326,6 +326,18 @@ variant_to_a_nullable_variant =
 
 pub union_to_an_extension_over_it : CanCast int_or_string (extension_a int_or_string) (tagged 5 (number 42))
 union_to_an_extension_over_it = (into_extension (no, same_type refl), record { value = raw_union 5 (int 42); valid = i32_valid 42 tt; same = refl })
+
+-- the same variants, but for a wider integer
+abbrev long_or_string : TypeTree
+long_or_string = or_null (union_of (codes "int" ∷ codes "string" ∷ []) (5 ∷ 9 ∷ []) (or_null i64 ∷ utf8 ∷ []))
+
+pub union_to_one_of_a_wider_integer_is_refused_for_now : ¬ (Allows int_or_string long_or_string (tagged 5 (number 42)))
+union_to_one_of_a_wider_integer_is_refused_for_now =
+    no_row (λ h. tell_apart (λ t. is_integer_of I32 (first_variant t)) h tt) absurd no (λ a b. a) no no no absurd
+  where
+    first_variant : TypeTree → TypeTree
+    first_variant (union_type names (type_then t ts) ids n) = t
+    first_variant _ = null_type
 
 -- maps: entry by entry
 

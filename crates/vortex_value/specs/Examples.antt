@@ -272,6 +272,16 @@ union_takes_a_variant_by_its_id = i32_valid 1 tt
 pub union_takes_no_other_id : ¬ (Valid only_int (raw_union 4 (int 1)))
 union_takes_no_other_id h = h
 
+-- two variants with the id 3, of which the first counts
+abbrev pub int_twice : TypeTree
+int_twice = union_of (codes "int" ∷ codes "string" ∷ []) (3 ∷ 3 ∷ []) (i32 ∷ utf8 ∷ [])
+
+pub union_takes_the_first_variant_of_an_id : Valid int_twice (raw_union 3 (int 1))
+union_takes_the_first_variant_of_an_id = i32_valid 1 tt
+
+pub union_takes_no_second_variant_of_an_id : ¬ (Valid int_twice (raw_union 3 letter_a))
+union_takes_no_second_variant_of_an_id h = h
+
 pub union_takes_no_null_child : ¬ (Valid only_int (raw_union 3 absent))
 union_takes_no_null_child h = no_null h
 

@@ -1,5 +1,5 @@
 -- What the check of validity carries up: the first breach with its steps, the innermost first, or want of memory for them.
-use Rattle.std.specs.Prelude.{◌≡◌, List, [], ◌∷◌, Bool, true, false, Option, Some, None, Result, Ok, Err, reverse}
+use Rattle.std.specs.Prelude.{◌≡◌, List, [], ◌∷◌, Bool, true, false, Some, Result, Ok, Err, reverse}
 use Rattle.vortex_value.specs.Breaches.{Found, HasSteps, first}
 use Rattle.vortex_value.specs.declared.validate.Fault.{Fault}
 use Rattle.vortex_value.specs.declared.validate.Fault.TheVariants.{NoMemory, First}

@@ -1,13 +1,13 @@
 //! Makers of scalars: each answers a valid scalar of the stated type, or refuses by name.
 
-ghost use Rattle.std.specs.Prelude.{◌≡◌, ◌↔◌, IsOk, IfOk, IfErr, MatchResult, IsUtf8, option_map};
+ghost use Rattle.std.specs.Prelude.{◌≡◌, ◌≢◌, ◌↔◌, IsOk, IfOk, IfErr, IsUtf8, true};
 ghost use Rattle.vortex_dtype.specs.TypeOf.{type_of, ext_of, variants_of};
 ghost use Rattle.vortex_dtype.specs.TypeTree.{IsNullable, as_nullable, bool_type, integer_type, utf8_type, binary_type, variant_type};
 ghost use Rattle.vortex_dtype.specs.declared.error.VortexError.TheVariants.{OutOfMemory};
 ghost use Rattle.vortex_dtype.specs.declared.kinds.Nullability.TheVariants.{NonNullable};
 ghost use Rattle.vortex_pvalue.specs.Whole.{kind_of, whole_of};
 ghost use Rattle.vortex_value.specs.Makers.{RefusesExactly, RefusesOrNoMemory, child_cause, union_cause, inside_cause, union_of, extension_over};
-ghost use Rattle.vortex_value.specs.RawTree.{absent, raw_bool, raw_integer, raw_text, raw_bytes, raw_union, raw_variant};
+ghost use Rattle.vortex_value.specs.RawTree.{absent, raw_bool, raw_integer, raw_text, raw_bytes, raw_union, raw_variant, is_absent};
 ghost use Rattle.vortex_value.specs.Scalars.{IsMadeOf, IsValid, scalar_raw, scalar_type};
 
 use crate::scalars::Scalar;
@@ -161,7 +161,8 @@ impl Scalar {
     ///
     /// `UnknownTypeId` where no variant has the id, else `WrongChild` with the variant's place where
     /// the child's type is not exactly the variant's; both before any memory is asked for. Else
-    /// `OutOfMemory` where there is none. Ports `Scalar::union`.
+    /// `OutOfMemory` where there is none for the child; a null child takes none. Ports
+    /// `Scalar::union`.
     pub fn union(
         alloc: Global,
         variants: UnionVariants,
@@ -172,15 +173,16 @@ impl Scalar {
         requires { IsValid child }
         ensures refused { RefusesOrNoMemory (union_cause (variants_of variants) type_id (scalar_type child)) result }
         ensures made { IfOk result (IsMadeOf (union_of (variants_of variants) nullability) (raw_union type_id (scalar_raw child))) }
+        ensures childless { is_absent (scalar_raw child) ≡ true → IfErr result (λ e. e ≢ OutOfMemory) }
         ensures valid { IfOk result IsValid }
     {
         if let Some(cause) = union_cause(&variants, type_id, &child.dtype) {
             return Err(cause);
         }
-        let child = boxed(alloc, child.value)?;
+        let union = UnionValue::new(alloc, type_id, child.value)?;
         Ok(Scalar {
             dtype: DType::Union(variants, nullability),
-            value: Some(ScalarValue::Union(UnionValue { type_id, child })),
+            value: Some(ScalarValue::Union(union)),
         })
     }
 
@@ -201,16 +203,6 @@ impl Scalar {
             dtype: DType::Variant(Nullability::NonNullable),
             value: Some(ScalarValue::Variant(Box::new(alloc, value)?)),
         })
-    }
-}
-
-/// The raw value in memory of its own.
-fn boxed(alloc: Global, value: Option<ScalarValue>) -> Result<Option<Box<ScalarValue>>, VortexError>
-    ensures { MatchResult result (λ kept. option_map (λ b. b.value) kept ≡ value) (λ e. e ≡ OutOfMemory) }
-{
-    match value {
-        Some(value) => Ok(Some(Box::new(alloc, value)?)),
-        None => Ok(None),
     }
 }
 

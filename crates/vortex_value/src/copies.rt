@@ -1,6 +1,7 @@
 //! Copies of raw values and of scalars: the same tree, in memory of its own.
 
-ghost use Rattle.std.specs.Prelude.{◌≡◌, MatchResult, map, option_map};
+ghost use Rattle.std.specs.Prelude.{◌≡◌, MatchResult, false, map, option_map};
+ghost use Rattle.std.specs.Option.{is_none};
 ghost use Rattle.vortex_dtype.specs.TypeOf.{type_of};
 ghost use Rattle.vortex_dtype.specs.TypeTree.{IsFlat};
 ghost use Rattle.vortex_dtype.specs.declared.error.VortexError.TheVariants.{OutOfMemory};
@@ -56,7 +57,7 @@ fn copy_tuple(
 /// The same id and child.
 #[cycle(copies)]
 pub(crate) fn copy_union(alloc: Global, union: &UnionValue) -> Result<UnionValue, VortexError>
-    ensures { MatchResult result (λ copy. union_tree copy ≡ union_tree union.now) (λ e. e ≡ OutOfMemory) }
+    ensures { MatchResult result (λ copy. union_tree copy ≡ union_tree union.now) (λ e. (e ≡ OutOfMemory) × (is_none union.now.child ≡ false)) }
 {
     let child = match &union.child {
         Some(child) => Some(Box::new(alloc, copy_value(alloc, child)?)?),

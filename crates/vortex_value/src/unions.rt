@@ -1,7 +1,7 @@
 //! The raw values of unions.
 
 ghost use Rattle.std.specs.Prelude.{◌≡◌, MatchResult, false};
-ghost use Rattle.std.specs.Option.{option_copied};
+ghost use Rattle.std.specs.Option.{is_none, option_copied};
 ghost use Rattle.vortex_dtype.specs.declared.error.VortexError.TheVariants.{OutOfMemory};
 ghost use Rattle.vortex_value.specs.RawTree.{raw_union, is_absent};
 
@@ -66,9 +66,9 @@ impl UnionValue {
 
     /// A copy: the same id and child.
     ///
-    /// `OutOfMemory` is its only refusal. Ports the `Clone` of `UnionValue`.
+    /// `OutOfMemory` is its only refusal, and never without a child. Ports the `Clone` of `UnionValue`.
     pub fn clone(&self, alloc: Global) -> Result<UnionValue, VortexError>
-        ensures { MatchResult result (λ copy. union_tree copy ≡ union_tree self.now) (λ e. e ≡ OutOfMemory) }
+        ensures { MatchResult result (λ copy. union_tree copy ≡ union_tree self.now) (λ e. (e ≡ OutOfMemory) × (is_none self.now.child ≡ false)) }
     {
         copies::copy_union(alloc, self)
     }

@@ -1,5 +1,5 @@
 -- What is left to test in a loop, and that each call goes down the value.
-use Rattle.std.proofs.Common.{◌≡◌, ℕ, ◌+◌, ◌*◌, Option, Some, None, Bor, drop, length}
+use Rattle.std.proofs.Common.{◌≡◌, ℕ, ◌+◌, ◌*◌, Option, Some, None, Bor, drop}
 use Rattle.vortex_dtype.specs.TypeOf.{map_of, type_of, types_of}
 use Rattle.vortex_value.specs.Breaches.{element_breaches, entry_breaches, field_breaches}
 use Rattle.vortex_value.specs.Faults.{none_found}

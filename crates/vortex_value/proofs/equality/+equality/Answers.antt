@@ -1,5 +1,5 @@
-use Rattle.std.proofs.Common.{rules, sym, arith}
-use Rattle.vortex_value.proofs.ValueSteps.{all_equal-lengths, shown}
+use Rattle.std.proofs.Common.{sym, arith}
+use Rattle.vortex_value.proofs.ValueSteps.{all_equal-lengths}
 use Rattle.vortex_value.proofs.equality.+equality.Goals as goal
 
 pub equal_tuples-returns-then-a-b : goal.equal_tuples-returns-then-a-b

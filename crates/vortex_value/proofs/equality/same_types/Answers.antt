@@ -1,4 +1,3 @@
-use Rattle.std.proofs.Common.{sym}
 use Rattle.std.proofs.lemmas.Bool.Decides.{same_from_decides}
 use Rattle.vortex_dtype.specs.TypeOf.{type_of}
 use Rattle.vortex_value.specs.EqualityLaws.{same_type-Decides}

@@ -1,4 +1,4 @@
-use Rattle.std.proofs.Common.{◌≡◌, None, Some, rules}
+use Rattle.std.proofs.Common.{◌≡◌, ◌∙◌, None, Some, rules}
 use Rattle.vortex_dtype.specs.TypeOf.{type_of, variants_of}
 use Rattle.vortex_dtype.specs.declared.types.DType.{Union}
 use Rattle.vortex_value.specs.Makers.{union_cause, union_of}
@@ -12,7 +12,7 @@ pub returns-clause-valid : goal.returns-clause-valid
 returns-clause-valid c =
     let variants = variants_of c.args.variants in
     let id = c.args.type_id in
-    let boxed = c.in_ok-child.child in
+    let made = c.in_ok-union.union in
     let accepted : union_cause (variants_of c.args.variants) c.args.type_id (type_of c.args.child.dtype) ≡ None = search rules in
     let child = union_valid variants id (type_of c.args.child.dtype) (scalar_raw c.args.child) accepted c.requires in
-    scalar_valid (Union c.args.variants c.args.nullability) (Some (raw.Union (record { type_id = id; child = boxed }))) (union_of variants c.args.nullability) (raw_union id (scalar_raw c.args.child)) (type_of-Union c.args.variants c.args.nullability) (raw_of-Union id boxed c.args.child.value c.in_ok-child.ensures) child
+    scalar_valid (Union c.args.variants c.args.nullability) (Some (raw.Union made)) (union_of variants c.args.nullability) (raw_union id (scalar_raw c.args.child)) (type_of-Union c.args.variants c.args.nullability) (raw_of-Union made ∙ c.in_ok-union.ensures) child

@@ -2,7 +2,6 @@
 use Rattle.std.proofs.Common.{Ok, Err}
 use Rattle.std.specs.Option.{option_copied}
 use Rattle.vortex_dtype.specs.TypeOf.{type_of}
-use Rattle.vortex_dtype.specs.declared.error.VortexError.{VortexError}
 use Rattle.vortex_value.specs.RawOf.{raw_of}
 use Rattle.vortex_value.proofs.ValidityLaws.{flat_refusal, valid_answers}
 use Rattle.vortex_value.proofs.scalars.Scalar.validate.Goals as goal
