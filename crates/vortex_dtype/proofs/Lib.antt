@@ -1,2 +1,3 @@
 pub mod NullableLaws
+pub mod PlaceLaws
 pub mod TypeSteps

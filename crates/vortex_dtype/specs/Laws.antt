@@ -1,8 +1,9 @@
 -- The laws of types: equality and sameness are equivalences, and a type made nullable is the same type.
-use Rattle.std.specs.Prelude.{◌≡◌, ◌↔◌, Bool, IsTrue}
+use Rattle.std.specs.Prelude.{◌≡◌, ◌↔◌, ℕ, ◌==◌, Bool, false, List, Some, position, slice_get, IsTrue}
 use Rattle.vortex_dtype.specs.TypeTree.{TypeTree, Same, IsNullable, as_nullable, erase}
 use Rattle.vortex_dtype.specs.TypeEquality.{tree_eq}
 use Rattle.vortex_dtype.specs.Feeds.{tree_feed}
+use Rattle.vortex_dtype.specs.Refusals.{repeats}
 
 -- the test of equality, at which `==` is proved, passes exactly where the trees are one
 abbrev pub EqualityDecides : Type 0
@@ -22,6 +23,10 @@ EqualityIsEquivalence =
     ((t : TypeTree) → IsTrue (tree_eq t t))
     × ((s t : TypeTree) → IsTrue (tree_eq s t) → IsTrue (tree_eq t s))
     × ((s t u : TypeTree) → IsTrue (tree_eq s t) → IsTrue (tree_eq t u) → IsTrue (tree_eq s u))
+
+-- where no id stands twice, an id stands at a place exactly where the search for it gives the place
+abbrev pub PlacesAreInverse : Type 0
+PlacesAreInverse = (ids : List ℕ) (i id : ℕ) → repeats ids ≡ false → (slice_get ids i ≡ Some id) ↔ (position (λ x. x == id) ids ≡ Some i)
 
 -- to be the same up to nullability is reflexive, symmetric and transitive
 abbrev pub SameIsEquivalence : Type 0

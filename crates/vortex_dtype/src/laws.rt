@@ -1,6 +1,6 @@
 //! Laws of types, each the contract of a function that does nothing.
 
-ghost use Rattle.vortex_dtype.specs.Laws.{AgreesWithHash, EqualityDecides, EqualityIsEquivalence, EqualsBy, SameIsEquivalence, NullableIsSame, SameFeedSame};
+ghost use Rattle.vortex_dtype.specs.Laws.{AgreesWithHash, EqualityDecides, EqualityIsEquivalence, EqualsBy, SameIsEquivalence, NullableIsSame, PlacesAreInverse, SameFeedSame};
 ghost use Rattle.vortex_dtype.specs.TypeOf.{ext_of, fields_of, map_of, type_of, variants_of};
 
 use crate::types::{DType, ExtDType, MapDType, StructFields, UnionVariants};
@@ -38,6 +38,12 @@ pub fn hash_agrees()
 /// To be the same type up to nullability is an equivalence.
 pub fn same_is_an_equivalence()
     ensures { SameIsEquivalence }
+{}
+
+/// The place of an id and the id at a place are inverse to one another, where no id stands twice, as
+/// in the variants that `UnionVariants::try_new` makes.
+pub fn places_are_inverse()
+    ensures { PlacesAreInverse }
 {}
 
 /// A type made nullable takes a null, and is the same type up to nullability.
