@@ -311,6 +311,8 @@ fn integers_are_made(rt: HostRuntime) {
     assert!(rt; has_int(&same.value, 7));
     let other = Scalar::primitive_value(PValue::I64(1), PType::I32, NonNullable);
     assert!(rt; is_refused(other, VortexError::WrongPType));
+    let nullable = Scalar::primitive_value(PValue::I64(1), PType::I32, Nullable);
+    assert!(rt; is_refused(nullable, VortexError::WrongPType));
 }
 
 #[test]
@@ -355,6 +357,13 @@ fn lists_refuse_the_first_wrong_child(rt: HostRuntime) {
     let wrong = Scalar::list(rt.alloc(), int_type(NonNullable), children, Nullable);
     assert!(rt; is_refused(wrong, VortexError::WrongChild { index: 1 }));
     let children = single(rt.alloc(), maybe_int(1)).expect(&rt, "children");
+    let wrong = Scalar::list(rt.alloc(), int_type(NonNullable), children, Nullable);
+    assert!(rt; is_refused(wrong, VortexError::WrongChild { index: 0 }));
+}
+
+#[test]
+fn lists_refuse_the_first_of_two_wrong_children(rt: HostRuntime) {
+    let children = pair(rt.alloc(), long(1), long(2)).expect(&rt, "children");
     let wrong = Scalar::list(rt.alloc(), int_type(NonNullable), children, Nullable);
     assert!(rt; is_refused(wrong, VortexError::WrongChild { index: 0 }));
 }

@@ -117,8 +117,20 @@ fn is_invalid(refusal: Option<VortexError>, steps: &[Step], breach: Breach) -> b
 }
 
 #[test]
-fn paths_in_lists(rt: HostRuntime) {
+fn a_number_of_another_kind_breaks(rt: HostRuntime) {
     breaks(&rt, I32, long(1), &[], Breach::WrongValue);
+    breaks(&rt, I32, long(0), &[], Breach::WrongValue);
+}
+
+#[test]
+fn a_wrong_length_comes_before_the_parts(rt: HostRuntime) {
+    let fields = struct_of_two(&rt, I32, I32);
+    let value = tuple(&rt, [truth(true)]);
+    breaks(&rt, fields, value, &[], Breach::WrongLength);
+}
+
+#[test]
+fn paths_in_lists(rt: HostRuntime) {
     let lists = list(&rt, list(&rt, I32));
     let value = tuple(&rt, [tuple(&rt, [integer(1)]), tuple(&rt, [None])]);
     let path = [Step::Element(1), Step::Element(0)];

@@ -173,6 +173,13 @@ fn copies_scalars(rt: HostRuntime) -> Result<(), Fail> {
 }
 
 #[test]
+fn copies_nulls_of_flat_types(rt: HostRuntime) {
+    let null = Scalar::null(DType::Primitive(PType::I32, NULLABLE));
+    let copy = null.clone(rt.alloc()).expect(&rt, "a copy");
+    assert_eq!(rt; copy, null);
+}
+
+#[test]
 fn copies_deep_values(rt: HostRuntime) -> Result<(), Fail> {
     let alloc = rt.alloc();
     let deep = nested(alloc, 64)?;
@@ -213,16 +220,21 @@ fn unions_are_equal_by_id_and_child(rt: HostRuntime) -> Result<(), Fail> {
 }
 
 #[test]
-fn integers_are_equal_as_whole_numbers(rt: HostRuntime) -> Result<(), Fail> {
-    let number = |value: PValue| scalar(value, NON_NULLABLE);
-    assert_ne!(rt; number(PValue::I32(0)), number(PValue::I32(1)));
-    assert_ne!(rt; number(PValue::I32(0)), number(PValue::I64(1)));
-    assert_ne!(rt; number(PValue::I32(1)), number(PValue::I64(1)));
-    assert_eq!(rt; number(PValue::I32(1)), scalar(PValue::I32(1), NULLABLE));
-    let raw = |value: PValue| ScalarValue::Primitive(value);
-    assert_eq!(rt; raw(PValue::I32(1)), raw(PValue::I64(1)));
-    assert_ne!(rt; raw(PValue::I32(-1)), raw(PValue::U32(u32::MAX)));
-    Ok(())
+fn raw_integers_are_equal_as_whole_numbers(rt: HostRuntime) {
+    let one = ScalarValue::Primitive(PValue::I32(1));
+    assert_eq!(rt; one, ScalarValue::Primitive(PValue::I64(1)));
+    let below = ScalarValue::Primitive(PValue::I32(-1));
+    assert_ne!(rt; below, ScalarValue::Primitive(PValue::U32(u32::MAX)));
+}
+
+#[test]
+fn scalars_are_equal_by_type_and_number(rt: HostRuntime) {
+    let one = scalar(PValue::I32(1), NON_NULLABLE);
+    assert_eq!(rt; one, scalar(PValue::I32(1), NULLABLE));
+    assert_ne!(rt; one, scalar(PValue::I64(1), NON_NULLABLE));
+    let zero = scalar(PValue::I32(0), NON_NULLABLE);
+    assert_ne!(rt; zero, one);
+    assert_ne!(rt; zero, scalar(PValue::I64(1), NON_NULLABLE));
 }
 
 /// Whether a variant of 42 as `u32` equals a variant of this number.

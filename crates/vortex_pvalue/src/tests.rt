@@ -63,6 +63,7 @@ fn is_native<T: NativePType + fmt::Debug>(
 ) {
     assert_eq!(rt; T::PTYPE, value.ptype());
     assert_eq!(rt; number.into_pvalue(), value);
+    assert_eq!(rt; number.into_pvalue().ptype(), value.ptype());
     assert_eq!(rt; T::from_pvalue(&value), Some(number));
     assert_eq!(rt; T::from_pvalue(&refused), None);
     assert_eq!(rt; value.cast::<T>(), Ok(number));
@@ -73,6 +74,7 @@ fn is_native<T: NativePType + fmt::Debug>(
 fn each_integer_type_converts(rt: HostRuntime) {
     let most = PValue::U64(u64::MAX);
     let minus_one = PValue::I64(-1);
+    converts(&rt, 0u8, PValue::U8(0), PValue::U16(256));
     converts(&rt, 255u8, PValue::U8(255), PValue::U16(256));
     converts(&rt, 65535u16, PValue::U16(65535), minus_one);
     converts(&rt, 4294967295u32, PValue::U32(4294967295), minus_one);
@@ -81,7 +83,7 @@ fn each_integer_type_converts(rt: HostRuntime) {
     converts(&rt, -32768i16, PValue::I16(-32768), PValue::U16(32768));
     converts(&rt, -7i32, PValue::I32(-7), most);
     converts(&rt, i64::MIN, PValue::I64(i64::MIN), most);
-    converts(&rt, 7usize, PValue::U64(7), minus_one);
+    converts(&rt, 4294967296usize, PValue::U64(4294967296), minus_one);
     is_native(&rt, 255u8, PValue::U8(255), PValue::U16(256));
     is_native(&rt, 65535u16, PValue::U16(65535), minus_one);
     is_native(&rt, 4294967295u32, PValue::U32(4294967295), minus_one);
@@ -107,21 +109,33 @@ fn limits_and_zero(rt: HostRuntime) {
 }
 
 #[test]
-fn reads_at_the_limits(rt: HostRuntime) {
+fn reads_signed_kinds_at_the_limits(rt: HostRuntime) {
     assert_eq!(rt;
-        [PValue::I16(-128).as_i8(), PValue::I16(-129).as_i8()],
-        [Some(-128), None]
-    );
-    assert_eq!(rt;
-        [PValue::U16(32767).as_i16(), PValue::U16(32768).as_i16()],
-        [Some(32767), None]
+        [
+            PValue::I16(-129).as_i8(),
+            PValue::I16(-128).as_i8(),
+            PValue::I16(127).as_i8(),
+            PValue::I16(128).as_i8()
+        ],
+        [None, Some(-128), Some(127), None]
     );
     assert_eq!(rt;
         [
-            PValue::I64(-2147483648).as_i32(),
-            PValue::I64(-2147483649).as_i32()
+            PValue::I32(-32769).as_i16(),
+            PValue::I32(-32768).as_i16(),
+            PValue::U16(32767).as_i16(),
+            PValue::U16(32768).as_i16()
         ],
-        [Some(-2147483648), None]
+        [None, Some(-32768), Some(32767), None]
+    );
+    assert_eq!(rt;
+        [
+            PValue::I64(-2147483649).as_i32(),
+            PValue::I64(-2147483648).as_i32(),
+            PValue::I64(2147483647).as_i32(),
+            PValue::I64(2147483648).as_i32()
+        ],
+        [None, Some(-2147483648), Some(2147483647), None]
     );
     assert_eq!(rt;
         [
@@ -130,20 +144,36 @@ fn reads_at_the_limits(rt: HostRuntime) {
         ],
         [Some(9223372036854775807), None]
     );
+}
+
+#[test]
+fn reads_unsigned_kinds_at_the_limits(rt: HostRuntime) {
     assert_eq!(rt;
-        [PValue::I32(255).as_u8(), PValue::I32(256).as_u8()],
-        [Some(255), None]
-    );
-    assert_eq!(rt;
-        [PValue::I32(0).as_u16(), PValue::I32(-1).as_u16()],
-        [Some(0), None]
+        [
+            PValue::I32(-1).as_u8(),
+            PValue::I32(0).as_u8(),
+            PValue::I32(255).as_u8(),
+            PValue::I32(256).as_u8()
+        ],
+        [None, Some(0), Some(255), None]
     );
     assert_eq!(rt;
         [
+            PValue::I32(-1).as_u16(),
+            PValue::I32(0).as_u16(),
+            PValue::U32(65535).as_u16(),
+            PValue::U32(65536).as_u16()
+        ],
+        [None, Some(0), Some(65535), None]
+    );
+    assert_eq!(rt;
+        [
+            PValue::I8(-1).as_u32(),
+            PValue::I8(0).as_u32(),
             PValue::I64(4294967295).as_u32(),
             PValue::I64(4294967296).as_u32()
         ],
-        [Some(4294967295), None]
+        [None, Some(0), Some(4294967295), None]
     );
     assert_eq!(rt;
         [PValue::I8(127).as_u64(), PValue::I8(-1).as_u64()],
