@@ -1,5 +1,5 @@
 -- Looking into types and their parts.
-use Rattle.std.specs.Prelude.{ℕ, List, [], ◌∷◌, Bool, true, false, Option, Some, None, position, slice_get, option_and_then}
+use Rattle.std.specs.Prelude.{◌≡◌, ℕ, List, [], ◌∷◌, map, Bool, true, false, Option, Some, None, position, slice_get, option_and_then}
 use Rattle.vortex_dtype.specs.TypeTree.{TypeTree, TypeTrees, utf8_type, binary_type, list_type, fixed_size_list_type, map_type, struct_type, union_type, extension_type, no_types, type_then, as_nullable}
 use Rattle.vortex_dtype.specs.TypeOf.{ExtensionParts, MapParts, FieldParts, VariantParts}
 use Rattle.vortex_dtype.specs.TypeEquality.{bytes_eq}
@@ -11,6 +11,10 @@ field_index f name = position (λ n. bytes_eq n name) f.names
 -- the type of the first field with the name
 abbrev pub type_named : FieldParts → List ℕ → Option TypeTree
 type_named f name = option_and_then (slice_get f.types) (field_index f name)
+
+-- for each of the names, in their order, that name and the type of the first field that has it
+abbrev pub IsProjection : FieldParts → List (List ℕ) → FieldParts → Type 0
+IsProjection f names g = (g.names ≡ names) × (map (type_named f) names ≡ map Some g.types)
 
 -- the types that a tree holds, as a list
 abbrev pub types_in : TypeTrees → List TypeTree

@@ -1,11 +1,26 @@
--- The first cause for which parts make no type.
-use Rattle.std.specs.Prelude.{ℕ, ◌==◌, ◌||◌, ◌&&◌, List, [], ◌∷◌, length, Bool, false, not, Option, Some, None, if◌then◌else◌, is_none}
+-- When calls on types and their parts refuse, and with what.
+use Rattle.std.specs.Prelude.{◌≡◌, ℕ, ◌==◌, ◌||◌, ◌&&◌, List, [], ◌∷◌, length, Bool, false, not, Option, Some, None, if◌then◌else◌, is_none, Result, IsOk, IfErr, IsErrAnd}
 use Rattle.std.specs.List.{list_any}
 use Rattle.vortex_dtype.specs.declared.error.VortexError.{VortexError}
-use Rattle.vortex_dtype.specs.declared.error.VortexError.TheVariants.{BadType}
-use Rattle.vortex_dtype.specs.declared.error.TypeCause.TheVariants.{LengthsDiffer, RepeatedTypeId}
+use Rattle.vortex_dtype.specs.declared.error.VortexError.TheVariants.{BadType, NoField, OutOfMemory}
+use Rattle.vortex_dtype.specs.declared.error.TypeCause.TheVariants.{LengthsDiffer, NullableKey, RepeatedTypeId}
 use Rattle.vortex_dtype.specs.Parts.{type_named}
 use Rattle.vortex_dtype.specs.TypeOf.{FieldParts}
+use Rattle.vortex_dtype.specs.TypeTree.{TypeTree, is_nullable}
+
+-- the call succeeds where there is no cause to refuse, and else answers the cause
+abbrev pub RefusesExactly : {T : Type 0} → Option VortexError → Result T VortexError → Type 0
+RefusesExactly None result = IsOk result
+RefusesExactly (Some cause) result = IsErrAnd result (λ e. e ≡ cause)
+
+-- the call succeeds or finds no memory where there is no cause to refuse, and else answers the cause
+abbrev pub RefusesOrNoMemory : {T : Type 0} → Option VortexError → Result T VortexError → Type 0
+RefusesOrNoMemory None result = IfErr result (λ e. e ≡ OutOfMemory)
+RefusesOrNoMemory (Some cause) result = IsErrAnd result (λ e. e ≡ cause)
+
+-- why this key makes no map type, if it makes none: it takes nulls
+abbrev pub key_fault : TypeTree → Option VortexError
+key_fault key = if is_nullable key then Some (BadType NullableKey) else None
 
 -- some id stands at two places
 abbrev pub repeats : List ℕ → Bool
@@ -15,8 +30,13 @@ repeats (x ∷ xs) = list_any (λ y. y == x) xs || repeats xs
 -- why so many names and types and these ids make no variants, if they make none: lengths first, then ids
 abbrev pub variants_fault : ℕ → ℕ → List ℕ → Option VortexError
 variants_fault names types ids =
-    if not ((names == types) && (length ids == types)) then Some (BadType LengthsDiffer) else (if repeats ids then Some (BadType RepeatedTypeId) else None)
+    if not ((names == types) && (length ids == types)) then Some (BadType LengthsDiffer)
+    else (if repeats ids then Some (BadType RepeatedTypeId) else None)
 
 -- some name is the name of no field
 abbrev pub misses_a_name : FieldParts → List (List ℕ) → Bool
 misses_a_name f names = list_any (λ name. is_none (type_named f name)) names
+
+-- why these names select no fields, if they select none: some name is the name of no field
+abbrev pub project_fault : FieldParts → List (List ℕ) → Option VortexError
+project_fault f names = if misses_a_name f names then Some NoField else None

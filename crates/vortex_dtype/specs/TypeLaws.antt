@@ -1,24 +1,19 @@
 -- The tests of equality decide equality of trees, and with nullability nothing is erased.
-use Rattle.std.proofs.Common.{◌≡◌, ◌≢◌, ℕ, suc, List, [], ◌∷◌, length, Bool, true, false, ◌&&◌, true≢false, refl, sym, ap, ◌∙◌, subst}
+use Rattle.std.proofs.Common.{◌≡◌, ℕ, List, [], ◌∷◌, Bool, true, true≢false, refl, sym, ap, ◌∙◌, subst}
 use Rattle.std.specs.Bool.{Decides}
 use Rattle.std.specs.Cmp.{IsEquivalence, first_so, second_so, booleans_Decides, unsigned_Decides}
+use Rattle.std.proofs.lemmas.Bool.{and_from}
 use Rattle.std.proofs.lemmas.Bool.Decides.{same_from_decides, Decides-like}
 use Rattle.std.proofs.lemmas.Slice.Eq.{slice_eq-Decides}
 use Rattle.vortex_dtype.specs.declared.kinds.Nullability.{Nullability}
 use Rattle.vortex_dtype.specs.declared.kinds.Nullability.TheVariants.{NonNullable, Nullable}
 use Rattle.vortex_dtype.specs.declared.kinds.PType.{PType}
 use Rattle.vortex_dtype.specs.declared.kinds.PType.TheVariants.{U8, U16, U32, U64, I8, I16, I32, I64}
-use Rattle.vortex_dtype.specs.declared.types.DType.{DType}
 use Rattle.vortex_dtype.specs.TypeTree.{TypeTree, TypeTrees, null_type, bool_type, integer_type, utf8_type, binary_type, list_type, fixed_size_list_type, map_type, struct_type, union_type, variant_type, extension_type, no_types, type_then, trim, trim_all}
 use Rattle.vortex_dtype.specs.TypeEquality.{nullability_eq, bytes_eq, names_eq, tree_eq, trees_eq, map_eq, fields_eq, variants_eq, ext_eq}
 use Rattle.vortex_dtype.specs.Kinds.{kind_index, same_kind}
-use Rattle.vortex_dtype.specs.TypeOf.{types_of, types_from, MapParts, FieldParts, VariantParts, ExtensionParts}
+use Rattle.vortex_dtype.specs.TypeOf.{types_from, MapParts, FieldParts, VariantParts, ExtensionParts}
 use Rattle.vortex_dtype.specs.Parts.{types_in}
-
--- two tests that pass, pass together
-both : (a b : Bool) → a ≡ true → b ≡ true → (a && b) ≡ true
-both true b p q = q
-both false b p q = p
 
 nullability_eq-same : (m n : Nullability) → nullability_eq m n ≡ true → m ≡ n
 nullability_eq-same NonNullable NonNullable e = refl
@@ -116,17 +111,17 @@ mutual
   tree_eq-refl (utf8_type n) = nullability_eq-refl n
   tree_eq-refl (binary_type n) = nullability_eq-refl n
   tree_eq-refl (variant_type n) = nullability_eq-refl n
-  tree_eq-refl (integer_type p n) = both _ _ (same_kind-refl p) (nullability_eq-refl n)
-  tree_eq-refl (list_type t n) = both _ _ (tree_eq-refl t) (nullability_eq-refl n)
-  tree_eq-refl (fixed_size_list_type t k n) = both _ _ (both _ _ (tree_eq-refl t) ((unsigned_Decides k k).1 refl)) (nullability_eq-refl n)
-  tree_eq-refl (map_type s t k n) = both _ _ (both _ _ (both _ _ (tree_eq-refl s) (tree_eq-refl t)) ((booleans_Decides k k).1 refl)) (nullability_eq-refl n)
-  tree_eq-refl (struct_type xs ts n) = both _ _ (both _ _ (names_eq-refl xs) (trees_eq-refl ts)) (nullability_eq-refl n)
-  tree_eq-refl (union_type xs ts is n) = both _ _ (both _ _ (both _ _ (names_eq-refl xs) (trees_eq-refl ts)) (bytes_eq-refl is)) (nullability_eq-refl n)
-  tree_eq-refl (extension_type i x t) = both _ _ (both _ _ (bytes_eq-refl i) (bytes_eq-refl x)) (tree_eq-refl t)
+  tree_eq-refl (integer_type p n) = and_from _ _ (same_kind-refl p) (nullability_eq-refl n)
+  tree_eq-refl (list_type t n) = and_from _ _ (tree_eq-refl t) (nullability_eq-refl n)
+  tree_eq-refl (fixed_size_list_type t k n) = and_from _ _ (and_from _ _ (tree_eq-refl t) ((unsigned_Decides k k).1 refl)) (nullability_eq-refl n)
+  tree_eq-refl (map_type s t k n) = and_from _ _ (and_from _ _ (and_from _ _ (tree_eq-refl s) (tree_eq-refl t)) ((booleans_Decides k k).1 refl)) (nullability_eq-refl n)
+  tree_eq-refl (struct_type xs ts n) = and_from _ _ (and_from _ _ (names_eq-refl xs) (trees_eq-refl ts)) (nullability_eq-refl n)
+  tree_eq-refl (union_type xs ts is n) = and_from _ _ (and_from _ _ (and_from _ _ (names_eq-refl xs) (trees_eq-refl ts)) (bytes_eq-refl is)) (nullability_eq-refl n)
+  tree_eq-refl (extension_type i x t) = and_from _ _ (and_from _ _ (bytes_eq-refl i) (bytes_eq-refl x)) (tree_eq-refl t)
 
   pub trees_eq-refl : (ts : TypeTrees) → trees_eq ts ts ≡ true
   trees_eq-refl no_types = refl
-  trees_eq-refl (type_then t ts) = both _ _ (tree_eq-refl t) (trees_eq-refl ts)
+  trees_eq-refl (type_then t ts) = and_from _ _ (tree_eq-refl t) (trees_eq-refl ts)
 
 pub tree_eq-Decides : (s t : TypeTree) → Decides (tree_eq s t) (s ≡ t)
 tree_eq-Decides s t = (tree_eq-same s t, λ e. subst (λ u. tree_eq s u ≡ true) e (tree_eq-refl s))
@@ -162,18 +157,6 @@ equiv-from_Decides E d = record {
 pub tree_eq-equiv : IsEquivalence tree_eq
 tree_eq-equiv = equiv-from_Decides tree_eq tree_eq-Decides
 
--- lists of types of different lengths are not equal
-pub trees_eq-lengths : (exact : Bool) (xs ys : List DType) → length xs ≢ length ys → false ≡ trees_eq (trim_all exact (types_of xs)) (trim_all exact (types_of ys))
-trees_eq-lengths exact [] [] h = absurd (h refl)
-trees_eq-lengths exact [] (y ∷ ys) h = refl
-trees_eq-lengths exact (x ∷ xs) [] h = refl
-trees_eq-lengths exact (x ∷ xs) (y ∷ ys) h =
-    either _ _ (trees_eq-lengths exact xs ys (λ e. h (ap suc e)))
-  where
-    either : (a b : Bool) → false ≡ b → false ≡ (a && b)
-    either true b e = e
-    either false b e = refl
-
 -- the list that a tree holds is the list that it was made of
 pub types_in-types_from : (ts : List TypeTree) → types_in (types_from ts) ≡ ts
 types_in-types_from [] = refl
@@ -198,7 +181,7 @@ map_eq-same a b e =
     λ i. record { key = k i; value = v i; keys_sorted = s i }
 
 map_eq-refl : (m : MapParts) → map_eq true m m ≡ true
-map_eq-refl m = both _ _ (both _ _ (tree_eq-refl (trim true m.key)) (tree_eq-refl (trim true m.value))) ((booleans_Decides m.keys_sorted m.keys_sorted).1 refl)
+map_eq-refl m = and_from _ _ (and_from _ _ (tree_eq-refl (trim true m.key)) (tree_eq-refl (trim true m.value))) ((booleans_Decides m.keys_sorted m.keys_sorted).1 refl)
 
 pub map_eq-Decides : (a b : MapParts) → Decides (map_eq true a b) (a ≡ b)
 map_eq-Decides a b = (map_eq-same a b, λ e. subst (λ c. map_eq true a c ≡ true) e (map_eq-refl a))
@@ -210,7 +193,7 @@ fields_eq-same f g e =
     λ i. record { names = a i; types = b i }
 
 fields_eq-refl : (f : FieldParts) → fields_eq true f f ≡ true
-fields_eq-refl f = both _ _ (names_eq-refl f.names) (trees_eq-refl (trim_all true (types_from f.types)))
+fields_eq-refl f = and_from _ _ (names_eq-refl f.names) (trees_eq-refl (trim_all true (types_from f.types)))
 
 pub fields_eq-Decides : (f g : FieldParts) → Decides (fields_eq true f g) (f ≡ g)
 fields_eq-Decides f g = (fields_eq-same f g, λ e. subst (λ h. fields_eq true f h ≡ true) e (fields_eq-refl f))
@@ -224,7 +207,7 @@ variants_eq-same v w e =
     λ i. record { names = a i; types = b i; type_ids = c i }
 
 variants_eq-refl : (v : VariantParts) → variants_eq true v v ≡ true
-variants_eq-refl v = both _ _ (both _ _ (names_eq-refl v.names) (trees_eq-refl (trim_all true (types_from v.types)))) (bytes_eq-refl v.type_ids)
+variants_eq-refl v = and_from _ _ (and_from _ _ (names_eq-refl v.names) (trees_eq-refl (trim_all true (types_from v.types)))) (bytes_eq-refl v.type_ids)
 
 pub variants_eq-Decides : (v w : VariantParts) → Decides (variants_eq true v w) (v ≡ w)
 variants_eq-Decides v w = (variants_eq-same v w, λ e. subst (λ x. variants_eq true v x ≡ true) e (variants_eq-refl v))
@@ -238,7 +221,7 @@ ext_eq-same x y e =
     λ i. record { id = a i; metadata = b i; storage = c i }
 
 ext_eq-refl : (x : ExtensionParts) → ext_eq true x x ≡ true
-ext_eq-refl x = both _ _ (both _ _ (bytes_eq-refl x.id) (bytes_eq-refl x.metadata)) (tree_eq-refl (trim true x.storage))
+ext_eq-refl x = and_from _ _ (and_from _ _ (bytes_eq-refl x.id) (bytes_eq-refl x.metadata)) (tree_eq-refl (trim true x.storage))
 
 pub ext_eq-Decides : (x y : ExtensionParts) → Decides (ext_eq true x y) (x ≡ y)
 ext_eq-Decides x y = (ext_eq-same x y, λ e. subst (λ z. ext_eq true x z ≡ true) e (ext_eq-refl x))

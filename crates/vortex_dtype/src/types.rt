@@ -1,12 +1,12 @@
 //! The type of a scalar, and the parts that types are made of.
 
-ghost use Rattle.std.specs.Prelude.{◌≡◌, ◌⊎◌, ◌↔◌, IsTrue, MatchResult, option_map, fold, true, false};
+ghost use Rattle.std.specs.Prelude.{◌≡◌, ◌↔◌, IfOk, IsTrue, MatchResult, option_map, fold};
 ghost use Rattle.vortex_dtype.specs.TypeTree.{Same, erase, is_nullable, as_nullable, nullability_of, map_type, IsFlat};
 ghost use Rattle.vortex_dtype.specs.TypeOf.{type_of, map_of, fields_of, variants_of, ext_of};
 ghost use Rattle.vortex_dtype.specs.Parts.{is_utf8_type, is_binary_type, is_map_type, is_union_type, is_extension_type, element_in, map_in, fields_in, variants_in, extension_in};
 ghost use Rattle.vortex_dtype.specs.Feeds.{tree_feed};
-ghost use Rattle.vortex_dtype.specs.declared.error.VortexError.TheVariants.{OutOfMemory, BadType};
-ghost use Rattle.vortex_dtype.specs.declared.error.TypeCause.TheVariants.{NullableKey};
+ghost use Rattle.vortex_dtype.specs.Refusals.{RefusesOrNoMemory, key_fault};
+ghost use Rattle.vortex_dtype.specs.declared.error.VortexError.TheVariants.{OutOfMemory};
 
 use crate::buffer::{BufferString, ByteBuffer};
 use crate::error::VortexError;
@@ -113,9 +113,9 @@ impl DType {
         keys_sorted: bool,
         nullability: Nullability,
     ) -> Result<DType, VortexError>
-        ensures { MatchResult result
-            (λ t. (type_of t ≡ map_type (type_of key) (type_of value) keys_sorted nullability) × (is_nullable (type_of key) ≡ false))
-            (λ e. ((e ≡ OutOfMemory) × (is_nullable (type_of key) ≡ false)) ⊎ ((e ≡ BadType NullableKey) × (is_nullable (type_of key) ≡ true))) }
+        ensures refused { RefusesOrNoMemory (key_fault (type_of key)) result }
+        ensures made { IfOk result (λ dtype. type_of dtype
+            ≡ map_type (type_of key) (type_of value) keys_sorted nullability) }
     {
         let map = MapDType::try_new(alloc, key, value, keys_sorted)?;
         Ok(DType::Map(map, nullability))

@@ -1,8 +1,12 @@
 //! Equality of types and of their parts, with and without nullability: one recursion for both.
 
-ghost use Rattle.std.specs.Prelude.{◌≡◌, length};
+ghost use Rattle.std.specs.Prelude.{◌≡◌, length, true};
+ghost use Rattle.std.specs.Cmp.{partial_equiv_from_equiv};
+ghost use Rattle.std.specs.Ordering.{on};
+ghost use Rattle.std.proofs.lemmas.Cmp.{on_equiv};
 ghost use Rattle.vortex_dtype.specs.TypeTree.{keep, trim, trim_all};
 ghost use Rattle.vortex_dtype.specs.TypeEquality.{tree_eq, trees_eq, nullability_eq, names_eq, fields_eq, variants_eq, map_eq, ext_eq};
+ghost use Rattle.vortex_dtype.specs.TypeLaws.{tree_eq-equiv, equiv-from_Decides, map_eq-Decides, fields_eq-Decides, variants_eq-Decides, ext_eq-Decides};
 ghost use Rattle.vortex_dtype.specs.Kinds.{same_kind};
 ghost use Rattle.vortex_dtype.specs.TypeOf.{type_of, types_of, fields_of, variants_of, map_of, ext_of};
 
@@ -17,14 +21,16 @@ fn nullabilities_agree(exact: bool, a: Nullability, b: Nullability) -> bool
     !exact || a == b
 }
 
+/// Whether two kinds are one.
 fn kinds_agree(a: PType, b: PType) -> bool
     ensures { result ≡ same_kind a b }
 {
     a == b
 }
 
-fn names_agree(a: &Vec<FieldName>, b: &Vec<FieldName>) -> bool
-    ensures { result ≡ names_eq a.now.items b.now.items }
+/// Whether two lists of names are equal.
+fn names_agree(a: &[FieldName], b: &[FieldName]) -> bool
+    ensures { result ≡ names_eq a.now b.now }
 {
     a == b
 }
@@ -112,11 +118,6 @@ fn all_equal(exact: bool, a: &[DType], b: &[DType]) -> bool
 }
 
 impl PartialEq for DType {
-    ghost use Rattle.std.specs.Ordering.{on};
-    ghost use Rattle.std.specs.Cmp.{partial_equiv_from_equiv};
-    ghost use Rattle.std.proofs.lemmas.Cmp.{on_equiv};
-    ghost use Rattle.vortex_dtype.specs.TypeLaws.{tree_eq-equiv};
-
     ghost eq = { on type_of tree_eq };
 
     ghost laws = { partial_equiv_from_equiv (on_equiv type_of tree_eq-equiv) };
@@ -127,19 +128,10 @@ impl PartialEq for DType {
 }
 
 impl Eq for DType {
-    ghost use Rattle.std.proofs.lemmas.Cmp.{on_equiv};
-    ghost use Rattle.vortex_dtype.specs.TypeLaws.{tree_eq-equiv};
-
     ghost laws = { on_equiv type_of tree_eq-equiv };
 }
 
 impl PartialEq for MapDType {
-    ghost use Rattle.std.specs.Ordering.{on};
-    ghost use Rattle.std.specs.Prelude.{true};
-    ghost use Rattle.std.specs.Cmp.{partial_equiv_from_equiv};
-    ghost use Rattle.std.proofs.lemmas.Cmp.{on_equiv};
-    ghost use Rattle.vortex_dtype.specs.TypeLaws.{equiv-from_Decides, map_eq-Decides};
-
     ghost eq = { on map_of (map_eq true) };
 
     ghost laws = { partial_equiv_from_equiv (on_equiv map_of (equiv-from_Decides (map_eq true) map_eq-Decides)) };
@@ -150,20 +142,10 @@ impl PartialEq for MapDType {
 }
 
 impl Eq for MapDType {
-    ghost use Rattle.std.specs.Prelude.{true};
-    ghost use Rattle.std.proofs.lemmas.Cmp.{on_equiv};
-    ghost use Rattle.vortex_dtype.specs.TypeLaws.{equiv-from_Decides, map_eq-Decides};
-
     ghost laws = { on_equiv map_of (equiv-from_Decides (map_eq true) map_eq-Decides) };
 }
 
 impl PartialEq for StructFields {
-    ghost use Rattle.std.specs.Ordering.{on};
-    ghost use Rattle.std.specs.Prelude.{true};
-    ghost use Rattle.std.specs.Cmp.{partial_equiv_from_equiv};
-    ghost use Rattle.std.proofs.lemmas.Cmp.{on_equiv};
-    ghost use Rattle.vortex_dtype.specs.TypeLaws.{equiv-from_Decides, fields_eq-Decides};
-
     ghost eq = { on fields_of (fields_eq true) };
 
     ghost laws = { partial_equiv_from_equiv (on_equiv fields_of (equiv-from_Decides (fields_eq true) fields_eq-Decides)) };
@@ -174,20 +156,10 @@ impl PartialEq for StructFields {
 }
 
 impl Eq for StructFields {
-    ghost use Rattle.std.specs.Prelude.{true};
-    ghost use Rattle.std.proofs.lemmas.Cmp.{on_equiv};
-    ghost use Rattle.vortex_dtype.specs.TypeLaws.{equiv-from_Decides, fields_eq-Decides};
-
     ghost laws = { on_equiv fields_of (equiv-from_Decides (fields_eq true) fields_eq-Decides) };
 }
 
 impl PartialEq for UnionVariants {
-    ghost use Rattle.std.specs.Ordering.{on};
-    ghost use Rattle.std.specs.Prelude.{true};
-    ghost use Rattle.std.specs.Cmp.{partial_equiv_from_equiv};
-    ghost use Rattle.std.proofs.lemmas.Cmp.{on_equiv};
-    ghost use Rattle.vortex_dtype.specs.TypeLaws.{equiv-from_Decides, variants_eq-Decides};
-
     ghost eq = { on variants_of (variants_eq true) };
 
     ghost laws = { partial_equiv_from_equiv (on_equiv variants_of (equiv-from_Decides (variants_eq true) variants_eq-Decides)) };
@@ -198,20 +170,10 @@ impl PartialEq for UnionVariants {
 }
 
 impl Eq for UnionVariants {
-    ghost use Rattle.std.specs.Prelude.{true};
-    ghost use Rattle.std.proofs.lemmas.Cmp.{on_equiv};
-    ghost use Rattle.vortex_dtype.specs.TypeLaws.{equiv-from_Decides, variants_eq-Decides};
-
     ghost laws = { on_equiv variants_of (equiv-from_Decides (variants_eq true) variants_eq-Decides) };
 }
 
 impl PartialEq for ExtDType {
-    ghost use Rattle.std.specs.Ordering.{on};
-    ghost use Rattle.std.specs.Prelude.{true};
-    ghost use Rattle.std.specs.Cmp.{partial_equiv_from_equiv};
-    ghost use Rattle.std.proofs.lemmas.Cmp.{on_equiv};
-    ghost use Rattle.vortex_dtype.specs.TypeLaws.{equiv-from_Decides, ext_eq-Decides};
-
     ghost eq = { on ext_of (ext_eq true) };
 
     ghost laws = { partial_equiv_from_equiv (on_equiv ext_of (equiv-from_Decides (ext_eq true) ext_eq-Decides)) };
@@ -222,9 +184,5 @@ impl PartialEq for ExtDType {
 }
 
 impl Eq for ExtDType {
-    ghost use Rattle.std.specs.Prelude.{true};
-    ghost use Rattle.std.proofs.lemmas.Cmp.{on_equiv};
-    ghost use Rattle.vortex_dtype.specs.TypeLaws.{equiv-from_Decides, ext_eq-Decides};
-
     ghost laws = { on_equiv ext_of (equiv-from_Decides (ext_eq true) ext_eq-Decides) };
 }

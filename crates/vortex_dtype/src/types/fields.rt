@@ -1,12 +1,12 @@
 //! The fields of structs.
 
-ghost use Rattle.std.specs.Prelude.{◌≡◌, ◌⊎◌, MatchResult, IsOkAnd, Some, length, option_map, slice_get, position, map, true, false};
+ghost use Rattle.std.specs.Prelude.{◌≡◌, IfOk, IsOkAnd, MatchResult, length, option_map, slice_get, position, map, false};
 ghost use Rattle.vortex_dtype.specs.Names.{names_in};
-ghost use Rattle.vortex_dtype.specs.Parts.{field_index, type_named};
-ghost use Rattle.vortex_dtype.specs.Refusals.{misses_a_name};
+ghost use Rattle.vortex_dtype.specs.Parts.{IsProjection, field_index, type_named};
+ghost use Rattle.vortex_dtype.specs.Refusals.{RefusesOrNoMemory, misses_a_name, project_fault};
 ghost use Rattle.vortex_dtype.specs.TypeEquality.{bytes_eq};
 ghost use Rattle.vortex_dtype.specs.TypeOf.{type_of, fields_of, field_parts};
-ghost use Rattle.vortex_dtype.specs.declared.error.VortexError.TheVariants.{OutOfMemory, NoField};
+ghost use Rattle.vortex_dtype.specs.declared.error.VortexError.TheVariants.{OutOfMemory};
 
 use super::copies::copy_fields;
 use super::{DType, StructFields};
@@ -25,7 +25,8 @@ impl StructFields {
         dtypes: Vec<DType>,
     ) -> Result<StructFields, VortexError>
         requires { length names.items ≡ length dtypes.items }
-        ensures { IsOkAnd result (λ fields. fields_of fields ≡ record { names = names.items; types = map type_of dtypes.items }) }
+        ensures { IsOkAnd result (λ fields.
+            fields_of fields ≡ record { names = names.items; types = map type_of dtypes.items }) }
     {
         Ok(StructFields { names, dtypes })
     }
@@ -70,7 +71,8 @@ impl StructFields {
     /// Ports `StructFields::field_by_index`, which borrows nothing.
     pub fn field_by_index(&self, index: usize) -> Option<&DType>
         ensures part { option_map (λ dtype. dtype.now) result ≡ slice_get (field_parts self.now) index }
-        ensures tree { option_map (λ dtype. type_of dtype.now) result ≡ slice_get (fields_of self.now).types index }
+        ensures tree { option_map (λ dtype. type_of dtype.now) result
+            ≡ slice_get (fields_of self.now).types index }
     {
         dtype_at(&self.dtypes, index)
     }
@@ -81,9 +83,9 @@ impl StructFields {
     ///
     /// Ports `StructFields::project`.
     pub fn project(&self, alloc: Global, names: &[FieldName]) -> Result<StructFields, VortexError>
-        ensures { MatchResult result
-            (λ fields. ((fields_of fields).names ≡ names.now) × (map (type_named (fields_of self.now)) names.now ≡ map Some (fields_of fields).types))
-            (λ e. ((e ≡ NoField) × (misses_a_name (fields_of self.now) names.now ≡ true)) ⊎ ((e ≡ OutOfMemory) × (misses_a_name (fields_of self.now) names.now ≡ false))) }
+        ensures refused { RefusesOrNoMemory (project_fault (fields_of self.now) names.now) result }
+        ensures made { IfOk result (λ fields.
+            IsProjection (fields_of self.now) names.now (fields_of fields)) }
     {
         if self.misses_a_name(names) {
             return Err(VortexError::NoField);
@@ -107,15 +109,13 @@ impl StructFields {
     fn project_found(&self, alloc: Global, names: &[FieldName]) -> Result<StructFields, VortexError>
         requires { misses_a_name (fields_of self.now) names.now ≡ false }
         ensures { MatchResult result
-            (λ fields. ((fields_of fields).names ≡ names.now) × (map (type_named (fields_of self.now)) names.now ≡ map Some (fields_of fields).types))
+            (λ fields. IsProjection (fields_of self.now) names.now (fields_of fields))
             (λ e. e ≡ OutOfMemory) }
     {
         let mut kept = Vec::with_capacity(alloc, names.len())?;
         let mut dtypes = Vec::with_capacity(alloc, names.len())?;
         for name in names {
-            let Some(dtype) = self.field(name.as_str()) else {
-                return Err(VortexError::NoField);
-            };
+            let dtype = self.field(name.as_str()).unwrap();
             kept.push(name.clone(alloc)?)?;
             dtypes.push(dtype.clone(alloc)?)?;
         }
@@ -127,7 +127,8 @@ impl StructFields {
 
     /// The type of the first field with the name.
     fn field(&self, name: &str) -> Option<&DType>
-        ensures { option_map (λ dtype. type_of dtype.now) result ≡ type_named (fields_of self.now) name.now }
+        ensures { option_map (λ dtype. type_of dtype.now) result
+            ≡ type_named (fields_of self.now) name.now }
     {
         dtype_at(&self.dtypes, self.find(name)?)
     }
@@ -136,7 +137,9 @@ impl StructFields {
     ///
     /// Ports `StructFields::clone`.
     pub fn clone(&self, alloc: Global) -> Result<StructFields, VortexError>
-        ensures { MatchResult result (λ copy. fields_of copy ≡ fields_of self.now) (λ e. e ≡ OutOfMemory) }
+        ensures { MatchResult result
+            (λ copy. fields_of copy ≡ fields_of self.now)
+            (λ e. e ≡ OutOfMemory) }
     {
         copy_fields(alloc, self)
     }

@@ -1,7 +1,11 @@
 //! What types and their parts feed a hasher, with and without nullability: one recursion for both.
 
-ghost use Rattle.std.specs.Prelude.{◌≡◌, fold};
+ghost use Rattle.std.specs.Prelude.{◌≡◌, fold, true};
+ghost use Rattle.std.proofs.Common.{ap};
+ghost use Rattle.std.specs.Prelude.{◌++◌};
+ghost use Rattle.std.specs.Hash as fed;
 ghost use Rattle.vortex_dtype.specs.TypeTree.{keep, trim, trim_all};
+ghost use Rattle.vortex_dtype.specs.TypeLaws.{tree_eq-same, map_eq-Decides, fields_eq-Decides, variants_eq-Decides, ext_eq-Decides};
 ghost use Rattle.vortex_dtype.specs.Feeds.{tree_feed, trees_feed, nullability_feed, kind_feed, names_feed, map_feed, fields_feed, variants_feed, ext_feed};
 ghost use Rattle.vortex_dtype.specs.TypeOf.{type_of, types_of, fields_of, variants_of, map_of, ext_of};
 
@@ -20,25 +24,27 @@ fn feed_nullability<H: Hasher>(exact: bool, n: Nullability, state: &mut H)
     }
 }
 
+/// Feeds the place of a kind among the eight.
 fn feed_kind<H: Hasher>(kind: PType, state: &mut H)
     ensures { state.new ≡ fold H.write state.old (kind_feed kind) }
 {
-    match kind {
-        PType::U8 => state.write_u8(0),
-        PType::U16 => state.write_u8(1),
-        PType::U32 => state.write_u8(2),
-        PType::U64 => state.write_u8(3),
-        PType::I8 => state.write_u8(4),
-        PType::I16 => state.write_u8(5),
-        PType::I32 => state.write_u8(6),
-        PType::I64 => state.write_u8(7),
-    }
+    state.write_u8(kind as u8);
 }
 
-fn feed_names<H: Hasher>(names: &Vec<FieldName>, state: &mut H)
-    ensures { state.new ≡ fold H.write state.old (names_feed names.now.items) }
+/// Feeds how many names there are, and each.
+fn feed_names<H: Hasher>(names: &[FieldName], state: &mut H)
+    ensures { state.new ≡ fold H.write state.old (names_feed names.now) }
 {
     names.hash(state);
+}
+
+/// Feeds the number of a type without parts, and its nullability.
+fn feed_plain<H: Hasher>(exact: bool, number: u8, n: Nullability, state: &mut H)
+    ensures { state.new
+        ≡ fold H.write state.old (fed.u8 number ++ nullability_feed (keep exact n)) }
+{
+    state.write_u8(number);
+    feed_nullability(exact, n, state);
 }
 
 /// Feeds a type; where `exact` is false, without nullability.
@@ -48,23 +54,14 @@ pub(super) fn feed<H: Hasher>(exact: bool, dtype: &DType, state: &mut H)
 {
     match dtype {
         DType::Null => state.write_u8(0),
-        DType::Bool(n) => {
-            state.write_u8(1);
-            feed_nullability(exact, *n, state);
-        }
+        DType::Bool(n) => feed_plain(exact, 1, *n, state),
         DType::Primitive(kind, n) => {
             state.write_u8(2);
             feed_kind(*kind, state);
             feed_nullability(exact, *n, state);
         }
-        DType::Utf8(n) => {
-            state.write_u8(3);
-            feed_nullability(exact, *n, state);
-        }
-        DType::Binary(n) => {
-            state.write_u8(4);
-            feed_nullability(exact, *n, state);
-        }
+        DType::Utf8(n) => feed_plain(exact, 3, *n, state),
+        DType::Binary(n) => feed_plain(exact, 4, *n, state),
         DType::List(element, n) => {
             state.write_u8(5);
             feed(exact, element, state);
@@ -91,10 +88,7 @@ pub(super) fn feed<H: Hasher>(exact: bool, dtype: &DType, state: &mut H)
             feed_variants(exact, variants, state);
             feed_nullability(exact, *n, state);
         }
-        DType::Variant(n) => {
-            state.write_u8(10);
-            feed_nullability(exact, *n, state);
-        }
+        DType::Variant(n) => feed_plain(exact, 10, *n, state),
         DType::Extension(extension) => {
             state.write_u8(11);
             feed_extension(exact, extension, state);
@@ -147,9 +141,6 @@ fn feed_extension<H: Hasher>(exact: bool, extension: &ExtDType, state: &mut H)
 }
 
 impl Hash for DType {
-    ghost use Rattle.std.proofs.Common.{ap};
-    ghost use Rattle.vortex_dtype.specs.TypeLaws.{tree_eq-same};
-
     ghost hash_input = { λ dtype. tree_feed (type_of dtype) };
 
     ghost respects_eq = { λ x y e. ap tree_feed (tree_eq-same (type_of x) (type_of y) e) };
@@ -160,10 +151,6 @@ impl Hash for DType {
 }
 
 impl Hash for MapDType {
-    ghost use Rattle.std.specs.Prelude.{true};
-    ghost use Rattle.std.proofs.Common.{ap};
-    ghost use Rattle.vortex_dtype.specs.TypeLaws.{map_eq-Decides};
-
     ghost hash_input = { λ part. map_feed true (map_of part) };
 
     ghost respects_eq = { λ x y e. ap (map_feed true) ((map_eq-Decides (map_of x) (map_of y)).0 e) };
@@ -174,10 +161,6 @@ impl Hash for MapDType {
 }
 
 impl Hash for StructFields {
-    ghost use Rattle.std.specs.Prelude.{true};
-    ghost use Rattle.std.proofs.Common.{ap};
-    ghost use Rattle.vortex_dtype.specs.TypeLaws.{fields_eq-Decides};
-
     ghost hash_input = { λ part. fields_feed true (fields_of part) };
 
     ghost respects_eq = { λ x y e. ap (fields_feed true) ((fields_eq-Decides (fields_of x) (fields_of y)).0 e) };
@@ -188,10 +171,6 @@ impl Hash for StructFields {
 }
 
 impl Hash for UnionVariants {
-    ghost use Rattle.std.specs.Prelude.{true};
-    ghost use Rattle.std.proofs.Common.{ap};
-    ghost use Rattle.vortex_dtype.specs.TypeLaws.{variants_eq-Decides};
-
     ghost hash_input = { λ part. variants_feed true (variants_of part) };
 
     ghost respects_eq = { λ x y e. ap (variants_feed true) ((variants_eq-Decides (variants_of x) (variants_of y)).0 e) };
@@ -202,10 +181,6 @@ impl Hash for UnionVariants {
 }
 
 impl Hash for ExtDType {
-    ghost use Rattle.std.specs.Prelude.{true};
-    ghost use Rattle.std.proofs.Common.{ap};
-    ghost use Rattle.vortex_dtype.specs.TypeLaws.{ext_eq-Decides};
-
     ghost hash_input = { λ part. ext_feed true (ext_of part) };
 
     ghost respects_eq = { λ x y e. ap (ext_feed true) ((ext_eq-Decides (ext_of x) (ext_of y)).0 e) };

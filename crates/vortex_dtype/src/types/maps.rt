@@ -1,10 +1,9 @@
 //! The key and value types of maps.
 
-ghost use Rattle.std.specs.Prelude.{◌≡◌, ◌⊎◌, MatchResult, true, false};
-ghost use Rattle.vortex_dtype.specs.TypeTree.{is_nullable};
+ghost use Rattle.std.specs.Prelude.{◌≡◌, IfOk, MatchResult};
+ghost use Rattle.vortex_dtype.specs.Refusals.{RefusesOrNoMemory, key_fault};
 ghost use Rattle.vortex_dtype.specs.TypeOf.{type_of, map_of, key_part, value_part};
-ghost use Rattle.vortex_dtype.specs.declared.error.VortexError.TheVariants.{OutOfMemory, BadType};
-ghost use Rattle.vortex_dtype.specs.declared.error.TypeCause.TheVariants.{NullableKey};
+ghost use Rattle.vortex_dtype.specs.declared.error.VortexError.TheVariants.{OutOfMemory};
 
 use super::copies::copy_map;
 use super::{DType, MapDType};
@@ -22,9 +21,9 @@ impl MapDType {
         value: DType,
         keys_sorted: bool,
     ) -> Result<MapDType, VortexError>
-        ensures { MatchResult result
-            (λ m. (map_of m ≡ record { key = type_of key; value = type_of value; keys_sorted = keys_sorted }) × (is_nullable (type_of key) ≡ false))
-            (λ e. ((e ≡ OutOfMemory) × (is_nullable (type_of key) ≡ false)) ⊎ ((e ≡ BadType NullableKey) × (is_nullable (type_of key) ≡ true))) }
+        ensures refused { RefusesOrNoMemory (key_fault (type_of key)) result }
+        ensures made { IfOk result (λ map. map_of map
+            ≡ record { key = type_of key; value = type_of value; keys_sorted = keys_sorted }) }
     {
         if key.is_nullable() {
             return Err(VortexError::BadType {
@@ -71,7 +70,9 @@ impl MapDType {
     ///
     /// Ports `MapDType::clone`.
     pub fn clone(&self, alloc: Global) -> Result<MapDType, VortexError>
-        ensures { MatchResult result (λ copy. map_of copy ≡ map_of self.now) (λ e. e ≡ OutOfMemory) }
+        ensures { MatchResult result
+            (λ copy. map_of copy ≡ map_of self.now)
+            (λ e. e ≡ OutOfMemory) }
     {
         copy_map(alloc, self)
     }

@@ -1,8 +1,8 @@
 //! The variants of unions, and their ids.
 
-ghost use Rattle.std.specs.Prelude.{◌≡◌, ◌==◌, ◌<◌, MatchResult, None, Some, length, option_map, position, slice_get, map};
+ghost use Rattle.std.specs.Prelude.{◌≡◌, ◌==◌, ◌<◌, IfOk, MatchResult, Some, length, option_map, position, slice_get, map};
 ghost use Rattle.vortex_dtype.specs.Names.{names_in};
-ghost use Rattle.vortex_dtype.specs.Refusals.{repeats, variants_fault};
+ghost use Rattle.vortex_dtype.specs.Refusals.{RefusesExactly, repeats, variants_fault};
 ghost use Rattle.vortex_dtype.specs.TypeOf.{type_of, variants_of, variant_parts};
 ghost use Rattle.vortex_dtype.specs.declared.error.VortexError.TheVariants.{OutOfMemory};
 
@@ -25,9 +25,14 @@ impl UnionVariants {
         dtypes: Vec<DType>,
         type_ids: Vec<u8>,
     ) -> Result<UnionVariants, VortexError>
-        ensures { MatchResult result
-            (λ v. (variants_of v ≡ record { names = names.items; types = map type_of dtypes.items; type_ids = type_ids.items }) × (variants_fault (length names.items) (length dtypes.items) type_ids.items ≡ None))
-            (λ e. variants_fault (length names.items) (length dtypes.items) type_ids.items ≡ Some e) }
+        ensures refused { RefusesExactly
+            (variants_fault (length names.items) (length dtypes.items) type_ids.items)
+            result }
+        ensures made { IfOk result (λ variants. variants_of variants ≡ record {
+          names = names.items;
+          types = map type_of dtypes.items;
+          type_ids = type_ids.items;
+        }) }
     {
         if names.len() != dtypes.len() || type_ids.len() != dtypes.len() {
             return Err(VortexError::BadType {
@@ -79,7 +84,8 @@ impl UnionVariants {
     /// Ports `UnionVariants::variant_by_index`, which borrows nothing.
     pub fn variant_by_index(&self, index: usize) -> Option<&DType>
         ensures part { option_map (λ dtype. dtype.now) result ≡ slice_get (variant_parts self.now) index }
-        ensures tree { option_map (λ dtype. type_of dtype.now) result ≡ slice_get (variants_of self.now).types index }
+        ensures tree { option_map (λ dtype. type_of dtype.now) result
+            ≡ slice_get (variants_of self.now).types index }
     {
         dtype_at(&self.dtypes, index)
     }
@@ -97,7 +103,9 @@ impl UnionVariants {
     ///
     /// Ports `UnionVariants::clone`.
     pub fn clone(&self, alloc: Global) -> Result<UnionVariants, VortexError>
-        ensures { MatchResult result (λ copy. variants_of copy ≡ variants_of self.now) (λ e. e ≡ OutOfMemory) }
+        ensures { MatchResult result
+            (λ copy. variants_of copy ≡ variants_of self.now)
+            (λ e. e ≡ OutOfMemory) }
     {
         copy_variants(alloc, self)
     }
