@@ -95,7 +95,9 @@ impl ByteBuffer {
     pub fn slice(&self, range: Range<usize>) -> Result<ByteBuffer, VortexError>
         requires ordered { range.start ≤ range.end }
         requires within { range.end ≤ length self.now }
-        ensures { MatchResult result (λ buffer. buffer ≡ slice_range self.now range.start range.end) (λ e. e ≡ OutOfMemory) }
+        ensures { MatchResult result
+            (λ buffer. buffer ≡ slice_range self.now range.start range.end)
+            (λ e. e ≡ OutOfMemory) }
     {
         let bytes = self.bytes.slice(range)?;
         Ok(ByteBuffer {

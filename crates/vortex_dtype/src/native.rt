@@ -23,7 +23,9 @@ pub trait NativeDType {
     ///
     /// Ports `NativeDType::dtype`.
     fn dtype(alloc: Global) -> Result<DType, VortexError>
-        ensures { MatchResult result (λ dtype. type_of dtype ≡ native_type) (λ e. e ≡ OutOfMemory) };
+        ensures { MatchResult result
+            (λ dtype. type_of dtype ≡ native_type)
+            (λ e. e ≡ OutOfMemory) };
 }
 
 /// Truth values, without nulls.
@@ -130,7 +132,9 @@ impl NativeDType for &str {
     ghost native_type = { utf8_type NonNullable };
 
     fn dtype(_alloc: Global) -> Result<DType, VortexError>
-        ensures { MatchResult result (λ dtype. type_of dtype ≡ utf8_type NonNullable) (λ e. e ≡ OutOfMemory) }
+        ensures { MatchResult result
+            (λ dtype. type_of dtype ≡ utf8_type NonNullable)
+            (λ e. e ≡ OutOfMemory) }
     {
         Ok(DType::Utf8(Nullability::NonNullable))
     }
@@ -159,7 +163,9 @@ impl NativeDType for &[u8] {
     ghost native_type = { binary_type NonNullable };
 
     fn dtype(_alloc: Global) -> Result<DType, VortexError>
-        ensures { MatchResult result (λ dtype. type_of dtype ≡ binary_type NonNullable) (λ e. e ≡ OutOfMemory) }
+        ensures { MatchResult result
+            (λ dtype. type_of dtype ≡ binary_type NonNullable)
+            (λ e. e ≡ OutOfMemory) }
     {
         Ok(DType::Binary(Nullability::NonNullable))
     }

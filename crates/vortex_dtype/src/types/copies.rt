@@ -32,7 +32,9 @@ fn copy_box(alloc: Global, dtype: &DType) -> Result<Box<DType>, VortexError>
 /// The same types.
 #[cycle(copy)]
 fn copy_all(alloc: Global, dtypes: &[DType]) -> Result<Vec<DType>, VortexError>
-    ensures { MatchResult result (λ copies. map type_of copies.items ≡ map type_of dtypes.now) (λ e. e ≡ OutOfMemory) }
+    ensures { MatchResult result
+        (λ copies. map type_of copies.items ≡ map type_of dtypes.now)
+        (λ e. e ≡ OutOfMemory) }
 {
     let mut copies = Vec::with_capacity(alloc, dtypes.len())?;
     for dtype in dtypes {
@@ -95,7 +97,9 @@ pub(super) fn copy_variants(
     alloc: Global,
     variants: &UnionVariants,
 ) -> Result<UnionVariants, VortexError>
-    ensures { MatchResult result (λ c. variants_of c ≡ variants_of variants.now) (λ e. e ≡ OutOfMemory) }
+    ensures { MatchResult result
+        (λ c. variants_of c ≡ variants_of variants.now)
+        (λ e. e ≡ OutOfMemory) }
 {
     Ok(UnionVariants {
         names: copy_names(alloc, &variants.names)?,

@@ -65,7 +65,9 @@ impl ExtDType {
     ///
     /// Ports `ExtDType::clone`.
     pub fn clone(&self, alloc: Global) -> Result<ExtDType, VortexError>
-        ensures { MatchResult result (λ copy. ext_of copy ≡ ext_of self.now) (λ e. e ≡ OutOfMemory) }
+        ensures { MatchResult result
+            (λ copy. ext_of copy ≡ ext_of self.now)
+            (λ e. e ≡ OutOfMemory) }
     {
         copy_extension(alloc, self)
     }
