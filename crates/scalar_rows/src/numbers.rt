@@ -64,15 +64,9 @@ pub fn number_named(word: &[u8]) -> Option<i128>
     ensures { result ≡ number_named word.now }
 {
     if !word.is_empty() && word[0] == b'-' {
-        return match natural_named(&word[1..]) {
-            Some(size) => Some(-(size as i128)),
-            None => None,
-        };
+        return natural_named(&word[1..]).map(|size| -(size as i128));
     }
-    match natural_named(word) {
-        Some(size) => Some(size as i128),
-        None => None,
-    }
+    natural_named(word).map(|size| size as i128)
 }
 
 /// The number as a value of the kind, where that has it.
