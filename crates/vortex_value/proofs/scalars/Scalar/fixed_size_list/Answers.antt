@@ -5,7 +5,8 @@ use Rattle.vortex_dtype.specs.declared.types.DType.{FixedSizeList}
 use Rattle.vortex_value.specs.Makers.{list_cause, raws_in}
 use Rattle.vortex_value.specs.RawTree.{raw_tuple}
 use Rattle.vortex_value.proofs.ListMakers.{list_valid, count_raws}
-use Rattle.vortex_value.proofs.MakerLaws.{scalar_valid, type_of-FixedSizeList}
+use Rattle.vortex_value.proofs.MakerLaws.{scalar_valid}
+use Rattle.vortex_value.proofs.TypeSteps.{type_of-FixedSizeList}
 use Rattle.vortex_value.proofs.scalars.Scalar.fixed_size_list.Goals as goal
 
 pub returns-in_ok-tuple_of-in-Ok-clause-valid : goal.returns-in_ok-tuple_of-in-Ok-clause-valid
