@@ -17,6 +17,7 @@ use crate::unions::UnionValue;
 use crate::values::ScalarValue;
 use vortex_dtype::{DType, MapDType, UnionVariants};
 
+/// Whether a raw value, or its absence, fits this type.
 #[cycle(compatible)]
 #[tactic(auto, using(crate::proofs::CompatibleSteps::shown))]
 pub(crate) fn fits(value: Option<&ScalarValue>, dtype: &DType) -> bool
@@ -28,6 +29,7 @@ pub(crate) fn fits(value: Option<&ScalarValue>, dtype: &DType) -> bool
     }
 }
 
+/// Whether a raw value that is present fits.
 #[cycle(compatible)]
 #[tactic(auto, using(crate::proofs::CompatibleSteps::shown))]
 fn value_fits(value: &ScalarValue, dtype: &DType) -> bool
@@ -52,6 +54,7 @@ fn value_fits(value: &ScalarValue, dtype: &DType) -> bool
     }
 }
 
+/// Whether each element of a list fits.
 #[cycle(compatible)]
 #[tactic(auto, using(crate::proofs::CompatibleSteps::shown))]
 fn elements_fit(items: &[Option<ScalarValue>], element: &DType) -> bool
@@ -65,6 +68,7 @@ fn elements_fit(items: &[Option<ScalarValue>], element: &DType) -> bool
     true
 }
 
+/// Whether each entry of a map fits.
 #[cycle(compatible)]
 #[tactic(auto, using(crate::proofs::CompatibleSteps::shown))]
 fn entries_fit(items: &[Option<ScalarValue>], map: &MapDType) -> bool
@@ -78,6 +82,7 @@ fn entries_fit(items: &[Option<ScalarValue>], map: &MapDType) -> bool
     true
 }
 
+/// Whether an entry of a map is a tuple that fits, and no null.
 #[cycle(compatible)]
 #[tactic(auto, using(crate::proofs::CompatibleSteps::shown))]
 fn entry_fits(entry: Option<&ScalarValue>, map: &MapDType) -> bool
@@ -89,6 +94,7 @@ fn entry_fits(entry: Option<&ScalarValue>, map: &MapDType) -> bool
     }
 }
 
+/// Whether the parts of an entry are a key and a value that fit.
 #[cycle(compatible)]
 #[tactic(auto, using(crate::proofs::CompatibleSteps::shown))]
 fn pair_fits(parts: &[Option<ScalarValue>], map: &MapDType) -> bool
@@ -100,6 +106,7 @@ fn pair_fits(parts: &[Option<ScalarValue>], map: &MapDType) -> bool
     fits(parts[0].as_ref(), map.key_dtype()) && fits(parts[1].as_ref(), map.value_dtype())
 }
 
+/// Whether each field of a struct fits.
 #[cycle(compatible)]
 #[tactic(auto, using(crate::proofs::CompatibleSteps::shown))]
 fn fields_fit(items: &[Option<ScalarValue>], fields: &[DType]) -> bool
@@ -113,6 +120,7 @@ fn fields_fit(items: &[Option<ScalarValue>], fields: &[DType]) -> bool
     true
 }
 
+/// Whether a variant has the id of a union, and the child fits that.
 #[cycle(compatible)]
 #[tactic(auto, using(crate::proofs::CompatibleSteps::shown))]
 fn child_fits(union: &UnionValue, variants: &UnionVariants) -> bool
@@ -126,6 +134,7 @@ fn child_fits(union: &UnionValue, variants: &UnionVariants) -> bool
     }
 }
 
+/// Whether the scalar in a variant fits its own type: a null is of type Null alone.
 #[cycle(compatible)]
 #[tactic(auto, using(crate::proofs::CompatibleSteps::shown))]
 fn inner_fits(scalar: &Scalar) -> bool

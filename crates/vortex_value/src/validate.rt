@@ -75,6 +75,7 @@ fn refusal(fault: Fault) -> VortexError
     }
 }
 
+/// The first breach of a raw value, or of its absence, at this type.
 #[cycle(validity)]
 #[tactic(auto, using(crate::proofs::ValidSteps::shown))]
 fn check(alloc: Global, value: Option<&ScalarValue>, dtype: &DType) -> Result<(), Fault>
@@ -87,6 +88,7 @@ fn check(alloc: Global, value: Option<&ScalarValue>, dtype: &DType) -> Result<()
     }
 }
 
+/// The first breach of a raw value that is present.
 #[cycle(validity)]
 #[tactic(auto, using(crate::proofs::ValidSteps::shown))]
 fn check_value(alloc: Global, value: &ScalarValue, dtype: &DType) -> Result<(), Fault>
@@ -129,6 +131,7 @@ fn check_value(alloc: Global, value: &ScalarValue, dtype: &DType) -> Result<(), 
     }
 }
 
+/// The first breach of the elements of a list, in order.
 #[cycle(validity)]
 #[tactic(auto, using(crate::proofs::ValidSteps::shown))]
 fn check_elements(
@@ -146,6 +149,7 @@ fn check_elements(
     Ok(())
 }
 
+/// The first breach of the entries of a map, in order.
 #[cycle(validity)]
 #[tactic(auto, using(crate::proofs::ValidSteps::shown))]
 fn check_entries(alloc: Global, items: &[Option<ScalarValue>], map: &MapDType) -> Result<(), Fault>
@@ -159,6 +163,7 @@ fn check_entries(alloc: Global, items: &[Option<ScalarValue>], map: &MapDType) -
     Ok(())
 }
 
+/// The first breach of one entry of a map: it is a tuple, and no null.
 #[cycle(validity)]
 #[tactic(auto, using(crate::proofs::ValidSteps::shown))]
 fn check_entry(alloc: Global, entry: Option<&ScalarValue>, map: &MapDType) -> Result<(), Fault>
@@ -171,6 +176,7 @@ fn check_entry(alloc: Global, entry: Option<&ScalarValue>, map: &MapDType) -> Re
     }
 }
 
+/// The first breach of the parts of an entry: a key, and then a value.
 #[cycle(validity)]
 #[tactic(auto, using(crate::proofs::ValidSteps::shown))]
 fn check_pair(alloc: Global, parts: &[Option<ScalarValue>], map: &MapDType) -> Result<(), Fault>
@@ -188,6 +194,7 @@ fn check_pair(alloc: Global, parts: &[Option<ScalarValue>], map: &MapDType) -> R
     }
 }
 
+/// The first breach of the fields of a struct, in order.
 #[cycle(validity)]
 #[tactic(auto, using(crate::proofs::ValidSteps::shown))]
 fn check_fields(alloc: Global, items: &[Option<ScalarValue>], fields: &[DType]) -> Result<(), Fault>
@@ -199,6 +206,7 @@ fn check_fields(alloc: Global, items: &[Option<ScalarValue>], fields: &[DType]) 
     Ok(())
 }
 
+/// The first breach of a union: its id has a variant, and its child fits that.
 #[cycle(validity)]
 #[tactic(auto, using(crate::proofs::ValidSteps::shown))]
 fn check_child(alloc: Global, union: &UnionValue, variants: &UnionVariants) -> Result<(), Fault>
@@ -212,6 +220,7 @@ fn check_child(alloc: Global, union: &UnionValue, variants: &UnionVariants) -> R
     }
 }
 
+/// The first breach of the scalar in a variant: a null is of type Null alone.
 #[cycle(validity)]
 #[tactic(auto, using(crate::proofs::ValidSteps::shown))]
 fn check_variant(alloc: Global, scalar: &Scalar) -> Result<(), Fault>
