@@ -53,10 +53,7 @@ fn within(fault: Fault, step: Step) -> Fault
 fn below(step: Step, checked: Result<(), Fault>) -> Result<(), Fault>
     ensures { (fs : List Found) → Checks checked fs → Checks result (under step fs) }
 {
-    match checked {
-        Ok(()) => Ok(()),
-        Err(fault) => Err(within(fault, step)),
-    }
+    checked.map_err(|fault| within(fault, step))
 }
 
 /// The refusal that a fault is: the steps from the outermost on.
@@ -142,9 +139,7 @@ fn check_elements(
     ensures { Checks result (element_breaches (type_of element.now) 0 (raws_of items.now)) }
 {
     for (index, item) in items.iter().enumerate() {
-        if let Err(fault) = check(alloc, item.as_ref(), element) {
-            return Err(within(fault, Step::Element(index)));
-        }
+        below(Step::Element(index), check(alloc, item.as_ref(), element))?;
     }
     Ok(())
 }
@@ -156,9 +151,7 @@ fn check_entries(alloc: Global, items: &[Option<ScalarValue>], map: &MapDType) -
     ensures { Checks result (entry_breaches (map_of map.now).key (map_of map.now).value 0 (raws_of items.now)) }
 {
     for (index, item) in items.iter().enumerate() {
-        if let Err(fault) = check_entry(alloc, item.as_ref(), map) {
-            return Err(within(fault, Step::Entry(index)));
-        }
+        below(Step::Entry(index), check_entry(alloc, item.as_ref(), map))?;
     }
     Ok(())
 }
@@ -185,13 +178,10 @@ fn check_pair(alloc: Global, parts: &[Option<ScalarValue>], map: &MapDType) -> R
     if parts.len() != 2 {
         return Err(breach_here(alloc, Breach::WrongLength));
     }
-    match below(Step::Key, check(alloc, parts[0].as_ref(), map.key_dtype())) {
-        Ok(()) => below(
-            Step::Value,
-            check(alloc, parts[1].as_ref(), map.value_dtype()),
-        ),
-        Err(fault) => Err(fault),
-    }
+    let key = check(alloc, parts[0].as_ref(), map.key_dtype());
+    below(Step::Key, key)?;
+    let value = check(alloc, parts[1].as_ref(), map.value_dtype());
+    below(Step::Value, value)
 }
 
 /// The first breach of the fields of a struct, in order.
@@ -250,10 +240,7 @@ impl Scalar {
         ensures refused { IfErr result (λ e. Refuses e (breaches (type_of dtype.now) (raw_of (option_copied value.entry)))) }
         ensures flat { IsFlat (type_of dtype.now) → result ≢ Err VortexError.OutOfMemory }
     {
-        match check(alloc, value, dtype) {
-            Ok(()) => Ok(()),
-            Err(fault) => Err(refusal(fault)),
-        }
+        check(alloc, value, dtype).map_err(refusal)
     }
 
     /// The scalar of a type and a raw value, or of its absence.

@@ -32,13 +32,11 @@ impl Scalar {
         ensures made { IfOk result (IsMadeOf (list_type (type_of element_dtype) nullability) (raw_tuple (raws_in children.items))) }
         ensures valid { IfOk result IsValid }
     {
-        match list_size(&element_dtype, &children) {
-            Err(cause) => Err(cause),
-            Ok(_) => Ok(Scalar {
-                dtype: DType::List(Box::new(alloc, element_dtype)?, nullability),
-                value: Some(tuple_of(alloc, children)?),
-            }),
-        }
+        list_size(&element_dtype, &children)?;
+        Ok(Scalar {
+            dtype: DType::List(Box::new(alloc, element_dtype)?, nullability),
+            value: Some(tuple_of(alloc, children)?),
+        })
     }
 
     /// The list of fixed size of these children, whose size is their number.
@@ -55,13 +53,11 @@ impl Scalar {
         ensures made { IfOk result (IsMadeOf (fixed_size_list_type (type_of element_dtype) (length children.items) nullability) (raw_tuple (raws_in children.items))) }
         ensures valid { IfOk result IsValid }
     {
-        match list_size(&element_dtype, &children) {
-            Err(cause) => Err(cause),
-            Ok(size) => Ok(Scalar {
-                dtype: DType::FixedSizeList(Box::new(alloc, element_dtype)?, size, nullability),
-                value: Some(tuple_of(alloc, children)?),
-            }),
-        }
+        let size = list_size(&element_dtype, &children)?;
+        Ok(Scalar {
+            dtype: DType::FixedSizeList(Box::new(alloc, element_dtype)?, size, nullability),
+            value: Some(tuple_of(alloc, children)?),
+        })
     }
 
     /// The list of no children.

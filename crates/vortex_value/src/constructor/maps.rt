@@ -92,10 +92,7 @@ fn map_cause(dtype: &DType, entries: &[(Scalar, Scalar)]) -> Option<VortexError>
     ensures { result ≡ map_cause (map_in (type_of dtype.now)) entries.now }
 {
     match dtype.as_map_opt() {
-        Some(map) => match wrong_entry(map, entries) {
-            Some(index) => Some(VortexError::WrongChild { index }),
-            None => None,
-        },
+        Some(map) => wrong_entry(map, entries).map(|index| VortexError::WrongChild { index }),
         None => Some(VortexError::WrongKind),
     }
 }

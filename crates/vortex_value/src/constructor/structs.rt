@@ -82,10 +82,7 @@ fn fields_cause(fields: &StructFields, children: &[Scalar]) -> Option<VortexErro
             found: children.len(),
         });
     }
-    match wrong_field(fields.dtypes(), children) {
-        Some(index) => Some(VortexError::WrongChild { index }),
-        None => None,
-    }
+    wrong_field(fields.dtypes(), children).map(|index| VortexError::WrongChild { index })
 }
 
 /// The place of the first child whose type is not exactly its field's.
