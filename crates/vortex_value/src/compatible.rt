@@ -21,7 +21,8 @@ use vortex_dtype::{DType, MapDType, UnionVariants};
 #[cycle(compatible)]
 #[tactic(auto, using(crate::proofs::CompatibleSteps::shown))]
 pub(crate) fn fits(value: Option<&ScalarValue>, dtype: &DType) -> bool
-    ensures { result ≡ none_found (breaches (type_of dtype.now) (raw_of (option_copied value.entry))) }
+    ensures { result ≡
+        none_found (breaches (type_of dtype.now) (raw_of (option_copied value.entry))) }
 {
     match value {
         Some(value) => value_fits(value, dtype),
@@ -72,7 +73,8 @@ fn elements_fit(items: &[Option<ScalarValue>], element: &DType) -> bool
 #[cycle(compatible)]
 #[tactic(auto, using(crate::proofs::CompatibleSteps::shown))]
 fn entries_fit(items: &[Option<ScalarValue>], map: &MapDType) -> bool
-    ensures { result ≡ none_found (entry_breaches (map_of map.now).key (map_of map.now).value 0 (raws_of items.now)) }
+    ensures { result ≡ none_found
+        (entry_breaches (map_of map.now).key (map_of map.now).value 0 (raws_of items.now)) }
 {
     for item in items {
         if !entry_fits(item.as_ref(), map) {
@@ -86,7 +88,9 @@ fn entries_fit(items: &[Option<ScalarValue>], map: &MapDType) -> bool
 #[cycle(compatible)]
 #[tactic(auto, using(crate::proofs::CompatibleSteps::shown))]
 fn entry_fits(entry: Option<&ScalarValue>, map: &MapDType) -> bool
-    ensures { result ≡ none_found (breaches_of_entry (map_of map.now).key (map_of map.now).value (raw_of (option_copied entry.entry))) }
+    ensures { result ≡ none_found
+        (breaches_of_entry (map_of map.now).key (map_of map.now).value
+        (raw_of (option_copied entry.entry))) }
 {
     match entry {
         Some(ScalarValue::Tuple(parts)) => pair_fits(parts, map),
@@ -98,7 +102,9 @@ fn entry_fits(entry: Option<&ScalarValue>, map: &MapDType) -> bool
 #[cycle(compatible)]
 #[tactic(auto, using(crate::proofs::CompatibleSteps::shown))]
 fn pair_fits(parts: &[Option<ScalarValue>], map: &MapDType) -> bool
-    ensures { result ≡ none_found (breaches_of_entry (map_of map.now).key (map_of map.now).value (raw_tuple (raws_of parts.now))) }
+    ensures { result ≡ none_found
+        (breaches_of_entry (map_of map.now).key (map_of map.now).value
+        (raw_tuple (raws_of parts.now))) }
 {
     if parts.len() != 2 {
         return false;
@@ -125,7 +131,8 @@ fn fields_fit(items: &[Option<ScalarValue>], fields: &[DType]) -> bool
 #[tactic(auto, using(crate::proofs::CompatibleSteps::shown))]
 fn child_fits(union: &UnionValue, variants: &UnionVariants) -> bool
     ensures { result ≡ none_found (child_breaches
-        (type_with union.now.type_id (variants_of variants.now).type_ids (types_from (variants_of variants.now).types))
+        (type_with union.now.type_id (variants_of variants.now).type_ids
+        (types_from (variants_of variants.now).types))
         (λ t. breaches t (raw_of (option_map (λ b. b.value) union.now.child)))) }
 {
     match variant_with(variants, union.type_id) {
@@ -138,7 +145,8 @@ fn child_fits(union: &UnionValue, variants: &UnionVariants) -> bool
 #[cycle(compatible)]
 #[tactic(auto, using(crate::proofs::CompatibleSteps::shown))]
 fn inner_fits(scalar: &Scalar) -> bool
-    ensures { result ≡ none_found (breaches_at (variant_type NonNullable) (scalar_tree scalar.now)) }
+    ensures { result ≡
+        none_found (breaches_at (variant_type NonNullable) (scalar_tree scalar.now)) }
 {
     match &scalar.value {
         Some(value) => value_fits(value, &scalar.dtype),

@@ -122,9 +122,11 @@ impl Eq for UnionValue {
 
 #[tactic(auto, using(crate::proofs::ValueSteps::shown))]
 impl PartialEq for Scalar {
-    ghost eq = { λ a b. same_type (scalar_type a) (scalar_type b) && equal (scalar_content a) (scalar_content b) };
+    ghost eq = { λ a b.
+        same_type (scalar_type a) (scalar_type b) && equal (scalar_content a) (scalar_content b) };
 
-    ghost laws = { partial_equiv_from_equiv (on_equiv (λ s. typed (scalar_type s) (scalar_content s)) equal-equiv) };
+    ghost laws = { partial_equiv_from_equiv
+        (on_equiv (λ s. typed (scalar_type s) (scalar_content s)) equal-equiv) };
 
     fn eq(&self, other: &Scalar) -> bool {
         equal_scalars(self, other)

@@ -148,7 +148,8 @@ fn check_elements(
 #[cycle(validity)]
 #[tactic(auto, using(crate::proofs::ValidSteps::shown))]
 fn check_entries(alloc: Global, items: &[Option<ScalarValue>], map: &MapDType) -> Result<(), Fault>
-    ensures { Checks result (entry_breaches (map_of map.now).key (map_of map.now).value 0 (raws_of items.now)) }
+    ensures { Checks result
+        (entry_breaches (map_of map.now).key (map_of map.now).value 0 (raws_of items.now)) }
 {
     for (index, item) in items.iter().enumerate() {
         below(Step::Entry(index), check_entry(alloc, item.as_ref(), map))?;
@@ -160,7 +161,9 @@ fn check_entries(alloc: Global, items: &[Option<ScalarValue>], map: &MapDType) -
 #[cycle(validity)]
 #[tactic(auto, using(crate::proofs::ValidSteps::shown))]
 fn check_entry(alloc: Global, entry: Option<&ScalarValue>, map: &MapDType) -> Result<(), Fault>
-    ensures { Checks result (breaches_of_entry (map_of map.now).key (map_of map.now).value (raw_of (option_copied entry.entry))) }
+    ensures { Checks result
+        (breaches_of_entry (map_of map.now).key (map_of map.now).value
+        (raw_of (option_copied entry.entry))) }
 {
     match entry {
         None => Err(breach_here(alloc, Breach::NullEntry)),
@@ -173,7 +176,9 @@ fn check_entry(alloc: Global, entry: Option<&ScalarValue>, map: &MapDType) -> Re
 #[cycle(validity)]
 #[tactic(auto, using(crate::proofs::ValidSteps::shown))]
 fn check_pair(alloc: Global, parts: &[Option<ScalarValue>], map: &MapDType) -> Result<(), Fault>
-    ensures { Checks result (breaches_of_entry (map_of map.now).key (map_of map.now).value (raw_tuple (raws_of parts.now))) }
+    ensures { Checks result
+        (breaches_of_entry (map_of map.now).key (map_of map.now).value
+        (raw_tuple (raws_of parts.now))) }
 {
     if parts.len() != 2 {
         return Err(breach_here(alloc, Breach::WrongLength));
@@ -201,7 +206,8 @@ fn check_fields(alloc: Global, items: &[Option<ScalarValue>], fields: &[DType]) 
 #[tactic(auto, using(crate::proofs::ValidSteps::shown))]
 fn check_child(alloc: Global, union: &UnionValue, variants: &UnionVariants) -> Result<(), Fault>
     ensures { Checks result (child_breaches
-        (type_with union.now.type_id (variants_of variants.now).type_ids (types_from (variants_of variants.now).types))
+        (type_with union.now.type_id (variants_of variants.now).type_ids
+        (types_from (variants_of variants.now).types))
         (λ t. breaches t (raw_of (option_map (λ b. b.value) union.now.child)))) }
 {
     match variant_with(variants, union.type_id) {
@@ -237,7 +243,8 @@ impl Scalar {
         value: Option<&ScalarValue>,
     ) -> Result<(), VortexError>
         ensures ok { IsOk result ↔ Valid (type_of dtype.now) (raw_of (option_copied value.entry)) }
-        ensures refused { IfErr result (λ e. Refuses e (breaches (type_of dtype.now) (raw_of (option_copied value.entry)))) }
+        ensures refused { IfErr result
+            (λ e. Refuses e (breaches (type_of dtype.now) (raw_of (option_copied value.entry)))) }
         ensures flat { IsFlat (type_of dtype.now) → result ≢ Err VortexError.OutOfMemory }
     {
         check(alloc, value, dtype).map_err(refusal)

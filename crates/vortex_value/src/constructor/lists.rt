@@ -28,8 +28,11 @@ impl Scalar {
         nullability: Nullability,
     ) -> Result<Scalar, VortexError>
         requires { All IsValid children.items }
-        ensures refused { RefusesOrNoMemory (list_cause (type_of element_dtype) children.items) result }
-        ensures made { IfOk result (IsMadeOf (list_type (type_of element_dtype) nullability) (raw_tuple (raws_in children.items))) }
+        ensures refused { RefusesOrNoMemory
+            (list_cause (type_of element_dtype) children.items) result }
+        ensures made { IfOk result
+            (IsMadeOf (list_type (type_of element_dtype) nullability)
+            (raw_tuple (raws_in children.items))) }
         ensures valid { IfOk result IsValid }
     {
         list_size(&element_dtype, &children)?;
@@ -49,8 +52,12 @@ impl Scalar {
         nullability: Nullability,
     ) -> Result<Scalar, VortexError>
         requires { All IsValid children.items }
-        ensures refused { RefusesOrNoMemory (list_cause (type_of element_dtype) children.items) result }
-        ensures made { IfOk result (IsMadeOf (fixed_size_list_type (type_of element_dtype) (length children.items) nullability) (raw_tuple (raws_in children.items))) }
+        ensures refused { RefusesOrNoMemory
+            (list_cause (type_of element_dtype) children.items) result }
+        ensures made { IfOk result
+            (IsMadeOf
+            (fixed_size_list_type (type_of element_dtype) (length children.items) nullability)
+            (raw_tuple (raws_in children.items))) }
         ensures valid { IfOk result IsValid }
     {
         let size = list_size(&element_dtype, &children)?;
@@ -69,7 +76,8 @@ impl Scalar {
         nullability: Nullability,
     ) -> Result<Scalar, VortexError>
         ensures refused { IfErr result (λ e. e ≡ OutOfMemory) }
-        ensures made { IfOk result (IsMadeOf (list_type (type_of element_dtype) nullability) (raw_tuple no_raws)) }
+        ensures made { IfOk result
+            (IsMadeOf (list_type (type_of element_dtype) nullability) (raw_tuple no_raws)) }
         ensures valid { IfOk result IsValid }
     {
         Ok(Scalar {
@@ -82,7 +90,8 @@ impl Scalar {
 /// How many children a list of this element type has, or why they make none.
 fn list_size(element: &DType, children: &[Scalar]) -> Result<u32, VortexError>
     ensures { MatchResult result
-        (λ size. (size ≡ length children.now) × (list_cause (type_of element.now) children.now ≡ None))
+        (λ size. (size ≡ length children.now)
+        × (list_cause (type_of element.now) children.now ≡ None))
         (λ e. list_cause (type_of element.now) children.now ≡ Some e) }
 {
     match wrong_place(element, children) {
@@ -112,7 +121,9 @@ fn as_size(count: usize) -> Result<u32, VortexError>
 
 /// The raw value of which these children are the parts.
 pub(super) fn tuple_of(alloc: Global, children: Vec<Scalar>) -> Result<ScalarValue, VortexError>
-    ensures { MatchResult result (λ value. value_tree value ≡ raw_tuple (raws_in children.items)) (λ e. e ≡ OutOfMemory) }
+    ensures { MatchResult result
+        (λ value. value_tree value ≡ raw_tuple (raws_in children.items))
+        (λ e. e ≡ OutOfMemory) }
 {
     let mut values = Vec::with_capacity(alloc, children.len())?;
     for child in children {

@@ -28,11 +28,13 @@ impl Scalar {
         dtype: DType,
         entries: I,
     ) -> Result<Scalar, VortexError>
-        requires finite { IsFiniteIterable I.into_iter_gives I.IntoIter.can_next I.IntoIter.remaining entries }
+        requires finite { IsFiniteIterable I.into_iter_gives
+            I.IntoIter.can_next I.IntoIter.remaining entries }
         requires entries { EachItem I.into_iter_gives I.IntoIter.next_gives entries IsValidEntry }
         ensures refused { MatchOption (map_in (type_of dtype))
             (IsErrAnd result (λ e. e ≡ WrongKind))
-            (λ parts. RefusesItems I.into_iter_gives I.IntoIter.next_gives entries (entries_cause parts) result) }
+            (λ parts. RefusesItems I.into_iter_gives I.IntoIter.next_gives entries
+            (entries_cause parts) result) }
         ensures made { MadeOfItems I.into_iter_gives I.IntoIter.next_gives entries
             (map_cause (map_in (type_of dtype)))
             (λ items. IsMadeOf (type_of dtype) (raw_tuple (raw_entries items))) result }
@@ -58,11 +60,13 @@ impl Scalar {
         dtype: DType,
         entries: I,
     ) -> Result<Scalar, VortexError>
-        requires finite { IsFiniteIterable I.into_iter_gives I.IntoIter.can_next I.IntoIter.remaining entries }
+        requires finite { IsFiniteIterable I.into_iter_gives
+            I.IntoIter.can_next I.IntoIter.remaining entries }
         requires entries { EachItem I.into_iter_gives I.IntoIter.next_gives entries IsValidEntry }
         ensures refused { MatchOption (map_in (type_of dtype))
             (IsErrAnd result (λ e. e ≡ WrongKind))
-            (λ parts. RefusesItems I.into_iter_gives I.IntoIter.next_gives entries (entries_cause parts) result) }
+            (λ parts. RefusesItems I.into_iter_gives I.IntoIter.next_gives entries
+            (entries_cause parts) result) }
         ensures made { MadeOfItems I.into_iter_gives I.IntoIter.next_gives entries
             (map_cause (map_in (type_of dtype)))
             (λ items. IsMadeOf (type_of dtype) (raw_tuple (raw_entries items))) result }
@@ -103,7 +107,9 @@ fn is_entry_of(map: &MapDType, entry: &(Scalar, Scalar)) -> bool
 
 /// The raw value of which these entries are the parts.
 fn entries_of(alloc: Global, entries: Vec<(Scalar, Scalar)>) -> Result<ScalarValue, VortexError>
-    ensures { MatchResult result (λ value. value_tree value ≡ raw_tuple (raw_entries entries.items)) (λ e. e ≡ OutOfMemory) }
+    ensures { MatchResult result
+        (λ value. value_tree value ≡ raw_tuple (raw_entries entries.items))
+        (λ e. e ≡ OutOfMemory) }
 {
     let mut values = Vec::with_capacity(alloc, entries.len())?;
     for entry in entries {
@@ -114,7 +120,9 @@ fn entries_of(alloc: Global, entries: Vec<(Scalar, Scalar)>) -> Result<ScalarVal
 
 /// The tuple of an entry's key and value.
 fn entry_of(alloc: Global, entry: (Scalar, Scalar)) -> Result<ScalarValue, VortexError>
-    ensures { MatchResult result (λ value. value_tree value ≡ raw_entry entry) (λ e. e ≡ OutOfMemory) }
+    ensures { MatchResult result
+        (λ value. value_tree value ≡ raw_entry entry)
+        (λ e. e ≡ OutOfMemory) }
 {
     let (key, value) = entry;
     let mut parts = Vec::with_capacity(alloc, 2)?;

@@ -30,11 +30,13 @@ impl Scalar {
         dtype: DType,
         children: I,
     ) -> Result<Scalar, VortexError>
-        requires finite { IsFiniteIterable I.into_iter_gives I.IntoIter.can_next I.IntoIter.remaining children }
+        requires finite { IsFiniteIterable I.into_iter_gives
+            I.IntoIter.can_next I.IntoIter.remaining children }
         requires children { EachItem I.into_iter_gives I.IntoIter.next_gives children IsValid }
         ensures refused { MatchOption (fields_in (type_of dtype))
             (IsErrAnd result (λ e. e ≡ WrongKind))
-            (λ fields. RefusesItems I.into_iter_gives I.IntoIter.next_gives children (fields_cause fields.types) result) }
+            (λ fields. RefusesItems I.into_iter_gives I.IntoIter.next_gives children
+            (fields_cause fields.types) result) }
         ensures made { MadeOfItems I.into_iter_gives I.IntoIter.next_gives children
             (struct_cause (fields_in (type_of dtype)))
             (λ items. IsMadeOf (type_of dtype) (raw_tuple (raws_in items))) result }
@@ -59,7 +61,8 @@ fn struct_value(
     fields: &StructFields,
     children: Vec<Scalar>,
 ) -> Result<ScalarValue, VortexError>
-    ensures refused { RefusesOrNoMemory (fields_cause (fields_of fields.now).types children.items) result }
+    ensures refused { RefusesOrNoMemory
+        (fields_cause (fields_of fields.now).types children.items) result }
     ensures made { IfOk result (λ value. value_tree value ≡ raw_tuple (raws_in children.items)) }
 {
     if let Some(cause) = fields_cause(fields, &children) {
@@ -83,7 +86,9 @@ fn fields_cause(fields: &StructFields, children: &[Scalar]) -> Option<VortexErro
 
 /// The place of the first child whose type is not exactly its field's.
 fn wrong_field(dtypes: &[DType], children: &[Scalar]) -> Option<usize>
-    ensures { result ≡ position (λ pair. not (tree_eq (scalar_type pair.1) (type_of pair.0))) (zip dtypes.now children.now) }
+    ensures { result ≡ position
+        (λ pair. not (tree_eq (scalar_type pair.1) (type_of pair.0)))
+        (zip dtypes.now children.now) }
 {
     let mut pairs = dtypes.iter().zip(children);
     pairs.position(|(dtype, child)| child.dtype != *dtype)
