@@ -1,11 +1,10 @@
 -- Makers that keep the items of an iterable first.
-use Rattle.std.proofs.Common.{◌≡◌, ◌⊎◌, ◌<◌, true, false, List, Option, Some, None, option_map, Result, Ok, Err, MatchOption, IfOk, IfErr, IfSome, get_or, inl, inr, refl, sym, subst, true≢false}
+use Rattle.std.proofs.Common.{◌≡◌, ◌⊎◌, ◌<◌, true, List, Option, Some, None, option_map, Result, Ok, Err, MatchOption, IfSome, get_or, inl, inr, refl, sym, subst}
 use Rattle.std.specs.Iterator.Runs.{Run, AllItems}
 use Rattle.std.specs.List.{All}
-use Rattle.std.specs.Option.{is_none}
 use Rattle.vortex_dtype.specs.declared.error.VortexError.{VortexError}
 use Rattle.vortex_dtype.specs.declared.error.VortexError.TheVariants.{OutOfMemory}
-use Rattle.vortex_value.specs.Makers.{GivesAll, RefusesOrNoMemory}
+use Rattle.vortex_value.specs.Makers.{GivesAll, MadeOfItems, RefusesItems, RefusesOrNoMemory}
 
 at_place : {A : Type 0} (P : A → Type 0) (o : Option A) (x : A) → option_map (λ y. y) o ≡ Some x → IfSome o P → P x
 at_place P None x h p = cc
@@ -15,9 +14,11 @@ at_place P (Some y) x h p = let same : y ≡ x = cc in subst P same p
 pub kept_all : {S A : Type 0} {steps : S → Option A → S → Type 0} (P : A → Type 0) (run : Run steps) (xs : List A) → xs ≡ run.items → AllItems run P → All P xs
 kept_all P run xs same each = subst (All P) (sym same) (λ k d below. at_place P (run.at k) (get_or run.items k d) (run.reads k d (subst (λ n. k < n) (sym run.long) below)) (each k))
 
-accepted : {T : Type 0} (cause : Option VortexError) (x : T) → RefusesOrNoMemory cause (Ok x) → cause ≡ None
-accepted None x h = refl
-accepted (Some e) x h = absurd h
+-- what is answered has no cause to be refused
+pub accepted : {T : Type 0} (cause : Option VortexError) (r : Result T VortexError) (x : T) → r ≡ Ok x → RefusesOrNoMemory cause r → cause ≡ None
+accepted None r x is h = refl
+accepted (Some e) (Ok y) x is h = absurd h
+accepted (Some e) (Err f) x is h = cc
 
 -- a refusal as an answer of this type
 abbrev the_err : (T : Type 0) → VortexError → Result T VortexError
@@ -30,10 +31,9 @@ module _ {U S A : Type 0} (gives : U → S → Type 0) (steps : S → Option A �
   gives_all P p = (it, given, (run, from, whole, subst P same p))
 
   -- the maker over the kept list makes what the maker over the items makes
-  pub kept_made : {T : Type 0} (cause : List A → Option VortexError) (Made : List A → T → Type 0) (result : Result T VortexError)
-      → RefusesOrNoMemory (cause xs) result → IfOk result (Made xs) → IfOk result (λ x. GivesAll gives steps iterable (λ items. (cause items ≡ None) × Made items x))
-  kept_made cause Made (Ok x) refused made = gives_all (λ items. (cause items ≡ None) × Made items x) (accepted (cause xs) x refused, made)
-  kept_made cause Made (Err e) refused made = tt
+  pub kept_made : {T : Type 0} (cause : List A → Option VortexError) (made : List A → T → Type 0) (x : T) → cause xs ≡ None → made xs x
+      → MadeOfItems gives steps iterable cause made (Ok x)
+  kept_made cause made x taken h = gives_all (λ items. (cause items ≡ None) × made items x) (taken, h)
 
   refused_for : (T : Type 0) (cause : List A → Option VortexError) (o : Option VortexError) (e : VortexError) → cause xs ≡ o → RefusesOrNoMemory o (the_err T e)
       → (e ≡ OutOfMemory) ⊎ GivesAll gives steps iterable (λ items. cause items ≡ Some e)
@@ -41,12 +41,13 @@ module _ {U S A : Type 0} (gives : U → S → Type 0) (steps : S → Option A �
   refused_for T cause (Some f) e h refused = inr (gives_all (λ items. cause items ≡ Some e) (rw refused h))
 
   -- and it refuses for what the items refuse for
-  pub kept_refused : {T : Type 0} (cause : List A → Option VortexError) (result : Result T VortexError) → RefusesOrNoMemory (cause xs) result
-      → IfErr result (λ e. (e ≡ OutOfMemory) ⊎ GivesAll gives steps iterable (λ items. cause items ≡ Some e))
-  kept_refused {T} cause (Ok x) refused = tt
-  kept_refused {T} cause (Err e) refused = refused_for T cause (cause xs) e refl refused
+  pub kept_refused : {T V : Type 0} (cause : List A → Option VortexError) (kept : Result V VortexError) (result : Result T VortexError) (e : VortexError)
+      → kept ≡ Err e → result ≡ Err e → RefusesOrNoMemory (cause xs) kept → RefusesItems gives steps iterable cause result
+  kept_refused {T} {V} cause kept result e was is refused =
+      let same : RefusesOrNoMemory (cause xs) (the_err V e) = subst (λ r. RefusesOrNoMemory (cause xs) r) was refused in
+      subst (λ r. RefusesItems gives steps iterable cause r) (sym is) (refused_for V cause (cause xs) e refl same)
 
 -- where the kind is known, only its case is left
-pub kind_known : {F : Type 0} (o : Option F) (P : Type 0) (Q : Option F → Type 0) → is_none o ≡ false → Q o → MatchOption o P (λ f. Q (Some f))
-kind_known None P Q h q = absurd (true≢false h)
-kind_known (Some f) P Q h q = q
+pub kind_known : {F : Type 0} (o : Option F) (f : F) (P : Type 0) (Q : F → Type 0) → o ≡ Some f → Q f → MatchOption o P Q
+kind_known (Some g) f P Q h q = let same : g ≡ f = cc in subst Q (sym same) q
+kind_known None f P Q h q = cc

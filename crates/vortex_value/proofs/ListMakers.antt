@@ -1,5 +1,6 @@
 -- Children of the right types make valid lists.
-use Rattle.std.proofs.Common.{◌≡◌, ◌≤◌, ◌<◌, ℕ, nat_lt, Bool, true, false, not, cond, List, [], ◌∷◌, length, Option, Some, None, position, get_or, refl, ap, subst, true≢false, suc, option_map, arith}
+use Rattle.std.proofs.Common.{◌≡◌, ◌≤◌, ◌<◌, ℕ, nat_lt, Bool, false, not, cond, List, [], ◌∷◌, length, Option, Some, None, position, get_or, refl, ap, subst, suc, option_map, arith}
+use Rattle.std.proofs.lemmas.Bool.{not-false}
 use Rattle.std.proofs.lemmas.Bool.Decides.{nat_tests}
 use Rattle.std.proofs.lemmas.List.Elements.{All-tail}
 use Rattle.std.proofs.lemmas.List.Sums.{fails_before_first}
@@ -24,15 +25,11 @@ none_passes p xs h k d below =
     let past = not_before (position_or_len p xs) (length xs) h in
     fails_before_first p xs k d (omega arith)
 
-pub was_true : (b : Bool) → not b ≡ false → b ≡ true
-was_true true h = refl
-was_true false h = absurd (true≢false h)
-
 -- each child is valid for the expected type
 pub children_valid : (expected : TypeTree) (xs : List Scalar) → wrong_place expected xs ≡ None → All IsValid xs → All (λ x. Valid expected (scalar_raw x)) xs
 children_valid expected xs h valid k d below =
     let x = get_or xs k d in
-    let right = was_true (tree_eq (scalar_type x) expected) (none_passes (λ y. not (tree_eq (scalar_type y) expected)) xs h k d below) in
+    let right = not-false (tree_eq (scalar_type x) expected) (none_passes (λ y. not (tree_eq (scalar_type y) expected)) xs h k d below) in
     subst (λ t. Valid t (scalar_raw x)) ((tree_eq-Decides (scalar_type x) expected).0 right) (valid k d below)
 
 each_valid : (e : TypeTree) (xs : List Scalar) → All (λ x. Valid e (scalar_raw x)) xs → EachValid e (raws_in xs)

@@ -1,5 +1,6 @@
 -- Entries of the map's types make valid maps.
 use Rattle.std.proofs.Common.{◌≡◌, ℕ, true, not, List, [], ◌∷◌, Option, Some, None, option_map, get_or, refl, subst, arith}
+use Rattle.std.proofs.lemmas.Bool.{not-false}
 use Rattle.std.proofs.lemmas.List.Elements.{All-tail}
 use Rattle.std.specs.Cmp.{first_so, second_so}
 use Rattle.std.specs.List.{All}
@@ -13,7 +14,7 @@ use Rattle.vortex_value.specs.RawTree.{raw_tuple}
 use Rattle.vortex_value.specs.Scalars.{scalar_raw, scalar_type}
 use Rattle.vortex_value.specs.Validity.{EntriesValid, Valid}
 use Rattle.vortex_value.specs.declared.scalars.Scalar.{Scalar}
-use Rattle.vortex_value.proofs.ListMakers.{none_passes, was_true}
+use Rattle.vortex_value.proofs.ListMakers.{none_passes}
 
 -- the key and the value are valid for these types
 abbrev FitsEntry : TypeTree → TypeTree → Scalar × Scalar → Type 0
@@ -40,5 +41,5 @@ pub map_valid : (t : TypeTree) (es : List (Scalar × Scalar)) → map_cause (map
 map_valid (map_type k w sorted n) es h valid =
     let parts : MapParts = record { key = k; value = w; keys_sorted = sorted } in
     let right = none_passes (λ entry. not (is_entry_of parts entry)) es (no_wrong (wrong_entry parts es) _ h) in
-    entries_valid k w es (λ i d below. fit parts (get_or es i d) (was_true (is_entry_of parts (get_or es i d)) (right i d below)) (valid i d below))
+    entries_valid k w es (λ i d below. fit parts (get_or es i d) (not-false (is_entry_of parts (get_or es i d)) (right i d below)) (valid i d below))
 map_valid _ es h valid = cc

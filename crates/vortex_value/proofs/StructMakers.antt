@@ -1,5 +1,6 @@
 -- Children of the fields' types make valid structs.
 use Rattle.std.proofs.Common.{◌≡◌, ◌<◌, ◌+◌, ◌==◌, ℕ, suc, Bool, true, false, not, cond, if◌then◌else◌, List, [], ◌∷◌, length, map, Option, Some, None, option_map, position, get_or, refl, sym, ap, ◌∙◌, subst, true≢false, arith}
+use Rattle.std.proofs.lemmas.Bool.{not-false}
 use Rattle.std.proofs.lemmas.Bool.Decides.{Decides-eqb}
 use Rattle.std.proofs.lemmas.List.Elements.{All-tail}
 use Rattle.std.specs.List.{All, zip, position_or_len}
@@ -16,7 +17,7 @@ use Rattle.vortex_value.specs.RawTree.{raw_tuple}
 use Rattle.vortex_value.specs.Scalars.{IsValid, scalar_raw, scalar_type}
 use Rattle.vortex_value.specs.Validity.{FieldsValid, Valid}
 use Rattle.vortex_value.specs.declared.scalars.Scalar.{Scalar}
-use Rattle.vortex_value.proofs.ListMakers.{none_passes, was_true}
+use Rattle.vortex_value.proofs.ListMakers.{none_passes}
 
 -- whether a child is not exactly of its field's type
 abbrev pub misfits : TypeTree × Scalar → Bool
@@ -29,7 +30,7 @@ fields_valid no_types [] same fits valid = tt
 fields_valid no_types (x ∷ xs) same fits valid = absurd (omega (arith, same))
 fields_valid (type_then t ts) [] same fits valid = absurd (omega (arith, same))
 fields_valid (type_then t ts) (x ∷ xs) same fits valid =
-    let right = was_true (tree_eq (scalar_type x) t) (fits 0 (t, x) (omega arith)) in
+    let right = not-false (tree_eq (scalar_type x) t) (fits 0 (t, x) (omega arith)) in
     let head = subst (λ u. Valid u (scalar_raw x)) ((tree_eq-Decides (scalar_type x) t).0 right) (valid 0 x (omega arith)) in
     (head, fields_valid ts xs (omega (arith, same)) (λ k d below. fits (suc k) d (omega arith)) (All-tail IsValid x xs valid))
 

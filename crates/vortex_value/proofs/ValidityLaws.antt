@@ -1,5 +1,6 @@
 -- A raw value is valid exactly where it has no breach.
 use Rattle.std.proofs.Common.{◌≡◌, ◌≢◌, ◌↔◌, ℕ, suc, ℤ, Bool, true, false, ◌&&◌, not, ◌==◌, if◌then◌else◌, List, [], ◌∷◌, ◌++◌, Option, Some, None, Result, Ok, Err, IsOk, refl, sym, ap, subst, arith, true≢false}
+use Rattle.std.proofs.lemmas.Bool.{and_parts}
 use Rattle.std.proofs.lemmas.Bool.Decides.{Decides-eqb}
 use Rattle.vortex_dtype.specs.Kinds.{kind_index, same_kind}
 use Rattle.vortex_dtype.specs.TypeTree.{TypeTree, IsFlat, null_type, bool_type, integer_type, utf8_type, binary_type, list_type, fixed_size_list_type, map_type, struct_type, union_type, variant_type, TypeTrees, no_types, type_then, nullability_of, says_nullable, IsNullable, is_nullable, storage}
@@ -18,6 +19,7 @@ use Rattle.vortex_pvalue.specs.RangeLaws.{in_range_true, in_range_back}
 use Rattle.vortex_value.specs.Breaches.{Found, HasSteps, here, under, first, count_types, is_null_type, child_breaches, breaches_at, element_breaches, entry_breaches, field_breaches, breaches, Refuses, ValidExactlyWithoutBreach}
 use Rattle.vortex_value.specs.RawTree.{RawTree, absent, raw_bool, raw_integer, raw_text, raw_bytes, raw_tuple, raw_union, raw_variant, RawTrees, no_raws, raw_then, count, is_absent}
 use Rattle.vortex_value.specs.Validity.{type_with, HasType, MayBeInside, ValidAt, EachValid, EntriesValid, FieldsValid, Valid}
+use Rattle.vortex_value.proofs.ValidSteps.{some-first, some-steps}
 
 -- lists of breaches
 
@@ -48,11 +50,6 @@ both_none s fs gs p q = rw (p, q)
 
 -- what the tests of a node say
 
-both : (b c : Bool) → (b && c) ≡ true → (b ≡ true) × (c ≡ true)
-both true true h = (refl, refl)
-both true false h = absurd (true≢false (sym h))
-both false c h = absurd (true≢false (sym h))
-
 one_index : (k l : PType) → kind_index k ≡ kind_index l → k ≡ l
 one_index U8 U8 h = refl
 one_index U16 U16 h = refl
@@ -71,7 +68,7 @@ kind_itself : (k l : PType) → k ≡ l → same_kind k l ≡ true
 kind_itself k l h = (Decides-eqb (kind_index k) (kind_index l)).1 (ap kind_index h)
 
 integer_valid : (k l : PType) (z : ℤ) (fs : List Found) (f : Found) → (if same_kind l k && in_range k z then [] else (f ∷ fs)) ≡ [] → (l ≡ k) × InRange k z
-integer_valid k l z fs f h = let p = both (same_kind l k) (in_range k z) (when_none (same_kind l k && in_range k z) f fs h) in (one_kind l k p.0, in_range_back k z p.1)
+integer_valid k l z fs f h = let p = and_parts (same_kind l k) (in_range k z) (when_none (same_kind l k && in_range k z) f fs h) in (one_kind l k p.0, in_range_back k z p.1)
 
 integer_none : (k l : PType) (z : ℤ) (fs : List Found) → l ≡ k → InRange k z → (if same_kind l k && in_range k z then [] else fs) ≡ []
 integer_none k l z fs p q = rw (kind_itself l k p, in_range_true k z q)
@@ -217,17 +214,9 @@ mutual
 pub valid_exactly_without_breach : ValidExactlyWithoutBreach
 valid_exactly_without_breach t v = (none-from_ValidAt (storage t) v, ValidAt-from_none (storage t) v)
 
-first_some : (fs : List Found) (f : Found) → first fs ≡ Some f → fs ≢ []
-first_some [] f h = absurd (let e : None ≡ Some f = h in cc)
-first_some (g ∷ fs) f h = cons g fs
-
-has_some : (fs : List Found) → HasSteps (first fs) → fs ≢ []
-has_some [] h = absurd h
-has_some (f ∷ fs) h = cons f fs
-
 refused : (e : VortexError) (fs : List Found) → Refuses e fs → fs ≢ []
-refused OutOfMemory fs h = has_some fs h
-refused (Invalid path breach) fs h = first_some fs _ h
+refused OutOfMemory fs h = some-steps fs h
+refused (Invalid path breach) fs h = some-first fs _ h
 refused _ fs h = absurd h
 
 -- a check passes where there is no breach, and refuses where there is one

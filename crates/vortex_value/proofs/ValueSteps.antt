@@ -1,5 +1,6 @@
 -- What the folds over raw values give at each node with parts, and the lists of their trees.
-use Rattle.std.proofs.Common.{◌≡◌, ◌≢◌, suc, Bool, true, false, ◌&&◌, List, [], ◌∷◌, length, Option, option_map, Vec, Box, Global, refl, ap, rules, arith}
+use Rattle.std.proofs.Common.{◌≡◌, ◌≢◌, suc, false, List, [], ◌∷◌, length, Option, option_map, Vec, Box, Global, refl, ap, rules, arith}
+use Rattle.std.proofs.lemmas.Bool.{and_right}
 use Rattle.vortex_dtype.specs.TypeOf.{type_of}
 use Rattle.vortex_value.specs.Content.{content, contents}
 use Rattle.vortex_value.specs.Equality.{equal, all_equal}
@@ -31,15 +32,11 @@ pub count-raws_of : (vs : List (Option ScalarValue)) → count (raws_of vs) ≡ 
 count-raws_of [] = refl
 count-raws_of (v ∷ vs) = ap suc (count-raws_of vs)
 
-and_false : (b c : Bool) → c ≡ false → (b && c) ≡ false
-and_false true c h = h
-and_false false c h = refl
-
 -- tuples of different lengths are not equal
 pub all_equal-lengths : (vs ws : List (Option ScalarValue)) → length vs ≢ length ws → all_equal (contents (raws_of vs)) (contents (raws_of ws)) ≡ false
 all_equal-lengths [] [] h = absurd (h refl)
 all_equal-lengths [] (w ∷ ws) h = refl
 all_equal-lengths (v ∷ vs) [] h = refl
-all_equal-lengths (v ∷ vs) (w ∷ ws) h = and_false (equal (content (raw_of v)) (content (raw_of w))) _ (all_equal-lengths vs ws (omega arith))
+all_equal-lengths (v ∷ vs) (w ∷ ws) h = and_right (equal (content (raw_of v)) (content (raw_of w))) _ (all_equal-lengths vs ws (omega arith))
 
 pub ruleset shown = (value_tree-Tuple, value_tree-Union, value_tree-Variant, scalar_tree-parts, union_tree-parts)

@@ -1,6 +1,7 @@
 -- Laws of equality: it is an equivalence, plain equality where no typed child stands, and what its test decides.
-use Rattle.std.proofs.Common.{◌≡◌, Bool, true, false, ◌&&◌, true≢false, refl, sym, ap, ◌∙◌, Decides}
+use Rattle.std.proofs.Common.{◌≡◌, Bool, true, false, true≢false, refl, sym, ap, ◌∙◌, Decides}
 use Rattle.std.specs.Cmp.{IsEquivalence, first_so, second_so}
+use Rattle.std.proofs.lemmas.Bool.{and_from}
 use Rattle.std.proofs.lemmas.Bool.Decides.{Decides-eqb, Decides-int_eq, Decides-like, same_from_decides}
 use Rattle.std.proofs.lemmas.Slice.Eq.{bytes_eq-Decides}
 use Rattle.vortex_dtype.specs.TypeLaws.{tree_eq-Decides}
@@ -84,10 +85,6 @@ mutual
 pub equality_agrees_without_typed : EqualityAgreesWithoutTyped
 equality_agrees_without_typed c d n = (equal-one c d n, λ e. rw e (equal-itself d))
 
-both : (a b : Bool) → a ≡ true → b ≡ true → (a && b) ≡ true
-both true b p q = q
-both false b p q = p
-
 pub same_type-Decides : (t u : TypeTree) → Decides (same_type t u) (Same t u)
 same_type-Decides t u = tree_eq-Decides (erase t) (erase u)
 
@@ -126,20 +123,20 @@ mutual
   equal-from_contents (text bs) (text cs) h = (bytes_eq-Decides bs cs).1 h
   equal-from_contents (string bs) (string cs) h = (bytes_eq-Decides bs cs).1 h
   equal-from_contents (sequence cs) (sequence ds) h = equal-from_all cs ds h
-  equal-from_contents (tagged i c) (tagged j d) h = both _ _ ((Decides-eqb i j).1 h.0) (equal-from_contents c d h.1)
-  equal-from_contents (typed t c) (typed u d) h = both _ _ ((same_type-Decides t u).1 h.0) (equal-from_contents c d h.1)
+  equal-from_contents (tagged i c) (tagged j d) h = and_from _ _ ((Decides-eqb i j).1 h.0) (equal-from_contents c d h.1)
+  equal-from_contents (typed t c) (typed u d) h = and_from _ _ ((same_type-Decides t u).1 h.0) (equal-from_contents c d h.1)
   equal-from_contents _ _ h = absurd h
 
   pub equal-from_all : (cs ds : Contents) → AllEqual cs ds → all_equal cs ds ≡ true
   equal-from_all no_contents no_contents h = refl
-  equal-from_all (content_then c cs) (content_then d ds) h = both _ _ (equal-from_contents c d h.0) (equal-from_all cs ds h.1)
+  equal-from_all (content_then c cs) (content_then d ds) h = and_from _ _ (equal-from_contents c d h.0) (equal-from_all cs ds h.1)
   equal-from_all _ _ h = absurd h
 
 pub equal-Decides : (c d : Content) → Decides (equal c d) (EqualContents c d)
 equal-Decides c d = (contents-from_equal c d, equal-from_contents c d)
 
 pub equality_is_decided : EqualityIsDecided
-equality_is_decided c d = (contents-from_equal c d, equal-from_contents c d)
+equality_is_decided c d = equal-Decides c d
 
 -- the test is an equivalence
 pub equal-equiv : IsEquivalence equal

@@ -1,5 +1,5 @@
 -- When the makers of scalars refuse.
-use Rattle.std.specs.Prelude.{◌≡◌, ℕ, ◌==◌, ◌&&◌, ◌^◌, nat_lt, Bool, not, List, length, map, position, Option, Some, None, Result, IfErr, IsErrAnd, IsOk, option_map, if◌then◌else◌}
+use Rattle.std.specs.Prelude.{◌≡◌, ◌⊎◌, ℕ, ◌==◌, ◌&&◌, ◌^◌, nat_lt, Bool, not, List, length, map, position, Option, Some, None, Result, IfErr, IfOk, IsErrAnd, IsOk, option_map, if◌then◌else◌}
 use Rattle.std.specs.Iterator.Runs.{AllItems, EachRunFrom, WholeRun}
 use Rattle.std.specs.List.{zip}
 use Rattle.std.specs.Option.{option_or}
@@ -102,14 +102,26 @@ is_entry_of parts entry = tree_eq (scalar_type entry.0) parts.key && tree_eq (sc
 abbrev pub wrong_entry : MapParts → List (Scalar × Scalar) → Option ℕ
 wrong_entry parts entries = position (λ entry. not (is_entry_of parts entry)) entries
 
--- why entries make no map: the type is none, and else the first wrong entry
+-- why entries make no map of these types: the first wrong entry
+abbrev pub entries_cause : MapParts → List (Scalar × Scalar) → Option VortexError
+entries_cause parts entries = option_map WrongChild (wrong_entry parts entries)
+
+-- why entries make no map: the type is none, and else what its key and value types say
 abbrev pub map_cause : Option MapParts → List (Scalar × Scalar) → Option VortexError
 map_cause None entries = Some WrongKind
-map_cause (Some parts) entries = option_map WrongChild (wrong_entry parts entries)
+map_cause (Some parts) entries = entries_cause parts entries
 
 -- the iterable gives items and then no more, and p holds of all of them in order
 abbrev pub GivesAll : {U S A : Type 0} → (U → S → Type 0) → (S → Option A → S → Type 0) → U → (List A → Type 0) → Type 0
 GivesAll {S = S} gives steps iterable p = (it : S) × gives iterable it × WholeRun steps it (λ run. p run.items)
+
+-- a refusal is want of memory, or the cause that all the items of the iterable, in order, give for it
+abbrev pub RefusesItems : {U S A T : Type 0} → (U → S → Type 0) → (S → Option A → S → Type 0) → U → (List A → Option VortexError) → Result T VortexError → Type 0
+RefusesItems gives steps iterable cause result = IfErr result (λ e. (e ≡ OutOfMemory) ⊎ GivesAll gives steps iterable (λ items. cause items ≡ Some e))
+
+-- what is made is made of all the items of the iterable, in order, and these give no cause to refuse
+abbrev pub MadeOfItems : {U S A T : Type 0} → (U → S → Type 0) → (S → Option A → S → Type 0) → U → (List A → Option VortexError) → (List A → T → Type 0) → Result T VortexError → Type 0
+MadeOfItems gives steps iterable cause made result = IfOk result (λ x. GivesAll gives steps iterable (λ items. (cause items ≡ None) × made items x))
 
 -- p holds of each item that the iterable may give
 abbrev pub EachItem : {U S A : Type 0} → (U → S → Type 0) → (S → Option A → S → Type 0) → U → (A → Type 0) → Type 0

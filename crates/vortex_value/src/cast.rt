@@ -23,15 +23,18 @@ impl Scalar {
     /// between any other types it always comes, for now. Takes no memory. Ports `Scalar::cast`.
     pub fn cast(&self, alloc: Global, target: &DType) -> Result<Scalar, VortexError>
         requires { IsValid self.now }
-        ensures succeeds_only { IfOk result (λ _. CanCast (scalar_type self.now) (type_of target.now) (scalar_content self.now)) }
+        ensures succeeds_only { IfOk result
+            (λ _. CanCast (scalar_type self.now) (type_of target.now) (scalar_content self.now)) }
         ensures one { IfOk result (IsTheOne (type_of target.now) (scalar_content self.now)) }
         ensures refused { IfErr result (λ e. e ≡ CannotCast) }
 
         // Between Null and types of integers nothing that can be cast is refused.
-        ensures refuses_only { IfErr result (λ _. IsNullOrInteger (scalar_type self.now) → IsNullOrInteger (type_of target.now)
+        ensures refuses_only { IfErr result (λ _.
+            IsNullOrInteger (scalar_type self.now) → IsNullOrInteger (type_of target.now)
             → ¬ (CanCast (scalar_type self.now) (type_of target.now) (scalar_content self.now))) }
         // Between other types everything is.
-        ensures others { ¬ (IsNullOrInteger (scalar_type self.now) × IsNullOrInteger (type_of target.now)) → IsErr result }
+        ensures others { ¬ (IsNullOrInteger (scalar_type self.now)
+            × IsNullOrInteger (type_of target.now)) → IsErr result }
     {
         if !is_null_or_integer(&self.dtype) || !is_null_or_integer(target) {
             return Err(VortexError::CannotCast);
@@ -55,8 +58,10 @@ fn cast_number(source: &Scalar, target: &DType) -> Result<Option<ScalarValue>, V
     requires target { IsNullOrInteger (type_of target.now) }
     requires valid { IsValid source.now }
     ensures { MatchResult result
-        (λ made. IsCast (scalar_type source.now) (type_of target.now) (scalar_raw source.now) (raw_of made))
-        (λ e. (e ≡ CannotCast) × ¬ (CanCast (scalar_type source.now) (type_of target.now) (scalar_content source.now))) }
+        (λ made. IsCast (scalar_type source.now) (type_of target.now)
+        (scalar_raw source.now) (raw_of made))
+        (λ e. (e ≡ CannotCast)
+        × ¬ (CanCast (scalar_type source.now) (type_of target.now) (scalar_content source.now))) }
 {
     match (&source.value, target) {
         (None, _) if target.is_nullable() => Ok(None),
@@ -72,7 +77,8 @@ fn cast_number(source: &Scalar, target: &DType) -> Result<Option<ScalarValue>, V
 
 /// The same number in another kind, if that has it.
 fn number_of_kind(number: PValue, kind: PType) -> Option<PValue>
-    ensures same { IfSome result (λ made. (kind_of made ≡ kind) × (whole_of made ≡ whole_of number)) }
+    ensures same { IfSome result
+        (λ made. (kind_of made ≡ kind) × (whole_of made ≡ whole_of number)) }
     ensures range { IfSome result (λ made. InRange kind (whole_of made)) }
     ensures none { IfNone result (¬ (InRange kind (whole_of number))) }
 {
@@ -90,7 +96,8 @@ fn number_of_kind(number: PValue, kind: PType) -> Option<PValue>
 
 /// The same number as a value of this type's kind, if that has it.
 fn native<T: NativePType>(number: PValue) -> Option<PValue>
-    ensures same { IfSome result (λ made. (kind_of made ≡ T.PTYPE) × (whole_of made ≡ whole_of number)) }
+    ensures same { IfSome result
+        (λ made. (kind_of made ≡ T.PTYPE) × (whole_of made ≡ whole_of number)) }
     ensures range { IfSome result (λ made. InRange T.PTYPE (whole_of made)) }
     ensures none { IfNone result (¬ (InRange T.PTYPE (whole_of number))) }
 {

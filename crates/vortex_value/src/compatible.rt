@@ -17,10 +17,12 @@ use crate::unions::UnionValue;
 use crate::values::ScalarValue;
 use vortex_dtype::{DType, MapDType, UnionVariants};
 
+/// Whether a raw value, or its absence, fits this type.
 #[cycle(compatible)]
 #[tactic(auto, using(crate::proofs::CompatibleSteps::shown))]
 pub(crate) fn fits(value: Option<&ScalarValue>, dtype: &DType) -> bool
-    ensures { result ≡ none_found (breaches (type_of dtype.now) (raw_of (option_copied value.entry))) }
+    ensures { result ≡
+        none_found (breaches (type_of dtype.now) (raw_of (option_copied value.entry))) }
 {
     match value {
         Some(value) => value_fits(value, dtype),
@@ -28,6 +30,7 @@ pub(crate) fn fits(value: Option<&ScalarValue>, dtype: &DType) -> bool
     }
 }
 
+/// Whether a raw value that is present fits.
 #[cycle(compatible)]
 #[tactic(auto, using(crate::proofs::CompatibleSteps::shown))]
 fn value_fits(value: &ScalarValue, dtype: &DType) -> bool
@@ -52,6 +55,7 @@ fn value_fits(value: &ScalarValue, dtype: &DType) -> bool
     }
 }
 
+/// Whether each element of a list fits.
 #[cycle(compatible)]
 #[tactic(auto, using(crate::proofs::CompatibleSteps::shown))]
 fn elements_fit(items: &[Option<ScalarValue>], element: &DType) -> bool
@@ -65,10 +69,12 @@ fn elements_fit(items: &[Option<ScalarValue>], element: &DType) -> bool
     true
 }
 
+/// Whether each entry of a map fits.
 #[cycle(compatible)]
 #[tactic(auto, using(crate::proofs::CompatibleSteps::shown))]
 fn entries_fit(items: &[Option<ScalarValue>], map: &MapDType) -> bool
-    ensures { result ≡ none_found (entry_breaches (map_of map.now).key (map_of map.now).value 0 (raws_of items.now)) }
+    ensures { result ≡ none_found
+        (entry_breaches (map_of map.now).key (map_of map.now).value 0 (raws_of items.now)) }
 {
     for item in items {
         if !entry_fits(item.as_ref(), map) {
@@ -78,10 +84,13 @@ fn entries_fit(items: &[Option<ScalarValue>], map: &MapDType) -> bool
     true
 }
 
+/// Whether an entry of a map is a tuple that fits, and no null.
 #[cycle(compatible)]
 #[tactic(auto, using(crate::proofs::CompatibleSteps::shown))]
 fn entry_fits(entry: Option<&ScalarValue>, map: &MapDType) -> bool
-    ensures { result ≡ none_found (breaches_of_entry (map_of map.now).key (map_of map.now).value (raw_of (option_copied entry.entry))) }
+    ensures { result ≡ none_found
+        (breaches_of_entry (map_of map.now).key (map_of map.now).value
+        (raw_of (option_copied entry.entry))) }
 {
     match entry {
         Some(ScalarValue::Tuple(parts)) => pair_fits(parts, map),
@@ -89,10 +98,13 @@ fn entry_fits(entry: Option<&ScalarValue>, map: &MapDType) -> bool
     }
 }
 
+/// Whether the parts of an entry are a key and a value that fit.
 #[cycle(compatible)]
 #[tactic(auto, using(crate::proofs::CompatibleSteps::shown))]
 fn pair_fits(parts: &[Option<ScalarValue>], map: &MapDType) -> bool
-    ensures { result ≡ none_found (breaches_of_entry (map_of map.now).key (map_of map.now).value (raw_tuple (raws_of parts.now))) }
+    ensures { result ≡ none_found
+        (breaches_of_entry (map_of map.now).key (map_of map.now).value
+        (raw_tuple (raws_of parts.now))) }
 {
     if parts.len() != 2 {
         return false;
@@ -100,6 +112,7 @@ fn pair_fits(parts: &[Option<ScalarValue>], map: &MapDType) -> bool
     fits(parts[0].as_ref(), map.key_dtype()) && fits(parts[1].as_ref(), map.value_dtype())
 }
 
+/// Whether each field of a struct fits.
 #[cycle(compatible)]
 #[tactic(auto, using(crate::proofs::CompatibleSteps::shown))]
 fn fields_fit(items: &[Option<ScalarValue>], fields: &[DType]) -> bool
@@ -113,11 +126,13 @@ fn fields_fit(items: &[Option<ScalarValue>], fields: &[DType]) -> bool
     true
 }
 
+/// Whether a variant has the id of a union, and the child fits that.
 #[cycle(compatible)]
 #[tactic(auto, using(crate::proofs::CompatibleSteps::shown))]
 fn child_fits(union: &UnionValue, variants: &UnionVariants) -> bool
     ensures { result ≡ none_found (child_breaches
-        (type_with union.now.type_id (variants_of variants.now).type_ids (types_from (variants_of variants.now).types))
+        (type_with union.now.type_id (variants_of variants.now).type_ids
+        (types_from (variants_of variants.now).types))
         (λ t. breaches t (raw_of (option_map (λ b. b.value) union.now.child)))) }
 {
     match variant_with(variants, union.type_id) {
@@ -126,10 +141,12 @@ fn child_fits(union: &UnionValue, variants: &UnionVariants) -> bool
     }
 }
 
+/// Whether the scalar in a variant fits its own type: a null is of type Null alone.
 #[cycle(compatible)]
 #[tactic(auto, using(crate::proofs::CompatibleSteps::shown))]
 fn inner_fits(scalar: &Scalar) -> bool
-    ensures { result ≡ none_found (breaches_at (variant_type NonNullable) (scalar_tree scalar.now)) }
+    ensures { result ≡
+        none_found (breaches_at (variant_type NonNullable) (scalar_tree scalar.now)) }
 {
     match &scalar.value {
         Some(value) => value_fits(value, &scalar.dtype),

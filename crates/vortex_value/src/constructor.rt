@@ -66,7 +66,8 @@ impl Scalar {
     ///
     /// Ports `Scalar::primitive`.
     pub fn primitive<T: NativePType>(value: T, nullability: Nullability) -> Scalar
-        ensures made { IsMadeOf (integer_type T.PTYPE nullability) (raw_integer T.PTYPE (T.value value)) result }
+        ensures made { IsMadeOf
+            (integer_type T.PTYPE nullability) (raw_integer T.PTYPE (T.value value)) result }
         ensures valid { IsValid result }
     {
         Scalar {
@@ -85,7 +86,8 @@ impl Scalar {
         nullability: Nullability,
     ) -> Result<Scalar, VortexError>
         ensures ok { IsOk result ↔ (kind_of value ≡ ptype) }
-        ensures made { IfOk result (IsMadeOf (integer_type ptype nullability) (raw_integer ptype (whole_of value))) }
+        ensures made { IfOk result
+            (IsMadeOf (integer_type ptype nullability) (raw_integer ptype (whole_of value))) }
         ensures valid { IfOk result IsValid }
         ensures refused { IfErr result (λ e. e ≡ VortexError.WrongPType) }
     {
@@ -143,8 +145,10 @@ impl Scalar {
     /// type, nullability included. Ports `Scalar::extension_ref`, which panics there.
     pub fn extension_ref(ext_dtype: ExtDType, storage: Scalar) -> Result<Scalar, VortexError>
         requires { IsValid storage }
-        ensures refused { RefusesExactly (child_cause 0 (ext_of ext_dtype).storage (scalar_type storage)) result }
-        ensures made { IfOk result (IsMadeOf (extension_over (ext_of ext_dtype)) (scalar_raw storage)) }
+        ensures refused { RefusesExactly
+            (child_cause 0 (ext_of ext_dtype).storage (scalar_type storage)) result }
+        ensures made { IfOk result
+            (IsMadeOf (extension_over (ext_of ext_dtype)) (scalar_raw storage)) }
         ensures valid { IfOk result IsValid }
     {
         if let Some(cause) = child_cause(0, ext_dtype.storage_dtype(), &storage.dtype) {
@@ -171,9 +175,13 @@ impl Scalar {
         nullability: Nullability,
     ) -> Result<Scalar, VortexError>
         requires { IsValid child }
-        ensures refused { RefusesOrNoMemory (union_cause (variants_of variants) type_id (scalar_type child)) result }
-        ensures made { IfOk result (IsMadeOf (union_of (variants_of variants) nullability) (raw_union type_id (scalar_raw child))) }
-        ensures childless { is_absent (scalar_raw child) ≡ true → IfErr result (λ e. e ≢ OutOfMemory) }
+        ensures refused { RefusesOrNoMemory
+            (union_cause (variants_of variants) type_id (scalar_type child)) result }
+        ensures made { IfOk result
+            (IsMadeOf (union_of (variants_of variants) nullability)
+            (raw_union type_id (scalar_raw child))) }
+        ensures childless { is_absent (scalar_raw child) ≡ true
+            → IfErr result (λ e. e ≢ OutOfMemory) }
         ensures valid { IfOk result IsValid }
     {
         if let Some(cause) = union_cause(&variants, type_id, &child.dtype) {
@@ -192,8 +200,11 @@ impl Scalar {
     /// memory is asked for; else `OutOfMemory` where there is none. Ports `Scalar::variant`.
     pub fn variant(alloc: Global, value: Scalar) -> Result<Scalar, VortexError>
         requires { IsValid value }
-        ensures refused { RefusesOrNoMemory (inside_cause (scalar_type value) (scalar_raw value)) result }
-        ensures made { IfOk result (IsMadeOf (variant_type NonNullable) (raw_variant (scalar_type value) (scalar_raw value))) }
+        ensures refused { RefusesOrNoMemory
+            (inside_cause (scalar_type value) (scalar_raw value)) result }
+        ensures made { IfOk result
+            (IsMadeOf (variant_type NonNullable)
+            (raw_variant (scalar_type value) (scalar_raw value))) }
         ensures valid { IfOk result IsValid }
     {
         if value.value.is_none() && !matches!(value.dtype, DType::Null) {

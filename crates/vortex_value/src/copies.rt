@@ -40,7 +40,8 @@ fn copy_tuple(
     values: &[Option<ScalarValue>],
 ) -> Result<Vec<Option<ScalarValue>>, VortexError>
     ensures { MatchResult result
-        (λ copies. map (option_map value_tree) copies.items ≡ map (option_map value_tree) values.now)
+        (λ copies.
+        map (option_map value_tree) copies.items ≡ map (option_map value_tree) values.now)
         (λ e. e ≡ OutOfMemory) }
 {
     let mut copies = Vec::with_capacity(alloc, values.len())?;
@@ -57,7 +58,9 @@ fn copy_tuple(
 /// The same id and child.
 #[cycle(copies)]
 pub(crate) fn copy_union(alloc: Global, union: &UnionValue) -> Result<UnionValue, VortexError>
-    ensures { MatchResult result (λ copy. union_tree copy ≡ union_tree union.now) (λ e. (e ≡ OutOfMemory) × (is_none union.now.child ≡ false)) }
+    ensures { MatchResult result
+        (λ copy. union_tree copy ≡ union_tree union.now)
+        (λ e. (e ≡ OutOfMemory) × (is_none union.now.child ≡ false)) }
 {
     let child = match &union.child {
         Some(child) => Some(Box::new(alloc, copy_value(alloc, child)?)?),
@@ -73,7 +76,8 @@ pub(crate) fn copy_union(alloc: Global, union: &UnionValue) -> Result<UnionValue
 #[cycle(copies)]
 fn copy_boxed(alloc: Global, scalar: &Scalar) -> Result<Box<Scalar>, VortexError>
     ensures { MatchResult result
-        (λ copy. (type_of copy.value.dtype ≡ type_of scalar.now.dtype) × (raw_of copy.value.value ≡ raw_of scalar.now.value))
+        (λ copy. (type_of copy.value.dtype ≡ type_of scalar.now.dtype)
+        × (raw_of copy.value.value ≡ raw_of scalar.now.value))
         (λ e. e ≡ OutOfMemory) }
 {
     Ok(Box::new(alloc, copy_scalar(alloc, scalar)?)?)
@@ -83,8 +87,10 @@ fn copy_boxed(alloc: Global, scalar: &Scalar) -> Result<Box<Scalar>, VortexError
 #[cycle(copies)]
 pub(crate) fn copy_scalar(alloc: Global, scalar: &Scalar) -> Result<Scalar, VortexError>
     ensures { MatchResult result
-        (λ copy. (type_of copy.dtype ≡ type_of scalar.now.dtype) × (raw_of copy.value ≡ raw_of scalar.now.value))
-        (λ e. (e ≡ OutOfMemory) × ¬ (IsFlat (type_of scalar.now.dtype) × TakesNoMemory (raw_of scalar.now.value))) }
+        (λ copy. (type_of copy.dtype ≡ type_of scalar.now.dtype)
+        × (raw_of copy.value ≡ raw_of scalar.now.value))
+        (λ e. (e ≡ OutOfMemory)
+        × ¬ (IsFlat (type_of scalar.now.dtype) × TakesNoMemory (raw_of scalar.now.value))) }
 {
     let dtype = scalar.dtype.clone(alloc)?;
     let value = match &scalar.value {

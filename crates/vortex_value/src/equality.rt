@@ -1,10 +1,14 @@
 //! Equality of raw values and of scalars: integers as whole numbers, types up to nullability.
 
-ghost use Rattle.std.specs.Prelude.{◌≡◌};
+ghost use Rattle.std.specs.Prelude.{◌≡◌, ◌&&◌};
+ghost use Rattle.std.specs.Cmp.{partial_equiv_from_equiv};
+ghost use Rattle.std.proofs.lemmas.Cmp.{on_equiv};
 ghost use Rattle.vortex_dtype.specs.TypeOf.{type_of};
-ghost use Rattle.vortex_value.specs.Content.{content, contents};
+ghost use Rattle.vortex_value.specs.Content.{content, contents, typed};
 ghost use Rattle.vortex_value.specs.Equality.{equal, all_equal, same_type};
+ghost use Rattle.vortex_value.specs.EqualityLaws.{equal-equiv};
 ghost use Rattle.vortex_value.specs.RawOf.{value_tree, scalar_tree, union_tree, raws_of};
+ghost use Rattle.vortex_value.specs.Scalars.{scalar_type, scalar_content};
 
 use crate::scalars::Scalar;
 use crate::unions::UnionValue;
@@ -89,10 +93,6 @@ fn equal_scalars(a: &Scalar, b: &Scalar) -> bool
 }
 
 impl PartialEq for ScalarValue {
-    ghost use Rattle.std.specs.Cmp.{partial_equiv_from_equiv};
-    ghost use Rattle.std.proofs.lemmas.Cmp.{on_equiv};
-    ghost use Rattle.vortex_value.specs.EqualityLaws.{equal-equiv};
-
     ghost eq = { λ a b. equal (content (value_tree a)) (content (value_tree b)) };
 
     ghost laws = { partial_equiv_from_equiv (on_equiv (λ v. content (value_tree v)) equal-equiv) };
@@ -103,17 +103,10 @@ impl PartialEq for ScalarValue {
 }
 
 impl Eq for ScalarValue {
-    ghost use Rattle.std.proofs.lemmas.Cmp.{on_equiv};
-    ghost use Rattle.vortex_value.specs.EqualityLaws.{equal-equiv};
-
     ghost laws = { on_equiv (λ v. content (value_tree v)) equal-equiv };
 }
 
 impl PartialEq for UnionValue {
-    ghost use Rattle.std.specs.Cmp.{partial_equiv_from_equiv};
-    ghost use Rattle.std.proofs.lemmas.Cmp.{on_equiv};
-    ghost use Rattle.vortex_value.specs.EqualityLaws.{equal-equiv};
-
     ghost eq = { λ a b. equal (content (union_tree a)) (content (union_tree b)) };
 
     ghost laws = { partial_equiv_from_equiv (on_equiv (λ u. content (union_tree u)) equal-equiv) };
@@ -124,24 +117,16 @@ impl PartialEq for UnionValue {
 }
 
 impl Eq for UnionValue {
-    ghost use Rattle.std.proofs.lemmas.Cmp.{on_equiv};
-    ghost use Rattle.vortex_value.specs.EqualityLaws.{equal-equiv};
-
     ghost laws = { on_equiv (λ u. content (union_tree u)) equal-equiv };
 }
 
 #[tactic(auto, using(crate::proofs::ValueSteps::shown))]
 impl PartialEq for Scalar {
-    ghost use Rattle.std.specs.Prelude.{◌&&◌};
-    ghost use Rattle.std.specs.Cmp.{partial_equiv_from_equiv};
-    ghost use Rattle.std.proofs.lemmas.Cmp.{on_equiv};
-    ghost use Rattle.vortex_value.specs.Content.{typed};
-    ghost use Rattle.vortex_value.specs.EqualityLaws.{equal-equiv};
-    ghost use Rattle.vortex_value.specs.Scalars.{scalar_type, scalar_content};
+    ghost eq = { λ a b.
+        same_type (scalar_type a) (scalar_type b) && equal (scalar_content a) (scalar_content b) };
 
-    ghost eq = { λ a b. same_type (scalar_type a) (scalar_type b) && equal (scalar_content a) (scalar_content b) };
-
-    ghost laws = { partial_equiv_from_equiv (on_equiv (λ s. typed (scalar_type s) (scalar_content s)) equal-equiv) };
+    ghost laws = { partial_equiv_from_equiv
+        (on_equiv (λ s. typed (scalar_type s) (scalar_content s)) equal-equiv) };
 
     fn eq(&self, other: &Scalar) -> bool {
         equal_scalars(self, other)
@@ -149,10 +134,5 @@ impl PartialEq for Scalar {
 }
 
 impl Eq for Scalar {
-    ghost use Rattle.std.proofs.lemmas.Cmp.{on_equiv};
-    ghost use Rattle.vortex_value.specs.Content.{typed};
-    ghost use Rattle.vortex_value.specs.EqualityLaws.{equal-equiv};
-    ghost use Rattle.vortex_value.specs.Scalars.{scalar_type, scalar_content};
-
     ghost laws = { on_equiv (λ s. typed (scalar_type s) (scalar_content s)) equal-equiv };
 }

@@ -20,7 +20,9 @@ pub(crate) fn storage_of(dtype: &DType) -> &DType
 /// The type of the variant with this id, if there is one.
 #[tactic(auto, using(crate::proofs::Variants::by_place))]
 pub(crate) fn variant_with(variants: &UnionVariants, id: u8) -> Option<&DType>
-    ensures { option_map (λ t. type_of t.now) result ≡ type_with id (variants_of variants.now).type_ids (types_from (variants_of variants.now).types) }
+    ensures { option_map (λ t. type_of t.now) result
+        ≡ type_with id (variants_of variants.now).type_ids
+        (types_from (variants_of variants.now).types) }
 {
     match variants.tag_to_child_index(id) {
         Some(index) => variants.variant_by_index(index),

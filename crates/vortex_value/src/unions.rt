@@ -68,7 +68,9 @@ impl UnionValue {
     ///
     /// `OutOfMemory` is its only refusal, and never without a child. Ports the `Clone` of `UnionValue`.
     pub fn clone(&self, alloc: Global) -> Result<UnionValue, VortexError>
-        ensures { MatchResult result (λ copy. union_tree copy ≡ union_tree self.now) (λ e. (e ≡ OutOfMemory) × (is_none self.now.child ≡ false)) }
+        ensures { MatchResult result
+            (λ copy. union_tree copy ≡ union_tree self.now)
+            (λ e. (e ≡ OutOfMemory) × (is_none self.now.child ≡ false)) }
     {
         copies::copy_union(alloc, self)
     }

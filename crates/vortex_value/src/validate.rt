@@ -53,10 +53,7 @@ fn within(fault: Fault, step: Step) -> Fault
 fn below(step: Step, checked: Result<(), Fault>) -> Result<(), Fault>
     ensures { (fs : List Found) → Checks checked fs → Checks result (under step fs) }
 {
-    match checked {
-        Ok(()) => Ok(()),
-        Err(fault) => Err(within(fault, step)),
-    }
+    checked.map_err(|fault| within(fault, step))
 }
 
 /// The refusal that a fault is: the steps from the outermost on.
@@ -75,6 +72,7 @@ fn refusal(fault: Fault) -> VortexError
     }
 }
 
+/// The first breach of a raw value, or of its absence, at this type.
 #[cycle(validity)]
 #[tactic(auto, using(crate::proofs::ValidSteps::shown))]
 fn check(alloc: Global, value: Option<&ScalarValue>, dtype: &DType) -> Result<(), Fault>
@@ -87,6 +85,7 @@ fn check(alloc: Global, value: Option<&ScalarValue>, dtype: &DType) -> Result<()
     }
 }
 
+/// The first breach of a raw value that is present.
 #[cycle(validity)]
 #[tactic(auto, using(crate::proofs::ValidSteps::shown))]
 fn check_value(alloc: Global, value: &ScalarValue, dtype: &DType) -> Result<(), Fault>
@@ -129,6 +128,7 @@ fn check_value(alloc: Global, value: &ScalarValue, dtype: &DType) -> Result<(), 
     }
 }
 
+/// The first breach of the elements of a list, in order.
 #[cycle(validity)]
 #[tactic(auto, using(crate::proofs::ValidSteps::shown))]
 fn check_elements(
@@ -139,30 +139,31 @@ fn check_elements(
     ensures { Checks result (element_breaches (type_of element.now) 0 (raws_of items.now)) }
 {
     for (index, item) in items.iter().enumerate() {
-        if let Err(fault) = check(alloc, item.as_ref(), element) {
-            return Err(within(fault, Step::Element(index)));
-        }
+        below(Step::Element(index), check(alloc, item.as_ref(), element))?;
     }
     Ok(())
 }
 
+/// The first breach of the entries of a map, in order.
 #[cycle(validity)]
 #[tactic(auto, using(crate::proofs::ValidSteps::shown))]
 fn check_entries(alloc: Global, items: &[Option<ScalarValue>], map: &MapDType) -> Result<(), Fault>
-    ensures { Checks result (entry_breaches (map_of map.now).key (map_of map.now).value 0 (raws_of items.now)) }
+    ensures { Checks result
+        (entry_breaches (map_of map.now).key (map_of map.now).value 0 (raws_of items.now)) }
 {
     for (index, item) in items.iter().enumerate() {
-        if let Err(fault) = check_entry(alloc, item.as_ref(), map) {
-            return Err(within(fault, Step::Entry(index)));
-        }
+        below(Step::Entry(index), check_entry(alloc, item.as_ref(), map))?;
     }
     Ok(())
 }
 
+/// The first breach of one entry of a map: it is a tuple, and no null.
 #[cycle(validity)]
 #[tactic(auto, using(crate::proofs::ValidSteps::shown))]
 fn check_entry(alloc: Global, entry: Option<&ScalarValue>, map: &MapDType) -> Result<(), Fault>
-    ensures { Checks result (breaches_of_entry (map_of map.now).key (map_of map.now).value (raw_of (option_copied entry.entry))) }
+    ensures { Checks result
+        (breaches_of_entry (map_of map.now).key (map_of map.now).value
+        (raw_of (option_copied entry.entry))) }
 {
     match entry {
         None => Err(breach_here(alloc, Breach::NullEntry)),
@@ -171,23 +172,24 @@ fn check_entry(alloc: Global, entry: Option<&ScalarValue>, map: &MapDType) -> Re
     }
 }
 
+/// The first breach of the parts of an entry: a key, and then a value.
 #[cycle(validity)]
 #[tactic(auto, using(crate::proofs::ValidSteps::shown))]
 fn check_pair(alloc: Global, parts: &[Option<ScalarValue>], map: &MapDType) -> Result<(), Fault>
-    ensures { Checks result (breaches_of_entry (map_of map.now).key (map_of map.now).value (raw_tuple (raws_of parts.now))) }
+    ensures { Checks result
+        (breaches_of_entry (map_of map.now).key (map_of map.now).value
+        (raw_tuple (raws_of parts.now))) }
 {
     if parts.len() != 2 {
         return Err(breach_here(alloc, Breach::WrongLength));
     }
-    match below(Step::Key, check(alloc, parts[0].as_ref(), map.key_dtype())) {
-        Ok(()) => below(
-            Step::Value,
-            check(alloc, parts[1].as_ref(), map.value_dtype()),
-        ),
-        Err(fault) => Err(fault),
-    }
+    let key = check(alloc, parts[0].as_ref(), map.key_dtype());
+    below(Step::Key, key)?;
+    let value = check(alloc, parts[1].as_ref(), map.value_dtype());
+    below(Step::Value, value)
 }
 
+/// The first breach of the fields of a struct, in order.
 #[cycle(validity)]
 #[tactic(auto, using(crate::proofs::ValidSteps::shown))]
 fn check_fields(alloc: Global, items: &[Option<ScalarValue>], fields: &[DType]) -> Result<(), Fault>
@@ -199,11 +201,13 @@ fn check_fields(alloc: Global, items: &[Option<ScalarValue>], fields: &[DType]) 
     Ok(())
 }
 
+/// The first breach of a union: its id has a variant, and its child fits that.
 #[cycle(validity)]
 #[tactic(auto, using(crate::proofs::ValidSteps::shown))]
 fn check_child(alloc: Global, union: &UnionValue, variants: &UnionVariants) -> Result<(), Fault>
     ensures { Checks result (child_breaches
-        (type_with union.now.type_id (variants_of variants.now).type_ids (types_from (variants_of variants.now).types))
+        (type_with union.now.type_id (variants_of variants.now).type_ids
+        (types_from (variants_of variants.now).types))
         (λ t. breaches t (raw_of (option_map (λ b. b.value) union.now.child)))) }
 {
     match variant_with(variants, union.type_id) {
@@ -212,6 +216,7 @@ fn check_child(alloc: Global, union: &UnionValue, variants: &UnionVariants) -> R
     }
 }
 
+/// The first breach of the scalar in a variant: a null is of type Null alone.
 #[cycle(validity)]
 #[tactic(auto, using(crate::proofs::ValidSteps::shown))]
 fn check_variant(alloc: Global, scalar: &Scalar) -> Result<(), Fault>
@@ -238,13 +243,11 @@ impl Scalar {
         value: Option<&ScalarValue>,
     ) -> Result<(), VortexError>
         ensures ok { IsOk result ↔ Valid (type_of dtype.now) (raw_of (option_copied value.entry)) }
-        ensures refused { IfErr result (λ e. Refuses e (breaches (type_of dtype.now) (raw_of (option_copied value.entry)))) }
+        ensures refused { IfErr result
+            (λ e. Refuses e (breaches (type_of dtype.now) (raw_of (option_copied value.entry)))) }
         ensures flat { IsFlat (type_of dtype.now) → result ≢ Err VortexError.OutOfMemory }
     {
-        match check(alloc, value, dtype) {
-            Ok(()) => Ok(()),
-            Err(fault) => Err(refusal(fault)),
-        }
+        check(alloc, value, dtype).map_err(refusal)
     }
 
     /// The scalar of a type and a raw value, or of its absence.

@@ -28,17 +28,18 @@ impl Scalar {
         nullability: Nullability,
     ) -> Result<Scalar, VortexError>
         requires { All IsValid children.items }
-        ensures refused { RefusesOrNoMemory (list_cause (type_of element_dtype) children.items) result }
-        ensures made { IfOk result (IsMadeOf (list_type (type_of element_dtype) nullability) (raw_tuple (raws_in children.items))) }
+        ensures refused { RefusesOrNoMemory
+            (list_cause (type_of element_dtype) children.items) result }
+        ensures made { IfOk result
+            (IsMadeOf (list_type (type_of element_dtype) nullability)
+            (raw_tuple (raws_in children.items))) }
         ensures valid { IfOk result IsValid }
     {
-        match list_size(&element_dtype, &children) {
-            Err(cause) => Err(cause),
-            Ok(_) => Ok(Scalar {
-                dtype: DType::List(Box::new(alloc, element_dtype)?, nullability),
-                value: Some(tuple_of(alloc, children)?),
-            }),
-        }
+        list_size(&element_dtype, &children)?;
+        Ok(Scalar {
+            dtype: DType::List(Box::new(alloc, element_dtype)?, nullability),
+            value: Some(tuple_of(alloc, children)?),
+        })
     }
 
     /// The list of fixed size of these children, whose size is their number.
@@ -51,17 +52,19 @@ impl Scalar {
         nullability: Nullability,
     ) -> Result<Scalar, VortexError>
         requires { All IsValid children.items }
-        ensures refused { RefusesOrNoMemory (list_cause (type_of element_dtype) children.items) result }
-        ensures made { IfOk result (IsMadeOf (fixed_size_list_type (type_of element_dtype) (length children.items) nullability) (raw_tuple (raws_in children.items))) }
+        ensures refused { RefusesOrNoMemory
+            (list_cause (type_of element_dtype) children.items) result }
+        ensures made { IfOk result
+            (IsMadeOf
+            (fixed_size_list_type (type_of element_dtype) (length children.items) nullability)
+            (raw_tuple (raws_in children.items))) }
         ensures valid { IfOk result IsValid }
     {
-        match list_size(&element_dtype, &children) {
-            Err(cause) => Err(cause),
-            Ok(size) => Ok(Scalar {
-                dtype: DType::FixedSizeList(Box::new(alloc, element_dtype)?, size, nullability),
-                value: Some(tuple_of(alloc, children)?),
-            }),
-        }
+        let size = list_size(&element_dtype, &children)?;
+        Ok(Scalar {
+            dtype: DType::FixedSizeList(Box::new(alloc, element_dtype)?, size, nullability),
+            value: Some(tuple_of(alloc, children)?),
+        })
     }
 
     /// The list of no children.
@@ -73,7 +76,8 @@ impl Scalar {
         nullability: Nullability,
     ) -> Result<Scalar, VortexError>
         ensures refused { IfErr result (λ e. e ≡ OutOfMemory) }
-        ensures made { IfOk result (IsMadeOf (list_type (type_of element_dtype) nullability) (raw_tuple no_raws)) }
+        ensures made { IfOk result
+            (IsMadeOf (list_type (type_of element_dtype) nullability) (raw_tuple no_raws)) }
         ensures valid { IfOk result IsValid }
     {
         Ok(Scalar {
@@ -86,7 +90,8 @@ impl Scalar {
 /// How many children a list of this element type has, or why they make none.
 fn list_size(element: &DType, children: &[Scalar]) -> Result<u32, VortexError>
     ensures { MatchResult result
-        (λ size. (size ≡ length children.now) × (list_cause (type_of element.now) children.now ≡ None))
+        (λ size. (size ≡ length children.now)
+        × (list_cause (type_of element.now) children.now ≡ None))
         (λ e. list_cause (type_of element.now) children.now ≡ Some e) }
 {
     match wrong_place(element, children) {
@@ -116,7 +121,9 @@ fn as_size(count: usize) -> Result<u32, VortexError>
 
 /// The raw value of which these children are the parts.
 pub(super) fn tuple_of(alloc: Global, children: Vec<Scalar>) -> Result<ScalarValue, VortexError>
-    ensures { MatchResult result (λ value. value_tree value ≡ raw_tuple (raws_in children.items)) (λ e. e ≡ OutOfMemory) }
+    ensures { MatchResult result
+        (λ value. value_tree value ≡ raw_tuple (raws_in children.items))
+        (λ e. e ≡ OutOfMemory) }
 {
     let mut values = Vec::with_capacity(alloc, children.len())?;
     for child in children {

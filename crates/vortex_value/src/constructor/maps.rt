@@ -1,12 +1,11 @@
 //! Makers of maps.
 
-ghost use Rattle.std.specs.Prelude.{◌≡◌, ◌⊎◌, None, Some, IfOk, IfErr, IsErrAnd, MatchOption, MatchResult};
+ghost use Rattle.std.specs.Prelude.{◌≡◌, IfOk, IsErrAnd, MatchOption, MatchResult};
 ghost use Rattle.std.specs.Iterator.{IsFiniteIterable};
-ghost use Rattle.std.specs.List.{All};
 ghost use Rattle.vortex_dtype.specs.Parts.{map_in};
 ghost use Rattle.vortex_dtype.specs.TypeOf.{type_of, map_of};
-ghost use Rattle.vortex_dtype.specs.declared.error.VortexError.TheVariants.{OutOfMemory, WrongChild, WrongKind};
-ghost use Rattle.vortex_value.specs.Makers.{EachItem, GivesAll, IsValidEntry, RefusesOrNoMemory, is_entry_of, map_cause, raw_entries, raw_entry, wrong_entry};
+ghost use Rattle.vortex_dtype.specs.declared.error.VortexError.TheVariants.{OutOfMemory, WrongKind};
+ghost use Rattle.vortex_value.specs.Makers.{EachItem, IsValidEntry, MadeOfItems, RefusesItems, RefusesOrNoMemory, entries_cause, is_entry_of, map_cause, raw_entries, raw_entry, wrong_entry};
 ghost use Rattle.vortex_value.specs.RawOf.{value_tree};
 ghost use Rattle.vortex_value.specs.RawTree.{raw_tuple};
 ghost use Rattle.vortex_value.specs.Scalars.{IsMadeOf, IsValid};
@@ -29,21 +28,28 @@ impl Scalar {
         dtype: DType,
         entries: I,
     ) -> Result<Scalar, VortexError>
-        requires finite { IsFiniteIterable I.into_iter_gives I.IntoIter.can_next I.IntoIter.remaining entries }
+        requires finite { IsFiniteIterable I.into_iter_gives
+            I.IntoIter.can_next I.IntoIter.remaining entries }
         requires entries { EachItem I.into_iter_gives I.IntoIter.next_gives entries IsValidEntry }
         ensures refused { MatchOption (map_in (type_of dtype))
             (IsErrAnd result (λ e. e ≡ WrongKind))
-            (λ parts. IfErr result (λ e. (e ≡ OutOfMemory) ⊎ GivesAll I.into_iter_gives I.IntoIter.next_gives entries (λ items. map_cause (Some parts) items ≡ Some e))) }
-        ensures made { IfOk result (λ x. GivesAll I.into_iter_gives I.IntoIter.next_gives entries
-            (λ items. (map_cause (map_in (type_of dtype)) items ≡ None) × IsMadeOf (type_of dtype) (raw_tuple (raw_entries items)) x)) }
+            (λ parts. RefusesItems I.into_iter_gives I.IntoIter.next_gives entries
+            (entries_cause parts) result) }
+        ensures made { MadeOfItems I.into_iter_gives I.IntoIter.next_gives entries
+            (map_cause (map_in (type_of dtype)))
+            (λ items. IsMadeOf (type_of dtype) (raw_tuple (raw_entries items))) result }
         ensures valid { IfOk result IsValid }
     {
         let entries = entries.into_iter();
-        if dtype.as_map_opt().is_none() {
+        let Some(map) = dtype.as_map_opt() else {
             return Err(VortexError::WrongKind);
-        }
+        };
         let entries: Vec<(Scalar, Scalar)> = entries.collect(alloc)?;
-        map_from(alloc, dtype, entries)
+        let value = map_value(alloc, map, entries)?;
+        Ok(Scalar {
+            dtype,
+            value: Some(value),
+        })
     }
 
     /// The map of these entries, or why they make none: the same answers as `map`.
@@ -54,50 +60,35 @@ impl Scalar {
         dtype: DType,
         entries: I,
     ) -> Result<Scalar, VortexError>
-        requires finite { IsFiniteIterable I.into_iter_gives I.IntoIter.can_next I.IntoIter.remaining entries }
+        requires finite { IsFiniteIterable I.into_iter_gives
+            I.IntoIter.can_next I.IntoIter.remaining entries }
         requires entries { EachItem I.into_iter_gives I.IntoIter.next_gives entries IsValidEntry }
         ensures refused { MatchOption (map_in (type_of dtype))
             (IsErrAnd result (λ e. e ≡ WrongKind))
-            (λ parts. IfErr result (λ e. (e ≡ OutOfMemory) ⊎ GivesAll I.into_iter_gives I.IntoIter.next_gives entries (λ items. map_cause (Some parts) items ≡ Some e))) }
-        ensures made { IfOk result (λ x. GivesAll I.into_iter_gives I.IntoIter.next_gives entries
-            (λ items. (map_cause (map_in (type_of dtype)) items ≡ None) × IsMadeOf (type_of dtype) (raw_tuple (raw_entries items)) x)) }
+            (λ parts. RefusesItems I.into_iter_gives I.IntoIter.next_gives entries
+            (entries_cause parts) result) }
+        ensures made { MadeOfItems I.into_iter_gives I.IntoIter.next_gives entries
+            (map_cause (map_in (type_of dtype)))
+            (λ items. IsMadeOf (type_of dtype) (raw_tuple (raw_entries items))) result }
         ensures valid { IfOk result IsValid }
     {
         Scalar::map(alloc, dtype, entries)
     }
 }
 
-/// The map of these entries, or why they make none.
-fn map_from(
+/// The raw value of the map of these entries, or why they make none.
+fn map_value(
     alloc: Global,
-    dtype: DType,
+    map: &MapDType,
     entries: Vec<(Scalar, Scalar)>,
-) -> Result<Scalar, VortexError>
-    requires { All IsValidEntry entries.items }
-    ensures refused { RefusesOrNoMemory (map_cause (map_in (type_of dtype)) entries.items) result }
-    ensures made { IfOk result (IsMadeOf (type_of dtype) (raw_tuple (raw_entries entries.items))) }
-    ensures valid { IfOk result IsValid }
+) -> Result<ScalarValue, VortexError>
+    ensures refused { RefusesOrNoMemory (entries_cause (map_of map.now) entries.items) result }
+    ensures made { IfOk result (λ value. value_tree value ≡ raw_tuple (raw_entries entries.items)) }
 {
-    match map_cause(&dtype, &entries) {
-        Some(cause) => Err(cause),
-        None => Ok(Scalar {
-            dtype,
-            value: Some(entries_of(alloc, entries)?),
-        }),
+    if let Some(index) = wrong_entry(map, &entries) {
+        return Err(VortexError::WrongChild { index });
     }
-}
-
-/// Why these entries make no map of this type.
-fn map_cause(dtype: &DType, entries: &[(Scalar, Scalar)]) -> Option<VortexError>
-    ensures { result ≡ map_cause (map_in (type_of dtype.now)) entries.now }
-{
-    match dtype.as_map_opt() {
-        Some(map) => match wrong_entry(map, entries) {
-            Some(index) => Some(VortexError::WrongChild { index }),
-            None => None,
-        },
-        None => Some(VortexError::WrongKind),
-    }
+    entries_of(alloc, entries)
 }
 
 /// The place of the first entry whose key or value is not exactly of the map's type.
@@ -116,7 +107,9 @@ fn is_entry_of(map: &MapDType, entry: &(Scalar, Scalar)) -> bool
 
 /// The raw value of which these entries are the parts.
 fn entries_of(alloc: Global, entries: Vec<(Scalar, Scalar)>) -> Result<ScalarValue, VortexError>
-    ensures { MatchResult result (λ value. value_tree value ≡ raw_tuple (raw_entries entries.items)) (λ e. e ≡ OutOfMemory) }
+    ensures { MatchResult result
+        (λ value. value_tree value ≡ raw_tuple (raw_entries entries.items))
+        (λ e. e ≡ OutOfMemory) }
 {
     let mut values = Vec::with_capacity(alloc, entries.len())?;
     for entry in entries {
@@ -127,7 +120,9 @@ fn entries_of(alloc: Global, entries: Vec<(Scalar, Scalar)>) -> Result<ScalarVal
 
 /// The tuple of an entry's key and value.
 fn entry_of(alloc: Global, entry: (Scalar, Scalar)) -> Result<ScalarValue, VortexError>
-    ensures { MatchResult result (λ value. value_tree value ≡ raw_entry entry) (λ e. e ≡ OutOfMemory) }
+    ensures { MatchResult result
+        (λ value. value_tree value ≡ raw_entry entry)
+        (λ e. e ≡ OutOfMemory) }
 {
     let (key, value) = entry;
     let mut parts = Vec::with_capacity(alloc, 2)?;

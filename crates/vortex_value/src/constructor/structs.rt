@@ -1,18 +1,20 @@
 //! The maker of structs.
 
-ghost use Rattle.std.specs.Prelude.{◌≡◌, ◌⊎◌, None, Some, not, position, IfOk, IfErr, IsErrAnd, MatchOption};
+ghost use Rattle.std.specs.Prelude.{◌≡◌, not, position, IfOk, IsErrAnd, MatchOption};
 ghost use Rattle.std.specs.Iterator.{IsFiniteIterable};
-ghost use Rattle.std.specs.List.{All, zip};
+ghost use Rattle.std.specs.List.{zip};
 ghost use Rattle.vortex_dtype.specs.Parts.{fields_in};
 ghost use Rattle.vortex_dtype.specs.TypeEquality.{tree_eq};
 ghost use Rattle.vortex_dtype.specs.TypeOf.{type_of, fields_of};
-ghost use Rattle.vortex_dtype.specs.declared.error.VortexError.TheVariants.{OutOfMemory, WrongKind};
-ghost use Rattle.vortex_value.specs.Makers.{EachItem, GivesAll, RefusesOrNoMemory, fields_cause, raws_in, struct_cause};
+ghost use Rattle.vortex_dtype.specs.declared.error.VortexError.TheVariants.{WrongKind};
+ghost use Rattle.vortex_value.specs.Makers.{EachItem, MadeOfItems, RefusesItems, RefusesOrNoMemory, fields_cause, raws_in, struct_cause};
+ghost use Rattle.vortex_value.specs.RawOf.{value_tree};
 ghost use Rattle.vortex_value.specs.RawTree.{raw_tuple};
 ghost use Rattle.vortex_value.specs.Scalars.{IsMadeOf, IsValid, scalar_type};
 
 use super::lists::tuple_of;
 use crate::scalars::Scalar;
+use crate::values::ScalarValue;
 use std::alloc::Global;
 use vortex_dtype::{DType, StructFields, VortexError};
 
@@ -28,48 +30,45 @@ impl Scalar {
         dtype: DType,
         children: I,
     ) -> Result<Scalar, VortexError>
-        requires finite { IsFiniteIterable I.into_iter_gives I.IntoIter.can_next I.IntoIter.remaining children }
+        requires finite { IsFiniteIterable I.into_iter_gives
+            I.IntoIter.can_next I.IntoIter.remaining children }
         requires children { EachItem I.into_iter_gives I.IntoIter.next_gives children IsValid }
         ensures refused { MatchOption (fields_in (type_of dtype))
             (IsErrAnd result (λ e. e ≡ WrongKind))
-            (λ fields. IfErr result (λ e. (e ≡ OutOfMemory) ⊎ GivesAll I.into_iter_gives I.IntoIter.next_gives children (λ items. fields_cause fields.types items ≡ Some e))) }
-        ensures made { IfOk result (λ x. GivesAll I.into_iter_gives I.IntoIter.next_gives children
-            (λ items. (struct_cause (fields_in (type_of dtype)) items ≡ None) × IsMadeOf (type_of dtype) (raw_tuple (raws_in items)) x)) }
+            (λ fields. RefusesItems I.into_iter_gives I.IntoIter.next_gives children
+            (fields_cause fields.types) result) }
+        ensures made { MadeOfItems I.into_iter_gives I.IntoIter.next_gives children
+            (struct_cause (fields_in (type_of dtype)))
+            (λ items. IsMadeOf (type_of dtype) (raw_tuple (raws_in items))) result }
         ensures valid { IfOk result IsValid }
     {
         let children = children.into_iter();
-        if dtype.as_struct_fields_opt().is_none() {
+        let Some(fields) = dtype.as_struct_fields_opt() else {
             return Err(VortexError::WrongKind);
-        }
+        };
         let children: Vec<Scalar> = children.collect(alloc)?;
-        struct_from(alloc, dtype, children)
-    }
-}
-
-/// The struct of these children, or why they make none.
-fn struct_from(alloc: Global, dtype: DType, children: Vec<Scalar>) -> Result<Scalar, VortexError>
-    requires { All IsValid children.items }
-    ensures refused { RefusesOrNoMemory (struct_cause (fields_in (type_of dtype)) children.items) result }
-    ensures made { IfOk result (IsMadeOf (type_of dtype) (raw_tuple (raws_in children.items))) }
-    ensures valid { IfOk result IsValid }
-{
-    match struct_cause(&dtype, &children) {
-        Some(cause) => Err(cause),
-        None => Ok(Scalar {
+        let value = struct_value(alloc, fields, children)?;
+        Ok(Scalar {
             dtype,
-            value: Some(tuple_of(alloc, children)?),
-        }),
+            value: Some(value),
+        })
     }
 }
 
-/// Why these children make no struct of this type.
-fn struct_cause(dtype: &DType, children: &[Scalar]) -> Option<VortexError>
-    ensures { result ≡ struct_cause (fields_in (type_of dtype.now)) children.now }
+/// The raw value of the struct of these children, or why they make none.
+fn struct_value(
+    alloc: Global,
+    fields: &StructFields,
+    children: Vec<Scalar>,
+) -> Result<ScalarValue, VortexError>
+    ensures refused { RefusesOrNoMemory
+        (fields_cause (fields_of fields.now).types children.items) result }
+    ensures made { IfOk result (λ value. value_tree value ≡ raw_tuple (raws_in children.items)) }
 {
-    match dtype.as_struct_fields_opt() {
-        Some(fields) => fields_cause(fields, children),
-        None => Some(VortexError::WrongKind),
+    if let Some(cause) = fields_cause(fields, &children) {
+        return Err(cause);
     }
+    tuple_of(alloc, children)
 }
 
 /// Why these children do not fit these fields.
@@ -82,15 +81,14 @@ fn fields_cause(fields: &StructFields, children: &[Scalar]) -> Option<VortexErro
             found: children.len(),
         });
     }
-    match wrong_field(fields.dtypes(), children) {
-        Some(index) => Some(VortexError::WrongChild { index }),
-        None => None,
-    }
+    wrong_field(fields.dtypes(), children).map(|index| VortexError::WrongChild { index })
 }
 
 /// The place of the first child whose type is not exactly its field's.
 fn wrong_field(dtypes: &[DType], children: &[Scalar]) -> Option<usize>
-    ensures { result ≡ position (λ pair. not (tree_eq (scalar_type pair.1) (type_of pair.0))) (zip dtypes.now children.now) }
+    ensures { result ≡ position
+        (λ pair. not (tree_eq (scalar_type pair.1) (type_of pair.0)))
+        (zip dtypes.now children.now) }
 {
     let mut pairs = dtypes.iter().zip(children);
     pairs.position(|(dtype, child)| child.dtype != *dtype)

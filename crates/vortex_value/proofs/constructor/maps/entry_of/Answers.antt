@@ -1,7 +1,7 @@
 use Rattle.std.proofs.Common.{◌≡◌, [], ◌∷◌, ap, ◌∙◌, rules}
 use Rattle.vortex_value.specs.RawOf.{raws_of}
 use Rattle.vortex_value.specs.RawTree.{raw_tuple}
-use Rattle.vortex_value.proofs.MakerLaws.{value_tree-Tuple}
+use Rattle.vortex_value.proofs.ValueSteps.{value_tree-Tuple}
 use Rattle.vortex_value.proofs.constructor.maps.entry_of.Goals as goal
 
 pub returns : goal.returns

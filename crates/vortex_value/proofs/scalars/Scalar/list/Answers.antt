@@ -5,16 +5,17 @@ use Rattle.vortex_dtype.specs.declared.types.DType.{List}
 use Rattle.vortex_value.specs.Makers.{list_cause, raws_in}
 use Rattle.vortex_value.specs.RawTree.{raw_tuple}
 use Rattle.vortex_value.proofs.ListMakers.{list_valid}
-use Rattle.vortex_value.proofs.MakerLaws.{scalar_valid, type_of-List}
+use Rattle.vortex_value.proofs.MakerLaws.{scalar_valid}
+use Rattle.vortex_value.proofs.TypeSteps.{type_of-List}
 use Rattle.vortex_value.proofs.scalars.Scalar.list.Goals as goal
 
-pub returns-in_ok-tuple_of-in-Ok-clause-valid : goal.returns-in_ok-tuple_of-in-Ok-clause-valid
-returns-in_ok-tuple_of-in-Ok-clause-valid c =
+pub returns-clause-valid : goal.returns-clause-valid
+returns-clause-valid c =
     let e = type_of c.args.element_dtype in
     let n = c.args.nullability in
     let xs = c.args.children.items in
-    let boxed = c.in_ok-new-in-Ok in
-    let tuple = c.in_ok-tuple_of-in-Ok in
+    let boxed = c.in_ok-new in
+    let tuple = c.in_ok-tuple_of in
     let accepted : list_cause (type_of c.args.element_dtype) c.args.children.items ≡ None = search rules in
     scalar_valid (List boxed.field-0 n) (Some tuple.field-0) (list_type e n) (raw_tuple (raws_in xs))
     (type_of-List boxed.field-0 n ∙ ap (λ d. list_type (type_of d) n) boxed.ensures.ok) tuple.ensures (list_valid e xs accepted c.requires)

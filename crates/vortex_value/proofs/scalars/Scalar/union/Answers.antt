@@ -5,7 +5,9 @@ use Rattle.vortex_value.specs.Makers.{union_cause, union_of}
 use Rattle.vortex_value.specs.RawTree.{raw_union}
 use Rattle.vortex_value.specs.Scalars.{scalar_raw}
 use Rattle.vortex_value.specs.declared.values.ScalarValue as raw
-use Rattle.vortex_value.proofs.MakerLaws.{union_valid, scalar_valid, type_of-Union, raw_of-Union}
+use Rattle.vortex_value.proofs.MakerLaws.{union_valid, scalar_valid}
+use Rattle.vortex_value.proofs.TypeSteps.{type_of-Union}
+use Rattle.vortex_value.proofs.ValueSteps.{value_tree-Union}
 use Rattle.vortex_value.proofs.scalars.Scalar.union.Goals as goal
 
 pub returns-clause-valid : goal.returns-clause-valid
@@ -15,4 +17,4 @@ returns-clause-valid c =
     let made = c.in_ok-union.union in
     let accepted : union_cause (variants_of c.args.variants) c.args.type_id (type_of c.args.child.dtype) ≡ None = search rules in
     let child = union_valid variants id (type_of c.args.child.dtype) (scalar_raw c.args.child) accepted c.requires in
-    scalar_valid (Union c.args.variants c.args.nullability) (Some (raw.Union made)) (union_of variants c.args.nullability) (raw_union id (scalar_raw c.args.child)) (type_of-Union c.args.variants c.args.nullability) (raw_of-Union made ∙ c.in_ok-union.ensures) child
+    scalar_valid (Union c.args.variants c.args.nullability) (Some (raw.Union made)) (union_of variants c.args.nullability) (raw_union id (scalar_raw c.args.child)) (type_of-Union c.args.variants c.args.nullability) (value_tree-Union made ∙ c.in_ok-union.ensures) child
