@@ -2,9 +2,10 @@
 use Rattle.std.proofs.Common.{◌≡◌, ◌⊎◌, ◌<◌, true, List, Option, Some, None, option_map, Result, Ok, Err, MatchOption, IfSome, get_or, inl, inr, refl, sym, subst}
 use Rattle.std.specs.Iterator.Runs.{Run, AllItems}
 use Rattle.std.specs.List.{All}
+use Rattle.vortex_dtype.specs.Refusals.{RefusesOrNoMemory}
 use Rattle.vortex_dtype.specs.declared.error.VortexError.{VortexError}
 use Rattle.vortex_dtype.specs.declared.error.VortexError.TheVariants.{OutOfMemory}
-use Rattle.vortex_value.specs.Makers.{GivesAll, MadeOfItems, RefusesItems, RefusesOrNoMemory}
+use Rattle.vortex_value.specs.Makers.{GivesAll, MadeOfItems, RefusesItems}
 
 at_place : {A : Type 0} (P : A → Type 0) (o : Option A) (x : A) → option_map (λ y. y) o ≡ Some x → IfSome o P → P x
 at_place P None x h p = cc

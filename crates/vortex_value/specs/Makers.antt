@@ -1,5 +1,5 @@
 -- When the makers of scalars refuse.
-use Rattle.std.specs.Prelude.{◌≡◌, ◌⊎◌, ℕ, ◌==◌, ◌&&◌, ◌^◌, nat_lt, Bool, not, List, length, map, position, Option, Some, None, Result, IfErr, IfOk, IsErrAnd, IsOk, option_map, if◌then◌else◌}
+use Rattle.std.specs.Prelude.{◌≡◌, ◌⊎◌, ℕ, ◌==◌, ◌&&◌, ◌^◌, nat_lt, Bool, not, List, length, map, position, Option, Some, None, Result, IfErr, IfOk, option_map, if◌then◌else◌}
 use Rattle.std.specs.Iterator.Runs.{AllItems, EachRunFrom, WholeRun}
 use Rattle.std.specs.List.{zip}
 use Rattle.std.specs.Option.{option_or}
@@ -15,16 +15,6 @@ use Rattle.vortex_value.specs.RawTree.{RawTree, raw_tuple, RawTrees, no_raws, ra
 use Rattle.vortex_value.specs.Scalars.{IsValid, scalar_raw, scalar_type}
 use Rattle.vortex_value.specs.Validity.{type_with}
 use Rattle.vortex_value.specs.declared.scalars.Scalar.{Scalar}
-
--- the call succeeds where there is no cause to refuse, and else answers the cause
-abbrev pub RefusesExactly : {T : Type 0} → Option VortexError → Result T VortexError → Type 0
-RefusesExactly None result = IsOk result
-RefusesExactly (Some cause) result = IsErrAnd result (λ e. e ≡ cause)
-
--- the call succeeds or finds no memory where there is no cause to refuse, and else answers the cause
-abbrev pub RefusesOrNoMemory : {T : Type 0} → Option VortexError → Result T VortexError → Type 0
-RefusesOrNoMemory None result = IfErr result (λ e. e ≡ OutOfMemory)
-RefusesOrNoMemory (Some cause) result = IsErrAnd result (λ e. e ≡ cause)
 
 -- the child at this place is refused unless its type is exactly the expected one; nullability counts
 abbrev pub child_cause : ℕ → TypeTree → TypeTree → Option VortexError

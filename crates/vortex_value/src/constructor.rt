@@ -1,12 +1,13 @@
 //! Makers of scalars: each answers a valid scalar of the stated type, or refuses by name.
 
 ghost use Rattle.std.specs.Prelude.{◌≡◌, ◌≢◌, ◌↔◌, IsOk, IfOk, IfErr, IsUtf8, true};
+ghost use Rattle.vortex_dtype.specs.Refusals.{RefusesExactly, RefusesOrNoMemory};
 ghost use Rattle.vortex_dtype.specs.TypeOf.{type_of, ext_of, variants_of};
 ghost use Rattle.vortex_dtype.specs.TypeTree.{IsNullable, as_nullable, bool_type, integer_type, utf8_type, binary_type, variant_type};
 ghost use Rattle.vortex_dtype.specs.declared.error.VortexError.TheVariants.{OutOfMemory};
 ghost use Rattle.vortex_dtype.specs.declared.kinds.Nullability.TheVariants.{NonNullable};
 ghost use Rattle.vortex_pvalue.specs.Whole.{kind_of, whole_of};
-ghost use Rattle.vortex_value.specs.Makers.{RefusesExactly, RefusesOrNoMemory, child_cause, union_cause, inside_cause, union_of, extension_over};
+ghost use Rattle.vortex_value.specs.Makers.{child_cause, union_cause, inside_cause, union_of, extension_over};
 ghost use Rattle.vortex_value.specs.RawTree.{absent, raw_bool, raw_integer, raw_text, raw_bytes, raw_union, raw_variant, is_absent};
 ghost use Rattle.vortex_value.specs.Scalars.{IsMadeOf, IsValid, scalar_raw, scalar_type};
 

@@ -2,10 +2,11 @@
 
 ghost use Rattle.std.specs.Prelude.{◌≡◌, None, Some, length, map, IfOk, IfErr, MatchResult};
 ghost use Rattle.std.specs.List.{All};
+ghost use Rattle.vortex_dtype.specs.Refusals.{RefusesOrNoMemory};
 ghost use Rattle.vortex_dtype.specs.TypeOf.{type_of};
 ghost use Rattle.vortex_dtype.specs.TypeTree.{list_type, fixed_size_list_type};
 ghost use Rattle.vortex_dtype.specs.declared.error.VortexError.TheVariants.{OutOfMemory};
-ghost use Rattle.vortex_value.specs.Makers.{RefusesOrNoMemory, count_cause, list_cause, raws_in, wrong_place};
+ghost use Rattle.vortex_value.specs.Makers.{count_cause, list_cause, raws_in, wrong_place};
 ghost use Rattle.vortex_value.specs.RawOf.{value_tree};
 ghost use Rattle.vortex_value.specs.RawTree.{raw_tuple, no_raws};
 ghost use Rattle.vortex_value.specs.Scalars.{IsMadeOf, IsValid};

@@ -3,9 +3,10 @@
 ghost use Rattle.std.specs.Prelude.{◌≡◌, IfOk, IsErrAnd, MatchOption, MatchResult};
 ghost use Rattle.std.specs.Iterator.{IsFiniteIterable};
 ghost use Rattle.vortex_dtype.specs.Parts.{map_in};
+ghost use Rattle.vortex_dtype.specs.Refusals.{RefusesOrNoMemory};
 ghost use Rattle.vortex_dtype.specs.TypeOf.{type_of, map_of};
 ghost use Rattle.vortex_dtype.specs.declared.error.VortexError.TheVariants.{OutOfMemory, WrongKind};
-ghost use Rattle.vortex_value.specs.Makers.{EachItem, IsValidEntry, MadeOfItems, RefusesItems, RefusesOrNoMemory, entries_cause, is_entry_of, map_cause, raw_entries, raw_entry, wrong_entry};
+ghost use Rattle.vortex_value.specs.Makers.{EachItem, IsValidEntry, MadeOfItems, RefusesItems, entries_cause, is_entry_of, map_cause, raw_entries, raw_entry, wrong_entry};
 ghost use Rattle.vortex_value.specs.RawOf.{value_tree};
 ghost use Rattle.vortex_value.specs.RawTree.{raw_tuple};
 ghost use Rattle.vortex_value.specs.Scalars.{IsMadeOf, IsValid};

@@ -4,10 +4,11 @@ ghost use Rattle.std.specs.Prelude.{◌≡◌, not, position, IfOk, IsErrAnd, Ma
 ghost use Rattle.std.specs.Iterator.{IsFiniteIterable};
 ghost use Rattle.std.specs.List.{zip};
 ghost use Rattle.vortex_dtype.specs.Parts.{fields_in};
+ghost use Rattle.vortex_dtype.specs.Refusals.{RefusesOrNoMemory};
 ghost use Rattle.vortex_dtype.specs.TypeEquality.{tree_eq};
 ghost use Rattle.vortex_dtype.specs.TypeOf.{type_of, fields_of};
 ghost use Rattle.vortex_dtype.specs.declared.error.VortexError.TheVariants.{WrongKind};
-ghost use Rattle.vortex_value.specs.Makers.{EachItem, MadeOfItems, RefusesItems, RefusesOrNoMemory, fields_cause, raws_in, struct_cause};
+ghost use Rattle.vortex_value.specs.Makers.{EachItem, MadeOfItems, RefusesItems, fields_cause, raws_in, struct_cause};
 ghost use Rattle.vortex_value.specs.RawOf.{value_tree};
 ghost use Rattle.vortex_value.specs.RawTree.{raw_tuple};
 ghost use Rattle.vortex_value.specs.Scalars.{IsMadeOf, IsValid, scalar_type};
