@@ -31,7 +31,7 @@ module _ {U S A : Type 0} (gives : U → S → Type 0) (steps : S → Option A �
   gives_all : (P : List A → Type 0) → P xs → GivesAll gives steps iterable P
   gives_all P p = (it, given, (run, from, whole, subst P same p))
 
-  -- the maker over the kept list makes what the maker over the items makes
+  -- what is made of the kept list is made of all the items
   pub kept_made : {T : Type 0} (cause : List A → Option VortexError) (made : List A → T → Type 0) (x : T) → cause xs ≡ None → made xs x
       → MadeOfItems gives steps iterable cause made (Ok x)
   kept_made cause made x taken h = gives_all (λ items. (cause items ≡ None) × made items x) (taken, h)
@@ -41,7 +41,7 @@ module _ {U S A : Type 0} (gives : U → S → Type 0) (steps : S → Option A �
   refused_for T cause None e h refused = inl refused
   refused_for T cause (Some f) e h refused = inr (gives_all (λ items. cause items ≡ Some e) (rw refused h))
 
-  -- and it refuses for what the items refuse for
+  -- what the kept list is refused for, all the items are refused for
   pub kept_refused : {T V : Type 0} (cause : List A → Option VortexError) (kept : Result V VortexError) (result : Result T VortexError) (e : VortexError)
       → kept ≡ Err e → result ≡ Err e → RefusesOrNoMemory (cause xs) kept → RefusesItems gives steps iterable cause result
   kept_refused {T} {V} cause kept result e was is refused =

@@ -1,11 +1,10 @@
 -- A raw value is valid exactly where it has no breach.
-use Rattle.std.proofs.Common.{◌≡◌, ◌≢◌, ◌↔◌, ℕ, suc, ℤ, Bool, true, false, ◌&&◌, not, ◌==◌, if◌then◌else◌, List, [], ◌∷◌, ◌++◌, Option, Some, None, Result, Ok, Err, IsOk, refl, sym, ap, subst, arith, true≢false}
+use Rattle.std.proofs.Common.{◌≡◌, ◌≢◌, ◌↔◌, ℕ, suc, ℤ, Bool, true, false, ◌&&◌, not, ◌==◌, if◌then◌else◌, List, [], ◌∷◌, ◌++◌, Option, Some, None, Result, Ok, Err, IsOk, refl, sym, ap, arith, true≢false}
 use Rattle.std.proofs.lemmas.Bool.{and_parts}
 use Rattle.std.proofs.lemmas.Bool.Decides.{Decides-eqb}
 use Rattle.vortex_dtype.specs.Kinds.{kind_index, same_kind}
-use Rattle.vortex_dtype.specs.TypeTree.{TypeTree, IsFlat, null_type, bool_type, integer_type, utf8_type, binary_type, list_type, fixed_size_list_type, map_type, struct_type, union_type, variant_type, TypeTrees, no_types, type_then, nullability_of, says_nullable, IsNullable, is_nullable, storage}
-use Rattle.vortex_dtype.specs.declared.error.Breach.{Breach}
-use Rattle.vortex_dtype.specs.declared.error.Breach.TheVariants.{NullNotAllowed, WrongValue, VariantNull}
+use Rattle.vortex_dtype.specs.TypeTree.{TypeTree, null_type, bool_type, integer_type, utf8_type, binary_type, list_type, fixed_size_list_type, map_type, struct_type, union_type, variant_type, TypeTrees, no_types, type_then, nullability_of, says_nullable, IsNullable, is_nullable, storage}
+use Rattle.vortex_dtype.specs.declared.error.Breach.TheVariants.{VariantNull}
 use Rattle.vortex_dtype.specs.declared.error.Step.{Step}
 use Rattle.vortex_dtype.specs.declared.error.Step.TheVariants.{Child, Inner}
 use Rattle.vortex_dtype.specs.declared.error.VortexError.{VortexError}
@@ -16,7 +15,7 @@ use Rattle.vortex_dtype.specs.declared.kinds.PType.{PType}
 use Rattle.vortex_dtype.specs.declared.kinds.PType.TheVariants.{U8, U16, U32, U64, I8, I16, I32, I64}
 use Rattle.vortex_pvalue.specs.Kinds.{InRange, in_range}
 use Rattle.vortex_pvalue.specs.RangeLaws.{in_range_true, in_range_back}
-use Rattle.vortex_value.specs.Breaches.{Found, HasSteps, here, under, first, count_types, is_null_type, child_breaches, breaches_at, element_breaches, entry_breaches, field_breaches, breaches, Refuses, ValidExactlyWithoutBreach}
+use Rattle.vortex_value.specs.Breaches.{Found, here, under, count_types, is_null_type, child_breaches, breaches_at, element_breaches, entry_breaches, field_breaches, breaches, Refuses, ValidExactlyWithoutBreach}
 use Rattle.vortex_value.specs.RawTree.{RawTree, absent, raw_bool, raw_integer, raw_text, raw_bytes, raw_tuple, raw_union, raw_variant, RawTrees, no_raws, raw_then, count, is_absent}
 use Rattle.vortex_value.specs.Validity.{type_with, HasType, MayBeInside, ValidAt, EachValid, EntriesValid, FieldsValid, Valid}
 use Rattle.vortex_value.proofs.ValidSteps.{some-first, some-steps}
@@ -228,23 +227,3 @@ Answers (Err e) fs = Refuses e fs
 pub valid_answers : {A : Type 0} (r : Result A VortexError) (t : TypeTree) (v : RawTree) → Answers r (breaches t v) → IsOk r ↔ Valid t v
 valid_answers (Ok x) t v h = (λ _. ValidAt-from_none (storage t) v h, λ _. refl)
 valid_answers (Err e) t v h = (λ ok. absurd (true≢false (sym ok)), λ valid. absurd (refused e _ h (none-from_ValidAt (storage t) v valid)))
-
-here_alone : (b : Bool) (breach : Breach) → HasSteps (first (if b then [] else here breach)) → ⊥
-here_alone true breach h = h
-here_alone false breach h = h refl
-
--- a breach at a type whose values take no memory has no path
-flat_alone : (t : TypeTree) (v : RawTree) → IsFlat t → HasSteps (first (breaches t v)) → ⊥
-flat_alone null_type absent f h = h
-flat_alone null_type _ f h = h refl
-flat_alone (bool_type n) absent f h = here_alone (is_nullable (bool_type n)) NullNotAllowed h
-flat_alone (bool_type n) (raw_bool b) f h = h
-flat_alone (bool_type n) _ f h = h refl
-flat_alone (integer_type k n) absent f h = here_alone (is_nullable (integer_type k n)) NullNotAllowed h
-flat_alone (integer_type k n) (raw_integer l z) f h = here_alone (same_kind l k && in_range k z) WrongValue h
-flat_alone (integer_type k n) _ f h = h refl
-flat_alone _ v f h = f
-
--- so no refusal at such a type is want of memory
-pub flat_refusal : (t : TypeTree) (v : RawTree) (e : VortexError) → Refuses e (breaches t v) → IsFlat t → e ≢ OutOfMemory
-flat_refusal t v e h f is = let P : VortexError → Type 0 = λ x. Refuses x (breaches t v) in flat_alone t v f (subst P is h)
