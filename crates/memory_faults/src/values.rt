@@ -11,7 +11,7 @@ use vortex_dtype::{Breach, DType, Nullability, PType, Path, VortexError};
 use vortex_pvalue::PValue;
 use vortex_value::{Scalar, ScalarValue, UnionValue};
 
-pub const NAMES: [&str; 21] = [
+pub const NAMES: [&str; 22] = [
     "scalar_value_clone_of_a_truth_value_without_memory",
     "scalar_value_clone_of_an_integer_without_memory",
     "scalar_value_clone_of_a_text_without_memory",
@@ -22,6 +22,7 @@ pub const NAMES: [&str; 21] = [
     "union_value_new",
     "union_value_new_of_a_null_without_memory",
     "union_value_clone",
+    "union_value_clone_of_a_null_without_memory",
     "scalar_clone",
     "scalar_clone_of_an_integer_without_memory",
     "scalar_validate_without_memory",
@@ -48,6 +49,7 @@ pub fn run(alloc: Global, name: &str) -> Option<Tried> {
         "union_value_new" => Some(new_union(alloc)),
         "union_value_new_of_a_null_without_memory" => Some(Ok(new_union_of_null(alloc))),
         "union_value_clone" => Some(union_clone(alloc)),
+        "union_value_clone_of_a_null_without_memory" => Some(Ok(union_clone_of_null(alloc))),
         _ => run_scalars(alloc, name),
     }
 }
@@ -121,13 +123,17 @@ fn new_union(alloc: Global) -> Tried {
     Ok(judge_union(answer, &expected, true))
 }
 
-fn new_union_of_null(alloc: Global) -> Outcome {
-    let expected = UnionValue {
+/// An inner null under the id 5.
+fn union_of_null() -> UnionValue {
+    UnionValue {
         type_id: 5,
         child: None,
-    };
+    }
+}
+
+fn new_union_of_null(alloc: Global) -> Outcome {
     let answer = UnionValue::new(alloc, 5, None);
-    judge_union(answer, &expected, true).without_memory()
+    judge_union(answer, &union_of_null(), true).without_memory()
 }
 
 fn union_clone(alloc: Global) -> Tried {
@@ -135,6 +141,12 @@ fn union_clone(alloc: Global) -> Tried {
     let kept = union_value(alloc)?;
     let answer = given.clone(alloc);
     Ok(judge_union(answer, &kept, same_union(&given, &kept)))
+}
+
+fn union_clone_of_null(alloc: Global) -> Outcome {
+    let (given, kept) = (union_of_null(), union_of_null());
+    let answer = given.clone(alloc);
+    judge_union(answer, &kept, same_union(&given, &kept)).without_memory()
 }
 
 fn scalar_clone(alloc: Global) -> Tried {

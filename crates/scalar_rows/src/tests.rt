@@ -170,7 +170,7 @@ fn knows_a_bad_line(rt: HostRuntime) -> Result<(), Fail> {
 }
 
 #[test]
-fn knows_the_limits_of_each_kind(rt: HostRuntime) -> Result<(), Fail> {
+fn knows_the_limits_of_each_unsigned_kind(rt: HostRuntime) -> Result<(), Fail> {
     for (input, want) in [
         ("cast u8 0 u8", "0u8\n"),
         ("cast u8 -1 u8", "bad line\n"),
@@ -190,6 +190,15 @@ fn knows_the_limits_of_each_kind(rt: HostRuntime) -> Result<(), Fail> {
             "cast u64 18446744073709551615 u64",
             "18446744073709551615u64\n",
         ),
+    ] {
+        compare(&rt, rt.alloc(), input.as_bytes(), want);
+    }
+    Ok(())
+}
+
+#[test]
+fn knows_the_limits_of_each_signed_kind(rt: HostRuntime) -> Result<(), Fail> {
+    for (input, want) in [
         ("cast i8 127 i8", "127i8\n"),
         ("cast i8 128 i8", "bad line\n"),
         ("cast i8 -128 i8", "-128i8\n"),

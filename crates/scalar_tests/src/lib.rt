@@ -8,6 +8,8 @@ mod casts;
 #[cfg(test)]
 mod fixtures;
 #[cfg(test)]
+mod items;
+#[cfg(test)]
 mod makers;
 #[cfg(test)]
 mod tour;

@@ -6,6 +6,7 @@ ghost use Rattle.vortex_value.specs.Makers.{IsValidEntry};
 ghost use Rattle.vortex_value.specs.Scalars.{IsValid};
 
 use std::alloc::Global;
+use std::process::Abort;
 use vortex_dtype::Nullability::{NonNullable, Nullable};
 use vortex_dtype::{
     BufferString, ByteBuffer, DType, ExtDType, FieldName, Nullability, PType, StructFields,
@@ -53,10 +54,7 @@ fn pair(alloc: Global, first: Scalar, second: Scalar) -> Result<Vec<Scalar>, Vor
     requires second { IsValid second }
     ensures { IfOk result (λ both. All IsValid both.items) }
 {
-    let mut both = Vec::new(alloc);
-    both.push(first)?;
-    both.push(second)?;
-    Ok(both)
+    Ok(vec![in alloc; first, second]?)
 }
 
 /// One scalar.
@@ -79,10 +77,7 @@ fn entries(
     requires second { IsValidEntry second }
     ensures { IfOk result (λ both. All IsValidEntry both.items) }
 {
-    let mut both = Vec::new(alloc);
-    both.push(first)?;
-    both.push(second)?;
-    Ok(both)
+    Ok(vec![in alloc; first, second]?)
 }
 
 /// A name.
@@ -149,6 +144,11 @@ fn is_refused(answer: Result<Scalar, VortexError>, cause: VortexError) -> bool {
     }
 }
 
+/// The type is that of 32-bit integers.
+fn is_int_type(dtype: &DType, nullability: Nullability) -> bool {
+    *dtype == int_type(nullability)
+}
+
 /// The raw value is this 32-bit integer.
 fn is_int(value: &ScalarValue, number: i32) -> bool {
     match value {
@@ -208,7 +208,7 @@ fn is_tagged_null(value: &Option<ScalarValue>, id: u8) -> bool {
 fn holds_maybe_int(value: &Option<ScalarValue>, number: i32) -> bool {
     match value {
         Some(ScalarValue::Variant(inner)) => {
-            inner.dtype == int_type(Nullable) && has_int(&inner.value, number)
+            is_int_type(&inner.dtype, Nullable) && has_int(&inner.value, number)
         }
         _ => false,
     }
@@ -284,14 +284,22 @@ fn map_from_first(
     Scalar::try_map(alloc, dtype, entries.into_iter().take(count))
 }
 
+/// Sees that the scalar is of this type.
+fn has_type(rt: &impl Abort, made: &Scalar, dtype: DType) {
+    assert!(rt; made.dtype == dtype);
+}
+
+/// Sees that the scalar is the null of 32-bit integers.
+fn sees_no_int(rt: &impl Abort, null: &Scalar) {
+    assert!(rt; is_int_type(&null.dtype, Nullable));
+    assert!(rt; null.value.is_none());
+}
+
 #[test]
 fn nulls_have_their_type(rt: HostRuntime) {
-    let null = no_int();
-    assert!(rt; null.dtype == int_type(Nullable));
-    assert!(rt; null.value.is_none());
-    let native = Scalar::null_native::<i32>(rt.alloc()).expect(&rt, "a null");
-    assert!(rt; native.dtype == int_type(Nullable));
-    assert!(rt; native.value.is_none());
+    sees_no_int(&rt, &no_int());
+    let native = Scalar::null_native::<i32>(rt.alloc());
+    sees_no_int(&rt, &native.expect(&rt, "a null"));
 }
 
 #[test]
@@ -301,25 +309,32 @@ fn truth_values_are_made(rt: HostRuntime) {
     assert!(rt; matches!(truth.value, Some(ScalarValue::Bool(true))));
 }
 
+/// Sees that the scalar is the 32-bit integer 7.
+fn sees_seven(rt: &impl Abort, made: &Scalar, nullability: Nullability) {
+    assert!(rt; is_int_type(&made.dtype, nullability));
+    assert!(rt; has_int(&made.value, 7));
+}
+
+/// Sees that no 64-bit integer is taken for a 32-bit one.
+fn refuses_long(rt: &impl Abort, nullability: Nullability) {
+    let other = Scalar::primitive_value(PValue::I64(1), PType::I32, nullability);
+    assert!(rt; is_refused(other, VortexError::WrongPType));
+}
+
 #[test]
 fn integers_are_made(rt: HostRuntime) {
-    let number = int(7);
-    assert!(rt; number.dtype == int_type(NonNullable));
-    assert!(rt; has_int(&number.value, 7));
-    let same = Scalar::primitive_value(PValue::I32(7), PType::I32, Nullable).expect(&rt, "i32");
-    assert!(rt; same.dtype == int_type(Nullable));
-    assert!(rt; has_int(&same.value, 7));
-    let other = Scalar::primitive_value(PValue::I64(1), PType::I32, NonNullable);
-    assert!(rt; is_refused(other, VortexError::WrongPType));
-    let nullable = Scalar::primitive_value(PValue::I64(1), PType::I32, Nullable);
-    assert!(rt; is_refused(nullable, VortexError::WrongPType));
+    sees_seven(&rt, &int(7), NonNullable);
+    let same = Scalar::primitive_value(PValue::I32(7), PType::I32, Nullable);
+    sees_seven(&rt, &same.expect(&rt, "i32"), Nullable);
+    refuses_long(&rt, NonNullable);
+    refuses_long(&rt, Nullable);
 }
 
 #[test]
 fn texts_are_made(rt: HostRuntime) {
     let text = BufferString::from_str(rt.alloc(), "hi").expect(&rt, "a text");
     let made = Scalar::utf8(text, NonNullable);
-    assert!(rt; made.dtype == DType::Utf8(NonNullable));
+    has_type(&rt, &made, DType::Utf8(NonNullable));
     assert!(rt; is_text(&made.value, "hi"));
 }
 
@@ -327,7 +342,7 @@ fn texts_are_made(rt: HostRuntime) {
 fn bytes_are_read_as_texts(rt: HostRuntime) {
     let bytes = ByteBuffer::from_slice(rt.alloc(), &[104, 105]).expect(&rt, "bytes");
     let made = Scalar::try_utf8(bytes, Nullable).expect(&rt, "a text");
-    assert!(rt; made.dtype == DType::Utf8(Nullable));
+    has_type(&rt, &made, DType::Utf8(Nullable));
     assert!(rt; is_text(&made.value, "hi"));
     let bytes = ByteBuffer::from_slice(rt.alloc(), &[255]).expect(&rt, "bytes");
     assert!(rt; is_refused(Scalar::try_utf8(bytes, Nullable), VortexError::NotUtf8));
@@ -337,7 +352,7 @@ fn bytes_are_read_as_texts(rt: HostRuntime) {
 fn strings_of_bytes_are_made(rt: HostRuntime) {
     let bytes = ByteBuffer::from_slice(rt.alloc(), &[255]).expect(&rt, "bytes");
     let made = Scalar::binary(bytes, NonNullable);
-    assert!(rt; made.dtype == DType::Binary(NonNullable));
+    has_type(&rt, &made, DType::Binary(NonNullable));
     assert!(rt; is_bytes(&made.value, &[255]));
 }
 
@@ -347,7 +362,7 @@ fn lists_hold_their_children(rt: HostRuntime) {
     let made = Scalar::list(rt.alloc(), int_type(NonNullable), children, Nullable);
     let made = made.expect(&rt, "a list");
     let dtype = list_type(rt.alloc(), int_type(NonNullable), Nullable).expect(&rt, "a type");
-    assert!(rt; made.dtype == dtype);
+    has_type(&rt, &made, dtype);
     assert!(rt; are_ints(&made.value, 1, 2));
 }
 
@@ -373,7 +388,7 @@ fn empty_lists_are_made(rt: HostRuntime) {
     let made = Scalar::list_empty(rt.alloc(), int_type(Nullable), NonNullable);
     let made = made.expect(&rt, "a list");
     let dtype = list_type(rt.alloc(), int_type(Nullable), NonNullable).expect(&rt, "a type");
-    assert!(rt; made.dtype == dtype);
+    has_type(&rt, &made, dtype);
     assert!(rt; made.value.is_some());
     assert!(rt; parts(&made.value).is_empty());
 }
@@ -384,7 +399,7 @@ fn lists_of_fixed_size_count_their_children(rt: HostRuntime) {
     let made = Scalar::fixed_size_list(rt.alloc(), int_type(NonNullable), children, NonNullable);
     let made = made.expect(&rt, "a list");
     let element = Box::new(rt.alloc(), int_type(NonNullable)).expect(&rt, "an element");
-    assert!(rt; made.dtype == DType::FixedSizeList(element, 2, NonNullable));
+    has_type(&rt, &made, DType::FixedSizeList(element, 2, NonNullable));
     assert!(rt; are_ints(&made.value, 1, 2));
     let children = pair(rt.alloc(), int(1), long(2)).expect(&rt, "children");
     let wrong = Scalar::fixed_size_list(rt.alloc(), int_type(NonNullable), children, NonNullable);
@@ -396,7 +411,7 @@ fn structs_hold_their_children(rt: HostRuntime) {
     let children = pair(rt.alloc(), int(1), no_int()).expect(&rt, "children");
     let dtype = struct_type(rt.alloc()).expect(&rt, "a type");
     let made = struct_from(rt.alloc(), dtype, children).expect(&rt, "a struct");
-    assert!(rt; made.dtype == struct_type(rt.alloc()).expect(&rt, "a type"));
+    has_type(&rt, &made, struct_type(rt.alloc()).expect(&rt, "a type"));
     assert!(rt; are_int_and_null(&made.value, 1));
 }
 
@@ -457,7 +472,7 @@ fn maps_hold_their_entries_in_order(rt: HostRuntime) {
     let both = both.expect(&rt, "entries");
     let dtype = map_type(rt.alloc()).expect(&rt, "a type");
     let made = map_from(rt.alloc(), dtype, both).expect(&rt, "a map");
-    assert!(rt; made.dtype == map_type(rt.alloc()).expect(&rt, "a type"));
+    has_type(&rt, &made, map_type(rt.alloc()).expect(&rt, "a type"));
     let found = parts(&made.value);
     assert!(rt; found.len() == 2);
     assert!(rt; are_ints(&found[0], 2, 3));
@@ -496,7 +511,11 @@ fn maps_are_made_of_other_iterators(rt: HostRuntime) {
 fn extensions_hold_their_storage(rt: HostRuntime) {
     let dtype = extension(rt.alloc()).expect(&rt, "a type");
     let made = Scalar::extension_ref(dtype, int(7)).expect(&rt, "an extension");
-    assert!(rt; made.dtype == DType::Extension(extension(rt.alloc()).expect(&rt, "a type")));
+    has_type(
+        &rt,
+        &made,
+        DType::Extension(extension(rt.alloc()).expect(&rt, "a type")),
+    );
     assert!(rt; has_int(&made.value, 7));
 }
 
@@ -515,7 +534,7 @@ fn unions_hold_their_child(rt: HostRuntime) {
     let of = variants(rt.alloc()).expect(&rt, "variants");
     let made = Scalar::union(rt.alloc(), of, 5, maybe_int(42), NonNullable).expect(&rt, "a union");
     let of = variants(rt.alloc()).expect(&rt, "variants");
-    assert!(rt; made.dtype == DType::Union(of, NonNullable));
+    has_type(&rt, &made, DType::Union(of, NonNullable));
     assert!(rt; is_tagged(&made.value, 5, 42));
 }
 
@@ -539,7 +558,7 @@ fn unions_refuse_other_children(rt: HostRuntime) {
 #[test]
 fn variants_hold_their_scalar(rt: HostRuntime) {
     let made = Scalar::variant(rt.alloc(), maybe_int(42)).expect(&rt, "a variant");
-    assert!(rt; made.dtype == DType::Variant(NonNullable));
+    has_type(&rt, &made, DType::Variant(NonNullable));
     assert!(rt; holds_maybe_int(&made.value, 42));
 }
 

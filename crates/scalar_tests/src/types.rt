@@ -149,17 +149,26 @@ fn buffers_hold_their_bytes(rt: HostRuntime) {
     assert_eq!(rt; again.expect(&rt, "the same"), buffer);
 }
 
+/// Sees that these bytes are below the others.
+fn sees_below(rt: &impl Abort, low: &ByteBuffer, high: &ByteBuffer) {
+    assert!(rt; low < high);
+}
+
+/// Sees that the text is below the other, and that it feeds what its bytes do.
+fn sees_text_as_its_bytes(rt: &impl Abort, low: &BufferString, high: &BufferString) {
+    assert!(rt; low < high);
+    assert!(rt; fed(low) == fed(low.inner()));
+}
+
 #[test]
 fn buffers_are_ordered_by_their_bytes(rt: HostRuntime) {
     let empty = bytes(&rt, &[]);
     let low = bytes(&rt, &[1, 255, 255]);
     let high = bytes(&rt, &[2, 0, 0]);
-    assert!(rt; low < high);
-    assert!(rt; empty < low);
+    sees_below(&rt, &low, &high);
+    sees_below(&rt, &empty, &low);
     assert!(rt; fed(&low) != fed(&high));
-    let word = text(&rt, "aa");
-    assert!(rt; word < text(&rt, "z"));
-    assert!(rt; fed(&word) == fed(word.inner()));
+    sees_text_as_its_bytes(&rt, &text(&rt, "aa"), &text(&rt, "z"));
 }
 
 #[test]
@@ -461,6 +470,11 @@ fn compared(a: &DType, b: &DType) -> [bool; 4] {
     ]
 }
 
+/// Sees that a comparison tells this.
+fn sees(rt: &impl Abort, told: [bool; 4], expected: [bool; 4]) {
+    assert!(rt; told == expected);
+}
+
 #[test]
 fn types_differ_in_all_that_they_say(rt: HostRuntime) {
     for i in 0..19 {
@@ -552,8 +566,8 @@ fn deep_types_are_copied_and_compared(rt: HostRuntime) {
     let plain = deep(&rt, i32s(NON_NULLABLE));
     let nullable = deep(&rt, i32s(NULLABLE));
     let copy = plain.clone(rt.alloc()).expect(&rt, "a copy");
-    assert!(rt; compared(&plain, &copy) == [true, true, true, true]);
-    assert!(rt; compared(&plain, &nullable) == [false, true, false, true]);
+    sees(&rt, compared(&plain, &copy), [true, true, true, true]);
+    sees(&rt, compared(&plain, &nullable), [false, true, false, true]);
 }
 
 /// Compares the column type, asked for through the bound.

@@ -1,11 +1,8 @@
 //! Worked cases of copies, of parts and of equality, and each call that takes memory once on its
 //! happy path.
 
-use std::alloc::Global;
-use std::test::Fail;
-use vortex_dtype::{
-    BufferString, ByteBuffer, DType, FieldName, Nullability, PType, UnionVariants, VortexError,
-};
+use std::process::Abort;
+use vortex_dtype::{BufferString, ByteBuffer, DType, FieldName, Nullability, PType, UnionVariants};
 use vortex_pvalue::PValue;
 use vortex_value::{Scalar, ScalarValue, UnionValue};
 
@@ -17,16 +14,20 @@ fn integer(number: i32) -> ScalarValue {
     ScalarValue::Primitive(PValue::I32(number))
 }
 
-fn text(alloc: Global, text: &str) -> Result<ScalarValue, VortexError> {
-    Ok(ScalarValue::Utf8(BufferString::from_str(alloc, text)?))
+fn text(rt: &(impl AllocGlobal + Abort), text: &str) -> ScalarValue {
+    ScalarValue::Utf8(BufferString::from_str(rt.alloc(), text).expect(rt, "a text"))
 }
 
-fn bytes(alloc: Global, bytes: &[u8]) -> Result<ScalarValue, VortexError> {
-    Ok(ScalarValue::Binary(ByteBuffer::from_slice(alloc, bytes)?))
+fn bytes(rt: &(impl AllocGlobal + Abort), bytes: &[u8]) -> ScalarValue {
+    ScalarValue::Binary(ByteBuffer::from_slice(rt.alloc(), bytes).expect(rt, "bytes"))
 }
 
-fn union(alloc: Global, id: u8, child: Option<ScalarValue>) -> Result<ScalarValue, VortexError> {
-    Ok(ScalarValue::Union(UnionValue::new(alloc, id, child)?))
+fn union_value(rt: &(impl AllocGlobal + Abort), id: u8, child: Option<ScalarValue>) -> UnionValue {
+    UnionValue::new(rt.alloc(), id, child).expect(rt, "a union")
+}
+
+fn union(rt: &(impl AllocGlobal + Abort), id: u8, child: Option<ScalarValue>) -> ScalarValue {
+    ScalarValue::Union(union_value(rt, id, child))
 }
 
 fn scalar(number: PValue, nullability: Nullability) -> Scalar {
@@ -36,60 +37,71 @@ fn scalar(number: PValue, nullability: Nullability) -> Scalar {
     }
 }
 
-fn variant(alloc: Global, inner: Scalar) -> Result<ScalarValue, VortexError> {
-    Ok(ScalarValue::Variant(Box::new(alloc, inner)?))
+fn variant(rt: &(impl AllocGlobal + Abort), inner: Scalar) -> ScalarValue {
+    ScalarValue::Variant(Box::new(rt.alloc(), inner).expect(rt, "a variant"))
 }
 
-fn pair(alloc: Global, first: i32, second: i32) -> Result<ScalarValue, VortexError> {
-    let parts = vec![in alloc; Some(integer(first)), Some(integer(second))]?;
-    Ok(ScalarValue::Tuple(parts))
+/// The list of a part and another.
+fn list(
+    rt: &(impl AllocGlobal + Abort),
+    first: Option<ScalarValue>,
+    second: Option<ScalarValue>,
+) -> ScalarValue {
+    ScalarValue::Tuple(vec![in rt.alloc(); first, second].expect(rt, "a list"))
 }
 
-fn name(alloc: Global, text: &str) -> Result<FieldName, VortexError> {
-    Ok(FieldName::new(BufferString::from_str(alloc, text)?))
-}
-
-/// The nullable union of `int` (id 5, a nullable `i32`) and `string` (id 9).
-fn union_dtype(alloc: Global) -> Result<DType, VortexError> {
-    let names = vec![in alloc; name(alloc, "int")?, name(alloc, "string")?]?;
-    let int = DType::Primitive(PType::I32, NULLABLE);
-    let dtypes = vec![in alloc; int, DType::Utf8(NON_NULLABLE)]?;
-    let ids = Vec::from_slice(alloc, &[5, 9])?;
-    let variants = UnionVariants::try_new(alloc, names, dtypes, ids)?;
-    Ok(DType::Union(variants, NULLABLE))
-}
-
-/// A scalar of that union.
-fn of_union(alloc: Global, value: Option<ScalarValue>) -> Result<Scalar, VortexError> {
-    let dtype = union_dtype(alloc)?;
-    Ok(Scalar { dtype, value })
-}
-
-/// The map from `i32` to texts with the one entry `1: "one"`.
-fn one_entry(alloc: Global, values: Nullability) -> Result<Scalar, VortexError> {
-    let key = DType::Primitive(PType::I32, NON_NULLABLE);
-    let dtype = DType::map(alloc, key, DType::Utf8(values), false, NON_NULLABLE)?;
-    let entry = vec![in alloc; Some(integer(1)), Some(text(alloc, "one")?)]?;
-    let entries = vec![in alloc; Some(ScalarValue::Tuple(entry))]?;
-    Ok(Scalar {
-        dtype,
-        value: Some(ScalarValue::Tuple(entries)),
-    })
+fn pair(rt: &(impl AllocGlobal + Abort), first: i32, second: i32) -> ScalarValue {
+    list(rt, Some(integer(first)), Some(integer(second)))
 }
 
 /// The list of one integer and a null.
-fn list_of(alloc: Global, number: PValue) -> Result<ScalarValue, VortexError> {
-    let parts = vec![in alloc; Some(ScalarValue::Primitive(number)), None]?;
-    Ok(ScalarValue::Tuple(parts))
+fn list_of(rt: &(impl AllocGlobal + Abort), number: PValue) -> ScalarValue {
+    list(rt, Some(ScalarValue::Primitive(number)), None)
+}
+
+/// The list of one part.
+fn single(rt: &(impl AllocGlobal + Abort), part: ScalarValue) -> ScalarValue {
+    ScalarValue::Tuple(vec![in rt.alloc(); Some(part)].expect(rt, "a list"))
+}
+
+fn name(rt: &(impl AllocGlobal + Abort), text: &str) -> FieldName {
+    FieldName::new(BufferString::from_str(rt.alloc(), text).expect(rt, "a name"))
+}
+
+/// The nullable union of `int` (id 5, a nullable `i32`) and `string` (id 9).
+fn union_dtype(rt: &(impl AllocGlobal + Abort)) -> DType {
+    let alloc = rt.alloc();
+    let names = vec![in alloc; name(rt, "int"), name(rt, "string")].expect(rt, "names");
+    let int = DType::Primitive(PType::I32, NULLABLE);
+    let dtypes = vec![in alloc; int, DType::Utf8(NON_NULLABLE)].expect(rt, "types");
+    let ids = Vec::from_slice(alloc, &[5, 9]).expect(rt, "ids");
+    let variants = UnionVariants::try_new(alloc, names, dtypes, ids).expect(rt, "variants");
+    DType::Union(variants, NULLABLE)
+}
+
+/// A scalar of that union.
+fn of_union(rt: &(impl AllocGlobal + Abort), value: Option<ScalarValue>) -> Scalar {
+    let dtype = union_dtype(rt);
+    Scalar { dtype, value }
+}
+
+/// The map from `i32` to texts with the one entry `1: "one"`.
+fn one_entry(rt: &(impl AllocGlobal + Abort), values: Nullability) -> Scalar {
+    let key = DType::Primitive(PType::I32, NON_NULLABLE);
+    let made = DType::map(rt.alloc(), key, DType::Utf8(values), false, NON_NULLABLE);
+    let dtype = made.expect(rt, "a map");
+    let entry = list(rt, Some(integer(1)), Some(text(rt, "one")));
+    let value = Some(single(rt, entry));
+    Scalar { dtype, value }
 }
 
 /// A list that holds a list, and so on, `depth` lists in all, around the integer 1.
-fn nested(alloc: Global, depth: usize) -> Result<ScalarValue, VortexError> {
+fn nested(rt: &(impl AllocGlobal + Abort), depth: usize) -> ScalarValue {
     let mut value = integer(1);
     for _ in 0..depth {
-        value = ScalarValue::Tuple(vec![in alloc; Some(value)]?);
+        value = single(rt, value);
     }
-    Ok(value)
+    value
 }
 
 /// The kind of the integer that the first part of a tuple is.
@@ -103,73 +115,72 @@ fn first_kind(value: &ScalarValue) -> Option<PType> {
     }
 }
 
-/// Whether a copy is equal and prints the same: the printed form shows what equality passes over,
+fn shown(rt: &(impl AllocGlobal + Abort), value: &ScalarValue) -> String {
+    format!(in rt.alloc(); "{value:?}").expect(rt, "a printed value")
+}
+
+/// Sees that a copy is equal and prints the same: the printed form shows what equality passes over,
 /// the kinds of integers and nullability.
-fn copies(alloc: Global, value: &ScalarValue) -> Result<bool, Fail> {
-    let copy = value.clone(alloc)?;
-    let shown = format!(in alloc; "{copy:?}")?;
-    Ok(copy == *value && shown == format!(in alloc; "{value:?}")?)
+fn copies(rt: &(impl AllocGlobal + Abort), value: &ScalarValue) {
+    let copy = value.clone(rt.alloc()).expect(rt, "a copy");
+    assert!(rt; copy == *value);
+    assert!(rt; shown(rt, &copy) == shown(rt, value));
 }
 
 #[test]
-fn copies_leaves(rt: HostRuntime) -> Result<(), Fail> {
-    let alloc = rt.alloc();
-    assert!(rt; copies(alloc, &ScalarValue::Bool(true))?);
-    assert!(rt; copies(alloc, &integer(-7))?);
-    assert!(rt; copies(alloc, &text(alloc, "text")?)?);
-    assert!(rt; copies(alloc, &bytes(alloc, &[0, 255])?)?);
-    Ok(())
+fn copies_leaves(rt: HostRuntime) {
+    copies(&rt, &ScalarValue::Bool(true));
+    copies(&rt, &integer(-7));
+    copies(&rt, &text(&rt, "text"));
+    copies(&rt, &bytes(&rt, &[0, 255]));
 }
 
 #[test]
-fn copies_values_with_parts(rt: HostRuntime) -> Result<(), Fail> {
-    let alloc = rt.alloc();
-    assert!(rt; copies(alloc, &pair(alloc, 1, 2)?)?);
-    assert!(rt; copies(alloc, &union(alloc, 5, Some(integer(1)))?)?);
-    assert!(rt; copies(alloc, &union(alloc, 9, None)?)?);
+fn copies_values_with_parts(rt: HostRuntime) {
+    copies(&rt, &pair(&rt, 1, 2));
+    copies(&rt, &union(&rt, 5, Some(integer(1))));
+    copies(&rt, &union(&rt, 9, None));
     let inner = scalar(PValue::U32(42), NULLABLE);
-    assert!(rt; copies(alloc, &variant(alloc, inner)?)?);
-    Ok(())
+    copies(&rt, &variant(&rt, inner));
+}
+
+/// Sees that copies of a list and of its number keep the kind.
+fn copies_kind(rt: &(impl AllocGlobal + Abort), number: PValue) {
+    let list = list_of(rt, number);
+    copies(rt, &list);
+    let copy = list.clone(rt.alloc()).expect(rt, "a copy");
+    assert_eq!(rt; first_kind(&copy), Some(number.ptype()));
 }
 
 #[test]
-fn copies_keep_kinds(rt: HostRuntime) -> Result<(), Fail> {
-    let alloc = rt.alloc();
-    for number in [
-        PValue::U8(1),
-        PValue::U16(1),
-        PValue::U32(1),
-        PValue::U64(1),
-        PValue::I8(-1),
-        PValue::I16(-1),
-        PValue::I32(-1),
-        PValue::I64(-1),
-    ] {
-        let list = list_of(alloc, number)?;
-        assert_eq!(rt; first_kind(&list.clone(alloc)?), Some(number.ptype()));
-        assert!(rt; copies(alloc, &list)?);
-    }
-    Ok(())
+fn copies_keep_kinds(rt: HostRuntime) {
+    copies_kind(&rt, PValue::U8(1));
+    copies_kind(&rt, PValue::U16(1));
+    copies_kind(&rt, PValue::U32(1));
+    copies_kind(&rt, PValue::U64(1));
+    copies_kind(&rt, PValue::I8(-1));
+    copies_kind(&rt, PValue::I16(-1));
+    copies_kind(&rt, PValue::I32(-1));
+    copies_kind(&rt, PValue::I64(-1));
 }
 
 #[test]
-fn copies_unions(rt: HostRuntime) -> Result<(), Fail> {
-    let alloc = rt.alloc();
-    let union = UnionValue::new(alloc, 5, Some(integer(3)))?;
-    assert_eq!(rt; union.clone(alloc)?, union);
-    Ok(())
+fn copies_unions(rt: HostRuntime) {
+    let union = union_value(&rt, 5, Some(integer(3)));
+    assert_eq!(rt; union.clone(rt.alloc()).expect(&rt, "a copy"), union);
+}
+
+/// Sees that a copy of a scalar is equal, its type's nullability included.
+fn copies_scalar(rt: &(impl AllocGlobal + Abort), scalar: &Scalar) {
+    let copy = scalar.clone(rt.alloc()).expect(rt, "a copy");
+    assert_eq!(rt; copy.dtype(), scalar.dtype());
+    assert_eq!(rt; copy, *scalar);
 }
 
 #[test]
-fn copies_scalars(rt: HostRuntime) -> Result<(), Fail> {
-    let alloc = rt.alloc();
-    for values in [NULLABLE, NON_NULLABLE] {
-        let map = one_entry(alloc, values)?;
-        let copy = map.clone(alloc)?;
-        assert_eq!(rt; copy.dtype(), map.dtype());
-        assert_eq!(rt; copy, map);
-    }
-    Ok(())
+fn copies_scalars(rt: HostRuntime) {
+    copies_scalar(&rt, &one_entry(&rt, NULLABLE));
+    copies_scalar(&rt, &one_entry(&rt, NON_NULLABLE));
 }
 
 #[test]
@@ -180,43 +191,37 @@ fn copies_nulls_of_flat_types(rt: HostRuntime) {
 }
 
 #[test]
-fn copies_deep_values(rt: HostRuntime) -> Result<(), Fail> {
-    let alloc = rt.alloc();
-    let deep = nested(alloc, 64)?;
-    let copy = deep.clone(alloc)?;
+fn copies_deep_values(rt: HostRuntime) {
+    let deep = nested(&rt, 64);
+    let copy = deep.clone(rt.alloc()).expect(&rt, "a copy");
     assert!(rt; copy == deep);
-    assert!(rt; copy != nested(alloc, 63)?);
-    Ok(())
+    assert!(rt; copy != nested(&rt, 63));
 }
 
 #[test]
-fn an_inner_null_is_not_the_null(rt: HostRuntime) -> Result<(), Fail> {
-    let alloc = rt.alloc();
-    let outer = of_union(alloc, None)?;
-    let inner = of_union(alloc, Some(union(alloc, 5, None)?))?;
+fn an_inner_null_is_not_the_null(rt: HostRuntime) {
+    let outer = of_union(&rt, None);
+    let inner = of_union(&rt, Some(union(&rt, 5, None)));
     assert!(rt; inner != outer);
     assert!(rt; outer.is_null() && !outer.is_valid());
     assert!(rt; inner.is_valid() && !inner.is_null());
-    Ok(())
 }
 
 /// Whether two union values are equal.
 fn unions_equal(
-    alloc: Global,
+    rt: &(impl AllocGlobal + Abort),
     (a, x): (u8, Option<ScalarValue>),
     (b, y): (u8, Option<ScalarValue>),
-) -> Result<bool, VortexError> {
-    Ok(union(alloc, a, x)? == union(alloc, b, y)?)
+) -> bool {
+    union(rt, a, x) == union(rt, b, y)
 }
 
 #[test]
-fn unions_are_equal_by_id_and_child(rt: HostRuntime) -> Result<(), Fail> {
-    let alloc = rt.alloc();
-    assert!(rt; unions_equal(alloc, (5, None), (5, None))?);
-    assert!(rt; !unions_equal(alloc, (5, None), (9, None))?);
-    assert!(rt; !unions_equal(alloc, (5, None), (5, Some(integer(0))))?);
-    assert!(rt; unions_equal(alloc, (5, Some(integer(0))), (5, Some(integer(0))))?);
-    Ok(())
+fn unions_are_equal_by_id_and_child(rt: HostRuntime) {
+    assert!(rt; unions_equal(&rt, (5, None), (5, None)));
+    assert!(rt; !unions_equal(&rt, (5, None), (9, None)));
+    assert!(rt; !unions_equal(&rt, (5, None), (5, Some(integer(0)))));
+    assert!(rt; unions_equal(&rt, (5, Some(integer(0))), (5, Some(integer(0)))));
 }
 
 #[test]
@@ -239,33 +244,34 @@ fn scalars_are_equal_by_type_and_number(rt: HostRuntime) {
 
 /// Whether a variant of 42 as `u32` equals a variant of this number.
 fn equals_variant(
-    alloc: Global,
+    rt: &(impl AllocGlobal + Abort),
     number: PValue,
     nullability: Nullability,
-) -> Result<bool, VortexError> {
-    let known = variant(alloc, scalar(PValue::U32(42), NON_NULLABLE))?;
-    Ok(known == variant(alloc, scalar(number, nullability))?)
+) -> bool {
+    let known = variant(rt, scalar(PValue::U32(42), NON_NULLABLE));
+    known == variant(rt, scalar(number, nullability))
 }
 
 #[test]
-fn nullability_does_not_count(rt: HostRuntime) -> Result<(), Fail> {
-    let alloc = rt.alloc();
-    assert!(rt; equals_variant(alloc, PValue::U32(42), NULLABLE)?);
-    assert!(rt; !equals_variant(alloc, PValue::U64(42), NON_NULLABLE)?);
-    assert!(rt; !equals_variant(alloc, PValue::U32(43), NON_NULLABLE)?);
-    assert!(rt; one_entry(alloc, NULLABLE)? == one_entry(alloc, NON_NULLABLE)?);
-    Ok(())
+fn nullability_does_not_count(rt: HostRuntime) {
+    assert!(rt; equals_variant(&rt, PValue::U32(42), NULLABLE));
+    assert!(rt; !equals_variant(&rt, PValue::U64(42), NON_NULLABLE));
+    assert!(rt; !equals_variant(&rt, PValue::U32(43), NON_NULLABLE));
+    assert!(rt; one_entry(&rt, NULLABLE) == one_entry(&rt, NON_NULLABLE));
+}
+
+/// Sees that two values differ.
+fn differ(rt: &impl Abort, a: &ScalarValue, b: &ScalarValue) {
+    assert!(rt; *a != *b);
 }
 
 #[test]
-fn values_of_other_kinds_and_lengths_differ(rt: HostRuntime) -> Result<(), Fail> {
-    let alloc = rt.alloc();
-    assert!(rt; text(alloc, "a")? != bytes(alloc, b"a")?);
-    assert!(rt; pair(alloc, 1, 2)? != pair(alloc, 1, 3)?);
-    assert!(rt; pair(alloc, 1, 2)? != list_of(alloc, PValue::I32(1))?);
-    assert!(rt; nested(alloc, 1)? != list_of(alloc, PValue::I32(1))?);
-    assert!(rt; ScalarValue::Bool(true) != ScalarValue::Bool(false));
-    Ok(())
+fn values_of_other_kinds_and_lengths_differ(rt: HostRuntime) {
+    differ(&rt, &text(&rt, "a"), &bytes(&rt, b"a"));
+    differ(&rt, &pair(&rt, 1, 2), &pair(&rt, 1, 3));
+    differ(&rt, &pair(&rt, 1, 2), &list_of(&rt, PValue::I32(1)));
+    differ(&rt, &nested(&rt, 1), &list_of(&rt, PValue::I32(1)));
+    differ(&rt, &ScalarValue::Bool(true), &ScalarValue::Bool(false));
 }
 
 #[test]
@@ -278,45 +284,44 @@ fn leaves_are_lent_and_taken(rt: HostRuntime) {
 }
 
 #[test]
-fn texts_and_bytes_are_lent_and_taken(rt: HostRuntime) -> Result<(), Fail> {
-    let alloc = rt.alloc();
-    let text = ScalarValue::Utf8(BufferString::from_str(alloc, "abc")?);
+fn texts_are_lent_and_taken(rt: HostRuntime) {
+    let text = BufferString::from_str(rt.alloc(), "abc").expect(&rt, "a text");
+    let text = ScalarValue::Utf8(text);
     assert!(rt; text.as_utf8().as_str() == "abc");
     assert!(rt; text.into_utf8().as_str() == "abc");
-    let bytes = ScalarValue::Binary(ByteBuffer::from_slice(alloc, &[1, 2])?);
+}
+
+#[test]
+fn bytes_are_lent_and_taken(rt: HostRuntime) {
+    let bytes = ByteBuffer::from_slice(rt.alloc(), &[1, 2]).expect(&rt, "bytes");
+    let bytes = ScalarValue::Binary(bytes);
     assert!(rt; bytes.as_binary().as_slice() == [1, 2].as_slice());
     assert!(rt; bytes.into_binary().as_slice() == [1, 2].as_slice());
-    Ok(())
 }
 
 #[test]
-fn lists_are_lent_and_taken(rt: HostRuntime) -> Result<(), Fail> {
-    let alloc = rt.alloc();
-    let list = ScalarValue::Tuple(vec![in alloc; Some(integer(1)), None]?);
+fn lists_are_lent_and_taken(rt: HostRuntime) {
+    let parts = vec![in rt.alloc(); Some(integer(1)), None].expect(&rt, "a list");
+    let list = ScalarValue::Tuple(parts);
     assert!(rt; list.as_list() == [Some(integer(1)), None].as_slice());
     assert!(rt; list.into_list().as_slice() == [Some(integer(1)), None].as_slice());
-    Ok(())
 }
 
 #[test]
-fn unions_are_lent_and_taken(rt: HostRuntime) -> Result<(), Fail> {
-    let alloc = rt.alloc();
-    let union = ScalarValue::Union(UnionValue::new(alloc, 5, Some(integer(2)))?);
+fn unions_are_lent_and_taken(rt: HostRuntime) {
+    let union = ScalarValue::Union(union_value(&rt, 5, Some(integer(2))));
     assert_eq!(rt; union.as_union().type_id(), 5);
     assert!(rt; union.as_union().child_value() == Some(&integer(2)));
-    assert!(rt; union.into_union() == UnionValue::new(alloc, 5, Some(integer(2)))?);
-    assert!(rt; UnionValue::new(alloc, 9, None)?.child_value().is_none());
-    Ok(())
+    assert!(rt; union.into_union() == union_value(&rt, 5, Some(integer(2))));
+    assert!(rt; union_value(&rt, 9, None).child_value().is_none());
 }
 
 #[test]
-fn variants_are_lent_and_taken(rt: HostRuntime) -> Result<(), Fail> {
-    let alloc = rt.alloc();
-    let inner = Box::new(alloc, scalar(PValue::U32(42), NULLABLE))?;
-    let variant = ScalarValue::Variant(inner);
+fn variants_are_lent_and_taken(rt: HostRuntime) {
+    let inner = Box::new(rt.alloc(), scalar(PValue::U32(42), NULLABLE));
+    let variant = ScalarValue::Variant(inner.expect(&rt, "a variant"));
     assert!(rt; *variant.as_variant() == scalar(PValue::U32(42), NULLABLE));
     assert!(rt; variant.into_variant() == scalar(PValue::U32(42), NULLABLE));
-    Ok(())
 }
 
 #[test]

@@ -1,0 +1,160 @@
+//! Makers over iterators: they ask for no item where the type is of another kind.
+
+ghost use Rattle.std.specs.Prelude.{IfSome};
+ghost use Rattle.std.specs.Iterator.{at_most};
+ghost use Rattle.vortex_value.specs.Makers.{IsValidEntry};
+ghost use Rattle.vortex_value.specs.Scalars.{IsValid};
+
+use crate::fixtures::{I32, map, struct_of_two};
+use std::cell::Cell;
+use std::process::Abort;
+use vortex_dtype::Nullability::NonNullable;
+use vortex_dtype::{DType, VortexError};
+use vortex_value::Scalar;
+
+/// An integer.
+fn seven() -> Scalar
+    ensures { IsValid result }
+{
+    Scalar::primitive(7i32, NonNullable)
+}
+
+/// Gives so many integers, and counts how often it is asked.
+#[derive(Drop)]
+struct Children<'a> {
+    left: u32,
+    asked: &'a Cell<u32>,
+}
+
+impl<'a> Iterator for Children<'a> {
+    type Item = Scalar;
+
+    ghost next_gives = { λ _ given _. IfSome given IsValid };
+
+    ghost remaining = { λ s. at_most s.left };
+
+    fn next(&mut self) -> Option<Scalar> {
+        count(self.asked);
+        self.left = self.left.checked_sub(1)?;
+        Some(seven())
+    }
+}
+
+/// Gives so many entries of integers, and counts how often it is asked.
+#[derive(Drop)]
+struct Entries<'a> {
+    left: u32,
+    asked: &'a Cell<u32>,
+}
+
+impl<'a> Iterator for Entries<'a> {
+    type Item = (Scalar, Scalar);
+
+    ghost next_gives = { λ _ given _. IfSome given IsValidEntry };
+
+    ghost remaining = { λ s. at_most s.left };
+
+    fn next(&mut self) -> Option<(Scalar, Scalar)> {
+        count(self.asked);
+        self.left = self.left.checked_sub(1)?;
+        Some((seven(), seven()))
+    }
+}
+
+fn count(asked: &Cell<u32>) {
+    asked.set(asked.get().saturating_add(1));
+}
+
+/// What a maker answers.
+#[derive(Clone, Copy, PartialEq)]
+enum Answer {
+    Made,
+    WrongKind,
+    Another,
+}
+
+fn answer_of(made: Result<Scalar, VortexError>) -> Answer {
+    match made {
+        Ok(_) => Answer::Made,
+        Err(VortexError::WrongKind) => Answer::WrongKind,
+        Err(_) => Answer::Another,
+    }
+}
+
+/// What the maker of structs answers of two integers, and how often it asks for one.
+fn struct_from_two(rt: &impl AllocGlobal, dtype: DType) -> (Answer, u32) {
+    let asked = Cell::new(0);
+    let children = Children {
+        left: 2,
+        asked: &asked,
+    };
+    let made = Scalar::struct_(rt.alloc(), dtype, children);
+    (answer_of(made), asked.get())
+}
+
+/// What the maker of maps answers of two entries, and how often it asks for one.
+fn map_from_two(rt: &impl AllocGlobal, dtype: DType) -> (Answer, u32) {
+    let asked = Cell::new(0);
+    let entries = Entries {
+        left: 2,
+        asked: &asked,
+    };
+    let made = Scalar::map(rt.alloc(), dtype, entries);
+    (answer_of(made), asked.get())
+}
+
+/// The same of `try_map`.
+fn try_map_from_two(rt: &impl AllocGlobal, dtype: DType) -> (Answer, u32) {
+    let asked = Cell::new(0);
+    let entries = Entries {
+        left: 2,
+        asked: &asked,
+    };
+    let made = Scalar::try_map(rt.alloc(), dtype, entries);
+    (answer_of(made), asked.get())
+}
+
+/// Sees that the type is refused before an item is asked for.
+fn asks_nothing(rt: &impl Abort, (answer, asked): (Answer, u32)) {
+    assert!(rt; answer == Answer::WrongKind);
+    assert_eq!(rt; asked, 0);
+}
+
+/// Sees that both items are taken: it is asked once more, and gives none.
+fn takes_both(rt: &impl Abort, (answer, asked): (Answer, u32)) {
+    assert!(rt; answer == Answer::Made);
+    assert_eq!(rt; asked, 3);
+}
+
+#[test]
+fn structs_of_another_kind_take_no_child(rt: HostRuntime) {
+    asks_nothing(&rt, struct_from_two(&rt, DType::Null));
+    asks_nothing(&rt, struct_from_two(&rt, I32));
+    asks_nothing(&rt, struct_from_two(&rt, map(&rt, I32, false)));
+}
+
+#[test]
+fn structs_take_all_children(rt: HostRuntime) {
+    let dtype = struct_of_two(&rt, I32, I32);
+    takes_both(&rt, struct_from_two(&rt, dtype));
+}
+
+#[test]
+fn maps_of_another_kind_take_no_entry(rt: HostRuntime) {
+    asks_nothing(&rt, map_from_two(&rt, DType::Null));
+    asks_nothing(&rt, map_from_two(&rt, I32));
+    asks_nothing(&rt, try_map_from_two(&rt, DType::Null));
+    asks_nothing(&rt, try_map_from_two(&rt, I32));
+}
+
+#[test]
+fn maps_are_not_made_of_structs(rt: HostRuntime) {
+    asks_nothing(&rt, map_from_two(&rt, struct_of_two(&rt, I32, I32)));
+    asks_nothing(&rt, try_map_from_two(&rt, struct_of_two(&rt, I32, I32)));
+}
+
+#[test]
+fn maps_take_all_entries(rt: HostRuntime) {
+    takes_both(&rt, map_from_two(&rt, map(&rt, I32, false)));
+    takes_both(&rt, try_map_from_two(&rt, map(&rt, I32, false)));
+}
