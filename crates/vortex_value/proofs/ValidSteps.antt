@@ -1,6 +1,7 @@
 -- Steps of the check of validity: what one level of a raw value and of a type is, and loops over parts.
-use Rattle.std.proofs.Common.{◌≡◌, ◌≢◌, ℕ, suc, ◌<◌, Result, List, [], ◌∷◌, ◌++◌, length, Option, Some, None, drop, get_or, drop-cons, refl, ap, arith, reverse}
+use Rattle.std.proofs.Common.{◌≡◌, ◌≢◌, ℕ, suc, ◌<◌, Bool, true, false, Result, Ok, Err, List, [], ◌∷◌, ◌++◌, length, Option, Some, None, drop, get_or, drop-cons, refl, ap, subst, arith, reverse}
 use Rattle.std.proofs.lemmas.List.{reverse-append}
+use Rattle.std.specs.Result.{ForErr}
 use Rattle.vortex_dtype.specs.declared.error.Breach.{Breach}
 use Rattle.vortex_dtype.specs.declared.error.Step.{Step}
 use Rattle.vortex_dtype.specs.declared.error.Step.TheVariants.{Element, Entry, Key, Value}
@@ -8,11 +9,11 @@ use Rattle.vortex_dtype.specs.declared.error.Breach.TheVariants.{WrongLength}
 use Rattle.vortex_dtype.specs.TypeOf.{types_from}
 use Rattle.vortex_dtype.specs.TypeTree.{TypeTree, storage}
 use Rattle.vortex_value.specs.Breaches.{Found, HasSteps, count_types, first, here, under, breaches, breaches_at, element_breaches, entry_breaches, breaches_of_entry}
-use Rattle.vortex_value.specs.Faults.{Checks, Shows}
+use Rattle.vortex_value.specs.Faults.{Checks, HasPath, Shows}
 use Rattle.vortex_value.specs.RawOf.{raw_of, raws_of}
 use Rattle.vortex_value.specs.RawTree.{raw_tuple}
 use Rattle.vortex_value.specs.declared.validate.Fault.{Fault}
-use Rattle.vortex_value.specs.declared.validate.Fault.TheVariants.{NoMemory, First}
+use Rattle.vortex_value.specs.declared.validate.Fault.TheVariants.{NoMemory, NoPath, First}
 use Rattle.vortex_value.specs.declared.values.ScalarValue.{ScalarValue}
 use Rattle.vortex_value.proofs.TypeSteps.{type_of-List, type_of-FixedSizeList, type_of-Map, type_of-Struct, type_of-Union, is_nullable-storage}
 use Rattle.vortex_value.proofs.ValueSteps.{value_tree-Tuple, count-raws_of}
@@ -21,11 +22,13 @@ pub count_types-types_from : (ts : List TypeTree) → count_types (types_from ts
 count_types-types_from [] = refl
 count_types-types_from (t ∷ ts) = ap suc (count_types-types_from ts)
 
-pub Shows-more : (f : Fault) (fs gs : List Found) → Shows f fs → Shows f (fs ++ gs)
-Shows-more NoMemory [] gs h = absurd h
-Shows-more NoMemory (f ∷ fs) gs h = h
-Shows-more (First steps breach) [] gs h = cc
-Shows-more (First steps breach) (f ∷ fs) gs h = h
+pub Shows-more : (kept : Bool) (f : Fault) (fs gs : List Found) → Shows kept f fs → Shows kept f (fs ++ gs)
+Shows-more kept NoMemory [] gs h = absurd h
+Shows-more kept NoMemory (f ∷ fs) gs h = h
+Shows-more kept NoPath [] gs h = absurd (h.1 refl)
+Shows-more kept NoPath (f ∷ fs) gs h = (h.0, λ e. cc)
+Shows-more kept (First steps breach) [] gs h = cc
+Shows-more kept (First steps breach) (f ∷ fs) gs h = h
 
 -- a path from one level up has steps
 pub under-steps : (step : Step) (fs : List Found) → fs ≢ [] → HasSteps (first (under step fs))
@@ -83,7 +86,16 @@ entry_with k w (u ∷ []) x two a = absurd (omega arith)
 entry_with k w (u ∷ v ∷ []) x two a = rw a
 entry_with k w (u ∷ v ∷ y ∷ vs) x two a = absurd (omega arith)
 
-pub Checks-both : (r : Result (Unit {0}) Fault) (fs gs : List Found) → fs ≡ [] → Checks r gs → Checks r (fs ++ gs)
-Checks-both r fs gs e h = rw e h
+pub Checks-both : (kept : Bool) (r : Result (Unit {0}) Fault) (fs gs : List Found) → fs ≡ [] → Checks kept r gs → Checks kept r (fs ++ gs)
+Checks-both kept r fs gs e h = rw e h
+
+Shows-path : (f : Fault) (fs : List Found) → Shows true f fs → HasPath f
+Shows-path NoMemory fs h = tt
+Shows-path NoPath fs h = cc
+Shows-path (First steps breach) fs h = tt
+
+-- a check that keeps the path shows no fault without one
+pub Checks-path : (r : Result (Unit {0}) Fault) (fs : List Found) → Checks true r fs → ForErr r HasPath
+Checks-path r fs h = λ f is. Shows-path f fs (subst (λ q. Checks true q fs) is h)
 
 pub ruleset shown = (elements_at, entries_at, value_tree-Tuple, count-raws_of, type_of-List, type_of-FixedSizeList, type_of-Map, type_of-Struct, type_of-Union, is_nullable-storage, Shows-more, count_types-types_from)

@@ -7,17 +7,18 @@ use Rattle.vortex_dtype.specs.TypeTree.{TypeTree, null_type, bool_type, integer_
 use Rattle.vortex_dtype.specs.declared.error.Breach.TheVariants.{VariantNull}
 use Rattle.vortex_dtype.specs.declared.error.Step.{Step}
 use Rattle.vortex_dtype.specs.declared.error.Step.TheVariants.{Child, Inner}
-use Rattle.vortex_dtype.specs.declared.error.VortexError.{VortexError}
-use Rattle.vortex_dtype.specs.declared.error.VortexError.TheVariants.{OutOfMemory, Invalid}
 use Rattle.vortex_dtype.specs.declared.kinds.Nullability.{Nullability}
 use Rattle.vortex_dtype.specs.declared.kinds.Nullability.TheVariants.{NonNullable, Nullable}
 use Rattle.vortex_dtype.specs.declared.kinds.PType.{PType}
 use Rattle.vortex_dtype.specs.declared.kinds.PType.TheVariants.{U8, U16, U32, U64, I8, I16, I32, I64}
 use Rattle.vortex_pvalue.specs.Kinds.{InRange, in_range}
 use Rattle.vortex_pvalue.specs.RangeLaws.{in_range_true, in_range_back}
-use Rattle.vortex_value.specs.Breaches.{Found, here, under, count_types, is_null_type, child_breaches, breaches_at, element_breaches, entry_breaches, field_breaches, breaches, Refuses, ValidExactlyWithoutBreach}
+use Rattle.vortex_value.specs.Breaches.{Found, here, under, count_types, is_null_type, child_breaches, breaches_at, element_breaches, entry_breaches, field_breaches, breaches, ValidExactlyWithoutBreach}
+use Rattle.vortex_value.specs.Faults.{Checks, Shows}
 use Rattle.vortex_value.specs.RawTree.{RawTree, absent, raw_bool, raw_integer, raw_text, raw_bytes, raw_tuple, raw_union, raw_variant, RawTrees, no_raws, raw_then, count, is_absent}
 use Rattle.vortex_value.specs.Validity.{type_with, HasType, MayBeInside, ValidAt, EachValid, EntriesValid, FieldsValid, Valid}
+use Rattle.vortex_value.specs.declared.validate.Fault.{Fault}
+use Rattle.vortex_value.specs.declared.validate.Fault.TheVariants.{NoMemory, NoPath, First}
 use Rattle.vortex_value.proofs.ValidSteps.{some-first, some-steps}
 
 -- lists of breaches
@@ -213,17 +214,12 @@ mutual
 pub valid_exactly_without_breach : ValidExactlyWithoutBreach
 valid_exactly_without_breach t v = (none-from_ValidAt (storage t) v, ValidAt-from_none (storage t) v)
 
-refused : (e : VortexError) (fs : List Found) → Refuses e fs → fs ≢ []
-refused OutOfMemory fs h = some-steps fs h
-refused (Invalid path breach) fs h = some-first fs _ h
-refused _ fs h = absurd h
+shown : (kept : Bool) (f : Fault) (fs : List Found) → Shows kept f fs → fs ≢ []
+shown kept NoMemory fs h = some-steps fs h
+shown kept NoPath fs h = h.1
+shown kept (First steps breach) fs h = some-first fs _ h
 
--- a check passes where there is no breach, and refuses where there is one
-abbrev pub Answers : {A : Type 0} → Result A VortexError → List Found → Type 0
-Answers (Ok x) fs = fs ≡ []
-Answers (Err e) fs = Refuses e fs
-
--- a check that answers as the breaches say passes exactly the valid values
-pub valid_answers : {A : Type 0} (r : Result A VortexError) (t : TypeTree) (v : RawTree) → Answers r (breaches t v) → IsOk r ↔ Valid t v
-valid_answers (Ok x) t v h = (λ _. ValidAt-from_none (storage t) v h, λ _. refl)
-valid_answers (Err e) t v h = (λ ok. absurd (true≢false (sym ok)), λ valid. absurd (refused e _ h (none-from_ValidAt (storage t) v valid)))
+-- a check that shows the first breach passes exactly the valid values
+pub Checks-valid : {A : Type 0} (kept : Bool) (r : Result A Fault) (t : TypeTree) (v : RawTree) → Checks kept r (breaches t v) → IsOk r ↔ Valid t v
+Checks-valid kept (Ok x) t v h = (λ _. ValidAt-from_none (storage t) v h, λ _. refl)
+Checks-valid kept (Err f) t v h = (λ ok. absurd (true≢false (sym ok)), λ valid. absurd (shown kept f _ h (none-from_ValidAt (storage t) v valid)))

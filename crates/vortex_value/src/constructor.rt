@@ -1,15 +1,18 @@
 //! Makers of scalars: each answers a valid scalar of the stated type, or refuses by name.
 
-ghost use Rattle.std.specs.Prelude.{◌≡◌, ◌≢◌, ◌↔◌, IsOk, IfOk, IfErr, IsUtf8, true};
+ghost use Rattle.std.specs.Prelude.{◌≡◌, ◌≢◌, ◌↔◌, Err, IsOk, IfOk, IfErr, IsUtf8, true};
 ghost use Rattle.vortex_dtype.specs.Refusals.{RefusesExactly, RefusesOrNoMemory};
 ghost use Rattle.vortex_dtype.specs.TypeOf.{type_of, ext_of, variants_of};
-ghost use Rattle.vortex_dtype.specs.TypeTree.{IsNullable, as_nullable, bool_type, integer_type, utf8_type, binary_type, variant_type};
+ghost use Rattle.vortex_dtype.specs.TypeTree.{IsFlat, IsNullable, as_nullable, bool_type, integer_type, utf8_type, binary_type, variant_type};
 ghost use Rattle.vortex_dtype.specs.declared.error.VortexError.TheVariants.{OutOfMemory};
 ghost use Rattle.vortex_dtype.specs.declared.kinds.Nullability.TheVariants.{NonNullable};
 ghost use Rattle.vortex_pvalue.specs.Whole.{kind_of, whole_of};
+ghost use Rattle.vortex_value.specs.Breaches.{Refuses, breaches};
 ghost use Rattle.vortex_value.specs.Makers.{child_cause, union_cause, inside_cause, union_of, extension_over};
+ghost use Rattle.vortex_value.specs.RawOf.{raw_of};
 ghost use Rattle.vortex_value.specs.RawTree.{absent, raw_bool, raw_integer, raw_text, raw_bytes, raw_union, raw_variant, is_absent};
 ghost use Rattle.vortex_value.specs.Scalars.{IsMadeOf, IsValid, scalar_raw, scalar_type};
+ghost use Rattle.vortex_value.specs.Validity.{Valid};
 
 use crate::scalars::Scalar;
 use crate::unions::UnionValue;
@@ -26,6 +29,27 @@ mod maps;
 mod structs;
 
 impl Scalar {
+    /// The scalar of a type and a raw value, or of its absence.
+    ///
+    /// `Invalid` where the raw value is not valid for the type, with the first breach in reading
+    /// order and the path to it; `OutOfMemory` comes in its place where the path has steps and there
+    /// is no memory for them. A valid value takes none, nor does any value of a type whose values
+    /// take none. Ports `Scalar::try_new`.
+    pub fn try_new(
+        alloc: Global,
+        dtype: DType,
+        value: Option<ScalarValue>,
+    ) -> Result<Scalar, VortexError>
+        ensures ok { IsOk result ↔ Valid (type_of dtype) (raw_of value) }
+        ensures made { IfOk result (IsMadeOf (type_of dtype) (raw_of value)) }
+        ensures valid { IfOk result IsValid }
+        ensures refused { IfErr result (λ e. Refuses e (breaches (type_of dtype) (raw_of value))) }
+        ensures flat { IsFlat (type_of dtype) → result ≢ Err VortexError.OutOfMemory }
+    {
+        Scalar::validate(alloc, &dtype, value.as_ref())?;
+        Ok(Scalar { dtype, value })
+    }
+
     /// The null of a type that takes one. Takes no memory.
     ///
     /// Ports `Scalar::null`, which panics for a type that takes none.

@@ -2,7 +2,6 @@
 #![tactic(auto)]
 
 mod cast;
-mod compatible;
 mod constructor;
 mod copies;
 mod equality;

@@ -1,17 +1,12 @@
--- Valid exactly where no breach is found.
-use Rattle.std.proofs.Common.{sym, ◌∙◌}
+-- A check passes exactly the valid values, whether it keeps the path or not.
+use Rattle.std.proofs.Common.{sym, ◌∙◌, false}
 use Rattle.std.specs.Option.{option_copied}
 use Rattle.vortex_dtype.specs.TypeOf.{type_of}
-use Rattle.vortex_value.specs.Breaches.{breaches}
 use Rattle.vortex_value.specs.RawOf.{raw_of}
-use Rattle.vortex_value.proofs.CompatibleSteps.{none_found-exactly}
-use Rattle.vortex_value.proofs.ValidityLaws.{valid_exactly_without_breach}
+use Rattle.vortex_value.proofs.ValidityLaws.{Checks-valid}
 use Rattle.vortex_value.proofs.scalars.Scalar.is_compatible.Goals as goal
 
 pub returns : goal.returns
 returns c =
-    let t = type_of c.args.dtype.now in
-    let v = raw_of (option_copied c.args.value) in
-    let valid = valid_exactly_without_breach t v in
-    let none = none_found-exactly (breaches t v) in
-    (λ h. valid.1 (none.0 (sym c.fits.ensures ∙ h)), λ h. c.fits.ensures ∙ none.1 (valid.0 h))
+    let valid = Checks-valid false c.check.result (type_of c.args.dtype.now) (raw_of (option_copied c.args.value)) c.check.ensures in
+    (λ h. valid.0 (sym c.is_ok.ensures.value ∙ h), λ h. c.is_ok.ensures.value ∙ valid.1 h)
