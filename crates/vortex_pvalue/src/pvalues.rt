@@ -8,6 +8,7 @@ ghost use Rattle.std.specs.Ordering.{int_cmp, int_eq, on, as_partial_cmp};
 ghost use Rattle.arrayvec.specs.ArrayVec.{array_vec_len};
 ghost use Rattle.vortex_dtype.specs.Kinds.{byte_width_of};
 ghost use Rattle.vortex_pvalue.specs.Bytes.{bytes_of};
+ghost use Rattle.vortex_pvalue.specs.Conversions.{IsNumber};
 ghost use Rattle.vortex_pvalue.specs.KindLaws.{other_sign};
 ghost use Rattle.vortex_pvalue.specs.Kinds.{InRange, least_of, greatest_of, low, kind_text};
 ghost use Rattle.vortex_pvalue.specs.Whole.{whole_of, kind_of, pvalue_text};
@@ -141,7 +142,9 @@ impl PValue {
     }
 
     /// The value as a whole number.
-    pub(crate) fn whole(&self) -> i128
+    ///
+    /// An item of our own.
+    pub fn whole(&self) -> i128
         ensures whole { result ≡ whole_of self.now }
         ensures in_range { InRange (kind_of self.now) result }
     {
@@ -154,6 +157,24 @@ impl PValue {
             PValue::I16(n) => *n as i128,
             PValue::I32(n) => *n as i128,
             PValue::I64(n) => *n as i128,
+        }
+    }
+
+    /// The value of this kind that is this whole number, or `None` where the kind does not have it.
+    ///
+    /// An item of our own.
+    pub fn from_whole(number: i128, ptype: PType) -> Option<PValue>
+        ensures { MatchOption result (¬ (InRange ptype number)) (IsNumber ptype number) }
+    {
+        match ptype {
+            PType::U8 => native::<u8>(number),
+            PType::U16 => native::<u16>(number),
+            PType::U32 => native::<u32>(number),
+            PType::U64 => native::<u64>(number),
+            PType::I8 => native::<i8>(number),
+            PType::I16 => native::<i16>(number),
+            PType::I32 => native::<i32>(number),
+            PType::I64 => native::<i64>(number),
         }
     }
 
@@ -290,6 +311,14 @@ impl PValue {
             PValue::I64(n) => inline(&n.to_le_bytes()),
         }
     }
+}
+
+/// The whole number as a value of this type's kind, or `None` where the type does not have it.
+fn native<T: NativePType>(number: i128) -> Option<PValue>
+    ensures { MatchOption result (¬ (InRange T.PTYPE number)) (IsNumber T.PTYPE number) }
+{
+    let native = num_traits::cast::<i128, T>(number)?;
+    Some(native.into_pvalue())
 }
 
 /// These bytes, held in the value itself.

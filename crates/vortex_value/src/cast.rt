@@ -1,9 +1,7 @@
 //! Casts of scalars to another type.
 
-ghost use Rattle.std.specs.Prelude.{◌≡◌, ◌↔◌, Some, IfErr, IfNone, IfOk, IfSome, IsErr, IsTrue, MatchResult};
+ghost use Rattle.std.specs.Prelude.{◌≡◌, ◌↔◌, Some, IfErr, IfOk, IsErr, IsTrue, MatchResult};
 ghost use Rattle.vortex_dtype.specs.TypeOf.{type_of};
-ghost use Rattle.vortex_pvalue.specs.Kinds.{InRange};
-ghost use Rattle.vortex_pvalue.specs.Whole.{kind_of, whole_of};
 ghost use Rattle.vortex_value.specs.Casts.{CanCast, IsCast, IsNullOrInteger};
 ghost use Rattle.vortex_value.specs.RawOf.{raw_of};
 ghost use Rattle.vortex_value.specs.Scalars.{IsTheOne, IsValid, scalar_content, scalar_raw, scalar_type};
@@ -12,8 +10,8 @@ ghost use Rattle.vortex_dtype.specs.declared.error.VortexError.TheVariants.{Cann
 use crate::scalars::Scalar;
 use crate::values::ScalarValue;
 use std::alloc::Global;
-use vortex_dtype::{DType, PType, VortexError};
-use vortex_pvalue::{NativePType, PValue};
+use vortex_dtype::{DType, VortexError};
+use vortex_pvalue::PValue;
 
 impl Scalar {
     /// The one scalar of the target type with this scalar's content.
@@ -66,40 +64,11 @@ fn cast_number(source: &Scalar, target: &DType) -> Result<Option<ScalarValue>, V
     match (&source.value, target) {
         (None, _) if target.is_nullable() => Ok(None),
         (Some(ScalarValue::Primitive(number)), DType::Primitive(kind, _)) => {
-            match number_of_kind(*number, *kind) {
+            match PValue::from_whole(number.whole(), *kind) {
                 Some(number) => Ok(Some(ScalarValue::Primitive(number))),
                 None => Err(VortexError::CannotCast),
             }
         }
         _ => Err(VortexError::CannotCast),
     }
-}
-
-/// The same number in another kind, if that has it.
-fn number_of_kind(number: PValue, kind: PType) -> Option<PValue>
-    ensures same { IfSome result
-        (λ made. (kind_of made ≡ kind) × (whole_of made ≡ whole_of number)) }
-    ensures range { IfSome result (λ made. InRange kind (whole_of made)) }
-    ensures none { IfNone result (¬ (InRange kind (whole_of number))) }
-{
-    match kind {
-        PType::U8 => native::<u8>(number),
-        PType::U16 => native::<u16>(number),
-        PType::U32 => native::<u32>(number),
-        PType::U64 => native::<u64>(number),
-        PType::I8 => native::<i8>(number),
-        PType::I16 => native::<i16>(number),
-        PType::I32 => native::<i32>(number),
-        PType::I64 => native::<i64>(number),
-    }
-}
-
-/// The same number as a value of this type's kind, if that has it.
-fn native<T: NativePType>(number: PValue) -> Option<PValue>
-    ensures same { IfSome result
-        (λ made. (kind_of made ≡ T.PTYPE) × (whole_of made ≡ whole_of number)) }
-    ensures range { IfSome result (λ made. InRange T.PTYPE (whole_of made)) }
-    ensures none { IfNone result (¬ (InRange T.PTYPE (whole_of number))) }
-{
-    T::from_pvalue(&number).map(T::into_pvalue)
 }
