@@ -1,8 +1,12 @@
+pub mod CompatibleSteps
+pub mod Filling
 pub mod GivenItems
 pub mod ListMakers
 pub mod MakerLaws
 pub mod MapMakers
+pub mod OrderAgrees
 pub mod OrderLaws
+pub mod SizeLaws
 pub mod StructMakers
 pub mod TypeSteps
 pub mod Uniqueness
@@ -10,3 +14,4 @@ pub mod ValidSteps
 pub mod ValidityLaws
 pub mod ValueSteps
 pub mod Variants
+pub mod ZeroLaws

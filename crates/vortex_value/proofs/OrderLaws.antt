@@ -5,7 +5,7 @@ use Rattle.std.specs.Ordering.{is_gt, ordering_reverse, ordering_then, partial_o
 use Rattle.std.proofs.lemmas.Bool.Decides.{Decides-eqb}
 use Rattle.std.proofs.lemmas.Cmp.{nat_list_cmp_total, int_cmp_total, nat_eq_equiv, alike_right}
 use Rattle.vortex_value.specs.Content.{Content, null, truth, whole, text, string, sequence, tagged, Contents, no_contents, content_then}
-use Rattle.vortex_value.specs.Order.{order, orders, reversed, truth_cmp, OrderIsReversed, OrderIsTransitive}
+use Rattle.vortex_value.specs.Order.{order, orders, reversed, truth_cmp, IsReversed, IsTransitive}
 
 reversed-then : (o p : Option Ordering) → reversed (partial_ordering_then o p) ≡ partial_ordering_then (reversed o) (reversed p)
 reversed-then None p = refl
@@ -42,7 +42,7 @@ mutual
   orders-reversed (content_then c cs) no_contents = refl
   orders-reversed (content_then c cs) (content_then d ds) = rw (reversed-then, ← order-reversed c d, ← orders-reversed cs ds)
 
-pub order_is_reversed : OrderIsReversed
+pub order_is_reversed : IsReversed order
 order_is_reversed = order-reversed
 
 -- r is the order of the ends, where o and p are those of the two steps
@@ -148,5 +148,5 @@ mutual
   orders-follow (content_then c cs) (content_then d ds) no_contents = greater_second _ _
   orders-follow (content_then c cs) (content_then d ds) (content_then e es) = then_follows _ _ _ _ _ _ (order-follows c d e) (orders-follow cs ds es)
 
-pub order_is_transitive : OrderIsTransitive
+pub order_is_transitive : IsTransitive order
 order_is_transitive = order-follows

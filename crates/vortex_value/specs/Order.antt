@@ -1,10 +1,12 @@
 -- The order of contents.
-use Rattle.std.specs.Prelude.{◌≡◌, ◌==◌, Bool, true, false, Option, Some, None, if◌then◌else◌}
+use Rattle.std.specs.Prelude.{◌≡◌, ◌↔◌, ◌==◌, Bool, true, false, IsTrue, Option, Some, None, if◌then◌else◌}
 use Rattle.std.specs.Cmp.Lexicographic.{slice_cmp}
 use Rattle.std.specs.Ordering.{nat_cmp, int_cmp, ordering_reverse, ordering_then, is_gt, partial_ordering_then}
 use Rattle.std.specs.declared.cmp.Ordering.{Ordering}
 use Rattle.std.specs.declared.cmp.Ordering.TheVariants.{Less, Equal, Greater}
+use Rattle.vortex_dtype.specs.TypeTree.{TypeTree}
 use Rattle.vortex_value.specs.Content.{Content, null, truth, whole, text, string, sequence, tagged, Contents, no_contents, content_then}
+use Rattle.vortex_value.specs.Equality.{same_type}
 
 -- false is below true
 abbrev pub truth_cmp : Bool → Bool → Ordering
@@ -39,11 +41,19 @@ abbrev pub reversed : Option Ordering → Option Ordering
 reversed None = None
 reversed (Some o) = Some (ordering_reverse o)
 
--- The order is reversed when its sides are swapped.
-abbrev pub OrderIsReversed : Type 0
-OrderIsReversed = (c d : Content) → order c d ≡ reversed (order d c)
+-- the order of two contents whose types are the same up to nullability; of others, none
+abbrev pub typed_order : TypeTree → Content → TypeTree → Content → Option Ordering
+typed_order s c t d = if same_type s t then order c d else None
 
--- If c against d and d against e are each Less or Equal, so is c against e, and Less where one of them was.
-abbrev pub OrderIsTransitive : Type 0
-OrderIsTransitive = (c d e : Content) (a b : Ordering) → order c d ≡ Some a → order d e ≡ Some b
-    → is_gt a ≡ false → is_gt b ≡ false → order c e ≡ Some (ordering_then a b)
+-- the order is reversed when its sides are swapped
+abbrev pub IsReversed : {A : Type 0} → (A → A → Option Ordering) → Type 0
+IsReversed {A} cmp = (x y : A) → cmp x y ≡ reversed (cmp y x)
+
+-- if x against y and y against z are each Less or Equal, so is x against z, and Less where one of them was
+abbrev pub IsTransitive : {A : Type 0} → (A → A → Option Ordering) → Type 0
+IsTransitive {A} cmp = (x y z : A) (a b : Ordering) → cmp x y ≡ Some a → cmp y z ≡ Some b
+    → is_gt a ≡ false → is_gt b ≡ false → cmp x z ≡ Some (ordering_then a b)
+
+-- where p holds of the first side, the order says Equal exactly where the two are equal
+abbrev pub AgreesWhere : {A : Type 0} → (A → Type 0) → (A → A → Option Ordering) → (A → A → Bool) → Type 0
+AgreesWhere {A} p cmp eq = (x y : A) → p x → (cmp x y ≡ Some Equal) ↔ IsTrue (eq x y)

@@ -1,8 +1,10 @@
 -- What contracts say of scalars: a type and an optional raw value.
-use Rattle.std.specs.Prelude.{◌≡◌}
+use Rattle.std.specs.Prelude.{◌≡◌, Option}
+use Rattle.std.specs.declared.cmp.Ordering.{Ordering}
 use Rattle.vortex_dtype.specs.TypeOf.{type_of}
 use Rattle.vortex_dtype.specs.TypeTree.{TypeTree}
 use Rattle.vortex_value.specs.Content.{Content, content}
+use Rattle.vortex_value.specs.Order.{typed_order}
 use Rattle.vortex_value.specs.RawOf.{raw_of}
 use Rattle.vortex_value.specs.RawTree.{RawTree}
 use Rattle.vortex_value.specs.Validity.{Valid}
@@ -23,6 +25,10 @@ scalar_content x = content (scalar_raw x)
 -- the value is valid for the type
 abbrev pub IsValid : Scalar → Type 0
 IsValid x = Valid (scalar_type x) (scalar_raw x)
+
+-- the order of two scalars: of their contents, where their types are the same up to nullability
+abbrev pub scalar_order : Scalar → Scalar → Option Ordering
+scalar_order x y = typed_order (scalar_type x) (scalar_content x) (scalar_type y) (scalar_content y)
 
 -- y is the scalar of this type and raw value
 pub record IsMadeOf (t : TypeTree) (v : RawTree) (y : Scalar) : Type 0 where

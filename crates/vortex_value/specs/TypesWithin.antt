@@ -1,0 +1,37 @@
+-- What a type holds at every depth.
+use Rattle.std.specs.Prelude.{List, [], ◌∷◌}
+use Rattle.vortex_dtype.specs.TypeTree.{TypeTree, null_type, bool_type, integer_type, utf8_type, binary_type, list_type, fixed_size_list_type, map_type, struct_type, union_type, variant_type, extension_type, TypeTrees, no_types, type_then}
+
+-- no variant stands in the type
+abbrev mutual
+  pub HasNoVariant : TypeTree → Type 0
+  HasNoVariant (variant_type n) = ⊥
+  HasNoVariant (list_type e n) = HasNoVariant e
+  HasNoVariant (fixed_size_list_type e size n) = HasNoVariant e
+  HasNoVariant (map_type k w sorted n) = HasNoVariant k × HasNoVariant w
+  HasNoVariant (struct_type names ts n) = HaveNoVariant ts
+  HasNoVariant (union_type names ts ids n) = HaveNoVariant ts
+  HasNoVariant (extension_type id metadata t) = HasNoVariant t
+  HasNoVariant _ = Unit {0}
+
+  -- nor in any of the types
+  pub HaveNoVariant : TypeTrees → Type 0
+  HaveNoVariant no_types = Unit {0}
+  HaveNoVariant (type_then t ts) = HasNoVariant t × HaveNoVariant ts
+
+-- every union in the type has a variant
+abbrev mutual
+  pub UnionsHaveVariants : TypeTree → Type 0
+  UnionsHaveVariants (union_type names (type_then t ts) (id ∷ ids) n) = UnionsHaveVariants t × AllHaveVariants ts
+  UnionsHaveVariants (union_type names ts ids n) = ⊥
+  UnionsHaveVariants (list_type e n) = UnionsHaveVariants e
+  UnionsHaveVariants (fixed_size_list_type e size n) = UnionsHaveVariants e
+  UnionsHaveVariants (map_type k w sorted n) = UnionsHaveVariants k × UnionsHaveVariants w
+  UnionsHaveVariants (struct_type names ts n) = AllHaveVariants ts
+  UnionsHaveVariants (extension_type id metadata t) = UnionsHaveVariants t
+  UnionsHaveVariants _ = Unit {0}
+
+  -- and in each of the types
+  pub AllHaveVariants : TypeTrees → Type 0
+  AllHaveVariants no_types = Unit {0}
+  AllHaveVariants (type_then t ts) = UnionsHaveVariants t × AllHaveVariants ts
