@@ -1,4 +1,3 @@
-pub mod CompatibleSteps
 pub mod Filling
 pub mod GivenItems
 pub mod ListMakers
