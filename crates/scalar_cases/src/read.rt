@@ -1,0 +1,6 @@
+//! What the words of a line stand for.
+
+pub mod numbers;
+pub mod texts;
+pub mod types;
+pub mod values;

@@ -1,0 +1,101 @@
+//! Numbers, integer kinds and bytes in hexadecimal.
+
+use crate::faults::Fault;
+use std::alloc::Global;
+use vortex_dtype::PType;
+use vortex_pvalue::PValue;
+
+/// The kind with this name.
+pub fn kind_named(word: &[u8]) -> Option<PType> {
+    match word {
+        b"u8" => Some(PType::U8),
+        b"u16" => Some(PType::U16),
+        b"u32" => Some(PType::U32),
+        b"u64" => Some(PType::U64),
+        b"i8" => Some(PType::I8),
+        b"i16" => Some(PType::I16),
+        b"i32" => Some(PType::I32),
+        b"i64" => Some(PType::I64),
+        _ => None,
+    }
+}
+
+/// The number that these digits represent, if they are digits and it is below 2^64.
+pub fn natural(digits: &[u8]) -> Option<u64> {
+    if digits.is_empty() {
+        return None;
+    }
+    let mut number = 0u64;
+    for digit in digits {
+        if !digit.is_ascii_digit() {
+            return None;
+        }
+        let tens = number.checked_mul(10)?;
+        number = tens.checked_add(u64::from(*digit - b'0'))?;
+    }
+    Some(number)
+}
+
+/// The integer that this word is, after its minus sign if it has one: digits and a kind.
+pub fn integer(word: &[u8], is_negative: bool) -> Option<PValue> {
+    let (digits, kind) = split_digits(word);
+    let kind = kind_named(kind)?;
+    let size = i128::from(natural(digits)?);
+    value_of(if is_negative { -size } else { size }, kind)
+}
+
+/// The digits in front, and what follows them.
+fn split_digits(word: &[u8]) -> (&[u8], &[u8]) {
+    for (place, byte) in word.iter().enumerate() {
+        if !byte.is_ascii_digit() {
+            return (&word[..place], &word[place..]);
+        }
+    }
+    (word, &[])
+}
+
+/// The number as a value of the kind, where that has it.
+fn value_of(number: i128, kind: PType) -> Option<PValue> {
+    match kind {
+        PType::U8 => u8::try_from(number).ok().map(PValue::U8),
+        PType::U16 => u16::try_from(number).ok().map(PValue::U16),
+        PType::U32 => u32::try_from(number).ok().map(PValue::U32),
+        PType::U64 => u64::try_from(number).ok().map(PValue::U64),
+        PType::I8 => i8::try_from(number).ok().map(PValue::I8),
+        PType::I16 => i16::try_from(number).ok().map(PValue::I16),
+        PType::I32 => i32::try_from(number).ok().map(PValue::I32),
+        PType::I64 => i64::try_from(number).ok().map(PValue::I64),
+    }
+}
+
+/// The number of a digit in hexadecimal.
+pub fn hex_digit(digit: u8) -> Option<u8> {
+    match digit {
+        b'0'..=b'9' => Some(digit - b'0'),
+        b'a'..=b'f' => Some(digit - b'a' + 10),
+        b'A'..=b'F' => Some(digit - b'A' + 10),
+        _ => None,
+    }
+}
+
+/// The bytes that these digits in hexadecimal represent, two each.
+pub fn bytes_of_hex(alloc: Global, digits: &[u8]) -> Result<Vec<u8>, Fault> {
+    let mut bytes = Vec::with_capacity(alloc, digits.len() / 2)?;
+    let mut high = None;
+    for digit in digits {
+        let Some(digit) = hex_digit(*digit) else {
+            return Err(Fault::BadLine);
+        };
+        high = match high {
+            None => Some(digit),
+            Some(high) => {
+                bytes.push((high << 4) | digit)?;
+                None
+            }
+        };
+    }
+    match high {
+        None => Ok(bytes),
+        Some(_) => Err(Fault::BadLine),
+    }
+}
