@@ -1,5 +1,5 @@
 -- Which values fill a type, level by level, and that what fills a type is some valid value's content.
-use Rattle.std.proofs.Common.{◌≡◌, ◌==◌, ◌&&◌, ℕ, zero, suc, pos, Bool, true, false, List, [], ◌∷◌, Option, Some, None, option_map, refl, sym, ap, ◌∙◌, eq-eqb}
+use Rattle.std.proofs.Common.{◌≡◌, ◌&&◌, ℕ, zero, suc, pos, Bool, true, false, List, [], ◌∷◌, Option, Some, None, option_map, refl, sym, ap, ◌∙◌, eq-eqb}
 use Rattle.vortex_dtype.specs.TypeTree.{TypeTree, null_type, bool_type, integer_type, utf8_type, binary_type, list_type, fixed_size_list_type, map_type, struct_type, union_type, variant_type, extension_type, TypeTrees, no_types, type_then, IsNullable, is_nullable, says_nullable, storage}
 use Rattle.vortex_dtype.specs.declared.kinds.Nullability.{Nullability}
 use Rattle.vortex_dtype.specs.declared.kinds.Nullability.TheVariants.{NonNullable, Nullable}
@@ -8,9 +8,9 @@ use Rattle.vortex_dtype.specs.declared.kinds.PType.TheVariants.{U8, U16, U32, U6
 use Rattle.vortex_pvalue.specs.Kinds.{InRange, in_range}
 use Rattle.vortex_pvalue.specs.RangeLaws.{in_range_back}
 use Rattle.vortex_value.specs.Casts.{Has}
-use Rattle.vortex_value.specs.Content.{Content, null, truth, whole, text, string, sequence, tagged, typed, Contents, no_contents, content_then, content, contents}
+use Rattle.vortex_value.specs.Content.{Content, null, sequence, tagged, Contents, no_contents, content, contents}
 use Rattle.vortex_value.specs.RawTree.{RawTree, absent, raw_bool, raw_integer, raw_text, raw_bytes, raw_tuple, raw_union, raw_variant, RawTrees, no_raws, raw_then, count}
-use Rattle.vortex_value.specs.Validity.{Valid, EachValid, FieldsValid, HasType, type_with}
+use Rattle.vortex_value.specs.Validity.{EachValid, FieldsValid}
 use Rattle.vortex_value.specs.Zero.{filling, fillings, null_or, repeated, places_of, and_rest, Fills, EachFills, FillFields}
 use Rattle.vortex_value.proofs.MakerLaws.{null_valid}
 

@@ -1,10 +1,12 @@
 pub mod Filling
 pub mod GivenItems
+pub mod HashSteps
 pub mod ListMakers
 pub mod MakerLaws
 pub mod MapMakers
 pub mod OrderAgrees
 pub mod OrderLaws
+pub mod OrderSteps
 pub mod SizeLaws
 pub mod StructMakers
 pub mod TypeSteps

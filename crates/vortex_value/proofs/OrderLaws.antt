@@ -2,10 +2,13 @@
 use Rattle.std.proofs.Common.{◌≡◌, ◌==◌, ℕ, Bool, true, false, if◌then◌else◌, Option, Some, None, Ordering, Less, Equal, Greater, refl, sym, ap, ◌∙◌, true≢false}
 use Rattle.std.specs.Cmp.{IsTotalOrder}
 use Rattle.std.specs.Ordering.{is_gt, ordering_reverse, ordering_then, partial_ordering_then}
-use Rattle.std.proofs.lemmas.Bool.Decides.{Decides-eqb}
+use Rattle.std.proofs.lemmas.Bool.Decides.{Decides-eqb, Decides-like, same_from_decides}
 use Rattle.std.proofs.lemmas.Cmp.{nat_list_cmp_total, int_cmp_total, nat_eq_equiv, alike_right}
+use Rattle.vortex_dtype.specs.TypeTree.{TypeTree}
 use Rattle.vortex_value.specs.Content.{Content, null, truth, whole, text, string, sequence, tagged, Contents, no_contents, content_then}
-use Rattle.vortex_value.specs.Order.{order, orders, reversed, truth_cmp, IsReversed, IsTransitive}
+use Rattle.vortex_value.specs.Equality.{same_type}
+use Rattle.vortex_value.specs.EqualityLaws.{same_type-Decides}
+use Rattle.vortex_value.specs.Order.{order, orders, reversed, truth_cmp, typed_order, IsReversed, IsTransitive}
 
 reversed-then : (o p : Option Ordering) → reversed (partial_ordering_then o p) ≡ partial_ordering_then (reversed o) (reversed p)
 reversed-then None p = refl
@@ -46,7 +49,7 @@ pub order_is_reversed : IsReversed order
 order_is_reversed = order-reversed
 
 -- r is the order of the ends, where o and p are those of the two steps
-abbrev Follows : Option Ordering → Option Ordering → Option Ordering → Type 0
+abbrev pub Follows : Option Ordering → Option Ordering → Option Ordering → Type 0
 Follows o p r = (a b : Ordering) → o ≡ Some a → p ≡ Some b → is_gt a ≡ false → is_gt b ≡ false → r ≡ Some (ordering_then a b)
 
 none_first : (p r : Option Ordering) → Follows None p r
@@ -115,15 +118,18 @@ then_follows (Some Less) (Some Equal) r os ps rs f g = let e : r ≡ Some Less =
 then_follows (Some Equal) (Some Less) r os ps rs f g = let e : r ≡ Some Less = f Equal Less refl refl refl refl in rw e (less_second _)
 then_follows (Some Equal) (Some Equal) r os ps rs f g = let e : r ≡ Some Equal = f Equal Equal refl refl refl refl in rw e g
 
+-- where tests on both steps are passed, so is the one at the ends
+tests_follow : (x y z : Bool) (o p r : Option Ordering) → Follows o p r → (x ≡ true → y ≡ true → z ≡ true)
+    → Follows (if x then o else None) (if y then p else None) (if z then r else None)
+tests_follow true true z o p r f h = rw (h refl refl) f
+tests_follow false y z o p r f h = none_first _ _
+tests_follow true false z o p r f h = none_second _ _
+
 -- tagged children: equal ids on both steps are equal at the ends
 if_follows : (i j k : ℕ) (o p r : Option Ordering) → Follows o p r
     → Follows (if i == j then o else None) (if j == k then p else None) (if i == k then r else None)
-if_follows i j k o p r f = at (i == j) (j == k) (i == k) (λ x y. let e : i ≡ j = (Decides-eqb i j).0 x in let g : j ≡ k = (Decides-eqb j k).0 y in (Decides-eqb i k).1 (e ∙ g))
-  where
-    at : (x y z : Bool) → (x ≡ true → y ≡ true → z ≡ true) → Follows (if x then o else None) (if y then p else None) (if z then r else None)
-    at true true z h = rw (h refl refl) f
-    at false y z h = none_first _ _
-    at true false z h = none_second _ _
+if_follows i j k o p r f = tests_follow (i == j) (j == k) (i == k) o p r f
+    (λ x y. let e : i ≡ j = (Decides-eqb i j).0 x in let g : j ≡ k = (Decides-eqb j k).0 y in (Decides-eqb i k).1 (e ∙ g))
 
 mutual
   pub order-follows : (c d e : Content) → Follows (order c d) (order d e) (order c e)
@@ -150,3 +156,15 @@ mutual
 
 pub order_is_transitive : IsTransitive order
 order_is_transitive = order-follows
+
+-- the order of typed contents: types that are the same on both steps are the same at the ends
+
+same_type-symmetric : (t u : TypeTree) → same_type t u ≡ same_type u t
+same_type-symmetric t u = same_from_decides (same_type t u) (same_type u t) (same_type-Decides t u) (Decides-like (same_type u t) sym sym (same_type-Decides u t))
+
+pub typed_order-reversed : (s t : TypeTree) (c d : Content) → typed_order s c t d ≡ reversed (typed_order t d s c)
+typed_order-reversed s t c d = rw (reversed-if, same_type-symmetric t s, ← order-reversed c d)
+
+pub typed_order-follows : (s t u : TypeTree) (c d e : Content) → Follows (typed_order s c t d) (typed_order t d u e) (typed_order s c u e)
+typed_order-follows s t u c d e = tests_follow (same_type s t) (same_type t u) (same_type s u) (order c d) (order d e) (order c e) (order-follows c d e)
+    (λ x y. (same_type-Decides s u).1 ((same_type-Decides s t).0 x ∙ (same_type-Decides t u).0 y))

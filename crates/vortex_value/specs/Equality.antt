@@ -80,3 +80,12 @@ EqualityAgreesWithoutTyped = (c d : Content) → HasNoTyped c → EqualContents 
 -- The test passes exactly where contents are equal.
 abbrev pub EqualityIsDecided : Type 0
 EqualityIsDecided = (c d : Content) → IsTrue (equal c d) ↔ EqualContents c d
+
+-- the test of things that say a content passes exactly where what they say is equal
+abbrev pub EqualsByContent : {A : Type 0} → (A → Content) → (A → A → Bool) → Type 0
+EqualsByContent {A} said eq = (x y : A) → IsTrue (eq x y) ↔ EqualContents (said x) (said y)
+
+-- the test of things of a type and a content passes exactly where the types are the same up to nullability and the
+-- contents equal
+abbrev pub EqualsByTypeAndContent : {A : Type 0} → (A → TypeTree) → (A → Content) → (A → A → Bool) → Type 0
+EqualsByTypeAndContent {A} type_at said eq = (x y : A) → IsTrue (eq x y) ↔ (Same (type_at x) (type_at y) × EqualContents (said x) (said y))

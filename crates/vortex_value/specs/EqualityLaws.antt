@@ -1,5 +1,5 @@
 -- Laws of equality: it is an equivalence, plain equality where no typed child stands, and what its test decides.
-use Rattle.std.proofs.Common.{◌≡◌, Bool, true, false, true≢false, refl, sym, ap, ◌∙◌, Decides}
+use Rattle.std.proofs.Common.{◌≡◌, ◌&&◌, Bool, true, false, true≢false, refl, sym, ap, ◌∙◌, Decides}
 use Rattle.std.specs.Cmp.{IsEquivalence, first_so, second_so}
 use Rattle.std.proofs.lemmas.Bool.{and_from}
 use Rattle.std.proofs.lemmas.Bool.Decides.{Decides-eqb, Decides-int_eq, Decides-like, same_from_decides}
@@ -137,6 +137,13 @@ equal-Decides c d = (contents-from_equal c d, equal-from_contents c d)
 
 pub equality_is_decided : EqualityIsDecided
 equality_is_decided c d = equal-Decides c d
+
+-- the test of typed contents passes exactly where the types are the same and the contents equal
+pub typed_equal-Decides : (t u : TypeTree) (c d : Content) → Decides (same_type t u && equal c d) (Same t u × EqualContents c d)
+typed_equal-Decides t u c d = (
+  λ h. ((same_type-Decides t u).0 (first_so _ _ h), contents-from_equal c d (second_so _ _ h)),
+  λ h. and_from _ _ ((same_type-Decides t u).1 h.0) (equal-from_contents c d h.1),
+)
 
 -- the test is an equivalence
 pub equal-equiv : IsEquivalence equal

@@ -4,8 +4,8 @@ use Rattle.std.specs.Hash.{Alike}
 use Rattle.vortex_dtype.specs.Feeds.{tree_feed}
 use Rattle.vortex_dtype.specs.TypeTree.{TypeTree, Same, erase}
 use Rattle.vortex_value.specs.Content.{Content, null, truth, whole, text, string, sequence, tagged, typed, Contents, no_contents, content_then}
-use Rattle.vortex_value.specs.Equality.{EqualContents, AllEqual, equal}
-use Rattle.vortex_value.specs.EqualityLaws.{contents-from_equal}
+use Rattle.vortex_value.specs.Equality.{EqualContents, AllEqual, equal, same_type}
+use Rattle.vortex_value.specs.EqualityLaws.{contents-from_equal, same_type-Decides}
 use Rattle.vortex_value.specs.Hashing.{place_count, content_feed, contents_feed, EqualFeedSame}
 
 mutual
@@ -39,3 +39,7 @@ equal_feed_same = record { contents = content_feed-same; typed = typed_feed-same
 -- what the test finds equal is fed alike
 pub content_feed-Alike : Alike equal content_feed
 content_feed-Alike = record { fed = λ c d h. content_feed-same c d (contents-from_equal c d h) }
+
+-- and types that are the same up to nullability are too
+pub type_feed-Alike : Alike same_type (λ t. tree_feed (erase t))
+type_feed-Alike = record { fed = λ t u h. ap tree_feed ((same_type-Decides t u).0 h) }

@@ -1,5 +1,5 @@
 -- What contents and scalars feed a hasher: nullability is left out, all else that tells contents apart is fed.
-use Rattle.std.specs.Prelude.{◌≡◌, ℕ, suc, List, [], ◌++◌}
+use Rattle.std.specs.Prelude.{◌≡◌, ℕ, suc, [], ◌++◌}
 use Rattle.std.specs.Hash as fed
 use Rattle.std.specs.Hash.{HashWrites}
 use Rattle.vortex_dtype.specs.Feeds.{bytes_feed, tree_feed}
@@ -21,13 +21,17 @@ abbrev mutual
   content_feed (whole z) = fed.u8 2 ++ fed.i128 z
   content_feed (text bs) = fed.u8 3 ++ bytes_feed bs
   content_feed (string bs) = fed.u8 4 ++ bytes_feed bs
-  content_feed (sequence cs) = fed.u8 5 ++ fed.usize (place_count cs) ++ contents_feed cs
+  content_feed (sequence cs) = fed.u8 5 ++ (fed.usize (place_count cs) ++ contents_feed cs)
   content_feed (tagged id c) = fed.u8 6 ++ fed.u8 id ++ content_feed c
-  content_feed (typed t c) = fed.u8 7 ++ tree_feed (erase t) ++ content_feed c
+  content_feed (typed t c) = fed.u8 7 ++ (tree_feed (erase t) ++ content_feed c)
 
   pub contents_feed : Contents → HashWrites
   contents_feed no_contents = []
   contents_feed (content_then c cs) = content_feed c ++ contents_feed cs
+
+-- places feed how many they are, and each of them
+abbrev pub counted_feed : Contents → HashWrites
+counted_feed cs = fed.usize (place_count cs) ++ contents_feed cs
 
 -- a scalar feeds its type without nullability, and then its content
 abbrev pub typed_feed : TypeTree → Content → HashWrites

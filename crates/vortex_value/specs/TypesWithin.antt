@@ -1,6 +1,6 @@
 -- What a type holds at every depth.
-use Rattle.std.specs.Prelude.{List, [], ◌∷◌}
-use Rattle.vortex_dtype.specs.TypeTree.{TypeTree, null_type, bool_type, integer_type, utf8_type, binary_type, list_type, fixed_size_list_type, map_type, struct_type, union_type, variant_type, extension_type, TypeTrees, no_types, type_then}
+use Rattle.std.specs.Prelude.{◌∷◌}
+use Rattle.vortex_dtype.specs.TypeTree.{TypeTree, list_type, fixed_size_list_type, map_type, struct_type, union_type, variant_type, extension_type, TypeTrees, no_types, type_then}
 
 -- no variant stands in the type
 abbrev mutual

@@ -16,7 +16,7 @@ use crate::values::ScalarValue;
 use vortex_dtype::DType;
 
 /// Whether two types are the same up to nullability.
-fn same_types(a: &DType, b: &DType) -> bool
+pub(crate) fn same_types(a: &DType, b: &DType) -> bool
     ensures { result ≡ same_type (type_of a.now) (type_of b.now) }
 {
     a.eq_ignore_nullability(b)

@@ -3,13 +3,26 @@
 //! These functions do nothing when they run. The contract of each is a law over the definitions in
 //! `specs/`, and its proof is the law's proof.
 
+ghost use Rattle.std.specs.Cmp.{IsEquivalence};
+ghost use Rattle.vortex_dtype.specs.Laws.{AgreesWithHash};
 ghost use Rattle.vortex_value.specs.Breaches.{ValidExactlyWithoutBreach};
 ghost use Rattle.vortex_value.specs.Casts.{OneValue};
-ghost use Rattle.vortex_value.specs.Equality.{EqualityAgreesWithoutTyped, EqualityIsAnEquivalence, EqualityIsDecided};
+ghost use Rattle.vortex_value.specs.Content.{content};
+ghost use Rattle.vortex_value.specs.Equality.{EqualityAgreesWithoutTyped, EqualityIsAnEquivalence, EqualityIsDecided, EqualsByContent, EqualsByTypeAndContent};
 ghost use Rattle.vortex_value.specs.Hashing.{EqualFeedSame};
-ghost use Rattle.vortex_value.specs.Order.{IsReversed, IsTransitive, order};
+ghost use Rattle.vortex_value.specs.Order.{AgreesWhere, IsReversed, IsTransitive, order};
+ghost use Rattle.vortex_value.specs.RawOf.{union_tree, value_tree};
+ghost use Rattle.vortex_value.specs.Refs.{IsValidRef, ref_content, ref_order, ref_type};
+ghost use Rattle.vortex_value.specs.Scalars.{IsValid, scalar_content, scalar_order, scalar_type};
 ghost use Rattle.vortex_value.specs.Size.{SizeIsSum};
+ghost use Rattle.vortex_value.specs.TypesWithin.{HasNoVariant};
 ghost use Rattle.vortex_value.specs.Zero.{DefaultExists, ZeroIsZero};
+
+use crate::refs::ScalarRef;
+use crate::scalars::Scalar;
+use crate::unions::UnionValue;
+use crate::values::ScalarValue;
+use std::hash::Hash;
 
 /// A raw value is valid for a type exactly where the list of its breaches is empty, so a check that
 /// reports the first breach passes all valid values and no others.
@@ -23,10 +36,26 @@ pub fn one_value()
     ensures { OneValue }
 {}
 
-/// Equality of contents is an equivalence: every content equals itself, equality goes both ways,
-/// and it goes on from one to the next.
+/// Raw values, and those of unions, are equal exactly where their contents are; scalars, owned and
+/// borrowed, exactly where their types are the same up to nullability and their contents equal.
+pub fn equality()
+    ensures values { EqualsByContent
+        (λ v. content (value_tree v)) ⟦<ScalarValue as PartialEq>⟧.eq }
+    ensures unions { EqualsByContent (λ u. content (union_tree u)) ⟦<UnionValue as PartialEq>⟧.eq }
+    ensures scalars { EqualsByTypeAndContent
+        scalar_type scalar_content ⟦<Scalar as PartialEq>⟧.eq }
+    ensures borrowed { EqualsByTypeAndContent
+        ref_type ref_content ⟦<ScalarRef<'static> as PartialEq>⟧.eq }
+{}
+
+/// Equality is an equivalence, of contents and of what has them: everything equals itself, equality
+/// goes both ways, and it goes on from one to the next.
 pub fn equality_is_an_equivalence()
-    ensures { EqualityIsAnEquivalence }
+    ensures contents { EqualityIsAnEquivalence }
+    ensures values { IsEquivalence ⟦<ScalarValue as PartialEq>⟧.eq }
+    ensures unions { IsEquivalence ⟦<UnionValue as PartialEq>⟧.eq }
+    ensures scalars { IsEquivalence ⟦<Scalar as PartialEq>⟧.eq }
+    ensures borrowed { IsEquivalence ⟦<ScalarRef<'static> as PartialEq>⟧.eq }
 {}
 
 /// Where no variant's child stands in a content, only the content itself equals it.
@@ -42,13 +71,37 @@ pub fn equality_is_decided()
 
 /// The order is reversed when its two sides are swapped.
 pub fn order_is_reversed()
-    ensures { IsReversed order }
+    ensures contents { IsReversed order }
+    ensures scalars { IsReversed scalar_order }
+    ensures borrowed { IsReversed ref_order }
 {}
 
 /// If the first is not above the second, and the second not above the third, then the first is not
 /// above the third, and below it where one of the two steps was.
 pub fn order_is_transitive()
-    ensures { IsTransitive order }
+    ensures contents { IsTransitive order }
+    ensures scalars { IsTransitive scalar_order }
+    ensures borrowed { IsTransitive ref_order }
+{}
+
+/// Where the type of a valid scalar has no variant at any depth, `partial_cmp` with another says
+/// Equal exactly where the two are equal.
+pub fn order_agrees_with_equality()
+    ensures scalars { AgreesWhere (λ x. HasNoVariant (scalar_type x) × IsValid x)
+        scalar_order ⟦<Scalar as PartialEq>⟧.eq }
+    ensures borrowed { AgreesWhere (λ x. HasNoVariant (ref_type x) × IsValidRef x)
+        ref_order ⟦<ScalarRef<'static> as PartialEq>⟧.eq }
+{}
+
+/// Equal raw values, and equal scalars, feed every hasher the same.
+pub fn hash_agrees()
+    ensures values { AgreesWithHash
+        ⟦<ScalarValue as PartialEq>⟧.eq ⟦<ScalarValue as Hash>⟧.hash_input }
+    ensures unions { AgreesWithHash
+        ⟦<UnionValue as PartialEq>⟧.eq ⟦<UnionValue as Hash>⟧.hash_input }
+    ensures scalars { AgreesWithHash ⟦<Scalar as PartialEq>⟧.eq ⟦<Scalar as Hash>⟧.hash_input }
+    ensures borrowed { AgreesWithHash
+        ⟦<ScalarRef<'static> as PartialEq>⟧.eq ⟦<ScalarRef<'static> as Hash>⟧.hash_input }
 {}
 
 /// Equal contents feed every hasher the same, and so do equal contents of types that are the same up

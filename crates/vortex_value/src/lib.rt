@@ -5,13 +5,17 @@ mod cast;
 mod constructor;
 mod copies;
 mod equality;
+mod hashing;
 pub mod laws;
+mod ordering;
+mod refs;
 mod scalars;
 mod storage;
 mod unions;
 mod validate;
 mod values;
 
+pub use refs::ScalarRef;
 pub use scalars::Scalar;
 pub use unions::UnionValue;
 pub use values::ScalarValue;

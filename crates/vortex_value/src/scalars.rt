@@ -1,8 +1,9 @@
 //! Scalars: a type and an optional raw value.
 
-ghost use Rattle.std.specs.Prelude.{◌≡◌, not, IsOk, IfOk, IfErr};
+ghost use Rattle.std.specs.Prelude.{◌≡◌, ◌↔◌, not, IsOk, IsTrue, IfOk, IfErr};
 ghost use Rattle.std.specs.Option.{option_copied};
-ghost use Rattle.vortex_dtype.specs.TypeTree.{IsFlat};
+ghost use Rattle.vortex_dtype.specs.TypeTree.{IsFlat, Same};
+ghost use Rattle.vortex_value.specs.Equality.{EqualContents};
 ghost use Rattle.vortex_value.specs.RawTree.{is_absent};
 
 use crate::copies;
@@ -24,7 +25,7 @@ pub struct Scalar {
 }
 
 impl Scalar {
-    ghost use Rattle.vortex_value.specs.Scalars.{IsMadeOf, IsValid, scalar_type, scalar_raw};
+    ghost use Rattle.vortex_value.specs.Scalars.{IsMadeOf, IsValid, scalar_content, scalar_type, scalar_raw};
 
     /// The type.
     ///
@@ -79,6 +80,16 @@ impl Scalar {
         ensures { result ≡ is_absent (scalar_raw self.now) }
     {
         self.value.is_none()
+    }
+
+    /// Whether the types are the same up to nullability and the contents equal: what `==` says.
+    ///
+    /// Ports `Scalar::eq_ignore_nullability`.
+    pub fn eq_ignore_nullability(&self, other: &Scalar) -> bool
+        ensures { IsTrue result ↔ (Same (scalar_type self.now) (scalar_type other.now)
+            × EqualContents (scalar_content self.now) (scalar_content other.now)) }
+    {
+        self == other
     }
 
     /// A copy: the exact type and the raw value, integer kinds included.

@@ -1,0 +1,32 @@
+-- What is left to feed, and that each call goes down the value.
+use Rattle.std.proofs.Common.{◌≡◌, ℕ, ◌+◌, ◌*◌, fold, drop, Option, Some, None, Bor}
+use Rattle.vortex_value.specs.Content.{contents}
+use Rattle.vortex_value.specs.Hashing.{contents_feed, counted_feed}
+use Rattle.vortex_value.specs.RawOf.{raws_of}
+use Rattle.vortex_value.specs.declared.values.ScalarValue.{ScalarValue, size-ScalarValue}
+use Rattle.vortex_value.proofs.hashing.+feed.Given as goal
+
+-- the rest of the parts, fed from here, gives what all give from the start
+abbrev pub invariant-feed_tuple-loop-item : goal.invariant-feed_tuple-loop-item
+invariant-feed_tuple-loop-item g l =
+    fold g.H.Hasher.write l.state (contents_feed (contents (raws_of (drop l.item-index l.items)))) ≡ fold g.H.Hasher.write l.fn.state (counted_feed (contents (raws_of l.items)))
+
+-- the size of a borrowed value, if there is one
+abbrev pub lent_size : Option (Bor ScalarValue) → ℕ
+lent_size None = 0
+lent_size (Some v) = size-ScalarValue v.now
+
+abbrev pub decreases-feed : goal.decreases-feed
+decreases-feed g l = 3 * lent_size l.value + 1
+
+abbrev pub decreases-feed_value : goal.decreases-feed_value
+decreases-feed_value g l = 3 * goal.size-feed_value g l
+
+abbrev pub decreases-feed_tuple : goal.decreases-feed_tuple
+decreases-feed_tuple g l = 3 * goal.size-feed_tuple g l + 2
+
+abbrev pub decreases-feed_union : goal.decreases-feed_union
+decreases-feed_union g l = 3 * goal.size-feed_union g l + 1
+
+abbrev pub decreases-feed_scalar : goal.decreases-feed_scalar
+decreases-feed_scalar g l = 3 * goal.size-feed_scalar g l + 1

@@ -1,0 +1,30 @@
+-- What the rest of two tuples says, and that each call goes down the first value.
+use Rattle.std.proofs.Common.{◌≡◌, ℕ, ◌+◌, ◌*◌, length, Option, Some, None, Bor}
+use Rattle.vortex_value.specs.Content.{contents}
+use Rattle.vortex_value.specs.Order.{orders}
+use Rattle.vortex_value.specs.RawOf.{raws_of}
+use Rattle.vortex_value.specs.declared.values.ScalarValue.{ScalarValue, size-ScalarValue}
+use Rattle.vortex_value.proofs.ordering.+order.Given as goal
+
+-- the rests decide, and as many places of both are behind
+abbrev pub invariant-compare_tuples-loop-x : goal.invariant-compare_tuples-loop-x
+invariant-compare_tuples-loop-x l =
+    (orders (contents (raws_of l.x-iterator.a.rest.now)) (contents (raws_of l.x-iterator.b.rest.now)) ≡ orders (contents (raws_of l.a)) (contents (raws_of l.b)))
+    × (length l.x-iterator.a.rest.now + length l.b ≡ length l.x-iterator.b.rest.now + length l.a)
+
+-- the size of a borrowed value, if there is one
+abbrev pub lent_size : Option (Bor ScalarValue) → ℕ
+lent_size None = 0
+lent_size (Some v) = size-ScalarValue v.now
+
+abbrev pub decreases-compare : goal.decreases-compare
+decreases-compare l = 3 * lent_size l.a + 1
+
+abbrev pub decreases-compare_values : goal.decreases-compare_values
+decreases-compare_values l = 3 * goal.size-compare_values l
+
+abbrev pub decreases-compare_tuples : goal.decreases-compare_tuples
+decreases-compare_tuples l = 3 * goal.size-compare_tuples l + 2
+
+abbrev pub decreases-compare_unions : goal.decreases-compare_unions
+decreases-compare_unions l = 3 * goal.size-compare_unions l + 1

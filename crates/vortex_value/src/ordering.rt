@@ -1,0 +1,87 @@
+//! The order of raw values and of scalars: nulls first, contents by kind, variants never.
+
+ghost use Rattle.std.specs.Prelude.{◌≡◌};
+ghost use Rattle.std.specs.Option.{option_copied};
+ghost use Rattle.vortex_value.specs.Content.{content, contents};
+ghost use Rattle.vortex_value.specs.Order.{order, orders};
+ghost use Rattle.vortex_value.specs.RawOf.{raw_of, raws_of, union_tree, value_tree};
+ghost use Rattle.vortex_value.specs.Scalars.{scalar_order};
+
+use crate::refs::ScalarRef;
+use crate::scalars::Scalar;
+use crate::unions::UnionValue;
+use crate::values::ScalarValue;
+use std::cmp::Ordering;
+
+/// The order of two optional raw values: a null is below all others.
+#[cycle(order)]
+#[tactic(auto, using(crate::proofs::OrderSteps::shown))]
+pub(crate) fn compare(a: Option<&ScalarValue>, b: Option<&ScalarValue>) -> Option<Ordering>
+    ensures { result ≡ order
+        (content (raw_of (option_copied a.entry))) (content (raw_of (option_copied b.entry))) }
+{
+    match (a, b) {
+        (Some(a), Some(b)) => compare_values(a, b),
+        (None, Some(_)) => Some(Ordering::Less),
+        (Some(_), None) => Some(Ordering::Greater),
+        (None, None) => Some(Ordering::Equal),
+    }
+}
+
+/// The order of two raw values; there is none of variants, and none of two kinds.
+#[cycle(order)]
+#[tactic(auto, using(crate::proofs::OrderSteps::shown))]
+fn compare_values(a: &ScalarValue, b: &ScalarValue) -> Option<Ordering>
+    ensures { result ≡ order (content (value_tree a.now)) (content (value_tree b.now)) }
+{
+    match (a, b) {
+        (ScalarValue::Bool(x), ScalarValue::Bool(y)) => Some(x.cmp(y)),
+        (ScalarValue::Primitive(x), ScalarValue::Primitive(y)) => x.partial_cmp(y),
+        (ScalarValue::Utf8(x), ScalarValue::Utf8(y)) => Some(x.cmp(y)),
+        (ScalarValue::Binary(x), ScalarValue::Binary(y)) => Some(x.cmp(y)),
+        (ScalarValue::Tuple(xs), ScalarValue::Tuple(ys)) => compare_tuples(xs, ys),
+        (ScalarValue::Union(x), ScalarValue::Union(y)) => compare_unions(x, y),
+        _ => None,
+    }
+}
+
+/// The order at the first place that is not equal on both sides, and else of the lengths.
+#[cycle(order)]
+#[tactic(auto, using(crate::proofs::OrderSteps::shown))]
+fn compare_tuples(a: &[Option<ScalarValue>], b: &[Option<ScalarValue>]) -> Option<Ordering>
+    ensures { result ≡ orders (contents (raws_of a.now)) (contents (raws_of b.now)) }
+{
+    for (x, y) in a.iter().zip(b) {
+        let place = compare(x.as_ref(), y.as_ref());
+        if place != Some(Ordering::Equal) {
+            return place;
+        }
+    }
+    Some(a.len().cmp(&b.len()))
+}
+
+/// The order of the children, where the ids are one.
+#[cycle(order)]
+#[tactic(auto, using(crate::proofs::OrderSteps::shown))]
+fn compare_unions(a: &UnionValue, b: &UnionValue) -> Option<Ordering>
+    ensures { result ≡ order (content (union_tree a.now)) (content (union_tree b.now)) }
+{
+    if a.type_id == b.type_id {
+        compare(a.child.as_deref(), b.child.as_deref())
+    } else {
+        None
+    }
+}
+
+impl Scalar {
+    /// The order of the contents, where the types are the same up to nullability, and else none. A
+    /// null is below all others, and two variants have no order. Takes no memory.
+    ///
+    /// Ports the `PartialOrd` of `Scalar`. A plain call, since a variant equals itself and has no
+    /// order with itself.
+    pub fn partial_cmp(&self, other: &Scalar) -> Option<Ordering>
+        ensures { result ≡ scalar_order self.now other.now }
+    {
+        ScalarRef::of(self).partial_cmp(&ScalarRef::of(other))
+    }
+}

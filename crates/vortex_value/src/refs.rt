@@ -1,0 +1,158 @@
+//! Borrowed scalars: a type and an optional raw value, both lent by what holds them.
+
+ghost use Rattle.std.specs.Prelude.{◌≡◌, ◌≢◌, ◌↔◌, ◌&&◌, Err, IfErr, IfOk, IsOk};
+ghost use Rattle.std.specs.Cmp.{partial_equiv_from_equiv};
+ghost use Rattle.std.specs.Hash.{and-Alike, on_Alike};
+ghost use Rattle.std.specs.Option.{option_copied};
+ghost use Rattle.std.proofs.lemmas.Cmp.{on_equiv};
+ghost use Rattle.vortex_dtype.specs.TypeOf.{type_of};
+ghost use Rattle.vortex_dtype.specs.TypeTree.{IsFlat};
+ghost use Rattle.vortex_value.specs.Breaches.{Refuses, breaches};
+ghost use Rattle.vortex_value.specs.Content.{typed};
+ghost use Rattle.vortex_value.specs.Equality.{equal, same_type};
+ghost use Rattle.vortex_value.specs.EqualityLaws.{equal-equiv};
+ghost use Rattle.vortex_value.specs.HashLaws.{content_feed-Alike, type_feed-Alike};
+ghost use Rattle.vortex_value.specs.Hashing.{typed_feed};
+ghost use Rattle.vortex_value.specs.RawOf.{raw_of};
+ghost use Rattle.vortex_value.specs.RawTree.{is_absent};
+ghost use Rattle.vortex_value.specs.Refs.{IsRefOf, IsValidRef, ref_content, ref_order, ref_raw, ref_type};
+ghost use Rattle.vortex_value.specs.Scalars.{IsMadeOf, scalar_raw, scalar_type};
+ghost use Rattle.vortex_value.specs.Validity.{Valid};
+
+use crate::equality::same_types;
+use crate::hashing::feed;
+use crate::ordering::compare;
+use crate::scalars::Scalar;
+use crate::values::ScalarValue;
+use std::alloc::Global;
+use std::cmp::Ordering;
+use std::hash::{Hash, Hasher};
+use vortex_dtype::{DType, VortexError};
+
+/// A type and an optional raw value, both borrowed: none is the null. Of this port alone: where
+/// upstream clones a part of a scalar, it is lent as one.
+#[derive(Clone, Copy, Debug)]
+pub struct ScalarRef<'a> {
+    dtype: &'a DType,
+    value: Option<&'a ScalarValue>,
+}
+
+impl<'a> ScalarRef<'a> {
+    /// The type and the value of the scalar, borrowed. Takes no memory.
+    pub fn of(scalar: &'a Scalar) -> ScalarRef<'a>
+        ensures { IsRefOf (scalar_type scalar.now) (scalar_raw scalar.now) result }
+    {
+        ScalarRef {
+            dtype: &scalar.dtype,
+            value: scalar.value.as_ref(),
+        }
+    }
+
+    /// The type and the raw value, or its absence, borrowed as a scalar.
+    ///
+    /// `Invalid` where the raw value is not valid for the type, with the first breach in reading
+    /// order and the path to it; `OutOfMemory` comes in its place where the path has steps and there
+    /// is no memory for them. A valid value takes none, nor does any value of a type whose values
+    /// take none.
+    pub fn try_new(
+        alloc: Global,
+        dtype: &'a DType,
+        value: Option<&'a ScalarValue>,
+    ) -> Result<ScalarRef<'a>, VortexError>
+        ensures ok { IsOk result ↔ Valid (type_of dtype.now) (raw_of (option_copied value.entry)) }
+        ensures made { IfOk result
+            (IsRefOf (type_of dtype.now) (raw_of (option_copied value.entry))) }
+        ensures valid { IfOk result IsValidRef }
+        ensures refused { IfErr result
+            (λ e. Refuses e (breaches (type_of dtype.now) (raw_of (option_copied value.entry)))) }
+        ensures flat { IsFlat (type_of dtype.now) → result ≢ Err VortexError.OutOfMemory }
+    {
+        Scalar::validate(alloc, dtype, value)?;
+        Ok(ScalarRef { dtype, value })
+    }
+
+    /// The type.
+    pub fn dtype(&self) -> &'a DType
+        ensures { type_of result.now ≡ ref_type self.now }
+    {
+        self.dtype
+    }
+
+    /// The raw value; none for a null.
+    pub fn value(&self) -> Option<&'a ScalarValue>
+        ensures { raw_of (option_copied result) ≡ ref_raw self.now }
+    {
+        self.value
+    }
+
+    /// Whether it is null. A union's inner null and a variant's null are not the null.
+    pub fn is_null(&self) -> bool
+        ensures { result ≡ is_absent (ref_raw self.now) }
+    {
+        self.value.is_none()
+    }
+
+    /// The order of the contents, where the types are the same up to nullability, and else none. A
+    /// null is below all others, and two variants have no order. Takes no memory.
+    pub fn partial_cmp(&self, other: &ScalarRef<'_>) -> Option<Ordering>
+        ensures { result ≡ ref_order self.now other.now }
+    {
+        if same_types(self.dtype, other.dtype) {
+            compare(self.value, other.value)
+        } else {
+            None
+        }
+    }
+
+    /// A scalar of its own: the exact type and the raw value, integer kinds included.
+    ///
+    /// `OutOfMemory` is its only refusal, and not for a valid one of a type whose values take no
+    /// memory.
+    pub fn to_scalar(&self, alloc: Global) -> Result<Scalar, VortexError>
+        ensures copied { IfOk result (IsMadeOf (ref_type self.now) (ref_raw self.now)) }
+        ensures refused { IfErr result (λ e. e ≡ VortexError.OutOfMemory) }
+        ensures flat { IsFlat (ref_type self.now) → IsValidRef self.now → IsOk result }
+    {
+        let dtype = self.dtype.clone(alloc)?;
+        let value = match self.value {
+            Some(value) => Some(value.clone(alloc)?),
+            None => None,
+        };
+        Ok(Scalar { dtype, value })
+    }
+}
+
+impl PartialEq for ScalarRef<'_> {
+    ghost eq = { λ a b.
+        same_type (ref_type a) (ref_type b) && equal (ref_content a) (ref_content b) };
+
+    ghost laws = { partial_equiv_from_equiv
+        (on_equiv (λ x. typed (ref_type x) (ref_content x)) equal-equiv) };
+
+    fn eq(&self, other: &ScalarRef<'_>) -> bool {
+        if !same_types(self.dtype, other.dtype) {
+            return false;
+        }
+        match (self.value, other.value) {
+            (Some(x), Some(y)) => x == y,
+            (None, None) => true,
+            _ => false,
+        }
+    }
+}
+
+impl Eq for ScalarRef<'_> {
+    ghost laws = { on_equiv (λ x. typed (ref_type x) (ref_content x)) equal-equiv };
+}
+
+impl Hash for ScalarRef<'_> {
+    ghost hash_input = { λ x. typed_feed (ref_type x) (ref_content x) };
+
+    ghost respects_eq = { (and-Alike (on_Alike ref_type type_feed-Alike)
+        (on_Alike ref_content content_feed-Alike)).fed };
+
+    fn hash<H: Hasher>(&self, state: &mut H) {
+        self.dtype.hash_ignore_nullability(state);
+        feed(self.value, state);
+    }
+}
