@@ -7,7 +7,6 @@ pub mod OrderAgrees
 pub mod OrderLaws
 pub mod SizeLaws
 pub mod StructMakers
-pub mod TypeSteps
 pub mod Uniqueness
 pub mod ValidSteps
 pub mod ValidityLaws
