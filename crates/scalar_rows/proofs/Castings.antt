@@ -1,12 +1,11 @@
 -- What a cast of an integer says of the target's range.
-use Rattle.std.proofs.Common.{◌≡◌, ℤ, true, false, refl, sym, ap, ◌∙◌, subst, Option, None, Some, IfSome, IfNone, rules}
+use Rattle.std.proofs.Common.{◌≡◌, ℤ, true, false, refl, sym, ap, ◌∙◌, subst, Option, None, Some, IfSome, IfNone}
+use Rattle.vortex_dtype.specs.TypeLevels.{type_of-Primitive}
 use Rattle.vortex_dtype.specs.TypeOf.{type_of}
 use Rattle.vortex_dtype.specs.TypeTree.{TypeTree, integer_type}
 use Rattle.vortex_dtype.specs.declared.kinds.Nullability.TheVariants.{NonNullable, Nullable}
-use Rattle.vortex_dtype.specs.declared.kinds.Nullability.{Nullability}
 use Rattle.vortex_dtype.specs.declared.kinds.PType.{PType}
 use Rattle.vortex_dtype.specs.declared.types.DType.TheVariants.{Primitive}
-use Rattle.vortex_dtype.specs.declared.types.DType.TheFolds.{the_lemmas}
 use Rattle.vortex_pvalue.specs.Kinds.{InRange, in_range}
 use Rattle.vortex_pvalue.specs.RangeLaws.{in_range_false, in_range_true}
 use Rattle.vortex_pvalue.specs.Whole.{kind_of, whole_of}
@@ -22,21 +21,17 @@ use Rattle.vortex_value.specs.declared.scalars.Scalar.{Scalar}
 can_cast : (own kind : PType) (z : ℤ) → InRange kind z → CanCast (integer_type own NonNullable) (integer_type kind NonNullable) (whole z)
 can_cast own kind z inside = (integers tt tt, record { value = raw_integer kind z; valid = (refl, inside); same = refl })
 
--- the type of the target
-target_type : (kind : PType) (n : Nullability) → type_of (Primitive kind n) ≡ integer_type kind n
-target_type kind n = search (rules, the_lemmas)
-
 -- the types of the source and of the target are integer types
 pub integer_source : (source : Scalar) (own : PType) (z : ℤ) → IsMadeOf (integer_type own NonNullable) (raw_integer own z) source → IsNullOrInteger (scalar_type source)
 integer_source source own z made = rw made.typed tt
 
 pub integer_target : (kind : PType) → IsNullOrInteger (type_of (Primitive kind NonNullable))
-integer_target kind = let P : TypeTree → Type 0 = λ t. IsNullOrInteger t in subst P (sym (target_type kind NonNullable)) tt
+integer_target kind = let P : TypeTree → Type 0 = λ t. IsNullOrInteger t in subst P (sym (type_of-Primitive kind NonNullable)) tt
 
 -- a number that cannot be cast to the kind is not in its range
 pub refused : (source : Scalar) (own kind : PType) (z : ℤ) → IsMadeOf (integer_type own NonNullable) (raw_integer own z) source → ¬ (CanCast (scalar_type source) (type_of (Primitive kind NonNullable)) (scalar_content source)) → in_range kind z ≡ false
 refused source own kind z made out =
-    in_range_false kind z (λ inside. out (rw (target_type kind NonNullable, made.typed, made.value) (can_cast own kind z inside)))
+    in_range_false kind z (λ inside. out (rw (type_of-Primitive kind NonNullable, made.typed, made.value) (can_cast own kind z inside)))
 
 whole_same : {y z : ℤ} → whole y ≡ whole z → y ≡ z
 whole_same e = cc
@@ -73,7 +68,7 @@ given source y own kind z made one =
     let source_same : scalar_content source ≡ whole z = ap (λ v. content v) made.value in
     let same : content (scalar_raw y) ≡ whole z = one.same ∙ source_same in
     let P : TypeTree → Type 0 = λ t. Valid t (scalar_raw y) in
-    let valid : Valid (integer_type kind NonNullable) (scalar_raw y) = subst P (one.typed ∙ target_type kind NonNullable) one.valid in
+    let valid : Valid (integer_type kind NonNullable) (scalar_raw y) = subst P (one.typed ∙ type_of-Primitive kind NonNullable) one.valid in
     let at = number_at kind z (scalar_raw y) valid same in
     record { number = at.0; inside = in_range_true kind z at.1 }
 

@@ -25,6 +25,21 @@ bytes_feed = fed.slice fed.u8
 abbrev pub names_feed : List (List ℕ) → HashWrites
 names_feed = fed.slice bytes_feed
 
+-- a number for each variant of a type
+abbrev pub variant_number : TypeTree → ℕ
+variant_number null_type = 0
+variant_number (bool_type n) = 1
+variant_number (integer_type k n) = 2
+variant_number (utf8_type n) = 3
+variant_number (binary_type n) = 4
+variant_number (list_type e n) = 5
+variant_number (fixed_size_list_type e size n) = 6
+variant_number (map_type k v sorted n) = 7
+variant_number (struct_type names ts n) = 8
+variant_number (union_type names ts ids n) = 9
+variant_number (variant_type n) = 10
+variant_number (extension_type id metadata t) = 11
+
 -- a type feeds the number of its variant, and then its parts in order
 abbrev mutual
   pub tree_feed : TypeTree → HashWrites

@@ -1,9 +1,34 @@
--- The laws of types: equality and sameness are equivalences, and a type made nullable is the same type.
-use Rattle.std.specs.Prelude.{◌≡◌, ◌↔◌, ℕ, ◌==◌, Bool, false, List, Some, position, slice_get, IsTrue}
-use Rattle.vortex_dtype.specs.TypeTree.{TypeTree, Same, IsNullable, as_nullable, erase}
+-- The laws of types: the tree of each variant, equality and sameness are equivalences, and a type made nullable is the same type.
+use Rattle.std.specs.Prelude.{◌≡◌, ◌↔◌, ℕ, ◌==◌, Bool, false, List, Some, position, slice_get, IsTrue, Box}
+use Rattle.std.specs.Global.{Global}
+use Rattle.vortex_dtype.specs.declared.kinds.Nullability.{Nullability}
+use Rattle.vortex_dtype.specs.declared.kinds.PType.{PType}
+use Rattle.vortex_dtype.specs.declared.types.DType.{DType}
+use Rattle.vortex_dtype.specs.declared.types.DType.TheVariants as types
+use Rattle.vortex_dtype.specs.declared.types.ExtDType.{ExtDType}
+use Rattle.vortex_dtype.specs.declared.types.MapDType.{MapDType}
+use Rattle.vortex_dtype.specs.declared.types.StructFields.{StructFields}
+use Rattle.vortex_dtype.specs.declared.types.UnionVariants.{UnionVariants}
+use Rattle.vortex_dtype.specs.TypeTree.{TypeTree, null_type, bool_type, integer_type, utf8_type, binary_type, list_type, fixed_size_list_type, variant_type, Same, IsNullable, as_nullable, erase}
+use Rattle.vortex_dtype.specs.TypeOf.{type_of, ext_of, map_of, fields_of, variants_of, map_type_of, struct_type_of, union_type_of, extension_type_of}
 use Rattle.vortex_dtype.specs.TypeEquality.{tree_eq}
 use Rattle.vortex_dtype.specs.Feeds.{tree_feed}
 use Rattle.vortex_dtype.specs.Refusals.{repeats}
+
+-- the tree of a declared type, variant by variant
+pub record TreesByVariant : Type 0 where
+  pub null : type_of types.Null ≡ null_type
+  pub bool : (n : Nullability) → type_of (types.Bool n) ≡ bool_type n
+  pub primitive : (k : PType) (n : Nullability) → type_of (types.Primitive k n) ≡ integer_type k n
+  pub utf8 : (n : Nullability) → type_of (types.Utf8 n) ≡ utf8_type n
+  pub binary : (n : Nullability) → type_of (types.Binary n) ≡ binary_type n
+  pub list : (e : Box DType Global) (n : Nullability) → type_of (types.List e n) ≡ list_type (type_of e.value) n
+  pub fixed_size_list : (e : Box DType Global) (size : ℕ) (n : Nullability) → type_of (types.FixedSizeList e size n) ≡ fixed_size_list_type (type_of e.value) size n
+  pub map : (m : MapDType) (n : Nullability) → type_of (types.Map m n) ≡ map_type_of (map_of m) n
+  pub struct : (f : StructFields) (n : Nullability) → type_of (types.Struct f n) ≡ struct_type_of (fields_of f) n
+  pub union : (v : UnionVariants) (n : Nullability) → type_of (types.Union v n) ≡ union_type_of (variants_of v) n
+  pub variant : (n : Nullability) → type_of (types.Variant n) ≡ variant_type n
+  pub extension : (e : ExtDType) → type_of (types.Extension e) ≡ extension_type_of (ext_of e)
 
 -- the test of equality, at which `==` is proved, passes exactly where the trees are one
 abbrev pub EqualityDecides : Type 0

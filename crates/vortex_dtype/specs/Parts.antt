@@ -1,8 +1,8 @@
 -- Looking into types and their parts.
 use Rattle.std.specs.Prelude.{◌≡◌, ℕ, List, [], ◌∷◌, map, Bool, true, false, Option, Some, None, position, slice_get, option_and_then}
+use Rattle.std.specs.Str.{bytes_eq}
 use Rattle.vortex_dtype.specs.TypeTree.{TypeTree, TypeTrees, utf8_type, binary_type, list_type, fixed_size_list_type, map_type, struct_type, union_type, extension_type, no_types, type_then, as_nullable}
 use Rattle.vortex_dtype.specs.TypeOf.{ExtensionParts, MapParts, FieldParts, VariantParts}
-use Rattle.vortex_dtype.specs.TypeEquality.{bytes_eq}
 
 -- the place of the first field with the name
 abbrev pub field_index : FieldParts → List ℕ → Option ℕ

@@ -19,8 +19,8 @@ RefusesOrNoMemory None result = IfErr result (λ e. e ≡ OutOfMemory)
 RefusesOrNoMemory (Some cause) result = IsErrAnd result (λ e. e ≡ cause)
 
 -- why this key makes no map type, if it makes none: it takes nulls
-abbrev pub key_fault : TypeTree → Option VortexError
-key_fault key = if is_nullable key then Some (BadType NullableKey) else None
+abbrev pub key_cause : TypeTree → Option VortexError
+key_cause key = if is_nullable key then Some (BadType NullableKey) else None
 
 -- some id stands at two places
 abbrev pub repeats : List ℕ → Bool
@@ -28,8 +28,8 @@ repeats [] = false
 repeats (x ∷ xs) = list_any (λ y. y == x) xs || repeats xs
 
 -- why so many names and types and these ids make no variants, if they make none: lengths first, then ids
-abbrev pub variants_fault : ℕ → ℕ → List ℕ → Option VortexError
-variants_fault names types ids =
+abbrev pub variants_cause : ℕ → ℕ → List ℕ → Option VortexError
+variants_cause names types ids =
     if not ((names == types) && (length ids == types)) then Some (BadType LengthsDiffer)
     else (if repeats ids then Some (BadType RepeatedTypeId) else None)
 
@@ -38,5 +38,5 @@ abbrev pub misses_a_name : FieldParts → List (List ℕ) → Bool
 misses_a_name f names = list_any (λ name. is_none (type_named f name)) names
 
 -- why these names select no fields, if they select none: some name is the name of no field
-abbrev pub project_fault : FieldParts → List (List ℕ) → Option VortexError
-project_fault f names = if misses_a_name f names then Some NoField else None
+abbrev pub project_cause : FieldParts → List (List ℕ) → Option VortexError
+project_cause f names = if misses_a_name f names then Some NoField else None

@@ -1,7 +1,8 @@
 -- Which types are equal, as a test.
-use Rattle.std.specs.Prelude.{ℕ, ◌&&◌, ◌==◌, List, Bool, true, false, nat_eq}
+use Rattle.std.specs.Prelude.{ℕ, ◌&&◌, ◌==◌, List, Bool, true, false}
 use Rattle.std.specs.Bool.{beq}
 use Rattle.std.specs.Cmp.Lexicographic.{pointwise}
+use Rattle.std.specs.Str.{bytes_eq}
 use Rattle.vortex_dtype.specs.Kinds.{same_kind}
 use Rattle.vortex_dtype.specs.TypeTree.{TypeTree, TypeTrees, null_type, bool_type, integer_type, utf8_type, binary_type, list_type, fixed_size_list_type, map_type, struct_type, union_type, variant_type, extension_type, no_types, type_then, trim, trim_all}
 use Rattle.vortex_dtype.specs.TypeOf.{ExtensionParts, MapParts, FieldParts, VariantParts, types_from}
@@ -16,10 +17,6 @@ nullability_code Nullable = 1
 -- the two say the same of nulls
 abbrev pub nullability_eq : Nullability → Nullability → Bool
 nullability_eq m n = nullability_code m == nullability_code n
-
--- the two have the same bytes
-abbrev pub bytes_eq : List ℕ → List ℕ → Bool
-bytes_eq = pointwise nat_eq
 
 -- the two have the same names in the same order
 abbrev pub names_eq : List (List ℕ) → List (List ℕ) → Bool

@@ -1,19 +1,23 @@
--- The tests of equality decide equality of trees, and with nullability nothing is erased.
-use Rattle.std.proofs.Common.{◌≡◌, ℕ, List, [], ◌∷◌, Bool, true, true≢false, refl, sym, ap, ◌∙◌, subst}
+-- The tests of equality decide equality of trees, and with nullability nothing is erased. Lemmas, which implementations of traits
+-- and crates above cite.
+use Rattle.std.proofs.Common.{◌≡◌, ℕ, List, [], ◌∷◌, Bool, true, true≢false, Option, Some, refl, sym, ap, ◌∙◌, subst}
 use Rattle.std.specs.Bool.{Decides}
 use Rattle.std.specs.Cmp.{IsEquivalence, first_so, second_so, booleans_Decides, unsigned_Decides}
+use Rattle.std.specs.Str.{bytes_eq}
+use Rattle.std.proofs.Math.Bool.{and-true}
 use Rattle.std.proofs.lemmas.Bool.{and_from}
 use Rattle.std.proofs.lemmas.Bool.Decides.{same_from_decides, Decides-like}
-use Rattle.std.proofs.lemmas.Slice.Eq.{slice_eq-Decides}
+use Rattle.std.proofs.lemmas.Option.{same_Some}
+use Rattle.std.proofs.lemmas.Slice.Eq.{bytes_eq-Decides, slice_eq-Decides}
 use Rattle.vortex_dtype.specs.declared.kinds.Nullability.{Nullability}
 use Rattle.vortex_dtype.specs.declared.kinds.Nullability.TheVariants.{NonNullable, Nullable}
 use Rattle.vortex_dtype.specs.declared.kinds.PType.{PType}
 use Rattle.vortex_dtype.specs.declared.kinds.PType.TheVariants.{U8, U16, U32, U64, I8, I16, I32, I64}
-use Rattle.vortex_dtype.specs.TypeTree.{TypeTree, TypeTrees, null_type, bool_type, integer_type, utf8_type, binary_type, list_type, fixed_size_list_type, map_type, struct_type, union_type, variant_type, extension_type, no_types, type_then, trim, trim_all}
-use Rattle.vortex_dtype.specs.TypeEquality.{nullability_eq, bytes_eq, names_eq, tree_eq, trees_eq, map_eq, fields_eq, variants_eq, ext_eq}
+use Rattle.vortex_dtype.specs.TypeTree.{TypeTree, TypeTrees, null_type, bool_type, integer_type, utf8_type, binary_type, list_type, fixed_size_list_type, map_type, struct_type, union_type, variant_type, extension_type, no_types, type_then, trim, trim_all, storage, is_nullable}
+use Rattle.vortex_dtype.specs.TypeEquality.{nullability_eq, names_eq, tree_eq, trees_eq, map_eq, fields_eq, variants_eq, ext_eq}
 use Rattle.vortex_dtype.specs.Kinds.{kind_index, same_kind}
-use Rattle.vortex_dtype.specs.TypeOf.{types_from, MapParts, FieldParts, VariantParts, ExtensionParts}
-use Rattle.vortex_dtype.specs.Parts.{types_in}
+use Rattle.vortex_dtype.specs.TypeOf.{types_from, MapParts, FieldParts, VariantParts, ExtensionParts, map_type_of, struct_type_of, union_type_of, extension_type_of}
+use Rattle.vortex_dtype.specs.Parts.{types_in, map_in, fields_in, variants_in, extension_in}
 
 nullability_eq-same : (m n : Nullability) → nullability_eq m n ≡ true → m ≡ n
 nullability_eq-same NonNullable NonNullable e = refl
@@ -38,9 +42,6 @@ same_kind-same _ _ e = absurd (true≢false (sym e))
 
 same_kind-refl : (k : PType) → same_kind k k ≡ true
 same_kind-refl k = (unsigned_Decides (kind_index k) (kind_index k)).1 refl
-
-bytes_eq-Decides : (xs ys : List ℕ) → Decides (bytes_eq xs ys) (xs ≡ ys)
-bytes_eq-Decides xs ys = slice_eq-Decides unsigned_Decides xs ys (bytes_eq xs ys) refl
 
 bytes_eq-refl : (xs : List ℕ) → bytes_eq xs xs ≡ true
 bytes_eq-refl xs = (bytes_eq-Decides xs xs).1 refl
@@ -146,6 +147,11 @@ mutual
   trim_all-exact no_types = refl
   trim_all-exact (type_then t ts) = let a = trim-exact t in let b = trim_all-exact ts in cc
 
+-- below its extensions a type takes a null where it does itself
+pub is_nullable-storage : (t : TypeTree) → is_nullable (storage t) ≡ is_nullable t
+is_nullable-storage (extension_type id metadata t) = is_nullable-storage t
+is_nullable-storage _ = refl
+
 -- a test that decides `≡` is an equivalence
 pub equiv-from_Decides : {K : Type 0} (E : K → K → Bool) → ((x y : K) → Decides (E x y) (x ≡ y)) → IsEquivalence E
 equiv-from_Decides E d = record {
@@ -162,66 +168,32 @@ pub types_in-types_from : (ts : List TypeTree) → types_in (types_from ts) ≡ 
 types_in-types_from [] = refl
 types_in-types_from (t ∷ ts) = ap (λ us. t ∷ us) (types_in-types_from ts)
 
-types_from-inj : (ss ts : List TypeTree) → types_from ss ≡ types_from ts → ss ≡ ts
-types_from-inj ss ts e = sym (types_in-types_from ss) ∙ ap types_in e ∙ types_in-types_from ts
+-- a struct or a union type holds what it was made of
+pub fields_in-struct_type_of : (f : FieldParts) (n : Nullability) → fields_in (struct_type_of f n) ≡ Some f
+fields_in-struct_type_of f n = ap (λ ts. Some (record { names = f.names; types = ts })) (types_in-types_from f.types)
 
--- trees that are one once nothing is erased
-exact_trees : (s t : TypeTree) → tree_eq (trim true s) (trim true t) ≡ true → s ≡ t
-exact_trees s t e = sym (trim-exact s) ∙ tree_eq-same _ _ e ∙ trim-exact t
+pub variants_in-union_type_of : (v : VariantParts) (n : Nullability) → variants_in (union_type_of v n) ≡ Some v
+variants_in-union_type_of v n = ap (λ ts. Some (record { names = v.names; types = ts; type_ids = v.type_ids })) (types_in-types_from v.types)
 
-exact_lists : (ss ts : List TypeTree) → trees_eq (trim_all true (types_from ss)) (trim_all true (types_from ts)) ≡ true → ss ≡ ts
-exact_lists ss ts e = types_from-inj ss ts (sym (trim_all-exact (types_from ss)) ∙ trees_eq-same _ _ e ∙ trim_all-exact (types_from ts))
-
-map_eq-same : (a b : MapParts) → map_eq true a b ≡ true → a ≡ b
-map_eq-same a b e =
-    let f = first_so _ _ e in
-    let k : a.key ≡ b.key = exact_trees a.key b.key (first_so _ _ f) in
-    let v : a.value ≡ b.value = exact_trees a.value b.value (second_so _ _ f) in
-    let s : a.keys_sorted ≡ b.keys_sorted = (booleans_Decides a.keys_sorted b.keys_sorted).0 (second_so _ _ e) in
-    λ i. record { key = k i; value = v i; keys_sorted = s i }
-
-map_eq-refl : (m : MapParts) → map_eq true m m ≡ true
-map_eq-refl m = and_from _ _ (and_from _ _ (tree_eq-refl (trim true m.key)) (tree_eq-refl (trim true m.value))) ((booleans_Decides m.keys_sorted m.keys_sorted).1 refl)
+-- parts that a type holds pass a test exactly where they are one, if it is the test of the types that they make
+parts_Decides : {P : Type 0} (made : P → TypeTree) (held : TypeTree → Option P) (test : P → P → Bool)
+    → ((p : P) → held (made p) ≡ Some p)
+    → ((p q : P) → test p q ≡ tree_eq (trim true (made p)) (trim true (made q)))
+    → (p q : P) → Decides (test p q) (p ≡ q)
+parts_Decides made held test back same p q =
+    let exact : test p q ≡ tree_eq (made p) (made q) = rw (← trim-exact (made p), ← trim-exact (made q)) (same p q) in (
+      λ e. same_Some p q (sym (back p) ∙ ap held (tree_eq-same (made p) (made q) (sym exact ∙ e)) ∙ back q),
+      λ e. exact ∙ (tree_eq-Decides (made p) (made q)).1 (ap made e),
+    )
 
 pub map_eq-Decides : (a b : MapParts) → Decides (map_eq true a b) (a ≡ b)
-map_eq-Decides a b = (map_eq-same a b, λ e. subst (λ c. map_eq true a c ≡ true) e (map_eq-refl a))
+map_eq-Decides = parts_Decides (λ m. map_type_of m NonNullable) map_in (map_eq true) (λ m. refl) (λ a b. sym (and-true (map_eq true a b)))
 
-fields_eq-same : (f g : FieldParts) → fields_eq true f g ≡ true → f ≡ g
-fields_eq-same f g e =
-    let a : f.names ≡ g.names = (names_eq-Decides f.names g.names).0 (first_so _ _ e) in
-    let b : f.types ≡ g.types = exact_lists f.types g.types (second_so _ _ e) in
-    λ i. record { names = a i; types = b i }
+pub fields_eq-Decides : (a b : FieldParts) → Decides (fields_eq true a b) (a ≡ b)
+fields_eq-Decides = parts_Decides (λ f. struct_type_of f NonNullable) fields_in (fields_eq true) (λ f. fields_in-struct_type_of f NonNullable) (λ a b. sym (and-true (fields_eq true a b)))
 
-fields_eq-refl : (f : FieldParts) → fields_eq true f f ≡ true
-fields_eq-refl f = and_from _ _ (names_eq-refl f.names) (trees_eq-refl (trim_all true (types_from f.types)))
+pub variants_eq-Decides : (a b : VariantParts) → Decides (variants_eq true a b) (a ≡ b)
+variants_eq-Decides = parts_Decides (λ v. union_type_of v NonNullable) variants_in (variants_eq true) (λ v. variants_in-union_type_of v NonNullable) (λ a b. sym (and-true (variants_eq true a b)))
 
-pub fields_eq-Decides : (f g : FieldParts) → Decides (fields_eq true f g) (f ≡ g)
-fields_eq-Decides f g = (fields_eq-same f g, λ e. subst (λ h. fields_eq true f h ≡ true) e (fields_eq-refl f))
-
-variants_eq-same : (v w : VariantParts) → variants_eq true v w ≡ true → v ≡ w
-variants_eq-same v w e =
-    let f = first_so _ _ e in
-    let a : v.names ≡ w.names = (names_eq-Decides v.names w.names).0 (first_so _ _ f) in
-    let b : v.types ≡ w.types = exact_lists v.types w.types (second_so _ _ f) in
-    let c : v.type_ids ≡ w.type_ids = (bytes_eq-Decides v.type_ids w.type_ids).0 (second_so _ _ e) in
-    λ i. record { names = a i; types = b i; type_ids = c i }
-
-variants_eq-refl : (v : VariantParts) → variants_eq true v v ≡ true
-variants_eq-refl v = and_from _ _ (and_from _ _ (names_eq-refl v.names) (trees_eq-refl (trim_all true (types_from v.types)))) (bytes_eq-refl v.type_ids)
-
-pub variants_eq-Decides : (v w : VariantParts) → Decides (variants_eq true v w) (v ≡ w)
-variants_eq-Decides v w = (variants_eq-same v w, λ e. subst (λ x. variants_eq true v x ≡ true) e (variants_eq-refl v))
-
-ext_eq-same : (x y : ExtensionParts) → ext_eq true x y ≡ true → x ≡ y
-ext_eq-same x y e =
-    let f = first_so _ _ e in
-    let a : x.id ≡ y.id = (bytes_eq-Decides x.id y.id).0 (first_so _ _ f) in
-    let b : x.metadata ≡ y.metadata = (bytes_eq-Decides x.metadata y.metadata).0 (second_so _ _ f) in
-    let c : x.storage ≡ y.storage = exact_trees x.storage y.storage (second_so _ _ e) in
-    λ i. record { id = a i; metadata = b i; storage = c i }
-
-ext_eq-refl : (x : ExtensionParts) → ext_eq true x x ≡ true
-ext_eq-refl x = and_from _ _ (and_from _ _ (bytes_eq-refl x.id) (bytes_eq-refl x.metadata)) (tree_eq-refl (trim true x.storage))
-
-pub ext_eq-Decides : (x y : ExtensionParts) → Decides (ext_eq true x y) (x ≡ y)
-ext_eq-Decides x y = (ext_eq-same x y, λ e. subst (λ z. ext_eq true x z ≡ true) e (ext_eq-refl x))
+pub ext_eq-Decides : (a b : ExtensionParts) → Decides (ext_eq true a b) (a ≡ b)
+ext_eq-Decides = parts_Decides extension_type_of extension_in (ext_eq true) (λ e. refl) (λ a b. refl)

@@ -1,6 +1,7 @@
 -- The tree of a declared type, and what its parts hold.
 use Rattle.std.specs.Prelude.{ℕ, List, [], ◌∷◌, Bool, map as list_map}
 use Rattle.vortex_dtype.specs.TypeTree.{TypeTree, TypeTrees, null_type, bool_type, integer_type, utf8_type, binary_type, list_type, fixed_size_list_type, map_type, struct_type, union_type, variant_type, extension_type, no_types, type_then}
+use Rattle.vortex_dtype.specs.declared.kinds.Nullability.{Nullability}
 use Rattle.vortex_dtype.specs.declared.types.DType.{DType, fold-DType}
 use Rattle.vortex_dtype.specs.declared.types.DType.TheOpen.{DType-F, ExtDType-F, MapDType-F, StructFields-F, UnionVariants-F}
 use Rattle.vortex_dtype.specs.declared.types.ExtDType.{ExtDType, fold-ExtDType}
@@ -36,6 +37,22 @@ abbrev pub types_from : List TypeTree → TypeTrees
 types_from [] = no_types
 types_from (t ∷ ts) = type_then t (types_from ts)
 
+-- the map type that holds this
+abbrev pub map_type_of : MapParts → Nullability → TypeTree
+map_type_of m n = map_type m.key m.value m.keys_sorted n
+
+-- the struct type that holds this
+abbrev pub struct_type_of : FieldParts → Nullability → TypeTree
+struct_type_of f n = struct_type f.names (types_from f.types) n
+
+-- the union type that holds this
+abbrev pub union_type_of : VariantParts → Nullability → TypeTree
+union_type_of v n = union_type v.names (types_from v.types) v.type_ids n
+
+-- the extension type that holds this
+abbrev pub extension_type_of : ExtensionParts → TypeTree
+extension_type_of e = extension_type e.id e.metadata e.storage
+
 -- one level of a type, each part of which is already seen as what it holds
 abbrev pub Level : (Type 0 → Type 0 → Type 0 → Type 0 → Type 0 → Type 0) → Type 0
 Level F = F TypeTree ExtensionParts MapParts FieldParts VariantParts
@@ -49,11 +66,11 @@ type_step (DType-F.Utf8 n) = utf8_type n
 type_step (DType-F.Binary n) = binary_type n
 type_step (DType-F.List e n) = list_type e.value n
 type_step (DType-F.FixedSizeList e size n) = fixed_size_list_type e.value size n
-type_step (DType-F.Map m n) = map_type m.key m.value m.keys_sorted n
-type_step (DType-F.Struct f n) = struct_type f.names (types_from f.types) n
-type_step (DType-F.Union v n) = union_type v.names (types_from v.types) v.type_ids n
+type_step (DType-F.Map m n) = map_type_of m n
+type_step (DType-F.Struct f n) = struct_type_of f n
+type_step (DType-F.Union v n) = union_type_of v n
 type_step (DType-F.Variant n) = variant_type n
-type_step (DType-F.Extension e) = extension_type e.id e.metadata e.storage
+type_step (DType-F.Extension e) = extension_type_of e
 
 abbrev pub extension_step : Level ExtDType-F → ExtensionParts
 extension_step e = record { id = e.id; metadata = e.metadata; storage = e.storage.value }
@@ -90,19 +107,3 @@ variants_of = fold-UnionVariants TypeTree ExtensionParts MapParts FieldParts Var
 -- the trees of several types
 abbrev pub types_of : List DType → TypeTrees
 types_of dtypes = types_from (list_map type_of dtypes)
-
--- the types that are parts of a type, themselves: a recursion over types goes down them
-abbrev pub key_part : MapDType → DType
-key_part m = m.key.value
-
-abbrev pub value_part : MapDType → DType
-value_part m = m.value.value
-
-abbrev pub storage_part : ExtDType → DType
-storage_part e = e.storage.value
-
-abbrev pub field_parts : StructFields → List DType
-field_parts f = f.dtypes.items
-
-abbrev pub variant_parts : UnionVariants → List DType
-variant_parts v = v.dtypes.items

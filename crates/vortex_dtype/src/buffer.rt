@@ -88,8 +88,8 @@ impl ByteBuffer {
         self.alloc
     }
 
-    /// The bytes of a range, shared. `OutOfMemory` where they have as many owners as can be counted.
-    /// The caller knows that the range lies within the buffer.
+    /// The bytes of a range: shared, or copied where they have as many owners as can be counted, and
+    /// only that copy can answer `OutOfMemory`. The caller knows that the range lies within the buffer.
     ///
     /// Ports `ByteBuffer::slice`, which panics outside the buffer.
     pub fn slice(&self, range: Range<usize>) -> Result<ByteBuffer, VortexError>
@@ -99,25 +99,25 @@ impl ByteBuffer {
             (λ buffer. buffer ≡ slice_range self.now range.start range.end)
             (λ e. e ≡ OutOfMemory) }
     {
-        let bytes = self.bytes.slice(range)?;
+        let part = &self.as_slice()[range.start..range.end];
+        let bytes = match self.bytes.slice(range) {
+            Ok(shared) => shared,
+            Err(_) => Bytes::copy_from_slice(self.alloc, part)?,
+        };
         Ok(ByteBuffer {
             bytes,
             alloc: self.alloc,
         })
     }
 
-    /// A buffer of the same bytes, shared. `OutOfMemory` where they have as many owners as can be
-    /// counted.
+    /// A buffer of the same bytes: shared, or copied where they have as many owners as can be counted,
+    /// and only that copy can answer `OutOfMemory`.
     ///
     /// Ports `ByteBuffer::clone`.
     pub fn clone(&self) -> Result<ByteBuffer, VortexError>
         ensures { MatchResult result (λ buffer. buffer ≡ self.now) (λ e. e ≡ OutOfMemory) }
     {
-        let bytes = self.bytes.clone()?;
-        Ok(ByteBuffer {
-            bytes,
-            alloc: self.alloc,
-        })
+        self.slice(0..self.len())
     }
 }
 
@@ -256,7 +256,8 @@ impl BufferString {
         buffer
     }
 
-    /// The same text, shared. `OutOfMemory` where it has as many owners as can be counted.
+    /// The same text: shared, or copied where it has as many owners as can be counted, and only that
+    /// copy can answer `OutOfMemory`.
     ///
     /// Ports `BufferString::clone`.
     pub fn clone(&self) -> Result<BufferString, VortexError>

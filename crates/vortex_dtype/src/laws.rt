@@ -1,10 +1,15 @@
 //! Laws of types, each the contract of a function that does nothing.
 
-ghost use Rattle.vortex_dtype.specs.Laws.{AgreesWithHash, EqualityDecides, EqualityIsEquivalence, EqualsBy, SameIsEquivalence, NullableIsSame, PlacesAreInverse, SameFeedSame};
+ghost use Rattle.vortex_dtype.specs.Laws.{AgreesWithHash, EqualityDecides, EqualityIsEquivalence, EqualsBy, SameIsEquivalence, NullableIsSame, PlacesAreInverse, SameFeedSame, TreesByVariant};
 ghost use Rattle.vortex_dtype.specs.TypeOf.{ext_of, fields_of, map_of, type_of, variants_of};
 
 use crate::types::{DType, ExtDType, MapDType, StructFields, UnionVariants};
 use std::hash::Hash;
+
+/// The tree of a type, variant by variant.
+pub fn trees_by_variant()
+    ensures { TreesByVariant }
+{}
 
 /// The test that `==` of types is proved to be passes exactly where the types are one tree.
 pub fn equality_decides()

@@ -47,7 +47,8 @@ impl FieldName {
         self.text.as_str()
     }
 
-    /// The same name, its text shared. `OutOfMemory` where that has as many owners as can be counted.
+    /// The same name: its text is shared, or copied where it has as many owners as can be counted, and
+    /// only that copy can answer `OutOfMemory`.
     ///
     /// Ports `FieldName::clone`.
     pub fn clone(&self, _alloc: Global) -> Result<FieldName, VortexError>

@@ -5,7 +5,7 @@ ghost use Rattle.vortex_dtype.specs.TypeTree.{Same, erase, is_nullable, as_nulla
 ghost use Rattle.vortex_dtype.specs.TypeOf.{type_of, map_of, fields_of, variants_of, ext_of};
 ghost use Rattle.vortex_dtype.specs.Parts.{is_utf8_type, is_binary_type, is_map_type, is_union_type, is_extension_type, element_in, map_in, fields_in, variants_in, extension_in};
 ghost use Rattle.vortex_dtype.specs.Feeds.{tree_feed};
-ghost use Rattle.vortex_dtype.specs.Refusals.{RefusesOrNoMemory, key_fault};
+ghost use Rattle.vortex_dtype.specs.Refusals.{RefusesOrNoMemory, key_cause};
 ghost use Rattle.vortex_dtype.specs.declared.error.VortexError.TheVariants.{OutOfMemory};
 
 use crate::buffer::{BufferString, ByteBuffer};
@@ -25,7 +25,9 @@ pub mod variants;
 
 /// The type of a scalar. A contract sees it as a tree.
 ///
-/// Ports `vortex_array::dtype::DType`.
+/// Neither it nor a part below carries a fact of its own: `List` leads back to `DType` by a bare box,
+/// through no struct, and in such a cycle no part can have a model with an invariant. So what always
+/// holds of a part, its maker's contract says. Ports `vortex_array::dtype::DType`.
 #[cycle(dtype)]
 #[derive(Debug, Drop)]
 pub enum DType {
@@ -55,8 +57,7 @@ pub enum DType {
     Extension(ExtDType),
 }
 
-/// A map's key and value types. The key takes no null: the maker `try_new` sees to it (a recursive
-/// type carries no fact of its own).
+/// A map's key and value types. The key takes no null: the maker `try_new` sees to it.
 ///
 /// Ports `vortex_array::dtype::MapDType`.
 #[cycle(dtype)]
@@ -68,7 +69,7 @@ pub struct MapDType {
 }
 
 /// The names of a struct's fields and as many types, in order. Names may repeat. The maker `new`
-/// asks for equal lengths (a recursive type carries no fact of its own).
+/// asks for equal lengths.
 ///
 /// Ports `vortex_array::dtype::StructFields`.
 #[cycle(dtype)]
@@ -79,7 +80,7 @@ pub struct StructFields {
 }
 
 /// The names of a union's variants, as many types and as many ids, in order. Ids are distinct, names
-/// may repeat: the maker `try_new` sees to it (a recursive type carries no fact of its own).
+/// may repeat: the maker `try_new` sees to it.
 ///
 /// Ports `vortex_array::dtype::UnionVariants`.
 #[cycle(dtype)]
@@ -113,7 +114,7 @@ impl DType {
         keys_sorted: bool,
         nullability: Nullability,
     ) -> Result<DType, VortexError>
-        ensures refused { RefusesOrNoMemory (key_fault (type_of key)) result }
+        ensures refused { RefusesOrNoMemory (key_cause (type_of key)) result }
         ensures made { IfOk result (λ dtype. type_of dtype
             ≡ map_type (type_of key) (type_of value) keys_sorted nullability) }
     {

@@ -9,7 +9,6 @@ pub mod OrderLaws
 pub mod OrderSteps
 pub mod SizeLaws
 pub mod StructMakers
-pub mod TypeSteps
 pub mod Uniqueness
 pub mod ValidSteps
 pub mod ValidityLaws

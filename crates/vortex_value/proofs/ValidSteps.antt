@@ -15,7 +15,8 @@ use Rattle.vortex_value.specs.RawTree.{raw_tuple}
 use Rattle.vortex_value.specs.declared.validate.Fault.{Fault}
 use Rattle.vortex_value.specs.declared.validate.Fault.TheVariants.{NoMemory, NoPath, First}
 use Rattle.vortex_value.specs.declared.values.ScalarValue.{ScalarValue}
-use Rattle.vortex_value.proofs.TypeSteps.{type_of-List, type_of-FixedSizeList, type_of-Map, type_of-Struct, type_of-Union, is_nullable-storage}
+use Rattle.vortex_dtype.specs.TypeLaws.{is_nullable-storage}
+use Rattle.vortex_dtype.specs.TypeLevels.{type_of-List, type_of-FixedSizeList, type_of-Map, type_of-Struct, type_of-Union}
 use Rattle.vortex_value.proofs.ValueSteps.{value_tree-Tuple, count-raws_of}
 
 pub count_types-types_from : (ts : List TypeTree) → count_types (types_from ts) ≡ length ts

@@ -1,7 +1,8 @@
 -- When contents are equal.
 use Rattle.std.specs.Prelude.{◌≡◌, ◌↔◌, ◌==◌, ◌&&◌, not, Bool, true, false, IsTrue}
 use Rattle.std.specs.Ordering.{int_eq}
-use Rattle.vortex_dtype.specs.TypeEquality.{bytes_eq, tree_eq}
+use Rattle.std.specs.Str.{bytes_eq}
+use Rattle.vortex_dtype.specs.TypeEquality.{tree_eq}
 use Rattle.vortex_dtype.specs.TypeTree.{TypeTree, Same, erase}
 use Rattle.vortex_value.specs.Content.{Content, null, truth, whole, text, string, sequence, tagged, typed, Contents, no_contents, content_then}
 

@@ -1,38 +1,22 @@
 //! Equality of types and of their parts, with and without nullability: one recursion for both.
 
-ghost use Rattle.std.specs.Prelude.{◌≡◌, length, true};
+ghost use Rattle.std.specs.Prelude.{◌≡◌, true};
 ghost use Rattle.std.specs.Cmp.{partial_equiv_from_equiv};
 ghost use Rattle.std.specs.Ordering.{on};
 ghost use Rattle.std.proofs.lemmas.Cmp.{on_equiv};
 ghost use Rattle.vortex_dtype.specs.TypeTree.{keep, trim, trim_all};
-ghost use Rattle.vortex_dtype.specs.TypeEquality.{tree_eq, trees_eq, nullability_eq, names_eq, fields_eq, variants_eq, map_eq, ext_eq};
+ghost use Rattle.vortex_dtype.specs.TypeEquality.{tree_eq, trees_eq, nullability_eq, fields_eq, variants_eq, map_eq, ext_eq};
 ghost use Rattle.vortex_dtype.specs.TypeLaws.{tree_eq-equiv, equiv-from_Decides, map_eq-Decides, fields_eq-Decides, variants_eq-Decides, ext_eq-Decides};
-ghost use Rattle.vortex_dtype.specs.Kinds.{same_kind};
 ghost use Rattle.vortex_dtype.specs.TypeOf.{type_of, types_of, fields_of, variants_of, map_of, ext_of};
 
 use super::{DType, ExtDType, MapDType, StructFields, UnionVariants};
-use crate::kinds::{Nullability, PType};
-use crate::names::FieldName;
+use crate::kinds::Nullability;
 
 /// Whether two nullabilities agree; they all do where nullability does not count.
 fn nullabilities_agree(exact: bool, a: Nullability, b: Nullability) -> bool
     ensures { result ≡ nullability_eq (keep exact a) (keep exact b) }
 {
     !exact || a == b
-}
-
-/// Whether two kinds are one.
-fn kinds_agree(a: PType, b: PType) -> bool
-    ensures { result ≡ same_kind a b }
-{
-    a == b
-}
-
-/// Whether two lists of names are equal.
-fn names_agree(a: &[FieldName], b: &[FieldName]) -> bool
-    ensures { result ≡ names_eq a.now b.now }
-{
-    a == b
 }
 
 /// Whether two types are equal; where `exact` is false, up to nullability.
@@ -44,7 +28,7 @@ pub(super) fn equal(exact: bool, a: &DType, b: &DType) -> bool
         (DType::Null, DType::Null) => true,
         (DType::Bool(m), DType::Bool(n)) => nullabilities_agree(exact, *m, *n),
         (DType::Primitive(j, m), DType::Primitive(k, n)) => {
-            kinds_agree(*j, *k) && nullabilities_agree(exact, *m, *n)
+            *j == *k && nullabilities_agree(exact, *m, *n)
         }
         (DType::Utf8(m), DType::Utf8(n)) => nullabilities_agree(exact, *m, *n),
         (DType::Binary(m), DType::Binary(n)) => nullabilities_agree(exact, *m, *n),
@@ -82,16 +66,15 @@ fn maps_equal(exact: bool, a: &MapDType, b: &MapDType) -> bool
 fn fields_equal(exact: bool, a: &StructFields, b: &StructFields) -> bool
     ensures { result ≡ fields_eq exact (fields_of a.now) (fields_of b.now) }
 {
-    names_agree(&a.names, &b.names) && all_equal(exact, &a.dtypes, &b.dtypes)
+    a.names == b.names && all_equal(exact, &a.dtypes, &b.dtypes)
 }
 
 #[cycle(equal)]
+#[tactic(auto, using(crate::proofs::TypeSteps::held))]
 fn variants_equal(exact: bool, a: &UnionVariants, b: &UnionVariants) -> bool
     ensures { result ≡ variants_eq exact (variants_of a.now) (variants_of b.now) }
 {
-    names_agree(&a.names, &b.names)
-        && all_equal(exact, &a.dtypes, &b.dtypes)
-        && a.type_ids == b.type_ids
+    a.names == b.names && all_equal(exact, &a.dtypes, &b.dtypes) && a.type_ids == b.type_ids
 }
 
 #[cycle(equal)]

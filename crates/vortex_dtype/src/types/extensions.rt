@@ -1,8 +1,9 @@
 //! Extension types: a name and metadata over a storage type.
 
 ghost use Rattle.std.specs.Prelude.{◌≡◌, MatchResult};
-ghost use Rattle.vortex_dtype.specs.TypeOf.{type_of, ext_of, storage_part};
 ghost use Rattle.vortex_dtype.specs.Parts.{nullable_extension};
+ghost use Rattle.vortex_dtype.specs.Subtypes.{storage_part};
+ghost use Rattle.vortex_dtype.specs.TypeOf.{type_of, ext_of};
 ghost use Rattle.vortex_dtype.specs.declared.error.VortexError.TheVariants.{OutOfMemory};
 
 use super::copies::copy_extension;

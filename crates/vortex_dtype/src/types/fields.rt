@@ -1,11 +1,12 @@
 //! The fields of structs.
 
 ghost use Rattle.std.specs.Prelude.{◌≡◌, IfOk, IsOkAnd, MatchResult, length, option_map, slice_get, position, map, false};
+ghost use Rattle.std.specs.Str.{bytes_eq};
 ghost use Rattle.vortex_dtype.specs.Names.{names_in};
 ghost use Rattle.vortex_dtype.specs.Parts.{IsProjection, field_index, type_named};
-ghost use Rattle.vortex_dtype.specs.Refusals.{RefusesOrNoMemory, misses_a_name, project_fault};
-ghost use Rattle.vortex_dtype.specs.TypeEquality.{bytes_eq};
-ghost use Rattle.vortex_dtype.specs.TypeOf.{type_of, fields_of, field_parts};
+ghost use Rattle.vortex_dtype.specs.Refusals.{RefusesOrNoMemory, misses_a_name, project_cause};
+ghost use Rattle.vortex_dtype.specs.Subtypes.{field_parts};
+ghost use Rattle.vortex_dtype.specs.TypeOf.{type_of, fields_of};
 ghost use Rattle.vortex_dtype.specs.declared.error.VortexError.TheVariants.{OutOfMemory};
 
 use super::copies::copy_fields;
@@ -70,8 +71,7 @@ impl StructFields {
     ///
     /// Ports `StructFields::field_by_index`, which borrows nothing.
     pub fn field_by_index(&self, index: usize) -> Option<&DType>
-        ensures part { option_map (λ dtype. dtype.now) result ≡ slice_get (field_parts self.now) index }
-        ensures tree { option_map (λ dtype. type_of dtype.now) result
+        ensures { option_map (λ dtype. type_of dtype.now) result
             ≡ slice_get (fields_of self.now).types index }
     {
         dtype_at(&self.dtypes, index)
@@ -83,7 +83,7 @@ impl StructFields {
     ///
     /// Ports `StructFields::project`.
     pub fn project(&self, alloc: Global, names: &[FieldName]) -> Result<StructFields, VortexError>
-        ensures refused { RefusesOrNoMemory (project_fault (fields_of self.now) names.now) result }
+        ensures refused { RefusesOrNoMemory (project_cause (fields_of self.now) names.now) result }
         ensures made { IfOk result (λ fields.
             IsProjection (fields_of self.now) names.now (fields_of fields)) }
     {
@@ -145,6 +145,9 @@ impl StructFields {
     }
 }
 
+// Functions of one line over a list alone: what the methods above say of the fold of a type, the
+// prover finds from their contracts, and not from the line itself.
+
 /// The place of the first of the names that is this text.
 fn find_name(names: &[FieldName], name: &str) -> Option<usize>
     ensures { result ≡ position (λ n. bytes_eq n name.now) names.now }
@@ -154,8 +157,7 @@ fn find_name(names: &[FieldName], name: &str) -> Option<usize>
 
 /// The type at this place.
 pub(super) fn dtype_at(dtypes: &[DType], index: usize) -> Option<&DType>
-    ensures part { option_map (λ dtype. dtype.now) result ≡ slice_get dtypes.now index }
-    ensures tree { option_map (λ dtype. type_of dtype.now) result ≡ slice_get (map type_of dtypes.now) index }
+    ensures { option_map (λ dtype. type_of dtype.now) result ≡ slice_get (map type_of dtypes.now) index }
 {
     dtypes.get(index)
 }

@@ -2,16 +2,14 @@
 
 ghost use Rattle.std.specs.Prelude.{◌≡◌, fold, true};
 ghost use Rattle.std.proofs.Common.{ap};
-ghost use Rattle.std.specs.Prelude.{◌++◌};
 ghost use Rattle.std.specs.Hash as fed;
 ghost use Rattle.vortex_dtype.specs.TypeTree.{keep, trim, trim_all};
 ghost use Rattle.vortex_dtype.specs.TypeLaws.{tree_eq-same, map_eq-Decides, fields_eq-Decides, variants_eq-Decides, ext_eq-Decides};
-ghost use Rattle.vortex_dtype.specs.Feeds.{tree_feed, trees_feed, nullability_feed, kind_feed, names_feed, map_feed, fields_feed, variants_feed, ext_feed};
+ghost use Rattle.vortex_dtype.specs.Feeds.{variant_number, tree_feed, trees_feed, nullability_feed, map_feed, fields_feed, variants_feed, ext_feed};
 ghost use Rattle.vortex_dtype.specs.TypeOf.{type_of, types_of, fields_of, variants_of, map_of, ext_of};
 
 use super::{DType, ExtDType, MapDType, StructFields, UnionVariants};
-use crate::kinds::{Nullability, PType};
-use crate::names::FieldName;
+use crate::kinds::Nullability;
 use std::hash::{Hash, Hasher};
 
 /// Feeds a nullability; all feed the same where nullability does not count.
@@ -24,27 +22,24 @@ fn feed_nullability<H: Hasher>(exact: bool, n: Nullability, state: &mut H)
     }
 }
 
-/// Feeds the place of a kind among the eight.
-fn feed_kind<H: Hasher>(kind: PType, state: &mut H)
-    ensures { state.new ≡ fold H.write state.old (kind_feed kind) }
+/// The number of a type's variant.
+fn number(dtype: &DType) -> u8
+    ensures { result ≡ variant_number (type_of dtype.now) }
 {
-    state.write_u8(kind as u8);
-}
-
-/// Feeds how many names there are, and each.
-fn feed_names<H: Hasher>(names: &[FieldName], state: &mut H)
-    ensures { state.new ≡ fold H.write state.old (names_feed names.now) }
-{
-    names.hash(state);
-}
-
-/// Feeds the number of a type without parts, and its nullability.
-fn feed_plain<H: Hasher>(exact: bool, number: u8, n: Nullability, state: &mut H)
-    ensures { state.new
-        ≡ fold H.write state.old (fed.u8 number ++ nullability_feed (keep exact n)) }
-{
-    state.write_u8(number);
-    feed_nullability(exact, n, state);
+    match dtype {
+        DType::Null => 0,
+        DType::Bool(_) => 1,
+        DType::Primitive(_, _) => 2,
+        DType::Utf8(_) => 3,
+        DType::Binary(_) => 4,
+        DType::List(_, _) => 5,
+        DType::FixedSizeList(_, _, _) => 6,
+        DType::Map(_, _) => 7,
+        DType::Struct(_, _) => 8,
+        DType::Union(_, _) => 9,
+        DType::Variant(_) => 10,
+        DType::Extension(_) => 11,
+    }
 }
 
 /// Feeds a type; where `exact` is false, without nullability.
@@ -52,48 +47,38 @@ fn feed_plain<H: Hasher>(exact: bool, number: u8, n: Nullability, state: &mut H)
 pub(super) fn feed<H: Hasher>(exact: bool, dtype: &DType, state: &mut H)
     ensures { state.new ≡ fold H.write state.old (tree_feed (trim exact (type_of dtype.now))) }
 {
-    match dtype {
-        DType::Null => state.write_u8(0),
-        DType::Bool(n) => feed_plain(exact, 1, *n, state),
+    state.write_u8(number(dtype));
+    let n = match dtype {
+        DType::Null => return,
+        DType::Bool(n) | DType::Utf8(n) | DType::Binary(n) | DType::Variant(n) => *n,
         DType::Primitive(kind, n) => {
-            state.write_u8(2);
-            feed_kind(*kind, state);
-            feed_nullability(exact, *n, state);
+            state.write_u8(*kind as u8);
+            *n
         }
-        DType::Utf8(n) => feed_plain(exact, 3, *n, state),
-        DType::Binary(n) => feed_plain(exact, 4, *n, state),
         DType::List(element, n) => {
-            state.write_u8(5);
             feed(exact, element, state);
-            feed_nullability(exact, *n, state);
+            *n
         }
         DType::FixedSizeList(element, size, n) => {
-            state.write_u8(6);
             feed(exact, element, state);
             state.write_u32(*size);
-            feed_nullability(exact, *n, state);
+            *n
         }
         DType::Map(map, n) => {
-            state.write_u8(7);
             feed_map(exact, map, state);
-            feed_nullability(exact, *n, state);
+            *n
         }
         DType::Struct(fields, n) => {
-            state.write_u8(8);
             feed_fields(exact, fields, state);
-            feed_nullability(exact, *n, state);
+            *n
         }
         DType::Union(variants, n) => {
-            state.write_u8(9);
             feed_variants(exact, variants, state);
-            feed_nullability(exact, *n, state);
+            *n
         }
-        DType::Variant(n) => feed_plain(exact, 10, *n, state),
-        DType::Extension(extension) => {
-            state.write_u8(11);
-            feed_extension(exact, extension, state);
-        }
-    }
+        DType::Extension(extension) => return feed_extension(exact, extension, state),
+    };
+    feed_nullability(exact, n, state);
 }
 
 #[cycle(feed)]
@@ -118,7 +103,7 @@ fn feed_map<H: Hasher>(exact: bool, map: &MapDType, state: &mut H)
 fn feed_fields<H: Hasher>(exact: bool, fields: &StructFields, state: &mut H)
     ensures { state.new ≡ fold H.write state.old (fields_feed exact (fields_of fields.now)) }
 {
-    feed_names(&fields.names, state);
+    fields.names.hash(state);
     feed_all(exact, &fields.dtypes, state);
 }
 
@@ -126,7 +111,7 @@ fn feed_fields<H: Hasher>(exact: bool, fields: &StructFields, state: &mut H)
 fn feed_variants<H: Hasher>(exact: bool, variants: &UnionVariants, state: &mut H)
     ensures { state.new ≡ fold H.write state.old (variants_feed exact (variants_of variants.now)) }
 {
-    feed_names(&variants.names, state);
+    variants.names.hash(state);
     feed_all(exact, &variants.dtypes, state);
     variants.type_ids.hash(state);
 }

@@ -1,8 +1,9 @@
 //! The key and value types of maps.
 
 ghost use Rattle.std.specs.Prelude.{◌≡◌, IfOk, MatchResult};
-ghost use Rattle.vortex_dtype.specs.Refusals.{RefusesOrNoMemory, key_fault};
-ghost use Rattle.vortex_dtype.specs.TypeOf.{type_of, map_of, key_part, value_part};
+ghost use Rattle.vortex_dtype.specs.Refusals.{RefusesOrNoMemory, key_cause};
+ghost use Rattle.vortex_dtype.specs.Subtypes.{key_part, value_part};
+ghost use Rattle.vortex_dtype.specs.TypeOf.{type_of, map_of};
 ghost use Rattle.vortex_dtype.specs.declared.error.VortexError.TheVariants.{OutOfMemory};
 
 use super::copies::copy_map;
@@ -21,7 +22,7 @@ impl MapDType {
         value: DType,
         keys_sorted: bool,
     ) -> Result<MapDType, VortexError>
-        ensures refused { RefusesOrNoMemory (key_fault (type_of key)) result }
+        ensures refused { RefusesOrNoMemory (key_cause (type_of key)) result }
         ensures made { IfOk result (λ map. map_of map
             ≡ record { key = type_of key; value = type_of value; keys_sorted = keys_sorted }) }
     {

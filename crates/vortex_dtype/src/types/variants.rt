@@ -2,8 +2,8 @@
 
 ghost use Rattle.std.specs.Prelude.{◌≡◌, ◌==◌, ◌<◌, IfOk, MatchResult, Some, length, option_map, position, slice_get, map};
 ghost use Rattle.vortex_dtype.specs.Names.{names_in};
-ghost use Rattle.vortex_dtype.specs.Refusals.{RefusesExactly, repeats, variants_fault};
-ghost use Rattle.vortex_dtype.specs.TypeOf.{type_of, variants_of, variant_parts};
+ghost use Rattle.vortex_dtype.specs.Refusals.{RefusesExactly, repeats, variants_cause};
+ghost use Rattle.vortex_dtype.specs.TypeOf.{type_of, variants_of};
 ghost use Rattle.vortex_dtype.specs.declared.error.VortexError.TheVariants.{OutOfMemory};
 
 use super::copies::copy_variants;
@@ -26,7 +26,7 @@ impl UnionVariants {
         type_ids: Vec<u8>,
     ) -> Result<UnionVariants, VortexError>
         ensures refused { RefusesExactly
-            (variants_fault (length names.items) (length dtypes.items) type_ids.items)
+            (variants_cause (length names.items) (length dtypes.items) type_ids.items)
             result }
         ensures made { IfOk result (λ variants. variants_of variants ≡ record {
           names = names.items;
@@ -83,8 +83,7 @@ impl UnionVariants {
     ///
     /// Ports `UnionVariants::variant_by_index`, which borrows nothing.
     pub fn variant_by_index(&self, index: usize) -> Option<&DType>
-        ensures part { option_map (λ dtype. dtype.now) result ≡ slice_get (variant_parts self.now) index }
-        ensures tree { option_map (λ dtype. type_of dtype.now) result
+        ensures { option_map (λ dtype. type_of dtype.now) result
             ≡ slice_get (variants_of self.now).types index }
     {
         dtype_at(&self.dtypes, index)
@@ -123,6 +122,9 @@ fn repeats(ids: &[u8]) -> bool
     }
     false
 }
+
+// Functions of one line over a list alone: what the methods above say of the fold of a type, the
+// prover finds from their contracts, and not from the line itself.
 
 /// The place of the first of the ids that is this one.
 fn find_id(ids: &[u8], tag: u8) -> Option<usize>

@@ -6,7 +6,7 @@ use Rattle.vortex_value.specs.Makers.{list_cause, raws_in}
 use Rattle.vortex_value.specs.RawTree.{raw_tuple}
 use Rattle.vortex_value.proofs.ListMakers.{list_valid}
 use Rattle.vortex_value.proofs.MakerLaws.{scalar_valid}
-use Rattle.vortex_value.proofs.TypeSteps.{type_of-List}
+use Rattle.vortex_dtype.specs.TypeLevels.{type_of-List}
 use Rattle.vortex_value.proofs.scalars.Scalar.list.Goals as goal
 
 pub returns-clause-valid : goal.returns-clause-valid

@@ -6,7 +6,7 @@ use Rattle.vortex_value.specs.RawTree.{raw_union}
 use Rattle.vortex_value.specs.Scalars.{scalar_raw}
 use Rattle.vortex_value.specs.declared.values.ScalarValue as raw
 use Rattle.vortex_value.proofs.MakerLaws.{union_valid, scalar_valid}
-use Rattle.vortex_value.proofs.TypeSteps.{type_of-Union}
+use Rattle.vortex_dtype.specs.TypeLevels.{type_of-Union}
 use Rattle.vortex_value.proofs.ValueSteps.{value_tree-Union}
 use Rattle.vortex_value.proofs.scalars.Scalar.union.Goals as goal
 
