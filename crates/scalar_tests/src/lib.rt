@@ -12,6 +12,8 @@ mod items;
 #[cfg(test)]
 mod makers;
 #[cfg(test)]
+mod places;
+#[cfg(test)]
 mod tour;
 #[cfg(test)]
 mod types;

@@ -4,10 +4,10 @@ pub mod Laws
 pub mod Names
 pub mod Parts
 pub mod Refusals
-pub mod Subtypes
 pub mod Texts
 pub mod TypeEquality
 pub mod TypeLaws
 pub mod TypeLevels
 pub mod TypeOf
+pub mod TypeSize
 pub mod TypeTree

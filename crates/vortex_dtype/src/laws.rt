@@ -45,8 +45,8 @@ pub fn same_is_an_equivalence()
     ensures { SameIsEquivalence }
 {}
 
-/// The place of an id and the id at a place are inverse to one another, where no id stands twice, as
-/// in the variants that `UnionVariants::try_new` makes.
+/// The place of an id and the id at a place are inverse to one another where no id stands twice, as
+/// in the variants that `UnionVariants::try_new` makes: its refusals say so.
 pub fn places_are_inverse()
     ensures { PlacesAreInverse }
 {}

@@ -2,7 +2,6 @@
 
 ghost use Rattle.std.specs.Prelude.{◌≡◌, MatchResult};
 ghost use Rattle.vortex_dtype.specs.Parts.{nullable_extension};
-ghost use Rattle.vortex_dtype.specs.Subtypes.{storage_part};
 ghost use Rattle.vortex_dtype.specs.TypeOf.{type_of, ext_of};
 ghost use Rattle.vortex_dtype.specs.declared.error.VortexError.TheVariants.{OutOfMemory};
 
@@ -56,7 +55,6 @@ impl ExtDType {
     ///
     /// Ports `ExtDType::storage_dtype`.
     pub fn storage_dtype(&self) -> &DType
-        ensures part { result.now ≡ storage_part self.now }
         ensures tree { type_of result.now ≡ (ext_of self.now).storage }
     {
         &self.storage

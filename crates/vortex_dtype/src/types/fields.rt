@@ -5,7 +5,6 @@ ghost use Rattle.std.specs.Str.{bytes_eq};
 ghost use Rattle.vortex_dtype.specs.Names.{names_in};
 ghost use Rattle.vortex_dtype.specs.Parts.{IsProjection, field_index, type_named};
 ghost use Rattle.vortex_dtype.specs.Refusals.{RefusesOrNoMemory, misses_a_name, project_cause};
-ghost use Rattle.vortex_dtype.specs.Subtypes.{field_parts};
 ghost use Rattle.vortex_dtype.specs.TypeOf.{type_of, fields_of};
 ghost use Rattle.vortex_dtype.specs.declared.error.VortexError.TheVariants.{OutOfMemory};
 
@@ -52,7 +51,6 @@ impl StructFields {
 
     /// The types, in order. Of this port alone: what a recursion over types goes down.
     pub fn dtypes(&self) -> &[DType]
-        ensures parts { result.now ≡ field_parts self.now }
         ensures trees { map type_of result.now ≡ (fields_of self.now).types }
     {
         &self.dtypes
@@ -71,7 +69,7 @@ impl StructFields {
     ///
     /// Ports `StructFields::field_by_index`, which borrows nothing.
     pub fn field_by_index(&self, index: usize) -> Option<&DType>
-        ensures { option_map (λ dtype. type_of dtype.now) result
+        ensures tree { option_map (λ dtype. type_of dtype.now) result
             ≡ slice_get (fields_of self.now).types index }
     {
         dtype_at(&self.dtypes, index)

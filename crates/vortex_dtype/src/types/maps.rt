@@ -2,7 +2,6 @@
 
 ghost use Rattle.std.specs.Prelude.{◌≡◌, IfOk, MatchResult};
 ghost use Rattle.vortex_dtype.specs.Refusals.{RefusesOrNoMemory, key_cause};
-ghost use Rattle.vortex_dtype.specs.Subtypes.{key_part, value_part};
 ghost use Rattle.vortex_dtype.specs.TypeOf.{type_of, map_of};
 ghost use Rattle.vortex_dtype.specs.declared.error.VortexError.TheVariants.{OutOfMemory};
 
@@ -42,7 +41,6 @@ impl MapDType {
     ///
     /// Ports `MapDType::key_dtype`.
     pub fn key_dtype(&self) -> &DType
-        ensures part { result.now ≡ key_part self.now }
         ensures tree { type_of result.now ≡ (map_of self.now).key }
     {
         &self.key
@@ -52,7 +50,6 @@ impl MapDType {
     ///
     /// Ports `MapDType::value_dtype`.
     pub fn value_dtype(&self) -> &DType
-        ensures part { result.now ≡ value_part self.now }
         ensures tree { type_of result.now ≡ (map_of self.now).value }
     {
         &self.value

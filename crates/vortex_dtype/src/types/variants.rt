@@ -83,7 +83,7 @@ impl UnionVariants {
     ///
     /// Ports `UnionVariants::variant_by_index`, which borrows nothing.
     pub fn variant_by_index(&self, index: usize) -> Option<&DType>
-        ensures { option_map (λ dtype. type_of dtype.now) result
+        ensures tree { option_map (λ dtype. type_of dtype.now) result
             ≡ slice_get (variants_of self.now).types index }
     {
         dtype_at(&self.dtypes, index)
