@@ -1,5 +1,7 @@
 -- The number that a row of digits represents, digit by digit.
-use Rattle.std.proofs.Common.{◌≡◌, ℕ, ◌<◌, ◌≤◌, ◌^◌, ◌+◌, ◌*◌, ◌-◌, ◌&&◌, true, false, Bool, List, [], ◌∷◌, length, get_or, drop, suc, zero, None, Some, refl, arith, sym, ap, ◌∙◌, add-one, drop-cons, drop_of_length-le, pow-suc, nat_lt, nat_le, ◌==◌, ◌≢◌, take, pos, neg_ℤ}
+use Rattle.std.proofs.Common.{◌≡◌, ℕ, ◌<◌, ◌≤◌, ◌^◌, ◌+◌, ◌*◌, ◌-◌, ◌&&◌, true, false, List, [], ◌∷◌, length, get_or, drop, suc, None, Some, refl, arith, sym, ap, ◌∙◌, add-one, drop-cons, drop_of_length-le, pow-suc, lit<, nat_lt, nat_le, ◌≢◌, take, pos, neg_ℤ}
+use Rattle.std.proofs.Math.Nat.{pow-le-pow_right}
+use Rattle.std.proofs.lemmas.Bool.{and_right, ne_eqb}
 use Rattle.std.proofs.lemmas.Bool.Decides.{nat_tests}
 use Rattle.std.proofs.lemmas.List.{take_rest}
 use Rattle.std.proofs.lemmas.Str.{digit_value_digit}
@@ -20,22 +22,12 @@ pub record IsReadTo (ds : List ℕ) (i n : ℕ) : Type 0 where
 pub read_none : (ds : List ℕ) → IsReadTo ds 0 0
 read_none ds = record { value = refl; rest = refl; below = omega arith }
 
-and_false : (b : Bool) → (b && false) ≡ false
-and_false true = refl
-and_false false = refl
-
 digit_of : (c : ℕ) → is_ascii_digit c ≡ true → digit_value c ≡ c - 48
 digit_of c h = let within : IsInRange 48 57 c = grind (arith, nat_tests) in let e = digit_value_digit c within in omega (arith, e)
 
-same_le : (a : ℕ) → a ≤ a
-same_le a = omega arith
-
 -- a power of ten is at most a later one
-ten_grows : (i d : ℕ) → 10 ^ i ≤ 10 ^ (d + i)
-ten_grows i zero = let z : 0 + i ≡ i = omega arith in rw z (same_le (10 ^ i))
-ten_grows i (suc d) = let h = ten_grows i d in let p = pow-suc 10 (d + i) in
-    let z : suc d + i ≡ suc (d + i) = omega arith in
-    rw z (omega (arith, h, p))
+ten_grows : (i j : ℕ) → i ≤ j → 10 ^ i ≤ 10 ^ j
+ten_grows i j h = pow-le-pow_right (lit< tt) h
 
 -- after one more digit
 pub read_more : (ds : List ℕ) (i n : ℕ) → IsReadTo ds i n → i < length ds → is_ascii_digit (get_or ds i 0) ≡ true → IsReadTo ds (i + 1) (n * 10 + (get_or ds i 0 - 48))
@@ -65,7 +57,7 @@ read_other ds i n so_far inside other =
     let r : (is_ascii_digit c && list_all is_ascii_digit (drop (suc i) ds)) ≡ list_all is_ascii_digit ds =
     sym (ap (λ l. list_all is_ascii_digit l) d) ∙ so_far.rest in
     let none : list_all is_ascii_digit ds ≡ false = sym (rw other at r) in
-    rw (none, and_false, and_false) refl
+    rw (none, and_right _ false refl, and_right _ false refl) refl
 
 -- after the last digit
 pub read_all : (ds : List ℕ) (i n : ℕ) → IsReadTo ds i n → length ds ≤ i → 0 < length ds → length ds ≤ 20 → natural_named ds ≡ Some n
@@ -86,21 +78,19 @@ no_digits ds h = let a : nat_lt 0 (length ds) ≡ false = grind (arith, nat_test
 -- a word of too many
 pub too_many : (ds : List ℕ) → 20 < length ds → natural_named ds ≡ None
 unfolding natural_named is_natural all_digits
-too_many ds h = let a : nat_le (length ds) 20 ≡ false = grind (arith, nat_tests) in rw (a, and_false) refl
+too_many ds h = let a : nat_le (length ds) 20 ≡ false = grind (arith, nat_tests) in rw (a, and_right _ false refl) refl
 
 -- the next digit fits
 pub small : (ds : List ℕ) (i n : ℕ) → IsReadTo ds i n → i < 20 → n * 10 + 9 < 2 ^ 128
 small ds i n so_far few =
-    let e : (19 - i) + i ≡ 19 = omega arith in
-    let g : 10 ^ i ≤ 10 ^ 19 = rw e at (ten_grows i (19 - i)) in
+    let g = ten_grows i 19 (omega arith) in
     let b : n < 10 ^ i = so_far.below in
     omega (arith, g, b)
 
 -- what is read of few digits is small
 pub few_digits : (ds : List ℕ) (i n : ℕ) → IsReadTo ds i n → i ≤ 20 → n < 10 ^ 20
 few_digits ds i n so_far few =
-    let e : (20 - i) + i ≡ 20 = omega arith in
-    let g : 10 ^ i ≤ 10 ^ 20 = rw e at (ten_grows i (20 - i)) in
+    let g = ten_grows i 20 (omega arith) in
     let b : n < 10 ^ i = so_far.below in
     omega (arith, g, b)
 
@@ -113,11 +103,12 @@ minus_of (b ∷ bs) some minus = rw minus refl
 pub after_minus : (word : List ℕ) → 0 < length word → get_or word 0 0 ≡ 45 → number_named word ≡ option_map (λ n. neg_ℤ (pos n)) (natural_named (take (length word - 1) (drop 1 word)))
 after_minus word some minus = rw take_rest (minus_of word some minus)
 
-is_not : (b c : ℕ) → b ≢ c → (b == c) ≡ false
-is_not b c e = grind (arith, nat_tests)
-
 -- without one the word itself says it
 pub without_minus : (word : List ℕ) → (0 < length word → get_or word 0 0 ≢ 45) → number_named word ≡ option_map (λ n. pos n) (natural_named word)
 unfolding number_named natural_named is_natural all_digits
 without_minus [] other = refl
-without_minus (b ∷ bs) other = rw (is_not b 45 (other (omega arith))) refl
+without_minus (b ∷ bs) other = rw (ne_eqb b 45 (other (omega arith))) refl
+
+pub ruleset digits = (read_none, read_more, read_other, read_all, small, no_digits, too_many, few_digits)
+
+pub ruleset signs = (after_minus, without_minus)

@@ -1,12 +1,15 @@
 -- How an answer is written.
-use Rattle.std.specs.Prelude.{ℕ, List, codes}
+use Rattle.std.specs.Prelude.{ℕ, List, Option, None, Some, codes}
 use Rattle.vortex_pvalue.specs.Whole.{pvalue_text}
-use Rattle.scalar_rows.specs.Grammar.{bad_line}
 use Rattle.scalar_rows.specs.declared.answers.Answer.{Answer}
-use Rattle.scalar_rows.specs.declared.answers.Answer.TheVariants.{BadLine, Refused, Number}
+use Rattle.scalar_rows.specs.declared.answers.Answer.TheVariants.{Refused, Number}
 
 -- the text of the answer
 abbrev pub text_of : Answer → List ℕ
-text_of BadLine = bad_line
 text_of Refused = codes "refused"
 text_of (Number value) = pvalue_text value
+
+-- without an answer the line is bad
+abbrev pub row_of : Option Answer → List ℕ
+row_of None = codes "bad line"
+row_of (Some answer) = text_of answer

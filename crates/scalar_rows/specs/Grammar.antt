@@ -1,15 +1,15 @@
--- What a text gives, line by line: the grammar of the program.
-use Rattle.std.specs.Prelude.{ℕ, ℤ, List, [], ◌∷◌, ◌++◌, ◌==◌, ◌&&◌, Bool, Option, None, Some, pos, neg_ℤ, if◌then◌else◌, length, nat_lt, nat_le, codes, find}
+-- What a line asks for: the grammar of the program.
+use Rattle.std.specs.Prelude.{ℕ, ℤ, List, [], ◌∷◌, ◌==◌, ◌&&◌, Bool, Option, None, Some, pos, neg_ℤ, if◌then◌else◌, length, nat_lt, nat_le, codes, find}
 use Rattle.std.specs.Char.{is_ascii_digit}
-use Rattle.std.specs.List.{flat_map, list_all}
+use Rattle.std.specs.List.{list_all}
 use Rattle.std.specs.Option.{option_map}
 use Rattle.std.specs.Str.{bytes_eq}
 use Rattle.std.specs.Str.Parse.{digits_value}
 use Rattle.vortex_dtype.specs.declared.kinds.PType.{PType}
 use Rattle.vortex_dtype.specs.declared.kinds.PType.TheVariants.{U8, U16, U32, U64, I8, I16, I32, I64}
-use Rattle.vortex_pvalue.specs.Kinds.{kind_text, in_range}
-use Rattle.vortex_pvalue.specs.Whole.{number_text}
-use Rattle.scalar_rows.specs.Lines.{lines_of, words_of}
+use Rattle.vortex_dtype.specs.Kinds.{kind_text}
+use Rattle.vortex_pvalue.specs.Kinds.{in_range}
+use Rattle.scalar_rows.specs.Lines.{words_of}
 
 abbrev pub all_kinds : List PType
 all_kinds = U8 ∷ U16 ∷ U32 ∷ U64 ∷ I8 ∷ I16 ∷ I32 ∷ I64 ∷ []
@@ -39,31 +39,28 @@ unfoldable pub number_named : List ℕ → Option ℤ
 number_named [] = None
 number_named (b ∷ bs) = if b == 45 then negative_named bs else option_map (λ n. pos n) (natural_named (b ∷ bs))
 
-abbrev pub bad_line : List ℕ
-bad_line = codes "bad line"
+-- what a line asks for
+pub data Request : Type 0 where
+  -- a number of the first kind, in the second kind
+  cast : PType → ℤ → PType → Request
 
--- the number has to be in the first kind; the second has it, or the cast is refused
-abbrev pub cast_text : Option PType → Option ℤ → Option PType → List ℕ
-cast_text (Some from) (Some z) (Some to) =
-    if in_range from z then (if in_range to z then number_text to z else codes "refused") else bad_line
-cast_text (Some from) (Some z) None = bad_line
-cast_text (Some from) None to = bad_line
-cast_text None number to = bad_line
+-- a cast asks for a number that the first kind has
+abbrev pub cast_request : Option PType → Option ℤ → Option PType → Option Request
+cast_request (Some from) (Some z) (Some to) = if in_range from z then Some (cast from z to) else None
+cast_request (Some from) (Some z) None = None
+cast_request (Some from) None to = None
+cast_request None number to = None
 
 -- the words after `cast`: KIND NUMBER KIND
-abbrev pub cast_operands : List (List ℕ) → List ℕ
-cast_operands (from ∷ number ∷ to ∷ []) = cast_text (kind_named from) (number_named number) (kind_named to)
-cast_operands _ = bad_line
+abbrev pub cast_operands : List (List ℕ) → Option Request
+cast_operands (from ∷ number ∷ to ∷ []) = cast_request (kind_named from) (number_named number) (kind_named to)
+cast_operands _ = None
 
--- the table of commands: what the words of a line give
-abbrev pub words_text : List (List ℕ) → List ℕ
-words_text [] = bad_line
-words_text (command ∷ operands) = if bytes_eq command (codes "cast") then cast_operands operands else bad_line
+-- the table of commands: what the words of a line ask for
+abbrev pub request_in_words : List (List ℕ) → Option Request
+request_in_words [] = None
+request_in_words (command ∷ operands) = if bytes_eq command (codes "cast") then cast_operands operands else None
 
--- what a line gives
-abbrev pub answer_of : List ℕ → List ℕ
-answer_of line = words_text (words_of line)
-
--- what a text gives: an output line for each line
-abbrev pub rows_of : List ℕ → List ℕ
-rows_of text = flat_map (λ line. answer_of line ++ 10 ∷ []) (lines_of text)
+-- what a line asks for, if it is one of the grammar
+abbrev pub request_in : List ℕ → Option Request
+request_in line = request_in_words (words_of line)

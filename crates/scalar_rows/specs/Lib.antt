@@ -1,4 +1,6 @@
 pub mod Answers
-pub mod Faults
+pub mod Commands
+pub mod FaultTexts
 pub mod Grammar
 pub mod Lines
+pub mod Rows

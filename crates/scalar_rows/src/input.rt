@@ -17,7 +17,7 @@ const READS: u32 = 1_048_576;
 ///
 /// `Read` for every error of the reader, and where the input has not ended within the reads that
 /// are made; `Memory` where no memory is left.
-#[tactic(auto, using(crate::proofs::KnownReads::Consumes_append, crate::proofs::KnownReads::Consumes_at_end))]
+#[tactic(auto, using(crate::proofs::KnownReads::reads))]
 pub fn read_all<R: Read>(alloc: Global, reader: &mut R) -> Result<Vec<u8>, RowsError>
     ensures bytes { IfOk result (λ input. IfSome (R.remaining reader.old) (λ all. input.items ≡ all)) }
     ensures end { OnOk result (IsAtEnd (R.remaining reader.new)) }
@@ -26,15 +26,11 @@ pub fn read_all<R: Read>(alloc: Global, reader: &mut R) -> Result<Vec<u8>, RowsE
     let mut input = Vec::new(alloc);
     let mut piece = [0u8; PIECE];
     for _turn in 0..READS {
-        let Ok(count) = reader.read(&mut piece) else {
-            return Err(RowsError::Read);
-        };
+        let count = reader.read(&mut piece).map_err(|_| RowsError::Read)?;
         if count == 0 {
             return Ok(input);
         }
-        if input.extend_from_slice(&piece[..count]).is_err() {
-            return Err(RowsError::Memory);
-        }
+        input.extend_from_slice(&piece[..count])?;
     }
     Err(RowsError::Read)
 }

@@ -2,11 +2,14 @@
 
 ghost use Rattle.std.specs.Prelude.{◌≡◌, ◌≢◌, IfErr, IfOk, IfSome, OnOk};
 ghost use Rattle.std.specs.Io.KnownBytes.{Appends, IsAtEnd};
-ghost use Rattle.scalar_rows.specs.Faults.{fault_text};
-ghost use Rattle.scalar_rows.specs.Grammar.{rows_of};
+ghost use Rattle.scalar_rows.specs.FaultTexts.{fault_text};
+ghost use Rattle.scalar_rows.specs.Rows.{rows_of};
+ghost use Rattle.scalar_rows.specs.declared.rows.RowsError.TheVariants.{Memory};
 
-use crate::answers::{answer_to, push_answer};
+use crate::answers::answer_to;
+use crate::commands::command_in;
 use crate::input::read_all;
+use crate::print::push_answer;
 use crate::words::first_line;
 use std::alloc::{AllocError, Global};
 use std::io::{Read, Write};
@@ -20,6 +23,15 @@ pub enum RowsError {
     Write,
     /// No memory was left.
     Memory,
+}
+
+/// Want of memory.
+impl From<AllocError> for RowsError {
+    ghost from_gives = { λ _ fault. fault ≡ Memory };
+
+    fn from(_error: AllocError) -> RowsError {
+        RowsError::Memory
+    }
 }
 
 /// What the program says of a fault.
@@ -51,13 +63,9 @@ pub fn run<R: Read, W: Write>(
     ensures untouched { IfErr result (λ e. e ≢ RowsError.Write → writer.new ≡ writer.old) }
 {
     let input = read_all(alloc, reader)?;
-    let Ok(output) = rows(alloc, &input) else {
-        return Err(RowsError::Memory);
-    };
-    if writer.write_all(&output).is_err() || writer.flush().is_err() {
-        return Err(RowsError::Write);
-    }
-    Ok(())
+    let output = rows(alloc, &input)?;
+    writer.write_all(&output).map_err(|_| RowsError::Write)?;
+    writer.flush().map_err(|_| RowsError::Write)
 }
 
 /// What all lines give.
@@ -68,7 +76,8 @@ fn rows(alloc: Global, input: &[u8]) -> Result<Vec<u8>, AllocError>
     let mut rest = input;
     while !rest.is_empty() {
         let (line, after) = first_line(rest);
-        push_answer(&mut output, answer_to(alloc, line))?;
+        let answer = command_in(line).map(|command| answer_to(alloc, command));
+        push_answer(&mut output, answer)?;
         rest = after;
     }
     Ok(output)

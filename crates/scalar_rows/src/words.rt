@@ -6,7 +6,7 @@ ghost use Rattle.scalar_rows.specs.Lines.{lines_of, words_of};
 use memchr::memchr;
 
 /// The first line, and what follows its line feed.
-#[tactic(auto, using(crate::proofs::Cuts::first_of_lines, crate::proofs::Cuts::only_line, std::proofs::lemmas::List::take_rest))]
+#[tactic(auto, using(crate::proofs::Cuts::lines))]
 pub fn first_line(text: &[u8]) -> (&[u8], &[u8])
     requires { 0 < length text.now }
     ensures lines { lines_of text.now ≡ result.0.now ∷ lines_of result.1.now }
@@ -19,7 +19,7 @@ pub fn first_line(text: &[u8]) -> (&[u8], &[u8])
 }
 
 /// The first word and what follows the space after it, if there is a space.
-#[tactic(auto, using(crate::proofs::Cuts::first_of_words, crate::proofs::Cuts::only_word, std::proofs::lemmas::List::take_rest))]
+#[tactic(auto, using(crate::proofs::Cuts::words))]
 pub fn cut_word(line: &[u8]) -> Option<(&[u8], &[u8])>
     ensures some { IfSome result (λ cut. words_of line.now ≡ cut.0.now ∷ words_of cut.1.now) }
     ensures none { IfNone result (words_of line.now ≡ line.now ∷ []) }
@@ -30,7 +30,7 @@ pub fn cut_word(line: &[u8]) -> Option<(&[u8], &[u8])>
     }
 }
 
-/// The place of the first of this byte.
+/// The place of the first of this byte, told place by place: so the proofs of both cuts take it.
 fn find_byte(byte: u8, text: &[u8]) -> Option<usize>
     ensures within { IfSome result (λ i. i < length text.now) }
     ensures found { IfSome result (λ i. slice_index text.now i ≡ byte) }

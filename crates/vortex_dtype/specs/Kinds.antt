@@ -1,5 +1,5 @@
--- The eight integer kinds: their widths and signs.
-use Rattle.std.specs.Prelude.{ℕ, ◌==◌, Bool, true, false}
+-- The eight integer kinds: their widths, signs and names.
+use Rattle.std.specs.Prelude.{ℕ, ◌==◌, Bool, true, false, List, codes}
 use Rattle.vortex_dtype.specs.declared.kinds.PType.{PType}
 use Rattle.vortex_dtype.specs.declared.kinds.PType.TheVariants.{U8, U16, U32, U64, I8, I16, I32, I64}
 
@@ -24,6 +24,17 @@ is_signed_kind I8 = true
 is_signed_kind I16 = true
 is_signed_kind I32 = true
 is_signed_kind I64 = true
+
+-- the kind's name
+abbrev pub kind_text : PType → List ℕ
+kind_text U8 = codes "u8"
+kind_text U16 = codes "u16"
+kind_text U32 = codes "u32"
+kind_text U64 = codes "u64"
+kind_text I8 = codes "i8"
+kind_text I16 = codes "i16"
+kind_text I32 = codes "i32"
+kind_text I64 = codes "i64"
 
 -- the place of the kind among the eight
 abbrev pub kind_index : PType → ℕ

@@ -1,7 +1,7 @@
 //! The integer kinds, and whether a type takes a null.
 
 ghost use Rattle.std.specs.Prelude.{◌≡◌};
-ghost use Rattle.vortex_dtype.specs.Kinds.{byte_width_of, is_signed_kind};
+ghost use Rattle.vortex_dtype.specs.Kinds.{byte_width_of, is_signed_kind, kind_text};
 
 /// Whether a type takes a null.
 ///
@@ -61,6 +61,22 @@ impl PType {
         match self {
             PType::U8 | PType::U16 | PType::U32 | PType::U64 => false,
             PType::I8 | PType::I16 | PType::I32 | PType::I64 => true,
+        }
+    }
+
+    /// The kind's name, as `u8`. Of this port alone, for what upstream's `Display` of a kind prints.
+    pub fn name(&self) -> &'static str
+        ensures { result.now ≡ kind_text self.now }
+    {
+        match self {
+            PType::U8 => "u8",
+            PType::U16 => "u16",
+            PType::U32 => "u32",
+            PType::U64 => "u64",
+            PType::I8 => "i8",
+            PType::I16 => "i16",
+            PType::I32 => "i32",
+            PType::I64 => "i64",
         }
     }
 }

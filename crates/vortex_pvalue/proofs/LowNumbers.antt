@@ -10,7 +10,7 @@ use Rattle.num_traits.specs.Ints.{unsigned-wrap_fits}
 use Rattle.vortex_dtype.specs.declared.kinds.PType.{PType}
 use Rattle.vortex_dtype.specs.declared.kinds.PType.TheVariants.{U8, U16, U32, U64, I8, I16, I32, I64}
 use Rattle.vortex_pvalue.specs.KindLaws.{LowExists, LowIsUnique, ReinterpretsBack}
-use Rattle.vortex_pvalue.specs.Kinds.{InRange, IsLow, low, least_of, bits_of}
+use Rattle.vortex_pvalue.specs.Kinds.{IsLow, low, least_of, bits_of}
 use Rattle.vortex_pvalue.proofs.Multiples.{times-add, times-neg, one_in_window}
 use Rattle.vortex_pvalue.proofs.Ranges.{range_is_interval, greatest-below}
 use mir.Val.{hbits, bits, to_z, of_z}

@@ -1,13 +1,12 @@
 -- The ranges of the kinds: which numbers they have, and the least and the greatest.
-use Rattle.std.proofs.Common.{◌≡◌, ◌↔◌, ◌⊎◌, ◌≤ℤ◌, ◌<ℤ◌, ◌+ℤ◌, ◌^◌, ℕ, ℤ, Bool, true, false, pos, negsuc, FitsSigned, refl, inl, inr, arith}
+use Rattle.std.proofs.Common.{◌≤ℤ◌, ◌<ℤ◌, ◌+ℤ◌, ◌^◌, ℤ, pos, arith}
 use Rattle.std.specs.Int.{w8, w16, w32, w64}
 use Rattle.std.proofs.lemmas.Int.{ints}
 use Rattle.num_traits.specs.Ints.{unsigned-bounds, signed-bounds}
 use Rattle.vortex_dtype.specs.declared.kinds.PType.{PType}
 use Rattle.vortex_dtype.specs.declared.kinds.PType.TheVariants.{U8, U16, U32, U64, I8, I16, I32, I64}
 use Rattle.vortex_pvalue.specs.KindLaws.{RangeIsInterval}
-use Rattle.vortex_pvalue.specs.Kinds.{InRange, in_range, least_of, greatest_of, bits_of}
-use Rattle.vortex_pvalue.specs.RangeLaws.{in_range_exactly, in_range_true}
+use Rattle.vortex_pvalue.specs.Kinds.{least_of, greatest_of, bits_of}
 
 -- a kind has the numbers from its least to its greatest, and no others
 pub range_is_interval : RangeIsInterval

@@ -1,5 +1,5 @@
 -- The numbers of the eight integer kinds.
-use Rattle.std.specs.Prelude.{◌≡◌, ℕ, ℤ, Bool, false, pos, negsuc, nat_lt, ◌-◌, ◌*◌, ◌^◌, ◌+ℤ◌, ◌*ℤ◌, List, codes, FitsSigned}
+use Rattle.std.specs.Prelude.{◌≡◌, ℕ, ℤ, Bool, false, pos, negsuc, nat_lt, ◌-◌, ◌*◌, ◌^◌, ◌+ℤ◌, ◌*ℤ◌, FitsSigned}
 use Rattle.std.specs.Int.{FitsUnsignedBits, int_rem_euclid, int_wrap, w8, w16, w32, w64}
 use Rattle.vortex_dtype.specs.Kinds.{byte_width_of}
 use Rattle.vortex_dtype.specs.declared.kinds.PType.{PType}
@@ -78,14 +78,3 @@ greatest_of I8 = pos (2 ^ 7 - 1)
 greatest_of I16 = pos (2 ^ 15 - 1)
 greatest_of I32 = pos (2 ^ 31 - 1)
 greatest_of I64 = pos (2 ^ 63 - 1)
-
--- the kind's name
-abbrev pub kind_text : PType → List ℕ
-kind_text U8 = codes "u8"
-kind_text U16 = codes "u16"
-kind_text U32 = codes "u32"
-kind_text U64 = codes "u64"
-kind_text I8 = codes "i8"
-kind_text I16 = codes "i16"
-kind_text I32 = codes "i32"
-kind_text I64 = codes "i64"

@@ -1,6 +1,7 @@
 -- The test of a kind's range is the range. Upper crates cite these lemmas.
-use Rattle.std.proofs.Common.{◌≡◌, ◌↔◌, ◌^◌, ℕ, ℤ, Bool, true, false, pos, negsuc, FitsSigned, refl}
+use Rattle.std.proofs.Common.{◌≡◌, ◌↔◌, ◌^◌, ℕ, ℤ, true, false, pos, negsuc, FitsSigned}
 use Rattle.std.specs.Int.{Width, w8, w16, w32, w64, FitsUnsignedBits}
+use Rattle.std.proofs.lemmas.Bool.{false_from_ne_true}
 use Rattle.std.proofs.lemmas.Bool.Decides.{Decides-ltb}
 use Rattle.vortex_dtype.specs.declared.kinds.PType.{PType}
 use Rattle.vortex_dtype.specs.declared.kinds.PType.TheVariants.{U8, U16, U32, U64, I8, I16, I32, I64}
@@ -39,10 +40,6 @@ in_range_true k z = (in_range_exactly k z).1
 pub in_range_back : (k : PType) (z : ℤ) → in_range k z ≡ true → InRange k z
 in_range_back k z = (in_range_exactly k z).0
 
-not_true : (b : Bool) → ¬ (b ≡ true) → b ≡ false
-not_true true h = absurd (h refl)
-not_true false h = refl
-
 -- a number that the kind does not have fails the test
 pub in_range_false : (k : PType) (z : ℤ) → ¬ (InRange k z) → in_range k z ≡ false
-in_range_false k z out = not_true (in_range k z) (λ passed. out (in_range_back k z passed))
+in_range_false k z out = false_from_ne_true (in_range k z) (λ passed. out (in_range_back k z passed))

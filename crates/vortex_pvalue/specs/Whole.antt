@@ -3,7 +3,7 @@ use Rattle.std.specs.Prelude.{ℕ, ℤ, pos, List, ◌++◌}
 use Rattle.std.specs.Fmt.{signed_decimal}
 use Rattle.vortex_dtype.specs.declared.kinds.PType.{PType}
 use Rattle.vortex_dtype.specs.declared.kinds.PType.TheVariants as kinds
-use Rattle.vortex_pvalue.specs.Kinds.{kind_text}
+use Rattle.vortex_dtype.specs.Kinds.{kind_text}
 use Rattle.vortex_pvalue.specs.declared.pvalues.PValue.{PValue}
 use Rattle.vortex_pvalue.specs.declared.pvalues.PValue.TheVariants.{U8, U16, U32, U64, I8, I16, I32, I64}
 

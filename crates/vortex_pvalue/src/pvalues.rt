@@ -10,7 +10,7 @@ ghost use Rattle.vortex_dtype.specs.Kinds.{byte_width_of};
 ghost use Rattle.vortex_pvalue.specs.Bytes.{bytes_of};
 ghost use Rattle.vortex_pvalue.specs.Conversions.{IsNumber};
 ghost use Rattle.vortex_pvalue.specs.KindLaws.{other_sign};
-ghost use Rattle.vortex_pvalue.specs.Kinds.{InRange, least_of, greatest_of, low, kind_text};
+ghost use Rattle.vortex_pvalue.specs.Kinds.{InRange, least_of, greatest_of, low};
 ghost use Rattle.vortex_pvalue.specs.Whole.{whole_of, kind_of, pvalue_text};
 
 use crate::natives::NativePType;
@@ -333,22 +333,6 @@ fn inline(bytes: &[u8]) -> ArrayVec<u8, 8>
     held
 }
 
-/// The kind's name, as `u8`.
-fn kind_name(kind: PType) -> &'static str
-    ensures { result.now ≡ kind_text kind }
-{
-    match kind {
-        PType::U8 => "u8",
-        PType::U16 => "u16",
-        PType::U32 => "u32",
-        PType::U64 => "u64",
-        PType::I8 => "i8",
-        PType::I16 => "i16",
-        PType::I32 => "i32",
-        PType::I64 => "i64",
-    }
-}
-
 impl PartialEq for PValue {
     ghost eq = { on whole_of int_eq };
 
@@ -387,6 +371,6 @@ impl fmt::Display for PValue {
     ghost output = { λ v. Some (pvalue_text v) };
 
     fn fmt<W: fmt::Write>(&self, f: &mut fmt::Formatter<W>) -> fmt::Result {
-        write!(f, "{}{}", self.whole(), kind_name(self.ptype()))
+        write!(f, "{}{}", self.whole(), self.ptype().name())
     }
 }

@@ -1,7 +1,7 @@
 -- A `cast` with more than three words after it.
-use Rattle.std.proofs.Common.{◌≡◌, ℕ, ◌==◌, true, false, Bool, List, [], ◌∷◌, refl, sym, ap, ◌∙◌}
+use Rattle.std.proofs.Common.{◌≡◌, ℕ, ◌==◌, true, false, Bool, List, [], ◌∷◌, None, refl, sym, ap, ◌∙◌}
 use Rattle.scalar_rows.specs.Lines.{words_of}
-use Rattle.scalar_rows.specs.Grammar.{bad_line, cast_operands}
+use Rattle.scalar_rows.specs.Grammar.{cast_operands}
 
 abbrev HasWord : List ℕ → Type 0
 HasWord line = (w : List ℕ) × (ws : List (List ℕ)) × (words_of line ≡ w ∷ ws)
@@ -16,7 +16,7 @@ some_word (b ∷ bs) = by_test (b == 32) refl (some_word bs)
     by_test false e more = (b ∷ more.0, more.1, rw (e, more.2) refl)
 
 -- more than three words are no operands of `cast`
-pub more_than_three : (l a r b s c t : List ℕ) → words_of l ≡ a ∷ words_of r → words_of r ≡ b ∷ words_of s → words_of s ≡ c ∷ words_of t → bad_line ≡ cast_operands (words_of l)
+pub more_than_three : (l a r b s c t : List ℕ) → words_of l ≡ a ∷ words_of r → words_of r ≡ b ∷ words_of s → words_of s ≡ c ∷ words_of t → None ≡ cast_operands (words_of l)
 more_than_three l a r b s c t e f g =
     let more = some_word t in
     sym (ap cast_operands (e ∙ ap (λ ws. a ∷ ws) (f ∙ ap (λ ws. b ∷ ws) (g ∙ ap (λ ws. c ∷ ws) more.2))))

@@ -1,0 +1,9 @@
+-- What a parsed command asks for.
+use Rattle.vortex_pvalue.specs.Whole.{kind_of, whole_of}
+use Rattle.scalar_rows.specs.Grammar.{Request, cast}
+use Rattle.scalar_rows.specs.declared.commands.Command.{Command}
+use Rattle.scalar_rows.specs.declared.commands.Command.TheVariants.{Cast}
+
+-- the request that the command is
+abbrev pub request_of : Command → Request
+request_of (Cast number to) = cast (kind_of number) (whole_of number) to
