@@ -1,3 +1,3 @@
+pub mod HeldParts
 pub mod NullableLaws
 pub mod PlaceLaws
-pub mod TypeSteps

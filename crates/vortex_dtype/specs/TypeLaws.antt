@@ -43,6 +43,9 @@ same_kind-same _ _ e = absurd (true≢false (sym e))
 same_kind-refl : (k : PType) → same_kind k k ≡ true
 same_kind-refl k = (unsigned_Decides (kind_index k) (kind_index k)).1 refl
 
+pub same_kind-Decides : (j k : PType) → Decides (same_kind j k) (j ≡ k)
+same_kind-Decides j k = (same_kind-same j k, λ e. subst (λ (l : PType). same_kind j l ≡ true) e (same_kind-refl j))
+
 bytes_eq-refl : (xs : List ℕ) → bytes_eq xs xs ≡ true
 bytes_eq-refl xs = (bytes_eq-Decides xs xs).1 refl
 

@@ -254,7 +254,7 @@ impl DType {
     /// What a struct type holds, and none exactly for another type.
     ///
     /// Ports `DType::as_struct_fields_opt`.
-    #[tactic(auto, using(crate::proofs::TypeSteps::shown))]
+    #[tactic(auto, using(crate::proofs::HeldParts::shown))]
     pub fn as_struct_fields_opt(&self) -> Option<&StructFields>
         ensures { option_map (λ fields. fields_of fields.now) result ≡ fields_in (type_of self.now) }
     {
@@ -267,7 +267,7 @@ impl DType {
     /// What a union type holds, and none exactly for another type.
     ///
     /// Ports `DType::as_union_variants_opt`.
-    #[tactic(auto, using(crate::proofs::TypeSteps::shown))]
+    #[tactic(auto, using(crate::proofs::HeldParts::shown))]
     pub fn as_union_variants_opt(&self) -> Option<&UnionVariants>
         ensures { option_map (λ variants. variants_of variants.now) result ≡ variants_in (type_of self.now) }
     {

@@ -70,7 +70,7 @@ fn fields_equal(exact: bool, a: &StructFields, b: &StructFields) -> bool
 }
 
 #[cycle(equal)]
-#[tactic(auto, using(crate::proofs::TypeSteps::held))]
+#[tactic(auto, using(crate::proofs::HeldParts::held))]
 fn variants_equal(exact: bool, a: &UnionVariants, b: &UnionVariants) -> bool
     ensures { result ≡ variants_eq exact (variants_of a.now) (variants_of b.now) }
 {
