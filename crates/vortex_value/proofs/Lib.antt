@@ -1,4 +1,5 @@
-pub mod Filling
+pub mod FillingLaws
+pub mod FillingSteps
 pub mod GivenItems
 pub mod HashSteps
 pub mod ListMakers
@@ -8,6 +9,7 @@ pub mod OrderAgrees
 pub mod OrderLaws
 pub mod OrderSteps
 pub mod SizeLaws
+pub mod SizeSteps
 pub mod StructMakers
 pub mod Uniqueness
 pub mod ValidSteps
@@ -15,3 +17,4 @@ pub mod ValidityLaws
 pub mod ValueSteps
 pub mod Variants
 pub mod ZeroLaws
+pub mod ZeroSteps

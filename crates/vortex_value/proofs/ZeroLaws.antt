@@ -12,7 +12,7 @@ use Rattle.vortex_value.specs.RawTree.{RawTree, absent, raw_bool, raw_integer, r
 use Rattle.vortex_value.specs.TypesWithin.{HasNoVariant, HaveNoVariant, UnionsHaveVariants, AllHaveVariants}
 use Rattle.vortex_value.specs.Validity.{Valid, ValidAt, EachValid, FieldsValid, HasType, type_with}
 use Rattle.vortex_value.specs.Zero.{filling, fillings, null_or, repeated, places_of, and_rest, has_no_places, of_first, is_zero_at, each_zero, fields_zero, is_zero_of, ZeroIsZero, DefaultExists}
-use Rattle.vortex_value.proofs.Filling.{filling-storage, filling-valid}
+use Rattle.vortex_value.proofs.FillingLaws.{filling-storage, filling-valid}
 use Rattle.vortex_value.proofs.OrderAgrees.{no_variant-storage}
 
 -- what fills a type is null only where a null is taken

@@ -1,5 +1,5 @@
 -- What the check of validity carries up: why a raw value is not valid, with the path or without.
-use Rattle.std.specs.Prelude.{◌≡◌, ◌≢◌, List, [], ◌∷◌, Bool, false, Some, Result, Ok, Err, reverse}
+use Rattle.std.specs.Prelude.{◌≡◌, ◌≢◌, List, [], Bool, false, Some, Result, Ok, Err, reverse}
 use Rattle.vortex_value.specs.Breaches.{Found, HasSteps, first}
 use Rattle.vortex_value.specs.declared.validate.Fault.{Fault}
 use Rattle.vortex_value.specs.declared.validate.Fault.TheVariants.{NoMemory, NoPath, First}

@@ -1,13 +1,17 @@
 -- The size of a value in bytes.
-use Rattle.std.specs.Prelude.{◌≡◌, ℕ, ◌+◌, Bool, List, [], ◌∷◌, length, Some, sum_by}
+use Rattle.std.specs.Prelude.{◌≡◌, ℕ, ◌+◌, ◌-◌, ◌^◌, Bool, List, [], ◌∷◌, length, min, Option, Some, None, sum_by}
 use Rattle.std.specs.List.{zip}
-use Rattle.std.specs.Option.{option_map_or}
 use Rattle.vortex_dtype.specs.Kinds.{byte_width_of}
 use Rattle.vortex_dtype.specs.TypeOf.{types_from}
 use Rattle.vortex_dtype.specs.TypeTree.{TypeTree, bool_type, integer_type, utf8_type, binary_type, list_type, fixed_size_list_type, map_type, struct_type, union_type, variant_type, extension_type, TypeTrees, type_then, storage}
 use Rattle.vortex_dtype.specs.declared.kinds.Nullability.{Nullability}
 use Rattle.vortex_value.specs.RawTree.{RawTree, raw_text, raw_bytes, raw_tuple, raw_union, raw_variant, RawTrees, no_raws, raw_then}
 use Rattle.vortex_value.specs.Validity.{type_with}
+
+-- the size of a union's child, for the type that the id gives
+abbrev pub child_size : Option TypeTree → (TypeTree → ℕ) → ℕ
+child_size None size = 0
+child_size (Some t) size = size t
 
 -- the size at a type that is no extension: that of its parts, of a truth value and an integer also for a null; of
 -- another null, and of what is no value of the type, 0
@@ -21,7 +25,7 @@ abbrev mutual
   size_at (map_type k w sorted n) (raw_tuple vs) = entries_size k w vs
   size_at (fixed_size_list_type e size n) (raw_tuple vs) = elements_size e vs
   size_at (struct_type names ts n) (raw_tuple vs) = fields_size ts vs
-  size_at (union_type names ts ids n) (raw_union id v) = 1 + option_map_or (λ t. size_at (storage t) v) (type_with id ids ts) 0
+  size_at (union_type names ts ids n) (raw_union id v) = 1 + child_size (type_with id ids ts) (λ t. size_at (storage t) v)
   size_at (variant_type n) (raw_variant t v) = size_at (storage t) v
   size_at _ _ = 0
 
@@ -32,8 +36,13 @@ abbrev mutual
 
   -- of the keys and values of a map, together
   pub entries_size : TypeTree → TypeTree → RawTrees → ℕ
-  entries_size k w (raw_then (raw_tuple (raw_then x (raw_then y no_raws))) vs) = size_at (storage k) x + size_at (storage w) y + entries_size k w vs
-  entries_size k w _ = 0
+  entries_size k w no_raws = 0
+  entries_size k w (raw_then v vs) = entry_size k w v + entries_size k w vs
+
+  -- of the key and the value of an entry, together
+  pub entry_size : TypeTree → TypeTree → RawTree → ℕ
+  entry_size k w (raw_tuple (raw_then x (raw_then y no_raws))) = size_at (storage k) x + size_at (storage w) y
+  entry_size k w _ = 0
 
   -- of the fields of a struct, together
   pub fields_size : TypeTrees → RawTrees → ℕ
@@ -43,6 +52,10 @@ abbrev mutual
 -- the size of an optional raw value of the type, in bytes; an extension takes what its storage takes
 abbrev pub size_of : TypeTree → RawTree → ℕ
 size_of t v = size_at (storage t) v
+
+-- a size in bytes, no more than the greatest `usize`
+abbrev pub capped : ℕ → ℕ
+capped n = min n (2 ^ 64 - 1)
 
 -- these values as the parts of a tuple
 abbrev pub tuple_of : List RawTree → RawTrees

@@ -6,7 +6,7 @@ use Rattle.vortex_dtype.specs.declared.kinds.Nullability.{Nullability}
 use Rattle.vortex_dtype.specs.declared.kinds.Nullability.TheVariants.{Nullable}
 use Rattle.vortex_value.specs.Casts.{Has, IsNull}
 use Rattle.vortex_value.specs.Content.{Content, null, truth, whole, text, string, sequence, tagged, typed, Contents, no_contents, content_then, content}
-use Rattle.vortex_value.specs.RawTree.{RawTree, RawTrees, no_raws, raw_then}
+use Rattle.vortex_value.specs.RawTree.{RawTree}
 use Rattle.vortex_value.specs.Scalars.{IsTheOne}
 use Rattle.vortex_value.specs.TypesWithin.{HasNoVariant, UnionsHaveVariants}
 use Rattle.vortex_value.specs.Validity.{Valid}
@@ -63,22 +63,6 @@ zero_of = filling false
 -- the default of a type: the null of one that takes it, and else as its zero, with defaults in its parts
 abbrev pub default_of : TypeTree → Option Content
 default_of = filling true
-
--- the value fills the type: it is valid, and what it says fills the type
-pub record Fills (nulls : Bool) (t : TypeTree) (v : RawTree) : Type 0 where
-  pub valid : Valid t v
-  pub same : filling nulls t ≡ Some (content v)
-
--- each of the values fills the type
-abbrev pub EachFills : Bool → TypeTree → RawTrees → Type 0
-EachFills nulls e no_raws = Unit {0}
-EachFills nulls e (raw_then v vs) = Fills nulls e v × EachFills nulls e vs
-
--- the values fill the types, each its own
-abbrev pub FillFields : Bool → TypeTrees → RawTrees → Type 0
-FillFields nulls no_types no_raws = Unit {0}
-FillFields nulls (type_then t ts) (raw_then v vs) = Fills nulls t v × FillFields nulls ts vs
-FillFields nulls _ _ = ⊥
 
 -- whether there are no places
 abbrev pub has_no_places : Contents → Bool

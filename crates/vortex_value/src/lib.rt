@@ -10,10 +10,12 @@ pub mod laws;
 mod ordering;
 mod refs;
 mod scalars;
+mod size;
 mod storage;
 mod unions;
 mod validate;
 mod values;
+mod zero;
 
 pub use refs::ScalarRef;
 pub use scalars::Scalar;

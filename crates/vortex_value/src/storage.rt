@@ -3,6 +3,7 @@
 ghost use Rattle.std.specs.Prelude.{◌≡◌, option_map};
 ghost use Rattle.vortex_dtype.specs.TypeOf.{type_of, types_from, variants_of};
 ghost use Rattle.vortex_dtype.specs.TypeTree.{storage};
+ghost use Rattle.vortex_value.specs.Filling.{first_of};
 ghost use Rattle.vortex_value.specs.Validity.{type_with};
 
 use vortex_dtype::{DType, UnionVariants};
@@ -28,4 +29,13 @@ pub(crate) fn variant_with(variants: &UnionVariants, id: u8) -> Option<&DType>
         Some(index) => variants.variant_by_index(index),
         None => None,
     }
+}
+
+/// The id and the type of the first variant, if there is one.
+pub(crate) fn first_variant(variants: &UnionVariants) -> Option<(u8, &DType)>
+    ensures { option_map (λ first. (first.0, type_of first.1.now)) result
+        ≡ first_of (variants_of variants.now).type_ids (variants_of variants.now).types }
+{
+    let id = variants.type_ids().next()?;
+    Some((id, variants.variant_by_index(0)?))
 }

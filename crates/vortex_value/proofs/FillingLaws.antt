@@ -11,7 +11,8 @@ use Rattle.vortex_value.specs.Casts.{Has}
 use Rattle.vortex_value.specs.Content.{Content, null, sequence, tagged, Contents, no_contents, content, contents}
 use Rattle.vortex_value.specs.RawTree.{RawTree, absent, raw_bool, raw_integer, raw_text, raw_bytes, raw_tuple, raw_union, raw_variant, RawTrees, no_raws, raw_then, count}
 use Rattle.vortex_value.specs.Validity.{EachValid, FieldsValid}
-use Rattle.vortex_value.specs.Zero.{filling, fillings, null_or, repeated, places_of, and_rest, Fills, EachFills, FillFields}
+use Rattle.vortex_value.specs.Filling.{Fills, EachFills, FillFields}
+use Rattle.vortex_value.specs.Zero.{filling, fillings, null_or, repeated, places_of, and_rest}
 use Rattle.vortex_value.proofs.MakerLaws.{null_valid}
 
 -- no null stands for this type: it takes none, or nulls are not taken

@@ -1,0 +1,37 @@
+-- What is left to test, and that each call goes down the value.
+use Rattle.std.proofs.Common.{◌≡◌, ℕ, ◌+◌, ◌*◌, Option, Some, None, Bor, drop, length}
+use Rattle.vortex_dtype.specs.TypeOf.{type_of, types_of}
+use Rattle.vortex_value.specs.Content.{contents}
+use Rattle.vortex_value.specs.RawOf.{raws_of}
+use Rattle.vortex_value.specs.Zero.{each_zero, fields_zero}
+use Rattle.vortex_value.specs.declared.values.ScalarValue.{ScalarValue, size-ScalarValue}
+use Rattle.vortex_value.proofs.zero.+is_zero.Given as goal
+
+abbrev pub invariant-are_elements_zero-loop-item : goal.invariant-are_elements_zero-loop-item
+invariant-are_elements_zero-loop-item l =
+    each_zero (type_of l.element) (contents (raws_of (drop l.item-index l.items))) ≡ each_zero (type_of l.element) (contents (raws_of l.items))
+
+abbrev pub invariant-are_fields_zero-loop-item : goal.invariant-are_fields_zero-loop-item
+invariant-are_fields_zero-loop-item l =
+    (fields_zero (types_of l.item-iterator.b.rest.now) (contents (raws_of l.item-iterator.a.rest.now)) ≡ fields_zero (types_of l.fields) (contents (raws_of l.items)))
+    × (length l.item-iterator.a.rest.now ≡ length l.item-iterator.b.rest.now)
+
+-- the size of a borrowed value, if there is one
+abbrev pub lent_size : Option (Bor ScalarValue) → ℕ
+lent_size None = 0
+lent_size (Some v) = size-ScalarValue v.now
+
+abbrev pub decreases-is_zero : goal.decreases-is_zero
+decreases-is_zero l = 3 * lent_size l.value + 1
+
+abbrev pub decreases-are_elements_zero : goal.decreases-are_elements_zero
+decreases-are_elements_zero l = 3 * goal.size-are_elements_zero l + 2
+
+abbrev pub decreases-are_fields_zero : goal.decreases-are_fields_zero
+decreases-are_fields_zero l = 3 * goal.size-are_fields_zero l + 2
+
+abbrev pub decreases-is_child_zero : goal.decreases-is_child_zero
+decreases-is_child_zero l = 3 * goal.size-is_child_zero l + 1
+
+abbrev pub decreases-is_inner_zero : goal.decreases-is_inner_zero
+decreases-is_inner_zero l = 3 * goal.size-is_inner_zero l + 1

@@ -1,0 +1,143 @@
+//! The size of scalars in bytes: the sum of the sizes of their parts, as far as a `usize` counts.
+
+ghost use Rattle.std.specs.Prelude.{◌≡◌, option_map};
+ghost use Rattle.std.specs.Option.{option_copied};
+ghost use Rattle.vortex_dtype.specs.TypeOf.{map_of, type_of, types_from, types_of, variants_of};
+ghost use Rattle.vortex_value.specs.RawOf.{raw_of, raws_of};
+ghost use Rattle.vortex_value.specs.RawTree.{raw_tuple};
+ghost use Rattle.vortex_value.specs.Scalars.{scalar_raw, scalar_type};
+ghost use Rattle.vortex_value.specs.Size.{capped, child_size, elements_size, entries_size, entry_size, fields_size, size_of};
+ghost use Rattle.vortex_value.specs.Validity.{type_with};
+
+use crate::scalars::Scalar;
+use crate::storage::{storage_of, variant_with};
+use crate::unions::UnionValue;
+use crate::values::ScalarValue;
+use vortex_dtype::{DType, MapDType, UnionVariants};
+
+/// The size of an optional raw value of the type.
+#[cycle(size)]
+#[tactic(auto, using(crate::proofs::SizeSteps::shown))]
+fn size(value: Option<&ScalarValue>, dtype: &DType) -> usize
+    ensures { result ≡ capped (size_of (type_of dtype.now) (raw_of (option_copied value.entry))) }
+{
+    match (storage_of(dtype), value) {
+        (DType::Bool(_), _) => 1,
+        (DType::Primitive(kind, _), _) => kind.byte_width(),
+        (DType::Utf8(_), Some(ScalarValue::Utf8(text))) => text.len(),
+        (DType::Binary(_), Some(ScalarValue::Binary(bytes))) => bytes.len(),
+        (DType::List(element, _), Some(ScalarValue::Tuple(items))) => size_of_elements(
+            items, element,
+        ),
+        (DType::FixedSizeList(element, _, _), Some(ScalarValue::Tuple(items))) => {
+            size_of_elements(items, element)
+        }
+        (DType::Map(map, _), Some(ScalarValue::Tuple(items))) => size_of_entries(items, map),
+        (DType::Struct(fields, _), Some(ScalarValue::Tuple(items))) => {
+            size_of_fields(items, fields.dtypes())
+        }
+        (DType::Union(variants, _), Some(ScalarValue::Union(union))) => {
+            size_of_child(union, variants).saturating_add(1)
+        }
+        (DType::Variant(_), Some(ScalarValue::Variant(scalar))) => {
+            size(scalar.value.as_ref(), &scalar.dtype)
+        }
+        _ => 0,
+    }
+}
+
+/// The sizes of the elements of a list, together.
+#[cycle(size)]
+#[tactic(auto, using(crate::proofs::SizeSteps::shown))]
+fn size_of_elements(items: &[Option<ScalarValue>], element: &DType) -> usize
+    ensures { result ≡ capped (elements_size (type_of element.now) (raws_of items.now)) }
+{
+    let mut total = 0usize;
+    for item in items {
+        total = total.saturating_add(size(item.as_ref(), element));
+    }
+    total
+}
+
+/// The sizes of the keys and values of a map, together.
+#[cycle(size)]
+#[tactic(auto, using(crate::proofs::SizeSteps::shown))]
+fn size_of_entries(items: &[Option<ScalarValue>], map: &MapDType) -> usize
+    ensures { result ≡
+        capped (entries_size (map_of map.now).key (map_of map.now).value (raws_of items.now)) }
+{
+    let mut total = 0usize;
+    for item in items {
+        total = total.saturating_add(size_of_entry(item.as_ref(), map));
+    }
+    total
+}
+
+/// The size of an entry: of a tuple of two, those of the key and the value together.
+#[cycle(size)]
+#[tactic(auto, using(crate::proofs::SizeSteps::shown))]
+fn size_of_entry(entry: Option<&ScalarValue>, map: &MapDType) -> usize
+    ensures { result ≡ capped (entry_size (map_of map.now).key (map_of map.now).value
+        (raw_of (option_copied entry.entry))) }
+{
+    match entry {
+        Some(ScalarValue::Tuple(parts)) => size_of_pair(parts, map),
+        _ => 0,
+    }
+}
+
+/// The sizes of a key and a value, together.
+#[cycle(size)]
+#[tactic(auto, using(crate::proofs::SizeSteps::shown))]
+fn size_of_pair(parts: &[Option<ScalarValue>], map: &MapDType) -> usize
+    ensures { result ≡ capped (entry_size (map_of map.now).key (map_of map.now).value
+        (raw_tuple (raws_of parts.now))) }
+{
+    match parts {
+        [key, value] => {
+            let key = size(key.as_ref(), map.key_dtype());
+            key.saturating_add(size(value.as_ref(), map.value_dtype()))
+        }
+        _ => 0,
+    }
+}
+
+/// The sizes of the fields of a struct, together.
+#[cycle(size)]
+#[tactic(auto, using(crate::proofs::SizeSteps::shown))]
+fn size_of_fields(items: &[Option<ScalarValue>], fields: &[DType]) -> usize
+    ensures { result ≡ capped (fields_size (types_of fields.now) (raws_of items.now)) }
+{
+    let mut total = 0usize;
+    for (item, field) in items.iter().zip(fields) {
+        total = total.saturating_add(size(item.as_ref(), field));
+    }
+    total
+}
+
+/// The size of a union's child.
+#[cycle(size)]
+#[tactic(auto, using(crate::proofs::SizeSteps::shown))]
+fn size_of_child(union: &UnionValue, variants: &UnionVariants) -> usize
+    ensures { result ≡ capped (child_size (type_with union.now.type_id
+        (variants_of variants.now).type_ids (types_from (variants_of variants.now).types))
+        (λ t. size_of t (raw_of (option_map (λ b. b.value) union.now.child)))) }
+{
+    match variant_with(variants, union.type_id) {
+        Some(variant) => size(union.child.as_deref(), variant),
+        None => 0,
+    }
+}
+
+impl Scalar {
+    /// The size in bytes: of parts, texts and strings together, a byte more for each union and truth
+    /// value, and the width of each integer, which a null has too. It stops at the greatest `usize`.
+    /// Takes no memory.
+    ///
+    /// Ports `Scalar::approx_nbytes`.
+    pub fn approx_nbytes(&self) -> usize
+        ensures { result ≡ capped (size_of (scalar_type self.now) (scalar_raw self.now)) }
+    {
+        size(self.value.as_ref(), &self.dtype)
+    }
+}

@@ -1,0 +1,342 @@
+//! The zero and the default of a type, and whether a scalar is zero.
+
+ghost use Rattle.std.specs.Prelude.{◌≡◌, ◌&&◌, IfErr, IfOk, IsOk, IsSome, MatchResult, length, option_map, pos};
+ghost use Rattle.std.specs.Option.{is_some, option_copied};
+ghost use Rattle.std.specs.Ordering.{int_eq};
+ghost use Rattle.vortex_dtype.specs.TypeOf.{type_of, types_from, types_of, variants_of};
+ghost use Rattle.vortex_dtype.specs.TypeTree.{IsFlat, is_nullable};
+ghost use Rattle.vortex_dtype.specs.declared.error.VortexError.TheVariants.{OutOfMemory};
+ghost use Rattle.vortex_pvalue.specs.Whole.{whole_of};
+ghost use Rattle.vortex_value.specs.Content.{content, contents};
+ghost use Rattle.vortex_value.specs.RawOf.{raw_of, raws_of, union_tree};
+ghost use Rattle.vortex_value.specs.Scalars.{scalar_content, scalar_type};
+ghost use Rattle.vortex_value.specs.Filling.{EachFills, FillFields, Fills, FillsFirst, child_filling, first_of};
+ghost use Rattle.vortex_value.specs.Zero.{IsTheOneOf, default_of, each_zero, fields_zero, filling, fillings, is_zero_of, of_first, of_inner, places_of, zero_of};
+
+use crate::scalars::Scalar;
+use crate::storage::{first_variant, storage_of};
+use crate::unions::UnionValue;
+use crate::values::ScalarValue;
+use std::alloc::Global;
+use vortex_dtype::{BufferString, ByteBuffer, DType, UnionVariants, VortexError};
+use vortex_pvalue::PValue;
+
+/// Whether a null fills the type: nulls are taken, and the type takes one.
+fn is_null_filled(dtype: &DType, nulls: bool) -> bool
+    ensures { result ≡ (nulls && is_nullable (type_of dtype.now)) }
+{
+    nulls && dtype.is_nullable()
+}
+
+/// Whether something fills the type: a zero, or where nulls are taken a default.
+#[cycle(fills)]
+#[tactic(auto, using(crate::proofs::FillingSteps::shown))]
+fn is_filled(dtype: &DType, nulls: bool) -> bool
+    ensures { result ≡ is_some (filling nulls (type_of dtype.now)) }
+{
+    match dtype {
+        DType::Extension(extension) => is_filled(extension.storage_dtype(), nulls),
+        _ if is_null_filled(dtype, nulls) => true,
+        DType::Null => false,
+        DType::FixedSizeList(element, size, _) => are_places_filled(element, *size, nulls),
+        DType::Struct(fields, _) => are_filled(fields.dtypes(), nulls),
+        DType::Union(variants, _) => is_first_filled(variants, nulls),
+        _ => true,
+    }
+}
+
+/// Whether something fills so many places of the type: no places always.
+#[cycle(fills)]
+#[tactic(auto, using(crate::proofs::FillingSteps::shown))]
+fn are_places_filled(element: &DType, size: u32, nulls: bool) -> bool
+    ensures { result ≡ is_some (places_of size (filling nulls (type_of element.now))) }
+{
+    size == 0 || is_filled(element, nulls)
+}
+
+/// Whether there is a first variant that something fills.
+#[cycle(fills)]
+#[tactic(auto, using(crate::proofs::FillingSteps::shown))]
+fn is_first_filled(variants: &UnionVariants, nulls: bool) -> bool
+    ensures { result ≡ is_some (child_filling (filling nulls)
+        (first_of (variants_of variants.now).type_ids (variants_of variants.now).types)) }
+{
+    match first_variant(variants) {
+        Some((_, variant)) => is_filled(variant, nulls),
+        None => false,
+    }
+}
+
+/// Whether something fills each of the types.
+#[cycle(fills)]
+#[tactic(auto, using(crate::proofs::FillingSteps::shown))]
+fn are_filled(dtypes: &[DType], nulls: bool) -> bool
+    ensures { result ≡ is_some (fillings nulls (types_of dtypes.now)) }
+{
+    for dtype in dtypes {
+        if !is_filled(dtype, nulls) {
+            return false;
+        }
+    }
+    true
+}
+
+/// What fills the type, of which it is known that something does; none is the null.
+#[cycle(fill)]
+#[tactic(auto, using(crate::proofs::FillingSteps::filled))]
+fn fill(alloc: Global, dtype: &DType, nulls: bool) -> Result<Option<ScalarValue>, VortexError>
+    requires { IsSome (filling nulls (type_of dtype.now)) }
+    ensures { MatchResult result
+        (λ made. Fills nulls (type_of dtype.now) (raw_of made))
+        (λ e. (e ≡ OutOfMemory) × ¬ (IsFlat (type_of dtype.now))) }
+{
+    if let DType::Extension(extension) = dtype {
+        return fill(alloc, extension.storage_dtype(), nulls);
+    }
+    if is_null_filled(dtype, nulls) {
+        return Ok(None);
+    }
+    match dtype {
+        DType::Bool(_) => Ok(Some(ScalarValue::Bool(false))),
+        DType::Primitive(kind, _) => Ok(Some(ScalarValue::Primitive(PValue::zero(kind)))),
+        DType::Utf8(_) => Ok(Some(ScalarValue::Utf8(BufferString::empty(alloc)?))),
+        DType::Binary(_) => Ok(Some(ScalarValue::Binary(ByteBuffer::empty(alloc)?))),
+        DType::List(_, _) => Ok(Some(ScalarValue::Tuple(Vec::new(alloc)))),
+        DType::FixedSizeList(element, size, _) => {
+            let items = fill_places(alloc, element, *size, nulls)?;
+            Ok(Some(ScalarValue::Tuple(items)))
+        }
+        DType::Map(_, _) => Ok(Some(ScalarValue::Tuple(Vec::new(alloc)))),
+        DType::Struct(fields, _) => {
+            let items = fill_fields(alloc, fields.dtypes(), nulls)?;
+            Ok(Some(ScalarValue::Tuple(items)))
+        }
+        DType::Union(variants, _) => {
+            let union = fill_first(alloc, variants, nulls)?;
+            Ok(Some(ScalarValue::Union(union)))
+        }
+        DType::Variant(_) => {
+            let null = Box::new(alloc, Scalar::null(DType::Null))?;
+            Ok(Some(ScalarValue::Variant(null)))
+        }
+        DType::Null | DType::Extension(_) => unreachable!(),
+    }
+}
+
+/// What fills so many places of the type.
+#[cycle(fill)]
+#[tactic(auto, using(crate::proofs::FillingSteps::filled))]
+fn fill_places(
+    alloc: Global,
+    element: &DType,
+    size: u32,
+    nulls: bool,
+) -> Result<Vec<Option<ScalarValue>>, VortexError>
+    requires { IsSome (places_of size (filling nulls (type_of element.now))) }
+    ensures { MatchResult result
+        (λ items. (length items.items ≡ size)
+        × EachFills nulls (type_of element.now) (raws_of items.items))
+        (λ e. e ≡ OutOfMemory) }
+{
+    let mut items = Vec::with_capacity(alloc, size as usize)?;
+    for _ in 0..size {
+        items.push(fill(alloc, element, nulls)?)?;
+    }
+    Ok(items)
+}
+
+/// What fills each of the types, in order.
+#[cycle(fill)]
+#[tactic(auto, using(crate::proofs::FillingSteps::filled))]
+fn fill_fields(
+    alloc: Global,
+    dtypes: &[DType],
+    nulls: bool,
+) -> Result<Vec<Option<ScalarValue>>, VortexError>
+    requires { IsSome (fillings nulls (types_of dtypes.now)) }
+    ensures { MatchResult result
+        (λ items. FillFields nulls (types_of dtypes.now) (raws_of items.items))
+        (λ e. e ≡ OutOfMemory) }
+{
+    let mut items = Vec::with_capacity(alloc, dtypes.len())?;
+    for dtype in dtypes {
+        items.push(fill(alloc, dtype, nulls)?)?;
+    }
+    Ok(items)
+}
+
+/// The first variant's id, and what fills its type.
+#[cycle(fill)]
+#[tactic(auto, using(crate::proofs::FillingSteps::filled))]
+fn fill_first(
+    alloc: Global,
+    variants: &UnionVariants,
+    nulls: bool,
+) -> Result<UnionValue, VortexError>
+    requires { IsSome (child_filling (filling nulls)
+        (first_of (variants_of variants.now).type_ids (variants_of variants.now).types)) }
+    ensures { MatchResult result
+        (λ made. FillsFirst nulls
+        (first_of (variants_of variants.now).type_ids (variants_of variants.now).types)
+        (union_tree made))
+        (λ e. e ≡ OutOfMemory) }
+{
+    match first_variant(variants) {
+        Some((id, variant)) => UnionValue::new(alloc, id, fill(alloc, variant, nulls)?),
+        None => unreachable!(),
+    }
+}
+
+/// The scalar that fills the type, where something does. That is found out before anything is made.
+fn filled(alloc: Global, dtype: &DType, nulls: bool) -> Result<Option<Scalar>, VortexError>
+    ensures { MatchResult result
+        (IsTheOneOf (type_of dtype.now) (filling nulls (type_of dtype.now)))
+        (λ e. (e ≡ OutOfMemory) × IsSome (filling nulls (type_of dtype.now))
+        × ¬ (IsFlat (type_of dtype.now))) }
+{
+    if !is_filled(dtype, nulls) {
+        return Ok(None);
+    }
+    let value = fill(alloc, dtype, nulls)?;
+    let dtype = dtype.clone(alloc)?;
+    Ok(Some(Scalar { dtype, value }))
+}
+
+/// Whether the number is zero.
+fn is_zero_number(number: &PValue) -> bool
+    ensures { result ≡ int_eq (whole_of number.now) (pos 0) }
+{
+    number.is_zero()
+}
+
+/// Whether an optional raw value of the type is zero; none for a null.
+#[cycle(is_zero)]
+#[tactic(auto, using(crate::proofs::ZeroSteps::shown))]
+fn is_zero(value: Option<&ScalarValue>, dtype: &DType) -> Option<bool>
+    ensures { result ≡
+        is_zero_of (type_of dtype.now) (content (raw_of (option_copied value.entry))) }
+{
+    match (storage_of(dtype), value) {
+        (DType::Bool(_), Some(ScalarValue::Bool(truth))) => Some(!*truth),
+        (DType::Primitive(_, _), Some(ScalarValue::Primitive(number))) => {
+            Some(is_zero_number(number))
+        }
+        (DType::Utf8(_), Some(ScalarValue::Utf8(text))) => Some(text.is_empty()),
+        (DType::Binary(_), Some(ScalarValue::Binary(bytes))) => Some(bytes.is_empty()),
+        (DType::List(_, _), Some(ScalarValue::Tuple(items))) => Some(items.is_empty()),
+        (DType::Map(_, _), Some(ScalarValue::Tuple(items))) => Some(items.is_empty()),
+        (DType::FixedSizeList(element, _, _), Some(ScalarValue::Tuple(items))) => {
+            Some(are_elements_zero(items, element))
+        }
+        (DType::Struct(fields, _), Some(ScalarValue::Tuple(items))) => {
+            Some(are_fields_zero(items, fields.dtypes()))
+        }
+        (DType::Union(variants, _), Some(ScalarValue::Union(union))) => {
+            is_child_zero(union, variants)
+        }
+        (DType::Variant(_), Some(ScalarValue::Variant(scalar))) => is_inner_zero(scalar),
+        _ => None,
+    }
+}
+
+/// Whether each element is zero, and none leaves it open.
+#[cycle(is_zero)]
+#[tactic(auto, using(crate::proofs::ZeroSteps::shown))]
+fn are_elements_zero(items: &[Option<ScalarValue>], element: &DType) -> bool
+    ensures { result ≡ each_zero (type_of element.now) (contents (raws_of items.now)) }
+{
+    for item in items {
+        if is_zero(item.as_ref(), element) != Some(true) {
+            return false;
+        }
+    }
+    true
+}
+
+/// Whether there are as many values as fields, each is zero, and none leaves it open.
+#[cycle(is_zero)]
+#[tactic(auto, using(crate::proofs::ZeroSteps::shown))]
+fn are_fields_zero(items: &[Option<ScalarValue>], fields: &[DType]) -> bool
+    ensures { result ≡ fields_zero (types_of fields.now) (contents (raws_of items.now)) }
+{
+    if items.len() != fields.len() {
+        return false;
+    }
+    for (item, field) in items.iter().zip(fields) {
+        if is_zero(item.as_ref(), field) != Some(true) {
+            return false;
+        }
+    }
+    true
+}
+
+/// Whether a union's child is zero, if its id is that of the first variant; another is not.
+#[cycle(is_zero)]
+#[tactic(auto, using(crate::proofs::ZeroSteps::shown))]
+fn is_child_zero(union: &UnionValue, variants: &UnionVariants) -> Option<bool>
+    ensures { result ≡ of_first (variants_of variants.now).type_ids
+        (types_from (variants_of variants.now).types) union.now.type_id
+        (λ t. is_zero_of t (content (raw_of (option_map (λ b. b.value) union.now.child)))) }
+{
+    match first_variant(variants) {
+        Some((id, variant)) if id == union.type_id => is_zero(union.child.as_deref(), variant),
+        _ => Some(false),
+    }
+}
+
+/// Whether a variant's scalar is zero: the null of Null is.
+#[cycle(is_zero)]
+#[tactic(auto, using(crate::proofs::ZeroSteps::shown))]
+fn is_inner_zero(scalar: &Scalar) -> Option<bool>
+    ensures { result ≡ of_inner (scalar_type scalar.now) (scalar_content scalar.now)
+        (is_zero_of (scalar_type scalar.now) (scalar_content scalar.now)) }
+{
+    match (&scalar.dtype, &scalar.value) {
+        (DType::Null, None) => Some(true),
+        (dtype, value) => is_zero(value.as_ref(), dtype),
+    }
+}
+
+impl Scalar {
+    /// The zero of the type, which is never null: false, 0, what is empty, and zeros in the parts of
+    /// a struct, a list of a fixed size and a union's first variant. None exactly for Null, a union
+    /// without variants and a type with such a part.
+    ///
+    /// `OutOfMemory` is its only refusal, and not where there is no zero, nor for a type whose values
+    /// take no memory. Ports `Scalar::zero_value`, which panics where there is no zero.
+    pub fn zero_value(alloc: Global, dtype: &DType) -> Result<Option<Scalar>, VortexError>
+        ensures one { IfOk result (IsTheOneOf (type_of dtype.now) (zero_of (type_of dtype.now))) }
+        ensures refused { IfErr result
+            (λ e. (e ≡ OutOfMemory) × IsSome (zero_of (type_of dtype.now))) }
+        ensures flat { IsFlat (type_of dtype.now) → IsOk result }
+    {
+        filled(alloc, dtype, false)
+    }
+
+    /// The default of the type: the null of a type that takes one, and else as its zero, with
+    /// defaults in its parts. None exactly for a union without variants that takes no null, and a
+    /// type with such a part.
+    ///
+    /// `OutOfMemory` is its only refusal, and not where there is no default, nor for a type whose
+    /// values take no memory. Ports `Scalar::default_value`, which panics where there is no default.
+    pub fn default_value(alloc: Global, dtype: &DType) -> Result<Option<Scalar>, VortexError>
+        ensures one { IfOk result
+            (IsTheOneOf (type_of dtype.now) (default_of (type_of dtype.now))) }
+        ensures refused { IfErr result
+            (λ e. (e ≡ OutOfMemory) × IsSome (default_of (type_of dtype.now))) }
+        ensures flat { IsFlat (type_of dtype.now) → IsOk result }
+    {
+        filled(alloc, dtype, true)
+    }
+
+    /// Whether the value is zero: of a list of a fixed size and a struct each part, of a union the
+    /// child of its first variant; none for a null, and for an inner null of a union's first
+    /// variant. Takes no memory.
+    ///
+    /// Ports `Scalar::is_zero`.
+    pub fn is_zero(&self) -> Option<bool>
+        ensures { result ≡ is_zero_of (scalar_type self.now) (scalar_content self.now) }
+    {
+        is_zero(self.value.as_ref(), &self.dtype)
+    }
+}
