@@ -11,10 +11,12 @@ pub mod OrderSteps
 pub mod SizeLaws
 pub mod SizeSteps
 pub mod StructMakers
+pub mod TextSteps
 pub mod Uniqueness
 pub mod ValidSteps
 pub mod ValidityLaws
 pub mod ValueSteps
 pub mod Variants
+pub mod Writes
 pub mod ZeroLaws
 pub mod ZeroSteps
