@@ -1,10 +1,9 @@
 //! What calls answer.
 
+use crate::write::output::Output;
 use crate::write::refusals::write_refusal;
-use crate::write::texts::write_word;
 use crate::write::types::write_type;
 use crate::write::values::write_scalar;
-use std::alloc::AllocError;
 use vortex_dtype::{DType, VortexError};
 use vortex_value::Scalar;
 
@@ -34,10 +33,10 @@ pub fn made(made: Result<Scalar, VortexError>) -> Answer {
     }
 }
 
-/// Adds an answer in its one form.
-pub fn write_answer(out: &mut Vec<u8>, answer: &Answer) -> Result<(), AllocError> {
+/// Writes an answer in its one form.
+pub fn write_answer(out: &mut Output, answer: &Answer) {
     match answer {
-        Answer::Word(word) => write_word(out, word),
+        Answer::Word(word) => out.word(word),
         Answer::Type(dtype) => write_type(out, dtype),
         Answer::Scalar(scalar) => write_scalar(out, scalar),
         Answer::Refused(refusal) => write_refusal(out, refusal),

@@ -1,15 +1,15 @@
-//! The table of calls: the name of each, what it is given and what it answers.
+//! The table of calls, and what each is given.
 
 use crate::answers::Answer;
-use crate::faults::Fault;
+use crate::inputs::{scalar_input, type_input};
 use crate::tokens::Tokens;
 use std::alloc::Global;
 
 pub mod makers;
 pub mod queries;
 
-use makers::{Maker, OfChildren};
-use queries::{OfScalar, OfTypes, Query};
+use makers::{ListCall, Maker, answer_maker};
+use queries::{Query, ScalarCall, ScalarsCall, TargetCall, TypesCall, answer_query};
 
 /// A call with its inputs.
 #[derive(Drop)]
@@ -20,34 +20,85 @@ pub enum Call {
     Maker(Maker),
 }
 
-/// Reads the inputs of the call of this name.
-pub fn read_call(tokens: &mut Tokens<'_>, name: &[u8]) -> Result<Call, Fault> {
-    match name {
-        b"same" => queries::read_types(tokens, OfTypes::Same),
-        b"equal_types" => queries::read_types(tokens, OfTypes::Equal),
-        b"project" => queries::read_project(tokens),
-        b"validate" => queries::read_scalar(tokens, OfScalar::Validate),
-        b"compatible" => queries::read_scalar(tokens, OfScalar::Compatible),
-        b"clone" => queries::read_scalar(tokens, OfScalar::Clone),
-        b"equal" => queries::read_equal(tokens),
-        b"cast" => queries::read_cast(tokens),
-        b"as_nullable" => makers::read_as_nullable(tokens),
-        b"try_new" => makers::read_try_new(tokens),
-        b"list" => makers::read_list(tokens, OfChildren::List),
-        b"fixed_size_list" => makers::read_list(tokens, OfChildren::FixedSizeList),
-        b"struct" => makers::read_struct(tokens),
-        b"map" => makers::read_map(tokens),
-        b"union" => makers::read_union(tokens),
-        b"extension" => makers::read_extension(tokens),
-        b"variant_of" => makers::read_variant(tokens),
-        _ => Err(Fault::BadLine),
+/// What calls are given, and which of the calls that are given it.
+#[derive(Clone, Copy)]
+enum Shape {
+    Types(TypesCall),
+    Project,
+    Scalar(ScalarCall),
+    Scalars(ScalarsCall),
+    Target(TargetCall),
+    AsNullable,
+    TryNew,
+    List(ListCall),
+    Struct,
+    Map,
+    Union,
+    Extension,
+    Variant,
+}
+
+/// The table of calls: the name of each, and what it is given.
+const CALLS: [(&str, Shape); 17] = [
+    ("same", Shape::Types(TypesCall::Same)),
+    ("equal_types", Shape::Types(TypesCall::Equal)),
+    ("as_nullable", Shape::AsNullable),
+    ("project", Shape::Project),
+    ("validate", Shape::Scalar(ScalarCall::Validate)),
+    ("compatible", Shape::Scalar(ScalarCall::Compatible)),
+    ("try_new", Shape::TryNew),
+    ("clone", Shape::Scalar(ScalarCall::Clone)),
+    ("equal", Shape::Scalars(ScalarsCall::Equal)),
+    ("list", Shape::List(ListCall::List)),
+    ("fixed_size_list", Shape::List(ListCall::FixedSizeList)),
+    ("struct", Shape::Struct),
+    ("map", Shape::Map),
+    ("union", Shape::Union),
+    ("extension", Shape::Extension),
+    ("variant_of", Shape::Variant),
+    ("cast", Shape::Target(TargetCall::Cast)),
+];
+
+/// What the call of this name is given.
+fn shape_of(name: &[u8]) -> Option<Shape> {
+    for (listed, shape) in &CALLS {
+        if listed.as_bytes() == name {
+            return Some(*shape);
+        }
+    }
+    None
+}
+
+/// Reads a call and what it is given; none where no call has the name.
+pub fn read_call(tokens: &mut Tokens<'_>) -> Option<Call> {
+    let name = tokens.word();
+    let shape = shape_of(name)?;
+    Some(read_inputs(tokens, shape))
+}
+
+/// Reads what a call is given.
+fn read_inputs(tokens: &mut Tokens<'_>, shape: Shape) -> Call {
+    match shape {
+        Shape::Types(call) => Call::Query(queries::read_types(tokens, call)),
+        Shape::Project => Call::Query(queries::read_project(tokens)),
+        Shape::Scalar(call) => Call::Query(queries::read_scalar(tokens, call)),
+        Shape::Scalars(call) => Call::Query(queries::read_scalars(tokens, call)),
+        Shape::Target(call) => Call::Query(queries::read_target(tokens, call)),
+        Shape::AsNullable => Call::Maker(Maker::AsNullable(type_input(tokens))),
+        Shape::TryNew => Call::Maker(Maker::TryNew(scalar_input(tokens))),
+        Shape::List(call) => Call::Maker(makers::read_list(tokens, call)),
+        Shape::Struct => Call::Maker(makers::read_struct(tokens)),
+        Shape::Map => Call::Maker(makers::read_map(tokens)),
+        Shape::Union => Call::Maker(makers::read_union(tokens)),
+        Shape::Extension => Call::Maker(makers::read_extension(tokens)),
+        Shape::Variant => Call::Maker(Maker::Variant(scalar_input(tokens))),
     }
 }
 
 /// What a call answers.
 pub fn answer(alloc: Global, call: Call) -> Answer {
     match call {
-        Call::Query(query) => queries::answer(alloc, &query),
-        Call::Maker(maker) => makers::answer(alloc, maker),
+        Call::Query(query) => answer_query(alloc, &query),
+        Call::Maker(maker) => answer_maker(alloc, maker),
     }
 }

@@ -4,19 +4,27 @@ use crate::answers::{Answer, write_answer};
 use crate::calls::{Call, answer, read_call};
 use crate::faults::Fault;
 use crate::tokens::Tokens;
-use crate::write::texts::{write_number, write_word};
+use crate::write::output::Output;
 use std::alloc::{AllocError, Global};
 use std::str;
 use vortex_dtype::VortexError;
 
-/// A call, or the refusal of the first type that cannot be made; and the answer that stands in the
-/// line, if one does.
+/// What a line asks, and the answer that stands in it.
 #[derive(Drop)]
 pub struct Case<'a> {
     /// What is asked.
-    pub call: Result<Call, VortexError>,
-    /// The answer after the arrow.
+    pub asked: Asked,
+    /// The answer after the arrow, if there is an arrow.
     pub expected: Option<&'a [u8]>,
+}
+
+/// What a line asks.
+#[derive(Drop)]
+pub enum Asked {
+    /// What a call answers.
+    Call(Call),
+    /// Nothing more: the first type that cannot be made is refused.
+    Refused(VortexError),
 }
 
 /// Reads a line that is not empty and no remark.
@@ -25,34 +33,38 @@ pub fn read_case(alloc: Global, line: &[u8]) -> Result<Case<'_>, Fault> {
         return Err(Fault::BadLine);
     }
     let mut tokens = Tokens::of(alloc, line);
-    let name = tokens.word();
-    let call = read_call(&mut tokens, name)?;
-    let expected = read_expected(&mut tokens)?;
-    let call = match tokens.into_refusal() {
-        Some(refusal) => Err(refusal),
-        None => Ok(call),
+    let Some(call) = read_call(&mut tokens) else {
+        return Err(Fault::BadLine);
     };
-    Ok(Case { call, expected })
+    let expected = read_expected(&mut tokens);
+    let asked = match tokens.end()? {
+        Some(refusal) => Asked::Refused(refusal),
+        None => Asked::Call(call),
+    };
+    Ok(Case { asked, expected })
 }
 
 /// Reads the arrow, if there is one: the answer is all that follows its space.
-fn read_expected<'a>(tokens: &mut Tokens<'a>) -> Result<Option<&'a [u8]>, Fault> {
-    if tokens.rest().is_empty() {
-        return Ok(None);
+fn read_expected<'a>(tokens: &mut Tokens<'a>) -> Option<&'a [u8]> {
+    if tokens.left() == 0 {
+        return None;
     }
-    tokens.spaces()?;
+    tokens.spaces();
     match tokens.rest() {
-        [] => Ok(None),
-        [b'=', b'>', b' ', expected @ ..] => Ok(Some(expected)),
-        _ => Err(Fault::BadLine),
+        [] => None,
+        [b'=', b'>', b' ', expected @ ..] => Some(expected),
+        _ => {
+            tokens.bad_line();
+            None
+        }
     }
 }
 
-/// What is answered: the refusal of a type, or what the call gives.
-pub fn answer_to(alloc: Global, call: Result<Call, VortexError>) -> Answer {
-    match call {
-        Ok(call) => answer(alloc, call),
-        Err(refusal) => Answer::Refused(refusal),
+/// What is answered to a line.
+pub fn answer_to(alloc: Global, asked: Asked) -> Answer {
+    match asked {
+        Asked::Call(call) => answer(alloc, call),
+        Asked::Refused(refusal) => Answer::Refused(refusal),
     }
 }
 
@@ -80,7 +92,7 @@ fn asks_nothing(line: &[u8]) -> bool {
 /// Runs a line, and writes what there is to say of it.
 pub fn run_line(
     alloc: Global,
-    out: &mut Vec<u8>,
+    out: &mut Output,
     number: u64,
     line: &[u8],
 ) -> Result<Outcome, AllocError> {
@@ -90,7 +102,7 @@ pub fn run_line(
     match read_case(alloc, line) {
         Ok(case) => run_case(alloc, out, number, line, case),
         Err(Fault::BadLine) => {
-            write_wrong(out, number, b"bad line")?;
+            write_wrong(out, number, b"bad line");
             Ok(Outcome::Wrong)
         }
         Err(Fault::NoMemory) => Err(AllocError),
@@ -100,37 +112,43 @@ pub fn run_line(
 /// Runs a case: one without an answer is written with it, a wrong one with the answer that comes.
 fn run_case(
     alloc: Global,
-    out: &mut Vec<u8>,
+    out: &mut Output,
     number: u64,
     line: &[u8],
     case: Case<'_>,
 ) -> Result<Outcome, AllocError> {
-    let mut answered = Vec::new(alloc);
-    write_answer(&mut answered, &answer_to(alloc, case.call))?;
-    match case.expected {
-        None => {
-            write_answered(out, line, &answered)?;
-            Ok(Outcome::Passed)
-        }
-        Some(expected) if expected == answered.as_slice() => Ok(Outcome::Right),
-        Some(_) => {
-            write_wrong(out, number, &answered)?;
-            Ok(Outcome::Wrong)
-        }
+    let expected = case.expected;
+    let answered = answer_text(alloc, case.asked)?;
+    let Some(expected) = expected else {
+        write_answered(out, line, &answered);
+        return Ok(Outcome::Passed);
+    };
+    if expected == answered.as_slice() {
+        return Ok(Outcome::Right);
     }
+    write_wrong(out, number, &answered);
+    Ok(Outcome::Wrong)
 }
 
-fn write_answered(out: &mut Vec<u8>, line: &[u8], answered: &[u8]) -> Result<(), AllocError> {
-    out.extend_from_slice(line)?;
-    write_word(out, " => ")?;
-    out.extend_from_slice(answered)?;
-    Ok(out.push(b'\n')?)
+/// What is answered to a line, in its one form.
+fn answer_text(alloc: Global, asked: Asked) -> Result<Vec<u8>, AllocError> {
+    let answer = answer_to(alloc, asked);
+    let mut out = Output::new(alloc);
+    write_answer(&mut out, &answer);
+    out.into_bytes()
 }
 
-fn write_wrong(out: &mut Vec<u8>, number: u64, said: &[u8]) -> Result<(), AllocError> {
-    write_word(out, "line ")?;
-    write_number(out, number)?;
-    write_word(out, ": ")?;
-    out.extend_from_slice(said)?;
-    Ok(out.push(b'\n')?)
+fn write_answered(out: &mut Output, line: &[u8], answered: &[u8]) {
+    out.bytes(line);
+    out.word(" => ");
+    out.bytes(answered);
+    out.byte(b'\n');
+}
+
+fn write_wrong(out: &mut Output, number: u64, said: &[u8]) {
+    out.word("line ");
+    out.number(number);
+    out.word(": ");
+    out.bytes(said);
+    out.byte(b'\n');
 }

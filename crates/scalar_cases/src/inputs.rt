@@ -1,7 +1,6 @@
 //! The arguments of calls: each stands after spaces.
 
-use crate::faults::Fault;
-use crate::read::texts::read_names;
+use crate::read::texts::push_name;
 use crate::read::types::{read_id, read_type};
 use crate::read::values::read_scalar;
 use crate::tokens::Tokens;
@@ -12,79 +11,93 @@ use vortex_value::Scalar;
 const ROOM: u32 = 256;
 
 /// Reads a type.
-pub fn type_input(tokens: &mut Tokens<'_>) -> Result<DType, Fault> {
-    tokens.spaces()?;
+pub fn type_input(tokens: &mut Tokens<'_>) -> DType {
+    tokens.spaces();
     read_type(tokens, ROOM)
 }
 
 /// Reads a scalar, which need not be valid.
-pub fn scalar_input(tokens: &mut Tokens<'_>) -> Result<Scalar, Fault> {
-    tokens.spaces()?;
+pub fn scalar_input(tokens: &mut Tokens<'_>) -> Scalar {
+    tokens.spaces();
     read_scalar(tokens, ROOM)
 }
 
 /// Reads scalars in brackets.
-pub fn scalars_input(tokens: &mut Tokens<'_>) -> Result<Vec<Scalar>, Fault> {
-    tokens.spaces()?;
-    tokens.expects(b'[')?;
+pub fn scalars_input(tokens: &mut Tokens<'_>) -> Vec<Scalar> {
     let mut scalars = Vec::new(tokens.alloc);
-    if tokens.takes(b']') {
-        return Ok(scalars);
-    }
-    for _ in 0..tokens.left() {
-        scalars.push(read_scalar(tokens, ROOM - 1)?)?;
-        if !tokens.goes_on(b']')? {
-            return Ok(scalars);
+    let mut more = opens(tokens);
+    for _ in 0..=tokens.left() {
+        if !more {
+            break;
         }
+        let scalar = read_scalar(tokens, ROOM - 1);
+        tokens.push(&mut scalars, scalar);
+        more = tokens.goes_on(b']');
     }
-    Err(Fault::BadLine)
+    scalars
 }
 
 /// Reads pairs of scalars in brackets.
-pub fn entries_input(tokens: &mut Tokens<'_>) -> Result<Vec<(Scalar, Scalar)>, Fault> {
-    tokens.spaces()?;
-    tokens.expects(b'[')?;
+pub fn entries_input(tokens: &mut Tokens<'_>) -> Vec<(Scalar, Scalar)> {
     let mut entries = Vec::new(tokens.alloc);
-    if tokens.takes(b']') {
-        return Ok(entries);
-    }
-    for _ in 0..tokens.left() {
-        entries.push(read_entry(tokens)?)?;
-        if !tokens.goes_on(b']')? {
-            return Ok(entries);
+    let mut more = opens(tokens);
+    for _ in 0..=tokens.left() {
+        if !more {
+            break;
         }
+        let entry = read_entry(tokens);
+        tokens.push(&mut entries, entry);
+        more = tokens.goes_on(b']');
     }
-    Err(Fault::BadLine)
+    entries
 }
 
 /// Reads a pair of scalars.
-fn read_entry(tokens: &mut Tokens<'_>) -> Result<(Scalar, Scalar), Fault> {
-    tokens.expects(b'(')?;
-    let key = read_scalar(tokens, ROOM - 2)?;
-    tokens.expects(b',')?;
-    let value = read_scalar(tokens, ROOM - 2)?;
-    tokens.expects(b')')?;
-    Ok((key, value))
+fn read_entry(tokens: &mut Tokens<'_>) -> (Scalar, Scalar) {
+    tokens.expect(b'(');
+    let key = read_scalar(tokens, ROOM - 2);
+    tokens.expect(b',');
+    let value = read_scalar(tokens, ROOM - 2);
+    tokens.expect(b')');
+    (key, value)
 }
 
 /// Reads names in brackets.
-pub fn names_input(tokens: &mut Tokens<'_>) -> Result<Vec<FieldName>, Fault> {
-    tokens.spaces()?;
-    read_names(tokens)
+pub fn names_input(tokens: &mut Tokens<'_>) -> Vec<FieldName> {
+    let mut names = Vec::new(tokens.alloc);
+    let mut more = opens(tokens);
+    for _ in 0..=tokens.left() {
+        if !more {
+            break;
+        }
+        push_name(tokens, &mut names);
+        more = tokens.goes_on(b']');
+    }
+    names
+}
+
+/// Reads the bracket that opens a list, and tells whether it is not closed at once.
+fn opens(tokens: &mut Tokens<'_>) -> bool {
+    tokens.spaces();
+    tokens.expect(b'[');
+    !tokens.takes(b']')
 }
 
 /// Reads the id of a union's variant.
-pub fn id_input(tokens: &mut Tokens<'_>) -> Result<u8, Fault> {
-    tokens.spaces()?;
+pub fn id_input(tokens: &mut Tokens<'_>) -> u8 {
+    tokens.spaces();
     read_id(tokens)
 }
 
 /// Reads whether a type takes a null.
-pub fn nullability_input(tokens: &mut Tokens<'_>) -> Result<Nullability, Fault> {
-    tokens.spaces()?;
+pub fn nullability_input(tokens: &mut Tokens<'_>) -> Nullability {
+    tokens.spaces();
     match tokens.word() {
-        b"nullable" => Ok(Nullability::Nullable),
-        b"non_nullable" => Ok(Nullability::NonNullable),
-        _ => Err(Fault::BadLine),
+        b"nullable" => Nullability::Nullable,
+        b"non_nullable" => Nullability::NonNullable,
+        _ => {
+            tokens.bad_line();
+            Nullability::NonNullable
+        }
     }
 }

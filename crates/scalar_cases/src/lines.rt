@@ -3,11 +3,11 @@
 ghost use Rattle.std.specs.Prelude.{◌<◌, length};
 
 use crate::cases::{Outcome, run_line};
-use crate::write::texts::{write_number, write_word};
+use crate::write::output::Output;
 use memchr::memchr;
 use std::alloc::{AllocError, Global};
 
-/// How many cases there were, and how many of them wrong.
+/// How many cases there were, and how many of them were wrong.
 #[derive(Clone, Copy)]
 pub struct Totals {
     cases: u64,
@@ -20,31 +20,34 @@ impl Totals {
         self.wrong == 0
     }
 
-    fn count(self, outcome: Outcome) -> Totals {
-        let (is_case, is_wrong) = match outcome {
-            Outcome::Passed => (0, 0),
-            Outcome::Right => (1, 0),
-            Outcome::Wrong => (1, 1),
-        };
-        Totals {
-            cases: self.cases.saturating_add(is_case),
-            wrong: self.wrong.saturating_add(is_wrong),
+    /// The same with one line more.
+    fn with(self, outcome: Outcome) -> Totals {
+        match outcome {
+            Outcome::Passed => self,
+            Outcome::Right => Totals {
+                cases: self.cases.saturating_add(1),
+                wrong: self.wrong,
+            },
+            Outcome::Wrong => Totals {
+                cases: self.cases.saturating_add(1),
+                wrong: self.wrong.saturating_add(1),
+            },
         }
     }
 }
 
 /// Runs all lines, and writes what there is to say of them.
-pub fn run_lines(alloc: Global, out: &mut Vec<u8>, input: &[u8]) -> Result<Totals, AllocError> {
+pub fn run_lines(alloc: Global, out: &mut Output, input: &[u8]) -> Result<Totals, AllocError> {
     let mut totals = Totals { cases: 0, wrong: 0 };
     let mut number = 0u64;
     let mut rest = input;
     while !rest.is_empty() {
         let (line, after) = first_line(rest);
         number = number.saturating_add(1);
-        totals = totals.count(run_line(alloc, out, number, line)?);
+        totals = totals.with(run_line(alloc, out, number, line)?);
         rest = after;
     }
-    write_totals(out, totals)?;
+    write_totals(out, totals);
     Ok(totals)
 }
 
@@ -59,13 +62,12 @@ fn first_line(text: &[u8]) -> (&[u8], &[u8])
     }
 }
 
-/// Adds the last line, where there was a case.
-fn write_totals(out: &mut Vec<u8>, totals: Totals) -> Result<(), AllocError> {
-    if totals.cases == 0 {
-        return Ok(());
+/// Writes the last line, where there was a case.
+fn write_totals(out: &mut Output, totals: Totals) {
+    if totals.cases > 0 {
+        out.number(totals.cases);
+        out.word(" cases, ");
+        out.number(totals.wrong);
+        out.word(" wrong\n");
     }
-    write_number(out, totals.cases)?;
-    write_word(out, " cases, ")?;
-    write_number(out, totals.wrong)?;
-    write_word(out, " wrong\n")
 }

@@ -14,50 +14,41 @@ mod write;
 use lines::run_lines;
 use std::io::{Read, Write};
 use std::process::ExitCode;
-
-/// Why the program stops before its end.
-#[derive(Clone, Copy)]
-enum Stop {
-    Read,
-    Write,
-    Memory,
-}
-
-/// What the program says where it stops.
-fn stop_line(stop: Stop) -> &'static str {
-    match stop {
-        Stop::Read => "read failed",
-        Stop::Write => "write failed",
-        Stop::Memory => "out of memory",
-    }
-}
+use write::output::Output;
 
 /// Runs the lines of standard input. The status is 0 where no case is wrong, else 1.
 fn main(rt: HostRuntime) -> ExitCode {
     match run(&rt) {
         Ok(true) => ExitCode::SUCCESS,
         Ok(false) => ExitCode::FAILURE,
-        Err(stop) => {
-            let _ = rt.eprintln(stop_line(stop));
+        Err(fault) => {
+            let _ = rt.eprintln(fault);
             ExitCode::FAILURE
         }
     }
 }
 
-/// Runs the lines of standard input, and tells whether no case is wrong.
-fn run(rt: &HostRuntime) -> Result<bool, Stop> {
-    let alloc = rt.alloc();
-    let mut input = Vec::new(alloc);
+/// Runs the lines of standard input, and tells whether no case is wrong, or why it stops.
+fn run(rt: &HostRuntime) -> Result<bool, &'static str> {
+    let mut input = Vec::new(rt.alloc());
     if rt.stdin().read_to_end(&mut input).is_err() {
-        return Err(Stop::Read);
+        return Err("read failed");
     }
-    let mut out = Vec::new(alloc);
-    let Ok(totals) = run_lines(alloc, &mut out, &input) else {
-        return Err(Stop::Memory);
+    let mut out = Output::new(rt.alloc());
+    let Ok(totals) = run_lines(rt.alloc(), &mut out, &input) else {
+        return Err("out of memory");
     };
-    let mut writer = rt.stdout();
-    if writer.write_all(&out).is_err() || writer.flush().is_err() {
-        return Err(Stop::Write);
-    }
+    let Ok(bytes) = out.into_bytes() else {
+        return Err("out of memory");
+    };
+    write_all(rt, &bytes)?;
     Ok(totals.is_right())
+}
+
+fn write_all(rt: &HostRuntime, bytes: &[u8]) -> Result<(), &'static str> {
+    let mut writer = rt.stdout();
+    if writer.write_all(bytes).is_err() || writer.flush().is_err() {
+        return Err("write failed");
+    }
+    Ok(())
 }

@@ -4,12 +4,17 @@ use crate::faults::Fault;
 use std::alloc::Global;
 use vortex_dtype::{DType, Nullability, VortexError};
 
-/// What is left of a line, and the first refusal of a maker of the types in it.
+/// What is left of a line.
+///
+/// Where a line is none of the language, or memory is wanting, the first such fault is kept and
+/// nothing more is left; what is read from then on stands for nothing. So is the first refusal of a
+/// maker of types kept, but the line is read on.
 #[derive(Drop)]
 pub struct Tokens<'a> {
     /// The allocator of all that is read.
     pub alloc: Global,
     rest: &'a [u8],
+    fault: Option<Fault>,
     refusal: Option<VortexError>,
 }
 
@@ -19,6 +24,7 @@ impl<'a> Tokens<'a> {
         Tokens {
             alloc,
             rest: line,
+            fault: None,
             refusal: None,
         }
     }
@@ -31,6 +37,27 @@ impl<'a> Tokens<'a> {
     /// All bytes that are left.
     pub fn rest(&self) -> &'a [u8] {
         self.rest
+    }
+
+    /// Keeps a fault, where it is the first, and leaves nothing to read.
+    pub fn fail(&mut self, fault: Fault) {
+        if self.fault.is_none() {
+            self.fault = Some(fault);
+        }
+        self.rest = &[];
+    }
+
+    /// The line is none of the language.
+    pub fn bad_line(&mut self) {
+        self.fail(Fault::BadLine);
+    }
+
+    /// The first fault, or else the first refusal of a maker if there was one.
+    pub fn end(self) -> Result<Option<VortexError>, Fault> {
+        match self.fault {
+            Some(fault) => Err(fault),
+            None => Ok(self.refusal),
+        }
     }
 
     /// Takes the next byte.
@@ -58,31 +85,26 @@ impl<'a> Tokens<'a> {
     }
 
     /// Takes this byte and the spaces before it.
-    pub fn expects(&mut self, byte: u8) -> Result<(), Fault> {
-        if self.takes(byte) {
-            Ok(())
-        } else {
-            Err(Fault::BadLine)
+    pub fn expect(&mut self, byte: u8) {
+        if !self.takes(byte) {
+            self.bad_line();
         }
     }
 
-    /// After a part: whether a comma goes on to another, and not the bracket that closes all.
-    pub fn goes_on(&mut self, close: u8) -> Result<bool, Fault> {
+    /// After a part: whether a comma goes on to another; else takes the bracket that closes all.
+    pub fn goes_on(&mut self, close: u8) -> bool {
         if self.takes(b',') {
-            return Ok(true);
+            return true;
         }
-        self.expects(close)?;
-        Ok(false)
+        self.expect(close);
+        false
     }
 
     /// Takes the spaces before an argument, of which there is one at least.
-    pub fn spaces(&mut self) -> Result<(), Fault> {
+    pub fn spaces(&mut self) {
         match self.rest.first() {
-            Some(b' ') => {
-                self.rest = after_spaces(self.rest);
-                Ok(())
-            }
-            _ => Err(Fault::BadLine),
+            Some(b' ') => self.rest = after_spaces(self.rest),
+            _ => self.bad_line(),
         }
     }
 
@@ -102,24 +124,34 @@ impl<'a> Tokens<'a> {
         }
     }
 
-    /// The type that a maker made; for one that it refused, the type of nulls. The first refusal is
-    /// kept.
-    pub fn made(&mut self, made: Result<DType, VortexError>) -> Result<DType, Fault> {
+    /// Adds what was read to the others.
+    pub fn push<T: Drop>(&mut self, items: &mut Vec<T>, item: T) {
+        if items.push(item).is_err() {
+            self.fail(Fault::NoMemory);
+        }
+    }
+
+    /// The type that a maker made; for one that it refused, the type of nulls.
+    pub fn made(&mut self, made: Result<DType, VortexError>) -> DType {
         match made {
-            Ok(dtype) => Ok(dtype),
-            Err(VortexError::OutOfMemory) => Err(Fault::NoMemory),
+            Ok(dtype) => dtype,
             Err(refusal) => {
-                if self.refusal.is_none() {
-                    self.refusal = Some(refusal);
-                }
-                Ok(DType::Null)
+                self.refuse(refusal);
+                DType::Null
             }
         }
     }
 
-    /// The first refusal of a maker, if there was one.
-    pub fn into_refusal(self) -> Option<VortexError> {
-        self.refusal
+    /// Keeps the refusal of a maker, where it is the first.
+    pub fn refuse(&mut self, refusal: VortexError) {
+        match refusal {
+            VortexError::OutOfMemory => self.fail(Fault::NoMemory),
+            refusal => {
+                if self.refusal.is_none() {
+                    self.refusal = Some(refusal);
+                }
+            }
+        }
     }
 }
 

@@ -6,101 +6,81 @@ ghost use Rattle.vortex_value.specs.Makers.{IsValidEntry};
 ghost use Rattle.vortex_value.specs.Scalars.{IsValid};
 
 use crate::answers::{Answer, made};
-use crate::calls::Call;
 use crate::calls::queries::validate;
-use crate::faults::Fault;
 use crate::inputs::{
     entries_input, id_input, nullability_input, scalar_input, scalars_input, type_input,
 };
 use crate::tokens::Tokens;
 use std::alloc::Global;
-use vortex_dtype::{DType, Nullability, VortexError};
+use vortex_dtype::{DType, ExtDType, Nullability, UnionVariants, VortexError};
 use vortex_value::Scalar;
 
 /// A call and the inputs that it takes.
 #[derive(Drop)]
 pub enum Maker {
+    /// The type made nullable.
     AsNullable(DType),
+    /// The scalar of this type and raw value.
     TryNew(Scalar),
-    OfChildren(OfChildren, DType, Vec<Scalar>, Nullability),
+    /// A maker of lists over this element type.
+    List(ListCall, DType, Vec<Scalar>, Nullability),
+    /// The struct of this type.
     Struct(DType, Vec<Scalar>),
+    /// The map of this type.
     Map(DType, Vec<(Scalar, Scalar)>),
+    /// The scalar of this union type.
     Union(DType, u8, Scalar),
+    /// The scalar of this extension type.
     Extension(DType, Scalar),
+    /// The variant that holds this scalar.
     Variant(Scalar),
 }
 
 /// The makers of lists.
 #[derive(Clone, Copy)]
-pub enum OfChildren {
+pub enum ListCall {
     List,
     FixedSizeList,
 }
 
-/// Reads a type.
-pub fn read_as_nullable(tokens: &mut Tokens<'_>) -> Result<Call, Fault> {
-    let dtype = type_input(tokens)?;
-    Ok(Call::Maker(Maker::AsNullable(dtype)))
+pub fn read_list(tokens: &mut Tokens<'_>, call: ListCall) -> Maker {
+    let element = type_input(tokens);
+    let children = scalars_input(tokens);
+    let nullability = nullability_input(tokens);
+    Maker::List(call, element, children, nullability)
 }
 
-/// Reads a scalar.
-pub fn read_try_new(tokens: &mut Tokens<'_>) -> Result<Call, Fault> {
-    let scalar = scalar_input(tokens)?;
-    Ok(Call::Maker(Maker::TryNew(scalar)))
+pub fn read_struct(tokens: &mut Tokens<'_>) -> Maker {
+    let dtype = type_input(tokens);
+    let children = scalars_input(tokens);
+    Maker::Struct(dtype, children)
 }
 
-/// Reads an element type, children and a nullability.
-pub fn read_list(tokens: &mut Tokens<'_>, call: OfChildren) -> Result<Call, Fault> {
-    let element = type_input(tokens)?;
-    let children = scalars_input(tokens)?;
-    let nullability = nullability_input(tokens)?;
-    let maker = Maker::OfChildren(call, element, children, nullability);
-    Ok(Call::Maker(maker))
+pub fn read_map(tokens: &mut Tokens<'_>) -> Maker {
+    let dtype = type_input(tokens);
+    let entries = entries_input(tokens);
+    Maker::Map(dtype, entries)
 }
 
-/// Reads a type and children.
-pub fn read_struct(tokens: &mut Tokens<'_>) -> Result<Call, Fault> {
-    let dtype = type_input(tokens)?;
-    let children = scalars_input(tokens)?;
-    Ok(Call::Maker(Maker::Struct(dtype, children)))
+pub fn read_union(tokens: &mut Tokens<'_>) -> Maker {
+    let dtype = type_input(tokens);
+    let id = id_input(tokens);
+    let child = scalar_input(tokens);
+    Maker::Union(dtype, id, child)
 }
 
-/// Reads a type and entries.
-pub fn read_map(tokens: &mut Tokens<'_>) -> Result<Call, Fault> {
-    let dtype = type_input(tokens)?;
-    let entries = entries_input(tokens)?;
-    Ok(Call::Maker(Maker::Map(dtype, entries)))
-}
-
-/// Reads a type, an id and a child.
-pub fn read_union(tokens: &mut Tokens<'_>) -> Result<Call, Fault> {
-    let dtype = type_input(tokens)?;
-    let id = id_input(tokens)?;
-    let child = scalar_input(tokens)?;
-    Ok(Call::Maker(Maker::Union(dtype, id, child)))
-}
-
-/// Reads a type and a storage scalar.
-pub fn read_extension(tokens: &mut Tokens<'_>) -> Result<Call, Fault> {
-    let dtype = type_input(tokens)?;
-    let storage = scalar_input(tokens)?;
-    Ok(Call::Maker(Maker::Extension(dtype, storage)))
-}
-
-/// Reads a scalar.
-pub fn read_variant(tokens: &mut Tokens<'_>) -> Result<Call, Fault> {
-    let scalar = scalar_input(tokens)?;
-    Ok(Call::Maker(Maker::Variant(scalar)))
+pub fn read_extension(tokens: &mut Tokens<'_>) -> Maker {
+    let dtype = type_input(tokens);
+    let storage = scalar_input(tokens);
+    Maker::Extension(dtype, storage)
 }
 
 /// What the call answers.
-pub fn answer(alloc: Global, maker: Maker) -> Answer {
+pub fn answer_maker(alloc: Global, maker: Maker) -> Answer {
     match maker {
         Maker::AsNullable(dtype) => Answer::Type(dtype.as_nullable()),
         Maker::TryNew(scalar) => made(Scalar::try_new(alloc, scalar.dtype, scalar.value)),
-        Maker::OfChildren(call, element, children, nullability) => {
-            made(list(alloc, call, element, children, nullability))
-        }
+        Maker::List(call, element, children, n) => made(list(alloc, call, element, children, n)),
         Maker::Struct(dtype, children) => made(struct_of(alloc, dtype, children)),
         Maker::Map(dtype, entries) => made(map_of(alloc, dtype, entries)),
         Maker::Union(dtype, id, child) => made(union(alloc, dtype, id, child)),
@@ -132,23 +112,37 @@ fn validate_entries(alloc: Global, entries: &[(Scalar, Scalar)]) -> Result<(), V
 
 fn list(
     alloc: Global,
-    call: OfChildren,
+    call: ListCall,
     element: DType,
     children: Vec<Scalar>,
     nullability: Nullability,
 ) -> Result<Scalar, VortexError> {
-    validate_all(alloc, &children)?;
+    match validate_all(alloc, &children) {
+        Ok(()) => list_of_valid(alloc, call, element, children, nullability),
+        Err(refusal) => Err(refusal),
+    }
+}
+
+fn list_of_valid(
+    alloc: Global,
+    call: ListCall,
+    element: DType,
+    children: Vec<Scalar>,
+    nullability: Nullability,
+) -> Result<Scalar, VortexError>
+    requires { All IsValid children.items }
+{
     match call {
-        OfChildren::List => Scalar::list(alloc, element, children, nullability),
-        OfChildren::FixedSizeList => {
-            Scalar::fixed_size_list(alloc, element, children, nullability)
-        }
+        ListCall::List => Scalar::list(alloc, element, children, nullability),
+        ListCall::FixedSizeList => Scalar::fixed_size_list(alloc, element, children, nullability),
     }
 }
 
 fn struct_of(alloc: Global, dtype: DType, children: Vec<Scalar>) -> Result<Scalar, VortexError> {
-    validate_all(alloc, &children)?;
-    struct_of_valid(alloc, dtype, children)
+    match validate_all(alloc, &children) {
+        Ok(()) => struct_of_valid(alloc, dtype, children),
+        Err(refusal) => Err(refusal),
+    }
 }
 
 fn struct_of_valid(
@@ -166,8 +160,10 @@ fn map_of(
     dtype: DType,
     entries: Vec<(Scalar, Scalar)>,
 ) -> Result<Scalar, VortexError> {
-    validate_entries(alloc, &entries)?;
-    map_of_valid(alloc, dtype, entries)
+    match validate_entries(alloc, &entries) {
+        Ok(()) => map_of_valid(alloc, dtype, entries),
+        Err(refusal) => Err(refusal),
+    }
 }
 
 fn map_of_valid(
@@ -181,24 +177,54 @@ fn map_of_valid(
 }
 
 fn union(alloc: Global, dtype: DType, id: u8, child: Scalar) -> Result<Scalar, VortexError> {
-    validate(alloc, &child)?;
     match dtype {
-        DType::Union(variants, nullability) => {
-            Scalar::union(alloc, variants, id, child, nullability)
-        }
-        _ => Err(VortexError::WrongKind),
+        DType::Union(variants, n) => union_of(alloc, variants, id, child, n),
+        _ => wrong_kind(alloc, &child),
+    }
+}
+
+fn union_of(
+    alloc: Global,
+    variants: UnionVariants,
+    id: u8,
+    child: Scalar,
+    nullability: Nullability,
+) -> Result<Scalar, VortexError> {
+    match validate(alloc, &child) {
+        Ok(()) => Scalar::union(alloc, variants, id, child, nullability),
+        Err(refusal) => Err(refusal),
     }
 }
 
 fn extension(alloc: Global, dtype: DType, storage: Scalar) -> Result<Scalar, VortexError> {
-    validate(alloc, &storage)?;
     match dtype {
-        DType::Extension(extension) => Scalar::extension_ref(extension, storage),
-        _ => Err(VortexError::WrongKind),
+        DType::Extension(extension) => extension_of(alloc, extension, storage),
+        _ => wrong_kind(alloc, &storage),
+    }
+}
+
+fn extension_of(
+    alloc: Global,
+    extension: ExtDType,
+    storage: Scalar,
+) -> Result<Scalar, VortexError> {
+    match validate(alloc, &storage) {
+        Ok(()) => Scalar::extension_ref(extension, storage),
+        Err(refusal) => Err(refusal),
+    }
+}
+
+/// The refusal of a type of another kind, unless the scalar is not valid.
+fn wrong_kind(alloc: Global, scalar: &Scalar) -> Result<Scalar, VortexError> {
+    match validate(alloc, scalar) {
+        Ok(()) => Err(VortexError::WrongKind),
+        Err(refusal) => Err(refusal),
     }
 }
 
 fn variant(alloc: Global, scalar: Scalar) -> Result<Scalar, VortexError> {
-    validate(alloc, &scalar)?;
-    Scalar::variant(alloc, scalar)
+    match validate(alloc, &scalar) {
+        Ok(()) => Scalar::variant(alloc, scalar),
+        Err(refusal) => Err(refusal),
+    }
 }

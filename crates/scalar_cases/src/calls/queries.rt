@@ -4,8 +4,6 @@ ghost use Rattle.std.specs.Prelude.{OnOk};
 ghost use Rattle.vortex_value.specs.Scalars.{IsValid};
 
 use crate::answers::{Answer, made, truth};
-use crate::calls::Call;
-use crate::faults::Fault;
 use crate::inputs::{names_input, scalar_input, type_input};
 use crate::tokens::Tokens;
 use std::alloc::Global;
@@ -15,96 +13,89 @@ use vortex_value::Scalar;
 /// A call and the inputs that it borrows.
 #[derive(Drop)]
 pub enum Query {
-    Types(OfTypes, DType, DType),
+    /// A call of two types.
+    Types(TypesCall, DType, DType),
+    /// The fields of these names.
     Project(DType, Vec<FieldName>),
-    Scalar(OfScalar, Scalar),
-    Equal(Scalar, Scalar),
-    Cast(Scalar, DType),
+    /// A call of a scalar, which need not be valid.
+    Scalar(ScalarCall, Scalar),
+    /// A call of two scalars, which need not be valid.
+    Scalars(ScalarsCall, Scalar, Scalar),
+    /// A call of a valid scalar and a type.
+    Target(TargetCall, Scalar, DType),
 }
 
 /// The calls of two types.
 #[derive(Clone, Copy)]
-pub enum OfTypes {
+pub enum TypesCall {
     Same,
     Equal,
 }
 
 /// The calls of a scalar, which need not be valid.
 #[derive(Clone, Copy)]
-pub enum OfScalar {
+pub enum ScalarCall {
     Validate,
     Compatible,
     Clone,
 }
 
-/// Reads two types.
-pub fn read_types(tokens: &mut Tokens<'_>, call: OfTypes) -> Result<Call, Fault> {
-    let first = type_input(tokens)?;
-    let second = type_input(tokens)?;
-    Ok(Call::Query(Query::Types(call, first, second)))
+/// The calls of two scalars, which need not be valid.
+#[derive(Clone, Copy)]
+pub enum ScalarsCall {
+    Equal,
 }
 
-/// Reads a type and names.
-pub fn read_project(tokens: &mut Tokens<'_>) -> Result<Call, Fault> {
-    let dtype = type_input(tokens)?;
-    let names = names_input(tokens)?;
-    Ok(Call::Query(Query::Project(dtype, names)))
+/// The calls of a valid scalar and a type.
+#[derive(Clone, Copy)]
+pub enum TargetCall {
+    Cast,
 }
 
-/// Reads a scalar.
-pub fn read_scalar(tokens: &mut Tokens<'_>, call: OfScalar) -> Result<Call, Fault> {
-    let scalar = scalar_input(tokens)?;
-    Ok(Call::Query(Query::Scalar(call, scalar)))
+pub fn read_types(tokens: &mut Tokens<'_>, call: TypesCall) -> Query {
+    let first = type_input(tokens);
+    let second = type_input(tokens);
+    Query::Types(call, first, second)
 }
 
-/// Reads two scalars.
-pub fn read_equal(tokens: &mut Tokens<'_>) -> Result<Call, Fault> {
-    let first = scalar_input(tokens)?;
-    let second = scalar_input(tokens)?;
-    Ok(Call::Query(Query::Equal(first, second)))
+pub fn read_project(tokens: &mut Tokens<'_>) -> Query {
+    let dtype = type_input(tokens);
+    let names = names_input(tokens);
+    Query::Project(dtype, names)
 }
 
-/// Reads a scalar and a type.
-pub fn read_cast(tokens: &mut Tokens<'_>) -> Result<Call, Fault> {
-    let scalar = scalar_input(tokens)?;
-    let target = type_input(tokens)?;
-    Ok(Call::Query(Query::Cast(scalar, target)))
+pub fn read_scalar(tokens: &mut Tokens<'_>, call: ScalarCall) -> Query {
+    Query::Scalar(call, scalar_input(tokens))
+}
+
+pub fn read_scalars(tokens: &mut Tokens<'_>, call: ScalarsCall) -> Query {
+    let first = scalar_input(tokens);
+    let second = scalar_input(tokens);
+    Query::Scalars(call, first, second)
+}
+
+pub fn read_target(tokens: &mut Tokens<'_>, call: TargetCall) -> Query {
+    let scalar = scalar_input(tokens);
+    let target = type_input(tokens);
+    Query::Target(call, scalar, target)
 }
 
 /// What the call answers.
-pub fn answer(alloc: Global, query: &Query) -> Answer {
+pub fn answer_query(alloc: Global, query: &Query) -> Answer {
     match query {
         Query::Types(call, first, second) => of_types(*call, first, second),
         Query::Project(dtype, names) => project(alloc, dtype, names),
         Query::Scalar(call, scalar) => of_scalar(alloc, *call, scalar),
-        Query::Equal(first, second) => truth(first == second),
-        Query::Cast(scalar, target) => cast(alloc, scalar, target),
+        Query::Scalars(call, first, second) => of_scalars(*call, first, second),
+        Query::Target(call, scalar, target) => of_target(alloc, *call, scalar, target),
     }
 }
 
-fn of_types(call: OfTypes, first: &DType, second: &DType) -> Answer {
+fn of_types(call: TypesCall, first: &DType, second: &DType) -> Answer {
     match call {
-        OfTypes::Same => truth(first.eq_ignore_nullability(second)),
-        OfTypes::Equal => truth(first == second),
+        TypesCall::Same => truth(first.eq_ignore_nullability(second)),
+        TypesCall::Equal => truth(first == second),
     }
-}
-
-fn of_scalar(alloc: Global, call: OfScalar, scalar: &Scalar) -> Answer {
-    match call {
-        OfScalar::Validate => match validate(alloc, scalar) {
-            Ok(()) => Answer::Word("ok"),
-            Err(refusal) => Answer::Refused(refusal),
-        },
-        OfScalar::Compatible => truth(Scalar::is_compatible(&scalar.dtype, scalar.value())),
-        OfScalar::Clone => made(scalar.clone(alloc)),
-    }
-}
-
-/// Whether a scalar is valid, as the calls after it ask.
-pub fn validate(alloc: Global, scalar: &Scalar) -> Result<(), VortexError>
-    ensures { OnOk result (IsValid scalar.now) }
-{
-    Scalar::validate(alloc, scalar.dtype(), scalar.value())
 }
 
 fn project(alloc: Global, dtype: &DType, names: &[FieldName]) -> Answer {
@@ -117,9 +108,35 @@ fn project(alloc: Global, dtype: &DType, names: &[FieldName]) -> Answer {
     }
 }
 
-fn cast(alloc: Global, scalar: &Scalar, target: &DType) -> Answer {
+fn of_scalar(alloc: Global, call: ScalarCall, scalar: &Scalar) -> Answer {
+    match call {
+        ScalarCall::Validate => match validate(alloc, scalar) {
+            Ok(()) => Answer::Word("ok"),
+            Err(refusal) => Answer::Refused(refusal),
+        },
+        ScalarCall::Compatible => truth(Scalar::is_compatible(&scalar.dtype, scalar.value())),
+        ScalarCall::Clone => made(scalar.clone(alloc)),
+    }
+}
+
+fn of_scalars(call: ScalarsCall, first: &Scalar, second: &Scalar) -> Answer {
+    match call {
+        ScalarsCall::Equal => truth(first == second),
+    }
+}
+
+/// The refusal of a scalar that is not valid.
+pub fn validate(alloc: Global, scalar: &Scalar) -> Result<(), VortexError>
+    ensures { OnOk result (IsValid scalar.now) }
+{
+    Scalar::validate(alloc, scalar.dtype(), scalar.value())
+}
+
+fn of_target(alloc: Global, call: TargetCall, scalar: &Scalar, target: &DType) -> Answer {
     match validate(alloc, scalar) {
-        Ok(()) => made(scalar.cast(alloc, target)),
+        Ok(()) => match call {
+            TargetCall::Cast => made(scalar.cast(alloc, target)),
+        },
         Err(refusal) => Answer::Refused(refusal),
     }
 }

@@ -1,7 +1,5 @@
 //! Numbers, integer kinds and bytes in hexadecimal.
 
-use crate::faults::Fault;
-use std::alloc::Global;
 use vortex_dtype::PType;
 use vortex_pvalue::PValue;
 
@@ -57,14 +55,14 @@ fn split_digits(word: &[u8]) -> (&[u8], &[u8]) {
 /// The number as a value of the kind, where that has it.
 fn value_of(number: i128, kind: PType) -> Option<PValue> {
     match kind {
-        PType::U8 => u8::try_from(number).ok().map(PValue::U8),
-        PType::U16 => u16::try_from(number).ok().map(PValue::U16),
-        PType::U32 => u32::try_from(number).ok().map(PValue::U32),
-        PType::U64 => u64::try_from(number).ok().map(PValue::U64),
-        PType::I8 => i8::try_from(number).ok().map(PValue::I8),
-        PType::I16 => i16::try_from(number).ok().map(PValue::I16),
-        PType::I32 => i32::try_from(number).ok().map(PValue::I32),
-        PType::I64 => i64::try_from(number).ok().map(PValue::I64),
+        PType::U8 => Some(PValue::U8(u8::try_from(number).ok()?)),
+        PType::U16 => Some(PValue::U16(u16::try_from(number).ok()?)),
+        PType::U32 => Some(PValue::U32(u32::try_from(number).ok()?)),
+        PType::U64 => Some(PValue::U64(u64::try_from(number).ok()?)),
+        PType::I8 => Some(PValue::I8(i8::try_from(number).ok()?)),
+        PType::I16 => Some(PValue::I16(i16::try_from(number).ok()?)),
+        PType::I32 => Some(PValue::I32(i32::try_from(number).ok()?)),
+        PType::I64 => Some(PValue::I64(i64::try_from(number).ok()?)),
     }
 }
 
@@ -75,27 +73,5 @@ pub fn hex_digit(digit: u8) -> Option<u8> {
         b'a'..=b'f' => Some(digit - b'a' + 10),
         b'A'..=b'F' => Some(digit - b'A' + 10),
         _ => None,
-    }
-}
-
-/// The bytes that these digits in hexadecimal represent, two each.
-pub fn bytes_of_hex(alloc: Global, digits: &[u8]) -> Result<Vec<u8>, Fault> {
-    let mut bytes = Vec::with_capacity(alloc, digits.len() / 2)?;
-    let mut high = None;
-    for digit in digits {
-        let Some(digit) = hex_digit(*digit) else {
-            return Err(Fault::BadLine);
-        };
-        high = match high {
-            None => Some(digit),
-            Some(high) => {
-                bytes.push((high << 4) | digit)?;
-                None
-            }
-        };
-    }
-    match high {
-        None => Ok(bytes),
-        Some(_) => Err(Fault::BadLine),
     }
 }

@@ -1,7 +1,7 @@
-//! Texts in quotes, and names.
+//! Texts in quotes, names, and bytes in hexadecimal.
 
 use crate::faults::Fault;
-use crate::read::numbers::{bytes_of_hex, hex_digit};
+use crate::read::numbers::hex_digit;
 use crate::tokens::Tokens;
 use vortex_dtype::{BufferString, ByteBuffer, FieldName};
 
@@ -9,113 +9,127 @@ use vortex_dtype::{BufferString, ByteBuffer, FieldName};
 const DIGITS: u32 = 6;
 
 /// Reads a text in quotes.
-pub fn read_text(tokens: &mut Tokens<'_>) -> Result<BufferString, Fault> {
-    tokens.expects(b'"')?;
+pub fn read_text(tokens: &mut Tokens<'_>) -> Option<BufferString> {
     let mut text = Vec::new(tokens.alloc);
+    tokens.expect(b'"');
     for _ in 0..tokens.left() {
         match tokens.byte() {
-            None => return Err(Fault::BadLine),
             Some(b'"') => return kept_text(tokens, &text),
-            Some(b'\\') => read_escape(tokens, &mut text)?,
-            Some(byte) => text.push(byte)?,
+            Some(b'\\') => read_escape(tokens, &mut text),
+            Some(byte) => tokens.push(&mut text, byte),
+            None => break,
         }
     }
-    Err(Fault::BadLine)
+    tokens.bad_line();
+    None
 }
 
 /// The text of these bytes.
-fn kept_text(tokens: &Tokens<'_>, text: &[u8]) -> Result<BufferString, Fault> {
-    let Ok(buffer) = ByteBuffer::from_slice(tokens.alloc, text) else {
-        return Err(Fault::NoMemory);
-    };
-    match BufferString::try_from(buffer) {
-        Ok(text) => Ok(text),
-        Err(_) => Err(Fault::BadLine),
+fn kept_text(tokens: &mut Tokens<'_>, text: &[u8]) -> Option<BufferString> {
+    match BufferString::try_from(kept_bytes(tokens, text)?) {
+        Ok(text) => Some(text),
+        Err(_) => {
+            tokens.bad_line();
+            None
+        }
+    }
+}
+
+/// The buffer of these bytes.
+fn kept_bytes(tokens: &mut Tokens<'_>, bytes: &[u8]) -> Option<ByteBuffer> {
+    match ByteBuffer::from_slice(tokens.alloc, bytes) {
+        Ok(buffer) => Some(buffer),
+        Err(_) => {
+            tokens.fail(Fault::NoMemory);
+            None
+        }
     }
 }
 
 /// Reads what follows a backslash, and adds the character that it stands for.
-fn read_escape(tokens: &mut Tokens<'_>, text: &mut Vec<u8>) -> Result<(), Fault> {
+fn read_escape(tokens: &mut Tokens<'_>, text: &mut Vec<u8>) {
     match tokens.byte() {
-        Some(b'\\') => text.push(b'\\')?,
-        Some(b'"') => text.push(b'"')?,
-        Some(b'n') => text.push(b'\n')?,
-        Some(b'r') => text.push(b'\r')?,
-        Some(b't') => text.push(b'\t')?,
-        Some(b'u') => {
-            let character = read_character(tokens)?;
-            push_character(text, character)?;
-        }
-        _ => return Err(Fault::BadLine),
+        Some(b'\\') => tokens.push(text, b'\\'),
+        Some(b'"') => tokens.push(text, b'"'),
+        Some(b'n') => tokens.push(text, b'\n'),
+        Some(b'r') => tokens.push(text, b'\r'),
+        Some(b't') => tokens.push(text, b'\t'),
+        Some(b'u') => match read_character(tokens) {
+            Some(character) => push_character(tokens, text, character),
+            None => tokens.bad_line(),
+        },
+        _ => tokens.bad_line(),
     }
-    Ok(())
 }
 
 /// Reads a character's number, 1 to 6 digits in braces.
-fn read_character(tokens: &mut Tokens<'_>) -> Result<char, Fault> {
-    if tokens.byte() != Some(b'{') {
-        return Err(Fault::BadLine);
+fn read_character(tokens: &mut Tokens<'_>) -> Option<char> {
+    if tokens.byte()? != b'{' {
+        return None;
     }
-    let mut number = 0u32;
-    for place in 0..=DIGITS {
-        let byte = tokens.byte();
-        if byte == Some(b'}') && place > 0 {
-            return char::from_u32(number).ok_or(Fault::BadLine);
+    let mut number = u32::from(hex_digit(tokens.byte()?)?);
+    for _ in 0..DIGITS {
+        let byte = tokens.byte()?;
+        if byte == b'}' {
+            return char::from_u32(number);
         }
-        let Some(digit) = byte.and_then(hex_digit) else {
-            return Err(Fault::BadLine);
-        };
-        number = number.wrapping_mul(16) | u32::from(digit);
+        number = number.wrapping_mul(16) | u32::from(hex_digit(byte)?);
     }
-    Err(Fault::BadLine)
+    None
 }
 
 /// Adds the bytes of a character.
-fn push_character(text: &mut Vec<u8>, character: char) -> Result<(), Fault> {
+fn push_character(tokens: &mut Tokens<'_>, text: &mut Vec<u8>, character: char) {
     let mut bytes = [0; 4];
-    text.extend_from_slice(character.encode_utf8(&mut bytes).as_bytes())?;
-    Ok(())
+    for byte in character.encode_utf8(&mut bytes).as_bytes() {
+        tokens.push(text, *byte);
+    }
 }
 
 /// Reads a name: a word that begins with no digit, or a text in quotes.
-pub fn read_name(tokens: &mut Tokens<'_>) -> Result<BufferString, Fault> {
+pub fn read_name(tokens: &mut Tokens<'_>) -> Option<BufferString> {
     if tokens.peek() == Some(b'"') {
         return read_text(tokens);
     }
     let word = tokens.word();
     match word.first() {
         Some(first) if !first.is_ascii_digit() => kept_text(tokens, word),
-        _ => Err(Fault::BadLine),
-    }
-}
-
-/// Reads the names that stand in brackets.
-pub fn read_names(tokens: &mut Tokens<'_>) -> Result<Vec<FieldName>, Fault> {
-    tokens.expects(b'[')?;
-    let mut names = Vec::new(tokens.alloc);
-    if tokens.takes(b']') {
-        return Ok(names);
-    }
-    for _ in 0..tokens.left() {
-        names.push(FieldName::new(read_name(tokens)?))?;
-        if !tokens.goes_on(b']')? {
-            return Ok(names);
+        _ => {
+            tokens.bad_line();
+            None
         }
     }
-    Err(Fault::BadLine)
 }
 
-/// Reads bytes in hexadecimal, of which there may be none.
-pub fn read_bytes(tokens: &mut Tokens<'_>) -> Result<ByteBuffer, Fault> {
-    let digits = tokens.word();
-    kept_bytes(tokens, digits)
-}
-
-/// The bytes that these digits represent.
-pub fn kept_bytes(tokens: &Tokens<'_>, digits: &[u8]) -> Result<ByteBuffer, Fault> {
-    let bytes = bytes_of_hex(tokens.alloc, digits)?;
-    match ByteBuffer::from_slice(tokens.alloc, &bytes) {
-        Ok(buffer) => Ok(buffer),
-        Err(_) => Err(Fault::NoMemory),
+/// Reads a name, and adds it to the others.
+pub fn push_name(tokens: &mut Tokens<'_>, names: &mut Vec<FieldName>) {
+    if let Some(name) = read_name(tokens) {
+        tokens.push(names, FieldName::new(name));
     }
+}
+
+/// Reads the bytes that digits in hexadecimal represent, of which there may be none.
+pub fn read_bytes(tokens: &mut Tokens<'_>) -> Option<ByteBuffer> {
+    let digits = tokens.word();
+    bytes_of_hex(tokens, digits)
+}
+
+/// The bytes that these digits in hexadecimal represent, two each.
+pub fn bytes_of_hex(tokens: &mut Tokens<'_>, digits: &[u8]) -> Option<ByteBuffer> {
+    let mut bytes = Vec::new(tokens.alloc);
+    let mut high = None;
+    for digit in digits {
+        match (high, hex_digit(*digit)) {
+            (_, None) => tokens.bad_line(),
+            (None, digit) => high = digit,
+            (Some(first), Some(second)) => {
+                tokens.push(&mut bytes, (first << 4) | second);
+                high = None;
+            }
+        }
+    }
+    if high.is_some() {
+        tokens.bad_line();
+    }
+    kept_bytes(tokens, &bytes)
 }

@@ -2,9 +2,10 @@
 
 use crate::faults::Fault;
 use crate::read::numbers::{integer, natural};
-use crate::read::texts::{kept_bytes, read_text};
+use crate::read::texts::{bytes_of_hex, read_text};
 use crate::read::types::{read_type, within};
 use crate::tokens::Tokens;
+use vortex_dtype::DType;
 use vortex_value::{Scalar, ScalarValue, UnionValue};
 
 /// What a raw value begins with.
@@ -17,117 +18,152 @@ enum Head {
 }
 
 /// Reads what a raw value begins with, and the bracket of its parts.
-fn read_head(tokens: &mut Tokens<'_>) -> Result<Head, Fault> {
+fn read_head(tokens: &mut Tokens<'_>) -> Head {
     match tokens.peek() {
-        Some(b'"') => Ok(Head::Whole(Some(ScalarValue::Utf8(read_text(tokens)?)))),
+        Some(b'"') => Head::Whole(text_value(tokens)),
+        Some(b'-') => Head::Whole(negative_value(tokens)),
         Some(b'[') => {
-            tokens.expects(b'[')?;
-            Ok(Head::Tuple)
+            tokens.expect(b'[');
+            Head::Tuple
         }
         Some(b'<') => {
-            tokens.expects(b'<')?;
-            Ok(Head::Variant)
-        }
-        Some(b'-') => {
-            tokens.expects(b'-')?;
-            read_negative(tokens)
+            tokens.expect(b'<');
+            Head::Variant
         }
         _ => read_word(tokens),
     }
 }
 
-/// Reads the digits and the kind that follow a minus sign.
-fn read_negative(tokens: &mut Tokens<'_>) -> Result<Head, Fault> {
+fn text_value(tokens: &mut Tokens<'_>) -> Option<ScalarValue> {
+    Some(ScalarValue::Utf8(read_text(tokens)?))
+}
+
+/// Reads an integer that has a minus sign; no space stands after it.
+fn negative_value(tokens: &mut Tokens<'_>) -> Option<ScalarValue> {
+    tokens.expect(b'-');
     if tokens.rest().first() == Some(&b' ') {
-        return Err(Fault::BadLine);
+        tokens.bad_line();
     }
-    match integer(tokens.word(), true) {
-        Some(number) => Ok(Head::Whole(Some(ScalarValue::Primitive(number)))),
-        None => Err(Fault::BadLine),
+    let word = tokens.word();
+    integer_value(tokens, word, true)
+}
+
+fn integer_value(tokens: &mut Tokens<'_>, word: &[u8], is_negative: bool) -> Option<ScalarValue> {
+    match integer(word, is_negative) {
+        Some(number) => Some(ScalarValue::Primitive(number)),
+        None => {
+            tokens.bad_line();
+            None
+        }
     }
 }
 
 /// Reads a null, a truth value, a string of bytes, an integer or a union's id.
-fn read_word(tokens: &mut Tokens<'_>) -> Result<Head, Fault> {
+fn read_word(tokens: &mut Tokens<'_>) -> Head {
     match tokens.word() {
-        b"null" => Ok(Head::Whole(None)),
-        b"true" => Ok(Head::Whole(Some(ScalarValue::Bool(true)))),
-        b"false" => Ok(Head::Whole(Some(ScalarValue::Bool(false)))),
-        [b'x', digits @ ..] => {
-            let bytes = kept_bytes(tokens, digits)?;
-            Ok(Head::Whole(Some(ScalarValue::Binary(bytes))))
-        }
-        word => read_number(tokens, word),
+        b"null" => Head::Whole(None),
+        b"true" => Head::Whole(Some(ScalarValue::Bool(true))),
+        b"false" => Head::Whole(Some(ScalarValue::Bool(false))),
+        [b'x', digits @ ..] => Head::Whole(bytes_value(tokens, digits)),
+        word => match natural(word) {
+            Some(id) => read_union_head(tokens, id),
+            None => Head::Whole(integer_value(tokens, word, false)),
+        },
     }
 }
 
-/// The integer that this word is, or the union's id, whose bracket follows.
-fn read_number(tokens: &mut Tokens<'_>, word: &[u8]) -> Result<Head, Fault> {
-    let Some(id) = natural(word) else {
-        return match integer(word, false) {
-            Some(number) => Ok(Head::Whole(Some(ScalarValue::Primitive(number)))),
-            None => Err(Fault::BadLine),
-        };
-    };
-    tokens.expects(b'(')?;
-    match u8::try_from(id) {
-        Ok(id) => Ok(Head::Union(id)),
-        Err(_) => Err(Fault::BadLine),
+fn bytes_value(tokens: &mut Tokens<'_>, digits: &[u8]) -> Option<ScalarValue> {
+    Some(ScalarValue::Binary(bytes_of_hex(tokens, digits)?))
+}
+
+/// Reads the bracket that follows a union's id.
+fn read_union_head(tokens: &mut Tokens<'_>, id: u64) -> Head {
+    tokens.expect(b'(');
+    if id < 256 {
+        return Head::Union(id as u8);
     }
+    tokens.bad_line();
+    Head::Whole(None)
 }
 
 /// Reads a raw value in which so many brackets may be open at one time; none is a null.
 #[cycle(values)]
-pub fn read_value(tokens: &mut Tokens<'_>, room: u32) -> Result<Option<ScalarValue>, Fault> {
-    match read_head(tokens)? {
-        Head::Whole(value) => Ok(value),
-        Head::Tuple => read_tuple(tokens, within(room)?),
-        Head::Union(id) => read_union(tokens, id, within(room)?),
-        Head::Variant => read_variant(tokens, within(room)?),
+pub fn read_value(tokens: &mut Tokens<'_>, room: u32) -> Option<ScalarValue> {
+    match read_head(tokens) {
+        Head::Whole(value) => value,
+        head => {
+            let room = within(tokens, room)?;
+            read_parts(tokens, head, room)
+        }
+    }
+}
+
+/// Reads the parts of a raw value.
+#[cycle(values)]
+fn read_parts(tokens: &mut Tokens<'_>, head: Head, room: u32) -> Option<ScalarValue> {
+    match head {
+        Head::Whole(value) => value,
+        Head::Tuple => Some(ScalarValue::Tuple(read_tuple(tokens, room))),
+        Head::Union(id) => {
+            let child = read_value(tokens, room);
+            union_of(tokens, id, child)
+        }
+        Head::Variant => {
+            let dtype = read_type(tokens, room);
+            tokens.expect(b':');
+            let value = read_value(tokens, room);
+            variant_of(tokens, dtype, value)
+        }
     }
 }
 
 #[cycle(values)]
-fn read_tuple(tokens: &mut Tokens<'_>, room: u32) -> Result<Option<ScalarValue>, Fault> {
+fn read_tuple(tokens: &mut Tokens<'_>, room: u32) -> Vec<Option<ScalarValue>> {
     let mut parts = Vec::new(tokens.alloc);
     let mut more = !tokens.takes(b']');
-    for _ in 0..tokens.left() {
+    for _ in 0..=tokens.left() {
         if !more {
             break;
         }
-        parts.push(read_value(tokens, room)?)?;
-        more = tokens.goes_on(b']')?;
+        let part = read_value(tokens, room);
+        tokens.push(&mut parts, part);
+        more = tokens.goes_on(b']');
     }
-    if more {
-        return Err(Fault::BadLine);
-    }
-    Ok(Some(ScalarValue::Tuple(parts)))
+    parts
 }
 
-#[cycle(values)]
-fn read_union(tokens: &mut Tokens<'_>, id: u8, room: u32) -> Result<Option<ScalarValue>, Fault> {
-    let child = read_value(tokens, room)?;
-    tokens.expects(b')')?;
+/// The union's value of this id and child, of which the end is read.
+fn union_of(tokens: &mut Tokens<'_>, id: u8, child: Option<ScalarValue>) -> Option<ScalarValue> {
+    tokens.expect(b')');
     match UnionValue::new(tokens.alloc, id, child) {
-        Ok(union) => Ok(Some(ScalarValue::Union(union))),
-        Err(_) => Err(Fault::NoMemory),
+        Ok(union) => Some(ScalarValue::Union(union)),
+        Err(_) => no_value(tokens),
     }
 }
 
-#[cycle(values)]
-fn read_variant(tokens: &mut Tokens<'_>, room: u32) -> Result<Option<ScalarValue>, Fault> {
-    let dtype = read_type(tokens, room)?;
-    tokens.expects(b':')?;
-    let value = read_value(tokens, room)?;
-    tokens.expects(b'>')?;
-    let inner = Box::new(tokens.alloc, Scalar { dtype, value })?;
-    Ok(Some(ScalarValue::Variant(inner)))
+/// The variant's value of this scalar, of which the end is read.
+fn variant_of(
+    tokens: &mut Tokens<'_>,
+    dtype: DType,
+    value: Option<ScalarValue>,
+) -> Option<ScalarValue> {
+    tokens.expect(b'>');
+    match Box::new(tokens.alloc, Scalar { dtype, value }) {
+        Ok(inner) => Some(ScalarValue::Variant(inner)),
+        Err(_) => no_value(tokens),
+    }
+}
+
+/// What stands for a value that finds no memory.
+fn no_value(tokens: &mut Tokens<'_>) -> Option<ScalarValue> {
+    tokens.fail(Fault::NoMemory);
+    None
 }
 
 /// Reads a scalar, which need not be valid.
-pub fn read_scalar(tokens: &mut Tokens<'_>, room: u32) -> Result<Scalar, Fault> {
-    let dtype = read_type(tokens, room)?;
-    tokens.expects(b':')?;
-    let value = read_value(tokens, room)?;
-    Ok(Scalar { dtype, value })
+pub fn read_scalar(tokens: &mut Tokens<'_>, room: u32) -> Scalar {
+    let dtype = read_type(tokens, room);
+    tokens.expect(b':');
+    let value = read_value(tokens, room);
+    Scalar { dtype, value }
 }

@@ -1,31 +1,36 @@
 //! Refusals.
 
-use crate::write::texts::{write_number, write_word};
-use std::alloc::AllocError;
+use crate::write::output::Output;
 use vortex_dtype::{Breach, Step, TypeCause, VortexError};
 
-/// Adds a refusal: its name, and its parts.
-pub fn write_refusal(out: &mut Vec<u8>, refusal: &VortexError) -> Result<(), AllocError> {
+/// Writes a refusal: its name, and its parts.
+pub fn write_refusal(out: &mut Output, refusal: &VortexError) {
+    out.word(refusal_name(refusal));
     match refusal {
         VortexError::Invalid { path, breach } => write_invalid(out, path.steps(), *breach),
-        VortexError::WrongChild { index } => write_counted(out, "WrongChild", *index),
+        VortexError::WrongChild { index } => write_count(out, *index),
         VortexError::WrongLength { expected, found } => {
-            write_counted(out, "WrongLength", *expected)?;
-            write_counted(out, "", *found)
+            write_count(out, *expected);
+            write_count(out, *found);
         }
-        VortexError::UnknownTypeId { id } => {
-            write_counted(out, "UnknownTypeId", usize::from(*id))
+        VortexError::UnknownTypeId { id } => write_count(out, usize::from(*id)),
+        VortexError::BadType { cause } => {
+            out.byte(b' ');
+            out.word(cause_name(*cause));
         }
-        VortexError::BadType { cause } => write_bad_type(out, *cause),
-        _ => write_word(out, refusal_name(refusal)),
+        _ => {}
     }
 }
 
-/// The name of a refusal without parts.
+/// The name of a refusal.
 fn refusal_name(refusal: &VortexError) -> &'static str {
     match refusal {
         VortexError::OutOfMemory => "OutOfMemory",
+        VortexError::Invalid { .. } => "Invalid",
         VortexError::WrongKind => "WrongKind",
+        VortexError::WrongChild { .. } => "WrongChild",
+        VortexError::WrongLength { .. } => "WrongLength",
+        VortexError::UnknownTypeId { .. } => "UnknownTypeId",
         VortexError::CannotCast => "CannotCast",
         VortexError::OutOfRange => "OutOfRange",
         VortexError::WrongPType => "WrongPType",
@@ -35,66 +40,56 @@ fn refusal_name(refusal: &VortexError) -> &'static str {
         VortexError::VariantNull => "VariantNull",
         VortexError::TooMany => "TooMany",
         VortexError::WidthsDiffer => "WidthsDiffer",
-        VortexError::Invalid { .. } => "Invalid",
-        VortexError::WrongChild { .. } => "WrongChild",
-        VortexError::WrongLength { .. } => "WrongLength",
-        VortexError::UnknownTypeId { .. } => "UnknownTypeId",
         VortexError::BadType { .. } => "BadType",
     }
 }
 
-/// Adds this name, a space and a number.
-fn write_counted(out: &mut Vec<u8>, name: &str, number: usize) -> Result<(), AllocError> {
-    write_word(out, name)?;
-    out.push(b' ')?;
-    write_number(out, number as u64)
+fn cause_name(cause: TypeCause) -> &'static str {
+    match cause {
+        TypeCause::NullableKey => "NullableKey",
+        TypeCause::LengthsDiffer => "LengthsDiffer",
+        TypeCause::RepeatedTypeId => "RepeatedTypeId",
+    }
 }
 
-fn write_bad_type(out: &mut Vec<u8>, cause: TypeCause) -> Result<(), AllocError> {
-    write_word(out, "BadType ")?;
-    write_word(
-        out,
-        match cause {
-            TypeCause::NullableKey => "NullableKey",
-            TypeCause::LengthsDiffer => "LengthsDiffer",
-            TypeCause::RepeatedTypeId => "RepeatedTypeId",
-        },
-    )
+/// Writes a space and a number.
+fn write_count(out: &mut Output, number: usize) {
+    out.byte(b' ');
+    out.number(number as u64);
 }
 
-/// Adds the path to a breach, and the breach.
-fn write_invalid(out: &mut Vec<u8>, steps: &[Step], breach: Breach) -> Result<(), AllocError> {
-    write_word(out, "Invalid ")?;
+/// Writes the path to a breach, and the breach.
+fn write_invalid(out: &mut Output, steps: &[Step], breach: Breach) {
+    out.byte(b' ');
     if steps.is_empty() {
-        out.push(b'.')?;
+        out.byte(b'.');
     }
     for (place, step) in steps.iter().enumerate() {
         if place > 0 {
-            out.push(b'/')?;
+            out.byte(b'/');
         }
-        write_step(out, *step)?;
+        write_step(out, *step);
     }
-    out.push(b' ')?;
-    write_word(out, breach_name(breach))
+    out.byte(b' ');
+    out.word(breach_name(breach));
 }
 
-fn write_step(out: &mut Vec<u8>, step: Step) -> Result<(), AllocError> {
+fn write_step(out: &mut Output, step: Step) {
     match step {
-        Step::Element(place) => write_place(out, "Element", place),
-        Step::Entry(place) => write_place(out, "Entry", place),
-        Step::Field(place) => write_place(out, "Field", place),
-        Step::Key => write_word(out, "Key"),
-        Step::Value => write_word(out, "Value"),
-        Step::Child => write_word(out, "Child"),
-        Step::Inner => write_word(out, "Inner"),
+        Step::Element(place) => write_place(out, "Element(", place),
+        Step::Entry(place) => write_place(out, "Entry(", place),
+        Step::Field(place) => write_place(out, "Field(", place),
+        Step::Key => out.word("Key"),
+        Step::Value => out.word("Value"),
+        Step::Child => out.word("Child"),
+        Step::Inner => out.word("Inner"),
     }
 }
 
-fn write_place(out: &mut Vec<u8>, name: &str, place: usize) -> Result<(), AllocError> {
-    write_word(out, name)?;
-    out.push(b'(')?;
-    write_number(out, place as u64)?;
-    Ok(out.push(b')')?)
+fn write_place(out: &mut Output, name: &str, place: usize) {
+    out.word(name);
+    out.number(place as u64);
+    out.byte(b')');
 }
 
 fn breach_name(breach: Breach) -> &'static str {
