@@ -1,28 +1,33 @@
 -- What a cast of an integer says of the target's range.
-use Rattle.std.proofs.Common.{ℤ, refl, sym, subst}
+use Rattle.std.proofs.Common.{ℤ, refl}
 use Rattle.vortex_dtype.specs.TypeLevels.{type_of-Primitive}
 use Rattle.vortex_dtype.specs.TypeOf.{type_of}
-use Rattle.vortex_dtype.specs.TypeTree.{TypeTree, integer_type}
+use Rattle.vortex_dtype.specs.TypeTree.{TypeTree, integer_type, IsFlat}
+use Rattle.vortex_dtype.specs.declared.error.VortexError.{VortexError}
+use Rattle.vortex_dtype.specs.declared.error.VortexError.TheVariants.{CannotCast, OutOfMemory}
 use Rattle.vortex_dtype.specs.declared.kinds.Nullability.TheVariants.{NonNullable}
 use Rattle.vortex_dtype.specs.declared.kinds.PType.{PType}
 use Rattle.vortex_dtype.specs.declared.types.DType.TheVariants.{Primitive}
 use Rattle.vortex_pvalue.specs.Kinds.{InRange}
-use Rattle.vortex_value.specs.Casts.{CanCast, IsNullOrInteger, integers}
+use Rattle.vortex_value.specs.Casts.{CanCast, RefusesCast, integers}
 use Rattle.vortex_value.specs.Content.{whole}
 use Rattle.vortex_value.specs.RawTree.{raw_integer}
 use Rattle.vortex_value.specs.Scalars.{IsMadeOf, scalar_content, scalar_type}
 use Rattle.vortex_value.specs.declared.scalars.Scalar.{Scalar}
 
--- the types of the source and of the target are integer types
-pub integer_source : (source : Scalar) (own : PType) (z : ℤ) → IsMadeOf (integer_type own NonNullable) (raw_integer own z) source → IsNullOrInteger (scalar_type source)
-integer_source source own z made = rw made.typed tt
-
-pub integer_target : (kind : PType) → IsNullOrInteger (type_of (Primitive kind NonNullable))
-integer_target kind = let P : TypeTree → Type 0 = λ t. IsNullOrInteger t in subst P (sym (type_of-Primitive kind NonNullable)) tt
-
-number_can_be_cast : (own kind : PType) (z : ℤ) → InRange kind z → CanCast (integer_type own NonNullable) (integer_type kind NonNullable) (whole z)
-number_can_be_cast own kind z inside = (integers tt tt, record { value = raw_integer kind z; valid = (refl, inside); same = refl })
-
 -- a number of the target's range can be cast
-pub can_cast : (source : Scalar) (own kind : PType) (z : ℤ) → IsMadeOf (integer_type own NonNullable) (raw_integer own z) source → InRange kind z → CanCast (scalar_type source) (type_of (Primitive kind NonNullable)) (scalar_content source)
-can_cast source own kind z made inside = rw (type_of-Primitive kind NonNullable, made.typed, made.value) (number_can_be_cast own kind z inside)
+can_cast : (own kind : PType) (z : ℤ) → InRange kind z → CanCast (integer_type own NonNullable) (integer_type kind NonNullable) (whole z)
+can_cast own kind z inside = (integers tt tt, record { value = raw_integer kind z; valid = (refl, inside); same = refl })
+
+-- a cast to a type whose values take no memory is refused only where it is impossible
+impossible : (t : TypeTree) (p : Type 0) (e : VortexError) → IsFlat t → RefusesCast t p e → ¬ p
+impossible t p CannotCast flat h = h
+impossible t p OutOfMemory flat h = absurd (h flat)
+impossible t p _ flat h = absurd h
+
+-- a number whose cast to the kind is refused is not in its range
+pub refused : (source : Scalar) (own kind : PType) (z : ℤ) (e : VortexError) → IsMadeOf (integer_type own NonNullable) (raw_integer own z) source
+    → RefusesCast (type_of (Primitive kind NonNullable)) (CanCast (scalar_type source) (type_of (Primitive kind NonNullable)) (scalar_content source)) e → ¬ (InRange kind z)
+refused source own kind z e made out =
+    let flat : IsFlat (type_of (Primitive kind NonNullable)) = rw (type_of-Primitive kind NonNullable) tt in
+    λ inside. impossible _ _ e flat out (rw (type_of-Primitive kind NonNullable, made.typed, made.value) (can_cast own kind z inside))

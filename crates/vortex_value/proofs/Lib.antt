@@ -1,5 +1,11 @@
 pub mod FillingLaws
 pub mod FillingSteps
+pub mod Alike
+pub mod CastCode
+pub mod CastLaws
+pub mod CastTable
+pub mod ContentLaws
+pub mod Filling
 pub mod GivenItems
 pub mod HashSteps
 pub mod ListMakers
@@ -18,5 +24,6 @@ pub mod ValidityLaws
 pub mod ValueSteps
 pub mod Variants
 pub mod Writes
+pub mod WayRound
 pub mod ZeroLaws
 pub mod ZeroSteps
