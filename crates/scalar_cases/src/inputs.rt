@@ -2,10 +2,10 @@
 
 use crate::read::texts::push_name;
 use crate::read::types::{read_id, read_type};
-use crate::read::values::read_scalar;
+use crate::read::values::{read_scalar, read_value};
 use crate::tokens::Tokens;
 use vortex_dtype::{DType, FieldName, Nullability};
-use vortex_value::Scalar;
+use vortex_value::{Scalar, ScalarValue};
 
 /// How many brackets may be open at one time.
 const ROOM: u32 = 256;
@@ -20,6 +20,12 @@ pub fn type_input(tokens: &mut Tokens<'_>) -> DType {
 pub fn scalar_input(tokens: &mut Tokens<'_>) -> Scalar {
     tokens.spaces();
     read_scalar(tokens, ROOM)
+}
+
+/// Reads a raw value, or `null` for its absence.
+pub fn value_input(tokens: &mut Tokens<'_>) -> Option<ScalarValue> {
+    tokens.spaces();
+    read_value(tokens, ROOM)
 }
 
 /// Reads scalars in brackets.

@@ -20,6 +20,8 @@ use vortex_value::Scalar;
 pub enum Maker {
     /// The type made nullable.
     AsNullable(DType),
+    /// The scalar with its type made nullable.
+    IntoNullable(Scalar),
     /// The scalar of this type and raw value.
     TryNew(Scalar),
     /// A maker of lists over this element type.
@@ -79,6 +81,7 @@ pub fn read_extension(tokens: &mut Tokens<'_>) -> Maker {
 pub fn answer_maker(alloc: Global, maker: Maker) -> Answer {
     match maker {
         Maker::AsNullable(dtype) => Answer::Type(dtype.as_nullable()),
+        Maker::IntoNullable(scalar) => made(into_nullable(alloc, scalar)),
         Maker::TryNew(scalar) => made(Scalar::try_new(alloc, scalar.dtype, scalar.value)),
         Maker::List(call, element, children, n) => made(list(alloc, call, element, children, n)),
         Maker::Struct(dtype, children) => made(struct_of(alloc, dtype, children)),
@@ -86,6 +89,13 @@ pub fn answer_maker(alloc: Global, maker: Maker) -> Answer {
         Maker::Union(dtype, id, child) => made(union(alloc, dtype, id, child)),
         Maker::Extension(dtype, storage) => made(extension(alloc, dtype, storage)),
         Maker::Variant(scalar) => made(variant(alloc, scalar)),
+    }
+}
+
+fn into_nullable(alloc: Global, scalar: Scalar) -> Result<Scalar, VortexError> {
+    match validate(alloc, &scalar) {
+        Ok(()) => Ok(scalar.into_nullable()),
+        Err(refusal) => Err(refusal),
     }
 }
 
