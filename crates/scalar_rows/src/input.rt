@@ -19,7 +19,8 @@ const READS: u32 = 1_048_576;
 /// are made; `Memory` where no memory is left.
 #[tactic(auto, using(crate::proofs::KnownReads::reads))]
 pub fn read_all<R: Read>(alloc: Global, reader: &mut R) -> Result<Vec<u8>, RowsError>
-    ensures bytes { IfOk result (λ input. IfSome (R.remaining reader.old) (λ all. input.items ≡ all)) }
+    ensures bytes { IfOk result
+        (λ input. IfSome (R.remaining reader.old) (λ all. input.items ≡ all)) }
     ensures end { OnOk result (IsAtEnd (R.remaining reader.new)) }
     ensures fault { IfErr result (λ e. e ≢ RowsError.Write) }
 {

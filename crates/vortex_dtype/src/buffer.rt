@@ -20,7 +20,8 @@ use std::str;
 
 /// Bytes that never change. Copies and slices share them.
 ///
-/// Ports `vortex_buffer::ByteBuffer`. It keeps its allocator, so that a copy or a slice asks for none.
+/// Ports `vortex_buffer::ByteBuffer`. It keeps its allocator, so that a copy or a slice asks for
+/// none.
 #[derive(Debug, Drop)]
 pub struct ByteBuffer {
     bytes: Bytes,
@@ -82,14 +83,15 @@ impl ByteBuffer {
         self.bytes.is_empty()
     }
 
-    /// The allocator that the buffer was made with, and that its copies and slices take. Of this port
-    /// alone.
+    /// The allocator that the buffer was made with, and that its copies and slices take. Of this
+    /// port alone.
     pub fn allocator(&self) -> Global {
         self.alloc
     }
 
-    /// The bytes of a range: shared, or copied where they have as many owners as can be counted, and
-    /// only that copy can answer `OutOfMemory`. The caller knows that the range lies within the buffer.
+    /// The bytes of a range: shared, or copied where they have as many owners as can be counted,
+    /// and only that copy can answer `OutOfMemory`. The caller knows that the range lies within the
+    /// buffer.
     ///
     /// Ports `ByteBuffer::slice`, which panics outside the buffer.
     pub fn slice(&self, range: Range<usize>) -> Result<ByteBuffer, VortexError>
@@ -110,8 +112,8 @@ impl ByteBuffer {
         })
     }
 
-    /// A buffer of the same bytes: shared, or copied where they have as many owners as can be counted,
-    /// and only that copy can answer `OutOfMemory`.
+    /// A buffer of the same bytes: shared, or copied where they have as many owners as can be
+    /// counted, and only that copy can answer `OutOfMemory`.
     ///
     /// Ports `ByteBuffer::clone`.
     pub fn clone(&self) -> Result<ByteBuffer, VortexError>
@@ -256,8 +258,8 @@ impl BufferString {
         buffer
     }
 
-    /// The same text: shared, or copied where it has as many owners as can be counted, and only that
-    /// copy can answer `OutOfMemory`.
+    /// The same text: shared, or copied where it has as many owners as can be counted, and only
+    /// that copy can answer `OutOfMemory`.
     ///
     /// Ports `BufferString::clone`.
     pub fn clone(&self) -> Result<BufferString, VortexError>

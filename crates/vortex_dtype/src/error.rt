@@ -62,7 +62,8 @@ pub enum TypeCause {
 
 /// The steps from a value to the part that is meant, the outermost first.
 ///
-/// A contract sees it as the list of its steps. Of this port alone: upstream's refusals are messages.
+/// A contract sees it as the list of its steps. Of this port alone: upstream's refusals are
+/// messages.
 #[derive(Debug, Drop)]
 pub struct Path {
     steps: Vec<Step>,

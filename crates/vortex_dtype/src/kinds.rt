@@ -64,7 +64,8 @@ impl PType {
         }
     }
 
-    /// The kind's name, as `u8`. Of this port alone, for what upstream's `Display` of a kind prints.
+    /// The kind's name, as `u8`. Of this port alone, for what upstream's `Display` of a kind
+    /// prints.
     pub fn name(&self) -> &'static str
         ensures { result.now ≡ kind_text self.now }
     {

@@ -47,8 +47,8 @@ impl FieldName {
         self.text.as_str()
     }
 
-    /// The same name: its text is shared, or copied where it has as many owners as can be counted, and
-    /// only that copy can answer `OutOfMemory`.
+    /// The same name: its text is shared, or copied where it has as many owners as can be counted,
+    /// and only that copy can answer `OutOfMemory`.
     ///
     /// Ports `FieldName::clone`.
     pub fn clone(&self, _alloc: Global) -> Result<FieldName, VortexError>
@@ -59,7 +59,8 @@ impl FieldName {
     }
 }
 
-/// The names of the fields or variants of a type, in order. A contract sees them as a list of names.
+/// The names of the fields or variants of a type, in order. A contract sees them as a list of
+/// names.
 ///
 /// Ports `vortex_array::dtype::FieldNames`, which shares the names where this borrows them.
 #[derive(Clone, Copy, Debug)]

@@ -25,9 +25,9 @@ pub mod variants;
 
 /// The type of a scalar. A contract sees it as a tree.
 ///
-/// Neither it nor a part below carries a fact of its own: `List` leads back to `DType` by a bare box,
-/// through no struct, and in such a cycle no part can have a model with an invariant. So what always
-/// holds of a part, its maker's contract says. Ports `vortex_array::dtype::DType`.
+/// Neither it nor a part below carries a fact of its own: `List` leads back to `DType` by a bare
+/// box, through no struct, and in such a cycle no part can have a model with an invariant. So what
+/// always holds of a part, its maker's contract says. Ports `vortex_array::dtype::DType`.
 #[cycle(dtype)]
 #[derive(Debug, Drop)]
 pub enum DType {
@@ -79,8 +79,8 @@ pub struct StructFields {
     dtypes: Vec<DType>,
 }
 
-/// The names of a union's variants, as many types and as many ids, in order. Ids are distinct, names
-/// may repeat: the maker `try_new` sees to it.
+/// The names of a union's variants, as many types and as many ids, in order. Ids are distinct,
+/// names may repeat: the maker `try_new` sees to it.
 ///
 /// Ports `vortex_array::dtype::UnionVariants`.
 #[cycle(dtype)]
@@ -103,8 +103,8 @@ pub struct ExtDType {
 }
 
 impl DType {
-    /// The map type of these parts. `BadType` with `NullableKey` exactly where the key takes a null,
-    /// and this before any memory is asked for; else `OutOfMemory` where there is none.
+    /// The map type of these parts. `BadType` with `NullableKey` exactly where the key takes a
+    /// null, and this before any memory is asked for; else `OutOfMemory` where there is none.
     ///
     /// Ports `DType::map`.
     pub fn map(
@@ -256,7 +256,8 @@ impl DType {
     /// Ports `DType::as_struct_fields_opt`.
     #[tactic(auto, using(crate::proofs::HeldParts::shown))]
     pub fn as_struct_fields_opt(&self) -> Option<&StructFields>
-        ensures { option_map (λ fields. fields_of fields.now) result ≡ fields_in (type_of self.now) }
+        ensures { option_map (λ fields. fields_of fields.now) result
+            ≡ fields_in (type_of self.now) }
     {
         match self {
             DType::Struct(fields, _) => Some(fields),
@@ -269,7 +270,8 @@ impl DType {
     /// Ports `DType::as_union_variants_opt`.
     #[tactic(auto, using(crate::proofs::HeldParts::shown))]
     pub fn as_union_variants_opt(&self) -> Option<&UnionVariants>
-        ensures { option_map (λ variants. variants_of variants.now) result ≡ variants_in (type_of self.now) }
+        ensures { option_map (λ variants. variants_of variants.now) result
+            ≡ variants_in (type_of self.now) }
     {
         match self {
             DType::Union(variants, _) => Some(variants),
@@ -281,7 +283,8 @@ impl DType {
     ///
     /// Ports `DType::as_extension_opt`.
     pub fn as_extension_opt(&self) -> Option<&ExtDType>
-        ensures { option_map (λ extension. ext_of extension.now) result ≡ extension_in (type_of self.now) }
+        ensures { option_map (λ extension. ext_of extension.now) result
+            ≡ extension_in (type_of self.now) }
     {
         match self {
             DType::Extension(extension) => Some(extension),
@@ -293,7 +296,8 @@ impl DType {
     ///
     /// Ports `DType::as_any_size_list_element_opt`.
     pub fn as_any_size_list_element_opt(&self) -> Option<&DType>
-        ensures { option_map (λ element. type_of element.now) result ≡ element_in (type_of self.now) }
+        ensures { option_map (λ element. type_of element.now) result
+            ≡ element_in (type_of self.now) }
     {
         match self {
             DType::List(element, _) => Some(element),

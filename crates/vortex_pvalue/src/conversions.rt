@@ -88,7 +88,9 @@ impl From<usize> for PValue {
     }
 }
 
-/// The same number, or `OutOfRange` where `u8` does not have it. Ports `impl TryFrom<PValue> for u8`.
+/// The same number, or `OutOfRange` where `u8` does not have it.
+///
+/// Ports `impl TryFrom<PValue> for u8`.
 impl TryFrom<PValue> for u8 {
     type Error = VortexError;
 
@@ -99,7 +101,9 @@ impl TryFrom<PValue> for u8 {
     }
 }
 
-/// The same number, or `OutOfRange` where `u16` does not have it. Ports `impl TryFrom<PValue> for u16`.
+/// The same number, or `OutOfRange` where `u16` does not have it.
+///
+/// Ports `impl TryFrom<PValue> for u16`.
 impl TryFrom<PValue> for u16 {
     type Error = VortexError;
 
@@ -110,7 +114,9 @@ impl TryFrom<PValue> for u16 {
     }
 }
 
-/// The same number, or `OutOfRange` where `u32` does not have it. Ports `impl TryFrom<PValue> for u32`.
+/// The same number, or `OutOfRange` where `u32` does not have it.
+///
+/// Ports `impl TryFrom<PValue> for u32`.
 impl TryFrom<PValue> for u32 {
     type Error = VortexError;
 
@@ -121,7 +127,9 @@ impl TryFrom<PValue> for u32 {
     }
 }
 
-/// The same number, or `OutOfRange` where `u64` does not have it. Ports `impl TryFrom<PValue> for u64`.
+/// The same number, or `OutOfRange` where `u64` does not have it.
+///
+/// Ports `impl TryFrom<PValue> for u64`.
 impl TryFrom<PValue> for u64 {
     type Error = VortexError;
 
@@ -132,7 +140,9 @@ impl TryFrom<PValue> for u64 {
     }
 }
 
-/// The same number, or `OutOfRange` where `i8` does not have it. Ports `impl TryFrom<PValue> for i8`.
+/// The same number, or `OutOfRange` where `i8` does not have it.
+///
+/// Ports `impl TryFrom<PValue> for i8`.
 impl TryFrom<PValue> for i8 {
     type Error = VortexError;
 
@@ -143,7 +153,9 @@ impl TryFrom<PValue> for i8 {
     }
 }
 
-/// The same number, or `OutOfRange` where `i16` does not have it. Ports `impl TryFrom<PValue> for i16`.
+/// The same number, or `OutOfRange` where `i16` does not have it.
+///
+/// Ports `impl TryFrom<PValue> for i16`.
 impl TryFrom<PValue> for i16 {
     type Error = VortexError;
 
@@ -154,7 +166,9 @@ impl TryFrom<PValue> for i16 {
     }
 }
 
-/// The same number, or `OutOfRange` where `i32` does not have it. Ports `impl TryFrom<PValue> for i32`.
+/// The same number, or `OutOfRange` where `i32` does not have it.
+///
+/// Ports `impl TryFrom<PValue> for i32`.
 impl TryFrom<PValue> for i32 {
     type Error = VortexError;
 
@@ -165,7 +179,9 @@ impl TryFrom<PValue> for i32 {
     }
 }
 
-/// The same number, or `OutOfRange` where `i64` does not have it. Ports `impl TryFrom<PValue> for i64`.
+/// The same number, or `OutOfRange` where `i64` does not have it.
+///
+/// Ports `impl TryFrom<PValue> for i64`.
 impl TryFrom<PValue> for i64 {
     type Error = VortexError;
 
@@ -176,7 +192,9 @@ impl TryFrom<PValue> for i64 {
     }
 }
 
-/// The same number, or `OutOfRange` where 64 bits do not hold it. Ports `impl TryFrom<PValue> for usize`.
+/// The same number, or `OutOfRange` where 64 bits do not hold it.
+///
+/// Ports `impl TryFrom<PValue> for usize`.
 impl TryFrom<PValue> for usize {
     type Error = VortexError;
 

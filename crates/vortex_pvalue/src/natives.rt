@@ -24,7 +24,9 @@ pub trait NativePType: PrimInt {
         ensures kind { kind_of result ≡ PTYPE }
         ensures in_range { InRange PTYPE (whole_of result) };
 
-    /// The same number as this type, if it has it. Ports the conversions of `PValue` in `pvalue.rs`.
+    /// The same number as this type, if it has it.
+    ///
+    /// Ports the conversions of `PValue` in `pvalue.rs`.
     fn from_pvalue(value: &PValue) -> Option<Self>
         ensures some { IfSome result (λ n. Self.value n ≡ whole_of value.now) }
         ensures none { IfNone result (¬ (InRange PTYPE (whole_of value.now))) }

@@ -193,7 +193,9 @@ impl PValue {
     ///
     /// Ports `PValue::as_i8`.
     pub fn as_i8(self) -> Option<i8>
-        ensures { MatchOption result (¬ (InRange PType.I8 (whole_of self))) (λ n. n ≡ whole_of self) }
+        ensures { MatchOption result
+            (¬ (InRange PType.I8 (whole_of self)))
+            (λ n. n ≡ whole_of self) }
     {
         i8::from_pvalue(&self)
     }
@@ -202,7 +204,9 @@ impl PValue {
     ///
     /// Ports `PValue::as_i16`.
     pub fn as_i16(self) -> Option<i16>
-        ensures { MatchOption result (¬ (InRange PType.I16 (whole_of self))) (λ n. n ≡ whole_of self) }
+        ensures { MatchOption result
+            (¬ (InRange PType.I16 (whole_of self)))
+            (λ n. n ≡ whole_of self) }
     {
         i16::from_pvalue(&self)
     }
@@ -211,7 +215,9 @@ impl PValue {
     ///
     /// Ports `PValue::as_i32`.
     pub fn as_i32(self) -> Option<i32>
-        ensures { MatchOption result (¬ (InRange PType.I32 (whole_of self))) (λ n. n ≡ whole_of self) }
+        ensures { MatchOption result
+            (¬ (InRange PType.I32 (whole_of self)))
+            (λ n. n ≡ whole_of self) }
     {
         i32::from_pvalue(&self)
     }
@@ -220,7 +226,9 @@ impl PValue {
     ///
     /// Ports `PValue::as_i64`.
     pub fn as_i64(self) -> Option<i64>
-        ensures { MatchOption result (¬ (InRange PType.I64 (whole_of self))) (λ n. n ≡ whole_of self) }
+        ensures { MatchOption result
+            (¬ (InRange PType.I64 (whole_of self)))
+            (λ n. n ≡ whole_of self) }
     {
         i64::from_pvalue(&self)
     }
@@ -229,7 +237,9 @@ impl PValue {
     ///
     /// Ports `PValue::as_u8`.
     pub fn as_u8(self) -> Option<u8>
-        ensures { MatchOption result (¬ (InRange PType.U8 (whole_of self))) (λ n. pos n ≡ whole_of self) }
+        ensures { MatchOption result
+            (¬ (InRange PType.U8 (whole_of self)))
+            (λ n. pos n ≡ whole_of self) }
     {
         u8::from_pvalue(&self)
     }
@@ -238,7 +248,9 @@ impl PValue {
     ///
     /// Ports `PValue::as_u16`.
     pub fn as_u16(self) -> Option<u16>
-        ensures { MatchOption result (¬ (InRange PType.U16 (whole_of self))) (λ n. pos n ≡ whole_of self) }
+        ensures { MatchOption result
+            (¬ (InRange PType.U16 (whole_of self)))
+            (λ n. pos n ≡ whole_of self) }
     {
         u16::from_pvalue(&self)
     }
@@ -247,7 +259,9 @@ impl PValue {
     ///
     /// Ports `PValue::as_u32`.
     pub fn as_u32(self) -> Option<u32>
-        ensures { MatchOption result (¬ (InRange PType.U32 (whole_of self))) (λ n. pos n ≡ whole_of self) }
+        ensures { MatchOption result
+            (¬ (InRange PType.U32 (whole_of self)))
+            (λ n. pos n ≡ whole_of self) }
     {
         u32::from_pvalue(&self)
     }
@@ -256,7 +270,9 @@ impl PValue {
     ///
     /// Ports `PValue::as_u64`.
     pub fn as_u64(self) -> Option<u64>
-        ensures { MatchOption result (¬ (InRange PType.U64 (whole_of self))) (λ n. pos n ≡ whole_of self) }
+        ensures { MatchOption result
+            (¬ (InRange PType.U64 (whole_of self)))
+            (λ n. pos n ≡ whole_of self) }
     {
         u64::from_pvalue(&self)
     }

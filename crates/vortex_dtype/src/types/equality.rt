@@ -87,7 +87,8 @@ fn extensions_equal(exact: bool, a: &ExtDType, b: &ExtDType) -> bool
 /// Whether two lists of types are equal, place by place.
 #[cycle(equal)]
 fn all_equal(exact: bool, a: &[DType], b: &[DType]) -> bool
-    ensures { result ≡ trees_eq (trim_all exact (types_of a.now)) (trim_all exact (types_of b.now)) }
+    ensures { result
+        ≡ trees_eq (trim_all exact (types_of a.now)) (trim_all exact (types_of b.now)) }
 {
     if a.len() != b.len() {
         return false;

@@ -23,7 +23,8 @@ impl ExtDType {
         storage: DType,
     ) -> Result<ExtDType, VortexError>
         ensures { MatchResult result
-            (λ extension. ext_of extension ≡ record { id = id; metadata = metadata; storage = type_of storage })
+            (λ extension. ext_of extension
+            ≡ record { id = id; metadata = metadata; storage = type_of storage })
             (λ e. e ≡ OutOfMemory) }
     {
         Ok(ExtDType {

@@ -75,9 +75,9 @@ impl StructFields {
         dtype_at(&self.dtypes, index)
     }
 
-    /// For each of the names, in their order, that name and the type of the first field that has it.
-    /// `NoField` exactly where some name is the name of no field, and this before any memory is asked
-    /// for; else `OutOfMemory` where there is none.
+    /// For each of the names, in their order, that name and the type of the first field that has
+    /// it. `NoField` exactly where some name is the name of no field, and this before any memory is
+    /// asked for; else `OutOfMemory` where there is none.
     ///
     /// Ports `StructFields::project`.
     pub fn project(&self, alloc: Global, names: &[FieldName]) -> Result<StructFields, VortexError>
@@ -155,7 +155,8 @@ fn find_name(names: &[FieldName], name: &str) -> Option<usize>
 
 /// The type at this place.
 pub(super) fn dtype_at(dtypes: &[DType], index: usize) -> Option<&DType>
-    ensures { option_map (λ dtype. type_of dtype.now) result ≡ slice_get (map type_of dtypes.now) index }
+    ensures { option_map (λ dtype. type_of dtype.now) result
+        ≡ slice_get (map type_of dtypes.now) index }
 {
     dtypes.get(index)
 }

@@ -23,7 +23,7 @@ fn feed_nullability<H: Hasher>(exact: bool, n: Nullability, state: &mut H)
 }
 
 /// The number of a type's variant.
-fn number(dtype: &DType) -> u8
+fn variant_number(dtype: &DType) -> u8
     ensures { result ≡ variant_number (type_of dtype.now) }
 {
     match dtype {
@@ -47,7 +47,7 @@ fn number(dtype: &DType) -> u8
 pub(super) fn feed<H: Hasher>(exact: bool, dtype: &DType, state: &mut H)
     ensures { state.new ≡ fold H.write state.old (tree_feed (trim exact (type_of dtype.now))) }
 {
-    state.write_u8(number(dtype));
+    state.write_u8(variant_number(dtype));
     let n = match dtype {
         DType::Null => return,
         DType::Bool(n) | DType::Utf8(n) | DType::Binary(n) | DType::Variant(n) => *n,
@@ -83,7 +83,8 @@ pub(super) fn feed<H: Hasher>(exact: bool, dtype: &DType, state: &mut H)
 
 #[cycle(feed)]
 fn feed_all<H: Hasher>(exact: bool, dtypes: &[DType], state: &mut H)
-    ensures { state.new ≡ fold H.write state.old (trees_feed (trim_all exact (types_of dtypes.now))) }
+    ensures { state.new
+        ≡ fold H.write state.old (trees_feed (trim_all exact (types_of dtypes.now))) }
 {
     for dtype in dtypes {
         feed(exact, dtype, state);

@@ -11,8 +11,8 @@ use crate::error::{TypeCause, VortexError};
 use std::alloc::Global;
 
 impl MapDType {
-    /// The parts of a map type. `BadType` with `NullableKey` exactly where the key takes a null, and
-    /// this before any memory is asked for; else `OutOfMemory` where there is none.
+    /// The parts of a map type. `BadType` with `NullableKey` exactly where the key takes a null,
+    /// and this before any memory is asked for; else `OutOfMemory` where there is none.
     ///
     /// Ports `MapDType::try_new`.
     pub fn try_new(

@@ -15,8 +15,8 @@ use std::alloc::Global;
 use std::slice;
 
 impl UnionVariants {
-    /// The variants with these names, types and ids. `BadType` with `LengthsDiffer` where they are not
-    /// equally many, and else with `RepeatedTypeId` where two ids are equal. Takes no memory.
+    /// The variants with these names, types and ids. `BadType` with `LengthsDiffer` where they are
+    /// not equally many, and else with `RepeatedTypeId` where two ids are equal. Takes no memory.
     ///
     /// Ports `UnionVariants::try_new`.
     pub fn try_new(
