@@ -1,15 +1,14 @@
 -- Worked cases of texts, each a theorem. Types and values are written in the words of Examples.
-use Rattle.std.specs.Prelude.{◌≡◌, ⊤, negsuc, true, false, [], ◌∷◌, ◌++◌, length, refl, codes}
+use Rattle.std.specs.Prelude.{◌≡◌, ⊤, pos, negsuc, true, false, [], ◌∷◌, ◌++◌, refl, codes}
 use Rattle.std.specs.Char.{encode_utf8}
 use Rattle.std.specs.Fmt.{digits}
 use Rattle.std.specs.List.{repeat}
 use Rattle.std.specs.Str.{chars}
 use Rattle.vortex_dtype.specs.TypeTree.{null_type}
+use Rattle.vortex_dtype.specs.declared.kinds.PType.TheVariants.{U32, I8}
+use Rattle.vortex_value.specs.Examples.{i32, i64, u32, boolean, utf8, binary, variant, or_null, list_of, fixed_list_of, struct_of, a_and_b, extension_a, int_or_string, unsorted_map, tuple, entry, int}
 use Rattle.vortex_value.specs.RawTree.{absent, raw_bool, raw_integer, raw_text, raw_bytes, raw_union, raw_variant}
-use Rattle.vortex_dtype.specs.declared.kinds.PType.TheVariants.{U32, I8, I64}
-use Rattle.std.specs.Prelude.{pos}
 use Rattle.vortex_value.specs.Texts.{escaped_char, raw_text_of, text_of}
-use Rattle.vortex_value.specs.Examples.{i32, i64, u32, boolean, utf8, binary, variant, or_null, list_of, fixed_list_of, struct_of, a_and_b, extension_a, int_or_string, unsorted_map, nested_list, nested_tuple, tuple, entry, int}
 
 -- what the proofs compute by
 unfoldable on_literals : ⊤

@@ -1,5 +1,5 @@
 -- The texts of raw values and of scalars, as bytes.
-use Rattle.std.specs.Prelude.{ℕ, ◌-◌, ◌/◌, ◌%◌, ◌==◌, ◌||◌, nat_lt, Bool, false, List, [], ◌∷◌, ◌++◌, length, map, take, drop, Option, Some, None, position, slice_get, option_and_then, if◌then◌else◌, codes, encode_utf8}
+use Rattle.std.specs.Prelude.{ℕ, ◌-◌, ◌/◌, ◌%◌, ◌==◌, ◌||◌, nat_lt, Bool, false, List, [], ◌∷◌, ◌++◌, length, map, take, drop, Option, Some, position, slice_get, option_and_then, if◌then◌else◌, codes, encode_utf8}
 use Rattle.std.specs.Fmt.{decimal, digits, digit_glyph}
 use Rattle.std.specs.List.{flat_map, join_by}
 use Rattle.std.specs.Str.{chars, encode_utf8_all}
@@ -9,16 +9,19 @@ use Rattle.vortex_value.specs.Breaches.{is_valid}
 use Rattle.vortex_value.specs.RawTree.{RawTree, absent, raw_bool, raw_integer, raw_text, raw_bytes, raw_tuple, raw_union, raw_variant, RawTrees, no_raws, raw_then}
 use Rattle.vortex_value.specs.Validity.{type_with}
 
+-- of a null
 abbrev pub null_text : List ℕ
 null_text = codes "null"
 
+-- of a truth value
 abbrev pub truth_text : Bool → List ℕ
 truth_text b = if b then codes "true" else codes "false"
 
--- the text after one and before another
+-- a text with one before it and another after it
 abbrev pub between : List ℕ → List ℕ → List ℕ → List ℕ
 between before after text = before ++ (text ++ after)
 
+-- a text in double quotes, in brackets, in braces, and in parentheses
 abbrev pub in_quotes : List ℕ → List ℕ
 in_quotes = between (codes "\"") (codes "\"")
 
@@ -31,11 +34,11 @@ in_braces = between (codes "{") (codes "}")
 abbrev pub in_parentheses : List ℕ → List ℕ
 in_parentheses = between (codes "(") (codes ")")
 
--- the texts in order, with the first text between each two
+-- texts in order, with the separator between each two
 abbrev pub joined : List ℕ → List (List ℕ) → List ℕ
 joined separator = join_by (λ text. text) separator
 
--- the text of a list: of more than ten items that of the first five, two points, and that of the last five
+-- of a list of characters or bytes; of more than ten only the first five, two points, and the last five
 abbrev pub shortened : (List ℕ → List ℕ) → List ℕ → List ℕ
 shortened text items =
     if nat_lt 10 (length items) then text (take 5 items) ++ (codes ".." ++ text (drop (length items - 5) items)) else text items
@@ -44,7 +47,7 @@ shortened text items =
 abbrev pub two_digits : ℕ → List ℕ
 two_digits b = digit_glyph false (b / 16) ∷ digit_glyph false (b % 16) ∷ []
 
--- a number in lower case hexadecimal digits, without leading zeros
+-- a number in lower case hexadecimal without leading zeros
 abbrev pub hexadecimal : ℕ → List ℕ
 hexadecimal n = digits 16 false n
 
@@ -72,7 +75,8 @@ abbrev pub child_text : Option (List ℕ) → Option TypeTree → (TypeTree → 
 child_text (Some name) (Some t) text = name ++ in_parentheses (text t)
 child_text _ _ text = []
 
--- the text of a valid value at a type that is no extension; of parts that no value of the type has it says nothing
+-- of a valid value at a type that is no extension: leaves whatever their type, and nothing of parts that no value of
+-- the type has
 abbrev mutual
   pub text_at : TypeTree → RawTree → List ℕ
   text_at t absent = null_text

@@ -271,10 +271,7 @@ fn write_raw<W: Write>(value: &ScalarValue, f: &mut Formatter<W>) -> fmt::Result
 
 /// The parts of a list, a struct or a map, in brackets.
 #[cycle(raw_text)]
-fn write_raw_items<W: Write>(
-    items: &[Option<ScalarValue>],
-    f: &mut Formatter<W>,
-) -> fmt::Result
+fn write_raw_items<W: Write>(items: &[Option<ScalarValue>], f: &mut Formatter<W>) -> fmt::Result
     ensures { WritesOnOk W.write_str_gives f.old result
         (in_brackets (joined (codes ", ") (raw_texts (raws_of items.now)))) f.new }
 {

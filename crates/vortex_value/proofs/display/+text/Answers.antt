@@ -69,7 +69,7 @@ write_fields-loop-index-init g t c plain =
     let fields = c.enumerate-index-items.ensures in
     let typed = c.zip.ensures in
     let named = c.zip-named.ensures in
-    left_all _ _ _ _ plain (rw (c.into_iter-index-iterator.ensures.into_iter_gives, fields.source, fields.count, typed.first, typed.second.0, named.first, named.second, c.iter.ensures.rest, c.iter-2.ensures, c.names.ensures, c.dtypes.ensures) refl)
+    left_all _ _ _ _ plain (rw (c.into_iter-index-iterator.ensures.into_iter_gives, fields.source, fields.count, typed.first, typed.second.0, named.first, named.second, c.iter.ensures.rest, c.iter-2.ensures, c.names.ensures, c.dtypes.ensures.trees) refl)
 
 pub write_fields-loop-index-preserved : goal.write_fields-loop-index-preserved
 write_fields-loop-index-preserved g t c plain =

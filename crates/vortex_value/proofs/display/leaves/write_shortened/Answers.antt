@@ -1,4 +1,4 @@
-use Rattle.std.proofs.Common.{◌≡◌, sym, ◌∙◌, ap, arith, rules, ℕ, List, ◌++◌, length, take, drop, codes, ◌-◌, ◌≤◌, ◌<◌}
+use Rattle.std.proofs.Common.{sym, ◌∙◌, arith, rules, length, ◌≤◌, ◌<◌}
 use Rattle.std.proofs.Output.{has_written_append, has_written_of_eq}
 use Rattle.std.proofs.lemmas.Str.{encodes-chars}
 use Rattle.std.specs.Str.{chars, encode_utf8_all}

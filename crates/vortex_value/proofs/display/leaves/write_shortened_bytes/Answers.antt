@@ -1,4 +1,4 @@
-use Rattle.std.proofs.Common.{◌≡◌, arith, rules, length, ◌-◌, ◌<◌}
+use Rattle.std.proofs.Common.{arith, rules, length, ◌-◌, ◌<◌}
 use Rattle.std.proofs.Output.{has_written_append}
 use Rattle.std.specs.List.{flat_map}
 use Rattle.vortex_value.specs.Texts.{two_digits}

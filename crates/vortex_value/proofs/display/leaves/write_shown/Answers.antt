@@ -12,7 +12,7 @@ pub loop-character-preserved : goal.loop-character-preserved
 loop-character-preserved g c plain =
     let wrote = c.loop-character.invariant plain in
     let last : encode_utf8_all (c.loop-character.yielded ++ c.in-Some.character ∷ []) ≡ encode_utf8_all c.loop-character.yielded ++ encode_utf8 c.in-Some.character
-        = encodes-append c.loop-character.yielded (c.in-Some.character ∷ []) ∙ ap (λ l. encode_utf8_all c.loop-character.yielded ++ l) (append-nil _) in
+    = encodes-append c.loop-character.yielded (c.in-Some.character ∷ []) ∙ ap (λ l. encode_utf8_all c.loop-character.yielded ++ l) (append-nil _) in
     has_written_of_eq _ _ _ _ _ (sym last) (has_written_append _ _ _ _ _ _ wrote (c.write_char.ensures.writes wrote.plain (search rules)))
 
 pub returns : goal.returns
