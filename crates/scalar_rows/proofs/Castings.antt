@@ -2,7 +2,9 @@
 use Rattle.std.proofs.Common.{◌≡◌, ℤ, true, false, refl, sym, ap, ◌∙◌, subst, Option, None, Some, IfSome, IfNone}
 use Rattle.vortex_dtype.specs.TypeLevels.{type_of-Primitive}
 use Rattle.vortex_dtype.specs.TypeOf.{type_of}
-use Rattle.vortex_dtype.specs.TypeTree.{TypeTree, integer_type}
+use Rattle.vortex_dtype.specs.TypeTree.{TypeTree, integer_type, IsFlat}
+use Rattle.vortex_dtype.specs.declared.error.VortexError.{VortexError}
+use Rattle.vortex_dtype.specs.declared.error.VortexError.TheVariants.{CannotCast, OutOfMemory}
 use Rattle.vortex_dtype.specs.declared.kinds.Nullability.TheVariants.{NonNullable, Nullable}
 use Rattle.vortex_dtype.specs.declared.kinds.PType.{PType}
 use Rattle.vortex_dtype.specs.declared.types.DType.TheVariants.{Primitive}
@@ -10,7 +12,7 @@ use Rattle.vortex_pvalue.specs.Kinds.{InRange, in_range}
 use Rattle.vortex_pvalue.specs.RangeLaws.{in_range_false, in_range_true}
 use Rattle.vortex_pvalue.specs.Whole.{kind_of, whole_of}
 use Rattle.vortex_pvalue.specs.declared.pvalues.PValue.{PValue}
-use Rattle.vortex_value.specs.Casts.{CanCast, IsNullOrInteger, integers}
+use Rattle.vortex_value.specs.Casts.{CanCast, RefusesCast, integers}
 use Rattle.vortex_value.specs.Content.{content, whole}
 use Rattle.vortex_value.specs.RawTree.{RawTree, absent, raw_bool, raw_integer, raw_text, raw_bytes, raw_tuple, raw_union, raw_variant}
 use Rattle.vortex_value.specs.Scalars.{IsMadeOf, IsTheOne, scalar_content, scalar_raw, scalar_type}
@@ -21,17 +23,18 @@ use Rattle.vortex_value.specs.declared.scalars.Scalar.{Scalar}
 can_cast : (own kind : PType) (z : ℤ) → InRange kind z → CanCast (integer_type own NonNullable) (integer_type kind NonNullable) (whole z)
 can_cast own kind z inside = (integers tt tt, record { value = raw_integer kind z; valid = (refl, inside); same = refl })
 
--- the types of the source and of the target are integer types
-pub integer_source : (source : Scalar) (own : PType) (z : ℤ) → IsMadeOf (integer_type own NonNullable) (raw_integer own z) source → IsNullOrInteger (scalar_type source)
-integer_source source own z made = rw made.typed tt
-
-pub integer_target : (kind : PType) → IsNullOrInteger (type_of (Primitive kind NonNullable))
-integer_target kind = let P : TypeTree → Type 0 = λ t. IsNullOrInteger t in subst P (sym (type_of-Primitive kind NonNullable)) tt
+-- a cast to a type whose values take no memory is refused only where it is impossible
+impossible : (t : TypeTree) (p : Type 0) (e : VortexError) → IsFlat t → RefusesCast t p e → ¬ p
+impossible t p CannotCast flat h = h
+impossible t p OutOfMemory flat h = absurd (h flat)
+impossible t p _ flat h = absurd h
 
 -- a number that cannot be cast to the kind is not in its range
-pub refused : (source : Scalar) (own kind : PType) (z : ℤ) → IsMadeOf (integer_type own NonNullable) (raw_integer own z) source → ¬ (CanCast (scalar_type source) (type_of (Primitive kind NonNullable)) (scalar_content source)) → in_range kind z ≡ false
-refused source own kind z made out =
-    in_range_false kind z (λ inside. out (rw (type_of-Primitive kind NonNullable, made.typed, made.value) (can_cast own kind z inside)))
+pub refused : (source : Scalar) (own kind : PType) (z : ℤ) (e : VortexError) → IsMadeOf (integer_type own NonNullable) (raw_integer own z) source
+    → RefusesCast (type_of (Primitive kind NonNullable)) (CanCast (scalar_type source) (type_of (Primitive kind NonNullable)) (scalar_content source)) e → in_range kind z ≡ false
+refused source own kind z e made out =
+    let flat : IsFlat (type_of (Primitive kind NonNullable)) = rw (type_of-Primitive kind NonNullable) tt in
+    in_range_false kind z (λ inside. impossible _ _ e flat out (rw (type_of-Primitive kind NonNullable, made.typed, made.value) (can_cast own kind z inside)))
 
 whole_same : {y z : ℤ} → whole y ≡ whole z → y ≡ z
 whole_same e = cc

@@ -1,3 +1,8 @@
+pub mod Alike
+pub mod CastCode
+pub mod CastLaws
+pub mod CastTable
+pub mod ContentLaws
 pub mod Filling
 pub mod GivenItems
 pub mod HashSteps
@@ -14,4 +19,5 @@ pub mod ValidSteps
 pub mod ValidityLaws
 pub mod ValueSteps
 pub mod Variants
+pub mod WayRound
 pub mod ZeroLaws

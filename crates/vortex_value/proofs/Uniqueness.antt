@@ -141,7 +141,7 @@ no_more (raw_then w ws) c = cc
 
 -- one value of each content
 mutual
-  one : (v w : RawTree) (s t : TypeTree) → Same s t → ValidAt s v → ValidAt t w → content v ≡ content w → v ≡ w
+  pub one : (v w : RawTree) (s t : TypeTree) → Same s t → ValidAt s v → ValidAt t w → content v ≡ content w → v ≡ w
   one absent absent s t e p q c = refl
   one (raw_bool a) (raw_bool b) s t e p q c = cc
   one (raw_text a) (raw_text b) s t e p q c = cc

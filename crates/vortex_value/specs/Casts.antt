@@ -1,6 +1,8 @@
 -- Which casts the table allows, which contents a type has, and the one value of a content.
 use Rattle.std.specs.Prelude.{◌≡◌, true, false}
-use Rattle.vortex_dtype.specs.TypeTree.{TypeTree, null_type, bool_type, integer_type, utf8_type, binary_type, list_type, fixed_size_list_type, map_type, struct_type, union_type, variant_type, extension_type, TypeTrees, no_types, type_then, Same}
+use Rattle.vortex_dtype.specs.TypeTree.{TypeTree, null_type, bool_type, integer_type, utf8_type, binary_type, list_type, fixed_size_list_type, map_type, struct_type, union_type, variant_type, extension_type, TypeTrees, no_types, type_then, IsFlat, Same}
+use Rattle.vortex_dtype.specs.declared.error.VortexError.{VortexError}
+use Rattle.vortex_dtype.specs.declared.error.VortexError.TheVariants.{CannotCast, OutOfMemory}
 use Rattle.vortex_value.specs.Content.{Content, null, sequence, Contents, no_contents, content_then, content}
 use Rattle.vortex_value.specs.RawTree.{RawTree}
 use Rattle.vortex_value.specs.Validity.{Valid}
@@ -106,14 +108,15 @@ CanCast s t c = Allows s t c × Has t c
 abbrev pub OneValue : Type 0
 OneValue = (s t : TypeTree) (v w : RawTree) → Same s t → Valid s v → Valid t w → content v ≡ content w → v ≡ w
 
--- Null, or a type of integers
-abbrev pub IsNullOrInteger : TypeTree → Type 0
-IsNullOrInteger null_type = Unit {0}
-IsNullOrInteger (integer_type k n) = Unit {0}
-IsNullOrInteger _ = ⊥
-
 -- the value w of type t is what a cast of the value v of type s gives
 pub record IsCast (s t : TypeTree) (v w : RawTree) : Type 0 where
   pub allowed : Allows s t (content v)
   pub valid : Valid t w
   pub same : content w ≡ content v
+
+-- a cast to t, possible where p holds, is refused: because it is impossible, or for want of memory, which flat types never
+-- answer; for nothing else
+abbrev pub RefusesCast : TypeTree → Type 0 → VortexError → Type 0
+RefusesCast t p CannotCast = ¬ p
+RefusesCast t p OutOfMemory = ¬ (IsFlat t)
+RefusesCast t p _ = ⊥

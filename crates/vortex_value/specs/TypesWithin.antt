@@ -35,3 +35,35 @@ abbrev mutual
   pub AllHaveVariants : TypeTrees → Type 0
   AllHaveVariants no_types = Unit {0}
   AllHaveVariants (type_then t ts) = UnionsHaveVariants t × AllHaveVariants ts
+
+-- no extension stands in the type
+abbrev mutual
+  pub HasNoExtension : TypeTree → Type 0
+  HasNoExtension (list_type e n) = HasNoExtension e
+  HasNoExtension (fixed_size_list_type e size n) = HasNoExtension e
+  HasNoExtension (map_type k w sorted n) = HasNoExtension k × HasNoExtension w
+  HasNoExtension (struct_type names ts n) = HaveNoExtension ts
+  HasNoExtension (union_type names ts ids n) = HaveNoExtension ts
+  HasNoExtension (extension_type id metadata t) = ⊥
+  HasNoExtension _ = Unit {0}
+
+  -- nor in any of the types
+  pub HaveNoExtension : TypeTrees → Type 0
+  HaveNoExtension no_types = Unit {0}
+  HaveNoExtension (type_then t ts) = HasNoExtension t × HaveNoExtension ts
+
+-- no map stands in the type
+abbrev mutual
+  pub HasNoMap : TypeTree → Type 0
+  HasNoMap (list_type e n) = HasNoMap e
+  HasNoMap (fixed_size_list_type e size n) = HasNoMap e
+  HasNoMap (map_type k w sorted n) = ⊥
+  HasNoMap (struct_type names ts n) = HaveNoMap ts
+  HasNoMap (union_type names ts ids n) = HaveNoMap ts
+  HasNoMap (extension_type id metadata t) = HasNoMap t
+  HasNoMap _ = Unit {0}
+
+  -- nor in any of the types
+  pub HaveNoMap : TypeTrees → Type 0
+  HaveNoMap no_types = Unit {0}
+  HaveNoMap (type_then t ts) = HasNoMap t × HaveNoMap ts

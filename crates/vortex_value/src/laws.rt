@@ -6,9 +6,11 @@
 ghost use Rattle.std.specs.Cmp.{IsEquivalence};
 ghost use Rattle.vortex_dtype.specs.Laws.{AgreesWithHash};
 ghost use Rattle.vortex_value.specs.Breaches.{ValidExactlyWithoutBreach};
+ghost use Rattle.vortex_value.specs.CastLaws.{CallsAreChains, CastsKeepScalars, CastsKeepValues, ChainsAgree, IntoNullableAndBack, NoWayRound, ThereAndBack};
 ghost use Rattle.vortex_value.specs.Casts.{OneValue};
 ghost use Rattle.vortex_value.specs.Content.{content};
 ghost use Rattle.vortex_value.specs.Equality.{EqualityAgreesWithoutTyped, EqualityIsAnEquivalence, EqualityIsDecided, EqualsByContent, EqualsByTypeAndContent};
+ghost use Rattle.vortex_value.specs.HasContent.{HasByCases};
 ghost use Rattle.vortex_value.specs.Hashing.{EqualFeedSame};
 ghost use Rattle.vortex_value.specs.Order.{AgreesWhere, IsReversed, IsTransitive, order};
 ghost use Rattle.vortex_value.specs.RawOf.{union_tree, value_tree};
@@ -126,4 +128,45 @@ pub fn default_exists()
 /// more than its child's, and a variant and an extension have the size of what they hold.
 pub fn size_is_sum()
     ensures { SizeIsSum }
+{}
+
+/// What the contract of `cast` says of a scalar and the one that it gave is a cast of the raw value,
+/// and so a chain of one, from which further ones go on: all laws of casts and chains apply to it.
+pub fn calls_are_chains()
+    ensures { CallsAreChains }
+{}
+
+/// Two chains of casts from one value, whose last types are one up to nullability, give one value,
+/// whatever types they go through.
+pub fn chains_agree()
+    ensures { ChainsAgree }
+{}
+
+/// A value that was cast, cast back to the type that it had, is the value that it was.
+pub fn there_and_back()
+    ensures { ThereAndBack }
+{}
+
+/// Casts to one type, from types that are the same up to nullability, are equal exactly where what
+/// was cast is, and ordered as it is.
+pub fn equality_and_order_are_kept()
+    ensures values { CastsKeepValues }
+    ensures scalars { CastsKeepScalars ⟦<Scalar as PartialEq>⟧.eq scalar_order }
+{}
+
+/// Between two types without extensions one cast gives what a chain of casts gives, where no map
+/// stands in the two types or no null in the content: no way round leads further.
+pub fn no_way_round()
+    ensures { NoWayRound }
+{}
+
+/// `into_nullable`, then `cast` to the type before: the value stays, so the scalar comes back.
+pub fn into_nullable_and_back()
+    ensures { IntoNullableAndBack }
+{}
+
+/// A type has a content, by some valid raw value, exactly where the cases over kinds of types say
+/// so: nobody has to look for a value to know whether there is one.
+pub fn has_by_cases()
+    ensures { HasByCases }
 {}

@@ -1,0 +1,144 @@
+-- What the code of a cast meets, one level at a time.
+use Rattle.std.proofs.Common.{◌≡◌, ◌≢◌, ℕ, suc, ◌<◌, ◌⊎◌, inl, inr, true, false, List, [], ◌∷◌, ◌++◌, length, get_or, drop, drop-cons, Option, Some, None, Result, Ok, Err, refl, sym, ap, ◌∙◌, arith, rules}
+use Rattle.std.proofs.lemmas.Bool.Decides.{Decides-eqb, Decides-like}
+use Rattle.std.specs.Bool.{Decides}
+use Rattle.vortex_dtype.specs.TypeLevels.{type_of-List, type_of-FixedSizeList, type_of-Map, type_of-Struct, type_of-Extension}
+use Rattle.vortex_dtype.specs.TypeOf.{MapParts, type_of, types_of}
+use Rattle.vortex_dtype.specs.declared.error.VortexError.{VortexError}
+use Rattle.vortex_dtype.specs.declared.error.VortexError.TheVariants.{CannotCast, OutOfMemory}
+use Rattle.vortex_dtype.specs.TypeTree.{TypeTree, null_type, bool_type, integer_type, extension_type, IsFlat, storage}
+use Rattle.vortex_dtype.specs.declared.types.DType.{DType}
+use Rattle.vortex_value.specs.Breaches.{breaches}
+use Rattle.vortex_value.specs.Casts.{IsExtension}
+use Rattle.vortex_value.specs.CastSteps.{Makes, accepts, bare_to, both, cast_to, entry_to, fields_to, pair_to, whole_to}
+use Rattle.vortex_value.specs.Parts.{TakesNoMemory}
+use Rattle.vortex_value.specs.RawTree.{RawTree, absent, raw_bool, raw_integer, raw_tuple, RawTrees, no_raws, is_absent}
+use Rattle.vortex_value.specs.RawOf.{raw_of, raws_of, value_tree}
+use Rattle.vortex_value.specs.Validity.{Valid}
+use Rattle.vortex_value.specs.declared.values.ScalarValue.{ScalarValue, the_lemmas}
+use Rattle.vortex_value.proofs.ValidityLaws.{valid_exactly_without_breach}
+use Rattle.vortex_value.proofs.ValueSteps.{value_tree-Tuple, count-raws_of}
+
+empty : {A : Type 0} (xs : List A) → length xs ≡ 0 → xs ≡ []
+empty [] h = refl
+empty (x ∷ xs) h = absurd (omega arith)
+
+-- a type accepts exactly the values that are valid for it
+pub accepts-Decides : (t : TypeTree) (v : RawTree) → Decides (accepts t v) (Valid t v)
+accepts-Decides t v =
+    let exactly = valid_exactly_without_breach t v in
+    Decides-like (accepts t v) (λ h. exactly.1 (empty (breaches t v) h)) (λ h. ap length (exactly.0 h)) (Decides-eqb (length (breaches t v)) 0)
+
+flat_takes : (t : TypeTree) (v : RawTree) → IsFlat t → Valid t v → TakesNoMemory v
+flat_takes t absent h p = tt
+flat_takes t (raw_bool b) h p = tt
+flat_takes t (raw_integer k z) h p = tt
+flat_takes null_type v h p = absurd p
+flat_takes (bool_type n) v h p = absurd p
+flat_takes (integer_type k n) v h p = absurd p
+flat_takes _ v h p = absurd h
+
+-- what a flat type accepts takes no memory
+pub flat_accepts : (t : TypeTree) (v : RawTree) → IsFlat t → accepts t v ≡ true → TakesNoMemory v
+flat_accepts t v h p = flat_takes t v h ((accepts-Decides t v).0 p)
+
+pub flat_storage : (t : TypeTree) → IsFlat t → IsFlat (storage t)
+flat_storage (extension_type id metadata t) h = absurd h
+flat_storage null_type h = h
+flat_storage _ h = h
+
+-- what the parts become that are done, and the rest
+abbrev pub after : List (Option ScalarValue) → Option RawTrees → Option RawTrees
+after [] made = made
+after (v ∷ vs) made = both (Some (raw_of v)) (after vs made)
+
+pub after-none : (vs : List (Option ScalarValue)) → after vs None ≡ None
+after-none [] = refl
+after-none (v ∷ vs) = rw (after-none vs)
+
+pub after-all : (vs : List (Option ScalarValue)) → after vs (Some no_raws) ≡ Some (raws_of vs)
+after-all [] = refl
+after-all (v ∷ vs) = rw (after-all vs)
+
+pub after-append : (vs : List (Option ScalarValue)) (v : Option ScalarValue) (made : Option RawTrees) → after (vs ++ v ∷ []) made ≡ after vs (both (Some (raw_of v)) made)
+after-append [] v made = refl
+after-append (w ∷ vs) v made = rw (after-append vs v made)
+
+no_rest : (made : Option RawTree) → both made None ≡ None
+no_rest None = refl
+no_rest (Some v) = refl
+
+-- the parts that are done, with one more
+pub one_more : (vs : List (Option ScalarValue)) (v : Option ScalarValue) (all here rest : Option RawTrees) (made : Option RawTree) → all ≡ after vs here → here ≡ both made rest → made ≡ Some (raw_of v)
+    → all ≡ after (vs ++ v ∷ []) rest
+one_more vs v all here rest made a b m = a ∙ ap (after vs) (b ∙ ap (λ o. both o rest) m) ∙ sym (after-append vs v rest)
+
+-- a part that is none leaves nothing
+pub none_more : (vs : List (Option ScalarValue)) (all here rest : Option RawTrees) (made : Option RawTree) → all ≡ after vs here → here ≡ both made rest → made ≡ None → all ≡ None
+none_more vs all here rest made a b m = a ∙ ap (after vs) (b ∙ ap (λ o. both o rest) m) ∙ after-none vs
+
+-- at the end the parts that are done are all
+pub all_done : (vs : List (Option ScalarValue)) (all here : Option RawTrees) → all ≡ after vs here → here ≡ Some no_raws → all ≡ Some (raws_of vs)
+all_done vs all here a e = a ∙ ap (after vs) e ∙ after-all vs
+
+-- the refusal of a part, passed on
+pub passed_on : {A B C : Type 0} (tree : A → C) (part : Option B) (all : Option C) (r : Result A VortexError) (e : VortexError) → r ≡ Err e
+    → (e ≡ OutOfMemory) ⊎ ((e ≡ CannotCast) × (part ≡ None)) → (part ≡ None → all ≡ None) → Makes tree all r
+passed_on tree part all (Ok x) e is h none = cc
+passed_on tree part all (Err f) e is (inl m) none = inl cc
+passed_on tree part all (Err f) e is (inr m) none = inr (cc, none m.1)
+
+-- the parts from place i on
+pub parts_at : (vs : List (Option ScalarValue)) (i : ℕ) (v : Option ScalarValue) → i < length vs → v ≡ get_or vs i v → drop i vs ≡ v ∷ drop (suc i) vs
+parts_at vs i v below is = rw (drop-cons vs i v, ← is)
+
+-- a pair without a value
+pub no_value : (key : Option RawTree) → pair_to key None ≡ None
+no_value None = refl
+no_value (Some v) = refl
+
+-- an entry of two parts, and one of another number
+pub entry_at : (vs : List (Option ScalarValue)) (x y : Option ScalarValue) (s t : MapParts) → length vs ≡ 2 → x ≡ get_or vs 0 x → y ≡ get_or vs 1 y
+    → entry_to (raw_tuple (raws_of vs)) s t ≡ pair_to (cast_to (raw_of x) s.key t.key) (cast_to (raw_of y) s.value t.value)
+entry_at (a ∷ b ∷ []) x y s t two p q = rw (p, q) refl
+entry_at [] x y s t two p q = absurd (omega arith)
+entry_at (a ∷ []) x y s t two p q = absurd (omega arith)
+entry_at (a ∷ b ∷ c ∷ vs) x y s t two p q = absurd (omega arith)
+
+pub no_entry : (vs : List (Option ScalarValue)) (s t : MapParts) → length vs ≢ 2 → entry_to (raw_tuple (raws_of vs)) s t ≡ None
+no_entry [] s t other = refl
+no_entry (a ∷ []) s t other = refl
+no_entry (a ∷ b ∷ []) s t other = absurd (other refl)
+no_entry (a ∷ b ∷ c ∷ vs) s t other = refl
+
+-- fields and types of other numbers
+pub no_fields : (vs : List (Option ScalarValue)) (ss ts : List DType) → ¬ ((length vs ≡ length ss) × (length ss ≡ length ts)) → fields_to (raws_of vs) (types_of ss) (types_of ts) ≡ None
+no_fields [] [] [] other = absurd (other (refl, refl))
+no_fields (v ∷ vs) (s ∷ ss) (t ∷ ts) other = ap (both (cast_to (raw_of v) (type_of s) (type_of t))) (no_fields vs ss ts (λ h. other (ap suc h.0, ap suc h.1))) ∙ no_rest (cast_to (raw_of v) (type_of s) (type_of t))
+no_fields _ _ _ other = refl
+
+-- the first of the fields, and the rest
+pub fields_at : (vs ws : List (Option ScalarValue)) (ss rs ts us : List DType) (v : Option ScalarValue) (s t : DType) → vs ≡ v ∷ ws → ss ≡ s ∷ rs → ts ≡ t ∷ us
+    → fields_to (raws_of vs) (types_of ss) (types_of ts) ≡ both (cast_to (raw_of v) (type_of s) (type_of t)) (fields_to (raws_of ws) (types_of rs) (types_of us))
+fields_at vs ws ss rs ts us v s t p q r = rw (p, q, r) refl
+
+-- no fields left
+pub fields_end : (vs : List (Option ScalarValue)) (ss ts : List DType) → length vs ≡ length ss → length ss ≡ length ts → length vs ≡ 0 → fields_to (raws_of vs) (types_of ss) (types_of ts) ≡ Some no_raws
+fields_end [] [] [] p q h = refl
+fields_end (v ∷ vs) ss ts p q h = absurd (omega arith)
+fields_end [] (s ∷ ss) ts p q h = absurd (omega arith)
+fields_end [] [] (t ∷ ts) p q h = absurd (omega arith)
+
+not_absent : (v : ScalarValue) → is_absent (value_tree v) ≡ false
+not_absent v = search (rules, the_lemmas)
+
+below : (bare : TypeTree → TypeTree → Option RawTree) (v : RawTree) (s t : TypeTree) → is_absent v ≡ false → ¬ (IsExtension s) → whole_to bare v s t ≡ bare s (storage t)
+below bare absent s t there plain = cc
+below bare v (extension_type id metadata u) t there plain = absurd (plain tt)
+below bare v s t there plain = refl
+
+-- from a type that is no extension a value that is present goes to what the target stores
+pub cast_below : (v : ScalarValue) (s t : TypeTree) → ¬ (IsExtension s) → cast_to (value_tree v) s t ≡ bare_to (value_tree v) s (storage t)
+cast_below v s t plain = below (λ a b. bare_to (value_tree v) a b) (value_tree v) s t (not_absent v) plain
+
+pub ruleset shown = (type_of-List, type_of-FixedSizeList, type_of-Map, type_of-Struct, type_of-Extension, value_tree-Tuple, count-raws_of, flat_accepts, flat_storage, after-none, after-all, after-append)

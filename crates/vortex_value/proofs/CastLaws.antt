@@ -1,0 +1,74 @@
+-- Casts keep the content, and a type has one value of each: so chains agree, and equality and order stay.
+use Rattle.std.proofs.Common.{◌≡◌, ◌&&◌, true, ◌∷◌, refl, sym, ap, ◌∙◌, subst}
+use Rattle.vortex_dtype.specs.TypeTree.{TypeTree, null_type, extension_type, Same, IsNullable, as_nullable, storage}
+use Rattle.vortex_value.specs.Casts.{same_type, Allows, IsCast}
+use Rattle.vortex_value.specs.CastLaws.{CallsAreChains, CastsKeepScalars, CastsKeepValues, ChainsAgree, IntoNullableAndBack, ThereAndBack}
+use Rattle.vortex_value.specs.Chains.{last_of, Steps}
+use Rattle.vortex_value.specs.Content.{Content, content}
+use Rattle.vortex_value.specs.Equality.{equal}
+use Rattle.vortex_value.specs.Equality as equality
+use Rattle.vortex_value.specs.EqualityLaws.{same_type-Decides}
+use Rattle.vortex_value.specs.RawTree.{RawTree, absent}
+use Rattle.vortex_value.specs.Scalars.{scalar_content, scalar_order, scalar_raw, scalar_type}
+use Rattle.vortex_value.specs.Validity.{Valid}
+use Rattle.vortex_value.proofs.Uniqueness.{one_value}
+
+pub chains_agree : ChainsAgree
+chains_agree s v t u ts us w x p q ends = one_value (last_of t ts) (last_of u us) w x ends p.ends q.ends (p.same ∙ sym q.same)
+
+pub there_and_back : ThereAndBack
+there_and_back s t v w x p there back = one_value s s x v refl back.valid p (back.same ∙ there.same)
+
+pub casts_keep_values : CastsKeepValues
+casts_keep_values s u t v w x y same p q a b =
+    let left = a.same in
+    let right = b.same in
+    record {
+      equality = (λ h. rw (← left, ← right) h, λ h. rw (left, right) h);
+      value = (λ e. one_value s u v w same p q (sym left ∙ ap content e ∙ right), λ e. one_value t t x y refl a.valid b.valid (left ∙ ap content e ∙ sym right));
+      ordered = rw (left, right);
+    }
+
+-- scalars of one type are compared by what they hold
+pub casts_keep_scalars : CastsKeepScalars (λ x y. equality.same_type (scalar_type x) (scalar_type y) && equal (scalar_content x) (scalar_content y)) scalar_order
+casts_keep_scalars x y a b t same p q =
+    let one : equality.same_type t t ≡ true = (same_type-Decides t t).1 refl in
+    let alike : equality.same_type (scalar_type x) (scalar_type y) ≡ true = (same_type-Decides (scalar_type x) (scalar_type y)).1 same in
+    (rw (p.typed, q.typed, p.same, q.same, one, alike) refl, rw (p.typed, q.typed, p.same, q.same, one, alike) refl)
+
+pub calls_are_chains : CallsAreChains
+calls_are_chains = record {
+  cast = λ x y t possible one. record { allowed = possible.0; valid = subst (λ u. Valid u (scalar_raw y)) one.typed one.valid; same = one.same };
+  alone = λ s t v w p h. record { starts = p; ends = h.valid; same = h.same; steps = (h.allowed, record { value = w; valid = h.valid; same = h.same }, tt) };
+  further = λ s t u us v w x p h rest. record {
+    starts = p;
+    ends = rest.ends;
+    same = rest.same ∙ h.same;
+    steps = (h.allowed, record { value = w; valid = h.valid; same = h.same }, subst (λ c. Steps t (u ∷ us) c) h.same rest.steps);
+  };
+}
+
+-- a row that any two types that are the same have
+pub allows_same : (s t : TypeTree) (c : Content) → Same s t → Allows s t c
+allows_same s null_type c h = same_type h
+allows_same s _ c h = same_type h
+
+pub nullable_same : (t : TypeTree) → Same t (as_nullable t)
+nullable_same (extension_type id metadata t) = ap (extension_type id metadata) (nullable_same t)
+nullable_same _ = refl
+
+nullable_takes : (t : TypeTree) → IsNullable (storage (as_nullable t))
+nullable_takes (extension_type id metadata t) = nullable_takes t
+nullable_takes _ = refl
+
+pub nullable_valid : (s : TypeTree) (v : RawTree) → Valid s v → Valid (as_nullable s) v
+nullable_valid s absent p = nullable_takes s
+nullable_valid (extension_type id metadata s) v p = nullable_valid s v p
+nullable_valid _ _ p = p
+
+-- a value that is valid for two types that are the same is its own cast
+kept : (s t : TypeTree) (v : RawTree) → Same s t → Valid t v → IsCast s t v v
+kept s t v same p = record { allowed = allows_same s t (content v) same; valid = p; same = refl }
+
+pub into_nullable_and_back : IntoNullableAndBack
+into_nullable_and_back s v p = (kept s (as_nullable s) v (nullable_same s) (nullable_valid s v p), kept (as_nullable s) s v (sym (nullable_same s)) p)

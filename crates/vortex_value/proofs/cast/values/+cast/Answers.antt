@@ -1,0 +1,136 @@
+-- What is made of a part is a part of what is made, and a part that is refused refuses the whole.
+use Rattle.std.proofs.Common.{◌≡◌, ◌++◌, ◌∷◌, [], Some, Err, inl, inr, length, refl, ap, ◌∙◌, add-one, arith, rules}
+use Rattle.std.proofs.Math.ListN.{drop_of_length-le}
+use Rattle.std.specs.Option.{option_copied}
+use Rattle.vortex_dtype.specs.TypeOf.{map_of, type_of}
+use Rattle.vortex_dtype.specs.declared.types.DType.{the_lemmas}
+use Rattle.vortex_value.specs.Casts.{IsExtension}
+use Rattle.vortex_value.specs.CastSteps.{each_to, entries_to}
+use Rattle.vortex_value.specs.RawOf.{raws_of}
+use Rattle.vortex_value.proofs.CastCode.{all_done, cast_below, entry_at, fields_at, fields_end, flat_storage, no_entry, no_fields, no_value, none_more, one_more, parts_at, passed_on}
+use Rattle.vortex_value.proofs.ValueSteps.{value_tree-Tuple}
+use Rattle.vortex_value.proofs.cast.values.+cast.Goals as goal
+
+-- elements
+
+pub cast_elements-returns-in_err-cast_value : goal.cast_elements-returns-in_err-cast_value
+cast_elements-returns-in_err-cast_value t c =
+    let l = c.loop-element in
+    let lent : option_copied c.as_ref.result ≡ c.element-item.result = search rules in
+    let is : c.from_residual-in_err-cast_value.result ≡ Err c.in_err-cast_value.field-0.0 = search rules in
+    let here = ap (λ vs. each_to (raws_of vs) (type_of c.args.from.now) (type_of c.args.to.now)) (parts_at c.args.elements.now l.element-index c.element-item.result c.loop-element-test.true c.element-item.is) in
+    passed_on _ _ _ _ _ is (rw lent at c.in_err-cast_value.ensures.made) (λ none. none_more l.made.items _ _ _ _ l.invariant here none)
+
+pub cast_elements-loop-element-preserved : goal.cast_elements-loop-element-preserved
+cast_elements-loop-element-preserved t c =
+    let l = c.loop-element in
+    let lent : option_copied c.as_ref.result ≡ c.element-item.result = search rules in
+    let pushed : c.push.new.self.items ≡ c.loop-element.made.items ++ c.in_ok-cast_value.field-0 ∷ [] = search rules in
+    let here = ap (λ vs. each_to (raws_of vs) (type_of c.args.from.now) (type_of c.args.to.now)) (parts_at c.args.elements.now l.element-index c.element-item.result c.loop-element-test.true c.element-item.is) in
+    rw (add-one, pushed) (one_more l.made.items c.in_ok-cast_value.field-0 _ _ _ _ l.invariant here (rw lent at c.in_ok-cast_value.ensures.made))
+
+pub cast_elements-returns : goal.cast_elements-returns
+cast_elements-returns t c =
+    all_done c.loop-element.made.items _ _ c.loop-element.invariant
+    (ap (λ vs. each_to (raws_of vs) (type_of c.args.from.now) (type_of c.args.to.now)) (drop_of_length-le c.args.elements.now c.loop-element-test.false))
+
+-- maps
+
+pub cast_entries-returns-in_err-cast_entry : goal.cast_entries-returns-in_err-cast_entry
+cast_entries-returns-in_err-cast_entry t c =
+    let l = c.loop-entry in
+    let lent : option_copied c.as_ref.result ≡ c.entry-item.result = search rules in
+    let is : c.from_residual-in_err-cast_entry.result ≡ Err c.in_err-cast_entry.field-0.0 = search rules in
+    let here = ap (λ vs. entries_to (raws_of vs) (map_of c.args.from.now) (map_of c.args.to.now)) (parts_at c.args.entries.now l.entry-index c.entry-item.result c.loop-entry-test.true c.entry-item.is) in
+    passed_on _ _ _ _ _ is (rw lent at c.in_err-cast_entry.ensures) (λ none. none_more l.made.items _ _ _ _ l.invariant here none)
+
+pub cast_entries-loop-entry-preserved : goal.cast_entries-loop-entry-preserved
+cast_entries-loop-entry-preserved t c =
+    let l = c.loop-entry in
+    let lent : option_copied c.as_ref.result ≡ c.entry-item.result = search rules in
+    let pushed : c.push.new.self.items ≡ c.loop-entry.made.items ++ Some c.in_ok-cast_entry.field-0 ∷ [] = search rules in
+    let here = ap (λ vs. entries_to (raws_of vs) (map_of c.args.from.now) (map_of c.args.to.now)) (parts_at c.args.entries.now l.entry-index c.entry-item.result c.loop-entry-test.true c.entry-item.is) in
+    rw (add-one, pushed) (one_more l.made.items (Some c.in_ok-cast_entry.field-0) _ _ _ _ l.invariant here (rw lent at c.in_ok-cast_entry.ensures))
+
+pub cast_entries-returns : goal.cast_entries-returns
+cast_entries-returns t c =
+    all_done c.loop-entry.made.items _ _ c.loop-entry.invariant
+    (ap (λ vs. entries_to (raws_of vs) (map_of c.args.from.now) (map_of c.args.to.now)) (drop_of_length-le c.args.entries.now c.loop-entry-test.false))
+
+pub cast_pair-returns-then-parts-ne2 : goal.cast_pair-returns-then-parts-ne2
+cast_pair-returns-then-parts-ne2 t c = inr (refl, no_entry c.args.parts.now _ _ c.if-parts-ne2.true)
+
+pub cast_pair-returns-in_err-key : goal.cast_pair-returns-in_err-key
+cast_pair-returns-in_err-key t c =
+    let xs = c.args.parts.now in
+    let x = c.index-parts-0.result in
+    let y = c.index-parts-1.result in
+    let lent : option_copied c.as_ref.result ≡ c.index-parts-0.result = search rules in
+    let is : c.from_residual.result ≡ Err c.in_err-key.field-0.0 = search rules in
+    let at = entry_at xs x y (map_of c.args.from.now) (map_of c.args.to.now) c.if-parts-ne2.false c.index-parts-0.is c.index-parts-1.is in
+    let refused = rw (lent, c.key_dtype.ensures.tree, c.key_dtype-2.ensures.tree) at c.in_err-key.ensures.made in
+    passed_on _ _ _ _ _ is refused (λ none. rw none at at)
+
+pub cast_pair-returns-in_err-value : goal.cast_pair-returns-in_err-value
+cast_pair-returns-in_err-value t c =
+    let xs = c.args.parts.now in
+    let x = c.index-parts-0.result in
+    let y = c.index-parts-1.result in
+    let lent : option_copied c.as_ref-2.result ≡ c.index-parts-1.result = search rules in
+    let is : c.from_residual-in_err-value.result ≡ Err c.in_err-value.field-0.0 = search rules in
+    let at = entry_at xs x y (map_of c.args.from.now) (map_of c.args.to.now) c.if-parts-ne2.false c.index-parts-0.is c.index-parts-1.is in
+    let refused = rw (lent, c.value_dtype.ensures.tree, c.value_dtype-2.ensures.tree) at c.in_err-value.ensures.made in
+    passed_on _ _ _ _ _ is refused (λ none. (rw none at at) ∙ no_value _)
+
+pub cast_pair-returns : goal.cast_pair-returns
+cast_pair-returns t c =
+    let xs = c.args.parts.now in
+    let lent : option_copied c.as_ref.result ≡ c.index-parts-0.result = search rules in
+    let lent_value : option_copied c.as_ref-2.result ≡ c.index-parts-1.result = search rules in
+    let pushed : c.push-2.new.self.items ≡ c.in_ok-key.key ∷ c.in_ok-value.value ∷ [] = search rules in
+    let at = entry_at xs c.index-parts-0.result c.index-parts-1.result (map_of c.args.from.now) (map_of c.args.to.now) c.if-parts-ne2.false c.index-parts-0.is c.index-parts-1.is in
+    let key = rw (lent, c.key_dtype.ensures.tree, c.key_dtype-2.ensures.tree) at c.in_ok-key.ensures.made in
+    let value = rw (lent_value, c.value_dtype.ensures.tree, c.value_dtype-2.ensures.tree) at c.in_ok-value.ensures.made in
+    rw (value_tree-Tuple c.push-2.new.self, pushed) (rw (key, value) at at)
+
+-- structs
+
+pub cast_fields-returns-then-fields-sources : goal.cast_fields-returns-then-fields-sources
+cast_fields-returns-then-fields-sources t c = inr (refl, no_fields _ _ _ (λ h. c.if-fields-sources.true h.0))
+
+pub cast_fields-returns-then-sources-targets : goal.cast_fields-returns-then-sources-targets
+cast_fields-returns-then-sources-targets t c = inr (refl, no_fields _ _ _ (λ h. c.if-sources-targets.true h.1))
+
+pub cast_fields-returns-in_err-cast_value : goal.cast_fields-returns-in_err-cast_value
+cast_fields-returns-in_err-cast_value t c =
+    let steps = c.in-Some.ensures.steps in
+    let lent : option_copied c.as_ref.result ≡ c.in-Some.field.now = search rules in
+    let is : c.from_residual-in_err-cast_value.result ≡ Err c.in_err-cast_value.field-0.0 = search rules in
+    let here = fields_at _ _ _ _ _ _ c.in-Some.field.now c.in-Some.source.now c.in-Some.target.now steps.0 steps.1.0 steps.1.1 in
+    passed_on _ _ _ _ _ is (rw lent at c.in_err-cast_value.ensures.made) (λ none. none_more c.loop-field.made.items _ _ _ _ c.loop-field.invariant.0 here none)
+
+pub cast_fields-loop-field-preserved : goal.cast_fields-loop-field-preserved
+cast_fields-loop-field-preserved t c =
+    let steps = c.in-Some.ensures.steps in
+    let lent : option_copied c.as_ref.result ≡ c.in-Some.field.now = search rules in
+    let pushed : c.push.new.self.items ≡ c.loop-field.made.items ++ c.in_ok-cast_value.field-0 ∷ [] = search rules in
+    let here = fields_at _ _ _ _ _ _ c.in-Some.field.now c.in-Some.source.now c.in-Some.target.now steps.0 steps.1.0 steps.1.1 in
+    let more = one_more c.loop-field.made.items c.in_ok-cast_value.field-0 _ _ _ _ c.loop-field.invariant.0 here (rw lent at c.in_ok-cast_value.ensures.made) in
+    (rw pushed more, omega (arith, ap length steps.0, ap length steps.1.0), omega (arith, ap length steps.1.0, ap length steps.1.1))
+
+pub cast_fields-returns : goal.cast_fields-returns
+cast_fields-returns t c =
+    let l = c.loop-field in
+    let ended : length l.field-iterator.a.rest.now ≡ 0 =
+    elim c.in-None.ensures.steps [ inl h ↦ h.1.0 | inr h ↦ elim h.1 [ inl k ↦ omega (arith, k.1.0) | inr k ↦ omega (arith, k.1.0) ] ] in
+    all_done l.made.items _ _ l.invariant.0 (fields_end _ _ _ l.invariant.1 l.invariant.2 ended)
+
+-- below the extensions of the target
+
+pub cast_present-returns-in_default : goal.cast_present-returns-in_default
+cast_present-returns-in_default t c =
+    let plain : ¬ (IsExtension (type_of c.args.source.now)) = search (rules, the_lemmas) in
+    record {
+      made = rw (cast_below c.args.value.now (type_of c.args.source.now) (type_of c.args.target.now) plain, ← c.storage_of.ensures) c.cast_bare.ensures.made;
+      flat = λ flat. c.cast_bare.ensures.flat (rw c.storage_of.ensures (flat_storage (type_of c.args.target.now) flat));
+    }

@@ -1,0 +1,62 @@
+-- What is left to cast in a loop, and that each call goes down the value.
+use Rattle.std.proofs.Common.{◌≡◌, ℕ, ◌+◌, ◌*◌, Option, Some, None, Bor, drop, length}
+use Rattle.vortex_dtype.specs.TypeOf.{map_of, type_of, types_of}
+use Rattle.vortex_value.specs.CastSteps.{each_to, entries_to, fields_to}
+use Rattle.vortex_value.specs.RawOf.{raws_of}
+use Rattle.vortex_value.specs.declared.values.ScalarValue.{ScalarValue, size-ScalarValue}
+use Rattle.vortex_value.proofs.CastCode.{after}
+use Rattle.vortex_value.proofs.cast.values.+cast.Given as goal
+
+abbrev pub invariant-cast_elements-loop-element : goal.invariant-cast_elements-loop-element
+invariant-cast_elements-loop-element l =
+    each_to (raws_of l.elements) (type_of l.from) (type_of l.to) ≡ after l.made.items (each_to (raws_of (drop l.element-index l.elements)) (type_of l.from) (type_of l.to))
+
+abbrev pub invariant-cast_entries-loop-entry : goal.invariant-cast_entries-loop-entry
+invariant-cast_entries-loop-entry l =
+    entries_to (raws_of l.entries) (map_of l.from) (map_of l.to) ≡ after l.made.items (entries_to (raws_of (drop l.entry-index l.entries)) (map_of l.from) (map_of l.to))
+
+abbrev pub invariant-cast_fields-loop-field : goal.invariant-cast_fields-loop-field
+invariant-cast_fields-loop-field l =
+    let fields = l.field-iterator.a.rest.now in
+    let sources = l.field-iterator.b.a.rest.now in
+    let targets = l.field-iterator.b.b.rest.now in
+    (fields_to (raws_of l.fields) (types_of l.sources) (types_of l.targets) ≡ after l.made.items (fields_to (raws_of fields) (types_of sources) (types_of targets)))
+    × (length fields ≡ length sources) × (length sources ≡ length targets)
+
+-- the size of a borrowed value, if there is one
+abbrev pub lent_size : Option (Bor ScalarValue) → ℕ
+lent_size None = 0
+lent_size (Some v) = size-ScalarValue v.now
+
+abbrev pub decreases-cast_value : goal.decreases-cast_value
+decreases-cast_value l = 8 * lent_size l.value + 3
+
+abbrev pub decreases-cast_present : goal.decreases-cast_present
+decreases-cast_present l = 8 * goal.size-cast_present l + 2
+
+abbrev pub decreases-cast_bare : goal.decreases-cast_bare
+decreases-cast_bare l = 8 * goal.size-cast_bare l + 1
+
+abbrev pub decreases-cast_parts : goal.decreases-cast_parts
+decreases-cast_parts l = 8 * goal.size-cast_parts l + 6
+
+abbrev pub decreases-cast_sized : goal.decreases-cast_sized
+decreases-cast_sized l = 8 * goal.size-cast_sized l + 5
+
+abbrev pub decreases-cast_elements : goal.decreases-cast_elements
+decreases-cast_elements l = 8 * goal.size-cast_elements l + 4
+
+abbrev pub decreases-cast_map : goal.decreases-cast_map
+decreases-cast_map l = 8 * goal.size-cast_map l + 5
+
+abbrev pub decreases-cast_entries : goal.decreases-cast_entries
+decreases-cast_entries l = 8 * goal.size-cast_entries l + 4
+
+abbrev pub decreases-cast_entry : goal.decreases-cast_entry
+decreases-cast_entry l = 8 * lent_size l.entry + 1
+
+abbrev pub decreases-cast_pair : goal.decreases-cast_pair
+decreases-cast_pair l = 8 * goal.size-cast_pair l + 4
+
+abbrev pub decreases-cast_fields : goal.decreases-cast_fields
+decreases-cast_fields l = 8 * goal.size-cast_fields l + 4

@@ -1,0 +1,122 @@
+-- The steps of a cast, as they compute. They have the shape of the code; that they give what the table of casts says is
+-- the lemma `cast_decided` in proofs.
+use Rattle.std.specs.Prelude.{◌≡◌, ◌≢◌, ◌==◌, ◌&&◌, ◌||◌, ◌⊎◌, not, ℕ, ℤ, Bool, Option, Some, None, Result, IfErr, MatchResult, if◌then◌else◌, length, option_map}
+use Rattle.vortex_dtype.specs.TypeOf.{MapParts}
+use Rattle.vortex_dtype.specs.TypeTree.{TypeTree, integer_type, list_type, fixed_size_list_type, map_type, struct_type, extension_type, TypeTrees, no_types, type_then, IsFlat, is_nullable, storage}
+use Rattle.vortex_dtype.specs.declared.error.VortexError.{VortexError}
+use Rattle.vortex_dtype.specs.declared.error.VortexError.TheVariants.{CannotCast, OutOfMemory}
+use Rattle.vortex_pvalue.specs.Kinds.{in_range}
+use Rattle.vortex_value.specs.Breaches.{breaches}
+use Rattle.vortex_value.specs.Equality.{same_type}
+use Rattle.vortex_value.specs.RawTree.{RawTree, absent, raw_integer, raw_tuple, RawTrees, no_raws, raw_then, count}
+
+-- whether the type accepts the value
+abbrev pub accepts : TypeTree → RawTree → Bool
+accepts t v = length (breaches t v) == 0
+
+-- whether keys that are not said to be sorted would be said so
+abbrev pub sorts : Bool → Bool → Bool
+sorts from to = not from && to
+
+-- whether a null of the one type may be a null of the other
+abbrev pub takes_null : TypeTree → TypeTree → Bool
+takes_null (map_type k v from n) (map_type l w to m) = not (sorts from to) && is_nullable (map_type l w to m)
+takes_null s t = is_nullable t
+
+-- whether a value that is present may leave the extension s, which stores u, for t
+abbrev pub leaves : TypeTree → TypeTree → TypeTree → Bool
+leaves s u (extension_type id metadata t) = same_type s (extension_type id metadata t) || leaves s u t
+leaves s u t = same_type u t
+
+-- the value itself, if the types allow it and the target accepts it
+abbrev pub kept : Bool → TypeTree → RawTree → Option RawTree
+kept allowed t v = if allowed && accepts t v then Some v else None
+
+-- the number in the kind of the target
+abbrev pub number_to : ℤ → TypeTree → Option RawTree
+number_to z (integer_type k n) = if in_range k z then Some (raw_integer k z) else None
+number_to z t = None
+
+-- a value from one type to another: `bare` says what becomes of it between types that are no extensions
+abbrev pub whole_to : (TypeTree → TypeTree → Option RawTree) → RawTree → TypeTree → TypeTree → Option RawTree
+whole_to bare absent s t = if takes_null s t then Some absent else None
+whole_to bare v (extension_type id metadata u) t = kept (leaves (extension_type id metadata u) u t) t v
+whole_to bare v s t = bare s (storage t)
+
+-- what the parts become, where there are so many as the size says
+abbrev pub sized : ℕ → ℕ → Option RawTrees → Option RawTrees
+sized number size made = if number == size then made else None
+
+-- what the entries of a map become, whose keys may not come to be said sorted
+abbrev pub map_to : (MapParts → MapParts → Option RawTrees) → MapParts → MapParts → Option RawTrees
+map_to entries s t = if sorts s.keys_sorted t.keys_sorted then None else entries s t
+
+-- what so many parts become between two types, whose parts are elements, entries or fields
+abbrev pub tuple_to : ℕ → (TypeTree → TypeTree → Option RawTrees) → (MapParts → MapParts → Option RawTrees)
+    → (TypeTrees → TypeTrees → Option RawTrees) → TypeTree → TypeTree → Option RawTrees
+tuple_to number each entries fields (list_type e n) (list_type f m) = each e f
+tuple_to number each entries fields (list_type e n) (fixed_size_list_type f size m) = sized number size (each e f)
+tuple_to number each entries fields (fixed_size_list_type e other n) (list_type f m) = each e f
+tuple_to number each entries fields (fixed_size_list_type e other n) (fixed_size_list_type f size m) = sized number size (each e f)
+tuple_to number each entries fields (map_type k v from n) (map_type l w to m) =
+    entries (record { key = k; value = v; keys_sorted = from }) (record { key = l; value = w; keys_sorted = to })
+tuple_to number each entries fields (struct_type names ss n) (struct_type others ts m) = fields ss ts
+tuple_to number each entries fields _ _ = None
+
+-- a first part and the others, if there are both
+abbrev pub both : Option RawTree → Option RawTrees → Option RawTrees
+both (Some v) (Some vs) = Some (raw_then v vs)
+both _ _ = None
+
+-- the tuple of two values, if there are both
+abbrev pub pair : RawTree → RawTree → RawTree
+pair x y = raw_tuple (raw_then x (raw_then y no_raws))
+
+abbrev pub pair_to : Option RawTree → Option RawTree → Option RawTree
+pair_to (Some x) (Some y) = Some (pair x y)
+pair_to _ _ = None
+
+-- what a value becomes between types that are no extensions
+abbrev mutual
+  pub bare_to : RawTree → TypeTree → TypeTree → Option RawTree
+  bare_to (raw_integer k z) s t = number_to z t
+  bare_to (raw_tuple vs) s t =
+      option_map raw_tuple (tuple_to (count vs) (λ e f. each_to vs e f) (λ a b. map_to (λ m n. entries_to vs m n) a b) (λ ss ts. fields_to vs ss ts) s t)
+  bare_to v s t = kept (same_type s t) t v
+
+  -- each between the same two types
+  pub each_to : RawTrees → TypeTree → TypeTree → Option RawTrees
+  each_to no_raws s t = Some no_raws
+  each_to (raw_then v vs) s t = both (whole_to (λ a b. bare_to v a b) v s t) (each_to vs s t)
+
+  -- each a pair of a key and a value
+  pub entries_to : RawTrees → MapParts → MapParts → Option RawTrees
+  entries_to no_raws s t = Some no_raws
+  entries_to (raw_then e es) s t = both (entry_to e s t) (entries_to es s t)
+
+  pub entry_to : RawTree → MapParts → MapParts → Option RawTree
+  entry_to (raw_tuple (raw_then x (raw_then y no_raws))) s t =
+      pair_to (whole_to (λ a b. bare_to x a b) x s.key t.key) (whole_to (λ a b. bare_to y a b) y s.value t.value)
+  entry_to _ s t = None
+
+  -- each between the two types at its place, of which there are equally many
+  pub fields_to : RawTrees → TypeTrees → TypeTrees → Option RawTrees
+  fields_to no_raws no_types no_types = Some no_raws
+  fields_to (raw_then v vs) (type_then s ss) (type_then t ts) = both (whole_to (λ a b. bare_to v a b) v s t) (fields_to vs ss ts)
+  fields_to _ _ _ = None
+
+-- what a value becomes
+abbrev pub cast_to : RawTree → TypeTree → TypeTree → Option RawTree
+cast_to v = whole_to (λ a b. bare_to v a b) v
+
+-- what the parts of a tuple become
+abbrev pub parts_to : RawTrees → TypeTree → TypeTree → Option RawTrees
+parts_to vs = tuple_to (count vs) (λ e f. each_to vs e f) (λ a b. map_to (λ m n. entries_to vs m n) a b) (λ ss ts. fields_to vs ss ts)
+
+-- an answer of a step that makes `made`, if there is that: a value with its tree, or a refusal
+abbrev pub Makes : {A B : Type 0} → (A → B) → Option B → Result A VortexError → Type 0
+Makes tree made r = MatchResult r (λ x. made ≡ Some (tree x)) (λ e. (e ≡ OutOfMemory) ⊎ ((e ≡ CannotCast) × (made ≡ None)))
+
+-- no memory is wanted for a type whose values take none
+abbrev pub SparesMemory : {A : Type 0} → TypeTree → Result A VortexError → Type 0
+SparesMemory t r = IsFlat t → IfErr r (λ e. e ≢ OutOfMemory)

@@ -1,0 +1,88 @@
+//! The steps of a cast that go no further down than the value itself.
+
+ghost use Rattle.std.specs.Prelude.{◌≡◌, IfErr};
+ghost use Rattle.vortex_dtype.specs.TypeOf.{map_of, type_of};
+ghost use Rattle.vortex_dtype.specs.declared.error.VortexError.TheVariants.{CannotCast};
+ghost use Rattle.vortex_pvalue.specs.Whole.{whole_of};
+ghost use Rattle.vortex_value.specs.CastSteps.{Makes, SparesMemory, accepts, kept, leaves, number_to, sorts, takes_null};
+ghost use Rattle.vortex_value.specs.RawOf.{value_tree};
+
+use crate::copies;
+use crate::equality::same_types;
+use crate::scalars::Scalar;
+use crate::values::ScalarValue;
+use std::alloc::Global;
+use vortex_dtype::{DType, MapDType, VortexError};
+use vortex_pvalue::PValue;
+
+/// Whether keys that are not said to be sorted would be said so.
+pub(super) fn sorts(source: &MapDType, target: &MapDType) -> bool
+    ensures { result ≡ sorts (map_of source.now).keys_sorted (map_of target.now).keys_sorted }
+{
+    !source.keys_sorted() && target.keys_sorted()
+}
+
+/// Whether a null of the source type may be a null of the target type.
+#[tactic(auto, using(crate::proofs::CastCode::shown))]
+pub(super) fn takes_null(source: &DType, target: &DType) -> bool
+    ensures { result ≡ takes_null (type_of source.now) (type_of target.now) }
+{
+    match (source, target) {
+        (DType::Map(from, _), DType::Map(to, _)) => !sorts(from, to) && target.is_nullable(),
+        _ => target.is_nullable(),
+    }
+}
+
+/// Whether a value that is present may leave an extension over the stored type for the target.
+#[tactic(auto, using(crate::proofs::CastCode::shown))]
+pub(super) fn leaves(target: &DType, source: &DType, stored: &DType) -> bool
+    ensures { result ≡ leaves (type_of source.now) (type_of stored.now) (type_of target.now) }
+{
+    match target {
+        DType::Extension(extension) => {
+            same_types(source, target) || leaves(extension.storage_dtype(), source, stored)
+        }
+        _ => same_types(stored, target),
+    }
+}
+
+/// Whether the type accepts the value.
+fn accepts(dtype: &DType, value: &ScalarValue) -> bool
+    ensures { result ≡ accepts (type_of dtype.now) (value_tree value.now) }
+{
+    Scalar::is_compatible(dtype, Some(value))
+}
+
+/// The same value, where the types allow it and the target accepts it.
+#[tactic(auto, using(crate::proofs::CastCode::shown))]
+pub(super) fn kept(
+    alloc: Global,
+    value: &ScalarValue,
+    allowed: bool,
+    target: &DType,
+) -> Result<ScalarValue, VortexError>
+    ensures made { Makes value_tree
+        (kept allowed (type_of target.now) (value_tree value.now)) result }
+    ensures flat { SparesMemory (type_of target.now) result }
+{
+    if allowed && accepts(target, value) {
+        copies::copy_value(alloc, value)
+    } else {
+        Err(VortexError::CannotCast)
+    }
+}
+
+/// The same number in the kind of the target.
+#[tactic(auto, using(crate::proofs::CastCode::shown))]
+pub(super) fn cast_number(number: PValue, target: &DType) -> Result<ScalarValue, VortexError>
+    ensures made { Makes value_tree (number_to (whole_of number) (type_of target.now)) result }
+    ensures flat { IfErr result (λ e. e ≡ CannotCast) }
+{
+    match target {
+        DType::Primitive(kind, _) => match PValue::from_whole(number.whole(), *kind) {
+            Some(number) => Ok(ScalarValue::Primitive(number)),
+            None => Err(VortexError::CannotCast),
+        },
+        _ => Err(VortexError::CannotCast),
+    }
+}
