@@ -1,6 +1,6 @@
 -- Casts keep the content, and a type has one value of each: so chains agree, and equality and order stay.
 use Rattle.std.proofs.Common.{◌≡◌, ◌&&◌, true, ◌∷◌, refl, sym, ap, ◌∙◌, subst}
-use Rattle.vortex_dtype.specs.TypeTree.{TypeTree, null_type, extension_type, Same, IsNullable, as_nullable, erase, storage}
+use Rattle.vortex_dtype.specs.TypeTree.{TypeTree, null_type, extension_type, Same, IsNullable, as_nullable, storage}
 use Rattle.vortex_value.specs.Casts.{same_type, Allows, IsCast}
 use Rattle.vortex_value.specs.CastLaws.{CallsAreChains, CastsKeepScalars, CastsKeepValues, ChainsAgree, IntoNullableAndBack, ThereAndBack}
 use Rattle.vortex_value.specs.Chains.{last_of, Steps}

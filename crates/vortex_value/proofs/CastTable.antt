@@ -1,20 +1,20 @@
 -- The steps of a cast give what the table of casts says: the one value where the table allows the cast and the target has
 -- the content, and none elsewhere.
-use Rattle.std.proofs.Common.{◌≡◌, ◌≢◌, ◌==◌, ◌⊎◌, inl, inr, ℕ, suc, ℤ, Bool, true, false, not, ◌&&◌, ◌||◌, List, [], ◌∷◌, Option, Some, None, Result, Ok, Err, IfErr, if◌then◌else◌, option_map, refl, sym, ap, ◌∙◌, subst}
+use Rattle.std.proofs.Common.{◌≡◌, ◌≢◌, ◌==◌, ◌⊎◌, inl, inr, ℕ, ℤ, Bool, true, false, ◌&&◌, List, Option, Some, None, Result, Ok, Err, IfErr, if◌then◌else◌, option_map, refl, sym, ap, ◌∙◌, subst}
 use Rattle.std.proofs.lemmas.Bool.Decides.{Decides-and, Decides-eqb, Decides-like, Decides-or}
 use Rattle.std.specs.Bool.{Decides}
 use Rattle.vortex_dtype.specs.TypeOf.{MapParts}
-use Rattle.vortex_dtype.specs.TypeTree.{TypeTree, null_type, bool_type, integer_type, utf8_type, binary_type, list_type, fixed_size_list_type, map_type, struct_type, union_type, variant_type, extension_type, TypeTrees, no_types, type_then, erase_all, IsFlat, IsNullable, Same, is_nullable, nullability_of, says_nullable, storage}
+use Rattle.vortex_dtype.specs.TypeTree.{TypeTree, null_type, bool_type, integer_type, utf8_type, binary_type, list_type, fixed_size_list_type, map_type, struct_type, extension_type, TypeTrees, no_types, type_then, erase_all, IsFlat, IsNullable, Same, is_nullable, nullability_of, says_nullable, storage}
 use Rattle.vortex_dtype.specs.declared.error.VortexError.{VortexError}
 use Rattle.vortex_dtype.specs.declared.error.VortexError.TheVariants.{CannotCast, OutOfMemory}
 use Rattle.vortex_dtype.specs.declared.kinds.Nullability.{Nullability}
 use Rattle.vortex_dtype.specs.declared.kinds.Nullability.TheVariants.{NonNullable, Nullable}
 use Rattle.vortex_dtype.specs.declared.kinds.PType.{PType}
-use Rattle.vortex_pvalue.specs.Kinds.{InRange, in_range}
+use Rattle.vortex_pvalue.specs.Kinds.{in_range}
 use Rattle.vortex_pvalue.specs.RangeLaws.{in_range_exactly}
-use Rattle.vortex_value.specs.CastSteps.{pair, accepts, bare_to, both, cast_to, each_to, entries_to, entry_to, fields_to, kept, leaves, map_to, number_to, pair_to, sized, sorts, takes_null, tuple_to, whole_to}
+use Rattle.vortex_value.specs.CastSteps.{pair, accepts, bare_to, both, cast_to, each_to, entries_to, fields_to, kept, leaves, map_to, number_to, pair_to, sorts, takes_null, tuple_to, whole_to}
 use Rattle.vortex_value.specs.Casts.{Allows, AllowsFields, CanCast, EachEntry, EachPlace, IsCast, IsExtension, IsInteger, IsNull, RefusesCast, Row, Sorts, Wraps, same_type, a_null, into_extension, integers, lists, maps, structs, from_extension}
-use Rattle.vortex_value.specs.Content.{Content, null, sequence, whole, Contents, no_contents, content_then, content, contents}
+use Rattle.vortex_value.specs.Content.{Content, null, sequence, Contents, no_contents, content_then, content, contents}
 use Rattle.vortex_value.specs.Equality as equality
 use Rattle.vortex_value.specs.EqualityLaws.{same_type-Decides}
 use Rattle.vortex_value.specs.HasContent.{HasContent, HasEach, HasEntries, HasFields, count_contents}

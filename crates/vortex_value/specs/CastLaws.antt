@@ -8,7 +8,7 @@ use Rattle.vortex_value.specs.Content.{Content, null, sequence, tagged, Contents
 use Rattle.vortex_value.specs.Equality.{EqualContents}
 use Rattle.vortex_value.specs.Order.{order}
 use Rattle.vortex_value.specs.RawTree.{RawTree}
-use Rattle.vortex_value.specs.Scalars.{IsTheOne, IsValid, scalar_content, scalar_raw, scalar_type}
+use Rattle.vortex_value.specs.Scalars.{IsTheOne, scalar_content, scalar_raw, scalar_type}
 use Rattle.vortex_value.specs.TypesWithin.{HasNoExtension, HasNoMap}
 use Rattle.vortex_value.specs.Validity.{Valid}
 use Rattle.vortex_value.specs.declared.scalars.Scalar.{Scalar}

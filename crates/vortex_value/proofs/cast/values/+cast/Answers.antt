@@ -1,12 +1,12 @@
 -- What is made of a part is a part of what is made, and a part that is refused refuses the whole.
-use Rattle.std.proofs.Common.{◌≡◌, ◌≢◌, ◌++◌, ◌∷◌, [], Some, None, Err, inl, inr, length, drop, refl, ap, sym, ◌∙◌, add-one, arith, rules}
+use Rattle.std.proofs.Common.{◌≡◌, ◌++◌, ◌∷◌, [], Some, Err, inl, inr, length, refl, ap, ◌∙◌, add-one, arith, rules}
 use Rattle.std.proofs.Math.ListN.{drop_of_length-le}
 use Rattle.std.specs.Option.{option_copied}
-use Rattle.vortex_dtype.specs.TypeOf.{map_of, type_of, types_of}
+use Rattle.vortex_dtype.specs.TypeOf.{map_of, type_of}
 use Rattle.vortex_dtype.specs.declared.types.DType.{the_lemmas}
 use Rattle.vortex_value.specs.Casts.{IsExtension}
-use Rattle.vortex_value.specs.CastSteps.{both, cast_to, each_to, entries_to, entry_to, fields_to, pair_to}
-use Rattle.vortex_value.specs.RawOf.{raw_of, raws_of}
+use Rattle.vortex_value.specs.CastSteps.{each_to, entries_to}
+use Rattle.vortex_value.specs.RawOf.{raws_of}
 use Rattle.vortex_value.proofs.CastCode.{all_done, cast_below, entry_at, fields_at, fields_end, flat_storage, no_entry, no_fields, no_value, none_more, one_more, parts_at, passed_on}
 use Rattle.vortex_value.proofs.ValueSteps.{value_tree-Tuple}
 use Rattle.vortex_value.proofs.cast.values.+cast.Goals as goal

@@ -1,5 +1,5 @@
 -- What the steps make is the one value that the table says.
-use Rattle.std.proofs.Common.{◌≡◌, Err, ap, sym, ◌∙◌, refl, rules}
+use Rattle.std.proofs.Common.{◌≡◌, Err, sym, ◌∙◌, refl, rules}
 use Rattle.std.specs.Option.{option_copied}
 use Rattle.vortex_dtype.specs.TypeOf.{type_of}
 use Rattle.vortex_value.specs.RawOf.{raw_of}
