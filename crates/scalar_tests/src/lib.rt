@@ -14,6 +14,8 @@ mod makers;
 #[cfg(test)]
 mod places;
 #[cfg(test)]
+mod texts;
+#[cfg(test)]
 mod tour;
 #[cfg(test)]
 mod types;

@@ -9,9 +9,11 @@ pub mod OrderLaws
 pub mod OrderSteps
 pub mod SizeLaws
 pub mod StructMakers
+pub mod TextSteps
 pub mod Uniqueness
 pub mod ValidSteps
 pub mod ValidityLaws
 pub mod ValueSteps
 pub mod Variants
+pub mod Writes
 pub mod ZeroLaws

@@ -62,7 +62,7 @@ pub entries_at : (k w : TypeTree) (i : ℕ) (vs : List (Option ScalarValue)) (v 
 entries_at k w i vs v h is = rw (drop-cons vs i v, ← is)
 
 -- a list of two is its two places
-two_places : {A : Type 0} (xs : List A) (x y : A) → length xs ≡ 2 → x ≡ get_or xs 0 x → y ≡ get_or xs 1 y → xs ≡ x ∷ y ∷ []
+pub two_places : {A : Type 0} (xs : List A) (x y : A) → length xs ≡ 2 → x ≡ get_or xs 0 x → y ≡ get_or xs 1 y → xs ≡ x ∷ y ∷ []
 two_places [] x y two a b = absurd (omega arith)
 two_places (u ∷ []) x y two a b = absurd (omega arith)
 two_places (u ∷ v ∷ []) x y two a b = rw (a, b)

@@ -1,5 +1,5 @@
 -- A raw value is valid exactly where it has no breach.
-use Rattle.std.proofs.Common.{◌≡◌, ◌≢◌, ◌↔◌, ℕ, suc, ℤ, Bool, true, false, ◌&&◌, not, ◌==◌, if◌then◌else◌, List, [], ◌∷◌, ◌++◌, Option, Some, None, Result, Ok, Err, IsOk, refl, sym, ap, arith, true≢false}
+use Rattle.std.proofs.Common.{◌≡◌, ◌≢◌, ◌↔◌, ℕ, suc, ℤ, Bool, true, false, ◌&&◌, not, ◌==◌, if◌then◌else◌, List, [], ◌∷◌, ◌++◌, Option, Some, None, Result, Ok, Err, IsOk, IsTrue, refl, sym, ap, arith, true≢false}
 use Rattle.std.proofs.lemmas.Bool.{and_parts}
 use Rattle.std.proofs.lemmas.Bool.Decides.{Decides-eqb}
 use Rattle.vortex_dtype.specs.Kinds.{kind_index, same_kind}
@@ -13,7 +13,7 @@ use Rattle.vortex_dtype.specs.declared.kinds.PType.{PType}
 use Rattle.vortex_dtype.specs.declared.kinds.PType.TheVariants.{U8, U16, U32, U64, I8, I16, I32, I64}
 use Rattle.vortex_pvalue.specs.Kinds.{InRange, in_range}
 use Rattle.vortex_pvalue.specs.RangeLaws.{in_range_true, in_range_back}
-use Rattle.vortex_value.specs.Breaches.{Found, here, under, count_types, is_null_type, child_breaches, breaches_at, element_breaches, entry_breaches, field_breaches, breaches, ValidExactlyWithoutBreach}
+use Rattle.vortex_value.specs.Breaches.{Found, here, under, count_types, is_empty, is_null_type, child_breaches, breaches_at, element_breaches, entry_breaches, field_breaches, breaches, is_valid, ValidExactlyWithoutBreach, ValidityIsDecided}
 use Rattle.vortex_value.specs.Faults.{Checks, Shows}
 use Rattle.vortex_value.specs.RawTree.{RawTree, absent, raw_bool, raw_integer, raw_text, raw_bytes, raw_tuple, raw_union, raw_variant, RawTrees, no_raws, raw_then, count, is_absent}
 use Rattle.vortex_value.specs.Validity.{type_with, HasType, MayBeInside, ValidAt, EachValid, EntriesValid, FieldsValid, Valid}
@@ -213,6 +213,29 @@ mutual
 -- a raw value is valid exactly where it has no breach
 pub valid_exactly_without_breach : ValidExactlyWithoutBreach
 valid_exactly_without_breach t v = (none-from_ValidAt (storage t) v, ValidAt-from_none (storage t) v)
+
+-- its test passes exactly there
+pub validity_is_decided : ValidityIsDecided
+validity_is_decided t v =
+    let law = valid_exactly_without_breach t v in
+    (λ h. law.1 (none_from_test _ h), λ h. test_from_none _ (law.0 h))
+  where
+    none_from_test : (fs : List Found) → IsTrue (is_empty fs) → fs ≡ []
+    none_from_test [] h = refl
+    none_from_test (f ∷ fs) h = cc
+
+    test_from_none : (fs : List Found) → fs ≡ [] → IsTrue (is_empty fs)
+    test_from_none [] h = refl
+    test_from_none (f ∷ fs) h = cc
+
+-- another test that passes exactly for valid values is that test
+pub is_valid-only : (t : TypeTree) (v : RawTree) (b : Bool) → (IsTrue b ↔ Valid t v) → is_valid t v ≡ b
+is_valid-only t v true h = (validity_is_decided t v).1 (h.0 refl)
+is_valid-only t v false h = no_test _ (λ valid. true≢false (sym (h.1 ((validity_is_decided t v).0 valid))))
+  where
+    no_test : (b : Bool) → ¬ (IsTrue b) → b ≡ false
+    no_test true none = absurd (none refl)
+    no_test false none = refl
 
 shown : (kept : Bool) (f : Fault) (fs : List Found) → Shows kept f fs → fs ≢ []
 shown kept NoMemory fs h = some-steps fs h

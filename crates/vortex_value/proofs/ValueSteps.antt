@@ -1,5 +1,5 @@
 -- What the folds over raw values give at each node with parts, and the lists of their trees.
-use Rattle.std.proofs.Common.{◌≡◌, ◌≢◌, suc, false, List, [], ◌∷◌, length, Option, option_map, Vec, Box, Global, refl, ap, rules, arith}
+use Rattle.std.proofs.Common.{◌≡◌, ◌≢◌, suc, false, List, [], ◌∷◌, length, Option, Some, None, option_map, Vec, Box, Global, refl, ap, ◌∙◌, rules, arith}
 use Rattle.std.proofs.lemmas.Bool.{and_right}
 use Rattle.vortex_dtype.specs.TypeOf.{type_of}
 use Rattle.vortex_value.specs.Content.{content, contents}
@@ -26,6 +26,14 @@ scalar_tree-parts s = search (rules, the_lemmas)
 -- the parts of the tree of a union's value
 pub union_tree-parts : (u : UnionValue) → union_tree u ≡ raw_union u.type_id (raw_or_absent (option_map (λ b. value_tree b.value) u.child))
 union_tree-parts u = search (rules, the_lemmas)
+
+-- the same, by the tree of the optional child
+pub union_tree-child : (u : UnionValue) → union_tree u ≡ raw_union u.type_id (raw_of (option_map (λ b. b.value) u.child))
+union_tree-child u = union_tree-parts u ∙ ap (raw_union u.type_id) (same u.child)
+  where
+    same : (child : Option (Box ScalarValue Global)) → raw_or_absent (option_map (λ b. value_tree b.value) child) ≡ raw_of (option_map (λ b. b.value) child)
+    same None = refl
+    same (Some b) = refl
 
 -- as many trees as values
 pub count-raws_of : (vs : List (Option ScalarValue)) → count (raws_of vs) ≡ length vs

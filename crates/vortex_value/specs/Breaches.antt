@@ -1,5 +1,5 @@
 -- Every breach of validity with its path, in reading order, and what a check answers of them.
-use Rattle.std.specs.Prelude.{◌≡◌, ◌≢◌, ◌↔◌, ℕ, suc, ◌==◌, ◌&&◌, not, Bool, true, false, List, [], ◌∷◌, ◌++◌, Option, Some, None, if◌then◌else◌}
+use Rattle.std.specs.Prelude.{◌≡◌, ◌≢◌, ◌↔◌, ℕ, suc, ◌==◌, ◌&&◌, not, Bool, true, false, List, [], ◌∷◌, ◌++◌, Option, Some, None, IsTrue, if◌then◌else◌}
 use Rattle.vortex_dtype.specs.Kinds.{same_kind}
 use Rattle.vortex_dtype.specs.TypeTree.{TypeTree, null_type, bool_type, integer_type, utf8_type, binary_type, list_type, fixed_size_list_type, map_type, struct_type, union_type, variant_type, TypeTrees, no_types, type_then, is_nullable, storage}
 use Rattle.vortex_dtype.specs.declared.error.Breach.{Breach}
@@ -24,6 +24,11 @@ here breach = ([], breach) ∷ []
 abbrev pub under : Step → List Found → List Found
 under step [] = []
 under step (f ∷ fs) = (step ∷ f.0, f.1) ∷ under step fs
+
+-- whether there is no breach
+abbrev pub is_empty : List Found → Bool
+is_empty [] = true
+is_empty (f ∷ fs) = false
 
 -- the first breach
 abbrev pub first : List Found → Option Found
@@ -88,6 +93,10 @@ abbrev mutual
 abbrev pub breaches : TypeTree → RawTree → List Found
 breaches t v = breaches_at (storage t) v
 
+-- whether the raw value is valid for the type: it has no breach
+abbrev pub is_valid : TypeTree → RawTree → Bool
+is_valid t v = is_empty (breaches t v)
+
 -- there is a breach, and the path to it has steps
 abbrev pub HasSteps : Option Found → Type 0
 HasSteps None = ⊥
@@ -102,3 +111,7 @@ Refuses _ fs = ⊥
 -- A raw value is valid exactly where it has no breach.
 abbrev pub ValidExactlyWithoutBreach : Type 0
 ValidExactlyWithoutBreach = (t : TypeTree) (v : RawTree) → Valid t v ↔ (breaches t v ≡ [])
+
+-- The test of validity passes exactly where the raw value is valid.
+abbrev pub ValidityIsDecided : Type 0
+ValidityIsDecided = (t : TypeTree) (v : RawTree) → IsTrue (is_valid t v) ↔ Valid t v

@@ -5,7 +5,7 @@
 
 ghost use Rattle.std.specs.Cmp.{IsEquivalence};
 ghost use Rattle.vortex_dtype.specs.Laws.{AgreesWithHash};
-ghost use Rattle.vortex_value.specs.Breaches.{ValidExactlyWithoutBreach};
+ghost use Rattle.vortex_value.specs.Breaches.{ValidExactlyWithoutBreach, ValidityIsDecided};
 ghost use Rattle.vortex_value.specs.Casts.{OneValue};
 ghost use Rattle.vortex_value.specs.Content.{content};
 ghost use Rattle.vortex_value.specs.Equality.{EqualityAgreesWithoutTyped, EqualityIsAnEquivalence, EqualityIsDecided, EqualsByContent, EqualsByTypeAndContent};
@@ -28,6 +28,11 @@ use std::hash::Hash;
 /// reports the first breach passes all valid values and no others.
 pub fn valid_exactly_without_breach()
     ensures { ValidExactlyWithoutBreach }
+{}
+
+/// The test of validity, by which a text is chosen, passes exactly where the value is valid.
+pub fn validity_is_decided()
+    ensures { ValidityIsDecided }
 {}
 
 /// Types that are the same up to nullability have at most one valid raw value of each content, so a

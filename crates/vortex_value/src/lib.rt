@@ -4,6 +4,7 @@
 mod cast;
 mod constructor;
 mod copies;
+mod display;
 mod equality;
 mod hashing;
 pub mod laws;

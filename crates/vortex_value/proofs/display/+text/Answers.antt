@@ -1,0 +1,93 @@
+-- Each loop writes the next of the texts that it joins.
+use Rattle.std.proofs.Common.{◌≡◌, [], drop, codes, refl, arith, rules, inl, inr}
+use Rattle.std.proofs.Output.{has_written_append}
+use Rattle.std.proofs.lemmas.List.{drop_all, nil_from_length}
+use Rattle.vortex_dtype.specs.TypeLevels.{type_of-Union}
+use Rattle.vortex_dtype.specs.TypeOf.{map_of}
+use Rattle.vortex_value.proofs.TextSteps.{no_entry_text, no_types_left, no_values, pair_text, raws_here}
+use Rattle.vortex_value.proofs.ValueSteps.{value_tree-Tuple, union_tree-child}
+use Rattle.vortex_value.proofs.Writes.{has_written_none, left_all, left_none, left_part}
+use Rattle.vortex_value.proofs.display.+text.Goals as goal
+
+pub write_union-returns-in-Union : goal.write_union-returns-in-Union
+write_union-returns-in-Union g t c plain ok = rw (c.in-Union.is, type_of-Union, union_tree-child) (c.write_child.ensures plain ok)
+
+pub write_value-returns-in-Tuple : goal.write_value-returns-in-Tuple
+write_value-returns-in-Tuple g t c plain ok = rw (c.in-Tuple.is, value_tree-Tuple, ← c.storage_of.ensures) (rw c.deref.ensures.value at (c.write_tuple.ensures plain ok))
+
+pub write_pair-returns-then-parts-ne2 : goal.write_pair-returns-then-parts-ne2
+write_pair-returns-then-parts-ne2 g t c plain ok =
+    let m = map_of c.args.map.now in
+    has_written_none _ _ _ plain (no_entry_text m.key m.value c.args.parts.now c.if-parts-ne2.true)
+
+pub write_pair-returns : goal.write_pair-returns
+write_pair-returns g t c plain ok =
+    let m = map_of c.args.map.now in
+    let x = c.index-parts-0.result in
+    let y = c.index-parts-1.result in
+    let key = c.write_part.ensures plain (search rules) in
+    let colon = c.write_str.ensures.writes key.plain (search rules) in
+    let value = c.write_part-2.ensures colon.plain ok in
+    rw (pair_text m.key m.value c.args.parts.now x y c.if-parts-ne2.false c.index-parts-0.is c.index-parts-1.is)
+    (has_written_append _ _ _ _ _ _ (rw (c.key_dtype.ensures.tree, c.as_ref.ensures.value) at key)
+    (has_written_append _ _ _ _ _ _ colon (rw (c.value_dtype.ensures.tree, c.as_ref-2.ensures.value) at value)))
+
+pub write_elements-loop-index-preserved : goal.write_elements-loop-index-preserved
+write_elements-loop-index-preserved g t c plain =
+    let i = c.loop-index.index in
+    let v = c.index-items-index.result in
+    let left = rw (raws_here i c.args.items.now v c.loop-index-test.true c.index-items-index.is) at (c.loop-index.invariant plain) in
+    let separator = c.write_str-in-loop-index.ensures.writes left.wrote.plain (search rules) in
+    let item = rw c.as_ref.ensures.value at (c.write_part.ensures separator.plain (search rules)) in
+    left_part _ i _ _ _ _ (codes ", ") _ _ _ _ left separator c.before-in-loop-index.ensures item
+
+pub write_elements-returns : goal.write_elements-returns
+write_elements-returns g t c plain ok =
+    let opened = c.write_str.ensures.writes plain (search rules) in
+    let none : drop c.loop-index.index c.args.items.now ≡ [] = drop_all c.loop-index.index c.args.items.now (omega arith) in
+    let all = left_none _ c.loop-index.index _ _ (codes ", ") _ _ (rw none refl) (c.loop-index.invariant opened.plain) in
+    has_written_append _ _ _ _ _ _ opened (has_written_append _ _ _ _ _ _ all (c.write_str-2.ensures.writes all.plain ok))
+
+pub write_entries-loop-index-preserved : goal.write_entries-loop-index-preserved
+write_entries-loop-index-preserved g t c plain =
+    let i = c.loop-index.index in
+    let v = c.index-items-index.result in
+    let left = rw (raws_here i c.args.items.now v c.loop-index-test.true c.index-items-index.is) at (c.loop-index.invariant plain) in
+    let separator = c.write_str-in-loop-index.ensures.writes left.wrote.plain (search rules) in
+    let item = rw c.as_ref.ensures.value at (c.write_entry.ensures separator.plain (search rules)) in
+    left_part _ i _ _ _ _ (codes ", ") _ _ _ _ left separator c.before-in-loop-index.ensures item
+
+pub write_entries-returns : goal.write_entries-returns
+write_entries-returns g t c plain ok =
+    let opened = c.write_str.ensures.writes plain (search rules) in
+    let none : drop c.loop-index.index c.args.items.now ≡ [] = drop_all c.loop-index.index c.args.items.now (omega arith) in
+    let all = left_none _ c.loop-index.index _ _ (codes ", ") _ _ (rw none refl) (c.loop-index.invariant opened.plain) in
+    has_written_append _ _ _ _ _ _ opened (has_written_append _ _ _ _ _ _ all (c.write_str-2.ensures.writes all.plain ok))
+
+pub write_fields-loop-index-init : goal.write_fields-loop-index-init
+write_fields-loop-index-init g t c plain =
+    let fields = c.enumerate-index-items.ensures in
+    let typed = c.zip.ensures in
+    let named = c.zip-named.ensures in
+    left_all _ _ _ _ plain (rw (c.into_iter-index-iterator.ensures.into_iter_gives, fields.source, fields.count, typed.first, typed.second.0, named.first, named.second, c.iter.ensures.rest, c.iter-2.ensures, c.names.ensures, c.dtypes.ensures.trees) refl)
+
+pub write_fields-loop-index-preserved : goal.write_fields-loop-index-preserved
+write_fields-loop-index-preserved g t c plain =
+    let (((values, names), types), here, next, small) = c.in-Some.ensures.steps in
+    let left = rw (values, names, types) at (c.loop-index.invariant plain) in
+    let separator = c.write_str-in-loop-index.ensures.writes left.wrote.plain (search rules) in
+    let name = c.write_str-in-loop-index-2.ensures.writes separator.plain (search rules) in
+    let colon = c.write_str-in-loop-index-3.ensures.writes name.plain (search rules) in
+    let value = rw c.as_ref.ensures.value at (c.write_part.ensures colon.plain (search rules)) in
+    let field = has_written_append _ _ _ _ _ _ (rw c.as_str.ensures at name) (has_written_append _ _ _ _ _ _ colon value) in
+    rw next (left_part _ c.loop-index.index-iterator.count _ _ _ _ (codes ", ") _ _ _ _ left separator (rw here at c.before-in-loop-index.ensures) field)
+
+pub write_fields-returns : goal.write_fields-returns
+write_fields-returns g t c plain ok =
+    let opened = c.write_str.ensures.writes plain (search rules) in
+    let all = left_none _ c.loop-index.index-iterator.count _ _ (codes ", ") _ _ (elim c.in-None.ensures.steps.0 [
+      | inl (x, inl (y, none)) ↦ rw (nil_from_length _ none.0, no_values) refl
+      | inl (x, inr (y, none)) ↦ rw (nil_from_length _ none.0) refl
+      | inr (x, none) ↦ rw (nil_from_length _ none.0, no_types_left) refl
+    ]) (c.loop-index.invariant opened.plain) in
+    has_written_append _ _ _ _ _ _ opened (has_written_append _ _ _ _ _ _ all (c.write_str-2.ensures.writes all.plain ok))

@@ -1,0 +1,65 @@
+-- What is left to write in a loop, and that each call goes down the value.
+use Rattle.std.proofs.Common.{ℕ, ◌+◌, ◌*◌, Option, Some, None, Bor, drop, codes}
+use Rattle.vortex_dtype.specs.TypeOf.{fields_of, map_of, type_of, types_from, types_of}
+use Rattle.vortex_value.specs.RawOf.{raws_of}
+use Rattle.vortex_value.specs.Texts.{element_texts, entry_texts, field_texts}
+use Rattle.vortex_value.specs.declared.values.ScalarValue.{ScalarValue, size-ScalarValue}
+use Rattle.vortex_value.proofs.Writes.{Joins}
+use Rattle.vortex_value.proofs.display.+text.Given as goal
+
+abbrev pub invariant-write_elements-loop-index : goal.invariant-write_elements-loop-index
+invariant-write_elements-loop-index g l =
+    let e = type_of l.element in
+    Joins g.W.Write.write_str_gives (codes ", ") l.initial.f l.index
+    (element_texts e (raws_of (drop l.index l.items))) (element_texts e (raws_of l.items)) l.f
+
+abbrev pub invariant-write_entries-loop-index : goal.invariant-write_entries-loop-index
+invariant-write_entries-loop-index g l =
+    let m = map_of l.map in
+    Joins g.W.Write.write_str_gives (codes ", ") l.initial.f l.index
+    (entry_texts m.key m.value (raws_of (drop l.index l.items))) (entry_texts m.key m.value (raws_of l.items)) l.f
+
+abbrev pub invariant-write_fields-loop-index : goal.invariant-write_fields-loop-index
+invariant-write_fields-loop-index g l =
+    let left = l.index-iterator.iter in
+    let all = fields_of l.fields in
+    Joins g.W.Write.write_str_gives (codes ", ") l.initial.f l.index-iterator.count
+    (field_texts left.a.b.rest.now (types_of left.b.rest.now) (raws_of left.a.a.rest.now)) (field_texts all.names (types_from all.types) (raws_of l.items)) l.f
+
+-- the size of a borrowed value, if there is one
+abbrev pub lent_size : Option (Bor ScalarValue) → ℕ
+lent_size None = 0
+lent_size (Some v) = size-ScalarValue v.now
+
+abbrev pub decreases-write_part : goal.decreases-write_part
+decreases-write_part g l = 4 * lent_size l.value + 1
+
+abbrev pub decreases-write_value : goal.decreases-write_value
+decreases-write_value g l = 4 * goal.size-write_value g l
+
+abbrev pub decreases-write_tuple : goal.decreases-write_tuple
+decreases-write_tuple g l = 4 * goal.size-write_tuple g l + 3
+
+abbrev pub decreases-write_elements : goal.decreases-write_elements
+decreases-write_elements g l = 4 * goal.size-write_elements g l + 2
+
+abbrev pub decreases-write_entries : goal.decreases-write_entries
+decreases-write_entries g l = 4 * goal.size-write_entries g l + 2
+
+abbrev pub decreases-write_entry : goal.decreases-write_entry
+decreases-write_entry g l = 4 * lent_size l.entry + 1
+
+abbrev pub decreases-write_pair : goal.decreases-write_pair
+decreases-write_pair g l = 4 * goal.size-write_pair g l + 2
+
+abbrev pub decreases-write_fields : goal.decreases-write_fields
+decreases-write_fields g l = 4 * goal.size-write_fields g l + 2
+
+abbrev pub decreases-write_union : goal.decreases-write_union
+decreases-write_union g l = 4 * goal.size-write_union g l + 2
+
+abbrev pub decreases-write_child : goal.decreases-write_child
+decreases-write_child g l = 4 * goal.size-write_child g l + 1
+
+abbrev pub decreases-write_inner : goal.decreases-write_inner
+decreases-write_inner g l = 4 * goal.size-write_inner g l

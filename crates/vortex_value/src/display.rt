@@ -1,0 +1,357 @@
+//! The texts of raw values and of scalars, written from borrowed parts.
+
+ghost use Rattle.std.specs.Prelude.{◌≡◌, Some, codes, option_map};
+ghost use Rattle.std.specs.Fmt.{WritesOnOk};
+ghost use Rattle.std.specs.Option.{option_copied};
+ghost use Rattle.vortex_dtype.specs.TypeOf.{fields_of, map_of, type_of, types_from, variants_of};
+ghost use Rattle.vortex_dtype.specs.TypeTree.{storage};
+ghost use Rattle.vortex_value.specs.RawOf.{raw_of, raws_of, scalar_tree, union_tree, value_tree};
+ghost use Rattle.vortex_value.specs.RawTree.{raw_tuple};
+ghost use Rattle.vortex_value.specs.Refs.{ref_raw, ref_type};
+ghost use Rattle.vortex_value.specs.Scalars.{scalar_raw, scalar_type};
+ghost use Rattle.vortex_value.specs.Texts.{between, child_text, element_texts, entry_text, entry_texts, field_texts, in_braces, in_brackets, joined, name_with, raw_text_of, raw_texts, text_at, text_of};
+ghost use Rattle.vortex_value.specs.Validity.{type_with};
+
+use crate::refs::ScalarRef;
+use crate::scalars::Scalar;
+use crate::storage::{storage_of, variant_with};
+use crate::unions::UnionValue;
+use crate::values::ScalarValue;
+use std::fmt::{self, Display, Formatter, Write};
+use vortex_dtype::{DType, FieldName, MapDType, StructFields, UnionVariants};
+
+mod leaves;
+
+/// The text of a valid value of the type, or of its absence.
+#[cycle(text)]
+fn write_part<W: Write>(
+    value: Option<&ScalarValue>,
+    dtype: &DType,
+    f: &mut Formatter<W>,
+) -> fmt::Result
+    ensures { WritesOnOk W.write_str_gives f.old result
+        (text_at (storage (type_of dtype.now)) (raw_of (option_copied value.entry))) f.new }
+{
+    match value {
+        Some(value) => write_value(value, dtype, f),
+        None => f.write_str("null"),
+    }
+}
+
+/// The text of a valid value that is present.
+#[cycle(text)]
+#[tactic(auto, using(crate::proofs::TextSteps::shown))]
+fn write_value<W: Write>(value: &ScalarValue, dtype: &DType, f: &mut Formatter<W>) -> fmt::Result
+    ensures { WritesOnOk W.write_str_gives f.old result
+        (text_at (storage (type_of dtype.now)) (value_tree value.now)) f.new }
+{
+    match value {
+        ScalarValue::Bool(truth) => f.write_str(leaves::truth(*truth)),
+        ScalarValue::Primitive(number) => number.fmt(f),
+        ScalarValue::Utf8(text) => leaves::write_escaped(text.as_str(), f),
+        ScalarValue::Binary(bytes) => leaves::write_bytes(bytes.as_slice(), f),
+        ScalarValue::Tuple(items) => write_tuple(items, storage_of(dtype), f),
+        ScalarValue::Union(union) => write_union(union, storage_of(dtype), f),
+        ScalarValue::Variant(scalar) => write_inner(scalar, f),
+    }
+}
+
+/// The text of the parts of a valid list, map or struct. Of another type it writes nothing.
+#[cycle(text)]
+#[tactic(auto, using(crate::proofs::TextSteps::shown))]
+fn write_tuple<W: Write>(
+    items: &[Option<ScalarValue>],
+    dtype: &DType,
+    f: &mut Formatter<W>,
+) -> fmt::Result
+    ensures { WritesOnOk W.write_str_gives f.old result
+        (text_at (type_of dtype.now) (raw_tuple (raws_of items.now))) f.new }
+{
+    match dtype {
+        DType::List(element, _) => write_elements(items, element, f),
+        DType::FixedSizeList(element, size, _) => {
+            write!(f, "fixed_size<{size}>")?;
+            write_elements(items, element, f)
+        }
+        DType::Map(map, _) => write_entries(items, map, f),
+        DType::Struct(fields, _) => write_fields(items, fields, f),
+        _ => Ok(()),
+    }
+}
+
+/// The elements of a list, in brackets.
+#[cycle(text)]
+fn write_elements<W: Write>(
+    items: &[Option<ScalarValue>],
+    element: &DType,
+    f: &mut Formatter<W>,
+) -> fmt::Result
+    ensures { WritesOnOk W.write_str_gives f.old result (in_brackets
+        (joined (codes ", ") (element_texts (type_of element.now) (raws_of items.now)))) f.new }
+{
+    f.write_str("[")?;
+    for (index, item) in items.iter().enumerate() {
+        f.write_str(leaves::before(index, ", "))?;
+        write_part(item.as_ref(), element, f)?;
+    }
+    f.write_str("]")
+}
+
+/// The entries of a map, in braces.
+#[cycle(text)]
+fn write_entries<W: Write>(
+    items: &[Option<ScalarValue>],
+    map: &MapDType,
+    f: &mut Formatter<W>,
+) -> fmt::Result
+    ensures { WritesOnOk W.write_str_gives f.old result (in_braces
+        (joined (codes ", ")
+        (entry_texts (map_of map.now).key (map_of map.now).value (raws_of items.now)))) f.new }
+{
+    f.write_str("{")?;
+    for (index, item) in items.iter().enumerate() {
+        f.write_str(leaves::before(index, ", "))?;
+        write_entry(item.as_ref(), map, f)?;
+    }
+    f.write_str("}")
+}
+
+/// One entry: the key, and after a colon the value.
+#[cycle(text)]
+#[tactic(auto, using(crate::proofs::TextSteps::shown))]
+fn write_entry<W: Write>(
+    entry: Option<&ScalarValue>,
+    map: &MapDType,
+    f: &mut Formatter<W>,
+) -> fmt::Result
+    ensures { WritesOnOk W.write_str_gives f.old result
+        (entry_text (map_of map.now).key (map_of map.now).value
+        (raw_of (option_copied entry.entry))) f.new }
+{
+    match entry {
+        Some(ScalarValue::Tuple(parts)) => write_pair(parts, map, f),
+        _ => Ok(()),
+    }
+}
+
+/// The two parts of an entry.
+#[cycle(text)]
+#[tactic(auto, using(crate::proofs::TextSteps::shown))]
+fn write_pair<W: Write>(
+    parts: &[Option<ScalarValue>],
+    map: &MapDType,
+    f: &mut Formatter<W>,
+) -> fmt::Result
+    ensures { WritesOnOk W.write_str_gives f.old result
+        (entry_text (map_of map.now).key (map_of map.now).value
+        (raw_tuple (raws_of parts.now))) f.new }
+{
+    if parts.len() != 2 {
+        return Ok(());
+    }
+    write_part(parts[0].as_ref(), map.key_dtype(), f)?;
+    f.write_str(": ")?;
+    write_part(parts[1].as_ref(), map.value_dtype(), f)
+}
+
+/// The fields of a struct, in braces: each one's name, and after a colon its value.
+#[cycle(text)]
+fn write_fields<W: Write>(
+    items: &[Option<ScalarValue>],
+    fields: &StructFields,
+    f: &mut Formatter<W>,
+) -> fmt::Result
+    ensures { WritesOnOk W.write_str_gives f.old result (in_braces
+        (joined (codes ", ") (field_texts (fields_of fields.now).names
+        (types_from (fields_of fields.now).types) (raws_of items.now)))) f.new }
+{
+    f.write_str("{")?;
+    let named = items.iter().zip(fields.names().iter());
+    for (index, ((item, name), dtype)) in named.zip(fields.dtypes()).enumerate() {
+        f.write_str(leaves::before(index, ", "))?;
+        f.write_str(name.as_str())?;
+        f.write_str(": ")?;
+        write_part(item.as_ref(), dtype, f)?;
+    }
+    f.write_str("}")
+}
+
+/// The text of a valid value of a union. Of another type it writes nothing.
+#[cycle(text)]
+#[tactic(auto, using(crate::proofs::TextSteps::shown))]
+fn write_union<W: Write>(union: &UnionValue, dtype: &DType, f: &mut Formatter<W>) -> fmt::Result
+    ensures { WritesOnOk W.write_str_gives f.old result
+        (text_at (type_of dtype.now) (union_tree union.now)) f.new }
+{
+    match dtype {
+        DType::Union(variants, _) => write_child(union, variants, f),
+        _ => Ok(()),
+    }
+}
+
+/// The name of the variant that the id gives, and in parentheses the child.
+#[cycle(text)]
+#[tactic(auto, using(crate::proofs::TextSteps::shown))]
+fn write_child<W: Write>(
+    union: &UnionValue,
+    variants: &UnionVariants,
+    f: &mut Formatter<W>,
+) -> fmt::Result
+    ensures { WritesOnOk W.write_str_gives f.old result (child_text
+        (name_with union.now.type_id (variants_of variants.now).type_ids
+        (variants_of variants.now).names)
+        (type_with union.now.type_id (variants_of variants.now).type_ids
+        (types_from (variants_of variants.now).types))
+        (λ t. text_at (storage t) (raw_of (option_map (λ b. b.value) union.now.child)))) f.new }
+{
+    let name = name_of(variants, union.type_id);
+    let variant = variant_with(variants, union.type_id);
+    match (name, variant) {
+        (Some(name), Some(variant)) => {
+            f.write_str(name.as_str())?;
+            f.write_str("(")?;
+            write_part(union.child.as_deref(), variant, f)?;
+            f.write_str(")")
+        }
+        _ => Ok(()),
+    }
+}
+
+/// The name of the variant with this id, if there is one.
+fn name_of(variants: &UnionVariants, id: u8) -> Option<&FieldName>
+    ensures { option_map (λ name. name.now) result
+        ≡ name_with id (variants_of variants.now).type_ids (variants_of variants.now).names }
+{
+    match variants.tag_to_child_index(id) {
+        Some(index) => variants.names().get(index),
+        None => None,
+    }
+}
+
+/// The scalar in a variant, in parentheses.
+#[cycle(text)]
+fn write_inner<W: Write>(scalar: &Scalar, f: &mut Formatter<W>) -> fmt::Result
+    ensures { WritesOnOk W.write_str_gives f.old result
+        (between (codes "variant(") (codes ")")
+        (text_at (storage (scalar_type scalar.now)) (scalar_raw scalar.now))) f.new }
+{
+    f.write_str("variant(")?;
+    write_part(scalar.value.as_ref(), &scalar.dtype, f)?;
+    f.write_str(")")
+}
+
+/// The text of an optional raw value, whatever its type.
+#[cycle(raw_text)]
+fn write_raw_part<W: Write>(value: Option<&ScalarValue>, f: &mut Formatter<W>) -> fmt::Result
+    ensures { WritesOnOk W.write_str_gives f.old result
+        (raw_text_of (raw_of (option_copied value.entry))) f.new }
+{
+    match value {
+        Some(value) => write_raw(value, f),
+        None => f.write_str("null"),
+    }
+}
+
+/// The text of a raw value, whatever its type.
+#[cycle(raw_text)]
+#[tactic(auto, using(crate::proofs::TextSteps::shown))]
+fn write_raw<W: Write>(value: &ScalarValue, f: &mut Formatter<W>) -> fmt::Result
+    ensures { WritesOnOk W.write_str_gives f.old result (raw_text_of (value_tree value.now)) f.new }
+{
+    match value {
+        ScalarValue::Bool(truth) => f.write_str(leaves::truth(*truth)),
+        ScalarValue::Primitive(number) => number.fmt(f),
+        ScalarValue::Utf8(text) => leaves::write_quoted(text.as_str(), f),
+        ScalarValue::Binary(bytes) => leaves::write_shortened_bytes(bytes.as_slice(), f),
+        ScalarValue::Tuple(items) => write_raw_items(items, f),
+        ScalarValue::Union(union) => write_raw_union(union, f),
+        ScalarValue::Variant(scalar) => write_scalar(scalar, f),
+    }
+}
+
+/// The parts of a list, a struct or a map, in brackets.
+#[cycle(raw_text)]
+fn write_raw_items<W: Write>(items: &[Option<ScalarValue>], f: &mut Formatter<W>) -> fmt::Result
+    ensures { WritesOnOk W.write_str_gives f.old result
+        (in_brackets (joined (codes ", ") (raw_texts (raws_of items.now)))) f.new }
+{
+    f.write_str("[")?;
+    for (index, item) in items.iter().enumerate() {
+        f.write_str(leaves::before(index, ", "))?;
+        write_raw_part(item.as_ref(), f)?;
+    }
+    f.write_str("]")
+}
+
+/// The id of a union's value, and in parentheses the child.
+#[cycle(raw_text)]
+#[tactic(auto, using(crate::proofs::TextSteps::shown))]
+fn write_raw_union<W: Write>(union: &UnionValue, f: &mut Formatter<W>) -> fmt::Result
+    ensures { WritesOnOk W.write_str_gives f.old result (raw_text_of (union_tree union.now)) f.new }
+{
+    write!(f, "union@{}(", union.type_id)?;
+    write_raw_part(union.child.as_deref(), f)?;
+    f.write_str(")")
+}
+
+/// The text of a scalar: of a valid one by its type, of another its raw text.
+#[cycle(raw_text)]
+fn write_scalar<W: Write>(scalar: &Scalar, f: &mut Formatter<W>) -> fmt::Result
+    ensures { WritesOnOk W.write_str_gives f.old result
+        (text_of (scalar_type scalar.now) (scalar_raw scalar.now)) f.new }
+{
+    write_text(scalar.value.as_ref(), &scalar.dtype, f)
+}
+
+/// The text of an optional raw value of the type. Validity is looked at once, here, and no more in
+/// its parts.
+#[cycle(raw_text)]
+fn write_text<W: Write>(
+    value: Option<&ScalarValue>,
+    dtype: &DType,
+    f: &mut Formatter<W>,
+) -> fmt::Result
+    ensures { WritesOnOk W.write_str_gives f.old result
+        (text_of (type_of dtype.now) (raw_of (option_copied value.entry))) f.new }
+{
+    if Scalar::is_compatible(dtype, value) {
+        write_part(value, dtype, f)
+    } else {
+        write_raw_part(value, f)
+    }
+}
+
+/// Writes the raw text, which is the same whatever the type.
+///
+/// A text of more than ten characters shows its first five and its last five, a string of bytes
+/// likewise, and nothing is escaped. A variant shows the text of its scalar. Takes no memory.
+///
+/// Ports the `Display` of `ScalarValue`.
+impl Display for ScalarValue {
+    ghost output = { λ value. Some (raw_text_of (value_tree value)) };
+
+    fn fmt<W: Write>(&self, f: &mut Formatter<W>) -> fmt::Result {
+        write_raw(self, f)
+    }
+}
+
+/// Writes `null` for a null, the text by its type for another valid scalar, and the raw text for one
+/// that is not valid. Takes no memory.
+///
+/// Ports the `Display` of `Scalar`, which panics at some scalars that are not valid.
+impl Display for Scalar {
+    ghost output = { λ scalar. Some (text_of (scalar_type scalar) (scalar_raw scalar)) };
+
+    fn fmt<W: Write>(&self, f: &mut Formatter<W>) -> fmt::Result {
+        write_scalar(self, f)
+    }
+}
+
+/// Writes what the `Display` of `Scalar` writes. Takes no memory.
+impl Display for ScalarRef<'_> {
+    ghost output = { λ scalar. Some (text_of (ref_type scalar) (ref_raw scalar)) };
+
+    fn fmt<W: Write>(&self, f: &mut Formatter<W>) -> fmt::Result {
+        write_text(self.value(), self.dtype(), f)
+    }
+}

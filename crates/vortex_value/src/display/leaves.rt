@@ -1,0 +1,164 @@
+//! The texts of truth values, texts and strings of bytes.
+
+ghost use Rattle.std.specs.Prelude.{◌≡◌, ◌==◌, [], codes, drop, if◌then◌else◌, length, map, take};
+ghost use Rattle.std.specs.Fmt.{WritesOnOk};
+ghost use Rattle.std.specs.List.{flat_map};
+ghost use Rattle.std.specs.Str.{chars, encode_utf8_all};
+ghost use Rattle.vortex_value.specs.Texts.{escaped, escaped_char, hexadecimal, in_quotes, joined, shortened, truth_text, two_digits};
+
+use std::fmt::{self, Formatter, Write};
+
+/// How many items a shortened list shows at each of its ends. One of at most twice as many is shown
+/// whole.
+const SHOWN: usize = 5;
+
+pub(super) fn truth(truth: bool) -> &'static str
+    ensures { result.now ≡ truth_text truth }
+{
+    if truth { "true" } else { "false" }
+}
+
+/// What stands before the part at this place: the separator, but nothing before the first.
+pub(super) fn before(index: usize, separator: &'static str) -> &'static str
+    ensures { result.now ≡ (if index == 0 then [] else separator.now) }
+{
+    if index == 0 { "" } else { separator }
+}
+
+/// How many characters the text has.
+fn count_characters(text: &str) -> usize
+    ensures { result ≡ length (chars text.now) }
+{
+    text.chars().count()
+}
+
+/// The characters from this place on, as many as are shown at an end.
+fn write_shown<W: Write>(text: &str, from: usize, f: &mut Formatter<W>) -> fmt::Result
+    ensures { WritesOnOk W.write_str_gives f.old result
+        (encode_utf8_all (take 5 (drop from (chars text.now)))) f.new }
+{
+    for character in text.chars().skip(from).take(SHOWN) {
+        f.write_char(character)?;
+    }
+    Ok(())
+}
+
+/// The characters, of many only those at both ends.
+fn write_shortened<W: Write>(text: &str, f: &mut Formatter<W>) -> fmt::Result
+    ensures { WritesOnOk W.write_str_gives f.old result
+        (shortened encode_utf8_all (chars text.now)) f.new }
+{
+    let count = count_characters(text);
+    if count <= 2 * SHOWN {
+        return f.write_str(text);
+    }
+    write_shown(text, 0, f)?;
+    f.write_str("..")?;
+    write_shown(text, count - SHOWN, f)
+}
+
+/// The characters in quotes, of many only those at both ends, none escaped.
+pub(super) fn write_quoted<W: Write>(text: &str, f: &mut Formatter<W>) -> fmt::Result
+    ensures { WritesOnOk W.write_str_gives f.old result
+        (in_quotes (shortened encode_utf8_all (chars text.now))) f.new }
+{
+    f.write_str("\"")?;
+    write_shortened(text, f)?;
+    f.write_str("\"")
+}
+
+/// What stands in quotes for a character, by the escape table.
+#[tactic(auto, unfolding(crate::specs::Texts::escaped_char))]
+fn write_escaped_character<W: Write>(character: char, f: &mut Formatter<W>) -> fmt::Result
+    ensures { WritesOnOk W.write_str_gives f.old result (escaped_char character) f.new }
+{
+    match character {
+        '\\' => f.write_str("\\\\"),
+        '"' => f.write_str("\\\""),
+        '\n' => f.write_str("\\n"),
+        '\r' => f.write_str("\\r"),
+        '\t' => f.write_str("\\t"),
+        '\0'..' ' | '\x7f' => write!(f, "\\u{{{:x}}}", character as u32),
+        _ => f.write_char(character),
+    }
+}
+
+/// The characters, each by the escape table.
+fn write_characters<W: Write>(text: &str, f: &mut Formatter<W>) -> fmt::Result
+    ensures { WritesOnOk W.write_str_gives f.old result
+        (flat_map escaped_char (chars text.now)) f.new }
+{
+    for character in text.chars() {
+        write_escaped_character(character, f)?;
+    }
+    Ok(())
+}
+
+/// The characters in quotes, each by the escape table.
+pub(super) fn write_escaped<W: Write>(text: &str, f: &mut Formatter<W>) -> fmt::Result
+    ensures { WritesOnOk W.write_str_gives f.old result (escaped text.now) f.new }
+{
+    f.write_str("\"")?;
+    write_characters(text, f)?;
+    f.write_str("\"")
+}
+
+/// A byte as two digits.
+#[tactic(auto, using(crate::proofs::TextSteps::digits_of_byte))]
+fn write_two_digits<W: Write>(byte: u8, f: &mut Formatter<W>) -> fmt::Result
+    ensures { WritesOnOk W.write_str_gives f.old result (two_digits byte) f.new }
+{
+    write!(f, "{byte:02x}")
+}
+
+/// Each byte as two digits.
+fn write_digits<W: Write>(bytes: &[u8], f: &mut Formatter<W>) -> fmt::Result
+    ensures { WritesOnOk W.write_str_gives f.old result (flat_map two_digits bytes.now) f.new }
+{
+    for byte in bytes {
+        write_two_digits(*byte, f)?;
+    }
+    Ok(())
+}
+
+/// The bytes as two digits each, of many only those at both ends.
+pub(super) fn write_shortened_bytes<W: Write>(bytes: &[u8], f: &mut Formatter<W>) -> fmt::Result
+    ensures { WritesOnOk W.write_str_gives f.old result
+        (shortened (flat_map two_digits) bytes.now) f.new }
+{
+    if bytes.len() <= 2 * SHOWN {
+        return write_digits(bytes, f);
+    }
+    write_digits(&bytes[..SHOWN], f)?;
+    f.write_str("..")?;
+    write_digits(&bytes[bytes.len() - SHOWN..], f)
+}
+
+/// A byte in as many digits as it needs.
+fn write_hexadecimal<W: Write>(byte: u8, f: &mut Formatter<W>) -> fmt::Result
+    ensures { WritesOnOk W.write_str_gives f.old result (hexadecimal byte) f.new }
+{
+    write!(f, "{byte:x}")
+}
+
+/// The bytes in hexadecimal, a space between each two.
+fn write_spaced<W: Write>(bytes: &[u8], f: &mut Formatter<W>) -> fmt::Result
+    ensures { WritesOnOk W.write_str_gives f.old result
+        (joined (codes " ") (map hexadecimal bytes.now)) f.new }
+{
+    for (index, byte) in bytes.iter().enumerate() {
+        f.write_str(before(index, " "))?;
+        write_hexadecimal(*byte, f)?;
+    }
+    Ok(())
+}
+
+/// The bytes in quotes, in hexadecimal, a space between each two.
+pub(super) fn write_bytes<W: Write>(bytes: &[u8], f: &mut Formatter<W>) -> fmt::Result
+    ensures { WritesOnOk W.write_str_gives f.old result
+        (in_quotes (joined (codes " ") (map hexadecimal bytes.now))) f.new }
+{
+    f.write_str("\"")?;
+    write_spaced(bytes, f)?;
+    f.write_str("\"")
+}
