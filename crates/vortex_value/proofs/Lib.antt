@@ -5,7 +5,6 @@ pub mod CastCode
 pub mod CastLaws
 pub mod CastTable
 pub mod ContentLaws
-pub mod Filling
 pub mod GivenItems
 pub mod HashSteps
 pub mod ListMakers
