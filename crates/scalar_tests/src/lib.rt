@@ -4,9 +4,13 @@
 #![tactic(auto)]
 
 #[cfg(test)]
+mod borrowed;
+#[cfg(test)]
 mod casts;
 #[cfg(test)]
 mod fixtures;
+#[cfg(test)]
+mod hashers;
 #[cfg(test)]
 mod items;
 #[cfg(test)]

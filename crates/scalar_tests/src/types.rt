@@ -1,46 +1,19 @@
 //! Worked cases, and each call that takes memory once on its happy path.
 
-ghost use Rattle.std.specs.Prelude.{◌≡◌, ◌*◌, ◌%◌, ◌^◌, fold, bit_xor, length, IfOk};
+ghost use Rattle.std.specs.Prelude.{◌≡◌, length, IfOk};
 ghost use Rattle.vortex_dtype.specs.TypeOf.{variants_of};
 
-use std::hash::{Hash, Hasher};
+use crate::hashers::{Recorder, fed};
+use std::hash::Hasher;
 use std::process::Abort;
 use vortex_dtype::{
     BufferString, ByteBuffer, DType, ExtDType, FieldName, MapDType, NativeDType, Nullability,
     PType, Path, Step, StructFields, TypeCause, UnionVariants, VortexError,
 };
 
-/// A hasher that keeps a digest of all the bytes that it is fed, in their order: where two digests
-/// differ, so do the feeds.
-#[derive(Drop)]
-struct Recorder(u64);
-
-impl Hasher for Recorder {
-    ghost write = { λ s bytes. record { 0 = fold (λ h b. (bit_xor h b * 1099511628211) % 2 ^ 64) s.0 bytes } };
-
-    ghost finish = { λ s. s.0 };
-
-    fn finish(&self) -> u64 {
-        self.0
-    }
-
-    fn write(&mut self, bytes: &[u8]) {
-        for b in bytes {
-            self.0 = (self.0 ^ (*b as u64)).wrapping_mul(1099511628211);
-        }
-    }
-}
-
-/// What a value feeds.
-fn fed<T: Hash>(value: &T) -> u64 {
-    let mut recorder = Recorder(14695981039346656037);
-    value.hash(&mut recorder);
-    recorder.finish()
-}
-
 /// What a type feeds without nullability.
 fn fed_ignoring(dtype: &DType) -> u64 {
-    let mut recorder = Recorder(14695981039346656037);
+    let mut recorder = Recorder::new();
     dtype.hash_ignore_nullability(&mut recorder);
     recorder.finish()
 }

@@ -1,5 +1,5 @@
 use Rattle.std.proofs.Common.{◌≡◌, ◌*◌, ◌%◌, ◌^◌, take, fold, bit_xor}
-use Rattle.scalar_tests.proofs.types.RecorderHasher.write.Given as goal
+use Rattle.scalar_tests.proofs.hashers.RecorderHasher.write.Given as goal
 
 -- the digest of the bytes so far
 abbrev pub invariant-loop-b : goal.invariant-loop-b

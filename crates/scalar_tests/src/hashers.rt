@@ -1,0 +1,90 @@
+//! Hashers that tests feed: one that records, one that adds up and one that hears nothing.
+
+ghost use Rattle.std.specs.Prelude.{◌+◌, ◌*◌, ◌%◌, ◌^◌, bit_xor, fold};
+
+use std::hash::{Hash, Hasher};
+
+/// A hasher that keeps a digest of all the bytes that it is fed, in their order: where two digests
+/// differ, so do the feeds.
+#[derive(Drop)]
+pub struct Recorder(u64);
+
+impl Recorder {
+    /// The digest of no bytes.
+    pub fn new() -> Recorder {
+        Recorder(14695981039346656037)
+    }
+}
+
+impl Hasher for Recorder {
+    ghost write = { λ s bytes. record { 0 = fold (λ h b. (bit_xor h b * 1099511628211) % 2 ^ 64) s.0 bytes } };
+
+    ghost finish = { λ s. s.0 };
+
+    fn finish(&self) -> u64 {
+        self.0
+    }
+
+    fn write(&mut self, bytes: &[u8]) {
+        for b in bytes {
+            self.0 = (self.0 ^ (*b as u64)).wrapping_mul(1099511628211);
+        }
+    }
+}
+
+/// A hasher that adds all bytes up, so that their order is lost.
+#[derive(Drop)]
+struct Adder(u64);
+
+impl Hasher for Adder {
+    ghost write = { λ s bytes. record { 0 = fold (λ h b. (h + b) % 2 ^ 64) s.0 bytes } };
+
+    ghost finish = { λ s. s.0 };
+
+    fn finish(&self) -> u64 {
+        self.0
+    }
+
+    fn write(&mut self, bytes: &[u8]) {
+        for b in bytes {
+            self.0 = self.0.wrapping_add(*b as u64);
+        }
+    }
+}
+
+/// A hasher that hears nothing.
+#[derive(Drop)]
+struct Deaf;
+
+impl Hasher for Deaf {
+    ghost write = { λ s bytes. s };
+
+    ghost finish = { λ s. 0 };
+
+    fn finish(&self) -> u64 {
+        0
+    }
+
+    fn write(&mut self, _bytes: &[u8]) {}
+}
+
+/// What a value feeds.
+pub fn fed<T: Hash>(value: &T) -> u64 {
+    let mut hasher = Recorder::new();
+    value.hash(&mut hasher);
+    hasher.finish()
+}
+
+/// The sum of the bytes that a value feeds.
+pub fn fed_in_all<T: Hash>(value: &T) -> u64 {
+    let mut hasher = Adder(0);
+    value.hash(&mut hasher);
+    hasher.finish()
+}
+
+/// What a hasher that hears nothing says of a value.
+pub fn unheard<T: Hash>(value: &T) -> u64 {
+    let mut hasher = Deaf;
+    value.hash(&mut hasher);
+    hasher.finish()
+}
