@@ -31,9 +31,21 @@ fn write_flat(out: &mut Output, name: &str, nullability: Nullability) {
     write_nullability(out, nullability);
 }
 
+/// How many types may stand in one another: more than a line can hold.
+const ROOM: u32 = 1024;
+
 /// Writes a type.
-#[cycle(types)]
 pub fn write_type(out: &mut Output, dtype: &DType) {
+    write_within(out, dtype, ROOM);
+}
+
+/// Writes a type in which at most so many types stand in one another.
+#[cycle(types)]
+fn write_within(out: &mut Output, dtype: &DType, room: u32) {
+    if room == 0 {
+        return;
+    }
+    let room = room - 1;
     match dtype {
         DType::Null => out.word("null"),
         DType::Bool(n) => write_flat(out, "bool", *n),
@@ -43,51 +55,51 @@ pub fn write_type(out: &mut Output, dtype: &DType) {
         DType::Variant(n) => write_flat(out, "variant", *n),
         DType::List(element, n) => {
             out.word("list(");
-            write_type(out, element);
+            write_within(out, element, room);
             write_flat(out, ")", *n);
         }
         DType::FixedSizeList(element, size, n) => {
             out.word("fsl(");
-            write_type(out, element);
+            write_within(out, element, room);
             out.word(", ");
             out.number(u64::from(*size));
             write_flat(out, ")", *n);
         }
         DType::Map(map, n) => {
-            write_map(out, map);
+            write_map(out, map, room);
             write_nullability(out, *n);
         }
         DType::Struct(fields, n) => {
-            write_fields(out, fields);
+            write_fields(out, fields, room);
             write_nullability(out, *n);
         }
         DType::Union(variants, n) => {
-            write_variants(out, variants);
+            write_variants(out, variants, room);
             write_nullability(out, *n);
         }
         DType::Extension(extension) => {
             write_extension_head(out, extension);
-            write_type(out, extension.storage_dtype());
+            write_within(out, extension.storage_dtype(), room);
             out.byte(b')');
         }
     }
 }
 
 #[cycle(types)]
-fn write_map(out: &mut Output, map: &MapDType) {
+fn write_map(out: &mut Output, map: &MapDType, room: u32) {
     out.word("map(");
-    write_type(out, map.key_dtype());
+    write_within(out, map.key_dtype(), room);
     out.word(", ");
-    write_type(out, map.value_dtype());
+    write_within(out, map.value_dtype(), room);
     out.word(if map.keys_sorted() { ", sorted)" } else { ")" });
 }
 
 #[cycle(types)]
-fn write_fields(out: &mut Output, fields: &StructFields) {
+fn write_fields(out: &mut Output, fields: &StructFields, room: u32) {
     out.byte(b'{');
     for (place, dtype) in fields.dtypes().iter().enumerate() {
         write_field_head(out, fields, place);
-        write_type(out, dtype);
+        write_within(out, dtype, room);
     }
     out.byte(b'}');
 }
@@ -102,12 +114,12 @@ fn write_field_head(out: &mut Output, fields: &StructFields, place: usize) {
 }
 
 #[cycle(types)]
-fn write_variants(out: &mut Output, variants: &UnionVariants) {
+fn write_variants(out: &mut Output, variants: &UnionVariants, room: u32) {
     out.word("union(");
     for place in 0..variants.len() {
         write_variant_head(out, variants, place);
         if let Some(dtype) = variants.variant_by_index(place) {
-            write_type(out, dtype);
+            write_within(out, dtype, room);
         }
     }
     out.byte(b')');
