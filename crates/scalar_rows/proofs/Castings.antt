@@ -1,6 +1,6 @@
 -- What a cast of an integer says of the target's range.
 use Rattle.std.proofs.Common.{ℤ, refl}
-use Rattle.vortex_dtype.specs.TypeLevels.{type_of-Primitive}
+use Rattle.vortex_dtype.specs.Lemmas.TypeLevels.{type_of-Primitive}
 use Rattle.vortex_dtype.specs.TypeOf.{type_of}
 use Rattle.vortex_dtype.specs.TypeTree.{TypeTree, integer_type, IsFlat}
 use Rattle.vortex_dtype.specs.declared.error.VortexError.{VortexError}
@@ -8,11 +8,11 @@ use Rattle.vortex_dtype.specs.declared.error.VortexError.TheVariants.{CannotCast
 use Rattle.vortex_dtype.specs.declared.kinds.Nullability.TheVariants.{NonNullable}
 use Rattle.vortex_dtype.specs.declared.kinds.PType.{PType}
 use Rattle.vortex_dtype.specs.declared.types.DType.TheVariants.{Primitive}
-use Rattle.vortex_pvalue.specs.Kinds.{InRange}
+use Rattle.vortex_pvalue.specs.Numbers.{InRange}
 use Rattle.vortex_value.specs.Casts.{CanCast, RefusesCast, integers}
-use Rattle.vortex_value.specs.Content.{whole}
-use Rattle.vortex_value.specs.RawTree.{raw_integer}
-use Rattle.vortex_value.specs.Scalars.{IsMadeOf, scalar_content, scalar_type}
+use Rattle.vortex_value.specs.Values.Content.{whole}
+use Rattle.vortex_value.specs.Values.RawTree.{raw_integer}
+use Rattle.vortex_value.specs.Values.Scalars.{IsMadeOf, scalar_content, scalar_type}
 use Rattle.vortex_value.specs.declared.scalars.Scalar.{Scalar}
 
 -- a number of the target's range can be cast

@@ -8,7 +8,7 @@ use Rattle.std.specs.Str.Parse.{digits_value}
 use Rattle.vortex_dtype.specs.declared.kinds.PType.{PType}
 use Rattle.vortex_dtype.specs.declared.kinds.PType.TheVariants.{U8, U16, U32, U64, I8, I16, I32, I64}
 use Rattle.vortex_dtype.specs.Kinds.{kind_text}
-use Rattle.vortex_pvalue.specs.Kinds.{in_range}
+use Rattle.vortex_pvalue.specs.Numbers.{in_range}
 use Rattle.scalar_rows.specs.Lines.{words_of}
 
 abbrev pub all_kinds : List PType

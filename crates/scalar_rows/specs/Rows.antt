@@ -1,7 +1,7 @@
 -- What a text gives, line by line.
 use Rattle.std.specs.Prelude.{ℕ, List, [], ◌∷◌, ◌++◌, Option, None, Some, if◌then◌else◌, codes}
 use Rattle.std.specs.List.{flat_map}
-use Rattle.vortex_pvalue.specs.Kinds.{in_range}
+use Rattle.vortex_pvalue.specs.Numbers.{in_range}
 use Rattle.vortex_pvalue.specs.Whole.{number_text}
 use Rattle.scalar_rows.specs.Grammar.{Request, cast, request_in}
 use Rattle.scalar_rows.specs.Lines.{lines_of}

@@ -2,7 +2,7 @@
 
 ghost use Rattle.std.specs.Prelude.{◌≡◌, MatchOption};
 ghost use Rattle.vortex_pvalue.specs.Conversions.{IsNumber};
-ghost use Rattle.vortex_pvalue.specs.Kinds.{InRange};
+ghost use Rattle.vortex_pvalue.specs.Numbers.{InRange};
 ghost use Rattle.vortex_pvalue.specs.Whole.{whole_of};
 ghost use Rattle.scalar_rows.specs.Answers.{text_of};
 ghost use Rattle.scalar_rows.specs.Commands.{request_of};

@@ -25,7 +25,7 @@ pub enum RowsError {
     Memory,
 }
 
-/// Want of memory.
+/// Out of memory.
 impl From<AllocError> for RowsError {
     ghost from_gives = { λ _ fault. fault ≡ Memory };
 

@@ -2,7 +2,7 @@
 
 ghost use Rattle.vortex_dtype.specs.TypeOf.{type_of};
 ghost use Rattle.vortex_dtype.specs.TypeTree.{IsNullable};
-ghost use Rattle.vortex_value.specs.Scalars.{IsValid};
+ghost use Rattle.vortex_value.specs.Values.Scalars.{IsValid};
 
 use std::process::Abort;
 use vortex_dtype::Nullability::{NonNullable, Nullable};

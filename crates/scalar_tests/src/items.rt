@@ -3,7 +3,7 @@
 ghost use Rattle.std.specs.Prelude.{IfSome};
 ghost use Rattle.std.specs.Iterator.{at_most};
 ghost use Rattle.vortex_value.specs.Makers.{IsValidEntry};
-ghost use Rattle.vortex_value.specs.Scalars.{IsValid};
+ghost use Rattle.vortex_value.specs.Values.Scalars.{IsValid};
 
 use crate::fixtures::{I32, map, struct_of_two};
 use std::cell::Cell;

@@ -3,7 +3,7 @@
 ghost use Rattle.std.specs.Prelude.{IfOk};
 ghost use Rattle.std.specs.List.{All};
 ghost use Rattle.vortex_value.specs.Makers.{IsValidEntry};
-ghost use Rattle.vortex_value.specs.Scalars.{IsValid};
+ghost use Rattle.vortex_value.specs.Values.Scalars.{IsValid};
 
 use std::alloc::Global;
 use std::process::Abort;

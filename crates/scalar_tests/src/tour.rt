@@ -1,6 +1,6 @@
 //! The lines of the README's tour.
 
-ghost use Rattle.vortex_value.specs.Scalars.{IsValid};
+ghost use Rattle.vortex_value.specs.Values.Scalars.{IsValid};
 
 use std::alloc::Global;
 use vortex_dtype::{Breach, DType, Nullability, PType, Step, VortexError};

@@ -5,8 +5,8 @@ use Rattle.vortex_dtype.specs.declared.types.DType.{Struct, Union, the_lemmas}
 use Rattle.vortex_dtype.specs.declared.types.StructFields.{StructFields}
 use Rattle.vortex_dtype.specs.declared.types.UnionVariants.{UnionVariants}
 use Rattle.vortex_dtype.specs.Parts.{fields_in, variants_in}
-use Rattle.vortex_dtype.specs.TypeLaws.{fields_in-struct_type_of, variants_in-union_type_of}
-use Rattle.vortex_dtype.specs.TypeLevels.{type_of-Struct, type_of-Union}
+use Rattle.vortex_dtype.specs.Lemmas.TypeLaws.{fields_in-struct_type_of, variants_in-union_type_of}
+use Rattle.vortex_dtype.specs.Lemmas.TypeLevels.{type_of-Struct, type_of-Union}
 use Rattle.vortex_dtype.specs.TypeOf.{type_of, fields_of, variants_of}
 
 pub fields_in-Struct : (f : StructFields) (n : Nullability) → Some (fields_of f) ≡ fields_in (type_of (Struct f n))

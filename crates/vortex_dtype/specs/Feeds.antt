@@ -3,7 +3,7 @@ use Rattle.std.specs.Prelude.{ℕ, List, [], ◌++◌, Bool}
 use Rattle.std.specs.Hash as fed
 use Rattle.std.specs.Hash.{HashWrites}
 use Rattle.vortex_dtype.specs.TypeTree.{TypeTree, TypeTrees, null_type, bool_type, integer_type, utf8_type, binary_type, list_type, fixed_size_list_type, map_type, struct_type, union_type, variant_type, extension_type, no_types, type_then, trim, trim_all}
-use Rattle.vortex_dtype.specs.TypeOf.{ExtensionParts, MapParts, FieldParts, VariantParts, types_from}
+use Rattle.vortex_dtype.specs.TypeOf.{ExtensionParts, MapParts, FieldParts, VariantParts, as_type_trees}
 use Rattle.vortex_dtype.specs.TypeEquality.{nullability_code}
 use Rattle.vortex_dtype.specs.Kinds.{kind_index}
 use Rattle.vortex_dtype.specs.declared.kinds.Nullability.{Nullability}
@@ -66,11 +66,11 @@ map_feed exact m = tree_feed (trim exact m.key) ++ tree_feed (trim exact m.value
 
 -- what a struct type feeds; where `exact` is false, without nullability
 abbrev pub fields_feed : Bool → FieldParts → HashWrites
-fields_feed exact f = names_feed f.names ++ trees_feed (trim_all exact (types_from f.types))
+fields_feed exact f = names_feed f.names ++ trees_feed (trim_all exact (as_type_trees f.types))
 
 -- what a union type feeds; where `exact` is false, without nullability
 abbrev pub variants_feed : Bool → VariantParts → HashWrites
-variants_feed exact v = names_feed v.names ++ trees_feed (trim_all exact (types_from v.types)) ++ bytes_feed v.type_ids
+variants_feed exact v = names_feed v.names ++ trees_feed (trim_all exact (as_type_trees v.types)) ++ bytes_feed v.type_ids
 
 -- what an extension type feeds; where `exact` is false, without nullability
 abbrev pub ext_feed : Bool → ExtensionParts → HashWrites

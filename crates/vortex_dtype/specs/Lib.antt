@@ -1,13 +1,11 @@
+pub mod BytesAsText
 pub mod Feeds
 pub mod Kinds
 pub mod Laws
+pub mod Lemmas
 pub mod Names
 pub mod Parts
 pub mod Refusals
-pub mod Texts
 pub mod TypeEquality
-pub mod TypeLaws
-pub mod TypeLevels
 pub mod TypeOf
-pub mod TypeSize
 pub mod TypeTree

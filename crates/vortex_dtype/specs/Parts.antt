@@ -17,9 +17,9 @@ abbrev pub IsProjection : FieldParts → List (List ℕ) → FieldParts → Type
 IsProjection f names g = (g.names ≡ names) × (map (type_named f) names ≡ map Some g.types)
 
 -- the types that a tree holds, as a list
-abbrev pub types_in : TypeTrees → List TypeTree
-types_in no_types = []
-types_in (type_then t ts) = t ∷ types_in ts
+abbrev pub listed_types : TypeTrees → List TypeTree
+listed_types no_types = []
+listed_types (type_then t ts) = t ∷ listed_types ts
 
 abbrev pub is_utf8_type : TypeTree → Bool
 is_utf8_type (utf8_type n) = true
@@ -54,12 +54,12 @@ map_in _ = None
 
 -- what a struct type holds
 abbrev pub fields_in : TypeTree → Option FieldParts
-fields_in (struct_type names ts n) = Some (record { names = names; types = types_in ts })
+fields_in (struct_type names ts n) = Some (record { names = names; types = listed_types ts })
 fields_in _ = None
 
 -- what a union type holds
 abbrev pub variants_in : TypeTree → Option VariantParts
-variants_in (union_type names ts ids n) = Some (record { names = names; types = types_in ts; type_ids = ids })
+variants_in (union_type names ts ids n) = Some (record { names = names; types = listed_types ts; type_ids = ids })
 variants_in _ = None
 
 -- what an extension type holds

@@ -5,7 +5,7 @@ use Rattle.std.specs.Cmp.Lexicographic.{pointwise}
 use Rattle.std.specs.Str.{bytes_eq}
 use Rattle.vortex_dtype.specs.Kinds.{same_kind}
 use Rattle.vortex_dtype.specs.TypeTree.{TypeTree, TypeTrees, null_type, bool_type, integer_type, utf8_type, binary_type, list_type, fixed_size_list_type, map_type, struct_type, union_type, variant_type, extension_type, no_types, type_then, trim, trim_all}
-use Rattle.vortex_dtype.specs.TypeOf.{ExtensionParts, MapParts, FieldParts, VariantParts, types_from}
+use Rattle.vortex_dtype.specs.TypeOf.{ExtensionParts, MapParts, FieldParts, VariantParts, as_type_trees}
 use Rattle.vortex_dtype.specs.declared.kinds.Nullability.{Nullability}
 use Rattle.vortex_dtype.specs.declared.kinds.Nullability.TheVariants.{NonNullable, Nullable}
 
@@ -50,11 +50,11 @@ map_eq exact a b = tree_eq (trim exact a.key) (trim exact b.key) && tree_eq (tri
 
 -- the two structs hold the same; where `exact` is false, up to nullability
 abbrev pub fields_eq : Bool → FieldParts → FieldParts → Bool
-fields_eq exact a b = names_eq a.names b.names && trees_eq (trim_all exact (types_from a.types)) (trim_all exact (types_from b.types))
+fields_eq exact a b = names_eq a.names b.names && trees_eq (trim_all exact (as_type_trees a.types)) (trim_all exact (as_type_trees b.types))
 
 -- the two unions hold the same; where `exact` is false, up to nullability
 abbrev pub variants_eq : Bool → VariantParts → VariantParts → Bool
-variants_eq exact a b = names_eq a.names b.names && trees_eq (trim_all exact (types_from a.types)) (trim_all exact (types_from b.types)) && bytes_eq a.type_ids b.type_ids
+variants_eq exact a b = names_eq a.names b.names && trees_eq (trim_all exact (as_type_trees a.types)) (trim_all exact (as_type_trees b.types)) && bytes_eq a.type_ids b.type_ids
 
 -- the two extensions hold the same; where `exact` is false, up to nullability
 abbrev pub ext_eq : Bool → ExtensionParts → ExtensionParts → Bool

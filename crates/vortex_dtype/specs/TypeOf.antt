@@ -33,9 +33,9 @@ pub record ExtensionParts : Type 0 where
   pub storage : TypeTree
 
 -- a list of trees as the list that a tree holds
-abbrev pub types_from : List TypeTree → TypeTrees
-types_from [] = no_types
-types_from (t ∷ ts) = type_then t (types_from ts)
+abbrev pub as_type_trees : List TypeTree → TypeTrees
+as_type_trees [] = no_types
+as_type_trees (t ∷ ts) = type_then t (as_type_trees ts)
 
 -- the map type that holds this
 abbrev pub map_type_of : MapParts → Nullability → TypeTree
@@ -43,11 +43,11 @@ map_type_of m n = map_type m.key m.value m.keys_sorted n
 
 -- the struct type that holds this
 abbrev pub struct_type_of : FieldParts → Nullability → TypeTree
-struct_type_of f n = struct_type f.names (types_from f.types) n
+struct_type_of f n = struct_type f.names (as_type_trees f.types) n
 
 -- the union type that holds this
 abbrev pub union_type_of : VariantParts → Nullability → TypeTree
-union_type_of v n = union_type v.names (types_from v.types) v.type_ids n
+union_type_of v n = union_type v.names (as_type_trees v.types) v.type_ids n
 
 -- the extension type that holds this
 abbrev pub extension_type_of : ExtensionParts → TypeTree
@@ -105,5 +105,5 @@ abbrev pub variants_of : UnionVariants → VariantParts
 variants_of = fold-UnionVariants TypeTree ExtensionParts MapParts FieldParts VariantParts type_step extension_step map_step fields_step variants_step
 
 -- the trees of several types
-abbrev pub types_of : List DType → TypeTrees
-types_of dtypes = types_from (list_map type_of dtypes)
+abbrev pub dtype_trees : List DType → TypeTrees
+dtype_trees dtypes = as_type_trees (list_map type_of dtypes)

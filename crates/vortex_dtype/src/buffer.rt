@@ -276,7 +276,7 @@ impl BufferString {
 impl TryFrom<ByteBuffer> for BufferString {
     type Error = VortexError;
 
-    ghost use Rattle.vortex_dtype.specs.Texts.{IsTextOf};
+    ghost use Rattle.vortex_dtype.specs.BytesAsText.{IsTextOf};
 
     ghost try_from_gives = { IsTextOf };
 

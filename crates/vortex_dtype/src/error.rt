@@ -120,7 +120,7 @@ impl Eq for Path {
 /// Stands for `vortex_error::VortexError`, whose refusals are messages.
 #[derive(Debug, Drop, PartialEq, Eq, Error)]
 pub enum VortexError {
-    /// A growth was refused.
+    /// An allocation was refused.
     #[error("out of memory")]
     OutOfMemory,
     /// The value is not valid for the type: the first breach in reading order, and the path to it.
@@ -170,7 +170,7 @@ pub enum VortexError {
     BadType { cause: TypeCause },
 }
 
-/// Want of memory, whatever was asked for.
+/// Out of memory, whatever was asked for.
 impl From<AllocError> for VortexError {
     ghost from_gives = { λ _ e. e ≡ OutOfMemory };
 
@@ -179,7 +179,7 @@ impl From<AllocError> for VortexError {
     }
 }
 
-/// Want of memory; what was to be kept is dropped.
+/// Out of memory; what was to be kept is dropped.
 impl<T: Drop> From<AllocFailed<T>> for VortexError {
     ghost from_gives = { λ _ e. e ≡ OutOfMemory };
 

@@ -1,3 +1,3 @@
-pub mod LowNumbers
+pub mod WrappedNumbers
 pub mod Multiples
 pub mod Ranges

@@ -4,7 +4,7 @@ use Rattle.std.specs.declared.result.Result.{Result}
 use Rattle.vortex_dtype.specs.declared.error.VortexError.{VortexError}
 use Rattle.vortex_dtype.specs.declared.error.VortexError.TheVariants.{OutOfRange}
 use Rattle.vortex_dtype.specs.declared.kinds.PType.{PType}
-use Rattle.vortex_pvalue.specs.Kinds.{InRange}
+use Rattle.vortex_pvalue.specs.Numbers.{InRange}
 use Rattle.vortex_pvalue.specs.Whole.{whole_of, kind_of}
 use Rattle.vortex_pvalue.specs.declared.pvalues.PValue.{PValue}
 

@@ -5,7 +5,7 @@ use Rattle.std.specs.declared.cmp.Ordering.TheVariants.{Equal}
 use Rattle.vortex_dtype.specs.Kinds.{byte_width_of}
 use Rattle.vortex_dtype.specs.declared.kinds.PType.{PType}
 use Rattle.vortex_dtype.specs.declared.kinds.PType.TheVariants.{U8, U16, U32, U64, I8, I16, I32, I64}
-use Rattle.vortex_pvalue.specs.Kinds.{InRange, in_range, IsLow, low, least_of, greatest_of}
+use Rattle.vortex_pvalue.specs.Numbers.{InRange, in_range, IsWrapped, wrapped, least_of, greatest_of}
 use Rattle.vortex_pvalue.specs.Whole.{whole_of}
 use Rattle.vortex_pvalue.specs.declared.pvalues.PValue.{PValue}
 
@@ -28,17 +28,17 @@ TestIsRange = (k : PType) (z : ℤ) → (in_range k z ≡ true) ↔ InRange k z
 abbrev pub RangeIsInterval : Type 0
 RangeIsInterval = (k : PType) (z : ℤ) → InRange k z ↔ ((least_of k ≤ℤ z) × (z ≤ℤ greatest_of k))
 
--- each number has a low number in each kind, and `low` names it
-abbrev pub LowExists : Type 0
-LowExists = (k : PType) (z : ℤ) → IsLow k z (low k z)
+-- each number has a wrapped number in each kind, and `wrapped` names it
+abbrev pub WrappedExists : Type 0
+WrappedExists = (k : PType) (z : ℤ) → IsWrapped k z (wrapped k z)
 
 -- and it has only that one
-abbrev pub LowIsUnique : Type 0
-LowIsUnique = (k : PType) (z r : ℤ) → IsLow k z r → r ≡ low k z
+abbrev pub WrappedIsUnique : Type 0
+WrappedIsUnique = (k : PType) (z r : ℤ) → IsWrapped k z r → r ≡ wrapped k z
 
 -- a number of a kind, reinterpreted in a kind of the same width and back, is itself
 abbrev pub ReinterpretsBack : Type 0
-ReinterpretsBack = (k l : PType) (z : ℤ) → byte_width_of k ≡ byte_width_of l → InRange k z → low k (low l z) ≡ z
+ReinterpretsBack = (k l : PType) (z : ℤ) → byte_width_of k ≡ byte_width_of l → InRange k z → wrapped k (wrapped l z) ≡ z
 
 -- values are equal exactly where their numbers are, whatever their kinds
 abbrev pub EqualsByNumber : (PValue → PValue → Bool) → Type 0

@@ -6,7 +6,7 @@ use Rattle.std.proofs.lemmas.Bool.Decides.{Decides-ltb}
 use Rattle.vortex_dtype.specs.declared.kinds.PType.{PType}
 use Rattle.vortex_dtype.specs.declared.kinds.PType.TheVariants.{U8, U16, U32, U64, I8, I16, I32, I64}
 use Rattle.vortex_pvalue.specs.KindLaws.{TestIsRange}
-use Rattle.vortex_pvalue.specs.Kinds.{InRange, in_range, in_unsigned, in_signed}
+use Rattle.vortex_pvalue.specs.Numbers.{InRange, in_range, in_unsigned, in_signed}
 use mir.Val.{hbits}
 
 -- the test of an unsigned kind of so many bits

@@ -1,6 +1,6 @@
 //! The laws of the kinds' numbers, and of equality, order and hash. They do nothing when they run.
 
-ghost use Rattle.vortex_pvalue.specs.KindLaws.{TestIsRange, RangeIsInterval, LowExists, LowIsUnique, ReinterpretsBack, EqualsByNumber, AgreesWithOrder, AgreesWithHash};
+ghost use Rattle.vortex_pvalue.specs.KindLaws.{TestIsRange, RangeIsInterval, WrappedExists, WrappedIsUnique, ReinterpretsBack, EqualsByNumber, AgreesWithOrder, AgreesWithHash};
 ghost use Rattle.std.specs.Cmp.{IsEquivalence};
 
 use crate::pvalues::PValue;
@@ -18,9 +18,9 @@ pub fn range_is_interval()
 
 /// In each kind there is one number that differs from a given one by a multiple of 2 to the power
 /// of the kind's bits.
-pub fn one_low_number()
-    ensures exists { LowExists }
-    ensures unique { LowIsUnique }
+pub fn one_wrapped_number()
+    ensures exists { WrappedExists }
+    ensures unique { WrappedIsUnique }
 {}
 
 /// A number of a kind, reinterpreted in a kind of the same width and back, is itself.

@@ -2,7 +2,7 @@
 
 ghost use Rattle.std.specs.Prelude.{◌≡◌, ◌↔◌, ℤ, IfSome, IfNone};
 ghost use Rattle.vortex_dtype.specs.declared.kinds.PType.{PType};
-ghost use Rattle.vortex_pvalue.specs.Kinds.{InRange};
+ghost use Rattle.vortex_pvalue.specs.Numbers.{InRange};
 ghost use Rattle.vortex_pvalue.specs.Whole.{whole_of, kind_of};
 
 use crate::pvalues::PValue;

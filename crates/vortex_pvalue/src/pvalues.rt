@@ -10,7 +10,7 @@ ghost use Rattle.vortex_dtype.specs.Kinds.{byte_width_of};
 ghost use Rattle.vortex_pvalue.specs.Bytes.{bytes_of};
 ghost use Rattle.vortex_pvalue.specs.Conversions.{IsNumber};
 ghost use Rattle.vortex_pvalue.specs.KindLaws.{other_sign};
-ghost use Rattle.vortex_pvalue.specs.Kinds.{InRange, least_of, greatest_of, low};
+ghost use Rattle.vortex_pvalue.specs.Numbers.{InRange, least_of, greatest_of, wrapped};
 ghost use Rattle.vortex_pvalue.specs.Whole.{whole_of, kind_of, pvalue_text};
 
 use crate::natives::NativePType;
@@ -283,7 +283,7 @@ impl PValue {
     pub fn reinterpret_cast(&self, ptype: PType) -> PValue
         requires { byte_width_of ptype ≡ byte_width_of (kind_of self.now) }
         ensures kind { kind_of result ≡ ptype }
-        ensures low { whole_of result ≡ low ptype (whole_of self.now) }
+        ensures wrapped { whole_of result ≡ wrapped ptype (whole_of self.now) }
     {
         if self.ptype() == ptype {
             *self
@@ -295,7 +295,7 @@ impl PValue {
     /// The value of the same width and the other sign that has the same bits.
     fn with_other_sign(&self) -> PValue
         ensures kind { kind_of result ≡ other_sign (kind_of self.now) }
-        ensures low { whole_of result ≡ low (other_sign (kind_of self.now)) (whole_of self.now) }
+        ensures wrapped { whole_of result ≡ wrapped (other_sign (kind_of self.now)) (whole_of self.now) }
     {
         match self {
             PValue::U8(n) => PValue::I8(n.cast_signed()),

@@ -5,8 +5,8 @@ use Rattle.vortex_dtype.specs.TypeTree.{TypeTree, null_type, bool_type, integer_
 use Rattle.vortex_dtype.specs.declared.kinds.Nullability.{Nullability}
 use Rattle.vortex_value.specs.Casts.{IsNull, IsInteger, Wraps, Sorts, EachPlace, EachEntry, ByElement, ByEntry, ByField, Row, same_type, a_null, into_extension, integers, lists, maps, structs, from_extension, Allows, AllowsFields}
 use Rattle.vortex_value.specs.Chains.{Steps, last_of}
-use Rattle.vortex_value.specs.Content.{Content, null, truth, whole, text, string, sequence, tagged, typed, Contents, no_contents, content_then, content, contents}
-use Rattle.vortex_value.specs.RawTree.{RawTree, absent, raw_bool, raw_integer, raw_text, raw_bytes, raw_tuple, raw_union, raw_variant, RawTrees, no_raws, raw_then}
+use Rattle.vortex_value.specs.Values.Content.{Content, null, truth, whole, text, string, sequence, tagged, typed, Contents, no_contents, content_then, content, contents}
+use Rattle.vortex_value.specs.Values.RawTree.{RawTree, absent, raw_bool, raw_integer, raw_text, raw_bytes, raw_tuple, raw_union, raw_variant, RawTrees, no_raws, raw_then}
 use Rattle.vortex_value.specs.Validity.{EachValid, EntriesValid, FieldsValid, Valid}
 
 abbrev pub IsBoolType : TypeTree → Type 0

@@ -2,22 +2,22 @@
 use Rattle.std.proofs.Common.{◌≡◌, ◌≢◌, ℕ, suc, ◌<◌, ◌⊎◌, inl, inr, true, false, List, [], ◌∷◌, ◌++◌, length, get_or, drop, drop-cons, Option, Some, None, Result, Ok, Err, refl, sym, ap, ◌∙◌, arith, rules}
 use Rattle.std.proofs.lemmas.Bool.Decides.{Decides-eqb, Decides-like}
 use Rattle.std.specs.Bool.{Decides}
-use Rattle.vortex_dtype.specs.TypeLevels.{type_of-List, type_of-FixedSizeList, type_of-Map, type_of-Struct, type_of-Extension}
-use Rattle.vortex_dtype.specs.TypeOf.{MapParts, type_of, types_of}
+use Rattle.vortex_dtype.specs.Lemmas.TypeLevels.{type_of-List, type_of-FixedSizeList, type_of-Map, type_of-Struct, type_of-Extension}
+use Rattle.vortex_dtype.specs.TypeOf.{MapParts, type_of, dtype_trees}
 use Rattle.vortex_dtype.specs.declared.error.VortexError.{VortexError}
 use Rattle.vortex_dtype.specs.declared.error.VortexError.TheVariants.{CannotCast, OutOfMemory}
 use Rattle.vortex_dtype.specs.TypeTree.{TypeTree, null_type, bool_type, integer_type, extension_type, IsFlat, storage}
 use Rattle.vortex_dtype.specs.declared.types.DType.{DType}
 use Rattle.vortex_value.specs.Breaches.{breaches}
 use Rattle.vortex_value.specs.Casts.{IsExtension}
-use Rattle.vortex_value.specs.CastSteps.{Makes, accepts, bare_to, both, cast_to, entry_to, fields_to, pair_to, whole_to}
-use Rattle.vortex_value.specs.Parts.{TakesNoMemory}
-use Rattle.vortex_value.specs.RawTree.{RawTree, absent, raw_bool, raw_integer, raw_tuple, RawTrees, no_raws, is_absent}
-use Rattle.vortex_value.specs.RawOf.{raw_of, raws_of, value_tree}
+use Rattle.vortex_value.specs.Steps.CastSteps.{Makes, accepts, bare_to, both, cast_to, entry_to, fields_to, pair_to, whole_to}
+use Rattle.vortex_value.specs.Values.RawKinds.{TakesNoMemory}
+use Rattle.vortex_value.specs.Values.RawTree.{RawTree, absent, raw_bool, raw_integer, raw_tuple, RawTrees, no_raws, is_absent}
+use Rattle.vortex_value.specs.Values.RawOf.{raw_of, value_trees, value_tree}
 use Rattle.vortex_value.specs.Validity.{Valid}
 use Rattle.vortex_value.specs.declared.values.ScalarValue.{ScalarValue, the_lemmas}
 use Rattle.vortex_value.proofs.ValidityLaws.{valid_exactly_without_breach}
-use Rattle.vortex_value.proofs.ValueSteps.{value_tree-Tuple, count-raws_of}
+use Rattle.vortex_value.proofs.ValueSteps.{value_tree-Tuple, count-value_trees}
 
 empty : {A : Type 0} (xs : List A) → length xs ≡ 0 → xs ≡ []
 empty [] h = refl
@@ -56,7 +56,7 @@ pub after-none : (vs : List (Option ScalarValue)) → after vs None ≡ None
 after-none [] = refl
 after-none (v ∷ vs) = rw (after-none vs)
 
-pub after-all : (vs : List (Option ScalarValue)) → after vs (Some no_raws) ≡ Some (raws_of vs)
+pub after-all : (vs : List (Option ScalarValue)) → after vs (Some no_raws) ≡ Some (value_trees vs)
 after-all [] = refl
 after-all (v ∷ vs) = rw (after-all vs)
 
@@ -78,7 +78,7 @@ pub none_more : (vs : List (Option ScalarValue)) (all here rest : Option RawTree
 none_more vs all here rest made a b m = a ∙ ap (after vs) (b ∙ ap (λ o. both o rest) m) ∙ after-none vs
 
 -- at the end the parts that are done are all
-pub all_done : (vs : List (Option ScalarValue)) (all here : Option RawTrees) → all ≡ after vs here → here ≡ Some no_raws → all ≡ Some (raws_of vs)
+pub all_done : (vs : List (Option ScalarValue)) (all here : Option RawTrees) → all ≡ after vs here → here ≡ Some no_raws → all ≡ Some (value_trees vs)
 all_done vs all here a e = a ∙ ap (after vs) e ∙ after-all vs
 
 -- the refusal of a part, passed on
@@ -99,31 +99,31 @@ no_value (Some v) = refl
 
 -- an entry of two parts, and one of another number
 pub entry_at : (vs : List (Option ScalarValue)) (x y : Option ScalarValue) (s t : MapParts) → length vs ≡ 2 → x ≡ get_or vs 0 x → y ≡ get_or vs 1 y
-    → entry_to (raw_tuple (raws_of vs)) s t ≡ pair_to (cast_to (raw_of x) s.key t.key) (cast_to (raw_of y) s.value t.value)
+    → entry_to (raw_tuple (value_trees vs)) s t ≡ pair_to (cast_to (raw_of x) s.key t.key) (cast_to (raw_of y) s.value t.value)
 entry_at (a ∷ b ∷ []) x y s t two p q = rw (p, q) refl
 entry_at [] x y s t two p q = absurd (omega arith)
 entry_at (a ∷ []) x y s t two p q = absurd (omega arith)
 entry_at (a ∷ b ∷ c ∷ vs) x y s t two p q = absurd (omega arith)
 
-pub no_entry : (vs : List (Option ScalarValue)) (s t : MapParts) → length vs ≢ 2 → entry_to (raw_tuple (raws_of vs)) s t ≡ None
+pub no_entry : (vs : List (Option ScalarValue)) (s t : MapParts) → length vs ≢ 2 → entry_to (raw_tuple (value_trees vs)) s t ≡ None
 no_entry [] s t other = refl
 no_entry (a ∷ []) s t other = refl
 no_entry (a ∷ b ∷ []) s t other = absurd (other refl)
 no_entry (a ∷ b ∷ c ∷ vs) s t other = refl
 
 -- fields and types of other numbers
-pub no_fields : (vs : List (Option ScalarValue)) (ss ts : List DType) → ¬ ((length vs ≡ length ss) × (length ss ≡ length ts)) → fields_to (raws_of vs) (types_of ss) (types_of ts) ≡ None
+pub no_fields : (vs : List (Option ScalarValue)) (ss ts : List DType) → ¬ ((length vs ≡ length ss) × (length ss ≡ length ts)) → fields_to (value_trees vs) (dtype_trees ss) (dtype_trees ts) ≡ None
 no_fields [] [] [] other = absurd (other (refl, refl))
 no_fields (v ∷ vs) (s ∷ ss) (t ∷ ts) other = ap (both (cast_to (raw_of v) (type_of s) (type_of t))) (no_fields vs ss ts (λ h. other (ap suc h.0, ap suc h.1))) ∙ no_rest (cast_to (raw_of v) (type_of s) (type_of t))
 no_fields _ _ _ other = refl
 
 -- the first of the fields, and the rest
 pub fields_at : (vs ws : List (Option ScalarValue)) (ss rs ts us : List DType) (v : Option ScalarValue) (s t : DType) → vs ≡ v ∷ ws → ss ≡ s ∷ rs → ts ≡ t ∷ us
-    → fields_to (raws_of vs) (types_of ss) (types_of ts) ≡ both (cast_to (raw_of v) (type_of s) (type_of t)) (fields_to (raws_of ws) (types_of rs) (types_of us))
+    → fields_to (value_trees vs) (dtype_trees ss) (dtype_trees ts) ≡ both (cast_to (raw_of v) (type_of s) (type_of t)) (fields_to (value_trees ws) (dtype_trees rs) (dtype_trees us))
 fields_at vs ws ss rs ts us v s t p q r = rw (p, q, r) refl
 
 -- no fields left
-pub fields_end : (vs : List (Option ScalarValue)) (ss ts : List DType) → length vs ≡ length ss → length ss ≡ length ts → length vs ≡ 0 → fields_to (raws_of vs) (types_of ss) (types_of ts) ≡ Some no_raws
+pub fields_end : (vs : List (Option ScalarValue)) (ss ts : List DType) → length vs ≡ length ss → length ss ≡ length ts → length vs ≡ 0 → fields_to (value_trees vs) (dtype_trees ss) (dtype_trees ts) ≡ Some no_raws
 fields_end [] [] [] p q h = refl
 fields_end (v ∷ vs) ss ts p q h = absurd (omega arith)
 fields_end [] (s ∷ ss) ts p q h = absurd (omega arith)
@@ -141,4 +141,4 @@ below bare v s t there plain = refl
 pub cast_below : (v : ScalarValue) (s t : TypeTree) → ¬ (IsExtension s) → cast_to (value_tree v) s t ≡ bare_to (value_tree v) s (storage t)
 cast_below v s t plain = below (λ a b. bare_to (value_tree v) a b) (value_tree v) s t (not_absent v) plain
 
-pub ruleset shown = (type_of-List, type_of-FixedSizeList, type_of-Map, type_of-Struct, type_of-Extension, value_tree-Tuple, count-raws_of, flat_accepts, flat_storage, after-none, after-all, after-append)
+pub ruleset shown = (type_of-List, type_of-FixedSizeList, type_of-Map, type_of-Struct, type_of-Extension, value_tree-Tuple, count-value_trees, flat_accepts, flat_storage, after-none, after-all, after-append)

@@ -2,14 +2,14 @@
 use Rattle.std.proofs.Common.{◌≡◌, ◌&&◌, true, ◌∷◌, refl, sym, ap, ◌∙◌, subst}
 use Rattle.vortex_dtype.specs.TypeTree.{TypeTree, null_type, extension_type, Same, IsNullable, as_nullable, storage}
 use Rattle.vortex_value.specs.Casts.{same_type, Allows, IsCast}
-use Rattle.vortex_value.specs.CastLaws.{CallsAreChains, CastsKeepScalars, CastsKeepValues, ChainsAgree, IntoNullableAndBack, ThereAndBack}
+use Rattle.vortex_value.specs.Laws.CastLaws.{CallsAreChains, CastsKeepScalars, CastsKeepValues, ChainsAgree, IntoNullableAndBack, ThereAndBack}
 use Rattle.vortex_value.specs.Chains.{last_of, Steps}
-use Rattle.vortex_value.specs.Content.{Content, content}
+use Rattle.vortex_value.specs.Values.Content.{Content, content}
 use Rattle.vortex_value.specs.Equality.{equal}
 use Rattle.vortex_value.specs.Equality as equality
-use Rattle.vortex_value.specs.EqualityLaws.{same_type-Decides}
-use Rattle.vortex_value.specs.RawTree.{RawTree, absent}
-use Rattle.vortex_value.specs.Scalars.{scalar_content, scalar_order, scalar_raw, scalar_type}
+use Rattle.vortex_value.specs.Lemmas.EqualityLaws.{same_type-Decides}
+use Rattle.vortex_value.specs.Values.RawTree.{RawTree, absent}
+use Rattle.vortex_value.specs.Values.Scalars.{scalar_content, scalar_order, scalar_raw, scalar_type}
 use Rattle.vortex_value.specs.Validity.{Valid}
 use Rattle.vortex_value.proofs.Uniqueness.{one_value}
 

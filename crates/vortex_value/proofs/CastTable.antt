@@ -10,15 +10,15 @@ use Rattle.vortex_dtype.specs.declared.error.VortexError.TheVariants.{CannotCast
 use Rattle.vortex_dtype.specs.declared.kinds.Nullability.{Nullability}
 use Rattle.vortex_dtype.specs.declared.kinds.Nullability.TheVariants.{NonNullable, Nullable}
 use Rattle.vortex_dtype.specs.declared.kinds.PType.{PType}
-use Rattle.vortex_pvalue.specs.Kinds.{in_range}
+use Rattle.vortex_pvalue.specs.Numbers.{in_range}
 use Rattle.vortex_pvalue.specs.RangeLaws.{in_range_exactly}
-use Rattle.vortex_value.specs.CastSteps.{pair, accepts, bare_to, both, cast_to, each_to, entries_to, fields_to, kept, leaves, map_to, number_to, pair_to, sorts, takes_null, tuple_to, whole_to}
+use Rattle.vortex_value.specs.Steps.CastSteps.{pair, accepts, bare_to, both, cast_to, each_to, entries_to, fields_to, kept, leaves, map_to, number_to, pair_to, sorts, takes_null, tuple_to, whole_to}
 use Rattle.vortex_value.specs.Casts.{Allows, AllowsFields, CanCast, EachEntry, EachPlace, IsCast, IsExtension, IsInteger, IsNull, RefusesCast, Row, Sorts, Wraps, same_type, a_null, into_extension, integers, lists, maps, structs, from_extension}
-use Rattle.vortex_value.specs.Content.{Content, null, sequence, Contents, no_contents, content_then, content, contents}
+use Rattle.vortex_value.specs.Values.Content.{Content, null, sequence, Contents, no_contents, content_then, content, contents}
 use Rattle.vortex_value.specs.Equality as equality
-use Rattle.vortex_value.specs.EqualityLaws.{same_type-Decides}
-use Rattle.vortex_value.specs.HasContent.{HasContent, HasEach, HasEntries, HasFields, count_contents}
-use Rattle.vortex_value.specs.RawTree.{RawTree, absent, raw_bool, raw_integer, raw_text, raw_bytes, raw_tuple, raw_union, raw_variant, RawTrees, no_raws, raw_then, count, is_absent}
+use Rattle.vortex_value.specs.Lemmas.EqualityLaws.{same_type-Decides}
+use Rattle.vortex_value.specs.Laws.HasContent.{HasContent, HasEach, HasEntries, HasFields, count_contents}
+use Rattle.vortex_value.specs.Values.RawTree.{RawTree, absent, raw_bool, raw_integer, raw_text, raw_bytes, raw_tuple, raw_union, raw_variant, RawTrees, no_raws, raw_then, count, is_absent}
 use Rattle.vortex_value.specs.Validity.{EachValid, EntriesValid, FieldsValid, Valid, ValidAt}
 use Rattle.vortex_value.proofs.Alike.{AlikeAt, step_alike}
 use Rattle.vortex_value.proofs.CastCode.{accepts-Decides}

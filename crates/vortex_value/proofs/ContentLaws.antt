@@ -2,9 +2,9 @@
 use Rattle.std.proofs.Common.{◌≡◌, ℕ, suc, List, Option, Some, None, refl, sym, ap, ◌∙◌, subst}
 use Rattle.vortex_dtype.specs.TypeTree.{TypeTree, bool_type, integer_type, utf8_type, binary_type, list_type, fixed_size_list_type, map_type, struct_type, union_type, variant_type, TypeTrees, no_types, type_then, storage}
 use Rattle.vortex_value.specs.Casts.{Has}
-use Rattle.vortex_value.specs.Content.{Content, null, truth, whole, text, string, sequence, tagged, typed, Contents, no_contents, content_then, content, contents}
-use Rattle.vortex_value.specs.HasContent.{count_contents, MayStandInside, HasAt, HasEach, HasEntries, HasFields, HasByCases}
-use Rattle.vortex_value.specs.RawTree.{RawTree, absent, raw_bool, raw_integer, raw_text, raw_bytes, raw_tuple, raw_union, raw_variant, RawTrees, no_raws, raw_then, count}
+use Rattle.vortex_value.specs.Values.Content.{Content, null, truth, whole, text, string, sequence, tagged, typed, Contents, no_contents, content_then, content, contents}
+use Rattle.vortex_value.specs.Laws.HasContent.{count_contents, MayStandInside, HasAt, HasEach, HasEntries, HasFields, HasByCases}
+use Rattle.vortex_value.specs.Values.RawTree.{RawTree, absent, raw_bool, raw_integer, raw_text, raw_bytes, raw_tuple, raw_union, raw_variant, RawTrees, no_raws, raw_then, count}
 use Rattle.vortex_value.specs.Validity.{type_with, HasType, MayBeInside, ValidAt, EachValid, EntriesValid, FieldsValid}
 
 pub counted : (vs : RawTrees) → count_contents (contents vs) ≡ count vs

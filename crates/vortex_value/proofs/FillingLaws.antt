@@ -5,13 +5,13 @@ use Rattle.vortex_dtype.specs.declared.kinds.Nullability.{Nullability}
 use Rattle.vortex_dtype.specs.declared.kinds.Nullability.TheVariants.{NonNullable, Nullable}
 use Rattle.vortex_dtype.specs.declared.kinds.PType.{PType}
 use Rattle.vortex_dtype.specs.declared.kinds.PType.TheVariants.{U8, U16, U32, U64, I8, I16, I32, I64}
-use Rattle.vortex_pvalue.specs.Kinds.{InRange, in_range}
+use Rattle.vortex_pvalue.specs.Numbers.{InRange, in_range}
 use Rattle.vortex_pvalue.specs.RangeLaws.{in_range_back}
 use Rattle.vortex_value.specs.Casts.{Has}
-use Rattle.vortex_value.specs.Content.{Content, null, sequence, tagged, Contents, no_contents, content, contents}
-use Rattle.vortex_value.specs.RawTree.{RawTree, absent, raw_bool, raw_integer, raw_text, raw_bytes, raw_tuple, raw_union, raw_variant, RawTrees, no_raws, raw_then, count}
+use Rattle.vortex_value.specs.Values.Content.{Content, null, sequence, tagged, Contents, no_contents, content, contents}
+use Rattle.vortex_value.specs.Values.RawTree.{RawTree, absent, raw_bool, raw_integer, raw_text, raw_bytes, raw_tuple, raw_union, raw_variant, RawTrees, no_raws, raw_then, count}
 use Rattle.vortex_value.specs.Validity.{EachValid, FieldsValid}
-use Rattle.vortex_value.specs.Filling.{Fills, EachFills, FillFields}
+use Rattle.vortex_value.specs.Steps.Filling.{Fills, EachFills, FillFields}
 use Rattle.vortex_value.specs.Zero.{filling, fillings, null_or, repeated, places_of, and_rest}
 use Rattle.vortex_value.proofs.MakerLaws.{null_valid}
 

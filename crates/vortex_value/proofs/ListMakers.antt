@@ -7,12 +7,12 @@ use Rattle.std.proofs.lemmas.List.Sums.{fails_before_first}
 use Rattle.std.specs.List.{All, position_or_len}
 use Rattle.std.specs.Option.{option_or}
 use Rattle.vortex_dtype.specs.TypeEquality.{tree_eq}
-use Rattle.vortex_dtype.specs.TypeLaws.{tree_eq-Decides}
+use Rattle.vortex_dtype.specs.Lemmas.TypeLaws.{tree_eq-Decides}
 use Rattle.vortex_dtype.specs.TypeTree.{TypeTree}
 use Rattle.vortex_dtype.specs.declared.error.VortexError.{VortexError}
-use Rattle.vortex_value.specs.Makers.{list_cause, raws_in, wrong_place}
-use Rattle.vortex_value.specs.RawTree.{count}
-use Rattle.vortex_value.specs.Scalars.{IsValid, scalar_raw, scalar_type}
+use Rattle.vortex_value.specs.Makers.{list_cause, child_trees, wrong_place}
+use Rattle.vortex_value.specs.Values.RawTree.{count}
+use Rattle.vortex_value.specs.Values.Scalars.{IsValid, scalar_raw, scalar_type}
 use Rattle.vortex_value.specs.Validity.{EachValid, Valid}
 use Rattle.vortex_value.specs.declared.scalars.Scalar.{Scalar}
 
@@ -32,7 +32,7 @@ children_valid expected xs h valid k d below =
     let right = not-false (tree_eq (scalar_type x) expected) (none_passes (λ y. not (tree_eq (scalar_type y) expected)) xs h k d below) in
     subst (λ t. Valid t (scalar_raw x)) ((tree_eq-Decides (scalar_type x) expected).0 right) (valid k d below)
 
-each_valid : (e : TypeTree) (xs : List Scalar) → All (λ x. Valid e (scalar_raw x)) xs → EachValid e (raws_in xs)
+each_valid : (e : TypeTree) (xs : List Scalar) → All (λ x. Valid e (scalar_raw x)) xs → EachValid e (child_trees xs)
 each_valid e [] valid = tt
 each_valid e (x ∷ xs) valid = (valid 0 x (omega arith), each_valid e xs (All-tail (λ y. Valid e (scalar_raw y)) x xs valid))
 
@@ -41,10 +41,10 @@ no_wrong_place None f p h = refl
 no_wrong_place (Some i) f p h = cc
 
 -- the children make valid parts of a list
-pub list_valid : (e : TypeTree) (xs : List Scalar) → list_cause e xs ≡ None → All IsValid xs → EachValid e (raws_in xs)
+pub list_valid : (e : TypeTree) (xs : List Scalar) → list_cause e xs ≡ None → All IsValid xs → EachValid e (child_trees xs)
 list_valid e xs h valid = each_valid e xs (children_valid e xs (no_wrong_place _ _ _ h) valid)
 
 -- there are as many parts as children
-pub count_raws : (xs : List Scalar) → count (raws_in xs) ≡ length xs
+pub count_raws : (xs : List Scalar) → count (child_trees xs) ≡ length xs
 count_raws [] = refl
 count_raws (x ∷ xs) = ap suc (count_raws xs)

@@ -2,16 +2,16 @@
 use Rattle.std.proofs.Common.{◌≡◌, ℕ, ◌==◌, Bool, true, false, if◌then◌else◌, List, Option, Some, None, refl, ap, ◌∙◌, subst}
 use Rattle.std.specs.Prelude.{option_and_then, position, slice_get}
 use Rattle.vortex_dtype.specs.TypeEquality.{tree_eq}
-use Rattle.vortex_dtype.specs.TypeLaws.{tree_eq-Decides}
-use Rattle.vortex_dtype.specs.TypeOf.{VariantParts, types_from, type_of}
+use Rattle.vortex_dtype.specs.Lemmas.TypeLaws.{tree_eq-Decides}
+use Rattle.vortex_dtype.specs.TypeOf.{VariantParts, as_type_trees, type_of}
 use Rattle.vortex_dtype.specs.TypeTree.{TypeTree, extension_type, IsNullable, as_nullable}
 use Rattle.vortex_dtype.specs.declared.error.VortexError.{VortexError}
 use Rattle.vortex_dtype.specs.declared.error.VortexError.TheVariants.{UnknownTypeId}
 use Rattle.vortex_dtype.specs.declared.types.DType.{DType}
 use Rattle.vortex_value.specs.Makers.{child_cause, union_cause, tagged_cause}
-use Rattle.vortex_value.specs.RawOf.{raw_of}
-use Rattle.vortex_value.specs.RawTree.{RawTree, absent}
-use Rattle.vortex_value.specs.Scalars.{IsValid}
+use Rattle.vortex_value.specs.Values.RawOf.{raw_of}
+use Rattle.vortex_value.specs.Values.RawTree.{RawTree, absent}
+use Rattle.vortex_value.specs.Values.Scalars.{IsValid}
 use Rattle.vortex_value.specs.Validity.{type_with, HasType, Valid}
 use Rattle.vortex_value.specs.declared.values.ScalarValue.{ScalarValue}
 use Rattle.vortex_value.proofs.Variants.{type_with-position}
@@ -41,7 +41,7 @@ child_valid index expected found v h p = subst (λ t. Valid t v) (child_fits ind
 -- the type that an id has stands at the id's place
 
 pub type_placed : (id : ℕ) (ids : List ℕ) (ts : List TypeTree) (index : ℕ) → position (λ i. i == id) ids ≡ Some index
-    → type_with id ids (types_from ts) ≡ slice_get ts index
+    → type_with id ids (as_type_trees ts) ≡ slice_get ts index
 type_placed id ids ts index h = type_with-position id ids ts ∙ ap (option_and_then (slice_get ts)) h
 
 -- a union's child
@@ -52,9 +52,9 @@ tagged_valid id (Some index) (Some expected) found v h p = child_valid index exp
 tagged_valid id _ _ found v h p = cc
 
 pub union_valid : (variants : VariantParts) (id : ℕ) (found : TypeTree) (v : RawTree) → union_cause variants id found ≡ None → Valid found v
-    → HasType (type_with id variants.type_ids (types_from variants.types)) (λ t. Valid t v)
+    → HasType (type_with id variants.type_ids (as_type_trees variants.types)) (λ t. Valid t v)
 union_valid variants id found v h p =
-    tagged_valid id (position (λ i. i == id) variants.type_ids) (type_with id variants.type_ids (types_from variants.types)) found v h p
+    tagged_valid id (position (λ i. i == id) variants.type_ids) (type_with id variants.type_ids (as_type_trees variants.types)) found v h p
 
 pub union_cause_placed : (variants : VariantParts) (id : ℕ) (index : ℕ) (expected found : TypeTree) → position (λ i. i == id) variants.type_ids ≡ Some index
     → slice_get variants.types index ≡ Some expected → child_cause index expected found ≡ union_cause variants id found

@@ -5,13 +5,13 @@ use Rattle.std.proofs.lemmas.List.Elements.{All-tail}
 use Rattle.std.specs.Cmp.{first_so, second_so}
 use Rattle.std.specs.List.{All}
 use Rattle.vortex_dtype.specs.Parts.{map_in}
-use Rattle.vortex_dtype.specs.TypeLaws.{tree_eq-Decides}
+use Rattle.vortex_dtype.specs.Lemmas.TypeLaws.{tree_eq-Decides}
 use Rattle.vortex_dtype.specs.TypeOf.{MapParts}
 use Rattle.vortex_dtype.specs.TypeTree.{TypeTree, map_type}
 use Rattle.vortex_dtype.specs.declared.error.VortexError.{VortexError}
 use Rattle.vortex_value.specs.Makers.{IsValidEntry, is_entry_of, map_cause, raw_entries, wrong_entry}
-use Rattle.vortex_value.specs.RawTree.{raw_tuple}
-use Rattle.vortex_value.specs.Scalars.{scalar_raw, scalar_type}
+use Rattle.vortex_value.specs.Values.RawTree.{raw_tuple}
+use Rattle.vortex_value.specs.Values.Scalars.{scalar_raw, scalar_type}
 use Rattle.vortex_value.specs.Validity.{EntriesValid, Valid}
 use Rattle.vortex_value.specs.declared.scalars.Scalar.{Scalar}
 use Rattle.vortex_value.proofs.ListMakers.{none_passes}

@@ -8,11 +8,11 @@ use Rattle.std.proofs.lemmas.Bool.Decides.{Decides-eqb}
 use Rattle.std.proofs.lemmas.Slice.Eq.{bytes_eq-Decides}
 use Rattle.std.proofs.lemmas.Cmp.{nat_list_cmp_total, int_cmp_total, int_ranked, tied_itself}
 use Rattle.vortex_dtype.specs.TypeTree.{TypeTree, variant_type, extension_type, list_type, fixed_size_list_type, map_type, struct_type, union_type, TypeTrees, no_types, type_then, storage}
-use Rattle.vortex_value.specs.Content.{Content, null, truth, whole, text, string, sequence, tagged, typed, Contents, no_contents, content_then, content, contents}
+use Rattle.vortex_value.specs.Values.Content.{Content, null, truth, whole, text, string, sequence, tagged, typed, Contents, no_contents, content_then, content, contents}
 use Rattle.vortex_value.specs.Equality.{EqualContents, AllEqual, HasNoTyped, HaveNoTyped, equal, same_type}
-use Rattle.vortex_value.specs.EqualityLaws.{contents-from_equal, equal-from_contents}
+use Rattle.vortex_value.specs.Lemmas.EqualityLaws.{contents-from_equal, equal-from_contents}
 use Rattle.vortex_value.specs.Order.{order, orders, truth_cmp, typed_order}
-use Rattle.vortex_value.specs.RawTree.{RawTree, absent, raw_bool, raw_integer, raw_text, raw_bytes, raw_tuple, raw_union, raw_variant, RawTrees, no_raws, raw_then}
+use Rattle.vortex_value.specs.Values.RawTree.{RawTree, absent, raw_bool, raw_integer, raw_text, raw_bytes, raw_tuple, raw_union, raw_variant, RawTrees, no_raws, raw_then}
 use Rattle.vortex_value.specs.TypesWithin.{HasNoVariant, HaveNoVariant}
 use Rattle.vortex_value.specs.Validity.{HasType, type_with, Valid, ValidAt, EachValid, EntriesValid, FieldsValid}
 

@@ -5,9 +5,9 @@ use Rattle.std.specs.Ordering.{is_gt, ordering_reverse, ordering_then, partial_o
 use Rattle.std.proofs.lemmas.Bool.Decides.{Decides-eqb, Decides-like, same_from_decides}
 use Rattle.std.proofs.lemmas.Cmp.{nat_list_cmp_total, int_cmp_total, nat_eq_equiv, alike_right}
 use Rattle.vortex_dtype.specs.TypeTree.{TypeTree}
-use Rattle.vortex_value.specs.Content.{Content, null, truth, whole, text, string, sequence, tagged, Contents, no_contents, content_then}
+use Rattle.vortex_value.specs.Values.Content.{Content, null, truth, whole, text, string, sequence, tagged, Contents, no_contents, content_then}
 use Rattle.vortex_value.specs.Equality.{same_type}
-use Rattle.vortex_value.specs.EqualityLaws.{same_type-Decides}
+use Rattle.vortex_value.specs.Lemmas.EqualityLaws.{same_type-Decides}
 use Rattle.vortex_value.specs.Order.{order, orders, reversed, truth_cmp, typed_order, IsReversed, IsTransitive}
 
 reversed-then : (o p : Option Ordering) → reversed (partial_ordering_then o p) ≡ partial_ordering_then (reversed o) (reversed p)

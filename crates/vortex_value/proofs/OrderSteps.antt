@@ -2,11 +2,11 @@
 use Rattle.std.proofs.Common.{◌≡◌, ◌≢◌, ◌⊎◌, inl, inr, ℕ, ◌+◌, suc, List, [], ◌∷◌, length, Option, Some, None, Ordering, Less, Equal, Greater, nat_cmp, ◌<◌, refl, arith}
 use Rattle.std.proofs.lemmas.Bool.Decides.{nat_tests}
 use Rattle.std.specs.Ordering.{partial_ordering_then}
-use Rattle.vortex_value.specs.Content.{contents}
+use Rattle.vortex_value.specs.Values.Content.{contents}
 use Rattle.vortex_value.specs.Order.{orders}
-use Rattle.vortex_value.specs.RawOf.{raws_of}
+use Rattle.vortex_value.specs.Values.RawOf.{value_trees}
 use Rattle.vortex_value.specs.declared.values.ScalarValue.{ScalarValue}
-use Rattle.vortex_value.proofs.ValueSteps.{value_tree-Tuple, value_tree-Union, value_tree-Variant, scalar_tree-parts, union_tree-parts}
+use Rattle.vortex_value.proofs.ValueSteps.{value_tree-Tuple, value_tree-Union, value_tree-Variant, variant_tree-parts, union_tree-parts}
 
 -- a place that is not Equal decides
 pub decided : (o : Option Ordering) (p : Option Ordering) → o ≢ Some Equal → partial_ordering_then o p ≡ o
@@ -17,7 +17,7 @@ decided (Some Greater) p h = refl
 
 -- where one side ends, the lengths decide
 pub ended : (vs ws : List (Option ScalarValue)) (n m : ℕ) → (length vs ≡ 0) ⊎ (length ws ≡ 0) → length vs + m ≡ length ws + n
-    → orders (contents (raws_of vs)) (contents (raws_of ws)) ≡ Some (nat_cmp n m)
+    → orders (contents (value_trees vs)) (contents (value_trees ws)) ≡ Some (nat_cmp n m)
 ended [] [] n m h e = let same : n ≡ m = omega arith in grind (arith, nat_tests)
 ended [] (w ∷ ws) n m h e = let less : n < m = omega arith in grind (arith, nat_tests)
 ended (v ∷ vs) [] n m h e = let more : m < n = omega arith in grind (arith, nat_tests)
@@ -26,4 +26,4 @@ ended (v ∷ vs) (w ∷ ws) n m h e = absurd (elim h [ inl p ↦ none p | inr p 
     none : {k : ℕ} → suc k ≡ 0 → ⊥
     none p = omega arith
 
-pub ruleset shown = (decided, ended, value_tree-Tuple, value_tree-Union, value_tree-Variant, scalar_tree-parts, union_tree-parts)
+pub ruleset shown = (decided, ended, value_tree-Tuple, value_tree-Union, value_tree-Variant, variant_tree-parts, union_tree-parts)

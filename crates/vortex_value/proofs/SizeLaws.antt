@@ -3,9 +3,9 @@ use Rattle.std.proofs.Common.{◌≡◌, ◌+◌, List, [], ◌∷◌, refl, sym
 use Rattle.std.specs.Prelude.{sum_by}
 use Rattle.std.specs.List.{zip}
 use Rattle.std.proofs.lemmas.List.Sums.{sum_by-cons}
-use Rattle.vortex_dtype.specs.TypeOf.{types_from}
+use Rattle.vortex_dtype.specs.TypeOf.{as_type_trees}
 use Rattle.vortex_dtype.specs.TypeTree.{TypeTree}
-use Rattle.vortex_value.specs.RawTree.{RawTree}
+use Rattle.vortex_value.specs.Values.RawTree.{RawTree}
 use Rattle.vortex_value.specs.Size.{elements_size, entries_size, fields_size, entries_of, size_of, tuple_of, SizeIsSum}
 
 elements_size-sum : (e : TypeTree) (vs : List RawTree) → elements_size e (tuple_of vs) ≡ sum_by (size_of e) vs
@@ -17,7 +17,7 @@ entries_size-sum k w [] = refl
 entries_size-sum k w (p ∷ ps) =
     ap (λ n. size_of k p.0 + size_of w p.1 + n) (entries_size-sum k w ps) ∙ sym (sum_by-cons (λ (q : RawTree × RawTree). size_of k q.0 + size_of w q.1) p ps)
 
-fields_size-sum : (ts : List TypeTree) (vs : List RawTree) → fields_size (types_from ts) (tuple_of vs) ≡ sum_by (λ p. size_of p.0 p.1) (zip ts vs)
+fields_size-sum : (ts : List TypeTree) (vs : List RawTree) → fields_size (as_type_trees ts) (tuple_of vs) ≡ sum_by (λ p. size_of p.0 p.1) (zip ts vs)
 fields_size-sum [] vs = refl
 fields_size-sum (t ∷ ts) [] = refl
 fields_size-sum (t ∷ ts) (v ∷ vs) =

@@ -4,17 +4,17 @@ use Rattle.std.proofs.lemmas.Bool.{not-false}
 use Rattle.std.proofs.lemmas.Bool.Decides.{Decides-eqb}
 use Rattle.std.proofs.lemmas.List.Elements.{All-tail}
 use Rattle.std.specs.List.{All, zip, position_or_len}
-use Rattle.vortex_dtype.specs.Parts.{fields_in, types_in}
+use Rattle.vortex_dtype.specs.Parts.{fields_in, listed_types}
 use Rattle.vortex_dtype.specs.TypeEquality.{tree_eq}
-use Rattle.vortex_dtype.specs.TypeLaws.{tree_eq-Decides}
+use Rattle.vortex_dtype.specs.Lemmas.TypeLaws.{tree_eq-Decides}
 use Rattle.vortex_dtype.specs.TypeOf.{type_of}
 use Rattle.vortex_dtype.specs.TypeTree.{TypeTree, struct_type, TypeTrees, no_types, type_then}
 use Rattle.vortex_dtype.specs.declared.error.VortexError.{VortexError}
 use Rattle.vortex_dtype.specs.declared.error.VortexError.TheVariants.{WrongChild}
 use Rattle.vortex_dtype.specs.declared.types.DType.{DType}
-use Rattle.vortex_value.specs.Makers.{raws_in, fields_cause, struct_cause, wrong_field}
-use Rattle.vortex_value.specs.RawTree.{raw_tuple}
-use Rattle.vortex_value.specs.Scalars.{IsValid, scalar_raw, scalar_type}
+use Rattle.vortex_value.specs.Makers.{child_trees, fields_cause, struct_cause, wrong_field}
+use Rattle.vortex_value.specs.Values.RawTree.{raw_tuple}
+use Rattle.vortex_value.specs.Values.Scalars.{IsValid, scalar_raw, scalar_type}
 use Rattle.vortex_value.specs.Validity.{FieldsValid, Valid}
 use Rattle.vortex_value.specs.declared.scalars.Scalar.{Scalar}
 use Rattle.vortex_value.proofs.ListMakers.{none_passes}
@@ -23,9 +23,9 @@ use Rattle.vortex_value.proofs.ListMakers.{none_passes}
 abbrev pub misfits : TypeTree × Scalar → Bool
 misfits pair = not (tree_eq (scalar_type pair.1) pair.0)
 
-fields_valid : (ts : TypeTrees) (xs : List Scalar) → length (types_in ts) ≡ length xs
-    → ((k : ℕ) (d : TypeTree × Scalar) → k < length (zip (types_in ts) xs) → misfits (get_or (zip (types_in ts) xs) k d) ≡ false)
-    → All IsValid xs → FieldsValid ts (raws_in xs)
+fields_valid : (ts : TypeTrees) (xs : List Scalar) → length (listed_types ts) ≡ length xs
+    → ((k : ℕ) (d : TypeTree × Scalar) → k < length (zip (listed_types ts) xs) → misfits (get_or (zip (listed_types ts) xs) k d) ≡ false)
+    → All IsValid xs → FieldsValid ts (child_trees xs)
 fields_valid no_types [] same fits valid = tt
 fields_valid no_types (x ∷ xs) same fits valid = absurd (omega (arith, same))
 fields_valid (type_then t ts) [] same fits valid = absurd (omega (arith, same))
@@ -40,10 +40,10 @@ fits_only true (Some i) f e h = cc
 fits_only false o f e h = cc
 
 -- the children make a valid struct
-pub struct_valid : (t : TypeTree) (xs : List Scalar) → struct_cause (fields_in t) xs ≡ None → All IsValid xs → Valid t (raw_tuple (raws_in xs))
+pub struct_valid : (t : TypeTree) (xs : List Scalar) → struct_cause (fields_in t) xs ≡ None → All IsValid xs → Valid t (raw_tuple (child_trees xs))
 struct_valid (struct_type names ts n) xs h valid =
-    let fits = fits_only _ (wrong_field (types_in ts) xs) _ _ h in
-    fields_valid ts xs ((Decides-eqb (length (types_in ts)) (length xs)).0 fits.0) (none_passes misfits (zip (types_in ts) xs) fits.1) valid
+    let fits = fits_only _ (wrong_field (listed_types ts) xs) _ _ h in
+    fields_valid ts xs ((Decides-eqb (length (listed_types ts)) (length xs)).0 fits.0) (none_passes misfits (zip (listed_types ts) xs) fits.1) valid
 struct_valid _ xs h valid = cc
 
 -- a place in a list of pairs is the same once the first parts are mapped

@@ -3,14 +3,14 @@ use Rattle.std.proofs.Common.{◌≡◌, ◌≢◌, ℕ, ◌+◌, ◌-◌, ◌<�
 use Rattle.std.proofs.lemmas.Bool.Decides.{nat_tests}
 use Rattle.std.proofs.lemmas.Fmt.{hex_byte}
 use Rattle.std.proofs.lemmas.List.{length-drop, take_all}
-use Rattle.vortex_dtype.specs.TypeLevels.{type_of-List, type_of-FixedSizeList, type_of-Map, type_of-Struct, type_of-Union}
+use Rattle.vortex_dtype.specs.Lemmas.TypeLevels.{type_of-List, type_of-FixedSizeList, type_of-Map, type_of-Struct, type_of-Union}
 use Rattle.vortex_dtype.specs.TypeTree.{TypeTree, TypeTrees, no_types, type_then, storage}
-use Rattle.vortex_value.specs.RawOf.{raw_of, raws_of}
-use Rattle.vortex_value.specs.RawTree.{raw_tuple, RawTrees, no_raws, raw_then}
+use Rattle.vortex_value.specs.Values.RawOf.{raw_of, value_trees}
+use Rattle.vortex_value.specs.Values.RawTree.{raw_tuple, RawTrees, no_raws, raw_then}
 use Rattle.vortex_value.specs.Texts.{entry_text, field_texts, shortened, text_at}
 use Rattle.vortex_value.specs.declared.values.ScalarValue.{ScalarValue}
 use Rattle.vortex_value.proofs.ValidSteps.{two_places}
-use Rattle.vortex_value.proofs.ValueSteps.{value_tree-Tuple, value_tree-Union, value_tree-Variant, scalar_tree-parts, union_tree-parts}
+use Rattle.vortex_value.proofs.ValueSteps.{value_tree-Tuple, value_tree-Union, value_tree-Variant, variant_tree-parts, union_tree-parts}
 use Rattle.vortex_value.proofs.Writes.{has_written_none}
 
 -- what `{:02x}` writes of a byte
@@ -39,11 +39,11 @@ pub drop_here : {A : Type 0} (i : ℕ) (xs : List A) (x : A) → i < length xs �
 drop_here i xs x h = rw add-one (drop-cons xs i x h)
 
 -- the same of the trees of raw values
-pub raws_here : (i : ℕ) (vs : List (Option ScalarValue)) (v : Option ScalarValue) → i < length vs → v ≡ get_or vs i v → raws_of (drop i vs) ≡ raw_then (raw_of v) (raws_of (drop (i + 1) vs))
-raws_here i vs v h is = rw (drop_here i vs v h, ← is) refl
+pub value_trees_at : (i : ℕ) (vs : List (Option ScalarValue)) (v : Option ScalarValue) → i < length vs → v ≡ get_or vs i v → value_trees (drop i vs) ≡ raw_then (raw_of v) (value_trees (drop (i + 1) vs))
+value_trees_at i vs v h is = rw (drop_here i vs v h, ← is) refl
 
 -- a tuple of another length than two has no text as an entry
-pub no_entry_text : (k w : TypeTree) (vs : List (Option ScalarValue)) → length vs ≢ 2 → entry_text k w (raw_tuple (raws_of vs)) ≡ []
+pub no_entry_text : (k w : TypeTree) (vs : List (Option ScalarValue)) → length vs ≢ 2 → entry_text k w (raw_tuple (value_trees vs)) ≡ []
 no_entry_text k w [] h = refl
 no_entry_text k w (u ∷ []) h = refl
 no_entry_text k w (u ∷ v ∷ []) h = absurd (h refl)
@@ -51,7 +51,7 @@ no_entry_text k w (u ∷ v ∷ x ∷ vs) h = refl
 
 -- the text of a pair
 pub pair_text : (k w : TypeTree) (vs : List (Option ScalarValue)) (x y : Option ScalarValue) → length vs ≡ 2 → x ≡ get_or vs 0 x → y ≡ get_or vs 1 y
-    → entry_text k w (raw_tuple (raws_of vs)) ≡ text_at (storage k) (raw_of x) ++ (codes ": " ++ text_at (storage w) (raw_of y))
+    → entry_text k w (raw_tuple (value_trees vs)) ≡ text_at (storage k) (raw_of x) ++ (codes ": " ++ text_at (storage w) (raw_of y))
 pair_text k w vs x y two a b = rw (two_places vs x y two a b) refl
 
 -- without values, or without types, there are no fields
@@ -65,4 +65,4 @@ no_types_left [] vs = refl
 no_types_left (name ∷ names) vs = refl
 
 -- one level of a value and of a type, and what is written of nothing
-pub ruleset shown = (value_tree-Tuple, value_tree-Union, value_tree-Variant, scalar_tree-parts, union_tree-parts, type_of-List, type_of-FixedSizeList, type_of-Map, type_of-Struct, type_of-Union, has_written_none)
+pub ruleset shown = (value_tree-Tuple, value_tree-Union, value_tree-Variant, variant_tree-parts, union_tree-parts, type_of-List, type_of-FixedSizeList, type_of-Map, type_of-Struct, type_of-Union, has_written_none)

@@ -4,8 +4,8 @@ use Rattle.vortex_dtype.specs.TypeTree.{TypeTree, integer_type, list_type, fixed
 use Rattle.vortex_dtype.specs.declared.kinds.Nullability.{Nullability}
 use Rattle.vortex_dtype.specs.declared.kinds.PType.{PType}
 use Rattle.vortex_value.specs.Casts.{Has, OneValue}
-use Rattle.vortex_value.specs.Content.{content, contents}
-use Rattle.vortex_value.specs.RawTree.{RawTree, absent, raw_bool, raw_integer, raw_text, raw_bytes, raw_tuple, raw_union, raw_variant, RawTrees, no_raws, raw_then}
+use Rattle.vortex_value.specs.Values.Content.{content, contents}
+use Rattle.vortex_value.specs.Values.RawTree.{RawTree, absent, raw_bool, raw_integer, raw_text, raw_bytes, raw_tuple, raw_union, raw_variant, RawTrees, no_raws, raw_then}
 use Rattle.vortex_value.specs.Validity.{type_with, HasType, ValidAt, EachValid, EntriesValid, FieldsValid, Valid}
 
 -- types that are the same stay so below their extensions

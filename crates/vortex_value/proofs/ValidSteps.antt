@@ -6,22 +6,22 @@ use Rattle.vortex_dtype.specs.declared.error.Breach.{Breach}
 use Rattle.vortex_dtype.specs.declared.error.Step.{Step}
 use Rattle.vortex_dtype.specs.declared.error.Step.TheVariants.{Element, Entry, Key, Value}
 use Rattle.vortex_dtype.specs.declared.error.Breach.TheVariants.{WrongLength}
-use Rattle.vortex_dtype.specs.TypeOf.{types_from}
+use Rattle.vortex_dtype.specs.TypeOf.{as_type_trees}
 use Rattle.vortex_dtype.specs.TypeTree.{TypeTree, storage}
 use Rattle.vortex_value.specs.Breaches.{Found, HasSteps, count_types, first, here, under, breaches, breaches_at, element_breaches, entry_breaches, breaches_of_entry}
-use Rattle.vortex_value.specs.Faults.{Checks, HasPath, Shows}
-use Rattle.vortex_value.specs.RawOf.{raw_of, raws_of}
-use Rattle.vortex_value.specs.RawTree.{raw_tuple}
+use Rattle.vortex_value.specs.Steps.Faults.{Checks, HasPath, Shows}
+use Rattle.vortex_value.specs.Values.RawOf.{raw_of, value_trees}
+use Rattle.vortex_value.specs.Values.RawTree.{raw_tuple}
 use Rattle.vortex_value.specs.declared.validate.Fault.{Fault}
 use Rattle.vortex_value.specs.declared.validate.Fault.TheVariants.{NoMemory, NoPath, First}
 use Rattle.vortex_value.specs.declared.values.ScalarValue.{ScalarValue}
-use Rattle.vortex_dtype.specs.TypeLaws.{is_nullable-storage}
-use Rattle.vortex_dtype.specs.TypeLevels.{type_of-List, type_of-FixedSizeList, type_of-Map, type_of-Struct, type_of-Union}
-use Rattle.vortex_value.proofs.ValueSteps.{value_tree-Tuple, count-raws_of}
+use Rattle.vortex_dtype.specs.Lemmas.TypeLaws.{is_nullable-storage}
+use Rattle.vortex_dtype.specs.Lemmas.TypeLevels.{type_of-List, type_of-FixedSizeList, type_of-Map, type_of-Struct, type_of-Union}
+use Rattle.vortex_value.proofs.ValueSteps.{value_tree-Tuple, count-value_trees}
 
-pub count_types-types_from : (ts : List TypeTree) → count_types (types_from ts) ≡ length ts
-count_types-types_from [] = refl
-count_types-types_from (t ∷ ts) = ap suc (count_types-types_from ts)
+pub count_types-as_type_trees : (ts : List TypeTree) → count_types (as_type_trees ts) ≡ length ts
+count_types-as_type_trees [] = refl
+count_types-as_type_trees (t ∷ ts) = ap suc (count_types-as_type_trees ts)
 
 pub Shows-more : (kept : Bool) (f : Fault) (fs gs : List Found) → Shows kept f fs → Shows kept f (fs ++ gs)
 Shows-more kept NoMemory [] gs h = absurd h
@@ -53,12 +53,12 @@ under-first step steps breach (f ∷ fs) h =
 
 -- the elements from place i on
 pub elements_at : (e : TypeTree) (i : ℕ) (vs : List (Option ScalarValue)) (v : Option ScalarValue) → i < length vs → v ≡ get_or vs i v
-    → element_breaches e i (raws_of (drop i vs)) ≡ under (Element i) (breaches_at (storage e) (raw_of v)) ++ element_breaches e (suc i) (raws_of (drop (suc i) vs))
+    → element_breaches e i (value_trees (drop i vs)) ≡ under (Element i) (breaches_at (storage e) (raw_of v)) ++ element_breaches e (suc i) (value_trees (drop (suc i) vs))
 elements_at e i vs v h is = rw (drop-cons vs i v, ← is)
 
 -- the entries from place i on
 pub entries_at : (k w : TypeTree) (i : ℕ) (vs : List (Option ScalarValue)) (v : Option ScalarValue) → i < length vs → v ≡ get_or vs i v
-    → entry_breaches k w i (raws_of (drop i vs)) ≡ under (Entry i) (breaches_of_entry k w (raw_of v)) ++ entry_breaches k w (suc i) (raws_of (drop (suc i) vs))
+    → entry_breaches k w i (value_trees (drop i vs)) ≡ under (Entry i) (breaches_of_entry k w (raw_of v)) ++ entry_breaches k w (suc i) (value_trees (drop (suc i) vs))
 entries_at k w i vs v h is = rw (drop-cons vs i v, ← is)
 
 -- a list of two is its two places
@@ -69,7 +69,7 @@ two_places (u ∷ v ∷ []) x y two a b = rw (a, b)
 two_places (u ∷ v ∷ w ∷ us) x y two a b = absurd (omega arith)
 
 -- a tuple of another length is no entry
-pub no_entry : (k w : TypeTree) (vs : List (Option ScalarValue)) → (length vs ≢ 2) → breaches_of_entry k w (raw_tuple (raws_of vs)) ≡ here WrongLength
+pub no_entry : (k w : TypeTree) (vs : List (Option ScalarValue)) → (length vs ≢ 2) → breaches_of_entry k w (raw_tuple (value_trees vs)) ≡ here WrongLength
 no_entry k w [] h = refl
 no_entry k w (u ∷ []) h = refl
 no_entry k w (u ∷ v ∷ []) h = absurd (h refl)
@@ -77,11 +77,11 @@ no_entry k w (u ∷ v ∷ x ∷ vs) h = refl
 
 -- the breaches of a pair
 pub entry_of : (k w : TypeTree) (vs : List (Option ScalarValue)) (x y : Option ScalarValue) → length vs ≡ 2 → x ≡ get_or vs 0 x → y ≡ get_or vs 1 y
-    → breaches_of_entry k w (raw_tuple (raws_of vs)) ≡ under Key (breaches k (raw_of x)) ++ under Value (breaches w (raw_of y))
+    → breaches_of_entry k w (raw_tuple (value_trees vs)) ≡ under Key (breaches k (raw_of x)) ++ under Value (breaches w (raw_of y))
 entry_of k w vs x y two a b = rw (two_places vs x y two a b)
 
 pub entry_with : (k w : TypeTree) (vs : List (Option ScalarValue)) (x : Option ScalarValue) → length vs ≡ 2 → x ≡ get_or vs 0 x
-    → breaches_of_entry k w (raw_tuple (raws_of vs)) ≡ under Key (breaches k (raw_of x)) ++ under Value (breaches w (raw_of (get_or vs 1 None)))
+    → breaches_of_entry k w (raw_tuple (value_trees vs)) ≡ under Key (breaches k (raw_of x)) ++ under Value (breaches w (raw_of (get_or vs 1 None)))
 entry_with k w [] x two a = absurd (omega arith)
 entry_with k w (u ∷ []) x two a = absurd (omega arith)
 entry_with k w (u ∷ v ∷ []) x two a = rw a
@@ -99,4 +99,4 @@ Shows-path (First steps breach) fs h = tt
 pub Checks-path : (r : Result (Unit {0}) Fault) (fs : List Found) → Checks true r fs → ForErr r HasPath
 Checks-path r fs h = λ f is. Shows-path f fs (subst (λ q. Checks true q fs) is h)
 
-pub ruleset shown = (elements_at, entries_at, value_tree-Tuple, count-raws_of, type_of-List, type_of-FixedSizeList, type_of-Map, type_of-Struct, type_of-Union, is_nullable-storage, Shows-more, count_types-types_from)
+pub ruleset shown = (elements_at, entries_at, value_tree-Tuple, count-value_trees, type_of-List, type_of-FixedSizeList, type_of-Map, type_of-Struct, type_of-Union, is_nullable-storage, Shows-more, count_types-as_type_trees)

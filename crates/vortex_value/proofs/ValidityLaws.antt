@@ -11,11 +11,11 @@ use Rattle.vortex_dtype.specs.declared.kinds.Nullability.{Nullability}
 use Rattle.vortex_dtype.specs.declared.kinds.Nullability.TheVariants.{NonNullable, Nullable}
 use Rattle.vortex_dtype.specs.declared.kinds.PType.{PType}
 use Rattle.vortex_dtype.specs.declared.kinds.PType.TheVariants.{U8, U16, U32, U64, I8, I16, I32, I64}
-use Rattle.vortex_pvalue.specs.Kinds.{InRange, in_range}
+use Rattle.vortex_pvalue.specs.Numbers.{InRange, in_range}
 use Rattle.vortex_pvalue.specs.RangeLaws.{in_range_true, in_range_back}
 use Rattle.vortex_value.specs.Breaches.{Found, here, under, count_types, is_empty, is_null_type, child_breaches, breaches_at, element_breaches, entry_breaches, field_breaches, breaches, is_valid, ValidExactlyWithoutBreach, ValidityIsDecided}
-use Rattle.vortex_value.specs.Faults.{Checks, Shows}
-use Rattle.vortex_value.specs.RawTree.{RawTree, absent, raw_bool, raw_integer, raw_text, raw_bytes, raw_tuple, raw_union, raw_variant, RawTrees, no_raws, raw_then, count, is_absent}
+use Rattle.vortex_value.specs.Steps.Faults.{Checks, Shows}
+use Rattle.vortex_value.specs.Values.RawTree.{RawTree, absent, raw_bool, raw_integer, raw_text, raw_bytes, raw_tuple, raw_union, raw_variant, RawTrees, no_raws, raw_then, count, is_absent}
 use Rattle.vortex_value.specs.Validity.{type_with, HasType, MayBeInside, ValidAt, EachValid, EntriesValid, FieldsValid, Valid}
 use Rattle.vortex_value.specs.declared.validate.Fault.{Fault}
 use Rattle.vortex_value.specs.declared.validate.Fault.TheVariants.{NoMemory, NoPath, First}

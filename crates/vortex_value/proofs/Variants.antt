@@ -5,7 +5,7 @@ use Rattle.std.specs.List.{position_or_len}
 use Rattle.std.proofs.lemmas.Bool.{cases_lt}
 use Rattle.std.proofs.lemmas.Bool.Decides.{nat_tests}
 use Rattle.vortex_dtype.specs.TypeTree.{TypeTree}
-use Rattle.vortex_dtype.specs.TypeOf.{types_from}
+use Rattle.vortex_dtype.specs.TypeOf.{as_type_trees}
 use Rattle.vortex_value.specs.Validity.{type_with}
 
 none_there : (ts : List TypeTree) (o : Option ℕ) → ts ≡ [] → option_and_then (slice_get ts) o ≡ None
@@ -35,13 +35,13 @@ some_first : (n : ℕ) → nat_lt 0 (suc n) ≡ true
 some_first n = grind (arith, nat_tests)
 
 -- the type that the id gives is the one at its place
-pub type_with-position : (id : ℕ) (ids : List ℕ) (ts : List TypeTree) → type_with id ids (types_from ts) ≡ option_and_then (slice_get ts) (position (λ i. i == id) ids)
+pub type_with-position : (id : ℕ) (ids : List ℕ) (ts : List TypeTree) → type_with id ids (as_type_trees ts) ≡ option_and_then (slice_get ts) (position (λ i. i == id) ids)
 type_with-position id [] ts = refl
 type_with-position id (i ∷ is) [] = sym (none_there [] _ refl)
 type_with-position id (i ∷ is) (t ∷ ts) = by_test (i == id) refl (type_with-position id is ts)
   where
-    by_test : (b : Bool) → (i == id) ≡ b → type_with id is (types_from ts) ≡ option_and_then (slice_get ts) (position (λ j. j == id) is)
-        → type_with id (i ∷ is) (types_from (t ∷ ts)) ≡ option_and_then (slice_get (t ∷ ts)) (position (λ j. j == id) (i ∷ is))
+    by_test : (b : Bool) → (i == id) ≡ b → type_with id is (as_type_trees ts) ≡ option_and_then (slice_get ts) (position (λ j. j == id) is)
+        → type_with id (i ∷ is) (as_type_trees (t ∷ ts)) ≡ option_and_then (slice_get (t ∷ ts)) (position (λ j. j == id) (i ∷ is))
     by_test true e h = rw (e, some_first) refl
     by_test false e h = rw e (h ∙ sym (further t ts (position_or_len (λ j. j == id) is) (length is)))
 

@@ -2,10 +2,10 @@
 use Rattle.std.proofs.Common.{◌≡◌, ℕ, ℤ, Bool, true, false, List, ◌⊎◌, inl, inr, refl, rules}
 use Rattle.vortex_dtype.specs.TypeTree.{TypeTree, null_type, bool_type, integer_type, utf8_type, binary_type, list_type, fixed_size_list_type, map_type, struct_type, extension_type, TypeTrees, no_types, type_then, storage}
 use Rattle.vortex_dtype.specs.declared.kinds.Nullability.{Nullability}
-use Rattle.vortex_value.specs.CastLaws.{HasNoNull, HaveNoNull, NoWayRound}
+use Rattle.vortex_value.specs.Laws.CastLaws.{HasNoNull, HaveNoNull, NoWayRound}
 use Rattle.vortex_value.specs.Casts.{Sorts, EachPlace, EachEntry, same_type, a_null, integers, lists, maps, structs, Allows, AllowsFields}
 use Rattle.vortex_value.specs.Chains.{last_of}
-use Rattle.vortex_value.specs.Content.{Content, null, truth, whole, text, string, sequence, tagged, typed, Contents, no_contents, content_then, content}
+use Rattle.vortex_value.specs.Values.Content.{Content, null, truth, whole, text, string, sequence, tagged, typed, Contents, no_contents, content_then, content}
 use Rattle.vortex_value.specs.TypesWithin.{HasNoExtension, HaveNoExtension, HasNoMap, HaveNoMap}
 use Rattle.vortex_value.proofs.Alike.{AlikeAt, Alike, EachAlike, FieldsAlike, EntriesAlike, Rises, chain_alike}
 use Rattle.vortex_value.proofs.CastLaws.{allows_same}

@@ -7,8 +7,8 @@ use Rattle.vortex_dtype.specs.TypeTree.{TypeTree, null_type, bool_type, integer_
 use Rattle.vortex_dtype.specs.declared.kinds.Nullability.{Nullability}
 use Rattle.vortex_dtype.specs.declared.kinds.Nullability.TheVariants.{NonNullable, Nullable}
 use Rattle.vortex_value.specs.Casts.{IsNull}
-use Rattle.vortex_value.specs.Content.{Content, null, sequence, tagged, Contents, no_contents, content_then, content, contents}
-use Rattle.vortex_value.specs.RawTree.{RawTree, absent, raw_bool, raw_integer, raw_text, raw_bytes, raw_tuple, raw_union, raw_variant, RawTrees, no_raws, raw_then, count}
+use Rattle.vortex_value.specs.Values.Content.{Content, null, sequence, tagged, Contents, no_contents, content_then, content, contents}
+use Rattle.vortex_value.specs.Values.RawTree.{RawTree, absent, raw_bool, raw_integer, raw_text, raw_bytes, raw_tuple, raw_union, raw_variant, RawTrees, no_raws, raw_then, count}
 use Rattle.vortex_value.specs.TypesWithin.{HasNoVariant, HaveNoVariant, UnionsHaveVariants, AllHaveVariants}
 use Rattle.vortex_value.specs.Validity.{Valid, ValidAt, EachValid, FieldsValid, HasType, type_with}
 use Rattle.vortex_value.specs.Zero.{filling, fillings, null_or, repeated, places_of, and_rest, has_no_places, of_first, is_zero_at, each_zero, fields_zero, is_zero_of, ZeroIsZero, DefaultExists}

@@ -8,8 +8,8 @@ use Rattle.vortex_dtype.specs.declared.error.Step.{Step}
 use Rattle.vortex_dtype.specs.declared.error.Step.TheVariants.{Element, Entry, Key, Value, Field, Child, Inner}
 use Rattle.vortex_dtype.specs.declared.error.VortexError.{VortexError}
 use Rattle.vortex_dtype.specs.declared.error.VortexError.TheVariants.{OutOfMemory, Invalid}
-use Rattle.vortex_pvalue.specs.Kinds.{in_range}
-use Rattle.vortex_value.specs.RawTree.{RawTree, absent, raw_bool, raw_integer, raw_text, raw_bytes, raw_tuple, raw_union, raw_variant, RawTrees, no_raws, raw_then, count, is_absent}
+use Rattle.vortex_pvalue.specs.Numbers.{in_range}
+use Rattle.vortex_value.specs.Values.RawTree.{RawTree, absent, raw_bool, raw_integer, raw_text, raw_bytes, raw_tuple, raw_union, raw_variant, RawTrees, no_raws, raw_then, count, is_absent}
 use Rattle.vortex_value.specs.Validity.{type_with, Valid}
 
 -- a path and what is wrong at its end

@@ -3,8 +3,8 @@ use Rattle.std.specs.Prelude.{◌≡◌, true, false}
 use Rattle.vortex_dtype.specs.TypeTree.{TypeTree, null_type, bool_type, integer_type, utf8_type, binary_type, list_type, fixed_size_list_type, map_type, struct_type, union_type, variant_type, extension_type, TypeTrees, no_types, type_then, IsFlat, Same}
 use Rattle.vortex_dtype.specs.declared.error.VortexError.{VortexError}
 use Rattle.vortex_dtype.specs.declared.error.VortexError.TheVariants.{CannotCast, OutOfMemory}
-use Rattle.vortex_value.specs.Content.{Content, null, sequence, Contents, no_contents, content_then, content}
-use Rattle.vortex_value.specs.RawTree.{RawTree}
+use Rattle.vortex_value.specs.Values.Content.{Content, null, sequence, Contents, no_contents, content_then, content}
+use Rattle.vortex_value.specs.Values.RawTree.{RawTree}
 use Rattle.vortex_value.specs.Validity.{Valid}
 
 -- the null
@@ -114,7 +114,7 @@ pub record IsCast (s t : TypeTree) (v w : RawTree) : Type 0 where
   pub valid : Valid t w
   pub same : content w ≡ content v
 
--- a cast to t, possible where p holds, is refused: because it is impossible, or for want of memory, which flat types never
+-- a cast to t, possible where p holds, is refused: because it is impossible, or as out of memory, which flat types never
 -- answer; for nothing else
 abbrev pub RefusesCast : TypeTree → Type 0 → VortexError → Type 0
 RefusesCast t p CannotCast = ¬ p

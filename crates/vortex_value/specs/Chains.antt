@@ -2,8 +2,8 @@
 use Rattle.std.specs.Prelude.{◌≡◌, List, [], ◌∷◌}
 use Rattle.vortex_dtype.specs.TypeTree.{TypeTree}
 use Rattle.vortex_value.specs.Casts.{Allows, Has}
-use Rattle.vortex_value.specs.Content.{Content, content}
-use Rattle.vortex_value.specs.RawTree.{RawTree}
+use Rattle.vortex_value.specs.Values.Content.{Content, content}
+use Rattle.vortex_value.specs.Values.RawTree.{RawTree}
 use Rattle.vortex_value.specs.Validity.{Valid}
 
 -- each step of the chain is allowed from the type before it, and each type has the content

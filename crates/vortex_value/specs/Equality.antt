@@ -4,7 +4,7 @@ use Rattle.std.specs.Ordering.{int_eq}
 use Rattle.std.specs.Str.{bytes_eq}
 use Rattle.vortex_dtype.specs.TypeEquality.{tree_eq}
 use Rattle.vortex_dtype.specs.TypeTree.{TypeTree, Same, erase}
-use Rattle.vortex_value.specs.Content.{Content, null, truth, whole, text, string, sequence, tagged, typed, Contents, no_contents, content_then}
+use Rattle.vortex_value.specs.Values.Content.{Content, null, truth, whole, text, string, sequence, tagged, typed, Contents, no_contents, content_then}
 
 -- equal, where typed children need types that are the same up to nullability and equal contents
 abbrev mutual

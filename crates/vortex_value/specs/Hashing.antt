@@ -4,7 +4,7 @@ use Rattle.std.specs.Hash as fed
 use Rattle.std.specs.Hash.{HashWrites}
 use Rattle.vortex_dtype.specs.Feeds.{bytes_feed, tree_feed}
 use Rattle.vortex_dtype.specs.TypeTree.{TypeTree, Same, erase}
-use Rattle.vortex_value.specs.Content.{Content, null, truth, whole, text, string, sequence, tagged, typed, Contents, no_contents, content_then}
+use Rattle.vortex_value.specs.Values.Content.{Content, null, truth, whole, text, string, sequence, tagged, typed, Contents, no_contents, content_then}
 use Rattle.vortex_value.specs.Equality.{EqualContents}
 
 -- how many places

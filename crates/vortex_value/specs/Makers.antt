@@ -4,15 +4,15 @@ use Rattle.std.specs.Iterator.Runs.{AllItems, EachRunFrom, WholeRun}
 use Rattle.std.specs.List.{zip}
 use Rattle.std.specs.Option.{option_or}
 use Rattle.vortex_dtype.specs.TypeEquality.{tree_eq}
-use Rattle.vortex_dtype.specs.TypeOf.{ExtensionParts, FieldParts, MapParts, VariantParts, types_from}
+use Rattle.vortex_dtype.specs.TypeOf.{ExtensionParts, FieldParts, MapParts, VariantParts, as_type_trees}
 use Rattle.vortex_dtype.specs.TypeTree.{TypeTree, extension_type, union_type}
 use Rattle.vortex_dtype.specs.declared.error.VortexError.{VortexError}
 use Rattle.vortex_dtype.specs.declared.error.VortexError.TheVariants.{OutOfMemory, WrongKind, WrongChild, WrongLength, UnknownTypeId, VariantNull, TooMany}
 use Rattle.vortex_dtype.specs.declared.kinds.Nullability.{Nullability}
 use Rattle.vortex_value.specs.Breaches.{is_null_type}
-use Rattle.vortex_value.specs.RawOf.{raws_from, raws_of}
-use Rattle.vortex_value.specs.RawTree.{RawTree, raw_tuple, RawTrees, no_raws, raw_then, is_absent}
-use Rattle.vortex_value.specs.Scalars.{IsValid, scalar_raw, scalar_type}
+use Rattle.vortex_value.specs.Values.RawOf.{as_raw_trees, value_trees}
+use Rattle.vortex_value.specs.Values.RawTree.{RawTree, raw_tuple, RawTrees, no_raws, raw_then, is_absent}
+use Rattle.vortex_value.specs.Values.Scalars.{IsValid, scalar_raw, scalar_type}
 use Rattle.vortex_value.specs.Validity.{type_with}
 use Rattle.vortex_value.specs.declared.scalars.Scalar.{Scalar}
 
@@ -28,7 +28,7 @@ tagged_cause id _ _ found = Some (UnknownTypeId id)
 -- why these variants refuse a child of this type under this id
 abbrev pub union_cause : VariantParts → ℕ → TypeTree → Option VortexError
 union_cause variants id found =
-    tagged_cause id (position (λ i. i == id) variants.type_ids) (type_with id variants.type_ids (types_from variants.types)) found
+    tagged_cause id (position (λ i. i == id) variants.type_ids) (type_with id variants.type_ids (as_type_trees variants.types)) found
 
 -- why a variant refuses a value: it is a null of a type other than Null
 abbrev pub inside_cause : TypeTree → RawTree → Option VortexError
@@ -36,15 +36,15 @@ inside_cause t v = if is_absent v && not (is_null_type t) then Some VariantNull 
 
 -- the type of unions of these variants
 abbrev pub union_of : VariantParts → Nullability → TypeTree
-union_of variants n = union_type variants.names (types_from variants.types) variants.type_ids n
+union_of variants n = union_type variants.names (as_type_trees variants.types) variants.type_ids n
 
 -- the type of this extension
 abbrev pub extension_over : ExtensionParts → TypeTree
 extension_over extension = extension_type extension.id extension.metadata extension.storage
 
 -- the raw values of several scalars, in order
-abbrev pub raws_in : List Scalar → RawTrees
-raws_in children = raws_of (map (λ x. x.value) children)
+abbrev pub child_trees : List Scalar → RawTrees
+child_trees children = value_trees (map (λ x. x.value) children)
 
 -- more children than 32 bits count
 abbrev pub count_cause : ℕ → Option VortexError
@@ -78,7 +78,7 @@ raw_entry entry = raw_tuple (raw_then (scalar_raw entry.0) (raw_then (scalar_raw
 
 -- the raw values of several entries, in order
 abbrev pub raw_entries : List (Scalar × Scalar) → RawTrees
-raw_entries entries = raws_from (map (λ entry. Some (raw_entry entry)) entries)
+raw_entries entries = as_raw_trees (map (λ entry. Some (raw_entry entry)) entries)
 
 -- the key and the value are valid
 abbrev pub IsValidEntry : Scalar × Scalar → Type 0
@@ -105,7 +105,7 @@ map_cause (Some parts) entries = entries_cause parts entries
 abbrev pub GivesAll : {U S A : Type 0} → (U → S → Type 0) → (S → Option A → S → Type 0) → U → (List A → Type 0) → Type 0
 GivesAll {S = S} gives steps iterable p = (it : S) × gives iterable it × WholeRun steps it (λ run. p run.items)
 
--- a refusal is want of memory, or the cause that all the items of the iterable, in order, give for it
+-- a refusal is out of memory, or the cause that all the items of the iterable, in order, give for it
 abbrev pub RefusesItems : {U S A T : Type 0} → (U → S → Type 0) → (S → Option A → S → Type 0) → U → (List A → Option VortexError) → Result T VortexError → Type 0
 RefusesItems gives steps iterable cause result = IfErr result (λ e. (e ≡ OutOfMemory) ⊎ GivesAll gives steps iterable (λ items. cause items ≡ Some e))
 

@@ -5,7 +5,7 @@ use Rattle.std.specs.Ordering.{nat_cmp, int_cmp, ordering_reverse, ordering_then
 use Rattle.std.specs.declared.cmp.Ordering.{Ordering}
 use Rattle.std.specs.declared.cmp.Ordering.TheVariants.{Less, Equal, Greater}
 use Rattle.vortex_dtype.specs.TypeTree.{TypeTree}
-use Rattle.vortex_value.specs.Content.{Content, null, truth, whole, text, string, sequence, tagged, Contents, no_contents, content_then}
+use Rattle.vortex_value.specs.Values.Content.{Content, null, truth, whole, text, string, sequence, tagged, Contents, no_contents, content_then}
 use Rattle.vortex_value.specs.Equality.{same_type}
 
 -- false is below true

@@ -2,10 +2,10 @@
 use Rattle.std.specs.Prelude.{◌≡◌, ℕ, ◌+◌, ◌-◌, ◌^◌, Bool, List, [], ◌∷◌, length, min, Option, Some, None, sum_by}
 use Rattle.std.specs.List.{zip}
 use Rattle.vortex_dtype.specs.Kinds.{byte_width_of}
-use Rattle.vortex_dtype.specs.TypeOf.{types_from}
+use Rattle.vortex_dtype.specs.TypeOf.{as_type_trees}
 use Rattle.vortex_dtype.specs.TypeTree.{TypeTree, bool_type, integer_type, utf8_type, binary_type, list_type, fixed_size_list_type, map_type, struct_type, union_type, variant_type, extension_type, TypeTrees, type_then, storage}
 use Rattle.vortex_dtype.specs.declared.kinds.Nullability.{Nullability}
-use Rattle.vortex_value.specs.RawTree.{RawTree, raw_text, raw_bytes, raw_tuple, raw_union, raw_variant, RawTrees, no_raws, raw_then}
+use Rattle.vortex_value.specs.Values.RawTree.{RawTree, raw_text, raw_bytes, raw_tuple, raw_union, raw_variant, RawTrees, no_raws, raw_then}
 use Rattle.vortex_value.specs.Validity.{type_with}
 
 -- the size of a union's child, for the type that the id gives
@@ -74,7 +74,7 @@ pub record SizeIsSum : Type 0 where
   pub map : (k w : TypeTree) (sorted : Bool) (n : Nullability) (ps : List (RawTree × RawTree))
       → size_of (map_type k w sorted n) (raw_tuple (entries_of ps)) ≡ sum_by (λ p. size_of k p.0 + size_of w p.1) ps
   pub struct : (names : List (List ℕ)) (ts : List TypeTree) (n : Nullability) (vs : List RawTree)
-      → size_of (struct_type names (types_from ts) n) (raw_tuple (tuple_of vs)) ≡ sum_by (λ p. size_of p.0 p.1) (zip ts vs)
+      → size_of (struct_type names (as_type_trees ts) n) (raw_tuple (tuple_of vs)) ≡ sum_by (λ p. size_of p.0 p.1) (zip ts vs)
   pub union : (names : List (List ℕ)) (ts : TypeTrees) (ids : List ℕ) (n : Nullability) (id : ℕ) (t : TypeTree) (v : RawTree)
       → type_with id ids ts ≡ Some t → size_of (union_type names ts ids n) (raw_union id v) ≡ 1 + size_of t v
   pub variant : (n : Nullability) (t : TypeTree) (v : RawTree) → size_of (variant_type n) (raw_variant t v) ≡ size_of t v

@@ -6,7 +6,7 @@ use Rattle.std.specs.Str.{chars, encode_utf8_all}
 use Rattle.vortex_dtype.specs.TypeTree.{TypeTree, list_type, fixed_size_list_type, map_type, struct_type, union_type, TypeTrees, type_then, storage}
 use Rattle.vortex_pvalue.specs.Whole.{number_text}
 use Rattle.vortex_value.specs.Breaches.{is_valid}
-use Rattle.vortex_value.specs.RawTree.{RawTree, absent, raw_bool, raw_integer, raw_text, raw_bytes, raw_tuple, raw_union, raw_variant, RawTrees, no_raws, raw_then}
+use Rattle.vortex_value.specs.Values.RawTree.{RawTree, absent, raw_bool, raw_integer, raw_text, raw_bytes, raw_tuple, raw_union, raw_variant, RawTrees, no_raws, raw_then}
 use Rattle.vortex_value.specs.Validity.{type_with}
 
 -- of a null

@@ -5,9 +5,9 @@ use Rattle.vortex_dtype.specs.TypeTree.{TypeTree, null_type, bool_type, integer_
 use Rattle.vortex_dtype.specs.declared.kinds.Nullability.{Nullability}
 use Rattle.vortex_dtype.specs.declared.kinds.Nullability.TheVariants.{Nullable}
 use Rattle.vortex_value.specs.Casts.{Has, IsNull}
-use Rattle.vortex_value.specs.Content.{Content, null, truth, whole, text, string, sequence, tagged, typed, Contents, no_contents, content_then, content}
-use Rattle.vortex_value.specs.RawTree.{RawTree}
-use Rattle.vortex_value.specs.Scalars.{IsTheOne}
+use Rattle.vortex_value.specs.Values.Content.{Content, null, truth, whole, text, string, sequence, tagged, typed, Contents, no_contents, content_then, content}
+use Rattle.vortex_value.specs.Values.RawTree.{RawTree}
+use Rattle.vortex_value.specs.Values.Scalars.{IsTheOne}
 use Rattle.vortex_value.specs.TypesWithin.{HasNoVariant, UnionsHaveVariants}
 use Rattle.vortex_value.specs.Validity.{Valid}
 use Rattle.vortex_value.specs.declared.scalars.Scalar.{Scalar}

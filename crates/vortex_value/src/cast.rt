@@ -4,7 +4,7 @@ ghost use Rattle.std.specs.Prelude.{IfErr, IfOk};
 ghost use Rattle.vortex_dtype.specs.TypeOf.{type_of};
 ghost use Rattle.vortex_dtype.specs.TypeTree.{as_nullable};
 ghost use Rattle.vortex_value.specs.Casts.{CanCast, RefusesCast};
-ghost use Rattle.vortex_value.specs.Scalars.{IsMadeOf, IsTheOne, IsValid, scalar_content, scalar_raw, scalar_type};
+ghost use Rattle.vortex_value.specs.Values.Scalars.{IsMadeOf, IsTheOne, IsValid, scalar_content, scalar_raw, scalar_type};
 
 use crate::scalars::Scalar;
 use std::alloc::Global;

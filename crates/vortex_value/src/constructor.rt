@@ -9,9 +9,9 @@ ghost use Rattle.vortex_dtype.specs.declared.kinds.Nullability.TheVariants.{NonN
 ghost use Rattle.vortex_pvalue.specs.Whole.{kind_of, whole_of};
 ghost use Rattle.vortex_value.specs.Breaches.{Refuses, breaches};
 ghost use Rattle.vortex_value.specs.Makers.{child_cause, union_cause, inside_cause, union_of, extension_over};
-ghost use Rattle.vortex_value.specs.RawOf.{raw_of};
-ghost use Rattle.vortex_value.specs.RawTree.{absent, raw_bool, raw_integer, raw_text, raw_bytes, raw_union, raw_variant, is_absent};
-ghost use Rattle.vortex_value.specs.Scalars.{IsMadeOf, IsValid, scalar_raw, scalar_type};
+ghost use Rattle.vortex_value.specs.Values.RawOf.{raw_of};
+ghost use Rattle.vortex_value.specs.Values.RawTree.{absent, raw_bool, raw_integer, raw_text, raw_bytes, raw_union, raw_variant, is_absent};
+ghost use Rattle.vortex_value.specs.Values.Scalars.{IsMadeOf, IsValid, scalar_raw, scalar_type};
 ghost use Rattle.vortex_value.specs.Validity.{Valid};
 
 use crate::scalars::Scalar;

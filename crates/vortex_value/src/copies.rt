@@ -5,8 +5,8 @@ ghost use Rattle.std.specs.Option.{is_none};
 ghost use Rattle.vortex_dtype.specs.TypeOf.{type_of};
 ghost use Rattle.vortex_dtype.specs.TypeTree.{IsFlat};
 ghost use Rattle.vortex_dtype.specs.declared.error.VortexError.TheVariants.{OutOfMemory};
-ghost use Rattle.vortex_value.specs.Parts.{TakesNoMemory};
-ghost use Rattle.vortex_value.specs.RawOf.{value_tree, union_tree, raw_of};
+ghost use Rattle.vortex_value.specs.Values.RawKinds.{TakesNoMemory};
+ghost use Rattle.vortex_value.specs.Values.RawOf.{value_tree, union_tree, raw_of};
 
 use crate::scalars::Scalar;
 use crate::unions::UnionValue;

@@ -3,12 +3,12 @@
 ghost use Rattle.std.specs.Prelude.{◌≡◌, Some, codes, option_map};
 ghost use Rattle.std.specs.Fmt.{WritesOnOk};
 ghost use Rattle.std.specs.Option.{option_copied};
-ghost use Rattle.vortex_dtype.specs.TypeOf.{fields_of, map_of, type_of, types_from, variants_of};
+ghost use Rattle.vortex_dtype.specs.TypeOf.{fields_of, map_of, type_of, as_type_trees, variants_of};
 ghost use Rattle.vortex_dtype.specs.TypeTree.{storage};
-ghost use Rattle.vortex_value.specs.RawOf.{raw_of, raws_of, scalar_tree, union_tree, value_tree};
-ghost use Rattle.vortex_value.specs.RawTree.{raw_tuple};
-ghost use Rattle.vortex_value.specs.Refs.{ref_raw, ref_type};
-ghost use Rattle.vortex_value.specs.Scalars.{scalar_raw, scalar_type};
+ghost use Rattle.vortex_value.specs.Values.RawOf.{raw_of, value_trees, variant_tree, union_tree, value_tree};
+ghost use Rattle.vortex_value.specs.Values.RawTree.{raw_tuple};
+ghost use Rattle.vortex_value.specs.Values.Refs.{ref_raw, ref_type};
+ghost use Rattle.vortex_value.specs.Values.Scalars.{scalar_raw, scalar_type};
 ghost use Rattle.vortex_value.specs.Texts.{between, child_text, element_texts, entry_text, entry_texts, field_texts, in_braces, in_brackets, joined, name_with, raw_text_of, raw_texts, text_at, text_of};
 ghost use Rattle.vortex_value.specs.Validity.{type_with};
 
@@ -65,7 +65,7 @@ fn write_tuple<W: Write>(
     f: &mut Formatter<W>,
 ) -> fmt::Result
     ensures { WritesOnOk W.write_str_gives f.old result
-        (text_at (type_of dtype.now) (raw_tuple (raws_of items.now))) f.new }
+        (text_at (type_of dtype.now) (raw_tuple (value_trees items.now))) f.new }
 {
     match dtype {
         DType::List(element, _) => write_elements(items, element, f),
@@ -87,7 +87,7 @@ fn write_elements<W: Write>(
     f: &mut Formatter<W>,
 ) -> fmt::Result
     ensures { WritesOnOk W.write_str_gives f.old result (in_brackets
-        (joined (codes ", ") (element_texts (type_of element.now) (raws_of items.now)))) f.new }
+        (joined (codes ", ") (element_texts (type_of element.now) (value_trees items.now)))) f.new }
 {
     f.write_str("[")?;
     for (index, item) in items.iter().enumerate() {
@@ -106,7 +106,7 @@ fn write_entries<W: Write>(
 ) -> fmt::Result
     ensures { WritesOnOk W.write_str_gives f.old result (in_braces
         (joined (codes ", ")
-        (entry_texts (map_of map.now).key (map_of map.now).value (raws_of items.now)))) f.new }
+        (entry_texts (map_of map.now).key (map_of map.now).value (value_trees items.now)))) f.new }
 {
     f.write_str("{")?;
     for (index, item) in items.iter().enumerate() {
@@ -144,7 +144,7 @@ fn write_pair<W: Write>(
 ) -> fmt::Result
     ensures { WritesOnOk W.write_str_gives f.old result
         (entry_text (map_of map.now).key (map_of map.now).value
-        (raw_tuple (raws_of parts.now))) f.new }
+        (raw_tuple (value_trees parts.now))) f.new }
 {
     if parts.len() != 2 {
         return Ok(());
@@ -163,7 +163,7 @@ fn write_fields<W: Write>(
 ) -> fmt::Result
     ensures { WritesOnOk W.write_str_gives f.old result (in_braces
         (joined (codes ", ") (field_texts (fields_of fields.now).names
-        (types_from (fields_of fields.now).types) (raws_of items.now)))) f.new }
+        (as_type_trees (fields_of fields.now).types) (value_trees items.now)))) f.new }
 {
     f.write_str("{")?;
     let named = items.iter().zip(fields.names().iter());
@@ -201,7 +201,7 @@ fn write_child<W: Write>(
         (name_with union.now.type_id (variants_of variants.now).type_ids
         (variants_of variants.now).names)
         (type_with union.now.type_id (variants_of variants.now).type_ids
-        (types_from (variants_of variants.now).types))
+        (as_type_trees (variants_of variants.now).types))
         (λ t. text_at (storage t) (raw_of (option_map (λ b. b.value) union.now.child)))) f.new }
 {
     let name = name_of(variants, union.type_id);
@@ -273,7 +273,7 @@ fn write_raw<W: Write>(value: &ScalarValue, f: &mut Formatter<W>) -> fmt::Result
 #[cycle(raw_text)]
 fn write_raw_items<W: Write>(items: &[Option<ScalarValue>], f: &mut Formatter<W>) -> fmt::Result
     ensures { WritesOnOk W.write_str_gives f.old result
-        (in_brackets (joined (codes ", ") (raw_texts (raws_of items.now)))) f.new }
+        (in_brackets (joined (codes ", ") (raw_texts (value_trees items.now)))) f.new }
 {
     f.write_str("[")?;
     for (index, item) in items.iter().enumerate() {

@@ -4,11 +4,11 @@ ghost use Rattle.std.specs.Prelude.{◌≡◌, ◌&&◌};
 ghost use Rattle.std.specs.Cmp.{partial_equiv_from_equiv};
 ghost use Rattle.std.proofs.lemmas.Cmp.{on_equiv};
 ghost use Rattle.vortex_dtype.specs.TypeOf.{type_of};
-ghost use Rattle.vortex_value.specs.Content.{content, contents, typed};
+ghost use Rattle.vortex_value.specs.Values.Content.{content, contents, typed};
 ghost use Rattle.vortex_value.specs.Equality.{equal, all_equal, same_type};
-ghost use Rattle.vortex_value.specs.EqualityLaws.{equal-equiv};
-ghost use Rattle.vortex_value.specs.RawOf.{value_tree, scalar_tree, union_tree, raws_of};
-ghost use Rattle.vortex_value.specs.Scalars.{scalar_type, scalar_content};
+ghost use Rattle.vortex_value.specs.Lemmas.EqualityLaws.{equal-equiv};
+ghost use Rattle.vortex_value.specs.Values.RawOf.{value_tree, variant_tree, union_tree, value_trees};
+ghost use Rattle.vortex_value.specs.Values.Scalars.{scalar_type, scalar_content};
 
 use crate::scalars::Scalar;
 use crate::unions::UnionValue;
@@ -43,7 +43,7 @@ fn equal_values(a: &ScalarValue, b: &ScalarValue) -> bool
 /// Whether there are equally many parts, equal place by place.
 #[cycle(equality)]
 fn equal_tuples(a: &[Option<ScalarValue>], b: &[Option<ScalarValue>]) -> bool
-    ensures { result ≡ all_equal (contents (raws_of a.now)) (contents (raws_of b.now)) }
+    ensures { result ≡ all_equal (contents (value_trees a.now)) (contents (value_trees b.now)) }
 {
     if a.len() != b.len() {
         return false;
@@ -80,7 +80,7 @@ fn equal_unions(a: &UnionValue, b: &UnionValue) -> bool
 /// Whether the types are the same up to nullability and the contents equal.
 #[cycle(equality)]
 fn equal_scalars(a: &Scalar, b: &Scalar) -> bool
-    ensures { result ≡ equal (content (scalar_tree a.now)) (content (scalar_tree b.now)) }
+    ensures { result ≡ equal (content (variant_tree a.now)) (content (variant_tree b.now)) }
 {
     if !same_types(&a.dtype, &b.dtype) {
         return false;

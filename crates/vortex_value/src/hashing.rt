@@ -3,11 +3,11 @@
 ghost use Rattle.std.specs.Prelude.{◌≡◌, fold};
 ghost use Rattle.std.specs.Hash.{and-Alike, on_Alike};
 ghost use Rattle.std.specs.Option.{option_copied};
-ghost use Rattle.vortex_value.specs.Content.{content, contents};
-ghost use Rattle.vortex_value.specs.HashLaws.{content_feed-Alike, type_feed-Alike};
+ghost use Rattle.vortex_value.specs.Values.Content.{content, contents};
+ghost use Rattle.vortex_value.specs.Lemmas.HashLaws.{content_feed-Alike, type_feed-Alike};
 ghost use Rattle.vortex_value.specs.Hashing.{content_feed, counted_feed, typed_feed};
-ghost use Rattle.vortex_value.specs.RawOf.{raw_of, raws_of, union_tree, value_tree};
-ghost use Rattle.vortex_value.specs.Scalars.{scalar_content, scalar_type};
+ghost use Rattle.vortex_value.specs.Values.RawOf.{raw_of, value_trees, union_tree, value_tree};
+ghost use Rattle.vortex_value.specs.Values.Scalars.{scalar_content, scalar_type};
 
 use crate::scalars::Scalar;
 use crate::unions::UnionValue;
@@ -66,7 +66,7 @@ fn feed_value<H: Hasher>(value: &ScalarValue, state: &mut H)
 #[cycle(feed)]
 #[tactic(auto, using(crate::proofs::HashSteps::shown))]
 fn feed_tuple<H: Hasher>(items: &[Option<ScalarValue>], state: &mut H)
-    ensures { state.new ≡ fold H.write state.old (counted_feed (contents (raws_of items.now))) }
+    ensures { state.new ≡ fold H.write state.old (counted_feed (contents (value_trees items.now))) }
 {
     state.write_usize(items.len());
     for item in items {

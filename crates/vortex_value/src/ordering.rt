@@ -2,10 +2,10 @@
 
 ghost use Rattle.std.specs.Prelude.{◌≡◌};
 ghost use Rattle.std.specs.Option.{option_copied};
-ghost use Rattle.vortex_value.specs.Content.{content, contents};
+ghost use Rattle.vortex_value.specs.Values.Content.{content, contents};
 ghost use Rattle.vortex_value.specs.Order.{order, orders};
-ghost use Rattle.vortex_value.specs.RawOf.{raw_of, raws_of, union_tree, value_tree};
-ghost use Rattle.vortex_value.specs.Scalars.{scalar_order};
+ghost use Rattle.vortex_value.specs.Values.RawOf.{raw_of, value_trees, union_tree, value_tree};
+ghost use Rattle.vortex_value.specs.Values.Scalars.{scalar_order};
 
 use crate::refs::ScalarRef;
 use crate::scalars::Scalar;
@@ -49,7 +49,7 @@ fn compare_values(a: &ScalarValue, b: &ScalarValue) -> Option<Ordering>
 #[cycle(order)]
 #[tactic(auto, using(crate::proofs::OrderSteps::shown))]
 fn compare_tuples(a: &[Option<ScalarValue>], b: &[Option<ScalarValue>]) -> Option<Ordering>
-    ensures { result ≡ orders (contents (raws_of a.now)) (contents (raws_of b.now)) }
+    ensures { result ≡ orders (contents (value_trees a.now)) (contents (value_trees b.now)) }
 {
     for (x, y) in a.iter().zip(b) {
         let place = compare(x.as_ref(), y.as_ref());

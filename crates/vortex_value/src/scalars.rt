@@ -4,7 +4,7 @@ ghost use Rattle.std.specs.Prelude.{◌≡◌, ◌↔◌, not, IsOk, IsTrue, IfO
 ghost use Rattle.std.specs.Option.{option_copied};
 ghost use Rattle.vortex_dtype.specs.TypeTree.{IsFlat, Same};
 ghost use Rattle.vortex_value.specs.Equality.{EqualContents};
-ghost use Rattle.vortex_value.specs.RawTree.{is_absent};
+ghost use Rattle.vortex_value.specs.Values.RawTree.{is_absent};
 
 use crate::copies;
 use crate::values::ScalarValue;
@@ -25,7 +25,7 @@ pub struct Scalar {
 }
 
 impl Scalar {
-    ghost use Rattle.vortex_value.specs.Scalars.{IsMadeOf, IsValid, scalar_content, scalar_type, scalar_raw};
+    ghost use Rattle.vortex_value.specs.Values.Scalars.{IsMadeOf, IsValid, scalar_content, scalar_type, scalar_raw};
 
     /// The type.
     ///

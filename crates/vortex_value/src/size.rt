@@ -2,10 +2,10 @@
 
 ghost use Rattle.std.specs.Prelude.{◌≡◌, option_map};
 ghost use Rattle.std.specs.Option.{option_copied};
-ghost use Rattle.vortex_dtype.specs.TypeOf.{map_of, type_of, types_from, types_of, variants_of};
-ghost use Rattle.vortex_value.specs.RawOf.{raw_of, raws_of};
-ghost use Rattle.vortex_value.specs.RawTree.{raw_tuple};
-ghost use Rattle.vortex_value.specs.Scalars.{scalar_raw, scalar_type};
+ghost use Rattle.vortex_dtype.specs.TypeOf.{map_of, type_of, as_type_trees, dtype_trees, variants_of};
+ghost use Rattle.vortex_value.specs.Values.RawOf.{raw_of, value_trees};
+ghost use Rattle.vortex_value.specs.Values.RawTree.{raw_tuple};
+ghost use Rattle.vortex_value.specs.Values.Scalars.{scalar_raw, scalar_type};
 ghost use Rattle.vortex_value.specs.Size.{capped, child_size, elements_size, entries_size, entry_size, fields_size, size_of};
 ghost use Rattle.vortex_value.specs.Validity.{type_with};
 
@@ -50,7 +50,7 @@ fn size(value: Option<&ScalarValue>, dtype: &DType) -> usize
 #[cycle(size)]
 #[tactic(auto, using(crate::proofs::SizeSteps::shown))]
 fn size_of_elements(items: &[Option<ScalarValue>], element: &DType) -> usize
-    ensures { result ≡ capped (elements_size (type_of element.now) (raws_of items.now)) }
+    ensures { result ≡ capped (elements_size (type_of element.now) (value_trees items.now)) }
 {
     let mut total = 0usize;
     for item in items {
@@ -64,7 +64,7 @@ fn size_of_elements(items: &[Option<ScalarValue>], element: &DType) -> usize
 #[tactic(auto, using(crate::proofs::SizeSteps::shown))]
 fn size_of_entries(items: &[Option<ScalarValue>], map: &MapDType) -> usize
     ensures { result ≡
-        capped (entries_size (map_of map.now).key (map_of map.now).value (raws_of items.now)) }
+        capped (entries_size (map_of map.now).key (map_of map.now).value (value_trees items.now)) }
 {
     let mut total = 0usize;
     for item in items {
@@ -91,7 +91,7 @@ fn size_of_entry(entry: Option<&ScalarValue>, map: &MapDType) -> usize
 #[tactic(auto, using(crate::proofs::SizeSteps::shown))]
 fn size_of_pair(parts: &[Option<ScalarValue>], map: &MapDType) -> usize
     ensures { result ≡ capped (entry_size (map_of map.now).key (map_of map.now).value
-        (raw_tuple (raws_of parts.now))) }
+        (raw_tuple (value_trees parts.now))) }
 {
     match parts {
         [key, value] => {
@@ -106,7 +106,7 @@ fn size_of_pair(parts: &[Option<ScalarValue>], map: &MapDType) -> usize
 #[cycle(size)]
 #[tactic(auto, using(crate::proofs::SizeSteps::shown))]
 fn size_of_fields(items: &[Option<ScalarValue>], fields: &[DType]) -> usize
-    ensures { result ≡ capped (fields_size (types_of fields.now) (raws_of items.now)) }
+    ensures { result ≡ capped (fields_size (dtype_trees fields.now) (value_trees items.now)) }
 {
     let mut total = 0usize;
     for (item, field) in items.iter().zip(fields) {
@@ -120,7 +120,7 @@ fn size_of_fields(items: &[Option<ScalarValue>], fields: &[DType]) -> usize
 #[tactic(auto, using(crate::proofs::SizeSteps::shown))]
 fn size_of_child(union: &UnionValue, variants: &UnionVariants) -> usize
     ensures { result ≡ capped (child_size (type_with union.now.type_id
-        (variants_of variants.now).type_ids (types_from (variants_of variants.now).types))
+        (variants_of variants.now).type_ids (as_type_trees (variants_of variants.now).types))
         (λ t. size_of t (raw_of (option_map (λ b. b.value) union.now.child)))) }
 {
     match variant_with(variants, union.type_id) {

@@ -1,9 +1,9 @@
 //! What a type is below its extensions, and which type a union's id gives.
 
 ghost use Rattle.std.specs.Prelude.{◌≡◌, option_map};
-ghost use Rattle.vortex_dtype.specs.TypeOf.{type_of, types_from, variants_of};
+ghost use Rattle.vortex_dtype.specs.TypeOf.{type_of, as_type_trees, variants_of};
 ghost use Rattle.vortex_dtype.specs.TypeTree.{storage};
-ghost use Rattle.vortex_value.specs.Filling.{first_of};
+ghost use Rattle.vortex_value.specs.Steps.Filling.{first_of};
 ghost use Rattle.vortex_value.specs.Validity.{type_with};
 
 use vortex_dtype::{DType, UnionVariants};
@@ -23,7 +23,7 @@ pub(crate) fn storage_of(dtype: &DType) -> &DType
 pub(crate) fn variant_with(variants: &UnionVariants, id: u8) -> Option<&DType>
     ensures { option_map (λ t. type_of t.now) result
         ≡ type_with id (variants_of variants.now).type_ids
-        (types_from (variants_of variants.now).types) }
+        (as_type_trees (variants_of variants.now).types) }
 {
     match variants.tag_to_child_index(id) {
         Some(index) => variants.variant_by_index(index),

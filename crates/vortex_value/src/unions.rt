@@ -3,7 +3,7 @@
 ghost use Rattle.std.specs.Prelude.{◌≡◌, MatchResult, false};
 ghost use Rattle.std.specs.Option.{is_none, option_copied};
 ghost use Rattle.vortex_dtype.specs.declared.error.VortexError.TheVariants.{OutOfMemory};
-ghost use Rattle.vortex_value.specs.RawTree.{raw_union, is_absent};
+ghost use Rattle.vortex_value.specs.Values.RawTree.{raw_union, is_absent};
 
 use crate::copies;
 use crate::values::ScalarValue;
@@ -24,7 +24,7 @@ pub struct UnionValue {
 
 #[tactic(auto, using(crate::proofs::ValueSteps::shown))]
 impl UnionValue {
-    ghost use Rattle.vortex_value.specs.RawOf.{union_tree, raw_of};
+    ghost use Rattle.vortex_value.specs.Values.RawOf.{union_tree, raw_of};
 
     /// The value of the variant with this id. `OutOfMemory` is its only refusal, and never without a
     /// child.

@@ -2,13 +2,13 @@
 
 ghost use Rattle.std.specs.Prelude.{◌≡◌, ◌≢◌, ◌↔◌, Bool, Err, List, IfErr, IsOk, IsTrue, option_map, true};
 ghost use Rattle.std.specs.Option.{is_some, option_copied};
-ghost use Rattle.vortex_dtype.specs.TypeOf.{map_of, type_of, types_from, types_of, variants_of};
+ghost use Rattle.vortex_dtype.specs.TypeOf.{map_of, type_of, as_type_trees, dtype_trees, variants_of};
 ghost use Rattle.vortex_dtype.specs.TypeTree.{IsFlat, variant_type};
 ghost use Rattle.vortex_dtype.specs.declared.kinds.Nullability.TheVariants.{NonNullable};
 ghost use Rattle.vortex_value.specs.Breaches.{Found, Refuses, breaches, breaches_at, breaches_of_entry, child_breaches, element_breaches, entry_breaches, field_breaches, here, under};
-ghost use Rattle.vortex_value.specs.Faults.{Checks, HasPath, Shows};
-ghost use Rattle.vortex_value.specs.RawOf.{raw_of, raws_of, scalar_tree, value_tree};
-ghost use Rattle.vortex_value.specs.RawTree.{raw_tuple};
+ghost use Rattle.vortex_value.specs.Steps.Faults.{Checks, HasPath, Shows};
+ghost use Rattle.vortex_value.specs.Values.RawOf.{raw_of, value_trees, variant_tree, value_tree};
+ghost use Rattle.vortex_value.specs.Values.RawTree.{raw_tuple};
 ghost use Rattle.vortex_value.specs.Validity.{Valid, type_with};
 
 use crate::scalars::Scalar;
@@ -150,7 +150,7 @@ fn check_elements(
     element: &DType,
 ) -> Result<(), Fault>
     ensures { Checks (is_some path) result
-        (element_breaches (type_of element.now) 0 (raws_of items.now)) }
+        (element_breaches (type_of element.now) 0 (value_trees items.now)) }
 {
     for (index, item) in items.iter().enumerate() {
         below(Step::Element(index), check(path, item.as_ref(), element))?;
@@ -167,7 +167,7 @@ fn check_entries(
     map: &MapDType,
 ) -> Result<(), Fault>
     ensures { Checks (is_some path) result
-        (entry_breaches (map_of map.now).key (map_of map.now).value 0 (raws_of items.now)) }
+        (entry_breaches (map_of map.now).key (map_of map.now).value 0 (value_trees items.now)) }
 {
     for (index, item) in items.iter().enumerate() {
         below(Step::Entry(index), check_entry(path, item.as_ref(), map))?;
@@ -204,7 +204,7 @@ fn check_pair(
 ) -> Result<(), Fault>
     ensures { Checks (is_some path) result
         (breaches_of_entry (map_of map.now).key (map_of map.now).value
-        (raw_tuple (raws_of parts.now))) }
+        (raw_tuple (value_trees parts.now))) }
 {
     if parts.len() != 2 {
         return Err(breach_here(path, Breach::WrongLength));
@@ -224,7 +224,7 @@ fn check_fields(
     fields: &[DType],
 ) -> Result<(), Fault>
     ensures { Checks (is_some path) result
-        (field_breaches 0 (types_of fields.now) (raws_of items.now)) }
+        (field_breaches 0 (dtype_trees fields.now) (value_trees items.now)) }
 {
     for (index, (item, field)) in items.iter().zip(fields).enumerate() {
         below(Step::Field(index), check(path, item.as_ref(), field))?;
@@ -242,7 +242,7 @@ fn check_child(
 ) -> Result<(), Fault>
     ensures { Checks (is_some path) result (child_breaches
         (type_with union.now.type_id (variants_of variants.now).type_ids
-        (types_from (variants_of variants.now).types))
+        (as_type_trees (variants_of variants.now).types))
         (λ t. breaches t (raw_of (option_map (λ b. b.value) union.now.child)))) }
 {
     match variant_with(variants, union.type_id) {
@@ -256,7 +256,7 @@ fn check_child(
 #[tactic(auto, using(crate::proofs::ValidSteps::shown))]
 fn check_variant(path: Option<Global>, scalar: &Scalar) -> Result<(), Fault>
     ensures { Checks (is_some path) result
-        (breaches_at (variant_type NonNullable) (scalar_tree scalar.now)) }
+        (breaches_at (variant_type NonNullable) (variant_tree scalar.now)) }
 {
     match &scalar.value {
         Some(value) => below(Step::Inner, check_value(path, value, &scalar.dtype)),

@@ -3,8 +3,8 @@
 ghost use Rattle.std.specs.Prelude.{◌≡◌, MatchResult};
 ghost use Rattle.vortex_dtype.specs.declared.error.VortexError.TheVariants.{OutOfMemory};
 ghost use Rattle.vortex_pvalue.specs.Whole.{kind_of, whole_of};
-ghost use Rattle.vortex_value.specs.Parts.{IsBoolValue, IsIntegerValue, IsTextValue, IsBytesValue, IsTupleValue, IsUnionValue, IsVariantValue, TakesNoMemory};
-ghost use Rattle.vortex_value.specs.RawTree.{raw_bool, raw_integer, raw_text, raw_bytes, raw_tuple};
+ghost use Rattle.vortex_value.specs.Values.RawKinds.{IsBoolValue, IsIntegerValue, IsTextValue, IsBytesValue, IsTupleValue, IsUnionValue, IsVariantValue, TakesNoMemory};
+ghost use Rattle.vortex_value.specs.Values.RawTree.{raw_bool, raw_integer, raw_text, raw_bytes, raw_tuple};
 
 use crate::copies;
 use crate::scalars::Scalar;
@@ -37,7 +37,7 @@ pub enum ScalarValue {
 
 #[tactic(auto, using(crate::proofs::ValueSteps::shown))]
 impl ScalarValue {
-    ghost use Rattle.vortex_value.specs.RawOf.{value_tree, scalar_tree, union_tree, raws_of};
+    ghost use Rattle.vortex_value.specs.Values.RawOf.{value_tree, variant_tree, union_tree, value_trees};
 
     /// The truth value. The caller knows that it is one.
     ///
@@ -96,7 +96,7 @@ impl ScalarValue {
     /// Ports `ScalarValue::as_list`, which panics at another kind of value.
     pub fn as_list(&self) -> &[Option<ScalarValue>]
         requires { IsTupleValue (value_tree self.now) }
-        ensures { value_tree self.now ≡ raw_tuple (raws_of result.now) }
+        ensures { value_tree self.now ≡ raw_tuple (value_trees result.now) }
     {
         match self {
             ScalarValue::Tuple(parts) => parts,
@@ -123,7 +123,7 @@ impl ScalarValue {
     /// Ports `ScalarValue::as_variant`, which panics at another kind of value.
     pub fn as_variant(&self) -> &Scalar
         requires { IsVariantValue (value_tree self.now) }
-        ensures { value_tree self.now ≡ scalar_tree result.now }
+        ensures { value_tree self.now ≡ variant_tree result.now }
     {
         match self {
             ScalarValue::Variant(scalar) => scalar,
@@ -188,7 +188,7 @@ impl ScalarValue {
     /// Ports `ScalarValue::into_list`, which panics at another kind of value.
     pub fn into_list(self) -> Vec<Option<ScalarValue>>
         requires { IsTupleValue (value_tree self) }
-        ensures { value_tree self ≡ raw_tuple (raws_of result.items) }
+        ensures { value_tree self ≡ raw_tuple (value_trees result.items) }
     {
         match self {
             ScalarValue::Tuple(values) => values,
@@ -215,7 +215,7 @@ impl ScalarValue {
     /// Ports `ScalarValue::into_variant`, which panics at another kind of value.
     pub fn into_variant(self) -> Scalar
         requires { IsVariantValue (value_tree self) }
-        ensures { value_tree self ≡ scalar_tree result }
+        ensures { value_tree self ≡ variant_tree result }
     {
         match self {
             ScalarValue::Variant(scalar) => Box::into_inner(scalar),

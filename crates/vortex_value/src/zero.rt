@@ -3,14 +3,14 @@
 ghost use Rattle.std.specs.Prelude.{◌≡◌, ◌&&◌, IfErr, IfOk, IsOk, IsSome, MatchResult, length, option_map, pos};
 ghost use Rattle.std.specs.Option.{is_some, option_copied};
 ghost use Rattle.std.specs.Ordering.{int_eq};
-ghost use Rattle.vortex_dtype.specs.TypeOf.{type_of, types_from, types_of, variants_of};
+ghost use Rattle.vortex_dtype.specs.TypeOf.{type_of, as_type_trees, dtype_trees, variants_of};
 ghost use Rattle.vortex_dtype.specs.TypeTree.{IsFlat, is_nullable};
 ghost use Rattle.vortex_dtype.specs.declared.error.VortexError.TheVariants.{OutOfMemory};
 ghost use Rattle.vortex_pvalue.specs.Whole.{whole_of};
-ghost use Rattle.vortex_value.specs.Content.{content, contents};
-ghost use Rattle.vortex_value.specs.RawOf.{raw_of, raws_of, union_tree};
-ghost use Rattle.vortex_value.specs.Scalars.{scalar_content, scalar_type};
-ghost use Rattle.vortex_value.specs.Filling.{EachFills, FillFields, Fills, FillsFirst, child_filling, first_of};
+ghost use Rattle.vortex_value.specs.Values.Content.{content, contents};
+ghost use Rattle.vortex_value.specs.Values.RawOf.{raw_of, value_trees, union_tree};
+ghost use Rattle.vortex_value.specs.Values.Scalars.{scalar_content, scalar_type};
+ghost use Rattle.vortex_value.specs.Steps.Filling.{EachFills, FillFields, Fills, FillsFirst, child_filling, first_of};
 ghost use Rattle.vortex_value.specs.Zero.{IsTheOneOf, default_of, each_zero, fields_zero, filling, fillings, is_zero_of, of_first, of_inner, places_of, zero_of};
 
 use crate::scalars::Scalar;
@@ -71,7 +71,7 @@ fn is_first_filled(variants: &UnionVariants, nulls: bool) -> bool
 #[cycle(fills)]
 #[tactic(auto, using(crate::proofs::FillingSteps::shown))]
 fn are_filled(dtypes: &[DType], nulls: bool) -> bool
-    ensures { result ≡ is_some (fillings nulls (types_of dtypes.now)) }
+    ensures { result ≡ is_some (fillings nulls (dtype_trees dtypes.now)) }
 {
     for dtype in dtypes {
         if !is_filled(dtype, nulls) {
@@ -135,7 +135,7 @@ fn fill_places(
     requires { IsSome (places_of size (filling nulls (type_of element.now))) }
     ensures { MatchResult result
         (λ items. (length items.items ≡ size)
-        × EachFills nulls (type_of element.now) (raws_of items.items))
+        × EachFills nulls (type_of element.now) (value_trees items.items))
         (λ e. e ≡ OutOfMemory) }
 {
     let mut items = Vec::with_capacity(alloc, size as usize)?;
@@ -153,9 +153,9 @@ fn fill_fields(
     dtypes: &[DType],
     nulls: bool,
 ) -> Result<Vec<Option<ScalarValue>>, VortexError>
-    requires { IsSome (fillings nulls (types_of dtypes.now)) }
+    requires { IsSome (fillings nulls (dtype_trees dtypes.now)) }
     ensures { MatchResult result
-        (λ items. FillFields nulls (types_of dtypes.now) (raws_of items.items))
+        (λ items. FillFields nulls (dtype_trees dtypes.now) (value_trees items.items))
         (λ e. e ≡ OutOfMemory) }
 {
     let mut items = Vec::with_capacity(alloc, dtypes.len())?;
@@ -243,7 +243,7 @@ fn is_zero(value: Option<&ScalarValue>, dtype: &DType) -> Option<bool>
 #[cycle(is_zero)]
 #[tactic(auto, using(crate::proofs::ZeroSteps::shown))]
 fn are_elements_zero(items: &[Option<ScalarValue>], element: &DType) -> bool
-    ensures { result ≡ each_zero (type_of element.now) (contents (raws_of items.now)) }
+    ensures { result ≡ each_zero (type_of element.now) (contents (value_trees items.now)) }
 {
     for item in items {
         if is_zero(item.as_ref(), element) != Some(true) {
@@ -257,7 +257,7 @@ fn are_elements_zero(items: &[Option<ScalarValue>], element: &DType) -> bool
 #[cycle(is_zero)]
 #[tactic(auto, using(crate::proofs::ZeroSteps::shown))]
 fn are_fields_zero(items: &[Option<ScalarValue>], fields: &[DType]) -> bool
-    ensures { result ≡ fields_zero (types_of fields.now) (contents (raws_of items.now)) }
+    ensures { result ≡ fields_zero (dtype_trees fields.now) (contents (value_trees items.now)) }
 {
     if items.len() != fields.len() {
         return false;
@@ -275,7 +275,7 @@ fn are_fields_zero(items: &[Option<ScalarValue>], fields: &[DType]) -> bool
 #[tactic(auto, using(crate::proofs::ZeroSteps::shown))]
 fn is_child_zero(union: &UnionValue, variants: &UnionVariants) -> Option<bool>
     ensures { result ≡ of_first (variants_of variants.now).type_ids
-        (types_from (variants_of variants.now).types) union.now.type_id
+        (as_type_trees (variants_of variants.now).types) union.now.type_id
         (λ t. is_zero_of t (content (raw_of (option_map (λ b. b.value) union.now.child)))) }
 {
     match first_variant(variants) {

@@ -3,7 +3,7 @@
 ghost use Rattle.std.specs.Prelude.{OnOk};
 ghost use Rattle.std.specs.List.{All};
 ghost use Rattle.vortex_value.specs.Makers.{IsValidEntry};
-ghost use Rattle.vortex_value.specs.Scalars.{IsValid};
+ghost use Rattle.vortex_value.specs.Values.Scalars.{IsValid};
 
 use crate::answers::{Answer, made};
 use crate::calls::queries::validate;

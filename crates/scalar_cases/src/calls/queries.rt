@@ -1,7 +1,7 @@
 //! The calls that borrow their inputs.
 
 ghost use Rattle.std.specs.Prelude.{OnOk};
-ghost use Rattle.vortex_value.specs.Scalars.{IsValid};
+ghost use Rattle.vortex_value.specs.Values.Scalars.{IsValid};
 
 use crate::answers::{Answer, if_made, made, order, text_of, truth, truth_if_any};
 use crate::calls::recorder::fed;

@@ -6,8 +6,8 @@ ghost use Rattle.std.specs.Ordering.{on};
 ghost use Rattle.std.proofs.lemmas.Cmp.{on_equiv};
 ghost use Rattle.vortex_dtype.specs.TypeTree.{keep, trim, trim_all};
 ghost use Rattle.vortex_dtype.specs.TypeEquality.{tree_eq, trees_eq, nullability_eq, fields_eq, variants_eq, map_eq, ext_eq};
-ghost use Rattle.vortex_dtype.specs.TypeLaws.{tree_eq-equiv, equiv-from_Decides, map_eq-Decides, fields_eq-Decides, variants_eq-Decides, ext_eq-Decides};
-ghost use Rattle.vortex_dtype.specs.TypeOf.{type_of, types_of, fields_of, variants_of, map_of, ext_of};
+ghost use Rattle.vortex_dtype.specs.Lemmas.TypeLaws.{tree_eq-equiv, equiv-from_Decides, map_eq-Decides, fields_eq-Decides, variants_eq-Decides, ext_eq-Decides};
+ghost use Rattle.vortex_dtype.specs.TypeOf.{type_of, dtype_trees, fields_of, variants_of, map_of, ext_of};
 
 use super::{DType, ExtDType, MapDType, StructFields, UnionVariants};
 use crate::kinds::Nullability;
@@ -88,7 +88,7 @@ fn extensions_equal(exact: bool, a: &ExtDType, b: &ExtDType) -> bool
 #[cycle(equal)]
 fn all_equal(exact: bool, a: &[DType], b: &[DType]) -> bool
     ensures { result
-        ≡ trees_eq (trim_all exact (types_of a.now)) (trim_all exact (types_of b.now)) }
+        ≡ trees_eq (trim_all exact (dtype_trees a.now)) (trim_all exact (dtype_trees b.now)) }
 {
     if a.len() != b.len() {
         return false;

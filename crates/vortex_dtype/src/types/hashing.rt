@@ -4,9 +4,9 @@ ghost use Rattle.std.specs.Prelude.{◌≡◌, fold, true};
 ghost use Rattle.std.proofs.Common.{ap};
 ghost use Rattle.std.specs.Hash as fed;
 ghost use Rattle.vortex_dtype.specs.TypeTree.{keep, trim, trim_all};
-ghost use Rattle.vortex_dtype.specs.TypeLaws.{tree_eq-same, map_eq-Decides, fields_eq-Decides, variants_eq-Decides, ext_eq-Decides};
+ghost use Rattle.vortex_dtype.specs.Lemmas.TypeLaws.{tree_eq-same, map_eq-Decides, fields_eq-Decides, variants_eq-Decides, ext_eq-Decides};
 ghost use Rattle.vortex_dtype.specs.Feeds.{variant_number, tree_feed, trees_feed, nullability_feed, map_feed, fields_feed, variants_feed, ext_feed};
-ghost use Rattle.vortex_dtype.specs.TypeOf.{type_of, types_of, fields_of, variants_of, map_of, ext_of};
+ghost use Rattle.vortex_dtype.specs.TypeOf.{type_of, dtype_trees, fields_of, variants_of, map_of, ext_of};
 
 use super::{DType, ExtDType, MapDType, StructFields, UnionVariants};
 use crate::kinds::Nullability;
@@ -84,7 +84,7 @@ pub(super) fn feed<H: Hasher>(exact: bool, dtype: &DType, state: &mut H)
 #[cycle(feed)]
 fn feed_all<H: Hasher>(exact: bool, dtypes: &[DType], state: &mut H)
     ensures { state.new
-        ≡ fold H.write state.old (trees_feed (trim_all exact (types_of dtypes.now))) }
+        ≡ fold H.write state.old (trees_feed (trim_all exact (dtype_trees dtypes.now))) }
 {
     for dtype in dtypes {
         feed(exact, dtype, state);

@@ -4,8 +4,8 @@ ghost use Rattle.std.specs.Prelude.{◌≡◌, IfErr};
 ghost use Rattle.vortex_dtype.specs.TypeOf.{map_of, type_of};
 ghost use Rattle.vortex_dtype.specs.declared.error.VortexError.TheVariants.{CannotCast};
 ghost use Rattle.vortex_pvalue.specs.Whole.{whole_of};
-ghost use Rattle.vortex_value.specs.CastSteps.{Makes, SparesMemory, accepts, kept, leaves, number_to, sorts, takes_null};
-ghost use Rattle.vortex_value.specs.RawOf.{value_tree};
+ghost use Rattle.vortex_value.specs.Steps.CastSteps.{Makes, SparesMemory, accepts, kept, leaves, number_to, sorts, takes_null};
+ghost use Rattle.vortex_value.specs.Values.RawOf.{value_tree};
 
 use crate::copies;
 use crate::equality::same_types;

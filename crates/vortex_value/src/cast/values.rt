@@ -1,10 +1,10 @@
 //! The recursion of a cast, down the value.
 
 ghost use Rattle.std.specs.Option.{option_copied};
-ghost use Rattle.vortex_dtype.specs.TypeOf.{map_of, type_of, types_of};
-ghost use Rattle.vortex_value.specs.CastSteps.{Makes, SparesMemory, bare_to, cast_to, each_to, entries_to, entry_to, fields_to, map_to, parts_to, sized};
-ghost use Rattle.vortex_value.specs.RawOf.{raw_of, raws_of, value_tree};
-ghost use Rattle.vortex_value.specs.RawTree.{count, raw_tuple};
+ghost use Rattle.vortex_dtype.specs.TypeOf.{map_of, type_of, dtype_trees};
+ghost use Rattle.vortex_value.specs.Steps.CastSteps.{Makes, SparesMemory, bare_to, cast_to, each_to, entries_to, entry_to, fields_to, map_to, parts_to, sized};
+ghost use Rattle.vortex_value.specs.Values.RawOf.{raw_of, value_trees, value_tree};
+ghost use Rattle.vortex_value.specs.Values.RawTree.{count, raw_tuple};
 
 use super::rows::{cast_number, kept, leaves, sorts, takes_null};
 use crate::equality::same_types;
@@ -86,7 +86,7 @@ fn cast_parts(
     source: &DType,
     target: &DType,
 ) -> Result<Vec<Option<ScalarValue>>, VortexError>
-    ensures made { Makes (λ made. raws_of made.items) (parts_to (raws_of parts.now)
+    ensures made { Makes (λ made. value_trees made.items) (parts_to (value_trees parts.now)
         (type_of source.now) (type_of target.now)) result }
     ensures flat { SparesMemory (type_of target.now) result }
 {
@@ -119,8 +119,8 @@ fn cast_sized(
     from: &DType,
     to: &DType,
 ) -> Result<Vec<Option<ScalarValue>>, VortexError>
-    ensures { Makes (λ made. raws_of made.items) (sized (count (raws_of elements.now)) size
-        (each_to (raws_of elements.now) (type_of from.now) (type_of to.now))) result }
+    ensures { Makes (λ made. value_trees made.items) (sized (count (value_trees elements.now)) size
+        (each_to (value_trees elements.now) (type_of from.now) (type_of to.now))) result }
 {
     if elements.len() == size as usize {
         cast_elements(alloc, elements, from, to)
@@ -138,8 +138,8 @@ fn cast_elements(
     from: &DType,
     to: &DType,
 ) -> Result<Vec<Option<ScalarValue>>, VortexError>
-    ensures { Makes (λ made. raws_of made.items)
-        (each_to (raws_of elements.now) (type_of from.now) (type_of to.now)) result }
+    ensures { Makes (λ made. value_trees made.items)
+        (each_to (value_trees elements.now) (type_of from.now) (type_of to.now)) result }
 {
     let mut made = Vec::with_capacity(alloc, elements.len())?;
     for element in elements {
@@ -156,7 +156,7 @@ fn cast_map(
     from: &MapDType,
     to: &MapDType,
 ) -> Result<Vec<Option<ScalarValue>>, VortexError>
-    ensures { Makes (λ made. raws_of made.items) (map_to (entries_to (raws_of entries.now))
+    ensures { Makes (λ made. value_trees made.items) (map_to (entries_to (value_trees entries.now))
         (map_of from.now) (map_of to.now)) result }
 {
     if sorts(from, to) {
@@ -174,7 +174,7 @@ fn cast_entries(
     from: &MapDType,
     to: &MapDType,
 ) -> Result<Vec<Option<ScalarValue>>, VortexError>
-    ensures { Makes (λ made. raws_of made.items) (entries_to (raws_of entries.now)
+    ensures { Makes (λ made. value_trees made.items) (entries_to (value_trees entries.now)
         (map_of from.now) (map_of to.now)) result }
 {
     let mut made = Vec::with_capacity(alloc, entries.len())?;
@@ -211,7 +211,7 @@ fn cast_pair(
     from: &MapDType,
     to: &MapDType,
 ) -> Result<ScalarValue, VortexError>
-    ensures { Makes value_tree (entry_to (raw_tuple (raws_of parts.now))
+    ensures { Makes value_tree (entry_to (raw_tuple (value_trees parts.now))
         (map_of from.now) (map_of to.now)) result }
 {
     if parts.len() != 2 {
@@ -235,8 +235,8 @@ fn cast_fields(
     sources: &[DType],
     targets: &[DType],
 ) -> Result<Vec<Option<ScalarValue>>, VortexError>
-    ensures { Makes (λ made. raws_of made.items)
-        (fields_to (raws_of fields.now) (types_of sources.now) (types_of targets.now)) result }
+    ensures { Makes (λ made. value_trees made.items)
+        (fields_to (value_trees fields.now) (dtype_trees sources.now) (dtype_trees targets.now)) result }
 {
     if fields.len() != sources.len() {
         return Err(VortexError::CannotCast);

@@ -6,10 +6,10 @@ ghost use Rattle.vortex_dtype.specs.Refusals.{RefusesOrNoMemory};
 ghost use Rattle.vortex_dtype.specs.TypeOf.{type_of};
 ghost use Rattle.vortex_dtype.specs.TypeTree.{list_type, fixed_size_list_type};
 ghost use Rattle.vortex_dtype.specs.declared.error.VortexError.TheVariants.{OutOfMemory};
-ghost use Rattle.vortex_value.specs.Makers.{count_cause, list_cause, raws_in, wrong_place};
-ghost use Rattle.vortex_value.specs.RawOf.{value_tree};
-ghost use Rattle.vortex_value.specs.RawTree.{raw_tuple, no_raws};
-ghost use Rattle.vortex_value.specs.Scalars.{IsMadeOf, IsValid};
+ghost use Rattle.vortex_value.specs.Makers.{count_cause, list_cause, child_trees, wrong_place};
+ghost use Rattle.vortex_value.specs.Values.RawOf.{value_tree};
+ghost use Rattle.vortex_value.specs.Values.RawTree.{raw_tuple, no_raws};
+ghost use Rattle.vortex_value.specs.Values.Scalars.{IsMadeOf, IsValid};
 
 use crate::scalars::Scalar;
 use crate::values::ScalarValue;
@@ -33,7 +33,7 @@ impl Scalar {
             (list_cause (type_of element_dtype) children.items) result }
         ensures made { IfOk result
             (IsMadeOf (list_type (type_of element_dtype) nullability)
-            (raw_tuple (raws_in children.items))) }
+            (raw_tuple (child_trees children.items))) }
         ensures valid { IfOk result IsValid }
     {
         list_size(&element_dtype, &children)?;
@@ -58,7 +58,7 @@ impl Scalar {
         ensures made { IfOk result
             (IsMadeOf
             (fixed_size_list_type (type_of element_dtype) (length children.items) nullability)
-            (raw_tuple (raws_in children.items))) }
+            (raw_tuple (child_trees children.items))) }
         ensures valid { IfOk result IsValid }
     {
         let size = list_size(&element_dtype, &children)?;
@@ -123,7 +123,7 @@ fn as_size(count: usize) -> Result<u32, VortexError>
 /// The raw value of which these children are the parts.
 pub(super) fn tuple_of(alloc: Global, children: Vec<Scalar>) -> Result<ScalarValue, VortexError>
     ensures { MatchResult result
-        (λ value. value_tree value ≡ raw_tuple (raws_in children.items))
+        (λ value. value_tree value ≡ raw_tuple (child_trees children.items))
         (λ e. e ≡ OutOfMemory) }
 {
     let mut values = Vec::with_capacity(alloc, children.len())?;

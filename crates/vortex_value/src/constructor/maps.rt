@@ -7,9 +7,9 @@ ghost use Rattle.vortex_dtype.specs.Refusals.{RefusesOrNoMemory};
 ghost use Rattle.vortex_dtype.specs.TypeOf.{type_of, map_of};
 ghost use Rattle.vortex_dtype.specs.declared.error.VortexError.TheVariants.{OutOfMemory, WrongKind};
 ghost use Rattle.vortex_value.specs.Makers.{EachItem, IsValidEntry, MadeOfItems, RefusesItems, entries_cause, is_entry_of, map_cause, raw_entries, raw_entry, wrong_entry};
-ghost use Rattle.vortex_value.specs.RawOf.{value_tree};
-ghost use Rattle.vortex_value.specs.RawTree.{raw_tuple};
-ghost use Rattle.vortex_value.specs.Scalars.{IsMadeOf, IsValid};
+ghost use Rattle.vortex_value.specs.Values.RawOf.{value_tree};
+ghost use Rattle.vortex_value.specs.Values.RawTree.{raw_tuple};
+ghost use Rattle.vortex_value.specs.Values.Scalars.{IsMadeOf, IsValid};
 
 use crate::scalars::Scalar;
 use crate::values::ScalarValue;

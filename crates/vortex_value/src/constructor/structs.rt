@@ -8,10 +8,10 @@ ghost use Rattle.vortex_dtype.specs.Refusals.{RefusesOrNoMemory};
 ghost use Rattle.vortex_dtype.specs.TypeEquality.{tree_eq};
 ghost use Rattle.vortex_dtype.specs.TypeOf.{type_of, fields_of};
 ghost use Rattle.vortex_dtype.specs.declared.error.VortexError.TheVariants.{WrongKind};
-ghost use Rattle.vortex_value.specs.Makers.{EachItem, MadeOfItems, RefusesItems, fields_cause, raws_in, struct_cause};
-ghost use Rattle.vortex_value.specs.RawOf.{value_tree};
-ghost use Rattle.vortex_value.specs.RawTree.{raw_tuple};
-ghost use Rattle.vortex_value.specs.Scalars.{IsMadeOf, IsValid, scalar_type};
+ghost use Rattle.vortex_value.specs.Makers.{EachItem, MadeOfItems, RefusesItems, fields_cause, child_trees, struct_cause};
+ghost use Rattle.vortex_value.specs.Values.RawOf.{value_tree};
+ghost use Rattle.vortex_value.specs.Values.RawTree.{raw_tuple};
+ghost use Rattle.vortex_value.specs.Values.Scalars.{IsMadeOf, IsValid, scalar_type};
 
 use super::lists::tuple_of;
 use crate::scalars::Scalar;
@@ -40,7 +40,7 @@ impl Scalar {
             (fields_cause fields.types) result) }
         ensures made { MadeOfItems I.into_iter_gives I.IntoIter.next_gives children
             (struct_cause (fields_in (type_of dtype)))
-            (λ items. IsMadeOf (type_of dtype) (raw_tuple (raws_in items))) result }
+            (λ items. IsMadeOf (type_of dtype) (raw_tuple (child_trees items))) result }
         ensures valid { IfOk result IsValid }
     {
         let children = children.into_iter();
@@ -64,7 +64,7 @@ fn struct_value(
 ) -> Result<ScalarValue, VortexError>
     ensures refused { RefusesOrNoMemory
         (fields_cause (fields_of fields.now).types children.items) result }
-    ensures made { IfOk result (λ value. value_tree value ≡ raw_tuple (raws_in children.items)) }
+    ensures made { IfOk result (λ value. value_tree value ≡ raw_tuple (child_trees children.items)) }
 {
     if let Some(cause) = fields_cause(fields, &children) {
         return Err(cause);

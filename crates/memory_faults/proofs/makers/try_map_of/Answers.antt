@@ -2,7 +2,7 @@ use Rattle.std.proofs.Common.{ap, subst, ◌∙◌}
 use Rattle.std.specs.Iterator.Runs.{ItemsAre}
 use Rattle.std.specs.Vec.Iter.{into_iter_items}
 use Rattle.vortex_value.specs.Makers.{IsValidEntry}
-use Rattle.vortex_value.specs.ItemLaws.{each_item}
+use Rattle.vortex_value.specs.Lemmas.ItemLaws.{each_item}
 use Rattle.memory_faults.proofs.makers.try_map_of.Goals as goal
 
 pub try_map-requires-clause-entries : goal.try_map-requires-clause-entries

@@ -1,4 +1,4 @@
-use Rattle.vortex_value.specs.Scalars.{IsValid}
+use Rattle.vortex_value.specs.Values.Scalars.{IsValid}
 use Rattle.scalar_tests.proofs.ItemsGiven.{all_given}
 use Rattle.scalar_tests.proofs.items.struct_from_two.Goals as goal
 

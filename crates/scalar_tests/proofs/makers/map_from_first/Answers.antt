@@ -2,7 +2,7 @@ use Rattle.std.proofs.Common.{IfSome, ap, subst, ◌∙◌}
 use Rattle.std.specs.Iterator.Runs.{ItemsAre}
 use Rattle.std.specs.Vec.Iter.{into_iter_items}
 use Rattle.vortex_value.specs.Makers.{IsValidEntry}
-use Rattle.vortex_value.specs.ItemLaws.{each_item}
+use Rattle.vortex_value.specs.Lemmas.ItemLaws.{each_item}
 use Rattle.scalar_tests.proofs.makers.map_from_first.Goals as goal
 
 pub try_map-requires-clause-entries : goal.try_map-requires-clause-entries

@@ -1,5 +1,5 @@
 use Rattle.vortex_dtype.specs.TypeOf.{ext_of, fields_of, map_of, type_of, variants_of}
-use Rattle.vortex_dtype.specs.TypeLaws.{tree_eq-Decides, map_eq-Decides, fields_eq-Decides, variants_eq-Decides, ext_eq-Decides}
+use Rattle.vortex_dtype.specs.Lemmas.TypeLaws.{tree_eq-Decides, map_eq-Decides, fields_eq-Decides, variants_eq-Decides, ext_eq-Decides}
 use Rattle.vortex_dtype.proofs.laws.equality.Goals as goal
 
 pub returns-clause-types : goal.returns-clause-types

@@ -1,4 +1,4 @@
-use Rattle.vortex_dtype.specs.TypeLaws.{tree_eq-Decides}
+use Rattle.vortex_dtype.specs.Lemmas.TypeLaws.{tree_eq-Decides}
 use Rattle.vortex_dtype.proofs.laws.equality_decides.Goals as goal
 
 pub returns : goal.returns

@@ -1,5 +1,5 @@
 use Rattle.std.proofs.Common.{sym, ◌∙◌}
-use Rattle.vortex_dtype.specs.TypeLaws.{tree_eq-refl, tree_eq-Decides}
+use Rattle.vortex_dtype.specs.Lemmas.TypeLaws.{tree_eq-refl, tree_eq-Decides}
 use Rattle.vortex_dtype.proofs.laws.equality_is_an_equivalence.Goals as goal
 
 pub returns : goal.returns

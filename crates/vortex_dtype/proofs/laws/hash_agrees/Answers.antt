@@ -2,7 +2,7 @@ use Rattle.std.specs.Prelude.{true}
 use Rattle.std.proofs.Common.{ap}
 use Rattle.vortex_dtype.specs.Feeds.{tree_feed, map_feed, fields_feed, variants_feed, ext_feed}
 use Rattle.vortex_dtype.specs.TypeOf.{ext_of, fields_of, map_of, type_of, variants_of}
-use Rattle.vortex_dtype.specs.TypeLaws.{tree_eq-Decides, map_eq-Decides, fields_eq-Decides, variants_eq-Decides, ext_eq-Decides}
+use Rattle.vortex_dtype.specs.Lemmas.TypeLaws.{tree_eq-Decides, map_eq-Decides, fields_eq-Decides, variants_eq-Decides, ext_eq-Decides}
 use Rattle.vortex_dtype.proofs.laws.hash_agrees.Goals as goal
 
 pub returns-clause-types : goal.returns-clause-types

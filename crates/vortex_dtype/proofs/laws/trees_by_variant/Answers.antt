@@ -1,4 +1,4 @@
-use Rattle.vortex_dtype.specs.TypeLevels.{type_of-Null, type_of-Bool, type_of-Primitive, type_of-Utf8, type_of-Binary, type_of-List, type_of-FixedSizeList, type_of-Map, type_of-Struct, type_of-Union, type_of-Variant, type_of-Extension}
+use Rattle.vortex_dtype.specs.Lemmas.TypeLevels.{type_of-Null, type_of-Bool, type_of-Primitive, type_of-Utf8, type_of-Binary, type_of-List, type_of-FixedSizeList, type_of-Map, type_of-Struct, type_of-Union, type_of-Variant, type_of-Extension}
 use Rattle.vortex_dtype.proofs.laws.trees_by_variant.Goals as goal
 
 pub returns : goal.returns

@@ -1,4 +1,4 @@
-use Rattle.vortex_pvalue.proofs.LowNumbers.{reinterprets_back}
+use Rattle.vortex_pvalue.proofs.WrappedNumbers.{reinterprets_back}
 use Rattle.vortex_pvalue.proofs.laws.reinterprets_back.Goals as goal
 
 pub returns : goal.returns

@@ -2,7 +2,7 @@
 use Rattle.std.proofs.Common.{◌≡◌, [], drop, codes, refl, arith, rules}
 use Rattle.std.proofs.Output.{has_written_append}
 use Rattle.std.proofs.lemmas.List.{drop_all}
-use Rattle.vortex_value.proofs.TextSteps.{raws_here}
+use Rattle.vortex_value.proofs.TextSteps.{value_trees_at}
 use Rattle.vortex_value.proofs.ValidityLaws.{is_valid-only}
 use Rattle.vortex_value.proofs.Writes.{left_none, left_part}
 use Rattle.vortex_value.proofs.display.+raw_text.Goals as goal
@@ -11,7 +11,7 @@ pub write_raw_items-loop-index-preserved : goal.write_raw_items-loop-index-prese
 write_raw_items-loop-index-preserved g t c plain =
     let i = c.loop-index.index in
     let v = c.index-items-index.result in
-    let left = rw (raws_here i c.args.items.now v c.loop-index-test.true c.index-items-index.is) at (c.loop-index.invariant plain) in
+    let left = rw (value_trees_at i c.args.items.now v c.loop-index-test.true c.index-items-index.is) at (c.loop-index.invariant plain) in
     let separator = c.write_str-in-loop-index.ensures.writes left.wrote.plain (search rules) in
     let item = rw c.as_ref.ensures.value at (c.write_raw_part.ensures separator.plain (search rules)) in
     left_part _ i _ _ _ _ (codes ", ") _ _ _ _ left separator c.before-in-loop-index.ensures item

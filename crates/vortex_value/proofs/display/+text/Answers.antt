@@ -2,9 +2,9 @@
 use Rattle.std.proofs.Common.{◌≡◌, [], drop, codes, refl, arith, rules, inl, inr}
 use Rattle.std.proofs.Output.{has_written_append}
 use Rattle.std.proofs.lemmas.List.{drop_all, nil_from_length}
-use Rattle.vortex_dtype.specs.TypeLevels.{type_of-Union}
+use Rattle.vortex_dtype.specs.Lemmas.TypeLevels.{type_of-Union}
 use Rattle.vortex_dtype.specs.TypeOf.{map_of}
-use Rattle.vortex_value.proofs.TextSteps.{no_entry_text, no_types_left, no_values, pair_text, raws_here}
+use Rattle.vortex_value.proofs.TextSteps.{no_entry_text, no_types_left, no_values, pair_text, value_trees_at}
 use Rattle.vortex_value.proofs.ValueSteps.{value_tree-Tuple, union_tree-child}
 use Rattle.vortex_value.proofs.Writes.{has_written_none, left_all, left_none, left_part}
 use Rattle.vortex_value.proofs.display.+text.Goals as goal
@@ -36,7 +36,7 @@ pub write_elements-loop-index-preserved : goal.write_elements-loop-index-preserv
 write_elements-loop-index-preserved g t c plain =
     let i = c.loop-index.index in
     let v = c.index-items-index.result in
-    let left = rw (raws_here i c.args.items.now v c.loop-index-test.true c.index-items-index.is) at (c.loop-index.invariant plain) in
+    let left = rw (value_trees_at i c.args.items.now v c.loop-index-test.true c.index-items-index.is) at (c.loop-index.invariant plain) in
     let separator = c.write_str-in-loop-index.ensures.writes left.wrote.plain (search rules) in
     let item = rw c.as_ref.ensures.value at (c.write_part.ensures separator.plain (search rules)) in
     left_part _ i _ _ _ _ (codes ", ") _ _ _ _ left separator c.before-in-loop-index.ensures item
@@ -52,7 +52,7 @@ pub write_entries-loop-index-preserved : goal.write_entries-loop-index-preserved
 write_entries-loop-index-preserved g t c plain =
     let i = c.loop-index.index in
     let v = c.index-items-index.result in
-    let left = rw (raws_here i c.args.items.now v c.loop-index-test.true c.index-items-index.is) at (c.loop-index.invariant plain) in
+    let left = rw (value_trees_at i c.args.items.now v c.loop-index-test.true c.index-items-index.is) at (c.loop-index.invariant plain) in
     let separator = c.write_str-in-loop-index.ensures.writes left.wrote.plain (search rules) in
     let item = rw c.as_ref.ensures.value at (c.write_entry.ensures separator.plain (search rules)) in
     left_part _ i _ _ _ _ (codes ", ") _ _ _ _ left separator c.before-in-loop-index.ensures item

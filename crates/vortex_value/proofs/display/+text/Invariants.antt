@@ -1,7 +1,7 @@
 -- What is left to write in a loop, and that each call goes down the value.
 use Rattle.std.proofs.Common.{ℕ, ◌+◌, ◌*◌, Option, Some, None, Bor, drop, codes}
-use Rattle.vortex_dtype.specs.TypeOf.{fields_of, map_of, type_of, types_from, types_of}
-use Rattle.vortex_value.specs.RawOf.{raws_of}
+use Rattle.vortex_dtype.specs.TypeOf.{fields_of, map_of, type_of, as_type_trees, dtype_trees}
+use Rattle.vortex_value.specs.Values.RawOf.{value_trees}
 use Rattle.vortex_value.specs.Texts.{element_texts, entry_texts, field_texts}
 use Rattle.vortex_value.specs.declared.values.ScalarValue.{ScalarValue, size-ScalarValue}
 use Rattle.vortex_value.proofs.Writes.{Joins}
@@ -11,20 +11,20 @@ abbrev pub invariant-write_elements-loop-index : goal.invariant-write_elements-l
 invariant-write_elements-loop-index g l =
     let e = type_of l.element in
     Joins g.W.Write.write_str_gives (codes ", ") l.initial.f l.index
-    (element_texts e (raws_of (drop l.index l.items))) (element_texts e (raws_of l.items)) l.f
+    (element_texts e (value_trees (drop l.index l.items))) (element_texts e (value_trees l.items)) l.f
 
 abbrev pub invariant-write_entries-loop-index : goal.invariant-write_entries-loop-index
 invariant-write_entries-loop-index g l =
     let m = map_of l.map in
     Joins g.W.Write.write_str_gives (codes ", ") l.initial.f l.index
-    (entry_texts m.key m.value (raws_of (drop l.index l.items))) (entry_texts m.key m.value (raws_of l.items)) l.f
+    (entry_texts m.key m.value (value_trees (drop l.index l.items))) (entry_texts m.key m.value (value_trees l.items)) l.f
 
 abbrev pub invariant-write_fields-loop-index : goal.invariant-write_fields-loop-index
 invariant-write_fields-loop-index g l =
     let left = l.index-iterator.iter in
     let all = fields_of l.fields in
     Joins g.W.Write.write_str_gives (codes ", ") l.initial.f l.index-iterator.count
-    (field_texts left.a.b.rest.now (types_of left.b.rest.now) (raws_of left.a.a.rest.now)) (field_texts all.names (types_from all.types) (raws_of l.items)) l.f
+    (field_texts left.a.b.rest.now (dtype_trees left.b.rest.now) (value_trees left.a.a.rest.now)) (field_texts all.names (as_type_trees all.types) (value_trees l.items)) l.f
 
 -- the size of a borrowed value, if there is one
 abbrev pub lent_size : Option (Bor ScalarValue) → ℕ

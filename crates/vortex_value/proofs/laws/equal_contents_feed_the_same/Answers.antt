@@ -1,4 +1,4 @@
-use Rattle.vortex_value.specs.HashLaws.{equal_feed_same}
+use Rattle.vortex_value.specs.Lemmas.HashLaws.{equal_feed_same}
 use Rattle.vortex_value.proofs.laws.equal_contents_feed_the_same.Goals as goal
 
 pub returns : goal.returns

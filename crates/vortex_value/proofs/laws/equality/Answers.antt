@@ -1,8 +1,8 @@
-use Rattle.vortex_value.specs.Content.{content}
-use Rattle.vortex_value.specs.EqualityLaws.{equal-Decides, typed_equal-Decides}
-use Rattle.vortex_value.specs.RawOf.{union_tree, value_tree}
-use Rattle.vortex_value.specs.Refs.{ref_content, ref_type}
-use Rattle.vortex_value.specs.Scalars.{scalar_content, scalar_type}
+use Rattle.vortex_value.specs.Values.Content.{content}
+use Rattle.vortex_value.specs.Lemmas.EqualityLaws.{equal-Decides, typed_equal-Decides}
+use Rattle.vortex_value.specs.Values.RawOf.{union_tree, value_tree}
+use Rattle.vortex_value.specs.Values.Refs.{ref_content, ref_type}
+use Rattle.vortex_value.specs.Values.Scalars.{scalar_content, scalar_type}
 use Rattle.vortex_value.proofs.laws.equality.Goals as goal
 
 pub returns-clause-values : goal.returns-clause-values

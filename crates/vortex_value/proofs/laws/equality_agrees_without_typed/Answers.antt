@@ -1,4 +1,4 @@
-use Rattle.vortex_value.specs.EqualityLaws.{equality_agrees_without_typed}
+use Rattle.vortex_value.specs.Lemmas.EqualityLaws.{equality_agrees_without_typed}
 use Rattle.vortex_value.proofs.laws.equality_agrees_without_typed.Goals as goal
 
 pub returns : goal.returns

@@ -1,9 +1,9 @@
 use Rattle.std.proofs.lemmas.Cmp.{on_equiv}
-use Rattle.vortex_value.specs.Content.{content, typed}
-use Rattle.vortex_value.specs.EqualityLaws.{equal-equiv, equality_is_an_equivalence}
-use Rattle.vortex_value.specs.RawOf.{union_tree, value_tree}
-use Rattle.vortex_value.specs.Refs.{ref_content, ref_type}
-use Rattle.vortex_value.specs.Scalars.{scalar_content, scalar_type}
+use Rattle.vortex_value.specs.Values.Content.{content, typed}
+use Rattle.vortex_value.specs.Lemmas.EqualityLaws.{equal-equiv, equality_is_an_equivalence}
+use Rattle.vortex_value.specs.Values.RawOf.{union_tree, value_tree}
+use Rattle.vortex_value.specs.Values.Refs.{ref_content, ref_type}
+use Rattle.vortex_value.specs.Values.Scalars.{scalar_content, scalar_type}
 use Rattle.vortex_value.proofs.laws.equality_is_an_equivalence.Goals as goal
 
 pub returns-clause-contents : goal.returns-clause-contents

@@ -1,4 +1,4 @@
-use Rattle.vortex_value.specs.EqualityLaws.{equality_is_decided}
+use Rattle.vortex_value.specs.Lemmas.EqualityLaws.{equality_is_decided}
 use Rattle.vortex_value.proofs.laws.equality_is_decided.Goals as goal
 
 pub returns : goal.returns

@@ -1,9 +1,9 @@
 use Rattle.std.specs.Hash.{and-Alike, on_Alike}
-use Rattle.vortex_value.specs.Content.{content}
-use Rattle.vortex_value.specs.HashLaws.{content_feed-Alike, type_feed-Alike}
-use Rattle.vortex_value.specs.RawOf.{union_tree, value_tree}
-use Rattle.vortex_value.specs.Refs.{ref_content, ref_type}
-use Rattle.vortex_value.specs.Scalars.{scalar_content, scalar_type}
+use Rattle.vortex_value.specs.Values.Content.{content}
+use Rattle.vortex_value.specs.Lemmas.HashLaws.{content_feed-Alike, type_feed-Alike}
+use Rattle.vortex_value.specs.Values.RawOf.{union_tree, value_tree}
+use Rattle.vortex_value.specs.Values.Refs.{ref_content, ref_type}
+use Rattle.vortex_value.specs.Values.Scalars.{scalar_content, scalar_type}
 use Rattle.vortex_value.proofs.laws.hash_agrees.Goals as goal
 
 pub returns-clause-values : goal.returns-clause-values

@@ -1,5 +1,5 @@
-use Rattle.vortex_value.specs.Refs.{ref_content, ref_raw, ref_type}
-use Rattle.vortex_value.specs.Scalars.{scalar_content, scalar_raw, scalar_type}
+use Rattle.vortex_value.specs.Values.Refs.{ref_content, ref_raw, ref_type}
+use Rattle.vortex_value.specs.Values.Scalars.{scalar_content, scalar_raw, scalar_type}
 use Rattle.vortex_value.proofs.OrderAgrees.{agrees, no_typed}
 use Rattle.vortex_value.proofs.laws.order_agrees_with_equality.Goals as goal
 

@@ -1,5 +1,5 @@
-use Rattle.vortex_value.specs.Refs.{ref_content, ref_type}
-use Rattle.vortex_value.specs.Scalars.{scalar_content, scalar_type}
+use Rattle.vortex_value.specs.Values.Refs.{ref_content, ref_type}
+use Rattle.vortex_value.specs.Values.Scalars.{scalar_content, scalar_type}
 use Rattle.vortex_value.proofs.OrderLaws.{order_is_reversed, typed_order-reversed}
 use Rattle.vortex_value.proofs.laws.order_is_reversed.Goals as goal
 

@@ -1,15 +1,15 @@
 -- What the rest of two tuples says, and that each call goes down the first value.
 use Rattle.std.proofs.Common.{◌≡◌, ℕ, ◌+◌, ◌*◌, length, Option, Some, None, Bor}
-use Rattle.vortex_value.specs.Content.{contents}
+use Rattle.vortex_value.specs.Values.Content.{contents}
 use Rattle.vortex_value.specs.Order.{orders}
-use Rattle.vortex_value.specs.RawOf.{raws_of}
+use Rattle.vortex_value.specs.Values.RawOf.{value_trees}
 use Rattle.vortex_value.specs.declared.values.ScalarValue.{ScalarValue, size-ScalarValue}
 use Rattle.vortex_value.proofs.ordering.+order.Given as goal
 
 -- the rests decide, and as many places of both are behind
 abbrev pub invariant-compare_tuples-loop-x : goal.invariant-compare_tuples-loop-x
 invariant-compare_tuples-loop-x l =
-    (orders (contents (raws_of l.x-iterator.a.rest.now)) (contents (raws_of l.x-iterator.b.rest.now)) ≡ orders (contents (raws_of l.a)) (contents (raws_of l.b)))
+    (orders (contents (value_trees l.x-iterator.a.rest.now)) (contents (value_trees l.x-iterator.b.rest.now)) ≡ orders (contents (value_trees l.a)) (contents (value_trees l.b)))
     × (length l.x-iterator.a.rest.now + length l.b ≡ length l.x-iterator.b.rest.now + length l.a)
 
 -- the size of a borrowed value, if there is one

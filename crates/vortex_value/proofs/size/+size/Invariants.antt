@@ -1,22 +1,22 @@
 -- What is counted and what is left, and that each call goes down the value.
 use Rattle.std.proofs.Common.{◌≡◌, ℕ, ◌+◌, ◌*◌, Option, Some, None, Bor, drop}
-use Rattle.vortex_dtype.specs.TypeOf.{map_of, type_of, types_of}
-use Rattle.vortex_value.specs.RawOf.{raws_of}
+use Rattle.vortex_dtype.specs.TypeOf.{map_of, type_of, dtype_trees}
+use Rattle.vortex_value.specs.Values.RawOf.{value_trees}
 use Rattle.vortex_value.specs.Size.{capped, elements_size, entries_size, fields_size}
 use Rattle.vortex_value.specs.declared.values.ScalarValue.{ScalarValue, size-ScalarValue}
 use Rattle.vortex_value.proofs.size.+size.Given as goal
 
 abbrev pub invariant-size_of_elements-loop-item : goal.invariant-size_of_elements-loop-item
 invariant-size_of_elements-loop-item l =
-    (capped l.total ≡ l.total) × (capped (l.total + elements_size (type_of l.element) (raws_of (drop l.item-index l.items))) ≡ capped (elements_size (type_of l.element) (raws_of l.items)))
+    (capped l.total ≡ l.total) × (capped (l.total + elements_size (type_of l.element) (value_trees (drop l.item-index l.items))) ≡ capped (elements_size (type_of l.element) (value_trees l.items)))
 
 abbrev pub invariant-size_of_entries-loop-item : goal.invariant-size_of_entries-loop-item
 invariant-size_of_entries-loop-item l =
-    (capped l.total ≡ l.total) × (capped (l.total + entries_size (map_of l.map).key (map_of l.map).value (raws_of (drop l.item-index l.items))) ≡ capped (entries_size (map_of l.map).key (map_of l.map).value (raws_of l.items)))
+    (capped l.total ≡ l.total) × (capped (l.total + entries_size (map_of l.map).key (map_of l.map).value (value_trees (drop l.item-index l.items))) ≡ capped (entries_size (map_of l.map).key (map_of l.map).value (value_trees l.items)))
 
 abbrev pub invariant-size_of_fields-loop-item : goal.invariant-size_of_fields-loop-item
 invariant-size_of_fields-loop-item l =
-    (capped l.total ≡ l.total) × (capped (l.total + fields_size (types_of l.item-iterator.b.rest.now) (raws_of l.item-iterator.a.rest.now)) ≡ capped (fields_size (types_of l.fields) (raws_of l.items)))
+    (capped l.total ≡ l.total) × (capped (l.total + fields_size (dtype_trees l.item-iterator.b.rest.now) (value_trees l.item-iterator.a.rest.now)) ≡ capped (fields_size (dtype_trees l.fields) (value_trees l.items)))
 
 -- the size of a borrowed value, if there is one
 abbrev pub lent_size : Option (Bor ScalarValue) → ℕ

@@ -3,8 +3,8 @@ use Rattle.std.proofs.Common.{◌≡◌, Err, rules}
 use Rattle.std.specs.Option.{is_some}
 use Rattle.vortex_dtype.specs.TypeOf.{map_of}
 use Rattle.vortex_value.specs.Breaches.{breaches, breaches_of_entry}
-use Rattle.vortex_value.specs.Faults.{Checks}
-use Rattle.vortex_value.specs.RawOf.{raw_of}
+use Rattle.vortex_value.specs.Steps.Faults.{Checks}
+use Rattle.vortex_value.specs.Values.RawOf.{raw_of}
 use Rattle.vortex_value.proofs.ValidSteps.{entries_at, entry_of, entry_with, no_entry, Checks-both, Shows-more}
 use Rattle.vortex_value.proofs.validate.+validity.Goals as goal
 

@@ -1,22 +1,22 @@
 -- What is left to check in a loop, and that each call goes down the value.
 use Rattle.std.proofs.Common.{◌≡◌, ℕ, ◌+◌, ◌*◌, Option, Some, None, Bor, drop}
-use Rattle.vortex_dtype.specs.TypeOf.{map_of, type_of, types_of}
+use Rattle.vortex_dtype.specs.TypeOf.{map_of, type_of, dtype_trees}
 use Rattle.vortex_value.specs.Breaches.{element_breaches, entry_breaches, field_breaches}
-use Rattle.vortex_value.specs.RawOf.{raws_of}
+use Rattle.vortex_value.specs.Values.RawOf.{value_trees}
 use Rattle.vortex_value.specs.declared.values.ScalarValue.{ScalarValue, size-ScalarValue}
 use Rattle.vortex_value.proofs.validate.+validity.Given as goal
 
 abbrev pub invariant-check_elements-loop-index : goal.invariant-check_elements-loop-index
 invariant-check_elements-loop-index l =
-    element_breaches (type_of l.element) 0 (raws_of l.items) ≡ element_breaches (type_of l.element) l.index (raws_of (drop l.index l.items))
+    element_breaches (type_of l.element) 0 (value_trees l.items) ≡ element_breaches (type_of l.element) l.index (value_trees (drop l.index l.items))
 
 abbrev pub invariant-check_entries-loop-index : goal.invariant-check_entries-loop-index
 invariant-check_entries-loop-index l =
-    entry_breaches (map_of l.map).key (map_of l.map).value 0 (raws_of l.items) ≡ entry_breaches (map_of l.map).key (map_of l.map).value l.index (raws_of (drop l.index l.items))
+    entry_breaches (map_of l.map).key (map_of l.map).value 0 (value_trees l.items) ≡ entry_breaches (map_of l.map).key (map_of l.map).value l.index (value_trees (drop l.index l.items))
 
 abbrev pub invariant-check_fields-loop-index : goal.invariant-check_fields-loop-index
 invariant-check_fields-loop-index l =
-    field_breaches l.index-iterator.count (types_of l.index-iterator.iter.b.rest.now) (raws_of l.index-iterator.iter.a.rest.now) ≡ field_breaches 0 (types_of l.fields) (raws_of l.items)
+    field_breaches l.index-iterator.count (dtype_trees l.index-iterator.iter.b.rest.now) (value_trees l.index-iterator.iter.a.rest.now) ≡ field_breaches 0 (dtype_trees l.fields) (value_trees l.items)
 
 -- the size of a borrowed value, if there is one
 abbrev pub lent_size : Option (Bor ScalarValue) → ℕ

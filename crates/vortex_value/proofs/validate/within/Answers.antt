@@ -1,6 +1,6 @@
 -- One level up the path has one step more.
 use Rattle.std.proofs.Common.{subst}
-use Rattle.vortex_value.specs.Faults.{Shows}
+use Rattle.vortex_value.specs.Steps.Faults.{Shows}
 use Rattle.vortex_value.proofs.ValidSteps.{under-steps, some-steps}
 use Rattle.vortex_value.proofs.validate.within.Goals as goal
 

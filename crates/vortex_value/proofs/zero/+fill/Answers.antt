@@ -2,7 +2,7 @@
 use Rattle.std.proofs.Common.{◌≡◌, ◌++◌, ◌∷◌, [], rules, sym, ◌∙◌, arith}
 use Rattle.vortex_dtype.specs.TypeOf.{type_of, variants_of}
 use Rattle.vortex_dtype.specs.declared.types.DType.{the_lemmas}
-use Rattle.vortex_value.specs.Filling.{first_of}
+use Rattle.vortex_value.specs.Steps.Filling.{first_of}
 use Rattle.vortex_value.specs.Zero.{filling}
 use Rattle.vortex_value.proofs.FillingSteps.{child_asks, field_filled, fields_push_at, first_smaller, fixed_fills, place_filled, struct_asks_of, struct_fills, type_size_item, union_asks_of, union_fills}
 use Rattle.vortex_value.proofs.zero.+fill.Goals as goal

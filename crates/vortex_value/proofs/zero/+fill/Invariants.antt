@@ -1,17 +1,17 @@
 use Rattle.std.proofs.Common.{◌≡◌, ◌+◌, ◌*◌, length, take}
-use Rattle.vortex_dtype.specs.TypeOf.{type_of, types_from, types_of, variants_of}
-use Rattle.vortex_dtype.specs.TypeSize.{type_size, types_size}
-use Rattle.vortex_value.specs.RawOf.{raws_of}
-use Rattle.vortex_value.specs.Filling.{EachFills, FillFields}
+use Rattle.vortex_dtype.specs.TypeOf.{type_of, as_type_trees, dtype_trees, variants_of}
+use Rattle.vortex_dtype.specs.Lemmas.TypeSize.{type_size, types_size}
+use Rattle.vortex_value.specs.Values.RawOf.{value_trees}
+use Rattle.vortex_value.specs.Steps.Filling.{EachFills, FillFields}
 use Rattle.vortex_value.proofs.zero.+fill.Given as goal
 
 -- what is made fills as many places
 abbrev pub invariant-fill_places-loop : goal.invariant-fill_places-loop
-invariant-fill_places-loop l = (length l.items.items ≡ l.counter) × EachFills l.nulls (type_of l.element) (raws_of l.items.items)
+invariant-fill_places-loop l = (length l.items.items ≡ l.counter) × EachFills l.nulls (type_of l.element) (value_trees l.items.items)
 
 -- what is made fills the types so far
 abbrev pub invariant-fill_fields-loop-dtype : goal.invariant-fill_fields-loop-dtype
-invariant-fill_fields-loop-dtype l = FillFields l.nulls (types_of (take l.dtype-index l.dtypes)) (raws_of l.items.items)
+invariant-fill_fields-loop-dtype l = FillFields l.nulls (dtype_trees (take l.dtype-index l.dtypes)) (value_trees l.items.items)
 
 -- each call goes down the type
 
@@ -22,7 +22,7 @@ abbrev pub decreases-fill_places : goal.decreases-fill_places
 decreases-fill_places l = 2 * type_size (type_of l.element.now) + 1
 
 abbrev pub decreases-fill_first : goal.decreases-fill_first
-decreases-fill_first l = 2 * types_size (types_from (variants_of l.variants.now).types) + 1
+decreases-fill_first l = 2 * types_size (as_type_trees (variants_of l.variants.now).types) + 1
 
 abbrev pub decreases-fill_fields : goal.decreases-fill_fields
-decreases-fill_fields l = 2 * types_size (types_of l.dtypes.now) + 1
+decreases-fill_fields l = 2 * types_size (dtype_trees l.dtypes.now) + 1

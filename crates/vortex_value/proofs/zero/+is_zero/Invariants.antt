@@ -1,19 +1,19 @@
 -- What is left to test, and that each call goes down the value.
 use Rattle.std.proofs.Common.{◌≡◌, ℕ, ◌+◌, ◌*◌, Option, Some, None, Bor, drop, length}
-use Rattle.vortex_dtype.specs.TypeOf.{type_of, types_of}
-use Rattle.vortex_value.specs.Content.{contents}
-use Rattle.vortex_value.specs.RawOf.{raws_of}
+use Rattle.vortex_dtype.specs.TypeOf.{type_of, dtype_trees}
+use Rattle.vortex_value.specs.Values.Content.{contents}
+use Rattle.vortex_value.specs.Values.RawOf.{value_trees}
 use Rattle.vortex_value.specs.Zero.{each_zero, fields_zero}
 use Rattle.vortex_value.specs.declared.values.ScalarValue.{ScalarValue, size-ScalarValue}
 use Rattle.vortex_value.proofs.zero.+is_zero.Given as goal
 
 abbrev pub invariant-are_elements_zero-loop-item : goal.invariant-are_elements_zero-loop-item
 invariant-are_elements_zero-loop-item l =
-    each_zero (type_of l.element) (contents (raws_of (drop l.item-index l.items))) ≡ each_zero (type_of l.element) (contents (raws_of l.items))
+    each_zero (type_of l.element) (contents (value_trees (drop l.item-index l.items))) ≡ each_zero (type_of l.element) (contents (value_trees l.items))
 
 abbrev pub invariant-are_fields_zero-loop-item : goal.invariant-are_fields_zero-loop-item
 invariant-are_fields_zero-loop-item l =
-    (fields_zero (types_of l.item-iterator.b.rest.now) (contents (raws_of l.item-iterator.a.rest.now)) ≡ fields_zero (types_of l.fields) (contents (raws_of l.items)))
+    (fields_zero (dtype_trees l.item-iterator.b.rest.now) (contents (value_trees l.item-iterator.a.rest.now)) ≡ fields_zero (dtype_trees l.fields) (contents (value_trees l.items)))
     × (length l.item-iterator.a.rest.now ≡ length l.item-iterator.b.rest.now)
 
 -- the size of a borrowed value, if there is one

@@ -1,8 +1,8 @@
 use Rattle.std.proofs.Common.{ap, subst, ◌∙◌}
 use Rattle.std.specs.Iterator.Runs.{ItemsAre}
 use Rattle.std.specs.Vec.Iter.{into_iter_items}
-use Rattle.vortex_value.specs.Scalars.{IsValid}
-use Rattle.vortex_value.specs.ItemLaws.{each_item}
+use Rattle.vortex_value.specs.Values.Scalars.{IsValid}
+use Rattle.vortex_value.specs.Lemmas.ItemLaws.{each_item}
 use Rattle.scalar_cases.proofs.calls.makers.struct_of_valid.Goals as goal
 
 pub struct_-requires-clause-children : goal.struct_-requires-clause-children

@@ -2,7 +2,7 @@ use Rattle.std.proofs.Common.{subst}
 use Rattle.std.specs.List.{All}
 use Rattle.std.proofs.lemmas.List.{take_all}
 use Rattle.std.proofs.lemmas.List.Elements.{All-more}
-use Rattle.vortex_value.specs.Scalars.{IsValid}
+use Rattle.vortex_value.specs.Values.Scalars.{IsValid}
 use Rattle.scalar_cases.proofs.calls.makers.validate_all.Goals as goal
 
 pub loop-scalar-preserved : goal.loop-scalar-preserved

@@ -1,6 +1,6 @@
 use Rattle.std.proofs.Common.{take}
 use Rattle.std.specs.List.{All}
-use Rattle.vortex_value.specs.Scalars.{IsValid}
+use Rattle.vortex_value.specs.Values.Scalars.{IsValid}
 use Rattle.scalar_cases.proofs.calls.makers.validate_all.Given as goal
 
 abbrev pub invariant-loop-scalar : goal.invariant-loop-scalar

@@ -1,7 +1,7 @@
 use Rattle.std.proofs.Common.{sym, ◌∙◌}
 use Rattle.vortex_dtype.specs.TypeTree.{erase}
 use Rattle.vortex_dtype.specs.TypeOf.{type_of}
-use Rattle.vortex_dtype.specs.TypeLaws.{tree_eq-Decides}
+use Rattle.vortex_dtype.specs.Lemmas.TypeLaws.{tree_eq-Decides}
 use Rattle.vortex_dtype.proofs.types.DType.eq_ignore_nullability.Goals as goal
 
 pub returns : goal.returns

@@ -1,6 +1,6 @@
 use Rattle.std.proofs.lemmas.Bool.Decides.{same_from_decides}
 use Rattle.vortex_dtype.specs.TypeOf.{type_of}
-use Rattle.vortex_value.specs.RawOf.{value_tree}
+use Rattle.vortex_value.specs.Values.RawOf.{value_tree}
 use Rattle.vortex_value.proofs.CastCode.{accepts-Decides}
 use Rattle.vortex_value.proofs.cast.rows.accepts.Goals as goal
 

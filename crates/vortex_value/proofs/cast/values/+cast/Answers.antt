@@ -5,8 +5,8 @@ use Rattle.std.specs.Option.{option_copied}
 use Rattle.vortex_dtype.specs.TypeOf.{map_of, type_of}
 use Rattle.vortex_dtype.specs.declared.types.DType.{the_lemmas}
 use Rattle.vortex_value.specs.Casts.{IsExtension}
-use Rattle.vortex_value.specs.CastSteps.{each_to, entries_to}
-use Rattle.vortex_value.specs.RawOf.{raws_of}
+use Rattle.vortex_value.specs.Steps.CastSteps.{each_to, entries_to}
+use Rattle.vortex_value.specs.Values.RawOf.{value_trees}
 use Rattle.vortex_value.proofs.CastCode.{all_done, cast_below, entry_at, fields_at, fields_end, flat_storage, no_entry, no_fields, no_value, none_more, one_more, parts_at, passed_on}
 use Rattle.vortex_value.proofs.ValueSteps.{value_tree-Tuple}
 use Rattle.vortex_value.proofs.cast.values.+cast.Goals as goal
@@ -18,7 +18,7 @@ cast_elements-returns-in_err-cast_value t c =
     let l = c.loop-element in
     let lent : option_copied c.as_ref.result ≡ c.element-item.result = search rules in
     let is : c.from_residual-in_err-cast_value.result ≡ Err c.in_err-cast_value.field-0.0 = search rules in
-    let here = ap (λ vs. each_to (raws_of vs) (type_of c.args.from.now) (type_of c.args.to.now)) (parts_at c.args.elements.now l.element-index c.element-item.result c.loop-element-test.true c.element-item.is) in
+    let here = ap (λ vs. each_to (value_trees vs) (type_of c.args.from.now) (type_of c.args.to.now)) (parts_at c.args.elements.now l.element-index c.element-item.result c.loop-element-test.true c.element-item.is) in
     passed_on _ _ _ _ _ is (rw lent at c.in_err-cast_value.ensures.made) (λ none. none_more l.made.items _ _ _ _ l.invariant here none)
 
 pub cast_elements-loop-element-preserved : goal.cast_elements-loop-element-preserved
@@ -26,13 +26,13 @@ cast_elements-loop-element-preserved t c =
     let l = c.loop-element in
     let lent : option_copied c.as_ref.result ≡ c.element-item.result = search rules in
     let pushed : c.push.new.self.items ≡ c.loop-element.made.items ++ c.in_ok-cast_value.field-0 ∷ [] = search rules in
-    let here = ap (λ vs. each_to (raws_of vs) (type_of c.args.from.now) (type_of c.args.to.now)) (parts_at c.args.elements.now l.element-index c.element-item.result c.loop-element-test.true c.element-item.is) in
+    let here = ap (λ vs. each_to (value_trees vs) (type_of c.args.from.now) (type_of c.args.to.now)) (parts_at c.args.elements.now l.element-index c.element-item.result c.loop-element-test.true c.element-item.is) in
     rw (add-one, pushed) (one_more l.made.items c.in_ok-cast_value.field-0 _ _ _ _ l.invariant here (rw lent at c.in_ok-cast_value.ensures.made))
 
 pub cast_elements-returns : goal.cast_elements-returns
 cast_elements-returns t c =
     all_done c.loop-element.made.items _ _ c.loop-element.invariant
-    (ap (λ vs. each_to (raws_of vs) (type_of c.args.from.now) (type_of c.args.to.now)) (drop_of_length-le c.args.elements.now c.loop-element-test.false))
+    (ap (λ vs. each_to (value_trees vs) (type_of c.args.from.now) (type_of c.args.to.now)) (drop_of_length-le c.args.elements.now c.loop-element-test.false))
 
 -- maps
 
@@ -41,7 +41,7 @@ cast_entries-returns-in_err-cast_entry t c =
     let l = c.loop-entry in
     let lent : option_copied c.as_ref.result ≡ c.entry-item.result = search rules in
     let is : c.from_residual-in_err-cast_entry.result ≡ Err c.in_err-cast_entry.field-0.0 = search rules in
-    let here = ap (λ vs. entries_to (raws_of vs) (map_of c.args.from.now) (map_of c.args.to.now)) (parts_at c.args.entries.now l.entry-index c.entry-item.result c.loop-entry-test.true c.entry-item.is) in
+    let here = ap (λ vs. entries_to (value_trees vs) (map_of c.args.from.now) (map_of c.args.to.now)) (parts_at c.args.entries.now l.entry-index c.entry-item.result c.loop-entry-test.true c.entry-item.is) in
     passed_on _ _ _ _ _ is (rw lent at c.in_err-cast_entry.ensures) (λ none. none_more l.made.items _ _ _ _ l.invariant here none)
 
 pub cast_entries-loop-entry-preserved : goal.cast_entries-loop-entry-preserved
@@ -49,13 +49,13 @@ cast_entries-loop-entry-preserved t c =
     let l = c.loop-entry in
     let lent : option_copied c.as_ref.result ≡ c.entry-item.result = search rules in
     let pushed : c.push.new.self.items ≡ c.loop-entry.made.items ++ Some c.in_ok-cast_entry.field-0 ∷ [] = search rules in
-    let here = ap (λ vs. entries_to (raws_of vs) (map_of c.args.from.now) (map_of c.args.to.now)) (parts_at c.args.entries.now l.entry-index c.entry-item.result c.loop-entry-test.true c.entry-item.is) in
+    let here = ap (λ vs. entries_to (value_trees vs) (map_of c.args.from.now) (map_of c.args.to.now)) (parts_at c.args.entries.now l.entry-index c.entry-item.result c.loop-entry-test.true c.entry-item.is) in
     rw (add-one, pushed) (one_more l.made.items (Some c.in_ok-cast_entry.field-0) _ _ _ _ l.invariant here (rw lent at c.in_ok-cast_entry.ensures))
 
 pub cast_entries-returns : goal.cast_entries-returns
 cast_entries-returns t c =
     all_done c.loop-entry.made.items _ _ c.loop-entry.invariant
-    (ap (λ vs. entries_to (raws_of vs) (map_of c.args.from.now) (map_of c.args.to.now)) (drop_of_length-le c.args.entries.now c.loop-entry-test.false))
+    (ap (λ vs. entries_to (value_trees vs) (map_of c.args.from.now) (map_of c.args.to.now)) (drop_of_length-le c.args.entries.now c.loop-entry-test.false))
 
 pub cast_pair-returns-then-parts-ne2 : goal.cast_pair-returns-then-parts-ne2
 cast_pair-returns-then-parts-ne2 t c = inr (refl, no_entry c.args.parts.now _ _ c.if-parts-ne2.true)

@@ -1,26 +1,26 @@
 -- What is left to cast in a loop, and that each call goes down the value.
 use Rattle.std.proofs.Common.{◌≡◌, ℕ, ◌+◌, ◌*◌, Option, Some, None, Bor, drop, length}
-use Rattle.vortex_dtype.specs.TypeOf.{map_of, type_of, types_of}
-use Rattle.vortex_value.specs.CastSteps.{each_to, entries_to, fields_to}
-use Rattle.vortex_value.specs.RawOf.{raws_of}
+use Rattle.vortex_dtype.specs.TypeOf.{map_of, type_of, dtype_trees}
+use Rattle.vortex_value.specs.Steps.CastSteps.{each_to, entries_to, fields_to}
+use Rattle.vortex_value.specs.Values.RawOf.{value_trees}
 use Rattle.vortex_value.specs.declared.values.ScalarValue.{ScalarValue, size-ScalarValue}
 use Rattle.vortex_value.proofs.CastCode.{after}
 use Rattle.vortex_value.proofs.cast.values.+cast.Given as goal
 
 abbrev pub invariant-cast_elements-loop-element : goal.invariant-cast_elements-loop-element
 invariant-cast_elements-loop-element l =
-    each_to (raws_of l.elements) (type_of l.from) (type_of l.to) ≡ after l.made.items (each_to (raws_of (drop l.element-index l.elements)) (type_of l.from) (type_of l.to))
+    each_to (value_trees l.elements) (type_of l.from) (type_of l.to) ≡ after l.made.items (each_to (value_trees (drop l.element-index l.elements)) (type_of l.from) (type_of l.to))
 
 abbrev pub invariant-cast_entries-loop-entry : goal.invariant-cast_entries-loop-entry
 invariant-cast_entries-loop-entry l =
-    entries_to (raws_of l.entries) (map_of l.from) (map_of l.to) ≡ after l.made.items (entries_to (raws_of (drop l.entry-index l.entries)) (map_of l.from) (map_of l.to))
+    entries_to (value_trees l.entries) (map_of l.from) (map_of l.to) ≡ after l.made.items (entries_to (value_trees (drop l.entry-index l.entries)) (map_of l.from) (map_of l.to))
 
 abbrev pub invariant-cast_fields-loop-field : goal.invariant-cast_fields-loop-field
 invariant-cast_fields-loop-field l =
     let fields = l.field-iterator.a.rest.now in
     let sources = l.field-iterator.b.a.rest.now in
     let targets = l.field-iterator.b.b.rest.now in
-    (fields_to (raws_of l.fields) (types_of l.sources) (types_of l.targets) ≡ after l.made.items (fields_to (raws_of fields) (types_of sources) (types_of targets)))
+    (fields_to (value_trees l.fields) (dtype_trees l.sources) (dtype_trees l.targets) ≡ after l.made.items (fields_to (value_trees fields) (dtype_trees sources) (dtype_trees targets)))
     × (length fields ≡ length sources) × (length sources ≡ length targets)
 
 -- the size of a borrowed value, if there is one

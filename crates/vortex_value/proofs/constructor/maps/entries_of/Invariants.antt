@@ -1,6 +1,6 @@
 use Rattle.std.proofs.Common.{◌≡◌, Some, map, option_map}
 use Rattle.vortex_value.specs.Makers.{raw_entry}
-use Rattle.vortex_value.specs.RawOf.{value_tree}
+use Rattle.vortex_value.specs.Values.RawOf.{value_tree}
 use Rattle.vortex_value.proofs.constructor.maps.entries_of.Given as goal
 
 abbrev pub invariant-loop-entry : goal.invariant-loop-entry

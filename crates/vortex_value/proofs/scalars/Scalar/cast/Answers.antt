@@ -2,7 +2,7 @@
 use Rattle.std.proofs.Common.{◌≡◌, Err, sym, ◌∙◌, refl, rules}
 use Rattle.std.specs.Option.{option_copied}
 use Rattle.vortex_dtype.specs.TypeOf.{type_of}
-use Rattle.vortex_value.specs.RawOf.{raw_of}
+use Rattle.vortex_value.specs.Values.RawOf.{raw_of}
 use Rattle.vortex_value.proofs.CastTable.{cast_made, cast_refused, refused_with}
 use Rattle.vortex_value.proofs.Uniqueness.{one_value}
 use Rattle.vortex_value.proofs.scalars.Scalar.cast.Goals as goal

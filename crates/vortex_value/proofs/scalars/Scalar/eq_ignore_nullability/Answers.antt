@@ -1,6 +1,6 @@
 use Rattle.std.proofs.Common.{sym, ◌∙◌}
-use Rattle.vortex_value.specs.EqualityLaws.{typed_equal-Decides}
-use Rattle.vortex_value.specs.Scalars.{scalar_content, scalar_type}
+use Rattle.vortex_value.specs.Lemmas.EqualityLaws.{typed_equal-Decides}
+use Rattle.vortex_value.specs.Values.Scalars.{scalar_content, scalar_type}
 use Rattle.vortex_value.proofs.scalars.Scalar.eq_ignore_nullability.Goals as goal
 
 pub returns : goal.returns

@@ -2,9 +2,9 @@ use Rattle.std.proofs.Common.{◌≡◌, None, refl, rules}
 use Rattle.vortex_dtype.specs.TypeOf.{type_of, ext_of}
 use Rattle.vortex_dtype.specs.declared.types.DType.{Extension}
 use Rattle.vortex_value.specs.Makers.{child_cause, extension_over}
-use Rattle.vortex_value.specs.Scalars.{scalar_raw}
+use Rattle.vortex_value.specs.Values.Scalars.{scalar_raw}
 use Rattle.vortex_value.proofs.MakerLaws.{child_valid, scalar_valid}
-use Rattle.vortex_dtype.specs.TypeLevels.{type_of-Extension}
+use Rattle.vortex_dtype.specs.Lemmas.TypeLevels.{type_of-Extension}
 use Rattle.vortex_value.proofs.scalars.Scalar.extension_ref.Goals as goal
 
 pub returns-clause-valid : goal.returns-clause-valid

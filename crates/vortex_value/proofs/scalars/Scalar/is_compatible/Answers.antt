@@ -2,7 +2,7 @@
 use Rattle.std.proofs.Common.{sym, ◌∙◌, false}
 use Rattle.std.specs.Option.{option_copied}
 use Rattle.vortex_dtype.specs.TypeOf.{type_of}
-use Rattle.vortex_value.specs.RawOf.{raw_of}
+use Rattle.vortex_value.specs.Values.RawOf.{raw_of}
 use Rattle.vortex_value.proofs.ValidityLaws.{Checks-valid}
 use Rattle.vortex_value.proofs.scalars.Scalar.is_compatible.Goals as goal
 

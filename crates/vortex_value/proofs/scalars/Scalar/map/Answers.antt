@@ -4,8 +4,8 @@ use Rattle.vortex_dtype.specs.Parts.{map_in}
 use Rattle.vortex_dtype.specs.TypeOf.{map_of, type_of}
 use Rattle.vortex_dtype.specs.declared.error.VortexError.TheVariants.{WrongKind}
 use Rattle.vortex_value.specs.Makers.{IsValidEntry, RefusesItems, entries_cause, map_cause, raw_entries}
-use Rattle.vortex_value.specs.RawTree.{raw_tuple}
-use Rattle.vortex_value.specs.Scalars.{IsMadeOf}
+use Rattle.vortex_value.specs.Values.RawTree.{raw_tuple}
+use Rattle.vortex_value.specs.Values.Scalars.{IsMadeOf}
 use Rattle.vortex_value.proofs.GivenItems.{accepted, kept_all, kept_made, kept_refused, kind_known}
 use Rattle.vortex_value.proofs.MakerLaws.{scalar_valid}
 use Rattle.vortex_value.proofs.MapMakers.{map_valid}

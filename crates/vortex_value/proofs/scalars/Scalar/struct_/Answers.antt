@@ -3,9 +3,9 @@ use Rattle.std.proofs.Common.{◌≡◌, Some, Err, IsErrAnd, refl, rules}
 use Rattle.vortex_dtype.specs.Parts.{fields_in}
 use Rattle.vortex_dtype.specs.TypeOf.{fields_of, type_of}
 use Rattle.vortex_dtype.specs.declared.error.VortexError.TheVariants.{WrongKind}
-use Rattle.vortex_value.specs.Makers.{RefusesItems, fields_cause, raws_in, struct_cause}
-use Rattle.vortex_value.specs.RawTree.{raw_tuple}
-use Rattle.vortex_value.specs.Scalars.{IsMadeOf, IsValid}
+use Rattle.vortex_value.specs.Makers.{RefusesItems, fields_cause, child_trees, struct_cause}
+use Rattle.vortex_value.specs.Values.RawTree.{raw_tuple}
+use Rattle.vortex_value.specs.Values.Scalars.{IsMadeOf, IsValid}
 use Rattle.vortex_value.proofs.GivenItems.{accepted, kept_all, kept_made, kept_refused, kind_known}
 use Rattle.vortex_value.proofs.MakerLaws.{scalar_valid}
 use Rattle.vortex_value.proofs.StructMakers.{struct_valid}
@@ -37,7 +37,7 @@ returns-clause-made g c =
     let known : fields_in (type_of c.args.dtype) ≡ Some (fields_of c.in-Some.fields.now) = search rules in
     let taken = accepted (fields_cause parts.types items) c.struct_value.result c.in_ok-value.value c.in_ok-value.was c.struct_value.ensures.refused in
     kept_made g.I.IntoIterator.into_iter_gives g.I.IntoIter.Iterator.next_gives c.args.children it.result it.ensures.into_iter_gives run.0 run.1 run.2 items run.3.0
-    (struct_cause (fields_in tree)) (λ xs. IsMadeOf tree (raw_tuple (raws_in xs))) (record { dtype = c.args.dtype; value = Some c.in_ok-value.value }) (rw known taken)
+    (struct_cause (fields_in tree)) (λ xs. IsMadeOf tree (raw_tuple (child_trees xs))) (record { dtype = c.args.dtype; value = Some c.in_ok-value.value }) (rw known taken)
     (record { typed = refl; value = c.in_ok-value.ensures.made })
 
 pub returns-clause-valid : goal.returns-clause-valid
@@ -50,4 +50,4 @@ returns-clause-valid g c =
     let known : fields_in (type_of c.args.dtype) ≡ Some (fields_of c.in-Some.fields.now) = search rules in
     let taken = accepted (fields_cause parts.types items) c.struct_value.result c.in_ok-value.value c.in_ok-value.was c.struct_value.ensures.refused in
     let valid = kept_all IsValid run.0 items run.3.0 (c.requires.children it.result it.ensures.into_iter_gives run.0 run.0.seen run.1) in
-    scalar_valid c.args.dtype (Some c.in_ok-value.value) tree (raw_tuple (raws_in items)) refl c.in_ok-value.ensures.made (struct_valid tree items (rw known taken) valid)
+    scalar_valid c.args.dtype (Some c.in_ok-value.value) tree (raw_tuple (child_trees items)) refl c.in_ok-value.ensures.made (struct_valid tree items (rw known taken) valid)

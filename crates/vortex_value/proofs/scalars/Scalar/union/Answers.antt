@@ -2,11 +2,11 @@ use Rattle.std.proofs.Common.{◌≡◌, ◌∙◌, None, Some, rules}
 use Rattle.vortex_dtype.specs.TypeOf.{type_of, variants_of}
 use Rattle.vortex_dtype.specs.declared.types.DType.{Union}
 use Rattle.vortex_value.specs.Makers.{union_cause, union_of}
-use Rattle.vortex_value.specs.RawTree.{raw_union}
-use Rattle.vortex_value.specs.Scalars.{scalar_raw}
+use Rattle.vortex_value.specs.Values.RawTree.{raw_union}
+use Rattle.vortex_value.specs.Values.Scalars.{scalar_raw}
 use Rattle.vortex_value.specs.declared.values.ScalarValue as raw
 use Rattle.vortex_value.proofs.MakerLaws.{union_valid, scalar_valid}
-use Rattle.vortex_dtype.specs.TypeLevels.{type_of-Union}
+use Rattle.vortex_dtype.specs.Lemmas.TypeLevels.{type_of-Union}
 use Rattle.vortex_value.proofs.ValueSteps.{value_tree-Union}
 use Rattle.vortex_value.proofs.scalars.Scalar.union.Goals as goal
 

@@ -3,7 +3,7 @@ use Rattle.std.proofs.Common.{sym, ◌∙◌, true}
 use Rattle.std.specs.Option.{option_copied}
 use Rattle.vortex_dtype.specs.TypeOf.{type_of}
 use Rattle.vortex_value.specs.Breaches.{breaches}
-use Rattle.vortex_value.specs.RawOf.{raw_of}
+use Rattle.vortex_value.specs.Values.RawOf.{raw_of}
 use Rattle.vortex_value.proofs.ValidSteps.{Checks-path}
 use Rattle.vortex_value.proofs.ValidityLaws.{Checks-valid}
 use Rattle.vortex_value.proofs.scalars.Scalar.validate.Goals as goal

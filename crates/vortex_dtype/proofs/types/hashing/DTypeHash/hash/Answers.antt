@@ -1,5 +1,5 @@
 use Rattle.std.proofs.Common.{◌∙◌}
-use Rattle.vortex_dtype.specs.TypeLaws.{trim-exact}
+use Rattle.vortex_dtype.specs.Lemmas.TypeLaws.{trim-exact}
 use Rattle.vortex_dtype.proofs.types.hashing.DTypeHash.hash.Goals as goal
 
 pub returns : goal.returns

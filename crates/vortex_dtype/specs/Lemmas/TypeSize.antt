@@ -2,7 +2,7 @@
 -- than what they say of trees.
 use Rattle.std.proofs.Common.{ℕ, zero, suc, ◌+◌, ◌<◌, ◌≤◌, List, [], ◌∷◌, length, get_or, arith}
 use Rattle.vortex_dtype.specs.declared.types.DType.{DType}
-use Rattle.vortex_dtype.specs.TypeOf.{type_of, types_of}
+use Rattle.vortex_dtype.specs.TypeOf.{type_of, dtype_trees}
 use Rattle.vortex_dtype.specs.TypeTree.{TypeTree, TypeTrees, list_type, fixed_size_list_type, map_type, struct_type, union_type, extension_type, no_types, type_then}
 
 -- how many types the tree has, itself included
@@ -21,7 +21,7 @@ abbrev mutual
   types_size (type_then t ts) = type_size t + types_size ts
 
 -- the type at a place of several is no larger than they all
-pub type_size-at : (ts : List DType) (i : ℕ) (d : DType) → i < length ts → type_size (type_of (get_or ts i d)) ≤ types_size (types_of ts)
+pub type_size-at : (ts : List DType) (i : ℕ) (d : DType) → i < length ts → type_size (type_of (get_or ts i d)) ≤ types_size (dtype_trees ts)
 type_size-at [] i d inside = absurd (omega arith)
 type_size-at (t ∷ ts) zero d inside = omega arith
 type_size-at (t ∷ ts) (suc i) d inside = let rest = type_size-at ts i d (omega arith) in omega arith

@@ -1,5 +1,5 @@
 -- Which kind of raw value a tree is, and which values take no memory.
-use Rattle.vortex_value.specs.RawTree.{RawTree, absent, raw_bool, raw_integer, raw_text, raw_bytes, raw_tuple, raw_union, raw_variant}
+use Rattle.vortex_value.specs.Values.RawTree.{RawTree, absent, raw_bool, raw_integer, raw_text, raw_bytes, raw_tuple, raw_union, raw_variant}
 
 -- a truth value
 abbrev pub IsBoolValue : RawTree → Type 0

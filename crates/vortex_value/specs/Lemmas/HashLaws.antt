@@ -3,9 +3,9 @@ use Rattle.std.proofs.Common.{◌≡◌, ◌++◌, suc, refl, ap}
 use Rattle.std.specs.Hash.{Alike}
 use Rattle.vortex_dtype.specs.Feeds.{tree_feed}
 use Rattle.vortex_dtype.specs.TypeTree.{TypeTree, Same, erase}
-use Rattle.vortex_value.specs.Content.{Content, null, truth, whole, text, string, sequence, tagged, typed, Contents, no_contents, content_then}
+use Rattle.vortex_value.specs.Values.Content.{Content, null, truth, whole, text, string, sequence, tagged, typed, Contents, no_contents, content_then}
 use Rattle.vortex_value.specs.Equality.{EqualContents, AllEqual, equal, same_type}
-use Rattle.vortex_value.specs.EqualityLaws.{contents-from_equal, same_type-Decides}
+use Rattle.vortex_value.specs.Lemmas.EqualityLaws.{contents-from_equal, same_type-Decides}
 use Rattle.vortex_value.specs.Hashing.{place_count, content_feed, contents_feed, EqualFeedSame}
 
 mutual

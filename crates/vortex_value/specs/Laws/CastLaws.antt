@@ -4,11 +4,11 @@ use Rattle.std.specs.declared.cmp.Ordering.{Ordering}
 use Rattle.vortex_dtype.specs.TypeTree.{TypeTree, Same, as_nullable}
 use Rattle.vortex_value.specs.Casts.{CanCast, IsCast}
 use Rattle.vortex_value.specs.Chains.{last_of, Runs}
-use Rattle.vortex_value.specs.Content.{Content, null, sequence, tagged, Contents, no_contents, content_then, content}
+use Rattle.vortex_value.specs.Values.Content.{Content, null, sequence, tagged, Contents, no_contents, content_then, content}
 use Rattle.vortex_value.specs.Equality.{EqualContents}
 use Rattle.vortex_value.specs.Order.{order}
-use Rattle.vortex_value.specs.RawTree.{RawTree}
-use Rattle.vortex_value.specs.Scalars.{IsTheOne, scalar_content, scalar_raw, scalar_type}
+use Rattle.vortex_value.specs.Values.RawTree.{RawTree}
+use Rattle.vortex_value.specs.Values.Scalars.{IsTheOne, scalar_content, scalar_raw, scalar_type}
 use Rattle.vortex_value.specs.TypesWithin.{HasNoExtension, HasNoMap}
 use Rattle.vortex_value.specs.Validity.{Valid}
 use Rattle.vortex_value.specs.declared.scalars.Scalar.{Scalar}

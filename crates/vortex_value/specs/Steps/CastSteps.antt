@@ -5,10 +5,10 @@ use Rattle.vortex_dtype.specs.TypeOf.{MapParts}
 use Rattle.vortex_dtype.specs.TypeTree.{TypeTree, integer_type, list_type, fixed_size_list_type, map_type, struct_type, extension_type, TypeTrees, no_types, type_then, IsFlat, is_nullable, storage}
 use Rattle.vortex_dtype.specs.declared.error.VortexError.{VortexError}
 use Rattle.vortex_dtype.specs.declared.error.VortexError.TheVariants.{CannotCast, OutOfMemory}
-use Rattle.vortex_pvalue.specs.Kinds.{in_range}
+use Rattle.vortex_pvalue.specs.Numbers.{in_range}
 use Rattle.vortex_value.specs.Breaches.{breaches}
 use Rattle.vortex_value.specs.Equality.{same_type}
-use Rattle.vortex_value.specs.RawTree.{RawTree, absent, raw_integer, raw_tuple, RawTrees, no_raws, raw_then, count}
+use Rattle.vortex_value.specs.Values.RawTree.{RawTree, absent, raw_integer, raw_tuple, RawTrees, no_raws, raw_then, count}
 
 -- whether the type accepts the value
 abbrev pub accepts : TypeTree → RawTree → Bool

@@ -8,13 +8,13 @@ use Rattle.vortex_dtype.specs.declared.kinds.Nullability.TheVariants.{NonNullabl
 use Rattle.vortex_dtype.specs.declared.kinds.Nullability.{Nullability}
 use Rattle.vortex_dtype.specs.declared.kinds.PType.TheVariants.{U8, U32, U64, I8, I16, I32, I64}
 use Rattle.vortex_dtype.specs.declared.kinds.PType.{PType}
-use Rattle.vortex_pvalue.specs.Kinds.{InRange}
+use Rattle.vortex_pvalue.specs.Numbers.{InRange}
 use Rattle.vortex_value.specs.Casts.{IsNull, IsInteger, IsExtension, Wraps, Sorts, Row, same_type, a_null, into_extension, integers, lists, maps, structs, from_extension, Allows, Has, CanCast}
 use Rattle.vortex_value.specs.Chains.{Runs}
-use Rattle.vortex_value.specs.Content.{Content, null, truth, whole, text, sequence, tagged, typed, Contents, no_contents, content_then, content, contents}
-use Rattle.vortex_value.specs.RawTree.{RawTree, absent, raw_bool, raw_integer, raw_text, raw_tuple, raw_union, raw_variant, RawTrees, no_raws, raw_then, count}
+use Rattle.vortex_value.specs.Values.Content.{Content, null, truth, whole, text, sequence, tagged, typed, Contents, no_contents, content_then, content, contents}
+use Rattle.vortex_value.specs.Values.RawTree.{RawTree, absent, raw_bool, raw_integer, raw_text, raw_tuple, raw_union, raw_variant, RawTrees, no_raws, raw_then, count}
 use Rattle.vortex_value.specs.Validity.{EachValid, Valid}
-use Rattle.vortex_value.specs.Examples.{i8, i16, i32, i64, u8, u32, u64, boolean, utf8, binary, variant, or_null, list_of, fixed_list_of, struct_of, union_of, extension_a, extension_b, a_and_b, int_or_string, unsorted_map, sorted_map, tuple, entry, int, parts, number, nested_list, nested_tuple, nested_parts, tell_apart, no_null, is_integer_of, is_sorted_map, i32_valid}
+use Rattle.vortex_value.specs.Examples.ValueExamples.{i8, i16, i32, i64, u8, u32, u64, boolean, utf8, binary, variant, or_null, list_of, fixed_list_of, struct_of, union_of, extension_a, extension_b, a_and_b, int_or_string, unsorted_map, sorted_map, tuple, entry, int, parts, number, nested_list, nested_tuple, nested_parts, tell_apart, no_null, is_integer_of, is_sorted_map, i32_valid}
 
 -- What the proofs use. A content that a type has is known by cases: a null asks for a nullable type, a number for one
 -- in the kind's range, a sequence for parts that the element type has, and for as many as the size says.

@@ -3,13 +3,13 @@
 use Rattle.std.specs.Prelude.{◌≡◌, negsuc, true, false, [], ◌∷◌, Some, None, refl, codes}
 use Rattle.std.specs.declared.cmp.Ordering.TheVariants.{Less}
 use Rattle.vortex_dtype.specs.TypeTree.{TypeTree, null_type}
-use Rattle.vortex_value.specs.Content.{null, truth, whole, text, string, tagged, typed}
+use Rattle.vortex_value.specs.Values.Content.{null, truth, whole, text, string, tagged, typed}
 use Rattle.vortex_value.specs.Hashing.{content_feed, typed_feed}
 use Rattle.vortex_value.specs.Order.{typed_order}
-use Rattle.vortex_value.specs.RawTree.{absent, raw_text, raw_bytes, raw_union, raw_variant}
+use Rattle.vortex_value.specs.Values.RawTree.{absent, raw_text, raw_bytes, raw_union, raw_variant}
 use Rattle.vortex_value.specs.Size.{size_of}
 use Rattle.vortex_value.specs.Zero.{zero_of, default_of, is_zero_of}
-use Rattle.vortex_value.specs.Examples.{i32, i64, u32, boolean, utf8, binary, variant, or_null, list_of, fixed_list_of, struct_of, union_of, extension_a, a_and_b, int_or_string, unsorted_map, tuple, entry, int, parts, number}
+use Rattle.vortex_value.specs.Examples.ValueExamples.{i32, i64, u32, boolean, utf8, binary, variant, or_null, list_of, fixed_list_of, struct_of, union_of, extension_a, a_and_b, int_or_string, unsorted_map, tuple, entry, int, parts, number}
 
 -- a union without variants
 abbrev no_variants : TypeTree

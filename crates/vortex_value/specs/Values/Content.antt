@@ -1,7 +1,7 @@
 -- What an optional raw value says without its type.
 use Rattle.std.specs.Prelude.{ℕ, ℤ, Bool, List}
 use Rattle.vortex_dtype.specs.TypeTree.{TypeTree}
-use Rattle.vortex_value.specs.RawTree.{RawTree, absent, raw_bool, raw_integer, raw_text, raw_bytes, raw_tuple, raw_union, raw_variant, RawTrees, no_raws, raw_then}
+use Rattle.vortex_value.specs.Values.RawTree.{RawTree, absent, raw_bool, raw_integer, raw_text, raw_bytes, raw_tuple, raw_union, raw_variant, RawTrees, no_raws, raw_then}
 
 -- a content: null, a truth value, a whole number, a text, a string, a sequence, a tagged child or a typed child
 mutual

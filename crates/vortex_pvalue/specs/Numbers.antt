@@ -42,20 +42,20 @@ abbrev pub bits_of : PType → ℕ
 bits_of k = 8 * byte_width_of k
 
 -- r is the number of the kind that differs from z by a multiple of 2 to the power of the kind's bits
-pub record IsLow (k : PType) (z r : ℤ) : Type 0 where
+pub record IsWrapped (k : PType) (z r : ℤ) : Type 0 where
   pub in_range : InRange k r
   pub differs : (q : ℤ) × (z ≡ (r +ℤ (q *ℤ pos (2 ^ bits_of k))))
 
 -- that number
-abbrev pub low : PType → ℤ → ℤ
-low U8 z = int_rem_euclid z (pos (2 ^ 8))
-low U16 z = int_rem_euclid z (pos (2 ^ 16))
-low U32 z = int_rem_euclid z (pos (2 ^ 32))
-low U64 z = int_rem_euclid z (pos (2 ^ 64))
-low I8 z = int_wrap w8 z
-low I16 z = int_wrap w16 z
-low I32 z = int_wrap w32 z
-low I64 z = int_wrap w64 z
+abbrev pub wrapped : PType → ℤ → ℤ
+wrapped U8 z = int_rem_euclid z (pos (2 ^ 8))
+wrapped U16 z = int_rem_euclid z (pos (2 ^ 16))
+wrapped U32 z = int_rem_euclid z (pos (2 ^ 32))
+wrapped U64 z = int_rem_euclid z (pos (2 ^ 64))
+wrapped I8 z = int_wrap w8 z
+wrapped I16 z = int_wrap w16 z
+wrapped I32 z = int_wrap w32 z
+wrapped I64 z = int_wrap w64 z
 
 -- the least number of the kind
 abbrev pub least_of : PType → ℤ

@@ -1,8 +1,8 @@
 -- What the recursion that fills types answers: values that fill them.
 use Rattle.std.specs.Prelude.{◌≡◌, ℕ, Bool, List, ◌∷◌, Option, Some, None, option_map}
 use Rattle.vortex_dtype.specs.TypeTree.{TypeTree, TypeTrees, no_types, type_then}
-use Rattle.vortex_value.specs.Content.{Content, tagged, content}
-use Rattle.vortex_value.specs.RawTree.{RawTree, raw_union, RawTrees, no_raws, raw_then}
+use Rattle.vortex_value.specs.Values.Content.{Content, tagged, content}
+use Rattle.vortex_value.specs.Values.RawTree.{RawTree, raw_union, RawTrees, no_raws, raw_then}
 use Rattle.vortex_value.specs.Validity.{Valid}
 use Rattle.vortex_value.specs.Zero.{filling}
 

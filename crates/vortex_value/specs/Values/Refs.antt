@@ -4,10 +4,10 @@ use Rattle.std.specs.Option.{option_copied}
 use Rattle.std.specs.declared.cmp.Ordering.{Ordering}
 use Rattle.vortex_dtype.specs.TypeOf.{type_of}
 use Rattle.vortex_dtype.specs.TypeTree.{TypeTree}
-use Rattle.vortex_value.specs.Content.{Content, content}
+use Rattle.vortex_value.specs.Values.Content.{Content, content}
 use Rattle.vortex_value.specs.Order.{typed_order}
-use Rattle.vortex_value.specs.RawOf.{raw_of}
-use Rattle.vortex_value.specs.RawTree.{RawTree}
+use Rattle.vortex_value.specs.Values.RawOf.{raw_of}
+use Rattle.vortex_value.specs.Values.RawTree.{RawTree}
 use Rattle.vortex_value.specs.Validity.{Valid}
 use Rattle.vortex_value.specs.declared.refs.ScalarRef.{ScalarRef}
 

@@ -16,8 +16,8 @@ use Rattle.vortex_dtype.specs.declared.kinds.PType.TheVariants.{U8, U16, U32, U6
 use Rattle.vortex_dtype.specs.TypeTree.{TypeTree, TypeTrees, null_type, bool_type, integer_type, utf8_type, binary_type, list_type, fixed_size_list_type, map_type, struct_type, union_type, variant_type, extension_type, no_types, type_then, trim, trim_all, storage, is_nullable}
 use Rattle.vortex_dtype.specs.TypeEquality.{nullability_eq, names_eq, tree_eq, trees_eq, map_eq, fields_eq, variants_eq, ext_eq}
 use Rattle.vortex_dtype.specs.Kinds.{kind_index, same_kind}
-use Rattle.vortex_dtype.specs.TypeOf.{types_from, MapParts, FieldParts, VariantParts, ExtensionParts, map_type_of, struct_type_of, union_type_of, extension_type_of}
-use Rattle.vortex_dtype.specs.Parts.{types_in, map_in, fields_in, variants_in, extension_in}
+use Rattle.vortex_dtype.specs.TypeOf.{as_type_trees, MapParts, FieldParts, VariantParts, ExtensionParts, map_type_of, struct_type_of, union_type_of, extension_type_of}
+use Rattle.vortex_dtype.specs.Parts.{listed_types, map_in, fields_in, variants_in, extension_in}
 
 nullability_eq-same : (m n : Nullability) → nullability_eq m n ≡ true → m ≡ n
 nullability_eq-same NonNullable NonNullable e = refl
@@ -167,16 +167,16 @@ pub tree_eq-equiv : IsEquivalence tree_eq
 tree_eq-equiv = equiv-from_Decides tree_eq tree_eq-Decides
 
 -- the list that a tree holds is the list that it was made of
-pub types_in-types_from : (ts : List TypeTree) → types_in (types_from ts) ≡ ts
-types_in-types_from [] = refl
-types_in-types_from (t ∷ ts) = ap (λ us. t ∷ us) (types_in-types_from ts)
+pub listed_types-as_type_trees : (ts : List TypeTree) → listed_types (as_type_trees ts) ≡ ts
+listed_types-as_type_trees [] = refl
+listed_types-as_type_trees (t ∷ ts) = ap (λ us. t ∷ us) (listed_types-as_type_trees ts)
 
 -- a struct or a union type holds what it was made of
 pub fields_in-struct_type_of : (f : FieldParts) (n : Nullability) → fields_in (struct_type_of f n) ≡ Some f
-fields_in-struct_type_of f n = ap (λ ts. Some (record { names = f.names; types = ts })) (types_in-types_from f.types)
+fields_in-struct_type_of f n = ap (λ ts. Some (record { names = f.names; types = ts })) (listed_types-as_type_trees f.types)
 
 pub variants_in-union_type_of : (v : VariantParts) (n : Nullability) → variants_in (union_type_of v n) ≡ Some v
-variants_in-union_type_of v n = ap (λ ts. Some (record { names = v.names; types = ts; type_ids = v.type_ids })) (types_in-types_from v.types)
+variants_in-union_type_of v n = ap (λ ts. Some (record { names = v.names; types = ts; type_ids = v.type_ids })) (listed_types-as_type_trees v.types)
 
 -- parts that a type holds pass a test exactly where they are one, if it is the test of the types that they make
 parts_Decides : {P : Type 0} (made : P → TypeTree) (held : TypeTree → Option P) (test : P → P → Bool)

@@ -2,7 +2,7 @@
 use Rattle.std.specs.Prelude.{List, [], ◌∷◌, map, Option, Some, None, option_map}
 use Rattle.vortex_dtype.specs.TypeOf.{type_of}
 use Rattle.vortex_pvalue.specs.Whole.{kind_of, whole_of}
-use Rattle.vortex_value.specs.RawTree.{RawTree, absent, raw_bool, raw_integer, raw_text, raw_bytes, raw_tuple, raw_union, raw_variant, RawTrees, no_raws, raw_then}
+use Rattle.vortex_value.specs.Values.RawTree.{RawTree, absent, raw_bool, raw_integer, raw_text, raw_bytes, raw_tuple, raw_union, raw_variant, RawTrees, no_raws, raw_then}
 use Rattle.vortex_value.specs.declared.scalars.Scalar.{Scalar, fold-Scalar}
 use Rattle.vortex_value.specs.declared.unions.UnionValue.{UnionValue, fold-UnionValue}
 use Rattle.vortex_value.specs.declared.values.ScalarValue.{ScalarValue, fold-ScalarValue}
@@ -14,9 +14,9 @@ raw_or_absent None = absent
 raw_or_absent (Some v) = v
 
 -- a list of optional trees as the list that a tree holds
-abbrev pub raws_from : List (Option RawTree) → RawTrees
-raws_from [] = no_raws
-raws_from (v ∷ vs) = raw_then (raw_or_absent v) (raws_from vs)
+abbrev pub as_raw_trees : List (Option RawTree) → RawTrees
+as_raw_trees [] = no_raws
+as_raw_trees (v ∷ vs) = raw_then (raw_or_absent v) (as_raw_trees vs)
 
 -- the tree of one level of a raw value: a scalar inside is the tree of a variant, a union's value that of a union
 abbrev pub value_step : ScalarValue-F RawTree RawTree RawTree → RawTree
@@ -24,7 +24,7 @@ value_step (ScalarValue-F.Bool b) = raw_bool b
 value_step (ScalarValue-F.Primitive p) = raw_integer (kind_of p) (whole_of p)
 value_step (ScalarValue-F.Utf8 t) = raw_text t
 value_step (ScalarValue-F.Binary b) = raw_bytes b
-value_step (ScalarValue-F.Tuple vs) = raw_tuple (raws_from vs.items)
+value_step (ScalarValue-F.Tuple vs) = raw_tuple (as_raw_trees vs.items)
 value_step (ScalarValue-F.Union u) = u
 value_step (ScalarValue-F.Variant s) = s.value
 
@@ -39,8 +39,8 @@ abbrev pub value_tree : ScalarValue → RawTree
 value_tree = fold-ScalarValue RawTree RawTree RawTree value_step scalar_step union_step
 
 -- the tree of the variant that a scalar makes
-abbrev pub scalar_tree : Scalar → RawTree
-scalar_tree = fold-Scalar RawTree RawTree RawTree value_step scalar_step union_step
+abbrev pub variant_tree : Scalar → RawTree
+variant_tree = fold-Scalar RawTree RawTree RawTree value_step scalar_step union_step
 
 -- the tree of a union's value
 abbrev pub union_tree : UnionValue → RawTree
@@ -51,5 +51,5 @@ abbrev pub raw_of : Option ScalarValue → RawTree
 raw_of v = raw_or_absent (option_map value_tree v)
 
 -- the trees of several
-abbrev pub raws_of : List (Option ScalarValue) → RawTrees
-raws_of vs = raws_from (map (option_map value_tree) vs)
+abbrev pub value_trees : List (Option ScalarValue) → RawTrees
+value_trees vs = as_raw_trees (map (option_map value_tree) vs)

@@ -1,9 +1,9 @@
 -- Which contents each kind of type has.
 use Rattle.std.specs.Prelude.{◌≡◌, ◌↔◌, ℕ, suc}
 use Rattle.vortex_dtype.specs.TypeTree.{TypeTree, null_type, bool_type, integer_type, utf8_type, binary_type, list_type, fixed_size_list_type, map_type, struct_type, union_type, variant_type, TypeTrees, no_types, type_then, IsNullable, storage}
-use Rattle.vortex_pvalue.specs.Kinds.{InRange}
+use Rattle.vortex_pvalue.specs.Numbers.{InRange}
 use Rattle.vortex_value.specs.Casts.{Has}
-use Rattle.vortex_value.specs.Content.{Content, null, truth, whole, text, string, sequence, tagged, typed, Contents, no_contents, content_then}
+use Rattle.vortex_value.specs.Values.Content.{Content, null, truth, whole, text, string, sequence, tagged, typed, Contents, no_contents, content_then}
 use Rattle.vortex_value.specs.Validity.{type_with, HasType}
 
 -- how many contents

@@ -9,8 +9,8 @@ use Rattle.std.proofs.lemmas.Nat.{pow_pos}
 use Rattle.num_traits.specs.Ints.{unsigned-wrap_fits}
 use Rattle.vortex_dtype.specs.declared.kinds.PType.{PType}
 use Rattle.vortex_dtype.specs.declared.kinds.PType.TheVariants.{U8, U16, U32, U64, I8, I16, I32, I64}
-use Rattle.vortex_pvalue.specs.KindLaws.{LowExists, LowIsUnique, ReinterpretsBack}
-use Rattle.vortex_pvalue.specs.Kinds.{IsLow, low, least_of, bits_of}
+use Rattle.vortex_pvalue.specs.KindLaws.{WrappedExists, WrappedIsUnique, ReinterpretsBack}
+use Rattle.vortex_pvalue.specs.Numbers.{IsWrapped, wrapped, least_of, bits_of}
 use Rattle.vortex_pvalue.proofs.Multiples.{times-add, times-neg, one_in_window}
 use Rattle.vortex_pvalue.proofs.Ranges.{range_is_interval, greatest-below}
 use mir.Val.{hbits, bits, to_z, of_z}
@@ -71,34 +71,34 @@ pub signed_low : (w : Width) (n : ℕ) (r : ℤ) → n < 2 ^ bits w → r ≡ ca
 unfolding int_wrap
 signed_low w n r h e = ap (to_z w) (ap (of_z w) e ∙ of_z-to_z w n h ∙ sym (mod-eq_of_lt h))
 
--- each number has a low number in each kind, and `low` names it
-pub low_exists : LowExists
-low_exists U8 z = record { in_range = unsigned-wrap_fits 8 z; differs = unsigned_differs 8 z }
-low_exists U16 z = record { in_range = unsigned-wrap_fits 16 z; differs = unsigned_differs 16 z }
-low_exists U32 z = record { in_range = unsigned-wrap_fits 32 z; differs = unsigned_differs 32 z }
-low_exists U64 z = record { in_range = unsigned-wrap_fits 64 z; differs = unsigned_differs 64 z }
-low_exists I8 z = record { in_range = SFits-int_wrap w8 z; differs = signed_differs w8 z }
-low_exists I16 z = record { in_range = SFits-int_wrap w16 z; differs = signed_differs w16 z }
-low_exists I32 z = record { in_range = SFits-int_wrap w32 z; differs = signed_differs w32 z }
-low_exists I64 z = record { in_range = SFits-int_wrap w64 z; differs = signed_differs w64 z }
+-- each number has a wrapped number in each kind, and `wrapped` names it
+pub wrapped_exists : WrappedExists
+wrapped_exists U8 z = record { in_range = unsigned-wrap_fits 8 z; differs = unsigned_differs 8 z }
+wrapped_exists U16 z = record { in_range = unsigned-wrap_fits 16 z; differs = unsigned_differs 16 z }
+wrapped_exists U32 z = record { in_range = unsigned-wrap_fits 32 z; differs = unsigned_differs 32 z }
+wrapped_exists U64 z = record { in_range = unsigned-wrap_fits 64 z; differs = unsigned_differs 64 z }
+wrapped_exists I8 z = record { in_range = SFits-int_wrap w8 z; differs = signed_differs w8 z }
+wrapped_exists I16 z = record { in_range = SFits-int_wrap w16 z; differs = signed_differs w16 z }
+wrapped_exists I32 z = record { in_range = SFits-int_wrap w32 z; differs = signed_differs w32 z }
+wrapped_exists I64 z = record { in_range = SFits-int_wrap w64 z; differs = signed_differs w64 z }
 
 -- two numbers of a kind that differ by a multiple are equal
-one_low : (k : PType) (z r s : ℤ) → IsLow k z r → IsLow k z s → r ≡ s
-one_low k z r s a b =
+one_wrapped : (k : PType) (z r s : ℤ) → IsWrapped k z r → IsWrapped k z s → r ≡ s
+one_wrapped k z r s a b =
     let i = (range_is_interval k r).0 a.in_range in
     let j = (range_is_interval k s).0 b.in_range in
     let same : r +ℤ (a.differs.0 *ℤ pos (2 ^ bits_of k)) ≡ s +ℤ (b.differs.0 *ℤ pos (2 ^ bits_of k)) = sym a.differs.1 ∙ b.differs.1 in
     one_in_window (least_of k) r s a.differs.0 b.differs.0 (2 ^ bits_of k) i.0 (greatest-below k r i.1) j.0 (greatest-below k s j.1) same
 
--- a number has only one low number in a kind
-pub low_is_unique : LowIsUnique
-low_is_unique k z r h = one_low k z r (low k z) h (low_exists k z)
+-- a number has only one wrapped number in a kind
+pub wrapped_is_unique : WrappedIsUnique
+wrapped_is_unique k z r h = one_wrapped k z r (wrapped k z) h (wrapped_exists k z)
 
 -- a number of a kind, reinterpreted in a kind of the same width and back, is itself
 pub reinterprets_back : ReinterpretsBack
 reinterprets_back k l z w h =
-    let there = low_exists l z in
+    let there = wrapped_exists l z in
     let bits_same : bits_of l ≡ bits_of k = ap (λ (n : ℕ). 8 * n) (sym w) in
-    let back : Differs (2 ^ bits_of l) (low l z) z = differs_back (2 ^ bits_of l) z (low l z) there.differs in
-    let back_here : Differs (2 ^ bits_of k) (low l z) z = subst (λ (n : ℕ). Differs (2 ^ n) (low l z) z) bits_same back in
-    sym (low_is_unique k (low l z) z (record { in_range = h; differs = back_here }))
+    let back : Differs (2 ^ bits_of l) (wrapped l z) z = differs_back (2 ^ bits_of l) z (wrapped l z) there.differs in
+    let back_here : Differs (2 ^ bits_of k) (wrapped l z) z = subst (λ (n : ℕ). Differs (2 ^ n) (wrapped l z) z) bits_same back in
+    sym (wrapped_is_unique k (wrapped l z) z (record { in_range = h; differs = back_here }))

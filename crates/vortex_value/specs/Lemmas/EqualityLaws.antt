@@ -4,9 +4,9 @@ use Rattle.std.specs.Cmp.{IsEquivalence, first_so, second_so}
 use Rattle.std.proofs.lemmas.Bool.{and_from}
 use Rattle.std.proofs.lemmas.Bool.Decides.{Decides-eqb, Decides-int_eq, Decides-like, same_from_decides}
 use Rattle.std.proofs.lemmas.Slice.Eq.{bytes_eq-Decides}
-use Rattle.vortex_dtype.specs.TypeLaws.{tree_eq-Decides}
+use Rattle.vortex_dtype.specs.Lemmas.TypeLaws.{tree_eq-Decides}
 use Rattle.vortex_dtype.specs.TypeTree.{TypeTree, Same, erase}
-use Rattle.vortex_value.specs.Content.{Content, null, truth, whole, text, string, sequence, tagged, typed, Contents, no_contents, content_then}
+use Rattle.vortex_value.specs.Values.Content.{Content, null, truth, whole, text, string, sequence, tagged, typed, Contents, no_contents, content_then}
 use Rattle.vortex_value.specs.Equality.{EqualContents, AllEqual, HasNoTyped, HaveNoTyped, same_truth, same_type, equal, all_equal, EqualityIsAnEquivalence, EqualityAgreesWithoutTyped, EqualityIsDecided}
 
 mutual

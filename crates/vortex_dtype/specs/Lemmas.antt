@@ -1,0 +1,4 @@
+-- Proofs that trait implementations and crates above cite.
+pub mod TypeLaws
+pub mod TypeLevels
+pub mod TypeSize
