@@ -1,12 +1,43 @@
-//! The lines of the README's tour.
-
-ghost use Rattle.vortex_value.specs.Values.Scalars.{IsValid};
+//! The README's tour, word for word.
 
 use std::alloc::Global;
 use vortex_dtype::{Breach, DType, Nullability, PType, Step, VortexError};
 use vortex_value::Scalar;
 
-/// The refusal shows the first element as a wrong value.
+/// What the tour made: a cast, a cast that is refused, and a list that is not valid.
+#[derive(Drop)]
+struct Tour {
+    kept: Scalar,
+    refused: Result<Scalar, VortexError>,
+    wrong: Result<Scalar, VortexError>,
+}
+
+fn tour(alloc: Global) -> Result<Tour, VortexError> {
+    let i8s = DType::Primitive(PType::I8, Nullability::NonNullable);
+    let i16s = DType::Primitive(PType::I16, Nullability::NonNullable);
+    let i32s = DType::Primitive(PType::I32, Nullability::NonNullable);
+    let thousand = Scalar::primitive(1000i32, Nullability::NonNullable);
+
+    // The same number, as an i16.
+    let kept = thousand.cast(alloc, &i16s)?;
+    // Err(CannotCast): i8 has no 1000.
+    let refused = thousand.cast(alloc, &i8s);
+
+    // The raw value of a list of it, taken for a list of i8.
+    let items = vec![in alloc; thousand]?;
+    let list = Scalar::list(alloc, i32s, items, Nullability::NonNullable)?;
+    let (_, value) = list.into_parts();
+    let of_i8 = DType::List(Box::new(alloc, i8s)?, Nullability::NonNullable);
+    // Err(Invalid): the path Element(0), the breach WrongValue.
+    let wrong = Scalar::try_new(alloc, of_i8, value);
+    Ok(Tour {
+        kept,
+        refused,
+        wrong,
+    })
+}
+
+/// Whether the refusal shows the first element as a wrong value.
 fn blames_the_first_element(made: &Result<Scalar, VortexError>) -> bool {
     match made {
         Err(
@@ -19,34 +50,10 @@ fn blames_the_first_element(made: &Result<Scalar, VortexError>) -> bool {
     }
 }
 
-/// The list of one number, its raw value taken for one of the smaller integers.
-fn list_as_i8s(alloc: Global, thousand: Scalar) -> Result<Result<Scalar, VortexError>, VortexError>
-    requires { IsValid thousand }
-{
-    let i8s = DType::Primitive(PType::I8, Nullability::NonNullable);
-    let i32s = DType::Primitive(PType::I32, Nullability::NonNullable);
-    let list = Scalar::list(
-        alloc,
-        i32s,
-        vec![in alloc; thousand]?,
-        Nullability::NonNullable,
-    )?;
-    let (_, value) = list.clone(alloc)?.into_parts();
-    let of_i8 = DType::List(Box::new(alloc, i8s)?, Nullability::NonNullable);
-    Ok(Scalar::try_new(alloc, of_i8, value))
-}
-
 #[test]
 fn the_tour(rt: HostRuntime) {
-    let i8s = DType::Primitive(PType::I8, Nullability::NonNullable);
-    let i16s = DType::Primitive(PType::I16, Nullability::NonNullable);
-    let thousand = Scalar::primitive(1000i32, Nullability::NonNullable);
-    let kept = thousand
-        .cast(rt.alloc(), &i16s)
-        .expect(&rt, "the same number");
-    assert!(rt; kept == Scalar::primitive(1000i16, Nullability::NonNullable));
-    let refused = thousand.cast(rt.alloc(), &i8s);
-    assert!(rt; matches!(refused, Err(VortexError::CannotCast)));
-    let wrong = list_as_i8s(rt.alloc(), thousand).expect(&rt, "a list");
-    assert!(rt; blames_the_first_element(&wrong));
+    let made = tour(rt.alloc()).expect(&rt, "the tour");
+    assert!(rt; made.kept == Scalar::primitive(1000i16, Nullability::NonNullable));
+    assert!(rt; matches!(made.refused, Err(VortexError::CannotCast)));
+    assert!(rt; blames_the_first_element(&made.wrong));
 }

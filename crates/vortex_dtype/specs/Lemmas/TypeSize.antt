@@ -1,5 +1,5 @@
--- How many types a tree has. A recursion of a crate above that goes down a type is measured by it, so that getters need no more
--- than what they say of trees.
+-- How many types a tree has. A recursion of a crate above that goes down a type is measured by it, so that getters need no
+-- more than what they say of trees. It stands here because crates above cite it.
 use Rattle.std.proofs.Common.{ℕ, zero, suc, ◌+◌, ◌<◌, ◌≤◌, List, [], ◌∷◌, length, get_or, arith}
 use Rattle.vortex_dtype.specs.declared.types.DType.{DType}
 use Rattle.vortex_dtype.specs.TypeOf.{type_of, dtype_trees}

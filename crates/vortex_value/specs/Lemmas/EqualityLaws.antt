@@ -1,4 +1,5 @@
 -- Laws of equality: it is an equivalence, plain equality where no typed child stands, and what its test decides.
+-- It stands here because trait implementations and crates above cite it.
 use Rattle.std.proofs.Common.{◌≡◌, ◌&&◌, Bool, true, false, true≢false, refl, sym, ap, ◌∙◌, Decides}
 use Rattle.std.specs.Cmp.{IsEquivalence, first_so, second_so}
 use Rattle.std.proofs.lemmas.Bool.{and_from}
