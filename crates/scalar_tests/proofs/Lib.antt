@@ -1,1 +1,2 @@
 mod ItemsGiven
+mod ListCasts

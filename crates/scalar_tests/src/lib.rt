@@ -18,6 +18,8 @@ mod makers;
 #[cfg(test)]
 mod places;
 #[cfg(test)]
+mod round_trips;
+#[cfg(test)]
 mod texts;
 #[cfg(test)]
 mod tour;
