@@ -1,0 +1,6 @@
+pub mod BoundExamples
+pub mod Increments
+pub mod Laws
+pub mod Strings
+pub mod Texts
+pub mod Truncation

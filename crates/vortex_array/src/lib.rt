@@ -1,0 +1,17 @@
+//! Scalars, whole: what the crates below give, and truncation to bounds.
+#![tactic(auto)]
+
+mod carry;
+pub mod laws;
+mod string_like;
+mod truncation;
+
+pub use string_like::{IncrementError, StringLike};
+pub use truncation::{ScalarTruncation, lower_bound, upper_bound};
+pub use vortex_dtype::{
+    Breach, BufferString, ByteBuffer, DType, ExtDType, FieldName, FieldNames, MapDType,
+    NativeDType, Nullability, PType, Path, Step, StructFields, TypeCause, TypeIds, UnionVariants,
+    VortexError,
+};
+pub use vortex_pvalue::{NativePType, NumericOperator, PValue};
+pub use vortex_value::{Scalar, ScalarRef, ScalarValue, UnionValue};

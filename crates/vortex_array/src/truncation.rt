@@ -1,0 +1,308 @@
+//! Lower and upper bounds of scalars by truncation.
+
+ghost use Rattle.std.specs.Prelude.{◌≡◌, ◌<◌, ◌≤◌, ℕ, List, Some, length, IfErr, IfNone, IfOk, IfSome, IsNone, IsOkAnd, IsSomeAnd, MatchOption, MatchResult, refl};
+ghost use Rattle.std.specs.Cmp.Lexicographic.{slice_cmp};
+ghost use Rattle.std.specs.Ordering.{nat_cmp};
+ghost use Rattle.vortex_dtype.specs.TypeTree.{TypeTree, binary_type, utf8_type};
+ghost use Rattle.vortex_dtype.specs.declared.error.VortexError.TheVariants.{OutOfMemory, WrongKind};
+ghost use Rattle.vortex_dtype.specs.declared.kinds.Nullability.{Nullability};
+ghost use Rattle.vortex_value.specs.Values.Content.{content};
+ghost use Rattle.vortex_value.specs.Order.{order};
+ghost use Rattle.vortex_value.specs.Values.RawKinds.{IsBytesValue, IsTextValue};
+ghost use Rattle.vortex_value.specs.Values.RawOf.{value_tree};
+ghost use Rattle.vortex_value.specs.Values.RawTree.{RawTree, absent, raw_bytes, raw_text};
+ghost use Rattle.vortex_value.specs.Values.Scalars.{IsMadeOf, IsValid, scalar_raw, scalar_type};
+ghost use Rattle.vortex_array.specs.Strings.{Below, NotAbove, HasNoUpper, IsLower, IsString, IsUpper};
+ghost use Rattle.vortex_array.specs.Texts.{HasNoTextUpper, IsTextLower, IsTextUpper};
+ghost use Rattle.vortex_array.specs.Truncation.{IsLowerOf, IsOther, IsTypeOfKind, IsUpperOf, MayHold};
+
+use crate::carry::carry;
+use crate::string_like::{IncrementError, StringLike};
+use std::alloc::Global;
+use vortex_dtype::{BufferString, ByteBuffer, Nullability, VortexError};
+use vortex_value::{Scalar, ScalarValue};
+
+/// A value that can be truncated to a length in bytes. Such values are ordered as their bytes.
+///
+/// Ports `ScalarTruncation`.
+pub trait ScalarTruncation: Drop {
+    /// The bytes of a value.
+    ghost bytes: { Self → List ℕ };
+
+    /// The type of its scalar, by nullability.
+    ghost type_at: { Nullability → TypeTree };
+
+    /// The raw value of its scalar, by its bytes.
+    ghost raw_at: { List ℕ → RawTree };
+
+    /// Of a string, at so many bytes, this is the best string that is not above it.
+    ghost IsBestLower: { List ℕ → ℕ → List ℕ → Type 0 };
+
+    /// Of a string, at so many bytes, this is the best string that is above it.
+    ghost IsBestUpper: { List ℕ → ℕ → List ℕ → Type 0 };
+
+    /// A string has no such upper bound at so many bytes.
+    ghost HasNoBestUpper: { List ℕ → ℕ → Type 0 };
+
+    /// The scalar's value, moved, or none of a null. Takes no memory.
+    ///
+    /// `WrongKind` exactly where the type, or a raw value that is not null, is of another kind. An
+    /// extension is of another kind too.
+    fn from_scalar(scalar: Scalar) -> Result<Option<Self>, VortexError>
+        ensures typed { IfOk result (λ _. IsTypeOfKind type_at (scalar_type scalar)) }
+        ensures value { IfOk result (λ o. MatchOption o (scalar_raw scalar ≡ absent)
+            (λ v. scalar_raw scalar ≡ raw_at (bytes v))) }
+        ensures refused { IfErr result (λ e. (e ≡ WrongKind)
+            × ¬ (IsTypeOfKind type_at (scalar_type scalar) × MayHold raw_at (scalar_raw scalar))) };
+
+    /// How many bytes the value has.
+    fn len(&self) -> usize
+        ensures { result ≡ length (bytes self.now) };
+
+    /// The scalar of the value, of this nullability. Takes no memory.
+    fn into_scalar(self, nullability: Nullability) -> Scalar
+        ensures made { IsMadeOf (type_at nullability) (raw_at (bytes self)) result }
+        ensures valid { IsValid result };
+
+    /// The best value of at most so many bytes that is not above this one, or `OutOfMemory`.
+    fn lower_bound(self, alloc: Global, max_length: usize) -> Result<Self, VortexError>
+        requires { max_length ≤ length (bytes self) }
+        ensures { MatchResult result
+            (λ bound. IsBestLower (bytes self) max_length (bytes bound))
+            (λ e. e ≡ OutOfMemory) };
+
+    /// The best value at so many bytes that is above this one, none where there is none, or
+    /// `OutOfMemory`.
+    fn upper_bound(self, alloc: Global, max_length: usize) -> Result<Option<Self>, VortexError>
+        requires { max_length ≤ length (bytes self) }
+        ensures { MatchResult result
+            (λ o. MatchOption o (HasNoBestUpper (bytes self) max_length)
+            (λ bound. IsBestUpper (bytes self) max_length (bytes bound)))
+            (λ e. e ≡ OutOfMemory) };
+
+    /// Scalars are ordered as their bytes are.
+    ghost order_law: { (b c : List ℕ)
+        → order (content (raw_at b)) (content (raw_at c)) ≡ Some (slice_cmp nat_cmp b c) };
+
+    /// A lower bound is not above what it bounds.
+    ghost lower_law: { (b : List ℕ) (n : ℕ) (r : List ℕ) → IsBestLower b n r → NotAbove r b };
+
+    /// An upper bound is above what it bounds.
+    ghost upper_law: { (b : List ℕ) (n : ℕ) (r : List ℕ) → IsBestUpper b n r → Below b r };
+}
+
+/// The scalar of the value, or of its lower bound where it is longer than so many bytes, and
+/// whether it is longer; none of none.
+///
+/// `OutOfMemory` only where the value is longer. Ports `lower_bound`.
+pub fn lower_bound<T: ScalarTruncation>(
+    alloc: Global,
+    value: Option<T>,
+    max_length: usize,
+    nullability: Nullability,
+) -> Result<Option<(Scalar, bool)>, VortexError>
+    ensures none { IfNone value (IsOkAnd result IsNone) }
+    ensures bound { IfSome value (λ v. IfOk result (λ given. IsSomeAnd given (λ x. IsLowerOf
+        T.IsBestLower T.raw_at (T.type_at nullability) (T.bytes v) max_length x.0 x.1))) }
+    ensures refused { IfErr result (λ e. (e ≡ OutOfMemory)
+        × IsSomeAnd value (λ v. max_length < length (T.bytes v))) }
+{
+    let Some(value) = value else {
+        return Ok(None);
+    };
+    if value.len() > max_length {
+        let bound = value.lower_bound(alloc, max_length)?;
+        Ok(Some((bound.into_scalar(nullability), true)))
+    } else {
+        Ok(Some((value.into_scalar(nullability), false)))
+    }
+}
+
+/// The scalar of the value, or of its upper bound where it is longer than so many bytes, and
+/// whether it is longer; none of none, and where a longer value has no upper bound.
+///
+/// `OutOfMemory` only where the value is longer. Ports `upper_bound`.
+pub fn upper_bound<T: ScalarTruncation>(
+    alloc: Global,
+    value: Option<T>,
+    max_length: usize,
+    nullability: Nullability,
+) -> Result<Option<(Scalar, bool)>, VortexError>
+    ensures none { IfNone value (IsOkAnd result IsNone) }
+    ensures bound { IfSome value (λ v. IfOk result (λ given. MatchOption given
+        ((max_length < length (T.bytes v)) × T.HasNoBestUpper (T.bytes v) max_length)
+        (λ x. IsUpperOf
+        T.IsBestUpper T.raw_at (T.type_at nullability) (T.bytes v) max_length x.0 x.1))) }
+    ensures refused { IfErr result (λ e. (e ≡ OutOfMemory)
+        × IsSomeAnd value (λ v. max_length < length (T.bytes v))) }
+{
+    let Some(value) = value else {
+        return Ok(None);
+    };
+    if value.len() > max_length {
+        match value.upper_bound(alloc, max_length)? {
+            Some(bound) => Ok(Some((bound.into_scalar(nullability), true))),
+            None => Ok(None),
+        }
+    } else {
+        Ok(Some((value.into_scalar(nullability), false)))
+    }
+}
+
+/// Bounds among all strings of bytes: the first bytes, and these plus one with carry.
+impl ScalarTruncation for ByteBuffer {
+    ghost bytes = { λ buffer. buffer };
+
+    ghost type_at = { binary_type };
+
+    ghost raw_at = { raw_bytes };
+
+    ghost IsBestLower = { IsLower };
+
+    ghost IsBestUpper = { IsUpper };
+
+    ghost HasNoBestUpper = { HasNoUpper };
+
+    fn from_scalar(scalar: Scalar) -> Result<Option<ByteBuffer>, VortexError> {
+        let Scalar { dtype, value } = scalar;
+        if !dtype.is_binary() {
+            return Err(VortexError::WrongKind);
+        }
+        match value {
+            Some(value) => Ok(Some(bytes_in(value)?)),
+            None => Ok(None),
+        }
+    }
+
+    fn len(&self) -> usize {
+        self.len()
+    }
+
+    fn into_scalar(self, nullability: Nullability) -> Scalar {
+        Scalar::binary(self, nullability)
+    }
+
+    #[tactic(auto, using(crate::proofs::ScalarBounds::lower_slice))]
+    fn lower_bound(self, _alloc: Global, max_length: usize) -> Result<ByteBuffer, VortexError> {
+        tell_bytes(self.as_slice());
+        self.slice(0..max_length)
+    }
+
+    fn upper_bound(
+        self,
+        alloc: Global,
+        max_length: usize,
+    ) -> Result<Option<ByteBuffer>, VortexError> {
+        tell_bytes(self.as_slice());
+        let mut bound = Vec::from_slice(alloc, &self.as_slice()[..max_length])?;
+        if carry(bound.as_mut_slice()) {
+            Ok(Some(ByteBuffer::from_slice(alloc, bound.as_slice())?))
+        } else {
+            Ok(None)
+        }
+    }
+
+    ghost order_law = { λ b c. refl };
+
+    ghost lower_law = { λ b n r h. h.not_above };
+
+    ghost upper_law = { λ b n r h. h.above };
+}
+
+/// Bounds among texts: the longest beginning of whole characters, and this with its last character
+/// replaced by the next one of as many bytes.
+impl ScalarTruncation for BufferString {
+    ghost bytes = { λ text. text };
+
+    ghost type_at = { utf8_type };
+
+    ghost raw_at = { raw_text };
+
+    ghost IsBestLower = { IsTextLower };
+
+    ghost IsBestUpper = { IsTextUpper };
+
+    ghost HasNoBestUpper = { HasNoTextUpper };
+
+    fn from_scalar(scalar: Scalar) -> Result<Option<BufferString>, VortexError> {
+        let Scalar { dtype, value } = scalar;
+        if !dtype.is_utf8() {
+            return Err(VortexError::WrongKind);
+        }
+        match value {
+            Some(value) => Ok(Some(text_in(value)?)),
+            None => Ok(None),
+        }
+    }
+
+    fn len(&self) -> usize {
+        self.len()
+    }
+
+    fn into_scalar(self, nullability: Nullability) -> Scalar {
+        Scalar::utf8(self, nullability)
+    }
+
+    fn lower_bound(self, _alloc: Global, max_length: usize) -> Result<BufferString, VortexError> {
+        text_prefix(self, max_length)
+    }
+
+    fn upper_bound(
+        self,
+        _alloc: Global,
+        max_length: usize,
+    ) -> Result<Option<BufferString>, VortexError> {
+        match text_prefix(self, max_length)?.increment() {
+            Ok(bound) => Ok(Some(bound)),
+            Err(IncrementError::Last(_)) => Ok(None),
+            Err(IncrementError::Memory(_)) => Err(VortexError::OutOfMemory),
+        }
+    }
+
+    ghost order_law = { λ b c. refl };
+
+    ghost lower_law = { λ b n r h. h.not_above };
+
+    ghost upper_law = { λ b n r h. h.above };
+}
+
+/// The string of bytes that the raw value is; `WrongKind` where it is none.
+fn bytes_in(value: ScalarValue) -> Result<ByteBuffer, VortexError>
+    ensures { MatchResult result
+        (λ bytes. value_tree value ≡ raw_bytes bytes)
+        (λ e. (e ≡ WrongKind) × IsOther IsBytesValue (value_tree value)) }
+{
+    match value {
+        ScalarValue::Binary(bytes) => Ok(bytes),
+        _ => Err(VortexError::WrongKind),
+    }
+}
+
+/// The text that the raw value is; `WrongKind` where it is none.
+fn text_in(value: ScalarValue) -> Result<BufferString, VortexError>
+    ensures { MatchResult result
+        (λ text. value_tree value ≡ raw_text text)
+        (λ e. (e ≡ WrongKind) × IsOther IsTextValue (value_tree value)) }
+{
+    match value {
+        ScalarValue::Utf8(text) => Ok(text),
+        _ => Err(VortexError::WrongKind),
+    }
+}
+
+/// Says of the items of a slice that they are bytes. Does nothing.
+fn tell_bytes(_bytes: &[u8])
+    ensures { IsString _bytes.now }
+{}
+
+/// The longest beginning of whole characters that has at most so many bytes.
+fn text_prefix(text: BufferString, max_length: usize) -> Result<BufferString, VortexError>
+    ensures { MatchResult result (λ r. IsTextLower text max_length r) (λ e. e ≡ OutOfMemory) }
+{
+    let end = text.as_str().floor_char_boundary(max_length);
+    let beginning = text.into_inner().slice(0..end)?;
+    match BufferString::try_from(beginning) {
+        Ok(prefix) => Ok(prefix),
+        Err(_) => unreachable!(),
+    }
+}
