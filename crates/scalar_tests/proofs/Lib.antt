@@ -1,2 +1,1 @@
-mod ItemsGiven
-mod ListCasts
+pub mod ListCasts

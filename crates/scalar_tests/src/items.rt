@@ -1,4 +1,5 @@
-//! Makers over iterators: they ask for no item where the type is of another kind.
+//! Makers over iterators: they ask for no item where the type is of another kind, and those of maps for none past
+//! the first wrong one.
 
 ghost use Rattle.std.specs.Prelude.{IfSome};
 ghost use Rattle.std.specs.Iterator.{at_most};
@@ -70,6 +71,7 @@ fn count(asked: &Cell<u32>) {
 enum Answer {
     Made,
     WrongKind,
+    WrongFirst,
     Another,
 }
 
@@ -77,6 +79,7 @@ fn answer_of(made: Result<Scalar, VortexError>) -> Answer {
     match made {
         Ok(_) => Answer::Made,
         Err(VortexError::WrongKind) => Answer::WrongKind,
+        Err(VortexError::WrongChild { index: 0 }) => Answer::WrongFirst,
         Err(_) => Answer::Another,
     }
 }
@@ -126,6 +129,12 @@ fn takes_both(rt: &impl Abort, (answer, asked): (Answer, u32)) {
     assert_eq!(rt; asked, 3);
 }
 
+/// Sees that the first item is refused before a second is asked for.
+fn stops_at_first(rt: &impl Abort, (answer, asked): (Answer, u32)) {
+    assert!(rt; answer == Answer::WrongFirst);
+    assert_eq!(rt; asked, 1);
+}
+
 #[test]
 fn structs_of_another_kind_take_no_child(rt: HostRuntime) {
     asks_nothing(&rt, struct_from_two(&rt, DType::Null));
@@ -157,4 +166,12 @@ fn maps_are_not_made_of_structs(rt: HostRuntime) {
 fn maps_take_all_entries(rt: HostRuntime) {
     takes_both(&rt, map_from_two(&rt, map(&rt, I32, false)));
     takes_both(&rt, try_map_from_two(&rt, map(&rt, I32, false)));
+}
+
+#[test]
+fn maps_take_no_entry_past_a_wrong_one(rt: HostRuntime) {
+    let text = DType::Utf8(NonNullable);
+    stops_at_first(&rt, map_from_two(&rt, map(&rt, text, false)));
+    let text = DType::Utf8(NonNullable);
+    stops_at_first(&rt, try_map_from_two(&rt, map(&rt, text, false)));
 }

@@ -5,8 +5,8 @@ pub mod CastCode
 pub mod CastLaws
 pub mod CastTable
 pub mod ContentLaws
-pub mod GivenItems
 pub mod HashSteps
+pub mod ItemMakers
 pub mod ListMakers
 pub mod MakerLaws
 pub mod MapMakers

@@ -1,9 +1,10 @@
 -- Children of the right types make valid lists.
-use Rattle.std.proofs.Common.{◌≡◌, ◌≤◌, ◌<◌, ℕ, nat_lt, Bool, false, not, cond, List, [], ◌∷◌, length, Option, Some, None, position, get_or, refl, ap, subst, suc, option_map, arith}
+use Rattle.std.proofs.Common.{◌≡◌, ◌≤◌, ◌<◌, ◌+◌, ℕ, nat_eq, nat_lt, Bool, true, false, not, cond, if◌then◌else◌, List, [], ◌∷◌, ◌++◌, length, length-append, Option, Some, None, position, get_or, refl, ap, subst, suc, option_map, arith}
 use Rattle.std.proofs.lemmas.Bool.{not-false}
 use Rattle.std.proofs.lemmas.Bool.Decides.{nat_tests}
 use Rattle.std.proofs.lemmas.List.Elements.{All-tail}
-use Rattle.std.proofs.lemmas.List.Sums.{fails_before_first}
+use Rattle.std.proofs.lemmas.List.Folds.{position_or_len_push}
+use Rattle.std.proofs.lemmas.List.Sums.{fails_before_first, prefix_len-le-length}
 use Rattle.std.specs.List.{All, position_or_len}
 use Rattle.std.specs.Option.{option_or}
 use Rattle.vortex_dtype.specs.TypeEquality.{tree_eq}
@@ -24,6 +25,17 @@ pub none_passes : {X : Type 0} (p : X → Bool) (xs : List X) → position p xs 
 none_passes p xs h k d below =
     let past = not_before (position_or_len p xs) (length xs) h in
     fails_before_first p xs k d (omega arith)
+
+placed : (b : Bool) (place n at size : ℕ) → n ≤ place → place ≤ n → at ≡ cond (nat_eq place n) (n + cond b 0 1) place → size ≡ n + 1
+    → cond (nat_lt at size) (Some at) None ≡ (if b then Some n else None)
+placed true place n at size past within h long = grind (arith, nat_tests)
+placed false place n at size past within h long = grind (arith, nat_tests)
+
+-- where no element passes, one more decides
+pub next_place : {X : Type 0} (p : X → Bool) (xs : List X) (x : X) → position p xs ≡ None → position p (xs ++ x ∷ []) ≡ (if p x then Some (length xs) else None)
+next_place p xs x h =
+    placed (p x) (position_or_len p xs) (length xs) (position_or_len p (xs ++ x ∷ [])) (length (xs ++ x ∷ [])) (not_before (position_or_len p xs) (length xs) h)
+    (prefix_len-le-length (λ y. not (p y)) xs) (position_or_len_push p xs x) (length-append xs (x ∷ []))
 
 -- each child is valid for the expected type
 pub children_valid : (expected : TypeTree) (xs : List Scalar) → wrong_place expected xs ≡ None → All IsValid xs → All (λ x. Valid expected (scalar_raw x)) xs

@@ -1,5 +1,5 @@
 -- Entries of the map's types make valid maps.
-use Rattle.std.proofs.Common.{◌≡◌, ℕ, true, not, List, [], ◌∷◌, Option, Some, None, option_map, get_or, refl, subst, arith}
+use Rattle.std.proofs.Common.{◌≡◌, ℕ, Bool, true, false, not, if◌then◌else◌, List, [], ◌∷◌, ◌++◌, length, Option, Some, None, option_map, get_or, refl, ap, ◌∙◌, subst, arith}
 use Rattle.std.proofs.lemmas.Bool.{not-false}
 use Rattle.std.proofs.lemmas.List.Elements.{All-tail}
 use Rattle.std.specs.Cmp.{first_so, second_so}
@@ -9,12 +9,13 @@ use Rattle.vortex_dtype.specs.Lemmas.TypeLaws.{tree_eq-Decides}
 use Rattle.vortex_dtype.specs.TypeOf.{MapParts}
 use Rattle.vortex_dtype.specs.TypeTree.{TypeTree, map_type}
 use Rattle.vortex_dtype.specs.declared.error.VortexError.{VortexError}
-use Rattle.vortex_value.specs.Makers.{IsValidEntry, is_entry_of, map_cause, raw_entries, wrong_entry}
+use Rattle.vortex_dtype.specs.declared.error.VortexError.TheVariants.{WrongChild}
+use Rattle.vortex_value.specs.Makers.{IsValidEntry, entries_cause, entry_cause, is_entry_of, map_cause, raw_entries, wrong_entry}
 use Rattle.vortex_value.specs.Values.RawTree.{raw_tuple}
 use Rattle.vortex_value.specs.Values.Scalars.{scalar_raw, scalar_type}
 use Rattle.vortex_value.specs.Validity.{EntriesValid, Valid}
 use Rattle.vortex_value.specs.declared.scalars.Scalar.{Scalar}
-use Rattle.vortex_value.proofs.ListMakers.{none_passes}
+use Rattle.vortex_value.proofs.ListMakers.{next_place, none_passes}
 
 -- the key and the value are valid for these types
 abbrev FitsEntry : TypeTree → TypeTree → Scalar × Scalar → Type 0
@@ -43,3 +44,13 @@ map_valid (map_type k w sorted n) es h valid =
     let right = none_passes (λ entry. not (is_entry_of parts entry)) es (no_wrong (wrong_entry parts es) _ h) in
     entries_valid k w es (λ i d below. fit parts (get_or es i d) (not-false (is_entry_of parts (get_or es i d)) (right i d below)) (valid i d below))
 map_valid _ es h valid = cc
+
+decided : (b : Bool) (n : ℕ) → option_map WrongChild (if not b then Some n else None) ≡ (if b then None else Some (WrongChild n))
+decided true n = refl
+decided false n = refl
+
+-- where entries are right, one more decides
+pub next_cause : (parts : MapParts) (es : List (Scalar × Scalar)) (e : Scalar × Scalar) → entries_cause parts es ≡ None
+    → entries_cause parts (es ++ e ∷ []) ≡ entry_cause parts (length es) e
+next_cause parts es e h =
+    ap (option_map WrongChild) (next_place (λ entry. not (is_entry_of parts entry)) es e (no_wrong (wrong_entry parts es) WrongChild h)) ∙ decided (is_entry_of parts e) (length es)

@@ -1,13 +1,12 @@
 -- When the makers of scalars refuse.
-use Rattle.std.specs.Prelude.{◌≡◌, ◌⊎◌, ℕ, ◌==◌, ◌&&◌, ◌^◌, nat_lt, Bool, not, List, length, map, position, Option, Some, None, Result, IfErr, IfOk, option_map, if◌then◌else◌}
-use Rattle.std.specs.Iterator.Runs.{AllItems, EachRunFrom, WholeRun}
+use Rattle.std.specs.Prelude.{ℕ, ◌==◌, ◌&&◌, ◌^◌, nat_lt, Bool, not, List, length, map, position, Option, Some, None, option_map, if◌then◌else◌}
 use Rattle.std.specs.List.{zip}
 use Rattle.std.specs.Option.{option_or}
 use Rattle.vortex_dtype.specs.TypeEquality.{tree_eq}
 use Rattle.vortex_dtype.specs.TypeOf.{ExtensionParts, FieldParts, MapParts, VariantParts, as_type_trees}
 use Rattle.vortex_dtype.specs.TypeTree.{TypeTree, extension_type, union_type}
 use Rattle.vortex_dtype.specs.declared.error.VortexError.{VortexError}
-use Rattle.vortex_dtype.specs.declared.error.VortexError.TheVariants.{OutOfMemory, WrongKind, WrongChild, WrongLength, UnknownTypeId, VariantNull, TooMany}
+use Rattle.vortex_dtype.specs.declared.error.VortexError.TheVariants.{WrongKind, WrongChild, WrongLength, UnknownTypeId, VariantNull, TooMany}
 use Rattle.vortex_dtype.specs.declared.kinds.Nullability.{Nullability}
 use Rattle.vortex_value.specs.Breaches.{is_null_type}
 use Rattle.vortex_value.specs.Values.RawOf.{as_raw_trees, value_trees}
@@ -92,6 +91,10 @@ is_entry_of parts entry = tree_eq (scalar_type entry.0) parts.key && tree_eq (sc
 abbrev pub wrong_entry : MapParts → List (Scalar × Scalar) → Option ℕ
 wrong_entry parts entries = position (λ entry. not (is_entry_of parts entry)) entries
 
+-- why this entry at this place makes no part of a map of these types
+abbrev pub entry_cause : MapParts → ℕ → Scalar × Scalar → Option VortexError
+entry_cause parts index entry = if is_entry_of parts entry then None else Some (WrongChild index)
+
 -- why entries make no map of these types: the first wrong entry
 abbrev pub entries_cause : MapParts → List (Scalar × Scalar) → Option VortexError
 entries_cause parts entries = option_map WrongChild (wrong_entry parts entries)
@@ -100,19 +103,3 @@ entries_cause parts entries = option_map WrongChild (wrong_entry parts entries)
 abbrev pub map_cause : Option MapParts → List (Scalar × Scalar) → Option VortexError
 map_cause None entries = Some WrongKind
 map_cause (Some parts) entries = entries_cause parts entries
-
--- the iterable gives items and then no more, and p holds of all of them in order
-abbrev pub GivesAll : {U S A : Type 0} → (U → S → Type 0) → (S → Option A → S → Type 0) → U → (List A → Type 0) → Type 0
-GivesAll {S = S} gives steps iterable p = (it : S) × gives iterable it × WholeRun steps it (λ run. p run.items)
-
--- a refusal is out of memory, or the cause that all the items of the iterable, in order, give for it
-abbrev pub RefusesItems : {U S A T : Type 0} → (U → S → Type 0) → (S → Option A → S → Type 0) → U → (List A → Option VortexError) → Result T VortexError → Type 0
-RefusesItems gives steps iterable cause result = IfErr result (λ e. (e ≡ OutOfMemory) ⊎ GivesAll gives steps iterable (λ items. cause items ≡ Some e))
-
--- what is made is made of all the items of the iterable, in order, and these give no cause to refuse
-abbrev pub MadeOfItems : {U S A T : Type 0} → (U → S → Type 0) → (S → Option A → S → Type 0) → U → (List A → Option VortexError) → (List A → T → Type 0) → Result T VortexError → Type 0
-MadeOfItems gives steps iterable cause made result = IfOk result (λ x. GivesAll gives steps iterable (λ items. (cause items ≡ None) × made items x))
-
--- p holds of each item that the iterable may give
-abbrev pub EachItem : {U S A : Type 0} → (U → S → Type 0) → (S → Option A → S → Type 0) → U → (A → Type 0) → Type 0
-EachItem {S = S} gives steps iterable p = (it : S) → gives iterable it → EachRunFrom steps it (λ run. AllItems run p)

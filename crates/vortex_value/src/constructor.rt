@@ -1,6 +1,6 @@
 //! Makers of scalars: each answers a valid scalar of the stated type, or refuses by name.
 
-ghost use Rattle.std.specs.Prelude.{◌≡◌, ◌≢◌, ◌↔◌, Err, IsOk, IfOk, IfErr, IsUtf8, true};
+ghost use Rattle.std.specs.Prelude.{◌≡◌, ◌≢◌, ◌↔◌, Ok, Err, IsOk, IfOk, IfErr, IsUtf8, MatchResult, Some, true};
 ghost use Rattle.vortex_dtype.specs.Refusals.{RefusesExactly, RefusesOrNoMemory};
 ghost use Rattle.vortex_dtype.specs.TypeOf.{type_of, ext_of, variants_of};
 ghost use Rattle.vortex_dtype.specs.TypeTree.{IsFlat, IsNullable, as_nullable, bool_type, integer_type, utf8_type, binary_type, variant_type};
@@ -240,6 +240,18 @@ impl Scalar {
             value: Some(ScalarValue::Variant(Box::new(alloc, value)?)),
         })
     }
+}
+
+/// The scalar of this type and raw value, or the refusal that came in the value's place.
+fn scalar_of(dtype: DType, value: Result<ScalarValue, VortexError>) -> Result<Scalar, VortexError>
+    ensures { MatchResult value
+        (λ v. result ≡ Ok (record { dtype = dtype; value = Some v }))
+        (λ e. result ≡ Err e) }
+{
+    Ok(Scalar {
+        dtype,
+        value: Some(value?),
+    })
 }
 
 /// The refusal of a child whose type is not exactly the expected one.

@@ -1,26 +1,18 @@
--- What holds of each element of a list holds of each item of an iterator over it: callers of the makers over iterators
--- show by it that the items are valid.
-use Rattle.std.proofs.Common.{◌≡◌, ◌<◌, ◌≤◌, ℕ, zero, suc, List, [], ◌∷◌, length, Option, Some, None, IfSome, sym, subst, arith}
-use Rattle.std.specs.Iterator.Runs.{Run, AllItems, ItemsAre, YieldsRun}
-use Rattle.std.specs.List.{All, HoldsAt, slice_get}
+-- What a caller of a maker over an iterator of its own shows of the items: that each call of `next` gives what P holds of.
+-- Of a `Vec`, and of std's adapters over one, the check finds what the makers ask by itself.
+use Rattle.std.proofs.Common.{◌<◌, ℕ, zero, suc, List, [], ◌∷◌, length, Option, Some, get_or, arith}
+use Rattle.std.specs.Iterator.{Yields}
+use Rattle.std.specs.Iterator.Runs.{Run, YieldsRun}
+use Rattle.std.specs.List.{All}
 
-below_length : {A : Type 0} (xs : List A) (k : ℕ) (x : A) → Some x ≡ slice_get xs k → k < length xs
-below_length [] k x h = cc
-below_length (y ∷ ys) zero x h = omega arith
-below_length (y ∷ ys) (suc k) x h = let below = below_length ys k x h in omega arith
+along : {S A : Type 0} (steps : S → Option A → S → Type 0) (P : A → Type 0) → ((s : S) (x : A) (t : S) → steps s (Some x) t → P x)
+    → (s t : S) (xs : List A) → Yields steps s xs t → (k : ℕ) (d : A) → k < length xs → P (get_or xs k d)
+along steps P each s t [] calls k d below = absurd (omega arith)
+along steps P each s t (x ∷ xs) calls zero d below = each s x calls.0 calls.1
+along steps P each s t (x ∷ xs) calls (suc k) d below = along steps P each calls.0 t xs calls.2 k d (omega arith)
 
-item_holds : {A : Type 0} (P : A → Type 0) (xs ys : List A) (k : ℕ) (o : Option A) → o ≡ slice_get ys k → length ys ≤ length xs → All P xs
-    → IfSome o (λ x. HoldsAt (λ y. x ≡ y) xs k) → IfSome o P
-item_holds P xs ys k None read few all at = tt
-item_holds P xs ys k (Some x) read few all at =
-    let below = below_length ys k x read in
-    subst P (sym (at x)) (all k x (omega arith))
-
-reads_items : {S A : Type 0} {steps : S → Option A → S → Type 0} (run : Run steps) (k : ℕ) → run.at k ≡ slice_get run.items k
+-- what holds of the item that any call gives holds of all items of a run
+pub all_given : {S A : Type 0} {steps : S → Option A → S → Type 0} (P : A → Type 0) → ((s : S) (x : A) (t : S) → steps s (Some x) t → P x)
+    → (run : Run steps) → All P run.items
 unfolding YieldsRun
-reads_items run k = run.gave.1 k
-
-pub each_item : {S A : Type 0} {steps : S → Option A → S → Type 0} (P : A → Type 0) (run : Run steps) (xs : List A) → All P xs → ItemsAre run xs → AllItems run P
-each_item P run xs all are k =
-    let few : length run.items ≤ length xs = let small = are.0 in let long = run.long in omega arith in
-    item_holds P xs run.items k (run.at k) (reads_items run k) few all (are.3 k)
+all_given {steps = steps} P each run = along steps P each run.from run.gave.0.0 run.items run.gave.0.1

@@ -128,7 +128,7 @@ pub(super) fn tuple_of(alloc: Global, children: Vec<Scalar>) -> Result<ScalarVal
 {
     let mut values = Vec::with_capacity(alloc, children.len())?;
     for child in children {
-        values.push(child.value)?;
+        values.push(child.into_value())?;
     }
     Ok(ScalarValue::Tuple(values))
 }

@@ -1,19 +1,22 @@
 //! The maker of structs.
 
-ghost use Rattle.std.specs.Prelude.{◌≡◌, not, position, IfOk, IsErrAnd, MatchOption};
-ghost use Rattle.std.specs.Iterator.{IsFiniteIterable};
+ghost use Rattle.std.specs.Prelude.{◌≡◌, ◌⊎◌, not, position, IfOk, IfErr, IsErrAnd, MatchOption};
+ghost use Rattle.std.specs.Iterator.{IsFinite};
+ghost use Rattle.std.specs.Iterator.Runs.{WholeRun};
 ghost use Rattle.std.specs.List.{zip};
 ghost use Rattle.vortex_dtype.specs.Parts.{fields_in};
-ghost use Rattle.vortex_dtype.specs.Refusals.{RefusesOrNoMemory};
+ghost use Rattle.vortex_dtype.specs.Refusals.{RefusesExactly, RefusesOrNoMemory};
 ghost use Rattle.vortex_dtype.specs.TypeEquality.{tree_eq};
 ghost use Rattle.vortex_dtype.specs.TypeOf.{type_of, fields_of};
-ghost use Rattle.vortex_dtype.specs.declared.error.VortexError.TheVariants.{WrongKind};
-ghost use Rattle.vortex_value.specs.Makers.{EachItem, MadeOfItems, RefusesItems, fields_cause, child_trees, struct_cause};
+ghost use Rattle.vortex_dtype.specs.declared.error.VortexError.TheVariants.{OutOfMemory, WrongKind};
+ghost use Rattle.vortex_value.specs.Items.{GivesOnly, MadeOfItems, RefusesItems};
+ghost use Rattle.vortex_value.specs.Makers.{fields_cause, child_trees, struct_cause};
 ghost use Rattle.vortex_value.specs.Values.RawOf.{value_tree};
 ghost use Rattle.vortex_value.specs.Values.RawTree.{raw_tuple};
 ghost use Rattle.vortex_value.specs.Values.Scalars.{IsMadeOf, IsValid, scalar_type};
 
 use super::lists::tuple_of;
+use super::scalar_of;
 use crate::scalars::Scalar;
 use crate::values::ScalarValue;
 use std::alloc::Global;
@@ -31,9 +34,8 @@ impl Scalar {
         dtype: DType,
         children: I,
     ) -> Result<Scalar, VortexError>
-        requires finite { IsFiniteIterable I.into_iter_gives
-            I.IntoIter.can_next I.IntoIter.remaining children }
-        requires children { EachItem I.into_iter_gives I.IntoIter.next_gives children IsValid }
+        requires { GivesOnly I.into_iter_gives I.IntoIter.can_next I.IntoIter.next_gives
+            I.IntoIter.remaining children IsValid }
         ensures refused { MatchOption (fields_in (type_of dtype))
             (IsErrAnd result (λ e. e ≡ WrongKind))
             (λ fields. RefusesItems I.into_iter_gives I.IntoIter.next_gives children
@@ -43,21 +45,36 @@ impl Scalar {
             (λ items. IsMadeOf (type_of dtype) (raw_tuple (child_trees items))) result }
         ensures valid { IfOk result IsValid }
     {
-        let children = children.into_iter();
-        let Some(fields) = dtype.as_struct_fields_opt() else {
-            return Err(VortexError::WrongKind);
-        };
-        let children: Vec<Scalar> = children.collect(alloc)?;
-        let value = struct_value(alloc, fields, children)?;
-        Ok(Scalar {
-            dtype,
-            value: Some(value),
-        })
+        let value = struct_value(alloc, &dtype, children.into_iter());
+        scalar_of(dtype, value)
     }
 }
 
 /// The raw value of the struct of these children, or why they make none.
-fn struct_value(
+fn struct_value<I: Iterator<Item = Scalar>>(
+    alloc: Global,
+    dtype: &DType,
+    children: I,
+) -> Result<ScalarValue, VortexError>
+    requires can { I.can_next children }
+    requires ends { IsFinite (I.remaining children) }
+    ensures refused { MatchOption (fields_in (type_of dtype.now))
+        (IsErrAnd result (λ e. e ≡ WrongKind))
+        (λ fields. IfErr result (λ e. (e ≡ OutOfMemory) ⊎ WholeRun I.next_gives children
+        (λ run. fields_cause fields.types run.items ≡ Some e))) }
+    ensures made { IfOk result (λ value. WholeRun I.next_gives children
+        (λ run. (struct_cause (fields_in (type_of dtype.now)) run.items ≡ None)
+        × (value_tree value ≡ raw_tuple (child_trees run.items)))) }
+{
+    let Some(fields) = dtype.as_struct_fields_opt() else {
+        return Err(VortexError::WrongKind);
+    };
+    let children: Vec<Scalar> = children.collect(alloc)?;
+    fields_value(alloc, fields, children)
+}
+
+/// The raw value of which these children are the fields.
+fn fields_value(
     alloc: Global,
     fields: &StructFields,
     children: Vec<Scalar>,
@@ -66,23 +83,24 @@ fn struct_value(
         (fields_cause (fields_of fields.now).types children.items) result }
     ensures made { IfOk result (λ value. value_tree value ≡ raw_tuple (child_trees children.items)) }
 {
-    if let Some(cause) = fields_cause(fields, &children) {
-        return Err(cause);
-    }
+    check_fields(fields, &children)?;
     tuple_of(alloc, children)
 }
 
-/// Why these children do not fit these fields.
-fn fields_cause(fields: &StructFields, children: &[Scalar]) -> Option<VortexError>
-    ensures { result ≡ fields_cause (fields_of fields.now).types children.now }
+/// Sees that these children fit these fields.
+fn check_fields(fields: &StructFields, children: &[Scalar]) -> Result<(), VortexError>
+    ensures { RefusesExactly (fields_cause (fields_of fields.now).types children.now) result }
 {
     if fields.nfields() != children.len() {
-        return Some(VortexError::WrongLength {
+        return Err(VortexError::WrongLength {
             expected: fields.nfields(),
             found: children.len(),
         });
     }
-    wrong_field(fields.dtypes(), children).map(|index| VortexError::WrongChild { index })
+    match wrong_field(fields.dtypes(), children) {
+        Some(index) => Err(VortexError::WrongChild { index }),
+        None => Ok(()),
+    }
 }
 
 /// The place of the first child whose type is not exactly its field's.
