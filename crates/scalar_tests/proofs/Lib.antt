@@ -1,1 +1,1 @@
-pub mod ListCasts
+mod ListCasts

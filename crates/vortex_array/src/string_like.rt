@@ -124,8 +124,8 @@ fn next_char_of_width(c: char) -> Option<char>
         (λ d. (d ≡ c + 1) × IsScalar d × (len_utf8 d ≡ len_utf8 c)) }
 {
     match c {
-        '\u{7F}' | '\u{7FF}' | '\u{D7FF}' | '\u{FFFF}' | '\u{10FFFF}' => None,
-        _ => char::from_u32(c as u32 + 1),
+        '\u{7F}' | '\u{7FF}' | '\u{FFFF}' => None,
+        _ => next_char(c),
     }
 }
 

@@ -110,11 +110,12 @@ pub fn lower_bound<T: ScalarTruncation>(
     let Some(value) = value else {
         return Ok(None);
     };
-    if value.len() > max_length {
+    if max_length < value.len() {
         let bound = value.lower_bound(alloc, max_length)?;
         Ok(Some((bound.into_scalar(nullability), true)))
     } else {
-        Ok(Some((value.into_scalar(nullability), false)))
+        let whole = value.into_scalar(nullability);
+        Ok(Some((whole, false)))
     }
 }
 

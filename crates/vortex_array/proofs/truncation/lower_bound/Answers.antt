@@ -7,8 +7,8 @@ returns-in_ok-bound-clause-bound g c = of_value _ _ _ c.in-Some.is
     (lower_cut _ _ _ _ _ _ _ g.met.T.ScalarTruncation.order_law g.met.T.ScalarTruncation.lower_law
     c.into_scalar.ensures.made c.into_scalar.ensures.valid (omega (arith, c.len.ensures)) c.in_ok-bound.ensures)
 
-pub returns-else-len-max_length-clause-bound : goal.returns-else-len-max_length-clause-bound
-returns-else-len-max_length-clause-bound g c = of_value _ _ _ c.in-Some.is
+pub returns-else-max_length-len-clause-bound : goal.returns-else-max_length-len-clause-bound
+returns-else-max_length-len-clause-bound g c = of_value _ _ _ c.in-Some.is
     (lower_whole _ _ _ _ _ _ g.met.T.ScalarTruncation.order_law
-    c.into_scalar-else-len-max_length.ensures.made c.into_scalar-else-len-max_length.ensures.valid
+    c.into_scalar-whole.ensures.made c.into_scalar-whole.ensures.valid
     (omega (arith, c.len.ensures)))
