@@ -4,12 +4,12 @@ use crate::write::output::Output;
 use crate::write::refusals::write_refusal;
 use crate::write::texts::write_text;
 use crate::write::types::write_type;
-use crate::write::values::write_scalar;
+use crate::write::values::{write_raw, write_scalar};
 use std::alloc::Global;
 use std::cmp::Ordering;
 use std::fmt::Display;
-use vortex_dtype::{DType, VortexError};
-use vortex_value::Scalar;
+use vortex_dtype::{BufferString, ByteBuffer, DType, VortexError};
+use vortex_value::{Scalar, ScalarValue, UnionValue};
 
 /// What a call answers.
 #[derive(Drop)]
@@ -22,6 +22,8 @@ pub enum Answer {
     Text(String),
     /// A type.
     Type(DType),
+    /// A raw value; none is the null.
+    Raw(Option<ScalarValue>),
     /// A scalar.
     Scalar(Scalar),
     /// A refusal.
@@ -76,6 +78,46 @@ pub fn made(made: Result<Scalar, VortexError>) -> Answer {
     }
 }
 
+/// The answer of a call that makes a type.
+pub fn made_type(made: Result<DType, VortexError>) -> Answer {
+    match made {
+        Ok(dtype) => Answer::Type(dtype),
+        Err(refusal) => Answer::Refused(refusal),
+    }
+}
+
+/// The answer of a call that makes a raw value.
+pub fn made_raw(made: Result<ScalarValue, VortexError>) -> Answer {
+    match made {
+        Ok(value) => Answer::Raw(Some(value)),
+        Err(refusal) => Answer::Refused(refusal),
+    }
+}
+
+/// The answer of a call that makes bytes.
+pub fn made_bytes(made: Result<ByteBuffer, VortexError>) -> Answer {
+    match made {
+        Ok(bytes) => Answer::Raw(Some(ScalarValue::Binary(bytes))),
+        Err(refusal) => Answer::Refused(refusal),
+    }
+}
+
+/// The answer of a call that makes a text of a raw value.
+pub fn made_text(made: Result<BufferString, VortexError>) -> Answer {
+    match made {
+        Ok(text) => Answer::Raw(Some(ScalarValue::Utf8(text))),
+        Err(refusal) => Answer::Refused(refusal),
+    }
+}
+
+/// The answer of a call that makes a union's raw value.
+pub fn made_union(made: Result<UnionValue, VortexError>) -> Answer {
+    match made {
+        Ok(union) => Answer::Raw(Some(ScalarValue::Union(union))),
+        Err(refusal) => Answer::Refused(refusal),
+    }
+}
+
 /// Writes an answer in its one form.
 pub fn write_answer(out: &mut Output, answer: &Answer) {
     match answer {
@@ -83,6 +125,7 @@ pub fn write_answer(out: &mut Output, answer: &Answer) {
         Answer::Number(number) => out.number(*number as u64),
         Answer::Text(text) => write_text(out, text),
         Answer::Type(dtype) => write_type(out, dtype),
+        Answer::Raw(value) => write_raw(out, value),
         Answer::Scalar(scalar) => write_scalar(out, scalar),
         Answer::Refused(refusal) => write_refusal(out, refusal),
     }

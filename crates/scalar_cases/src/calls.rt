@@ -1,18 +1,16 @@
 //! The table of calls, and what each is given.
 
-use crate::answers::Answer;
-use crate::inputs::{scalar_input, type_input, value_input};
 use crate::tokens::Tokens;
-use std::alloc::Global;
 
 pub mod makers;
+mod parts;
 pub mod queries;
 mod recorder;
 
-use makers::{ListCall, Maker, answer_maker};
+use makers::{ListCall, Maker, Makes, MapCall, read_maker};
 use queries::{
-    Query, ScalarCall, ScalarsCall, TargetCall, TypeCall, TypesCall, ValidCall, ValidsCall,
-    answer_query,
+    Asks, PartCall, Query, ScalarCall, ScalarsCall, TargetCall, TypeCall, TypesCall, ValidCall,
+    ValidsCall, ValueCall, read_query,
 };
 
 /// A call with its inputs.
@@ -24,62 +22,132 @@ pub enum Call {
     Maker(Maker),
 }
 
-/// What calls are given, and which of the calls that are given it.
+/// What a call is given, and which of the calls that are given it.
 #[derive(Clone, Copy)]
 enum Shape {
-    Type(TypeCall),
-    Types(TypesCall),
-    Project,
-    Scalar(ScalarCall),
-    Scalars(ScalarsCall),
-    Valid(ValidCall),
-    Valids(ValidsCall),
-    Target(TargetCall),
-    RawText,
-    AsNullable,
-    IntoNullable,
-    TryNew,
-    List(ListCall),
-    Struct,
-    Map,
-    Union,
-    Extension,
-    Variant,
+    Query(Asks),
+    Maker(Makes),
 }
 
 /// The table of calls: the name of each, and what it is given.
 const CALLS: [(&str, Shape); 26] = [
-    ("same", Shape::Types(TypesCall::Same)),
-    ("equal_types", Shape::Types(TypesCall::Equal)),
-    ("as_nullable", Shape::AsNullable),
-    ("project", Shape::Project),
-    ("validate", Shape::Scalar(ScalarCall::Validate)),
-    ("compatible", Shape::Scalar(ScalarCall::Compatible)),
-    ("try_new", Shape::TryNew),
-    ("clone", Shape::Scalar(ScalarCall::Clone)),
-    ("equal", Shape::Scalars(ScalarsCall::Equal)),
-    ("hash", Shape::Scalars(ScalarsCall::Hash)),
-    ("order", Shape::Valids(ValidsCall::Order)),
-    ("zero", Shape::Type(TypeCall::Zero)),
-    ("default", Shape::Type(TypeCall::Default)),
-    ("is_zero", Shape::Valid(ValidCall::IsZero)),
-    ("size", Shape::Valid(ValidCall::Size)),
-    ("list", Shape::List(ListCall::List)),
-    ("fixed_size_list", Shape::List(ListCall::FixedSizeList)),
-    ("struct", Shape::Struct),
-    ("map", Shape::Map),
-    ("union", Shape::Union),
-    ("extension", Shape::Extension),
-    ("variant_of", Shape::Variant),
-    ("cast", Shape::Target(TargetCall::Cast)),
-    ("into_nullable", Shape::IntoNullable),
-    ("text", Shape::Scalar(ScalarCall::Text)),
-    ("raw_text", Shape::RawText),
+    ("same", Shape::Query(Asks::Types(TypesCall::Same))),
+    ("equal_types", Shape::Query(Asks::Types(TypesCall::Equal))),
+    ("as_nullable", Shape::Maker(Makes::AsNullable)),
+    ("project", Shape::Query(Asks::Project)),
+    ("validate", Shape::Query(Asks::Scalar(ScalarCall::Validate))),
+    (
+        "compatible",
+        Shape::Query(Asks::Scalar(ScalarCall::Compatible)),
+    ),
+    ("try_new", Shape::Maker(Makes::TryNew)),
+    ("clone", Shape::Query(Asks::Scalar(ScalarCall::Clone))),
+    ("equal", Shape::Query(Asks::Scalars(ScalarsCall::Equal))),
+    ("hash", Shape::Query(Asks::Scalars(ScalarsCall::Hash))),
+    ("order", Shape::Query(Asks::Valids(ValidsCall::Order))),
+    ("zero", Shape::Query(Asks::Type(TypeCall::Zero))),
+    ("default", Shape::Query(Asks::Type(TypeCall::Default))),
+    ("is_zero", Shape::Query(Asks::Valid(ValidCall::IsZero))),
+    ("size", Shape::Query(Asks::Valid(ValidCall::Size))),
+    ("list", Shape::Maker(Makes::List(ListCall::List))),
+    (
+        "fixed_size_list",
+        Shape::Maker(Makes::List(ListCall::FixedSizeList)),
+    ),
+    ("struct", Shape::Maker(Makes::Struct)),
+    ("map", Shape::Maker(Makes::Map(MapCall::Map))),
+    ("union", Shape::Maker(Makes::Union)),
+    ("extension", Shape::Maker(Makes::Extension)),
+    ("variant_of", Shape::Maker(Makes::Variant)),
+    ("cast", Shape::Query(Asks::Target(TargetCall::Cast))),
+    ("into_nullable", Shape::Maker(Makes::IntoNullable)),
+    ("text", Shape::Query(Asks::Scalar(ScalarCall::Text))),
+    ("raw_text", Shape::Query(Asks::Value(ValueCall::RawText))),
 ];
 
-/// What the call of this name is given.
-fn shape_of(name: &[u8]) -> Option<Shape> {
-    for (listed, shape) in &CALLS {
+/// The calls of parts, of which no case is: the lines of a watched run are.
+const PARTS: [(&str, Shape); 27] = [
+    (
+        "empty_bytes",
+        Shape::Query(Asks::Nothing(PartCall::EmptyBytes)),
+    ),
+    ("bytes", Shape::Query(Asks::Value(ValueCall::Bytes))),
+    (
+        "slice_bytes",
+        Shape::Query(Asks::Value(ValueCall::SliceBytes)),
+    ),
+    (
+        "clone_bytes",
+        Shape::Query(Asks::Value(ValueCall::CloneBytes)),
+    ),
+    (
+        "clone_bytes_twice",
+        Shape::Query(Asks::Value(ValueCall::CloneBytesTwice)),
+    ),
+    (
+        "empty_text",
+        Shape::Query(Asks::Nothing(PartCall::EmptyText)),
+    ),
+    (
+        "buffer_text",
+        Shape::Query(Asks::Value(ValueCall::BufferText)),
+    ),
+    (
+        "clone_text",
+        Shape::Query(Asks::Value(ValueCall::CloneText)),
+    ),
+    ("clone_name", Shape::Query(Asks::Names)),
+    ("clone_type", Shape::Query(Asks::Type(TypeCall::Clone))),
+    (
+        "clone_parts",
+        Shape::Query(Asks::Type(TypeCall::CloneParts)),
+    ),
+    ("struct_type", Shape::Maker(Makes::StructType)),
+    ("union_type", Shape::Maker(Makes::UnionType)),
+    ("map_parts", Shape::Maker(Makes::MapParts)),
+    ("map_type", Shape::Maker(Makes::MapType)),
+    ("extension_type", Shape::Maker(Makes::ExtensionType)),
+    (
+        "list_of_rust",
+        Shape::Query(Asks::Nothing(PartCall::ListOfRust)),
+    ),
+    (
+        "lists_of_rust",
+        Shape::Query(Asks::Nothing(PartCall::ListsOfRust)),
+    ),
+    (
+        "text_of_rust",
+        Shape::Query(Asks::Nothing(PartCall::TextOfRust)),
+    ),
+    ("clone_value", Shape::Query(Asks::Value(ValueCall::Clone))),
+    ("union_value", Shape::Maker(Makes::UnionValue)),
+    (
+        "clone_union",
+        Shape::Query(Asks::Value(ValueCall::CloneUnion)),
+    ),
+    (
+        "null_of_rust",
+        Shape::Query(Asks::Nothing(PartCall::NullOfRust)),
+    ),
+    ("empty_list", Shape::Maker(Makes::EmptyList)),
+    ("try_map", Shape::Maker(Makes::Map(MapCall::TryMap))),
+    (
+        "to_scalar",
+        Shape::Query(Asks::Scalar(ScalarCall::ToScalar)),
+    ),
+    ("display", Shape::Query(Asks::Scalar(ScalarCall::Display))),
+];
+
+/// What the call of this name is given; one of parts only where these are served.
+fn shape_of(name: &[u8], with_parts: bool) -> Option<Shape> {
+    match shape_in(&CALLS, name) {
+        None if with_parts => shape_in(&PARTS, name),
+        shape => shape,
+    }
+}
+
+fn shape_in(calls: &[(&str, Shape)], name: &[u8]) -> Option<Shape> {
+    for (listed, shape) in calls {
         if listed.as_bytes() == name {
             return Some(*shape);
         }
@@ -88,40 +156,11 @@ fn shape_of(name: &[u8]) -> Option<Shape> {
 }
 
 /// Reads a call and what it is given; none where no call has the name.
-pub fn read_call(tokens: &mut Tokens<'_>) -> Option<Call> {
+pub fn read_call(tokens: &mut Tokens<'_>, with_parts: bool) -> Option<Call> {
     let name = tokens.word();
-    let shape = shape_of(name)?;
-    Some(read_inputs(tokens, shape))
-}
-
-/// Reads what a call is given.
-fn read_inputs(tokens: &mut Tokens<'_>, shape: Shape) -> Call {
+    let shape = shape_of(name, with_parts)?;
     match shape {
-        Shape::Type(call) => Call::Query(Query::Type(call, type_input(tokens))),
-        Shape::Types(call) => Call::Query(queries::read_types(tokens, call)),
-        Shape::Project => Call::Query(queries::read_project(tokens)),
-        Shape::Scalar(call) => Call::Query(queries::read_scalar(tokens, call)),
-        Shape::Scalars(call) => Call::Query(queries::read_scalars(tokens, call)),
-        Shape::Valid(call) => Call::Query(Query::Valid(call, scalar_input(tokens))),
-        Shape::Valids(call) => Call::Query(queries::read_valids(tokens, call)),
-        Shape::Target(call) => Call::Query(queries::read_target(tokens, call)),
-        Shape::RawText => Call::Query(Query::RawText(value_input(tokens))),
-        Shape::AsNullable => Call::Maker(Maker::AsNullable(type_input(tokens))),
-        Shape::IntoNullable => Call::Maker(Maker::IntoNullable(scalar_input(tokens))),
-        Shape::TryNew => Call::Maker(Maker::TryNew(scalar_input(tokens))),
-        Shape::List(call) => Call::Maker(makers::read_list(tokens, call)),
-        Shape::Struct => Call::Maker(makers::read_struct(tokens)),
-        Shape::Map => Call::Maker(makers::read_map(tokens)),
-        Shape::Union => Call::Maker(makers::read_union(tokens)),
-        Shape::Extension => Call::Maker(makers::read_extension(tokens)),
-        Shape::Variant => Call::Maker(Maker::Variant(scalar_input(tokens))),
-    }
-}
-
-/// What a call answers.
-pub fn answer(alloc: Global, call: Call) -> Answer {
-    match call {
-        Call::Query(query) => answer_query(alloc, &query),
-        Call::Maker(maker) => answer_maker(alloc, maker),
+        Shape::Query(asks) => Some(Call::Query(read_query(tokens, asks))),
+        Shape::Maker(makes) => Some(Call::Maker(read_maker(tokens, makes))),
     }
 }

@@ -1,7 +1,7 @@
 //! The arguments of calls: each stands after spaces.
 
 use crate::read::texts::push_name;
-use crate::read::types::{read_id, read_type};
+use crate::read::types::{Fields, read_fields, read_id, read_type};
 use crate::read::values::{read_scalar, read_value};
 use crate::tokens::Tokens;
 use vortex_dtype::{DType, FieldName, Nullability};
@@ -106,4 +106,18 @@ pub fn nullability_input(tokens: &mut Tokens<'_>) -> Nullability {
             Nullability::NonNullable
         }
     }
+}
+
+/// Reads the fields of a struct type.
+pub fn fields_input(tokens: &mut Tokens<'_>) -> Fields {
+    tokens.spaces();
+    tokens.expect(b'{');
+    read_fields(tokens, false, b'}', ROOM - 1)
+}
+
+/// Reads the variants of a union type.
+pub fn variants_input(tokens: &mut Tokens<'_>) -> Fields {
+    tokens.spaces();
+    tokens.expect(b'(');
+    read_fields(tokens, true, b')', ROOM - 1)
 }

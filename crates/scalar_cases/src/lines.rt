@@ -3,9 +3,10 @@
 ghost use Rattle.std.specs.Prelude.{◌<◌, length};
 
 use crate::cases::{Outcome, run_line};
+use crate::runs::Run;
 use crate::write::output::Output;
 use memchr::memchr;
-use std::alloc::{AllocError, Global};
+use std::alloc::AllocError;
 
 /// How many cases there were, and how many of them were wrong.
 #[derive(Clone, Copy)]
@@ -37,14 +38,14 @@ impl Totals {
 }
 
 /// Runs all lines, and writes what there is to say of them.
-pub fn run_lines(alloc: Global, out: &mut Output, input: &[u8]) -> Result<Totals, AllocError> {
+pub fn run_lines(run: Run<'_>, out: &mut Output, input: &[u8]) -> Result<Totals, AllocError> {
     let mut totals = Totals { cases: 0, wrong: 0 };
     let mut number = 0u64;
     let mut rest = input;
     while !rest.is_empty() {
         let (line, after) = first_line(rest);
         number = number.saturating_add(1);
-        totals = totals.with(run_line(alloc, out, number, line)?);
+        totals = totals.with(run_line(run, out, number, line)?);
         rest = after;
     }
     write_totals(out, totals);

@@ -5,15 +5,18 @@ ghost use Rattle.std.specs.List.{All};
 ghost use Rattle.vortex_value.specs.Makers.{IsValidEntry};
 ghost use Rattle.vortex_value.specs.Values.Scalars.{IsValid};
 
-use crate::answers::{Answer, made};
+use crate::answers::{Answer, made, made_type, made_union};
+use crate::calls::parts;
 use crate::calls::queries::validate;
 use crate::inputs::{
-    entries_input, id_input, nullability_input, scalar_input, scalars_input, type_input,
+    entries_input, fields_input, id_input, nullability_input, scalar_input, scalars_input,
+    type_input, value_input, variants_input,
 };
+use crate::read::types::Fields;
 use crate::tokens::Tokens;
 use std::alloc::Global;
 use vortex_dtype::{DType, ExtDType, Nullability, UnionVariants, VortexError};
-use vortex_value::Scalar;
+use vortex_value::{Scalar, ScalarValue, UnionValue};
 
 /// A call and the inputs that it takes.
 #[derive(Drop)]
@@ -29,13 +32,27 @@ pub enum Maker {
     /// The struct of this type.
     Struct(DType, Vec<Scalar>),
     /// The map of this type.
-    Map(DType, Vec<(Scalar, Scalar)>),
+    Map(MapCall, DType, Vec<(Scalar, Scalar)>),
     /// The scalar of this union type.
     Union(DType, u8, Scalar),
     /// The scalar of this extension type.
     Extension(DType, Scalar),
     /// The variant that holds this scalar.
     Variant(Scalar),
+    /// The list of no children, over this element type.
+    EmptyList(DType, Nullability),
+    /// The struct type of these fields.
+    StructType(Fields),
+    /// The union type of these variants.
+    UnionType(Fields),
+    /// The map type of this key and value type, by its parts.
+    MapParts(DType, DType),
+    /// The map type of this key and value type.
+    MapType(DType, DType, Nullability),
+    /// The extension type like the first over the second.
+    ExtensionType(DType, DType),
+    /// The raw value of a union of this id and child.
+    UnionValue(u8, Option<ScalarValue>),
 }
 
 /// The makers of lists.
@@ -45,36 +62,62 @@ pub enum ListCall {
     FixedSizeList,
 }
 
-pub fn read_list(tokens: &mut Tokens<'_>, call: ListCall) -> Maker {
-    let element = type_input(tokens);
-    let children = scalars_input(tokens);
-    let nullability = nullability_input(tokens);
-    Maker::List(call, element, children, nullability)
+/// The makers of maps.
+#[derive(Clone, Copy)]
+pub enum MapCall {
+    Map,
+    TryMap,
 }
 
-pub fn read_struct(tokens: &mut Tokens<'_>) -> Maker {
-    let dtype = type_input(tokens);
-    let children = scalars_input(tokens);
-    Maker::Struct(dtype, children)
+/// What such a call is given, and which of the calls that are given it.
+#[derive(Clone, Copy)]
+pub enum Makes {
+    AsNullable,
+    IntoNullable,
+    TryNew,
+    List(ListCall),
+    EmptyList,
+    Struct,
+    Map(MapCall),
+    Union,
+    Extension,
+    Variant,
+    StructType,
+    UnionType,
+    MapParts,
+    MapType,
+    ExtensionType,
+    UnionValue,
 }
 
-pub fn read_map(tokens: &mut Tokens<'_>) -> Maker {
-    let dtype = type_input(tokens);
-    let entries = entries_input(tokens);
-    Maker::Map(dtype, entries)
-}
-
-pub fn read_union(tokens: &mut Tokens<'_>) -> Maker {
-    let dtype = type_input(tokens);
-    let id = id_input(tokens);
-    let child = scalar_input(tokens);
-    Maker::Union(dtype, id, child)
-}
-
-pub fn read_extension(tokens: &mut Tokens<'_>) -> Maker {
-    let dtype = type_input(tokens);
-    let storage = scalar_input(tokens);
-    Maker::Extension(dtype, storage)
+/// Reads what a call is given.
+pub fn read_maker(tokens: &mut Tokens<'_>, makes: Makes) -> Maker {
+    match makes {
+        Makes::AsNullable => Maker::AsNullable(type_input(tokens)),
+        Makes::IntoNullable => Maker::IntoNullable(scalar_input(tokens)),
+        Makes::TryNew => Maker::TryNew(scalar_input(tokens)),
+        Makes::List(call) => {
+            let element = type_input(tokens);
+            let children = scalars_input(tokens);
+            Maker::List(call, element, children, nullability_input(tokens))
+        }
+        Makes::EmptyList => Maker::EmptyList(type_input(tokens), nullability_input(tokens)),
+        Makes::Struct => Maker::Struct(type_input(tokens), scalars_input(tokens)),
+        Makes::Map(call) => Maker::Map(call, type_input(tokens), entries_input(tokens)),
+        Makes::Union => Maker::Union(type_input(tokens), id_input(tokens), scalar_input(tokens)),
+        Makes::Extension => Maker::Extension(type_input(tokens), scalar_input(tokens)),
+        Makes::Variant => Maker::Variant(scalar_input(tokens)),
+        Makes::StructType => Maker::StructType(fields_input(tokens)),
+        Makes::UnionType => Maker::UnionType(variants_input(tokens)),
+        Makes::MapParts => Maker::MapParts(type_input(tokens), type_input(tokens)),
+        Makes::MapType => {
+            let key = type_input(tokens);
+            let value = type_input(tokens);
+            Maker::MapType(key, value, nullability_input(tokens))
+        }
+        Makes::ExtensionType => Maker::ExtensionType(type_input(tokens), type_input(tokens)),
+        Makes::UnionValue => Maker::UnionValue(id_input(tokens), value_input(tokens)),
+    }
 }
 
 /// What the call answers.
@@ -85,10 +128,17 @@ pub fn answer_maker(alloc: Global, maker: Maker) -> Answer {
         Maker::TryNew(scalar) => made(Scalar::try_new(alloc, scalar.dtype, scalar.value)),
         Maker::List(call, element, children, n) => made(list(alloc, call, element, children, n)),
         Maker::Struct(dtype, children) => made(struct_of(alloc, dtype, children)),
-        Maker::Map(dtype, entries) => made(map_of(alloc, dtype, entries)),
+        Maker::Map(call, dtype, entries) => made(map_of(alloc, call, dtype, entries)),
         Maker::Union(dtype, id, child) => made(union(alloc, dtype, id, child)),
         Maker::Extension(dtype, storage) => made(extension(alloc, dtype, storage)),
         Maker::Variant(scalar) => made(variant(alloc, scalar)),
+        Maker::EmptyList(element, n) => made(Scalar::list_empty(alloc, element, n)),
+        Maker::StructType(fields) => made_type(parts::struct_type(alloc, fields)),
+        Maker::UnionType(fields) => made_type(parts::union_type(alloc, fields)),
+        Maker::MapParts(key, value) => made_type(parts::map_parts(alloc, key, value)),
+        Maker::MapType(key, value, n) => made_type(DType::map(alloc, key, value, true, n)),
+        Maker::ExtensionType(like, storage) => made_type(parts::extension(alloc, like, storage)),
+        Maker::UnionValue(id, child) => made_union(UnionValue::new(alloc, id, child)),
     }
 }
 
@@ -167,11 +217,15 @@ fn struct_of_valid(
 
 fn map_of(
     alloc: Global,
+    call: MapCall,
     dtype: DType,
     entries: Vec<(Scalar, Scalar)>,
 ) -> Result<Scalar, VortexError> {
     match validate_entries(alloc, &entries) {
-        Ok(()) => map_of_valid(alloc, dtype, entries),
+        Ok(()) => match call {
+            MapCall::Map => map_of_valid(alloc, dtype, entries),
+            MapCall::TryMap => try_map_of_valid(alloc, dtype, entries),
+        },
         Err(refusal) => Err(refusal),
     }
 }
@@ -184,6 +238,16 @@ fn map_of_valid(
     requires { All IsValidEntry entries.items }
 {
     Scalar::map(alloc, dtype, entries)
+}
+
+fn try_map_of_valid(
+    alloc: Global,
+    dtype: DType,
+    entries: Vec<(Scalar, Scalar)>,
+) -> Result<Scalar, VortexError>
+    requires { All IsValidEntry entries.items }
+{
+    Scalar::try_map(alloc, dtype, entries)
 }
 
 fn union(alloc: Global, dtype: DType, id: u8, child: Scalar) -> Result<Scalar, VortexError> {

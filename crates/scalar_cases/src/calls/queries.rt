@@ -3,23 +3,31 @@
 ghost use Rattle.std.specs.Prelude.{OnOk};
 ghost use Rattle.vortex_value.specs.Values.Scalars.{IsValid};
 
-use crate::answers::{Answer, if_made, made, order, text_of, truth, truth_if_any};
+use crate::answers::{
+    Answer, if_made, made, made_bytes, made_raw, made_text, made_type, made_union, order, text_of,
+    truth, truth_if_any,
+};
+use crate::calls::parts;
 use crate::calls::recorder::fed;
-use crate::inputs::{names_input, scalar_input, type_input};
+use crate::inputs::{names_input, scalar_input, type_input, value_input};
 use crate::tokens::Tokens;
 use std::alloc::Global;
-use vortex_dtype::{DType, FieldName, VortexError};
-use vortex_value::{Scalar, ScalarValue};
+use vortex_dtype::{BufferString, ByteBuffer, DType, FieldName, NativeDType, VortexError};
+use vortex_value::{Scalar, ScalarRef, ScalarValue};
 
 /// A call and the inputs that it borrows.
 #[derive(Drop)]
 pub enum Query {
+    /// A call of parts that is given nothing.
+    Nothing(PartCall),
     /// A call of a type.
     Type(TypeCall, DType),
     /// A call of two types.
     Types(TypesCall, DType, DType),
     /// The fields of these names.
     Project(DType, Vec<FieldName>),
+    /// A copy of the first name.
+    Names(Vec<FieldName>),
     /// A call of a scalar, which need not be valid.
     Scalar(ScalarCall, Scalar),
     /// A call of two scalars, which need not be valid.
@@ -30,8 +38,8 @@ pub enum Query {
     Valids(ValidsCall, Scalar, Scalar),
     /// A call of a valid scalar and a type.
     Target(TargetCall, Scalar, DType),
-    /// The text of an optional raw value.
-    RawText(Option<ScalarValue>),
+    /// A call of an optional raw value.
+    Value(ValueCall, Option<ScalarValue>),
 }
 
 /// The calls of a type.
@@ -39,6 +47,19 @@ pub enum Query {
 pub enum TypeCall {
     Zero,
     Default,
+    Clone,
+    CloneParts,
+}
+
+/// The calls of parts that are given nothing.
+#[derive(Clone, Copy)]
+pub enum PartCall {
+    EmptyBytes,
+    EmptyText,
+    ListOfRust,
+    ListsOfRust,
+    TextOfRust,
+    NullOfRust,
 }
 
 /// The calls of two types.
@@ -55,6 +76,8 @@ pub enum ScalarCall {
     Compatible,
     Clone,
     Text,
+    ToScalar,
+    Display,
 }
 
 /// The calls of two scalars, which need not be valid.
@@ -83,53 +106,95 @@ pub enum TargetCall {
     Cast,
 }
 
-pub fn read_types(tokens: &mut Tokens<'_>, call: TypesCall) -> Query {
-    let first = type_input(tokens);
-    let second = type_input(tokens);
-    Query::Types(call, first, second)
+/// The calls of an optional raw value.
+#[derive(Clone, Copy)]
+pub enum ValueCall {
+    RawText,
+    Clone,
+    CloneUnion,
+    Bytes,
+    SliceBytes,
+    CloneBytes,
+    CloneBytesTwice,
+    BufferText,
+    CloneText,
 }
 
-pub fn read_project(tokens: &mut Tokens<'_>) -> Query {
-    let dtype = type_input(tokens);
-    let names = names_input(tokens);
-    Query::Project(dtype, names)
+/// What such a call is given, and which of the calls that are given it.
+#[derive(Clone, Copy)]
+pub enum Asks {
+    Nothing(PartCall),
+    Type(TypeCall),
+    Types(TypesCall),
+    Project,
+    Names,
+    Scalar(ScalarCall),
+    Scalars(ScalarsCall),
+    Valid(ValidCall),
+    Valids(ValidsCall),
+    Target(TargetCall),
+    Value(ValueCall),
 }
 
-pub fn read_scalar(tokens: &mut Tokens<'_>, call: ScalarCall) -> Query {
-    Query::Scalar(call, scalar_input(tokens))
-}
-
-pub fn read_scalars(tokens: &mut Tokens<'_>, call: ScalarsCall) -> Query {
-    let first = scalar_input(tokens);
-    let second = scalar_input(tokens);
-    Query::Scalars(call, first, second)
-}
-
-pub fn read_valids(tokens: &mut Tokens<'_>, call: ValidsCall) -> Query {
-    let first = scalar_input(tokens);
-    let second = scalar_input(tokens);
-    Query::Valids(call, first, second)
-}
-
-pub fn read_target(tokens: &mut Tokens<'_>, call: TargetCall) -> Query {
-    let scalar = scalar_input(tokens);
-    let target = type_input(tokens);
-    Query::Target(call, scalar, target)
+/// Reads what a call is given.
+pub fn read_query(tokens: &mut Tokens<'_>, asks: Asks) -> Query {
+    match asks {
+        Asks::Nothing(call) => Query::Nothing(call),
+        Asks::Type(call) => Query::Type(call, type_input(tokens)),
+        Asks::Types(call) => Query::Types(call, type_input(tokens), type_input(tokens)),
+        Asks::Project => Query::Project(type_input(tokens), names_input(tokens)),
+        Asks::Names => Query::Names(names_input(tokens)),
+        Asks::Scalar(call) => Query::Scalar(call, scalar_input(tokens)),
+        Asks::Scalars(call) => Query::Scalars(call, scalar_input(tokens), scalar_input(tokens)),
+        Asks::Valid(call) => Query::Valid(call, scalar_input(tokens)),
+        Asks::Valids(call) => Query::Valids(call, scalar_input(tokens), scalar_input(tokens)),
+        Asks::Target(call) => Query::Target(call, scalar_input(tokens), type_input(tokens)),
+        Asks::Value(call) => Query::Value(call, value_input(tokens)),
+    }
 }
 
 /// What the call answers.
 pub fn answer_query(alloc: Global, query: &Query) -> Answer {
     match query {
+        Query::Nothing(call) => of_nothing(alloc, *call),
         Query::Type(call, dtype) => of_type(alloc, *call, dtype),
         Query::Types(call, first, second) => of_types(*call, first, second),
         Query::Project(dtype, names) => project(alloc, dtype, names),
+        Query::Names(names) => parts::clone_name(alloc, names),
         Query::Scalar(call, scalar) => of_scalar(alloc, *call, scalar),
         Query::Scalars(call, first, second) => of_scalars(*call, first, second),
         Query::Valid(call, scalar) => of_valid(alloc, *call, scalar),
         Query::Valids(call, first, second) => of_valids(alloc, *call, first, second),
         Query::Target(call, scalar, target) => of_target(alloc, *call, scalar, target),
-        Query::RawText(Some(value)) => text_of(alloc, value),
-        Query::RawText(None) => Answer::Word("\"null\""),
+        Query::Value(call, value) => of_value(alloc, *call, value),
+    }
+}
+
+fn of_nothing(alloc: Global, call: PartCall) -> Answer {
+    match call {
+        PartCall::EmptyBytes => made_bytes(ByteBuffer::empty(alloc)),
+        PartCall::EmptyText => made_text(BufferString::empty(alloc)),
+        PartCall::ListOfRust => made_type(Vec::<Option<i32>>::dtype(alloc)),
+        PartCall::ListsOfRust => made_type(Vec::<Option<Vec<Option<i32>>>>::dtype(alloc)),
+        PartCall::TextOfRust => made_type(String::dtype(alloc)),
+        PartCall::NullOfRust => made(Scalar::null_native::<Vec<Option<i32>>>(alloc)),
+    }
+}
+
+/// Other raw values than the call is of are of the wrong kind.
+fn of_value(alloc: Global, call: ValueCall, value: &Option<ScalarValue>) -> Answer {
+    match (call, value) {
+        (ValueCall::RawText, Some(value)) => text_of(alloc, value),
+        (ValueCall::RawText, None) => Answer::Word("\"null\""),
+        (ValueCall::Clone, Some(value)) => made_raw(value.clone(alloc)),
+        (ValueCall::CloneUnion, Some(ScalarValue::Union(x))) => made_union(x.clone(alloc)),
+        (ValueCall::Bytes, Some(ScalarValue::Utf8(x))) => parts::bytes_of(alloc, x),
+        (ValueCall::SliceBytes, Some(ScalarValue::Binary(x))) => parts::slice_bytes(x),
+        (ValueCall::CloneBytes, Some(ScalarValue::Binary(x))) => made_bytes(x.clone()),
+        (ValueCall::CloneBytesTwice, Some(ScalarValue::Binary(x))) => parts::clone_twice(x),
+        (ValueCall::BufferText, Some(ScalarValue::Utf8(x))) => parts::text_of_str(alloc, x),
+        (ValueCall::CloneText, Some(ScalarValue::Utf8(x))) => made_text(x.clone()),
+        _ => Answer::Refused(VortexError::WrongKind),
     }
 }
 
@@ -137,6 +202,8 @@ fn of_type(alloc: Global, call: TypeCall, dtype: &DType) -> Answer {
     match call {
         TypeCall::Zero => if_made(Scalar::zero_value(alloc, dtype)),
         TypeCall::Default => if_made(Scalar::default_value(alloc, dtype)),
+        TypeCall::Clone => made_type(dtype.clone(alloc)),
+        TypeCall::CloneParts => parts::clone_parts(alloc, dtype),
     }
 }
 
@@ -166,6 +233,8 @@ fn of_scalar(alloc: Global, call: ScalarCall, scalar: &Scalar) -> Answer {
         ScalarCall::Compatible => truth(Scalar::is_compatible(&scalar.dtype, scalar.value())),
         ScalarCall::Clone => made(scalar.clone(alloc)),
         ScalarCall::Text => text_of(alloc, scalar),
+        ScalarCall::ToScalar => made(ScalarRef::of(scalar).to_scalar(alloc)),
+        ScalarCall::Display => parts::display(scalar),
     }
 }
 

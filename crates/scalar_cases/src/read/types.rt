@@ -123,15 +123,15 @@ fn read_parts(tokens: &mut Tokens<'_>, head: Head, room: u32) -> DType {
 
 /// The names, types and ids of fields or variants.
 #[derive(Drop)]
-struct Fields {
-    names: Vec<FieldName>,
-    dtypes: Vec<DType>,
-    type_ids: Vec<u8>,
+pub struct Fields {
+    pub names: Vec<FieldName>,
+    pub dtypes: Vec<DType>,
+    pub type_ids: Vec<u8>,
 }
 
 /// Reads fields, each with an id before it where they are variants.
 #[cycle(types)]
-fn read_fields(tokens: &mut Tokens<'_>, has_ids: bool, close: u8, room: u32) -> Fields {
+pub fn read_fields(tokens: &mut Tokens<'_>, has_ids: bool, close: u8, room: u32) -> Fields {
     let mut fields = Fields {
         names: Vec::new(tokens.alloc),
         dtypes: Vec::new(tokens.alloc),

@@ -1,49 +1,36 @@
-//! Whether raw values and scalars are exactly the same: integer kinds and nullability count, which
-//! their `==` passes over.
+//! Whether what a call borrows is exactly the same as a copy: integer kinds and nullability count,
+//! which the `==` of raw values and scalars passes over.
 
-use crate::outcome::{Outcome, judge};
-use vortex_dtype::VortexError;
+use crate::calls::queries::Query;
 use vortex_value::{Scalar, ScalarValue, UnionValue};
 
-/// Judges a call that has to answer exactly this scalar.
-pub fn judge_scalar(
-    answer: Result<Scalar, VortexError>,
-    expected: &Scalar,
-    untouched: bool,
-) -> Outcome {
-    match answer {
-        Ok(made) => judge(Ok(same_scalar(&made, expected)), untouched),
-        Err(error) => judge(Err(error), untouched),
+/// Whether the inputs are the same.
+pub fn same_query(a: &Query, b: &Query) -> bool {
+    match (a, b) {
+        (Query::Nothing(_), Query::Nothing(_)) => true,
+        (Query::Type(_, x), Query::Type(_, y)) => x == y,
+        (Query::Types(_, v, w), Query::Types(_, x, y)) => v == x && w == y,
+        (Query::Project(v, w), Query::Project(x, y)) => v == x && w == y,
+        (Query::Names(x), Query::Names(y)) => x == y,
+        (Query::Scalar(_, x), Query::Scalar(_, y)) => same_scalar(x, y),
+        (Query::Scalars(_, v, w), Query::Scalars(_, x, y)) => same_two(v, w, x, y),
+        (Query::Valid(_, x), Query::Valid(_, y)) => same_scalar(x, y),
+        (Query::Valids(_, v, w), Query::Valids(_, x, y)) => same_two(v, w, x, y),
+        (Query::Target(_, v, w), Query::Target(_, x, y)) => same_scalar(v, x) && w == y,
+        (Query::Value(_, Some(x)), Query::Value(_, Some(y))) => same_value(x, y),
+        (Query::Value(_, None), Query::Value(_, None)) => true,
+        _ => false,
     }
 }
 
-/// Judges a call that has to answer exactly this raw value.
-pub fn judge_value(
-    answer: Result<ScalarValue, VortexError>,
-    expected: &ScalarValue,
-    untouched: bool,
-) -> Outcome {
-    match answer {
-        Ok(made) => judge(Ok(same_value(&made, expected)), untouched),
-        Err(error) => judge(Err(error), untouched),
-    }
-}
-
-/// Judges a call that has to answer exactly this union's value.
-pub fn judge_union(
-    answer: Result<UnionValue, VortexError>,
-    expected: &UnionValue,
-    untouched: bool,
-) -> Outcome {
-    match answer {
-        Ok(made) => judge(Ok(same_union(&made, expected)), untouched),
-        Err(error) => judge(Err(error), untouched),
-    }
+/// Whether the first two scalars are the same as the others.
+fn same_two(v: &Scalar, w: &Scalar, x: &Scalar, y: &Scalar) -> bool {
+    same_scalar(v, x) && same_scalar(w, y)
 }
 
 /// Whether the raw values are the same, integer kinds and the types inside variants included.
 #[cycle(same)]
-pub fn same_value(a: &ScalarValue, b: &ScalarValue) -> bool {
+fn same_value(a: &ScalarValue, b: &ScalarValue) -> bool {
     match (a, b) {
         (ScalarValue::Bool(x), ScalarValue::Bool(y)) => x == y,
         (ScalarValue::Primitive(x), ScalarValue::Primitive(y)) => x == y && x.ptype() == y.ptype(),
@@ -78,7 +65,7 @@ fn same_parts(a: &[Option<ScalarValue>], b: &[Option<ScalarValue>]) -> bool {
 
 /// Whether the ids and the children are the same.
 #[cycle(same)]
-pub fn same_union(a: &UnionValue, b: &UnionValue) -> bool {
+fn same_union(a: &UnionValue, b: &UnionValue) -> bool {
     if a.type_id != b.type_id {
         return false;
     }
@@ -91,7 +78,7 @@ pub fn same_union(a: &UnionValue, b: &UnionValue) -> bool {
 
 /// Whether the types and the raw values are the same.
 #[cycle(same)]
-pub fn same_scalar(a: &Scalar, b: &Scalar) -> bool {
+fn same_scalar(a: &Scalar, b: &Scalar) -> bool {
     if a.dtype != b.dtype {
         return false;
     }
