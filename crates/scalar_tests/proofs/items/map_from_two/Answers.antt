@@ -1,6 +1,6 @@
+use Rattle.vortex_value.specs.Lemmas.ItemLaws.{all_given}
 use Rattle.vortex_value.specs.Makers.{IsValidEntry}
-use Rattle.scalar_tests.proofs.ItemsGiven.{all_given}
 use Rattle.scalar_tests.proofs.items.map_from_two.Goals as goal
 
-pub map-made-requires-clause-entries : goal.map-made-requires-clause-entries
-map-made-requires-clause-entries c = λ before it given run trigger from. all_given IsValidEntry (λ s o t step. step) run
+pub map-made-requires : goal.map-made-requires
+map-made-requires g c = λ it given. (tt, tt, λ run trigger from. all_given IsValidEntry (λ s x t step. step) run)
