@@ -1,6 +1,5 @@
 pub mod Answers
 pub mod Commands
-pub mod FaultTexts
 pub mod Grammar
 pub mod Lines
 pub mod Rows

@@ -2,70 +2,32 @@
 
 ghost use Rattle.std.specs.Prelude.{◌≡◌, ◌≢◌, IfErr, IfOk, IfSome, OnOk};
 ghost use Rattle.std.specs.Io.KnownBytes.{Appends, IsAtEnd};
-ghost use Rattle.scalar_rows.specs.FaultTexts.{fault_text};
 ghost use Rattle.scalar_rows.specs.Rows.{rows_of};
-ghost use Rattle.scalar_rows.specs.declared.rows.RowsError.TheVariants.{Memory};
 
 use crate::answers::answer_to;
 use crate::commands::command_in;
-use crate::input::read_all;
 use crate::print::push_answer;
 use crate::words::first_line;
+use program_io::{Fault, read_all, write_out};
 use std::alloc::{AllocError, Global};
 use std::io::{Read, Write};
-
-/// Why the program stopped.
-#[derive(Debug, Drop)]
-pub enum RowsError {
-    /// A read failed, or the input did not end within the reads that are made.
-    Read,
-    /// A write, or the flush after it, failed.
-    Write,
-    /// No memory was left.
-    Memory,
-}
-
-/// Out of memory.
-impl From<AllocError> for RowsError {
-    ghost from_gives = { λ _ fault. fault ≡ Memory };
-
-    fn from(_error: AllocError) -> RowsError {
-        RowsError::Memory
-    }
-}
-
-/// What the program says of a fault.
-pub fn fault_line(fault: &RowsError) -> &'static str
-    ensures { result.now ≡ fault_text fault.now }
-{
-    match fault {
-        RowsError::Read => "read failed",
-        RowsError::Write => "write failed",
-        RowsError::Memory => "out of memory",
-    }
-}
 
 /// Reads all there is, and writes what its lines give and nothing else.
 ///
 /// `Read` for every error of the reader, and where the input has not ended within 1,048,576 reads;
 /// `Memory` where no memory is left; after both nothing was written. `Write` for an error of the
 /// writer: how much went out is not known.
-pub fn run<R: Read, W: Write>(
-    alloc: Global,
-    reader: &mut R,
-    writer: &mut W,
-) -> Result<(), RowsError>
+pub fn run<R: Read, W: Write>(alloc: Global, reader: &mut R, writer: &mut W) -> Result<(), Fault>
     // What was written is the rows of all bytes that there were.
     ensures rows { OnOk result (IfSome (R.remaining reader.old) (λ input.
         Appends (W.contents writer.old) (W.contents writer.new) (rows_of input))) }
     ensures end { OnOk result (IsAtEnd (R.remaining reader.new)) }
     // After a fault other than one of the writer, nothing was written.
-    ensures untouched { IfErr result (λ e. e ≢ RowsError.Write → writer.new ≡ writer.old) }
+    ensures untouched { IfErr result (λ e. e ≢ Fault.Write → writer.new ≡ writer.old) }
 {
     let input = read_all(alloc, reader)?;
     let output = rows(alloc, &input)?;
-    writer.write_all(&output).map_err(|_| RowsError::Write)?;
-    writer.flush().map_err(|_| RowsError::Write)
+    write_out(writer, &output)
 }
 
 /// What all lines give.

@@ -5,8 +5,7 @@ ghost use Rattle.std.specs.Prelude.{◌≡◌, length};
 use std::process::Abort;
 use vortex_dtype::Nullability::{NonNullable, Nullable};
 use vortex_dtype::{
-    BufferString, ByteBuffer, DType, ExtDType, FieldName, Nullability, PType, StructFields,
-    UnionVariants,
+    BufferString, ByteBuffer, DType, FieldName, PType, StructFields, UnionVariants,
 };
 use vortex_pvalue::PValue;
 use vortex_value::{Scalar, ScalarValue, UnionValue};
@@ -27,24 +26,26 @@ pub fn long(number: i64) -> Raw {
     Some(ScalarValue::Primitive(PValue::I64(number)))
 }
 
-/// A raw truth value.
-pub fn truth(value: bool) -> Raw {
-    Some(ScalarValue::Bool(value))
+/// A text.
+pub fn text_buffer(rt: &(impl AllocGlobal + Abort), text: &str) -> BufferString {
+    BufferString::from_str(rt.alloc(), text).expect(rt, "a text")
 }
 
-fn buffer_string(rt: &(impl AllocGlobal + Abort), text: &str) -> BufferString {
-    BufferString::from_str(rt.alloc(), text).expect(rt, "a text")
+/// A string of bytes.
+pub fn byte_buffer(rt: &(impl AllocGlobal + Abort), bytes: &[u8]) -> ByteBuffer
+    ensures { result ≡ bytes.now }
+{
+    ByteBuffer::from_slice(rt.alloc(), bytes).expect(rt, "bytes")
 }
 
 /// A raw text.
 pub fn text(rt: &(impl AllocGlobal + Abort), text: &str) -> Raw {
-    Some(ScalarValue::Utf8(buffer_string(rt, text)))
+    Some(ScalarValue::Utf8(text_buffer(rt, text)))
 }
 
 /// A raw string of bytes.
 pub fn bytes(rt: &(impl AllocGlobal + Abort), bytes: &[u8]) -> Raw {
-    let buffer = ByteBuffer::from_slice(rt.alloc(), bytes).expect(rt, "bytes");
-    Some(ScalarValue::Binary(buffer))
+    Some(ScalarValue::Binary(byte_buffer(rt, bytes)))
 }
 
 /// The tuple of these parts.
@@ -53,10 +54,14 @@ pub fn tuple<const N: usize>(rt: &(impl AllocGlobal + Abort), parts: [Raw; N]) -
     Some(ScalarValue::Tuple(parts))
 }
 
+/// A union's id and child.
+pub fn union_value(rt: &(impl AllocGlobal + Abort), id: u8, child: Raw) -> UnionValue {
+    UnionValue::new(rt.alloc(), id, child).expect(rt, "a union")
+}
+
 /// A union's raw value.
 pub fn union(rt: &(impl AllocGlobal + Abort), id: u8, child: Raw) -> Raw {
-    let union = UnionValue::new(rt.alloc(), id, child).expect(rt, "a union");
-    Some(ScalarValue::Union(union))
+    Some(ScalarValue::Union(union_value(rt, id, child)))
 }
 
 /// A variant's raw value, whatever the scalar.
@@ -83,17 +88,20 @@ pub fn map(rt: &(impl AllocGlobal + Abort), value: DType, keys_sorted: bool) -> 
     made.expect(rt, "a map")
 }
 
-fn name(rt: &(impl AllocGlobal + Abort), text: &str) -> FieldName {
-    FieldName::new(buffer_string(rt, text))
+/// A name.
+pub fn name(rt: &(impl AllocGlobal + Abort), text: &str) -> FieldName {
+    FieldName::new(text_buffer(rt, text))
 }
 
-fn two_names(rt: &(impl AllocGlobal + Abort), first: &str, second: &str) -> Vec<FieldName>
+/// Two names.
+pub fn two_names(rt: &(impl AllocGlobal + Abort), first: &str, second: &str) -> Vec<FieldName>
     ensures { length result.items ≡ 2 }
 {
     vec![in rt.alloc(); name(rt, first), name(rt, second)].expect(rt, "names")
 }
 
-fn two_types(rt: &(impl AllocGlobal + Abort), first: DType, second: DType) -> Vec<DType>
+/// Two types.
+pub fn two_types(rt: &(impl AllocGlobal + Abort), first: DType, second: DType) -> Vec<DType>
     ensures { length result.items ≡ 2 }
 {
     vec![in rt.alloc(); first, second].expect(rt, "types")
@@ -109,45 +117,34 @@ pub fn struct_of_one(rt: &(impl AllocGlobal + Abort), field: DType) -> DType {
 
 /// The struct type of the fields `a` and `b`.
 pub fn struct_of_two(rt: &(impl AllocGlobal + Abort), first: DType, second: DType) -> DType {
-    let names = two_names(rt, "a", "b");
-    let dtypes = two_types(rt, first, second);
+    struct_of_names(rt, two_names(rt, "a", "b"), two_types(rt, first, second))
+}
+
+/// The struct type of two fields, the names first.
+pub fn struct_of_names(
+    rt: &(impl AllocGlobal + Abort),
+    names: Vec<FieldName>,
+    dtypes: Vec<DType>,
+) -> DType
+    requires { length names.items ≡ length dtypes.items }
+{
     let fields = StructFields::new(rt.alloc(), names, dtypes).expect(rt, "fields");
     DType::Struct(fields, NonNullable)
 }
 
 /// The nullable union type of `int` (id 5, integers and nulls) and `string` (id 9, texts).
 pub fn union_of_two(rt: &(impl AllocGlobal + Abort)) -> DType {
+    union_of_ids(rt, &[5, 9])
+}
+
+/// The nullable union type of `int` (integers and nulls) and `string` (texts) with these ids.
+pub fn union_of_ids(rt: &(impl AllocGlobal + Abort), ids: &[u8]) -> DType {
     let names = two_names(rt, "int", "string");
     let int = DType::Primitive(PType::I32, Nullable);
     let dtypes = two_types(rt, int, DType::Utf8(NonNullable));
-    union_of(rt, names, dtypes, &[5, 9], Nullable)
-}
-
-/// The union type of `int` (id 3, integers) alone.
-pub fn union_of_one(rt: &(impl AllocGlobal + Abort)) -> DType {
-    let names = vec![in rt.alloc(); name(rt, "int")].expect(rt, "names");
-    let dtypes = vec![in rt.alloc(); I32].expect(rt, "types");
-    union_of(rt, names, dtypes, &[3], NonNullable)
-}
-
-fn union_of(
-    rt: &(impl AllocGlobal + Abort),
-    names: Vec<FieldName>,
-    dtypes: Vec<DType>,
-    ids: &[u8],
-    nullability: Nullability,
-) -> DType {
     let ids = Vec::from_slice(rt.alloc(), ids).expect(rt, "ids");
     let variants = UnionVariants::try_new(rt.alloc(), names, dtypes, ids).expect(rt, "variants");
-    DType::Union(variants, nullability)
-}
-
-/// An extension over a storage type.
-pub fn extension(rt: &(impl AllocGlobal + Abort), storage: DType) -> DType {
-    let metadata = ByteBuffer::empty(rt.alloc()).expect(rt, "metadata");
-    let id = buffer_string(rt, "ext.a");
-    let made = ExtDType::new(rt.alloc(), id, metadata, storage);
-    DType::Extension(made.expect(rt, "an extension"))
+    DType::Union(variants, Nullable)
 }
 
 /// Integers in as many lists of one element.
@@ -157,13 +154,4 @@ pub fn nested_type(rt: &(impl AllocGlobal + Abort), depth: u32) -> DType {
         dtype = list(rt, dtype);
     }
     dtype
-}
-
-/// A raw value in as many tuples of one.
-pub fn nested_value(rt: &(impl AllocGlobal + Abort), depth: u32, inside: Raw) -> Raw {
-    let mut value = inside;
-    for _ in 0..depth {
-        value = tuple(rt, [value]);
-    }
-    value
 }

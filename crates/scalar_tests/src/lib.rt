@@ -1,12 +1,12 @@
-//! Tests of types, raw values and scalars by their public calls: worked cases, paths, recorded
-//! hashes, and each call that takes memory once with enough of it. A crate of its own, so that the
-//! crates below are proved once.
+//! What no worked case says of types, raw values and scalars: values that move, calls through a
+//! bound, integer values alone, hashers, iterators, readers and writers of other kinds, and
+//! callers of laws. A crate of its own, so that the crates below are proved once.
 #![tactic(auto)]
 
 #[cfg(test)]
 mod borrowed;
 #[cfg(test)]
-mod casts;
+mod columns;
 #[cfg(test)]
 mod fixtures;
 #[cfg(test)]
@@ -14,18 +14,22 @@ mod hashers;
 #[cfg(test)]
 mod items;
 #[cfg(test)]
+mod kinds;
+#[cfg(test)]
 mod makers;
+#[cfg(test)]
+mod numbers;
 #[cfg(test)]
 mod places;
 #[cfg(test)]
 mod round_trips;
+#[cfg(test)]
+mod streams;
 #[cfg(test)]
 mod texts;
 #[cfg(test)]
 mod tour;
 #[cfg(test)]
 mod types;
-#[cfg(test)]
-mod validity;
 #[cfg(test)]
 mod values;

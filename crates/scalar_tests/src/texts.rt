@@ -25,22 +25,21 @@ impl Write for Failing {
     }
 }
 
-/// How many writes of the text the writer takes where it takes them all.
-fn count_writes(rt: &impl Abort, scalar: &Scalar) -> usize {
-    let mut writer = Failing { writes_left: 1000 };
-    write!(writer, "{scalar}").expect(rt, "a text");
-    1000usize.saturating_sub(writer.writes_left)
+/// Whether the text is written whole in so many writes, and how many of these are left.
+fn attempt(scalar: &Scalar, writes: usize) -> (bool, usize) {
+    let mut writer = Failing {
+        writes_left: writes,
+    };
+    let is_whole = write!(writer, "{scalar}").is_ok();
+    (is_whole, writer.writes_left)
 }
 
 /// Sees that the text is an error at each write that fails, and none where none does.
-fn fails_at_each_write(rt: &(impl AllocGlobal + Abort), dtype: DType, value: Raw) {
-    let scalar = Scalar { dtype, value };
-    let writes = count_writes(rt, &scalar);
-    assert!(rt; writes > 0);
-    for writes_left in 0..writes {
-        let mut writer = Failing { writes_left };
-        assert!(rt; write!(writer, "{scalar}").is_err());
-        assert_eq!(rt; writer.writes_left, 0);
+fn fails_at_each_write(rt: &impl Abort, scalar: &Scalar) {
+    let (is_whole, left) = attempt(scalar, 1000);
+    assert!(rt; is_whole && left < 1000);
+    for writes in 0..1000usize.saturating_sub(left) {
+        assert!(rt; attempt(scalar, writes) == (false, 0));
     }
 }
 
@@ -55,19 +54,20 @@ fn variants(rt: &(impl AllocGlobal + Abort)) -> Raw {
 #[test]
 fn a_text_fails_where_a_write_does(rt: HostRuntime) {
     let dtype = list(&rt, DType::Variant(NonNullable));
-    fails_at_each_write(&rt, dtype, variants(&rt));
-    let fields = struct_of_two(&rt, I32, list(&rt, I32));
+    let value = variants(&rt);
+    fails_at_each_write(&rt, &Scalar { dtype, value });
+    let dtype = struct_of_two(&rt, I32, list(&rt, I32));
     let parts = tuple(&rt, [integer(1), integer(2)]);
-    fails_at_each_write(&rt, fields, tuple(&rt, [integer(1), parts]));
+    let value = tuple(&rt, [integer(1), parts]);
+    fails_at_each_write(&rt, &Scalar { dtype, value });
 }
 
 #[test]
 fn a_raw_text_fails_where_a_write_does(rt: HostRuntime) {
-    fails_at_each_write(&rt, I32, variants(&rt));
+    let value = variants(&rt);
+    fails_at_each_write(&rt, &Scalar { dtype: I32, value });
     let long = bytes(&rt, b"hello world");
-    let parts = tuple(
-        &rt,
-        [text(&rt, "hello world"), long, None, union(&rt, 5, None)],
-    );
-    fails_at_each_write(&rt, I32, parts);
+    let parts = [text(&rt, "hello world"), long, None, union(&rt, 5, None)];
+    let value = tuple(&rt, parts);
+    fails_at_each_write(&rt, &Scalar { dtype: I32, value });
 }

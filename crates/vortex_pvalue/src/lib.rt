@@ -11,5 +11,3 @@ pub use natives::NativePType;
 pub use operators::NumericOperator;
 pub use pvalues::PValue;
 
-#[cfg(test)]
-mod tests;

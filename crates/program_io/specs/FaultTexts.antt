@@ -1,10 +1,10 @@
 -- What the program says of a fault.
 use Rattle.std.specs.Prelude.{ℕ, List, codes}
-use Rattle.scalar_rows.specs.declared.rows.RowsError.{RowsError}
-use Rattle.scalar_rows.specs.declared.rows.RowsError.TheVariants.{Read, Write, Memory}
+use Rattle.program_io.specs.declared.faults.Fault.{Fault}
+use Rattle.program_io.specs.declared.faults.Fault.TheVariants.{Read, Write, Memory}
 
 -- the words for a fault
-abbrev pub fault_text : RowsError → List ℕ
+abbrev pub fault_text : Fault → List ℕ
 fault_text Read = codes "read failed"
 fault_text Write = codes "write failed"
 fault_text Memory = codes "out of memory"
