@@ -10,4 +10,3 @@ mod pvalues;
 pub use natives::NativePType;
 pub use operators::NumericOperator;
 pub use pvalues::PValue;
-
