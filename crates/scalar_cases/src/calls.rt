@@ -1,31 +1,22 @@
 //! The table of calls, and what each is given.
 
-use crate::tokens::Tokens;
-
 pub mod makers;
 mod parts;
 pub mod queries;
 mod recorder;
 
-use makers::{ListCall, Maker, Makes, MapCall, read_maker};
+use makers::{ListCall, Makes, MapCall};
 use queries::{
-    Asks, PartCall, Query, ScalarCall, ScalarsCall, TargetCall, TypeCall, TypesCall, ValidCall,
-    ValidsCall, ValueCall, read_query,
+    Asks, PartCall, ScalarCall, ScalarsCall, TargetCall, TypeCall, TypesCall, ValidCall,
+    ValidsCall, ValueCall,
 };
-
-/// A call with its inputs.
-#[derive(Drop)]
-pub enum Call {
-    /// It borrows them.
-    Query(Query),
-    /// It takes them.
-    Maker(Maker),
-}
 
 /// What a call is given, and which of the calls that are given it.
 #[derive(Clone, Copy)]
-enum Shape {
+pub enum Shape {
+    /// It borrows that.
     Query(Asks),
+    /// It takes that.
     Maker(Makes),
 }
 
@@ -139,7 +130,7 @@ const PARTS: [(&str, Shape); 27] = [
 ];
 
 /// What the call of this name is given; one of parts only where these are served.
-fn shape_of(name: &[u8], with_parts: bool) -> Option<Shape> {
+pub fn shape_of(name: &[u8], with_parts: bool) -> Option<Shape> {
     match shape_in(&CALLS, name) {
         None if with_parts => shape_in(&PARTS, name),
         shape => shape,
@@ -153,14 +144,4 @@ fn shape_in(calls: &[(&str, Shape)], name: &[u8]) -> Option<Shape> {
         }
     }
     None
-}
-
-/// Reads a call and what it is given; none where no call has the name.
-pub fn read_call(tokens: &mut Tokens<'_>, with_parts: bool) -> Option<Call> {
-    let name = tokens.word();
-    let shape = shape_of(name, with_parts)?;
-    match shape {
-        Shape::Query(asks) => Some(Call::Query(read_query(tokens, asks))),
-        Shape::Maker(makes) => Some(Call::Maker(read_maker(tokens, makes))),
-    }
 }

@@ -1,9 +1,9 @@
 //! One line: a case, and what comes of it.
 
 use crate::answers::{Answer, write_answer};
-use crate::calls::makers::{Maker, answer_maker};
-use crate::calls::queries::{Query, answer_query};
-use crate::calls::{Call, read_call};
+use crate::calls::makers::{Maker, Makes, answer_maker, read_maker};
+use crate::calls::queries::{Asks, Query, answer_query, read_query};
+use crate::calls::{Shape, shape_of};
 use crate::faults::Fault;
 use crate::runs::Run;
 use crate::same::same_query;
@@ -11,41 +11,58 @@ use crate::tokens::Tokens;
 use crate::write::output::Output;
 use std::alloc::AllocError;
 use std::str;
-use vortex_dtype::VortexError;
 
-/// What a line asks, and the answer that stands in it.
+/// What is answered to a line, and the answer that stands in it after the arrow, if there is one.
 #[derive(Drop)]
-pub struct Case<'a> {
-    /// What is asked.
-    pub asked: Asked,
-    /// The answer after the arrow, if there is an arrow.
-    pub expected: Option<&'a [u8]>,
+struct Answered<'a> {
+    answer: Answer,
+    expected: Option<&'a [u8]>,
 }
 
-/// What a line asks.
-#[derive(Drop)]
-pub enum Asked {
-    /// What a call answers.
-    Call(Call),
-    /// Nothing more: the first type that cannot be made is refused.
-    Refused(VortexError),
-}
-
-/// Reads a line that is not empty and no remark.
-pub fn read_case<'a>(run: Run<'_>, line: &'a [u8]) -> Result<Case<'a>, Fault> {
+/// Answers a line that is not empty and no remark.
+fn answer_line<'a>(run: Run<'_>, line: &'a [u8]) -> Result<Answered<'a>, Fault> {
     if str::from_utf8(line).is_err() {
         return Err(Fault::BadLine);
     }
     let mut tokens = Tokens::of(run.alloc(), line);
-    let Some(call) = read_call(&mut tokens, run.is_watched()) else {
-        return Err(Fault::BadLine);
-    };
+    match shape_of(tokens.word(), run.is_watched()) {
+        Some(Shape::Query(asks)) => answer_asking(run, line, tokens, asks),
+        Some(Shape::Maker(makes)) => answer_making(run, tokens, makes),
+        None => Err(Fault::BadLine),
+    }
+}
+
+/// Reads the inputs of a call that borrows them, and answers.
+fn answer_asking<'a>(
+    run: Run<'_>,
+    line: &[u8],
+    mut tokens: Tokens<'a>,
+    asks: Asks,
+) -> Result<Answered<'a>, Fault> {
+    let query = read_query(&mut tokens, asks);
     let expected = read_expected(&mut tokens);
-    let asked = match tokens.end()? {
-        Some(refusal) => Asked::Refused(refusal),
-        None => Asked::Call(call),
+    let answer = match tokens.end() {
+        Ok(None) => answer_borrowing(run, line, asks, &query),
+        Ok(Some(refusal)) => Answer::Refused(refusal),
+        Err(fault) => return Err(fault),
     };
-    Ok(Case { asked, expected })
+    Ok(Answered { answer, expected })
+}
+
+/// Reads the inputs of a call that takes them, and answers.
+fn answer_making<'a>(
+    run: Run<'_>,
+    mut tokens: Tokens<'a>,
+    makes: Makes,
+) -> Result<Answered<'a>, Fault> {
+    let maker = read_maker(&mut tokens, makes);
+    let expected = read_expected(&mut tokens);
+    let answer = match tokens.end() {
+        Ok(None) => answer_taking(run, maker),
+        Ok(Some(refusal)) => Answer::Refused(refusal),
+        Err(fault) => return Err(fault),
+    };
+    Ok(Answered { answer, expected })
 }
 
 /// Reads the arrow, if there is one: the answer is all that follows its space.
@@ -64,32 +81,27 @@ fn read_expected<'a>(tokens: &mut Tokens<'a>) -> Option<&'a [u8]> {
     }
 }
 
-/// What is answered to a line.
-fn answer_to(run: Run<'_>, line: &[u8], asked: Asked) -> Answer {
-    match asked {
-        Asked::Call(call) => answer_call(run, line, call),
-        Asked::Refused(refusal) => Answer::Refused(refusal),
-    }
-}
-
-fn answer_call(run: Run<'_>, line: &[u8], call: Call) -> Answer {
-    match call {
-        Call::Query(query) => answer_borrowing(run, line, &query),
-        Call::Maker(maker) => answer_taking(run, maker),
-    }
-}
-
 /// What a call answers that borrows its inputs. Where it is watched, these have to be as they were.
-fn answer_borrowing(run: Run<'_>, line: &[u8], query: &Query) -> Answer {
-    let kept = read_again(run, line);
+fn answer_borrowing(run: Run<'_>, line: &[u8], asks: Asks, query: &Query) -> Answer {
+    if !run.is_watched() {
+        return answer_query(run.alloc(), query);
+    }
+    let kept = read_again(run, line, asks);
     run.says("called");
     let answer = answer_query(run.alloc(), query);
     run.says("answered");
-    if is_changed(query, &kept) {
-        Answer::Word("changed")
-    } else {
+    if same_query(query, &kept) {
         answer
+    } else {
+        Answer::Word("changed")
     }
+}
+
+/// Reads the inputs of a line once more: they share no memory with those that were read before.
+fn read_again(run: Run<'_>, line: &[u8], asks: Asks) -> Query {
+    let mut tokens = Tokens::of(run.alloc(), line);
+    tokens.word();
+    read_query(&mut tokens, asks)
 }
 
 /// What a call answers that takes its inputs.
@@ -98,23 +110,6 @@ fn answer_taking(run: Run<'_>, maker: Maker) -> Answer {
     let answer = answer_maker(run.alloc(), maker);
     run.says("answered");
     answer
-}
-
-/// Reads the call of a line and its inputs once more, where it is watched. They share no memory.
-fn read_again(run: Run<'_>, line: &[u8]) -> Option<Call> {
-    if !run.is_watched() {
-        return None;
-    }
-    let mut tokens = Tokens::of(run.alloc(), line);
-    read_call(&mut tokens, true)
-}
-
-/// Whether what is asked differs from what was kept of it, if something was.
-fn is_changed(query: &Query, kept: &Option<Call>) -> bool {
-    match kept {
-        Some(Call::Query(kept)) => !same_query(query, kept),
-        _ => false,
-    }
 }
 
 /// What a line comes to.
@@ -148,8 +143,8 @@ pub fn run_line(
     if asks_nothing(line) {
         return Ok(Outcome::Passed);
     }
-    match read_case(run, line) {
-        Ok(case) => run_case(run, out, number, line, case),
+    match answer_line(run, line) {
+        Ok(answered) => tell(run, out, number, line, &answered),
         Err(Fault::BadLine) => {
             write_wrong(out, number, b"bad line");
             Ok(Outcome::Wrong)
@@ -158,32 +153,31 @@ pub fn run_line(
     }
 }
 
-/// Runs a case: one without an answer is written with it, a wrong one with the answer that comes.
-fn run_case(
+/// Writes what there is to say of a line: a case without an answer with the one that comes, a wrong
+/// one with that alone.
+fn tell(
     run: Run<'_>,
     out: &mut Output,
     number: u64,
     line: &[u8],
-    case: Case<'_>,
+    answered: &Answered<'_>,
 ) -> Result<Outcome, AllocError> {
-    let expected = case.expected;
-    let answered = answer_text(run, line, case.asked)?;
-    let Some(expected) = expected else {
-        write_answered(out, line, &answered);
+    let answer = answer_text(run, &answered.answer)?;
+    let Some(expected) = answered.expected else {
+        write_answered(out, line, &answer);
         return Ok(Outcome::Passed);
     };
-    if expected == answered.as_slice() {
+    if expected == answer.as_slice() {
         return Ok(Outcome::Right);
     }
-    write_wrong(out, number, &answered);
+    write_wrong(out, number, &answer);
     Ok(Outcome::Wrong)
 }
 
-/// What is answered to a line, in its one form.
-fn answer_text(run: Run<'_>, line: &[u8], asked: Asked) -> Result<Vec<u8>, AllocError> {
-    let answer = answer_to(run, line, asked);
+/// An answer in its one form.
+fn answer_text(run: Run<'_>, answer: &Answer) -> Result<Vec<u8>, AllocError> {
     let mut out = Output::new(run.alloc());
-    write_answer(&mut out, &answer);
+    write_answer(&mut out, answer);
     out.into_bytes()
 }
 
