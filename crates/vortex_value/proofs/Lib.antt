@@ -7,6 +7,7 @@ pub mod CastTable
 pub mod ContentLaws
 pub mod HashSteps
 pub mod ItemMakers
+pub mod Lent
 pub mod ListMakers
 pub mod MakerLaws
 pub mod MapMakers

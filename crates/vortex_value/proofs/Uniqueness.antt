@@ -3,7 +3,7 @@ use Rattle.std.proofs.Common.{◌≡◌, ℕ, ℤ, ◌==◌, Bool, true, false, 
 use Rattle.vortex_dtype.specs.TypeTree.{TypeTree, integer_type, list_type, fixed_size_list_type, map_type, struct_type, union_type, variant_type, extension_type, TypeTrees, no_types, type_then, erase, erase_all, Same, storage}
 use Rattle.vortex_dtype.specs.declared.kinds.Nullability.{Nullability}
 use Rattle.vortex_dtype.specs.declared.kinds.PType.{PType}
-use Rattle.vortex_value.specs.Casts.{Has, OneValue}
+use Rattle.vortex_value.specs.Casts.{OneValue}
 use Rattle.vortex_value.specs.Values.Content.{content, contents}
 use Rattle.vortex_value.specs.Values.RawTree.{RawTree, absent, raw_bool, raw_integer, raw_text, raw_bytes, raw_tuple, raw_union, raw_variant, RawTrees, no_raws, raw_then}
 use Rattle.vortex_value.specs.Validity.{type_with, HasType, ValidAt, EachValid, EntriesValid, FieldsValid, Valid}
@@ -196,9 +196,3 @@ mutual
 -- types that are the same up to nullability have one raw value of each content
 pub one_value : OneValue
 one_value s t v w e p q c = one v w (storage s) (storage t) (same_storage s t e) p q c
-
--- where such a type has the content, it has it by the raw value itself
-pub same_has : (s t : TypeTree) (v : RawTree) → Same s t → Valid s v → Has t (content v) → Valid t v
-same_has s t v e p h =
-    let x : v ≡ h.value = one_value s t v h.value e p h.valid (sym h.same) in
-    rw x h.valid

@@ -1,7 +1,7 @@
 //! Copies of raw values and of scalars: the same tree, in memory of its own.
 
 ghost use Rattle.std.specs.Prelude.{◌≡◌, MatchResult, false, map, option_map};
-ghost use Rattle.std.specs.Option.{is_none};
+ghost use Rattle.std.specs.Option.{is_none, option_copied};
 ghost use Rattle.vortex_dtype.specs.TypeOf.{type_of};
 ghost use Rattle.vortex_dtype.specs.TypeTree.{IsFlat};
 ghost use Rattle.vortex_dtype.specs.declared.error.VortexError.TheVariants.{OutOfMemory};
@@ -33,8 +33,26 @@ pub(crate) fn copy_value(alloc: Global, value: &ScalarValue) -> Result<ScalarVal
     }
 }
 
+/// The same raw value, or its absence, which takes no memory.
+#[cycle(copies)]
+#[tactic(auto, using(crate::proofs::ValueSteps::shown))]
+pub(crate) fn copy_optional(
+    alloc: Global,
+    value: Option<&ScalarValue>,
+) -> Result<Option<ScalarValue>, VortexError>
+    ensures { MatchResult result
+        (λ copy. option_map value_tree copy ≡ option_map value_tree (option_copied value.entry))
+        (λ e. (e ≡ OutOfMemory) × ¬ (TakesNoMemory (raw_of (option_copied value.entry)))) }
+{
+    match value {
+        Some(value) => Ok(Some(copy_value(alloc, value)?)),
+        None => Ok(None),
+    }
+}
+
 /// The same raw values, in order.
 #[cycle(copies)]
+#[tactic(auto, using(crate::proofs::ValueSteps::shown))]
 fn copy_tuple(
     alloc: Global,
     values: &[Option<ScalarValue>],
@@ -46,34 +64,26 @@ fn copy_tuple(
 {
     let mut copies = Vec::with_capacity(alloc, values.len())?;
     for value in values {
-        let copy = match value {
-            Some(value) => Some(copy_value(alloc, value)?),
-            None => None,
-        };
-        copies.push(copy)?;
+        copies.push(copy_optional(alloc, value.as_ref())?)?;
     }
     Ok(copies)
 }
 
 /// The same id and child.
 #[cycle(copies)]
+#[tactic(auto, using(crate::proofs::ValueSteps::shown))]
 pub(crate) fn copy_union(alloc: Global, union: &UnionValue) -> Result<UnionValue, VortexError>
     ensures { MatchResult result
         (λ copy. union_tree copy ≡ union_tree union.now)
         (λ e. (e ≡ OutOfMemory) × (is_none union.now.child ≡ false)) }
 {
-    let child = match &union.child {
-        Some(child) => Some(Box::new(alloc, copy_value(alloc, child)?)?),
-        None => None,
-    };
-    Ok(UnionValue {
-        type_id: union.type_id,
-        child,
-    })
+    let child = copy_optional(alloc, union.child.as_deref())?;
+    UnionValue::new(alloc, union.type_id, child)
 }
 
 /// The same scalar, in a box of its own.
 #[cycle(copies)]
+#[tactic(auto, using(crate::proofs::ValueSteps::shown))]
 fn copy_boxed(alloc: Global, scalar: &Scalar) -> Result<Box<Scalar>, VortexError>
     ensures { MatchResult result
         (λ copy. (type_of copy.value.dtype ≡ type_of scalar.now.dtype)
@@ -85,6 +95,7 @@ fn copy_boxed(alloc: Global, scalar: &Scalar) -> Result<Box<Scalar>, VortexError
 
 /// The same type and raw value. A flat type with a value that takes no memory takes none.
 #[cycle(copies)]
+#[tactic(auto, using(crate::proofs::ValueSteps::shown))]
 pub(crate) fn copy_scalar(alloc: Global, scalar: &Scalar) -> Result<Scalar, VortexError>
     ensures { MatchResult result
         (λ copy. (type_of copy.dtype ≡ type_of scalar.now.dtype)
@@ -93,9 +104,6 @@ pub(crate) fn copy_scalar(alloc: Global, scalar: &Scalar) -> Result<Scalar, Vort
         × ¬ (IsFlat (type_of scalar.now.dtype) × TakesNoMemory (raw_of scalar.now.value))) }
 {
     let dtype = scalar.dtype.clone(alloc)?;
-    let value = match &scalar.value {
-        Some(value) => Some(copy_value(alloc, value)?),
-        None => None,
-    };
+    let value = copy_optional(alloc, scalar.value.as_ref())?;
     Ok(Scalar { dtype, value })
 }

@@ -2,12 +2,13 @@
 
 ghost use Rattle.std.specs.Prelude.{◌≡◌, ◌&&◌};
 ghost use Rattle.std.specs.Cmp.{partial_equiv_from_equiv};
+ghost use Rattle.std.specs.Option.{option_copied};
 ghost use Rattle.std.proofs.lemmas.Cmp.{on_equiv};
 ghost use Rattle.vortex_dtype.specs.TypeOf.{type_of};
 ghost use Rattle.vortex_value.specs.Values.Content.{content, contents, typed};
 ghost use Rattle.vortex_value.specs.Equality.{equal, all_equal, same_type};
 ghost use Rattle.vortex_value.specs.Lemmas.EqualityLaws.{equal-equiv};
-ghost use Rattle.vortex_value.specs.Values.RawOf.{value_tree, variant_tree, union_tree, value_trees};
+ghost use Rattle.vortex_value.specs.Values.RawOf.{raw_of, value_trees, variant_tree, union_tree, value_tree};
 ghost use Rattle.vortex_value.specs.Values.Scalars.{scalar_type, scalar_content};
 
 use crate::scalars::Scalar;
@@ -40,8 +41,23 @@ fn equal_values(a: &ScalarValue, b: &ScalarValue) -> bool
     }
 }
 
+/// Whether the contents of two optional raw values are equal: a null equals a null alone.
+#[cycle(equality)]
+#[tactic(auto, using(crate::proofs::ValueSteps::shown))]
+pub(crate) fn equal_optional(a: Option<&ScalarValue>, b: Option<&ScalarValue>) -> bool
+    ensures { result ≡ equal
+        (content (raw_of (option_copied a.entry))) (content (raw_of (option_copied b.entry))) }
+{
+    match (a, b) {
+        (Some(x), Some(y)) => equal_values(x, y),
+        (None, None) => true,
+        _ => false,
+    }
+}
+
 /// Whether there are equally many parts, equal place by place.
 #[cycle(equality)]
+#[tactic(auto, using(crate::proofs::ValueSteps::shown))]
 fn equal_tuples(a: &[Option<ScalarValue>], b: &[Option<ScalarValue>]) -> bool
     ensures { result ≡ all_equal (contents (value_trees a.now)) (contents (value_trees b.now)) }
 {
@@ -49,14 +65,8 @@ fn equal_tuples(a: &[Option<ScalarValue>], b: &[Option<ScalarValue>]) -> bool
         return false;
     }
     for (x, y) in a.iter().zip(b) {
-        match (x, y) {
-            (Some(x), Some(y)) => {
-                if !equal_values(x, y) {
-                    return false;
-                }
-            }
-            (None, None) => {}
-            _ => return false,
+        if !equal_optional(x.as_ref(), y.as_ref()) {
+            return false;
         }
     }
     true
@@ -64,32 +74,26 @@ fn equal_tuples(a: &[Option<ScalarValue>], b: &[Option<ScalarValue>]) -> bool
 
 /// Whether the ids are one and the children equal.
 #[cycle(equality)]
+#[tactic(auto, using(crate::proofs::ValueSteps::shown))]
 fn equal_unions(a: &UnionValue, b: &UnionValue) -> bool
     ensures { result ≡ equal (content (union_tree a.now)) (content (union_tree b.now)) }
 {
     if a.type_id != b.type_id {
         return false;
     }
-    match (&a.child, &b.child) {
-        (Some(x), Some(y)) => equal_values(x, y),
-        (None, None) => true,
-        _ => false,
-    }
+    equal_optional(a.child.as_deref(), b.child.as_deref())
 }
 
 /// Whether the types are the same up to nullability and the contents equal.
 #[cycle(equality)]
+#[tactic(auto, using(crate::proofs::ValueSteps::shown))]
 fn equal_scalars(a: &Scalar, b: &Scalar) -> bool
     ensures { result ≡ equal (content (variant_tree a.now)) (content (variant_tree b.now)) }
 {
     if !same_types(&a.dtype, &b.dtype) {
         return false;
     }
-    match (&a.value, &b.value) {
-        (Some(x), Some(y)) => equal_values(x, y),
-        (None, None) => true,
-        _ => false,
-    }
+    equal_optional(a.value.as_ref(), b.value.as_ref())
 }
 
 impl PartialEq for ScalarValue {

@@ -19,7 +19,8 @@ ghost use Rattle.vortex_value.specs.Values.Refs.{IsRefOf, IsValidRef, ref_conten
 ghost use Rattle.vortex_value.specs.Values.Scalars.{IsMadeOf, scalar_raw, scalar_type};
 ghost use Rattle.vortex_value.specs.Validity.{Valid};
 
-use crate::equality::same_types;
+use crate::copies::copy_optional;
+use crate::equality::{equal_optional, same_types};
 use crate::hashing::feed;
 use crate::ordering::compare;
 use crate::scalars::Scalar;
@@ -114,10 +115,7 @@ impl<'a> ScalarRef<'a> {
         ensures flat { IsFlat (ref_type self.now) → IsValidRef self.now → IsOk result }
     {
         let dtype = self.dtype.clone(alloc)?;
-        let value = match self.value {
-            Some(value) => Some(value.clone(alloc)?),
-            None => None,
-        };
+        let value = copy_optional(alloc, self.value)?;
         Ok(Scalar { dtype, value })
     }
 }
@@ -130,14 +128,7 @@ impl PartialEq for ScalarRef<'_> {
         (on_equiv (λ x. typed (ref_type x) (ref_content x)) equal-equiv) };
 
     fn eq(&self, other: &ScalarRef<'_>) -> bool {
-        if !same_types(self.dtype, other.dtype) {
-            return false;
-        }
-        match (self.value, other.value) {
-            (Some(x), Some(y)) => x == y,
-            (None, None) => true,
-            _ => false,
-        }
+        same_types(self.dtype, other.dtype) && equal_optional(self.value, other.value)
     }
 }
 

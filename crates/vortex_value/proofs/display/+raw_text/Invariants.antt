@@ -1,20 +1,15 @@
 -- What is left to write in a loop, and that each call goes down the value.
-use Rattle.std.proofs.Common.{ℕ, ◌+◌, ◌*◌, Option, Some, None, Bor, drop, codes}
+use Rattle.std.proofs.Common.{◌+◌, ◌*◌, drop, codes}
 use Rattle.vortex_value.specs.Values.RawOf.{value_trees}
 use Rattle.vortex_value.specs.Texts.{raw_texts}
-use Rattle.vortex_value.specs.declared.values.ScalarValue.{ScalarValue, size-ScalarValue}
 use Rattle.vortex_value.proofs.Writes.{Joins}
+use Rattle.vortex_value.proofs.Lent.{lent_size}
 use Rattle.vortex_value.proofs.display.+raw_text.Given as goal
 
 abbrev pub invariant-write_raw_items-loop-index : goal.invariant-write_raw_items-loop-index
 invariant-write_raw_items-loop-index g l =
     Joins g.W.Write.write_str_gives (codes ", ") l.initial.f l.index
     (raw_texts (value_trees (drop l.index l.items))) (raw_texts (value_trees l.items)) l.f
-
--- the size of a borrowed value, if there is one
-abbrev pub lent_size : Option (Bor ScalarValue) → ℕ
-lent_size None = 0
-lent_size (Some v) = size-ScalarValue v.now
 
 abbrev pub decreases-write_raw_part : goal.decreases-write_raw_part
 decreases-write_raw_part g l = 3 * lent_size l.value + 1

@@ -1,10 +1,10 @@
 -- What is left to write in a loop, and that each call goes down the value.
-use Rattle.std.proofs.Common.{ℕ, ◌+◌, ◌*◌, Option, Some, None, Bor, drop, codes}
+use Rattle.std.proofs.Common.{◌+◌, ◌*◌, drop, codes}
 use Rattle.vortex_dtype.specs.TypeOf.{fields_of, map_of, type_of, as_type_trees, dtype_trees}
 use Rattle.vortex_value.specs.Values.RawOf.{value_trees}
 use Rattle.vortex_value.specs.Texts.{element_texts, entry_texts, field_texts}
-use Rattle.vortex_value.specs.declared.values.ScalarValue.{ScalarValue, size-ScalarValue}
 use Rattle.vortex_value.proofs.Writes.{Joins}
+use Rattle.vortex_value.proofs.Lent.{lent_size}
 use Rattle.vortex_value.proofs.display.+text.Given as goal
 
 abbrev pub invariant-write_elements-loop-index : goal.invariant-write_elements-loop-index
@@ -25,11 +25,6 @@ invariant-write_fields-loop-index g l =
     let all = fields_of l.fields in
     Joins g.W.Write.write_str_gives (codes ", ") l.initial.f l.index-iterator.count
     (field_texts left.a.b.rest.now (dtype_trees left.b.rest.now) (value_trees left.a.a.rest.now)) (field_texts all.names (as_type_trees all.types) (value_trees l.items)) l.f
-
--- the size of a borrowed value, if there is one
-abbrev pub lent_size : Option (Bor ScalarValue) → ℕ
-lent_size None = 0
-lent_size (Some v) = size-ScalarValue v.now
 
 abbrev pub decreases-write_part : goal.decreases-write_part
 decreases-write_part g l = 4 * lent_size l.value + 1

@@ -1,20 +1,15 @@
 -- What is left to feed, and that each call goes down the value.
-use Rattle.std.proofs.Common.{◌≡◌, ℕ, ◌+◌, ◌*◌, fold, drop, Option, Some, None, Bor}
+use Rattle.std.proofs.Common.{◌≡◌, ◌+◌, ◌*◌, fold, drop}
 use Rattle.vortex_value.specs.Values.Content.{contents}
 use Rattle.vortex_value.specs.Hashing.{contents_feed, counted_feed}
 use Rattle.vortex_value.specs.Values.RawOf.{value_trees}
-use Rattle.vortex_value.specs.declared.values.ScalarValue.{ScalarValue, size-ScalarValue}
+use Rattle.vortex_value.proofs.Lent.{lent_size}
 use Rattle.vortex_value.proofs.hashing.+feed.Given as goal
 
 -- the rest of the parts, fed from here, gives what all give from the start
 abbrev pub invariant-feed_tuple-loop-item : goal.invariant-feed_tuple-loop-item
 invariant-feed_tuple-loop-item g l =
     fold g.H.Hasher.write l.state (contents_feed (contents (value_trees (drop l.item-index l.items)))) ≡ fold g.H.Hasher.write l.fn.state (counted_feed (contents (value_trees l.items)))
-
--- the size of a borrowed value, if there is one
-abbrev pub lent_size : Option (Bor ScalarValue) → ℕ
-lent_size None = 0
-lent_size (Some v) = size-ScalarValue v.now
 
 abbrev pub decreases-feed : goal.decreases-feed
 decreases-feed g l = 3 * lent_size l.value + 1

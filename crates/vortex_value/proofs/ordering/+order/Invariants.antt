@@ -1,9 +1,9 @@
 -- What the rest of two tuples says, and that each call goes down the first value.
-use Rattle.std.proofs.Common.{◌≡◌, ℕ, ◌+◌, ◌*◌, length, Option, Some, None, Bor}
+use Rattle.std.proofs.Common.{◌≡◌, ◌+◌, ◌*◌, length}
 use Rattle.vortex_value.specs.Values.Content.{contents}
 use Rattle.vortex_value.specs.Order.{orders}
 use Rattle.vortex_value.specs.Values.RawOf.{value_trees}
-use Rattle.vortex_value.specs.declared.values.ScalarValue.{ScalarValue, size-ScalarValue}
+use Rattle.vortex_value.proofs.Lent.{lent_size}
 use Rattle.vortex_value.proofs.ordering.+order.Given as goal
 
 -- the rests decide, and as many places of both are behind
@@ -11,11 +11,6 @@ abbrev pub invariant-compare_tuples-loop-x : goal.invariant-compare_tuples-loop-
 invariant-compare_tuples-loop-x l =
     (orders (contents (value_trees l.x-iterator.a.rest.now)) (contents (value_trees l.x-iterator.b.rest.now)) ≡ orders (contents (value_trees l.a)) (contents (value_trees l.b)))
     × (length l.x-iterator.a.rest.now + length l.b ≡ length l.x-iterator.b.rest.now + length l.a)
-
--- the size of a borrowed value, if there is one
-abbrev pub lent_size : Option (Bor ScalarValue) → ℕ
-lent_size None = 0
-lent_size (Some v) = size-ScalarValue v.now
 
 abbrev pub decreases-compare : goal.decreases-compare
 decreases-compare l = 3 * lent_size l.a + 1

@@ -1,9 +1,9 @@
 -- What is counted and what is left, and that each call goes down the value.
-use Rattle.std.proofs.Common.{◌≡◌, ℕ, ◌+◌, ◌*◌, Option, Some, None, Bor, drop}
+use Rattle.std.proofs.Common.{◌≡◌, ◌+◌, ◌*◌, drop}
 use Rattle.vortex_dtype.specs.TypeOf.{map_of, type_of, dtype_trees}
 use Rattle.vortex_value.specs.Values.RawOf.{value_trees}
 use Rattle.vortex_value.specs.Size.{capped, elements_size, entries_size, fields_size}
-use Rattle.vortex_value.specs.declared.values.ScalarValue.{ScalarValue, size-ScalarValue}
+use Rattle.vortex_value.proofs.Lent.{lent_size}
 use Rattle.vortex_value.proofs.size.+size.Given as goal
 
 abbrev pub invariant-size_of_elements-loop-item : goal.invariant-size_of_elements-loop-item
@@ -17,11 +17,6 @@ invariant-size_of_entries-loop-item l =
 abbrev pub invariant-size_of_fields-loop-item : goal.invariant-size_of_fields-loop-item
 invariant-size_of_fields-loop-item l =
     (capped l.total ≡ l.total) × (capped (l.total + fields_size (dtype_trees l.item-iterator.b.rest.now) (value_trees l.item-iterator.a.rest.now)) ≡ capped (fields_size (dtype_trees l.fields) (value_trees l.items)))
-
--- the size of a borrowed value, if there is one
-abbrev pub lent_size : Option (Bor ScalarValue) → ℕ
-lent_size None = 0
-lent_size (Some v) = size-ScalarValue v.now
 
 abbrev pub decreases-size : goal.decreases-size
 decreases-size l = 3 * lent_size l.value + 1

@@ -1,9 +1,9 @@
 -- What is left to check in a loop, and that each call goes down the value.
-use Rattle.std.proofs.Common.{◌≡◌, ℕ, ◌+◌, ◌*◌, Option, Some, None, Bor, drop}
+use Rattle.std.proofs.Common.{◌≡◌, ◌+◌, ◌*◌, drop}
 use Rattle.vortex_dtype.specs.TypeOf.{map_of, type_of, dtype_trees}
 use Rattle.vortex_value.specs.Breaches.{element_breaches, entry_breaches, field_breaches}
 use Rattle.vortex_value.specs.Values.RawOf.{value_trees}
-use Rattle.vortex_value.specs.declared.values.ScalarValue.{ScalarValue, size-ScalarValue}
+use Rattle.vortex_value.proofs.Lent.{lent_size}
 use Rattle.vortex_value.proofs.validate.+validity.Given as goal
 
 abbrev pub invariant-check_elements-loop-index : goal.invariant-check_elements-loop-index
@@ -17,11 +17,6 @@ invariant-check_entries-loop-index l =
 abbrev pub invariant-check_fields-loop-index : goal.invariant-check_fields-loop-index
 invariant-check_fields-loop-index l =
     field_breaches l.index-iterator.count (dtype_trees l.index-iterator.iter.b.rest.now) (value_trees l.index-iterator.iter.a.rest.now) ≡ field_breaches 0 (dtype_trees l.fields) (value_trees l.items)
-
--- the size of a borrowed value, if there is one
-abbrev pub lent_size : Option (Bor ScalarValue) → ℕ
-lent_size None = 0
-lent_size (Some v) = size-ScalarValue v.now
 
 abbrev pub decreases-check : goal.decreases-check
 decreases-check l = 3 * lent_size l.value + 1

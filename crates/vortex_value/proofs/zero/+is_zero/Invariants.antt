@@ -1,10 +1,10 @@
 -- What is left to test, and that each call goes down the value.
-use Rattle.std.proofs.Common.{◌≡◌, ℕ, ◌+◌, ◌*◌, Option, Some, None, Bor, drop, length}
+use Rattle.std.proofs.Common.{◌≡◌, ◌+◌, ◌*◌, drop, length}
 use Rattle.vortex_dtype.specs.TypeOf.{type_of, dtype_trees}
 use Rattle.vortex_value.specs.Values.Content.{contents}
 use Rattle.vortex_value.specs.Values.RawOf.{value_trees}
 use Rattle.vortex_value.specs.Zero.{each_zero, fields_zero}
-use Rattle.vortex_value.specs.declared.values.ScalarValue.{ScalarValue, size-ScalarValue}
+use Rattle.vortex_value.proofs.Lent.{lent_size}
 use Rattle.vortex_value.proofs.zero.+is_zero.Given as goal
 
 abbrev pub invariant-are_elements_zero-loop-item : goal.invariant-are_elements_zero-loop-item
@@ -15,11 +15,6 @@ abbrev pub invariant-are_fields_zero-loop-item : goal.invariant-are_fields_zero-
 invariant-are_fields_zero-loop-item l =
     (fields_zero (dtype_trees l.item-iterator.b.rest.now) (contents (value_trees l.item-iterator.a.rest.now)) ≡ fields_zero (dtype_trees l.fields) (contents (value_trees l.items)))
     × (length l.item-iterator.a.rest.now ≡ length l.item-iterator.b.rest.now)
-
--- the size of a borrowed value, if there is one
-abbrev pub lent_size : Option (Bor ScalarValue) → ℕ
-lent_size None = 0
-lent_size (Some v) = size-ScalarValue v.now
 
 abbrev pub decreases-is_zero : goal.decreases-is_zero
 decreases-is_zero l = 3 * lent_size l.value + 1

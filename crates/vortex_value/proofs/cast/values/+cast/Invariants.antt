@@ -1,10 +1,10 @@
 -- What is left to cast in a loop, and that each call goes down the value.
-use Rattle.std.proofs.Common.{◌≡◌, ℕ, ◌+◌, ◌*◌, Option, Some, None, Bor, drop, length}
+use Rattle.std.proofs.Common.{◌≡◌, ◌+◌, ◌*◌, drop, length}
 use Rattle.vortex_dtype.specs.TypeOf.{map_of, type_of, dtype_trees}
 use Rattle.vortex_value.specs.Steps.CastSteps.{each_to, entries_to, fields_to}
 use Rattle.vortex_value.specs.Values.RawOf.{value_trees}
-use Rattle.vortex_value.specs.declared.values.ScalarValue.{ScalarValue, size-ScalarValue}
 use Rattle.vortex_value.proofs.CastCode.{after}
+use Rattle.vortex_value.proofs.Lent.{lent_size}
 use Rattle.vortex_value.proofs.cast.values.+cast.Given as goal
 
 abbrev pub invariant-cast_elements-loop-element : goal.invariant-cast_elements-loop-element
@@ -22,11 +22,6 @@ invariant-cast_fields-loop-field l =
     let targets = l.field-iterator.b.b.rest.now in
     (fields_to (value_trees l.fields) (dtype_trees l.sources) (dtype_trees l.targets) ≡ after l.made.items (fields_to (value_trees fields) (dtype_trees sources) (dtype_trees targets)))
     × (length fields ≡ length sources) × (length sources ≡ length targets)
-
--- the size of a borrowed value, if there is one
-abbrev pub lent_size : Option (Bor ScalarValue) → ℕ
-lent_size None = 0
-lent_size (Some v) = size-ScalarValue v.now
 
 abbrev pub decreases-cast_value : goal.decreases-cast_value
 decreases-cast_value l = 8 * lent_size l.value + 3
