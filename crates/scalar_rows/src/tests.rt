@@ -161,8 +161,20 @@ fn knows_a_bad_line(rt: HostRuntime) -> Result<(), Fail> {
         "cast u64 99999999999999999999 u64",
         "cast u64 000000000000000000001 u64",
         "cast i64 -000000000000000000001 i64",
-        "lower 2 0005ffea17",
-        "upper 2 0005ffea17",
+        "lower",
+        "lower ",
+        "lower 3",
+        "lower 1 0",
+        "upper 1 0g",
+        "upper 1 0102 03",
+        "upper 1  0102",
+        "upper -1 0102",
+        "upper +1 0102",
+        "upper x 0102",
+        "upper  0102",
+        "Upper 1 0102",
+        "lower 0000000000000000001 0102",
+        "hex 0102",
     ] {
         compare(&rt, rt.alloc(), input.as_bytes(), "bad line\n");
     }
@@ -257,6 +269,31 @@ fn casts_up_to_the_second_kinds_limits(rt: HostRuntime) -> Result<(), Fail> {
         ("cast i32 00000000000000000001 i8", "1i8\n"),
         ("cast i32 -00000000000000000001 i8", "-1i8\n"),
         ("cast u64 00000000000000000000 i8", "0i8\n"),
+    ] {
+        compare(&rt, rt.alloc(), input.as_bytes(), want);
+    }
+    Ok(())
+}
+
+#[test]
+fn bounds_strings(rt: HostRuntime) -> Result<(), Fail> {
+    for (input, want) in [
+        ("upper 3 0005ffea17", "000600\n"),
+        ("lower 2 0005ffea17", "0005\n"),
+        ("upper 2 ffffff", "none\n"),
+        ("lower 0 0102", "\n"),
+        ("upper 0 0102", "none\n"),
+        ("upper 9 0102", "0102\n"),
+        ("upper 2 0102", "0102\n"),
+        ("lower 2 ffff", "ffff\n"),
+        ("lower 3 ", "\n"),
+        ("upper 3 ", "\n"),
+        ("upper 3 00ffff01", "010000\n"),
+        ("lower 3 00FFff01", "00ffff\n"),
+        ("upper 1 aBCd", "ac\n"),
+        ("upper 000000000000000001 0102", "02\n"),
+        ("upper 999999999999999999 0102", "0102\n"),
+        ("upper 9999999999999999999 0102", "bad line\n"),
     ] {
         compare(&rt, rt.alloc(), input.as_bytes(), want);
     }
