@@ -1,4 +1,5 @@
-//! Writes the benchmark's lines: as many as the first word on the command line says.
+//! Writes the benchmark's lines: as many as the first word on the command line says, casts alone, or
+//! with `all` after it a third of each command.
 
 use std::io::{self, Write};
 
@@ -41,7 +42,7 @@ const BAD_LINES: [&str; 8] = [
     "cast f32 1 u8",
     "cast i8 1 i64 ",
     "cast u8",
-    "lower 2 0005",
+    "lower 2 005",
 ];
 
 /// A number of any size up to 64 bits: small ones are as frequent as large ones.
@@ -50,9 +51,32 @@ fn number(numbers: &mut Numbers) -> i128 {
     if numbers.below(3) == 0 { -size } else { size }
 }
 
-fn line(numbers: &mut Numbers) -> String {
+/// A byte: the greatest is frequent, so that carries go on.
+fn byte(numbers: &mut Numbers) -> u64 {
+    if numbers.below(3) == 0 {
+        255
+    } else {
+        numbers.below(256)
+    }
+}
+
+/// A bound of a string of up to 32 bytes.
+fn bound(numbers: &mut Numbers) -> String {
+    let command = numbers.of(&["lower", "upper"]);
+    let size = numbers.below(24);
+    let length = numbers.below(33);
+    let hex: String = (0..length)
+        .map(|_| format!("{:02x}", byte(numbers)))
+        .collect();
+    format!("{command} {size} {hex}")
+}
+
+fn line(numbers: &mut Numbers, all: bool) -> String {
     if numbers.below(10) == 0 {
         return numbers.of(&BAD_LINES).to_string();
+    }
+    if all && numbers.below(3) > 0 {
+        return bound(numbers);
     }
     let (from, least, greatest) = numbers.of(&KINDS);
     let (to, _, _) = numbers.of(&KINDS);
@@ -67,10 +91,11 @@ fn line(numbers: &mut Numbers) -> String {
 
 fn main() -> io::Result<()> {
     let count = std::env::args().nth(1).and_then(|word| word.parse().ok());
+    let all = std::env::args().nth(2).is_some();
     let mut numbers = Numbers(0x9e37_79b9_7f4a_7c15);
     let mut text = String::new();
     for _ in 0..count.unwrap_or(200_000) {
-        text.push_str(&line(&mut numbers));
+        text.push_str(&line(&mut numbers, all));
         text.push('\n');
     }
     io::stdout().write_all(text.as_bytes())

@@ -62,6 +62,8 @@ enum Answer {
     BadLine,
     Refused,
     Number(i128, Kind),
+    Bytes(Vec<u8>),
+    NoBound,
 }
 
 impl fmt::Display for Answer {
@@ -70,6 +72,8 @@ impl fmt::Display for Answer {
             Answer::BadLine => f.write_str("bad line"),
             Answer::Refused => f.write_str("refused"),
             Answer::Number(number, kind) => write!(f, "{number}{}", kind.name()),
+            Answer::Bytes(bytes) => bytes.iter().try_for_each(|byte| write!(f, "{byte:02x}")),
+            Answer::NoBound => f.write_str("none"),
         }
     }
 }
@@ -82,11 +86,62 @@ fn number(word: &[u8]) -> Option<i128> {
     std::str::from_utf8(word).ok()?.parse().ok()
 }
 
-fn cast(line: &[u8]) -> Option<Answer> {
-    let mut words = line.split(|b| *b == b' ');
-    if words.next()? != b"cast" {
+fn size(word: &[u8]) -> Option<u64> {
+    if word.is_empty() || word.len() > 18 || !word.iter().all(u8::is_ascii_digit) {
         return None;
     }
+    std::str::from_utf8(word).ok()?.parse().ok()
+}
+
+fn hex(word: &[u8]) -> Option<Vec<u8>> {
+    if word.len() % 2 == 1 {
+        return None;
+    }
+    let digit = |byte: u8| char::from(byte).to_digit(16);
+    word.chunks_exact(2)
+        .map(|pair| Some((digit(pair[0])? * 16 + digit(pair[1])?) as u8))
+        .collect()
+}
+
+fn upper(bytes: &[u8]) -> Option<Vec<u8>> {
+    let mut bound = bytes.to_vec();
+    for byte in bound.iter_mut().rev() {
+        let (next, wrapped) = byte.overflowing_add(1);
+        *byte = next;
+        if !wrapped {
+            return Some(bound);
+        }
+    }
+    None
+}
+
+fn bound<'a>(mut words: impl Iterator<Item = &'a [u8]>, is_upper: bool) -> Option<Answer> {
+    let size = size(words.next()?)?;
+    let mut bytes = hex(words.next()?)?;
+    if words.next().is_some() {
+        return None;
+    }
+    if bytes.len() as u64 <= size {
+        return Some(Answer::Bytes(bytes));
+    }
+    bytes.truncate(size as usize);
+    if is_upper {
+        return Some(upper(&bytes).map_or(Answer::NoBound, Answer::Bytes));
+    }
+    Some(Answer::Bytes(bytes))
+}
+
+fn answer(line: &[u8]) -> Option<Answer> {
+    let mut words = line.split(|b| *b == b' ');
+    match words.next()? {
+        b"cast" => cast(words),
+        b"lower" => bound(words, false),
+        b"upper" => bound(words, true),
+        _ => None,
+    }
+}
+
+fn cast<'a>(mut words: impl Iterator<Item = &'a [u8]>) -> Option<Answer> {
     let from = Kind::named(words.next()?)?;
     let number = number(words.next()?)?;
     let to = Kind::named(words.next()?)?;
@@ -107,7 +162,7 @@ fn rows(input: &[u8]) -> String {
         return output;
     }
     for line in text.split(|b| *b == b'\n') {
-        let answer = cast(line).unwrap_or(Answer::BadLine);
+        let answer = answer(line).unwrap_or(Answer::BadLine);
         let _ = writeln!(output, "{answer}");
     }
     output

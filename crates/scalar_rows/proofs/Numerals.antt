@@ -10,7 +10,7 @@ use Rattle.std.specs.Int.{IsInRange}
 use Rattle.std.specs.List.{list_all}
 use Rattle.std.specs.Option.{option_map}
 use Rattle.std.specs.Str.Parse.{digits_value, digits_value_after}
-use Rattle.scalar_rows.specs.Grammar.{all_digits, is_natural, natural_named, negative_named, number_named}
+use Rattle.scalar_rows.specs.Grammar.{all_digits, is_natural, natural_named, negative_named, number_named, size_named}
 
 -- the digits before place i are read, and n is their number
 pub record IsReadTo (ds : List ℕ) (i n : ℕ) : Type 0 where
@@ -109,6 +109,31 @@ unfolding number_named natural_named is_natural all_digits
 without_minus [] other = refl
 without_minus (b ∷ bs) other = rw (ne_eqb b 45 (other (omega arith))) refl
 
-pub ruleset digits = (read_none, read_more, read_other, read_all, small, no_digits, too_many, few_digits)
+-- what is read of all digits has no more than they
+pub all_digits_below : (ds : List ℕ) (i n : ℕ) → IsReadTo ds i n → i ≤ length ds → n < 10 ^ length ds
+all_digits_below ds i n so_far upto =
+    let g = ten_grows i (length ds) upto in
+    let b : n < 10 ^ i = so_far.below in
+    omega (arith, g, b)
+
+-- the number of few digits fits 64 bits
+pub fits_size : (ds : List ℕ) (n : ℕ) → n < 10 ^ length ds → length ds ≤ 18 → n < 2 ^ 64
+fits_size ds n below few =
+    let g = ten_grows (length ds) 18 few in
+    omega (arith, g, below)
+
+-- a word of too many for a size
+pub no_size : (ds : List ℕ) → 18 < length ds → None ≡ size_named ds
+unfolding size_named
+no_size ds h = let a : nat_le (length ds) 18 ≡ false = grind (arith, nat_tests) in rw a refl
+
+-- a word of few
+pub some_size : (ds : List ℕ) → length ds ≤ 18 → size_named ds ≡ natural_named ds
+unfolding size_named
+some_size ds h = let a : nat_le (length ds) 18 ≡ true = grind (arith, nat_tests) in rw a refl
+
+pub ruleset digits = (read_none, read_more, read_other, read_all, small, no_digits, too_many, few_digits, all_digits_below)
+
+pub ruleset sizes = (fits_size, no_size, some_size)
 
 pub ruleset signs = (after_minus, without_minus)

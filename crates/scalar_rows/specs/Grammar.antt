@@ -1,6 +1,6 @@
 -- What a line asks for: the grammar of the program.
-use Rattle.std.specs.Prelude.{ℕ, ℤ, List, [], ◌∷◌, ◌==◌, ◌&&◌, Bool, Option, None, Some, pos, neg_ℤ, if◌then◌else◌, length, nat_lt, nat_le, codes, find}
-use Rattle.std.specs.Char.{is_ascii_digit}
+use Rattle.std.specs.Prelude.{ℕ, ℤ, List, [], ◌∷◌, ◌==◌, ◌&&◌, ◌+◌, ◌*◌, Bool, Option, None, Some, pos, neg_ℤ, if◌then◌else◌, length, nat_lt, nat_le, codes, find}
+use Rattle.std.specs.Char.{digit_value, is_ascii_digit}
 use Rattle.std.specs.List.{list_all}
 use Rattle.std.specs.Option.{option_map}
 use Rattle.std.specs.Str.{bytes_eq}
@@ -10,6 +10,8 @@ use Rattle.vortex_dtype.specs.declared.kinds.PType.TheVariants.{U8, U16, U32, U6
 use Rattle.vortex_dtype.specs.Kinds.{kind_text}
 use Rattle.vortex_pvalue.specs.Numbers.{in_range}
 use Rattle.scalar_rows.specs.Lines.{words_of}
+use Rattle.scalar_rows.specs.declared.commands.Side.{Side}
+use Rattle.scalar_rows.specs.declared.commands.Side.TheVariants.{Lower, Upper}
 
 abbrev pub all_kinds : List PType
 all_kinds = U8 ∷ U16 ∷ U32 ∷ U64 ∷ I8 ∷ I16 ∷ I32 ∷ I64 ∷ []
@@ -39,10 +41,29 @@ unfoldable pub number_named : List ℕ → Option ℤ
 number_named [] = None
 number_named (b ∷ bs) = if b == 45 then negative_named bs else option_map (λ n. pos n) (natural_named (b ∷ bs))
 
+-- N: the number that 1 to 18 digits represent
+unfoldable pub size_named : List ℕ → Option ℕ
+size_named digits = if nat_le (length digits) 18 then natural_named digits else None
+
+-- a byte in front, of two hexadecimal digits of either case
+abbrev pub hex_then : ℕ → ℕ → Option (List ℕ) → Option (List ℕ)
+hex_then c d rest =
+    if nat_lt (digit_value c) 16 && nat_lt (digit_value d) 16
+    then option_map (λ bytes. (digit_value c * 16 + digit_value d) ∷ bytes) rest
+    else None
+
+-- HEX: the bytes that an even number of hexadecimal digits represent
+abbrev pub hex_named : List ℕ → Option (List ℕ)
+hex_named [] = Some []
+hex_named (c ∷ []) = None
+hex_named (c ∷ d ∷ digits) = hex_then c d (hex_named digits)
+
 -- what a line asks for
 pub data Request : Type 0 where
   -- a number of the first kind, in the second kind
   cast : PType → ℤ → PType → Request
+  -- the lower or the upper bound of a string at so many bytes
+  bound : Side → ℕ → List ℕ → Request
 
 -- a cast asks for a number that the first kind has
 abbrev pub cast_request : Option PType → Option ℤ → Option PType → Option Request
@@ -56,10 +77,25 @@ abbrev pub cast_operands : List (List ℕ) → Option Request
 cast_operands (from ∷ number ∷ to ∷ []) = cast_request (kind_named from) (number_named number) (kind_named to)
 cast_operands _ = None
 
+-- a bound asks for a length and a string
+abbrev pub bound_request : Side → Option ℕ → Option (List ℕ) → Option Request
+bound_request side (Some n) (Some bytes) = Some (bound side n bytes)
+bound_request side (Some n) None = None
+bound_request side None bytes = None
+
+-- the words after `lower` and `upper`: N HEX
+abbrev pub bound_operands : Side → List (List ℕ) → Option Request
+bound_operands side (size ∷ hex ∷ []) = bound_request side (size_named size) (hex_named hex)
+bound_operands side _ = None
+
 -- the table of commands: what the words of a line ask for
 abbrev pub request_in_words : List (List ℕ) → Option Request
 request_in_words [] = None
-request_in_words (command ∷ operands) = if bytes_eq command (codes "cast") then cast_operands operands else None
+request_in_words (command ∷ operands) =
+    if bytes_eq command (codes "cast") then cast_operands operands
+    else if bytes_eq command (codes "lower") then bound_operands Lower operands
+    else if bytes_eq command (codes "upper") then bound_operands Upper operands
+    else None
 
 -- what a line asks for, if it is one of the grammar
 abbrev pub request_in : List ℕ → Option Request

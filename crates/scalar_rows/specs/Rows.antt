@@ -1,14 +1,34 @@
 -- What a text gives, line by line.
-use Rattle.std.specs.Prelude.{ℕ, List, [], ◌∷◌, ◌++◌, Option, None, Some, if◌then◌else◌, codes}
+use Rattle.std.specs.Prelude.{ℕ, List, [], ◌∷◌, ◌++◌, Option, None, Some, if◌then◌else◌, codes, length, nat_le}
 use Rattle.std.specs.List.{flat_map}
 use Rattle.vortex_pvalue.specs.Numbers.{in_range}
 use Rattle.vortex_pvalue.specs.Whole.{number_text}
-use Rattle.scalar_rows.specs.Grammar.{Request, cast, request_in}
+use Rattle.vortex_array.specs.Strings.{lower_of, upper_of}
+use Rattle.vortex_value.specs.Texts.{two_digits}
+use Rattle.scalar_rows.specs.Grammar.{Request, cast, bound, request_in}
 use Rattle.scalar_rows.specs.Lines.{lines_of}
+use Rattle.scalar_rows.specs.declared.commands.Side.{Side}
+use Rattle.scalar_rows.specs.declared.commands.Side.TheVariants.{Lower, Upper}
 
--- what a request gives: the second kind has the number, or the cast is refused
+-- a string in lower case hexadecimal, two digits a byte
+abbrev pub hex_text : List ℕ → List ℕ
+hex_text bytes = flat_map two_digits bytes
+
+-- a bound, or that there is none
+abbrev pub bound_text : Option (List ℕ) → List ℕ
+bound_text None = codes "none"
+bound_text (Some bytes) = hex_text bytes
+
+-- the bound on this side of a string of more than n bytes
+abbrev pub bound_of : Side → ℕ → List ℕ → Option (List ℕ)
+bound_of Lower n bytes = Some (lower_of bytes n)
+bound_of Upper n bytes = upper_of bytes n
+
+-- what a request gives: the number, if the second kind has it, or that the cast is refused; the string itself, if it has
+-- at most n bytes, and else its bound, if there is one
 abbrev pub request_text : Request → List ℕ
 request_text (cast from z to) = if in_range to z then number_text to z else codes "refused"
+request_text (bound side n bytes) = if nat_le (length bytes) n then hex_text bytes else bound_text (bound_of side n bytes)
 
 -- a line that asks for nothing is bad
 abbrev pub row_text : Option Request → List ℕ

@@ -1,31 +1,94 @@
 //! What a line asks for.
 
-ghost use Rattle.std.specs.Prelude.{◌≡◌, option_map};
+ghost use Rattle.std.specs.Prelude.{◌≡◌, IfOk, option_map};
 ghost use Rattle.scalar_rows.specs.Commands.{request_of};
-ghost use Rattle.scalar_rows.specs.Grammar.{cast_operands, cast_request, kind_named, number_named, request_in};
+ghost use Rattle.scalar_rows.specs.Grammar.{bound_operands, bound_request, cast_operands, cast_request, hex_named, kind_named, number_named, request_in, size_named};
 ghost use Rattle.scalar_rows.specs.Lines.{words_of};
 
-use crate::numbers::{kind_named, number_named};
+use crate::hex::hex_named;
+use crate::numbers::{kind_named, number_named, size_named};
 use crate::words::cut_word;
-use vortex_dtype::PType;
-use vortex_pvalue::PValue;
+use std::alloc::{AllocError, Global};
+use vortex_array::{ByteBuffer, PType, PValue};
 
 /// What a line asks for.
-#[derive(Clone, Copy, Debug)]
+#[derive(Debug, Drop)]
 pub enum Command {
     /// The cast of a number to a kind.
-    Cast { number: PValue, to: PType },
+    Cast {
+        number: PValue,
+        to: PType,
+    },
+    /// The bound of a string at so many bytes.
+    Bound {
+        side: Side,
+        length: u64,
+        value: ByteBuffer,
+    },
+}
+
+/// Which bound.
+#[derive(Clone, Copy, Debug)]
+pub enum Side {
+    /// One that is not above.
+    Lower,
+    /// One that is above.
+    Upper,
 }
 
 /// The command that the line is, if it is one of the grammar.
-pub fn command_in(line: &[u8]) -> Option<Command>
-    ensures { option_map request_of result ≡ request_in line.now }
+pub fn command_in(alloc: Global, line: &[u8]) -> Result<Option<Command>, AllocError>
+    ensures { IfOk result (λ command. option_map request_of command ≡ request_in line.now) }
 {
-    let (command, operands) = cut_word(line)?;
+    let Some((command, operands)) = cut_word(line) else {
+        return Ok(None);
+    };
     if command == b"cast".as_slice() {
-        cast_of(operands)
+        Ok(cast_of(operands))
+    } else if command == b"lower".as_slice() {
+        bound_of(alloc, Side::Lower, operands)
+    } else if command == b"upper".as_slice() {
+        bound_of(alloc, Side::Upper, operands)
     } else {
-        None
+        Ok(None)
+    }
+}
+
+/// The bound that the words after `lower` or `upper` ask for.
+#[tactic(auto, using(crate::proofs::Operands::more_than_two))]
+fn bound_of(alloc: Global, side: Side, operands: &[u8]) -> Result<Option<Command>, AllocError>
+    ensures { IfOk result (λ command.
+        option_map request_of command ≡ bound_operands side (words_of operands.now)) }
+{
+    let Some((size, hex)) = cut_word(operands) else {
+        return Ok(None);
+    };
+    if cut_word(hex).is_some() {
+        return Ok(None);
+    }
+    bound_of_words(alloc, side, size, hex)
+}
+
+/// The bound that the two words ask for.
+fn bound_of_words(
+    alloc: Global,
+    side: Side,
+    size: &[u8],
+    hex: &[u8],
+) -> Result<Option<Command>, AllocError>
+    ensures { IfOk result (λ command. option_map request_of command
+        ≡ bound_request side (size_named size.now) (hex_named hex.now)) }
+{
+    let Some(length) = size_named(size) else {
+        return Ok(None);
+    };
+    match hex_named(alloc, hex)? {
+        Some(value) => Ok(Some(Command::Bound {
+            side,
+            length,
+            value,
+        })),
+        None => Ok(None),
     }
 }
 

@@ -1,9 +1,9 @@
 //! Kinds and numbers: what a word says.
 
-ghost use Rattle.std.specs.Prelude.{◌≡◌, IfSome, ◌<◌, ◌^◌};
-ghost use Rattle.scalar_rows.specs.Grammar.{kind_named, natural_named, number_named};
+ghost use Rattle.std.specs.Prelude.{◌≡◌, IfSome, ◌<◌, ◌^◌, length};
+ghost use Rattle.scalar_rows.specs.Grammar.{kind_named, natural_named, number_named, size_named};
 
-use vortex_dtype::PType;
+use vortex_array::PType;
 
 /// The kinds of integers.
 const KINDS: [PType; 8] = [
@@ -19,6 +19,9 @@ const KINDS: [PType; 8] = [
 
 /// The most digits of a number.
 const DIGITS: usize = 20;
+
+/// The most digits of a length.
+const SIZE_DIGITS: usize = 18;
 
 /// The kind with this name.
 #[tactic(auto, unfolding(crate::specs::Grammar::kind_named))]
@@ -36,6 +39,7 @@ pub fn kind_named(word: &[u8]) -> Option<PType>
 fn natural_named(digits: &[u8]) -> Option<u128>
     ensures number { result ≡ natural_named digits.now }
     ensures small { IfSome result (λ n. n < 10 ^ 20) }
+    ensures short { IfSome result (λ n. n < 10 ^ length digits.now) }
 {
     if digits.is_empty() || digits.len() > DIGITS {
         return None;
@@ -48,6 +52,17 @@ fn natural_named(digits: &[u8]) -> Option<u128>
         number = number * 10 + u128::from(*digit - b'0');
     }
     Some(number)
+}
+
+/// The number that 1 to 18 digits represent.
+#[tactic(auto, using(crate::proofs::Numerals::sizes), unfolding(crate::specs::Grammar::size_named))]
+pub fn size_named(word: &[u8]) -> Option<u64>
+    ensures { result ≡ size_named word.now }
+{
+    if word.len() > SIZE_DIGITS {
+        return None;
+    }
+    natural_named(word).map(|size| size as u64)
 }
 
 /// The number that the word represents: digits, after an optional minus sign.

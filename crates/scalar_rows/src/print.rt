@@ -5,9 +5,10 @@ ghost use Rattle.vortex_pvalue.specs.Whole.{pvalue_text};
 ghost use Rattle.scalar_rows.specs.Answers.{row_of};
 
 use crate::answers::Answer;
+use crate::hex::push_hex;
 use itoa::Buffer;
 use std::alloc::AllocError;
-use vortex_pvalue::PValue;
+use vortex_array::PValue;
 
 /// Writes the answer to a line and a line feed; without one the line is none of the grammar.
 pub fn push_answer(output: &mut Vec<u8>, answer: Option<Answer>) -> Result<(), AllocError>
@@ -17,6 +18,11 @@ pub fn push_answer(output: &mut Vec<u8>, answer: Option<Answer>) -> Result<(), A
         None => output.extend_from_slice(b"bad line\n"),
         Some(Answer::Refused) => output.extend_from_slice(b"refused\n"),
         Some(Answer::Number(value)) => push_value(output, value),
+        Some(Answer::Bytes(value)) => {
+            push_hex(output, value.as_slice())?;
+            output.extend_from_slice(b"\n")
+        }
+        Some(Answer::NoBound) => output.extend_from_slice(b"none\n"),
     }
 }
 

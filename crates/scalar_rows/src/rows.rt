@@ -42,7 +42,10 @@ fn rows(alloc: Global, input: &[u8]) -> Result<Vec<u8>, AllocError>
     let mut rest = input;
     while !rest.is_empty() {
         let (line, after) = first_line(rest);
-        let answer = command_in(line).map(|command| answer_to(alloc, command));
+        let answer = match command_in(alloc, line)? {
+            Some(command) => Some(answer_to(alloc, command)?),
+            None => None,
+        };
         push_answer(&mut output, answer)?;
         rest = after;
     }
