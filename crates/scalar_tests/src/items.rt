@@ -1,5 +1,5 @@
-//! Makers over iterators: they ask for no item where the type is of another kind, and those of maps for none past
-//! the first wrong one.
+//! Makers over iterators: they ask for no item where the type is of another kind, and those of maps
+//! for none past the first wrong one.
 
 ghost use Rattle.std.specs.Prelude.{IfSome};
 ghost use Rattle.std.specs.Iterator.{at_most};

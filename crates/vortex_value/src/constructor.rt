@@ -1,6 +1,6 @@
 //! Makers of scalars: each answers a valid scalar of the stated type, or refuses by name.
 
-ghost use Rattle.std.specs.Prelude.{◌≡◌, ◌≢◌, ◌↔◌, Ok, Err, IsOk, IfOk, IfErr, IsUtf8, MatchResult, Some, true};
+ghost use Rattle.std.specs.Prelude.{◌≡◌, ◌≢◌, ◌↔◌, None, Ok, Err, IsOk, IfOk, IfErr, IsUtf8, MatchResult, Some, true};
 ghost use Rattle.vortex_dtype.specs.Refusals.{RefusesExactly, RefusesOrNoMemory};
 ghost use Rattle.vortex_dtype.specs.TypeOf.{type_of, ext_of, variants_of};
 ghost use Rattle.vortex_dtype.specs.TypeTree.{IsFlat, IsNullable, as_nullable, bool_type, integer_type, utf8_type, binary_type, variant_type};
@@ -176,9 +176,7 @@ impl Scalar {
             (IsMadeOf (extension_over (ext_of ext_dtype)) (scalar_raw storage)) }
         ensures valid { IfOk result IsValid }
     {
-        if let Some(cause) = child_cause(0, ext_dtype.storage_dtype(), &storage.dtype) {
-            return Err(cause);
-        }
+        check_child(0, ext_dtype.storage_dtype(), &storage.dtype)?;
         Ok(Scalar {
             dtype: DType::Extension(ext_dtype),
             value: storage.value,
@@ -209,9 +207,7 @@ impl Scalar {
             → IfErr result (λ e. e ≢ OutOfMemory) }
         ensures valid { IfOk result IsValid }
     {
-        if let Some(cause) = union_cause(&variants, type_id, &child.dtype) {
-            return Err(cause);
-        }
+        check_variant(&variants, type_id, &child.dtype)?;
         let union = UnionValue::new(alloc, type_id, child.value)?;
         Ok(Scalar {
             dtype: DType::Union(variants, nullability),
@@ -254,26 +250,30 @@ fn scalar_of(dtype: DType, value: Result<ScalarValue, VortexError>) -> Result<Sc
     })
 }
 
-/// The refusal of a child whose type is not exactly the expected one.
-fn child_cause(index: usize, expected: &DType, found: &DType) -> Option<VortexError>
-    ensures { result ≡ child_cause index (type_of expected.now) (type_of found.now) }
+/// Sees that a child's type is exactly the expected one.
+fn check_child(index: usize, expected: &DType, found: &DType) -> Result<(), VortexError>
+    ensures { MatchResult result
+        (λ _. child_cause index (type_of expected.now) (type_of found.now) ≡ None)
+        (λ e. child_cause index (type_of expected.now) (type_of found.now) ≡ Some e) }
 {
     if found == expected {
-        None
+        Ok(())
     } else {
-        Some(VortexError::WrongChild { index })
+        Err(VortexError::WrongChild { index })
     }
 }
 
-/// The refusal of a child of this type under this id.
-fn union_cause(variants: &UnionVariants, type_id: u8, found: &DType) -> Option<VortexError>
-    ensures { result ≡ union_cause (variants_of variants.now) type_id (type_of found.now) }
+/// Sees that a child of this type fits the variant with this id.
+fn check_variant(variants: &UnionVariants, type_id: u8, found: &DType) -> Result<(), VortexError>
+    ensures { MatchResult result
+        (λ _. union_cause (variants_of variants.now) type_id (type_of found.now) ≡ None)
+        (λ e. union_cause (variants_of variants.now) type_id (type_of found.now) ≡ Some e) }
 {
     let Some(index) = variants.tag_to_child_index(type_id) else {
-        return Some(VortexError::UnknownTypeId { id: type_id });
+        return Err(VortexError::UnknownTypeId { id: type_id });
     };
     let Some(expected) = variants.variant_by_index(index) else {
-        return Some(VortexError::UnknownTypeId { id: type_id });
+        return Err(VortexError::UnknownTypeId { id: type_id });
     };
-    child_cause(index, expected, found)
+    check_child(index, expected, found)
 }
