@@ -8,7 +8,7 @@ use crate::answers::answer_to;
 use crate::commands::command_in;
 use crate::print::push_answer;
 use crate::words::first_line;
-use program_io::{Fault, read_all, write_out};
+use rows_io::{RowsError, read_all, write_out};
 use std::alloc::{AllocError, Global};
 use std::io::{Read, Write};
 
@@ -17,13 +17,13 @@ use std::io::{Read, Write};
 /// `Read` for every error of the reader, and where the input has not ended within 1,048,576 reads;
 /// `Memory` where no memory is left; after both nothing was written. `Write` for an error of the
 /// writer: how much went out is not known.
-pub fn run<R: Read, W: Write>(alloc: Global, reader: &mut R, writer: &mut W) -> Result<(), Fault>
+pub fn run<R: Read, W: Write>(alloc: Global, reader: &mut R, writer: &mut W) -> Result<(), RowsError>
     // What was written is the rows of all bytes that there were.
     ensures rows { OnOk result (IfSome (R.remaining reader.old) (λ input.
         Appends (W.contents writer.old) (W.contents writer.new) (rows_of input))) }
     ensures end { OnOk result (IsAtEnd (R.remaining reader.new)) }
     // After a fault other than one of the writer, nothing was written.
-    ensures untouched { IfErr result (λ e. e ≢ Fault.Write → writer.new ≡ writer.old) }
+    ensures untouched { IfErr result (λ e. e ≢ RowsError.Write → writer.new ≡ writer.old) }
 {
     let input = read_all(alloc, reader)?;
     let output = rows(alloc, &input)?;

@@ -1,7 +1,7 @@
 //! A program's input and output where readers give little at a time and where reads and writes
 //! fail in the middle.
 
-use program_io::{Fault, fault_line, read_all, write_out};
+use rows_io::{RowsError, fault_line, read_all, write_out};
 use std::io::{self, Read, Write};
 use std::process::Abort;
 
@@ -58,7 +58,7 @@ fn all_pieces_are_read(rt: HostRuntime) {
 /// Sees that a read fails after so many, and that no more than 4,096 bytes are asked for.
 fn stops(rt: &(impl AllocGlobal + Abort), most: usize, left: u32) {
     let mut reader = reader_of(most, left, true);
-    assert!(rt; matches!(read_all(rt.alloc(), &mut reader), Err(Fault::Read)));
+    assert!(rt; matches!(read_all(rt.alloc(), &mut reader), Err(RowsError::Read)));
     assert!(rt; reader.longest == 4096);
 }
 
@@ -107,7 +107,7 @@ fn is_written(rt: &impl Abort, left: u32, flushes: bool) -> bool {
     match write_out(&mut writer, b"bad line\nbad line\n") {
         Ok(()) => true,
         Err(fault) => {
-            assert!(rt; matches!(fault, Fault::Write));
+            assert!(rt; matches!(fault, RowsError::Write));
             false
         }
     }
@@ -124,7 +124,7 @@ fn writing_stops_at_a_failed_write(rt: HostRuntime) {
 
 #[test]
 fn faults_have_their_words(rt: HostRuntime) {
-    assert!(rt; fault_line(&Fault::Read) == "read failed");
-    assert!(rt; fault_line(&Fault::Write) == "write failed");
-    assert!(rt; fault_line(&Fault::Memory) == "out of memory");
+    assert!(rt; fault_line(&RowsError::Read) == "read failed");
+    assert!(rt; fault_line(&RowsError::Write) == "write failed");
+    assert!(rt; fault_line(&RowsError::Memory) == "out of memory");
 }

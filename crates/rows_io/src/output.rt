@@ -3,17 +3,17 @@
 ghost use Rattle.std.specs.Prelude.{◌≡◌, IfErr, OnOk};
 ghost use Rattle.std.specs.Io.KnownBytes.{Appends};
 
-use crate::faults::Fault;
+use crate::faults::RowsError;
 use std::io::Write;
 
 /// Writes all bytes and flushes the writer.
 ///
 /// `Write` for every error of the writer: how much went out is not known.
-pub fn write_out<W: Write>(writer: &mut W, output: &[u8]) -> Result<(), Fault>
+pub fn write_out<W: Write>(writer: &mut W, output: &[u8]) -> Result<(), RowsError>
     ensures written { OnOk result
         (Appends (W.contents writer.old) (W.contents writer.new) output.now) }
-    ensures fault { IfErr result (λ e. e ≡ Fault.Write) }
+    ensures fault { IfErr result (λ e. e ≡ RowsError.Write) }
 {
-    writer.write_all(output).map_err(|_| Fault::Write)?;
-    writer.flush().map_err(|_| Fault::Write)
+    writer.write_all(output).map_err(|_| RowsError::Write)?;
+    writer.flush().map_err(|_| RowsError::Write)
 }

@@ -6,6 +6,6 @@ mod faults;
 mod input;
 mod output;
 
-pub use faults::{Fault, fault_line};
+pub use faults::{RowsError, fault_line};
 pub use input::read_all;
 pub use output::write_out;

@@ -1,14 +1,14 @@
 //! Why a program stops.
 
 ghost use Rattle.std.specs.Prelude.{◌≡◌};
-ghost use Rattle.program_io.specs.FaultTexts.{fault_text};
-ghost use Rattle.program_io.specs.declared.faults.Fault.TheVariants.{Memory};
+ghost use Rattle.rows_io.specs.FaultTexts.{fault_text};
+ghost use Rattle.rows_io.specs.declared.faults.RowsError.TheVariants.{Memory};
 
 use std::alloc::AllocError;
 
 /// Why the program stopped.
 #[derive(Debug, Drop)]
-pub enum Fault {
+pub enum RowsError {
     /// A read failed, or the input did not end within the reads that are made.
     Read,
     /// A write, or the flush after it, failed.
@@ -18,21 +18,21 @@ pub enum Fault {
 }
 
 /// Out of memory.
-impl From<AllocError> for Fault {
+impl From<AllocError> for RowsError {
     ghost from_gives = { λ _ fault. fault ≡ Memory };
 
-    fn from(_error: AllocError) -> Fault {
-        Fault::Memory
+    fn from(_error: AllocError) -> RowsError {
+        RowsError::Memory
     }
 }
 
 /// What the program says of a fault.
-pub fn fault_line(fault: &Fault) -> &'static str
+pub fn fault_line(fault: &RowsError) -> &'static str
     ensures { result.now ≡ fault_text fault.now }
 {
     match fault {
-        Fault::Read => "read failed",
-        Fault::Write => "write failed",
-        Fault::Memory => "out of memory",
+        RowsError::Read => "read failed",
+        RowsError::Write => "write failed",
+        RowsError::Memory => "out of memory",
     }
 }

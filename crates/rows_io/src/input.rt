@@ -3,7 +3,7 @@
 ghost use Rattle.std.specs.Prelude.{◌≡◌, ◌≢◌, IfErr, IfOk, IfSome, OnOk};
 ghost use Rattle.std.specs.Io.KnownBytes.{IsAtEnd};
 
-use crate::faults::Fault;
+use crate::faults::RowsError;
 use std::alloc::Global;
 use std::io::Read;
 
@@ -18,20 +18,20 @@ const READS: u32 = 1_048_576;
 /// `Read` for every error of the reader, and where the input has not ended within the reads that
 /// are made; `Memory` where no memory is left.
 #[tactic(auto, using(crate::proofs::KnownReads::reads))]
-pub fn read_all<R: Read>(alloc: Global, reader: &mut R) -> Result<Vec<u8>, Fault>
+pub fn read_all<R: Read>(alloc: Global, reader: &mut R) -> Result<Vec<u8>, RowsError>
     ensures bytes { IfOk result
         (λ input. IfSome (R.remaining reader.old) (λ all. input.items ≡ all)) }
     ensures end { OnOk result (IsAtEnd (R.remaining reader.new)) }
-    ensures fault { IfErr result (λ e. e ≢ Fault.Write) }
+    ensures fault { IfErr result (λ e. e ≢ RowsError.Write) }
 {
     let mut input = Vec::new(alloc);
     let mut piece = [0u8; PIECE];
     for _turn in 0..READS {
-        let count = reader.read(&mut piece).map_err(|_| Fault::Read)?;
+        let count = reader.read(&mut piece).map_err(|_| RowsError::Read)?;
         if count == 0 {
             return Ok(input);
         }
         input.extend_from_slice(&piece[..count])?;
     }
-    Err(Fault::Read)
+    Err(RowsError::Read)
 }
