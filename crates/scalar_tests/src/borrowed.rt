@@ -1,10 +1,11 @@
 //! Borrowed scalars, and what scalars, owned and borrowed, and raw values feed to hashers.
 
-use crate::fixtures::{I32, Raw, integer, list, long, nested_type, tuple, union, variant};
+use crate::fixtures::{I32, Raw, integer, list, nested_type, tuple, union_value, variant};
 use crate::hashers::{fed, fed_in_all, unheard};
 use std::cmp::Ordering;
 use std::process::Abort;
 use vortex_dtype::{Breach, DType, Nullability, PType, Step, VortexError};
+use vortex_pvalue::PValue;
 use vortex_value::{Scalar, ScalarRef, ScalarValue};
 
 fn scalar(dtype: DType, value: Raw) -> Scalar {
@@ -43,17 +44,18 @@ fn borrowed_scalars_feed_what_owned_ones_do(rt: HostRuntime) {
 }
 
 #[test]
-fn raw_values_feed_by_content(rt: HostRuntime) {
-    let one = integer(1).expect(&rt, "a value");
-    assert!(rt; fed(&one) == fed(&long(1).expect(&rt, "a value")));
-    assert!(rt; fed(&one) != fed(&integer(2).expect(&rt, "a value")));
-    let child = union(&rt, 5, integer(1)).expect(&rt, "a union");
-    let null_child = union(&rt, 5, None).expect(&rt, "a union");
-    assert!(rt; fed(&child) != fed(&null_child));
-    let ScalarValue::Union(inside) = &child else {
-        return;
-    };
-    assert!(rt; fed(inside) == fed(&child));
+fn raw_integers_feed_by_number(rt: HostRuntime) {
+    let one = fed(&ScalarValue::Primitive(PValue::I32(1)));
+    assert!(rt; one == fed(&ScalarValue::Primitive(PValue::I64(1))));
+    assert!(rt; one != fed(&ScalarValue::Primitive(PValue::I32(2))));
+}
+
+#[test]
+fn unions_feed_id_and_child(rt: HostRuntime) {
+    let union = union_value(&rt, 5, integer(1));
+    let by_itself = fed(&union);
+    assert!(rt; by_itself != fed(&union_value(&rt, 5, None)));
+    assert!(rt; by_itself == fed(&ScalarValue::Union(union)));
 }
 
 #[test]

@@ -5,39 +5,46 @@ use std::process::Abort;
 use vortex_dtype::Nullability::{NonNullable, Nullable};
 use vortex_dtype::{BufferString, ByteBuffer, DType, NativeDType, PType};
 
-/// Sees the column type of a Rust type.
-fn is_column<T: NativeDType>(rt: &(impl AllocGlobal + Abort), expected: &DType) {
+/// Sees that the column type of a Rust type is that of integers of this kind.
+fn holds_integers<T: NativeDType>(rt: &(impl AllocGlobal + Abort), kind: PType) {
     let found = T::dtype(rt.alloc()).expect(rt, "a type");
-    assert!(rt; found == *expected);
-}
-
-/// The type of integers of a kind.
-const fn integers(kind: PType) -> DType {
-    DType::Primitive(kind, NonNullable)
+    assert!(rt; matches!(&found, DType::Primitive(of, NonNullable) if *of == kind));
 }
 
 #[test]
 fn integers_have_a_column_type(rt: HostRuntime) {
-    is_column::<u8>(&rt, &integers(PType::U8));
-    is_column::<u16>(&rt, &integers(PType::U16));
-    is_column::<u32>(&rt, &integers(PType::U32));
-    is_column::<u64>(&rt, &integers(PType::U64));
-    is_column::<i8>(&rt, &integers(PType::I8));
-    is_column::<i16>(&rt, &integers(PType::I16));
-    is_column::<i32>(&rt, &integers(PType::I32));
-    is_column::<i64>(&rt, &integers(PType::I64));
-    is_column::<usize>(&rt, &integers(PType::U64));
+    holds_integers::<u8>(&rt, PType::U8);
+    holds_integers::<u16>(&rt, PType::U16);
+    holds_integers::<u32>(&rt, PType::U32);
+    holds_integers::<u64>(&rt, PType::U64);
+    holds_integers::<i8>(&rt, PType::I8);
+    holds_integers::<i16>(&rt, PType::I16);
+    holds_integers::<i32>(&rt, PType::I32);
+    holds_integers::<i64>(&rt, PType::I64);
+    holds_integers::<usize>(&rt, PType::U64);
+}
+
+/// The column type of a Rust type.
+fn column<T: NativeDType>(rt: &(impl AllocGlobal + Abort)) -> DType {
+    T::dtype(rt.alloc()).expect(rt, "a type")
 }
 
 #[test]
-fn other_types_have_a_column_type(rt: HostRuntime) {
-    is_column::<bool>(&rt, &DType::Bool(NonNullable));
-    is_column::<String>(&rt, &DType::Utf8(NonNullable));
-    is_column::<&str>(&rt, &DType::Utf8(NonNullable));
-    is_column::<BufferString>(&rt, &DType::Utf8(NonNullable));
-    is_column::<ByteBuffer>(&rt, &DType::Binary(NonNullable));
-    is_column::<&[u8]>(&rt, &DType::Binary(NonNullable));
-    is_column::<Option<i32>>(&rt, &DType::Primitive(PType::I32, Nullable));
-    is_column::<Vec<u8>>(&rt, &list(&rt, integers(PType::U8)));
-    is_column::<Vec<Vec<i32>>>(&rt, &list(&rt, list(&rt, I32)));
+fn texts_and_bytes_have_a_column_type(rt: HostRuntime) {
+    assert!(rt; matches!(&column::<bool>(&rt), DType::Bool(NonNullable)));
+    assert!(rt; matches!(&column::<String>(&rt), DType::Utf8(NonNullable)));
+    assert!(rt; matches!(&column::<&str>(&rt), DType::Utf8(NonNullable)));
+    assert!(rt; matches!(&column::<BufferString>(&rt), DType::Utf8(NonNullable)));
+    assert!(rt; matches!(&column::<ByteBuffer>(&rt), DType::Binary(NonNullable)));
+    assert!(rt; matches!(&column::<&[u8]>(&rt), DType::Binary(NonNullable)));
+}
+
+#[test]
+fn options_and_vectors_have_a_column_type(rt: HostRuntime) {
+    let maybe = column::<Option<i32>>(&rt);
+    assert!(rt; matches!(&maybe, DType::Primitive(PType::I32, Nullable)));
+    let lists = column::<Vec<Vec<i32>>>(&rt);
+    assert!(rt; lists == list(&rt, list(&rt, I32)));
+    let bytes = column::<Vec<u8>>(&rt);
+    assert!(rt; bytes == list(&rt, DType::Primitive(PType::U8, NonNullable)));
 }

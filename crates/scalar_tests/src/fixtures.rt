@@ -21,11 +21,6 @@ pub fn integer(number: i32) -> Raw {
     Some(ScalarValue::Primitive(PValue::I32(number)))
 }
 
-/// A raw integer of 64 bits.
-pub fn long(number: i64) -> Raw {
-    Some(ScalarValue::Primitive(PValue::I64(number)))
-}
-
 /// A text.
 pub fn text_buffer(rt: &(impl AllocGlobal + Abort), text: &str) -> BufferString {
     BufferString::from_str(rt.alloc(), text).expect(rt, "a text")

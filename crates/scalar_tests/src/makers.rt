@@ -1,45 +1,49 @@
 //! The makers of scalars that no worked case calls: they say of themselves what they are given.
 
-use crate::fixtures::{I32, Raw, byte_buffer, bytes, integer, list, text, text_buffer, tuple};
-use std::process::Abort;
+use crate::fixtures::{I32, byte_buffer, text_buffer};
 use vortex_dtype::Nullability::{NonNullable, Nullable};
-use vortex_dtype::{DType, PType, VortexError};
+use vortex_dtype::{DType, Nullability, PType, VortexError};
 use vortex_pvalue::PValue;
 use vortex_value::{Scalar, ScalarValue};
 
-/// Sees that the scalar is of this type and raw value.
-fn sees(rt: &impl Abort, made: &Scalar, dtype: &DType, value: &Raw) {
-    assert!(rt; made.dtype == *dtype);
-    assert!(rt; made.value == *value);
+/// Whether the type is that of 32-bit integers.
+fn is_i32(dtype: &DType, nullability: Nullability) -> bool {
+    match dtype {
+        DType::Primitive(PType::I32, found) => *found == nullability,
+        _ => false,
+    }
 }
 
-/// Integers of 32 bits, or null.
-const MAYBE_I32: DType = DType::Primitive(PType::I32, Nullable);
+/// Whether the scalar is the 32-bit integer 7.
+fn is_seven(made: &Scalar, nullability: Nullability) -> bool {
+    match &made.value {
+        Some(ScalarValue::Primitive(PValue::I32(7))) => is_i32(&made.dtype, nullability),
+        _ => false,
+    }
+}
 
 #[test]
 fn nulls_have_their_type(rt: HostRuntime) {
-    sees(&rt, &Scalar::null(MAYBE_I32), &MAYBE_I32, &None);
+    let null = Scalar::null(DType::Primitive(PType::I32, Nullable));
+    assert!(rt; null.is_null() && is_i32(&null.dtype, Nullable));
     let native = Scalar::null_native::<i32>(rt.alloc()).expect(&rt, "a null");
-    sees(&rt, &native, &MAYBE_I32, &None);
+    assert!(rt; native.is_null() && is_i32(&native.dtype, Nullable));
 }
 
 #[test]
-fn truth_values_and_integers_are_made(rt: HostRuntime) {
+fn truth_values_are_made(rt: HostRuntime) {
     let truth = Scalar::bool(true, Nullable);
-    sees(
-        &rt,
-        &truth,
-        &DType::Bool(Nullable),
-        &Some(ScalarValue::Bool(true)),
-    );
-    sees(
-        &rt,
-        &Scalar::primitive(7i32, NonNullable),
-        &I32,
-        &integer(7),
-    );
+    assert!(rt; matches!(&truth.dtype, DType::Bool(Nullable)));
+    assert!(rt; matches!(&truth.value, Some(ScalarValue::Bool(true))));
+}
+
+#[test]
+fn integers_are_made(rt: HostRuntime) {
+    let seven = Scalar::primitive(7i32, NonNullable);
+    assert!(rt; is_seven(&seven, NonNullable));
     let same = Scalar::primitive_value(PValue::I32(7), PType::I32, Nullable);
-    sees(&rt, &same.expect(&rt, "an i32"), &MAYBE_I32, &integer(7));
+    let same = same.expect(&rt, "an i32");
+    assert!(rt; is_seven(&same, Nullable));
 }
 
 /// Whether the call was refused for this cause.
@@ -58,24 +62,58 @@ fn integers_of_another_kind_are_refused(rt: HostRuntime) {
     assert!(rt; is_refused(other, VortexError::WrongPType));
 }
 
+/// Whether the scalar is this text.
+fn is_text(made: &Scalar, text: &str, nullability: Nullability) -> bool {
+    match (&made.dtype, &made.value) {
+        (DType::Utf8(found), Some(ScalarValue::Utf8(buffer))) => {
+            *found == nullability && buffer.as_str() == text
+        }
+        _ => false,
+    }
+}
+
 #[test]
-fn texts_and_strings_of_bytes_are_made(rt: HostRuntime) {
+fn texts_are_made(rt: HostRuntime) {
     let made = Scalar::utf8(text_buffer(&rt, "hi"), NonNullable);
-    sees(&rt, &made, &DType::Utf8(NonNullable), &text(&rt, "hi"));
-    let made = Scalar::binary(byte_buffer(&rt, &[255]), NonNullable);
-    sees(&rt, &made, &DType::Binary(NonNullable), &bytes(&rt, &[255]));
+    assert!(rt; is_text(&made, "hi", NonNullable));
 }
 
 #[test]
 fn bytes_are_read_as_texts(rt: HostRuntime) {
     let made = Scalar::try_utf8(byte_buffer(&rt, b"hi"), Nullable).expect(&rt, "a text");
-    sees(&rt, &made, &DType::Utf8(Nullable), &text(&rt, "hi"));
+    assert!(rt; is_text(&made, "hi", Nullable));
     let refused = Scalar::try_utf8(byte_buffer(&rt, &[255]), Nullable);
     assert!(rt; is_refused(refused, VortexError::NotUtf8));
+}
+
+/// Whether the scalar is this string of bytes.
+fn is_binary(made: &Scalar, bytes: &[u8]) -> bool {
+    match (&made.dtype, &made.value) {
+        (DType::Binary(NonNullable), Some(ScalarValue::Binary(buffer))) => {
+            buffer.as_slice() == bytes
+        }
+        _ => false,
+    }
+}
+
+#[test]
+fn strings_of_bytes_are_made(rt: HostRuntime) {
+    let made = Scalar::binary(byte_buffer(&rt, &[255]), NonNullable);
+    assert!(rt; is_binary(&made, &[255]));
+}
+
+/// Whether the scalar is the list of no 32-bit integers.
+fn is_empty_list(made: &Scalar) -> bool {
+    match (&made.dtype, &made.value) {
+        (DType::List(element, NonNullable), Some(ScalarValue::Tuple(parts))) => {
+            is_i32(element, NonNullable) && parts.is_empty()
+        }
+        _ => false,
+    }
 }
 
 #[test]
 fn empty_lists_are_made(rt: HostRuntime) {
     let made = Scalar::list_empty(rt.alloc(), I32, NonNullable).expect(&rt, "a list");
-    sees(&rt, &made, &list(&rt, I32), &tuple(&rt, []));
+    assert!(rt; is_empty_list(&made));
 }
