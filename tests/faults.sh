@@ -1,6 +1,6 @@
 #!/bin/sh
 # Runs the built program `scalar_rows` under real faults: a folder as its input, a full device as its output, and each
-# growth of memory refused in turn. The last line is 'N passed, M failed'; the status is 1 if any failed.
+# allocation of memory refused in turn. The last line is 'N passed, M failed'; the status is 1 if any failed.
 set -eu
 top=$(CDPATH='' cd -- "$(dirname -- "$0")/.." && pwd)
 program=$top/crates/scalar_rows/out/scalar_rows
@@ -63,19 +63,19 @@ judge 'a folder as the input' 1 "$folder/nothing" "$folder/read"
 attempt "$program" < "$folder/input" > /dev/full
 judge 'a full device as the output' 1 "$folder/nothing" "$folder/write"
 
-growth=1
-while [ "$growth" -le 100 ]; do
-    with_refusal "$growth"
+allocation=1
+while [ "$allocation" -le 100 ]; do
+    with_refusal "$allocation"
     if [ ! -e "$folder/refused" ]; then
         break
     fi
-    judge "growth $growth refused" 1 "$folder/nothing" "$folder/memory"
-    growth=$((growth + 1))
+    judge "allocation $allocation refused" 1 "$folder/nothing" "$folder/memory"
+    allocation=$((allocation + 1))
 done
-judge "no growth refused of $((growth - 1))" 0 "$folder/rows" "$folder/nothing"
-if [ "$growth" -lt 3 ]; then
+judge "no allocation refused of $((allocation - 1))" 0 "$folder/rows" "$folder/nothing"
+if [ "$allocation" -lt 3 ]; then
     failed=$((failed + 1))
-    echo "only $((growth - 1)) growths were refused"
+    echo "only $((allocation - 1)) allocations were refused"
 fi
 
 echo "$passed passed, $failed failed"

@@ -1,4 +1,4 @@
-// A library that is preloaded into a program and refuses one growth of its memory: the one whose number FAIL_ALLOC
+// A library that is preloaded into a program and refuses one allocation of its memory: the one whose number FAIL_ALLOC
 // gives, counted from 1 over all calls of malloc, calloc and realloc. Where FAIL_REST is set it refuses all later ones
 // too. The file that FAIL_MARK names then holds a byte. Where FAIL_CALL is set it counts, and refuses, only from the
 // time that the program writes the line `called` on standard error until it writes the next line there.
@@ -23,7 +23,7 @@ ssize_t write(int file, const void *bytes, size_t size) {
     return written;
 }
 
-// Leaves the mark that a growth was refused.
+// Leaves the mark that an allocation was refused.
 static void leave_mark(void) {
     const char *path = getenv("FAIL_MARK");
     if (!path) return;
@@ -32,7 +32,7 @@ static void leave_mark(void) {
     close(mark);
 }
 
-// Whether this growth is one to refuse.
+// Whether this allocation is one to refuse.
 static int refuse(void) {
     static long left = -1;
     if (left < 0) {

@@ -26,6 +26,8 @@ pub enum Answer {
     Raw(Option<ScalarValue>),
     /// A scalar.
     Scalar(Scalar),
+    /// A bound, and whether the value is longer.
+    Bound(Scalar, bool),
     /// A refusal.
     Refused(VortexError),
 }
@@ -65,6 +67,15 @@ pub fn text_of<T: Display>(alloc: Global, shown: &T) -> Answer {
 pub fn if_made(made: Result<Option<Scalar>, VortexError>) -> Answer {
     match made {
         Ok(Some(scalar)) => Answer::Scalar(scalar),
+        Ok(None) => Answer::Word("none"),
+        Err(refusal) => Answer::Refused(refusal),
+    }
+}
+
+/// The answer of a call that bounds a value, where there is a bound.
+pub fn if_bounded(bounded: Result<Option<(Scalar, bool)>, VortexError>) -> Answer {
+    match bounded {
+        Ok(Some((bound, is_longer))) => Answer::Bound(bound, is_longer),
         Ok(None) => Answer::Word("none"),
         Err(refusal) => Answer::Refused(refusal),
     }
@@ -127,6 +138,14 @@ pub fn write_answer(out: &mut Output, answer: &Answer) {
         Answer::Type(dtype) => write_type(out, dtype),
         Answer::Raw(value) => write_raw(out, value),
         Answer::Scalar(scalar) => write_scalar(out, scalar),
+        Answer::Bound(bound, is_longer) => write_bound(out, bound, *is_longer),
         Answer::Refused(refusal) => write_refusal(out, refusal),
     }
+}
+
+/// Writes a bound and whether the value is longer, in brackets.
+fn write_bound(out: &mut Output, bound: &Scalar, is_longer: bool) {
+    out.byte(b'[');
+    write_scalar(out, bound);
+    out.word(if is_longer { ", true]" } else { ", false]" });
 }

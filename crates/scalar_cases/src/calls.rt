@@ -1,10 +1,12 @@
 //! The table of calls, and what each is given.
 
+pub mod bounds;
 pub mod makers;
 mod parts;
 pub mod queries;
 mod recorder;
 
+use bounds::BoundCall;
 use makers::{ListCall, Makes, MapCall};
 use queries::{
     Asks, PartCall, ScalarCall, ScalarsCall, TargetCall, TypeCall, TypesCall, ValidCall,
@@ -21,7 +23,7 @@ pub enum Shape {
 }
 
 /// The table of calls: the name of each, and what it is given.
-const CALLS: [(&str, Shape); 26] = [
+const CALLS: [(&str, Shape); 29] = [
     ("same", Shape::Query(Asks::Types(TypesCall::Same))),
     ("equal_types", Shape::Query(Asks::Types(TypesCall::Equal))),
     ("as_nullable", Shape::Maker(Makes::AsNullable)),
@@ -54,6 +56,9 @@ const CALLS: [(&str, Shape); 26] = [
     ("into_nullable", Shape::Maker(Makes::IntoNullable)),
     ("text", Shape::Query(Asks::Scalar(ScalarCall::Text))),
     ("raw_text", Shape::Query(Asks::Value(ValueCall::RawText))),
+    ("lower", Shape::Maker(Makes::Bound(BoundCall::Lower))),
+    ("upper", Shape::Maker(Makes::Bound(BoundCall::Upper))),
+    ("increment", Shape::Maker(Makes::Increment)),
 ];
 
 /// The calls of parts, of which no case is: the lines of a watched run are.

@@ -1,10 +1,12 @@
 //! The arguments of calls: each stands after spaces.
 
-use crate::read::texts::push_name;
+use crate::calls::bounds::TextType;
+use crate::read::numbers::natural;
+use crate::read::texts::{push_name, read_text};
 use crate::read::types::{Fields, read_fields, read_id, read_type};
 use crate::read::values::{read_scalar, read_value};
 use crate::tokens::Tokens;
-use vortex_dtype::{DType, FieldName, Nullability};
+use vortex_dtype::{BufferString, DType, FieldName, Nullability};
 use vortex_value::{Scalar, ScalarValue};
 
 /// How many brackets may be open at one time.
@@ -120,4 +122,35 @@ pub fn variants_input(tokens: &mut Tokens<'_>) -> Fields {
     tokens.spaces();
     tokens.expect(b'(');
     read_fields(tokens, true, b')', ROOM - 1)
+}
+
+/// Reads a length in bytes.
+pub fn length_input(tokens: &mut Tokens<'_>) -> usize {
+    tokens.spaces();
+    match natural(tokens.word()) {
+        Some(length) => length as usize,
+        None => {
+            tokens.bad_line();
+            0
+        }
+    }
+}
+
+/// Reads a text in quotes.
+pub fn text_input(tokens: &mut Tokens<'_>) -> Option<BufferString> {
+    tokens.spaces();
+    read_text(tokens)
+}
+
+/// Reads the type of a text.
+pub fn text_type_input(tokens: &mut Tokens<'_>) -> TextType {
+    tokens.spaces();
+    match tokens.word() {
+        b"string" => TextType::String,
+        b"buffer_string" => TextType::Buffer,
+        _ => {
+            tokens.bad_line();
+            TextType::String
+        }
+    }
 }

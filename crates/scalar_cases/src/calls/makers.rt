@@ -6,16 +6,17 @@ ghost use Rattle.vortex_value.specs.Makers.{IsValidEntry};
 ghost use Rattle.vortex_value.specs.Values.Scalars.{IsValid};
 
 use crate::answers::{Answer, made, made_type, made_union};
+use crate::calls::bounds::{self, BoundCall, TextType};
 use crate::calls::parts;
 use crate::calls::queries::validate;
 use crate::inputs::{
-    entries_input, fields_input, id_input, nullability_input, scalar_input, scalars_input,
-    type_input, value_input, variants_input,
+    entries_input, fields_input, id_input, length_input, nullability_input, scalar_input,
+    scalars_input, text_input, text_type_input, type_input, value_input, variants_input,
 };
 use crate::read::types::Fields;
 use crate::tokens::Tokens;
 use std::alloc::Global;
-use vortex_dtype::{DType, ExtDType, Nullability, UnionVariants, VortexError};
+use vortex_dtype::{BufferString, DType, ExtDType, Nullability, UnionVariants, VortexError};
 use vortex_value::{Scalar, ScalarValue, UnionValue};
 
 /// A call and the inputs that it takes.
@@ -53,6 +54,10 @@ pub enum Maker {
     ExtensionType(DType, DType),
     /// The raw value of a union of this id and child.
     UnionValue(u8, Option<ScalarValue>),
+    /// A bound of the scalar's value at so many bytes, of this nullability.
+    Bound(BoundCall, Scalar, usize, Nullability),
+    /// The text incremented, as text of this type; none where it could not be read.
+    Increment(TextType, Option<BufferString>),
 }
 
 /// The makers of lists.
@@ -88,6 +93,8 @@ pub enum Makes {
     MapType,
     ExtensionType,
     UnionValue,
+    Bound(BoundCall),
+    Increment,
 }
 
 /// Reads what a call is given.
@@ -117,6 +124,15 @@ pub fn read_maker(tokens: &mut Tokens<'_>, makes: Makes) -> Maker {
         }
         Makes::ExtensionType => Maker::ExtensionType(type_input(tokens), type_input(tokens)),
         Makes::UnionValue => Maker::UnionValue(id_input(tokens), value_input(tokens)),
+        Makes::Bound(call) => {
+            let scalar = scalar_input(tokens);
+            let length = length_input(tokens);
+            Maker::Bound(call, scalar, length, nullability_input(tokens))
+        }
+        Makes::Increment => {
+            let text_type = text_type_input(tokens);
+            Maker::Increment(text_type, text_input(tokens))
+        }
     }
 }
 
@@ -139,6 +155,9 @@ pub fn answer_maker(alloc: Global, maker: Maker) -> Answer {
         Maker::MapType(key, value, n) => made_type(DType::map(alloc, key, value, true, n)),
         Maker::ExtensionType(like, storage) => made_type(parts::extension(alloc, like, storage)),
         Maker::UnionValue(id, child) => made_union(UnionValue::new(alloc, id, child)),
+        Maker::Bound(call, scalar, length, n) => bounds::bound(alloc, call, scalar, length, n),
+        Maker::Increment(text_type, Some(text)) => bounds::increment(alloc, text_type, text),
+        Maker::Increment(_, None) => Answer::Refused(VortexError::NotUtf8),
     }
 }
 
