@@ -12,7 +12,7 @@ struct Tour {
     wrong: Result<Scalar, VortexError>,
 }
 
-fn tour(alloc: Global) -> Result<Tour, VortexError> {
+fn take_tour(alloc: Global) -> Result<Tour, VortexError> {
     let i8s = DType::Primitive(PType::I8, Nullability::NonNullable);
     let i16s = DType::Primitive(PType::I16, Nullability::NonNullable);
     let i32s = DType::Primitive(PType::I32, Nullability::NonNullable);
@@ -52,7 +52,7 @@ fn blames_the_first_element(made: &Result<Scalar, VortexError>) -> bool {
 
 #[test]
 fn the_tour(rt: HostRuntime) {
-    let made = tour(rt.alloc()).expect(&rt, "the tour");
+    let made = take_tour(rt.alloc()).expect(&rt, "the tour");
     assert!(rt; made.kept == Scalar::primitive(1000i16, Nullability::NonNullable));
     assert!(rt; matches!(made.refused, Err(VortexError::CannotCast)));
     assert!(rt; blames_the_first_element(&made.wrong));
