@@ -43,10 +43,8 @@ build_refusals
 echo 'read failed' > "$folder/read"
 echo 'write failed' > "$folder/write"
 echo 'out of memory' > "$folder/memory"
-for _line in 1 2 3 4 5 6 7 8 9 10 11 12 13 14 15 16 17 18 19 20; do
-    cat "$top/crates/scalar_rows/stdin" "$top/crates/scalar_rows/stdin" "$top/crates/scalar_rows/stdin"
-    cat "$top/crates/scalar_rows/stdout" >> "$folder/rows"
-    cat "$top/crates/scalar_rows/stdout" >> "$folder/rows"
+for _copy in 1 2 3; do
+    cat "$top/crates/scalar_rows/stdin"
     cat "$top/crates/scalar_rows/stdout" >> "$folder/rows"
 done > "$folder/input"
 
@@ -64,7 +62,7 @@ attempt "$program" < "$folder/input" > /dev/full
 judge 'a full device as the output' 1 "$folder/nothing" "$folder/write"
 
 allocation=1
-while [ "$allocation" -le 100 ]; do
+while [ "$allocation" -le 1000 ]; do
     with_refusal "$allocation"
     if [ ! -e "$folder/refused" ]; then
         break
