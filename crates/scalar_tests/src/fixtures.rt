@@ -22,7 +22,9 @@ pub fn integer(number: i32) -> Raw {
 }
 
 /// A text.
-pub fn text_buffer(rt: &(impl AllocGlobal + Abort), text: &str) -> BufferString {
+pub fn text_buffer(rt: &(impl AllocGlobal + Abort), text: &str) -> BufferString
+    ensures { result ≡ text.now }
+{
     BufferString::from_str(rt.alloc(), text).expect(rt, "a text")
 }
 

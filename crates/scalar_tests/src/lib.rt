@@ -6,6 +6,8 @@
 #[cfg(test)]
 mod borrowed;
 #[cfg(test)]
+mod bounds;
+#[cfg(test)]
 mod columns;
 #[cfg(test)]
 mod fixtures;
