@@ -49,6 +49,14 @@ impl<'a> ScalarRef<'a> {
         }
     }
 
+    /// The type and the raw value, or its absence, borrowed, also where the value is not valid for
+    /// the type. Takes no memory. Of this port alone: views lend their parts by it.
+    pub fn from_parts(dtype: &'a DType, value: Option<&'a ScalarValue>) -> ScalarRef<'a>
+        ensures { IsRefOf (type_of dtype.now) (raw_of (option_copied value.entry)) result }
+    {
+        ScalarRef { dtype, value }
+    }
+
     /// The type and the raw value, or its absence, borrowed as a scalar.
     ///
     /// `Invalid` where the raw value is not valid for the type, with the first breach in reading
