@@ -4,11 +4,12 @@ use crate::write::output::Output;
 use crate::write::refusals::write_refusal;
 use crate::write::texts::write_text;
 use crate::write::types::write_type;
-use crate::write::values::{write_raw, write_scalar};
+use crate::write::values::{write_number, write_raw, write_scalar};
 use std::alloc::Global;
 use std::cmp::Ordering;
 use std::fmt::Display;
 use vortex_dtype::{BufferString, ByteBuffer, DType, VortexError};
+use vortex_pvalue::PValue;
 use vortex_value::{Scalar, ScalarValue, UnionValue};
 
 /// What a call answers.
@@ -18,6 +19,8 @@ pub enum Answer {
     Word(&'static str),
     /// A number.
     Number(usize),
+    /// An integer without its kind.
+    Integer(PValue),
     /// A text.
     Text(String),
     /// A type.
@@ -28,6 +31,14 @@ pub enum Answer {
     Scalar(Scalar),
     /// A bound, and whether the value is longer.
     Bound(Scalar, bool),
+    /// Parts, in order.
+    Parts(Vec<Scalar>),
+    /// An entry of a map.
+    Entry(Scalar, Scalar),
+    /// Entries of a map, in order.
+    Entries(Vec<(Scalar, Scalar)>),
+    /// What is written already.
+    Written(Vec<u8>),
     /// A refusal.
     Refused(VortexError),
 }
@@ -79,6 +90,42 @@ pub fn if_bounded(bounded: Result<Option<(Scalar, bool)>, VortexError>) -> Answe
         Ok(None) => Answer::Word("none"),
         Err(refusal) => Answer::Refused(refusal),
     }
+}
+
+/// The answer of a call that gives all parts of a scalar that is not null.
+pub fn if_parts(parts: Result<Option<Vec<Scalar>>, VortexError>) -> Answer {
+    match parts {
+        Ok(Some(parts)) => Answer::Parts(parts),
+        Ok(None) => Answer::Word("none"),
+        Err(refusal) => Answer::Refused(refusal),
+    }
+}
+
+/// The answer of a call that gives an entry, where there is one.
+pub fn if_entry(entry: Result<Option<(Scalar, Scalar)>, VortexError>) -> Answer {
+    match entry {
+        Ok(Some((key, value))) => Answer::Entry(key, value),
+        Ok(None) => Answer::Word("none"),
+        Err(refusal) => Answer::Refused(refusal),
+    }
+}
+
+/// The answer of what is written.
+pub fn written(out: Output) -> Answer {
+    match out.into_bytes() {
+        Ok(bytes) => Answer::Written(bytes),
+        Err(_) => Answer::Refused(VortexError::OutOfMemory),
+    }
+}
+
+/// The answer of a call whose condition does not hold: it is not made.
+pub fn unmet() -> Answer {
+    Answer::Word("unmet")
+}
+
+/// The answer of a call that does not serve the kind of the scalar.
+pub fn wrong_kind() -> Answer {
+    Answer::Refused(VortexError::WrongKind)
 }
 
 /// The answer of a call that makes a scalar.
@@ -134,11 +181,16 @@ pub fn write_answer(out: &mut Output, answer: &Answer) {
     match answer {
         Answer::Word(word) => out.word(word),
         Answer::Number(number) => out.number(*number as u64),
+        Answer::Integer(number) => write_number(out, *number),
         Answer::Text(text) => write_text(out, text),
         Answer::Type(dtype) => write_type(out, dtype),
         Answer::Raw(value) => write_raw(out, value),
         Answer::Scalar(scalar) => write_scalar(out, scalar),
         Answer::Bound(bound, is_longer) => write_bound(out, bound, *is_longer),
+        Answer::Parts(parts) => write_parts(out, parts),
+        Answer::Entry(key, value) => write_entry(out, key, value),
+        Answer::Entries(entries) => write_entries(out, entries),
+        Answer::Written(bytes) => out.bytes(bytes),
         Answer::Refused(refusal) => write_refusal(out, refusal),
     }
 }
@@ -148,4 +200,33 @@ fn write_bound(out: &mut Output, bound: &Scalar, is_longer: bool) {
     out.byte(b'[');
     write_scalar(out, bound);
     out.word(if is_longer { ", true]" } else { ", false]" });
+}
+
+/// Writes scalars in brackets.
+fn write_parts(out: &mut Output, parts: &[Scalar]) {
+    out.byte(b'[');
+    for (place, part) in parts.iter().enumerate() {
+        out.comma(place);
+        write_scalar(out, part);
+    }
+    out.byte(b']');
+}
+
+/// Writes a key and its value, in brackets.
+fn write_entry(out: &mut Output, key: &Scalar, value: &Scalar) {
+    out.byte(b'[');
+    write_scalar(out, key);
+    out.word(", ");
+    write_scalar(out, value);
+    out.byte(b']');
+}
+
+/// Writes entries in brackets.
+fn write_entries(out: &mut Output, entries: &[(Scalar, Scalar)]) {
+    out.byte(b'[');
+    for (place, entry) in entries.iter().enumerate() {
+        out.comma(place);
+        write_entry(out, &entry.0, &entry.1);
+    }
+    out.byte(b']');
 }

@@ -5,6 +5,8 @@ pub mod makers;
 mod parts;
 pub mod queries;
 mod recorder;
+pub mod takes;
+pub mod views;
 
 use bounds::BoundCall;
 use makers::{ListCall, Makes, MapCall};
@@ -12,6 +14,8 @@ use queries::{
     Asks, PartCall, ScalarCall, ScalarsCall, TargetCall, TypeCall, TypesCall, ValidCall,
     ValidsCall, ValueCall,
 };
+use views::{KindCall, PlaceCall, ViewCall};
+use vortex_pvalue::NumericOperator;
 
 /// What a call is given, and which of the calls that are given it.
 #[derive(Clone, Copy)]
@@ -23,7 +27,7 @@ pub enum Shape {
 }
 
 /// The table of calls: the name of each, and what it is given.
-const CALLS: [(&str, Shape); 29] = [
+const CALLS: [(&str, Shape); 54] = [
     ("same", Shape::Query(Asks::Types(TypesCall::Same))),
     ("equal_types", Shape::Query(Asks::Types(TypesCall::Equal))),
     ("as_nullable", Shape::Maker(Makes::AsNullable)),
@@ -56,6 +60,31 @@ const CALLS: [(&str, Shape); 29] = [
     ("into_nullable", Shape::Maker(Makes::IntoNullable)),
     ("text", Shape::Query(Asks::Scalar(ScalarCall::Text))),
     ("raw_text", Shape::Query(Asks::Value(ValueCall::RawText))),
+    ("element", Shape::Query(Asks::Place(PlaceCall::Element))),
+    ("entry", Shape::Query(Asks::Place(PlaceCall::Entry))),
+    ("field_at", Shape::Query(Asks::Place(PlaceCall::FieldAt))),
+    ("field", Shape::Query(Asks::Field)),
+    ("elements", Shape::Query(Asks::Valid(ValidCall::View(ViewCall::Elements)))),
+    ("fields", Shape::Query(Asks::Valid(ValidCall::View(ViewCall::Fields)))),
+    ("entries", Shape::Query(Asks::Valid(ValidCall::View(ViewCall::Entries)))),
+    ("keys", Shape::Query(Asks::Valid(ValidCall::View(ViewCall::Keys)))),
+    ("values", Shape::Query(Asks::Valid(ValidCall::View(ViewCall::Values)))),
+    ("child", Shape::Query(Asks::Valid(ValidCall::View(ViewCall::Child)))),
+    ("type_id", Shape::Query(Asks::Valid(ValidCall::View(ViewCall::TypeId)))),
+    ("variant_name", Shape::Query(Asks::Valid(ValidCall::View(ViewCall::VariantName)))),
+    ("inner", Shape::Query(Asks::Valid(ValidCall::View(ViewCall::Inner)))),
+    ("storage", Shape::Query(Asks::Valid(ValidCall::View(ViewCall::Storage)))),
+    ("invert", Shape::Query(Asks::Valid(ValidCall::View(ViewCall::Invert)))),
+    ("project_struct", Shape::Query(Asks::ProjectStruct)),
+    ("cast_struct", Shape::Query(Asks::Target(TargetCall::CastStruct))),
+    ("view", Shape::Query(Asks::View)),
+    ("add", Shape::Query(Asks::Valids(ValidsCall::Arithmetic(NumericOperator::Add)))),
+    ("sub", Shape::Query(Asks::Valids(ValidsCall::Arithmetic(NumericOperator::Sub)))),
+    ("mul", Shape::Query(Asks::Valids(ValidsCall::Arithmetic(NumericOperator::Mul)))),
+    ("div", Shape::Query(Asks::Valids(ValidsCall::Arithmetic(NumericOperator::Div)))),
+    ("reinterpret", Shape::Query(Asks::Kind(KindCall::Reinterpret))),
+    ("as", Shape::Query(Asks::Kind(KindCall::As))),
+    ("take", Shape::Query(Asks::Take)),
     ("lower", Shape::Maker(Makes::Bound(BoundCall::Lower))),
     ("upper", Shape::Maker(Makes::Bound(BoundCall::Upper))),
     ("increment", Shape::Maker(Makes::Increment)),

@@ -1,12 +1,14 @@
 //! The arguments of calls: each stands after spaces.
 
 use crate::calls::bounds::TextType;
-use crate::read::numbers::natural;
+use crate::calls::takes::{MOST_VECTORS, RustLeaf, RustType};
+use crate::calls::views::View;
+use crate::read::numbers::{kind_named, natural};
 use crate::read::texts::{push_name, read_text};
 use crate::read::types::{Fields, read_fields, read_id, read_type};
 use crate::read::values::{read_scalar, read_value};
 use crate::tokens::Tokens;
-use vortex_dtype::{BufferString, DType, FieldName, Nullability};
+use vortex_dtype::{BufferString, DType, FieldName, Nullability, PType};
 use vortex_value::{Scalar, ScalarValue};
 
 /// How many brackets may be open at one time.
@@ -124,7 +126,7 @@ pub fn variants_input(tokens: &mut Tokens<'_>) -> Fields {
     read_fields(tokens, true, b')', ROOM - 1)
 }
 
-/// Reads a length in bytes.
+/// Reads a length in bytes, or a place.
 pub fn length_input(tokens: &mut Tokens<'_>) -> usize {
     tokens.spaces();
     match natural(tokens.word()) {
@@ -152,5 +154,84 @@ pub fn text_type_input(tokens: &mut Tokens<'_>) -> TextType {
             tokens.bad_line();
             TextType::String
         }
+    }
+}
+
+/// Reads a kind of integer.
+pub fn kind_input(tokens: &mut Tokens<'_>) -> PType {
+    tokens.spaces();
+    match kind_named(tokens.word()) {
+        Some(kind) => kind,
+        None => {
+            tokens.bad_line();
+            PType::U8
+        }
+    }
+}
+
+/// Reads the name of a view.
+pub fn view_input(tokens: &mut Tokens<'_>) -> View {
+    tokens.spaces();
+    match tokens.word() {
+        b"BoolScalar" => View::Bool,
+        b"Utf8Scalar" => View::Utf8,
+        b"BinaryScalar" => View::Binary,
+        b"PrimitiveScalar" => View::Primitive,
+        b"ListScalar" => View::List,
+        b"MapScalar" => View::Map,
+        b"UnionScalar" => View::Union,
+        _ => {
+            tokens.bad_line();
+            View::Bool
+        }
+    }
+}
+
+/// Reads the type of a Rust value: vectors of what may be optional.
+pub fn rust_input(tokens: &mut Tokens<'_>) -> RustType {
+    let mut vectors = 0u32;
+    let mut word = rust_word(tokens);
+    for _ in 0..=tokens.left() {
+        if word != b"vec" {
+            break;
+        }
+        vectors = vectors.saturating_add(1);
+        word = rust_word(tokens);
+    }
+    if vectors > MOST_VECTORS {
+        tokens.bad_line();
+    }
+    let is_optional = word == b"option";
+    if is_optional {
+        word = rust_word(tokens);
+    }
+    let leaf = rust_leaf(tokens, word);
+    RustType {
+        vectors,
+        is_optional,
+        leaf,
+    }
+}
+
+/// Takes a word of a Rust type.
+fn rust_word<'a>(tokens: &mut Tokens<'a>) -> &'a [u8] {
+    tokens.spaces();
+    tokens.word()
+}
+
+/// The Rust type of this name that holds no other.
+fn rust_leaf(tokens: &mut Tokens<'_>, word: &[u8]) -> RustLeaf {
+    match word {
+        b"bool" => RustLeaf::Bool,
+        b"usize" => RustLeaf::Usize,
+        b"string" => RustLeaf::Text,
+        b"bytes" => RustLeaf::Bytes,
+        _ => match kind_named(word) {
+            Some(kind) => RustLeaf::Number(kind),
+            None => {
+                tokens.bad_line();
+                RustLeaf::Bool
+            }
+        },
     }
 }

@@ -19,6 +19,12 @@ pub fn same_query(a: &Query, b: &Query) -> bool {
         (Query::Target(_, v, w), Query::Target(_, x, y)) => same_scalar(v, x) && w == y,
         (Query::Value(_, Some(x)), Query::Value(_, Some(y))) => same_value(x, y),
         (Query::Value(_, None), Query::Value(_, None)) => true,
+        (Query::View(_, x), Query::View(_, y)) => same_scalar(x, y),
+        (Query::Place(_, x, _), Query::Place(_, y, _)) => same_scalar(x, y),
+        (Query::Field(v, w), Query::Field(x, y)) => same_scalar(v, x) && w == y,
+        (Query::ProjectStruct(v, w), Query::ProjectStruct(x, y)) => same_scalar(v, x) && w == y,
+        (Query::Kind(_, x, _), Query::Kind(_, y, _)) => same_scalar(x, y),
+        (Query::Take(_, x), Query::Take(_, y)) => same_scalar(x, y),
         _ => false,
     }
 }

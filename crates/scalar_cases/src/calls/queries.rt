@@ -9,10 +9,16 @@ use crate::answers::{
 };
 use crate::calls::parts;
 use crate::calls::recorder::fed;
-use crate::inputs::{names_input, scalar_input, type_input, value_input};
+use crate::calls::takes::{self, RustType};
+use crate::calls::views::{self, KindCall, PlaceCall, View, ViewCall};
+use crate::inputs::{
+    kind_input, length_input, names_input, rust_input, scalar_input, text_input, type_input,
+    value_input, view_input,
+};
 use crate::tokens::Tokens;
 use std::alloc::Global;
-use vortex_dtype::{BufferString, ByteBuffer, DType, FieldName, NativeDType, VortexError};
+use vortex_dtype::{BufferString, ByteBuffer, DType, FieldName, NativeDType, PType, VortexError};
+use vortex_pvalue::NumericOperator;
 use vortex_value::{Scalar, ScalarRef, ScalarValue};
 
 /// A call and the inputs that it borrows.
@@ -40,6 +46,18 @@ pub enum Query {
     Target(TargetCall, Scalar, DType),
     /// A call of an optional raw value.
     Value(ValueCall, Option<ScalarValue>),
+    /// The maker of a view, of a scalar that need not be valid.
+    View(View, Scalar),
+    /// A call of a valid scalar and a place.
+    Place(PlaceCall, Scalar, usize),
+    /// The field of a valid struct by its name; none where it could not be read.
+    Field(Scalar, Option<BufferString>),
+    /// The fields of a valid struct by these names.
+    ProjectStruct(Scalar, Vec<FieldName>),
+    /// A call of a valid scalar and a kind of integer.
+    Kind(KindCall, Scalar, PType),
+    /// The Rust value of a scalar, which need not be valid.
+    Take(RustType, Scalar),
 }
 
 /// The calls of a type.
@@ -92,18 +110,21 @@ pub enum ScalarsCall {
 pub enum ValidCall {
     IsZero,
     Size,
+    View(ViewCall),
 }
 
 /// The calls of two valid scalars.
 #[derive(Clone, Copy)]
 pub enum ValidsCall {
     Order,
+    Arithmetic(NumericOperator),
 }
 
 /// The calls of a valid scalar and a type.
 #[derive(Clone, Copy)]
 pub enum TargetCall {
     Cast,
+    CastStruct,
 }
 
 /// The calls of an optional raw value.
@@ -134,6 +155,12 @@ pub enum Asks {
     Valids(ValidsCall),
     Target(TargetCall),
     Value(ValueCall),
+    View,
+    Place(PlaceCall),
+    Field,
+    ProjectStruct,
+    Kind(KindCall),
+    Take,
 }
 
 /// Reads what a call is given.
@@ -150,6 +177,12 @@ pub fn read_query(tokens: &mut Tokens<'_>, asks: Asks) -> Query {
         Asks::Valids(call) => Query::Valids(call, scalar_input(tokens), scalar_input(tokens)),
         Asks::Target(call) => Query::Target(call, scalar_input(tokens), type_input(tokens)),
         Asks::Value(call) => Query::Value(call, value_input(tokens)),
+        Asks::View => Query::View(view_input(tokens), scalar_input(tokens)),
+        Asks::Place(call) => Query::Place(call, scalar_input(tokens), length_input(tokens)),
+        Asks::Field => Query::Field(scalar_input(tokens), text_input(tokens)),
+        Asks::ProjectStruct => Query::ProjectStruct(scalar_input(tokens), names_input(tokens)),
+        Asks::Kind(call) => Query::Kind(call, scalar_input(tokens), kind_input(tokens)),
+        Asks::Take => Query::Take(rust_input(tokens), scalar_input(tokens)),
     }
 }
 
@@ -167,6 +200,12 @@ pub fn answer_query(alloc: Global, query: &Query) -> Answer {
         Query::Valids(call, first, second) => of_valids(alloc, *call, first, second),
         Query::Target(call, scalar, target) => of_target(alloc, *call, scalar, target),
         Query::Value(call, value) => of_value(alloc, *call, value),
+        Query::View(view, scalar) => views::view(alloc, *view, scalar),
+        Query::Place(call, scalar, place) => of_place(alloc, *call, scalar, *place),
+        Query::Field(scalar, name) => of_field(alloc, scalar, name),
+        Query::ProjectStruct(scalar, names) => project_struct(alloc, scalar, names),
+        Query::Kind(call, scalar, kind) => of_kind(alloc, *call, scalar, *kind),
+        Query::Take(rust, scalar) => takes::take(alloc, *rust, scalar),
     }
 }
 
@@ -251,6 +290,7 @@ fn of_valid(alloc: Global, call: ValidCall, scalar: &Scalar) -> Answer {
         Ok(()) => match call {
             ValidCall::IsZero => truth_if_any(scalar.is_zero()),
             ValidCall::Size => Answer::Number(scalar.approx_nbytes()),
+            ValidCall::View(call) => views::of_view(alloc, call, scalar),
         },
         Err(refusal) => Answer::Refused(refusal),
     }
@@ -263,6 +303,7 @@ fn of_valids(alloc: Global, call: ValidsCall, first: &Scalar, second: &Scalar) -
     match validate(alloc, second) {
         Ok(()) => match call {
             ValidsCall::Order => order(first.partial_cmp(second)),
+            ValidsCall::Arithmetic(operator) => views::arithmetic(operator, first, second),
         },
         Err(refusal) => Answer::Refused(refusal),
     }
@@ -279,7 +320,37 @@ fn of_target(alloc: Global, call: TargetCall, scalar: &Scalar, target: &DType) -
     match validate(alloc, scalar) {
         Ok(()) => match call {
             TargetCall::Cast => made(scalar.cast(alloc, target)),
+            TargetCall::CastStruct => views::cast_struct(alloc, scalar, target),
         },
+        Err(refusal) => Answer::Refused(refusal),
+    }
+}
+
+fn of_place(alloc: Global, call: PlaceCall, scalar: &Scalar, place: usize) -> Answer {
+    match validate(alloc, scalar) {
+        Ok(()) => views::of_place(alloc, call, scalar, place),
+        Err(refusal) => Answer::Refused(refusal),
+    }
+}
+
+fn of_field(alloc: Global, scalar: &Scalar, name: &Option<BufferString>) -> Answer {
+    match (validate(alloc, scalar), name) {
+        (Ok(()), Some(name)) => views::field(alloc, scalar, name.as_str()),
+        (Ok(()), None) => Answer::Refused(VortexError::NotUtf8),
+        (Err(refusal), _) => Answer::Refused(refusal),
+    }
+}
+
+fn project_struct(alloc: Global, scalar: &Scalar, names: &[FieldName]) -> Answer {
+    match validate(alloc, scalar) {
+        Ok(()) => views::project(alloc, scalar, names),
+        Err(refusal) => Answer::Refused(refusal),
+    }
+}
+
+fn of_kind(alloc: Global, call: KindCall, scalar: &Scalar, kind: PType) -> Answer {
+    match validate(alloc, scalar) {
+        Ok(()) => views::of_kind(call, scalar, kind),
         Err(refusal) => Answer::Refused(refusal),
     }
 }

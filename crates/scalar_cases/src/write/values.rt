@@ -7,8 +7,8 @@ use itoa::Buffer;
 use vortex_pvalue::PValue;
 use vortex_value::{Scalar, ScalarValue, UnionValue};
 
-/// Writes an integer and its kind.
-fn write_integer(out: &mut Output, number: PValue) {
+/// Writes an integer without its kind.
+pub fn write_number(out: &mut Output, number: PValue) {
     let mut buffer = Buffer::new();
     out.word(match number {
         PValue::U8(n) => buffer.format(n),
@@ -20,6 +20,11 @@ fn write_integer(out: &mut Output, number: PValue) {
         PValue::I32(n) => buffer.format(n),
         PValue::I64(n) => buffer.format(n),
     });
+}
+
+/// Writes an integer and its kind.
+fn write_integer(out: &mut Output, number: PValue) {
+    write_number(out, number);
     out.word(kind_name(number.ptype()));
 }
 
