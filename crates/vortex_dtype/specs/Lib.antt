@@ -3,6 +3,7 @@ pub mod Feeds
 pub mod Kinds
 pub mod Laws
 pub mod Lemmas
+pub mod Memory
 pub mod Names
 pub mod Parts
 pub mod Refusals

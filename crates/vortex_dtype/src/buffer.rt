@@ -1,13 +1,13 @@
 //! Shared, immutable bytes and texts. A contract sees each as its list of bytes.
 
-ghost use Rattle.std.specs.Prelude.{◌≡◌, ◌≤◌, ◌==◌, [], length, slice_range, IsUtf8, MatchResult, nat_eq, refl, Some};
+ghost use Rattle.std.specs.Prelude.{◌≡◌, ◌≤◌, ◌==◌, [], length, slice_range, IsUtf8, nat_eq, refl, Some};
 ghost use Rattle.std.specs.Ordering.{nat_cmp};
 ghost use Rattle.std.specs.Hash as fed;
 ghost use Rattle.std.specs.Cmp.Lexicographic.{pointwise, slice_cmp, nat_list_eq_equiv, nat_list_cmp_total, texts_ties, texts_po};
 ghost use Rattle.std.specs.Cmp.{partial_equiv_from_equiv};
 ghost use Rattle.std.specs.Cmp.Rules.{hashing};
 ghost use Rattle.std.proofs.Common.{rules};
-ghost use Rattle.vortex_dtype.specs.declared.error.VortexError.TheVariants.{OutOfMemory};
+ghost use Rattle.vortex_dtype.specs.Memory.{GivesOrNoMemory};
 
 use crate::error::VortexError;
 use bytes::Bytes;
@@ -41,7 +41,7 @@ impl ByteBuffer {
     ///
     /// Ports `ByteBuffer::empty`.
     pub fn empty(alloc: Global) -> Result<ByteBuffer, VortexError>
-        ensures { MatchResult result (λ buffer. buffer ≡ []) (λ e. e ≡ OutOfMemory) }
+        ensures { GivesOrNoMemory (λ buffer. buffer ≡ []) result }
     {
         ByteBuffer::from_slice(alloc, &[])
     }
@@ -50,7 +50,7 @@ impl ByteBuffer {
     ///
     /// Ports `ByteBuffer::copy_from`.
     pub fn from_slice(alloc: Global, bytes: &[u8]) -> Result<ByteBuffer, VortexError>
-        ensures { MatchResult result (λ buffer. buffer ≡ bytes.now) (λ e. e ≡ OutOfMemory) }
+        ensures { GivesOrNoMemory (λ buffer. buffer ≡ bytes.now) result }
     {
         let bytes = Bytes::copy_from_slice(alloc, bytes)?;
         Ok(ByteBuffer { bytes, alloc })
@@ -97,9 +97,8 @@ impl ByteBuffer {
     pub fn slice(&self, range: Range<usize>) -> Result<ByteBuffer, VortexError>
         requires ordered { range.start ≤ range.end }
         requires within { range.end ≤ length self.now }
-        ensures { MatchResult result
-            (λ buffer. buffer ≡ slice_range self.now range.start range.end)
-            (λ e. e ≡ OutOfMemory) }
+        ensures { GivesOrNoMemory
+            (λ buffer. buffer ≡ slice_range self.now range.start range.end) result }
     {
         let part = &self.as_slice()[range.start..range.end];
         let bytes = match self.bytes.slice(range) {
@@ -117,7 +116,7 @@ impl ByteBuffer {
     ///
     /// Ports `ByteBuffer::clone`.
     pub fn clone(&self) -> Result<ByteBuffer, VortexError>
-        ensures { MatchResult result (λ buffer. buffer ≡ self.now) (λ e. e ≡ OutOfMemory) }
+        ensures { GivesOrNoMemory (λ buffer. buffer ≡ self.now) result }
     {
         self.slice(0..self.len())
     }
@@ -194,7 +193,7 @@ impl BufferString {
     ///
     /// Ports `BufferString::empty`.
     pub fn empty(alloc: Global) -> Result<BufferString, VortexError>
-        ensures { MatchResult result (λ string. string ≡ []) (λ e. e ≡ OutOfMemory) }
+        ensures { GivesOrNoMemory (λ string. string ≡ []) result }
     {
         BufferString::from_str(alloc, "")
     }
@@ -203,7 +202,7 @@ impl BufferString {
     ///
     /// Ports `BufferString::from`, of a `&str`.
     pub fn from_str(alloc: Global, text: &str) -> Result<BufferString, VortexError>
-        ensures { MatchResult result (λ string. string ≡ text.now) (λ e. e ≡ OutOfMemory) }
+        ensures { GivesOrNoMemory (λ string. string ≡ text.now) result }
     {
         let buffer = ByteBuffer::from_slice(alloc, text.as_bytes())?;
         Ok(BufferString { buffer })
@@ -263,7 +262,7 @@ impl BufferString {
     ///
     /// Ports `BufferString::clone`.
     pub fn clone(&self) -> Result<BufferString, VortexError>
-        ensures { MatchResult result (λ string. string ≡ self.now) (λ e. e ≡ OutOfMemory) }
+        ensures { GivesOrNoMemory (λ string. string ≡ self.now) result }
     {
         let buffer = self.buffer.clone()?;
         Ok(BufferString { buffer })

@@ -1,8 +1,8 @@
 //! The names of fields and variants.
 
-ghost use Rattle.std.specs.Prelude.{◌≡◌, MatchResult, length, option_map, slice_get};
+ghost use Rattle.std.specs.Prelude.{◌≡◌, length, option_map, slice_get};
 ghost use Rattle.std.specs.Slice.Iter.{iter_rest};
-ghost use Rattle.vortex_dtype.specs.declared.error.VortexError.TheVariants.{OutOfMemory};
+ghost use Rattle.vortex_dtype.specs.Memory.{GivesOrNoMemory};
 
 use crate::buffer::BufferString;
 use crate::error::VortexError;
@@ -52,7 +52,7 @@ impl FieldName {
     ///
     /// Ports `FieldName::clone`.
     pub fn clone(&self, _alloc: Global) -> Result<FieldName, VortexError>
-        ensures { MatchResult result (λ name. name ≡ self.now) (λ e. e ≡ OutOfMemory) }
+        ensures { GivesOrNoMemory (λ name. name ≡ self.now) result }
     {
         let text = self.text.clone()?;
         Ok(FieldName { text })

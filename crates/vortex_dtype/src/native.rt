@@ -1,9 +1,9 @@
 //! The type of the column that values of a Rust type make.
 
-ghost use Rattle.std.specs.Prelude.{◌≡◌, MatchResult};
+ghost use Rattle.std.specs.Prelude.{◌≡◌};
+ghost use Rattle.vortex_dtype.specs.Memory.{GivesOrNoMemory};
 ghost use Rattle.vortex_dtype.specs.TypeTree.{TypeTree, as_nullable, bool_type, integer_type, utf8_type, binary_type, list_type};
 ghost use Rattle.vortex_dtype.specs.TypeOf.{type_of};
-ghost use Rattle.vortex_dtype.specs.declared.error.VortexError.TheVariants.{OutOfMemory};
 ghost use Rattle.vortex_dtype.specs.declared.kinds.Nullability.TheVariants.{NonNullable};
 ghost use Rattle.vortex_dtype.specs.declared.kinds.PType.TheVariants.{U8, U16, U32, U64, I8, I16, I32, I64};
 
@@ -23,9 +23,7 @@ pub trait NativeDType {
     ///
     /// Ports `NativeDType::dtype`.
     fn dtype(alloc: Global) -> Result<DType, VortexError>
-        ensures { MatchResult result
-            (λ dtype. type_of dtype ≡ native_type)
-            (λ e. e ≡ OutOfMemory) };
+        ensures { GivesOrNoMemory (λ dtype. type_of dtype ≡ native_type) result };
 }
 
 /// Truth values, without nulls.
@@ -132,9 +130,7 @@ impl NativeDType for &str {
     ghost native_type = { utf8_type NonNullable };
 
     fn dtype(_alloc: Global) -> Result<DType, VortexError>
-        ensures { MatchResult result
-            (λ dtype. type_of dtype ≡ utf8_type NonNullable)
-            (λ e. e ≡ OutOfMemory) }
+        ensures { GivesOrNoMemory (λ dtype. type_of dtype ≡ utf8_type NonNullable) result }
     {
         Ok(DType::Utf8(Nullability::NonNullable))
     }
@@ -163,9 +159,7 @@ impl NativeDType for &[u8] {
     ghost native_type = { binary_type NonNullable };
 
     fn dtype(_alloc: Global) -> Result<DType, VortexError>
-        ensures { MatchResult result
-            (λ dtype. type_of dtype ≡ binary_type NonNullable)
-            (λ e. e ≡ OutOfMemory) }
+        ensures { GivesOrNoMemory (λ dtype. type_of dtype ≡ binary_type NonNullable) result }
     {
         Ok(DType::Binary(Nullability::NonNullable))
     }

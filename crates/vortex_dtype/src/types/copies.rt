@@ -1,6 +1,7 @@
 //! Copies of types and of their parts.
 
 ghost use Rattle.std.specs.Prelude.{◌≡◌, MatchResult, map};
+ghost use Rattle.vortex_dtype.specs.Memory.{GivesOrNoMemory};
 ghost use Rattle.vortex_dtype.specs.TypeTree.{IsFlat};
 ghost use Rattle.vortex_dtype.specs.TypeOf.{type_of, fields_of, variants_of, map_of, ext_of};
 ghost use Rattle.vortex_dtype.specs.declared.error.VortexError.TheVariants.{OutOfMemory};
@@ -12,7 +13,7 @@ use std::alloc::Global;
 
 /// The same names.
 fn copy_names(alloc: Global, names: &[FieldName]) -> Result<Vec<FieldName>, VortexError>
-    ensures { MatchResult result (λ copies. copies.items ≡ names.now) (λ e. e ≡ OutOfMemory) }
+    ensures { GivesOrNoMemory (λ copies. copies.items ≡ names.now) result }
 {
     let mut copies = Vec::with_capacity(alloc, names.len())?;
     for name in names {
@@ -24,7 +25,7 @@ fn copy_names(alloc: Global, names: &[FieldName]) -> Result<Vec<FieldName>, Vort
 /// The same type, in a box of its own.
 #[cycle(copy)]
 fn copy_box(alloc: Global, dtype: &DType) -> Result<Box<DType>, VortexError>
-    ensures { MatchResult result (λ c. type_of c.value ≡ type_of dtype.now) (λ e. e ≡ OutOfMemory) }
+    ensures { GivesOrNoMemory (λ c. type_of c.value ≡ type_of dtype.now) result }
 {
     Ok(Box::new(alloc, copy(alloc, dtype)?)?)
 }
@@ -32,9 +33,7 @@ fn copy_box(alloc: Global, dtype: &DType) -> Result<Box<DType>, VortexError>
 /// The same types.
 #[cycle(copy)]
 fn copy_all(alloc: Global, dtypes: &[DType]) -> Result<Vec<DType>, VortexError>
-    ensures { MatchResult result
-        (λ copies. map type_of copies.items ≡ map type_of dtypes.now)
-        (λ e. e ≡ OutOfMemory) }
+    ensures { GivesOrNoMemory (λ copies. map type_of copies.items ≡ map type_of dtypes.now) result }
 {
     let mut copies = Vec::with_capacity(alloc, dtypes.len())?;
     for dtype in dtypes {
@@ -71,7 +70,7 @@ pub(super) fn copy(alloc: Global, dtype: &DType) -> Result<DType, VortexError>
 /// The same map parts.
 #[cycle(copy)]
 pub(super) fn copy_map(alloc: Global, map: &MapDType) -> Result<MapDType, VortexError>
-    ensures { MatchResult result (λ c. map_of c ≡ map_of map.now) (λ e. e ≡ OutOfMemory) }
+    ensures { GivesOrNoMemory (λ c. map_of c ≡ map_of map.now) result }
 {
     Ok(MapDType {
         key: copy_box(alloc, &map.key)?,
@@ -83,7 +82,7 @@ pub(super) fn copy_map(alloc: Global, map: &MapDType) -> Result<MapDType, Vortex
 /// The same fields.
 #[cycle(copy)]
 pub(super) fn copy_fields(alloc: Global, fields: &StructFields) -> Result<StructFields, VortexError>
-    ensures { MatchResult result (λ c. fields_of c ≡ fields_of fields.now) (λ e. e ≡ OutOfMemory) }
+    ensures { GivesOrNoMemory (λ c. fields_of c ≡ fields_of fields.now) result }
 {
     Ok(StructFields {
         names: copy_names(alloc, &fields.names)?,
@@ -97,9 +96,7 @@ pub(super) fn copy_variants(
     alloc: Global,
     variants: &UnionVariants,
 ) -> Result<UnionVariants, VortexError>
-    ensures { MatchResult result
-        (λ c. variants_of c ≡ variants_of variants.now)
-        (λ e. e ≡ OutOfMemory) }
+    ensures { GivesOrNoMemory (λ c. variants_of c ≡ variants_of variants.now) result }
 {
     Ok(UnionVariants {
         names: copy_names(alloc, &variants.names)?,
@@ -111,7 +108,7 @@ pub(super) fn copy_variants(
 /// The same extension.
 #[cycle(copy)]
 pub(super) fn copy_extension(alloc: Global, extension: &ExtDType) -> Result<ExtDType, VortexError>
-    ensures { MatchResult result (λ c. ext_of c ≡ ext_of extension.now) (λ e. e ≡ OutOfMemory) }
+    ensures { GivesOrNoMemory (λ c. ext_of c ≡ ext_of extension.now) result }
 {
     Ok(ExtDType {
         id: extension.id.clone()?,

@@ -1,6 +1,7 @@
 //! Extension types: a name and metadata over a storage type.
 
 ghost use Rattle.std.specs.Prelude.{◌≡◌, MatchResult};
+ghost use Rattle.vortex_dtype.specs.Memory.{GivesOrNoMemory};
 ghost use Rattle.vortex_dtype.specs.Parts.{nullable_extension};
 ghost use Rattle.vortex_dtype.specs.TypeOf.{type_of, ext_of};
 ghost use Rattle.vortex_dtype.specs.declared.error.VortexError.TheVariants.{OutOfMemory};
@@ -65,9 +66,7 @@ impl ExtDType {
     ///
     /// Ports `ExtDType::clone`.
     pub fn clone(&self, alloc: Global) -> Result<ExtDType, VortexError>
-        ensures { MatchResult result
-            (λ copy. ext_of copy ≡ ext_of self.now)
-            (λ e. e ≡ OutOfMemory) }
+        ensures { GivesOrNoMemory (λ copy. ext_of copy ≡ ext_of self.now) result }
     {
         copy_extension(alloc, self)
     }

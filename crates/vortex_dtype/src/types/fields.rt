@@ -1,12 +1,12 @@
 //! The fields of structs.
 
-ghost use Rattle.std.specs.Prelude.{◌≡◌, IfOk, IsOkAnd, MatchResult, length, option_map, slice_get, position, map, false};
+ghost use Rattle.std.specs.Prelude.{◌≡◌, IfOk, IsOkAnd, length, option_map, slice_get, position, map, false};
 ghost use Rattle.std.specs.Str.{bytes_eq};
+ghost use Rattle.vortex_dtype.specs.Memory.{GivesOrNoMemory};
 ghost use Rattle.vortex_dtype.specs.Names.{names_in};
 ghost use Rattle.vortex_dtype.specs.Parts.{IsProjection, field_index, type_named};
 ghost use Rattle.vortex_dtype.specs.Refusals.{RefusesOrNoMemory, misses_a_name, project_cause};
 ghost use Rattle.vortex_dtype.specs.TypeOf.{type_of, fields_of};
-ghost use Rattle.vortex_dtype.specs.declared.error.VortexError.TheVariants.{OutOfMemory};
 
 use super::copies::copy_fields;
 use super::{DType, StructFields};
@@ -106,9 +106,8 @@ impl StructFields {
     /// The fields of these names, of which each is known to be a field's.
     fn project_found(&self, alloc: Global, names: &[FieldName]) -> Result<StructFields, VortexError>
         requires { misses_a_name (fields_of self.now) names.now ≡ false }
-        ensures { MatchResult result
-            (λ fields. IsProjection (fields_of self.now) names.now (fields_of fields))
-            (λ e. e ≡ OutOfMemory) }
+        ensures { GivesOrNoMemory
+            (λ fields. IsProjection (fields_of self.now) names.now (fields_of fields)) result }
     {
         let mut kept = Vec::with_capacity(alloc, names.len())?;
         let mut dtypes = Vec::with_capacity(alloc, names.len())?;
@@ -135,9 +134,7 @@ impl StructFields {
     ///
     /// Ports `StructFields::clone`.
     pub fn clone(&self, alloc: Global) -> Result<StructFields, VortexError>
-        ensures { MatchResult result
-            (λ copy. fields_of copy ≡ fields_of self.now)
-            (λ e. e ≡ OutOfMemory) }
+        ensures { GivesOrNoMemory (λ copy. fields_of copy ≡ fields_of self.now) result }
     {
         copy_fields(alloc, self)
     }

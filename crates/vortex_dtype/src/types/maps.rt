@@ -1,9 +1,9 @@
 //! The key and value types of maps.
 
-ghost use Rattle.std.specs.Prelude.{◌≡◌, IfOk, MatchResult};
+ghost use Rattle.std.specs.Prelude.{◌≡◌, IfOk};
+ghost use Rattle.vortex_dtype.specs.Memory.{GivesOrNoMemory};
 ghost use Rattle.vortex_dtype.specs.Refusals.{RefusesOrNoMemory, key_cause};
 ghost use Rattle.vortex_dtype.specs.TypeOf.{type_of, map_of};
-ghost use Rattle.vortex_dtype.specs.declared.error.VortexError.TheVariants.{OutOfMemory};
 
 use super::copies::copy_map;
 use super::{DType, MapDType};
@@ -68,9 +68,7 @@ impl MapDType {
     ///
     /// Ports `MapDType::clone`.
     pub fn clone(&self, alloc: Global) -> Result<MapDType, VortexError>
-        ensures { MatchResult result
-            (λ copy. map_of copy ≡ map_of self.now)
-            (λ e. e ≡ OutOfMemory) }
+        ensures { GivesOrNoMemory (λ copy. map_of copy ≡ map_of self.now) result }
     {
         copy_map(alloc, self)
     }

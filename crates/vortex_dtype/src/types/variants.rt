@@ -1,10 +1,10 @@
 //! The variants of unions, and their ids.
 
-ghost use Rattle.std.specs.Prelude.{◌≡◌, ◌==◌, ◌<◌, IfOk, MatchResult, Some, length, option_map, position, slice_get, map};
+ghost use Rattle.std.specs.Prelude.{◌≡◌, ◌==◌, ◌<◌, IfOk, Some, length, option_map, position, slice_get, map};
+ghost use Rattle.vortex_dtype.specs.Memory.{GivesOrNoMemory};
 ghost use Rattle.vortex_dtype.specs.Names.{names_in};
 ghost use Rattle.vortex_dtype.specs.Refusals.{RefusesExactly, repeats, variants_cause};
 ghost use Rattle.vortex_dtype.specs.TypeOf.{type_of, variants_of};
-ghost use Rattle.vortex_dtype.specs.declared.error.VortexError.TheVariants.{OutOfMemory};
 
 use super::copies::copy_variants;
 use super::fields::dtype_at;
@@ -102,9 +102,7 @@ impl UnionVariants {
     ///
     /// Ports `UnionVariants::clone`.
     pub fn clone(&self, alloc: Global) -> Result<UnionVariants, VortexError>
-        ensures { MatchResult result
-            (λ copy. variants_of copy ≡ variants_of self.now)
-            (λ e. e ≡ OutOfMemory) }
+        ensures { GivesOrNoMemory (λ copy. variants_of copy ≡ variants_of self.now) result }
     {
         copy_variants(alloc, self)
     }
