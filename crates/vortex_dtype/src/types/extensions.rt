@@ -1,10 +1,9 @@
 //! Extension types: a name and metadata over a storage type.
 
-ghost use Rattle.std.specs.Prelude.{◌≡◌, MatchResult};
+ghost use Rattle.std.specs.Prelude.{◌≡◌};
 ghost use Rattle.vortex_dtype.specs.Memory.{GivesOrNoMemory};
 ghost use Rattle.vortex_dtype.specs.Parts.{nullable_extension};
 ghost use Rattle.vortex_dtype.specs.TypeOf.{type_of, ext_of};
-ghost use Rattle.vortex_dtype.specs.declared.error.VortexError.TheVariants.{OutOfMemory};
 
 use super::copies::copy_extension;
 use super::{DType, ExtDType};
@@ -23,10 +22,8 @@ impl ExtDType {
         metadata: ByteBuffer,
         storage: DType,
     ) -> Result<ExtDType, VortexError>
-        ensures { MatchResult result
-            (λ extension. ext_of extension
-            ≡ record { id = id; metadata = metadata; storage = type_of storage })
-            (λ e. e ≡ OutOfMemory) }
+        ensures { GivesOrNoMemory (λ extension. ext_of extension
+            ≡ record { id = id; metadata = metadata; storage = type_of storage }) result }
     {
         Ok(ExtDType {
             id,
