@@ -1,12 +1,11 @@
 -- What the makers of scalars make is valid.
 use Rattle.std.proofs.Common.{◌≡◌, ℕ, ◌==◌, Bool, true, false, if◌then◌else◌, List, Option, Some, None, refl, ap, ◌∙◌, subst}
-use Rattle.std.specs.Prelude.{option_and_then, position, slice_get}
+use Rattle.std.specs.Prelude.{position}
 use Rattle.vortex_dtype.specs.TypeEquality.{tree_eq}
 use Rattle.vortex_dtype.specs.Lemmas.TypeLaws.{tree_eq-Decides}
 use Rattle.vortex_dtype.specs.TypeOf.{VariantParts, as_type_trees, type_of}
 use Rattle.vortex_dtype.specs.TypeTree.{TypeTree, extension_type, IsNullable, as_nullable}
 use Rattle.vortex_dtype.specs.declared.error.VortexError.{VortexError}
-use Rattle.vortex_dtype.specs.declared.error.VortexError.TheVariants.{UnknownTypeId}
 use Rattle.vortex_dtype.specs.declared.types.DType.{DType}
 use Rattle.vortex_value.specs.Makers.{child_cause, union_cause, tagged_cause}
 use Rattle.vortex_value.specs.Values.RawOf.{raw_of}
@@ -14,7 +13,6 @@ use Rattle.vortex_value.specs.Values.RawTree.{RawTree, absent}
 use Rattle.vortex_value.specs.Values.Scalars.{IsValid}
 use Rattle.vortex_value.specs.Validity.{type_with, HasType, Valid}
 use Rattle.vortex_value.specs.declared.values.ScalarValue.{ScalarValue}
-use Rattle.vortex_value.proofs.Variants.{type_with-position}
 
 -- nulls
 
@@ -38,12 +36,6 @@ child_fits index expected found h = (tree_eq-Decides found expected).0 (exact (t
 pub child_valid : (index : ℕ) (expected found : TypeTree) (v : RawTree) → child_cause index expected found ≡ None → Valid found v → Valid expected v
 child_valid index expected found v h p = subst (λ t. Valid t v) (child_fits index expected found h) p
 
--- the type that an id has stands at the id's place
-
-pub type_placed : (id : ℕ) (ids : List ℕ) (ts : List TypeTree) (index : ℕ) → position (λ i. i == id) ids ≡ Some index
-    → type_with id ids (as_type_trees ts) ≡ slice_get ts index
-type_placed id ids ts index h = type_with-position id ids ts ∙ ap (option_and_then (slice_get ts)) h
-
 -- a union's child
 
 tagged_valid : (id : ℕ) (place : Option ℕ) (expected : Option TypeTree) (found : TypeTree) (v : RawTree)
@@ -55,18 +47,6 @@ pub union_valid : (variants : VariantParts) (id : ℕ) (found : TypeTree) (v : R
     → HasType (type_with id variants.type_ids (as_type_trees variants.types)) (λ t. Valid t v)
 union_valid variants id found v h p =
     tagged_valid id (position (λ i. i == id) variants.type_ids) (type_with id variants.type_ids (as_type_trees variants.types)) found v h p
-
-pub union_cause_placed : (variants : VariantParts) (id : ℕ) (index : ℕ) (expected found : TypeTree) → position (λ i. i == id) variants.type_ids ≡ Some index
-    → slice_get variants.types index ≡ Some expected → child_cause index expected found ≡ union_cause variants id found
-union_cause_placed variants id index expected found h g =
-    let t = type_placed id variants.type_ids variants.types index h ∙ g in
-    rw (h, t) refl
-
-pub union_cause_unplaced : (variants : VariantParts) (id : ℕ) (index : ℕ) (found : TypeTree) → position (λ i. i == id) variants.type_ids ≡ Some index
-    → slice_get variants.types index ≡ None → Some (UnknownTypeId id) ≡ union_cause variants id found
-union_cause_unplaced variants id index found h g =
-    let t = type_placed id variants.type_ids variants.types index h ∙ g in
-    rw (h, t) refl
 
 -- a scalar of a type and a raw value is valid where the value is
 

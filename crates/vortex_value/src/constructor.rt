@@ -15,6 +15,7 @@ ghost use Rattle.vortex_value.specs.Values.Scalars.{IsMadeOf, IsValid, scalar_ra
 ghost use Rattle.vortex_value.specs.Validity.{Valid};
 
 use crate::scalars::Scalar;
+use crate::storage::variant_with;
 use crate::unions::UnionValue;
 use crate::values::ScalarValue;
 use std::alloc::Global;
@@ -269,11 +270,8 @@ fn check_variant(variants: &UnionVariants, type_id: u8, found: &DType) -> Result
         (λ _. union_cause (variants_of variants.now) type_id (type_of found.now) ≡ None)
         (λ e. union_cause (variants_of variants.now) type_id (type_of found.now) ≡ Some e) }
 {
-    let Some(index) = variants.tag_to_child_index(type_id) else {
-        return Err(VortexError::UnknownTypeId { id: type_id });
-    };
-    let Some(expected) = variants.variant_by_index(index) else {
-        return Err(VortexError::UnknownTypeId { id: type_id });
-    };
-    check_child(index, expected, found)
+    match variant_with(variants, type_id) {
+        Some((index, expected)) => check_child(index, expected, found),
+        None => Err(VortexError::UnknownTypeId { id: type_id }),
+    }
 }

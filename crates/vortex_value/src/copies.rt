@@ -81,7 +81,8 @@ pub(crate) fn copy_union(alloc: Global, union: &UnionValue) -> Result<UnionValue
     UnionValue::new(alloc, union.type_id, child)
 }
 
-/// The same scalar, in a box of its own.
+/// The same scalar, in a box of its own: a function for the two refusals, so that `copy_value` has
+/// one.
 #[cycle(copies)]
 #[tactic(auto, using(crate::proofs::ValueSteps::shown))]
 fn copy_boxed(alloc: Global, scalar: &Scalar) -> Result<Box<Scalar>, VortexError>

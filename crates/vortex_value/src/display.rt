@@ -18,7 +18,7 @@ use crate::storage::{storage_of, variant_with};
 use crate::unions::UnionValue;
 use crate::values::ScalarValue;
 use std::fmt::{self, Display, Formatter, Write};
-use vortex_dtype::{DType, FieldName, MapDType, StructFields, UnionVariants};
+use vortex_dtype::{DType, MapDType, StructFields, UnionVariants};
 
 mod leaves;
 
@@ -204,28 +204,16 @@ fn write_child<W: Write>(
         (as_type_trees (variants_of variants.now).types))
         (λ t. text_at (storage t) (raw_of (option_map (λ b. b.value) union.now.child)))) f.new }
 {
-    let name = name_of(variants, union.type_id);
-    let variant = variant_with(variants, union.type_id);
-    match (name, variant) {
-        (Some(name), Some(variant)) => {
-            f.write_str(name.as_str())?;
-            f.write_str("(")?;
-            write_part(union.child.as_deref(), variant, f)?;
-            f.write_str(")")
-        }
-        _ => Ok(()),
-    }
-}
-
-/// The name of the variant with this id, if there is one.
-fn name_of(variants: &UnionVariants, id: u8) -> Option<&FieldName>
-    ensures { option_map (λ name. name.now) result
-        ≡ name_with id (variants_of variants.now).type_ids (variants_of variants.now).names }
-{
-    match variants.tag_to_child_index(id) {
-        Some(index) => variants.names().get(index),
-        None => None,
-    }
+    let Some((place, variant)) = variant_with(variants, union.type_id) else {
+        return Ok(());
+    };
+    let Some(name) = variants.names().get(place) else {
+        return Ok(());
+    };
+    f.write_str(name.as_str())?;
+    f.write_str("(")?;
+    write_part(union.child.as_deref(), variant, f)?;
+    f.write_str(")")
 }
 
 /// The scalar in a variant, in parentheses.

@@ -16,7 +16,8 @@ use crate::unions::UnionValue;
 use crate::values::ScalarValue;
 use vortex_dtype::DType;
 
-/// Whether two types are the same up to nullability.
+/// Whether two types are the same up to nullability, told by the test that the equality of values
+/// is written in: the recursions below take it from this contract.
 pub(crate) fn same_types(a: &DType, b: &DType) -> bool
     ensures { result ≡ same_type (type_of a.now) (type_of b.now) }
 {

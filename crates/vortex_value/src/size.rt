@@ -124,7 +124,7 @@ fn size_of_child(union: &UnionValue, variants: &UnionVariants) -> usize
         (λ t. size_of t (raw_of (option_map (λ b. b.value) union.now.child)))) }
 {
     match variant_with(variants, union.type_id) {
-        Some(variant) => size(union.child.as_deref(), variant),
+        Some((_, variant)) => size(union.child.as_deref(), variant),
         None => 0,
     }
 }

@@ -1,6 +1,6 @@
 //! What a type is below its extensions, and which type a union's id gives.
 
-ghost use Rattle.std.specs.Prelude.{◌≡◌, option_map};
+ghost use Rattle.std.specs.Prelude.{◌≡◌, ◌==◌, IfSome, Some, option_map, position};
 ghost use Rattle.vortex_dtype.specs.TypeOf.{type_of, as_type_trees, variants_of};
 ghost use Rattle.vortex_dtype.specs.TypeTree.{storage};
 ghost use Rattle.vortex_value.specs.Steps.Filling.{first_of};
@@ -18,17 +18,17 @@ pub(crate) fn storage_of(dtype: &DType) -> &DType
     }
 }
 
-/// The type of the variant with this id, if there is one.
+/// The place and the type of the variant with this id, if there is one.
 #[tactic(auto, using(crate::proofs::Variants::by_place))]
-pub(crate) fn variant_with(variants: &UnionVariants, id: u8) -> Option<&DType>
-    ensures { option_map (λ t. type_of t.now) result
+pub(crate) fn variant_with(variants: &UnionVariants, id: u8) -> Option<(usize, &DType)>
+    ensures typed { option_map (λ v. type_of v.1.now) result
         ≡ type_with id (variants_of variants.now).type_ids
         (as_type_trees (variants_of variants.now).types) }
+    ensures placed { IfSome result
+        (λ v. position (λ i. i == id) (variants_of variants.now).type_ids ≡ Some v.0) }
 {
-    match variants.tag_to_child_index(id) {
-        Some(index) => variants.variant_by_index(index),
-        None => None,
-    }
+    let index = variants.tag_to_child_index(id)?;
+    Some((index, variants.variant_by_index(index)?))
 }
 
 /// The id and the type of the first variant, if there is one.

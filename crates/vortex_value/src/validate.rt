@@ -246,7 +246,7 @@ fn check_child(
         (λ t. breaches t (raw_of (option_map (λ b. b.value) union.now.child)))) }
 {
     match variant_with(variants, union.type_id) {
-        Some(variant) => below(Step::Child, check(path, union.child.as_deref(), variant)),
+        Some((_, variant)) => below(Step::Child, check(path, union.child.as_deref(), variant)),
         None => Err(breach_here(path, Breach::UnknownTypeId)),
     }
 }
