@@ -3,6 +3,7 @@
 ghost use Rattle.std.specs.Prelude.{◌≡◌, ◌<◌, ◌≤◌, ℕ, List, Some, length, IfErr, IfNone, IfOk, IfSome, IsNone, IsOkAnd, IsSomeAnd, MatchOption, MatchResult, refl};
 ghost use Rattle.std.specs.Cmp.Lexicographic.{slice_cmp};
 ghost use Rattle.std.specs.Ordering.{nat_cmp};
+ghost use Rattle.vortex_dtype.specs.Memory.{GivesOrNoMemory};
 ghost use Rattle.vortex_dtype.specs.TypeTree.{TypeTree, binary_type, utf8_type};
 ghost use Rattle.vortex_dtype.specs.declared.error.VortexError.TheVariants.{OutOfMemory, WrongKind};
 ghost use Rattle.vortex_dtype.specs.declared.kinds.Nullability.{Nullability};
@@ -67,9 +68,8 @@ pub trait ScalarTruncation: Drop {
     /// The best value of at most so many bytes that is not above this one, or `OutOfMemory`.
     fn lower_bound(self, alloc: Global, max_length: usize) -> Result<Self, VortexError>
         requires { max_length ≤ length (bytes self) }
-        ensures { MatchResult result
-            (λ bound. IsBestLower (bytes self) max_length (bytes bound))
-            (λ e. e ≡ OutOfMemory) };
+        ensures { GivesOrNoMemory
+            (λ bound. IsBestLower (bytes self) max_length (bytes bound)) result };
 
     /// The best value at so many bytes that is above this one, none where there is none, or
     /// `OutOfMemory`.
@@ -298,7 +298,7 @@ fn tell_bytes(_bytes: &[u8])
 
 /// The longest beginning of whole characters that has at most so many bytes.
 fn text_prefix(text: BufferString, max_length: usize) -> Result<BufferString, VortexError>
-    ensures { MatchResult result (λ r. IsTextLower text max_length r) (λ e. e ≡ OutOfMemory) }
+    ensures { GivesOrNoMemory (λ r. IsTextLower text max_length r) result }
 {
     let end = text.as_str().floor_char_boundary(max_length);
     let beginning = text.into_inner().slice(0..end)?;

@@ -2,6 +2,7 @@
 
 ghost use Rattle.std.specs.Prelude.{◌≡◌, MatchResult, false, map, option_map};
 ghost use Rattle.std.specs.Option.{is_none, option_copied};
+ghost use Rattle.vortex_dtype.specs.Memory.{GivesOrNoMemory};
 ghost use Rattle.vortex_dtype.specs.TypeOf.{type_of};
 ghost use Rattle.vortex_dtype.specs.TypeTree.{IsFlat};
 ghost use Rattle.vortex_dtype.specs.declared.error.VortexError.TheVariants.{OutOfMemory};
@@ -57,10 +58,10 @@ fn copy_tuple(
     alloc: Global,
     values: &[Option<ScalarValue>],
 ) -> Result<Vec<Option<ScalarValue>>, VortexError>
-    ensures { MatchResult result
+    ensures { GivesOrNoMemory
         (λ copies.
-        map (option_map value_tree) copies.items ≡ map (option_map value_tree) values.now)
-        (λ e. e ≡ OutOfMemory) }
+        map (option_map value_tree) copies.items
+        ≡ map (option_map value_tree) values.now) result }
 {
     let mut copies = Vec::with_capacity(alloc, values.len())?;
     for value in values {
@@ -86,10 +87,9 @@ pub(crate) fn copy_union(alloc: Global, union: &UnionValue) -> Result<UnionValue
 #[cycle(copies)]
 #[tactic(auto, using(crate::proofs::ValueSteps::shown))]
 fn copy_boxed(alloc: Global, scalar: &Scalar) -> Result<Box<Scalar>, VortexError>
-    ensures { MatchResult result
+    ensures { GivesOrNoMemory
         (λ copy. (type_of copy.value.dtype ≡ type_of scalar.now.dtype)
-        × (raw_of copy.value.value ≡ raw_of scalar.now.value))
-        (λ e. e ≡ OutOfMemory) }
+        × (raw_of copy.value.value ≡ raw_of scalar.now.value)) result }
 {
     Ok(Box::new(alloc, copy_scalar(alloc, scalar)?)?)
 }

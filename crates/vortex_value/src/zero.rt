@@ -3,6 +3,7 @@
 ghost use Rattle.std.specs.Prelude.{◌≡◌, ◌&&◌, IfErr, IfOk, IsOk, IsSome, MatchResult, length, option_map, pos};
 ghost use Rattle.std.specs.Option.{is_some, option_copied};
 ghost use Rattle.std.specs.Ordering.{int_eq};
+ghost use Rattle.vortex_dtype.specs.Memory.{GivesOrNoMemory};
 ghost use Rattle.vortex_dtype.specs.TypeOf.{type_of, as_type_trees, dtype_trees, variants_of};
 ghost use Rattle.vortex_dtype.specs.TypeTree.{IsFlat, is_nullable};
 ghost use Rattle.vortex_dtype.specs.declared.error.VortexError.TheVariants.{OutOfMemory};
@@ -133,10 +134,9 @@ fn fill_places(
     nulls: bool,
 ) -> Result<Vec<Option<ScalarValue>>, VortexError>
     requires { IsSome (places_of size (filling nulls (type_of element.now))) }
-    ensures { MatchResult result
+    ensures { GivesOrNoMemory
         (λ items. (length items.items ≡ size)
-        × EachFills nulls (type_of element.now) (value_trees items.items))
-        (λ e. e ≡ OutOfMemory) }
+        × EachFills nulls (type_of element.now) (value_trees items.items)) result }
 {
     let mut items = Vec::with_capacity(alloc, size as usize)?;
     for _ in 0..size {
@@ -154,9 +154,8 @@ fn fill_fields(
     nulls: bool,
 ) -> Result<Vec<Option<ScalarValue>>, VortexError>
     requires { IsSome (fillings nulls (dtype_trees dtypes.now)) }
-    ensures { MatchResult result
-        (λ items. FillFields nulls (dtype_trees dtypes.now) (value_trees items.items))
-        (λ e. e ≡ OutOfMemory) }
+    ensures { GivesOrNoMemory
+        (λ items. FillFields nulls (dtype_trees dtypes.now) (value_trees items.items)) result }
 {
     let mut items = Vec::with_capacity(alloc, dtypes.len())?;
     for dtype in dtypes {
@@ -175,11 +174,10 @@ fn fill_first(
 ) -> Result<UnionValue, VortexError>
     requires { IsSome (child_filling (filling nulls)
         (first_of (variants_of variants.now).type_ids (variants_of variants.now).types)) }
-    ensures { MatchResult result
+    ensures { GivesOrNoMemory
         (λ made. FillsFirst nulls
         (first_of (variants_of variants.now).type_ids (variants_of variants.now).types)
-        (union_tree made))
-        (λ e. e ≡ OutOfMemory) }
+        (union_tree made)) result }
 {
     match first_variant(variants) {
         Some((id, variant)) => UnionValue::new(alloc, id, fill(alloc, variant, nulls)?),

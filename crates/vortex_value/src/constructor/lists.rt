@@ -2,6 +2,7 @@
 
 ghost use Rattle.std.specs.Prelude.{◌≡◌, None, Some, length, map, IfOk, IfErr, MatchResult};
 ghost use Rattle.std.specs.List.{All};
+ghost use Rattle.vortex_dtype.specs.Memory.{GivesOrNoMemory};
 ghost use Rattle.vortex_dtype.specs.Refusals.{RefusesOrNoMemory};
 ghost use Rattle.vortex_dtype.specs.TypeOf.{type_of};
 ghost use Rattle.vortex_dtype.specs.TypeTree.{list_type, fixed_size_list_type};
@@ -122,9 +123,8 @@ fn as_size(count: usize) -> Result<u32, VortexError>
 
 /// The raw value of which these children are the parts.
 pub(super) fn tuple_of(alloc: Global, children: Vec<Scalar>) -> Result<ScalarValue, VortexError>
-    ensures { MatchResult result
-        (λ value. value_tree value ≡ raw_tuple (child_trees children.items))
-        (λ e. e ≡ OutOfMemory) }
+    ensures { GivesOrNoMemory
+        (λ value. value_tree value ≡ raw_tuple (child_trees children.items)) result }
 {
     let mut values = Vec::with_capacity(alloc, children.len())?;
     for child in children {
