@@ -1,8 +1,10 @@
 //! Views of scalars without parts: truth values, texts, strings of bytes and integers.
 #![tactic(auto)]
 
+mod binaries;
 mod bools;
 mod texts;
 
+pub use binaries::BinaryScalar;
 pub use bools::BoolScalar;
 pub use texts::Utf8Scalar;
