@@ -3,8 +3,10 @@
 
 mod binaries;
 mod bools;
+mod primitives;
 mod texts;
 
 pub use binaries::BinaryScalar;
 pub use bools::BoolScalar;
+pub use primitives::PrimitiveScalar;
 pub use texts::Utf8Scalar;
