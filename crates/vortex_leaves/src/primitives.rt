@@ -21,6 +21,8 @@ use vortex_dtype::{DType, PType, VortexError};
 use vortex_pvalue::{NativePType, PValue};
 use vortex_value::{Scalar, ScalarValue};
 
+mod arithmetic;
+
 /// An integer of a scalar, or its null, and the scalar's type. The integer is of the type's kind.
 ///
 /// Ports `vortex_array::scalar::PrimitiveScalar`.
