@@ -6,6 +6,7 @@ pub mod BytesLaws
 pub mod BytesViews
 pub mod LeafOrders
 pub mod Leaves
+pub mod NumberLaws
 pub mod Numbers
 pub mod PrimitiveViews
 pub mod TextLaws

@@ -22,6 +22,7 @@ use vortex_pvalue::{NativePType, PValue};
 use vortex_value::{Scalar, ScalarValue};
 
 mod arithmetic;
+mod comparisons;
 
 /// An integer of a scalar, or its null, and the scalar's type. The integer is of the type's kind.
 ///
