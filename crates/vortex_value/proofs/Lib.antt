@@ -14,6 +14,7 @@ pub mod MapMakers
 pub mod OrderAgrees
 pub mod OrderLaws
 pub mod OrderSteps
+pub mod ReinterpretLaws
 pub mod SizeLaws
 pub mod SizeSteps
 pub mod StructMakers

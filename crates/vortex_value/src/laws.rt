@@ -13,6 +13,7 @@ ghost use Rattle.vortex_value.specs.Equality.{EqualityAgreesWithoutTyped, Equali
 ghost use Rattle.vortex_value.specs.Laws.HasContent.{HasByCases};
 ghost use Rattle.vortex_value.specs.Hashing.{EqualFeedSame};
 ghost use Rattle.vortex_value.specs.Order.{AgreesWhere, IsReversed, IsTransitive, order};
+ghost use Rattle.vortex_value.specs.Reinterpretations.{ScalarsReinterpretBack};
 ghost use Rattle.vortex_value.specs.Values.RawOf.{union_tree, value_tree};
 ghost use Rattle.vortex_value.specs.Values.Refs.{IsValidRef, ref_content, ref_order, ref_type};
 ghost use Rattle.vortex_value.specs.Values.Scalars.{IsValid, scalar_content, scalar_order, scalar_type};
@@ -175,3 +176,11 @@ pub fn into_nullable_and_back()
 pub fn has_by_cases()
     ensures { HasByCases }
 {}
+
+/// What is valid for an integer type, reinterpreted in a kind of the same width and back, is what it
+/// was.
+pub fn scalars_reinterpret_back()
+    ensures { ScalarsReinterpretBack }
+{
+    vortex_pvalue::laws::reinterprets_back();
+}

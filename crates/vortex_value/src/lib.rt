@@ -10,6 +10,7 @@ mod hashing;
 pub mod laws;
 mod ordering;
 mod refs;
+mod reinterpret;
 mod scalars;
 mod size;
 mod storage;

@@ -1,0 +1,75 @@
+//! Equality, order, hash and text of views of integers.
+
+ghost use Rattle.std.specs.Prelude.{◌&&◌, Some};
+ghost use Rattle.std.specs.Cmp.{partial_equiv_from_equiv};
+ghost use Rattle.std.specs.Hash.{and-Alike, on_Alike};
+ghost use Rattle.std.proofs.lemmas.Cmp.{on_equiv};
+ghost use Rattle.vortex_value.specs.Equality.{equal, same_type};
+ghost use Rattle.vortex_value.specs.Hashing.{typed_feed};
+ghost use Rattle.vortex_value.specs.Lemmas.EqualityLaws.{equal-equiv};
+ghost use Rattle.vortex_value.specs.Lemmas.HashLaws.{content_feed-Alike, type_feed-Alike};
+ghost use Rattle.vortex_value.specs.Order.{typed_order};
+ghost use Rattle.vortex_value.specs.Texts.{text_of};
+ghost use Rattle.vortex_value.specs.Values.Content.{typed};
+ghost use Rattle.vortex_leaves.specs.NumberLaws.{number_order};
+ghost use Rattle.vortex_leaves.specs.PrimitiveViews.{number_view_content, number_view_raw, number_view_type};
+
+use super::PrimitiveScalar;
+use std::cmp::Ordering;
+use std::fmt::{self, Display, Formatter, Write};
+use std::hash::{Hash, Hasher};
+use vortex_value::{ScalarRef, ScalarValue};
+
+impl PartialEq for PrimitiveScalar<'_> {
+    ghost eq = { λ a b. same_type (number_view_type a) (number_view_type b)
+        && equal (number_view_content a) (number_view_content b) };
+
+    ghost laws = { partial_equiv_from_equiv
+        (on_equiv (λ x. typed (number_view_type x) (number_view_content x)) equal-equiv) };
+
+    fn eq(&self, other: &PrimitiveScalar<'_>) -> bool {
+        self.dtype.eq_ignore_nullability(other.dtype) && self.pvalue == other.pvalue
+    }
+}
+
+impl Eq for PrimitiveScalar<'_> {
+    ghost laws = { on_equiv (λ x. typed (number_view_type x) (number_view_content x)) equal-equiv };
+}
+
+/// None exactly where the kinds differ; else a null is below the others, and numbers go by size.
+impl PartialOrd for PrimitiveScalar<'_> {
+    ghost partial_cmp = { λ a b. typed_order
+        (number_view_type a) (number_view_content a) (number_view_type b) (number_view_content b) };
+
+    ghost laws = { number_order };
+
+    fn partial_cmp(&self, other: &PrimitiveScalar<'_>) -> Option<Ordering> {
+        if self.dtype.eq_ignore_nullability(other.dtype) {
+            self.pvalue.partial_cmp(&other.pvalue)
+        } else {
+            None
+        }
+    }
+}
+
+impl Hash for PrimitiveScalar<'_> {
+    ghost hash_input = { λ x. typed_feed (number_view_type x) (number_view_content x) };
+
+    ghost respects_eq = { (and-Alike (on_Alike number_view_type type_feed-Alike)
+        (on_Alike number_view_content content_feed-Alike)).fed };
+
+    fn hash<H: Hasher>(&self, state: &mut H) {
+        let value = self.pvalue.map(ScalarValue::Primitive);
+        ScalarRef::from_parts(self.dtype, value.as_ref()).hash(state);
+    }
+}
+
+/// Writes `null`, or the number in decimal and then its kind. Takes no memory.
+impl Display for PrimitiveScalar<'_> {
+    ghost output = { λ x. Some (text_of (number_view_type x) (number_view_raw x)) };
+
+    fn fmt<W: Write>(&self, f: &mut Formatter<W>) -> fmt::Result {
+        let value = self.pvalue.map(ScalarValue::Primitive);
+        ScalarRef::from_parts(self.dtype, value.as_ref()).fmt(f)
+    }
+}

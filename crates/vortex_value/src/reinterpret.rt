@@ -1,0 +1,47 @@
+//! Integer scalars in another kind of the same width.
+
+ghost use Rattle.std.specs.Prelude.{◌≡◌, ◌↔◌, IfErr, IfOk, IsOk, IsSome};
+ghost use Rattle.vortex_value.specs.Reinterpretations.{IsAsWide, in_kind, kind_in, reinterpreted};
+ghost use Rattle.vortex_value.specs.Values.Scalars.{IsMadeOf, IsValid, scalar_raw, scalar_type};
+
+use crate::scalars::Scalar;
+use crate::values::ScalarValue;
+use vortex_dtype::{DType, PType, VortexError};
+
+impl Scalar {
+    /// The integer of this kind that has the same bits; a null stays null, and so does the
+    /// nullability. Takes no memory.
+    ///
+    /// `WidthsDiffer` exactly where the kind has another width than the type's. The type is one of
+    /// integers, which the caller knows; an extension over one is not. Ports
+    /// `Scalar::primitive_reinterpret_cast`, which panics at another type.
+    pub fn primitive_reinterpret_cast(&self, ptype: PType) -> Result<Scalar, VortexError>
+        requires valid { IsValid self.now }
+        requires integer { IsSome (kind_in (scalar_type self.now)) }
+        ensures ok { IsOk result ↔ IsAsWide ptype (scalar_type self.now) }
+        ensures made { IfOk result (IsMadeOf
+            (in_kind ptype (scalar_type self.now)) (reinterpreted ptype (scalar_raw self.now))) }
+        ensures valid { IfOk result IsValid }
+        ensures refused { IfErr result (λ e. e ≡ VortexError.WidthsDiffer) }
+    {
+        let DType::Primitive(kind, nullability) = &self.dtype else {
+            unreachable!()
+        };
+        if kind.byte_width() != ptype.byte_width() {
+            return Err(VortexError::WidthsDiffer);
+        }
+        let value = match &self.value {
+            Some(value) => {
+                let number = value.as_primitive().reinterpret_cast(ptype);
+                // The proof reads here that the number is in the kind's range.
+                let _in_range = number.whole();
+                Some(ScalarValue::Primitive(number))
+            }
+            None => None,
+        };
+        Ok(Scalar {
+            dtype: DType::Primitive(ptype, *nullability),
+            value,
+        })
+    }
+}
