@@ -1,2 +1,4 @@
+pub mod Iterators
 pub mod Lists
+pub mod Maps
 pub mod Parts

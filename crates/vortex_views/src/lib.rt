@@ -2,7 +2,11 @@
 //! lent or copied.
 #![tactic(auto)]
 
+mod iterators;
 mod list;
+mod map;
 mod parts;
 
+pub use iterators::{Entries, Keys, Values};
 pub use list::ListScalar;
+pub use map::MapScalar;
