@@ -1,6 +1,6 @@
 -- The values of a tuple as parts, and the parts of a valid list.
 use Rattle.std.proofs.Common.{◌≡◌, ◌⊎◌, ℕ, zero, suc, Bool, true, false, List, [], ◌∷◌, map, Option, Some, None, option_map, slice_get, is_some, IfSome, Vec, Global, refl, sym, ap, ◌∙◌, inl, inr, subst, rules, arith}
-use Rattle.std.proofs.lemmas.List.Elements.{All-cons}
+use Rattle.std.proofs.lemmas.List.Elements.{All-cons, All-map}
 use Rattle.std.proofs.lemmas.Option.{slice_get-map}
 use Rattle.std.specs.List.{All}
 use Rattle.vortex_dtype.specs.Parts.{element_in, map_in}
@@ -118,3 +118,22 @@ lent_entry-valid lent m t v raws place l r k h =
     lent_both-valid lent (slice_get (entries_of t v) place)
     (l ∙ ap (λ ws. option_map (entry_of m) (slice_get ws place)) r ∙ sym (parts_by-at entry_of m (map_in t) v place k))
     (entry-valid m t v place k h)
+
+all_placed : {X : Type 0} (P : X → Type 0) (xs : List X) → ((place : ℕ) → IfSome (slice_get xs place) P) → All P xs
+all_placed P [] h = λ k d below. let none : ⊥ = omega arith in absurd none
+all_placed P (x ∷ xs) h = All-cons P x xs (h 0) (all_placed P xs (λ place. h (suc place)))
+
+-- all entries of a valid map are valid
+pub entries-valid : (m : MapParts) (t : TypeTree) (v : RawTree) (raws : List RawTree) (left : List (Part × Part))
+    → left ≡ map (entry_of m) raws → raws ≡ parts_of v → Some m ≡ map_in t → Valid t v → All IsValidEntry left
+entries-valid m t v raws left l r k h = rw same (all_placed IsValidEntry (entries_of t v) (λ place. entry-valid m t v place k h))
+  where
+    same : left ≡ entries_of t v
+    same = l ∙ ap (map (entry_of m)) r ∙ subst (λ held. map (entry_of m) (parts_of v) ≡ parts_by entry_of held v) k refl
+
+-- all keys, and all values, of valid entries are valid
+pub keys-valid : (entries : List (Part × Part)) (left : List Part) → left ≡ map (λ e. e.0) entries → All IsValidEntry entries → All IsValidPart left
+keys-valid entries left l h = rw l (All-map IsValidPart (λ e. e.0) entries (λ k d below. (h k d below).0))
+
+pub values-valid : (entries : List (Part × Part)) (left : List Part) → left ≡ map (λ e. e.1) entries → All IsValidEntry entries → All IsValidPart left
+values-valid entries left l h = rw l (All-map IsValidPart (λ e. e.1) entries (λ k d below. (h k d below).1))

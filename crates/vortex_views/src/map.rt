@@ -3,6 +3,7 @@
 ghost use Rattle.std.specs.Prelude.{◌≡◌, ◌↔◌, ◌&&◌, ◌==◌, ◌<◌, Some, true, false, length, map, option_map, slice_get, is_some, IfErr, IfOk, IfSome, IsOk, IsTrue, MatchResult};
 ghost use Rattle.std.specs.Cmp.{partial_equiv_from_equiv};
 ghost use Rattle.std.specs.Hash.{and-Alike, on_Alike};
+ghost use Rattle.std.specs.List.{All};
 ghost use Rattle.std.specs.Option.{option_copied};
 ghost use Rattle.std.proofs.lemmas.Cmp.{on_equiv};
 ghost use Rattle.vortex_dtype.specs.Parts.{map_in};
@@ -17,7 +18,7 @@ ghost use Rattle.vortex_value.specs.Values.Refs.{IsRefOf, IsValidRef, ref_conten
 ghost use Rattle.vortex_value.specs.Values.Scalars.{IsValid, scalar_raw, scalar_type};
 ghost use Rattle.vortex_value.specs.Validity.{Valid};
 ghost use Rattle.vortex_views.specs.Iterators.{entries_left, keys_left, values_left};
-ghost use Rattle.vortex_views.specs.Parts.{RefusesView, entries_of, is_null_or_tuple, parts_of, ref_entry, ref_equal, ref_feed, ref_text, scalar_entry};
+ghost use Rattle.vortex_views.specs.Parts.{IsValidEntry, IsValidPart, RefusesView, entries_of, is_null_or_tuple, parts_of, ref_entry, ref_equal, ref_feed, ref_text, scalar_entry};
 
 use crate::iterators::{Entries, Keys, Values};
 use crate::parts::{copied_entry, entry_at, is_null_or_tuple, items_of};
@@ -151,8 +152,9 @@ impl<'a> MapScalar<'a> {
     ///
     /// Ports `MapScalar::entries`.
     pub fn entries(&self, alloc: Global) -> Entries<'a>
-        ensures { entries_left result
+        ensures all { entries_left result
             ≡ entries_of (ref_type (map_ref self.now)) (ref_raw (map_ref self.now)) }
+        ensures valid { IsValidRef (map_ref self.now) → All IsValidEntry (entries_left result) }
     {
         Entries::new(self.map_dtype(), self.items(), alloc)
     }
@@ -162,8 +164,9 @@ impl<'a> MapScalar<'a> {
     ///
     /// Ports `MapScalar::keys`.
     pub fn keys(&self, alloc: Global) -> Keys<'a>
-        ensures { keys_left result ≡ map (λ entry. entry.0)
+        ensures all { keys_left result ≡ map (λ entry. entry.0)
             (entries_of (ref_type (map_ref self.now)) (ref_raw (map_ref self.now))) }
+        ensures valid { IsValidRef (map_ref self.now) → All IsValidPart (keys_left result) }
     {
         Keys::of(self.entries(alloc))
     }
@@ -173,8 +176,9 @@ impl<'a> MapScalar<'a> {
     ///
     /// Ports `MapScalar::values`.
     pub fn values(&self, alloc: Global) -> Values<'a>
-        ensures { values_left result ≡ map (λ entry. entry.1)
+        ensures all { values_left result ≡ map (λ entry. entry.1)
             (entries_of (ref_type (map_ref self.now)) (ref_raw (map_ref self.now))) }
+        ensures valid { IsValidRef (map_ref self.now) → All IsValidPart (values_left result) }
     {
         Values::of(self.entries(alloc))
     }
