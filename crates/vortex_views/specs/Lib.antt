@@ -1,0 +1,5 @@
+pub mod Iterators
+pub mod Lists
+pub mod Maps
+pub mod PartExamples
+pub mod Parts
