@@ -14,7 +14,7 @@ use Rattle.vortex_value.specs.Values.RawTree.{RawTree, absent}
 use Rattle.vortex_value.specs.Values.Scalars.{IsValid}
 use Rattle.vortex_value.specs.Validity.{type_with, HasType, Valid}
 use Rattle.vortex_value.specs.declared.values.ScalarValue.{ScalarValue}
-use Rattle.vortex_value.proofs.Variants.{type_with-position}
+use Rattle.vortex_value.specs.Lemmas.VariantPlaces.{type_with-position}
 
 -- nulls
 
