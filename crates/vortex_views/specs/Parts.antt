@@ -1,0 +1,77 @@
+-- The parts of values, and what calls that lend or copy a part say of it.
+use Rattle.std.specs.Prelude.{◌≡◌, ℕ, Bool, true, false, List, [], ◌∷◌, map, Option, Some, None, slice_get, if◌then◌else◌}
+use Rattle.vortex_dtype.specs.Parts.{element_in, map_in}
+use Rattle.vortex_dtype.specs.TypeOf.{MapParts}
+use Rattle.vortex_dtype.specs.TypeTree.{TypeTree}
+use Rattle.vortex_dtype.specs.declared.error.VortexError.{VortexError}
+use Rattle.vortex_dtype.specs.declared.error.VortexError.TheVariants.{WrongKind}
+use Rattle.vortex_value.specs.Breaches.{Refuses, breaches}
+use Rattle.vortex_value.specs.Validity.{Valid}
+use Rattle.vortex_value.specs.Values.RawOf.{raw_or_absent}
+use Rattle.vortex_value.specs.Values.RawTree.{RawTree, absent, raw_tuple, RawTrees, no_raws, raw_then, is_absent}
+use Rattle.vortex_value.specs.Values.Refs.{ref_type, ref_raw}
+use Rattle.vortex_value.specs.Values.Scalars.{scalar_type, scalar_raw}
+use Rattle.vortex_value.specs.declared.refs.ScalarRef.{ScalarRef}
+use Rattle.vortex_value.specs.declared.scalars.Scalar.{Scalar}
+
+-- a type, and a raw value of it
+abbrev pub Part : Type 0
+Part = TypeTree × RawTree
+
+-- what a borrowed scalar lends
+abbrev pub ref_part : ScalarRef → Part
+ref_part x = (ref_type x, ref_raw x)
+
+-- what a scalar holds
+abbrev pub scalar_part : Scalar → Part
+scalar_part x = (scalar_type x, scalar_raw x)
+
+-- the raw value is valid for the type
+abbrev pub IsValidPart : Part → Type 0
+IsValidPart p = Valid p.0 p.1
+
+-- the values that a tree holds, as a list
+abbrev pub listed_raws : RawTrees → List RawTree
+listed_raws no_raws = []
+listed_raws (raw_then v vs) = v ∷ listed_raws vs
+
+-- the values of a list, a struct, a map or a map's entry, in order; nothing else has any
+abbrev pub parts_of : RawTree → List RawTree
+parts_of (raw_tuple vs) = listed_raws vs
+parts_of _ = []
+
+-- the value at a place, and a null past the end
+abbrev pub part_or_null : RawTree → ℕ → RawTree
+part_or_null v place = raw_or_absent (slice_get (parts_of v) place)
+
+-- an entry of a map with these types
+abbrev pub entry_of : MapParts → RawTree → Part × Part
+entry_of m v = ((m.key, part_or_null v 0), (m.value, part_or_null v 1))
+
+-- the parts that a value has by what its type holds, each of its type; none where the type holds no such thing
+abbrev pub parts_by : {X Y : Type 0} → (X → RawTree → Y) → Option X → RawTree → List Y
+parts_by part None v = []
+parts_by part (Some x) v = map (part x) (parts_of v)
+
+-- the elements of a list, of fixed size or not, in order
+abbrev pub elements_of : TypeTree → RawTree → List Part
+elements_of t v = parts_by (λ e w. (e, w)) (element_in t) v
+
+-- the entries of a map, in order: each a key, which is the first value of its tuple, and a value, which is the second
+abbrev pub entries_of : TypeTree → RawTree → List (Part × Part)
+entries_of t v = parts_by entry_of (map_in t) v
+
+-- no value, or a list's, a struct's or a map's
+abbrev pub is_null_or_tuple : RawTree → Bool
+is_null_or_tuple absent = true
+is_null_or_tuple (raw_tuple vs) = true
+is_null_or_tuple _ = false
+
+-- none for a null, and else these
+abbrev pub unless_null : {X : Type 0} → RawTree → X → Option X
+unless_null v x = if is_absent v then None else Some x
+
+-- the error that a view's maker refuses a type and a raw value by: the kind of the type first, by its test, then the first breach
+abbrev pub RefusesView : Bool → TypeTree → RawTree → VortexError → Type 0
+RefusesView false t v e = e ≡ WrongKind
+RefusesView true t v e = Refuses e (breaches t v)

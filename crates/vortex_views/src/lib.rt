@@ -1,0 +1,8 @@
+//! Views of scalars: a list, a map, a struct, a union, a variant or an extension, whose parts are
+//! lent or copied.
+#![tactic(auto)]
+
+mod list;
+mod parts;
+
+pub use list::ListScalar;
