@@ -1,15 +1,19 @@
 -- The parts of values, and what calls that lend or copy a part say of it.
-use Rattle.std.specs.Prelude.{◌≡◌, ℕ, Bool, true, false, List, [], ◌∷◌, map, Option, Some, None, slice_get, if◌then◌else◌}
+use Rattle.std.specs.Prelude.{◌≡◌, ◌&&◌, ℕ, Bool, true, false, List, [], ◌∷◌, map, Option, Some, None, slice_get, if◌then◌else◌}
+use Rattle.std.specs.Hash.{HashWrites}
 use Rattle.vortex_dtype.specs.Parts.{element_in, map_in}
 use Rattle.vortex_dtype.specs.TypeOf.{MapParts}
 use Rattle.vortex_dtype.specs.TypeTree.{TypeTree}
 use Rattle.vortex_dtype.specs.declared.error.VortexError.{VortexError}
 use Rattle.vortex_dtype.specs.declared.error.VortexError.TheVariants.{WrongKind}
 use Rattle.vortex_value.specs.Breaches.{Refuses, breaches}
+use Rattle.vortex_value.specs.Equality.{equal, same_type}
+use Rattle.vortex_value.specs.Hashing.{typed_feed}
+use Rattle.vortex_value.specs.Texts.{text_of}
 use Rattle.vortex_value.specs.Validity.{Valid}
 use Rattle.vortex_value.specs.Values.RawOf.{raw_or_absent}
 use Rattle.vortex_value.specs.Values.RawTree.{RawTree, absent, raw_tuple, RawTrees, no_raws, raw_then, is_absent}
-use Rattle.vortex_value.specs.Values.Refs.{ref_type, ref_raw}
+use Rattle.vortex_value.specs.Values.Refs.{ref_content, ref_type, ref_raw}
 use Rattle.vortex_value.specs.Values.Scalars.{scalar_type, scalar_raw}
 use Rattle.vortex_value.specs.declared.refs.ScalarRef.{ScalarRef}
 use Rattle.vortex_value.specs.declared.scalars.Scalar.{Scalar}
@@ -75,3 +79,15 @@ unless_null v x = if is_absent v then None else Some x
 abbrev pub RefusesView : Bool → TypeTree → RawTree → VortexError → Type 0
 RefusesView false t v e = e ≡ WrongKind
 RefusesView true t v e = Refuses e (breaches t v)
+
+-- the types are the same up to nullability, and the contents equal
+abbrev pub ref_equal : ScalarRef → ScalarRef → Bool
+ref_equal x y = same_type (ref_type x) (ref_type y) && equal (ref_content x) (ref_content y)
+
+-- what a borrowed scalar feeds a hasher
+abbrev pub ref_feed : ScalarRef → HashWrites
+ref_feed x = typed_feed (ref_type x) (ref_content x)
+
+-- what a borrowed scalar prints
+abbrev pub ref_text : ScalarRef → List ℕ
+ref_text x = text_of (ref_type x) (ref_raw x)

@@ -1,18 +1,29 @@
 //! Views of lists, of fixed size or not.
 
-ghost use Rattle.std.specs.Prelude.{◌≡◌, ◌↔◌, ◌&&◌, ◌==◌, Some, true, not, length, map, option_map, slice_get, is_some, IfErr, IfOk, IfSome, IsOk, IsTrue, MatchResult};
+ghost use Rattle.std.specs.Prelude.{◌≡◌, ◌↔◌, ◌&&◌, ◌==◌, ◌<◌, Some, true, false, length, map, option_map, slice_get, is_some, IfErr, IfOk, IfSome, IsOk, IsTrue, MatchResult};
+ghost use Rattle.std.specs.Cmp.{partial_equiv_from_equiv};
+ghost use Rattle.std.specs.Hash.{and-Alike, on_Alike};
+ghost use Rattle.std.specs.List.{All};
 ghost use Rattle.std.specs.Option.{option_copied};
+ghost use Rattle.std.proofs.lemmas.Cmp.{on_equiv};
 ghost use Rattle.vortex_dtype.specs.Parts.{element_in};
 ghost use Rattle.vortex_dtype.specs.TypeOf.{type_of};
+ghost use Rattle.vortex_dtype.specs.declared.error.VortexError.TheVariants.{WrongKind};
+ghost use Rattle.vortex_value.specs.Lemmas.EqualityLaws.{equal-equiv};
+ghost use Rattle.vortex_value.specs.Lemmas.HashLaws.{content_feed-Alike, type_feed-Alike};
+ghost use Rattle.vortex_value.specs.Values.Content.{typed};
 ghost use Rattle.vortex_value.specs.Values.RawOf.{raw_of};
 ghost use Rattle.vortex_value.specs.Values.RawTree.{is_absent};
-ghost use Rattle.vortex_value.specs.Values.Refs.{IsRefOf, IsValidRef, ref_order, ref_raw, ref_type};
+ghost use Rattle.vortex_value.specs.Values.Refs.{IsRefOf, IsValidRef, ref_content, ref_order, ref_raw, ref_type};
+ghost use Rattle.vortex_value.specs.Values.Scalars.{IsValid, scalar_raw, scalar_type};
 ghost use Rattle.vortex_value.specs.Validity.{Valid};
-ghost use Rattle.vortex_views.specs.Parts.{RefusesView, elements_of, parts_of, ref_part};
+ghost use Rattle.vortex_views.specs.Parts.{RefusesView, elements_of, is_null_or_tuple, parts_of, ref_equal, ref_feed, ref_part, ref_text, scalar_part, unless_null};
 
-use crate::parts::items_of;
+use crate::parts::{copied, is_null_or_tuple, items_of, part_at};
 use std::alloc::Global;
 use std::cmp::Ordering;
+use std::fmt::{self, Display, Formatter, Write};
+use std::hash::{Hash, Hasher};
 use vortex_dtype::{DType, VortexError};
 use vortex_value::{Scalar, ScalarRef, ScalarValue};
 
@@ -108,8 +119,49 @@ impl<'a> ListScalar<'a> {
             ≡ slice_get (elements_of (ref_type (list_ref self.now)) (ref_raw (list_ref self.now))) index }
         ensures valid { IsValidRef (list_ref self.now) → IfSome result IsValidRef }
     {
-        let item = self.items().get(index)?;
-        Some(ScalarRef::from_parts(self.element_dtype(), item.as_ref()))
+        part_at(self.element_dtype(), self.items(), index)
+    }
+
+    /// A scalar of the element at this place, and none exactly past the end, as anywhere of a null.
+    ///
+    /// `OutOfMemory` where there is none for the copy. Ports `ListScalar::element`.
+    pub fn element(&self, alloc: Global, index: usize) -> Result<Option<Scalar>, VortexError>
+        ensures copied { IfOk result (λ copy. option_map scalar_part copy
+            ≡ slice_get (elements_of (ref_type (list_ref self.now)) (ref_raw (list_ref self.now))) index) }
+        ensures valid { IsValidRef (list_ref self.now) → IfOk result (λ copy. IfSome copy IsValid) }
+        ensures refused { IfErr result (λ e. (e ≡ VortexError.OutOfMemory)
+            × (index < length (parts_of (ref_raw (list_ref self.now))))) }
+    {
+        copied(alloc, self.element_ref(index))
+    }
+
+    /// Scalars of all elements, in order, and none exactly for a null.
+    ///
+    /// `OutOfMemory` where there is none for the copies. Ports `ListScalar::elements`.
+    pub fn elements(&self, alloc: Global) -> Result<Option<Vec<Scalar>>, VortexError>
+        ensures copied { IfOk result (λ copies. option_map (λ xs. map scalar_part xs.items) copies
+            ≡ unless_null (ref_raw (list_ref self.now))
+            (elements_of (ref_type (list_ref self.now)) (ref_raw (list_ref self.now)))) }
+        ensures valid { IsValidRef (list_ref self.now)
+            → IfOk result (λ copies. IfSome copies (λ xs. All IsValid xs.items)) }
+        ensures refused { IfErr result (λ e. (e ≡ VortexError.OutOfMemory)
+            × (is_absent (ref_raw (list_ref self.now)) ≡ false)) }
+    {
+        if self.is_null() {
+            return Ok(None);
+        }
+        let copies = copied_all(alloc, self.element_dtype(), self.items())?;
+        Ok(Some(copies))
+    }
+
+    /// The order of the contents, where the types are the same up to nullability, and else none: a
+    /// list and one of fixed size have no order. A null is below all others. Takes no memory.
+    ///
+    /// Ports the `PartialOrd` of `ListScalar`, which compares element types alone.
+    pub fn partial_cmp(&self, other: &ListScalar<'_>) -> Option<Ordering>
+        ensures { result ≡ ref_order (list_ref self.now) (list_ref other.now) }
+    {
+        self.scalar.partial_cmp(&other.scalar)
     }
 
     /// The raw values of the elements.
@@ -117,5 +169,98 @@ impl<'a> ListScalar<'a> {
         ensures { map raw_of result.now ≡ parts_of (ref_raw (list_ref self.now)) }
     {
         items_of(self.scalar.value())
+    }
+}
+
+/// Scalars of these values, each of this type, or `OutOfMemory`.
+fn copied_all(
+    alloc: Global,
+    dtype: &DType,
+    items: &[Option<ScalarValue>],
+) -> Result<Vec<Scalar>, VortexError>
+    ensures { MatchResult result
+        (λ copies. map scalar_part copies.items
+        ≡ map (λ v. (type_of dtype.now, v)) (map raw_of items.now))
+        (λ e. e ≡ VortexError.OutOfMemory) }
+{
+    let mut copies = Vec::with_capacity(alloc, items.len())?;
+    for item in items {
+        let copy = ScalarRef::from_parts(dtype, item.as_ref()).to_scalar(alloc)?;
+        copies.push(copy)?;
+    }
+    Ok(copies)
+}
+
+/// The view of a scalar: of its type and its raw value, whether or not the value is valid for the
+/// type; of a valid scalar it is valid. Takes no memory.
+///
+/// `WrongKind` exactly where the type is no list, or the raw value is neither absent nor a tuple.
+/// Ports `TryFrom<&Scalar> for ListScalar`.
+impl<'a> TryFrom<&'a Scalar> for ListScalar<'a> {
+    type Error = VortexError;
+
+    ghost use Rattle.vortex_views.specs.Lists.{list_ref};
+
+    ghost try_from_gives = { λ scalar result. MatchResult result
+        (λ view. IsRefOf (scalar_type scalar.now) (scalar_raw scalar.now) (list_ref view))
+        (λ e. (e ≡ WrongKind) × ((is_some (element_in (scalar_type scalar.now))
+        && is_null_or_tuple (scalar_raw scalar.now)) ≡ false)) };
+
+    fn try_from(scalar: &'a Scalar) -> Result<ListScalar<'a>, VortexError> {
+        if scalar.dtype().as_any_size_list_element_opt().is_none() {
+            return Err(VortexError::WrongKind);
+        }
+        if !is_null_or_tuple(scalar.value()) {
+            return Err(VortexError::WrongKind);
+        }
+        Ok(ListScalar {
+            scalar: ScalarRef::of(scalar),
+        })
+    }
+}
+
+impl PartialEq for ListScalar<'_> {
+    ghost use Rattle.vortex_views.specs.Lists.{list_ref};
+
+    ghost eq = { λ a b. ref_equal (list_ref a) (list_ref b) };
+
+    ghost laws = { partial_equiv_from_equiv
+        (on_equiv (λ x. typed (ref_type (list_ref x)) (ref_content (list_ref x))) equal-equiv) };
+
+    fn eq(&self, other: &ListScalar<'_>) -> bool {
+        self.scalar == other.scalar
+    }
+}
+
+impl Eq for ListScalar<'_> {
+    ghost use Rattle.vortex_views.specs.Lists.{list_ref};
+
+    ghost laws = { on_equiv (λ x. typed (ref_type (list_ref x)) (ref_content (list_ref x)))
+        equal-equiv };
+}
+
+impl Hash for ListScalar<'_> {
+    ghost use Rattle.vortex_views.specs.Lists.{list_ref};
+
+    ghost hash_input = { λ x. ref_feed (list_ref x) };
+
+    ghost respects_eq = { (and-Alike (on_Alike (λ x. ref_type (list_ref x)) type_feed-Alike)
+        (on_Alike (λ x. ref_content (list_ref x)) content_feed-Alike)).fed };
+
+    fn hash<H: Hasher>(&self, state: &mut H) {
+        self.scalar.hash(state);
+    }
+}
+
+/// Writes what the scalar's own `Display` writes. Takes no memory.
+///
+/// Ports the `Display` of `ListScalar`.
+impl Display for ListScalar<'_> {
+    ghost use Rattle.vortex_views.specs.Lists.{list_ref};
+
+    ghost output = { λ x. Some (ref_text (list_ref x)) };
+
+    fn fmt<W: Write>(&self, f: &mut Formatter<W>) -> fmt::Result {
+        self.scalar.fmt(f)
     }
 }
