@@ -1,2 +1,4 @@
 pub mod Lists
 pub mod Parts
+pub mod Unions
+pub mod ViewKinds

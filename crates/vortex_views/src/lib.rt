@@ -4,5 +4,7 @@
 
 mod list;
 mod parts;
+mod union;
 
 pub use list::ListScalar;
+pub use union::UnionScalar;
