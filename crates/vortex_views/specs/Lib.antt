@@ -1,4 +1,5 @@
 pub mod Lists
 pub mod Parts
 pub mod Unions
+pub mod Variants
 pub mod ViewKinds

@@ -5,6 +5,8 @@
 mod list;
 mod parts;
 mod union;
+mod variant;
 
 pub use list::ListScalar;
 pub use union::UnionScalar;
+pub use variant::VariantScalar;
