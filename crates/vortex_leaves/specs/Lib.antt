@@ -1,0 +1,12 @@
+pub mod Arithmetic
+pub mod ArithmeticExamples
+pub mod BoolLaws
+pub mod BoolViews
+pub mod BytesLaws
+pub mod BytesViews
+pub mod LeafOrders
+pub mod Leaves
+pub mod Numbers
+pub mod PrimitiveViews
+pub mod TextLaws
+pub mod TextViews

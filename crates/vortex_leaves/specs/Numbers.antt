@@ -1,0 +1,44 @@
+-- Integer types and raw values, and what makes no view of them.
+use Rattle.std.specs.Prelude.{◌≡◌, ℤ, Option, Some, None}
+use Rattle.vortex_dtype.specs.TypeTree.{TypeTree, integer_type}
+use Rattle.vortex_dtype.specs.declared.error.VortexError.{VortexError}
+use Rattle.vortex_dtype.specs.declared.error.VortexError.TheVariants.{OutOfRange, WrongKind}
+use Rattle.vortex_dtype.specs.declared.kinds.PType.{PType}
+use Rattle.vortex_pvalue.specs.Numbers.{InRange}
+use Rattle.vortex_pvalue.specs.Whole.{kind_of, whole_of}
+use Rattle.vortex_pvalue.specs.declared.pvalues.PValue.{PValue}
+use Rattle.vortex_value.specs.Breaches.{Refuses, breaches}
+use Rattle.vortex_value.specs.Values.RawTree.{RawTree, absent, raw_integer}
+
+-- the kind of an integer type; an extension over one has none
+abbrev pub kind_in : TypeTree → Option PType
+kind_in (integer_type k n) = Some k
+kind_in _ = None
+
+-- the number of a raw integer
+abbrev pub number_in : RawTree → Option ℤ
+number_in (raw_integer k z) = Some z
+number_in _ = None
+
+-- an optional integer as a raw value
+abbrev pub raw_number : Option PValue → RawTree
+raw_number None = absent
+raw_number (Some p) = raw_integer (kind_of p) (whole_of p)
+
+-- the same raw value, an integer at an integer type in the type's kind
+abbrev pub in_kind_of : TypeTree → RawTree → RawTree
+in_kind_of (integer_type k n) (raw_integer l z) = raw_integer k z
+in_kind_of t v = v
+
+-- an integer type, and null or an integer of any kind whose number the type's kind has
+abbrev pub HoldsNumber : TypeTree → RawTree → Type 0
+HoldsNumber (integer_type k n) absent = Unit {0}
+HoldsNumber (integer_type k n) (raw_integer l z) = InRange k z
+HoldsNumber _ _ = ⊥
+
+-- why a type and a raw value make no view of a number: the type is of another kind; the type's kind does not have the
+-- number; and else the first breach
+abbrev pub RefusesNumber : TypeTree → RawTree → VortexError → Type 0
+RefusesNumber (integer_type k n) (raw_integer l z) e = e ≡ OutOfRange
+RefusesNumber (integer_type k n) v e = Refuses e (breaches (integer_type k n) v)
+RefusesNumber t v e = e ≡ WrongKind

@@ -1,0 +1,250 @@
+//! Views of integers.
+
+ghost use Rattle.std.specs.Prelude.{◌≡◌, ◌≢◌, ◌↔◌, ◌&&◌, Err, IfErr, IfOk, IsOk, IsSome, IsSomeAnd, MatchOption, MatchResult, Some, IfSome, option_map};
+ghost use Rattle.std.specs.Option.{option_copied};
+ghost use Rattle.std.proofs.Props.{props};
+ghost use Rattle.vortex_dtype.specs.TypeOf.{type_of};
+ghost use Rattle.vortex_dtype.specs.TypeTree.{integer_type, nullability_of};
+ghost use Rattle.vortex_pvalue.specs.Numbers.{InRange};
+ghost use Rattle.vortex_pvalue.specs.Whole.{kind_of, whole_of};
+ghost use Rattle.vortex_value.specs.Validity.{Valid};
+ghost use Rattle.vortex_value.specs.Values.Content.{content};
+ghost use Rattle.vortex_value.specs.Values.RawOf.{raw_of};
+ghost use Rattle.vortex_value.specs.Values.RawTree.{absent, raw_integer};
+ghost use Rattle.vortex_value.specs.Values.Scalars.{IsMadeOf, IsValid, scalar_raw, scalar_type};
+ghost use Rattle.vortex_value.specs.Zero.{is_zero_of};
+ghost use Rattle.vortex_leaves.specs.Leaves.{GivesView};
+ghost use Rattle.vortex_leaves.specs.Numbers.{HoldsNumber, RefusesNumber, in_kind_of, kind_in};
+
+use std::alloc::Global;
+use vortex_dtype::{DType, PType, VortexError};
+use vortex_pvalue::{NativePType, PValue};
+use vortex_value::{Scalar, ScalarValue};
+
+/// An integer of a scalar, or its null, and the scalar's type. The integer is of the type's kind.
+///
+/// Ports `vortex_array::scalar::PrimitiveScalar`.
+#[derive(Clone, Copy, Debug)]
+pub struct PrimitiveScalar<'a> {
+    dtype: &'a DType,
+    ptype: PType,
+    pvalue: Option<PValue>,
+    ghost kind: { ∥ kind_in (type_of dtype.now) ≡ Some ptype ∥₁ },
+    ghost holds: { ∥ IfSome pvalue (λ number. kind_of number ≡ ptype) ∥₁ },
+}
+
+impl<'a> PrimitiveScalar<'a> {
+    ghost use Rattle.vortex_leaves.specs.PrimitiveViews.{IsNumberViewOf, IsValidNumberView, number_view_kind, number_view_raw, number_view_type, view_number};
+
+    /// The view of a type and a raw value, or its absence. An integer of another kind is taken as
+    /// the same number of the type's kind. Takes no memory.
+    ///
+    /// `WrongKind` where the type is not one of integers (an extension over one is not), else
+    /// `Invalid` for a null of a type that takes none and for a value that is no integer, else
+    /// `OutOfRange` where the type's kind does not have the number. Ports
+    /// `PrimitiveScalar::try_new`.
+    pub fn try_new(
+        alloc: Global,
+        dtype: &'a DType,
+        value: Option<&ScalarValue>,
+    ) -> Result<PrimitiveScalar<'a>, VortexError>
+        ensures ok { IsOk result ↔ (IsSome (kind_in (type_of dtype.now)) × Valid (type_of dtype.now)
+            (in_kind_of (type_of dtype.now) (raw_of (option_copied value.entry)))) }
+        ensures made { IfOk result (IsNumberViewOf (type_of dtype.now)
+            (in_kind_of (type_of dtype.now) (raw_of (option_copied value.entry)))) }
+        ensures valid { IfOk result IsValidNumberView }
+        ensures refused { IfErr result
+            (RefusesNumber (type_of dtype.now) (raw_of (option_copied value.entry))) }
+        ensures memory { result ≢ Err VortexError.OutOfMemory }
+    {
+        let DType::Primitive(ptype, _) = dtype else {
+            return Err(VortexError::WrongKind);
+        };
+        let ptype = *ptype;
+        if let Some(ScalarValue::Primitive(number)) = value {
+            return match PValue::from_whole(number.whole(), ptype) {
+                Some(number) => Ok(PrimitiveScalar::of(dtype, ptype, number)),
+                None => Err(VortexError::OutOfRange),
+            };
+        }
+        Scalar::validate(alloc, dtype, value)?;
+        Ok(PrimitiveScalar {
+            dtype,
+            ptype,
+            pvalue: None,
+        })
+    }
+
+    /// The view of a number of the type's kind.
+    fn of(dtype: &'a DType, ptype: PType, number: PValue) -> PrimitiveScalar<'a>
+        requires kind { kind_in (type_of dtype.now) ≡ Some ptype }
+        requires number_kind { kind_of number ≡ ptype }
+        ensures { IsNumberViewOf (type_of dtype.now) (raw_integer ptype (whole_of number)) result }
+    {
+        PrimitiveScalar {
+            dtype,
+            ptype,
+            pvalue: Some(number),
+        }
+    }
+
+    /// The type.
+    ///
+    /// Ports `PrimitiveScalar::dtype`.
+    pub fn dtype(&self) -> &'a DType
+        ensures { type_of result.now ≡ number_view_type self.now }
+    {
+        self.dtype
+    }
+
+    /// The type's kind, also of a null.
+    ///
+    /// Ports `PrimitiveScalar::ptype`.
+    pub fn ptype(&self) -> PType
+        ensures kind { result ≡ number_view_kind self.now }
+        ensures typed { number_view_type self.now
+            ≡ integer_type result (nullability_of (number_view_type self.now)) }
+    {
+        self.ptype
+    }
+
+    /// The integer, of the type's kind; none for a null.
+    ///
+    /// Ports `PrimitiveScalar::pvalue`.
+    pub fn pvalue(&self) -> Option<PValue>
+        ensures { MatchOption result
+            (number_view_raw self.now ≡ absent)
+            (λ number. (number_view_raw self.now
+            ≡ raw_integer (number_view_kind self.now) (whole_of number))
+            × (kind_of number ≡ number_view_kind self.now)) }
+    {
+        self.pvalue
+    }
+
+    /// The number as a Rust integer of the type's kind, which the caller knows; none for a null.
+    ///
+    /// Ports `PrimitiveScalar::typed_value`, which panics at another kind.
+    pub fn typed_value<T: NativePType>(&self) -> Option<T>
+        requires { number_view_kind self.now ≡ T.PTYPE }
+        ensures { option_map T.value result ≡ view_number self.now }
+    {
+        match self.pvalue {
+            Some(number) => {
+                let _in_range = number.whole();
+                T::from_pvalue(&number)
+            }
+            None => None,
+        }
+    }
+
+    /// The number as a Rust integer of the type's kind; none for a null.
+    ///
+    /// `WrongPType` exactly where the type is of another kind, also of a null. Ports
+    /// `PrimitiveScalar::try_typed_value`.
+    pub fn try_typed_value<T: NativePType>(&self) -> Result<Option<T>, VortexError>
+        ensures { MatchResult result
+            (λ number. (number_view_kind self.now ≡ T.PTYPE)
+            × (option_map T.value number ≡ view_number self.now))
+            (λ e. (e ≡ VortexError.WrongPType) × ¬ (number_view_kind self.now ≡ T.PTYPE)) }
+    {
+        if self.ptype == T::PTYPE {
+            Ok(self.typed_value::<T>())
+        } else {
+            Err(VortexError::WrongPType)
+        }
+    }
+
+    /// Whether the number is zero; none for a null.
+    ///
+    /// Ports `PrimitiveScalar::is_zero`.
+    pub fn is_zero(&self) -> Option<bool>
+        ensures { result ≡ is_zero_of (number_view_type self.now) (content (number_view_raw self.now)) }
+    {
+        self.pvalue.map(|number| number.is_zero())
+    }
+
+    /// The same number as a Rust integer, which the caller knows to have it; none for a null.
+    ///
+    /// Ports `PrimitiveScalar::as_`, which panics where the integer does not have the number.
+    pub fn as_<T: NativePType>(&self) -> Option<T>
+        requires { IfSome (view_number self.now) (InRange T.PTYPE) }
+        ensures { option_map T.value result ≡ view_number self.now }
+    {
+        match self.as_opt::<T>() {
+            Some(number) => number,
+            None => unreachable!(),
+        }
+    }
+
+    /// The same number as a Rust integer, if it has it; some none for a null.
+    ///
+    /// Ports `PrimitiveScalar::as_opt`.
+    pub fn as_opt<T: NativePType>(&self) -> Option<Option<T>>
+        ensures { MatchOption result
+            (IsSomeAnd (view_number self.now) (λ number. ¬ (InRange T.PTYPE number)))
+            (λ number. option_map T.value number ≡ view_number self.now) }
+    {
+        match self.pvalue {
+            Some(number) => match T::from_pvalue(&number) {
+                Some(native) => Some(Some(native)),
+                None => None,
+            },
+            None => Some(None),
+        }
+    }
+}
+
+/// The view of a scalar's type and number, valid where the scalar is. An integer of another kind is
+/// taken as the same number of the type's kind.
+///
+/// `WrongKind` exactly where the type is not one of integers, or the raw value is none, or the
+/// type's kind does not have the number.
+impl<'a> TryFrom<&'a Scalar> for PrimitiveScalar<'a> {
+    ghost use Rattle.vortex_leaves.specs.PrimitiveViews.{IsNumberViewOf};
+
+    type Error = VortexError;
+
+    ghost try_from_gives = { λ scalar. GivesView
+        (IsNumberViewOf (scalar_type scalar.now)
+        (in_kind_of (scalar_type scalar.now) (scalar_raw scalar.now)))
+        (HoldsNumber (scalar_type scalar.now) (scalar_raw scalar.now)) };
+
+    fn try_from(scalar: &'a Scalar) -> Result<PrimitiveScalar<'a>, VortexError> {
+        let dtype = scalar.dtype();
+        let DType::Primitive(ptype, _) = dtype else {
+            return Err(VortexError::WrongKind);
+        };
+        let ptype = *ptype;
+        match scalar.value() {
+            Some(ScalarValue::Primitive(number)) => {
+                match PValue::from_whole(number.whole(), ptype) {
+                    Some(number) => Ok(PrimitiveScalar::of(dtype, ptype, number)),
+                    None => Err(VortexError::WrongKind),
+                }
+            }
+            Some(_) => Err(VortexError::WrongKind),
+            None => Ok(PrimitiveScalar {
+                dtype,
+                ptype,
+                pvalue: None,
+            }),
+        }
+    }
+}
+
+/// The scalar of the exact type and the number, valid where the view is. Takes no memory.
+///
+/// Ports `impl From<PrimitiveScalar<'_>> for Scalar`.
+impl From<PrimitiveScalar<'_>> for Scalar {
+    ghost use Rattle.vortex_leaves.specs.PrimitiveViews.{number_view_raw, number_view_type};
+
+    ghost from_gives = { λ x y. IsMadeOf (number_view_type x) (number_view_raw x) y };
+
+    fn from(view: PrimitiveScalar<'_>) -> Scalar {
+        let nullability = view.dtype.nullability();
+        Scalar {
+            dtype: DType::Primitive(view.ptype(), nullability),
+            value: view.pvalue.map(ScalarValue::Primitive),
+        }
+    }
+}
