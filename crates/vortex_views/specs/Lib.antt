@@ -1,5 +1,6 @@
 pub mod Lists
 pub mod Parts
+pub mod UnionExamples
 pub mod Unions
 pub mod Variants
 pub mod ViewKinds

@@ -14,3 +14,8 @@ abbrev pub is_of_variant : TypeTree → RawTree → Bool
 is_of_variant (variant_type n) absent = true
 is_of_variant (variant_type n) (raw_variant t v) = true
 is_of_variant _ _ = false
+
+-- whether the type is a variant; an extension over one is not
+abbrev pub is_variant_type : TypeTree → Bool
+is_variant_type (variant_type n) = true
+is_variant_type _ = false

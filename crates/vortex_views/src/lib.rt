@@ -2,11 +2,14 @@
 //! lent or copied.
 #![tactic(auto)]
 
+mod downcast;
 mod list;
 mod parts;
 mod union;
 mod variant;
 
+pub use downcast::Downcast;
 pub use list::ListScalar;
 pub use union::UnionScalar;
 pub use variant::VariantScalar;
+pub use vortex_leaves::{BinaryScalar, BoolScalar, PrimitiveScalar, Utf8Scalar};

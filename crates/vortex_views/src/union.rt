@@ -63,6 +63,16 @@ impl<'a> UnionScalar<'a> {
         Ok(UnionScalar { scalar })
     }
 
+    /// A borrowed scalar, viewed as a union. The caller knows that it is one.
+    ///
+    /// Ports `UnionScalar::new_unchecked`.
+    pub(crate) fn of(scalar: ScalarRef<'a>) -> UnionScalar<'a>
+        requires { is_of_union (ref_type scalar) (ref_raw scalar) ≡ true }
+        ensures { IsRefOf (ref_type scalar.entry) (ref_raw scalar.entry) (union_ref result) }
+    {
+        UnionScalar { scalar }
+    }
+
     /// The type.
     ///
     /// Ports `UnionScalar::dtype`.
