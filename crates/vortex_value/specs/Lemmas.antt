@@ -2,3 +2,4 @@
 pub mod EqualityLaws
 pub mod HashLaws
 pub mod ItemLaws
+pub mod VariantPlaces

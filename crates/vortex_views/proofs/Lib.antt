@@ -1,1 +1,2 @@
 pub mod PartSteps
+pub mod UnionSteps

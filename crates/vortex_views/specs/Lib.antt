@@ -3,3 +3,7 @@ pub mod Lists
 pub mod Maps
 pub mod PartExamples
 pub mod Parts
+pub mod UnionExamples
+pub mod Unions
+pub mod Variants
+pub mod ViewKinds

@@ -1,0 +1,20 @@
+-- What the value of a variant holds, and what contracts say of views of variants.
+use Rattle.std.specs.Prelude.{Bool, Option, Some, None}
+use Rattle.vortex_value.specs.Values.RawTree.{RawTree, raw_variant, is_absent}
+use Rattle.vortex_value.specs.declared.refs.ScalarRef.{ScalarRef}
+use Rattle.vortex_views.specs.Parts.{Part}
+use Rattle.vortex_views.specs.declared.variant.VariantScalar.{VariantScalar}
+
+-- the borrowed scalar that is viewed as a variant
+abbrev pub variant_ref : VariantScalar → ScalarRef
+variant_ref x = x.scalar
+
+-- the scalar that a variant's value holds, with the type that it brings along; a null holds none
+abbrev pub inner_of : RawTree → Option Part
+inner_of (raw_variant t v) = Some (t, v)
+inner_of _ = None
+
+-- whether that scalar is null, as the variant-null is; of a null none
+abbrev pub is_inner_null : RawTree → Option Bool
+is_inner_null (raw_variant t v) = Some (is_absent v)
+is_inner_null _ = None

@@ -1,0 +1,216 @@
+//! Scalars viewed as what their types say.
+
+ghost use Rattle.std.specs.Prelude.{◌≡◌, true, is_some, IfSome, IsTrue};
+ghost use Rattle.vortex_dtype.specs.Parts.{element_in, is_binary_type, is_union_type, is_utf8_type};
+ghost use Rattle.vortex_dtype.specs.TypeTree.{TypeTree};
+ghost use Rattle.vortex_leaves.specs.BoolViews.{IsBoolViewOf};
+ghost use Rattle.vortex_leaves.specs.BytesViews.{IsBytesViewOf};
+ghost use Rattle.vortex_leaves.specs.Leaves.{is_bool_type};
+ghost use Rattle.vortex_leaves.specs.Numbers.{kind_in};
+ghost use Rattle.vortex_leaves.specs.PrimitiveViews.{IsNumberViewOf};
+ghost use Rattle.vortex_leaves.specs.TextViews.{IsTextViewOf};
+ghost use Rattle.vortex_value.specs.Validity.{Valid};
+ghost use Rattle.vortex_value.specs.Values.RawTree.{RawTree};
+ghost use Rattle.vortex_value.specs.Values.Refs.{IsRefOf};
+ghost use Rattle.vortex_value.specs.Values.Scalars.{scalar_raw, scalar_type};
+ghost use Rattle.vortex_views.specs.Lists.{list_ref};
+ghost use Rattle.vortex_views.specs.Unions.{union_ref};
+ghost use Rattle.vortex_views.specs.Variants.{variant_ref};
+ghost use Rattle.vortex_views.specs.ViewKinds.{is_variant_type};
+
+use crate::list::ListScalar;
+use crate::union::UnionScalar;
+use crate::variant::VariantScalar;
+use vortex_dtype::DType;
+use vortex_leaves::{BinaryScalar, BoolScalar, PrimitiveScalar, Utf8Scalar};
+use vortex_value::{Scalar, ScalarRef};
+
+/// A valid scalar, viewed as what its type says.
+///
+/// Each call gives a view of exactly the scalar's type and raw value, which is therefore valid, also
+/// of a null. An extension is viewed as an extension alone, whatever it stores. The calls take no
+/// memory. Of this port alone: upstream has them as calls of `Scalar`.
+pub trait Downcast {
+    /// The type.
+    ghost type_at: { Self → TypeTree };
+
+    /// The raw value.
+    ghost raw_at: { Self → RawTree };
+
+    /// The view as a truth value. The caller knows the kind of the type.
+    ///
+    /// Ports `Scalar::as_bool`, which panics at another kind of type.
+    fn as_bool(&self) -> BoolScalar<'_>
+        requires valid { Valid (type_at self.now) (raw_at self.now) }
+        requires kind { is_bool_type (type_at self.now) ≡ true }
+        ensures { IsBoolViewOf (type_at self.now) (raw_at self.now) result }
+    {
+        self.as_bool_opt().unwrap()
+    }
+
+    /// The view as a truth value, and none exactly for another kind of type.
+    ///
+    /// Ports `Scalar::as_bool_opt`.
+    fn as_bool_opt(&self) -> Option<BoolScalar<'_>>
+        requires { Valid (type_at self.now) (raw_at self.now) }
+        ensures kind { is_some result ≡ is_bool_type (type_at self.now) }
+        ensures view { IfSome result (IsBoolViewOf (type_at self.now) (raw_at self.now)) };
+
+    /// The view as an integer. The caller knows the kind of the type.
+    ///
+    /// Ports `Scalar::as_primitive`, which panics at another kind of type.
+    fn as_primitive(&self) -> PrimitiveScalar<'_>
+        requires valid { Valid (type_at self.now) (raw_at self.now) }
+        requires kind { is_some (kind_in (type_at self.now)) ≡ true }
+        ensures { IsNumberViewOf (type_at self.now) (raw_at self.now) result }
+    {
+        self.as_primitive_opt().unwrap()
+    }
+
+    /// The view as an integer, and none exactly for another kind of type.
+    ///
+    /// Ports `Scalar::as_primitive_opt`.
+    fn as_primitive_opt(&self) -> Option<PrimitiveScalar<'_>>
+        requires { Valid (type_at self.now) (raw_at self.now) }
+        ensures kind { is_some result ≡ is_some (kind_in (type_at self.now)) }
+        ensures view { IfSome result (IsNumberViewOf (type_at self.now) (raw_at self.now)) };
+
+    /// The view as a text. The caller knows the kind of the type.
+    ///
+    /// Ports `Scalar::as_utf8`, which panics at another kind of type.
+    fn as_utf8(&self) -> Utf8Scalar<'_>
+        requires valid { Valid (type_at self.now) (raw_at self.now) }
+        requires kind { is_utf8_type (type_at self.now) ≡ true }
+        ensures { IsTextViewOf (type_at self.now) (raw_at self.now) result }
+    {
+        self.as_utf8_opt().unwrap()
+    }
+
+    /// The view as a text, and none exactly for another kind of type.
+    ///
+    /// Ports `Scalar::as_utf8_opt`.
+    fn as_utf8_opt(&self) -> Option<Utf8Scalar<'_>>
+        requires { Valid (type_at self.now) (raw_at self.now) }
+        ensures kind { is_some result ≡ is_utf8_type (type_at self.now) }
+        ensures view { IfSome result (IsTextViewOf (type_at self.now) (raw_at self.now)) };
+
+    /// The view as a string of bytes. The caller knows the kind of the type.
+    ///
+    /// Ports `Scalar::as_binary`, which panics at another kind of type.
+    fn as_binary(&self) -> BinaryScalar<'_>
+        requires valid { Valid (type_at self.now) (raw_at self.now) }
+        requires kind { is_binary_type (type_at self.now) ≡ true }
+        ensures { IsBytesViewOf (type_at self.now) (raw_at self.now) result }
+    {
+        self.as_binary_opt().unwrap()
+    }
+
+    /// The view as a string of bytes, and none exactly for another kind of type.
+    ///
+    /// Ports `Scalar::as_binary_opt`.
+    fn as_binary_opt(&self) -> Option<BinaryScalar<'_>>
+        requires { Valid (type_at self.now) (raw_at self.now) }
+        ensures kind { is_some result ≡ is_binary_type (type_at self.now) }
+        ensures view { IfSome result (IsBytesViewOf (type_at self.now) (raw_at self.now)) };
+
+    /// The view as a list, of fixed size or not. The caller knows the kind of the type.
+    ///
+    /// Ports `Scalar::as_list`, which panics at another kind of type.
+    fn as_list(&self) -> ListScalar<'_>
+        requires valid { Valid (type_at self.now) (raw_at self.now) }
+        requires kind { is_some (element_in (type_at self.now)) ≡ true }
+        ensures { IsRefOf (type_at self.now) (raw_at self.now) (list_ref result) }
+    {
+        self.as_list_opt().unwrap()
+    }
+
+    /// The view as a list, of fixed size or not, and none exactly for another kind of type.
+    ///
+    /// Ports `Scalar::as_list_opt`.
+    fn as_list_opt(&self) -> Option<ListScalar<'_>>
+        requires { Valid (type_at self.now) (raw_at self.now) }
+        ensures kind { is_some result ≡ is_some (element_in (type_at self.now)) }
+        ensures view { IfSome result
+            (λ view. IsRefOf (type_at self.now) (raw_at self.now) (list_ref view)) };
+
+    /// The view as a union. The caller knows the kind of the type.
+    ///
+    /// Ports `Scalar::as_union`, which panics at another kind of type.
+    fn as_union(&self) -> UnionScalar<'_>
+        requires valid { Valid (type_at self.now) (raw_at self.now) }
+        requires kind { is_union_type (type_at self.now) ≡ true }
+        ensures { IsRefOf (type_at self.now) (raw_at self.now) (union_ref result) }
+    {
+        self.as_union_opt().unwrap()
+    }
+
+    /// The view as a union, and none exactly for another kind of type.
+    ///
+    /// Ports `Scalar::as_union_opt`.
+    fn as_union_opt(&self) -> Option<UnionScalar<'_>>
+        requires { Valid (type_at self.now) (raw_at self.now) }
+        ensures kind { is_some result ≡ is_union_type (type_at self.now) }
+        ensures view { IfSome result
+            (λ view. IsRefOf (type_at self.now) (raw_at self.now) (union_ref view)) };
+
+    /// The view as a variant. The caller knows the kind of the type.
+    ///
+    /// Ports `Scalar::as_variant`, which panics at another kind of type.
+    fn as_variant(&self) -> VariantScalar<'_>
+        requires valid { Valid (type_at self.now) (raw_at self.now) }
+        requires kind { is_variant_type (type_at self.now) ≡ true }
+        ensures { IsRefOf (type_at self.now) (raw_at self.now) (variant_ref result) }
+    {
+        self.as_variant_opt().unwrap()
+    }
+
+    /// The view as a variant, and none exactly for another kind of type.
+    ///
+    /// Ports `Scalar::as_variant_opt`.
+    fn as_variant_opt(&self) -> Option<VariantScalar<'_>>
+        requires { Valid (type_at self.now) (raw_at self.now) }
+        ensures kind { is_some result ≡ is_variant_type (type_at self.now) }
+        ensures view { IfSome result
+            (λ view. IsRefOf (type_at self.now) (raw_at self.now) (variant_ref view)) };
+}
+
+impl Downcast for Scalar {
+    ghost type_at = { scalar_type };
+
+    ghost raw_at = { scalar_raw };
+
+    fn as_bool_opt(&self) -> Option<BoolScalar<'_>> {
+        BoolScalar::try_from(self).ok()
+    }
+
+    fn as_primitive_opt(&self) -> Option<PrimitiveScalar<'_>> {
+        PrimitiveScalar::try_from(self).ok()
+    }
+
+    fn as_utf8_opt(&self) -> Option<Utf8Scalar<'_>> {
+        Utf8Scalar::try_from(self).ok()
+    }
+
+    fn as_binary_opt(&self) -> Option<BinaryScalar<'_>> {
+        BinaryScalar::try_from(self).ok()
+    }
+
+    fn as_list_opt(&self) -> Option<ListScalar<'_>> {
+        ListScalar::try_from(self).ok()
+    }
+
+    fn as_union_opt(&self) -> Option<UnionScalar<'_>> {
+        if self.dtype().is_union() {
+            Some(UnionScalar::of(ScalarRef::of(self)))
+        } else {
+            None
+        }
+    }
+
+    fn as_variant_opt(&self) -> Option<VariantScalar<'_>> {
+        match self.dtype() {
+            DType::Variant(_) => Some(VariantScalar::of(ScalarRef::of(self))),
+            _ => None,
+        }
+    }
+}

@@ -1,0 +1,256 @@
+//! Views of unions.
+
+ghost use Rattle.std.specs.Prelude.{◌≡◌, ◌↔◌, true, option_map, IfErr, IfNone, IfOk, IfSome, IsOk, IsTrue, MatchOption, Some, false};
+ghost use Rattle.std.specs.Cmp.{partial_equiv_from_equiv};
+ghost use Rattle.std.specs.Option.{option_copied};
+ghost use Rattle.std.proofs.lemmas.Cmp.{on_equiv};
+ghost use Rattle.vortex_dtype.specs.Parts.{is_union_type};
+ghost use Rattle.vortex_dtype.specs.TypeOf.{type_of, union_type_of, variants_of};
+ghost use Rattle.vortex_dtype.specs.TypeTree.{nullability_of};
+ghost use Rattle.vortex_value.specs.Lemmas.EqualityLaws.{equal-equiv};
+ghost use Rattle.vortex_value.specs.Validity.{Valid};
+ghost use Rattle.vortex_value.specs.Values.Content.{typed};
+ghost use Rattle.vortex_value.specs.Values.RawOf.{raw_of, union_tree};
+ghost use Rattle.vortex_value.specs.Values.RawTree.{absent, is_absent};
+ghost use Rattle.vortex_value.specs.Values.Refs.{IsRefOf, IsValidRef, ref_content, ref_raw, ref_type};
+ghost use Rattle.vortex_value.specs.Values.Scalars.{IsValid};
+ghost use Rattle.vortex_views.specs.Parts.{RefusesView, ref_equal, ref_part, ref_text, scalar_part};
+ghost use Rattle.vortex_views.specs.ViewKinds.{is_of_union};
+
+use crate::parts::copied;
+use std::alloc::Global;
+use std::fmt::{self, Display, Formatter, Write};
+use vortex_dtype::{DType, FieldName, Nullability, UnionVariants, VortexError};
+use vortex_value::{Scalar, ScalarRef, ScalarValue, UnionValue};
+
+/// A view of a scalar whose type is a union: a null, or a value of one of the variants.
+///
+/// A union whose child is null, an inner null, is itself not null: it has an id, and its child is a
+/// null scalar. Ports `UnionScalar`.
+#[derive(Clone, Copy, Debug)]
+pub struct UnionScalar<'a> {
+    scalar: ScalarRef<'a>,
+    ghost kind: { is_of_union (ref_type scalar) (ref_raw scalar) ≡ true },
+}
+
+impl<'a> UnionScalar<'a> {
+    ghost use Rattle.vortex_views.specs.Unions.{IsNamedUnion, child_of, chosen_name, chosen_place, chosen_type, id_of, union_ref};
+
+    /// The type and the raw value, or its absence, viewed as a union.
+    ///
+    /// `WrongKind` exactly where the type is no union, an extension over one included; else `Invalid`
+    /// where the raw value is not valid for the type, with the first breach in reading order and the
+    /// path to it, and `OutOfMemory` in its place where the path has steps and there is no memory for
+    /// them. A valid value takes none. Ports `UnionScalar::try_new`.
+    #[tactic(auto, using(crate::proofs::UnionSteps::shown))]
+    pub fn try_new(
+        alloc: Global,
+        dtype: &'a DType,
+        value: Option<&'a ScalarValue>,
+    ) -> Result<UnionScalar<'a>, VortexError>
+        ensures ok { IsOk result ↔ (IsTrue (is_union_type (type_of dtype.now))
+            × Valid (type_of dtype.now) (raw_of (option_copied value.entry))) }
+        ensures made { IfOk result (λ view.
+            IsRefOf (type_of dtype.now) (raw_of (option_copied value.entry)) (union_ref view)) }
+        ensures valid { IfOk result (λ view. IsValidRef (union_ref view)) }
+        ensures refused { IfErr result (RefusesView (is_union_type (type_of dtype.now))
+            (type_of dtype.now) (raw_of (option_copied value.entry))) }
+    {
+        if !dtype.is_union() {
+            return Err(VortexError::WrongKind);
+        }
+        let scalar = ScalarRef::try_new(alloc, dtype, value)?;
+        Ok(UnionScalar { scalar })
+    }
+
+    /// A borrowed scalar, viewed as a union. The caller knows that it is one.
+    ///
+    /// Ports `UnionScalar::new_unchecked`.
+    pub(crate) fn of(scalar: ScalarRef<'a>) -> UnionScalar<'a>
+        requires { is_of_union (ref_type scalar) (ref_raw scalar) ≡ true }
+        ensures { IsRefOf (ref_type scalar.entry) (ref_raw scalar.entry) (union_ref result) }
+    {
+        UnionScalar { scalar }
+    }
+
+    /// The type.
+    ///
+    /// Ports `UnionScalar::dtype`.
+    pub fn dtype(&self) -> &'a DType
+        ensures { type_of result.now ≡ ref_type (union_ref self.now) }
+    {
+        self.scalar.dtype()
+    }
+
+    /// The variants of the type, also where the union is null.
+    ///
+    /// Ports `UnionScalar::variants`.
+    pub fn variants(&self) -> &'a UnionVariants
+        ensures { union_type_of (variants_of result.now) (nullability_of (ref_type (union_ref self.now)))
+            ≡ ref_type (union_ref self.now) }
+    {
+        match self.scalar.dtype() {
+            DType::Union(variants, _) => variants,
+            _ => unreachable!(),
+        }
+    }
+
+    /// Whether the union itself takes a null, whatever its variants take.
+    ///
+    /// Ports `UnionScalar::nullability`.
+    pub fn nullability(&self) -> Nullability
+        ensures { result ≡ nullability_of (ref_type (union_ref self.now)) }
+    {
+        self.scalar.dtype().nullability()
+    }
+
+    /// Whether the union itself is null; an inner null is not.
+    ///
+    /// Ports `UnionScalar::is_null`.
+    pub fn is_null(&self) -> bool
+        ensures { result ≡ is_absent (ref_raw (union_ref self.now)) }
+    {
+        self.scalar.is_null()
+    }
+
+    /// The id of the chosen variant, and none exactly of a null.
+    ///
+    /// Ports `UnionScalar::type_id`.
+    pub fn type_id(&self) -> Option<u8>
+        ensures id { result ≡ id_of (ref_raw (union_ref self.now)) }
+        ensures present { IfNone result (ref_raw (union_ref self.now) ≡ absent) }
+    {
+        match self.chosen() {
+            Some(union) => Some(union.type_id()),
+            None => None,
+        }
+    }
+
+    /// The place of the chosen variant among the variants, and none exactly of a null.
+    ///
+    /// Ports `UnionScalar::child_index`.
+    #[tactic(auto, using(crate::proofs::UnionSteps::chosen))]
+    pub fn child_index(&self) -> Option<usize>
+        requires { IsValidRef (union_ref self.now) }
+        ensures place { result
+            ≡ chosen_place (ref_type (union_ref self.now)) (ref_raw (union_ref self.now)) }
+        ensures present { IfNone result (ref_raw (union_ref self.now) ≡ absent) }
+    {
+        match self.type_id() {
+            Some(id) => self.variants().tag_to_child_index(id),
+            None => None,
+        }
+    }
+
+    /// The name of the chosen variant, and none exactly of a null. A type that has fewer names than
+    /// ids, which no maker of types gives, has none for some variants.
+    ///
+    /// Ports `UnionScalar::variant_name`.
+    #[tactic(auto, using(crate::proofs::UnionSteps::chosen))]
+    pub fn variant_name(&self) -> Option<&'a FieldName>
+        requires { IsValidRef (union_ref self.now) }
+        ensures name { option_map (λ name. name.now) result
+            ≡ chosen_name (ref_type (union_ref self.now)) (ref_raw (union_ref self.now)) }
+        ensures present { IsNamedUnion (ref_type (union_ref self.now))
+            → IfNone result (ref_raw (union_ref self.now) ≡ absent) }
+    {
+        match self.child_index() {
+            Some(index) => self.variants().names().get(index),
+            None => None,
+        }
+    }
+
+    /// The type of the chosen variant, and none exactly of a null.
+    ///
+    /// Ports `UnionScalar::variant_dtype`, which copies it.
+    #[tactic(auto, using(crate::proofs::UnionSteps::chosen))]
+    pub fn variant_dtype(&self) -> Option<&'a DType>
+        requires { IsValidRef (union_ref self.now) }
+        ensures tree { option_map (λ dtype. type_of dtype.now) result
+            ≡ chosen_type (ref_type (union_ref self.now)) (ref_raw (union_ref self.now)) }
+        ensures present { IfNone result (ref_raw (union_ref self.now) ≡ absent) }
+    {
+        match self.child_index() {
+            Some(index) => self.variants().variant_by_index(index),
+            None => None,
+        }
+    }
+
+    /// A scalar of its own of the child, of the chosen variant's type, and none exactly of a null. An
+    /// inner null is a scalar that is null.
+    ///
+    /// `OutOfMemory` is its only refusal, and never of a null. Ports `UnionScalar::child`.
+    #[tactic(auto, using(crate::proofs::UnionSteps::copied_child))]
+    pub fn child(&self, alloc: Global) -> Result<Option<Scalar>, VortexError>
+        requires { IsValidRef (union_ref self.now) }
+        ensures copied { IfOk result (λ child. option_map scalar_part child
+            ≡ child_of (ref_type (union_ref self.now)) (ref_raw (union_ref self.now))) }
+        ensures present { IfOk result
+            (λ child. IfNone child (ref_raw (union_ref self.now) ≡ absent)) }
+        ensures valid { IfOk result (λ child. IfSome child IsValid) }
+        ensures refused { IfErr result (λ e. (e ≡ VortexError.OutOfMemory)
+            × (is_absent (ref_raw (union_ref self.now)) ≡ false)) }
+    {
+        copied(alloc, self.child_ref())
+    }
+
+    /// The child, borrowed.
+    #[tactic(auto, using(crate::proofs::UnionSteps::lent_child))]
+    fn child_ref(&self) -> Option<ScalarRef<'a>>
+        requires { IsValidRef (union_ref self.now) }
+        ensures lent { option_map ref_part result
+            ≡ child_of (ref_type (union_ref self.now)) (ref_raw (union_ref self.now)) }
+        ensures present { IfNone result (ref_raw (union_ref self.now) ≡ absent) }
+        ensures valid { IfSome result IsValidRef }
+    {
+        match (self.chosen(), self.variant_dtype()) {
+            (Some(union), Some(dtype)) => Some(ScalarRef::from_parts(dtype, union.child_value())),
+            _ => None,
+        }
+    }
+
+    /// The id and the child.
+    fn chosen(&self) -> Option<&'a UnionValue>
+        ensures { MatchOption result (ref_raw (union_ref self.now) ≡ absent)
+            (λ union. ref_raw (union_ref self.now) ≡ union_tree union.now) }
+    {
+        match self.scalar.value() {
+            Some(ScalarValue::Union(union)) => Some(union),
+            Some(_) => unreachable!(),
+            None => None,
+        }
+    }
+}
+
+impl PartialEq for UnionScalar<'_> {
+    ghost use Rattle.vortex_views.specs.Unions.{union_ref};
+
+    ghost eq = { λ a b. ref_equal (union_ref a) (union_ref b) };
+
+    ghost laws = { partial_equiv_from_equiv
+        (on_equiv (λ x. typed (ref_type (union_ref x)) (ref_content (union_ref x))) equal-equiv) };
+
+    fn eq(&self, other: &UnionScalar<'_>) -> bool {
+        self.scalar == other.scalar
+    }
+}
+
+impl Eq for UnionScalar<'_> {
+    ghost use Rattle.vortex_views.specs.Unions.{union_ref};
+
+    ghost laws = { on_equiv (λ x. typed (ref_type (union_ref x)) (ref_content (union_ref x))) equal-equiv };
+}
+
+/// Writes `null`, or the name of the chosen variant and the child's text in parentheses, as
+/// `int(42i32)`. Takes no memory.
+///
+/// Ports the `Display` of `UnionScalar`.
+impl Display for UnionScalar<'_> {
+    ghost use Rattle.vortex_views.specs.Unions.{union_ref};
+
+    ghost output = { λ x. Some (ref_text (union_ref x)) };
+
+    fn fmt<W: Write>(&self, f: &mut Formatter<W>) -> fmt::Result {
+        self.scalar.fmt(f)
+    }
+}

@@ -1,0 +1,116 @@
+//! Views of variants.
+
+ghost use Rattle.std.specs.Prelude.{◌≡◌, true, option_map, IfNone, IfSome, Some};
+ghost use Rattle.vortex_dtype.specs.TypeOf.{type_of};
+ghost use Rattle.vortex_value.specs.Values.RawTree.{absent, is_absent};
+ghost use Rattle.vortex_value.specs.Values.Refs.{IsRefOf, IsValidRef, ref_content, ref_raw, ref_type};
+ghost use Rattle.vortex_value.specs.Values.Scalars.{IsValid};
+ghost use Rattle.vortex_value.specs.Zero.{is_zero_of};
+ghost use Rattle.vortex_views.specs.Parts.{ref_text, scalar_part};
+ghost use Rattle.vortex_views.specs.ViewKinds.{is_of_variant};
+
+use std::fmt::{self, Display, Formatter, Write};
+use vortex_dtype::DType;
+use vortex_value::{Scalar, ScalarRef, ScalarValue};
+
+/// A view of a scalar whose type is a variant: a null, or a scalar that brings its type along.
+///
+/// The variant-null, which holds the null of the type of nulls, is itself not null. Ports
+/// `VariantScalar`.
+#[derive(Clone, Copy, Debug)]
+pub struct VariantScalar<'a> {
+    scalar: ScalarRef<'a>,
+    ghost kind: { is_of_variant (ref_type scalar) (ref_raw scalar) ≡ true },
+}
+
+impl<'a> VariantScalar<'a> {
+    ghost use Rattle.vortex_views.specs.Variants.{inner_of, is_inner_null, variant_ref};
+
+    /// A borrowed scalar, viewed as a variant. The caller knows that it is one.
+    ///
+    /// Ports `VariantScalar::try_new`, which tests the type and panics at another kind of value.
+    pub(crate) fn of(scalar: ScalarRef<'a>) -> VariantScalar<'a>
+        requires { is_of_variant (ref_type scalar) (ref_raw scalar) ≡ true }
+        ensures { IsRefOf (ref_type scalar.entry) (ref_raw scalar.entry) (variant_ref result) }
+    {
+        VariantScalar { scalar }
+    }
+
+    /// The type.
+    ///
+    /// Ports `VariantScalar::dtype`.
+    pub fn dtype(&self) -> &'a DType
+        ensures { type_of result.now ≡ ref_type (variant_ref self.now) }
+    {
+        self.scalar.dtype()
+    }
+
+    /// Whether the variant itself is null; the variant-null is not.
+    ///
+    /// Ports `VariantScalar::is_null`.
+    pub fn is_null(&self) -> bool
+        ensures { result ≡ is_absent (ref_raw (variant_ref self.now)) }
+    {
+        self.scalar.is_null()
+    }
+
+    /// The scalar that the variant holds, and none exactly of a null.
+    ///
+    /// Ports `VariantScalar::value`.
+    pub fn value(&self) -> Option<&'a Scalar>
+        ensures inner { option_map (λ inner. scalar_part inner.now) result
+            ≡ inner_of (ref_raw (variant_ref self.now)) }
+        ensures present { IfNone result (ref_raw (variant_ref self.now) ≡ absent) }
+        ensures valid { IsValidRef (variant_ref self.now)
+            → IfSome result (λ inner. IsValid inner.now) }
+    {
+        match self.scalar.value() {
+            Some(ScalarValue::Variant(inner)) => Some(inner),
+            Some(_) => unreachable!(),
+            None => None,
+        }
+    }
+
+    /// Whether the scalar that the variant holds is null, as the variant-null is; none exactly of a
+    /// null.
+    ///
+    /// Ports `VariantScalar::is_variant_null`.
+    pub fn is_variant_null(&self) -> Option<bool>
+        ensures null { result ≡ is_inner_null (ref_raw (variant_ref self.now)) }
+        ensures present { IfNone result (ref_raw (variant_ref self.now) ≡ absent) }
+    {
+        match self.value() {
+            Some(inner) => Some(inner.is_null()),
+            None => None,
+        }
+    }
+
+    /// Whether the variant is zero: the variant-null is, and else what the scalar that it holds says,
+    /// which says nothing at a union whose child is null. None of a null.
+    ///
+    /// Ports `VariantScalar::is_zero`.
+    pub fn is_zero(&self) -> Option<bool>
+        requires { IsValidRef (variant_ref self.now) }
+        ensures { result
+            ≡ is_zero_of (ref_type (variant_ref self.now)) (ref_content (variant_ref self.now)) }
+    {
+        match self.value() {
+            Some(inner) if inner.is_null() => Some(true),
+            Some(inner) => inner.is_zero(),
+            None => None,
+        }
+    }
+}
+
+/// Writes `null`, or `variant(..)` with the text of the scalar that it holds. Takes no memory.
+///
+/// Ports the `Display` of `VariantScalar`.
+impl Display for VariantScalar<'_> {
+    ghost use Rattle.vortex_views.specs.Variants.{variant_ref};
+
+    ghost output = { λ x. Some (ref_text (variant_ref x)) };
+
+    fn fmt<W: Write>(&self, f: &mut Formatter<W>) -> fmt::Result {
+        self.scalar.fmt(f)
+    }
+}
