@@ -3,6 +3,7 @@
 
 mod cast;
 mod constructor;
+mod convert;
 mod copies;
 mod display;
 mod equality;
