@@ -6,7 +6,7 @@ ghost use Rattle.vortex_dtype.specs.TypeTree.{as_nullable};
 ghost use Rattle.vortex_value.specs.Casts.{CanCast, RefusesCast};
 ghost use Rattle.vortex_value.specs.Values.Scalars.{IsMadeOf, IsTheOne, IsValid, scalar_content, scalar_raw, scalar_type};
 
-use crate::scalars::Scalar;
+use crate::scalars::{Scalar, with_type};
 use std::alloc::Global;
 use vortex_dtype::{DType, VortexError};
 
@@ -28,8 +28,7 @@ impl Scalar {
             (CanCast (scalar_type self.now) (type_of target.now) (scalar_content self.now))) }
     {
         let value = values::cast_value(alloc, self.value.as_ref(), &self.dtype, target)?;
-        let dtype = target.clone(alloc)?;
-        Ok(Scalar { dtype, value })
+        with_type(target.clone(alloc), value)
     }
 
     /// The same raw value, of the type made nullable. Takes no memory.
