@@ -8,7 +8,7 @@ ghost use Rattle.vortex_value.specs.Values.Refs.{IsValidRef, ref_content, ref_ty
 ghost use Rattle.vortex_value.specs.Values.Scalars.{IsMadeOf, IsTheOne, IsValid, scalar_content, scalar_raw, scalar_type};
 
 use crate::refs::ScalarRef;
-use crate::scalars::Scalar;
+use crate::scalars::{Scalar, with_type};
 use std::alloc::Global;
 use vortex_dtype::{DType, VortexError};
 
@@ -61,7 +61,6 @@ impl ScalarRef<'_> {
             (CanCast (ref_type self.now) (type_of target.now) (ref_content self.now))) }
     {
         let value = values::cast_value(alloc, self.value(), self.dtype(), target)?;
-        let dtype = target.clone(alloc)?;
-        Ok(Scalar { dtype, value })
+        with_type(target.clone(alloc), value)
     }
 }

@@ -1,6 +1,6 @@
 //! Makers of scalars: each answers a valid scalar of the stated type, or refuses by name.
 
-ghost use Rattle.std.specs.Prelude.{◌≡◌, ◌≢◌, ◌↔◌, None, Ok, Err, IsOk, IfOk, IfErr, IsUtf8, MatchResult, Some, true};
+ghost use Rattle.std.specs.Prelude.{◌≡◌, ◌≢◌, ◌↔◌, None, Ok, Err, IsOk, IfOk, IfErr, IsUtf8, MatchResult, Some, false, true};
 ghost use Rattle.vortex_dtype.specs.Refusals.{RefusesExactly, RefusesOrNoMemory};
 ghost use Rattle.vortex_dtype.specs.TypeOf.{type_of, ext_of, variants_of};
 ghost use Rattle.vortex_dtype.specs.TypeTree.{IsFlat, IsNullable, as_nullable, bool_type, integer_type, utf8_type, binary_type, variant_type};
@@ -9,7 +9,7 @@ ghost use Rattle.vortex_dtype.specs.declared.kinds.Nullability.TheVariants.{NonN
 ghost use Rattle.vortex_pvalue.specs.Whole.{kind_of, whole_of};
 ghost use Rattle.vortex_value.specs.Breaches.{Refuses, breaches};
 ghost use Rattle.vortex_value.specs.Makers.{child_cause, union_cause, inside_cause, union_of, extension_over};
-ghost use Rattle.vortex_value.specs.Values.RawOf.{raw_of};
+ghost use Rattle.vortex_value.specs.Values.RawOf.{raw_of, value_tree};
 ghost use Rattle.vortex_value.specs.Values.RawTree.{absent, raw_bool, raw_integer, raw_text, raw_bytes, raw_union, raw_variant, is_absent};
 ghost use Rattle.vortex_value.specs.Values.Scalars.{IsMadeOf, IsValid, scalar_raw, scalar_type};
 ghost use Rattle.vortex_value.specs.Validity.{Valid};
@@ -47,7 +47,10 @@ impl Scalar {
         ensures refused { IfErr result (λ e. Refuses e (breaches (type_of dtype) (raw_of value))) }
         ensures flat { IsFlat (type_of dtype) → result ≢ Err VortexError.OutOfMemory }
     {
-        Scalar::validate(alloc, &dtype, value.as_ref())?;
+        if let Err(cause) = Scalar::validate(alloc, &dtype, value.as_ref()) {
+            drop((dtype, value));
+            return Err(cause);
+        }
         Ok(Scalar { dtype, value })
     }
 
@@ -177,10 +180,13 @@ impl Scalar {
             (IsMadeOf (extension_over (ext_of ext_dtype)) (scalar_raw storage)) }
         ensures valid { IfOk result IsValid }
     {
-        check_child(0, ext_dtype.storage_dtype(), &storage.dtype)?;
+        if let Err(cause) = check_child(0, ext_dtype.storage_dtype(), &storage.dtype) {
+            drop((ext_dtype, storage));
+            return Err(cause);
+        }
         Ok(Scalar {
             dtype: DType::Extension(ext_dtype),
-            value: storage.value,
+            value: storage.into_value(),
         })
     }
 
@@ -208,12 +214,12 @@ impl Scalar {
             → IfErr result (λ e. e ≢ OutOfMemory) }
         ensures valid { IfOk result IsValid }
     {
-        check_variant(&variants, type_id, &child.dtype)?;
-        let union = UnionValue::new(alloc, type_id, child.value)?;
-        Ok(Scalar {
-            dtype: DType::Union(variants, nullability),
-            value: Some(ScalarValue::Union(union)),
-        })
+        if let Err(cause) = check_variant(&variants, type_id, &child.dtype) {
+            drop((variants, child));
+            return Err(cause);
+        }
+        let value = union_value(alloc, type_id, child);
+        scalar_of(DType::Union(variants, nullability), value)
     }
 
     /// The scalar of a variant that holds this scalar, its exact type included.
@@ -230,13 +236,26 @@ impl Scalar {
         ensures valid { IfOk result IsValid }
     {
         if value.value.is_none() && !matches!(value.dtype, DType::Null) {
+            drop(value);
             return Err(VortexError::VariantNull);
         }
+        let inner = Box::new(alloc, value)?;
         Ok(Scalar {
             dtype: DType::Variant(Nullability::NonNullable),
-            value: Some(ScalarValue::Variant(Box::new(alloc, value)?)),
+            value: Some(ScalarValue::Variant(inner)),
         })
     }
+}
+
+/// The raw value of a union with this id and child.
+#[tactic(auto, using(crate::proofs::ValueSteps::shown))]
+fn union_value(alloc: Global, type_id: u8, child: Scalar) -> Result<ScalarValue, VortexError>
+    ensures { MatchResult result
+        (λ value. value_tree value ≡ raw_union type_id (scalar_raw child))
+        (λ e. (e ≡ OutOfMemory) × (is_absent (scalar_raw child) ≡ false)) }
+{
+    let union = UnionValue::new(alloc, type_id, child.into_value())?;
+    Ok(ScalarValue::Union(union))
 }
 
 /// The scalar of this type and raw value, or the refusal that came in the value's place.
@@ -245,10 +264,16 @@ fn scalar_of(dtype: DType, value: Result<ScalarValue, VortexError>) -> Result<Sc
         (λ v. result ≡ Ok (record { dtype = dtype; value = Some v }))
         (λ e. result ≡ Err e) }
 {
-    Ok(Scalar {
-        dtype,
-        value: Some(value?),
-    })
+    match value {
+        Ok(value) => Ok(Scalar {
+            dtype,
+            value: Some(value),
+        }),
+        Err(cause) => {
+            drop(dtype);
+            Err(cause)
+        }
+    }
 }
 
 /// Sees that a child's type is exactly the expected one.

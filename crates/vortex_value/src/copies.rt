@@ -9,7 +9,7 @@ ghost use Rattle.vortex_dtype.specs.declared.error.VortexError.TheVariants.{OutO
 ghost use Rattle.vortex_value.specs.Values.RawKinds.{TakesNoMemory};
 ghost use Rattle.vortex_value.specs.Values.RawOf.{value_tree, union_tree, raw_of};
 
-use crate::scalars::Scalar;
+use crate::scalars::{Scalar, with_type};
 use crate::unions::UnionValue;
 use crate::values::ScalarValue;
 use std::alloc::Global;
@@ -104,7 +104,6 @@ pub(crate) fn copy_scalar(alloc: Global, scalar: &Scalar) -> Result<Scalar, Vort
         (λ e. (e ≡ OutOfMemory)
         × ¬ (IsFlat (type_of scalar.now.dtype) × TakesNoMemory (raw_of scalar.now.value))) }
 {
-    let dtype = scalar.dtype.clone(alloc)?;
     let value = copy_optional(alloc, scalar.value.as_ref())?;
-    Ok(Scalar { dtype, value })
+    with_type(scalar.dtype.clone(alloc), value)
 }

@@ -1,6 +1,6 @@
 //! The texts of raw values and of scalars, written from borrowed parts.
 
-ghost use Rattle.std.specs.Prelude.{◌≡◌, Some, codes, option_map};
+ghost use Rattle.std.specs.Prelude.{◌≡◌, ◌++◌, Some, codes, option_map};
 ghost use Rattle.std.specs.Fmt.{WritesOnOk};
 ghost use Rattle.std.specs.Option.{option_copied};
 ghost use Rattle.vortex_dtype.specs.TypeOf.{fields_of, map_of, type_of, as_type_trees, variants_of};
@@ -18,7 +18,7 @@ use crate::storage::{storage_of, variant_with};
 use crate::unions::UnionValue;
 use crate::values::ScalarValue;
 use std::fmt::{self, Display, Formatter, Write};
-use vortex_dtype::{DType, MapDType, StructFields, UnionVariants};
+use vortex_dtype::{DType, FieldName, MapDType, StructFields, UnionVariants};
 
 mod leaves;
 
@@ -169,11 +169,26 @@ fn write_fields<W: Write>(
     let named = items.iter().zip(fields.names().iter());
     for (index, ((item, name), dtype)) in named.zip(fields.dtypes()).enumerate() {
         f.write_str(leaves::before(index, ", "))?;
-        f.write_str(name.as_str())?;
-        f.write_str(": ")?;
-        write_part(item.as_ref(), dtype, f)?;
+        write_field(name, item.as_ref(), dtype, f)?;
     }
     f.write_str("}")
+}
+
+/// One field: its name, and after a colon its value.
+#[cycle(text)]
+fn write_field<W: Write>(
+    field: &FieldName,
+    value: Option<&ScalarValue>,
+    dtype: &DType,
+    f: &mut Formatter<W>,
+) -> fmt::Result
+    ensures { WritesOnOk W.write_str_gives f.old result
+        (field.now ++ (codes ": "
+        ++ text_at (storage (type_of dtype.now)) (raw_of (option_copied value.entry)))) f.new }
+{
+    f.write_str(field.as_str())?;
+    f.write_str(": ")?;
+    write_part(value, dtype, f)
 }
 
 /// The text of a valid value of a union. Of another type it writes nothing.

@@ -23,7 +23,7 @@ use crate::copies::copy_optional;
 use crate::equality::{equal_optional, same_types};
 use crate::hashing::feed;
 use crate::ordering::compare;
-use crate::scalars::Scalar;
+use crate::scalars::{Scalar, with_type};
 use crate::values::ScalarValue;
 use std::alloc::Global;
 use std::cmp::Ordering;
@@ -122,9 +122,8 @@ impl<'a> ScalarRef<'a> {
         ensures refused { IfErr result (λ e. e ≡ VortexError.OutOfMemory) }
         ensures flat { IsFlat (ref_type self.now) → IsValidRef self.now → IsOk result }
     {
-        let dtype = self.dtype.clone(alloc)?;
         let value = copy_optional(alloc, self.value)?;
-        Ok(Scalar { dtype, value })
+        with_type(self.dtype.clone(alloc), value)
     }
 }
 

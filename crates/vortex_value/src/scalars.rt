@@ -1,6 +1,6 @@
 //! Scalars: a type and an optional raw value.
 
-ghost use Rattle.std.specs.Prelude.{◌≡◌, ◌↔◌, not, IsOk, IsTrue, IfOk, IfErr};
+ghost use Rattle.std.specs.Prelude.{◌≡◌, ◌↔◌, not, IsOk, IsTrue, Ok, Err, IfOk, IfErr, MatchResult};
 ghost use Rattle.std.specs.Option.{option_copied};
 ghost use Rattle.vortex_dtype.specs.TypeTree.{IsFlat, Same};
 ghost use Rattle.vortex_value.specs.Equality.{EqualContents};
@@ -51,7 +51,9 @@ impl Scalar {
     pub fn into_value(self) -> Option<ScalarValue>
         ensures { result ≡ self.value }
     {
-        self.value
+        let Scalar { dtype, value } = self;
+        drop(dtype);
+        value
     }
 
     /// The type and the raw value, by value.
@@ -102,5 +104,24 @@ impl Scalar {
         ensures flat { IsFlat (scalar_type self.now) → IsValid self.now → IsOk result }
     {
         copies::copy_scalar(alloc, self)
+    }
+}
+
+/// The scalar of this value and of the type that was made for it, or why none was made. The value is
+/// then dropped as a whole, by a call: at an exit its drop is written out, variant by variant.
+pub(crate) fn with_type(
+    dtype: Result<DType, VortexError>,
+    value: Option<ScalarValue>,
+) -> Result<Scalar, VortexError>
+    ensures { MatchResult dtype
+        (λ t. result ≡ Ok (record { dtype = t; value = value }))
+        (λ e. result ≡ Err e) }
+{
+    match dtype {
+        Ok(dtype) => Ok(Scalar { dtype, value }),
+        Err(cause) => {
+            drop(value);
+            Err(cause)
+        }
     }
 }

@@ -14,7 +14,7 @@ ghost use Rattle.vortex_value.specs.Values.Scalars.{scalar_content, scalar_type}
 ghost use Rattle.vortex_value.specs.Steps.Filling.{EachFills, FillFields, Fills, FillsFirst, child_filling, first_of};
 ghost use Rattle.vortex_value.specs.Zero.{IsTheOneOf, default_of, each_zero, fields_zero, filling, fillings, is_zero_of, of_first, of_inner, places_of, zero_of};
 
-use crate::scalars::Scalar;
+use crate::scalars::{Scalar, with_type};
 use crate::storage::{first_variant, storage_of};
 use crate::unions::UnionValue;
 use crate::values::ScalarValue;
@@ -196,8 +196,7 @@ fn filled(alloc: Global, dtype: &DType, nulls: bool) -> Result<Option<Scalar>, V
         return Ok(None);
     }
     let value = fill(alloc, dtype, nulls)?;
-    let dtype = dtype.clone(alloc)?;
-    Ok(Some(Scalar { dtype, value }))
+    Ok(Some(with_type(dtype.clone(alloc), value)?))
 }
 
 /// Whether the number is zero.

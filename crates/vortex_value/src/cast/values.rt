@@ -218,11 +218,9 @@ fn cast_pair(
         return Err(VortexError::CannotCast);
     }
     let (key, value) = (&parts[0], &parts[1]);
-    let key = cast_value(alloc, key.as_ref(), from.key_dtype(), to.key_dtype())?;
-    let value = cast_value(alloc, value.as_ref(), from.value_dtype(), to.value_dtype())?;
     let mut pair = Vec::with_capacity(alloc, 2)?;
-    pair.push(key)?;
-    pair.push(value)?;
+    pair.push(cast_value(alloc, key.as_ref(), from.key_dtype(), to.key_dtype())?)?;
+    pair.push(cast_value(alloc, value.as_ref(), from.value_dtype(), to.value_dtype())?)?;
     Ok(ScalarValue::Tuple(pair))
 }
 

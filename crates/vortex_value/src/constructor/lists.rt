@@ -37,10 +37,10 @@ impl Scalar {
             (raw_tuple (child_trees children.items))) }
         ensures valid { IfOk result IsValid }
     {
-        list_size(&element_dtype, &children)?;
+        let (element, _, value) = list_parts(alloc, element_dtype, children)?;
         Ok(Scalar {
-            dtype: DType::List(Box::new(alloc, element_dtype)?, nullability),
-            value: Some(tuple_of(alloc, children)?),
+            dtype: DType::List(element, nullability),
+            value: Some(value),
         })
     }
 
@@ -62,10 +62,10 @@ impl Scalar {
             (raw_tuple (child_trees children.items))) }
         ensures valid { IfOk result IsValid }
     {
-        let size = list_size(&element_dtype, &children)?;
+        let (element, size, value) = list_parts(alloc, element_dtype, children)?;
         Ok(Scalar {
-            dtype: DType::FixedSizeList(Box::new(alloc, element_dtype)?, size, nullability),
-            value: Some(tuple_of(alloc, children)?),
+            dtype: DType::FixedSizeList(element, size, nullability),
+            value: Some(value),
         })
     }
 
@@ -86,6 +86,42 @@ impl Scalar {
             dtype: DType::List(Box::new(alloc, element_dtype)?, nullability),
             value: Some(ScalarValue::Tuple(Vec::new(alloc))),
         })
+    }
+}
+
+/// What a list of these children holds: its element type, its size and its raw value.
+///
+/// What is not kept is dropped as a whole, by a call: at an exit its drop is written out.
+fn list_parts(
+    alloc: Global,
+    element: DType,
+    children: Vec<Scalar>,
+) -> Result<(Box<DType>, u32, ScalarValue), VortexError>
+    ensures refused { RefusesOrNoMemory (list_cause (type_of element) children.items) result }
+    ensures made { IfOk result (λ parts. (type_of parts.0.value ≡ type_of element)
+        × (parts.1 ≡ length children.items)
+        × (value_tree parts.2 ≡ raw_tuple (child_trees children.items))) }
+{
+    let size = match list_size(&element, &children) {
+        Ok(size) => size,
+        Err(cause) => {
+            drop((element, children));
+            return Err(cause);
+        }
+    };
+    let value = match tuple_of(alloc, children) {
+        Ok(value) => value,
+        Err(cause) => {
+            drop(element);
+            return Err(cause);
+        }
+    };
+    match Box::new(alloc, element) {
+        Ok(element) => Ok((element, size, value)),
+        Err(cause) => {
+            drop(value);
+            Err(cause.into())
+        }
     }
 }
 

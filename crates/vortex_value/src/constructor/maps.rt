@@ -107,13 +107,13 @@ fn part_of(
     ensures refused { RefusesOrNoMemory (entry_cause (map_of map.now) index entry) result }
     ensures made { IfOk result (λ part. raw_of part ≡ raw_entry entry) }
 {
-    let is_entry = is_entry_of(map, &entry);
-    let (key, value) = entry;
-    let (key, value) = (key.into_value(), value.into_value());
-    if !is_entry {
+    if !is_entry_of(map, &entry) {
+        drop(entry);
         return Err(VortexError::WrongChild { index });
     }
-    Ok(Some(ScalarValue::Tuple(vec![in alloc; key, value]?)))
+    let (key, value) = entry;
+    let pair = vec![in alloc; key.into_value(), value.into_value()]?;
+    Ok(Some(ScalarValue::Tuple(pair)))
 }
 
 /// Whether the key and the value are exactly of the map's type.

@@ -76,10 +76,7 @@ write_fields-loop-index-preserved g t c plain =
     let (((values, names), types), here, next, small) = c.in-Some.ensures.steps in
     let left = rw (values, names, types) at (c.loop-index.invariant plain) in
     let separator = c.write_str-in-loop-index.ensures.writes left.wrote.plain (search rules) in
-    let name = c.write_str-in-loop-index-2.ensures.writes separator.plain (search rules) in
-    let colon = c.write_str-in-loop-index-3.ensures.writes name.plain (search rules) in
-    let value = rw c.as_ref.ensures.value at (c.write_part.ensures colon.plain (search rules)) in
-    let field = has_written_append _ _ _ _ _ _ (rw c.as_str.ensures at name) (has_written_append _ _ _ _ _ _ colon value) in
+    let field = rw c.as_ref.ensures.value at (c.write_field.ensures separator.plain (search rules)) in
     rw next (left_part _ c.loop-index.index-iterator.count _ _ _ _ (codes ", ") _ _ _ _ left separator (rw here at c.before-in-loop-index.ensures) field)
 
 pub write_fields-returns : goal.write_fields-returns

@@ -27,34 +27,37 @@ invariant-write_fields-loop-index g l =
     (field_texts left.a.b.rest.now (dtype_trees left.b.rest.now) (value_trees left.a.a.rest.now)) (field_texts all.names (as_type_trees all.types) (value_trees l.items)) l.f
 
 abbrev pub decreases-write_part : goal.decreases-write_part
-decreases-write_part g l = 4 * lent_size l.value + 1
+decreases-write_part g l = 5 * lent_size l.value + 1
 
 abbrev pub decreases-write_value : goal.decreases-write_value
-decreases-write_value g l = 4 * goal.size-write_value g l
+decreases-write_value g l = 5 * goal.size-write_value g l
 
 abbrev pub decreases-write_tuple : goal.decreases-write_tuple
-decreases-write_tuple g l = 4 * goal.size-write_tuple g l + 3
+decreases-write_tuple g l = 5 * goal.size-write_tuple g l + 4
 
 abbrev pub decreases-write_elements : goal.decreases-write_elements
-decreases-write_elements g l = 4 * goal.size-write_elements g l + 2
+decreases-write_elements g l = 5 * goal.size-write_elements g l + 3
 
 abbrev pub decreases-write_entries : goal.decreases-write_entries
-decreases-write_entries g l = 4 * goal.size-write_entries g l + 2
+decreases-write_entries g l = 5 * goal.size-write_entries g l + 3
 
 abbrev pub decreases-write_entry : goal.decreases-write_entry
-decreases-write_entry g l = 4 * lent_size l.entry + 1
+decreases-write_entry g l = 5 * lent_size l.entry + 1
 
 abbrev pub decreases-write_pair : goal.decreases-write_pair
-decreases-write_pair g l = 4 * goal.size-write_pair g l + 2
+decreases-write_pair g l = 5 * goal.size-write_pair g l + 2
 
 abbrev pub decreases-write_fields : goal.decreases-write_fields
-decreases-write_fields g l = 4 * goal.size-write_fields g l + 2
+decreases-write_fields g l = 5 * goal.size-write_fields g l + 3
+
+abbrev pub decreases-write_field : goal.decreases-write_field
+decreases-write_field g l = 5 * lent_size l.value + 2
 
 abbrev pub decreases-write_union : goal.decreases-write_union
-decreases-write_union g l = 4 * goal.size-write_union g l + 2
+decreases-write_union g l = 5 * goal.size-write_union g l + 2
 
 abbrev pub decreases-write_child : goal.decreases-write_child
-decreases-write_child g l = 4 * goal.size-write_child g l + 1
+decreases-write_child g l = 5 * goal.size-write_child g l + 1
 
 abbrev pub decreases-write_inner : goal.decreases-write_inner
-decreases-write_inner g l = 4 * goal.size-write_inner g l
+decreases-write_inner g l = 5 * goal.size-write_inner g l

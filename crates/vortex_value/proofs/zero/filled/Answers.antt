@@ -1,6 +1,13 @@
+use Rattle.std.proofs.Common.{Some, IfOk, subst}
 use Rattle.vortex_dtype.specs.TypeOf.{type_of}
+use Rattle.vortex_value.specs.Zero.{IsTheOneOf, filling}
+use Rattle.vortex_value.proofs.MakerLaws.{typed_with}
 use Rattle.vortex_value.proofs.ZeroSteps.{the_filling}
 use Rattle.vortex_value.proofs.zero.filled.Goals as goal
 
 pub returns : goal.returns
-returns c = the_filling c.args.nulls (type_of c.args.dtype.now) _ c.in_ok-dtype.ensures c.in_ok-value.ensures
+returns c =
+    let t = type_of c.args.dtype.now in
+    subst (λ r. IfOk r (λ y. IsTheOneOf t (filling c.args.nulls t) (Some y))) c.in_ok-with_type.was
+    (typed_with _ c.clone.result c.in_ok-value.value c.with_type.result t (λ y. IsTheOneOf t (filling c.args.nulls t) (Some y)) c.with_type.ensures c.clone.ensures
+    (λ d typed. the_filling c.args.nulls t _ typed c.in_ok-value.ensures))

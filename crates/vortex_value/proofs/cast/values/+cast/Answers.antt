@@ -60,26 +60,26 @@ cast_entries-returns t c =
 pub cast_pair-returns-then-parts-ne2 : goal.cast_pair-returns-then-parts-ne2
 cast_pair-returns-then-parts-ne2 t c = inr (refl, no_entry c.args.parts.now _ _ c.if-parts-ne2.true)
 
-pub cast_pair-returns-in_err-key : goal.cast_pair-returns-in_err-key
-cast_pair-returns-in_err-key t c =
+pub cast_pair-returns-in_err-cast_value : goal.cast_pair-returns-in_err-cast_value
+cast_pair-returns-in_err-cast_value t c =
     let xs = c.args.parts.now in
     let x = c.index-parts-0.result in
     let y = c.index-parts-1.result in
     let lent : option_copied c.as_ref.result ≡ c.index-parts-0.result = search rules in
-    let is : c.from_residual.result ≡ Err c.in_err-key.field-0.0 = search rules in
+    let is : c.from_residual-in_err-cast_value.result ≡ Err c.in_err-cast_value.field-0.0 = search rules in
     let at = entry_at xs x y (map_of c.args.from.now) (map_of c.args.to.now) c.if-parts-ne2.false c.index-parts-0.is c.index-parts-1.is in
-    let refused = rw (lent, c.key_dtype.ensures.tree, c.key_dtype-2.ensures.tree) at c.in_err-key.ensures.made in
+    let refused = rw (lent, c.key_dtype.ensures.tree, c.key_dtype-2.ensures.tree) at c.in_err-cast_value.ensures.made in
     passed_on _ _ _ _ _ is refused (λ none. rw none at at)
 
-pub cast_pair-returns-in_err-value : goal.cast_pair-returns-in_err-value
-cast_pair-returns-in_err-value t c =
+pub cast_pair-returns-in_err-cast_value-2 : goal.cast_pair-returns-in_err-cast_value-2
+cast_pair-returns-in_err-cast_value-2 t c =
     let xs = c.args.parts.now in
     let x = c.index-parts-0.result in
     let y = c.index-parts-1.result in
     let lent : option_copied c.as_ref-2.result ≡ c.index-parts-1.result = search rules in
-    let is : c.from_residual-in_err-value.result ≡ Err c.in_err-value.field-0.0 = search rules in
+    let is : c.from_residual-in_err-cast_value-2.result ≡ Err c.in_err-cast_value-2.field-0.0 = search rules in
     let at = entry_at xs x y (map_of c.args.from.now) (map_of c.args.to.now) c.if-parts-ne2.false c.index-parts-0.is c.index-parts-1.is in
-    let refused = rw (lent, c.value_dtype.ensures.tree, c.value_dtype-2.ensures.tree) at c.in_err-value.ensures.made in
+    let refused = rw (lent, c.value_dtype.ensures.tree, c.value_dtype-2.ensures.tree) at c.in_err-cast_value-2.ensures.made in
     passed_on _ _ _ _ _ is refused (λ none. (rw none at at) ∙ no_value _)
 
 pub cast_pair-returns : goal.cast_pair-returns
@@ -87,10 +87,10 @@ cast_pair-returns t c =
     let xs = c.args.parts.now in
     let lent : option_copied c.as_ref.result ≡ c.index-parts-0.result = search rules in
     let lent_value : option_copied c.as_ref-2.result ≡ c.index-parts-1.result = search rules in
-    let pushed : c.push-2.new.self.items ≡ c.in_ok-key.key ∷ c.in_ok-value.value ∷ [] = search rules in
+    let pushed : c.push-2.new.self.items ≡ c.in_ok-cast_value.field-0 ∷ c.in_ok-cast_value-2.field-0 ∷ [] = search rules in
     let at = entry_at xs c.index-parts-0.result c.index-parts-1.result (map_of c.args.from.now) (map_of c.args.to.now) c.if-parts-ne2.false c.index-parts-0.is c.index-parts-1.is in
-    let key = rw (lent, c.key_dtype.ensures.tree, c.key_dtype-2.ensures.tree) at c.in_ok-key.ensures.made in
-    let value = rw (lent_value, c.value_dtype.ensures.tree, c.value_dtype-2.ensures.tree) at c.in_ok-value.ensures.made in
+    let key = rw (lent, c.key_dtype.ensures.tree, c.key_dtype-2.ensures.tree) at c.in_ok-cast_value.ensures.made in
+    let value = rw (lent_value, c.value_dtype.ensures.tree, c.value_dtype-2.ensures.tree) at c.in_ok-cast_value-2.ensures.made in
     rw (value_tree-Tuple c.push-2.new.self, pushed) (rw (key, value) at at)
 
 -- structs

@@ -1,26 +1,42 @@
 -- What the steps make is the one value that the table says.
 use Rattle.std.proofs.Common.{◌≡◌, Err, sym, ◌∙◌, refl, rules}
 use Rattle.vortex_dtype.specs.TypeOf.{type_of}
+use Rattle.vortex_value.specs.Casts.{CanCast, RefusesCast}
 use Rattle.vortex_value.specs.Values.RawOf.{raw_of}
+use Rattle.vortex_value.specs.Values.Refs.{ref_content, ref_type}
+use Rattle.vortex_value.specs.Values.Scalars.{IsTheOne}
 use Rattle.vortex_value.proofs.CastTable.{cast_made, cast_refused, refused_with}
+use Rattle.vortex_value.proofs.MakerLaws.{typed_with, untyped_with}
 use Rattle.vortex_value.proofs.Uniqueness.{one_value}
 use Rattle.vortex_value.proofs.refs.ScalarRef.cast.Goals as goal
 
 pub returns-clause-succeeds_only : goal.returns-clause-succeeds_only
 returns-clause-succeeds_only c =
+    let t = type_of c.args.target.now in
+    let x = c.args.self.now in
     let made = cast_made _ (raw_of c.in_ok-value.value) _ _ c.requires (rw (c.value.ensures, c.dtype.ensures) at c.in_ok-value.ensures.made) in
-    (made.allowed, record { value = raw_of c.in_ok-value.value; valid = made.valid; same = made.same })
+    typed_with _ c.clone.result c.in_ok-value.value c.with_type.result t (λ _. CanCast (ref_type x) t (ref_content x)) c.with_type.ensures c.clone.ensures
+    (λ d typed. (made.allowed, record { value = raw_of c.in_ok-value.value; valid = made.valid; same = made.same }))
 
 pub returns-clause-one : goal.returns-clause-one
 returns-clause-one c =
-    let made = cast_made _ (raw_of c.in_ok-value.value) _ _ c.requires (rw (c.value.ensures, c.dtype.ensures) at c.in_ok-value.ensures.made) in
     let t = type_of c.args.target.now in
-    record {
-      typed = c.in_ok-dtype.ensures;
-      valid = rw c.in_ok-dtype.ensures made.valid;
+    let x = c.args.self.now in
+    let made = cast_made _ (raw_of c.in_ok-value.value) _ _ c.requires (rw (c.value.ensures, c.dtype.ensures) at c.in_ok-value.ensures.made) in
+    typed_with _ c.clone.result c.in_ok-value.value c.with_type.result t (IsTheOne t (ref_content x)) c.with_type.ensures c.clone.ensures
+    (λ d typed. record {
+      typed = typed;
+      valid = rw typed made.valid;
       same = made.same;
       only = λ v p e. one_value t t v _ refl p made.valid (e ∙ sym made.same);
-    }
+    })
+
+pub returns-clause-refuses_only : goal.returns-clause-refuses_only
+returns-clause-refuses_only c =
+    let t = type_of c.args.target.now in
+    let x = c.args.self.now in
+    untyped_with _ _ c.clone.result c.in_ok-value.value c.with_type.result (RefusesCast t (CanCast (ref_type x) t (ref_content x))) c.with_type.ensures c.clone.ensures
+    (λ e none. rw none.0 none.1)
 
 pub returns-in_err-value-clause-refuses_only : goal.returns-in_err-value-clause-refuses_only
 returns-in_err-value-clause-refuses_only c =

@@ -14,8 +14,7 @@ returns-clause-valid c =
     let e = type_of c.args.element_dtype in
     let n = c.args.nullability in
     let xs = c.args.children.items in
-    let boxed = c.in_ok-new in
-    let tuple = c.in_ok-tuple_of in
+    let parts = c.in_ok-element in
     let accepted : list_cause (type_of c.args.element_dtype) c.args.children.items ≡ None = search rules in
-    scalar_valid (List boxed.field-0 n) (Some tuple.field-0) (list_type e n) (raw_tuple (child_trees xs))
-    (type_of-List boxed.field-0 n ∙ ap (λ d. list_type (type_of d) n) boxed.ensures.ok) tuple.ensures (list_valid e xs accepted c.requires)
+    scalar_valid (List parts.element n) (Some parts.value) (list_type e n) (raw_tuple (child_trees xs))
+    (type_of-List parts.element n ∙ ap (λ t. list_type t n) parts.ensures.made.0) parts.ensures.made.2 (list_valid e xs accepted c.requires)
