@@ -1,1 +1,2 @@
+pub mod IteratorSteps
 pub mod PartSteps

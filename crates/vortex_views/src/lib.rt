@@ -3,6 +3,7 @@
 #![tactic(auto)]
 
 mod iterators;
+pub mod laws;
 mod list;
 mod map;
 mod parts;
