@@ -1,2 +1,3 @@
+pub mod IteratorSteps
 pub mod PartSteps
 pub mod UnionSteps

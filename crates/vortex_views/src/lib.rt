@@ -4,6 +4,7 @@
 
 mod downcast;
 mod iterators;
+pub mod laws;
 mod list;
 mod map;
 mod parts;
