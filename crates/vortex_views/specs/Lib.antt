@@ -1,4 +1,7 @@
+pub mod Iterators
 pub mod Lists
+pub mod Maps
+pub mod PartExamples
 pub mod Parts
 pub mod UnionExamples
 pub mod Unions

@@ -30,9 +30,20 @@ ref_part x = (ref_type x, ref_raw x)
 abbrev pub scalar_part : Scalar → Part
 scalar_part x = (scalar_type x, scalar_raw x)
 
+-- what a pair of borrowed scalars lends, and what a pair of scalars holds: a key and a value
+abbrev pub ref_entry : ScalarRef × ScalarRef → Part × Part
+ref_entry e = (ref_part e.0, ref_part e.1)
+
+abbrev pub scalar_entry : Scalar × Scalar → Part × Part
+scalar_entry e = (scalar_part e.0, scalar_part e.1)
+
 -- the raw value is valid for the type
 abbrev pub IsValidPart : Part → Type 0
 IsValidPart p = Valid p.0 p.1
+
+-- the same of both
+abbrev pub IsValidEntry : Part × Part → Type 0
+IsValidEntry e = IsValidPart e.0 × IsValidPart e.1
 
 -- the values that a tree holds, as a list
 abbrev pub listed_raws : RawTrees → List RawTree

@@ -1,7 +1,7 @@
 //! Scalars viewed as what their types say.
 
 ghost use Rattle.std.specs.Prelude.{◌≡◌, true, is_some, IfSome, IsTrue};
-ghost use Rattle.vortex_dtype.specs.Parts.{element_in, is_binary_type, is_union_type, is_utf8_type};
+ghost use Rattle.vortex_dtype.specs.Parts.{element_in, is_map_type, is_binary_type, is_union_type, is_utf8_type};
 ghost use Rattle.vortex_dtype.specs.TypeTree.{TypeTree};
 ghost use Rattle.vortex_leaves.specs.BoolViews.{IsBoolViewOf};
 ghost use Rattle.vortex_leaves.specs.BytesViews.{IsBytesViewOf};
@@ -14,11 +14,13 @@ ghost use Rattle.vortex_value.specs.Values.RawTree.{RawTree};
 ghost use Rattle.vortex_value.specs.Values.Refs.{IsRefOf};
 ghost use Rattle.vortex_value.specs.Values.Scalars.{scalar_raw, scalar_type};
 ghost use Rattle.vortex_views.specs.Lists.{list_ref};
+ghost use Rattle.vortex_views.specs.Maps.{map_ref};
 ghost use Rattle.vortex_views.specs.Unions.{union_ref};
 ghost use Rattle.vortex_views.specs.Variants.{variant_ref};
 ghost use Rattle.vortex_views.specs.ViewKinds.{is_variant_type};
 
 use crate::list::ListScalar;
+use crate::map::MapScalar;
 use crate::union::UnionScalar;
 use crate::variant::VariantScalar;
 use vortex_dtype::DType;
@@ -133,6 +135,26 @@ pub trait Downcast {
         ensures view { IfSome result
             (λ view. IsRefOf (type_at self.now) (raw_at self.now) (list_ref view)) };
 
+    /// The view as a map. The caller knows the kind of the type.
+    ///
+    /// Ports `Scalar::as_map`, which panics at another kind of type.
+    fn as_map(&self) -> MapScalar<'_>
+        requires valid { Valid (type_at self.now) (raw_at self.now) }
+        requires kind { is_map_type (type_at self.now) ≡ true }
+        ensures { IsRefOf (type_at self.now) (raw_at self.now) (map_ref result) }
+    {
+        self.as_map_opt().unwrap()
+    }
+
+    /// The view as a map, and none exactly for another kind of type.
+    ///
+    /// Ports `Scalar::as_map_opt`.
+    fn as_map_opt(&self) -> Option<MapScalar<'_>>
+        requires { Valid (type_at self.now) (raw_at self.now) }
+        ensures kind { is_some result ≡ is_map_type (type_at self.now) }
+        ensures view { IfSome result
+            (λ view. IsRefOf (type_at self.now) (raw_at self.now) (map_ref view)) };
+
     /// The view as a union. The caller knows the kind of the type.
     ///
     /// Ports `Scalar::as_union`, which panics at another kind of type.
@@ -197,6 +219,10 @@ impl Downcast for Scalar {
 
     fn as_list_opt(&self) -> Option<ListScalar<'_>> {
         ListScalar::try_from(self).ok()
+    }
+
+    fn as_map_opt(&self) -> Option<MapScalar<'_>> {
+        MapScalar::try_from(self).ok()
     }
 
     fn as_union_opt(&self) -> Option<UnionScalar<'_>> {

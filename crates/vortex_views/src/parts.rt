@@ -1,13 +1,13 @@
 //! The parts of values: how views find them, lend them and copy them.
 
-ghost use Rattle.std.specs.Prelude.{◌≡◌, IfErr, IfOk, IsSome, map, option_map, slice_get};
+ghost use Rattle.std.specs.Prelude.{◌≡◌, IfErr, IfOk, IsSome, MatchResult, map, option_map, slice_get};
 ghost use Rattle.std.specs.Option.{option_copied};
-ghost use Rattle.vortex_dtype.specs.TypeOf.{type_of};
+ghost use Rattle.vortex_dtype.specs.TypeOf.{map_of, type_of};
 ghost use Rattle.vortex_value.specs.Values.RawOf.{raw_of};
-ghost use Rattle.vortex_views.specs.Parts.{is_null_or_tuple, part_or_null, parts_of, ref_part, scalar_part};
+ghost use Rattle.vortex_views.specs.Parts.{entry_of, is_null_or_tuple, part_or_null, parts_of, ref_entry, ref_part, scalar_entry, scalar_part};
 
 use std::alloc::Global;
-use vortex_dtype::{DType, VortexError};
+use vortex_dtype::{DType, MapDType, VortexError};
 use vortex_value::{Scalar, ScalarRef, ScalarValue};
 
 /// The values of a list, a struct, a map or an entry, in order; nothing else has any.
@@ -48,6 +48,56 @@ pub(crate) fn item_or_null<'a>(
     }
 }
 
+/// The key and the value of an entry of a map of this type.
+pub(crate) fn lent_entry<'a>(
+    map_dtype: &'a MapDType,
+    entry: Option<&'a ScalarValue>,
+) -> (ScalarRef<'a>, ScalarRef<'a>)
+    ensures { ref_entry result
+        ≡ entry_of (map_of map_dtype.now) (raw_of (option_copied entry.entry)) }
+{
+    (
+        ScalarRef::from_parts(map_dtype.key_dtype(), item_or_null(entry, 0)),
+        ScalarRef::from_parts(map_dtype.value_dtype(), item_or_null(entry, 1)),
+    )
+}
+
+/// The key and the value of the entry at a place of a map of this type, and none past the end.
+pub(crate) fn entry_at<'a>(
+    map_dtype: &'a MapDType,
+    items: &'a [Option<ScalarValue>],
+    place: usize,
+) -> Option<(ScalarRef<'a>, ScalarRef<'a>)>
+    ensures { option_map ref_entry result
+        ≡ option_map (entry_of (map_of map_dtype.now)) (slice_get (map raw_of items.now) place) }
+{
+    let entry = items.get(place)?;
+    Some(lent_entry(map_dtype, entry.as_ref()))
+}
+
+/// A scalar of its own of a part that is lent, or `OutOfMemory`.
+pub(crate) fn copied_part(alloc: Global, part: ScalarRef<'_>) -> Result<Scalar, VortexError>
+    ensures { MatchResult result
+        (λ copy. scalar_part copy ≡ ref_part part.entry)
+        (λ e. e ≡ VortexError.OutOfMemory) }
+{
+    part.to_scalar(alloc)
+}
+
+/// Scalars of their own of a key and a value that are lent, or `OutOfMemory`.
+pub(crate) fn copied_entry(
+    alloc: Global,
+    entry: (ScalarRef<'_>, ScalarRef<'_>),
+) -> Result<(Scalar, Scalar), VortexError>
+    ensures { MatchResult result
+        (λ copy. scalar_entry copy ≡ ref_entry entry.entry)
+        (λ e. e ≡ VortexError.OutOfMemory) }
+{
+    let key = copied_part(alloc, entry.0)?;
+    let value = copied_part(alloc, entry.1)?;
+    Ok((key, value))
+}
+
 /// A scalar of its own of a part that is lent, or `OutOfMemory`.
 pub(crate) fn copied(
     alloc: Global,
@@ -57,7 +107,7 @@ pub(crate) fn copied(
     ensures refused { IfErr result (λ e. (e ≡ VortexError.OutOfMemory) × IsSome part.entry) }
 {
     match part {
-        Some(part) => Ok(Some(part.to_scalar(alloc)?)),
+        Some(part) => Ok(Some(copied_part(alloc, part)?)),
         None => Ok(None),
     }
 }
