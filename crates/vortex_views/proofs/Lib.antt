@@ -1,1 +1,3 @@
+pub mod FieldSteps
+pub mod KindSteps
 pub mod PartSteps
