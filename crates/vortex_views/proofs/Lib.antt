@@ -1,3 +1,5 @@
 pub mod IteratorSteps
+pub mod FieldSteps
+pub mod KindSteps
 pub mod PartSteps
 pub mod UnionSteps

@@ -1,8 +1,13 @@
+pub mod ExtensionParts
+pub mod Extensions
 pub mod Iterators
 pub mod Lists
 pub mod Maps
 pub mod PartExamples
 pub mod Parts
+pub mod StructExamples
+pub mod StructParts
+pub mod Structs
 pub mod UnionExamples
 pub mod Unions
 pub mod Variants

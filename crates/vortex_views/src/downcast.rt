@@ -1,7 +1,7 @@
 //! Scalars viewed as what their types say.
 
 ghost use Rattle.std.specs.Prelude.{◌≡◌, true, is_some, IfSome, IsTrue};
-ghost use Rattle.vortex_dtype.specs.Parts.{element_in, is_binary_type, is_union_type, is_utf8_type};
+ghost use Rattle.vortex_dtype.specs.Parts.{element_in, fields_in, is_binary_type, is_extension_type, is_map_type, is_union_type, is_utf8_type};
 ghost use Rattle.vortex_dtype.specs.TypeTree.{TypeTree};
 ghost use Rattle.vortex_leaves.specs.BoolViews.{IsBoolViewOf};
 ghost use Rattle.vortex_leaves.specs.BytesViews.{IsBytesViewOf};
@@ -14,11 +14,17 @@ ghost use Rattle.vortex_value.specs.Values.RawTree.{RawTree};
 ghost use Rattle.vortex_value.specs.Values.Refs.{IsRefOf};
 ghost use Rattle.vortex_value.specs.Values.Scalars.{scalar_raw, scalar_type};
 ghost use Rattle.vortex_views.specs.Lists.{list_ref};
+ghost use Rattle.vortex_views.specs.Maps.{map_ref};
+ghost use Rattle.vortex_views.specs.Structs.{struct_ref};
+ghost use Rattle.vortex_views.specs.Extensions.{ext_ref};
 ghost use Rattle.vortex_views.specs.Unions.{union_ref};
 ghost use Rattle.vortex_views.specs.Variants.{variant_ref};
 ghost use Rattle.vortex_views.specs.ViewKinds.{is_variant_type};
 
+use crate::extension::ExtScalar;
 use crate::list::ListScalar;
+use crate::map::MapScalar;
+use crate::struct_::StructScalar;
 use crate::union::UnionScalar;
 use crate::variant::VariantScalar;
 use vortex_dtype::DType;
@@ -133,6 +139,66 @@ pub trait Downcast {
         ensures view { IfSome result
             (λ view. IsRefOf (type_at self.now) (raw_at self.now) (list_ref view)) };
 
+    /// The view as a struct. The caller knows the kind of the type.
+    ///
+    /// Ports `Scalar::as_struct`, which panics at another kind of type.
+    fn as_struct(&self) -> StructScalar<'_>
+        requires valid { Valid (type_at self.now) (raw_at self.now) }
+        requires kind { is_some (fields_in (type_at self.now)) ≡ true }
+        ensures { IsRefOf (type_at self.now) (raw_at self.now) (struct_ref result) }
+    {
+        self.as_struct_opt().unwrap()
+    }
+
+    /// The view as a struct, and none exactly for another kind of type.
+    ///
+    /// Ports `Scalar::as_struct_opt`.
+    fn as_struct_opt(&self) -> Option<StructScalar<'_>>
+        requires { Valid (type_at self.now) (raw_at self.now) }
+        ensures kind { is_some result ≡ is_some (fields_in (type_at self.now)) }
+        ensures view { IfSome result
+            (λ view. IsRefOf (type_at self.now) (raw_at self.now) (struct_ref view)) };
+
+    /// The view as a map. The caller knows the kind of the type.
+    ///
+    /// Ports `Scalar::as_map`, which panics at another kind of type.
+    fn as_map(&self) -> MapScalar<'_>
+        requires valid { Valid (type_at self.now) (raw_at self.now) }
+        requires kind { is_map_type (type_at self.now) ≡ true }
+        ensures { IsRefOf (type_at self.now) (raw_at self.now) (map_ref result) }
+    {
+        self.as_map_opt().unwrap()
+    }
+
+    /// The view as a map, and none exactly for another kind of type.
+    ///
+    /// Ports `Scalar::as_map_opt`.
+    fn as_map_opt(&self) -> Option<MapScalar<'_>>
+        requires { Valid (type_at self.now) (raw_at self.now) }
+        ensures kind { is_some result ≡ is_map_type (type_at self.now) }
+        ensures view { IfSome result
+            (λ view. IsRefOf (type_at self.now) (raw_at self.now) (map_ref view)) };
+
+    /// The view as an extension. The caller knows the kind of the type.
+    ///
+    /// Ports `Scalar::as_extension`, which panics at another kind of type.
+    fn as_extension(&self) -> ExtScalar<'_>
+        requires valid { Valid (type_at self.now) (raw_at self.now) }
+        requires kind { is_extension_type (type_at self.now) ≡ true }
+        ensures { IsRefOf (type_at self.now) (raw_at self.now) (ext_ref result) }
+    {
+        self.as_extension_opt().unwrap()
+    }
+
+    /// The view as an extension, and none exactly for another kind of type.
+    ///
+    /// Ports `Scalar::as_extension_opt`.
+    fn as_extension_opt(&self) -> Option<ExtScalar<'_>>
+        requires { Valid (type_at self.now) (raw_at self.now) }
+        ensures kind { is_some result ≡ is_extension_type (type_at self.now) }
+        ensures view { IfSome result
+            (λ view. IsRefOf (type_at self.now) (raw_at self.now) (ext_ref view)) };
+
     /// The view as a union. The caller knows the kind of the type.
     ///
     /// Ports `Scalar::as_union`, which panics at another kind of type.
@@ -197,6 +263,18 @@ impl Downcast for Scalar {
 
     fn as_list_opt(&self) -> Option<ListScalar<'_>> {
         ListScalar::try_from(self).ok()
+    }
+
+    fn as_struct_opt(&self) -> Option<StructScalar<'_>> {
+        StructScalar::try_from(self).ok()
+    }
+
+    fn as_map_opt(&self) -> Option<MapScalar<'_>> {
+        MapScalar::try_from(self).ok()
+    }
+
+    fn as_extension_opt(&self) -> Option<ExtScalar<'_>> {
+        ExtScalar::try_from(self).ok()
     }
 
     fn as_union_opt(&self) -> Option<UnionScalar<'_>> {

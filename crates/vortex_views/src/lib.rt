@@ -3,18 +3,22 @@
 #![tactic(auto)]
 
 mod downcast;
+mod extension;
 mod iterators;
 pub mod laws;
 mod list;
 mod map;
 mod parts;
+mod struct_;
 mod union;
 mod variant;
 
 pub use downcast::Downcast;
-pub use iterators::{Entries, Keys, Values};
+pub use extension::ExtScalar;
+pub use iterators::{Entries, Fields, Keys, Values};
 pub use list::ListScalar;
 pub use map::MapScalar;
+pub use struct_::StructScalar;
 pub use union::UnionScalar;
 pub use variant::VariantScalar;
 pub use vortex_leaves::{BinaryScalar, BoolScalar, PrimitiveScalar, Utf8Scalar};
