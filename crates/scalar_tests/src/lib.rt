@@ -18,6 +18,8 @@ mod items;
 #[cfg(test)]
 mod kinds;
 #[cfg(test)]
+mod leaf_views;
+#[cfg(test)]
 mod makers;
 #[cfg(test)]
 mod numbers;

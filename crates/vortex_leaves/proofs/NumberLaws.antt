@@ -5,7 +5,7 @@ use Rattle.vortex_dtype.specs.declared.kinds.PType.{PType}
 use Rattle.vortex_pvalue.specs.Numbers.{InRange}
 use Rattle.vortex_value.specs.Validity.{Valid}
 use Rattle.vortex_value.specs.Values.RawTree.{raw_integer}
-use Rattle.vortex_leaves.specs.Numbers.{kind_in}
+use Rattle.vortex_value.specs.Reinterpretations.{kind_in}
 
 -- a number of the type's kind is valid
 pub number_valid : (t : TypeTree) (k : PType) (z : ℤ) → kind_in t ≡ Some k → InRange k z → Valid t (raw_integer k z)

@@ -1,5 +1,5 @@
 -- Checked arithmetic on optional whole numbers of one kind.
-use Rattle.std.specs.Prelude.{◌≡◌, ◌+ℤ◌, ◌-ℤ◌, ◌*ℤ◌, ℤ, pos, Option, Some, None, option_map, if◌then◌else◌, int_div}
+use Rattle.std.specs.Prelude.{◌+ℤ◌, ◌-ℤ◌, ◌*ℤ◌, ℤ, pos, Option, Some, None, option_map, if◌then◌else◌, int_div}
 use Rattle.std.specs.Ordering.{int_eq}
 use Rattle.vortex_dtype.specs.TypeTree.{TypeTree, is_nullable}
 use Rattle.vortex_dtype.specs.declared.kinds.PType.{PType}

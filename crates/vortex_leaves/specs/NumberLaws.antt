@@ -1,5 +1,5 @@
 -- The laws of the order of views of integers. They stand here because trait implementations cite them.
-use Rattle.std.proofs.Common.{◌≡◌, ◌&&◌, ℤ, Bool, Option, Some, None, if◌then◌else◌, refl, subst}
+use Rattle.std.proofs.Common.{◌≡◌, ◌&&◌, Option, Some, None, refl}
 use Rattle.std.specs.Cmp.{IsEquivalence, IsPartialOrder, int_cmp_total, signed_po, ties}
 use Rattle.std.specs.Cmp.Lexicographic.{options_total}
 use Rattle.std.specs.Option.{option_cmp}
@@ -7,7 +7,7 @@ use Rattle.std.specs.Ordering.{int_cmp, is_eq, on}
 use Rattle.std.specs.declared.cmp.Ordering.{Ordering}
 use Rattle.std.proofs.lemmas.Cmp.{on_equiv, on_total}
 use Rattle.vortex_dtype.specs.Lemmas.TypeLaws.{tree_eq-equiv}
-use Rattle.vortex_dtype.specs.TypeTree.{TypeTree, erase}
+use Rattle.vortex_dtype.specs.TypeTree.{erase}
 use Rattle.vortex_pvalue.specs.Whole.{whole_of}
 use Rattle.vortex_pvalue.specs.declared.pvalues.PValue.{PValue}
 use Rattle.vortex_value.specs.Equality.{equal, same_type}

@@ -3,17 +3,11 @@ use Rattle.std.specs.Prelude.{◌≡◌, ℤ, Option, Some, None}
 use Rattle.vortex_dtype.specs.TypeTree.{TypeTree, integer_type}
 use Rattle.vortex_dtype.specs.declared.error.VortexError.{VortexError}
 use Rattle.vortex_dtype.specs.declared.error.VortexError.TheVariants.{OutOfRange, WrongKind}
-use Rattle.vortex_dtype.specs.declared.kinds.PType.{PType}
 use Rattle.vortex_pvalue.specs.Numbers.{InRange}
 use Rattle.vortex_pvalue.specs.Whole.{kind_of, whole_of}
 use Rattle.vortex_pvalue.specs.declared.pvalues.PValue.{PValue}
 use Rattle.vortex_value.specs.Breaches.{Refuses, breaches}
 use Rattle.vortex_value.specs.Values.RawTree.{RawTree, absent, raw_integer}
-
--- the kind of an integer type; an extension over one has none
-abbrev pub kind_in : TypeTree → Option PType
-kind_in (integer_type k n) = Some k
-kind_in _ = None
 
 -- the number of a raw integer
 abbrev pub number_in : RawTree → Option ℤ

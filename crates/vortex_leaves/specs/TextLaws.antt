@@ -1,9 +1,8 @@
 -- The laws of the order of views of texts. They stand here because trait implementations cite them.
-use Rattle.std.proofs.Common.{◌≡◌, ℕ, Bool, true, List, Option, Some, None, refl}
+use Rattle.std.proofs.Common.{◌≡◌, ℕ, true, List, Option, Some, None, refl}
 use Rattle.std.specs.Cmp.Lexicographic.{slice_cmp, nat_list_cmp_total, texts_ties}
 use Rattle.std.specs.Option.{option_cmp}
 use Rattle.std.specs.Ordering.{nat_cmp, is_eq}
-use Rattle.std.specs.Str.{bytes_eq}
 use Rattle.vortex_dtype.specs.Parts.{is_utf8_type}
 use Rattle.vortex_dtype.specs.TypeTree.{TypeTree, utf8_type, erase}
 use Rattle.vortex_dtype.specs.declared.kinds.Nullability.TheVariants.{NonNullable}

@@ -7,6 +7,7 @@ ghost use Rattle.vortex_dtype.specs.TypeOf.{type_of};
 ghost use Rattle.vortex_dtype.specs.TypeTree.{integer_type, nullability_of};
 ghost use Rattle.vortex_pvalue.specs.Numbers.{InRange};
 ghost use Rattle.vortex_pvalue.specs.Whole.{kind_of, whole_of};
+ghost use Rattle.vortex_value.specs.Reinterpretations.{kind_in};
 ghost use Rattle.vortex_value.specs.Validity.{Valid};
 ghost use Rattle.vortex_value.specs.Values.Content.{content};
 ghost use Rattle.vortex_value.specs.Values.RawOf.{raw_of};
@@ -14,7 +15,7 @@ ghost use Rattle.vortex_value.specs.Values.RawTree.{absent, raw_integer};
 ghost use Rattle.vortex_value.specs.Values.Scalars.{IsMadeOf, IsValid, scalar_raw, scalar_type};
 ghost use Rattle.vortex_value.specs.Zero.{is_zero_of};
 ghost use Rattle.vortex_leaves.specs.Leaves.{GivesView};
-ghost use Rattle.vortex_leaves.specs.Numbers.{HoldsNumber, RefusesNumber, in_kind_of, kind_in};
+ghost use Rattle.vortex_leaves.specs.Numbers.{HoldsNumber, RefusesNumber, in_kind_of};
 
 use std::alloc::Global;
 use vortex_dtype::{DType, PType, VortexError};
@@ -133,6 +134,7 @@ impl<'a> PrimitiveScalar<'a> {
     {
         match self.pvalue {
             Some(number) => {
+                // The proof reads here that the number is in the kind's range.
                 let _in_range = number.whole();
                 T::from_pvalue(&number)
             }

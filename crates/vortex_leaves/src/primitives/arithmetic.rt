@@ -6,8 +6,8 @@ ghost use Rattle.vortex_dtype.specs.declared.kinds.PType.{PType};
 ghost use Rattle.vortex_pvalue.specs.Conversions.{IsNumber};
 ghost use Rattle.vortex_pvalue.specs.Whole.{whole_of};
 ghost use Rattle.vortex_pvalue.specs.declared.operators.NumericOperator.TheVariants.{Add, Sub};
+ghost use Rattle.vortex_value.specs.Reinterpretations.{kind_in};
 ghost use Rattle.vortex_leaves.specs.Arithmetic.{numeric_type, outcome, within};
-ghost use Rattle.vortex_leaves.specs.Numbers.{kind_in};
 
 use super::PrimitiveScalar;
 use std::ops::{Add, Sub};
