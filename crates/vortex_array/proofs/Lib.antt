@@ -1,5 +1,6 @@
 pub mod BoundLaws
 pub mod ByteOrder
+pub mod GivenEach
 pub mod NextString
 pub mod ScalarBounds
 pub mod StringBounds

@@ -2,10 +2,12 @@
 #![tactic(auto)]
 
 mod carry;
+mod into_scalar;
 pub mod laws;
 mod string_like;
 mod truncation;
 
+pub use into_scalar::IntoScalar;
 pub use string_like::{IncrementError, StringLike};
 pub use truncation::{ScalarTruncation, lower_bound, upper_bound};
 pub use vortex_dtype::{
