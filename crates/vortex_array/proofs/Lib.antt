@@ -4,5 +4,6 @@ pub mod GivenEach
 pub mod NextString
 pub mod ScalarBounds
 pub mod StringBounds
+pub mod TakenEach
 pub mod TextBounds
 pub mod TextOrder
