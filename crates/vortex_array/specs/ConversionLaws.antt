@@ -1,5 +1,5 @@
 -- Values are taken back from what they give. Trait implementations cite these lemmas.
-use Rattle.std.specs.Prelude.{◌≡◌, ℕ, ℤ, pos, true, List, [], ◌∷◌, Option, Some, None, Ok}
+use Rattle.std.specs.Prelude.{◌≡◌, ℕ, ℤ, pos, true, List, [], ◌∷◌, Some, None, Ok}
 use Rattle.std.proofs.Common.{refl, ap, ◌∙◌}
 use Rattle.vortex_dtype.specs.Kinds.{same_kind}
 use Rattle.vortex_dtype.specs.TypeTree.{TypeTree, bool_type, integer_type, utf8_type, binary_type, list_type}
