@@ -1,4 +1,6 @@
 pub mod BoundExamples
+pub mod ConversionLaws
+pub mod Conversions
 pub mod Increments
 pub mod Laws
 pub mod Strings

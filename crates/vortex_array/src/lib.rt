@@ -2,10 +2,16 @@
 #![tactic(auto)]
 
 mod carry;
+mod from_scalar;
+mod into_scalar;
 pub mod laws;
+mod round_trip;
 mod string_like;
 mod truncation;
 
+pub use from_scalar::FromScalar;
+pub use into_scalar::IntoScalar;
+pub use round_trip::RoundTrip;
 pub use string_like::{IncrementError, StringLike};
 pub use truncation::{ScalarTruncation, lower_bound, upper_bound};
 pub use vortex_dtype::{

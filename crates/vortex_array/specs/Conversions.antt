@@ -1,0 +1,31 @@
+-- What a Vec gives, and what a conversion out of a scalar answers.
+use Rattle.std.specs.Prelude.{◌≡◌, ◌⊎◌, List, [], ◌∷◌, Vec, Result, Ok, Err, IsErrAnd, MatchResult}
+use Rattle.std.specs.Global.{Global}
+use Rattle.vortex_dtype.specs.declared.error.VortexError.{VortexError}
+use Rattle.vortex_dtype.specs.declared.error.VortexError.TheVariants.{OutOfMemory}
+use Rattle.vortex_dtype.specs.TypeTree.{TypeTree}
+use Rattle.vortex_value.specs.Conversions.{Taken}
+use Rattle.vortex_value.specs.Validity.{Valid}
+use Rattle.vortex_value.specs.Values.RawTree.{RawTree, raw_tuple, RawTrees, no_raws, raw_then}
+
+-- what each gives, in order
+abbrev pub given_each : {T : Type 0} → (T → RawTree) → List T → RawTrees
+given_each given [] = no_raws
+given_each given (x ∷ xs) = raw_then (given x) (given_each given xs)
+
+-- a Vec gives the tuple of what its elements give
+abbrev pub given_vec : {T : Type 0} → (T → RawTree) → Vec T Global → RawTree
+given_vec given v = raw_tuple (given_each given v.items)
+
+-- the answer is the value that gives what is taken, or the refusal, unless there is no memory
+abbrev pub TakesOrNoMemory : {T : Type 0} → (T → RawTree) → Taken → Result T VortexError → Type 0
+TakesOrNoMemory given (Ok v) r = MatchResult r (λ x. given x ≡ v) (λ e. e ≡ OutOfMemory)
+TakesOrNoMemory given (Err e) r = IsErrAnd r (λ f. (f ≡ e) ⊎ (f ≡ OutOfMemory))
+
+-- each value that gives a valid raw value of the type is taken back: what is taken of it is that raw value
+abbrev pub TakesBack : {T : Type 0} → (T → RawTree) → (TypeTree → RawTree → Taken) → TypeTree → Type 0
+TakesBack {T = T} given taken t = (x : T) → Valid t (given x) → taken t (given x) ≡ Ok (given x)
+
+-- the raw value that a value gives is the one by which it is named where it is taken
+abbrev pub NamesAsGiven : {T : Type 0} → (T → RawTree) → (T → RawTree) → Type 0
+NamesAsGiven {T = T} given named = (x : T) → named x ≡ given x

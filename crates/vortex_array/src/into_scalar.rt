@@ -1,0 +1,259 @@
+//! Conversions of Rust values into scalars.
+
+ghost use Rattle.std.specs.Prelude.{◌≡◌, IsOkAnd, MatchResult, pos, string_bytes};
+ghost use Rattle.vortex_dtype.specs.TypeTree.{as_nullable, bool_type, integer_type, utf8_type, binary_type, list_type};
+ghost use Rattle.vortex_dtype.specs.declared.error.VortexError.TheVariants.{OutOfMemory};
+ghost use Rattle.vortex_dtype.specs.declared.kinds.Nullability.TheVariants.{NonNullable};
+ghost use Rattle.vortex_dtype.specs.declared.kinds.PType.TheVariants.{U8, U16, U32, U64, I8, I16, I32, I64};
+ghost use Rattle.vortex_value.specs.Conversions.{IsMadeValid, given_number, given_option, given_usize};
+ghost use Rattle.vortex_value.specs.Values.RawOf.{raw_of, value_trees};
+ghost use Rattle.vortex_value.specs.Values.RawTree.{RawTree, raw_bool, raw_text, raw_bytes};
+ghost use Rattle.vortex_value.specs.Validity.{EachValid, Valid};
+ghost use Rattle.vortex_array.specs.Conversions.{given_each, given_vec};
+
+use std::alloc::Global;
+use vortex_dtype::{BufferString, ByteBuffer, NativeDType, Nullability, VortexError};
+use vortex_value::{Scalar, ScalarValue};
+
+/// A Rust type whose values make scalars of its column type.
+///
+/// Of this port alone: upstream has `From` for `Scalar`, which cannot refuse where there is no
+/// memory.
+pub trait IntoScalar: NativeDType {
+    /// The raw value that a value gives.
+    ghost given: { Self → RawTree };
+
+    /// The scalar of the value, of exactly the column type of the Rust type.
+    ///
+    /// `OutOfMemory` is its only refusal: texts and bytes that are no buffers are copied, a vector
+    /// takes room for its elements and its type.
+    fn try_into_scalar(self, alloc: Global) -> Result<Scalar, VortexError>
+        ensures { MatchResult result
+            (IsMadeValid Self.native_type (given self))
+            (λ e. e ≡ OutOfMemory) };
+}
+
+/// Takes no memory. Ports `From<bool> for Scalar`.
+impl IntoScalar for bool {
+    ghost given = { raw_bool };
+
+    fn try_into_scalar(self, _alloc: Global) -> Result<Scalar, VortexError>
+        ensures { IsOkAnd result (IsMadeValid (bool_type NonNullable) (raw_bool self)) }
+    {
+        Ok(Scalar::bool(self, Nullability::NonNullable))
+    }
+}
+
+/// Takes no memory. Ports `From<u8> for Scalar`.
+impl IntoScalar for u8 {
+    ghost given = { given_number U8 pos };
+
+    fn try_into_scalar(self, _alloc: Global) -> Result<Scalar, VortexError>
+        ensures { IsOkAnd result
+            (IsMadeValid (integer_type U8 NonNullable) (given_number U8 pos self)) }
+    {
+        Ok(Scalar::primitive(self, Nullability::NonNullable))
+    }
+}
+
+/// Takes no memory. Ports `From<u16> for Scalar`.
+impl IntoScalar for u16 {
+    ghost given = { given_number U16 pos };
+
+    fn try_into_scalar(self, _alloc: Global) -> Result<Scalar, VortexError>
+        ensures { IsOkAnd result
+            (IsMadeValid (integer_type U16 NonNullable) (given_number U16 pos self)) }
+    {
+        Ok(Scalar::primitive(self, Nullability::NonNullable))
+    }
+}
+
+/// Takes no memory. Ports `From<u32> for Scalar`.
+impl IntoScalar for u32 {
+    ghost given = { given_number U32 pos };
+
+    fn try_into_scalar(self, _alloc: Global) -> Result<Scalar, VortexError>
+        ensures { IsOkAnd result
+            (IsMadeValid (integer_type U32 NonNullable) (given_number U32 pos self)) }
+    {
+        Ok(Scalar::primitive(self, Nullability::NonNullable))
+    }
+}
+
+/// Takes no memory. Ports `From<u64> for Scalar`.
+impl IntoScalar for u64 {
+    ghost given = { given_number U64 pos };
+
+    fn try_into_scalar(self, _alloc: Global) -> Result<Scalar, VortexError>
+        ensures { IsOkAnd result
+            (IsMadeValid (integer_type U64 NonNullable) (given_number U64 pos self)) }
+    {
+        Ok(Scalar::primitive(self, Nullability::NonNullable))
+    }
+}
+
+/// Takes no memory. Ports `From<i8> for Scalar`.
+impl IntoScalar for i8 {
+    ghost given = { given_number I8 (λ n. n) };
+
+    fn try_into_scalar(self, _alloc: Global) -> Result<Scalar, VortexError>
+        ensures { IsOkAnd result
+            (IsMadeValid (integer_type I8 NonNullable) (given_number I8 (λ n. n) self)) }
+    {
+        Ok(Scalar::primitive(self, Nullability::NonNullable))
+    }
+}
+
+/// Takes no memory. Ports `From<i16> for Scalar`.
+impl IntoScalar for i16 {
+    ghost given = { given_number I16 (λ n. n) };
+
+    fn try_into_scalar(self, _alloc: Global) -> Result<Scalar, VortexError>
+        ensures { IsOkAnd result
+            (IsMadeValid (integer_type I16 NonNullable) (given_number I16 (λ n. n) self)) }
+    {
+        Ok(Scalar::primitive(self, Nullability::NonNullable))
+    }
+}
+
+/// Takes no memory. Ports `From<i32> for Scalar`.
+impl IntoScalar for i32 {
+    ghost given = { given_number I32 (λ n. n) };
+
+    fn try_into_scalar(self, _alloc: Global) -> Result<Scalar, VortexError>
+        ensures { IsOkAnd result
+            (IsMadeValid (integer_type I32 NonNullable) (given_number I32 (λ n. n) self)) }
+    {
+        Ok(Scalar::primitive(self, Nullability::NonNullable))
+    }
+}
+
+/// Takes no memory. Ports `From<i64> for Scalar`.
+impl IntoScalar for i64 {
+    ghost given = { given_number I64 (λ n. n) };
+
+    fn try_into_scalar(self, _alloc: Global) -> Result<Scalar, VortexError>
+        ensures { IsOkAnd result
+            (IsMadeValid (integer_type I64 NonNullable) (given_number I64 (λ n. n) self)) }
+    {
+        Ok(Scalar::primitive(self, Nullability::NonNullable))
+    }
+}
+
+/// Takes no memory. Ports `From<usize> for Scalar`.
+impl IntoScalar for usize {
+    ghost given = { given_usize };
+
+    fn try_into_scalar(self, _alloc: Global) -> Result<Scalar, VortexError>
+        ensures { IsOkAnd result
+            (IsMadeValid (integer_type U64 NonNullable) (given_usize self)) }
+    {
+        Ok(Scalar::primitive(self as u64, Nullability::NonNullable))
+    }
+}
+
+/// Takes no memory. Ports `From<BufferString> for Scalar`.
+impl IntoScalar for BufferString {
+    ghost given = { raw_text };
+
+    fn try_into_scalar(self, _alloc: Global) -> Result<Scalar, VortexError>
+        ensures { IsOkAnd result (IsMadeValid (utf8_type NonNullable) (raw_text self)) }
+    {
+        Ok(Scalar::utf8(self, Nullability::NonNullable))
+    }
+}
+
+/// The text is copied. Ports `From<&str> for Scalar`.
+impl IntoScalar for &str {
+    ghost given = { λ text. raw_text text.now };
+
+    fn try_into_scalar(self, alloc: Global) -> Result<Scalar, VortexError> {
+        let text = BufferString::from_str(alloc, self)?;
+        Ok(Scalar::utf8(text, Nullability::NonNullable))
+    }
+}
+
+/// The text is copied. Ports `From<String> for Scalar`.
+impl IntoScalar for String {
+    ghost given = { λ text. raw_text (string_bytes text) };
+
+    fn try_into_scalar(self, alloc: Global) -> Result<Scalar, VortexError> {
+        let text = BufferString::from_str(alloc, self.as_str())?;
+        Ok(Scalar::utf8(text, Nullability::NonNullable))
+    }
+}
+
+/// Takes no memory. Ports `From<ByteBuffer> for Scalar`.
+impl IntoScalar for ByteBuffer {
+    ghost given = { raw_bytes };
+
+    fn try_into_scalar(self, _alloc: Global) -> Result<Scalar, VortexError>
+        ensures { IsOkAnd result (IsMadeValid (binary_type NonNullable) (raw_bytes self)) }
+    {
+        Ok(Scalar::binary(self, Nullability::NonNullable))
+    }
+}
+
+/// The bytes are copied. Ports `From<&[u8]> for Scalar`.
+impl IntoScalar for &[u8] {
+    ghost given = { λ bytes. raw_bytes bytes.now };
+
+    fn try_into_scalar(self, alloc: Global) -> Result<Scalar, VortexError> {
+        let bytes = ByteBuffer::from_slice(alloc, self)?;
+        Ok(Scalar::binary(bytes, Nullability::NonNullable))
+    }
+}
+
+/// A none is the null, and so is each none inside. Ports `From<Option<T>> for Scalar`.
+impl<T: IntoScalar> IntoScalar for Option<T> {
+    ghost given = { given_option T.given };
+
+    fn try_into_scalar(self, alloc: Global) -> Result<Scalar, VortexError> {
+        match self {
+            None => Scalar::null_native::<T>(alloc),
+            Some(value) => Ok(value.try_into_scalar(alloc)?.into_nullable()),
+        }
+    }
+}
+
+/// A list, of any length. Ports `From<Vec<T>> for Scalar`.
+impl<T: IntoScalar + Drop> IntoScalar for Vec<T> {
+    ghost given = { given_vec T.given };
+
+    #[tactic(auto, using(crate::proofs::GivenEach::tuple_tree, crate::proofs::GivenEach::list_valid))]
+    fn try_into_scalar(self, alloc: Global) -> Result<Scalar, VortexError> {
+        let elements = raw_elements(alloc, self)?;
+        let dtype = <Vec<T> as NativeDType>::dtype(alloc)?;
+        Ok(Scalar {
+            dtype,
+            value: Some(ScalarValue::Tuple(elements)),
+        })
+    }
+}
+
+/// The raw values of these elements.
+#[tactic(auto, using(crate::proofs::GivenEach::trees_given, crate::proofs::GivenEach::each_valid))]
+fn raw_elements<T: IntoScalar + Drop>(
+    alloc: Global,
+    elements: Vec<T>,
+) -> Result<Vec<Option<ScalarValue>>, VortexError>
+    ensures { MatchResult result
+        (λ values. (value_trees values.items ≡ given_each T.given elements.items)
+        × EachValid T.native_type (value_trees values.items))
+        (λ e. e ≡ OutOfMemory) }
+{
+    let mut values = Vec::with_capacity(alloc, elements.len())?;
+    for element in elements {
+        values.push(raw_element(alloc, element)?)?;
+    }
+    Ok(values)
+}
+
+/// The raw value of this element.
+fn raw_element<T: IntoScalar>(alloc: Global, element: T) -> Result<Option<ScalarValue>, VortexError>
+    ensures { MatchResult result
+        (λ value. (raw_of value ≡ T.given element) × Valid T.native_type (raw_of value))
+        (λ e. e ≡ OutOfMemory) }
+{
+    Ok(element.try_into_scalar(alloc)?.into_value())
+}
