@@ -1,4 +1,5 @@
-//! Scalars, whole: what the crates below give, and truncation to bounds.
+//! Scalars, whole: what the crates below give, conversions between Rust values and scalars, and
+//! truncation to bounds.
 #![tactic(auto)]
 
 mod carry;
@@ -19,5 +20,10 @@ pub use vortex_dtype::{
     NativeDType, Nullability, PType, Path, Step, StructFields, TypeCause, TypeIds, UnionVariants,
     VortexError,
 };
+pub use vortex_leaves::{BinaryScalar, BoolScalar, PrimitiveScalar, Utf8Scalar};
 pub use vortex_pvalue::{NativePType, NumericOperator, PValue};
 pub use vortex_value::{Scalar, ScalarRef, ScalarValue, UnionValue};
+pub use vortex_views::{
+    Downcast, Entries, ExtScalar, Fields, Keys, ListScalar, MapScalar, StructScalar, UnionScalar,
+    Values, VariantScalar,
+};
