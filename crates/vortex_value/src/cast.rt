@@ -4,8 +4,10 @@ ghost use Rattle.std.specs.Prelude.{IfErr, IfOk};
 ghost use Rattle.vortex_dtype.specs.TypeOf.{type_of};
 ghost use Rattle.vortex_dtype.specs.TypeTree.{as_nullable};
 ghost use Rattle.vortex_value.specs.Casts.{CanCast, RefusesCast};
+ghost use Rattle.vortex_value.specs.Values.Refs.{IsValidRef, ref_content, ref_type};
 ghost use Rattle.vortex_value.specs.Values.Scalars.{IsMadeOf, IsTheOne, IsValid, scalar_content, scalar_raw, scalar_type};
 
+use crate::refs::ScalarRef;
 use crate::scalars::Scalar;
 use std::alloc::Global;
 use vortex_dtype::{DType, VortexError};
@@ -27,9 +29,7 @@ impl Scalar {
         ensures refuses_only { IfErr result (RefusesCast (type_of target.now)
             (CanCast (scalar_type self.now) (type_of target.now) (scalar_content self.now))) }
     {
-        let value = values::cast_value(alloc, self.value.as_ref(), &self.dtype, target)?;
-        let dtype = target.clone(alloc)?;
-        Ok(Scalar { dtype, value })
+        ScalarRef::of(self).cast(alloc, target)
     }
 
     /// The same raw value, of the type made nullable. Takes no memory.
@@ -45,5 +45,23 @@ impl Scalar {
             dtype: dtype.as_nullable(),
             value,
         }
+    }
+}
+
+impl ScalarRef<'_> {
+    /// The one scalar of the target type with this one's content, as the `cast` of a scalar of its
+    /// own gives it, with the same refusals. Of this port alone: a view casts what it lends by it,
+    /// without a copy.
+    pub fn cast(&self, alloc: Global, target: &DType) -> Result<Scalar, VortexError>
+        requires { IsValidRef self.now }
+        ensures succeeds_only { IfOk result
+            (λ _. CanCast (ref_type self.now) (type_of target.now) (ref_content self.now)) }
+        ensures one { IfOk result (IsTheOne (type_of target.now) (ref_content self.now)) }
+        ensures refuses_only { IfErr result (RefusesCast (type_of target.now)
+            (CanCast (ref_type self.now) (type_of target.now) (ref_content self.now))) }
+    {
+        let value = values::cast_value(alloc, self.value(), self.dtype(), target)?;
+        let dtype = target.clone(alloc)?;
+        Ok(Scalar { dtype, value })
     }
 }
