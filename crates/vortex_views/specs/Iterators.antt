@@ -2,13 +2,14 @@
 use Rattle.std.specs.Prelude.{◌≡◌, List, [], ◌∷◌, map, Option, MatchOption, MatchResult}
 use Rattle.std.specs.declared.result.Result.{Result}
 use Rattle.std.specs.Iterator.{Drains}
-use Rattle.std.specs.List.{AllZip}
-use Rattle.vortex_dtype.specs.TypeOf.{map_of}
+use Rattle.std.specs.List.{AllZip, zip}
+use Rattle.vortex_dtype.specs.TypeOf.{map_of, type_of}
 use Rattle.vortex_dtype.specs.declared.error.VortexError.{VortexError}
 use Rattle.vortex_dtype.specs.declared.error.VortexError.TheVariants.{OutOfMemory}
 use Rattle.vortex_value.specs.Values.RawOf.{raw_of}
 use Rattle.vortex_views.specs.Parts.{Part, entry_of}
 use Rattle.vortex_views.specs.declared.iterators.Entries.{Entries}
+use Rattle.vortex_views.specs.declared.iterators.Fields.{Fields}
 use Rattle.vortex_views.specs.declared.iterators.Keys.{Keys}
 use Rattle.vortex_views.specs.declared.iterators.Values.{Values}
 
@@ -35,3 +36,7 @@ keys_left s = map (λ e. e.0) (entries_left s.entries)
 -- the values that are left
 abbrev pub values_left : Values → List Part
 values_left s = map (λ e. e.1) (entries_left s.entries)
+
+-- the fields that are left
+abbrev pub fields_left : Fields → List Part
+fields_left s = zip (map type_of s.dtypes.now) (map raw_of s.values.now)

@@ -1,5 +1,10 @@
+pub mod ExtensionParts
+pub mod Extensions
 pub mod Iterators
 pub mod Lists
 pub mod Maps
 pub mod PartExamples
 pub mod Parts
+pub mod StructExamples
+pub mod StructParts
+pub mod Structs

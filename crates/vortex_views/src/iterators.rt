@@ -1,16 +1,17 @@
 //! Iterators over the parts of views. Each gives a copy of the next part, or `OutOfMemory` where
 //! there is none for it, and passes the part over either way.
 
-ghost use Rattle.std.specs.Prelude.{◌≡◌, map};
+ghost use Rattle.std.specs.Prelude.{◌≡◌, length, map};
 ghost use Rattle.std.specs.Iterator.{YieldsFirstBy, item_count};
-ghost use Rattle.vortex_dtype.specs.TypeOf.{map_of};
+ghost use Rattle.std.specs.List.{zip};
+ghost use Rattle.vortex_dtype.specs.TypeOf.{map_of, type_of};
 ghost use Rattle.vortex_value.specs.Values.RawOf.{raw_of};
-ghost use Rattle.vortex_views.specs.Iterators.{YieldsCopies, entries_left, keys_left, values_left};
-ghost use Rattle.vortex_views.specs.Parts.{entry_of, ref_entry, scalar_entry, scalar_part};
+ghost use Rattle.vortex_views.specs.Iterators.{YieldsCopies, entries_left, fields_left, keys_left, values_left};
+ghost use Rattle.vortex_views.specs.Parts.{entry_of, ref_entry, ref_part, scalar_entry, scalar_part};
 
 use crate::parts::{copied_entry, copied_part, lent_entry};
 use std::alloc::Global;
-use vortex_dtype::{MapDType, VortexError};
+use vortex_dtype::{DType, MapDType, VortexError};
 use vortex_value::{Scalar, ScalarRef, ScalarValue};
 
 /// The entries of a map, in order, each as a scalar of its key and one of its value.
@@ -120,5 +121,67 @@ impl Iterator for Values<'_> {
     fn next(&mut self) -> Option<Result<Scalar, VortexError>> {
         let (_, value) = self.entries.lend_next()?;
         Some(copied_part(self.entries.alloc, value))
+    }
+}
+
+/// The fields of a struct, in order, each as a scalar.
+///
+/// Ports what `StructScalar::fields_iter` answers.
+#[derive(Drop)]
+pub struct Fields<'a> {
+    dtypes: &'a [DType],
+    values: &'a [Option<ScalarValue>],
+    alloc: Global,
+}
+
+impl<'a> Fields<'a> {
+    /// An iterator over the fields of these types with these values, place by place.
+    pub(crate) fn new(
+        dtypes: &'a [DType],
+        values: &'a [Option<ScalarValue>],
+        alloc: Global,
+    ) -> Fields<'a>
+        ensures { fields_left result
+            ≡ zip (map type_of dtypes.entry.now) (map raw_of values.entry.now) }
+    {
+        Fields {
+            dtypes,
+            values,
+            alloc,
+        }
+    }
+
+    /// How many fields are still to come; those that found no memory are gone.
+    ///
+    /// Ports the `len` of what `StructScalar::fields_iter` answers.
+    #[tactic(auto, using(crate::proofs::FieldSteps::counted))]
+    pub fn len(&self) -> usize
+        ensures { result ≡ length (fields_left self.now) }
+    {
+        self.dtypes.len().min(self.values.len())
+    }
+
+    /// The next field, lent; it is passed over.
+    fn lend_next(&mut self) -> Option<ScalarRef<'a>>
+        ensures { YieldsFirstBy ref_part fields_left self.old result self.new }
+    {
+        let (dtype, dtypes) = self.dtypes.split_first()?;
+        let (value, values) = self.values.split_first()?;
+        self.dtypes = dtypes;
+        self.values = values;
+        Some(ScalarRef::from_parts(dtype, value.as_ref()))
+    }
+}
+
+impl Iterator for Fields<'_> {
+    type Item = Result<Scalar, VortexError>;
+
+    ghost next_gives = { YieldsCopies scalar_part fields_left };
+
+    ghost remaining = { item_count fields_left };
+
+    fn next(&mut self) -> Option<Result<Scalar, VortexError>> {
+        let field = self.lend_next()?;
+        Some(copied_part(self.alloc, field))
     }
 }

@@ -2,12 +2,16 @@
 //! lent or copied.
 #![tactic(auto)]
 
+mod extension;
 mod iterators;
 pub mod laws;
 mod list;
 mod map;
 mod parts;
+mod struct_;
 
-pub use iterators::{Entries, Keys, Values};
+pub use extension::ExtScalar;
+pub use iterators::{Entries, Fields, Keys, Values};
 pub use list::ListScalar;
 pub use map::MapScalar;
+pub use struct_::StructScalar;

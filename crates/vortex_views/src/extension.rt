@@ -1,0 +1,212 @@
+//! Views of extensions.
+
+ghost use Rattle.std.specs.Prelude.{◌≡◌, ◌&&◌, Some, false, is_some, true, IfErr, IfOk, IfSome, MatchResult};
+ghost use Rattle.std.specs.Cmp.{partial_equiv_from_equiv};
+ghost use Rattle.std.specs.Hash.{and-Alike, on_Alike};
+ghost use Rattle.std.specs.Option.{option_copied};
+ghost use Rattle.std.proofs.lemmas.Cmp.{on_equiv};
+ghost use Rattle.vortex_dtype.specs.Parts.{extension_in};
+ghost use Rattle.vortex_dtype.specs.TypeOf.{ext_of, type_of};
+ghost use Rattle.vortex_dtype.specs.TypeTree.{storage};
+ghost use Rattle.vortex_dtype.specs.declared.error.VortexError.TheVariants.{OutOfMemory, WrongKind};
+ghost use Rattle.vortex_value.specs.Lemmas.EqualityLaws.{equal-equiv};
+ghost use Rattle.vortex_value.specs.Lemmas.HashLaws.{content_feed-Alike, type_feed-Alike};
+ghost use Rattle.vortex_value.specs.Values.Content.{typed};
+ghost use Rattle.vortex_value.specs.Values.RawOf.{raw_of, value_tree};
+ghost use Rattle.vortex_value.specs.Values.Refs.{IsRefOf, IsValidRef, ref_content, ref_order, ref_raw, ref_type};
+ghost use Rattle.vortex_value.specs.Values.Scalars.{IsMadeOf, IsValid, scalar_raw, scalar_type};
+ghost use Rattle.vortex_views.specs.ExtensionParts.{is_nested, is_of_kind};
+ghost use Rattle.vortex_views.specs.Parts.{ref_equal, ref_feed, ref_text};
+
+use std::alloc::Global;
+use std::cmp::Ordering;
+use std::fmt::{self, Display, Formatter, Write};
+use std::hash::{Hash, Hasher};
+use vortex_dtype::{DType, ExtDType, VortexError};
+use vortex_value::{Scalar, ScalarRef, ScalarValue};
+
+/// A view of a scalar whose type is an extension: a raw value of its storage, or a null.
+///
+/// Ports `ExtScalar`.
+#[derive(Clone, Copy, Debug)]
+pub struct ExtScalar<'a> {
+    scalar: ScalarRef<'a>,
+    ghost kind: { is_some (extension_in (ref_type scalar)) ≡ true },
+}
+
+impl<'a> ExtScalar<'a> {
+    ghost use Rattle.vortex_views.specs.Extensions.{ext_ref};
+
+    /// The type.
+    ///
+    /// Ports `ExtScalar::dtype`.
+    pub fn dtype(&self) -> &'a DType
+        ensures { type_of result.now ≡ ref_type (ext_ref self.now) }
+    {
+        self.scalar.dtype()
+    }
+
+    /// The id, the metadata and the storage type, also of a null.
+    ///
+    /// Ports `ExtScalar::ext_dtype`.
+    pub fn ext_dtype(&self) -> &'a ExtDType
+        ensures { Some (ext_of result.now) ≡ extension_in (ref_type (ext_ref self.now)) }
+    {
+        self.scalar.dtype().as_extension_opt().unwrap()
+    }
+
+    /// The same raw value as a scalar of the storage type, which may be an extension too.
+    ///
+    /// `OutOfMemory` is its only refusal. Ports `ExtScalar::to_storage_scalar`.
+    pub fn to_storage_scalar(&self, alloc: Global) -> Result<Scalar, VortexError>
+        ensures stored { IfOk result (λ made. IfSome (extension_in (ref_type (ext_ref self.now)))
+            (λ extension. IsMadeOf extension.storage (ref_raw (ext_ref self.now)) made)) }
+        ensures valid { IsValidRef (ext_ref self.now) → IfOk result IsValid }
+        ensures refused { IfErr result (λ e. e ≡ OutOfMemory) }
+    {
+        let storage = self.ext_dtype().storage_dtype();
+        ScalarRef::from_parts(storage, self.scalar.value()).to_scalar(alloc)
+    }
+
+    /// The raw value; none for a null.
+    ///
+    /// Ports `ExtScalar::value`.
+    pub fn value(&self) -> Option<&'a ScalarValue>
+        ensures { raw_of (option_copied result) ≡ ref_raw (ext_ref self.now) }
+    {
+        self.scalar.value()
+    }
+
+    /// The order of the contents, where the types are the same up to nullability, id and metadata
+    /// included, and else none. A null is below all others. Takes no memory.
+    ///
+    /// Ports the `PartialOrd` of `ExtScalar`.
+    pub fn partial_cmp(&self, other: &ExtScalar<'_>) -> Option<Ordering>
+        ensures { result ≡ ref_order (ext_ref self.now) (ext_ref other.now) }
+    {
+        self.scalar.partial_cmp(&other.scalar)
+    }
+}
+
+/// The type below all extensions.
+fn storage_of(dtype: &DType) -> &DType
+    ensures { type_of result.now ≡ storage (type_of dtype.now) }
+{
+    match dtype {
+        DType::Extension(extension) => storage_of(extension.storage_dtype()),
+        _ => dtype,
+    }
+}
+
+/// Whether there is no value, or one of the kind of raw value that this type has, which is no
+/// extension.
+fn is_of_kind(dtype: &DType, value: Option<&ScalarValue>) -> bool
+    ensures { result ≡ is_of_kind (type_of dtype.now) (raw_of (option_copied value.entry)) }
+{
+    match value {
+        Some(value) => is_value_of_kind(dtype, value),
+        None => true,
+    }
+}
+
+/// The same of a value that is present.
+#[tactic(auto, using(crate::proofs::KindSteps::shown))]
+fn is_value_of_kind(dtype: &DType, value: &ScalarValue) -> bool
+    ensures { result ≡ is_of_kind (type_of dtype.now) (value_tree value.now) }
+{
+    match value {
+        ScalarValue::Bool(_) => matches!(dtype, DType::Bool(_)),
+        ScalarValue::Primitive(_) => matches!(dtype, DType::Primitive(_, _)),
+        ScalarValue::Utf8(_) => dtype.is_utf8(),
+        ScalarValue::Binary(_) => dtype.is_binary(),
+        ScalarValue::Tuple(_) => is_nested(dtype),
+        ScalarValue::Union(_) => dtype.is_union(),
+        ScalarValue::Variant(_) => matches!(dtype, DType::Variant(_)),
+    }
+}
+
+/// Whether the type's values are tuples.
+fn is_nested(dtype: &DType) -> bool
+    ensures { result ≡ is_nested (type_of dtype.now) }
+{
+    match dtype {
+        DType::List(_, _) | DType::FixedSizeList(_, _, _) => true,
+        DType::Map(_, _) | DType::Struct(_, _) => true,
+        _ => false,
+    }
+}
+
+/// The view of a scalar: of its type and its raw value, whether or not the value is valid for the
+/// type; of a valid scalar it is valid. Takes no memory.
+///
+/// `WrongKind` exactly where the type is no extension, or the raw value is neither absent nor of the
+/// kind that the storage has below all extensions. Integers of all kinds are of one kind, and of the
+/// type of nulls there is no value. Of this port alone: upstream makes the view of a valid scalar.
+impl<'a> TryFrom<&'a Scalar> for ExtScalar<'a> {
+    type Error = VortexError;
+
+    ghost use Rattle.vortex_views.specs.Extensions.{ext_ref};
+
+    ghost try_from_gives = { λ scalar result. MatchResult result
+        (λ view. IsRefOf (scalar_type scalar.now) (scalar_raw scalar.now) (ext_ref view))
+        (λ e. (e ≡ WrongKind) × ((is_some (extension_in (scalar_type scalar.now))
+        && is_of_kind (storage (scalar_type scalar.now)) (scalar_raw scalar.now)) ≡ false)) };
+
+    fn try_from(scalar: &'a Scalar) -> Result<ExtScalar<'a>, VortexError> {
+        if scalar.dtype().as_extension_opt().is_none() {
+            return Err(VortexError::WrongKind);
+        }
+        if !is_of_kind(storage_of(scalar.dtype()), scalar.value()) {
+            return Err(VortexError::WrongKind);
+        }
+        Ok(ExtScalar {
+            scalar: ScalarRef::of(scalar),
+        })
+    }
+}
+
+impl PartialEq for ExtScalar<'_> {
+    ghost use Rattle.vortex_views.specs.Extensions.{ext_ref};
+
+    ghost eq = { λ a b. ref_equal (ext_ref a) (ext_ref b) };
+
+    ghost laws = { partial_equiv_from_equiv
+        (on_equiv (λ x. typed (ref_type (ext_ref x)) (ref_content (ext_ref x))) equal-equiv) };
+
+    fn eq(&self, other: &ExtScalar<'_>) -> bool {
+        self.scalar == other.scalar
+    }
+}
+
+impl Eq for ExtScalar<'_> {
+    ghost use Rattle.vortex_views.specs.Extensions.{ext_ref};
+
+    ghost laws = { on_equiv (λ x. typed (ref_type (ext_ref x)) (ref_content (ext_ref x)))
+        equal-equiv };
+}
+
+impl Hash for ExtScalar<'_> {
+    ghost use Rattle.vortex_views.specs.Extensions.{ext_ref};
+
+    ghost hash_input = { λ x. ref_feed (ext_ref x) };
+
+    ghost respects_eq = { (and-Alike (on_Alike (λ x. ref_type (ext_ref x)) type_feed-Alike)
+        (on_Alike (λ x. ref_content (ext_ref x)) content_feed-Alike)).fed };
+
+    fn hash<H: Hasher>(&self, state: &mut H) {
+        self.scalar.hash(state);
+    }
+}
+
+/// Writes what the scalar's own `Display` writes: the text of the storage. Takes no memory.
+///
+/// Ports the `Display` of `ExtScalar`.
+impl Display for ExtScalar<'_> {
+    ghost use Rattle.vortex_views.specs.Extensions.{ext_ref};
+
+    ghost output = { λ x. Some (ref_text (ext_ref x)) };
+
+    fn fmt<W: Write>(&self, f: &mut Formatter<W>) -> fmt::Result {
+        self.scalar.fmt(f)
+    }
+}
