@@ -1,4 +1,4 @@
-use Rattle.vortex_views.specs.Iterators.{entries_left, keys_left, values_left}
+use Rattle.vortex_views.specs.Iterators.{entries_left, fields_left, keys_left, values_left}
 use Rattle.vortex_views.specs.Parts.{scalar_entry, scalar_part}
 use Rattle.vortex_views.proofs.IteratorSteps.{gives_each_part}
 use Rattle.vortex_views.proofs.laws.iterators_give_each_part.Goals as goal
@@ -11,3 +11,6 @@ returns-clause-keys c = gives_each_part scalar_part keys_left
 
 pub returns-clause-values : goal.returns-clause-values
 returns-clause-values c = gives_each_part scalar_part values_left
+
+pub returns-clause-fields : goal.returns-clause-fields
+returns-clause-fields c = gives_each_part scalar_part fields_left
