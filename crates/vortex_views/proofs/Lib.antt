@@ -1,6 +1,5 @@
 pub mod FieldSteps
 pub mod IteratorSteps
-pub mod FieldSteps
 pub mod KindSteps
 pub mod PartSteps
 pub mod UnionSteps
