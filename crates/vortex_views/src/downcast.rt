@@ -6,7 +6,7 @@ ghost use Rattle.vortex_dtype.specs.TypeTree.{TypeTree};
 ghost use Rattle.vortex_leaves.specs.BoolViews.{IsBoolViewOf};
 ghost use Rattle.vortex_leaves.specs.BytesViews.{IsBytesViewOf};
 ghost use Rattle.vortex_leaves.specs.Leaves.{is_bool_type};
-ghost use Rattle.vortex_leaves.specs.Numbers.{kind_in};
+ghost use Rattle.vortex_value.specs.Reinterpretations.{kind_in};
 ghost use Rattle.vortex_leaves.specs.PrimitiveViews.{IsNumberViewOf};
 ghost use Rattle.vortex_leaves.specs.TextViews.{IsTextViewOf};
 ghost use Rattle.vortex_value.specs.Validity.{Valid};
