@@ -64,25 +64,76 @@ const CALLS: [(&str, Shape); 54] = [
     ("entry", Shape::Query(Asks::Place(PlaceCall::Entry))),
     ("field_at", Shape::Query(Asks::Place(PlaceCall::FieldAt))),
     ("field", Shape::Query(Asks::Field)),
-    ("elements", Shape::Query(Asks::Valid(ValidCall::View(ViewCall::Elements)))),
-    ("fields", Shape::Query(Asks::Valid(ValidCall::View(ViewCall::Fields)))),
-    ("entries", Shape::Query(Asks::Valid(ValidCall::View(ViewCall::Entries)))),
-    ("keys", Shape::Query(Asks::Valid(ValidCall::View(ViewCall::Keys)))),
-    ("values", Shape::Query(Asks::Valid(ValidCall::View(ViewCall::Values)))),
-    ("child", Shape::Query(Asks::Valid(ValidCall::View(ViewCall::Child)))),
-    ("type_id", Shape::Query(Asks::Valid(ValidCall::View(ViewCall::TypeId)))),
-    ("variant_name", Shape::Query(Asks::Valid(ValidCall::View(ViewCall::VariantName)))),
-    ("inner", Shape::Query(Asks::Valid(ValidCall::View(ViewCall::Inner)))),
-    ("storage", Shape::Query(Asks::Valid(ValidCall::View(ViewCall::Storage)))),
-    ("invert", Shape::Query(Asks::Valid(ValidCall::View(ViewCall::Invert)))),
+    (
+        "elements",
+        Shape::Query(Asks::Valid(ValidCall::View(ViewCall::Elements))),
+    ),
+    (
+        "fields",
+        Shape::Query(Asks::Valid(ValidCall::View(ViewCall::Fields))),
+    ),
+    (
+        "entries",
+        Shape::Query(Asks::Valid(ValidCall::View(ViewCall::Entries))),
+    ),
+    (
+        "keys",
+        Shape::Query(Asks::Valid(ValidCall::View(ViewCall::Keys))),
+    ),
+    (
+        "values",
+        Shape::Query(Asks::Valid(ValidCall::View(ViewCall::Values))),
+    ),
+    (
+        "child",
+        Shape::Query(Asks::Valid(ValidCall::View(ViewCall::Child))),
+    ),
+    (
+        "type_id",
+        Shape::Query(Asks::Valid(ValidCall::View(ViewCall::TypeId))),
+    ),
+    (
+        "variant_name",
+        Shape::Query(Asks::Valid(ValidCall::View(ViewCall::VariantName))),
+    ),
+    (
+        "inner",
+        Shape::Query(Asks::Valid(ValidCall::View(ViewCall::Inner))),
+    ),
+    (
+        "storage",
+        Shape::Query(Asks::Valid(ValidCall::View(ViewCall::Storage))),
+    ),
+    (
+        "invert",
+        Shape::Query(Asks::Valid(ValidCall::View(ViewCall::Invert))),
+    ),
     ("project_struct", Shape::Query(Asks::ProjectStruct)),
-    ("cast_struct", Shape::Query(Asks::Target(TargetCall::CastStruct))),
+    (
+        "cast_struct",
+        Shape::Query(Asks::Target(TargetCall::CastStruct)),
+    ),
     ("view", Shape::Query(Asks::View)),
-    ("add", Shape::Query(Asks::Valids(ValidsCall::Arithmetic(NumericOperator::Add)))),
-    ("sub", Shape::Query(Asks::Valids(ValidsCall::Arithmetic(NumericOperator::Sub)))),
-    ("mul", Shape::Query(Asks::Valids(ValidsCall::Arithmetic(NumericOperator::Mul)))),
-    ("div", Shape::Query(Asks::Valids(ValidsCall::Arithmetic(NumericOperator::Div)))),
-    ("reinterpret", Shape::Query(Asks::Kind(KindCall::Reinterpret))),
+    (
+        "add",
+        Shape::Query(Asks::Valids(ValidsCall::Arithmetic(NumericOperator::Add))),
+    ),
+    (
+        "sub",
+        Shape::Query(Asks::Valids(ValidsCall::Arithmetic(NumericOperator::Sub))),
+    ),
+    (
+        "mul",
+        Shape::Query(Asks::Valids(ValidsCall::Arithmetic(NumericOperator::Mul))),
+    ),
+    (
+        "div",
+        Shape::Query(Asks::Valids(ValidsCall::Arithmetic(NumericOperator::Div))),
+    ),
+    (
+        "reinterpret",
+        Shape::Query(Asks::Kind(KindCall::Reinterpret)),
+    ),
     ("as", Shape::Query(Asks::Kind(KindCall::As))),
     ("take", Shape::Query(Asks::Take)),
     ("lower", Shape::Maker(Makes::Bound(BoundCall::Lower))),

@@ -192,7 +192,7 @@ pub fn rust_input(tokens: &mut Tokens<'_>) -> RustType {
     let mut vectors = 0u32;
     let mut word = rust_word(tokens);
     for _ in 0..=tokens.left() {
-        if word != b"vec" {
+        if word != b"vec".as_slice() {
             break;
         }
         vectors = vectors.saturating_add(1);
@@ -201,7 +201,7 @@ pub fn rust_input(tokens: &mut Tokens<'_>) -> RustType {
     if vectors > MOST_VECTORS {
         tokens.bad_line();
     }
-    let is_optional = word == b"option";
+    let is_optional = word == b"option".as_slice();
     if is_optional {
         word = rust_word(tokens);
     }

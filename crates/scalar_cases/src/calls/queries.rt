@@ -200,7 +200,7 @@ pub fn answer_query(alloc: Global, query: &Query) -> Answer {
         Query::Valids(call, first, second) => of_valids(alloc, *call, first, second),
         Query::Target(call, scalar, target) => of_target(alloc, *call, scalar, target),
         Query::Value(call, value) => of_value(alloc, *call, value),
-        Query::View(view, scalar) => views::view(alloc, *view, scalar),
+        Query::View(view, scalar) => views::viewed(alloc, *view, scalar),
         Query::Place(call, scalar, place) => of_place(alloc, *call, scalar, *place),
         Query::Field(scalar, name) => of_field(alloc, scalar, name),
         Query::ProjectStruct(scalar, names) => project_struct(alloc, scalar, names),

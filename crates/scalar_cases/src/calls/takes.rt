@@ -75,7 +75,7 @@ fn optional_number(alloc: Global, depth: u32, scalar: &Scalar, kind: PType) -> A
 }
 
 /// The scalar as so many vectors, at most `MOST_VECTORS`, one in another.
-fn nested<T: FromScalar + Written>(alloc: Global, depth: u32, scalar: &Scalar) -> Answer {
+fn nested<T: FromScalar + Written + Drop>(alloc: Global, depth: u32, scalar: &Scalar) -> Answer {
     match depth {
         0 => taken::<T>(alloc, scalar),
         1 => taken::<Vec<T>>(alloc, scalar),
@@ -84,7 +84,7 @@ fn nested<T: FromScalar + Written>(alloc: Global, depth: u32, scalar: &Scalar) -
     }
 }
 
-fn taken<T: FromScalar + Written>(alloc: Global, scalar: &Scalar) -> Answer {
+fn taken<T: FromScalar + Written + Drop>(alloc: Global, scalar: &Scalar) -> Answer {
     match T::try_from_scalar(alloc, ScalarRef::of(scalar)) {
         Ok(value) => {
             let mut out = Output::new(alloc);

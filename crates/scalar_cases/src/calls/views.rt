@@ -1,5 +1,6 @@
 //! The calls of views of scalars.
 
+ghost use Rattle.vortex_leaves.specs.PrimitiveViews.{AreOfOneType};
 ghost use Rattle.vortex_value.specs.Values.Scalars.{IsValid};
 
 use crate::answers::{Answer, if_entry, if_made, if_parts, made, unmet, wrong_kind};
@@ -56,7 +57,7 @@ pub enum KindCall {
 }
 
 /// The scalar that a view shows.
-pub fn view(alloc: Global, view: View, scalar: &Scalar) -> Answer {
+pub fn viewed(alloc: Global, view: View, scalar: &Scalar) -> Answer {
     let dtype = scalar.dtype();
     let value = scalar.value();
     match view {
@@ -370,7 +371,9 @@ fn computed<'a>(
     operator: NumericOperator,
     x: PrimitiveScalar<'a>,
     y: PrimitiveScalar<'a>,
-) -> Option<PrimitiveScalar<'a>> {
+) -> Option<PrimitiveScalar<'a>>
+    requires { AreOfOneType x.entry y.entry }
+{
     match operator {
         NumericOperator::Add => x.checked_add(&y),
         NumericOperator::Sub => x.checked_sub(&y),
