@@ -107,19 +107,53 @@ impl Written for bool {
     }
 }
 
-macro_rules! written_numbers {
-    ($($number:ty),*) => {
-        $(
-            impl Written for $number {
-                fn write(&self, out: &mut Output) {
-                    write_number(out, self.into_pvalue());
-                }
-            }
-        )*
-    };
+impl Written for u8 {
+    fn write(&self, out: &mut Output) {
+        write_number(out, self.into_pvalue());
+    }
 }
 
-written_numbers!(u8, u16, u32, u64, i8, i16, i32, i64);
+impl Written for u16 {
+    fn write(&self, out: &mut Output) {
+        write_number(out, self.into_pvalue());
+    }
+}
+
+impl Written for u32 {
+    fn write(&self, out: &mut Output) {
+        write_number(out, self.into_pvalue());
+    }
+}
+
+impl Written for u64 {
+    fn write(&self, out: &mut Output) {
+        write_number(out, self.into_pvalue());
+    }
+}
+
+impl Written for i8 {
+    fn write(&self, out: &mut Output) {
+        write_number(out, self.into_pvalue());
+    }
+}
+
+impl Written for i16 {
+    fn write(&self, out: &mut Output) {
+        write_number(out, self.into_pvalue());
+    }
+}
+
+impl Written for i32 {
+    fn write(&self, out: &mut Output) {
+        write_number(out, self.into_pvalue());
+    }
+}
+
+impl Written for i64 {
+    fn write(&self, out: &mut Output) {
+        write_number(out, self.into_pvalue());
+    }
+}
 
 impl Written for usize {
     fn write(&self, out: &mut Output) {

@@ -372,7 +372,7 @@ fn computed<'a>(
     x: PrimitiveScalar<'a>,
     y: PrimitiveScalar<'a>,
 ) -> Option<PrimitiveScalar<'a>>
-    requires { AreOfOneType x.entry y.entry }
+    requires { AreOfOneType x y }
 {
     match operator {
         NumericOperator::Add => x.checked_add(&y),
