@@ -1,3 +1,4 @@
 pub mod FieldSteps
+pub mod IteratorSteps
 pub mod KindSteps
 pub mod PartSteps

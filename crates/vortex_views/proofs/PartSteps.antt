@@ -14,7 +14,7 @@ use Rattle.vortex_value.specs.Values.Scalars.{IsValid}
 use Rattle.vortex_value.specs.declared.refs.ScalarRef.{ScalarRef}
 use Rattle.vortex_value.specs.declared.scalars.Scalar.{Scalar}
 use Rattle.vortex_value.specs.declared.values.ScalarValue.{ScalarValue, Tuple, the_lemmas}
-use Rattle.vortex_views.specs.Parts.{IsValidEntry, IsValidPart, Part, entries_of, entry_of, ref_entry, elements_of, listed_raws, parts_by, parts_of, ref_part, scalar_part}
+use Rattle.vortex_views.specs.Parts.{AreValidParts, IsValidPart, Part, entries_of, entry_of, ref_entry, elements_of, listed_raws, parts_by, parts_of, ref_part, scalar_part}
 
 listed-value_trees : (vs : List (Option ScalarValue)) → map raw_of vs ≡ listed_raws (value_trees vs)
 listed-value_trees [] = refl
@@ -91,14 +91,14 @@ copied_elements-valid xs e t v raws l r k h = copies-valid xs (λ place. subst (
     same : map scalar_part xs ≡ elements_of t v
     same = l ∙ ap (map (λ w. (e, w))) r ∙ subst (λ held. map {B = Part} (λ w. (e, w)) (parts_of v) ≡ parts_by (λ f w. (f, w)) held v) k refl
 
-each_entry-valid : (m : MapParts) (vs : RawTrees) (place : ℕ) → EntriesValid m.key m.value vs → IfSome (slice_get (map (entry_of m) (listed_raws vs)) place) IsValidEntry
+each_entry-valid : (m : MapParts) (vs : RawTrees) (place : ℕ) → EntriesValid m.key m.value vs → IfSome (slice_get (map (entry_of m) (listed_raws vs)) place) AreValidParts
 each_entry-valid m no_raws place h = tt
 each_entry-valid m (raw_then (raw_tuple (raw_then x (raw_then y no_raws))) vs) zero h = (h.0, h.1)
 each_entry-valid m (raw_then (raw_tuple (raw_then x (raw_then y no_raws))) vs) (suc place) h = each_entry-valid m vs place h.2
 each_entry-valid m _ place h = absurd h
 
 -- each entry of a valid map is valid
-pub entry-valid : (m : MapParts) (t : TypeTree) (v : RawTree) (place : ℕ) → Some m ≡ map_in t → Valid t v → IfSome (slice_get (entries_of t v) place) IsValidEntry
+pub entry-valid : (m : MapParts) (t : TypeTree) (v : RawTree) (place : ℕ) → Some m ≡ map_in t → Valid t v → IfSome (slice_get (entries_of t v) place) AreValidParts
 entry-valid m (map_type k w sorted n) v place e h = elim (no_parts_or_tuple v) [
   | inl none ↦ rw none tt
   | inr tuple ↦ rw tuple.1 (each_entry-valid (record { key = k; value = w; keys_sorted = sorted }) tuple.0 place (subst (Valid (map_type k w sorted n)) tuple.1 h))
@@ -106,10 +106,10 @@ entry-valid m (map_type k w sorted n) v place e h = elim (no_parts_or_tuple v) [
 entry-valid m _ v place e h = cc
 
 -- what lends a valid entry is valid
-lent_both-valid : (lent : Option (ScalarRef × ScalarRef)) (entry : Option (Part × Part)) → option_map ref_entry lent ≡ entry → IfSome entry IsValidEntry
+lent_both-valid : (lent : Option (ScalarRef × ScalarRef)) (entry : Option (Part × Part)) → option_map ref_entry lent ≡ entry → IfSome entry AreValidParts
     → IfSome lent (λ e. IsValidRef e.0 × IsValidRef e.1)
 lent_both-valid None entry e h = tt
-lent_both-valid (Some x) entry e h = let P : Option (Part × Part) → Type 0 = λ p. IfSome p IsValidEntry in subst P (sym e) h
+lent_both-valid (Some x) entry e h = let P : Option (Part × Part) → Type 0 = λ p. IfSome p AreValidParts in subst P (sym e) h
 
 -- an entry of a valid map that is lent is valid
 pub lent_entry-valid : (lent : Option (ScalarRef × ScalarRef)) (m : MapParts) (t : TypeTree) (v : RawTree) (raws : List RawTree) (place : ℕ)
@@ -125,15 +125,15 @@ all_placed P (x ∷ xs) h = All-cons P x xs (h 0) (all_placed P xs (λ place. h 
 
 -- all entries of a valid map are valid
 pub entries-valid : (m : MapParts) (t : TypeTree) (v : RawTree) (raws : List RawTree) (left : List (Part × Part))
-    → left ≡ map (entry_of m) raws → raws ≡ parts_of v → Some m ≡ map_in t → Valid t v → All IsValidEntry left
-entries-valid m t v raws left l r k h = rw same (all_placed IsValidEntry (entries_of t v) (λ place. entry-valid m t v place k h))
+    → left ≡ map (entry_of m) raws → raws ≡ parts_of v → Some m ≡ map_in t → Valid t v → All AreValidParts left
+entries-valid m t v raws left l r k h = rw same (all_placed AreValidParts (entries_of t v) (λ place. entry-valid m t v place k h))
   where
     same : left ≡ entries_of t v
     same = l ∙ ap (map (entry_of m)) r ∙ subst (λ held. map (entry_of m) (parts_of v) ≡ parts_by entry_of held v) k refl
 
 -- all keys, and all values, of valid entries are valid
-pub keys-valid : (entries : List (Part × Part)) (left : List Part) → left ≡ map (λ e. e.0) entries → All IsValidEntry entries → All IsValidPart left
+pub keys-valid : (entries : List (Part × Part)) (left : List Part) → left ≡ map (λ e. e.0) entries → All AreValidParts entries → All IsValidPart left
 keys-valid entries left l h = rw l (All-map IsValidPart (λ e. e.0) entries (λ k d below. (h k d below).0))
 
-pub values-valid : (entries : List (Part × Part)) (left : List Part) → left ≡ map (λ e. e.1) entries → All IsValidEntry entries → All IsValidPart left
+pub values-valid : (entries : List (Part × Part)) (left : List Part) → left ≡ map (λ e. e.1) entries → All AreValidParts entries → All IsValidPart left
 values-valid entries left l h = rw l (All-map IsValidPart (λ e. e.1) entries (λ k d below. (h k d below).1))

@@ -42,8 +42,8 @@ abbrev pub IsValidPart : Part → Type 0
 IsValidPart p = Valid p.0 p.1
 
 -- the same of both
-abbrev pub IsValidEntry : Part × Part → Type 0
-IsValidEntry e = IsValidPart e.0 × IsValidPart e.1
+abbrev pub AreValidParts : Part × Part → Type 0
+AreValidParts e = IsValidPart e.0 × IsValidPart e.1
 
 -- the values that a tree holds, as a list
 abbrev pub listed_raws : RawTrees → List RawTree

@@ -4,6 +4,7 @@
 
 mod extension;
 mod iterators;
+pub mod laws;
 mod list;
 mod map;
 mod parts;

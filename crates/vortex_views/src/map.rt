@@ -18,7 +18,7 @@ ghost use Rattle.vortex_value.specs.Values.Refs.{IsRefOf, IsValidRef, ref_conten
 ghost use Rattle.vortex_value.specs.Values.Scalars.{IsValid, scalar_raw, scalar_type};
 ghost use Rattle.vortex_value.specs.Validity.{Valid};
 ghost use Rattle.vortex_views.specs.Iterators.{entries_left, keys_left, values_left};
-ghost use Rattle.vortex_views.specs.Parts.{IsValidEntry, IsValidPart, RefusesView, entries_of, is_null_or_tuple, parts_of, ref_entry, ref_equal, ref_feed, ref_text, scalar_entry};
+ghost use Rattle.vortex_views.specs.Parts.{AreValidParts, IsValidPart, RefusesView, entries_of, is_null_or_tuple, parts_of, ref_entry, ref_equal, ref_feed, ref_text, scalar_entry};
 
 use crate::iterators::{Entries, Keys, Values};
 use crate::parts::{copied_entry, entry_at, is_null_or_tuple, items_of};
@@ -154,7 +154,7 @@ impl<'a> MapScalar<'a> {
     pub fn entries(&self, alloc: Global) -> Entries<'a>
         ensures all { entries_left result
             ≡ entries_of (ref_type (map_ref self.now)) (ref_raw (map_ref self.now)) }
-        ensures valid { IsValidRef (map_ref self.now) → All IsValidEntry (entries_left result) }
+        ensures valid { IsValidRef (map_ref self.now) → All AreValidParts (entries_left result) }
     {
         Entries::new(self.map_dtype(), self.items(), alloc)
     }
