@@ -8,7 +8,7 @@ ghost use Rattle.std.specs.Option.{option_copied};
 ghost use Rattle.std.proofs.lemmas.Cmp.{on_equiv};
 ghost use Rattle.vortex_dtype.specs.Names.{names_in};
 ghost use Rattle.vortex_dtype.specs.Parts.{fields_in};
-ghost use Rattle.vortex_dtype.specs.Refusals.{RefusesOrNoMemory};
+ghost use Rattle.vortex_dtype.specs.Refusals.{RefusesExactly, RefusesOrNoMemory};
 ghost use Rattle.vortex_dtype.specs.TypeOf.{fields_of, type_of};
 ghost use Rattle.vortex_dtype.specs.declared.error.VortexError.TheVariants.{OutOfMemory, WrongKind};
 ghost use Rattle.vortex_value.specs.Casts.{CanCast, RefusesCast};
@@ -20,7 +20,7 @@ ghost use Rattle.vortex_value.specs.Values.RawTree.{is_absent};
 ghost use Rattle.vortex_value.specs.Values.Refs.{IsRefOf, IsValidRef, ref_content, ref_order, ref_raw, ref_type};
 ghost use Rattle.vortex_value.specs.Values.Scalars.{IsTheOne, IsValid, scalar_raw, scalar_type};
 ghost use Rattle.vortex_views.specs.Parts.{IsValidPart, is_null_or_tuple, parts_of, ref_equal, ref_feed, ref_part, ref_text, scalar_part};
-ghost use Rattle.vortex_views.specs.StructParts.{IsProjectedType, IsProjectedValue, field_named, fields_within, selection_cause, struct_cast_cause, value_named};
+ghost use Rattle.vortex_views.specs.StructParts.{IsProjectedType, IsProjectedValue, counts_cause, field_named, fields_within, selection_cause, struct_cast_cause, value_named};
 
 use crate::iterators::Fields;
 use crate::parts::{copied, is_null_or_tuple, item_or_null, items_of, part_at};
@@ -166,10 +166,7 @@ impl<'a> StructScalar<'a> {
         let Some(target) = dtype.as_struct_fields_opt() else {
             return Err(VortexError::WrongKind);
         };
-        let (expected, found) = (target.nfields(), self.struct_fields().nfields());
-        if expected != found {
-            return Err(VortexError::WrongLength { expected, found });
-        }
+        check_counts(self.struct_fields(), target)?;
         self.scalar.cast(alloc, dtype)
     }
 
@@ -227,6 +224,18 @@ impl<'a> StructScalar<'a> {
         ensures { map raw_of result.now ≡ parts_of (ref_raw (struct_ref self.now)) }
     {
         items_of(self.scalar.value())
+    }
+}
+
+/// Sees that there are as many fields as the target has.
+fn check_counts(own: &StructFields, target: &StructFields) -> Result<(), VortexError>
+    ensures { RefusesExactly (counts_cause (fields_of own.now) (fields_of target.now)) result }
+{
+    let (expected, found) = (target.nfields(), own.nfields());
+    if expected == found {
+        Ok(())
+    } else {
+        Err(VortexError::WrongLength { expected, found })
     }
 }
 
