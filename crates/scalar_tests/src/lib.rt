@@ -34,4 +34,6 @@ mod tour;
 #[cfg(test)]
 mod types;
 #[cfg(test)]
+mod union_views;
+#[cfg(test)]
 mod values;
