@@ -36,6 +36,8 @@ mod tour;
 #[cfg(test)]
 mod types;
 #[cfg(test)]
+mod union_views;
+#[cfg(test)]
 mod values;
 #[cfg(test)]
 mod views;
