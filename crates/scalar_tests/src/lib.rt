@@ -35,3 +35,5 @@ mod tour;
 mod types;
 #[cfg(test)]
 mod values;
+#[cfg(test)]
+mod views;

@@ -1,6 +1,6 @@
 -- A run of calls gives each part that is left.
-use Rattle.std.proofs.Common.{◌≡◌, List, [], ◌∷◌, Option, None, Result, refl, sym, subst, ◌∙◌, ap}
-use Rattle.std.specs.Iterator.{Drains, Yields}
+use Rattle.std.proofs.Common.{List, [], ◌∷◌, None, Result, ◌∙◌, ap}
+use Rattle.std.specs.Iterator.{Yields}
 use Rattle.std.specs.List.{AllZip}
 use Rattle.vortex_dtype.specs.declared.error.VortexError.{VortexError}
 use Rattle.vortex_views.specs.Iterators.{GivesCopy, GivesEachPart, YieldsCopies}

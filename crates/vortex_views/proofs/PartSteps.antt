@@ -1,5 +1,5 @@
 -- The values of a tuple as parts, and the parts of a valid list.
-use Rattle.std.proofs.Common.{◌≡◌, ◌⊎◌, ℕ, zero, suc, Bool, true, false, List, [], ◌∷◌, map, Option, Some, None, option_map, slice_get, is_some, IfSome, Vec, Global, refl, sym, ap, ◌∙◌, inl, inr, subst, rules, arith}
+use Rattle.std.proofs.Common.{◌≡◌, ◌⊎◌, ℕ, zero, suc, List, [], ◌∷◌, map, Option, Some, None, option_map, slice_get, IfSome, Vec, Global, refl, sym, ap, ◌∙◌, inl, inr, subst, rules, arith}
 use Rattle.std.proofs.lemmas.List.Elements.{All-cons, All-map}
 use Rattle.std.proofs.lemmas.Option.{slice_get-map}
 use Rattle.std.specs.List.{All}
