@@ -10,6 +10,8 @@ mod bounds;
 #[cfg(test)]
 mod columns;
 #[cfg(test)]
+mod conversions;
+#[cfg(test)]
 mod fixtures;
 #[cfg(test)]
 mod hashers;
