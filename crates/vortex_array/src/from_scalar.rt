@@ -1,6 +1,6 @@
 //! Conversions of scalars into Rust values.
 
-ghost use Rattle.std.specs.Prelude.{◌≡◌, pos, string_bytes};
+ghost use Rattle.std.specs.Prelude.{pos, string_bytes};
 ghost use Rattle.std.specs.Option.{option_copied};
 ghost use Rattle.vortex_dtype.specs.TypeOf.{type_of};
 ghost use Rattle.vortex_dtype.specs.TypeTree.{TypeTree};

@@ -1,7 +1,7 @@
 //! Conversions of Rust values into scalars.
 
 ghost use Rattle.std.specs.Prelude.{◌≡◌, IsOkAnd, MatchResult, pos, string_bytes};
-ghost use Rattle.vortex_dtype.specs.TypeTree.{as_nullable, bool_type, integer_type, utf8_type, binary_type, list_type};
+ghost use Rattle.vortex_dtype.specs.TypeTree.{bool_type, integer_type, utf8_type, binary_type};
 ghost use Rattle.vortex_dtype.specs.declared.error.VortexError.TheVariants.{OutOfMemory};
 ghost use Rattle.vortex_dtype.specs.declared.kinds.Nullability.TheVariants.{NonNullable};
 ghost use Rattle.vortex_dtype.specs.declared.kinds.PType.TheVariants.{U8, U16, U32, U64, I8, I16, I32, I64};
