@@ -30,6 +30,8 @@ mod places;
 #[cfg(test)]
 mod round_trips;
 #[cfg(test)]
+mod rust_values;
+#[cfg(test)]
 mod streams;
 #[cfg(test)]
 mod texts;
