@@ -1,5 +1,8 @@
 //! Types of each kind: what they tell of themselves, how they compare, and what they feed hashers.
 
+ghost use Rattle.vortex_value.specs.Validity.{Valid};
+ghost use Rattle.vortex_value.specs.Values.Scalars.{IsValid};
+
 use crate::fixtures::{
     I32, byte_buffer, fixed_size_list, list, map, struct_of_names, struct_of_one, struct_of_two,
     text_buffer, two_names, two_types, union_of_ids,
@@ -9,6 +12,8 @@ use std::hash::Hasher;
 use std::process::Abort;
 use vortex_dtype::Nullability::{NonNullable, Nullable};
 use vortex_dtype::{DType, ExtDType, PType};
+use vortex_value::Scalar;
+use vortex_views::Downcast;
 
 /// How many samples are one of each kind of type.
 const KINDS: usize = 12;
@@ -98,6 +103,44 @@ fn each_kind_is_told_from_the_others(rt: HostRuntime) {
         let dtype = sample(&rt, place);
         tells_its_kind(&rt, place, &dtype);
         assert!(rt; parts_given(&dtype) == parts_wanted(place));
+    }
+}
+
+/// Which views there are, asked of the trait alone.
+fn views_given<T: Downcast>(scalar: &T) -> [bool; 10]
+    requires { Valid (T.type_at scalar.now) (T.raw_at scalar.now) }
+{
+    [
+        scalar.as_bool_opt().is_some(),
+        scalar.as_primitive_opt().is_some(),
+        scalar.as_utf8_opt().is_some(),
+        scalar.as_binary_opt().is_some(),
+        scalar.as_list_opt().is_some(),
+        scalar.as_map_opt().is_some(),
+        scalar.as_struct_opt().is_some(),
+        scalar.as_union_opt().is_some(),
+        scalar.as_variant_opt().is_some(),
+        scalar.as_extension_opt().is_some(),
+    ]
+}
+
+/// The views that a null of the sample is to have.
+fn views_wanted(place: usize) -> [bool; 10] {
+    let mut wanted = [false; 10];
+    match place {
+        1..=5 => wanted[place - 1] = true,
+        6..=11 => wanted[place - 2] = true,
+        _ => {}
+    }
+    wanted
+}
+
+#[test]
+fn each_kind_is_viewed_as_itself_alone(rt: HostRuntime) {
+    for place in 0..KINDS {
+        let dtype = sample(&rt, place).as_nullable();
+        let null = Scalar::try_new(rt.alloc(), dtype, None).expect(&rt, "a null");
+        assert!(rt; views_given(&null) == views_wanted(place));
     }
 }
 

@@ -10,6 +10,8 @@ mod bounds;
 #[cfg(test)]
 mod columns;
 #[cfg(test)]
+mod conversions;
+#[cfg(test)]
 mod fixtures;
 #[cfg(test)]
 mod hashers;
@@ -28,6 +30,8 @@ mod places;
 #[cfg(test)]
 mod round_trips;
 #[cfg(test)]
+mod rust_values;
+#[cfg(test)]
 mod streams;
 #[cfg(test)]
 mod texts;
@@ -35,6 +39,8 @@ mod texts;
 mod tour;
 #[cfg(test)]
 mod types;
+#[cfg(test)]
+mod union_views;
 #[cfg(test)]
 mod values;
 #[cfg(test)]

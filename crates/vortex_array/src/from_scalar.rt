@@ -1,6 +1,6 @@
 //! Conversions of scalars into Rust values.
 
-ghost use Rattle.std.specs.Prelude.{◌≡◌, pos, string_bytes};
+ghost use Rattle.std.specs.Prelude.{pos, string_bytes};
 ghost use Rattle.std.specs.Option.{option_copied};
 ghost use Rattle.vortex_dtype.specs.TypeOf.{type_of};
 ghost use Rattle.vortex_dtype.specs.TypeTree.{TypeTree};
@@ -18,7 +18,8 @@ use vortex_value::{ScalarRef, ScalarValue};
 
 /// A Rust type whose values are taken from scalars.
 ///
-/// Of this port alone: upstream has `TryFrom<&Scalar>`, which takes no allocator.
+/// Of this port alone: upstream has `TryFrom<&Scalar>`, which takes no allocator. Serves the types
+/// that `TryFrom<&Scalar>` serves, with the same answers, and texts and vectors, which take memory.
 pub trait FromScalar {
     /// The raw value that a value gives. What is taken is named by it.
     ghost given: { Self → RawTree };
@@ -37,7 +38,7 @@ pub trait FromScalar {
 
 /// `WrongKind` of another type, `IsNull` of a null, `WrongKind` of another kind of raw value.
 ///
-/// Ports `TryFrom<&Scalar> for bool`.
+/// Answers as `TryFrom<&Scalar> for bool`.
 impl FromScalar for bool {
     ghost given = { raw_bool };
 
@@ -57,7 +58,7 @@ impl FromScalar for bool {
 
 /// `WrongKind` of another type, none of a null, `WrongKind` of another kind of raw value.
 ///
-/// Ports `TryFrom<&Scalar> for Option<bool>`.
+/// Answers as `TryFrom<&Scalar> for Option<bool>`.
 impl FromScalar for Option<bool> {
     ghost given = { given_option raw_bool };
 
@@ -78,7 +79,7 @@ impl FromScalar for Option<bool> {
 /// From any type: `IsNull` of a null, `WrongKind` of another kind of raw value, `OutOfRange` of a
 /// number that does not fit.
 ///
-/// Ports `TryFrom<&Scalar> for u8`.
+/// Answers as `TryFrom<&Scalar> for u8`.
 impl FromScalar for u8 {
     ghost given = { given_number U8 pos };
 
@@ -95,7 +96,7 @@ impl FromScalar for u8 {
 /// From any type: `IsNull` of a null, `WrongKind` of another kind of raw value, `OutOfRange` of a
 /// number that does not fit.
 ///
-/// Ports `TryFrom<&Scalar> for u16`.
+/// Answers as `TryFrom<&Scalar> for u16`.
 impl FromScalar for u16 {
     ghost given = { given_number U16 pos };
 
@@ -112,7 +113,7 @@ impl FromScalar for u16 {
 /// From any type: `IsNull` of a null, `WrongKind` of another kind of raw value, `OutOfRange` of a
 /// number that does not fit.
 ///
-/// Ports `TryFrom<&Scalar> for u32`.
+/// Answers as `TryFrom<&Scalar> for u32`.
 impl FromScalar for u32 {
     ghost given = { given_number U32 pos };
 
@@ -129,7 +130,7 @@ impl FromScalar for u32 {
 /// From any type: `IsNull` of a null, `WrongKind` of another kind of raw value, `OutOfRange` of a
 /// number that does not fit.
 ///
-/// Ports `TryFrom<&Scalar> for u64`.
+/// Answers as `TryFrom<&Scalar> for u64`.
 impl FromScalar for u64 {
     ghost given = { given_number U64 pos };
 
@@ -146,7 +147,7 @@ impl FromScalar for u64 {
 /// From any type: `IsNull` of a null, `WrongKind` of another kind of raw value, `OutOfRange` of a
 /// number that does not fit.
 ///
-/// Ports `TryFrom<&Scalar> for i8`.
+/// Answers as `TryFrom<&Scalar> for i8`.
 impl FromScalar for i8 {
     ghost given = { given_number I8 (λ n. n) };
 
@@ -163,7 +164,7 @@ impl FromScalar for i8 {
 /// From any type: `IsNull` of a null, `WrongKind` of another kind of raw value, `OutOfRange` of a
 /// number that does not fit.
 ///
-/// Ports `TryFrom<&Scalar> for i16`.
+/// Answers as `TryFrom<&Scalar> for i16`.
 impl FromScalar for i16 {
     ghost given = { given_number I16 (λ n. n) };
 
@@ -180,7 +181,7 @@ impl FromScalar for i16 {
 /// From any type: `IsNull` of a null, `WrongKind` of another kind of raw value, `OutOfRange` of a
 /// number that does not fit.
 ///
-/// Ports `TryFrom<&Scalar> for i32`.
+/// Answers as `TryFrom<&Scalar> for i32`.
 impl FromScalar for i32 {
     ghost given = { given_number I32 (λ n. n) };
 
@@ -197,7 +198,7 @@ impl FromScalar for i32 {
 /// From any type: `IsNull` of a null, `WrongKind` of another kind of raw value, `OutOfRange` of a
 /// number that does not fit.
 ///
-/// Ports `TryFrom<&Scalar> for i64`.
+/// Answers as `TryFrom<&Scalar> for i64`.
 impl FromScalar for i64 {
     ghost given = { given_number I64 (λ n. n) };
 
@@ -214,7 +215,7 @@ impl FromScalar for i64 {
 /// `WrongKind` of a type of no integers, `WrongPType` of another kind, of a null too; none of a null;
 /// `WrongKind` of another kind of raw value, `OutOfRange` of a number that does not fit.
 ///
-/// Ports `TryFrom<&Scalar> for Option<u8>`.
+/// Answers as `TryFrom<&Scalar> for Option<u8>`.
 impl FromScalar for Option<u8> {
     ghost given = { given_option (given_number U8 pos) };
 
@@ -231,7 +232,7 @@ impl FromScalar for Option<u8> {
 /// `WrongKind` of a type of no integers, `WrongPType` of another kind, of a null too; none of a null;
 /// `WrongKind` of another kind of raw value, `OutOfRange` of a number that does not fit.
 ///
-/// Ports `TryFrom<&Scalar> for Option<u16>`.
+/// Answers as `TryFrom<&Scalar> for Option<u16>`.
 impl FromScalar for Option<u16> {
     ghost given = { given_option (given_number U16 pos) };
 
@@ -248,7 +249,7 @@ impl FromScalar for Option<u16> {
 /// `WrongKind` of a type of no integers, `WrongPType` of another kind, of a null too; none of a null;
 /// `WrongKind` of another kind of raw value, `OutOfRange` of a number that does not fit.
 ///
-/// Ports `TryFrom<&Scalar> for Option<u32>`.
+/// Answers as `TryFrom<&Scalar> for Option<u32>`.
 impl FromScalar for Option<u32> {
     ghost given = { given_option (given_number U32 pos) };
 
@@ -265,7 +266,7 @@ impl FromScalar for Option<u32> {
 /// `WrongKind` of a type of no integers, `WrongPType` of another kind, of a null too; none of a null;
 /// `WrongKind` of another kind of raw value, `OutOfRange` of a number that does not fit.
 ///
-/// Ports `TryFrom<&Scalar> for Option<u64>`.
+/// Answers as `TryFrom<&Scalar> for Option<u64>`.
 impl FromScalar for Option<u64> {
     ghost given = { given_option (given_number U64 pos) };
 
@@ -282,7 +283,7 @@ impl FromScalar for Option<u64> {
 /// `WrongKind` of a type of no integers, `WrongPType` of another kind, of a null too; none of a null;
 /// `WrongKind` of another kind of raw value, `OutOfRange` of a number that does not fit.
 ///
-/// Ports `TryFrom<&Scalar> for Option<i8>`.
+/// Answers as `TryFrom<&Scalar> for Option<i8>`.
 impl FromScalar for Option<i8> {
     ghost given = { given_option (given_number I8 (λ n. n)) };
 
@@ -299,7 +300,7 @@ impl FromScalar for Option<i8> {
 /// `WrongKind` of a type of no integers, `WrongPType` of another kind, of a null too; none of a null;
 /// `WrongKind` of another kind of raw value, `OutOfRange` of a number that does not fit.
 ///
-/// Ports `TryFrom<&Scalar> for Option<i16>`.
+/// Answers as `TryFrom<&Scalar> for Option<i16>`.
 impl FromScalar for Option<i16> {
     ghost given = { given_option (given_number I16 (λ n. n)) };
 
@@ -316,7 +317,7 @@ impl FromScalar for Option<i16> {
 /// `WrongKind` of a type of no integers, `WrongPType` of another kind, of a null too; none of a null;
 /// `WrongKind` of another kind of raw value, `OutOfRange` of a number that does not fit.
 ///
-/// Ports `TryFrom<&Scalar> for Option<i32>`.
+/// Answers as `TryFrom<&Scalar> for Option<i32>`.
 impl FromScalar for Option<i32> {
     ghost given = { given_option (given_number I32 (λ n. n)) };
 
@@ -333,7 +334,7 @@ impl FromScalar for Option<i32> {
 /// `WrongKind` of a type of no integers, `WrongPType` of another kind, of a null too; none of a null;
 /// `WrongKind` of another kind of raw value, `OutOfRange` of a number that does not fit.
 ///
-/// Ports `TryFrom<&Scalar> for Option<i64>`.
+/// Answers as `TryFrom<&Scalar> for Option<i64>`.
 impl FromScalar for Option<i64> {
     ghost given = { given_option (given_number I64 (λ n. n)) };
 
@@ -350,7 +351,7 @@ impl FromScalar for Option<i64> {
 /// `WrongKind` of a type of no integers, `IsNull` of a null, `WrongKind` of another kind of raw
 /// value, `OutOfRange` of a number that 64 bits do not hold.
 ///
-/// Ports `TryFrom<&Scalar> for usize`.
+/// Answers as `TryFrom<&Scalar> for usize`.
 impl FromScalar for usize {
     ghost given = { given_usize };
 
@@ -371,7 +372,7 @@ impl FromScalar for usize {
 /// `WrongKind` of a type of no integers, none of a null, `WrongKind` of another kind of raw value,
 /// `OutOfRange` of a number that 64 bits do not hold.
 ///
-/// Ports `TryFrom<&Scalar> for Option<usize>`.
+/// Answers as `TryFrom<&Scalar> for Option<usize>`.
 impl FromScalar for Option<usize> {
     ghost given = { given_option given_usize };
 
@@ -392,7 +393,7 @@ impl FromScalar for Option<usize> {
 /// `WrongKind` of another type, `IsNull` of a null, `WrongKind` of another kind of raw value; else the
 /// bytes, copied.
 ///
-/// Ports `TryFrom<&Scalar> for ByteBuffer`.
+/// Answers as `TryFrom<&Scalar> for ByteBuffer`.
 impl FromScalar for ByteBuffer {
     ghost given = { raw_bytes };
 
@@ -413,7 +414,7 @@ impl FromScalar for ByteBuffer {
 /// `WrongKind` of another type, none of a null, `WrongKind` of another kind of raw value; else the
 /// bytes, copied.
 ///
-/// Ports `TryFrom<&Scalar> for Option<ByteBuffer>`.
+/// Answers as `TryFrom<&Scalar> for Option<ByteBuffer>`.
 impl FromScalar for Option<ByteBuffer> {
     ghost given = { given_option raw_bytes };
 
@@ -437,7 +438,7 @@ impl FromScalar for Option<ByteBuffer> {
 /// `WrongKind` of another type, `IsNull` of a null, `WrongKind` of another kind of raw value; else the
 /// text, copied.
 ///
-/// Ports `TryFrom<&Scalar> for BufferString`.
+/// Answers as `TryFrom<&Scalar> for BufferString`.
 impl FromScalar for BufferString {
     ghost given = { raw_text };
 
@@ -458,7 +459,7 @@ impl FromScalar for BufferString {
 /// `WrongKind` of another type, none of a null, `WrongKind` of another kind of raw value; else the
 /// text, copied.
 ///
-/// Ports `TryFrom<&Scalar> for Option<BufferString>`.
+/// Answers as `TryFrom<&Scalar> for Option<BufferString>`.
 impl FromScalar for Option<BufferString> {
     ghost given = { given_option raw_text };
 

@@ -1,7 +1,7 @@
 //! Conversions of Rust values into scalars.
 
 ghost use Rattle.std.specs.Prelude.{◌≡◌, IsOkAnd, MatchResult, pos, string_bytes};
-ghost use Rattle.vortex_dtype.specs.TypeTree.{as_nullable, bool_type, integer_type, utf8_type, binary_type, list_type};
+ghost use Rattle.vortex_dtype.specs.TypeTree.{bool_type, integer_type, utf8_type, binary_type};
 ghost use Rattle.vortex_dtype.specs.declared.error.VortexError.TheVariants.{OutOfMemory};
 ghost use Rattle.vortex_dtype.specs.declared.kinds.Nullability.TheVariants.{NonNullable};
 ghost use Rattle.vortex_dtype.specs.declared.kinds.PType.TheVariants.{U8, U16, U32, U64, I8, I16, I32, I64};
@@ -25,15 +25,15 @@ pub trait IntoScalar: NativeDType {
 
     /// The scalar of the value, of exactly the column type of the Rust type.
     ///
-    /// `OutOfMemory` is its only refusal: texts and bytes that are no buffers are copied, a vector
-    /// takes room for its elements and its type.
+    /// `OutOfMemory` is its only refusal: texts and bytes that are no buffers are copied, and a
+    /// vector takes room for its elements and for its type.
     fn try_into_scalar(self, alloc: Global) -> Result<Scalar, VortexError>
         ensures { MatchResult result
             (IsMadeValid Self.native_type (given self))
             (λ e. e ≡ OutOfMemory) };
 }
 
-/// Takes no memory. Ports `From<bool> for Scalar`.
+/// Takes no memory. Gives what `From<bool> for Scalar` does.
 impl IntoScalar for bool {
     ghost given = { raw_bool };
 
@@ -44,7 +44,7 @@ impl IntoScalar for bool {
     }
 }
 
-/// Takes no memory. Ports `From<u8> for Scalar`.
+/// Takes no memory. Gives what `From<u8> for Scalar` does.
 impl IntoScalar for u8 {
     ghost given = { given_number U8 pos };
 
@@ -56,7 +56,7 @@ impl IntoScalar for u8 {
     }
 }
 
-/// Takes no memory. Ports `From<u16> for Scalar`.
+/// Takes no memory. Gives what `From<u16> for Scalar` does.
 impl IntoScalar for u16 {
     ghost given = { given_number U16 pos };
 
@@ -68,7 +68,7 @@ impl IntoScalar for u16 {
     }
 }
 
-/// Takes no memory. Ports `From<u32> for Scalar`.
+/// Takes no memory. Gives what `From<u32> for Scalar` does.
 impl IntoScalar for u32 {
     ghost given = { given_number U32 pos };
 
@@ -80,7 +80,7 @@ impl IntoScalar for u32 {
     }
 }
 
-/// Takes no memory. Ports `From<u64> for Scalar`.
+/// Takes no memory. Gives what `From<u64> for Scalar` does.
 impl IntoScalar for u64 {
     ghost given = { given_number U64 pos };
 
@@ -92,7 +92,7 @@ impl IntoScalar for u64 {
     }
 }
 
-/// Takes no memory. Ports `From<i8> for Scalar`.
+/// Takes no memory. Gives what `From<i8> for Scalar` does.
 impl IntoScalar for i8 {
     ghost given = { given_number I8 (λ n. n) };
 
@@ -104,7 +104,7 @@ impl IntoScalar for i8 {
     }
 }
 
-/// Takes no memory. Ports `From<i16> for Scalar`.
+/// Takes no memory. Gives what `From<i16> for Scalar` does.
 impl IntoScalar for i16 {
     ghost given = { given_number I16 (λ n. n) };
 
@@ -116,7 +116,7 @@ impl IntoScalar for i16 {
     }
 }
 
-/// Takes no memory. Ports `From<i32> for Scalar`.
+/// Takes no memory. Gives what `From<i32> for Scalar` does.
 impl IntoScalar for i32 {
     ghost given = { given_number I32 (λ n. n) };
 
@@ -128,7 +128,7 @@ impl IntoScalar for i32 {
     }
 }
 
-/// Takes no memory. Ports `From<i64> for Scalar`.
+/// Takes no memory. Gives what `From<i64> for Scalar` does.
 impl IntoScalar for i64 {
     ghost given = { given_number I64 (λ n. n) };
 
@@ -140,7 +140,7 @@ impl IntoScalar for i64 {
     }
 }
 
-/// Takes no memory. Ports `From<usize> for Scalar`.
+/// Takes no memory. Gives what `From<usize> for Scalar` does.
 impl IntoScalar for usize {
     ghost given = { given_usize };
 
@@ -152,7 +152,7 @@ impl IntoScalar for usize {
     }
 }
 
-/// Takes no memory. Ports `From<BufferString> for Scalar`.
+/// Takes no memory. Gives what `From<BufferString> for Scalar` does.
 impl IntoScalar for BufferString {
     ghost given = { raw_text };
 
@@ -183,7 +183,7 @@ impl IntoScalar for String {
     }
 }
 
-/// Takes no memory. Ports `From<ByteBuffer> for Scalar`.
+/// Takes no memory. Gives what `From<ByteBuffer> for Scalar` does.
 impl IntoScalar for ByteBuffer {
     ghost given = { raw_bytes };
 
@@ -204,7 +204,9 @@ impl IntoScalar for &[u8] {
     }
 }
 
-/// A none is the null, and so is each none inside. Ports `From<Option<T>> for Scalar`.
+/// A none is the null, and so is each none inside.
+///
+/// Ports `From<Option<T>> for Scalar` of texts, bytes and vectors.
 impl<T: IntoScalar> IntoScalar for Option<T> {
     ghost given = { given_option T.given };
 

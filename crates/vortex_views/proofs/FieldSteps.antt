@@ -1,5 +1,5 @@
 -- The fields of structs: found by place and by name, and valid where the struct is.
-use Rattle.std.proofs.Common.{◌≡◌, ℕ, zero, suc, Bool, true, false, List, [], ◌∷◌, map, length, Option, Some, None, option_map, slice_get, IfSome, Result, Ok, Err, IfOk, IfErr, MatchResult, Vec, Global, min, refl, sym, ap, ◌∙◌, subst, rules, arith, option_and_then}
+use Rattle.std.proofs.Common.{◌≡◌, ℕ, zero, suc, true, false, List, [], ◌∷◌, map, length, Option, Some, None, option_map, slice_get, IfSome, Result, Ok, Err, IfOk, MatchResult, Vec, Global, min, refl, sym, ap, ◌∙◌, subst, rules, arith, option_and_then}
 use Rattle.std.proofs.lemmas.List.Elements.{All-cons, All-nil}
 use Rattle.std.proofs.lemmas.Option.{same_Some}
 use Rattle.std.specs.List.{All, zip}

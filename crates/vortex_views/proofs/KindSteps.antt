@@ -1,8 +1,6 @@
 -- The trees of raw values of each kind with parts.
 use Rattle.std.proofs.Common.{◌≡◌, Vec, Box, Option, Global, rules}
-use Rattle.vortex_dtype.specs.TypeOf.{type_of}
-use Rattle.vortex_value.specs.Values.RawOf.{raw_of, raw_or_absent, value_tree, value_trees, union_tree, variant_tree}
-use Rattle.vortex_value.specs.Values.RawTree.{raw_tuple, raw_union, raw_variant}
+use Rattle.vortex_value.specs.Values.RawOf.{value_tree}
 use Rattle.vortex_value.specs.declared.scalars.Scalar.{Scalar}
 use Rattle.vortex_value.specs.declared.unions.UnionValue.{UnionValue}
 use Rattle.vortex_value.specs.declared.values.ScalarValue.{ScalarValue, Tuple, Union, Variant, the_lemmas}

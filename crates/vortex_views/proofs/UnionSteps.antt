@@ -116,7 +116,7 @@ child_of_type t v w id u is h = subst (λ x. chosen_type t x ≡ Some u → chil
 
 pub ruleset shown = (valid_is_union)
 
-pub ruleset chosen = (place_of_id, place_there, type_at_place, name_at_place, name_there, none_before)
+pub ruleset chosen = (type_at_place, name_at_place, name_there)
 
 pub ruleset lent_child = (child_valid, child_of_type)
 

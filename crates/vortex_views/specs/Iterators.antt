@@ -1,8 +1,8 @@
 -- What the iterators over the parts of a view give.
 use Rattle.std.specs.Prelude.{◌≡◌, List, [], ◌∷◌, map, Option, MatchOption, MatchResult}
-use Rattle.std.specs.List.{AllZip, zip}
 use Rattle.std.specs.declared.result.Result.{Result}
 use Rattle.std.specs.Iterator.{Drains}
+use Rattle.std.specs.List.{AllZip, zip}
 use Rattle.vortex_dtype.specs.TypeOf.{map_of, type_of}
 use Rattle.vortex_dtype.specs.declared.error.VortexError.{VortexError}
 use Rattle.vortex_dtype.specs.declared.error.VortexError.TheVariants.{OutOfMemory}

@@ -1,8 +1,8 @@
 -- Worked cases of structs and extensions, each a theorem.
-use Rattle.std.specs.Prelude.{◌≡◌, pos, Bool, true, false, List, ℕ, [], ◌∷◌, Option, Some, None, slice_get, refl, codes}
+use Rattle.std.specs.Prelude.{◌≡◌, pos, true, false, List, ℕ, [], ◌∷◌, Option, Some, None, slice_get, refl, codes}
 use Rattle.vortex_dtype.specs.Parts.{fields_in}
 use Rattle.vortex_dtype.specs.TypeOf.{FieldParts}
-use Rattle.vortex_dtype.specs.TypeTree.{TypeTree, null_type, integer_type, utf8_type, list_type, struct_type, no_types, type_then, extension_type, storage}
+use Rattle.vortex_dtype.specs.TypeTree.{TypeTree, null_type, integer_type, utf8_type, struct_type, no_types, type_then, extension_type, storage}
 use Rattle.vortex_dtype.specs.declared.error.VortexError.TheVariants.{NoField, WrongKind, WrongLength}
 use Rattle.vortex_dtype.specs.declared.kinds.Nullability.TheVariants.{NonNullable, Nullable}
 use Rattle.vortex_dtype.specs.declared.kinds.PType.TheVariants.{I32, I64}

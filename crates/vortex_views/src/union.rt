@@ -129,7 +129,6 @@ impl<'a> UnionScalar<'a> {
     /// The place of the chosen variant among the variants, and none exactly of a null.
     ///
     /// Ports `UnionScalar::child_index`.
-    #[tactic(auto, using(crate::proofs::UnionSteps::chosen))]
     pub fn child_index(&self) -> Option<usize>
         requires { IsValidRef (union_ref self.now) }
         ensures place { result

@@ -1,0 +1,192 @@
+//! Conversions between scalars and Rust values by their concrete types.
+
+use crate::fixtures::{byte_buffer, integer, text_buffer};
+use std::process::Abort;
+use vortex_dtype::Nullability::{NonNullable, Nullable};
+use vortex_dtype::{BufferString, ByteBuffer, DType, PType, VortexError};
+use vortex_pvalue::PValue;
+use vortex_value::{Scalar, ScalarValue};
+
+/// Whether the call was refused for this cause.
+fn is_refused<T: Drop>(answer: Result<T, VortexError>, cause: VortexError) -> bool {
+    match answer {
+        Ok(_) => false,
+        Err(found) => found == cause,
+    }
+}
+
+/// The scalar of a type of integers and a raw value, valid or not.
+fn scalar(ptype: PType, value: Option<ScalarValue>) -> Scalar {
+    Scalar {
+        dtype: DType::Primitive(ptype, Nullable),
+        value,
+    }
+}
+
+/// Whether the scalar is of this kind of integers that take no null, and holds a value of the kind.
+fn is_of_kind(found: &Scalar, kind: PType) -> bool {
+    match (&found.dtype, &found.value) {
+        (DType::Primitive(ptype, NonNullable), Some(ScalarValue::Primitive(number))) => {
+            *ptype == kind && number.ptype() == kind
+        }
+        _ => false,
+    }
+}
+
+#[test]
+fn unsigned_numbers_go_and_come_back(rt: HostRuntime) {
+    let number = Scalar::from(200u8);
+    assert!(rt; is_of_kind(&number, PType::U8));
+    assert!(rt; u8::try_from(&number).expect(&rt, "a u8") == 200);
+    let number = Scalar::from(65535u16);
+    assert!(rt; is_of_kind(&number, PType::U16));
+    assert!(rt; u16::try_from(&number).expect(&rt, "a u16") == 65535);
+    let number = Scalar::from(7u32);
+    assert!(rt; is_of_kind(&number, PType::U32));
+    assert!(rt; u32::try_from(&number).expect(&rt, "a u32") == 7);
+    let number = Scalar::from(u64::MAX);
+    assert!(rt; is_of_kind(&number, PType::U64));
+    assert!(rt; u64::try_from(&number).expect(&rt, "a u64") == u64::MAX);
+}
+
+#[test]
+fn signed_numbers_go_and_come_back(rt: HostRuntime) {
+    let number = Scalar::from(-128i8);
+    assert!(rt; is_of_kind(&number, PType::I8));
+    assert!(rt; i8::try_from(&number).expect(&rt, "an i8") == -128);
+    let number = Scalar::from(-5i16);
+    assert!(rt; is_of_kind(&number, PType::I16));
+    assert!(rt; i16::try_from(&number).expect(&rt, "an i16") == -5);
+    let number = Scalar::from(-5i32);
+    assert!(rt; is_of_kind(&number, PType::I32));
+    assert!(rt; i32::try_from(&number).expect(&rt, "an i32") == -5);
+    let number = Scalar::from(i64::MIN);
+    assert!(rt; is_of_kind(&number, PType::I64));
+    assert!(rt; i64::try_from(&number).expect(&rt, "an i64") == i64::MIN);
+}
+
+#[test]
+fn raw_values_give_numbers(rt: HostRuntime) {
+    let number = ScalarValue::from(PValue::I64(7));
+    assert!(rt; u8::try_from(&number).expect(&rt, "a u8") == 7);
+    assert!(rt; i64::try_from(&number).expect(&rt, "an i64") == 7);
+    assert!(rt; usize::try_from(&number).expect(&rt, "a usize") == 7);
+    assert!(rt; ScalarValue::from(7u8) == number && ScalarValue::from(7usize) == number);
+    let truth = ScalarValue::from(true);
+    assert!(rt; is_refused(i32::try_from(&truth), VortexError::WrongKind));
+    assert!(rt; is_refused(usize::try_from(&truth), VortexError::WrongKind));
+}
+
+#[test]
+fn numbers_that_do_not_fit_are_refused(rt: HostRuntime) {
+    let number = ScalarValue::from(1000i32);
+    assert!(rt; is_refused(i8::try_from(&number), VortexError::OutOfRange));
+    let number = Scalar::from(-1i32);
+    assert!(rt; is_refused(u64::try_from(&number), VortexError::OutOfRange));
+    assert!(rt; is_refused(usize::try_from(&number), VortexError::OutOfRange));
+}
+
+#[test]
+fn optional_numbers_have_their_kind(rt: HostRuntime) {
+    let five = Scalar::from(Some(5i64));
+    assert!(rt; Option::<i64>::try_from(&five).expect(&rt, "an i64") == Some(5));
+    assert!(rt; is_refused(Option::<i32>::try_from(&five), VortexError::WrongPType));
+    let null = Scalar::from(None::<i64>);
+    assert!(rt; Option::<i64>::try_from(&null).expect(&rt, "none").is_none());
+    assert!(rt; is_refused(Option::<i32>::try_from(&null), VortexError::WrongPType));
+    let invalid = scalar(PType::I8, integer(1000));
+    assert!(rt; is_refused(Option::<i32>::try_from(&invalid), VortexError::WrongPType));
+    assert!(rt; is_refused(Option::<i8>::try_from(&invalid), VortexError::OutOfRange));
+}
+
+#[test]
+fn nulls_are_no_numbers(rt: HostRuntime) {
+    let null = Scalar::from(None::<i32>);
+    assert!(rt; is_refused(i32::try_from(&null), VortexError::IsNull));
+    assert!(rt; is_refused(usize::try_from(&null), VortexError::IsNull));
+    assert!(rt;
+        Option::<usize>::try_from(&null)
+            .expect(&rt, "none")
+            .is_none()
+    );
+}
+
+#[test]
+fn usizes_are_wide(rt: HostRuntime) {
+    let wide = ScalarValue::from(4294967296usize);
+    assert!(rt; usize::try_from(&wide).expect(&rt, "a usize") == 4294967296);
+    let wide = Scalar::from(Some(4294967296usize));
+    assert!(rt; usize::try_from(&wide).expect(&rt, "a usize") == 4294967296);
+    let wide = Scalar::from(4294967296usize);
+    assert!(rt; is_of_kind(&wide, PType::U64));
+    let invalid = scalar(PType::I8, integer(1000));
+    assert!(rt; Option::<usize>::try_from(&invalid).expect(&rt, "a usize") == Some(1000));
+}
+
+#[test]
+fn truth_values_go_and_come_back(rt: HostRuntime) {
+    let truth = Scalar::from(true);
+    assert!(rt; matches!(&truth.dtype, DType::Bool(NonNullable)));
+    assert!(rt; bool::try_from(&truth).expect(&rt, "a truth value"));
+    assert!(rt; Option::<bool>::try_from(truth).expect(&rt, "true") == Some(true));
+    let null = Scalar::from(None::<bool>);
+    assert!(rt;
+        Option::<bool>::try_from(&null)
+            .expect(&rt, "none")
+            .is_none()
+    );
+    assert!(rt; is_refused(bool::try_from(null), VortexError::IsNull));
+    let number = Scalar::from(1i32);
+    assert!(rt; is_refused(bool::try_from(&number), VortexError::WrongKind));
+}
+
+#[test]
+fn bytes_are_copied_and_moved(rt: HostRuntime) {
+    let bytes = Scalar::from(byte_buffer(&rt, &[5, 6, 7]));
+    let copy = ByteBuffer::try_from(&bytes).expect(&rt, "a copy");
+    let same = Option::<ByteBuffer>::try_from(&bytes).expect(&rt, "a copy");
+    assert!(rt; same.as_ref() == Some(&copy) && copy.as_slice() == [5, 6, 7].as_slice());
+    let moved = ByteBuffer::try_from(bytes).expect(&rt, "the bytes");
+    assert!(rt; moved == copy);
+    let null = Scalar::from(None::<ByteBuffer>);
+    assert!(rt; is_refused(ByteBuffer::try_from(&null), VortexError::IsNull));
+    assert!(rt;
+        Option::<ByteBuffer>::try_from(null)
+            .expect(&rt, "none")
+            .is_none()
+    );
+}
+
+#[test]
+fn texts_are_copied_and_moved(rt: HostRuntime) {
+    let text = Scalar::from(Some(text_buffer(&rt, "test data")));
+    let copy = BufferString::try_from(&text).expect(&rt, "a copy");
+    let same = Option::<BufferString>::try_from(&text).expect(&rt, "a copy");
+    assert!(rt; same.as_ref() == Some(&copy) && copy.as_str() == "test data");
+    let moved = Option::<BufferString>::try_from(text).expect(&rt, "the text");
+    assert!(rt; moved.as_ref() == Some(&copy));
+    let null = Scalar::from(None::<BufferString>);
+    assert!(rt;
+        Option::<BufferString>::try_from(&null)
+            .expect(&rt, "none")
+            .is_none()
+    );
+    assert!(rt; is_refused(BufferString::try_from(null), VortexError::IsNull));
+}
+
+#[test]
+fn a_text_is_no_bytes(rt: HostRuntime) {
+    let text = Scalar {
+        dtype: DType::Binary(NonNullable),
+        value: Some(ScalarValue::from(text_buffer(&rt, "a"))),
+    };
+    assert!(rt; is_refused(ByteBuffer::try_from(&text), VortexError::WrongKind));
+    assert!(rt;
+        is_refused(
+            Option::<ByteBuffer>::try_from(&text),
+            VortexError::WrongKind
+        )
+    );
+    assert!(rt; is_refused(BufferString::try_from(&text), VortexError::WrongKind));
+    assert!(rt; is_refused(ByteBuffer::try_from(text), VortexError::WrongKind));
+}

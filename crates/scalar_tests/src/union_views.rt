@@ -1,0 +1,70 @@
+//! Views of unions and of variants: what no worked case asks of them.
+
+ghost use Rattle.vortex_value.specs.Values.Scalars.{IsValid};
+
+use crate::fixtures::{I32, Raw, integer, text, union, union_of_two, variant};
+use std::process::Abort;
+use vortex_dtype::DType;
+use vortex_dtype::Nullability::{NonNullable, Nullable};
+use vortex_value::Scalar;
+use vortex_views::{Downcast, UnionScalar};
+
+/// The scalar of these, which are to be valid.
+fn scalar(rt: &(impl AllocGlobal + Abort), dtype: DType, value: Raw) -> Scalar
+    ensures { IsValid result }
+{
+    Scalar::try_new(rt.alloc(), dtype, value).expect(rt, "a scalar")
+}
+
+#[test]
+fn unions_tell_what_they_choose(rt: HostRuntime) {
+    let dtype = union_of_two(&rt);
+    let value = union(&rt, 9, text(&rt, "x"));
+    let made = UnionScalar::try_new(rt.alloc(), &dtype, value.as_ref());
+    let view = made.expect(&rt, "a view");
+    assert!(rt; *view.dtype() == dtype);
+    assert!(rt; view.variants().len() == 2);
+    assert!(rt; view.nullability() == Nullable);
+    assert!(rt; !view.is_null());
+    assert!(rt; view.child_index() == Some(1));
+    let chosen = view.variant_dtype().expect(&rt, "a type");
+    assert!(rt; *chosen == DType::Utf8(NonNullable));
+    assert!(rt; view == view);
+}
+
+#[test]
+fn nulls_of_unions_choose_nothing(rt: HostRuntime) {
+    let dtype = union_of_two(&rt);
+    let null = UnionScalar::try_new(rt.alloc(), &dtype, None).expect(&rt, "a null");
+    assert!(rt; null.is_null());
+    assert!(rt; null.variants().len() == 2);
+    assert!(rt; null.child_index().is_none());
+    assert!(rt; null.variant_dtype().is_none());
+    let value = union(&rt, 5, None);
+    let inner = UnionScalar::try_new(rt.alloc(), &dtype, value.as_ref());
+    let inner = inner.expect(&rt, "an inner null");
+    assert!(rt; !inner.is_null());
+    assert!(rt; inner.child_index() == Some(0));
+    assert!(rt; inner != null);
+}
+
+#[test]
+fn variants_tell_their_nulls_apart(rt: HostRuntime) {
+    let outer = scalar(&rt, DType::Variant(Nullable), None);
+    let view = outer.as_variant_opt().expect(&rt, "a variant");
+    assert!(rt; view.is_null());
+    assert!(rt; view.is_variant_null().is_none());
+    assert!(rt; view.is_zero().is_none());
+    let null = variant(&rt, DType::Null, None);
+    let null = scalar(&rt, DType::Variant(NonNullable), null);
+    let view = null.as_variant_opt().expect(&rt, "a variant");
+    assert!(rt; *view.dtype() == null.dtype);
+    assert!(rt; !view.is_null());
+    assert!(rt; view.is_variant_null() == Some(true));
+    assert!(rt; view.is_zero() == Some(true));
+    let one = variant(&rt, I32, integer(1));
+    let one = scalar(&rt, DType::Variant(NonNullable), one);
+    let view = one.as_variant_opt().expect(&rt, "a variant");
+    assert!(rt; view.is_variant_null() == Some(false));
+    assert!(rt; view.is_zero() == Some(false));
+}
