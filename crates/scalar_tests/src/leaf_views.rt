@@ -9,6 +9,7 @@ ghost use Rattle.vortex_leaves.specs.PrimitiveViews.{IsNumberViewOf};
 use crate::fixtures::{I32, Raw, bytes, integer, text};
 use crate::hashers::{fed, fed_in_all, unheard};
 use std::cmp::Ordering;
+use std::fmt::Display;
 use std::process::Abort;
 use vortex_dtype::Nullability::{NonNullable, Nullable};
 use vortex_dtype::{DType, PType, VortexError};
@@ -42,6 +43,22 @@ fn bytes_view<'a>(rt: &impl Abort, scalar: &'a Scalar) -> BinaryScalar<'a> {
 
 fn number_view<'a>(rt: &impl Abort, scalar: &'a Scalar) -> PrimitiveScalar<'a> {
     PrimitiveScalar::try_from(scalar).expect(rt, "an integer")
+}
+
+/// Whether the call refused another kind.
+fn is_wrong_kind<T: Drop>(answer: Result<T, VortexError>) -> bool {
+    matches!(answer, Err(VortexError::WrongKind))
+}
+
+/// Whether the call refused an integer of another kind.
+fn is_wrong_ptype<T: Drop>(answer: Result<T, VortexError>) -> bool {
+    matches!(answer, Err(VortexError::WrongPType))
+}
+
+/// Whether this is the text of the value.
+fn writes<T: Display>(rt: &(impl AllocGlobal + Abort), value: &T, wanted: &str) -> bool {
+    let written = format!(in rt.alloc(); "{value}").expect(rt, "a text");
+    written.as_str() == wanted
 }
 
 #[test]
@@ -148,18 +165,13 @@ fn leaf_views_of_bytes_and_integers_order(rt: HostRuntime) {
 
 #[test]
 fn leaf_views_of_other_kinds(rt: HostRuntime) {
-    let wrong = scalar(DType::Bool(NonNullable), integer(1));
-    assert!(rt; matches!(BoolScalar::try_from(&wrong), Err(VortexError::WrongKind)));
-    let wrong = scalar(DType::Utf8(NonNullable), bytes(&rt, b"a"));
-    assert!(rt; matches!(Utf8Scalar::try_from(&wrong), Err(VortexError::WrongKind)));
-    assert!(rt; matches!(BinaryScalar::try_from(&wrong), Err(VortexError::WrongKind)));
-    let wrong = scalar(DType::Primitive(PType::U8, NonNullable), integer(256));
-    assert!(rt;
-        matches!(
-            PrimitiveScalar::try_from(&wrong),
-            Err(VortexError::WrongKind)
-        )
-    );
+    let number = scalar(DType::Bool(NonNullable), integer(1));
+    assert!(rt; is_wrong_kind(BoolScalar::try_from(&number)));
+    let string = scalar(DType::Utf8(NonNullable), bytes(&rt, b"a"));
+    assert!(rt; is_wrong_kind(Utf8Scalar::try_from(&string)));
+    assert!(rt; is_wrong_kind(BinaryScalar::try_from(&string)));
+    let large = scalar(DType::Primitive(PType::U8, NonNullable), integer(256));
+    assert!(rt; is_wrong_kind(PrimitiveScalar::try_from(&large)));
     let null = scalar(DType::Bool(NonNullable), None);
     assert!(rt; bool_view(&rt, &null).value().is_none());
 }
@@ -196,17 +208,13 @@ fn leaf_views_lend_texts_and_bytes(rt: HostRuntime) {
 #[test]
 fn leaf_views_write(rt: HostRuntime) {
     let yes = scalar(DType::Bool(NonNullable), truth(true));
-    let written = format!(in rt.alloc(); "{}", bool_view(&rt, &yes)).expect(&rt, "a text");
-    assert!(rt; written.as_str() == "true");
+    assert!(rt; writes(&rt, &bool_view(&rt, &yes), "true"));
     let word = scalar(DType::Utf8(NonNullable), text(&rt, "a\"b"));
-    let written = format!(in rt.alloc(); "{}", text_view(&rt, &word)).expect(&rt, "a text");
-    assert!(rt; written.as_str() == "\"a\\\"b\"");
+    assert!(rt; writes(&rt, &text_view(&rt, &word), "\"a\\\"b\""));
     let string = scalar(DType::Binary(NonNullable), bytes(&rt, &[1, 255, 0]));
-    let written = format!(in rt.alloc(); "{}", bytes_view(&rt, &string)).expect(&rt, "a text");
-    assert!(rt; written.as_str() == "\"1 ff 0\"");
+    assert!(rt; writes(&rt, &bytes_view(&rt, &string), "\"1 ff 0\""));
     let number = scalar(I32, integer(-1));
-    let written = format!(in rt.alloc(); "{}", number_view(&rt, &number)).expect(&rt, "a text");
-    assert!(rt; written.as_str() == "-1i32");
+    assert!(rt; writes(&rt, &number_view(&rt, &number), "-1i32"));
 }
 
 #[test]
@@ -215,8 +223,9 @@ fn leaf_views_give_integers_by_type(rt: HostRuntime) {
     let view = number_view(&rt, &five);
     assert!(rt; view.ptype() == PType::I32);
     assert!(rt; view.pvalue() == Some(PValue::I32(5)));
-    assert!(rt; view.try_typed_value::<i32>().expect(&rt, "an i32") == Some(5));
-    assert!(rt; matches!(view.try_typed_value::<i64>(), Err(VortexError::WrongPType)));
+    let typed = view.try_typed_value::<i32>().expect(&rt, "an i32");
+    assert!(rt; typed == Some(5));
+    assert!(rt; is_wrong_ptype(view.try_typed_value::<i64>()));
     assert!(rt; view.is_zero() == Some(false));
     assert!(rt; view.as_opt::<u8>() == Some(Some(5)));
     let owned = Scalar::from(view);
