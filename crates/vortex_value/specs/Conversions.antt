@@ -9,7 +9,7 @@ use Rattle.vortex_dtype.specs.declared.kinds.PType.{PType}
 use Rattle.vortex_dtype.specs.declared.kinds.PType.TheVariants.{U64}
 use Rattle.vortex_pvalue.specs.Numbers.{in_range}
 use Rattle.vortex_value.specs.Values.RawTree.{RawTree, absent, raw_bool, raw_integer, raw_text, raw_bytes, raw_tuple, RawTrees, no_raws, raw_then}
-use Rattle.vortex_value.specs.Values.Scalars.{IsMadeOf, IsValid, scalar_raw, scalar_type}
+use Rattle.vortex_value.specs.Values.Scalars.{IsMadeOf, IsValid}
 use Rattle.vortex_value.specs.declared.scalars.Scalar.{Scalar}
 
 -- What is given. A bool gives `raw_bool`, a text `raw_text`, a string of bytes `raw_bytes`.
@@ -35,7 +35,7 @@ IsMadeValid t v y = IsMadeOf t v y × IsValid y
 abbrev pub Taken : Type 0
 Taken = Result RawTree VortexError
 
--- of a raw value that is not null: the truth value
+-- of a raw value that is not null, the truth value
 abbrev pub truth_in : RawTree → Taken
 truth_in (raw_bool b) = Ok (raw_bool b)
 truth_in _ = Err WrongKind
@@ -55,12 +55,12 @@ abbrev pub bytes_in : RawTree → Taken
 bytes_in (raw_bytes bs) = Ok (raw_bytes bs)
 bytes_in _ = Err WrongKind
 
--- of any raw value: a null is refused, and what is none is read so
+-- of any raw value: a null is refused, and any other value read so
 abbrev pub unless_null : (RawTree → Taken) → RawTree → Taken
 unless_null read absent = Err IsNull
 unless_null read v = read v
 
--- a null is a none, and what is none is read so
+-- a null is a none, and any other value read so
 abbrev pub or_none : (RawTree → Taken) → RawTree → Taken
 or_none read absent = Ok absent
 or_none read v = read v
