@@ -1,11 +1,12 @@
 //! The steps of a cast that go no further down than the value itself.
 
-ghost use Rattle.std.specs.Prelude.{◌≡◌, IfErr};
+ghost use Rattle.std.specs.Prelude.{◌≡◌, ◌==◌, IfErr};
 ghost use Rattle.vortex_dtype.specs.TypeOf.{map_of, type_of};
 ghost use Rattle.vortex_dtype.specs.declared.error.VortexError.TheVariants.{CannotCast};
 ghost use Rattle.vortex_pvalue.specs.Whole.{whole_of};
 ghost use Rattle.vortex_value.specs.Steps.CastSteps.{Makes, SparesMemory, accepts, kept, leaves, number_to, sorts, takes_null};
-ghost use Rattle.vortex_value.specs.Values.RawOf.{value_tree};
+ghost use Rattle.vortex_value.specs.Values.RawOf.{value_tree, value_trees};
+ghost use Rattle.vortex_value.specs.Values.RawTree.{count};
 
 use crate::copies;
 use crate::equality::same_types;
@@ -20,6 +21,14 @@ pub(super) fn sorts(source: &MapDType, target: &MapDType) -> bool
     ensures { result ≡ sorts (map_of source.now).keys_sorted (map_of target.now).keys_sorted }
 {
     !source.keys_sorted() && target.keys_sorted()
+}
+
+/// Whether there are so many parts as the size says.
+#[tactic(auto, using(crate::proofs::CastCode::shown))]
+pub(super) fn are_as_many(parts: &[Option<ScalarValue>], size: u32) -> bool
+    ensures { result ≡ (count (value_trees parts.now) == size) }
+{
+    parts.len() == size as usize
 }
 
 /// Whether a null of the source type may be a null of the target type.

@@ -6,7 +6,7 @@ ghost use Rattle.vortex_value.specs.Steps.CastSteps.{Makes, SparesMemory, bare_t
 ghost use Rattle.vortex_value.specs.Values.RawOf.{raw_of, value_trees, value_tree};
 ghost use Rattle.vortex_value.specs.Values.RawTree.{count, raw_tuple};
 
-use super::rows::{cast_number, kept, leaves, sorts, takes_null};
+use super::rows::{are_as_many, cast_number, kept, leaves, sorts, takes_null};
 use crate::equality::same_types;
 use crate::storage::storage_of;
 use crate::values::ScalarValue;
@@ -122,7 +122,7 @@ fn cast_sized(
     ensures { Makes (λ made. value_trees made.items) (sized (count (value_trees elements.now)) size
         (each_to (value_trees elements.now) (type_of from.now) (type_of to.now))) result }
 {
-    if elements.len() == size as usize {
+    if are_as_many(elements, size) {
         cast_elements(alloc, elements, from, to)
     } else {
         Err(VortexError::CannotCast)
