@@ -11,7 +11,7 @@ use Rattle.vortex_value.specs.Values.Content.{content}
 use Rattle.vortex_leaves.specs.BoolViews.{bool_view_content, bool_view_type}
 use Rattle.vortex_leaves.specs.LeafOrders.{IsPartOrder, part_order}
 use Rattle.vortex_leaves.specs.Leaves.{is_bool_type, raw_truth}
-use Rattle.vortex_leaves.specs.declared.bools.BoolScalar.{BoolScalar}
+use Rattle.vortex_leaves.specs.declared.bool.BoolScalar.{BoolScalar}
 
 erased : (t : TypeTree) → is_bool_type t ≡ true → erase t ≡ bool_type NonNullable
 erased (bool_type n) h = refl

@@ -8,7 +8,7 @@ use Rattle.vortex_value.specs.Validity.{Valid}
 use Rattle.vortex_value.specs.Values.Content.{Content, content}
 use Rattle.vortex_value.specs.Values.RawTree.{RawTree}
 use Rattle.vortex_leaves.specs.Leaves.{Lends, raw_truth}
-use Rattle.vortex_leaves.specs.declared.bools.BoolScalar.{BoolScalar}
+use Rattle.vortex_leaves.specs.declared.bool.BoolScalar.{BoolScalar}
 
 -- the type of a view
 abbrev pub bool_view_type : BoolScalar → TypeTree

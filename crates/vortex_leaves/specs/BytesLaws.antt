@@ -13,7 +13,7 @@ use Rattle.vortex_value.specs.Values.RawTree.{RawTree, absent, raw_bytes}
 use Rattle.vortex_leaves.specs.LeafOrders.{IsPartOrder, part_order}
 use Rattle.vortex_leaves.specs.Leaves.{bytes_in, may_be_bytes}
 use Rattle.vortex_leaves.specs.BytesViews.{bytes_view_content, bytes_view_raw, bytes_view_type}
-use Rattle.vortex_leaves.specs.declared.binaries.BinaryScalar.{BinaryScalar}
+use Rattle.vortex_leaves.specs.declared.binary.BinaryScalar.{BinaryScalar}
 
 erased : (t : TypeTree) → is_binary_type t ≡ true → erase t ≡ binary_type NonNullable
 erased (binary_type n) h = refl

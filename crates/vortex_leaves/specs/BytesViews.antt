@@ -9,7 +9,7 @@ use Rattle.vortex_value.specs.Values.Content.{Content, content}
 use Rattle.vortex_value.specs.Values.RawTree.{RawTree}
 use Rattle.vortex_value.specs.Values.Refs.{ref_raw, ref_type}
 use Rattle.vortex_leaves.specs.Leaves.{Lends, bytes_in}
-use Rattle.vortex_leaves.specs.declared.binaries.BinaryScalar.{BinaryScalar}
+use Rattle.vortex_leaves.specs.declared.binary.BinaryScalar.{BinaryScalar}
 
 -- the type of a view
 abbrev pub bytes_view_type : BinaryScalar → TypeTree

@@ -16,7 +16,7 @@ use Rattle.vortex_value.specs.Values.Content.{content}
 use Rattle.vortex_leaves.specs.LeafOrders.{partial_order_alike, sorts_order}
 use Rattle.vortex_leaves.specs.Numbers.{raw_number}
 use Rattle.vortex_leaves.specs.PrimitiveViews.{number_view_content, number_view_type}
-use Rattle.vortex_leaves.specs.declared.primitives.PrimitiveScalar.{PrimitiveScalar}
+use Rattle.vortex_leaves.specs.declared.primitive.PrimitiveScalar.{PrimitiveScalar}
 
 -- the order of optional integers
 abbrev number_cmp : Option PValue → Option PValue → Ordering

@@ -10,7 +10,7 @@ use Rattle.vortex_value.specs.Values.RawTree.{RawTree}
 use Rattle.vortex_leaves.specs.Arithmetic.{arithmetic, numeric_type}
 use Rattle.vortex_leaves.specs.Leaves.{Lends}
 use Rattle.vortex_leaves.specs.Numbers.{number_in, raw_number}
-use Rattle.vortex_leaves.specs.declared.primitives.PrimitiveScalar.{PrimitiveScalar}
+use Rattle.vortex_leaves.specs.declared.primitive.PrimitiveScalar.{PrimitiveScalar}
 
 -- the type of a view
 abbrev pub number_view_type : PrimitiveScalar → TypeTree

@@ -13,7 +13,7 @@ use Rattle.vortex_value.specs.Values.RawTree.{RawTree, absent, raw_text}
 use Rattle.vortex_leaves.specs.LeafOrders.{IsPartOrder, part_order}
 use Rattle.vortex_leaves.specs.Leaves.{bytes_in, may_be_text}
 use Rattle.vortex_leaves.specs.TextViews.{text_view_content, text_view_raw, text_view_type}
-use Rattle.vortex_leaves.specs.declared.texts.Utf8Scalar.{Utf8Scalar}
+use Rattle.vortex_leaves.specs.declared.utf8.Utf8Scalar.{Utf8Scalar}
 
 erased : (t : TypeTree) → is_utf8_type t ≡ true → erase t ≡ utf8_type NonNullable
 erased (utf8_type n) h = refl

@@ -9,7 +9,7 @@ use Rattle.vortex_value.specs.Values.Content.{Content, content}
 use Rattle.vortex_value.specs.Values.RawTree.{RawTree}
 use Rattle.vortex_value.specs.Values.Refs.{ref_raw, ref_type}
 use Rattle.vortex_leaves.specs.Leaves.{Lends, bytes_in}
-use Rattle.vortex_leaves.specs.declared.texts.Utf8Scalar.{Utf8Scalar}
+use Rattle.vortex_leaves.specs.declared.utf8.Utf8Scalar.{Utf8Scalar}
 
 -- the type of a view
 abbrev pub text_view_type : Utf8Scalar → TypeTree

@@ -1,12 +1,12 @@
 //! Views of scalars without parts: truth values, texts, strings of bytes and integers.
 #![tactic(auto)]
 
-mod binaries;
-mod bools;
-mod primitives;
-mod texts;
+mod binary;
+mod bool;
+mod primitive;
+mod utf8;
 
-pub use binaries::BinaryScalar;
-pub use bools::BoolScalar;
-pub use primitives::PrimitiveScalar;
-pub use texts::Utf8Scalar;
+pub use binary::BinaryScalar;
+pub use bool::BoolScalar;
+pub use primitive::PrimitiveScalar;
+pub use utf8::Utf8Scalar;

@@ -4,7 +4,8 @@ use Rattle.vortex_value.specs.Values.RawOf.{value_tree}
 use Rattle.vortex_value.specs.declared.scalars.Scalar.{Scalar}
 use Rattle.vortex_value.specs.declared.unions.UnionValue.{UnionValue}
 use Rattle.vortex_value.specs.declared.values.ScalarValue.{ScalarValue, Tuple, Union, Variant, the_lemmas}
-use Rattle.vortex_views.specs.ExtensionParts.{is_nested, is_of_kind, is_variant_type}
+use Rattle.vortex_views.specs.ExtensionParts.{is_nested, is_of_kind}
+use Rattle.vortex_views.specs.ViewKinds.{is_variant_type}
 use Rattle.vortex_dtype.specs.Parts.{is_union_type}
 use Rattle.vortex_dtype.specs.TypeTree.{TypeTree}
 

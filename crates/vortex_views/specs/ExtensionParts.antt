@@ -1,20 +1,15 @@
 -- Which raw values are of a type's kind.
 use Rattle.std.specs.Prelude.{Bool, true, false}
 use Rattle.vortex_dtype.specs.Parts.{is_binary_type, is_union_type, is_utf8_type}
-use Rattle.vortex_dtype.specs.TypeTree.{TypeTree, bool_type, integer_type, list_type, fixed_size_list_type, map_type, struct_type, variant_type}
+use Rattle.vortex_dtype.specs.TypeTree.{TypeTree, integer_type, list_type, fixed_size_list_type, map_type, struct_type}
 use Rattle.vortex_value.specs.Values.RawTree.{RawTree, absent, raw_bool, raw_integer, raw_text, raw_bytes, raw_tuple, raw_union, raw_variant}
+use Rattle.vortex_leaves.specs.Leaves.{is_bool_type}
+use Rattle.vortex_views.specs.ViewKinds.{is_variant_type}
 
-abbrev pub is_bool_type : TypeTree → Bool
-is_bool_type (bool_type n) = true
-is_bool_type _ = false
-
+-- whether the type is one of integers; an extension over one is not
 abbrev pub is_integer_type : TypeTree → Bool
 is_integer_type (integer_type k n) = true
 is_integer_type _ = false
-
-abbrev pub is_variant_type : TypeTree → Bool
-is_variant_type (variant_type n) = true
-is_variant_type _ = false
 
 -- whether the values of a type are tuples
 abbrev pub is_nested : TypeTree → Bool

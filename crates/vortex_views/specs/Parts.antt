@@ -4,9 +4,6 @@ use Rattle.std.specs.Hash.{HashWrites}
 use Rattle.vortex_dtype.specs.Parts.{element_in, map_in}
 use Rattle.vortex_dtype.specs.TypeOf.{MapParts}
 use Rattle.vortex_dtype.specs.TypeTree.{TypeTree}
-use Rattle.vortex_dtype.specs.declared.error.VortexError.{VortexError}
-use Rattle.vortex_dtype.specs.declared.error.VortexError.TheVariants.{WrongKind}
-use Rattle.vortex_value.specs.Breaches.{Refuses, breaches}
 use Rattle.vortex_value.specs.Equality.{equal, same_type}
 use Rattle.vortex_value.specs.Hashing.{typed_feed}
 use Rattle.vortex_value.specs.Texts.{text_of}
@@ -85,11 +82,6 @@ is_null_or_tuple _ = false
 -- none for a null, and else these
 abbrev pub unless_null : {X : Type 0} → RawTree → X → Option X
 unless_null v x = if is_absent v then None else Some x
-
--- the error that a view's maker refuses a type and a raw value by: the kind of the type first, by its test, then the first breach
-abbrev pub RefusesView : Bool → TypeTree → RawTree → VortexError → Type 0
-RefusesView false t v e = e ≡ WrongKind
-RefusesView true t v e = Refuses e (breaches t v)
 
 -- the types are the same up to nullability, and the contents equal
 abbrev pub ref_equal : ScalarRef → ScalarRef → Bool

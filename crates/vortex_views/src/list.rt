@@ -9,6 +9,7 @@ ghost use Rattle.std.proofs.lemmas.Cmp.{on_equiv};
 ghost use Rattle.vortex_dtype.specs.Parts.{element_in};
 ghost use Rattle.vortex_dtype.specs.TypeOf.{type_of};
 ghost use Rattle.vortex_dtype.specs.declared.error.VortexError.TheVariants.{WrongKind};
+ghost use Rattle.vortex_leaves.specs.Leaves.{RefusesView};
 ghost use Rattle.vortex_value.specs.Lemmas.EqualityLaws.{equal-equiv};
 ghost use Rattle.vortex_value.specs.Lemmas.HashLaws.{content_feed-Alike, type_feed-Alike};
 ghost use Rattle.vortex_value.specs.Values.Content.{typed};
@@ -17,7 +18,7 @@ ghost use Rattle.vortex_value.specs.Values.RawTree.{is_absent};
 ghost use Rattle.vortex_value.specs.Values.Refs.{IsRefOf, IsValidRef, ref_content, ref_order, ref_raw, ref_type};
 ghost use Rattle.vortex_value.specs.Values.Scalars.{IsValid, scalar_raw, scalar_type};
 ghost use Rattle.vortex_value.specs.Validity.{Valid};
-ghost use Rattle.vortex_views.specs.Parts.{RefusesView, elements_of, is_null_or_tuple, parts_of, ref_equal, ref_feed, ref_part, ref_text, scalar_part, unless_null};
+ghost use Rattle.vortex_views.specs.Parts.{elements_of, is_null_or_tuple, parts_of, ref_equal, ref_feed, ref_part, ref_text, scalar_part, unless_null};
 
 use crate::parts::{copied, is_null_or_tuple, items_of, part_at};
 use std::alloc::Global;

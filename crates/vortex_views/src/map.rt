@@ -9,6 +9,7 @@ ghost use Rattle.std.proofs.lemmas.Cmp.{on_equiv};
 ghost use Rattle.vortex_dtype.specs.Parts.{map_in};
 ghost use Rattle.vortex_dtype.specs.TypeOf.{map_of, type_of};
 ghost use Rattle.vortex_dtype.specs.declared.error.VortexError.TheVariants.{WrongKind};
+ghost use Rattle.vortex_leaves.specs.Leaves.{RefusesView};
 ghost use Rattle.vortex_value.specs.Lemmas.EqualityLaws.{equal-equiv};
 ghost use Rattle.vortex_value.specs.Lemmas.HashLaws.{content_feed-Alike, type_feed-Alike};
 ghost use Rattle.vortex_value.specs.Values.Content.{typed};
@@ -18,7 +19,7 @@ ghost use Rattle.vortex_value.specs.Values.Refs.{IsRefOf, IsValidRef, ref_conten
 ghost use Rattle.vortex_value.specs.Values.Scalars.{IsValid, scalar_raw, scalar_type};
 ghost use Rattle.vortex_value.specs.Validity.{Valid};
 ghost use Rattle.vortex_views.specs.Iterators.{entries_left, keys_left, values_left};
-ghost use Rattle.vortex_views.specs.Parts.{AreValidParts, IsValidPart, RefusesView, entries_of, is_null_or_tuple, parts_of, ref_entry, ref_equal, ref_feed, ref_text, scalar_entry};
+ghost use Rattle.vortex_views.specs.Parts.{AreValidParts, IsValidPart, entries_of, is_null_or_tuple, parts_of, ref_entry, ref_equal, ref_feed, ref_text, scalar_entry};
 
 use crate::iterators::{Entries, Keys, Values};
 use crate::parts::{copied_entry, entry_at, is_null_or_tuple, items_of};

@@ -7,6 +7,7 @@ ghost use Rattle.std.proofs.lemmas.Cmp.{on_equiv};
 ghost use Rattle.vortex_dtype.specs.Parts.{is_union_type};
 ghost use Rattle.vortex_dtype.specs.TypeOf.{type_of, union_type_of, variants_of};
 ghost use Rattle.vortex_dtype.specs.TypeTree.{nullability_of};
+ghost use Rattle.vortex_leaves.specs.Leaves.{RefusesView};
 ghost use Rattle.vortex_value.specs.Lemmas.EqualityLaws.{equal-equiv};
 ghost use Rattle.vortex_value.specs.Validity.{Valid};
 ghost use Rattle.vortex_value.specs.Values.Content.{typed};
@@ -14,7 +15,7 @@ ghost use Rattle.vortex_value.specs.Values.RawOf.{raw_of, union_tree};
 ghost use Rattle.vortex_value.specs.Values.RawTree.{absent, is_absent};
 ghost use Rattle.vortex_value.specs.Values.Refs.{IsRefOf, IsValidRef, ref_content, ref_raw, ref_type};
 ghost use Rattle.vortex_value.specs.Values.Scalars.{IsValid};
-ghost use Rattle.vortex_views.specs.Parts.{RefusesView, ref_equal, ref_part, ref_text, scalar_part};
+ghost use Rattle.vortex_views.specs.Parts.{ref_equal, ref_part, ref_text, scalar_part};
 ghost use Rattle.vortex_views.specs.ViewKinds.{is_of_union};
 
 use crate::parts::copied;
