@@ -28,6 +28,8 @@ mod round_trips;
 #[cfg(test)]
 mod streams;
 #[cfg(test)]
+mod struct_views;
+#[cfg(test)]
 mod texts;
 #[cfg(test)]
 mod tour;
