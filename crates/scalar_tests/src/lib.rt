@@ -34,6 +34,8 @@ mod rust_values;
 #[cfg(test)]
 mod streams;
 #[cfg(test)]
+mod struct_views;
+#[cfg(test)]
 mod texts;
 #[cfg(test)]
 mod tour;
