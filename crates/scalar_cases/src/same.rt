@@ -2,7 +2,7 @@
 //! which the `==` of raw values and scalars passes over.
 
 use crate::calls::queries::Query;
-use vortex_value::{Scalar, ScalarValue, UnionValue};
+use vortex_value::{Scalar, ScalarRef, ScalarValue, UnionValue};
 
 /// Whether the inputs are the same.
 pub fn same_query(a: &Query, b: &Query) -> bool {
@@ -89,6 +89,18 @@ fn same_scalar(a: &Scalar, b: &Scalar) -> bool {
         return false;
     }
     match (&a.value, &b.value) {
+        (Some(x), Some(y)) => same_value(x, y),
+        (None, None) => true,
+        _ => false,
+    }
+}
+
+/// Whether a scalar is exactly the one that is lent.
+pub fn same_as_lent(scalar: &Scalar, lent: ScalarRef<'_>) -> bool {
+    if scalar.dtype != *lent.dtype() {
+        return false;
+    }
+    match (&scalar.value, lent.value()) {
         (Some(x), Some(y)) => same_value(x, y),
         (None, None) => true,
         _ => false,

@@ -4,6 +4,7 @@ ghost use Rattle.vortex_leaves.specs.PrimitiveViews.{AreOfOneType};
 ghost use Rattle.vortex_value.specs.Values.Scalars.{IsValid};
 
 use crate::answers::{Answer, if_entry, if_made, if_parts, made, unmet, wrong_kind};
+use crate::same::same_as_lent;
 use std::alloc::Global;
 use vortex_dtype::{DType, FieldName, PType, VortexError};
 use vortex_pvalue::{NativePType, NumericOperator};
@@ -201,14 +202,16 @@ impl Items {
     /// Keeps an item, where there was memory for it.
     fn add(&mut self, item: Result<Scalar, VortexError>, lent: Option<ScalarRef<'_>>) {
         self.seen = self.seen.saturating_add(1);
-        match (item, lent) {
-            (Ok(part), Some(lent)) if ScalarRef::of(&part) == lent => self.keep(part),
-            (Err(VortexError::OutOfMemory), Some(_)) => self.is_short = true,
-            _ => self.is_wrong = true,
+        match item {
+            Ok(part) => self.keep(part, lent),
+            Err(_) => self.is_short = true,
         }
     }
 
-    fn keep(&mut self, part: Scalar) {
+    fn keep(&mut self, part: Scalar, lent: Option<ScalarRef<'_>>) {
+        if !is_lent(&part, lent) {
+            self.is_wrong = true;
+        }
         if self.parts.push(part).is_err() {
             self.is_short = true;
         }
@@ -223,6 +226,14 @@ impl Items {
         } else {
             Answer::Parts(self.parts)
         }
+    }
+}
+
+/// Whether a part is what is lent at its place.
+fn is_lent(part: &Scalar, lent: Option<ScalarRef<'_>>) -> bool {
+    match lent {
+        Some(lent) => same_as_lent(part, lent),
+        None => false,
     }
 }
 
