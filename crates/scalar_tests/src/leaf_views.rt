@@ -1,11 +1,11 @@
 //! Views of scalars without parts: what no worked case says of them.
 
-use crate::fixtures::Raw;
+use crate::fixtures::{I32, Raw, integer, text};
 use crate::hashers::{fed, fed_in_all, unheard};
 use std::process::Abort;
-use vortex_dtype::DType;
 use vortex_dtype::Nullability::{NonNullable, Nullable};
-use vortex_leaves::BoolScalar;
+use vortex_dtype::{DType, PType};
+use vortex_leaves::{BoolScalar, PrimitiveScalar, Utf8Scalar};
 use vortex_value::{Scalar, ScalarValue};
 
 fn scalar(dtype: DType, value: Raw) -> Scalar {
@@ -18,6 +18,18 @@ fn truth(value: bool) -> Raw {
 
 fn bool_view<'a>(rt: &impl Abort, scalar: &'a Scalar) -> BoolScalar<'a> {
     BoolScalar::try_from(scalar).expect(rt, "a truth value")
+}
+
+fn text_view<'a>(rt: &impl Abort, scalar: &'a Scalar) -> Utf8Scalar<'a> {
+    Utf8Scalar::try_from(scalar).expect(rt, "a text")
+}
+
+fn number_view<'a>(rt: &impl Abort, scalar: &'a Scalar) -> PrimitiveScalar<'a> {
+    PrimitiveScalar::try_from(scalar).expect(rt, "an integer")
+}
+
+fn nullable_i32(value: Raw) -> Scalar {
+    scalar(DType::Primitive(PType::I32, Nullable), value)
 }
 
 #[test]
@@ -33,4 +45,32 @@ fn leaf_views_hash(rt: HostRuntime) {
     assert!(rt; fed(&view) == fed(&one));
     assert!(rt; fed(&view) != fed(&bool_view(&rt, &null)));
     assert!(rt; view != bool_view(&rt, &null));
+}
+
+#[test]
+fn leaf_views_of_texts_hash(rt: HostRuntime) {
+    let one = scalar(DType::Utf8(NonNullable), text(&rt, "abc"));
+    let other = scalar(DType::Utf8(Nullable), text(&rt, "abc"));
+    let upper = scalar(DType::Utf8(Nullable), text(&rt, "ABC"));
+    let view = text_view(&rt, &one);
+    assert!(rt; view == text_view(&rt, &other));
+    assert!(rt; fed(&view) == fed(&text_view(&rt, &other)));
+    assert!(rt; fed_in_all(&view) == fed_in_all(&text_view(&rt, &other)));
+    assert!(rt; unheard(&view) == unheard(&text_view(&rt, &other)));
+    assert!(rt; fed(&view) != fed(&text_view(&rt, &upper)));
+    assert!(rt; view != text_view(&rt, &upper));
+}
+
+#[test]
+fn leaf_views_of_integers_hash(rt: HostRuntime) {
+    let one = scalar(I32, integer(7));
+    let other = nullable_i32(integer(7));
+    let more = nullable_i32(integer(8));
+    let view = number_view(&rt, &one);
+    assert!(rt; view == number_view(&rt, &other));
+    assert!(rt; fed(&view) == fed(&number_view(&rt, &other)));
+    assert!(rt; fed_in_all(&view) == fed_in_all(&number_view(&rt, &other)));
+    assert!(rt; unheard(&view) == unheard(&number_view(&rt, &other)));
+    assert!(rt; fed(&view) != fed(&number_view(&rt, &more)));
+    assert!(rt; view != number_view(&rt, &more));
 }
