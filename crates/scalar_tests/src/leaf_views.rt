@@ -4,8 +4,9 @@ use crate::fixtures::{I32, Raw, integer, text};
 use crate::hashers::{fed, fed_in_all, unheard};
 use std::process::Abort;
 use vortex_dtype::Nullability::{NonNullable, Nullable};
-use vortex_dtype::{DType, PType};
+use vortex_dtype::{DType, PType, VortexError};
 use vortex_leaves::{BoolScalar, PrimitiveScalar, Utf8Scalar};
+use vortex_pvalue::PValue;
 use vortex_value::{Scalar, ScalarValue};
 
 fn scalar(dtype: DType, value: Raw) -> Scalar {
@@ -30,6 +31,11 @@ fn number_view<'a>(rt: &impl Abort, scalar: &'a Scalar) -> PrimitiveScalar<'a> {
 
 fn nullable_i32(value: Raw) -> Scalar {
     scalar(DType::Primitive(PType::I32, Nullable), value)
+}
+
+/// Whether the call refused an integer of another kind.
+fn is_wrong_ptype<T: Drop>(answer: Result<T, VortexError>) -> bool {
+    matches!(answer, Err(VortexError::WrongPType))
 }
 
 #[test]
@@ -73,4 +79,33 @@ fn leaf_views_of_integers_hash(rt: HostRuntime) {
     assert!(rt; unheard(&view) == unheard(&number_view(&rt, &other)));
     assert!(rt; fed(&view) != fed(&number_view(&rt, &more)));
     assert!(rt; view != number_view(&rt, &more));
+}
+
+#[test]
+fn leaf_views_of_truth_values(rt: HostRuntime) {
+    let yes = scalar(DType::Bool(NonNullable), truth(true));
+    let null = scalar(DType::Bool(Nullable), None);
+    let view = bool_view(&rt, &yes);
+    assert!(rt; view.value() == Some(true));
+    assert!(rt; bool_view(&rt, &null).value().is_none());
+    assert!(rt; *view.dtype() == yes.dtype);
+    let owned = view.invert().invert().into_scalar();
+    assert!(rt; owned == yes);
+    assert!(rt; owned.dtype == yes.dtype);
+}
+
+#[test]
+fn leaf_views_give_integers_by_type(rt: HostRuntime) {
+    let five = scalar(I32, integer(5));
+    let view = number_view(&rt, &five);
+    assert!(rt; view.ptype() == PType::I32);
+    assert!(rt; view.pvalue() == Some(PValue::I32(5)));
+    let typed = view.try_typed_value::<i32>().expect(&rt, "an i32");
+    assert!(rt; typed == Some(5));
+    assert!(rt; is_wrong_ptype(view.try_typed_value::<i64>()));
+    assert!(rt; view.is_zero() == Some(false));
+    assert!(rt; view.as_opt::<u8>() == Some(Some(5)));
+    let owned = Scalar::from(view);
+    assert!(rt; owned == five);
+    assert!(rt; owned.dtype == five.dtype);
 }
