@@ -252,7 +252,6 @@ fn nulls_fit_each_integer(rt: HostRuntime) {
     assert!(rt; null.as_::<i8>().is_none());
     assert!(rt; null.as_opt::<u64>() == Some(None));
     assert!(rt; null.is_zero().is_none());
-    assert!(rt; null.typed_value::<i16>().is_none());
 }
 
 #[test]
