@@ -1,4 +1,4 @@
--- Calls that only want of memory can refuse.
+-- Calls that only running out of memory makes refuse.
 use Rattle.std.specs.Prelude.{◌≡◌, MatchResult, Result}
 use Rattle.vortex_dtype.specs.declared.error.VortexError.{VortexError}
 use Rattle.vortex_dtype.specs.declared.error.VortexError.TheVariants.{OutOfMemory}

@@ -50,7 +50,7 @@ pub union_valid : (variants : VariantParts) (id : ℕ) (found : TypeTree) (v : R
 union_valid variants id found v h p =
     tagged_valid id (position (λ i. i == id) variants.type_ids) (type_with id variants.type_ids (as_type_trees variants.types)) found v h p
 
--- a union's child is never refused for want of memory
+-- a union's child is never refused as out of memory
 
 child_spares : (b : Bool) (index : ℕ) → (if b then None else Some (WrongChild index)) ≡ Some OutOfMemory → ⊥
 child_spares true index h = cc
