@@ -1,8 +1,6 @@
 -- Steps of the check of validity: what one level of a raw value and of a type is, and loops over parts.
-use Rattle.std.proofs.Common.{◌≡◌, ◌≢◌, ℕ, suc, ◌<◌, Bool, true, Result, List, [], ◌∷◌, ◌++◌, length, Option, Some, None, drop, get_or, drop-cons, refl, ap, subst, arith, reverse}
-use Rattle.std.proofs.lemmas.List.{reverse-append}
+use Rattle.std.proofs.Common.{◌≡◌, ◌≢◌, ℕ, suc, ◌<◌, Bool, true, Result, List, [], ◌∷◌, ◌++◌, length, Option, Some, None, drop, get_or, drop-cons, refl, ap, subst, arith}
 use Rattle.std.specs.Result.{ForErr}
-use Rattle.vortex_dtype.specs.declared.error.Breach.{Breach}
 use Rattle.vortex_dtype.specs.declared.error.Step.{Step}
 use Rattle.vortex_dtype.specs.declared.error.Step.TheVariants.{Element, Entry, Key, Value}
 use Rattle.vortex_dtype.specs.declared.error.Breach.TheVariants.{WrongLength}
@@ -43,13 +41,6 @@ some-steps (f ∷ fs) h = λ e. cc
 pub some-first : (fs : List Found) (f : Found) → first fs ≡ Some f → fs ≢ []
 some-first [] f h = λ e. cc
 some-first (g ∷ fs) f h = λ e. cc
-
--- a breach one level up has one step more at its front
-pub under-first : (step : Step) (steps : List Step) (breach : Breach) (fs : List Found) → first fs ≡ Some (reverse steps, breach) → first (under step fs) ≡ Some (reverse (steps ++ step ∷ []), breach)
-under-first step steps breach [] h = cc
-under-first step steps breach (f ∷ fs) h =
-    let e : f ≡ (reverse steps, breach) = cc in
-    rw (e, reverse-append) refl
 
 -- the elements from place i on
 pub elements_at : (e : TypeTree) (i : ℕ) (vs : List (Option ScalarValue)) (v : Option ScalarValue) → i < length vs → v ≡ get_or vs i v
