@@ -17,6 +17,7 @@ use Rattle.vortex_value.specs.Values.RawTree.{RawTree, absent, raw_bool, raw_int
 use Rattle.vortex_value.specs.Values.RawOf.{raw_of, value_trees, value_tree}
 use Rattle.vortex_value.specs.Validity.{Valid}
 use Rattle.vortex_value.specs.declared.values.ScalarValue.{ScalarValue, the_lemmas}
+use Rattle.vortex_value.proofs.ValidSteps.{two_places}
 use Rattle.vortex_value.proofs.ValidityLaws.{valid_exactly_without_breach}
 use Rattle.vortex_value.proofs.ValueSteps.{value_tree-Tuple, count-value_trees}
 
@@ -97,10 +98,7 @@ no_value (Some v) = refl
 -- an entry of two parts, and one of another number
 pub entry_at : (vs : List (Option ScalarValue)) (x y : Option ScalarValue) (s t : MapParts) → length vs ≡ 2 → x ≡ get_or vs 0 x → y ≡ get_or vs 1 y
     → entry_to (raw_tuple (value_trees vs)) s t ≡ pair_to (cast_to (raw_of x) s.key t.key) (cast_to (raw_of y) s.value t.value)
-entry_at (a ∷ b ∷ []) x y s t two p q = rw (p, q) refl
-entry_at [] x y s t two p q = absurd (omega arith)
-entry_at (a ∷ []) x y s t two p q = absurd (omega arith)
-entry_at (a ∷ b ∷ c ∷ vs) x y s t two p q = absurd (omega arith)
+entry_at vs x y s t two p q = rw (two_places vs x y two p q) refl
 
 pub no_entry : (vs : List (Option ScalarValue)) (s t : MapParts) → length vs ≢ 2 → entry_to (raw_tuple (value_trees vs)) s t ≡ None
 no_entry [] s t other = refl

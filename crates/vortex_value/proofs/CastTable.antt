@@ -3,6 +3,7 @@
 use Rattle.std.proofs.Common.{◌≡◌, ◌≢◌, ◌==◌, ◌⊎◌, inl, inr, ℕ, ℤ, Bool, true, false, ◌&&◌, List, Option, Some, None, Result, Ok, Err, IfErr, if◌then◌else◌, option_map, refl, sym, ap, ◌∙◌, subst}
 use Rattle.std.proofs.lemmas.Bool.Decides.{Decides-and, Decides-eqb, Decides-like, Decides-or}
 use Rattle.std.specs.Bool.{Decides}
+use Rattle.vortex_dtype.specs.Lemmas.TypeLaws.{is_nullable-storage}
 use Rattle.vortex_dtype.specs.TypeOf.{MapParts}
 use Rattle.vortex_dtype.specs.TypeTree.{TypeTree, null_type, bool_type, integer_type, utf8_type, binary_type, list_type, fixed_size_list_type, map_type, struct_type, extension_type, TypeTrees, no_types, type_then, erase_all, IsFlat, IsNullable, Same, is_nullable, nullability_of, storage}
 use Rattle.vortex_dtype.specs.declared.error.VortexError.{VortexError}
@@ -72,11 +73,7 @@ never_sorted (map_type k v false n) (map_type l w true m) c h a = elim a [
 never_sorted _ _ c h a = h
 
 nullable_Decides : (t : TypeTree) → Decides (is_nullable t) (IsNullable (storage t))
-nullable_Decides t = Decides-like (is_nullable t) (λ e. stored_nullable t ∙ e) (λ e. sym (stored_nullable t) ∙ e) (says_nullable-Decides (nullability_of t))
-  where
-    stored_nullable : (t : TypeTree) → nullability_of (storage t) ≡ nullability_of t
-    stored_nullable (extension_type id metadata t) = stored_nullable t
-    stored_nullable _ = refl
+nullable_Decides t = subst (λ b. Decides b (IsNullable (storage t))) (is_nullable-storage t) (says_nullable-Decides (nullability_of (storage t)))
 
 -- a null is taken by a nullable type, unless an unsorted map would become a sorted one
 null_Decides : (s t : TypeTree) → Decides (takes_null s t) ((Sorts s t → ⊥) × IsNullable (storage t))

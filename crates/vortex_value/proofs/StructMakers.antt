@@ -56,14 +56,11 @@ paired f p [] ys = refl
 paired f p (x ∷ xs) [] = refl
 paired f p (x ∷ xs) (y ∷ ys) = ap (λ n. cond (not (p (f x, y))) (1 + n) 0) (paired f p xs ys)
 
-paired_length : {A B C : Type 0} (f : A → B) (xs : List A) (ys : List C) → length (zip xs ys) ≡ length (zip (map f xs) ys)
-paired_length f xs ys = rw (length-zip xs ys, length-zip (map f xs) ys, length-map xs f) refl
-
 wrong_field_of : (dtypes : List DType) (xs : List Scalar)
     → position (λ pair. not (tree_eq (scalar_type pair.1) (type_of pair.0))) (zip dtypes xs) ≡ wrong_field (map type_of dtypes) xs
 wrong_field_of dtypes xs =
     let place = paired type_of misfits dtypes xs in
-    let size = paired_length {C = Scalar} type_of dtypes xs in
+    let size : length (zip dtypes xs) ≡ length (zip (map type_of dtypes) xs) = rw (length-zip dtypes xs, length-zip (map type_of dtypes) xs, length-map dtypes type_of) refl in
     rw (place, size) refl
 
 -- where there are as many children as fields, the first misfit decides

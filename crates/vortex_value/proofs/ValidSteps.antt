@@ -1,5 +1,6 @@
 -- Steps of the check of validity: what one level of a raw value and of a type is, and loops over parts.
 use Rattle.std.proofs.Common.{◌≡◌, ◌≢◌, ℕ, suc, ◌<◌, Bool, true, Result, List, [], ◌∷◌, ◌++◌, length, Option, Some, None, drop, get_or, drop-cons, refl, ap, subst, arith}
+use Rattle.std.proofs.lemmas.List.{get_or_default}
 use Rattle.std.specs.Result.{ForErr}
 use Rattle.vortex_dtype.specs.declared.error.Step.{Step}
 use Rattle.vortex_dtype.specs.declared.error.Step.TheVariants.{Element, Entry, Key, Value}
@@ -73,10 +74,7 @@ entry_of k w vs x y two a b = rw (two_places vs x y two a b)
 
 pub entry_with : (k w : TypeTree) (vs : List (Option ScalarValue)) (x : Option ScalarValue) → length vs ≡ 2 → x ≡ get_or vs 0 x
     → breaches_of_entry k w (raw_tuple (value_trees vs)) ≡ under Key (breaches k (raw_of x)) ++ under Value (breaches w (raw_of (get_or vs 1 None)))
-entry_with k w [] x two a = absurd (omega arith)
-entry_with k w (u ∷ []) x two a = absurd (omega arith)
-entry_with k w (u ∷ v ∷ []) x two a = rw a
-entry_with k w (u ∷ v ∷ y ∷ vs) x two a = absurd (omega arith)
+entry_with k w vs x two a = entry_of k w vs x (get_or vs 1 None) two a (get_or_default vs 1 None (get_or vs 1 None) (omega arith))
 
 pub Checks-both : (kept : Bool) (r : Result (Unit {0}) Fault) (fs gs : List Found) → fs ≡ [] → Checks kept r gs → Checks kept r (fs ++ gs)
 Checks-both kept r fs gs e h = rw e h

@@ -2,7 +2,7 @@
 use Rattle.std.proofs.Common.{◌≡◌, ◌↔◌, ◌==◌, ℕ, zero, suc, pos, Bool, true, false, List, [], ◌∷◌, length, Option, Some, None, option_map, unwrap_or, if◌then◌else◌, refl, sym, ap, ◌∙◌, true≢false, eq-eqb}
 use Rattle.std.specs.Cmp.{first_so, second_so}
 use Rattle.std.specs.Prelude.{IsSome}
-use Rattle.std.proofs.lemmas.Bool.{not-true}
+use Rattle.std.proofs.lemmas.Bool.{and_from, not-true}
 use Rattle.std.proofs.lemmas.Bool.Decides.{Decides-eqb, Decides-int_eq}
 use Rattle.std.proofs.lemmas.List.{nil_from_length}
 use Rattle.std.proofs.lemmas.Option.{same_Some}
@@ -16,7 +16,7 @@ use Rattle.vortex_value.specs.TypesWithin.{HasNoVariant, HaveNoVariant, UnionsHa
 use Rattle.vortex_value.specs.Validity.{Valid, ValidAt, EachValid, FieldsValid, HasType, type_with}
 use Rattle.vortex_value.specs.Zero.{filling, fillings, null_or, repeated, places_of, and_rest, has_no_places, of_first, is_zero_at, each_zero, fields_zero, is_zero_of, ZeroIsZero, DefaultExists}
 use Rattle.vortex_value.proofs.FillingLaws.{filling-storage, filling-valid, no_places}
-use Rattle.vortex_value.proofs.FillingSteps.{is_some-option_map}
+use Rattle.vortex_value.proofs.FillingSteps.{is_some-and_rest, is_some-option_map}
 use Rattle.vortex_value.proofs.OrderAgrees.{no_variant-storage}
 
 -- what fills a type is null only where a null is taken
@@ -90,11 +90,6 @@ places_exist : (size : ℕ) (o : Option Content) → IsSome o → IsSome (places
 places_exist size (Some c) h = refl
 places_exist size None h = absurd (true≢false (sym h))
 
-rest_exists : (o : Option Content) (p : Option Contents) → IsSome o → IsSome p → IsSome (and_rest o p)
-rest_exists (Some c) (Some cs) h k = refl
-rest_exists (Some c) None h k = absurd (true≢false (sym k))
-rest_exists None p h k = absurd (true≢false (sym h))
-
 mutual
   default_exists_for : (t : TypeTree) → UnionsHaveVariants t → IsSome (filling true t)
   default_exists_for null_type u = refl
@@ -113,7 +108,7 @@ mutual
 
   defaults_exist : (ts : TypeTrees) → AllHaveVariants ts → IsSome (fillings true ts)
   defaults_exist no_types u = refl
-  defaults_exist (type_then t ts) u = rest_exists _ _ (default_exists_for t u.0) (defaults_exist ts u.1)
+  defaults_exist (type_then t ts) u = is_some-and_rest (filling true t) (fillings true ts) ∙ and_from _ _ (default_exists_for t u.0) (defaults_exist ts u.1)
 
 pub default_exists : DefaultExists
 default_exists = record { exists = default_exists_for; valid = filling-valid true; null_exactly = default_null }
