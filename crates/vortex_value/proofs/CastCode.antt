@@ -1,6 +1,7 @@
 -- What the code of a cast meets, one level at a time.
 use Rattle.std.proofs.Common.{◌≡◌, ◌≢◌, ℕ, suc, ◌<◌, ◌⊎◌, inl, inr, true, false, List, [], ◌∷◌, ◌++◌, length, get_or, drop, drop-cons, Option, Some, None, Result, Ok, Err, refl, sym, ap, ◌∙◌, arith, rules}
 use Rattle.std.proofs.lemmas.Bool.Decides.{Decides-eqb, Decides-like}
+use Rattle.std.proofs.lemmas.List.{nil_from_length}
 use Rattle.std.specs.Bool.{Decides}
 use Rattle.vortex_dtype.specs.Lemmas.TypeLevels.{type_of-List, type_of-FixedSizeList, type_of-Map, type_of-Struct, type_of-Extension}
 use Rattle.vortex_dtype.specs.TypeOf.{MapParts, type_of, dtype_trees}
@@ -16,18 +17,15 @@ use Rattle.vortex_value.specs.Values.RawTree.{RawTree, absent, raw_bool, raw_int
 use Rattle.vortex_value.specs.Values.RawOf.{raw_of, value_trees, value_tree}
 use Rattle.vortex_value.specs.Validity.{Valid}
 use Rattle.vortex_value.specs.declared.values.ScalarValue.{ScalarValue, the_lemmas}
+use Rattle.vortex_value.proofs.ValidSteps.{two_places}
 use Rattle.vortex_value.proofs.ValidityLaws.{valid_exactly_without_breach}
 use Rattle.vortex_value.proofs.ValueSteps.{value_tree-Tuple, count-value_trees}
-
-empty : {A : Type 0} (xs : List A) → length xs ≡ 0 → xs ≡ []
-empty [] h = refl
-empty (x ∷ xs) h = absurd (omega arith)
 
 -- a type accepts exactly the values that are valid for it
 pub accepts-Decides : (t : TypeTree) (v : RawTree) → Decides (accepts t v) (Valid t v)
 accepts-Decides t v =
     let exactly = valid_exactly_without_breach t v in
-    Decides-like (accepts t v) (λ h. exactly.1 (empty (breaches t v) h)) (λ h. ap length (exactly.0 h)) (Decides-eqb (length (breaches t v)) 0)
+    Decides-like (accepts t v) (λ h. exactly.1 (nil_from_length (breaches t v) h)) (λ h. ap length (exactly.0 h)) (Decides-eqb (length (breaches t v)) 0)
 
 flat_takes : (t : TypeTree) (v : RawTree) → IsFlat t → Valid t v → TakesNoMemory v
 flat_takes t absent h p = tt
@@ -100,10 +98,7 @@ no_value (Some v) = refl
 -- an entry of two parts, and one of another number
 pub entry_at : (vs : List (Option ScalarValue)) (x y : Option ScalarValue) (s t : MapParts) → length vs ≡ 2 → x ≡ get_or vs 0 x → y ≡ get_or vs 1 y
     → entry_to (raw_tuple (value_trees vs)) s t ≡ pair_to (cast_to (raw_of x) s.key t.key) (cast_to (raw_of y) s.value t.value)
-entry_at (a ∷ b ∷ []) x y s t two p q = rw (p, q) refl
-entry_at [] x y s t two p q = absurd (omega arith)
-entry_at (a ∷ []) x y s t two p q = absurd (omega arith)
-entry_at (a ∷ b ∷ c ∷ vs) x y s t two p q = absurd (omega arith)
+entry_at vs x y s t two p q = rw (two_places vs x y two p q) refl
 
 pub no_entry : (vs : List (Option ScalarValue)) (s t : MapParts) → length vs ≢ 2 → entry_to (raw_tuple (value_trees vs)) s t ≡ None
 no_entry [] s t other = refl

@@ -1,10 +1,10 @@
 -- Casts keep the content, and a type has one value of each: so chains agree, and equality and order stay.
 use Rattle.std.proofs.Common.{◌≡◌, ◌&&◌, true, ◌∷◌, refl, sym, ap, ◌∙◌, subst}
 use Rattle.vortex_dtype.specs.TypeTree.{TypeTree, null_type, extension_type, Same, IsNullable, as_nullable, storage}
-use Rattle.vortex_value.specs.Casts.{same_type, Allows, IsCast}
+use Rattle.vortex_value.specs.Casts.{same_type, a_null, Allows, IsCast, Sorts}
 use Rattle.vortex_value.specs.Laws.CastLaws.{CallsAreChains, CastsKeepScalars, CastsKeepValues, ChainsAgree, IntoNullableAndBack, ThereAndBack}
 use Rattle.vortex_value.specs.Chains.{last_of, Steps}
-use Rattle.vortex_value.specs.Values.Content.{Content, content}
+use Rattle.vortex_value.specs.Values.Content.{Content, null, content}
 use Rattle.vortex_value.specs.Equality.{equal}
 use Rattle.vortex_value.specs.Equality as equality
 use Rattle.vortex_value.specs.Lemmas.EqualityLaws.{same_type-Decides}
@@ -47,6 +47,10 @@ calls_are_chains = record {
     steps = (h.allowed, record { value = w; valid = h.valid; same = h.same }, subst (λ c. Steps t (u ∷ us) c) h.same rest.steps);
   };
 }
+
+pub allows_null : (s t : TypeTree) → ¬ (Sorts s t) → Allows s t null
+allows_null s null_type h = a_null tt h
+allows_null s _ h = a_null tt h
 
 -- a row that any two types that are the same have
 pub allows_same : (s t : TypeTree) (c : Content) → Same s t → Allows s t c

@@ -3,12 +3,12 @@
 use Rattle.std.proofs.Common.{◌≡◌, ◌≢◌, ◌==◌, ◌⊎◌, inl, inr, ℕ, ℤ, Bool, true, false, ◌&&◌, List, Option, Some, None, Result, Ok, Err, IfErr, if◌then◌else◌, option_map, refl, sym, ap, ◌∙◌, subst}
 use Rattle.std.proofs.lemmas.Bool.Decides.{Decides-and, Decides-eqb, Decides-like, Decides-or}
 use Rattle.std.specs.Bool.{Decides}
+use Rattle.vortex_dtype.specs.Lemmas.TypeLaws.{is_nullable-storage}
 use Rattle.vortex_dtype.specs.TypeOf.{MapParts}
-use Rattle.vortex_dtype.specs.TypeTree.{TypeTree, null_type, bool_type, integer_type, utf8_type, binary_type, list_type, fixed_size_list_type, map_type, struct_type, extension_type, TypeTrees, no_types, type_then, erase_all, IsFlat, IsNullable, Same, is_nullable, nullability_of, says_nullable, storage}
+use Rattle.vortex_dtype.specs.TypeTree.{TypeTree, null_type, bool_type, integer_type, utf8_type, binary_type, list_type, fixed_size_list_type, map_type, struct_type, extension_type, TypeTrees, no_types, type_then, erase_all, IsFlat, IsNullable, Same, is_nullable, nullability_of, storage}
 use Rattle.vortex_dtype.specs.declared.error.VortexError.{VortexError}
 use Rattle.vortex_dtype.specs.declared.error.VortexError.TheVariants.{CannotCast, OutOfMemory}
 use Rattle.vortex_dtype.specs.declared.kinds.Nullability.{Nullability}
-use Rattle.vortex_dtype.specs.declared.kinds.Nullability.TheVariants.{NonNullable, Nullable}
 use Rattle.vortex_dtype.specs.declared.kinds.PType.{PType}
 use Rattle.vortex_pvalue.specs.Numbers.{in_range}
 use Rattle.vortex_pvalue.specs.RangeLaws.{in_range_exactly}
@@ -22,9 +22,10 @@ use Rattle.vortex_value.specs.Values.RawTree.{RawTree, absent, raw_bool, raw_int
 use Rattle.vortex_value.specs.Validity.{EachValid, EntriesValid, FieldsValid, Valid, ValidAt}
 use Rattle.vortex_value.proofs.Alike.{AlikeAt, step_alike}
 use Rattle.vortex_value.proofs.CastCode.{accepts-Decides}
-use Rattle.vortex_value.proofs.CastLaws.{allows_same}
+use Rattle.vortex_value.proofs.CastLaws.{allows_null, allows_same}
 use Rattle.vortex_value.proofs.ContentLaws.{counted, has_by_cases}
 use Rattle.vortex_value.proofs.Uniqueness.{one, same_storage}
+use Rattle.vortex_value.proofs.ValidityLaws.{says_nullable-Decides}
 
 -- what is made, with this content, is allowed and valid; where nothing is made, it is not allowed or the target has no such content
 abbrev Made : {A C : Type 0} → (A → C) → Type 0 → Type 0 → (A → Type 0) → C → Option A → Type 0
@@ -72,25 +73,13 @@ never_sorted (map_type k v false n) (map_type l w true m) c h a = elim a [
 never_sorted _ _ c h a = h
 
 nullable_Decides : (t : TypeTree) → Decides (is_nullable t) (IsNullable (storage t))
-nullable_Decides t = Decides-like (is_nullable t) (λ e. stored_nullable t ∙ e) (λ e. sym (stored_nullable t) ∙ e) (says (nullability_of t))
-  where
-    stored_nullable : (t : TypeTree) → nullability_of (storage t) ≡ nullability_of t
-    stored_nullable (extension_type id metadata t) = stored_nullable t
-    stored_nullable _ = refl
-
-    says : (n : Nullability) → Decides (says_nullable n) (n ≡ Nullable)
-    says Nullable = (λ h. refl, λ h. refl)
-    says NonNullable = (λ h. cc, λ h. cc)
+nullable_Decides t = subst (λ b. Decides b (IsNullable (storage t))) (is_nullable-storage t) (says_nullable-Decides (nullability_of (storage t)))
 
 -- a null is taken by a nullable type, unless an unsorted map would become a sorted one
 null_Decides : (s t : TypeTree) → Decides (takes_null s t) ((Sorts s t → ⊥) × IsNullable (storage t))
 null_Decides (map_type k v false n) (map_type l w true m) = (λ h. cc, λ h. absurd (h.0 tt))
 null_Decides (map_type k v from n) (map_type l w to m) = Decides-like _ (λ h. ((λ z. z), h)) (λ h. h.1) (nullable_Decides (map_type l w to m))
 null_Decides s t = Decides-like _ (λ h. ((λ z. z), h)) (λ h. h.1) (nullable_Decides t)
-
-allows_null : (s t : TypeTree) → ¬ (Sorts s t) → Allows s t null
-allows_null s null_type h = a_null tt h
-allows_null s _ h = a_null tt h
 
 null_decided : (s t : TypeTree) → Decided s t absent (if takes_null s t then Some absent else None)
 null_decided s t =

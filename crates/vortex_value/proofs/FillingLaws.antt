@@ -1,5 +1,6 @@
 -- Which values fill a type, level by level, and that what fills a type is some valid value's content.
 use Rattle.std.proofs.Common.{◌≡◌, ◌&&◌, ℕ, zero, suc, pos, Bool, true, false, List, [], ◌∷◌, Option, Some, None, option_map, refl, sym, ap, ◌∙◌, eq-eqb}
+use Rattle.std.proofs.lemmas.Option.{none-some, same_Some}
 use Rattle.vortex_dtype.specs.TypeTree.{TypeTree, null_type, bool_type, integer_type, utf8_type, binary_type, list_type, fixed_size_list_type, map_type, struct_type, union_type, variant_type, extension_type, TypeTrees, no_types, type_then, IsNullable, is_nullable, says_nullable, storage}
 use Rattle.vortex_dtype.specs.declared.kinds.Nullability.{Nullability}
 use Rattle.vortex_dtype.specs.declared.kinds.Nullability.TheVariants.{NonNullable, Nullable}
@@ -14,6 +15,7 @@ use Rattle.vortex_value.specs.Validity.{EachValid, FieldsValid}
 use Rattle.vortex_value.specs.Steps.Filling.{Fills, EachFills, FillFields}
 use Rattle.vortex_value.specs.Zero.{filling, fillings, null_or, repeated, places_of, and_rest}
 use Rattle.vortex_value.proofs.MakerLaws.{null_valid}
+use Rattle.vortex_value.proofs.ValidityLaws.{says_nullable-Decides}
 
 -- no null stands for this type: it takes none, or nulls are not taken
 abbrev pub IsFilledInside : Bool → TypeTree → Type 0
@@ -76,17 +78,15 @@ each_valid : (nulls : Bool) (e : TypeTree) (vs : RawTrees) → EachFills nulls e
 each_valid nulls e no_raws h = tt
 each_valid nulls e (raw_then v vs) h = (h.0.valid, each_valid nulls e vs h.1)
 
-some_inside : {A : Type 0} (x y : A) → Some x ≡ Some y → x ≡ y
-some_inside x y h = cc
-
 each_same : (nulls : Bool) (e : TypeTree) (vs : RawTrees) (c : Content) → filling nulls e ≡ Some c → EachFills nulls e vs → contents vs ≡ repeated (count vs) c
 each_same nulls e no_raws c f h = refl
 each_same nulls e (raw_then v vs) c f h =
-    let head : content v ≡ c = some_inside _ _ (sym h.0.same ∙ f) in
+    let head : content v ≡ c = same_Some _ _ (sym h.0.same ∙ f) in
     let tail : contents vs ≡ repeated (count vs) c = each_same nulls e vs c f h.1 in
     rw (head, tail)
 
-no_places : (o : Option Content) → places_of 0 o ≡ Some (sequence no_contents)
+-- where there are no places nothing is asked of what fills one
+pub no_places : (o : Option Content) → places_of 0 o ≡ Some (sequence no_contents)
 no_places None = refl
 no_places (Some c) = refl
 
@@ -133,39 +133,22 @@ pub filling-storage : (nulls : Bool) (t : TypeTree) → filling nulls (storage t
 filling-storage nulls (extension_type id metadata t) = filling-storage nulls t
 filling-storage nulls _ = refl
 
-storage-storage : (t : TypeTree) → storage (storage t) ≡ storage t
-storage-storage (extension_type id metadata t) = storage-storage t
-storage-storage _ = refl
-
-pub storage_fills : (nulls : Bool) (t : TypeTree) (v : RawTree) → Fills nulls (storage t) v → Fills nulls t v
-storage_fills nulls t v f = record {
-  valid = rw storage-storage at f.valid;
-  same = sym (filling-storage nulls t) ∙ f.same;
-}
-
 -- what fills a type is the content of a value that fills it
 
 abbrev Filled : Bool → TypeTree → Type 0
 Filled nulls t = (v : RawTree) × Fills nulls t v
-
-nullable_yes : (n : Nullability) → says_nullable n ≡ true → n ≡ Nullable
-nullable_yes NonNullable h = cc
-nullable_yes Nullable h = refl
 
 or_null : (nulls : Bool) (t : TypeTree) → (IsFilledInside nulls t → Filled nulls t) → Filled nulls t
 or_null false t go = go refl
 or_null true t go = by_test (is_nullable t) refl
   where
     by_test : (b : Bool) → is_nullable t ≡ b → Filled true t
-    by_test true h = (absent, null_fills t (nullable_yes _ h))
+    by_test true h = (absent, null_fills t ((says_nullable-Decides _).0 h))
     by_test false h = go h
 
 -- the rest of a row, where no null stands for the type
 row : (nulls : Bool) (n : Nullability) (other : Option Content) (c : Content) → (nulls && says_nullable n) ≡ false → null_or nulls n other ≡ Some c → other ≡ Some c
 row nulls n other c free h = sym (null_or-other nulls n other free) ∙ h
-
-none_there : {A : Type 0} (c : A) (G : Type 0) → None ≡ Some c → G
-none_there c G h = cc
 
 repeated_raw : ℕ → RawTree → RawTrees
 repeated_raw zero v = no_raws
@@ -191,7 +174,7 @@ fixed_row nulls e size n c go h free = by_element (filling nulls e) refl size h 
         let counted = count-repeated_raw k v.0 in
         (raw_tuple (repeated_raw k v.0), rw counted at (elements_fill nulls e n (repeated_raw k v.0) (repeated_fills nulls e v.0 v.1 k) f))
     by_element None is zero p f = (raw_tuple no_raws, elements_fill nulls e n no_raws tt f)
-    by_element None is (suc k) p f = none_there c _ p
+    by_element None is (suc k) p f = absurd (none-some c p)
 
 abbrev FilledFields : Bool → TypeTrees → Type 0
 FilledFields nulls ts = (vs : RawTrees) × FillFields nulls ts vs
@@ -202,7 +185,7 @@ struct_row nulls names ts n c go h free = by_fields (fillings nulls ts) refl h
   where
     by_fields : (o : Option Contents) → fillings nulls ts ≡ o → option_map sequence o ≡ Some c → Filled nulls (struct_type names ts n)
     by_fields (Some cs) is p = let vs = go cs is in (raw_tuple vs.0, fields_fill nulls names ts n vs.0 vs.1 free)
-    by_fields None is p = none_there c _ p
+    by_fields None is p = absurd (none-some c p)
 
 union_row : (nulls : Bool) (names : List (List ℕ)) (t : TypeTree) (ts : TypeTrees) (id : ℕ) (ids : List ℕ) (n : Nullability) (c : Content)
     → ((d : Content) → filling nulls t ≡ Some d → Filled nulls t) → option_map (tagged id) (filling nulls t) ≡ Some c
@@ -211,7 +194,7 @@ union_row nulls names t ts id ids n c go h free = by_child (filling nulls t) ref
   where
     by_child : (o : Option Content) → filling nulls t ≡ o → option_map (tagged id) o ≡ Some c → Filled nulls (union_type names (type_then t ts) (id ∷ ids) n)
     by_child (Some d) is p = let v = go d is in (raw_union id v.0, child_fills nulls names t ts id ids n v.0 v.1 free)
-    by_child None is p = none_there c _ p
+    by_child None is p = absurd (none-some c p)
 
 both_rows : (nulls : Bool) (t : TypeTree) (ts : TypeTrees) (cs : Contents) → ((c : Content) → filling nulls t ≡ Some c → Filled nulls t)
     → ((ds : Contents) → fillings nulls ts ≡ Some ds → FilledFields nulls ts) → and_rest (filling nulls t) (fillings nulls ts) ≡ Some cs → FilledFields nulls (type_then t ts)
@@ -219,8 +202,8 @@ both_rows nulls t ts cs first rest h = by_parts (filling nulls t) refl (fillings
   where
     by_parts : (o : Option Content) → filling nulls t ≡ o → (p : Option Contents) → fillings nulls ts ≡ p → and_rest o p ≡ Some cs → FilledFields nulls (type_then t ts)
     by_parts (Some c) i (Some ds) j q = let v = first c i in let vs = rest ds j in (raw_then v.0 vs.0, (v.1, vs.1))
-    by_parts None i p j q = none_there cs _ q
-    by_parts (Some c) i None j q = none_there cs _ q
+    by_parts None i p j q = absurd (none-some cs q)
+    by_parts (Some c) i None j q = absurd (none-some cs q)
 
 -- zero is in the range of every kind
 zero_tested : (k : PType) → in_range k (pos 0) ≡ true
@@ -238,7 +221,7 @@ zero_in_range k = in_range_back k (pos 0) (zero_tested k)
 
 mutual
   filled : (nulls : Bool) (t : TypeTree) (c : Content) → filling nulls t ≡ Some c → Filled nulls t
-  filled nulls null_type c h = or_null nulls null_type (λ free. none_there c _ (row nulls Nullable _ c free h))
+  filled nulls null_type c h = or_null nulls null_type (λ free. absurd (none-some c (row nulls Nullable _ c free h)))
   filled nulls (bool_type n) c h = or_null nulls (bool_type n) (λ free. (raw_bool false, false_fills nulls n free))
   filled nulls (integer_type k n) c h = or_null nulls (integer_type k n) (λ free. (raw_integer k (pos 0), zero_fills nulls k n (zero_in_range k) free))
   filled nulls (utf8_type n) c h = or_null nulls (utf8_type n) (λ free. (raw_text [], text_fills nulls n free))
@@ -251,7 +234,7 @@ mutual
       or_null nulls (struct_type names ts n) (λ free. struct_row nulls names ts n c (λ cs. filled_fields nulls ts cs) (row nulls n _ c free h) free)
   filled nulls (union_type names (type_then t ts) (id ∷ ids) n) c h =
       or_null nulls (union_type names (type_then t ts) (id ∷ ids) n) (λ free. union_row nulls names t ts id ids n c (λ d. filled nulls t d) (row nulls n _ c free h) free)
-  filled nulls (union_type names ts ids n) c h = or_null nulls (union_type names ts ids n) (λ free. none_there c _ (row nulls n _ c free h))
+  filled nulls (union_type names ts ids n) c h = or_null nulls (union_type names ts ids n) (λ free. absurd (none-some c (row nulls n _ c free h)))
   filled nulls (variant_type n) c h = or_null nulls (variant_type n) (λ free. (raw_variant null_type absent, variant_fills nulls n free))
   filled nulls (extension_type id metadata t) c h = let v = filled nulls t c h in (v.0, record { valid = v.1.valid; same = v.1.same })
 
@@ -263,4 +246,4 @@ mutual
 pub filling-valid : (nulls : Bool) (t : TypeTree) (c : Content) → filling nulls t ≡ Some c → Has t c
 filling-valid nulls t c h =
     let v = filled nulls t c h in
-    record { value = v.0; valid = v.1.valid; same = some_inside _ _ (sym v.1.same ∙ h) }
+    record { value = v.0; valid = v.1.valid; same = same_Some _ _ (sym v.1.same ∙ h) }

@@ -1,5 +1,6 @@
 -- Steps of the recursions over types that fill them.
-use Rattle.std.proofs.Common.{◌≡◌, ◌≤◌, subst, ◌+◌, map, take, Box, Vec, Global, ◌++◌, true≢false, ◌&&◌, ◌||◌, ◌<◌, ℕ, zero, suc, Bool, true, false, List, [], ◌∷◌, length, Option, Some, None, option_map, drop, get_or, drop-cons, refl, sym, ap, ◌∙◌, arith}
+use Rattle.std.proofs.Common.{◌≡◌, ◌≤◌, subst, ◌+◌, map, take, Box, Vec, Global, ◌++◌, ◌&&◌, ◌||◌, ◌<◌, ℕ, zero, suc, Bool, true, false, List, [], ◌∷◌, length, Option, Some, None, option_map, drop, get_or, drop-cons, refl, sym, ap, ◌∙◌, arith}
+use Rattle.std.specs.Cmp.{first_so, second_so}
 use Rattle.std.specs.Option.{is_some, IsSome}
 use Rattle.std.proofs.lemmas.List.{take_more}
 use Rattle.std.proofs.lemmas.Option.{some_pair_parts}
@@ -83,13 +84,10 @@ place_filled i (suc n) None h s = s
 place_filled i (suc n) (Some c) h s = refl
 
 first_filled : (o : Option Content) (p : Option Contents) → IsSome (and_rest o p) → IsSome o
-first_filled None p s = s
-first_filled (Some c) p s = refl
+first_filled o p s = first_so _ _ (sym (is_some-and_rest o p) ∙ s)
 
 rest_filled : (o : Option Content) (p : Option Contents) → IsSome (and_rest o p) → IsSome p
-rest_filled None p s = absurd (true≢false (sym s))
-rest_filled (Some c) None s = absurd (true≢false (sym s))
-rest_filled (Some c) (Some cs) s = refl
+rest_filled o p s = second_so _ _ (sym (is_some-and_rest o p) ∙ s)
 
 -- each of the types that are filled is filled
 pub field_filled : (nulls : Bool) (ts : List DType) (i : ℕ) (t : DType) → i < length ts → t ≡ get_or ts i t → IsSome (fillings nulls (dtype_trees ts)) → IsSome (filling nulls (type_of t))

@@ -1,5 +1,5 @@
 -- What the makers of scalars make is valid.
-use Rattle.std.proofs.Common.{◌≡◌, ℕ, ◌==◌, Bool, true, false, if◌then◌else◌, List, Option, Some, None, Result, Ok, Err, MatchResult, IfErr, IfOk, refl, sym, ap, ◌∙◌, subst}
+use Rattle.std.proofs.Common.{◌≡◌, ℕ, ◌==◌, Bool, true, false, if◌then◌else◌, Option, Some, None, Result, Ok, Err, MatchResult, IfErr, IfOk, refl, sym, subst}
 use Rattle.std.specs.Prelude.{position}
 use Rattle.vortex_dtype.specs.TypeEquality.{tree_eq}
 use Rattle.vortex_dtype.specs.Lemmas.TypeLaws.{tree_eq-Decides}

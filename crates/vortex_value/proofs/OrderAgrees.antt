@@ -1,12 +1,12 @@
 -- Where the order of contents says Equal they are equal, and where they are equal and hold no typed child it says so.
-use Rattle.std.proofs.Common.{◌≡◌, ◌↔◌, ◌==◌, ◌&&◌, ℕ, ℤ, Bool, true, false, if◌then◌else◌, List, [], ◌∷◌, Option, Some, None, Ordering, Less, Equal, Greater, nat_cmp, refl, sym, ap, ◌∙◌}
+use Rattle.std.proofs.Common.{◌≡◌, ◌↔◌, ◌==◌, ◌&&◌, ℕ, Bool, true, false, if◌then◌else◌, List, [], ◌∷◌, Option, Some, None, Ordering, Less, Equal, Greater, refl, ap}
 use Rattle.std.specs.Cmp.{first_so, second_so}
-use Rattle.std.specs.Cmp.Lexicographic.{slice_cmp, texts_ties}
-use Rattle.std.specs.Ordering.{int_cmp, is_eq, partial_ordering_then}
+use Rattle.std.specs.Ordering.{partial_ordering_then}
 use Rattle.std.proofs.lemmas.Bool.{and_from}
 use Rattle.std.proofs.lemmas.Bool.Decides.{Decides-eqb}
-use Rattle.std.proofs.lemmas.Slice.Eq.{bytes_eq-Decides}
-use Rattle.std.proofs.lemmas.Cmp.{nat_list_cmp_total, int_cmp_total, int_ranked, tied_itself}
+use Rattle.std.proofs.lemmas.Cmp.{nat_list_cmp_total, int_cmp_total, tied_itself}
+use Rattle.std.proofs.lemmas.Map.Lookups.{exact_bytes, exact_signed}
+use Rattle.std.proofs.lemmas.Option.{same_Some}
 use Rattle.vortex_dtype.specs.TypeTree.{TypeTree, variant_type, extension_type, list_type, fixed_size_list_type, map_type, struct_type, union_type, TypeTrees, no_types, type_then, storage}
 use Rattle.vortex_value.specs.Values.Content.{Content, null, truth, whole, text, string, sequence, tagged, typed, Contents, no_contents, content_then, content, contents}
 use Rattle.vortex_value.specs.Equality.{EqualContents, AllEqual, HasNoTyped, HaveNoTyped, equal, same_type}
@@ -23,15 +23,6 @@ truth_cmp-Equal true true h = refl
 truth_cmp-Equal false false h = refl
 truth_cmp-Equal true false h = cc
 truth_cmp-Equal false true h = cc
-
-int_cmp-Equal : (z w : ℤ) → int_cmp z w ≡ Equal → z ≡ w
-int_cmp-Equal z w h = int_ranked z w Equal (sym h)
-
-bytes_cmp-Equal : (bs cs : List ℕ) → slice_cmp nat_cmp bs cs ≡ Equal → bs ≡ cs
-bytes_cmp-Equal bs cs h = (bytes_eq-Decides bs cs).0 (texts_ties bs cs ∙ ap is_eq h)
-
-some_inside : {A : Type 0} (x y : A) → Some x ≡ Some y → x ≡ y
-some_inside x y h = cc
 
 -- a step of a sequence says Equal where both parts do
 then_Equal : (o p : Option Ordering) → partial_ordering_then o p ≡ Some Equal → (o ≡ Some Equal) × (p ≡ Some Equal)
@@ -52,10 +43,10 @@ typed_unordered t c _ h = cc
 mutual
   pub equal-from_order : (c d : Content) → order c d ≡ Some Equal → EqualContents c d
   equal-from_order null null h = tt
-  equal-from_order (truth b) (truth c) h = truth_cmp-Equal b c (some_inside _ _ h)
-  equal-from_order (whole z) (whole w) h = int_cmp-Equal z w (some_inside _ _ h)
-  equal-from_order (text bs) (text cs) h = bytes_cmp-Equal bs cs (some_inside _ _ h)
-  equal-from_order (string bs) (string cs) h = bytes_cmp-Equal bs cs (some_inside _ _ h)
+  equal-from_order (truth b) (truth c) h = truth_cmp-Equal b c (same_Some _ _ h)
+  equal-from_order (whole z) (whole w) h = exact_signed z w (same_Some _ _ h)
+  equal-from_order (text bs) (text cs) h = exact_bytes bs cs (same_Some _ _ h)
+  equal-from_order (string bs) (string cs) h = exact_bytes bs cs (same_Some _ _ h)
   equal-from_order (sequence cs) (sequence ds) h = all_equal-from_orders cs ds h
   equal-from_order (tagged i c) (tagged j d) h =
       let both = if_Equal (i == j) (order c d) h in

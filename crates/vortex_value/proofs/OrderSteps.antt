@@ -1,5 +1,6 @@
 -- Steps of the order of raw values: a place that decides, and the end of the shorter tuple.
-use Rattle.std.proofs.Common.{◌≡◌, ◌≢◌, ◌⊎◌, inl, inr, ℕ, ◌+◌, suc, List, [], ◌∷◌, length, Option, Some, None, Ordering, Less, Equal, Greater, nat_cmp, ◌<◌, refl, arith}
+use Rattle.std.proofs.Common.{◌≡◌, ◌≢◌, ◌⊎◌, inl, inr, ℕ, ◌+◌, List, [], ◌∷◌, length, Option, Some, None, Ordering, Less, Equal, Greater, nat_cmp, ◌<◌, refl, arith}
+use Rattle.std.proofs.Math.Nat.{suc-ne-zero}
 use Rattle.std.proofs.lemmas.Bool.Decides.{nat_tests}
 use Rattle.std.specs.Ordering.{partial_ordering_then}
 use Rattle.vortex_value.specs.Values.Content.{contents}
@@ -21,9 +22,6 @@ pub ended : (vs ws : List (Option ScalarValue)) (n m : ℕ) → (length vs ≡ 0
 ended [] [] n m h e = let same : n ≡ m = omega arith in grind (arith, nat_tests)
 ended [] (w ∷ ws) n m h e = let less : n < m = omega arith in grind (arith, nat_tests)
 ended (v ∷ vs) [] n m h e = let more : m < n = omega arith in grind (arith, nat_tests)
-ended (v ∷ vs) (w ∷ ws) n m h e = absurd (elim h [ inl p ↦ none p | inr p ↦ none p ])
-  where
-    none : {k : ℕ} → suc k ≡ 0 → ⊥
-    none p = omega arith
+ended (v ∷ vs) (w ∷ ws) n m h e = absurd (elim h [ inl p ↦ suc-ne-zero _ p | inr p ↦ suc-ne-zero _ p ])
 
 pub ruleset shown = (decided, ended, value_tree-Tuple, value_tree-Union, value_tree-Variant, variant_tree-parts, union_tree-parts)

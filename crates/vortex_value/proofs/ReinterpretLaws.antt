@@ -1,11 +1,11 @@
 -- Reinterpreting twice.
-use Rattle.std.proofs.Common.{◌≡◌, Some, refl}
+use Rattle.std.proofs.Common.{◌≡◌, refl}
 use Rattle.vortex_dtype.specs.Kinds.{byte_width_of}
-use Rattle.vortex_dtype.specs.TypeTree.{TypeTree, integer_type}
+use Rattle.vortex_dtype.specs.TypeTree.{integer_type}
 use Rattle.vortex_dtype.specs.declared.kinds.Nullability.{Nullability}
 use Rattle.vortex_dtype.specs.declared.kinds.PType.{PType}
 use Rattle.vortex_pvalue.specs.KindLaws.{ReinterpretsBack}
-use Rattle.vortex_value.specs.Reinterpretations.{IsAsWide, ScalarsReinterpretBack, in_kind, kind_in, reinterpreted}
+use Rattle.vortex_value.specs.Reinterpretations.{ScalarsReinterpretBack, reinterpreted}
 use Rattle.vortex_value.specs.Validity.{Valid}
 use Rattle.vortex_value.specs.Values.RawTree.{RawTree, absent, raw_integer}
 

@@ -8,6 +8,7 @@ use Rattle.vortex_value.specs.Values.RawTree.{raw_tuple}
 use Rattle.vortex_value.specs.Size.{elements_size, entries_size, entry_size, fields_size, size_of}
 use Rattle.vortex_value.specs.declared.values.ScalarValue.{ScalarValue}
 use Rattle.vortex_dtype.specs.Lemmas.TypeLevels.{type_of-List, type_of-FixedSizeList, type_of-Map, type_of-Struct, type_of-Union}
+use Rattle.vortex_value.proofs.ValidSteps.{two_places}
 use Rattle.vortex_value.proofs.ValueSteps.{value_tree-Tuple, value_tree-Union, value_tree-Variant, variant_tree-parts, union_tree-parts}
 
 -- the elements from place i on
@@ -23,10 +24,9 @@ entries_size_at k w i vs v h is = rw (drop-cons vs i v, ← is)
 -- an entry of two parts, and one of more or fewer
 pub pair_size : (k w : TypeTree) (vs : List (Option ScalarValue)) (x y : Option ScalarValue) → 2 ≤ length vs → length vs < 3 → x ≡ get_or vs 0 x → y ≡ get_or vs 1 y
     → entry_size k w (raw_tuple (value_trees vs)) ≡ size_of k (raw_of x) + size_of w (raw_of y)
-pair_size k w [] x y more fewer a b = absurd (omega arith)
-pair_size k w (u ∷ []) x y more fewer a b = absurd (omega arith)
-pair_size k w (u ∷ v ∷ []) x y more fewer a b = rw (a, b)
-pair_size k w (u ∷ v ∷ z ∷ vs) x y more fewer a b = absurd (omega arith)
+pair_size k w vs x y more fewer a b =
+    let two : length vs ≡ 2 = omega arith in
+    rw (two_places vs x y two a b)
 
 pub fewer_size : (k w : TypeTree) (vs : List (Option ScalarValue)) → length vs < 2 → entry_size k w (raw_tuple (value_trees vs)) ≡ 0
 fewer_size k w [] h = refl

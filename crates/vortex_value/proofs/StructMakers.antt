@@ -1,8 +1,10 @@
 -- Children of the fields' types make valid structs.
-use Rattle.std.proofs.Common.{◌≡◌, ◌<◌, ◌+◌, ◌==◌, ℕ, suc, Bool, true, false, not, cond, if◌then◌else◌, List, [], ◌∷◌, length, map, Option, Some, None, option_map, position, get_or, refl, sym, ap, ◌∙◌, subst, true≢false, arith}
-use Rattle.std.proofs.lemmas.Bool.{not-false}
+use Rattle.std.proofs.Common.{◌≡◌, ◌<◌, ◌+◌, ◌==◌, ℕ, suc, Bool, true, false, not, cond, if◌then◌else◌, List, [], ◌∷◌, length, map, Option, Some, None, option_map, position, get_or, refl, sym, ap, ◌∙◌, subst, arith}
+use Rattle.std.proofs.lemmas.Bool.{cond-true, not-false}
 use Rattle.std.proofs.lemmas.Bool.Decides.{Decides-eqb}
+use Rattle.std.proofs.lemmas.List.{length-map}
 use Rattle.std.proofs.lemmas.List.Elements.{All-tail}
+use Rattle.std.proofs.lemmas.Slice.Zip.{length-zip}
 use Rattle.std.specs.List.{All, zip, position_or_len}
 use Rattle.vortex_dtype.specs.Parts.{fields_in, listed_types}
 use Rattle.vortex_dtype.specs.TypeEquality.{tree_eq}
@@ -54,21 +56,12 @@ paired f p [] ys = refl
 paired f p (x ∷ xs) [] = refl
 paired f p (x ∷ xs) (y ∷ ys) = ap (λ n. cond (not (p (f x, y))) (1 + n) 0) (paired f p xs ys)
 
-paired_length : {A B C : Type 0} (f : A → B) (xs : List A) (ys : List C) → length (zip xs ys) ≡ length (zip (map f xs) ys)
-paired_length f [] ys = refl
-paired_length f (x ∷ xs) [] = refl
-paired_length f (x ∷ xs) (y ∷ ys) = ap suc (paired_length f xs ys)
-
 wrong_field_of : (dtypes : List DType) (xs : List Scalar)
     → position (λ pair. not (tree_eq (scalar_type pair.1) (type_of pair.0))) (zip dtypes xs) ≡ wrong_field (map type_of dtypes) xs
 wrong_field_of dtypes xs =
     let place = paired type_of misfits dtypes xs in
-    let size = paired_length {C = Scalar} type_of dtypes xs in
+    let size : length (zip dtypes xs) ≡ length (zip (map type_of dtypes) xs) = rw (length-zip dtypes xs, length-zip (map type_of dtypes) xs, length-map dtypes type_of) refl in
     rw (place, size) refl
-
-chosen : {A : Type 0} (b : Bool) (x y : A) → b ≡ true → x ≡ (if b then x else y)
-chosen true x y h = refl
-chosen false x y h = absurd (true≢false (sym h))
 
 -- where there are as many children as fields, the first misfit decides
 pub fields_decide : (dtypes : List DType) (types : List TypeTree) (xs : List Scalar) (place : Option ℕ) → map type_of dtypes ≡ types
@@ -76,4 +69,4 @@ pub fields_decide : (dtypes : List DType) (types : List TypeTree) (xs : List Sca
     → length types ≡ length xs → option_map WrongChild place ≡ fields_cause types xs
 fields_decide dtypes types xs place trees h same =
     let found : wrong_field types xs ≡ place = ap (λ ts. wrong_field ts xs) (sym trees) ∙ (sym (wrong_field_of dtypes xs) ∙ h) in
-    ap (option_map WrongChild) (sym found) ∙ chosen (length types == length xs) _ _ ((Decides-eqb (length types) (length xs)).1 same)
+    ap (option_map WrongChild) (sym found) ∙ sym (cond-true (length types == length xs) _ _ ((Decides-eqb (length types) (length xs)).1 same))

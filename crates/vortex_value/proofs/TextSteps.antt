@@ -1,8 +1,8 @@
 -- Steps of writing texts: the digits of a byte, shortened lists, and the parts of values that a loop comes to.
-use Rattle.std.proofs.Common.{◌≡◌, ◌≢◌, ℕ, ◌+◌, ◌-◌, ◌<◌, ◌≤◌, false, true, nat_lt, Option, List, [], ◌∷◌, ◌++◌, length, take, drop, drop-cons, get_or, codes, add-one, refl, arith}
+use Rattle.std.proofs.Common.{◌≡◌, ◌≢◌, ℕ, ◌+◌, ◌-◌, ◌<◌, ◌≤◌, false, true, nat_lt, Option, List, [], ◌∷◌, ◌++◌, length, take, drop, get_or, codes, refl, arith}
 use Rattle.std.proofs.lemmas.Bool.Decides.{nat_tests}
 use Rattle.std.proofs.lemmas.Fmt.{hex_byte}
-use Rattle.std.proofs.lemmas.List.{length-drop, take_all}
+use Rattle.std.proofs.lemmas.List.{drop_more, length-drop, take_all}
 use Rattle.vortex_dtype.specs.Lemmas.TypeLevels.{type_of-List, type_of-FixedSizeList, type_of-Map, type_of-Struct, type_of-Union}
 use Rattle.vortex_dtype.specs.TypeTree.{TypeTree, TypeTrees, no_types, type_then, storage}
 use Rattle.vortex_value.specs.Values.RawOf.{raw_of, value_trees}
@@ -34,13 +34,9 @@ last_five n items h =
     let five : length (drop (length items - 5) items) ≡ length items - (length items - 5) = length-drop (length items - 5) items in
     take_all n (drop (length items - 5) items) (omega arith)
 
--- the items from this place on: the one that stands there, and those from the next on
-pub drop_here : {A : Type 0} (i : ℕ) (xs : List A) (x : A) → i < length xs → drop i xs ≡ get_or xs i x ∷ drop (i + 1) xs
-drop_here i xs x h = rw add-one (drop-cons xs i x h)
-
--- the same of the trees of raw values
+-- the trees of raw values from this place on: the one that stands there, and those from the next on
 pub value_trees_at : (i : ℕ) (vs : List (Option ScalarValue)) (v : Option ScalarValue) → i < length vs → v ≡ get_or vs i v → value_trees (drop i vs) ≡ raw_then (raw_of v) (value_trees (drop (i + 1) vs))
-value_trees_at i vs v h is = rw (drop_here i vs v h, ← is) refl
+value_trees_at i vs v h is = rw (drop_more vs i v h, ← is) refl
 
 -- a tuple of another length than two has no text as an entry
 pub no_entry_text : (k w : TypeTree) (vs : List (Option ScalarValue)) → length vs ≢ 2 → entry_text k w (raw_tuple (value_trees vs)) ≡ []

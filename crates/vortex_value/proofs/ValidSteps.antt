@@ -1,8 +1,7 @@
 -- Steps of the check of validity: what one level of a raw value and of a type is, and loops over parts.
-use Rattle.std.proofs.Common.{◌≡◌, ◌≢◌, ℕ, suc, ◌<◌, Bool, true, Result, List, [], ◌∷◌, ◌++◌, length, Option, Some, None, drop, get_or, drop-cons, refl, ap, subst, arith, reverse}
-use Rattle.std.proofs.lemmas.List.{reverse-append}
+use Rattle.std.proofs.Common.{◌≡◌, ◌≢◌, ℕ, suc, ◌<◌, Bool, true, Result, List, [], ◌∷◌, ◌++◌, length, Option, Some, None, drop, get_or, drop-cons, refl, ap, subst, arith}
+use Rattle.std.proofs.lemmas.List.{get_or_default}
 use Rattle.std.specs.Result.{ForErr}
-use Rattle.vortex_dtype.specs.declared.error.Breach.{Breach}
 use Rattle.vortex_dtype.specs.declared.error.Step.{Step}
 use Rattle.vortex_dtype.specs.declared.error.Step.TheVariants.{Element, Entry, Key, Value}
 use Rattle.vortex_dtype.specs.declared.error.Breach.TheVariants.{WrongLength}
@@ -44,13 +43,6 @@ pub some-first : (fs : List Found) (f : Found) → first fs ≡ Some f → fs �
 some-first [] f h = λ e. cc
 some-first (g ∷ fs) f h = λ e. cc
 
--- a breach one level up has one step more at its front
-pub under-first : (step : Step) (steps : List Step) (breach : Breach) (fs : List Found) → first fs ≡ Some (reverse steps, breach) → first (under step fs) ≡ Some (reverse (steps ++ step ∷ []), breach)
-under-first step steps breach [] h = cc
-under-first step steps breach (f ∷ fs) h =
-    let e : f ≡ (reverse steps, breach) = cc in
-    rw (e, reverse-append) refl
-
 -- the elements from place i on
 pub elements_at : (e : TypeTree) (i : ℕ) (vs : List (Option ScalarValue)) (v : Option ScalarValue) → i < length vs → v ≡ get_or vs i v
     → element_breaches e i (value_trees (drop i vs)) ≡ under (Element i) (breaches_at (storage e) (raw_of v)) ++ element_breaches e (suc i) (value_trees (drop (suc i) vs))
@@ -82,10 +74,7 @@ entry_of k w vs x y two a b = rw (two_places vs x y two a b)
 
 pub entry_with : (k w : TypeTree) (vs : List (Option ScalarValue)) (x : Option ScalarValue) → length vs ≡ 2 → x ≡ get_or vs 0 x
     → breaches_of_entry k w (raw_tuple (value_trees vs)) ≡ under Key (breaches k (raw_of x)) ++ under Value (breaches w (raw_of (get_or vs 1 None)))
-entry_with k w [] x two a = absurd (omega arith)
-entry_with k w (u ∷ []) x two a = absurd (omega arith)
-entry_with k w (u ∷ v ∷ []) x two a = rw a
-entry_with k w (u ∷ v ∷ y ∷ vs) x two a = absurd (omega arith)
+entry_with k w vs x two a = entry_of k w vs x (get_or vs 1 None) two a (get_or_default vs 1 None (get_or vs 1 None) (omega arith))
 
 pub Checks-both : (kept : Bool) (r : Result (Unit {0}) Fault) (fs gs : List Found) → fs ≡ [] → Checks kept r gs → Checks kept r (fs ++ gs)
 Checks-both kept r fs gs e h = rw e h

@@ -1,8 +1,11 @@
 -- A raw value is valid exactly where it has no breach.
 use Rattle.std.proofs.Common.{◌≡◌, ◌≢◌, ◌↔◌, ℕ, suc, ℤ, Bool, true, false, ◌&&◌, not, ◌==◌, if◌then◌else◌, List, [], ◌∷◌, ◌++◌, Option, Some, None, Result, Ok, Err, IsOk, IsTrue, refl, sym, ap, arith, true≢false}
-use Rattle.std.proofs.lemmas.Bool.{and_parts}
+use Rattle.std.specs.Bool.{Decides}
+use Rattle.std.proofs.Math.Nat.{suc-ne-zero}
+use Rattle.std.proofs.lemmas.Bool.{and_parts, false_from_ne_true}
 use Rattle.std.proofs.lemmas.Bool.Decides.{Decides-eqb}
-use Rattle.vortex_dtype.specs.Kinds.{kind_index, same_kind}
+use Rattle.vortex_dtype.specs.Kinds.{same_kind}
+use Rattle.vortex_dtype.specs.Lemmas.TypeLaws.{same_kind-Decides}
 use Rattle.vortex_dtype.specs.TypeTree.{TypeTree, null_type, bool_type, integer_type, utf8_type, binary_type, list_type, fixed_size_list_type, map_type, struct_type, union_type, variant_type, TypeTrees, no_types, type_then, nullability_of, says_nullable, IsNullable, is_nullable, storage}
 use Rattle.vortex_dtype.specs.declared.error.Breach.TheVariants.{VariantNull}
 use Rattle.vortex_dtype.specs.declared.error.Step.{Step}
@@ -10,7 +13,6 @@ use Rattle.vortex_dtype.specs.declared.error.Step.TheVariants.{Child, Inner}
 use Rattle.vortex_dtype.specs.declared.kinds.Nullability.{Nullability}
 use Rattle.vortex_dtype.specs.declared.kinds.Nullability.TheVariants.{NonNullable, Nullable}
 use Rattle.vortex_dtype.specs.declared.kinds.PType.{PType}
-use Rattle.vortex_dtype.specs.declared.kinds.PType.TheVariants.{U8, U16, U32, U64, I8, I16, I32, I64}
 use Rattle.vortex_pvalue.specs.Numbers.{InRange, in_range}
 use Rattle.vortex_pvalue.specs.RangeLaws.{in_range_true, in_range_back}
 use Rattle.vortex_value.specs.Breaches.{Found, here, under, count_types, is_empty, is_null_type, child_breaches, breaches_at, element_breaches, entry_breaches, field_breaches, breaches, is_valid, ValidExactlyWithoutBreach, ValidityIsDecided}
@@ -23,24 +25,21 @@ use Rattle.vortex_value.proofs.ValidSteps.{some-first, some-steps}
 
 -- lists of breaches
 
-cons : {A : Type 0} (x : A) (xs : List A) → x ∷ xs ≢ []
-cons x xs e = cc
-
 when_none : (b : Bool) (f : Found) (fs : List Found) → (if b then [] else (f ∷ fs)) ≡ [] → b ≡ true
 when_none true f fs h = refl
-when_none false f fs h = absurd (cons f fs h)
+when_none false f fs h = cc
 
 none_under : (s : Step) (fs : List Found) → under s fs ≡ [] → fs ≡ []
 none_under s [] h = refl
-none_under s (f ∷ fs) h = absurd (cons _ _ h)
+none_under s (f ∷ fs) h = cc
 
 none_left : (fs gs : List Found) → fs ++ gs ≡ [] → fs ≡ []
 none_left [] gs h = refl
-none_left (f ∷ fs) gs h = absurd (cons f (fs ++ gs) h)
+none_left (f ∷ fs) gs h = cc
 
 none_right : (fs gs : List Found) → fs ++ gs ≡ [] → gs ≡ []
 none_right [] gs h = h
-none_right (f ∷ fs) gs h = absurd (cons f (fs ++ gs) h)
+none_right (f ∷ fs) gs h = cc
 
 none_first : (s : Step) (fs gs : List Found) → under s fs ++ gs ≡ [] → fs ≡ []
 none_first s fs gs h = none_under s fs (none_left (under s fs) gs h)
@@ -50,35 +49,19 @@ both_none s fs gs p q = rw (p, q)
 
 -- what the tests of a node say
 
-one_index : (k l : PType) → kind_index k ≡ kind_index l → k ≡ l
-one_index U8 U8 h = refl
-one_index U16 U16 h = refl
-one_index U32 U32 h = refl
-one_index U64 U64 h = refl
-one_index I8 I8 h = refl
-one_index I16 I16 h = refl
-one_index I32 I32 h = refl
-one_index I64 I64 h = refl
-one_index _ _ h = absurd (omega arith)
-
-one_kind : (k l : PType) → same_kind k l ≡ true → k ≡ l
-one_kind k l h = one_index k l ((Decides-eqb (kind_index k) (kind_index l)).0 h)
-
-kind_itself : (k l : PType) → k ≡ l → same_kind k l ≡ true
-kind_itself k l h = (Decides-eqb (kind_index k) (kind_index l)).1 (ap kind_index h)
-
 integer_valid : (k l : PType) (z : ℤ) (fs : List Found) (f : Found) → (if same_kind l k && in_range k z then [] else (f ∷ fs)) ≡ [] → (l ≡ k) × InRange k z
-integer_valid k l z fs f h = let p = and_parts (same_kind l k) (in_range k z) (when_none (same_kind l k && in_range k z) f fs h) in (one_kind l k p.0, in_range_back k z p.1)
+integer_valid k l z fs f h = let p = and_parts (same_kind l k) (in_range k z) (when_none (same_kind l k && in_range k z) f fs h) in ((same_kind-Decides l k).0 p.0, in_range_back k z p.1)
 
 integer_none : (k l : PType) (z : ℤ) (fs : List Found) → l ≡ k → InRange k z → (if same_kind l k && in_range k z then [] else fs) ≡ []
-integer_none k l z fs p q = rw (kind_itself l k p, in_range_true k z q)
+integer_none k l z fs p q = rw ((same_kind-Decides l k).1 p, in_range_true k z q)
 
-says : (n : Nullability) → says_nullable n ≡ true → n ≡ Nullable
-says Nullable h = refl
-says NonNullable h = absurd (true≢false (sym h))
+-- a type that says that it takes nulls is nullable
+pub says_nullable-Decides : (n : Nullability) → Decides (says_nullable n) (n ≡ Nullable)
+says_nullable-Decides Nullable = (λ h. refl, λ h. refl)
+says_nullable-Decides NonNullable = (λ h. cc, λ h. cc)
 
 null_valid : (t : TypeTree) (f : Found) (fs : List Found) → (if is_nullable t then [] else (f ∷ fs)) ≡ [] → IsNullable t
-null_valid t f fs h = says (nullability_of t) (when_none (is_nullable t) f fs h)
+null_valid t f fs h = (says_nullable-Decides (nullability_of t)).0 (when_none (is_nullable t) f fs h)
 
 null_none : (t : TypeTree) (fs : List Found) → IsNullable t → (if is_nullable t then [] else fs) ≡ []
 null_none t fs h = rw h
@@ -87,13 +70,13 @@ lengths : (m n : ℕ) (f : Found) (fs gs : List Found) → (if m == n then fs el
 lengths m n f fs gs h = by_test (m == n) refl h where
   by_test : (b : Bool) → (m == n) ≡ b → (if b then fs else (f ∷ gs)) ≡ [] → (m ≡ n) × (fs ≡ [])
   by_test true e h = ((Decides-eqb m n).0 e, h)
-  by_test false e h = absurd (cons _ _ h)
+  by_test false e h = cc
 
 lengths_none : (m n : ℕ) (fs gs : List Found) → m ≡ n → fs ≡ [] → (if m == n then fs else gs) ≡ []
 lengths_none m n fs gs p q = let e = (Decides-eqb m n).1 p in rw (e, q)
 
 child_valid : (f : TypeTree → List Found) (p : TypeTree → Type 0) → ((t : TypeTree) → f t ≡ [] → p t) → (o : Option TypeTree) → child_breaches o f ≡ [] → HasType o p
-child_valid f p each None h = absurd (cons _ _ h)
+child_valid f p each None h = cc
 child_valid f p each (Some t) h = each t (none_under Child (f t) h)
 
 child_none : (f : TypeTree → List Found) (p : TypeTree → Type 0) → ((t : TypeTree) → p t → f t ≡ []) → (o : Option TypeTree) → HasType o p → child_breaches o f ≡ []
@@ -114,7 +97,7 @@ inside_null t _ h a = absurd (true≢false (sym a))
 
 inside : (a n : Bool) (fs : List Found) → (if a && not n then here VariantNull else under Inner fs) ≡ [] → (a ≡ true → n ≡ true) × (fs ≡ [])
 inside true true fs h = (λ _. refl, none_under Inner fs h)
-inside true false fs h = absurd (cons _ _ h)
+inside true false fs h = cc
 inside false n fs h = (λ e. absurd (true≢false (sym e)), none_under Inner fs h)
 
 inside_none : (a n : Bool) (fs : List Found) → (a ≡ true → n ≡ true) → fs ≡ [] → (if a && not n then here VariantNull else under Inner fs) ≡ []
@@ -129,9 +112,6 @@ FieldsValid-count _ _ h = absurd h
 entry_none : (k w : TypeTree) (i : ℕ) (x y : RawTree) (vs : RawTrees) → breaches_at (storage k) x ≡ [] → breaches_at (storage w) y ≡ [] → entry_breaches k w (suc i) vs ≡ []
     → entry_breaches k w i (raw_then (raw_tuple (raw_then x (raw_then y no_raws))) vs) ≡ []
 entry_none k w i x y vs p q r = rw (p, q, r)
-
-no_fewer : (n : ℕ) → 0 ≡ suc n → ⊥
-no_fewer n h = omega arith
 
 -- where no breach is, the value is valid
 mutual
@@ -152,7 +132,7 @@ mutual
   ValidAt-from_none (variant_type n) (raw_variant t v) h =
       let p = inside (is_absent v) (is_null_type t) (breaches_at (storage t) v) h in
       (may_be_inside t v p.0, ValidAt-from_none (storage t) v p.1)
-  ValidAt-from_none _ _ h = absurd (cons _ _ h)
+  ValidAt-from_none _ _ h = cc
 
   EachValid-from_none : (e : TypeTree) (i : ℕ) (vs : RawTrees) → element_breaches e i vs ≡ [] → EachValid e vs
   EachValid-from_none e i no_raws h = tt
@@ -167,14 +147,14 @@ mutual
         ValidAt-from_none (storage w) y (none_under _ _ (none_right _ _ entry)),
         EntriesValid-from_none k w (suc i) vs (none_right _ _ h),
       )
-  EntriesValid-from_none k w i _ h = absurd (cons _ _ h)
+  EntriesValid-from_none k w i _ h = cc
 
   FieldsValid-from_none : (i : ℕ) (ts : TypeTrees) (vs : RawTrees) → count vs ≡ count_types ts → field_breaches i ts vs ≡ [] → FieldsValid ts vs
   FieldsValid-from_none i no_types no_raws c h = tt
   FieldsValid-from_none i (type_then t ts) (raw_then v vs) c h =
       (ValidAt-from_none (storage t) v (none_first _ _ _ h), FieldsValid-from_none (suc i) ts vs (omega arith) (none_right _ _ h))
-  FieldsValid-from_none i no_types (raw_then v vs) c h = absurd (no_fewer _ (sym c))
-  FieldsValid-from_none i (type_then t ts) no_raws c h = absurd (no_fewer _ c)
+  FieldsValid-from_none i no_types (raw_then v vs) c h = absurd (suc-ne-zero _ c)
+  FieldsValid-from_none i (type_then t ts) no_raws c h = absurd (suc-ne-zero _ (sym c))
 
 -- a valid value has no breach
 mutual
@@ -231,11 +211,7 @@ validity_is_decided t v =
 -- another test that passes exactly for valid values is that test
 pub is_valid-only : (t : TypeTree) (v : RawTree) (b : Bool) → (IsTrue b ↔ Valid t v) → is_valid t v ≡ b
 is_valid-only t v true h = (validity_is_decided t v).1 (h.0 refl)
-is_valid-only t v false h = no_test _ (λ valid. true≢false (sym (h.1 ((validity_is_decided t v).0 valid))))
-  where
-    no_test : (b : Bool) → ¬ (IsTrue b) → b ≡ false
-    no_test true none = absurd (none refl)
-    no_test false none = refl
+is_valid-only t v false h = false_from_ne_true _ (λ valid. true≢false (sym (h.1 ((validity_is_decided t v).0 valid))))
 
 shown : (kept : Bool) (f : Fault) (fs : List Found) → Shows kept f fs → fs ≢ []
 shown kept NoMemory fs h = some-steps fs h

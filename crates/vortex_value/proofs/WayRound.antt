@@ -3,22 +3,18 @@ use Rattle.std.proofs.Common.{◌≡◌, ℕ, ℤ, Bool, true, false, List, ◌�
 use Rattle.vortex_dtype.specs.TypeTree.{TypeTree, null_type, bool_type, integer_type, utf8_type, binary_type, list_type, fixed_size_list_type, map_type, struct_type, extension_type, TypeTrees, no_types, type_then, storage}
 use Rattle.vortex_dtype.specs.declared.kinds.Nullability.{Nullability}
 use Rattle.vortex_value.specs.Laws.CastLaws.{HasNoNull, HaveNoNull, NoWayRound}
-use Rattle.vortex_value.specs.Casts.{Sorts, EachPlace, EachEntry, same_type, a_null, integers, lists, maps, structs, Allows, AllowsFields}
+use Rattle.vortex_value.specs.Casts.{Sorts, EachPlace, EachEntry, same_type, integers, lists, maps, structs, Allows, AllowsFields}
 use Rattle.vortex_value.specs.Chains.{last_of}
 use Rattle.vortex_value.specs.Values.Content.{Content, null, truth, whole, text, string, sequence, tagged, typed, Contents, no_contents, content_then, content}
 use Rattle.vortex_value.specs.TypesWithin.{HasNoExtension, HaveNoExtension, HasNoMap, HaveNoMap}
 use Rattle.vortex_value.proofs.Alike.{AlikeAt, Alike, EachAlike, FieldsAlike, EntriesAlike, Rises, chain_alike}
-use Rattle.vortex_value.proofs.CastLaws.{allows_same}
+use Rattle.vortex_value.proofs.CastLaws.{allows_null, allows_same}
 
 -- contents without parts
 
 no_map_sorts : (s t : TypeTree) → HasNoMap t → ¬ (Sorts s t)
 no_map_sorts (map_type k v false n) (map_type l w true m) h r = h
 no_map_sorts _ _ h r = absurd r
-
-allows_null : (s t : TypeTree) → ¬ (Sorts s t) → Allows s t null
-allows_null s null_type h = a_null tt h
-allows_null s _ h = a_null tt h
 
 bare_storage : (s : TypeTree) → HasNoExtension s → storage s ≡ s
 bare_storage (extension_type i m t) b = absurd b

@@ -58,5 +58,3 @@ module _ {W : Type 0} (took : W → List ℕ → W → Type 0) where
       end : (i : ℕ) → texts ≡ [] → rest_from i separator texts ≡ []
       end zero none = rw none refl
       end (suc i) none = rw none refl
-
-pub ruleset nothing = (has_written_none)

@@ -1,8 +1,11 @@
 -- A zero is zero, and where there is no variant the only zero; a default exists, and is null exactly where a null is taken.
-use Rattle.std.proofs.Common.{◌≡◌, ◌↔◌, ◌==◌, ℕ, zero, suc, pos, Bool, true, false, not, List, [], ◌∷◌, length, Option, Some, None, option_map, unwrap_or, if◌then◌else◌, refl, sym, ap, ◌∙◌, true≢false, eq-eqb, arith}
+use Rattle.std.proofs.Common.{◌≡◌, ◌↔◌, ◌==◌, ℕ, zero, suc, pos, Bool, true, false, List, [], ◌∷◌, length, Option, Some, None, option_map, unwrap_or, if◌then◌else◌, refl, sym, ap, ◌∙◌, true≢false, eq-eqb}
 use Rattle.std.specs.Cmp.{first_so, second_so}
 use Rattle.std.specs.Prelude.{IsSome}
+use Rattle.std.proofs.lemmas.Bool.{and_from, not-true}
 use Rattle.std.proofs.lemmas.Bool.Decides.{Decides-eqb, Decides-int_eq}
+use Rattle.std.proofs.lemmas.List.{nil_from_length}
+use Rattle.std.proofs.lemmas.Option.{same_Some}
 use Rattle.vortex_dtype.specs.TypeTree.{TypeTree, null_type, bool_type, integer_type, utf8_type, binary_type, list_type, fixed_size_list_type, map_type, struct_type, union_type, variant_type, extension_type, TypeTrees, no_types, type_then, IsNullable, storage}
 use Rattle.vortex_dtype.specs.declared.kinds.Nullability.{Nullability}
 use Rattle.vortex_dtype.specs.declared.kinds.Nullability.TheVariants.{NonNullable, Nullable}
@@ -12,7 +15,8 @@ use Rattle.vortex_value.specs.Values.RawTree.{RawTree, absent, raw_bool, raw_int
 use Rattle.vortex_value.specs.TypesWithin.{HasNoVariant, HaveNoVariant, UnionsHaveVariants, AllHaveVariants}
 use Rattle.vortex_value.specs.Validity.{Valid, ValidAt, EachValid, FieldsValid, HasType, type_with}
 use Rattle.vortex_value.specs.Zero.{filling, fillings, null_or, repeated, places_of, and_rest, has_no_places, of_first, is_zero_at, each_zero, fields_zero, is_zero_of, ZeroIsZero, DefaultExists}
-use Rattle.vortex_value.proofs.FillingLaws.{filling-storage, filling-valid}
+use Rattle.vortex_value.proofs.FillingLaws.{filling-storage, filling-valid, no_places}
+use Rattle.vortex_value.proofs.FillingSteps.{is_some-and_rest, is_some-option_map}
 use Rattle.vortex_value.proofs.OrderAgrees.{no_variant-storage}
 
 -- what fills a type is null only where a null is taken
@@ -86,15 +90,6 @@ places_exist : (size : ℕ) (o : Option Content) → IsSome o → IsSome (places
 places_exist size (Some c) h = refl
 places_exist size None h = absurd (true≢false (sym h))
 
-map_exists : {A B : Type 0} (f : A → B) (o : Option A) → IsSome o → IsSome (option_map f o)
-map_exists f (Some x) h = refl
-map_exists f None h = absurd (true≢false (sym h))
-
-rest_exists : (o : Option Content) (p : Option Contents) → IsSome o → IsSome p → IsSome (and_rest o p)
-rest_exists (Some c) (Some cs) h k = refl
-rest_exists (Some c) None h k = absurd (true≢false (sym k))
-rest_exists None p h k = absurd (true≢false (sym h))
-
 mutual
   default_exists_for : (t : TypeTree) → UnionsHaveVariants t → IsSome (filling true t)
   default_exists_for null_type u = refl
@@ -105,15 +100,15 @@ mutual
   default_exists_for (list_type e n) u = or_exists n _ refl
   default_exists_for (map_type k w sorted n) u = or_exists n _ refl
   default_exists_for (fixed_size_list_type e size n) u = or_exists n _ (places_exist size _ (default_exists_for e u))
-  default_exists_for (struct_type names ts n) u = or_exists n _ (map_exists sequence _ (defaults_exist ts u))
-  default_exists_for (union_type names (type_then t ts) (id ∷ ids) n) u = or_exists n _ (map_exists (tagged id) _ (default_exists_for t u.0))
+  default_exists_for (struct_type names ts n) u = or_exists n _ (is_some-option_map sequence (fillings true ts) ∙ defaults_exist ts u)
+  default_exists_for (union_type names (type_then t ts) (id ∷ ids) n) u = or_exists n _ (is_some-option_map (tagged id) (filling true t) ∙ default_exists_for t u.0)
   default_exists_for (union_type names ts ids n) u = absurd u
   default_exists_for (variant_type n) u = or_exists n _ refl
   default_exists_for (extension_type id metadata t) u = default_exists_for t u
 
   defaults_exist : (ts : TypeTrees) → AllHaveVariants ts → IsSome (fillings true ts)
   defaults_exist no_types u = refl
-  defaults_exist (type_then t ts) u = rest_exists _ _ (default_exists_for t u.0) (defaults_exist ts u.1)
+  defaults_exist (type_then t ts) u = is_some-and_rest (filling true t) (fillings true ts) ∙ and_from _ _ (default_exists_for t u.0) (defaults_exist ts u.1)
 
 pub default_exists : DefaultExists
 default_exists = record { exists = default_exists_for; valid = filling-valid true; null_exactly = default_null }
@@ -179,20 +174,9 @@ mutual
 
 -- only the zero is zero
 
-some_true : (b : Bool) → Some b ≡ Some true → b ≡ true
-some_true b h = cc
-
 sure : (o : Option Bool) → unwrap_or o false ≡ true → o ≡ Some true
 sure None h = absurd (true≢false (sym h))
 sure (Some b) h = ap Some h
-
-empty : (bs : List ℕ) → (length bs == 0) ≡ true → bs ≡ []
-empty [] h = refl
-empty (b ∷ bs) h = let few : length (b ∷ bs) ≡ 0 = (Decides-eqb (length (b ∷ bs)) 0).0 h in absurd (omega arith)
-
-not_true : (b : Bool) → not b ≡ true → b ≡ false
-not_true true h = absurd (true≢false (sym h))
-not_true false h = refl
 
 no_parts : (vs : RawTrees) → has_no_places (contents vs) ≡ true → contents vs ≡ no_contents
 no_parts no_raws h = refl
@@ -217,29 +201,25 @@ of_first_true names (i ∷ ids) (type_then t ts) n id v go m valid h = by_test (
 elements_zero : (e : TypeTree) (c : Content) (vs : RawTrees) → filling false e ≡ Some c → contents vs ≡ repeated (count vs) c → places_of (count vs) (filling false e) ≡ Some (sequence (contents vs))
 elements_zero e c vs f same = rw (f, same)
 
-nothing_placed : (o : Option Content) → places_of 0 o ≡ Some (sequence no_contents)
-nothing_placed None = refl
-nothing_placed (Some c) = refl
-
 mutual
   only_zero : (v : RawTree) (t : TypeTree) → HasNoVariant t → ValidAt t v → is_zero_at t (content v) ≡ Some true → filling false t ≡ Some (content v)
   only_zero absent t m p h = cc
-  only_zero (raw_bool b) (bool_type n) m p h = let e : b ≡ false = not_true b (some_true _ h) in rw e
-  only_zero (raw_integer k z) (integer_type l n) m p h = let e : z ≡ pos 0 = (Decides-int_eq z (pos 0)).0 (some_true _ h) in rw e
-  only_zero (raw_text bs) (utf8_type n) m p h = let e : bs ≡ [] = empty bs (some_true _ h) in rw e
-  only_zero (raw_bytes bs) (binary_type n) m p h = let e : bs ≡ [] = empty bs (some_true _ h) in rw e
-  only_zero (raw_tuple vs) (list_type e n) m p h = let none : contents vs ≡ no_contents = no_parts vs (some_true _ h) in rw none
-  only_zero (raw_tuple vs) (map_type k w sorted n) m p h = let none : contents vs ≡ no_contents = no_parts vs (some_true _ h) in rw none
+  only_zero (raw_bool b) (bool_type n) m p h = let e : b ≡ false = not-true b (same_Some _ _ h) in rw e
+  only_zero (raw_integer k z) (integer_type l n) m p h = let e : z ≡ pos 0 = (Decides-int_eq z (pos 0)).0 (same_Some _ _ h) in rw e
+  only_zero (raw_text bs) (utf8_type n) m p h = let e : bs ≡ [] = nil_from_length bs ((Decides-eqb (length bs) 0).0 (same_Some _ _ h)) in rw e
+  only_zero (raw_bytes bs) (binary_type n) m p h = let e : bs ≡ [] = nil_from_length bs ((Decides-eqb (length bs) 0).0 (same_Some _ _ h)) in rw e
+  only_zero (raw_tuple vs) (list_type e n) m p h = let none : contents vs ≡ no_contents = no_parts vs (same_Some _ _ h) in rw none
+  only_zero (raw_tuple vs) (map_type k w sorted n) m p h = let none : contents vs ≡ no_contents = no_parts vs (same_Some _ _ h) in rw none
   only_zero (raw_tuple vs) (fixed_size_list_type e size n) m p h =
-      rw (← p.0) (only_zeros vs e m p.1 (some_true _ h))
-  only_zero (raw_tuple vs) (struct_type names ts n) m p h = ap (option_map sequence) (only_fields vs ts m p (some_true _ h))
+      rw (← p.0) (only_zeros vs e m p.1 (same_Some _ _ h))
+  only_zero (raw_tuple vs) (struct_type names ts n) m p h = ap (option_map sequence) (only_fields vs ts m p (same_Some _ _ h))
   only_zero (raw_union id v) (union_type names ts ids n) m p h =
       of_first_true names ids ts n id v (λ t k valid z. sym (filling-storage false t) ∙ only_zero v (storage t) (no_variant-storage t k) valid z) m p h
   only_zero (raw_variant u v) (variant_type n) m p h = absurd m
   only_zero _ _ m p h = absurd p
 
   only_zeros : (vs : RawTrees) (e : TypeTree) → HasNoVariant e → EachValid e vs → each_zero e (contents vs) ≡ true → places_of (count vs) (filling false e) ≡ Some (sequence (contents vs))
-  only_zeros no_raws e m p h = nothing_placed (filling false e)
+  only_zeros no_raws e m p h = no_places (filling false e)
   only_zeros (raw_then v vs) e m p h =
       let first : filling false e ≡ Some (content v) = sym (filling-storage false e) ∙ only_zero v (storage e) (no_variant-storage e m) p.0 (sure _ (first_so _ _ h)) in
       elements_zero e (content v) (raw_then v vs) first (ap (content_then (content v)) (all_the_same vs e (content v) first m p.1 (second_so _ _ h)))
