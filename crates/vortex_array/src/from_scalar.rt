@@ -1,15 +1,15 @@
 //! Conversions of scalars into Rust values.
 
-ghost use Rattle.std.specs.Prelude.{pos, string_bytes};
+ghost use Rattle.std.specs.Prelude.{◌≡◌, Err, pos, string_bytes};
 ghost use Rattle.std.specs.Option.{option_copied};
 ghost use Rattle.vortex_dtype.specs.TypeOf.{type_of};
 ghost use Rattle.vortex_dtype.specs.TypeTree.{TypeTree};
 ghost use Rattle.vortex_dtype.specs.declared.kinds.PType.TheVariants.{U8, U16, U32, U64, I8, I16, I32, I64};
 ghost use Rattle.vortex_value.specs.Conversions.{Taken, Takes, TakesCopy, as_tuple, each_taken, elements_in, given_number, given_option, given_usize, number_in, or_none, taken_bool, taken_bytes, taken_number, taken_option_bool, taken_option_bytes, taken_option_number, taken_option_text, taken_option_usize, taken_text, taken_usize, taken_vec, unless_null};
 ghost use Rattle.vortex_value.specs.Values.RawOf.{raw_of, value_tree, value_trees};
-ghost use Rattle.vortex_value.specs.Values.RawTree.{RawTree, raw_bool, raw_text, raw_bytes};
+ghost use Rattle.vortex_value.specs.Values.RawTree.{RawTree, raw_bool, raw_text, raw_bytes, raw_tuple};
 ghost use Rattle.vortex_value.specs.Values.Refs.{ref_raw, ref_type};
-ghost use Rattle.vortex_array.specs.Conversions.{TakesOrNoMemory, given_vec};
+ghost use Rattle.vortex_array.specs.Conversions.{Copies, HasParts, TakesOrNoMemory, given_vec};
 
 use std::alloc::Global;
 use vortex_dtype::{BufferString, ByteBuffer, DType, VortexError};
@@ -29,11 +29,14 @@ pub trait FromScalar {
 
     /// The value that the scalar holds, also where the scalar is not valid.
     ///
-    /// The refusals and their order are the implementation's. `OutOfMemory` comes in place of each
-    /// where there is none for what is copied or kept before it.
+    /// The refusals and their order are the implementation's. `OutOfMemory` comes in place of what is
+    /// copied, or of an element's refusal where there is none for the elements before it; never in
+    /// place of a refusal of the type, of a null or of another kind of raw value.
     fn try_from_scalar(alloc: Global, scalar: ScalarRef<'_>) -> Result<Self, VortexError>
-        ensures { TakesOrNoMemory given
-            (taken (ref_type scalar.entry) (ref_raw scalar.entry)) result };
+        ensures value { TakesOrNoMemory given
+            (taken (ref_type scalar.entry) (ref_raw scalar.entry)) result }
+        ensures memory { result ≡ Err VortexError.OutOfMemory
+            → Copies taken (ref_type scalar.entry) (ref_raw scalar.entry) };
 }
 
 /// `WrongKind` of another type, `IsNull` of a null, `WrongKind` of another kind of raw value.
@@ -528,9 +531,11 @@ fn take_list<T: FromScalar + Drop>(
     element: &DType,
     value: Option<&ScalarValue>,
 ) -> Result<Vec<T>, VortexError>
-    ensures { TakesOrNoMemory (given_vec T.given)
+    ensures value { TakesOrNoMemory (given_vec T.given)
         (unless_null (elements_in (T.taken (type_of element.now)))
         (raw_of (option_copied value.entry))) result }
+    ensures memory { result ≡ Err VortexError.OutOfMemory
+        → HasParts (raw_of (option_copied value.entry)) }
 {
     match value {
         Some(ScalarValue::Tuple(parts)) => take_elements(alloc, element, parts),
@@ -540,13 +545,16 @@ fn take_list<T: FromScalar + Drop>(
 }
 
 /// The elements of a list, read with the element type.
+#[tactic(auto, using(crate::proofs::TakenEach::has_parts))]
 fn take_elements<T: FromScalar + Drop>(
     alloc: Global,
     element: &DType,
     parts: &[Option<ScalarValue>],
 ) -> Result<Vec<T>, VortexError>
-    ensures { TakesOrNoMemory (given_vec T.given)
+    ensures value { TakesOrNoMemory (given_vec T.given)
         (as_tuple (each_taken (T.taken (type_of element.now)) (value_trees parts.now))) result }
+    ensures memory { result ≡ Err VortexError.OutOfMemory
+        → HasParts (raw_tuple (value_trees parts.now)) }
 {
     let mut taken = Vec::with_capacity(alloc, parts.len())?;
     for part in parts {
