@@ -14,6 +14,7 @@ use queries::{
     Asks, PartCall, ScalarCall, ScalarsCall, TargetCall, TypeCall, TypesCall, ValidCall,
     ValidsCall, ValueCall,
 };
+use takes::RustCall;
 use views::{KindCall, PlaceCall, ViewCall};
 use vortex_pvalue::NumericOperator;
 
@@ -27,7 +28,7 @@ pub enum Shape {
 }
 
 /// The table of calls: the name of each, and what it is given.
-const CALLS: [(&str, Shape); 54] = [
+const CALLS: [(&str, Shape); 55] = [
     ("same", Shape::Query(Asks::Types(TypesCall::Same))),
     ("equal_types", Shape::Query(Asks::Types(TypesCall::Equal))),
     ("as_nullable", Shape::Maker(Makes::AsNullable)),
@@ -135,14 +136,15 @@ const CALLS: [(&str, Shape); 54] = [
         Shape::Query(Asks::Kind(KindCall::Reinterpret)),
     ),
     ("as", Shape::Query(Asks::Kind(KindCall::As))),
-    ("take", Shape::Query(Asks::Take)),
+    ("take", Shape::Query(Asks::Rust(RustCall::Take))),
+    ("give", Shape::Query(Asks::Rust(RustCall::Give))),
     ("lower", Shape::Maker(Makes::Bound(BoundCall::Lower))),
     ("upper", Shape::Maker(Makes::Bound(BoundCall::Upper))),
     ("increment", Shape::Maker(Makes::Increment)),
 ];
 
 /// The calls of parts, of which no case is: the lines of a watched run are.
-const PARTS: [(&str, Shape); 27] = [
+const PARTS: [(&str, Shape); 29] = [
     (
         "empty_bytes",
         Shape::Query(Asks::Nothing(PartCall::EmptyBytes)),
@@ -204,6 +206,11 @@ const PARTS: [(&str, Shape); 27] = [
     (
         "null_of_rust",
         Shape::Query(Asks::Nothing(PartCall::NullOfRust)),
+    ),
+    ("give_lent", Shape::Query(Asks::Value(ValueCall::GiveLent))),
+    (
+        "give_optional",
+        Shape::Query(Asks::Value(ValueCall::GiveOptional)),
     ),
     ("empty_list", Shape::Maker(Makes::EmptyList)),
     ("try_map", Shape::Maker(Makes::Map(MapCall::TryMap))),

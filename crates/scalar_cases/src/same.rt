@@ -24,7 +24,7 @@ pub fn same_query(a: &Query, b: &Query) -> bool {
         (Query::Field(v, w), Query::Field(x, y)) => same_scalar(v, x) && w == y,
         (Query::ProjectStruct(v, w), Query::ProjectStruct(x, y)) => same_scalar(v, x) && w == y,
         (Query::Kind(_, x, _), Query::Kind(_, y, _)) => same_scalar(x, y),
-        (Query::Take(_, x), Query::Take(_, y)) => same_scalar(x, y),
+        (Query::Rust(_, _, x), Query::Rust(_, _, y)) => same_scalar(x, y),
         _ => false,
     }
 }

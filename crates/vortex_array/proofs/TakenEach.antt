@@ -3,9 +3,10 @@ use Rattle.std.proofs.Common.{◌≡◌, ℕ, suc, ◌<◌, ◌⊎◌, inl, inr,
 use Rattle.vortex_dtype.specs.declared.error.VortexError.{VortexError}
 use Rattle.vortex_dtype.specs.declared.error.VortexError.TheVariants.{OutOfMemory}
 use Rattle.vortex_value.specs.Conversions.{Taken, as_tuple, both_taken}
-use Rattle.vortex_value.specs.Values.RawTree.{RawTree, RawTrees, no_raws, raw_then}
+use Rattle.vortex_value.specs.Values.RawOf.{value_trees}
+use Rattle.vortex_value.specs.Values.RawTree.{RawTree, raw_tuple, RawTrees, no_raws, raw_then}
 use Rattle.vortex_value.specs.declared.values.ScalarValue.{ScalarValue}
-use Rattle.vortex_array.specs.Conversions.{TakesOrNoMemory, given_each}
+use Rattle.vortex_array.specs.Conversions.{HasParts, TakesOrNoMemory, given_each}
 
 -- these parts that are taken, and then the rest
 abbrev pub after : RawTrees → Result RawTrees VortexError → Result RawTrees VortexError
@@ -64,3 +65,8 @@ all_taken vs all here a b = a ∙ (ap (after vs) b ∙ after-none vs)
 -- the parts from place i on
 pub parts_at : (vs : List (Option ScalarValue)) (i : ℕ) (v : Option ScalarValue) → i < length vs → v ≡ get_or vs i v → drop i vs ≡ v ∷ drop (suc i) vs
 parts_at vs i v below is = rw (drop-cons vs i v, ← is)
+
+-- a list that is not empty has parts
+pub has_parts : (vs : List (Option ScalarValue)) → (length vs ≡ 0 → ⊥) → HasParts (raw_tuple (value_trees vs))
+has_parts [] some = absurd (some refl)
+has_parts (v ∷ vs) some = tt

@@ -1,12 +1,12 @@
 -- What a Vec gives, and what a conversion out of a scalar answers.
-use Rattle.std.specs.Prelude.{◌≡◌, ◌⊎◌, List, [], ◌∷◌, Vec, Result, Ok, Err, IsErrAnd, MatchResult}
+use Rattle.std.specs.Prelude.{◌≡◌, ◌⊎◌, ⊤, List, [], ◌∷◌, Vec, Result, Ok, Err, IsErrAnd, IsOk, MatchResult}
 use Rattle.std.specs.Global.{Global}
 use Rattle.vortex_dtype.specs.declared.error.VortexError.{VortexError}
 use Rattle.vortex_dtype.specs.declared.error.VortexError.TheVariants.{OutOfMemory}
 use Rattle.vortex_dtype.specs.TypeTree.{TypeTree}
 use Rattle.vortex_value.specs.Conversions.{Taken}
 use Rattle.vortex_value.specs.Validity.{Valid}
-use Rattle.vortex_value.specs.Values.RawTree.{RawTree, raw_tuple, RawTrees, no_raws, raw_then}
+use Rattle.vortex_value.specs.Values.RawTree.{RawTree, raw_text, raw_bytes, raw_tuple, RawTrees, no_raws, raw_then}
 
 -- what each gives, in order
 abbrev pub given_each : {T : Type 0} → (T → RawTree) → List T → RawTrees
@@ -21,6 +21,19 @@ given_vec given v = raw_tuple (given_each given v.items)
 abbrev pub TakesOrNoMemory : {T : Type 0} → (T → RawTree) → Taken → Result T VortexError → Type 0
 TakesOrNoMemory given (Ok v) r = MatchResult r (λ x. given x ≡ v) (λ e. e ≡ OutOfMemory)
 TakesOrNoMemory given (Err e) r = IsErrAnd r (λ f. (f ≡ e) ⊎ (f ≡ OutOfMemory))
+
+-- a tuple of one part or more
+abbrev pub HasParts : RawTree → Type 0
+HasParts (raw_tuple (raw_then v vs)) = ⊤
+HasParts _ = ⊥
+
+-- where what is taken is copied: a text and bytes that are taken, and the parts of a tuple where one of no parts is taken. A
+-- refusal of the type, of a null and of another kind of raw value needs no copy, and a refusal of a part may come after copies
+abbrev pub Copies : (TypeTree → RawTree → Taken) → TypeTree → RawTree → Type 0
+Copies taken t (raw_text bs) = IsOk (taken t (raw_text bs))
+Copies taken t (raw_bytes bs) = IsOk (taken t (raw_bytes bs))
+Copies taken t (raw_tuple vs) = HasParts (raw_tuple vs) × IsOk (taken t (raw_tuple no_raws))
+Copies taken t _ = ⊥
 
 -- each value that gives a valid raw value of the type is taken back: what is taken of it is that raw value
 abbrev pub TakesBack : {T : Type 0} → (T → RawTree) → (TypeTree → RawTree → Taken) → TypeTree → Type 0

@@ -1,19 +1,18 @@
 //! Conversions of scalars into Rust values.
 
-ghost use Rattle.std.specs.Prelude.{pos, string_bytes};
+ghost use Rattle.std.specs.Prelude.{◌≡◌, Err, MatchResult, pos, string_bytes};
 ghost use Rattle.std.specs.Option.{option_copied};
 ghost use Rattle.vortex_dtype.specs.TypeOf.{type_of};
 ghost use Rattle.vortex_dtype.specs.TypeTree.{TypeTree};
 ghost use Rattle.vortex_dtype.specs.declared.kinds.PType.TheVariants.{U8, U16, U32, U64, I8, I16, I32, I64};
 ghost use Rattle.vortex_value.specs.Conversions.{Taken, Takes, TakesCopy, as_tuple, each_taken, elements_in, given_number, given_option, given_usize, number_in, or_none, taken_bool, taken_bytes, taken_number, taken_option_bool, taken_option_bytes, taken_option_number, taken_option_text, taken_option_usize, taken_text, taken_usize, taken_vec, unless_null};
 ghost use Rattle.vortex_value.specs.Values.RawOf.{raw_of, value_tree, value_trees};
-ghost use Rattle.vortex_value.specs.Values.RawTree.{RawTree, raw_bool, raw_text, raw_bytes};
+ghost use Rattle.vortex_value.specs.Values.RawTree.{RawTree, absent, raw_bool, raw_text, raw_bytes, raw_tuple};
 ghost use Rattle.vortex_value.specs.Values.Refs.{ref_raw, ref_type};
-ghost use Rattle.vortex_array.specs.Conversions.{TakesOrNoMemory, given_vec};
+ghost use Rattle.vortex_array.specs.Conversions.{Copies, HasParts, TakesOrNoMemory, given_vec};
 
 use std::alloc::Global;
-use vortex_dtype::{BufferString, ByteBuffer, DType, VortexError};
-use vortex_pvalue::NativePType;
+use vortex_dtype::{BufferString, ByteBuffer, DType, PType, VortexError};
 use vortex_value::{ScalarRef, ScalarValue};
 
 /// A Rust type whose values are taken from scalars.
@@ -29,11 +28,14 @@ pub trait FromScalar {
 
     /// The value that the scalar holds, also where the scalar is not valid.
     ///
-    /// The refusals and their order are the implementation's. `OutOfMemory` comes in place of each
-    /// where there is none for what is copied or kept before it.
+    /// The refusals and their order are the implementation's. `OutOfMemory` comes in place of what is
+    /// copied, or of an element's refusal where there is none for the elements before it; never in
+    /// place of a refusal of the type, of a null or of another kind of raw value.
     fn try_from_scalar(alloc: Global, scalar: ScalarRef<'_>) -> Result<Self, VortexError>
-        ensures { TakesOrNoMemory given
-            (taken (ref_type scalar.entry) (ref_raw scalar.entry)) result };
+        ensures value { TakesOrNoMemory given
+            (taken (ref_type scalar.entry) (ref_raw scalar.entry)) result }
+        ensures memory { result ≡ Err VortexError.OutOfMemory
+            → Copies taken (ref_type scalar.entry) (ref_raw scalar.entry) };
 }
 
 /// `WrongKind` of another type, `IsNull` of a null, `WrongKind` of another kind of raw value.
@@ -89,7 +91,7 @@ impl FromScalar for u8 {
         ensures { Takes (given_number U8 pos)
             (taken_number U8 (ref_type scalar.entry) (ref_raw scalar.entry)) result }
     {
-        take_number(scalar)
+        u8::try_from(present(scalar)?)
     }
 }
 
@@ -106,7 +108,7 @@ impl FromScalar for u16 {
         ensures { Takes (given_number U16 pos)
             (taken_number U16 (ref_type scalar.entry) (ref_raw scalar.entry)) result }
     {
-        take_number(scalar)
+        u16::try_from(present(scalar)?)
     }
 }
 
@@ -123,7 +125,7 @@ impl FromScalar for u32 {
         ensures { Takes (given_number U32 pos)
             (taken_number U32 (ref_type scalar.entry) (ref_raw scalar.entry)) result }
     {
-        take_number(scalar)
+        u32::try_from(present(scalar)?)
     }
 }
 
@@ -140,7 +142,7 @@ impl FromScalar for u64 {
         ensures { Takes (given_number U64 pos)
             (taken_number U64 (ref_type scalar.entry) (ref_raw scalar.entry)) result }
     {
-        take_number(scalar)
+        u64::try_from(present(scalar)?)
     }
 }
 
@@ -157,7 +159,7 @@ impl FromScalar for i8 {
         ensures { Takes (given_number I8 (λ n. n))
             (taken_number I8 (ref_type scalar.entry) (ref_raw scalar.entry)) result }
     {
-        take_number(scalar)
+        i8::try_from(present(scalar)?)
     }
 }
 
@@ -174,7 +176,7 @@ impl FromScalar for i16 {
         ensures { Takes (given_number I16 (λ n. n))
             (taken_number I16 (ref_type scalar.entry) (ref_raw scalar.entry)) result }
     {
-        take_number(scalar)
+        i16::try_from(present(scalar)?)
     }
 }
 
@@ -191,7 +193,7 @@ impl FromScalar for i32 {
         ensures { Takes (given_number I32 (λ n. n))
             (taken_number I32 (ref_type scalar.entry) (ref_raw scalar.entry)) result }
     {
-        take_number(scalar)
+        i32::try_from(present(scalar)?)
     }
 }
 
@@ -208,7 +210,7 @@ impl FromScalar for i64 {
         ensures { Takes (given_number I64 (λ n. n))
             (taken_number I64 (ref_type scalar.entry) (ref_raw scalar.entry)) result }
     {
-        take_number(scalar)
+        i64::try_from(present(scalar)?)
     }
 }
 
@@ -225,7 +227,10 @@ impl FromScalar for Option<u8> {
         ensures { Takes (given_option (given_number U8 pos))
             (taken_option_number U8 (ref_type scalar.entry) (ref_raw scalar.entry)) result }
     {
-        take_optional_number(scalar)
+        match value_of_kind(scalar, PType::U8)? {
+            Some(value) => Ok(Some(u8::try_from(value)?)),
+            None => Ok(None),
+        }
     }
 }
 
@@ -242,7 +247,10 @@ impl FromScalar for Option<u16> {
         ensures { Takes (given_option (given_number U16 pos))
             (taken_option_number U16 (ref_type scalar.entry) (ref_raw scalar.entry)) result }
     {
-        take_optional_number(scalar)
+        match value_of_kind(scalar, PType::U16)? {
+            Some(value) => Ok(Some(u16::try_from(value)?)),
+            None => Ok(None),
+        }
     }
 }
 
@@ -259,7 +267,10 @@ impl FromScalar for Option<u32> {
         ensures { Takes (given_option (given_number U32 pos))
             (taken_option_number U32 (ref_type scalar.entry) (ref_raw scalar.entry)) result }
     {
-        take_optional_number(scalar)
+        match value_of_kind(scalar, PType::U32)? {
+            Some(value) => Ok(Some(u32::try_from(value)?)),
+            None => Ok(None),
+        }
     }
 }
 
@@ -276,7 +287,10 @@ impl FromScalar for Option<u64> {
         ensures { Takes (given_option (given_number U64 pos))
             (taken_option_number U64 (ref_type scalar.entry) (ref_raw scalar.entry)) result }
     {
-        take_optional_number(scalar)
+        match value_of_kind(scalar, PType::U64)? {
+            Some(value) => Ok(Some(u64::try_from(value)?)),
+            None => Ok(None),
+        }
     }
 }
 
@@ -293,7 +307,10 @@ impl FromScalar for Option<i8> {
         ensures { Takes (given_option (given_number I8 (λ n. n)))
             (taken_option_number I8 (ref_type scalar.entry) (ref_raw scalar.entry)) result }
     {
-        take_optional_number(scalar)
+        match value_of_kind(scalar, PType::I8)? {
+            Some(value) => Ok(Some(i8::try_from(value)?)),
+            None => Ok(None),
+        }
     }
 }
 
@@ -310,7 +327,10 @@ impl FromScalar for Option<i16> {
         ensures { Takes (given_option (given_number I16 (λ n. n)))
             (taken_option_number I16 (ref_type scalar.entry) (ref_raw scalar.entry)) result }
     {
-        take_optional_number(scalar)
+        match value_of_kind(scalar, PType::I16)? {
+            Some(value) => Ok(Some(i16::try_from(value)?)),
+            None => Ok(None),
+        }
     }
 }
 
@@ -327,7 +347,10 @@ impl FromScalar for Option<i32> {
         ensures { Takes (given_option (given_number I32 (λ n. n)))
             (taken_option_number I32 (ref_type scalar.entry) (ref_raw scalar.entry)) result }
     {
-        take_optional_number(scalar)
+        match value_of_kind(scalar, PType::I32)? {
+            Some(value) => Ok(Some(i32::try_from(value)?)),
+            None => Ok(None),
+        }
     }
 }
 
@@ -344,7 +367,10 @@ impl FromScalar for Option<i64> {
         ensures { Takes (given_option (given_number I64 (λ n. n)))
             (taken_option_number I64 (ref_type scalar.entry) (ref_raw scalar.entry)) result }
     {
-        take_optional_number(scalar)
+        match value_of_kind(scalar, PType::I64)? {
+            Some(value) => Ok(Some(i64::try_from(value)?)),
+            None => Ok(None),
+        }
     }
 }
 
@@ -363,7 +389,7 @@ impl FromScalar for usize {
     {
         match (scalar.dtype(), scalar.value()) {
             (DType::Primitive(..), None) => Err(VortexError::IsNull),
-            (DType::Primitive(..), Some(value)) => size_in(value),
+            (DType::Primitive(..), Some(value)) => usize::try_from(value),
             _ => Err(VortexError::WrongKind),
         }
     }
@@ -384,7 +410,7 @@ impl FromScalar for Option<usize> {
     {
         match (scalar.dtype(), scalar.value()) {
             (DType::Primitive(..), None) => Ok(None),
-            (DType::Primitive(..), Some(value)) => Ok(Some(size_in(value)?)),
+            (DType::Primitive(..), Some(value)) => Ok(Some(usize::try_from(value)?)),
             _ => Err(VortexError::WrongKind),
         }
     }
@@ -528,9 +554,11 @@ fn take_list<T: FromScalar + Drop>(
     element: &DType,
     value: Option<&ScalarValue>,
 ) -> Result<Vec<T>, VortexError>
-    ensures { TakesOrNoMemory (given_vec T.given)
+    ensures value { TakesOrNoMemory (given_vec T.given)
         (unless_null (elements_in (T.taken (type_of element.now)))
         (raw_of (option_copied value.entry))) result }
+    ensures memory { result ≡ Err VortexError.OutOfMemory
+        → HasParts (raw_of (option_copied value.entry)) }
 {
     match value {
         Some(ScalarValue::Tuple(parts)) => take_elements(alloc, element, parts),
@@ -540,13 +568,16 @@ fn take_list<T: FromScalar + Drop>(
 }
 
 /// The elements of a list, read with the element type.
+#[tactic(auto, using(crate::proofs::TakenEach::has_parts))]
 fn take_elements<T: FromScalar + Drop>(
     alloc: Global,
     element: &DType,
     parts: &[Option<ScalarValue>],
 ) -> Result<Vec<T>, VortexError>
-    ensures { TakesOrNoMemory (given_vec T.given)
+    ensures value { TakesOrNoMemory (given_vec T.given)
         (as_tuple (each_taken (T.taken (type_of element.now)) (value_trees parts.now))) result }
+    ensures memory { result ≡ Err VortexError.OutOfMemory
+        → HasParts (raw_tuple (value_trees parts.now)) }
 {
     let mut taken = Vec::with_capacity(alloc, parts.len())?;
     for part in parts {
@@ -566,61 +597,32 @@ fn take_element<T: FromScalar>(
     T::try_from_scalar(alloc, ScalarRef::from_parts(element, part.as_ref()))
 }
 
-/// The number of a scalar of any type.
-fn take_number<T: NativePType>(scalar: ScalarRef<'_>) -> Result<T, VortexError>
-    ensures { Takes (given_number T.PTYPE T.value)
-        (taken_number T.PTYPE (ref_type scalar.entry) (ref_raw scalar.entry)) result }
+/// The raw value of a scalar, `IsNull` of a null.
+fn present<'a>(scalar: ScalarRef<'a>) -> Result<&'a ScalarValue, VortexError>
+    ensures { MatchResult result
+        (λ value. ref_raw scalar.entry ≡ value_tree value.now)
+        (λ e. (ref_raw scalar.entry ≡ absent) × (e ≡ VortexError.IsNull)) }
 {
     match scalar.value() {
-        Some(value) => number_in(value),
+        Some(value) => Ok(value),
         None => Err(VortexError::IsNull),
     }
 }
 
-/// The number of a scalar of exactly this kind, or none of a null.
-fn take_optional_number<T: NativePType>(scalar: ScalarRef<'_>) -> Result<Option<T>, VortexError>
-    ensures { Takes (given_option (given_number T.PTYPE T.value))
-        (taken_option_number T.PTYPE (ref_type scalar.entry) (ref_raw scalar.entry)) result }
+/// The raw value, none of a null, of a scalar of this integer kind: `WrongPType` of another,
+/// `WrongKind` of a type of no integers.
+fn value_of_kind<'a>(
+    scalar: ScalarRef<'a>,
+    kind: PType,
+) -> Result<Option<&'a ScalarValue>, VortexError>
+    ensures { MatchResult result
+        (λ value. taken_option_number kind (ref_type scalar.entry) (ref_raw scalar.entry)
+        ≡ or_none (number_in kind) (raw_of (option_copied value)))
+        (λ e. taken_option_number kind (ref_type scalar.entry) (ref_raw scalar.entry) ≡ Err e) }
 {
     match scalar.dtype() {
-        DType::Primitive(ptype, _) if *ptype == T::PTYPE => number_or_none(scalar.value()),
+        DType::Primitive(ptype, _) if *ptype == kind => Ok(scalar.value()),
         DType::Primitive(..) => Err(VortexError::WrongPType),
         _ => Err(VortexError::WrongKind),
     }
-}
-
-/// The number of a raw value, or none of a null.
-fn number_or_none<T: NativePType>(value: Option<&ScalarValue>) -> Result<Option<T>, VortexError>
-    ensures { Takes (given_option (given_number T.PTYPE T.value))
-        (or_none (number_in T.PTYPE) (raw_of (option_copied value.entry))) result }
-{
-    match value {
-        Some(value) => number_in(value).map(Some),
-        None => Ok(None),
-    }
-}
-
-/// The number of a raw value, as one of this kind.
-fn number_in<T: NativePType>(value: &ScalarValue) -> Result<T, VortexError>
-    ensures { Takes (given_number T.PTYPE T.value)
-        (number_in T.PTYPE (value_tree value.now)) result }
-{
-    match value {
-        ScalarValue::Primitive(number) => match T::from_pvalue(number) {
-            Some(native) => {
-                // What it becomes says that the type has only the numbers of its kind.
-                let _same = native.into_pvalue();
-                Ok(native)
-            }
-            None => Err(VortexError::OutOfRange),
-        },
-        _ => Err(VortexError::WrongKind),
-    }
-}
-
-/// The number of a raw value, as a `usize`.
-fn size_in(value: &ScalarValue) -> Result<usize, VortexError>
-    ensures { Takes given_usize (number_in U64 (value_tree value.now)) result }
-{
-    Ok(number_in::<u64>(value)? as usize)
 }

@@ -9,7 +9,7 @@ use crate::answers::{
 };
 use crate::calls::parts;
 use crate::calls::recorder::fed;
-use crate::calls::takes::{self, RustType};
+use crate::calls::takes::{self, RustCall, RustType};
 use crate::calls::views::{self, KindCall, PlaceCall, View, ViewCall};
 use crate::inputs::{
     kind_input, length_input, names_input, rust_input, scalar_input, text_input, type_input,
@@ -56,8 +56,8 @@ pub enum Query {
     ProjectStruct(Scalar, Vec<FieldName>),
     /// A call of a valid scalar and a kind of integer.
     Kind(KindCall, Scalar, PType),
-    /// The Rust value of a scalar, which need not be valid.
-    Take(RustType, Scalar),
+    /// A call of a Rust type and a scalar, which need not be valid.
+    Rust(RustCall, RustType, Scalar),
 }
 
 /// The calls of a type.
@@ -139,6 +139,8 @@ pub enum ValueCall {
     CloneBytesTwice,
     BufferText,
     CloneText,
+    GiveLent,
+    GiveOptional,
 }
 
 /// What such a call is given, and which of the calls that are given it.
@@ -160,7 +162,7 @@ pub enum Asks {
     Field,
     ProjectStruct,
     Kind(KindCall),
-    Take,
+    Rust(RustCall),
 }
 
 /// Reads what a call is given.
@@ -182,7 +184,7 @@ pub fn read_query(tokens: &mut Tokens<'_>, asks: Asks) -> Query {
         Asks::Field => Query::Field(scalar_input(tokens), text_input(tokens)),
         Asks::ProjectStruct => Query::ProjectStruct(scalar_input(tokens), names_input(tokens)),
         Asks::Kind(call) => Query::Kind(call, scalar_input(tokens), kind_input(tokens)),
-        Asks::Take => Query::Take(rust_input(tokens), scalar_input(tokens)),
+        Asks::Rust(call) => Query::Rust(call, rust_input(tokens), scalar_input(tokens)),
     }
 }
 
@@ -205,7 +207,7 @@ pub fn answer_query(alloc: Global, query: &Query) -> Answer {
         Query::Field(scalar, name) => of_field(alloc, scalar, name),
         Query::ProjectStruct(scalar, names) => project_struct(alloc, scalar, names),
         Query::Kind(call, scalar, kind) => of_kind(alloc, *call, scalar, *kind),
-        Query::Take(rust, scalar) => takes::take(alloc, *rust, scalar),
+        Query::Rust(call, rust, scalar) => takes::of_rust(alloc, *call, *rust, scalar),
     }
 }
 
@@ -233,6 +235,8 @@ fn of_value(alloc: Global, call: ValueCall, value: &Option<ScalarValue>) -> Answ
         (ValueCall::CloneBytesTwice, Some(ScalarValue::Binary(x))) => parts::clone_twice(x),
         (ValueCall::BufferText, Some(ScalarValue::Utf8(x))) => parts::text_of_str(alloc, x),
         (ValueCall::CloneText, Some(ScalarValue::Utf8(x))) => made_text(x.clone()),
+        (ValueCall::GiveLent, Some(value)) => takes::give_lent(alloc, value),
+        (ValueCall::GiveOptional, value) => takes::give_optional(alloc, value),
         _ => Answer::Refused(VortexError::WrongKind),
     }
 }
