@@ -24,23 +24,34 @@ fn two_lists(rt: &(impl AllocGlobal + Abort), first: Raw, second: Raw) -> Scalar
     scalar(nested_type(rt, 2), tuple(rt, [first, second]))
 }
 
+/// The lists [[1], []].
+fn one_and_none(rt: &(impl AllocGlobal + Abort)) -> Scalar {
+    two_lists(rt, tuple(rt, [integer(1)]), tuple(rt, []))
+}
+
+/// The lists [[], [1]].
+fn none_and_one(rt: &(impl AllocGlobal + Abort)) -> Scalar {
+    two_lists(rt, tuple(rt, []), tuple(rt, [integer(1)]))
+}
+
 #[test]
 fn equal_scalars_feed_hashers_of_all_kinds_the_same(rt: HostRuntime) {
-    let one = variant_of_42(&rt, Nullability::NonNullable);
-    let other = variant_of_42(&rt, Nullability::Nullable);
-    assert!(rt; one == other);
-    assert!(rt; fed(&one) == fed(&other));
-    assert!(rt; fed_in_all(&one) == fed_in_all(&other));
-    assert!(rt; unheard(&one) == unheard(&other));
+    let all = [
+        variant_of_42(&rt, Nullability::NonNullable),
+        variant_of_42(&rt, Nullability::Nullable),
+    ];
+    assert!(rt; all[0] == all[1]);
+    assert!(rt; fed(&all[0]) == fed(&all[1]));
+    assert!(rt; fed_in_all(&all[0]) == fed_in_all(&all[1]));
+    assert!(rt; unheard(&all[0]) == unheard(&all[1]));
 }
 
 #[test]
 fn borrowed_scalars_feed_what_owned_ones_do(rt: HostRuntime) {
-    let one = two_lists(&rt, tuple(&rt, [integer(1)]), tuple(&rt, []));
-    let other = two_lists(&rt, tuple(&rt, []), tuple(&rt, [integer(1)]));
-    assert!(rt; fed(&ScalarRef::of(&one)) == fed(&one));
-    assert!(rt; fed_in_all(&ScalarRef::of(&one)) == fed_in_all(&one));
-    assert!(rt; fed(&ScalarRef::of(&other)) != fed(&one));
+    let all = [one_and_none(&rt), none_and_one(&rt)];
+    assert!(rt; fed(&ScalarRef::of(&all[0])) == fed(&all[0]));
+    assert!(rt; fed_in_all(&ScalarRef::of(&all[0])) == fed_in_all(&all[0]));
+    assert!(rt; fed(&ScalarRef::of(&all[1])) != fed(&all[0]));
 }
 
 #[test]
@@ -60,7 +71,7 @@ fn unions_feed_id_and_child(rt: HostRuntime) {
 
 #[test]
 fn borrowed_scalars_are_of_the_type_and_value(rt: HostRuntime) {
-    let lists = two_lists(&rt, tuple(&rt, [integer(1)]), tuple(&rt, []));
+    let lists = one_and_none(&rt);
     let lent = ScalarRef::of(&lists);
     assert!(rt; *lent.dtype() == lists.dtype);
     assert!(rt; lent.value() == lists.value());
@@ -68,42 +79,56 @@ fn borrowed_scalars_are_of_the_type_and_value(rt: HostRuntime) {
     let owned = lent.to_scalar(rt.alloc()).expect(&rt, "a copy");
     assert!(rt; owned.dtype == lists.dtype);
     assert!(rt; owned == lists);
+}
+
+#[test]
+fn borrowed_nulls_are_null(rt: HostRuntime) {
     let null = scalar(DType::Bool(Nullability::Nullable), None);
     assert!(rt; ScalarRef::of(&null).is_null());
 }
 
 #[test]
 fn borrowed_scalars_compare_as_owned_ones(rt: HostRuntime) {
-    let less = scalar(list(&rt, I32), tuple(&rt, [integer(1)]));
-    let more = scalar(list(&rt, I32), tuple(&rt, [integer(1), integer(9)]));
-    let lent = ScalarRef::of(&less);
-    let other = ScalarRef::of(&more);
-    assert!(rt; lent == lent);
-    assert!(rt; lent != other);
-    assert!(rt; less.eq_ignore_nullability(&less));
-    assert!(rt; lent.partial_cmp(&other) == Some(Ordering::Less));
-    assert!(rt; more.partial_cmp(&less) == Some(Ordering::Greater));
-    assert!(rt; lent.partial_cmp(&lent) == Some(Ordering::Equal));
-    let variant = variant_of_42(&rt, Nullability::Nullable);
-    assert!(rt;
-        ScalarRef::of(&variant)
-            .partial_cmp(&ScalarRef::of(&variant))
-            .is_none()
-    );
+    let all = [
+        scalar(list(&rt, I32), tuple(&rt, [integer(1)])),
+        scalar(list(&rt, I32), tuple(&rt, [integer(1), integer(9)])),
+        variant_of_42(&rt, Nullability::Nullable),
+    ];
+    let less = ScalarRef::of(&all[0]);
+    let more = ScalarRef::of(&all[1]);
+    let variant = ScalarRef::of(&all[2]);
+    assert!(rt; less == less && less != more);
+    assert!(rt; all[0].eq_ignore_nullability(&all[0]));
+    assert!(rt; less.partial_cmp(&more) == Some(Ordering::Less));
+    assert!(rt; all[1].partial_cmp(&all[0]) == Some(Ordering::Greater));
+    assert!(rt; less.partial_cmp(&less) == Some(Ordering::Equal));
+    assert!(rt; variant.partial_cmp(&variant).is_none());
+}
+
+#[test]
+fn borrowed_scalars_are_made_of_valid_parts(rt: HostRuntime) {
+    let lists = nested_type(&rt, 2);
+    let good = tuple(&rt, [tuple(&rt, [integer(1)]), tuple(&rt, [])]);
+    let made = ScalarRef::try_new(rt.alloc(), &lists, good.as_ref()).expect(&rt, "valid");
+    assert!(rt; made.value() == good.as_ref());
+}
+
+/// Whether the refusal shows the first element of the second list as a null.
+fn blames_a_null(made: Result<ScalarRef<'_>, VortexError>) -> bool {
+    match made {
+        Err(
+            VortexError::Invalid {
+                path,
+                breach: Breach::NullNotAllowed,
+            },
+        ) => { path.steps() == [Step::Element(1), Step::Element(0)].as_slice() }
+        _ => false,
+    }
 }
 
 #[test]
 fn borrowed_scalars_are_made_of_valid_parts_alone(rt: HostRuntime) {
     let lists = nested_type(&rt, 2);
-    let good = tuple(&rt, [tuple(&rt, [integer(1)]), tuple(&rt, [])]);
-    let made = ScalarRef::try_new(rt.alloc(), &lists, good.as_ref()).expect(&rt, "valid");
-    assert!(rt; made.value() == good.as_ref());
     let bad = tuple(&rt, [tuple(&rt, [integer(1)]), tuple(&rt, [None])]);
-    match ScalarRef::try_new(rt.alloc(), &lists, bad.as_ref()) {
-        Err(VortexError::Invalid { path, breach }) => {
-            assert!(rt; path.steps() == [Step::Element(1), Step::Element(0)].as_slice());
-            assert!(rt; breach == Breach::NullNotAllowed);
-        }
-        _ => assert!(rt; false),
-    }
+    assert!(rt; blames_a_null(ScalarRef::try_new(rt.alloc(), &lists, bad.as_ref())));
 }

@@ -31,20 +31,32 @@ fn column<T: NativeDType>(rt: &(impl AllocGlobal + Abort)) -> DType {
 
 #[test]
 fn texts_and_bytes_have_a_column_type(rt: HostRuntime) {
-    assert!(rt; matches!(&column::<bool>(&rt), DType::Bool(NonNullable)));
-    assert!(rt; matches!(&column::<String>(&rt), DType::Utf8(NonNullable)));
-    assert!(rt; matches!(&column::<&str>(&rt), DType::Utf8(NonNullable)));
-    assert!(rt; matches!(&column::<BufferString>(&rt), DType::Utf8(NonNullable)));
-    assert!(rt; matches!(&column::<ByteBuffer>(&rt), DType::Binary(NonNullable)));
-    assert!(rt; matches!(&column::<&[u8]>(&rt), DType::Binary(NonNullable)));
+    let all = [
+        column::<bool>(&rt),
+        column::<String>(&rt),
+        column::<&str>(&rt),
+        column::<BufferString>(&rt),
+        column::<ByteBuffer>(&rt),
+        column::<&[u8]>(&rt),
+    ];
+    assert!(rt; matches!(&all[0], DType::Bool(NonNullable)));
+    assert!(rt; matches!(&all[1], DType::Utf8(NonNullable)));
+    assert!(rt; matches!(&all[2], DType::Utf8(NonNullable)));
+    assert!(rt; matches!(&all[3], DType::Utf8(NonNullable)));
+    assert!(rt; matches!(&all[4], DType::Binary(NonNullable)));
+    assert!(rt; matches!(&all[5], DType::Binary(NonNullable)));
 }
 
 #[test]
 fn options_and_vectors_have_a_column_type(rt: HostRuntime) {
-    let maybe = column::<Option<i32>>(&rt);
-    assert!(rt; matches!(&maybe, DType::Primitive(PType::I32, Nullable)));
-    let lists = column::<Vec<Vec<i32>>>(&rt);
-    assert!(rt; lists == list(&rt, list(&rt, I32)));
-    let bytes = column::<Vec<u8>>(&rt);
-    assert!(rt; bytes == list(&rt, DType::Primitive(PType::U8, NonNullable)));
+    let all = [
+        column::<Option<i32>>(&rt),
+        column::<Vec<Vec<i32>>>(&rt),
+        list(&rt, list(&rt, I32)),
+        column::<Vec<u8>>(&rt),
+        list(&rt, DType::Primitive(PType::U8, NonNullable)),
+    ];
+    assert!(rt; matches!(&all[0], DType::Primitive(PType::I32, Nullable)));
+    assert!(rt; all[1] == all[2]);
+    assert!(rt; all[3] == all[4]);
 }

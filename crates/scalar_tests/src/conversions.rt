@@ -15,14 +15,6 @@ fn is_refused<T: Drop>(answer: Result<T, VortexError>, cause: VortexError) -> bo
     }
 }
 
-/// The scalar of a type of integers and a raw value, valid or not.
-fn scalar(ptype: PType, value: Option<ScalarValue>) -> Scalar {
-    Scalar {
-        dtype: DType::Primitive(ptype, Nullable),
-        value,
-    }
-}
-
 /// Whether the scalar is of this kind of integers that take no null, and holds a value of the kind.
 fn is_of_kind(found: &Scalar, kind: PType) -> bool {
     match (&found.dtype, &found.value) {
@@ -35,46 +27,54 @@ fn is_of_kind(found: &Scalar, kind: PType) -> bool {
 
 #[test]
 fn unsigned_numbers_go_and_come_back(rt: HostRuntime) {
-    let number = Scalar::from(200u8);
-    assert!(rt; is_of_kind(&number, PType::U8));
-    assert!(rt; u8::try_from(&number).expect(&rt, "a u8") == 200);
-    let number = Scalar::from(65535u16);
-    assert!(rt; is_of_kind(&number, PType::U16));
-    assert!(rt; u16::try_from(&number).expect(&rt, "a u16") == 65535);
-    let number = Scalar::from(7u32);
-    assert!(rt; is_of_kind(&number, PType::U32));
-    assert!(rt; u32::try_from(&number).expect(&rt, "a u32") == 7);
-    let number = Scalar::from(u64::MAX);
-    assert!(rt; is_of_kind(&number, PType::U64));
-    assert!(rt; u64::try_from(&number).expect(&rt, "a u64") == u64::MAX);
+    let all = [
+        Scalar::from(200u8),
+        Scalar::from(65535u16),
+        Scalar::from(7u32),
+        Scalar::from(u64::MAX),
+    ];
+    assert!(rt; is_of_kind(&all[0], PType::U8));
+    assert!(rt; u8::try_from(&all[0]).expect(&rt, "a u8") == 200);
+    assert!(rt; is_of_kind(&all[1], PType::U16));
+    assert!(rt; u16::try_from(&all[1]).expect(&rt, "a u16") == 65535);
+    assert!(rt; is_of_kind(&all[2], PType::U32));
+    assert!(rt; u32::try_from(&all[2]).expect(&rt, "a u32") == 7);
+    assert!(rt; is_of_kind(&all[3], PType::U64));
+    assert!(rt; u64::try_from(&all[3]).expect(&rt, "a u64") == u64::MAX);
 }
 
 #[test]
 fn signed_numbers_go_and_come_back(rt: HostRuntime) {
-    let number = Scalar::from(-128i8);
-    assert!(rt; is_of_kind(&number, PType::I8));
-    assert!(rt; i8::try_from(&number).expect(&rt, "an i8") == -128);
-    let number = Scalar::from(-5i16);
-    assert!(rt; is_of_kind(&number, PType::I16));
-    assert!(rt; i16::try_from(&number).expect(&rt, "an i16") == -5);
-    let number = Scalar::from(-5i32);
-    assert!(rt; is_of_kind(&number, PType::I32));
-    assert!(rt; i32::try_from(&number).expect(&rt, "an i32") == -5);
-    let number = Scalar::from(i64::MIN);
-    assert!(rt; is_of_kind(&number, PType::I64));
-    assert!(rt; i64::try_from(&number).expect(&rt, "an i64") == i64::MIN);
+    let all = [
+        Scalar::from(-128i8),
+        Scalar::from(-5i16),
+        Scalar::from(-5i32),
+        Scalar::from(i64::MIN),
+    ];
+    assert!(rt; is_of_kind(&all[0], PType::I8));
+    assert!(rt; i8::try_from(&all[0]).expect(&rt, "an i8") == -128);
+    assert!(rt; is_of_kind(&all[1], PType::I16));
+    assert!(rt; i16::try_from(&all[1]).expect(&rt, "an i16") == -5);
+    assert!(rt; is_of_kind(&all[2], PType::I32));
+    assert!(rt; i32::try_from(&all[2]).expect(&rt, "an i32") == -5);
+    assert!(rt; is_of_kind(&all[3], PType::I64));
+    assert!(rt; i64::try_from(&all[3]).expect(&rt, "an i64") == i64::MIN);
 }
 
 #[test]
 fn raw_values_give_numbers(rt: HostRuntime) {
-    let number = ScalarValue::from(PValue::I64(7));
-    assert!(rt; u8::try_from(&number).expect(&rt, "a u8") == 7);
-    assert!(rt; i64::try_from(&number).expect(&rt, "an i64") == 7);
-    assert!(rt; usize::try_from(&number).expect(&rt, "a usize") == 7);
-    assert!(rt; ScalarValue::from(7u8) == number && ScalarValue::from(7usize) == number);
-    let truth = ScalarValue::from(true);
-    assert!(rt; is_refused(i32::try_from(&truth), VortexError::WrongKind));
-    assert!(rt; is_refused(usize::try_from(&truth), VortexError::WrongKind));
+    let all = [
+        ScalarValue::from(PValue::I64(7)),
+        ScalarValue::from(7u8),
+        ScalarValue::from(7usize),
+        ScalarValue::from(true),
+    ];
+    assert!(rt; u8::try_from(&all[0]).expect(&rt, "a u8") == 7);
+    assert!(rt; i64::try_from(&all[0]).expect(&rt, "an i64") == 7);
+    assert!(rt; usize::try_from(&all[0]).expect(&rt, "a usize") == 7);
+    assert!(rt; all[1] == all[0] && all[2] == all[0]);
+    assert!(rt; is_refused(i32::try_from(&all[3]), VortexError::WrongKind));
+    assert!(rt; is_refused(usize::try_from(&all[3]), VortexError::WrongKind));
 }
 
 #[test]
@@ -88,13 +88,23 @@ fn numbers_that_do_not_fit_are_refused(rt: HostRuntime) {
 
 #[test]
 fn optional_numbers_have_their_kind(rt: HostRuntime) {
-    let five = Scalar::from(Some(5i64));
-    assert!(rt; Option::<i64>::try_from(&five).expect(&rt, "an i64") == Some(5));
-    assert!(rt; is_refused(Option::<i32>::try_from(&five), VortexError::WrongPType));
-    let null = Scalar::from(None::<i64>);
-    assert!(rt; Option::<i64>::try_from(&null).expect(&rt, "none").is_none());
-    assert!(rt; is_refused(Option::<i32>::try_from(&null), VortexError::WrongPType));
-    let invalid = scalar(PType::I8, integer(1000));
+    let all = [Scalar::from(Some(5i64)), Scalar::from(None::<i64>)];
+    assert!(rt; Option::<i64>::try_from(&all[0]).expect(&rt, "an i64") == Some(5));
+    assert!(rt; is_refused(Option::<i32>::try_from(&all[0]), VortexError::WrongPType));
+    assert!(rt;
+        Option::<i64>::try_from(&all[1])
+            .expect(&rt, "none")
+            .is_none()
+    );
+    assert!(rt; is_refused(Option::<i32>::try_from(&all[1]), VortexError::WrongPType));
+}
+
+#[test]
+fn the_kind_of_optional_numbers_comes_first(rt: HostRuntime) {
+    let invalid = Scalar {
+        dtype: DType::Primitive(PType::I8, Nullable),
+        value: integer(1000),
+    };
     assert!(rt; is_refused(Option::<i32>::try_from(&invalid), VortexError::WrongPType));
     assert!(rt; is_refused(Option::<i8>::try_from(&invalid), VortexError::OutOfRange));
 }
@@ -115,12 +125,17 @@ fn nulls_are_no_numbers(rt: HostRuntime) {
 fn usizes_are_wide(rt: HostRuntime) {
     let wide = ScalarValue::from(4294967296usize);
     assert!(rt; usize::try_from(&wide).expect(&rt, "a usize") == 4294967296);
-    let wide = Scalar::from(Some(4294967296usize));
-    assert!(rt; usize::try_from(&wide).expect(&rt, "a usize") == 4294967296);
-    let wide = Scalar::from(4294967296usize);
-    assert!(rt; is_of_kind(&wide, PType::U64));
-    let invalid = scalar(PType::I8, integer(1000));
-    assert!(rt; Option::<usize>::try_from(&invalid).expect(&rt, "a usize") == Some(1000));
+    let all = [
+        Scalar::from(Some(4294967296usize)),
+        Scalar::from(4294967296usize),
+        Scalar {
+            dtype: DType::Primitive(PType::I8, Nullable),
+            value: integer(1000),
+        },
+    ];
+    assert!(rt; usize::try_from(&all[0]).expect(&rt, "a usize") == 4294967296);
+    assert!(rt; is_of_kind(&all[1], PType::U64));
+    assert!(rt; Option::<usize>::try_from(&all[2]).expect(&rt, "a usize") == Some(1000));
 }
 
 #[test]
@@ -129,6 +144,16 @@ fn truth_values_go_and_come_back(rt: HostRuntime) {
     assert!(rt; matches!(&truth.dtype, DType::Bool(NonNullable)));
     assert!(rt; bool::try_from(&truth).expect(&rt, "a truth value"));
     assert!(rt; Option::<bool>::try_from(truth).expect(&rt, "true") == Some(true));
+}
+
+#[test]
+fn numbers_are_no_truth_values(rt: HostRuntime) {
+    let number = Scalar::from(1i32);
+    assert!(rt; is_refused(bool::try_from(&number), VortexError::WrongKind));
+}
+
+#[test]
+fn null_truth_values_are_copied_and_moved(rt: HostRuntime) {
     let null = Scalar::from(None::<bool>);
     assert!(rt;
         Option::<bool>::try_from(&null)
@@ -136,8 +161,6 @@ fn truth_values_go_and_come_back(rt: HostRuntime) {
             .is_none()
     );
     assert!(rt; is_refused(bool::try_from(null), VortexError::IsNull));
-    let number = Scalar::from(1i32);
-    assert!(rt; is_refused(bool::try_from(&number), VortexError::WrongKind));
 }
 
 #[test]
@@ -148,6 +171,10 @@ fn bytes_are_copied_and_moved(rt: HostRuntime) {
     assert!(rt; same.as_ref() == Some(&copy) && copy.as_slice() == [5, 6, 7].as_slice());
     let moved = ByteBuffer::try_from(bytes).expect(&rt, "the bytes");
     assert!(rt; moved == copy);
+}
+
+#[test]
+fn null_bytes_are_copied_and_moved(rt: HostRuntime) {
     let null = Scalar::from(None::<ByteBuffer>);
     assert!(rt; is_refused(ByteBuffer::try_from(&null), VortexError::IsNull));
     assert!(rt;
@@ -165,6 +192,10 @@ fn texts_are_copied_and_moved(rt: HostRuntime) {
     assert!(rt; same.as_ref() == Some(&copy) && copy.as_str() == "test data");
     let moved = Option::<BufferString>::try_from(text).expect(&rt, "the text");
     assert!(rt; moved.as_ref() == Some(&copy));
+}
+
+#[test]
+fn null_texts_are_copied_and_moved(rt: HostRuntime) {
     let null = Scalar::from(None::<BufferString>);
     assert!(rt;
         Option::<BufferString>::try_from(&null)

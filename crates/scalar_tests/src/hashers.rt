@@ -3,6 +3,7 @@
 ghost use Rattle.std.specs.Prelude.{◌+◌, ◌*◌, ◌%◌, ◌^◌, bit_xor, fold};
 
 use std::hash::{Hash, Hasher};
+use std::process::Abort;
 
 /// A hasher that keeps a digest of all the bytes that it is fed, in their order: where two digests
 /// differ, so do the feeds.
@@ -87,4 +88,14 @@ pub fn unheard<T: Hash>(value: &T) -> u64 {
     let mut hasher = Deaf;
     value.hash(&mut hasher);
     hasher.finish()
+}
+
+/// Sees that the first two are equal and feed each hasher the same, and that a third is another and
+/// feeds another.
+pub fn hashes<T: Hash + PartialEq>(rt: &impl Abort, one: &T, same: &T, other: &T) {
+    assert!(rt; *one == *same && *one != *other);
+    assert!(rt; fed(one) == fed(same));
+    assert!(rt; fed_in_all(one) == fed_in_all(same));
+    assert!(rt; unheard(one) == unheard(same));
+    assert!(rt; fed(one) != fed(other));
 }

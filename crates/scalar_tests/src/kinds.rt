@@ -175,20 +175,47 @@ fn nullability_counts_where_it_is_asked_for(rt: HostRuntime) {
         let nullable = list(&rt, sample(&rt, place).as_nullable());
         compare(&rt, &plain, &nullable, plain == nullable, true);
     }
-    let field = struct_of_one(&rt, DType::Primitive(PType::I32, Nullable));
-    compare(&rt, &struct_of_one(&rt, I32), &field, false, true);
+}
+
+#[test]
+fn nullability_of_fields_counts_where_it_is_asked_for(rt: HostRuntime) {
+    let all = [
+        struct_of_one(&rt, I32),
+        struct_of_one(&rt, DType::Primitive(PType::I32, Nullable)),
+    ];
+    compare(&rt, &all[0], &all[1], false, true);
 }
 
 #[test]
 fn parts_feed_hashers_all_that_they_hold(rt: HostRuntime) {
-    let (a, b) = (sample(&rt, 8), sample(&rt, 15));
+    let all = [
+        sample(&rt, 8),
+        sample(&rt, 15),
+        sample(&rt, 9),
+        sample(&rt, 16),
+    ];
+    let (a, b) = (&all[0], &all[1]);
     assert!(rt; fed(&a.as_struct_fields_opt()) != fed(&b.as_struct_fields_opt()));
-    let (a, b) = (sample(&rt, 9), sample(&rt, 16));
+    let (a, b) = (&all[2], &all[3]);
     assert!(rt; fed(&a.as_union_variants_opt()) != fed(&b.as_union_variants_opt()));
-    let (a, b) = (sample(&rt, 7), sample(&rt, 14));
+}
+
+#[test]
+fn maps_and_extensions_feed_hashers_all_that_they_hold(rt: HostRuntime) {
+    let all = [
+        sample(&rt, 7),
+        sample(&rt, 14),
+        sample(&rt, 11),
+        sample(&rt, 18),
+    ];
+    let (a, b) = (&all[0], &all[1]);
     assert!(rt; fed(&a.as_map_opt()) != fed(&b.as_map_opt()));
-    let (a, b) = (sample(&rt, 11), sample(&rt, 18));
+    let (a, b) = (&all[2], &all[3]);
     assert!(rt; fed(&a.as_extension_opt()) != fed(&b.as_extension_opt()));
+}
+
+#[test]
+fn kinds_and_nullability_feed_hashers(rt: HostRuntime) {
     assert!(rt; fed(&PType::U8) != fed(&PType::I8));
     assert!(rt; fed(&Nullable) != fed(&NonNullable));
 }

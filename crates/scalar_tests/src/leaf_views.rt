@@ -7,12 +7,12 @@ ghost use Rattle.vortex_leaves.specs.Numbers.{in_kind_of};
 ghost use Rattle.vortex_leaves.specs.PrimitiveViews.{IsNumberViewOf};
 
 use crate::fixtures::{I32, Raw, bytes, integer, text};
-use crate::hashers::{fed, fed_in_all, unheard};
+use crate::hashers::{fed, hashes};
 use std::cmp::Ordering;
 use std::fmt::Display;
 use std::process::Abort;
 use vortex_dtype::Nullability::{NonNullable, Nullable};
-use vortex_dtype::{DType, PType, VortexError};
+use vortex_dtype::{DType, Nullability, PType, VortexError};
 use vortex_leaves::{BinaryScalar, BoolScalar, PrimitiveScalar, Utf8Scalar};
 use vortex_pvalue::PValue;
 use vortex_value::{Scalar, ScalarValue};
@@ -23,6 +23,18 @@ fn scalar(dtype: DType, value: Raw) -> Scalar {
 
 fn truth(value: bool) -> Raw {
     Some(ScalarValue::Bool(value))
+}
+
+fn null(dtype: DType) -> Scalar {
+    scalar(dtype, None)
+}
+
+fn utf8(rt: &(impl AllocGlobal + Abort), nullability: Nullability, value: &str) -> Scalar {
+    scalar(DType::Utf8(nullability), text(rt, value))
+}
+
+fn binary(rt: &(impl AllocGlobal + Abort), nullability: Nullability, value: &[u8]) -> Scalar {
+    scalar(DType::Binary(nullability), bytes(rt, value))
 }
 
 fn nullable_i32(value: Raw) -> Scalar {
@@ -63,158 +75,200 @@ fn writes<T: Display>(rt: &(impl AllocGlobal + Abort), value: &T, wanted: &str) 
 
 #[test]
 fn leaf_views_of_truth_values(rt: HostRuntime) {
-    let yes = scalar(DType::Bool(NonNullable), truth(true));
-    let null = scalar(DType::Bool(Nullable), None);
-    let view = bool_view(&rt, &yes);
+    let all = [
+        scalar(DType::Bool(NonNullable), truth(true)),
+        null(DType::Bool(Nullable)),
+    ];
+    let view = bool_view(&rt, &all[0]);
     assert!(rt; view.value() == Some(true));
-    assert!(rt; bool_view(&rt, &null).value().is_none());
-    assert!(rt; *view.dtype() == yes.dtype);
-    let owned = view.invert().invert().into_scalar();
+    assert!(rt; bool_view(&rt, &all[1]).value().is_none());
+    assert!(rt; *view.dtype() == all[0].dtype);
+}
+
+#[test]
+fn truth_values_are_inverted_twice(rt: HostRuntime) {
+    let yes = scalar(DType::Bool(NonNullable), truth(true));
+    let owned = bool_view(&rt, &yes).invert().invert().into_scalar();
     assert!(rt; owned == yes);
     assert!(rt; owned.dtype == yes.dtype);
 }
 
 #[test]
 fn leaf_views_hash(rt: HostRuntime) {
-    let one = scalar(DType::Bool(NonNullable), truth(true));
-    let other = scalar(DType::Bool(Nullable), truth(true));
-    let null = scalar(DType::Bool(Nullable), None);
-    let view = bool_view(&rt, &one);
-    assert!(rt; view == bool_view(&rt, &other));
-    assert!(rt; fed(&view) == fed(&bool_view(&rt, &other)));
-    assert!(rt; fed_in_all(&view) == fed_in_all(&bool_view(&rt, &other)));
-    assert!(rt; unheard(&view) == unheard(&bool_view(&rt, &other)));
-    assert!(rt; fed(&view) == fed(&one));
-    assert!(rt; fed(&view) != fed(&bool_view(&rt, &null)));
-    assert!(rt; view != bool_view(&rt, &null));
+    let all = [
+        scalar(DType::Bool(NonNullable), truth(true)),
+        scalar(DType::Bool(Nullable), truth(true)),
+        null(DType::Bool(Nullable)),
+    ];
+    let view = bool_view(&rt, &all[0]);
+    hashes(
+        &rt,
+        &view,
+        &bool_view(&rt, &all[1]),
+        &bool_view(&rt, &all[2]),
+    );
+    assert!(rt; fed(&view) == fed(&all[0]));
 }
 
 #[test]
 fn leaf_views_of_texts_hash(rt: HostRuntime) {
-    let one = scalar(DType::Utf8(NonNullable), text(&rt, "abc"));
-    let other = scalar(DType::Utf8(Nullable), text(&rt, "abc"));
-    let upper = scalar(DType::Utf8(Nullable), text(&rt, "ABC"));
-    let view = text_view(&rt, &one);
-    assert!(rt; view == text_view(&rt, &other));
-    assert!(rt; fed(&view) == fed(&text_view(&rt, &other)));
-    assert!(rt; fed_in_all(&view) == fed_in_all(&text_view(&rt, &other)));
-    assert!(rt; unheard(&view) == unheard(&text_view(&rt, &other)));
-    assert!(rt; fed(&view) != fed(&text_view(&rt, &upper)));
-    assert!(rt; view != text_view(&rt, &upper));
+    let all = [
+        utf8(&rt, NonNullable, "abc"),
+        utf8(&rt, Nullable, "abc"),
+        utf8(&rt, Nullable, "ABC"),
+    ];
+    let view = text_view(&rt, &all[0]);
+    hashes(
+        &rt,
+        &view,
+        &text_view(&rt, &all[1]),
+        &text_view(&rt, &all[2]),
+    );
 }
 
 #[test]
 fn leaf_views_of_bytes_hash(rt: HostRuntime) {
-    let one = scalar(DType::Binary(NonNullable), bytes(&rt, &[1, 2, 3]));
-    let other = scalar(DType::Binary(Nullable), bytes(&rt, &[1, 2, 3]));
-    let last = scalar(DType::Binary(Nullable), bytes(&rt, &[1, 2, 4]));
-    let view = bytes_view(&rt, &one);
-    assert!(rt; view == bytes_view(&rt, &other));
-    assert!(rt; fed(&view) == fed(&bytes_view(&rt, &other)));
-    assert!(rt; fed_in_all(&view) == fed_in_all(&bytes_view(&rt, &other)));
-    assert!(rt; unheard(&view) == unheard(&bytes_view(&rt, &other)));
-    assert!(rt; fed(&view) != fed(&bytes_view(&rt, &last)));
-    assert!(rt; view != bytes_view(&rt, &last));
+    let all = [
+        binary(&rt, NonNullable, &[1, 2, 3]),
+        binary(&rt, Nullable, &[1, 2, 3]),
+        binary(&rt, Nullable, &[1, 2, 4]),
+    ];
+    let view = bytes_view(&rt, &all[0]);
+    hashes(
+        &rt,
+        &view,
+        &bytes_view(&rt, &all[1]),
+        &bytes_view(&rt, &all[2]),
+    );
 }
 
 #[test]
 fn leaf_views_of_integers_hash(rt: HostRuntime) {
-    let one = scalar(I32, integer(7));
-    let other = nullable_i32(integer(7));
-    let more = nullable_i32(integer(8));
-    let view = number_view(&rt, &one);
-    assert!(rt; view == number_view(&rt, &other));
-    assert!(rt; fed(&view) == fed(&number_view(&rt, &other)));
-    assert!(rt; fed_in_all(&view) == fed_in_all(&number_view(&rt, &other)));
-    assert!(rt; unheard(&view) == unheard(&number_view(&rt, &other)));
-    assert!(rt; fed(&view) != fed(&number_view(&rt, &more)));
-    assert!(rt; view != number_view(&rt, &more));
+    let all = [
+        scalar(I32, integer(7)),
+        nullable_i32(integer(7)),
+        nullable_i32(integer(8)),
+    ];
+    let view = number_view(&rt, &all[0]);
+    hashes(
+        &rt,
+        &view,
+        &number_view(&rt, &all[1]),
+        &number_view(&rt, &all[2]),
+    );
 }
 
 #[test]
 fn leaf_views_order(rt: HostRuntime) {
-    let yes = scalar(DType::Bool(NonNullable), truth(true));
-    let no = scalar(DType::Bool(Nullable), truth(false));
-    let null = scalar(DType::Bool(Nullable), None);
-    assert!(rt; bool_view(&rt, &null).cmp(&bool_view(&rt, &no)) == Ordering::Less);
-    assert!(rt; bool_view(&rt, &no) < bool_view(&rt, &yes));
-    let z = scalar(DType::Utf8(NonNullable), text(&rt, "z"));
-    let aa = scalar(DType::Utf8(NonNullable), text(&rt, "aa"));
-    let empty = scalar(DType::Utf8(Nullable), text(&rt, ""));
-    let null = scalar(DType::Utf8(Nullable), None);
-    assert!(rt; text_view(&rt, &z).cmp(&text_view(&rt, &aa)) == Ordering::Greater);
-    assert!(rt; text_view(&rt, &null).cmp(&text_view(&rt, &empty)) == Ordering::Less);
+    let all = [
+        null(DType::Bool(Nullable)),
+        scalar(DType::Bool(Nullable), truth(false)),
+        scalar(DType::Bool(NonNullable), truth(true)),
+    ];
+    let no = bool_view(&rt, &all[1]);
+    assert!(rt; bool_view(&rt, &all[0]).cmp(&no) == Ordering::Less);
+    assert!(rt; no < bool_view(&rt, &all[2]));
 }
 
 #[test]
-fn leaf_views_of_bytes_and_integers_order(rt: HostRuntime) {
-    let high = scalar(DType::Binary(NonNullable), bytes(&rt, &[2, 0, 0]));
-    let low = scalar(DType::Binary(NonNullable), bytes(&rt, &[1, 255, 255]));
-    let empty = scalar(DType::Binary(Nullable), bytes(&rt, &[]));
-    let null = scalar(DType::Binary(Nullable), None);
-    assert!(rt; bytes_view(&rt, &high).cmp(&bytes_view(&rt, &low)) == Ordering::Greater);
-    assert!(rt; bytes_view(&rt, &null).cmp(&bytes_view(&rt, &empty)) == Ordering::Less);
-    let zero = scalar(I32, integer(0));
-    let null = nullable_i32(None);
-    let other = scalar(DType::Primitive(PType::I64, Nullable), None);
-    let view = number_view(&rt, &null);
-    assert!(rt; view.partial_cmp(&number_view(&rt, &zero)) == Some(Ordering::Less));
-    assert!(rt; view.partial_cmp(&number_view(&rt, &other)).is_none());
-    assert!(rt; view != number_view(&rt, &other));
+fn leaf_views_of_texts_order(rt: HostRuntime) {
+    let all = [
+        null(DType::Utf8(Nullable)),
+        utf8(&rt, Nullable, ""),
+        utf8(&rt, NonNullable, "aa"),
+        utf8(&rt, NonNullable, "z"),
+    ];
+    let empty = text_view(&rt, &all[1]);
+    assert!(rt; text_view(&rt, &all[0]).cmp(&empty) == Ordering::Less);
+    let aa = text_view(&rt, &all[2]);
+    assert!(rt; text_view(&rt, &all[3]).cmp(&aa) == Ordering::Greater);
+}
+
+#[test]
+fn leaf_views_of_bytes_order(rt: HostRuntime) {
+    let all = [
+        null(DType::Binary(Nullable)),
+        binary(&rt, Nullable, &[]),
+        binary(&rt, NonNullable, &[1, 255, 255]),
+        binary(&rt, NonNullable, &[2, 0, 0]),
+    ];
+    let empty = bytes_view(&rt, &all[1]);
+    assert!(rt; bytes_view(&rt, &all[0]).cmp(&empty) == Ordering::Less);
+    let low = bytes_view(&rt, &all[2]);
+    assert!(rt; bytes_view(&rt, &all[3]).cmp(&low) == Ordering::Greater);
+}
+
+#[test]
+fn leaf_views_of_integers_order(rt: HostRuntime) {
+    let all = [
+        nullable_i32(None),
+        scalar(I32, integer(0)),
+        null(DType::Primitive(PType::I64, Nullable)),
+    ];
+    let view = number_view(&rt, &all[0]);
+    let other = number_view(&rt, &all[2]);
+    assert!(rt; view.partial_cmp(&number_view(&rt, &all[1])) == Some(Ordering::Less));
+    assert!(rt; view.partial_cmp(&other).is_none());
+    assert!(rt; view != other);
 }
 
 #[test]
 fn leaf_views_of_other_kinds(rt: HostRuntime) {
-    let number = scalar(DType::Bool(NonNullable), integer(1));
-    assert!(rt; is_wrong_kind(BoolScalar::try_from(&number)));
-    let string = scalar(DType::Utf8(NonNullable), bytes(&rt, b"a"));
-    assert!(rt; is_wrong_kind(Utf8Scalar::try_from(&string)));
-    assert!(rt; is_wrong_kind(BinaryScalar::try_from(&string)));
-    let large = scalar(DType::Primitive(PType::U8, NonNullable), integer(256));
-    assert!(rt; is_wrong_kind(PrimitiveScalar::try_from(&large)));
-    let null = scalar(DType::Bool(NonNullable), None);
-    assert!(rt; bool_view(&rt, &null).value().is_none());
+    let all = [
+        scalar(DType::Bool(NonNullable), integer(1)),
+        scalar(DType::Utf8(NonNullable), bytes(&rt, b"a")),
+        scalar(DType::Primitive(PType::U8, NonNullable), integer(256)),
+        null(DType::Bool(NonNullable)),
+    ];
+    assert!(rt; is_wrong_kind(BoolScalar::try_from(&all[0])));
+    assert!(rt; is_wrong_kind(Utf8Scalar::try_from(&all[1])));
+    assert!(rt; is_wrong_kind(BinaryScalar::try_from(&all[1])));
+    assert!(rt; is_wrong_kind(PrimitiveScalar::try_from(&all[2])));
+    assert!(rt; bool_view(&rt, &all[3]).value().is_none());
 }
 
 #[test]
 fn leaf_views_count_bytes(rt: HostRuntime) {
-    let greeting = scalar(DType::Utf8(NonNullable), text(&rt, "Hello 👋 World 🌍!"));
-    let null = scalar(DType::Utf8(Nullable), None);
-    let view = text_view(&rt, &greeting);
-    assert!(rt; view.len() == Some(22));
-    assert!(rt; view.is_empty() == Some(false));
-    assert!(rt; text_view(&rt, &null).len().is_none());
-    assert!(rt; text_view(&rt, &null).is_empty().is_none());
-    let empty = scalar(DType::Binary(NonNullable), bytes(&rt, &[]));
-    let null = scalar(DType::Binary(Nullable), None);
-    assert!(rt; bytes_view(&rt, &empty).len() == Some(0));
-    assert!(rt; bytes_view(&rt, &empty).is_empty() == Some(true));
-    assert!(rt; bytes_view(&rt, &null).len().is_none());
-    assert!(rt; bytes_view(&rt, &null).is_empty().is_none());
+    let all = [
+        utf8(&rt, NonNullable, "Hello 👋 World 🌍!"),
+        null(DType::Utf8(Nullable)),
+        binary(&rt, NonNullable, &[]),
+        null(DType::Binary(Nullable)),
+    ];
+    let (greeting, absent) = (text_view(&rt, &all[0]), text_view(&rt, &all[1]));
+    assert!(rt; greeting.len() == Some(22) && greeting.is_empty() == Some(false));
+    assert!(rt; absent.len().is_none() && absent.is_empty().is_none());
+    let (empty, absent) = (bytes_view(&rt, &all[2]), bytes_view(&rt, &all[3]));
+    assert!(rt; empty.len() == Some(0) && empty.is_empty() == Some(true));
+    assert!(rt; absent.len().is_none() && absent.is_empty().is_none());
 }
 
 #[test]
 fn leaf_views_lend_texts_and_bytes(rt: HostRuntime) {
-    let word = scalar(DType::Utf8(Nullable), text(&rt, "abc"));
-    let view = text_view(&rt, &word);
-    assert!(rt; *view.dtype() == word.dtype);
-    assert!(rt; view.value().expect(&rt, "a text").as_str() == "abc");
-    let string = scalar(DType::Binary(NonNullable), bytes(&rt, &[1, 2]));
-    let view = bytes_view(&rt, &string);
-    assert!(rt; *view.dtype() == string.dtype);
-    assert!(rt; view.value().expect(&rt, "bytes").as_slice() == [1, 2].as_slice());
+    let all = [
+        utf8(&rt, Nullable, "abc"),
+        binary(&rt, NonNullable, &[1, 2]),
+    ];
+    let word = text_view(&rt, &all[0]);
+    assert!(rt; *word.dtype() == all[0].dtype);
+    assert!(rt; word.value().expect(&rt, "a text").as_str() == "abc");
+    let string = bytes_view(&rt, &all[1]);
+    assert!(rt; *string.dtype() == all[1].dtype);
+    assert!(rt; string.value().expect(&rt, "bytes").as_slice() == [1, 2].as_slice());
 }
 
 #[test]
 fn leaf_views_write(rt: HostRuntime) {
-    let yes = scalar(DType::Bool(NonNullable), truth(true));
-    assert!(rt; writes(&rt, &bool_view(&rt, &yes), "true"));
-    let word = scalar(DType::Utf8(NonNullable), text(&rt, "a\"b"));
-    assert!(rt; writes(&rt, &text_view(&rt, &word), "\"a\\\"b\""));
-    let string = scalar(DType::Binary(NonNullable), bytes(&rt, &[1, 255, 0]));
-    assert!(rt; writes(&rt, &bytes_view(&rt, &string), "\"1 ff 0\""));
-    let number = scalar(I32, integer(-1));
-    assert!(rt; writes(&rt, &number_view(&rt, &number), "-1i32"));
+    let all = [
+        scalar(DType::Bool(NonNullable), truth(true)),
+        utf8(&rt, NonNullable, "a\"b"),
+        binary(&rt, NonNullable, &[1, 255, 0]),
+        scalar(I32, integer(-1)),
+    ];
+    assert!(rt; writes(&rt, &bool_view(&rt, &all[0]), "true"));
+    assert!(rt; writes(&rt, &text_view(&rt, &all[1]), "\"a\\\"b\""));
+    assert!(rt; writes(&rt, &bytes_view(&rt, &all[2]), "\"1 ff 0\""));
+    assert!(rt; writes(&rt, &number_view(&rt, &all[3]), "-1i32"));
 }
 
 #[test]
@@ -228,9 +282,6 @@ fn leaf_views_give_integers_by_type(rt: HostRuntime) {
     assert!(rt; is_wrong_ptype(view.try_typed_value::<i64>()));
     assert!(rt; view.is_zero() == Some(false));
     assert!(rt; view.as_opt::<u8>() == Some(Some(5)));
-    let owned = Scalar::from(view);
-    assert!(rt; owned == five);
-    assert!(rt; owned.dtype == five.dtype);
 }
 
 /// The view of a type and a raw value that is no integer or of the type's kind.

@@ -84,8 +84,10 @@ fn a_list_comes_back(rt: HostRuntime) {
 #[test]
 fn two_ways_agree(rt: HostRuntime) {
     let number = Scalar::primitive(255i32, Nullability::NonNullable);
-    let long = DType::Primitive(PType::I64, Nullability::NonNullable);
-    let byte = DType::Primitive(PType::U8, Nullability::NonNullable);
-    let (chained, direct) = two_ways(rt.alloc(), &number, &long, &byte).expect(&rt, "casts");
-    assert!(rt; chained == direct);
+    let types = [
+        DType::Primitive(PType::I64, Nullability::NonNullable),
+        DType::Primitive(PType::U8, Nullability::NonNullable),
+    ];
+    let made = two_ways(rt.alloc(), &number, &types[0], &types[1]).expect(&rt, "casts");
+    assert!(rt; made.0 == made.1);
 }

@@ -1,10 +1,10 @@
 //! Views of structs and of extensions: what no worked case asks of them.
 
-use crate::fixtures::{I32, byte_buffer, integer, struct_of_two, text_buffer, tuple};
-use crate::hashers::{fed, fed_in_all, unheard};
+use crate::fixtures::{I32, Raw, byte_buffer, integer, struct_of_two, text_buffer, tuple};
+use crate::hashers::hashes;
 use std::cmp::Ordering;
 use std::process::Abort;
-use vortex_dtype::{DType, ExtDType, Nullability, PType};
+use vortex_dtype::{DType, ExtDType, Nullability, PType, VortexError};
 use vortex_value::{Scalar, ScalarValue};
 use vortex_views::{ExtScalar, StructScalar};
 
@@ -15,33 +15,49 @@ fn extension(rt: &(impl AllocGlobal + Abort)) -> DType {
     DType::Extension(extension.expect(rt, "an extension"))
 }
 
+/// The struct of 1 and of a second field of this type and raw value.
+fn one_and(rt: &(impl AllocGlobal + Abort), dtype: DType, second: Raw) -> Scalar {
+    Scalar {
+        dtype: struct_of_two(rt, I32, dtype),
+        value: tuple(rt, [integer(1), second]),
+    }
+}
+
+/// Whether a field was given, and is not null.
+fn is_present(field: Option<Result<Scalar, VortexError>>) -> bool {
+    match field {
+        Some(Ok(scalar)) => !scalar.is_null(),
+        _ => false,
+    }
+}
+
 #[test]
 fn fields_are_counted_down(rt: HostRuntime) {
-    let dtype = struct_of_two(&rt, I32, I32);
-    let value = tuple(&rt, [integer(1), None]);
-    let scalar = Scalar { dtype, value };
+    let scalar = one_and(&rt, I32, None);
     let view = StructScalar::try_from(&scalar).expect(&rt, "a struct");
     assert!(rt; view.names().len() == 2);
     assert!(rt; view.struct_fields().nfields() == 2);
     let mut fields = view.fields_iter(rt.alloc()).expect(&rt, "fields");
     assert!(rt; fields.len() == 2);
-    let first = fields.next().expect(&rt, "a field");
-    let first = first.expect(&rt, "memory");
-    assert!(rt; !first.is_null());
+    assert!(rt; is_present(fields.next()));
     assert!(rt; fields.len() == 1);
     assert!(rt; fields.count() == 1);
 }
 
 #[test]
 fn extensions_are_viewed_by_the_kind_below(rt: HostRuntime) {
-    let dtype = extension(&rt);
-    let value = Some(ScalarValue::Bool(true));
-    let wrong = Scalar { dtype, value };
-    let refused = ExtScalar::try_from(&wrong);
-    assert!(rt; refused.is_err());
-    let dtype = extension(&rt);
-    let scalar = Scalar { dtype, value: None };
-    let view = ExtScalar::try_from(&scalar).expect(&rt, "an extension");
+    let all = [
+        Scalar {
+            dtype: extension(&rt),
+            value: Some(ScalarValue::Bool(true)),
+        },
+        Scalar {
+            dtype: extension(&rt),
+            value: None,
+        },
+    ];
+    assert!(rt; ExtScalar::try_from(&all[0]).is_err());
+    let view = extension_view(&rt, &all[1]);
     assert!(rt; view.value().is_none());
     assert!(rt; view.ext_dtype().id().as_str() == "id");
     assert!(rt; *view.ext_dtype().storage_dtype() == I32);
@@ -55,50 +71,39 @@ fn struct_view<'a>(rt: &impl Abort, scalar: &'a Scalar) -> StructScalar<'a> {
 #[test]
 fn views_of_structs_hash(rt: HostRuntime) {
     let nullable = DType::Primitive(PType::I32, Nullability::Nullable);
-    let one = Scalar {
-        dtype: struct_of_two(&rt, I32, I32),
-        value: tuple(&rt, [integer(1), integer(2)]),
-    };
-    let other = Scalar {
-        dtype: struct_of_two(&rt, I32, nullable),
-        value: tuple(&rt, [integer(1), integer(2)]),
-    };
-    let null = Scalar {
-        dtype: struct_of_two(&rt, I32, I32),
-        value: None,
-    };
-    let view = struct_view(&rt, &one);
-    assert!(rt; view == struct_view(&rt, &other));
-    assert!(rt; fed(&view) == fed(&struct_view(&rt, &other)));
-    assert!(rt; fed_in_all(&view) == fed_in_all(&struct_view(&rt, &other)));
-    assert!(rt; unheard(&view) == unheard(&struct_view(&rt, &other)));
-    assert!(rt; fed(&view) != fed(&struct_view(&rt, &null)));
-    assert!(rt; struct_view(&rt, &null).partial_cmp(&view) == Some(Ordering::Less));
+    let all = [
+        one_and(&rt, I32, integer(2)),
+        one_and(&rt, nullable, integer(2)),
+        Scalar {
+            dtype: struct_of_two(&rt, I32, I32),
+            value: None,
+        },
+    ];
+    let (view, null) = (struct_view(&rt, &all[0]), struct_view(&rt, &all[2]));
+    hashes(&rt, &view, &struct_view(&rt, &all[1]), &null);
+    assert!(rt; null.partial_cmp(&view) == Some(Ordering::Less));
 }
 
 fn extension_view<'a>(rt: &impl Abort, scalar: &'a Scalar) -> ExtScalar<'a> {
     ExtScalar::try_from(scalar).expect(rt, "an extension")
 }
 
+/// The extension's value of a number.
+fn extended(rt: &(impl AllocGlobal + Abort), number: i32) -> Scalar {
+    Scalar {
+        dtype: extension(rt),
+        value: integer(number),
+    }
+}
+
 #[test]
 fn views_of_extensions_hash(rt: HostRuntime) {
-    let one = Scalar {
-        dtype: extension(&rt),
-        value: integer(7),
-    };
-    let same = Scalar {
-        dtype: extension(&rt),
-        value: integer(7),
-    };
-    let more = Scalar {
-        dtype: extension(&rt),
-        value: integer(8),
-    };
-    let view = extension_view(&rt, &one);
-    assert!(rt; view == extension_view(&rt, &same));
-    assert!(rt; fed(&view) == fed(&extension_view(&rt, &same)));
-    assert!(rt; fed_in_all(&view) == fed_in_all(&extension_view(&rt, &same)));
-    assert!(rt; unheard(&view) == unheard(&extension_view(&rt, &same)));
-    assert!(rt; fed(&view) != fed(&extension_view(&rt, &more)));
-    assert!(rt; view != extension_view(&rt, &more));
+    let all = [extended(&rt, 7), extended(&rt, 7), extended(&rt, 8)];
+    let view = extension_view(&rt, &all[0]);
+    hashes(
+        &rt,
+        &view,
+        &extension_view(&rt, &all[1]),
+        &extension_view(&rt, &all[2]),
+    );
 }

@@ -51,23 +51,42 @@ fn variants(rt: &(impl AllocGlobal + Abort)) -> Raw {
     tuple(rt, [escaped, string, named, variant(rt, DType::Null, None)])
 }
 
+/// A list of variants.
+fn list_of_variants(rt: &(impl AllocGlobal + Abort)) -> Scalar {
+    Scalar {
+        dtype: list(rt, DType::Variant(NonNullable)),
+        value: variants(rt),
+    }
+}
+
+/// The struct of an integer and a list.
+fn struct_with_list(rt: &(impl AllocGlobal + Abort)) -> Scalar {
+    let parts = tuple(rt, [integer(1), integer(2)]);
+    Scalar {
+        dtype: struct_of_two(rt, I32, list(rt, I32)),
+        value: tuple(rt, [integer(1), parts]),
+    }
+}
+
 #[test]
 fn a_text_fails_where_a_write_does(rt: HostRuntime) {
-    let dtype = list(&rt, DType::Variant(NonNullable));
-    let value = variants(&rt);
-    fails_at_each_write(&rt, &Scalar { dtype, value });
-    let dtype = struct_of_two(&rt, I32, list(&rt, I32));
-    let parts = tuple(&rt, [integer(1), integer(2)]);
-    let value = tuple(&rt, [integer(1), parts]);
-    fails_at_each_write(&rt, &Scalar { dtype, value });
+    let all = [list_of_variants(&rt), struct_with_list(&rt)];
+    fails_at_each_write(&rt, &all[0]);
+    fails_at_each_write(&rt, &all[1]);
+}
+
+/// An integer's type with raw values of another kind.
+fn no_integer(rt: &(impl AllocGlobal + Abort)) -> Scalar {
+    let long = bytes(rt, b"hello world");
+    let parts = [text(rt, "hello world"), long, None, union(rt, 5, None)];
+    let value = tuple(rt, parts);
+    Scalar { dtype: I32, value }
 }
 
 #[test]
 fn a_raw_text_fails_where_a_write_does(rt: HostRuntime) {
     let value = variants(&rt);
-    fails_at_each_write(&rt, &Scalar { dtype: I32, value });
-    let long = bytes(&rt, b"hello world");
-    let parts = [text(&rt, "hello world"), long, None, union(&rt, 5, None)];
-    let value = tuple(&rt, parts);
-    fails_at_each_write(&rt, &Scalar { dtype: I32, value });
+    let all = [Scalar { dtype: I32, value }, no_integer(&rt)];
+    fails_at_each_write(&rt, &all[0]);
+    fails_at_each_write(&rt, &all[1]);
 }

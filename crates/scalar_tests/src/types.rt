@@ -12,12 +12,14 @@ use vortex_dtype::{
 };
 
 #[test]
+fn empty_buffers_hold_nothing(rt: HostRuntime) {
+    let bytes = ByteBuffer::empty(rt.alloc()).expect(&rt, "no bytes");
+    let text = BufferString::empty(rt.alloc()).expect(&rt, "no text");
+    assert!(rt; bytes.is_empty() && text.is_empty());
+}
+
+#[test]
 fn buffers_hold_their_bytes(rt: HostRuntime) {
-    assert!(rt;
-        ByteBuffer::empty(rt.alloc())
-            .expect(&rt, "no bytes")
-            .is_empty()
-    );
     let buffer = byte_buffer(&rt, &[1, 2, 3, 4]);
     assert!(rt; !buffer.is_empty() && buffer.len() == 4);
     let middle = buffer.slice(1..3).expect(&rt, "a slice");
@@ -28,11 +30,6 @@ fn buffers_hold_their_bytes(rt: HostRuntime) {
 
 #[test]
 fn texts_are_utf8(rt: HostRuntime) {
-    assert!(rt;
-        BufferString::empty(rt.alloc())
-            .expect(&rt, "no text")
-            .is_empty()
-    );
     let text = text_buffer(&rt, "é1");
     assert!(rt; text.len() == 3);
     assert!(rt; text.inner().as_slice() == [195, 169, 49].as_slice());
@@ -148,11 +145,17 @@ fn path(rt: &(impl AllocGlobal + Abort), steps: &[Step]) -> Path {
 
 #[test]
 fn paths_are_equal_step_by_step(rt: HostRuntime) {
-    let first = path(&rt, &[Step::Element(0), Step::Inner]);
-    assert!(rt; first == path(&rt, &[Step::Element(0), Step::Inner]));
-    assert!(rt; first != path(&rt, &[Step::Element(1), Step::Inner]));
-    assert!(rt; first != path(&rt, &[Step::Inner, Step::Element(0)]));
-    assert!(rt; first != path(&rt, &[Step::Element(0)]));
+    let all = [
+        path(&rt, &[Step::Element(0), Step::Inner]),
+        path(&rt, &[Step::Element(0), Step::Inner]),
+        path(&rt, &[Step::Element(1), Step::Inner]),
+        path(&rt, &[Step::Inner, Step::Element(0)]),
+        path(&rt, &[Step::Element(0)]),
+    ];
+    assert!(rt; all[0] == all[1]);
+    assert!(rt; all[0] != all[2]);
+    assert!(rt; all[0] != all[3]);
+    assert!(rt; all[0] != all[4]);
 }
 
 /// Sees the width and the sign of a kind.

@@ -55,6 +55,10 @@ fn variants_tell_their_nulls_apart(rt: HostRuntime) {
     assert!(rt; view.is_null());
     assert!(rt; view.is_variant_null().is_none());
     assert!(rt; view.is_zero().is_none());
+}
+
+#[test]
+fn nulls_in_variants_are_zero(rt: HostRuntime) {
     let null = variant(&rt, DType::Null, None);
     let null = scalar(&rt, DType::Variant(NonNullable), null);
     let view = null.as_variant_opt().expect(&rt, "a variant");
@@ -62,6 +66,10 @@ fn variants_tell_their_nulls_apart(rt: HostRuntime) {
     assert!(rt; !view.is_null());
     assert!(rt; view.is_variant_null() == Some(true));
     assert!(rt; view.is_zero() == Some(true));
+}
+
+#[test]
+fn numbers_in_variants_are_no_nulls(rt: HostRuntime) {
     let one = variant(&rt, I32, integer(1));
     let one = scalar(&rt, DType::Variant(NonNullable), one);
     let view = one.as_variant_opt().expect(&rt, "a variant");

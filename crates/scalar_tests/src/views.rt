@@ -1,7 +1,7 @@
 //! Views of lists and maps: what no worked case asks of them.
 
 use crate::fixtures::{I32, integer, list, map, text, tuple};
-use crate::hashers::{fed, fed_in_all, unheard};
+use crate::hashers::{fed, hashes};
 use std::process::Abort;
 use vortex_dtype::{DType, Nullability, PType};
 use vortex_value::Scalar;
@@ -29,57 +29,57 @@ fn parts_of_maps_go_through_adapters(rt: HostRuntime) {
     assert!(rt; nulls.count() == 1);
 }
 
+/// The list [1] of elements of a type.
+fn list_of_one(rt: &(impl AllocGlobal + Abort), element: DType) -> Scalar {
+    Scalar {
+        dtype: list(rt, element),
+        value: tuple(rt, [integer(1)]),
+    }
+}
+
 fn list_view<'a>(rt: &impl Abort, scalar: &'a Scalar) -> ListScalar<'a> {
     ListScalar::try_from(scalar).expect(rt, "a list")
 }
 
 #[test]
 fn views_of_lists_hash(rt: HostRuntime) {
-    let nullable = DType::Primitive(PType::I32, Nullability::Nullable);
-    let one = Scalar {
-        dtype: list(&rt, I32),
-        value: tuple(&rt, [integer(1)]),
-    };
-    let other = Scalar {
-        dtype: list(&rt, nullable),
-        value: tuple(&rt, [integer(1)]),
-    };
-    let null = Scalar {
-        dtype: list(&rt, I32),
-        value: None,
-    };
-    let view = list_view(&rt, &one);
-    assert!(rt; view == list_view(&rt, &other));
-    assert!(rt; fed(&view) == fed(&list_view(&rt, &other)));
-    assert!(rt; fed_in_all(&view) == fed_in_all(&list_view(&rt, &other)));
-    assert!(rt; unheard(&view) == unheard(&list_view(&rt, &other)));
-    assert!(rt; fed(&view) == fed(&one));
-    assert!(rt; fed(&view) != fed(&list_view(&rt, &null)));
-    assert!(rt; view != list_view(&rt, &null));
+    let all = [
+        list_of_one(&rt, I32),
+        list_of_one(&rt, DType::Primitive(PType::I32, Nullability::Nullable)),
+        Scalar {
+            dtype: list(&rt, I32),
+            value: None,
+        },
+    ];
+    let view = list_view(&rt, &all[0]);
+    hashes(
+        &rt,
+        &view,
+        &list_view(&rt, &all[1]),
+        &list_view(&rt, &all[2]),
+    );
+    assert!(rt; fed(&view) == fed(&all[0]));
 }
 
 fn map_view<'a>(rt: &impl Abort, scalar: &'a Scalar) -> MapScalar<'a> {
     MapScalar::try_from(scalar).expect(rt, "a map")
 }
 
+/// The map {1: "one"}, its values of a nullable type or not.
+fn one_entry(rt: &(impl AllocGlobal + Abort), nullability: Nullability) -> Scalar {
+    let dtype = map(rt, DType::Utf8(nullability), false);
+    let entry = tuple(rt, [integer(1), text(rt, "one")]);
+    let value = tuple(rt, [entry]);
+    Scalar { dtype, value }
+}
+
 #[test]
 fn views_of_maps_hash(rt: HostRuntime) {
-    let entry = tuple(&rt, [integer(1), text(&rt, "one")]);
-    let one = Scalar {
-        dtype: map(&rt, DType::Utf8(Nullability::NonNullable), false),
-        value: tuple(&rt, [entry]),
-    };
-    let entry = tuple(&rt, [integer(1), text(&rt, "one")]);
-    let other = Scalar {
-        dtype: map(&rt, DType::Utf8(Nullability::Nullable), false),
-        value: tuple(&rt, [entry]),
-    };
-    let view = map_view(&rt, &one);
-    assert!(rt; view == map_view(&rt, &other));
-    assert!(rt; fed(&view) == fed(&map_view(&rt, &other)));
-    assert!(rt; fed_in_all(&view) == fed_in_all(&map_view(&rt, &other)));
-    assert!(rt; unheard(&view) == unheard(&map_view(&rt, &other)));
-    let more = two_entries(&rt);
-    assert!(rt; fed(&view) != fed(&map_view(&rt, &more)));
-    assert!(rt; view != map_view(&rt, &more));
+    let all = [
+        one_entry(&rt, Nullability::NonNullable),
+        one_entry(&rt, Nullability::Nullable),
+        two_entries(&rt),
+    ];
+    let view = map_view(&rt, &all[0]);
+    hashes(&rt, &view, &map_view(&rt, &all[1]), &map_view(&rt, &all[2]));
 }
