@@ -144,7 +144,11 @@ pub fn run_line(
         return Ok(Outcome::Passed);
     }
     match answer_line(run, line) {
-        Ok(answered) => tell(run, out, number, line, &answered),
+        Ok(answered) => {
+            let told = tell(run, out, number, line, &answered);
+            drop(answered);
+            told
+        }
         Err(Fault::BadLine) => {
             write_wrong(out, number, b"bad line");
             Ok(Outcome::Wrong)

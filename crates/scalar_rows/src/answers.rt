@@ -119,11 +119,17 @@ fn number_in_kind(alloc: Global, number: PValue, kind: PType) -> Option<PValue>
         unreachable!()
     };
     let target = DType::Primitive(kind, Nullability::NonNullable);
-    let Ok(made) = source.cast(alloc, &target) else {
-        return None;
-    };
-    match made.value {
-        Some(ScalarValue::Primitive(number)) => Some(number),
-        _ => unreachable!(),
+    let made = source.cast(alloc, &target);
+    drop(source);
+    drop(target);
+    match made {
+        Ok(made) => match made.into_value() {
+            Some(value) => Some(value.into_primitive()),
+            None => unreachable!(),
+        },
+        Err(refusal) => {
+            drop(refusal);
+            None
+        }
     }
 }

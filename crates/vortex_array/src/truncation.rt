@@ -10,7 +10,7 @@ ghost use Rattle.vortex_dtype.specs.declared.kinds.Nullability.{Nullability};
 ghost use Rattle.vortex_value.specs.Values.Content.{content};
 ghost use Rattle.vortex_value.specs.Order.{order};
 ghost use Rattle.vortex_value.specs.Values.RawKinds.{IsBytesValue, IsTextValue};
-ghost use Rattle.vortex_value.specs.Values.RawOf.{value_tree};
+ghost use Rattle.vortex_value.specs.Values.RawOf.{raw_of};
 ghost use Rattle.vortex_value.specs.Values.RawTree.{RawTree, absent, raw_bytes, raw_text};
 ghost use Rattle.vortex_value.specs.Values.Scalars.{IsMadeOf, IsValid, scalar_raw, scalar_type};
 ghost use Rattle.vortex_array.specs.Strings.{Below, NotAbove, HasNoUpper, IsLower, IsString, IsUpper};
@@ -165,13 +165,11 @@ impl ScalarTruncation for ByteBuffer {
     ghost HasNoBestUpper = { HasNoUpper };
 
     fn from_scalar(scalar: Scalar) -> Result<Option<ByteBuffer>, VortexError> {
-        let Scalar { dtype, value } = scalar;
-        if !dtype.is_binary() {
-            return Err(VortexError::WrongKind);
-        }
-        match value {
-            Some(value) => Ok(Some(bytes_in(value)?)),
-            None => Ok(None),
+        if scalar.dtype.is_binary() {
+            bytes_or_null(scalar.into_value())
+        } else {
+            drop(scalar);
+            Err(VortexError::WrongKind)
         }
     }
 
@@ -226,13 +224,11 @@ impl ScalarTruncation for BufferString {
     ghost HasNoBestUpper = { HasNoTextUpper };
 
     fn from_scalar(scalar: Scalar) -> Result<Option<BufferString>, VortexError> {
-        let Scalar { dtype, value } = scalar;
-        if !dtype.is_utf8() {
-            return Err(VortexError::WrongKind);
-        }
-        match value {
-            Some(value) => Ok(Some(text_in(value)?)),
-            None => Ok(None),
+        if scalar.dtype.is_utf8() {
+            text_or_null(scalar.into_value())
+        } else {
+            drop(scalar);
+            Err(VortexError::WrongKind)
         }
     }
 
@@ -267,27 +263,29 @@ impl ScalarTruncation for BufferString {
     ghost upper_law = { λ b n r h. h.above };
 }
 
-/// The string of bytes that the raw value is; `WrongKind` where it is none.
-fn bytes_in(value: ScalarValue) -> Result<ByteBuffer, VortexError>
+/// The string of bytes that the raw value is, none of a null; `WrongKind` where it is neither.
+fn bytes_or_null(value: Option<ScalarValue>) -> Result<Option<ByteBuffer>, VortexError>
     ensures { MatchResult result
-        (λ bytes. value_tree value ≡ raw_bytes bytes)
-        (λ e. (e ≡ WrongKind) × IsOther IsBytesValue (value_tree value)) }
+        (λ o. MatchOption o (raw_of value ≡ absent) (λ bytes. raw_of value ≡ raw_bytes bytes))
+        (λ e. (e ≡ WrongKind) × IsOther IsBytesValue (raw_of value)) }
 {
     match value {
-        ScalarValue::Binary(bytes) => Ok(bytes),
-        _ => Err(VortexError::WrongKind),
+        Some(ScalarValue::Binary(bytes)) => Ok(Some(bytes)),
+        Some(_) => Err(VortexError::WrongKind),
+        None => Ok(None),
     }
 }
 
-/// The text that the raw value is; `WrongKind` where it is none.
-fn text_in(value: ScalarValue) -> Result<BufferString, VortexError>
+/// The text that the raw value is, none of a null; `WrongKind` where it is neither.
+fn text_or_null(value: Option<ScalarValue>) -> Result<Option<BufferString>, VortexError>
     ensures { MatchResult result
-        (λ text. value_tree value ≡ raw_text text)
-        (λ e. (e ≡ WrongKind) × IsOther IsTextValue (value_tree value)) }
+        (λ o. MatchOption o (raw_of value ≡ absent) (λ text. raw_of value ≡ raw_text text))
+        (λ e. (e ≡ WrongKind) × IsOther IsTextValue (raw_of value)) }
 {
     match value {
-        ScalarValue::Utf8(text) => Ok(text),
-        _ => Err(VortexError::WrongKind),
+        Some(ScalarValue::Utf8(text)) => Ok(Some(text)),
+        Some(_) => Err(VortexError::WrongKind),
+        None => Ok(None),
     }
 }
 

@@ -34,7 +34,7 @@ fn write_part<W: Write>(
 {
     match value {
         Some(value) => write_value(value, dtype, f),
-        None => f.write_str("null"),
+        None => leaves::write_null(f),
     }
 }
 
@@ -186,7 +186,7 @@ fn write_field<W: Write>(
         (field.now ++ (codes ": "
         ++ text_at (storage (type_of dtype.now)) (raw_of (option_copied value.entry)))) f.new }
 {
-    f.write_str(field.as_str())?;
+    leaves::write_name(field, f)?;
     f.write_str(": ")?;
     write_part(value, dtype, f)
 }
@@ -225,7 +225,7 @@ fn write_child<W: Write>(
     let Some(name) = variants.names().get(place) else {
         return Ok(());
     };
-    f.write_str(name.as_str())?;
+    leaves::write_name(name, f)?;
     f.write_str("(")?;
     write_part(union.child.as_deref(), variant, f)?;
     f.write_str(")")
@@ -251,7 +251,7 @@ fn write_raw_part<W: Write>(value: Option<&ScalarValue>, f: &mut Formatter<W>) -
 {
     match value {
         Some(value) => write_raw(value, f),
-        None => f.write_str("null"),
+        None => leaves::write_null(f),
     }
 }
 

@@ -296,17 +296,30 @@ fn entries(alloc: Global, map: MapScalar<'_>) -> Answer {
     let mut seen = 0usize;
     for entry in map.entries(alloc) {
         seen = seen.saturating_add(1);
-        if let Ok(entry) = entry {
-            let _ = entries.push(entry);
-        }
+        keep_entry(&mut entries, entry);
     }
-    if seen != map.len() {
-        return Answer::Word("wrong items");
+    all_entries(entries, seen, map.len())
+}
+
+/// Keeps an entry for which there was memory.
+fn keep_entry(entries: &mut Vec<(Scalar, Scalar)>, entry: Result<(Scalar, Scalar), VortexError>) {
+    match entry {
+        Ok(entry) => drop(entries.push(entry)),
+        Err(refusal) => drop(refusal),
     }
-    if entries.len() != seen {
-        return Answer::Refused(VortexError::OutOfMemory);
+}
+
+/// The entries, where as many items were seen as there are, and each was kept.
+fn all_entries(entries: Vec<(Scalar, Scalar)>, seen: usize, count: usize) -> Answer {
+    if seen == count && entries.len() == seen {
+        return Answer::Entries(entries);
     }
-    Answer::Entries(entries)
+    drop(entries);
+    if seen == count {
+        Answer::Refused(VortexError::OutOfMemory)
+    } else {
+        Answer::Word("wrong items")
+    }
 }
 
 /// What a view of the scalar answers of a place.

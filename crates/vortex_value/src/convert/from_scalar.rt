@@ -1,7 +1,7 @@
 //! Truth values, texts and strings of bytes out of scalars, valid or not.
 
-ghost use Rattle.vortex_value.specs.Conversions.{Takes, TakesCopy, bytes_in, given_option, taken_bool, taken_bytes, taken_option_bool, taken_option_bytes, taken_option_text, taken_text, text_in};
-ghost use Rattle.vortex_value.specs.Values.RawOf.{value_tree};
+ghost use Rattle.vortex_value.specs.Conversions.{Takes, TakesCopy, bytes_in, given_option, or_none, taken_bool, taken_bytes, taken_option_bool, taken_option_bytes, taken_option_text, taken_text, text_in};
+ghost use Rattle.vortex_value.specs.Values.RawOf.{raw_of};
 ghost use Rattle.vortex_value.specs.Values.RawTree.{raw_bool, raw_bytes, raw_text};
 ghost use Rattle.vortex_value.specs.Values.Scalars.{scalar_raw, scalar_type};
 
@@ -52,7 +52,9 @@ impl TryFrom<Scalar> for bool {
     ghost try_from_gives = { λ x r. Takes raw_bool (taken_bool (scalar_type x) (scalar_raw x)) r };
 
     fn try_from(scalar: Scalar) -> Result<bool, VortexError> {
-        bool::try_from(&scalar)
+        let taken = bool::try_from(&scalar);
+        drop(scalar);
+        taken
     }
 }
 
@@ -64,7 +66,9 @@ impl TryFrom<Scalar> for Option<bool> {
         (taken_option_bool (scalar_type x) (scalar_raw x)) r };
 
     fn try_from(scalar: Scalar) -> Result<Option<bool>, VortexError> {
-        Option::<bool>::try_from(&scalar)
+        let taken = Option::<bool>::try_from(&scalar);
+        drop(scalar);
+        taken
     }
 }
 
@@ -114,11 +118,9 @@ impl TryFrom<Scalar> for ByteBuffer {
     ghost try_from_gives = { λ x r. Takes raw_bytes (taken_bytes (scalar_type x) (scalar_raw x)) r };
 
     fn try_from(scalar: Scalar) -> Result<ByteBuffer, VortexError> {
-        let is_of_kind = scalar.dtype.is_binary();
-        match scalar.into_value() {
-            Some(value) if is_of_kind => into_bytes(value),
-            None if is_of_kind => Err(VortexError::IsNull),
-            _ => Err(VortexError::WrongKind),
+        match Option::<ByteBuffer>::try_from(scalar)? {
+            Some(bytes) => Ok(bytes),
+            None => Err(VortexError::IsNull),
         }
     }
 }
@@ -132,22 +134,23 @@ impl TryFrom<Scalar> for Option<ByteBuffer> {
         (taken_option_bytes (scalar_type x) (scalar_raw x)) r };
 
     fn try_from(scalar: Scalar) -> Result<Option<ByteBuffer>, VortexError> {
-        let is_of_kind = scalar.dtype.is_binary();
-        match scalar.into_value() {
-            Some(value) if is_of_kind => Ok(Some(into_bytes(value)?)),
-            None if is_of_kind => Ok(None),
-            _ => Err(VortexError::WrongKind),
+        if scalar.dtype.is_binary() {
+            into_bytes(scalar.into_value())
+        } else {
+            drop(scalar);
+            Err(VortexError::WrongKind)
         }
     }
 }
 
-/// The bytes of a raw value, moved.
-fn into_bytes(value: ScalarValue) -> Result<ByteBuffer, VortexError>
-    ensures { Takes raw_bytes (bytes_in (value_tree value)) result }
+/// The bytes of a raw value, moved, and none of a null.
+fn into_bytes(value: Option<ScalarValue>) -> Result<Option<ByteBuffer>, VortexError>
+    ensures { Takes (given_option raw_bytes) (or_none bytes_in (raw_of value)) result }
 {
     match value {
-        ScalarValue::Binary(bytes) => Ok(bytes),
-        _ => Err(VortexError::WrongKind),
+        Some(ScalarValue::Binary(bytes)) => Ok(Some(bytes)),
+        Some(_) => Err(VortexError::WrongKind),
+        None => Ok(None),
     }
 }
 
@@ -197,11 +200,9 @@ impl TryFrom<Scalar> for BufferString {
     ghost try_from_gives = { λ x r. Takes raw_text (taken_text (scalar_type x) (scalar_raw x)) r };
 
     fn try_from(scalar: Scalar) -> Result<BufferString, VortexError> {
-        let is_of_kind = scalar.dtype.is_utf8();
-        match scalar.into_value() {
-            Some(value) if is_of_kind => into_text(value),
-            None if is_of_kind => Err(VortexError::IsNull),
-            _ => Err(VortexError::WrongKind),
+        match Option::<BufferString>::try_from(scalar)? {
+            Some(text) => Ok(text),
+            None => Err(VortexError::IsNull),
         }
     }
 }
@@ -215,21 +216,22 @@ impl TryFrom<Scalar> for Option<BufferString> {
         (taken_option_text (scalar_type x) (scalar_raw x)) r };
 
     fn try_from(scalar: Scalar) -> Result<Option<BufferString>, VortexError> {
-        let is_of_kind = scalar.dtype.is_utf8();
-        match scalar.into_value() {
-            Some(value) if is_of_kind => Ok(Some(into_text(value)?)),
-            None if is_of_kind => Ok(None),
-            _ => Err(VortexError::WrongKind),
+        if scalar.dtype.is_utf8() {
+            into_text(scalar.into_value())
+        } else {
+            drop(scalar);
+            Err(VortexError::WrongKind)
         }
     }
 }
 
-/// The text of a raw value, moved.
-fn into_text(value: ScalarValue) -> Result<BufferString, VortexError>
-    ensures { Takes raw_text (text_in (value_tree value)) result }
+/// The text of a raw value, moved, and none of a null.
+fn into_text(value: Option<ScalarValue>) -> Result<Option<BufferString>, VortexError>
+    ensures { Takes (given_option raw_text) (or_none text_in (raw_of value)) result }
 {
     match value {
-        ScalarValue::Utf8(text) => Ok(text),
-        _ => Err(VortexError::WrongKind),
+        Some(ScalarValue::Utf8(text)) => Ok(Some(text)),
+        Some(_) => Err(VortexError::WrongKind),
+        None => Ok(None),
     }
 }

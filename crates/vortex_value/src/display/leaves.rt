@@ -4,13 +4,28 @@ ghost use Rattle.std.specs.Prelude.{◌≡◌, ◌==◌, [], codes, drop, if◌t
 ghost use Rattle.std.specs.Fmt.{WritesOnOk};
 ghost use Rattle.std.specs.List.{flat_map};
 ghost use Rattle.std.specs.Str.{chars, encode_utf8_all};
-ghost use Rattle.vortex_value.specs.Texts.{escaped, escaped_char, hexadecimal, in_quotes, joined, shortened, truth_text, two_digits};
+ghost use Rattle.vortex_value.specs.Texts.{escaped, escaped_char, hexadecimal, in_quotes, joined, null_text, shortened, truth_text, two_digits};
 
 use std::fmt::{self, Formatter, Write};
+use vortex_dtype::FieldName;
 
 /// How many items a shortened list shows at each of its ends. One of at most twice as many is shown
 /// whole.
 const SHOWN: usize = 5;
+
+/// The text of a null.
+pub(super) fn write_null<W: Write>(f: &mut Formatter<W>) -> fmt::Result
+    ensures { WritesOnOk W.write_str_gives f.old result null_text f.new }
+{
+    f.write_str("null")
+}
+
+/// The name of a field or of a variant, as it is.
+pub(super) fn write_name<W: Write>(name: &FieldName, f: &mut Formatter<W>) -> fmt::Result
+    ensures { WritesOnOk W.write_str_gives f.old result name.now f.new }
+{
+    f.write_str(name.as_str())
+}
 
 pub(super) fn truth(truth: bool) -> &'static str
     ensures { result.now ≡ truth_text truth }
