@@ -207,6 +207,7 @@ impl Hash for BoolScalar<'_> {
     fn hash<H: Hasher>(&self, state: &mut H) {
         let value = self.value.map(ScalarValue::Bool);
         ScalarRef::from_parts(self.dtype, value.as_ref()).hash(state);
+        drop(value);
     }
 }
 
@@ -218,6 +219,8 @@ impl Display for BoolScalar<'_> {
 
     fn fmt<W: Write>(&self, f: &mut Formatter<W>) -> fmt::Result {
         let value = self.value.map(ScalarValue::Bool);
-        ScalarRef::from_parts(self.dtype, value.as_ref()).fmt(f)
+        let written = ScalarRef::from_parts(self.dtype, value.as_ref()).fmt(f);
+        drop(value);
+        written
     }
 }

@@ -94,8 +94,13 @@ pub(crate) fn copied_entry(
         (λ e. e ≡ VortexError.OutOfMemory) }
 {
     let key = copied_part(alloc, entry.0)?;
-    let value = copied_part(alloc, entry.1)?;
-    Ok((key, value))
+    match copied_part(alloc, entry.1) {
+        Ok(value) => Ok((key, value)),
+        Err(refusal) => {
+            drop(key);
+            Err(refusal)
+        }
+    }
 }
 
 /// A scalar of its own of a part that is lent, or `OutOfMemory`.

@@ -310,10 +310,13 @@ fn scalar_of(
     ensures value { IfOk result (λ scalar. value ≡ Ok scalar.value) }
     ensures refused { IfErr result (λ e. value ≡ Err e) }
 {
-    Ok(Scalar {
-        dtype,
-        value: value?,
-    })
+    match value {
+        Ok(value) => Ok(Scalar { dtype, value }),
+        Err(refusal) => {
+            drop(dtype);
+            Err(refusal)
+        }
+    }
 }
 
 /// The view of a scalar: of its type and its raw value, whether or not the value is valid for the

@@ -61,6 +61,7 @@ impl Hash for PrimitiveScalar<'_> {
     fn hash<H: Hasher>(&self, state: &mut H) {
         let value = self.pvalue.map(ScalarValue::Primitive);
         ScalarRef::from_parts(self.dtype, value.as_ref()).hash(state);
+        drop(value);
     }
 }
 
@@ -70,6 +71,8 @@ impl Display for PrimitiveScalar<'_> {
 
     fn fmt<W: Write>(&self, f: &mut Formatter<W>) -> fmt::Result {
         let value = self.pvalue.map(ScalarValue::Primitive);
-        ScalarRef::from_parts(self.dtype, value.as_ref()).fmt(f)
+        let written = ScalarRef::from_parts(self.dtype, value.as_ref()).fmt(f);
+        drop(value);
+        written
     }
 }
