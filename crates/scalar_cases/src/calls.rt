@@ -8,6 +8,7 @@ mod recorder;
 pub mod takes;
 pub mod views;
 
+use crate::read::named;
 use bounds::BoundCall;
 use makers::{ListCall, Makes, MapCall};
 use queries::{
@@ -223,17 +224,8 @@ const PARTS: [(&str, Shape); 29] = [
 
 /// What the call of this name is given; one of parts only where these are served.
 pub fn shape_of(name: &[u8], with_parts: bool) -> Option<Shape> {
-    match shape_in(&CALLS, name) {
-        None if with_parts => shape_in(&PARTS, name),
+    match named(&CALLS, name) {
+        None if with_parts => named(&PARTS, name),
         shape => shape,
     }
-}
-
-fn shape_in(calls: &[(&str, Shape)], name: &[u8]) -> Option<Shape> {
-    for (listed, shape) in calls {
-        if listed.as_bytes() == name {
-            return Some(*shape);
-        }
-    }
-    None
 }

@@ -3,6 +3,7 @@
 use crate::calls::bounds::TextType;
 use crate::calls::takes::{MOST_VECTORS, RustLeaf, RustType};
 use crate::calls::views::View;
+use crate::read::named;
 use crate::read::numbers::{kind_named, natural};
 use crate::read::texts::{push_name, read_text};
 use crate::read::types::{Fields, read_fields, read_id, read_type};
@@ -13,6 +14,45 @@ use vortex_value::{Scalar, ScalarValue};
 
 /// How many brackets may be open at one time.
 const ROOM: u32 = 256;
+
+const NULLABILITIES: [(&str, Nullability); 2] = [
+    ("nullable", Nullability::Nullable),
+    ("non_nullable", Nullability::NonNullable),
+];
+
+const TEXT_TYPES: [(&str, TextType); 2] = [
+    ("string", TextType::String),
+    ("buffer_string", TextType::Buffer),
+];
+
+const VIEWS: [(&str, View); 7] = [
+    ("BoolScalar", View::Bool),
+    ("Utf8Scalar", View::Utf8),
+    ("BinaryScalar", View::Binary),
+    ("PrimitiveScalar", View::Primitive),
+    ("ListScalar", View::List),
+    ("MapScalar", View::Map),
+    ("UnionScalar", View::Union),
+];
+
+const RUST_LEAVES: [(&str, RustLeaf); 4] = [
+    ("bool", RustLeaf::Bool),
+    ("usize", RustLeaf::Usize),
+    ("string", RustLeaf::Text),
+    ("bytes", RustLeaf::Bytes),
+];
+
+/// Reads a word of the table. Any other makes the line a bad one.
+fn word_input<T: Copy>(tokens: &mut Tokens<'_>, table: &[(&str, T)], otherwise: T) -> T {
+    tokens.spaces();
+    match named(table, tokens.word()) {
+        Some(meaning) => meaning,
+        None => {
+            tokens.bad_line();
+            otherwise
+        }
+    }
+}
 
 /// Reads a type.
 pub fn type_input(tokens: &mut Tokens<'_>) -> DType {
@@ -101,15 +141,7 @@ pub fn id_input(tokens: &mut Tokens<'_>) -> u8 {
 
 /// Reads whether a type takes a null.
 pub fn nullability_input(tokens: &mut Tokens<'_>) -> Nullability {
-    tokens.spaces();
-    match tokens.word() {
-        b"nullable" => Nullability::Nullable,
-        b"non_nullable" => Nullability::NonNullable,
-        _ => {
-            tokens.bad_line();
-            Nullability::NonNullable
-        }
-    }
+    word_input(tokens, &NULLABILITIES, Nullability::NonNullable)
 }
 
 /// Reads the fields of a struct type.
@@ -146,15 +178,7 @@ pub fn text_input(tokens: &mut Tokens<'_>) -> Option<BufferString> {
 
 /// Reads the type of a text.
 pub fn text_type_input(tokens: &mut Tokens<'_>) -> TextType {
-    tokens.spaces();
-    match tokens.word() {
-        b"string" => TextType::String,
-        b"buffer_string" => TextType::Buffer,
-        _ => {
-            tokens.bad_line();
-            TextType::String
-        }
-    }
+    word_input(tokens, &TEXT_TYPES, TextType::String)
 }
 
 /// Reads a kind of integer.
@@ -171,20 +195,7 @@ pub fn kind_input(tokens: &mut Tokens<'_>) -> PType {
 
 /// Reads the name of a view.
 pub fn view_input(tokens: &mut Tokens<'_>) -> View {
-    tokens.spaces();
-    match tokens.word() {
-        b"BoolScalar" => View::Bool,
-        b"Utf8Scalar" => View::Utf8,
-        b"BinaryScalar" => View::Binary,
-        b"PrimitiveScalar" => View::Primitive,
-        b"ListScalar" => View::List,
-        b"MapScalar" => View::Map,
-        b"UnionScalar" => View::Union,
-        _ => {
-            tokens.bad_line();
-            View::Bool
-        }
-    }
+    word_input(tokens, &VIEWS, View::Bool)
 }
 
 /// Reads the type of a Rust value: vectors of what may be optional.
@@ -221,17 +232,14 @@ fn rust_word<'a>(tokens: &mut Tokens<'a>) -> &'a [u8] {
 
 /// The Rust type of this name that holds no other.
 fn rust_leaf(tokens: &mut Tokens<'_>, word: &[u8]) -> RustLeaf {
-    match word {
-        b"bool" => RustLeaf::Bool,
-        b"usize" => RustLeaf::Usize,
-        b"string" => RustLeaf::Text,
-        b"bytes" => RustLeaf::Bytes,
-        _ => match kind_named(word) {
-            Some(kind) => RustLeaf::Number(kind),
-            None => {
-                tokens.bad_line();
-                RustLeaf::Bool
-            }
-        },
+    if let Some(leaf) = named(&RUST_LEAVES, word) {
+        return leaf;
+    }
+    match kind_named(word) {
+        Some(kind) => RustLeaf::Number(kind),
+        None => {
+            tokens.bad_line();
+            RustLeaf::Bool
+        }
     }
 }

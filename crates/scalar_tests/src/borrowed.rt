@@ -79,12 +79,15 @@ fn borrowed_scalars_are_of_the_type_and_value(rt: HostRuntime) {
     let owned = lent.to_scalar(rt.alloc()).expect(&rt, "a copy");
     assert!(rt; owned.dtype == lists.dtype);
     assert!(rt; owned == lists);
+    drop(owned);
+    drop(lists);
 }
 
 #[test]
 fn borrowed_nulls_are_null(rt: HostRuntime) {
     let null = scalar(DType::Bool(Nullability::Nullable), None);
     assert!(rt; ScalarRef::of(&null).is_null());
+    drop(null);
 }
 
 #[test]
@@ -111,6 +114,8 @@ fn borrowed_scalars_are_made_of_valid_parts(rt: HostRuntime) {
     let good = tuple(&rt, [tuple(&rt, [integer(1)]), tuple(&rt, [])]);
     let made = ScalarRef::try_new(rt.alloc(), &lists, good.as_ref()).expect(&rt, "valid");
     assert!(rt; made.value() == good.as_ref());
+    drop(good);
+    drop(lists);
 }
 
 /// Whether the refusal shows the first element of the second list as a null.
@@ -131,4 +136,6 @@ fn borrowed_scalars_are_made_of_valid_parts_alone(rt: HostRuntime) {
     let lists = nested_type(&rt, 2);
     let bad = tuple(&rt, [tuple(&rt, [integer(1)]), tuple(&rt, [None])]);
     assert!(rt; blames_a_null(ScalarRef::try_new(rt.alloc(), &lists, bad.as_ref())));
+    drop(bad);
+    drop(lists);
 }

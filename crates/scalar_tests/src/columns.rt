@@ -9,6 +9,7 @@ use vortex_dtype::{BufferString, ByteBuffer, DType, NativeDType, PType};
 fn holds_integers<T: NativeDType>(rt: &(impl AllocGlobal + Abort), kind: PType) {
     let found = T::dtype(rt.alloc()).expect(rt, "a type");
     assert!(rt; matches!(&found, DType::Primitive(of, NonNullable) if *of == kind));
+    drop(found);
 }
 
 #[test]

@@ -9,10 +9,10 @@ use vortex_value::{Scalar, ScalarValue};
 
 /// Whether the call was refused for this cause.
 fn is_refused<T: Drop>(answer: Result<T, VortexError>, cause: VortexError) -> bool {
-    match answer {
-        Ok(_) => false,
-        Err(found) => found == cause,
-    }
+    let is_so = matches!(&answer, Err(found) if *found == cause);
+    drop(answer);
+    drop(cause);
+    is_so
 }
 
 /// Whether the scalar is of this kind of integers that take no null, and holds a value of the kind.
@@ -79,11 +79,13 @@ fn raw_values_give_numbers(rt: HostRuntime) {
 
 #[test]
 fn numbers_that_do_not_fit_are_refused(rt: HostRuntime) {
-    let number = ScalarValue::from(1000i32);
-    assert!(rt; is_refused(i8::try_from(&number), VortexError::OutOfRange));
+    let thousand = ScalarValue::from(1000i32);
+    assert!(rt; is_refused(i8::try_from(&thousand), VortexError::OutOfRange));
     let number = Scalar::from(-1i32);
     assert!(rt; is_refused(u64::try_from(&number), VortexError::OutOfRange));
     assert!(rt; is_refused(usize::try_from(&number), VortexError::OutOfRange));
+    drop(number);
+    drop(thousand);
 }
 
 #[test]
@@ -107,6 +109,7 @@ fn the_kind_of_optional_numbers_comes_first(rt: HostRuntime) {
     };
     assert!(rt; is_refused(Option::<i32>::try_from(&invalid), VortexError::WrongPType));
     assert!(rt; is_refused(Option::<i8>::try_from(&invalid), VortexError::OutOfRange));
+    drop(invalid);
 }
 
 #[test]
@@ -119,6 +122,7 @@ fn nulls_are_no_numbers(rt: HostRuntime) {
             .expect(&rt, "none")
             .is_none()
     );
+    drop(null);
 }
 
 #[test]
@@ -150,6 +154,7 @@ fn truth_values_go_and_come_back(rt: HostRuntime) {
 fn numbers_are_no_truth_values(rt: HostRuntime) {
     let number = Scalar::from(1i32);
     assert!(rt; is_refused(bool::try_from(&number), VortexError::WrongKind));
+    drop(number);
 }
 
 #[test]

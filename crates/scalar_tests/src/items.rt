@@ -76,12 +76,14 @@ enum Answer {
 }
 
 fn answer_of(made: Result<Scalar, VortexError>) -> Answer {
-    match made {
+    let answer = match &made {
         Ok(_) => Answer::Made,
         Err(VortexError::WrongKind) => Answer::WrongKind,
         Err(VortexError::WrongChild { index: 0 }) => Answer::WrongFirst,
         Err(_) => Answer::Another,
-    }
+    };
+    drop(made);
+    answer
 }
 
 /// What the maker of structs answers of two integers, and how often it asks for one.

@@ -59,12 +59,16 @@ fn number_view<'a>(rt: &impl Abort, scalar: &'a Scalar) -> PrimitiveScalar<'a> {
 
 /// Whether the call refused another kind.
 fn is_wrong_kind<T: Drop>(answer: Result<T, VortexError>) -> bool {
-    matches!(answer, Err(VortexError::WrongKind))
+    let is_so = matches!(&answer, Err(VortexError::WrongKind));
+    drop(answer);
+    is_so
 }
 
 /// Whether the call refused an integer of another kind.
 fn is_wrong_ptype<T: Drop>(answer: Result<T, VortexError>) -> bool {
-    matches!(answer, Err(VortexError::WrongPType))
+    let is_so = matches!(&answer, Err(VortexError::WrongPType));
+    drop(answer);
+    is_so
 }
 
 /// Whether this is the text of the value.
@@ -91,6 +95,8 @@ fn truth_values_are_inverted_twice(rt: HostRuntime) {
     let owned = bool_view(&rt, &yes).invert().invert().into_scalar();
     assert!(rt; owned == yes);
     assert!(rt; owned.dtype == yes.dtype);
+    drop(owned);
+    drop(yes);
 }
 
 #[test]
@@ -282,6 +288,7 @@ fn leaf_views_give_integers_by_type(rt: HostRuntime) {
     assert!(rt; is_wrong_ptype(view.try_typed_value::<i64>()));
     assert!(rt; view.is_zero() == Some(false));
     assert!(rt; view.as_opt::<u8>() == Some(Some(5)));
+    drop(five);
 }
 
 /// The view of a type and a raw value that is no integer or of the type's kind.
@@ -303,6 +310,7 @@ fn nulls_fit_each_integer(rt: HostRuntime) {
     assert!(rt; null.as_::<i8>().is_none());
     assert!(rt; null.as_opt::<u64>() == Some(None));
     assert!(rt; null.is_zero().is_none());
+    drop(dtype);
 }
 
 #[test]
@@ -313,4 +321,5 @@ fn nulls_never_overflow(rt: HostRuntime) {
     assert!(rt; sum == null);
     assert!(rt; *sum.dtype() == dtype);
     assert!(rt; null - null == null);
+    drop(dtype);
 }

@@ -28,6 +28,8 @@ fn nulls_have_their_type(rt: HostRuntime) {
     assert!(rt; null.is_null() && is_i32(&null.dtype, Nullable));
     let native = Scalar::null_native::<i32>(rt.alloc()).expect(&rt, "a null");
     assert!(rt; native.is_null() && is_i32(&native.dtype, Nullable));
+    drop(null);
+    drop(native);
 }
 
 #[test]
@@ -35,6 +37,7 @@ fn truth_values_are_made(rt: HostRuntime) {
     let truth = Scalar::bool(true, Nullable);
     assert!(rt; matches!(&truth.dtype, DType::Bool(Nullable)));
     assert!(rt; matches!(&truth.value, Some(ScalarValue::Bool(true))));
+    drop(truth);
 }
 
 #[test]
@@ -44,14 +47,16 @@ fn integers_are_made(rt: HostRuntime) {
     let same = Scalar::primitive_value(PValue::I32(7), PType::I32, Nullable);
     let same = same.expect(&rt, "an i32");
     assert!(rt; is_seven(&same, Nullable));
+    drop(seven);
+    drop(same);
 }
 
 /// Whether the call was refused for this cause.
 fn is_refused(answer: Result<Scalar, VortexError>, cause: VortexError) -> bool {
-    match answer {
-        Ok(_) => false,
-        Err(found) => found == cause,
-    }
+    let is_so = matches!(&answer, Err(found) if *found == cause);
+    drop(answer);
+    drop(cause);
+    is_so
 }
 
 #[test]
@@ -76,6 +81,7 @@ fn is_text(made: &Scalar, text: &str, nullability: Nullability) -> bool {
 fn texts_are_made(rt: HostRuntime) {
     let made = Scalar::utf8(text_buffer(&rt, "hi"), NonNullable);
     assert!(rt; is_text(&made, "hi", NonNullable));
+    drop(made);
 }
 
 #[test]
@@ -84,6 +90,7 @@ fn bytes_are_read_as_texts(rt: HostRuntime) {
     assert!(rt; is_text(&made, "hi", Nullable));
     let refused = Scalar::try_utf8(byte_buffer(&rt, &[255]), Nullable);
     assert!(rt; is_refused(refused, VortexError::NotUtf8));
+    drop(made);
 }
 
 /// Whether the scalar is this string of bytes.
@@ -100,6 +107,7 @@ fn is_binary(made: &Scalar, bytes: &[u8]) -> bool {
 fn strings_of_bytes_are_made(rt: HostRuntime) {
     let made = Scalar::binary(byte_buffer(&rt, &[255]), NonNullable);
     assert!(rt; is_binary(&made, &[255]));
+    drop(made);
 }
 
 /// Whether the scalar is the list of no 32-bit integers.
@@ -116,4 +124,5 @@ fn is_empty_list(made: &Scalar) -> bool {
 fn empty_lists_are_made(rt: HostRuntime) {
     let made = Scalar::list_empty(rt.alloc(), I32, NonNullable).expect(&rt, "a list");
     assert!(rt; is_empty_list(&made));
+    drop(made);
 }

@@ -79,6 +79,8 @@ fn a_list_comes_back(rt: HostRuntime) {
     let list = pair(&rt, i32::MIN, 7);
     let back = widened_and_back(rt.alloc(), &list).expect(&rt, "the list");
     assert!(rt; back == list);
+    drop(back);
+    drop(list);
 }
 
 #[test]
@@ -90,4 +92,6 @@ fn two_ways_agree(rt: HostRuntime) {
     ];
     let made = two_ways(rt.alloc(), &number, &types[0], &types[1]).expect(&rt, "casts");
     assert!(rt; made.0 == made.1);
+    drop(made);
+    drop(number);
 }

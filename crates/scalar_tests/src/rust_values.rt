@@ -16,6 +16,9 @@ fn gives<T: IntoScalar>(rt: &(impl AllocGlobal + Abort), value: T, dtype: DType,
     let scalar = value.try_into_scalar(rt.alloc()).expect(rt, "a scalar");
     assert!(rt; scalar.dtype == dtype);
     assert!(rt; scalar.value == raw);
+    drop(scalar);
+    drop(dtype);
+    drop(raw);
 }
 
 /// The type of integers of a kind.

@@ -25,10 +25,9 @@ fn one_and(rt: &(impl AllocGlobal + Abort), dtype: DType, second: Raw) -> Scalar
 
 /// Whether a field was given, and is not null.
 fn is_present(field: Option<Result<Scalar, VortexError>>) -> bool {
-    match field {
-        Some(Ok(scalar)) => !scalar.is_null(),
-        _ => false,
-    }
+    let is_so = matches!(&field, Some(Ok(scalar)) if !scalar.is_null());
+    drop(field);
+    is_so
 }
 
 #[test]
@@ -42,6 +41,7 @@ fn fields_are_counted_down(rt: HostRuntime) {
     assert!(rt; is_present(fields.next()));
     assert!(rt; fields.len() == 1);
     assert!(rt; fields.count() == 1);
+    drop(scalar);
 }
 
 #[test]

@@ -46,12 +46,16 @@ fn blames_the_first_element(made: &Result<Scalar, VortexError>) -> bool {
 fn a_number_is_cast_or_refused(rt: HostRuntime) {
     let (kept, refused) = cast_a_number(rt.alloc());
     let kept = kept.expect(&rt, "the same number");
-    assert!(rt; kept == Scalar::primitive(1000i16, Nullability::NonNullable));
-    assert!(rt; matches!(refused, Err(VortexError::CannotCast)));
+    let wanted = [Scalar::primitive(1000i16, Nullability::NonNullable)];
+    assert!(rt; kept == wanted[0]);
+    assert!(rt; matches!(&refused, Err(VortexError::CannotCast)));
+    drop(kept);
+    drop(refused);
 }
 
 #[test]
 fn a_list_of_another_kind_is_refused(rt: HostRuntime) {
     let wrong = list_as_i8s(rt.alloc());
     assert!(rt; blames_the_first_element(&wrong));
+    drop(wrong);
 }

@@ -69,6 +69,7 @@ fn names_are_read(rt: HostRuntime) {
     let second = names.get(1).expect(&rt, "a name");
     assert!(rt; second.clone(rt.alloc()).expect(&rt, "a copy").as_str() == "b");
     assert!(rt; names.get(2).is_none());
+    drop(dtype);
 }
 
 #[test]
@@ -84,6 +85,7 @@ fn variants_are_read(rt: HostRuntime) {
     assert!(rt; variants.variant_by_index(2).is_none());
     assert!(rt; variants.names().get(0).expect(&rt, "a name").as_str() == "int");
     assert!(rt; variants.clone(rt.alloc()).expect(&rt, "a copy") == *variants);
+    drop(dtype);
 }
 
 #[test]
@@ -96,6 +98,7 @@ fn ids_are_given_once_each(rt: HostRuntime) {
     assert!(rt; ids.next() == Some(5));
     assert!(rt; ids.next() == Some(9));
     assert!(rt; ids.next().is_none());
+    drop(dtype);
 }
 
 /// Sees that two names with these types and ids are refused as of other lengths.
@@ -120,7 +123,10 @@ fn maps_hold_their_parts(rt: HostRuntime) {
     let map = made.expect(&rt, "a map");
     assert!(rt; *map.key_dtype() == I32 && *map.value_dtype() == DType::Utf8(Nullable));
     assert!(rt; map.keys_sorted());
-    assert!(rt; map.clone(rt.alloc()).expect(&rt, "a copy") == map);
+    let copy = map.clone(rt.alloc()).expect(&rt, "a copy");
+    assert!(rt; copy == map);
+    drop(copy);
+    drop(map);
 }
 
 #[test]
@@ -135,7 +141,10 @@ fn extensions_hold_their_parts(rt: HostRuntime) {
     assert!(rt; extension.id().as_str() == "a");
     assert!(rt; extension.metadata().as_slice() == [1].as_slice());
     assert!(rt; *extension.storage_dtype() == I32);
-    assert!(rt; extension.clone(rt.alloc()).expect(&rt, "a copy") == extension);
+    let copy = extension.clone(rt.alloc()).expect(&rt, "a copy");
+    assert!(rt; copy == extension);
+    drop(copy);
+    drop(extension);
 }
 
 /// The path of these steps.

@@ -28,8 +28,10 @@ fn unions_tell_what_they_choose(rt: HostRuntime) {
     assert!(rt; !view.is_null());
     assert!(rt; view.child_index() == Some(1));
     let chosen = view.variant_dtype().expect(&rt, "a type");
-    assert!(rt; *chosen == DType::Utf8(NonNullable));
+    assert!(rt; chosen.is_utf8() && !chosen.is_nullable());
     assert!(rt; view == view);
+    drop(value);
+    drop(dtype);
 }
 
 #[test]
@@ -46,6 +48,8 @@ fn nulls_of_unions_choose_nothing(rt: HostRuntime) {
     assert!(rt; !inner.is_null());
     assert!(rt; inner.child_index() == Some(0));
     assert!(rt; inner != null);
+    drop(value);
+    drop(dtype);
 }
 
 #[test]
@@ -55,6 +59,7 @@ fn variants_tell_their_nulls_apart(rt: HostRuntime) {
     assert!(rt; view.is_null());
     assert!(rt; view.is_variant_null().is_none());
     assert!(rt; view.is_zero().is_none());
+    drop(outer);
 }
 
 #[test]
@@ -66,6 +71,7 @@ fn nulls_in_variants_are_zero(rt: HostRuntime) {
     assert!(rt; !view.is_null());
     assert!(rt; view.is_variant_null() == Some(true));
     assert!(rt; view.is_zero() == Some(true));
+    drop(null);
 }
 
 #[test]
@@ -75,4 +81,5 @@ fn numbers_in_variants_are_no_nulls(rt: HostRuntime) {
     let view = one.as_variant_opt().expect(&rt, "a variant");
     assert!(rt; view.is_variant_null() == Some(false));
     assert!(rt; view.is_zero() == Some(false));
+    drop(one);
 }

@@ -59,24 +59,31 @@ fn unions_are_lent_and_taken(rt: HostRuntime) {
 
 #[test]
 fn variants_are_lent_and_taken(rt: HostRuntime) {
+    let like = [forty_two()];
     let inner = Box::new(rt.alloc(), forty_two()).expect(&rt, "a variant");
     let variant = ScalarValue::Variant(inner);
-    assert!(rt; *variant.as_variant() == forty_two());
-    assert!(rt; variant.into_variant() == forty_two());
+    assert!(rt; *variant.as_variant() == like[0]);
+    let taken = variant.into_variant();
+    assert!(rt; taken == like[0]);
+    drop(taken);
 }
 
 #[test]
 fn scalars_come_apart(rt: HostRuntime) {
+    let like = [forty_two()];
     let whole = forty_two();
     assert!(rt; whole.is_valid() && !whole.is_null());
     assert!(rt; whole.eq_ignore_nullability(&whole));
-    assert!(rt; whole.value() == integer(42).as_ref());
+    assert!(rt; whole.value() == like[0].value());
     let (dtype, value) = whole.into_parts();
-    assert!(rt; value == integer(42));
+    assert!(rt; value.as_ref() == like[0].value());
+    drop(value);
     let null = Scalar { dtype, value: None };
-    assert!(rt; *null.dtype() == forty_two().dtype);
+    assert!(rt; null.dtype == like[0].dtype);
     assert!(rt; null.is_null() && !null.is_valid());
-    assert!(rt; null.into_value().is_none());
+    let taken = null.into_value();
+    assert!(rt; taken.is_none());
+    drop(taken);
 }
 
 #[test]
@@ -84,4 +91,6 @@ fn raw_values_are_copied(rt: HostRuntime) {
     let value = ScalarValue::Utf8(text_buffer(&rt, "abc"));
     let copy = value.clone(rt.alloc()).expect(&rt, "a copy");
     assert!(rt; copy == value);
+    drop(copy);
+    drop(value);
 }

@@ -27,6 +27,7 @@ fn parts_of_maps_go_through_adapters(rt: HostRuntime) {
         .values(rt.alloc())
         .filter(|value| matches!(value, Ok(scalar) if scalar.is_null()));
     assert!(rt; nulls.count() == 1);
+    drop(scalar);
 }
 
 /// The list [1] of elements of a type.

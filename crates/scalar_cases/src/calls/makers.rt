@@ -161,10 +161,16 @@ pub fn answer_maker(alloc: Global, maker: Maker) -> Answer {
     }
 }
 
+/// Drops what a call was given, by a call of its own: at an exit it would be written out.
+fn refused<T: Drop>(inputs: T, refusal: VortexError) -> Result<Scalar, VortexError> {
+    drop(inputs);
+    Err(refusal)
+}
+
 fn into_nullable(alloc: Global, scalar: Scalar) -> Result<Scalar, VortexError> {
     match validate(alloc, &scalar) {
         Ok(()) => Ok(scalar.into_nullable()),
-        Err(refusal) => Err(refusal),
+        Err(refusal) => refused(scalar, refusal),
     }
 }
 
@@ -198,7 +204,7 @@ fn list(
 ) -> Result<Scalar, VortexError> {
     match validate_all(alloc, &children) {
         Ok(()) => list_of_valid(alloc, call, element, children, nullability),
-        Err(refusal) => Err(refusal),
+        Err(refusal) => refused((element, children), refusal),
     }
 }
 
@@ -220,7 +226,7 @@ fn list_of_valid(
 fn struct_of(alloc: Global, dtype: DType, children: Vec<Scalar>) -> Result<Scalar, VortexError> {
     match validate_all(alloc, &children) {
         Ok(()) => struct_of_valid(alloc, dtype, children),
-        Err(refusal) => Err(refusal),
+        Err(refusal) => refused((dtype, children), refusal),
     }
 }
 
@@ -245,7 +251,7 @@ fn map_of(
             MapCall::Map => map_of_valid(alloc, dtype, entries),
             MapCall::TryMap => try_map_of_valid(alloc, dtype, entries),
         },
-        Err(refusal) => Err(refusal),
+        Err(refusal) => refused((dtype, entries), refusal),
     }
 }
 
@@ -272,7 +278,11 @@ fn try_map_of_valid(
 fn union(alloc: Global, dtype: DType, id: u8, child: Scalar) -> Result<Scalar, VortexError> {
     match dtype {
         DType::Union(variants, n) => union_of(alloc, variants, id, child, n),
-        _ => wrong_kind(alloc, &child),
+        dtype => {
+            let made = wrong_kind(alloc, &child);
+            drop((dtype, child));
+            made
+        }
     }
 }
 
@@ -285,14 +295,18 @@ fn union_of(
 ) -> Result<Scalar, VortexError> {
     match validate(alloc, &child) {
         Ok(()) => Scalar::union(alloc, variants, id, child, nullability),
-        Err(refusal) => Err(refusal),
+        Err(refusal) => refused((variants, child), refusal),
     }
 }
 
 fn extension(alloc: Global, dtype: DType, storage: Scalar) -> Result<Scalar, VortexError> {
     match dtype {
         DType::Extension(extension) => extension_of(alloc, extension, storage),
-        _ => wrong_kind(alloc, &storage),
+        dtype => {
+            let made = wrong_kind(alloc, &storage);
+            drop((dtype, storage));
+            made
+        }
     }
 }
 
@@ -303,7 +317,7 @@ fn extension_of(
 ) -> Result<Scalar, VortexError> {
     match validate(alloc, &storage) {
         Ok(()) => Scalar::extension_ref(extension, storage),
-        Err(refusal) => Err(refusal),
+        Err(refusal) => refused((extension, storage), refusal),
     }
 }
 
@@ -318,6 +332,6 @@ fn wrong_kind(alloc: Global, scalar: &Scalar) -> Result<Scalar, VortexError> {
 fn variant(alloc: Global, scalar: Scalar) -> Result<Scalar, VortexError> {
     match validate(alloc, &scalar) {
         Ok(()) => Scalar::variant(alloc, scalar),
-        Err(refusal) => Err(refusal),
+        Err(refusal) => refused(scalar, refusal),
     }
 }

@@ -212,9 +212,9 @@ impl Items {
         if !is_lent(&part, lent) {
             self.is_wrong = true;
         }
-        if self.parts.push(part).is_err() {
-            self.is_short = true;
-        }
+        let pushed = self.parts.push(part);
+        self.is_short = self.is_short || pushed.is_err();
+        drop(pushed);
     }
 
     /// All of so many parts, or that an item found no memory.

@@ -1,21 +1,23 @@
 //! Numbers, integer kinds and bytes in hexadecimal.
 
+use crate::read::named;
 use vortex_dtype::PType;
 use vortex_pvalue::PValue;
 
+const KINDS: [(&str, PType); 8] = [
+    ("u8", PType::U8),
+    ("u16", PType::U16),
+    ("u32", PType::U32),
+    ("u64", PType::U64),
+    ("i8", PType::I8),
+    ("i16", PType::I16),
+    ("i32", PType::I32),
+    ("i64", PType::I64),
+];
+
 /// The kind with this name.
 pub fn kind_named(word: &[u8]) -> Option<PType> {
-    match word {
-        b"u8" => Some(PType::U8),
-        b"u16" => Some(PType::U16),
-        b"u32" => Some(PType::U32),
-        b"u64" => Some(PType::U64),
-        b"i8" => Some(PType::I8),
-        b"i16" => Some(PType::I16),
-        b"i32" => Some(PType::I32),
-        b"i64" => Some(PType::I64),
-        _ => None,
-    }
+    named(&KINDS, word)
 }
 
 /// The number that these digits represent, if they are digits and it is below 2^64.

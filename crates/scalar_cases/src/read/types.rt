@@ -3,6 +3,7 @@
 ghost use Rattle.std.specs.Prelude.{◌≡◌, ◌+◌, IfSome};
 
 use crate::faults::Fault;
+use crate::read::named;
 use crate::read::numbers::{kind_named, natural};
 use crate::read::texts::{push_name, read_bytes, read_name};
 use crate::tokens::Tokens;
@@ -27,6 +28,19 @@ enum Head {
     Extension,
 }
 
+const HEADS: [(&str, Head); 10] = [
+    ("null", Head::Null),
+    ("bool", Head::Bool),
+    ("utf8", Head::Utf8),
+    ("binary", Head::Binary),
+    ("variant", Head::Variant),
+    ("list", Head::List),
+    ("fsl", Head::FixedSizeList),
+    ("map", Head::Map),
+    ("union", Head::Union),
+    ("ext", Head::Extension),
+];
+
 /// Reads what a type begins with, and the bracket of its parts.
 fn read_head(tokens: &mut Tokens<'_>) -> Head {
     if tokens.takes(b'{') {
@@ -44,18 +58,9 @@ fn read_head(tokens: &mut Tokens<'_>) -> Head {
 }
 
 fn head_named(word: &[u8]) -> Option<Head> {
-    match word {
-        b"null" => Some(Head::Null),
-        b"bool" => Some(Head::Bool),
-        b"utf8" => Some(Head::Utf8),
-        b"binary" => Some(Head::Binary),
-        b"variant" => Some(Head::Variant),
-        b"list" => Some(Head::List),
-        b"fsl" => Some(Head::FixedSizeList),
-        b"map" => Some(Head::Map),
-        b"union" => Some(Head::Union),
-        b"ext" => Some(Head::Extension),
-        _ => Some(Head::Integer(kind_named(word)?)),
+    match named(&HEADS, word) {
+        Some(head) => Some(head),
+        None => Some(Head::Integer(kind_named(word)?)),
     }
 }
 
