@@ -119,17 +119,11 @@ fn number_in_kind(alloc: Global, number: PValue, kind: PType) -> Option<PValue>
         unreachable!()
     };
     let target = DType::Primitive(kind, Nullability::NonNullable);
-    let made = source.cast(alloc, &target);
-    drop(source);
-    drop(target);
-    match made {
-        Ok(made) => match made.into_value() {
-            Some(value) => Some(value.into_primitive()),
-            None => unreachable!(),
-        },
-        Err(refusal) => {
-            drop(refusal);
-            None
-        }
+    let Ok(made) = source.cast(alloc, &target) else {
+        return None;
+    };
+    match made.value {
+        Some(ScalarValue::Primitive(number)) => Some(number),
+        _ => unreachable!(),
     }
 }

@@ -3,6 +3,6 @@ use Rattle.vortex_pvalue.specs.Whole.{whole_of}
 use Rattle.scalar_rows.proofs.Castings.{refused}
 use Rattle.scalar_rows.proofs.answers.number_in_kind.Goals as goal
 
-pub returns-in-Err : goal.returns-in-Err
-returns-in-Err c =
-    refused c.in-Ok.source c.ptype-own.result c.args.kind (whole_of c.args.number) _ c.in-Ok.ensures.made c.in-Err.ensures.refuses_only
+pub returns-in_default-cast : goal.returns-in_default-cast
+returns-in_default-cast c =
+    refused c.in-Ok.source c.ptype-own.result c.args.kind (whole_of c.args.number) _ c.in-Ok.ensures.made c.in_default-cast.ensures.refuses_only
