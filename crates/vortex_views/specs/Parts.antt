@@ -1,5 +1,5 @@
 -- The parts of values, and what calls that lend or copy a part say of it.
-use Rattle.std.specs.Prelude.{◌≡◌, ◌&&◌, ℕ, Bool, true, false, List, [], ◌∷◌, map, Option, Some, None, slice_get, if◌then◌else◌}
+use Rattle.std.specs.Prelude.{◌&&◌, ℕ, Bool, true, false, List, [], ◌∷◌, map, Option, Some, None, slice_get, if◌then◌else◌}
 use Rattle.std.specs.Hash.{HashWrites}
 use Rattle.vortex_dtype.specs.Parts.{element_in, map_in}
 use Rattle.vortex_dtype.specs.TypeOf.{MapParts}

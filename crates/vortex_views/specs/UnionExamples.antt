@@ -1,5 +1,5 @@
 -- Worked cases of what unions and variants hold, each a theorem. Types and values are written in the words of Examples.
-use Rattle.std.specs.Prelude.{◌≡◌, true, false, [], ◌∷◌, Some, None, refl, codes}
+use Rattle.std.specs.Prelude.{◌≡◌, true, false, Some, None, refl, codes}
 use Rattle.vortex_dtype.specs.TypeTree.{null_type}
 use Rattle.vortex_value.specs.Examples.ValueExamples.{i32, u32, utf8, variant, or_null, extension_a, int_or_string, int, letter_a}
 use Rattle.vortex_value.specs.Values.RawTree.{absent, raw_union, raw_variant}
