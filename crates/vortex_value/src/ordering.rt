@@ -1,7 +1,8 @@
 //! The order of raw values and of scalars: nulls first, contents by kind, variants never.
 
-ghost use Rattle.std.specs.Prelude.{◌≡◌};
+ghost use Rattle.std.specs.Prelude.{◌≡◌, Some, length};
 ghost use Rattle.std.specs.Option.{option_copied};
+ghost use Rattle.std.specs.Ordering.{nat_cmp};
 ghost use Rattle.vortex_value.specs.Values.Content.{content, contents};
 ghost use Rattle.vortex_value.specs.Order.{order, orders};
 ghost use Rattle.vortex_value.specs.Values.RawOf.{raw_of, value_trees, union_tree, value_tree};
@@ -57,6 +58,13 @@ fn compare_tuples(a: &[Option<ScalarValue>], b: &[Option<ScalarValue>]) -> Optio
             return place;
         }
     }
+    compare_lengths(a, b)
+}
+
+/// The order of the lengths, which decides where no place of the shorter side does.
+fn compare_lengths(a: &[Option<ScalarValue>], b: &[Option<ScalarValue>]) -> Option<Ordering>
+    ensures { result ≡ Some (nat_cmp (length a.now) (length b.now)) }
+{
     Some(a.len().cmp(&b.len()))
 }
 
