@@ -1,8 +1,9 @@
 //! From all lines to all answers.
 
-ghost use Rattle.std.specs.Prelude.{◌≡◌, ◌≢◌, IfErr, IfOk, IfSome, OnOk};
+ghost use Rattle.std.specs.Prelude.{◌≡◌, ◌≢◌, ◌++◌, ◌∷◌, [], IfErr, IfOk, IfSome, OnOk};
 ghost use Rattle.std.specs.Io.KnownBytes.{Appends, IsAtEnd};
-ghost use Rattle.scalar_rows.specs.Rows.{rows_of};
+ghost use Rattle.scalar_rows.specs.Grammar.{request_in};
+ghost use Rattle.scalar_rows.specs.Rows.{row_text, rows_of};
 
 use crate::answers::answer_to;
 use crate::commands::command_in;
@@ -42,12 +43,20 @@ fn rows(alloc: Global, input: &[u8]) -> Result<Vec<u8>, AllocError>
     let mut rest = input;
     while !rest.is_empty() {
         let (line, after) = first_line(rest);
-        let answer = match command_in(alloc, line)? {
-            Some(command) => Some(answer_to(alloc, command)?),
-            None => None,
-        };
-        push_answer(&mut output, answer)?;
+        push_row(alloc, &mut output, line)?;
         rest = after;
     }
     Ok(output)
+}
+
+/// Writes what a line gives and a line feed.
+fn push_row(alloc: Global, output: &mut Vec<u8>, line: &[u8]) -> Result<(), AllocError>
+    ensures { OnOk result (output.new.items ≡
+        output.old.items ++ (row_text (request_in line.now) ++ 10 ∷ [])) }
+{
+    let answer = match command_in(alloc, line)? {
+        Some(command) => Some(answer_to(alloc, command)?),
+        None => None,
+    };
+    push_answer(output, answer)
 }
