@@ -4,7 +4,7 @@ use crate::fixtures::{I32, Raw, integer, list, nested_type, tuple, union_value, 
 use crate::hashers::{fed, fed_in_all, unheard};
 use std::cmp::Ordering;
 use std::process::Abort;
-use vortex_dtype::{Breach, DType, Nullability, PType, Step, VortexError};
+use vortex_dtype::{DType, Nullability, PType};
 use vortex_pvalue::PValue;
 use vortex_value::{Scalar, ScalarRef, ScalarValue};
 
@@ -35,13 +35,11 @@ fn none_and_one(rt: &(impl AllocGlobal + Abort)) -> Scalar {
 }
 
 #[test]
-fn equal_scalars_feed_hashers_of_all_kinds_the_same(rt: HostRuntime) {
+fn equal_scalars_feed_other_hashers_the_same(rt: HostRuntime) {
     let all = [
         variant_of_42(&rt, Nullability::NonNullable),
         variant_of_42(&rt, Nullability::Nullable),
     ];
-    assert!(rt; all[0] == all[1]);
-    assert!(rt; fed(&all[0]) == fed(&all[1]));
     assert!(rt; fed_in_all(&all[0]) == fed_in_all(&all[1]));
     assert!(rt; unheard(&all[0]) == unheard(&all[1]));
 }
@@ -71,23 +69,15 @@ fn unions_feed_id_and_child(rt: HostRuntime) {
 
 #[test]
 fn borrowed_scalars_are_of_the_type_and_value(rt: HostRuntime) {
-    let lists = one_and_none(&rt);
-    let lent = ScalarRef::of(&lists);
-    assert!(rt; *lent.dtype() == lists.dtype);
-    assert!(rt; lent.value() == lists.value());
+    let all = [
+        one_and_none(&rt),
+        scalar(DType::Bool(Nullability::Nullable), None),
+    ];
+    let lent = ScalarRef::of(&all[0]);
+    assert!(rt; *lent.dtype() == all[0].dtype);
+    assert!(rt; lent.value() == all[0].value());
     assert!(rt; !lent.is_null());
-    let owned = lent.to_scalar(rt.alloc()).expect(&rt, "a copy");
-    assert!(rt; owned.dtype == lists.dtype);
-    assert!(rt; owned == lists);
-    drop(owned);
-    drop(lists);
-}
-
-#[test]
-fn borrowed_nulls_are_null(rt: HostRuntime) {
-    let null = scalar(DType::Bool(Nullability::Nullable), None);
-    assert!(rt; ScalarRef::of(&null).is_null());
-    drop(null);
+    assert!(rt; ScalarRef::of(&all[1]).is_null());
 }
 
 #[test]
@@ -115,27 +105,5 @@ fn borrowed_scalars_are_made_of_valid_parts(rt: HostRuntime) {
     let made = ScalarRef::try_new(rt.alloc(), &lists, good.as_ref()).expect(&rt, "valid");
     assert!(rt; made.value() == good.as_ref());
     drop(good);
-    drop(lists);
-}
-
-/// Whether the refusal shows the first element of the second list as a null.
-fn blames_a_null(made: Result<ScalarRef<'_>, VortexError>) -> bool {
-    match made {
-        Err(
-            VortexError::Invalid {
-                path,
-                breach: Breach::NullNotAllowed,
-            },
-        ) => { path.steps() == [Step::Element(1), Step::Element(0)].as_slice() }
-        _ => false,
-    }
-}
-
-#[test]
-fn borrowed_scalars_are_made_of_valid_parts_alone(rt: HostRuntime) {
-    let lists = nested_type(&rt, 2);
-    let bad = tuple(&rt, [tuple(&rt, [integer(1)]), tuple(&rt, [None])]);
-    assert!(rt; blames_a_null(ScalarRef::try_new(rt.alloc(), &lists, bad.as_ref())));
-    drop(bad);
     drop(lists);
 }

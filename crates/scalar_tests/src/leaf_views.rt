@@ -90,16 +90,6 @@ fn leaf_views_of_truth_values(rt: HostRuntime) {
 }
 
 #[test]
-fn truth_values_are_inverted_twice(rt: HostRuntime) {
-    let yes = scalar(DType::Bool(NonNullable), truth(true));
-    let owned = bool_view(&rt, &yes).invert().invert().into_scalar();
-    assert!(rt; owned == yes);
-    assert!(rt; owned.dtype == yes.dtype);
-    drop(owned);
-    drop(yes);
-}
-
-#[test]
 fn leaf_views_hash(rt: HostRuntime) {
     let all = [
         scalar(DType::Bool(NonNullable), truth(true)),

@@ -2,14 +2,14 @@
 
 ghost use Rattle.std.specs.Prelude.{◌≡◌, IfErr, IfOk};
 
-use crate::fixtures::{I32, Raw, byte_buffer, bytes, integer, list, text, text_buffer, tuple};
+use crate::fixtures::{Raw, byte_buffer, bytes, integer, text, text_buffer};
 use std::alloc::Global;
 use std::process::Abort;
 use vortex_array::laws::values_are_taken_back;
 use vortex_array::{FromScalar, IntoScalar, RoundTrip};
 use vortex_dtype::Nullability::{NonNullable, Nullable};
 use vortex_dtype::{DType, PType, VortexError};
-use vortex_value::{ScalarRef, ScalarValue};
+use vortex_value::ScalarRef;
 
 /// Sees that a value makes a scalar of exactly this type and of this raw value.
 fn gives<T: IntoScalar>(rt: &(impl AllocGlobal + Abort), value: T, dtype: DType, raw: Raw) {
@@ -21,40 +21,9 @@ fn gives<T: IntoScalar>(rt: &(impl AllocGlobal + Abort), value: T, dtype: DType,
     drop(raw);
 }
 
-/// The type of integers of a kind.
-fn integers(kind: PType) -> DType {
-    DType::Primitive(kind, NonNullable)
-}
-
 #[test]
-fn integers_give_numbers_of_their_kind(rt: HostRuntime) {
-    gives(&rt, 7u8, integers(PType::U8), integer(7));
-    gives(&rt, 7u16, integers(PType::U16), integer(7));
-    gives(&rt, 7u32, integers(PType::U32), integer(7));
-    gives(&rt, 7u64, integers(PType::U64), integer(7));
-    gives(&rt, -7i8, integers(PType::I8), integer(-7));
-    gives(&rt, -7i16, integers(PType::I16), integer(-7));
-    gives(&rt, -7i32, integers(PType::I32), integer(-7));
-    gives(&rt, -7i64, integers(PType::I64), integer(-7));
-    gives(&rt, 7usize, integers(PType::U64), integer(7));
-}
-
-#[test]
-fn truth_values_texts_and_bytes_give_themselves(rt: HostRuntime) {
-    let hello = String::from_str(rt.alloc(), "hello world").expect(&rt, "a text");
+fn lent_texts_and_bytes_give_themselves(rt: HostRuntime) {
     let buffer = text_buffer(&rt, "hello world");
-    gives(
-        &rt,
-        true,
-        DType::Bool(NonNullable),
-        Some(ScalarValue::Bool(true)),
-    );
-    gives(
-        &rt,
-        hello,
-        DType::Utf8(NonNullable),
-        text(&rt, "hello world"),
-    );
     gives(
         &rt,
         buffer,
@@ -69,12 +38,6 @@ fn truth_values_texts_and_bytes_give_themselves(rt: HostRuntime) {
     );
     let four: &[u8] = &[1, 2, 3, 4];
     gives(&rt, four, DType::Binary(NonNullable), bytes(&rt, four));
-    gives(
-        &rt,
-        byte_buffer(&rt, four),
-        DType::Binary(NonNullable),
-        bytes(&rt, four),
-    );
 }
 
 #[test]
@@ -85,26 +48,6 @@ fn an_inner_none_is_the_null(rt: HostRuntime) {
     gives(&rt, inner, DType::Primitive(PType::I32, Nullable), None);
     let outer: Option<Option<i32>> = None;
     gives(&rt, outer, DType::Primitive(PType::I32, Nullable), None);
-}
-
-/// The vector of these lists of numbers: [[1], []].
-fn rows(rt: &(impl AllocGlobal + Abort)) -> Vec<Vec<i32>> {
-    let one = Vec::from_array(rt.alloc(), [1i32]).expect(rt, "a row");
-    let none = Vec::new(rt.alloc());
-    Vec::from_array(rt.alloc(), [one, none]).expect(rt, "rows")
-}
-
-#[test]
-fn vectors_give_lists(rt: HostRuntime) {
-    let parts = tuple(&rt, [tuple(&rt, [integer(1)]), tuple(&rt, [])]);
-    gives(&rt, rows(&rt), list(&rt, list(&rt, I32)), parts);
-    let byte = Vec::from_array(rt.alloc(), [1u8]).expect(&rt, "a byte");
-    gives(
-        &rt,
-        byte,
-        list(&rt, integers(PType::U8)),
-        tuple(&rt, [integer(1)]),
-    );
 }
 
 /// A value, made a scalar and taken back: the value that it was.
@@ -149,6 +92,13 @@ fn options_come_back(rt: HostRuntime) {
     comes_back(&rt, few, Some(byte_buffer(&rt, &[1])));
     let short = Some(text_buffer(&rt, "a"));
     comes_back(&rt, short, Some(text_buffer(&rt, "a")));
+}
+
+/// The vector of these lists of numbers: [[1], []].
+fn rows(rt: &(impl AllocGlobal + Abort)) -> Vec<Vec<i32>> {
+    let one = Vec::from_array(rt.alloc(), [1i32]).expect(rt, "a row");
+    let none = Vec::new(rt.alloc());
+    Vec::from_array(rt.alloc(), [one, none]).expect(rt, "rows")
 }
 
 #[test]

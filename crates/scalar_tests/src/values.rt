@@ -85,12 +85,3 @@ fn scalars_come_apart(rt: HostRuntime) {
     assert!(rt; taken.is_none());
     drop(taken);
 }
-
-#[test]
-fn raw_values_are_copied(rt: HostRuntime) {
-    let value = ScalarValue::Utf8(text_buffer(&rt, "abc"));
-    let copy = value.clone(rt.alloc()).expect(&rt, "a copy");
-    assert!(rt; copy == value);
-    drop(copy);
-    drop(value);
-}
