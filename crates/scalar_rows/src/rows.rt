@@ -2,10 +2,11 @@
 
 ghost use Rattle.std.specs.Prelude.{◌≡◌, ◌≢◌, ◌++◌, ◌∷◌, [], IfErr, IfOk, IfSome, OnOk};
 ghost use Rattle.std.specs.Io.KnownBytes.{Appends, IsAtEnd};
+ghost use Rattle.scalar_rows.specs.Answers.{row_of};
 ghost use Rattle.scalar_rows.specs.Grammar.{request_in};
 ghost use Rattle.scalar_rows.specs.Rows.{row_text, rows_of};
 
-use crate::answers::answer_to;
+use crate::answers::{Answer, answer_to};
 use crate::commands::command_in;
 use crate::print::push_answer;
 use crate::words::first_line;
@@ -54,9 +55,15 @@ fn push_row(alloc: Global, output: &mut Vec<u8>, line: &[u8]) -> Result<(), Allo
     ensures { OnOk result (output.new.items ≡
         output.old.items ++ (row_text (request_in line.now) ++ 10 ∷ [])) }
 {
-    let answer = match command_in(alloc, line)? {
-        Some(command) => Some(answer_to(alloc, command)?),
-        None => None,
-    };
-    push_answer(output, answer)
+    push_answer(output, answer_in(alloc, line)?)
+}
+
+/// What a line gives, if it is one of the grammar.
+fn answer_in(alloc: Global, line: &[u8]) -> Result<Option<Answer>, AllocError>
+    ensures { IfOk result (λ answer. row_of answer ≡ row_text (request_in line.now)) }
+{
+    match command_in(alloc, line)? {
+        Some(command) => Ok(Some(answer_to(alloc, command)?)),
+        None => Ok(None),
+    }
 }
