@@ -1,14 +1,19 @@
 //! What a command gives.
 
-ghost use Rattle.std.specs.Prelude.{◌≡◌, IfOk, MatchOption};
+ghost use Rattle.std.specs.Prelude.{◌≡◌, IfErr, IfOk, MatchOption};
 ghost use Rattle.vortex_array.specs.Laws.{BoundsAreComputed, BoundsAreUnique};
 ghost use Rattle.vortex_array.specs.Strings.{IsString};
+ghost use Rattle.vortex_dtype.specs.TypeOf.{type_of};
+ghost use Rattle.vortex_dtype.specs.TypeTree.{integer_type};
+ghost use Rattle.vortex_dtype.specs.declared.kinds.Nullability.TheVariants.{NonNullable};
 ghost use Rattle.vortex_pvalue.specs.Conversions.{IsNumber};
 ghost use Rattle.vortex_pvalue.specs.Numbers.{InRange};
-ghost use Rattle.vortex_pvalue.specs.Whole.{whole_of};
-ghost use Rattle.vortex_value.specs.Values.RawKinds.{IsBytesValue};
-ghost use Rattle.vortex_value.specs.Values.RawTree.{raw_bytes};
-ghost use Rattle.vortex_value.specs.Values.Scalars.{scalar_raw};
+ghost use Rattle.vortex_pvalue.specs.Whole.{kind_of, whole_of};
+ghost use Rattle.vortex_value.specs.Casts.{CanCast, RefusesCast};
+ghost use Rattle.vortex_value.specs.Values.Content.{whole};
+ghost use Rattle.vortex_value.specs.Values.RawKinds.{IsBytesValue, IsIntegerValue};
+ghost use Rattle.vortex_value.specs.Values.RawTree.{raw_bytes, raw_integer};
+ghost use Rattle.vortex_value.specs.Values.Scalars.{IsTheOne, scalar_raw};
 ghost use Rattle.scalar_rows.specs.Answers.{text_of};
 ghost use Rattle.scalar_rows.specs.Commands.{request_of};
 ghost use Rattle.scalar_rows.specs.Grammar.{bound};
@@ -19,7 +24,7 @@ use crate::commands::{Command, Side};
 use std::alloc::{AllocError, Global};
 use vortex_array::laws::{bounds_are_computed, bounds_are_unique};
 use vortex_array::{
-    ByteBuffer, DType, Nullability, PType, PValue, Scalar, ScalarValue, lower_bound, upper_bound,
+    ByteBuffer, DType, Nullability, PType, PValue, Scalar, VortexError, lower_bound, upper_bound,
 };
 
 /// What a command gives.
@@ -114,16 +119,34 @@ fn number_in_kind(alloc: Global, number: PValue, kind: PType) -> Option<PValue>
         (¬ (InRange kind (whole_of number)))
         (IsNumber kind (whole_of number)) }
 {
+    let target = DType::Primitive(kind, Nullability::NonNullable);
+    match cast_number(alloc, number, &target) {
+        Ok(made) => Some(number_of(made)),
+        Err(_) => None,
+    }
+}
+
+/// The scalar of the number, cast.
+fn cast_number(alloc: Global, number: PValue, target: &DType) -> Result<Scalar, VortexError>
+    ensures one { IfOk result (IsTheOne (type_of target.now) (whole (whole_of number))) }
+    ensures refused { IfErr result (RefusesCast (type_of target.now)
+        (CanCast (integer_type (kind_of number) NonNullable)
+        (type_of target.now) (whole (whole_of number)))) }
+{
     let own = number.ptype();
     let Ok(source) = Scalar::primitive_value(number, own, Nullability::NonNullable) else {
         unreachable!()
     };
-    let target = DType::Primitive(kind, Nullability::NonNullable);
-    let Ok(made) = source.cast(alloc, &target) else {
-        return None;
-    };
-    match made.value {
-        Some(ScalarValue::Primitive(number)) => Some(number),
-        _ => unreachable!(),
+    source.cast(alloc, target)
+}
+
+/// The number of a scalar that has one.
+fn number_of(scalar: Scalar) -> PValue
+    requires { IsIntegerValue (scalar_raw scalar) }
+    ensures { scalar_raw scalar ≡ raw_integer (kind_of result) (whole_of result) }
+{
+    match scalar.into_value() {
+        Some(value) => value.into_primitive(),
+        None => unreachable!(),
     }
 }

@@ -78,18 +78,6 @@ fn writes<T: Display>(rt: &(impl AllocGlobal + Abort), value: &T, wanted: &str) 
 }
 
 #[test]
-fn leaf_views_of_truth_values(rt: HostRuntime) {
-    let all = [
-        scalar(DType::Bool(NonNullable), truth(true)),
-        null(DType::Bool(Nullable)),
-    ];
-    let view = bool_view(&rt, &all[0]);
-    assert!(rt; view.value() == Some(true));
-    assert!(rt; bool_view(&rt, &all[1]).value().is_none());
-    assert!(rt; *view.dtype() == all[0].dtype);
-}
-
-#[test]
 fn leaf_views_hash(rt: HostRuntime) {
     let all = [
         scalar(DType::Bool(NonNullable), truth(true)),
@@ -119,22 +107,6 @@ fn leaf_views_of_texts_hash(rt: HostRuntime) {
         &view,
         &text_view(&rt, &all[1]),
         &text_view(&rt, &all[2]),
-    );
-}
-
-#[test]
-fn leaf_views_of_bytes_hash(rt: HostRuntime) {
-    let all = [
-        binary(&rt, NonNullable, &[1, 2, 3]),
-        binary(&rt, Nullable, &[1, 2, 3]),
-        binary(&rt, Nullable, &[1, 2, 4]),
-    ];
-    let view = bytes_view(&rt, &all[0]);
-    hashes(
-        &rt,
-        &view,
-        &bytes_view(&rt, &all[1]),
-        &bytes_view(&rt, &all[2]),
     );
 }
 
@@ -181,20 +153,6 @@ fn leaf_views_of_texts_order(rt: HostRuntime) {
 }
 
 #[test]
-fn leaf_views_of_bytes_order(rt: HostRuntime) {
-    let all = [
-        null(DType::Binary(Nullable)),
-        binary(&rt, Nullable, &[]),
-        binary(&rt, NonNullable, &[1, 255, 255]),
-        binary(&rt, NonNullable, &[2, 0, 0]),
-    ];
-    let empty = bytes_view(&rt, &all[1]);
-    assert!(rt; bytes_view(&rt, &all[0]).cmp(&empty) == Ordering::Less);
-    let low = bytes_view(&rt, &all[2]);
-    assert!(rt; bytes_view(&rt, &all[3]).cmp(&low) == Ordering::Greater);
-}
-
-#[test]
 fn leaf_views_of_integers_order(rt: HostRuntime) {
     let all = [
         nullable_i32(None),
@@ -237,20 +195,6 @@ fn leaf_views_count_bytes(rt: HostRuntime) {
     let (empty, absent) = (bytes_view(&rt, &all[2]), bytes_view(&rt, &all[3]));
     assert!(rt; empty.len() == Some(0) && empty.is_empty() == Some(true));
     assert!(rt; absent.len().is_none() && absent.is_empty().is_none());
-}
-
-#[test]
-fn leaf_views_lend_texts_and_bytes(rt: HostRuntime) {
-    let all = [
-        utf8(&rt, Nullable, "abc"),
-        binary(&rt, NonNullable, &[1, 2]),
-    ];
-    let word = text_view(&rt, &all[0]);
-    assert!(rt; *word.dtype() == all[0].dtype);
-    assert!(rt; word.value().expect(&rt, "a text").as_str() == "abc");
-    let string = bytes_view(&rt, &all[1]);
-    assert!(rt; *string.dtype() == all[1].dtype);
-    assert!(rt; string.value().expect(&rt, "bytes").as_slice() == [1, 2].as_slice());
 }
 
 #[test]

@@ -52,34 +52,28 @@ fn nulls_of_unions_choose_nothing(rt: HostRuntime) {
     drop(dtype);
 }
 
+/// The variant of a scalar of the type and the raw value.
+fn variant_of(rt: &(impl AllocGlobal + Abort), dtype: DType, value: Raw) -> Scalar
+    ensures { IsValid result }
+{
+    let inner = variant(rt, dtype, value);
+    scalar(rt, DType::Variant(Nullable), inner)
+}
+
 #[test]
 fn variants_tell_their_nulls_apart(rt: HostRuntime) {
     let outer = scalar(&rt, DType::Variant(Nullable), None);
     let view = outer.as_variant_opt().expect(&rt, "a variant");
     assert!(rt; view.is_null());
-    assert!(rt; view.is_variant_null().is_none());
-    assert!(rt; view.is_zero().is_none());
+    assert!(rt; view.is_variant_null().is_none() && view.is_zero().is_none());
     drop(outer);
-}
-
-#[test]
-fn nulls_in_variants_are_zero(rt: HostRuntime) {
-    let null = variant(&rt, DType::Null, None);
-    let null = scalar(&rt, DType::Variant(NonNullable), null);
-    let view = null.as_variant_opt().expect(&rt, "a variant");
-    assert!(rt; *view.dtype() == null.dtype);
+    let inner = variant_of(&rt, DType::Null, None);
+    let view = inner.as_variant_opt().expect(&rt, "a variant");
     assert!(rt; !view.is_null());
-    assert!(rt; view.is_variant_null() == Some(true));
-    assert!(rt; view.is_zero() == Some(true));
-    drop(null);
-}
-
-#[test]
-fn numbers_in_variants_are_no_nulls(rt: HostRuntime) {
-    let one = variant(&rt, I32, integer(1));
-    let one = scalar(&rt, DType::Variant(NonNullable), one);
+    assert!(rt; view.is_variant_null() == Some(true) && view.is_zero() == Some(true));
+    drop(inner);
+    let one = variant_of(&rt, I32, integer(1));
     let view = one.as_variant_opt().expect(&rt, "a variant");
-    assert!(rt; view.is_variant_null() == Some(false));
-    assert!(rt; view.is_zero() == Some(false));
+    assert!(rt; view.is_variant_null() == Some(false) && view.is_zero() == Some(false));
     drop(one);
 }
