@@ -1,13 +1,14 @@
 -- Steps of writing texts: the digits of a byte, shortened lists, and the parts of values that a loop comes to.
-use Rattle.std.proofs.Common.{◌≡◌, ◌≢◌, ℕ, ◌+◌, ◌-◌, ◌<◌, ◌≤◌, false, true, nat_lt, Option, List, [], ◌∷◌, ◌++◌, length, take, drop, get_or, codes, refl, arith}
+use Rattle.std.proofs.Common.{◌≡◌, ◌≢◌, ℕ, ◌+◌, ◌-◌, ◌<◌, ◌≤◌, false, true, nat_lt, Option, Some, None, List, [], ◌∷◌, ◌++◌, length, take, drop, get_or, codes, Bor, Box, Global, option_map, refl, ap, arith}
 use Rattle.std.proofs.lemmas.Bool.Decides.{nat_tests}
 use Rattle.std.proofs.lemmas.Fmt.{hex_byte}
 use Rattle.std.proofs.lemmas.List.{drop_more, length-drop, take_all}
+use Rattle.std.specs.Option.{IsSomeAnd, MatchOption, option_copied}
 use Rattle.vortex_dtype.specs.Lemmas.TypeLevels.{type_of-List, type_of-FixedSizeList, type_of-Map, type_of-Struct, type_of-Union}
 use Rattle.vortex_dtype.specs.TypeTree.{TypeTree, TypeTrees, no_types, type_then, storage}
 use Rattle.vortex_value.specs.Values.RawOf.{raw_of, value_trees}
 use Rattle.vortex_value.specs.Values.RawTree.{raw_tuple, RawTrees, no_raws, raw_then}
-use Rattle.vortex_value.specs.Texts.{entry_text, field_texts, shortened, text_at}
+use Rattle.vortex_value.specs.Texts.{child_text, entry_text, field_texts, shortened, text_at}
 use Rattle.vortex_value.specs.declared.values.ScalarValue.{ScalarValue}
 use Rattle.vortex_value.proofs.ValidSteps.{two_places}
 use Rattle.vortex_value.proofs.ValueSteps.{value_tree-Tuple, value_tree-Union, value_tree-Variant, variant_tree-parts, union_tree-parts}
@@ -59,6 +60,17 @@ no_values (name ∷ names) (type_then t ts) = refl
 pub no_types_left : (names : List (List ℕ)) (vs : RawTrees) → field_texts names no_types vs ≡ []
 no_types_left [] vs = refl
 no_types_left (name ∷ names) vs = refl
+
+-- the child behind an optional reference to what its box owns
+pub child_behind : (child : Option (Box ScalarValue Global)) (o : Option (Bor ScalarValue)) → MatchOption child (o ≡ None) (λ b. IsSomeAnd o (λ y. y.now ≡ b.value)) → option_copied o ≡ option_map (λ b. b.value) child
+child_behind None o none = rw none refl
+child_behind (Some b) None some = absurd some
+child_behind (Some b) (Some y) same = ap Some same
+
+-- without a type a child has no text
+pub no_child_type : (name : Option (List ℕ)) (text : TypeTree → List ℕ) → child_text name None text ≡ []
+no_child_type None text = refl
+no_child_type (Some name) text = refl
 
 -- one level of a value and of a type, and what is written of nothing
 pub ruleset shown = (value_tree-Tuple, value_tree-Union, value_tree-Variant, variant_tree-parts, union_tree-parts, type_of-List, type_of-FixedSizeList, type_of-Map, type_of-Struct, type_of-Union, has_written_none)

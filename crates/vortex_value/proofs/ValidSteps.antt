@@ -1,16 +1,16 @@
 -- Steps of the check of validity: what one level of a raw value and of a type is, and loops over parts.
-use Rattle.std.proofs.Common.{◌≡◌, ◌≢◌, ℕ, suc, ◌<◌, Bool, true, Result, List, [], ◌∷◌, ◌++◌, length, Option, Some, None, drop, get_or, drop-cons, refl, ap, subst, arith}
+use Rattle.std.proofs.Common.{◌≡◌, ◌≢◌, ℕ, suc, ◌+◌, ◌<◌, Bool, true, Result, List, [], ◌∷◌, ◌++◌, length, Option, Some, None, drop, get_or, drop-cons, add-one, refl, ap, subst, arith}
 use Rattle.std.proofs.lemmas.List.{get_or_default}
 use Rattle.std.specs.Result.{ForErr}
 use Rattle.vortex_dtype.specs.declared.error.Step.{Step}
 use Rattle.vortex_dtype.specs.declared.error.Step.TheVariants.{Element, Entry, Key, Value}
 use Rattle.vortex_dtype.specs.declared.error.Breach.TheVariants.{WrongLength}
 use Rattle.vortex_dtype.specs.TypeOf.{as_type_trees}
-use Rattle.vortex_dtype.specs.TypeTree.{TypeTree, storage}
-use Rattle.vortex_value.specs.Breaches.{Found, HasSteps, count_types, first, here, under, breaches, breaches_at, element_breaches, entry_breaches, breaches_of_entry}
+use Rattle.vortex_dtype.specs.TypeTree.{TypeTree, TypeTrees, no_types, type_then, storage}
+use Rattle.vortex_value.specs.Breaches.{Found, HasSteps, count_types, first, here, under, breaches, breaches_at, element_breaches, entry_breaches, breaches_of_entry, field_breaches}
 use Rattle.vortex_value.specs.Steps.Faults.{Checks, HasPath, Shows}
 use Rattle.vortex_value.specs.Values.RawOf.{raw_of, value_trees}
-use Rattle.vortex_value.specs.Values.RawTree.{raw_tuple}
+use Rattle.vortex_value.specs.Values.RawTree.{raw_tuple, no_raws}
 use Rattle.vortex_value.specs.declared.validate.Fault.{Fault}
 use Rattle.vortex_value.specs.declared.validate.Fault.TheVariants.{NoMemory, NoPath, First}
 use Rattle.vortex_value.specs.declared.values.ScalarValue.{ScalarValue}
@@ -45,13 +45,18 @@ some-first (g ∷ fs) f h = λ e. cc
 
 -- the elements from place i on
 pub elements_at : (e : TypeTree) (i : ℕ) (vs : List (Option ScalarValue)) (v : Option ScalarValue) → i < length vs → v ≡ get_or vs i v
-    → element_breaches e i (value_trees (drop i vs)) ≡ under (Element i) (breaches_at (storage e) (raw_of v)) ++ element_breaches e (suc i) (value_trees (drop (suc i) vs))
-elements_at e i vs v h is = rw (drop-cons vs i v, ← is)
+    → element_breaches e i (value_trees (drop i vs)) ≡ under (Element i) (breaches_at (storage e) (raw_of v)) ++ element_breaches e (i + 1) (value_trees (drop (i + 1) vs))
+elements_at e i vs v h is = rw (add-one, drop-cons vs i v, ← is)
 
 -- the entries from place i on
 pub entries_at : (k w : TypeTree) (i : ℕ) (vs : List (Option ScalarValue)) (v : Option ScalarValue) → i < length vs → v ≡ get_or vs i v
-    → entry_breaches k w i (value_trees (drop i vs)) ≡ under (Entry i) (breaches_of_entry k w (raw_of v)) ++ entry_breaches k w (suc i) (value_trees (drop (suc i) vs))
-entries_at k w i vs v h is = rw (drop-cons vs i v, ← is)
+    → entry_breaches k w i (value_trees (drop i vs)) ≡ under (Entry i) (breaches_of_entry k w (raw_of v)) ++ entry_breaches k w (i + 1) (value_trees (drop (i + 1) vs))
+entries_at k w i vs v h is = rw (add-one, drop-cons vs i v, ← is)
+
+-- without values there are no fields
+pub no_values : (i : ℕ) (ts : TypeTrees) → field_breaches i ts no_raws ≡ []
+no_values i no_types = refl
+no_values i (type_then t ts) = refl
 
 -- a list of two is its two places
 pub two_places : {A : Type 0} (xs : List A) (x y : A) → length xs ≡ 2 → x ≡ get_or xs 0 x → y ≡ get_or xs 1 y → xs ≡ x ∷ y ∷ []

@@ -82,7 +82,6 @@ pub(super) fn kept(
 }
 
 /// The same number in the kind of the target.
-#[tactic(auto, using(crate::proofs::CastCode::shown))]
 pub(super) fn cast_number(number: PValue, target: &DType) -> Result<ScalarValue, VortexError>
     ensures made { Makes value_tree (number_to (whole_of number) (type_of target.now)) result }
     ensures flat { IfErr result (λ e. e ≡ CannotCast) }

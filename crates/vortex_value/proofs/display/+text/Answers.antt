@@ -1,11 +1,11 @@
 -- Each loop writes the next of the texts that it joins.
-use Rattle.std.proofs.Common.{◌≡◌, [], drop, codes, refl, arith, rules, inl, inr}
+use Rattle.std.proofs.Common.{◌≡◌, [], drop, codes, refl, inl, inr}
 use Rattle.std.proofs.Output.{has_written_append}
 use Rattle.std.proofs.lemmas.List.{drop_all, nil_from_length}
-use Rattle.vortex_dtype.specs.Lemmas.TypeLevels.{type_of-Union}
+use Rattle.vortex_dtype.specs.Lemmas.TypeLevels.{type_of-List, type_of-FixedSizeList, type_of-Map, type_of-Struct, type_of-Union}
 use Rattle.vortex_dtype.specs.TypeOf.{map_of}
-use Rattle.vortex_value.proofs.TextSteps.{no_entry_text, no_types_left, no_values, pair_text, value_trees_at}
-use Rattle.vortex_value.proofs.ValueSteps.{value_tree-Tuple, union_tree-child}
+use Rattle.vortex_value.proofs.TextSteps.{child_behind, no_child_type, no_entry_text, no_types_left, no_values, pair_text, value_trees_at}
+use Rattle.vortex_value.proofs.ValueSteps.{value_tree-Tuple, value_tree-Union, value_tree-Variant, variant_tree-parts, union_tree-child}
 use Rattle.vortex_value.proofs.Writes.{has_written_none, left_all, left_none, left_part}
 use Rattle.vortex_value.proofs.display.+text.Goals as goal
 
@@ -25,26 +25,83 @@ write_pair-returns g t c plain ok =
     let m = map_of c.args.map.now in
     let x = c.index-parts-0.result in
     let y = c.index-parts-1.result in
-    let key = c.write_part.ensures plain (search rules) in
-    let colon = c.write_str.ensures.writes key.plain (search rules) in
+    let key = c.in_ok-write_part.ensures plain refl in
+    let colon = c.in_ok-write_str.ensures.writes key.plain refl in
     let value = c.write_part-2.ensures colon.plain ok in
     rw (pair_text m.key m.value c.args.parts.now x y c.if-parts-ne2.false c.index-parts-0.is c.index-parts-1.is)
     (has_written_append _ _ _ _ _ _ (rw (c.key_dtype.ensures.tree, c.as_ref.ensures.value) at key)
     (has_written_append _ _ _ _ _ _ colon (rw (c.value_dtype.ensures.tree, c.as_ref-2.ensures.value) at value)))
+
+pub write_value-returns-in-Union : goal.write_value-returns-in-Union
+write_value-returns-in-Union g t c plain ok = rw (c.in-Union.is, value_tree-Union, ← c.storage_of-in-Union.ensures) (c.write_union.ensures plain ok)
+
+pub write_value-returns-in-Variant : goal.write_value-returns-in-Variant
+write_value-returns-in-Variant g t c plain ok = rw (c.in-Variant.is, value_tree-Variant, variant_tree-parts) (rw c.deref-in-Variant.ensures at (c.write_inner.ensures plain ok))
+
+pub write_part-returns-in-Some : goal.write_part-returns-in-Some
+write_part-returns-in-Some g t c plain ok = rw c.in-Some.is (c.write_value.ensures plain ok)
+
+pub write_tuple-returns-in-List : goal.write_tuple-returns-in-List
+write_tuple-returns-in-List g t c plain ok = rw (c.in-List.is, type_of-List) (rw c.deref.ensures at (c.write_elements.ensures plain ok))
+
+pub write_tuple-returns-in_ok-write-in-FixedSizeList : goal.write_tuple-returns-in_ok-write-in-FixedSizeList
+write_tuple-returns-in_ok-write-in-FixedSizeList g t c plain ok =
+    let sized = c.in_ok-write-in-FixedSizeList.ensures.writes plain refl in
+    let elements = rw c.deref-in-FixedSizeList.ensures at (c.write_elements-in-FixedSizeList.ensures sized.plain ok) in
+    rw (c.in-FixedSizeList.is, type_of-FixedSizeList) (has_written_append _ _ _ _ _ _ sized elements)
+
+pub write_tuple-returns-in-Map : goal.write_tuple-returns-in-Map
+write_tuple-returns-in-Map g t c plain ok = rw (c.in-Map.is, type_of-Map) (c.write_entries.ensures plain ok)
+
+pub write_tuple-returns-in-Struct : goal.write_tuple-returns-in-Struct
+write_tuple-returns-in-Struct g t c plain ok = rw (c.in-Struct.is, type_of-Struct) (c.write_fields.ensures plain ok)
+
+pub write_child-returns-in_default : goal.write_child-returns-in_default
+write_child-returns-in_default g t c plain ok = has_written_none _ _ _ plain (rw (← c.in_default.ensures.typed) (no_child_type _ _))
+
+pub write_child-returns-in_default-get : goal.write_child-returns-in_default-get
+write_child-returns-in_default-get g t c plain ok = has_written_none _ _ _ plain (rw (c.in-Some.ensures.placed, ← c.names.ensures, ← c.in_default-get.ensures) refl)
+
+pub write_child-returns : goal.write_child-returns
+write_child-returns g t c plain ok =
+    let name = c.in_ok-write_name.ensures plain refl in
+    let opened = c.in_ok-write_str.ensures.writes name.plain refl in
+    let child = rw (child_behind c.args.union.now.child c.as_deref.result c.as_deref.ensures.cases) at (c.in_ok-write_part.ensures opened.plain refl) in
+    let closed = c.write_str-2.ensures.writes child.plain ok in
+    rw (← c.in-Some.ensures.typed, c.in-Some.ensures.placed, ← c.names.ensures, ← c.in-Some-get.ensures)
+    (has_written_append _ _ _ _ _ _ name (has_written_append _ _ _ _ _ _ opened (has_written_append _ _ _ _ _ _ child closed)))
+
+pub write_inner-returns : goal.write_inner-returns
+write_inner-returns g t c plain ok =
+    let opened = c.in_ok-write_str.ensures.writes plain refl in
+    let inside = rw c.as_ref.ensures.value at (c.in_ok-write_part.ensures opened.plain refl) in
+    has_written_append _ _ _ _ _ _ opened (has_written_append _ _ _ _ _ _ inside (c.write_str-2.ensures.writes inside.plain ok))
+
+pub write_field-returns : goal.write_field-returns
+write_field-returns g t c plain ok =
+    let name = c.in_ok-write_name.ensures plain refl in
+    let colon = c.in_ok-write_str.ensures.writes name.plain refl in
+    has_written_append _ _ _ _ _ _ name (has_written_append _ _ _ _ _ _ colon (c.write_part.ensures colon.plain ok))
+
+pub write_elements-loop-index-init : goal.write_elements-loop-index-init
+write_elements-loop-index-init g t c plain = left_all _ _ _ _ plain refl
+
+pub write_entries-loop-index-init : goal.write_entries-loop-index-init
+write_entries-loop-index-init g t c plain = left_all _ _ _ _ plain refl
 
 pub write_elements-loop-index-preserved : goal.write_elements-loop-index-preserved
 write_elements-loop-index-preserved g t c plain =
     let i = c.loop-index.index in
     let v = c.index-items-index.result in
     let left = rw (value_trees_at i c.args.items.now v c.loop-index-test.true c.index-items-index.is) at (c.loop-index.invariant plain) in
-    let separator = c.write_str-in-loop-index.ensures.writes left.wrote.plain (search rules) in
-    let item = rw c.as_ref.ensures.value at (c.write_part.ensures separator.plain (search rules)) in
+    let separator = c.in_ok-write_str-2.ensures.writes left.wrote.plain refl in
+    let item = rw c.as_ref.ensures.value at (c.in_ok-write_part.ensures separator.plain refl) in
     left_part _ i _ _ _ _ (codes ", ") _ _ _ _ left separator c.before-in-loop-index.ensures item
 
 pub write_elements-returns : goal.write_elements-returns
 write_elements-returns g t c plain ok =
-    let opened = c.write_str.ensures.writes plain (search rules) in
-    let none : drop c.loop-index.index c.args.items.now ≡ [] = drop_all c.loop-index.index c.args.items.now (omega arith) in
+    let opened = c.in_ok-write_str.ensures.writes plain refl in
+    let none : drop c.loop-index.index c.args.items.now ≡ [] = drop_all c.loop-index.index c.args.items.now c.loop-index-test.false in
     let all = left_none _ c.loop-index.index _ _ (codes ", ") _ _ (rw none refl) (c.loop-index.invariant opened.plain) in
     has_written_append _ _ _ _ _ _ opened (has_written_append _ _ _ _ _ _ all (c.write_str-2.ensures.writes all.plain ok))
 
@@ -53,14 +110,14 @@ write_entries-loop-index-preserved g t c plain =
     let i = c.loop-index.index in
     let v = c.index-items-index.result in
     let left = rw (value_trees_at i c.args.items.now v c.loop-index-test.true c.index-items-index.is) at (c.loop-index.invariant plain) in
-    let separator = c.write_str-in-loop-index.ensures.writes left.wrote.plain (search rules) in
-    let item = rw c.as_ref.ensures.value at (c.write_entry.ensures separator.plain (search rules)) in
+    let separator = c.in_ok-write_str-2.ensures.writes left.wrote.plain refl in
+    let item = rw c.as_ref.ensures.value at (c.in_ok-write_entry.ensures separator.plain refl) in
     left_part _ i _ _ _ _ (codes ", ") _ _ _ _ left separator c.before-in-loop-index.ensures item
 
 pub write_entries-returns : goal.write_entries-returns
 write_entries-returns g t c plain ok =
-    let opened = c.write_str.ensures.writes plain (search rules) in
-    let none : drop c.loop-index.index c.args.items.now ≡ [] = drop_all c.loop-index.index c.args.items.now (omega arith) in
+    let opened = c.in_ok-write_str.ensures.writes plain refl in
+    let none : drop c.loop-index.index c.args.items.now ≡ [] = drop_all c.loop-index.index c.args.items.now c.loop-index-test.false in
     let all = left_none _ c.loop-index.index _ _ (codes ", ") _ _ (rw none refl) (c.loop-index.invariant opened.plain) in
     has_written_append _ _ _ _ _ _ opened (has_written_append _ _ _ _ _ _ all (c.write_str-2.ensures.writes all.plain ok))
 
@@ -75,13 +132,13 @@ pub write_fields-loop-index-preserved : goal.write_fields-loop-index-preserved
 write_fields-loop-index-preserved g t c plain =
     let (((values, names), types), here, next, small) = c.in-Some.ensures.steps in
     let left = rw (values, names, types) at (c.loop-index.invariant plain) in
-    let separator = c.write_str-in-loop-index.ensures.writes left.wrote.plain (search rules) in
-    let field = rw c.as_ref.ensures.value at (c.write_field.ensures separator.plain (search rules)) in
+    let separator = c.in_ok-write_str-2.ensures.writes left.wrote.plain refl in
+    let field = rw c.as_ref.ensures.value at (c.in_ok-write_field.ensures separator.plain refl) in
     rw next (left_part _ c.loop-index.index-iterator.count _ _ _ _ (codes ", ") _ _ _ _ left separator (rw here at c.before-in-loop-index.ensures) field)
 
 pub write_fields-returns : goal.write_fields-returns
 write_fields-returns g t c plain ok =
-    let opened = c.write_str.ensures.writes plain (search rules) in
+    let opened = c.in_ok-write_str.ensures.writes plain refl in
     let all = left_none _ c.loop-index.index-iterator.count _ _ (codes ", ") _ _ (elim c.in-None.ensures.steps.0 [
       | inl (x, inl (y, none)) ↦ rw (nil_from_length _ none.0, no_values) refl
       | inl (x, inr (y, none)) ↦ rw (nil_from_length _ none.0) refl
