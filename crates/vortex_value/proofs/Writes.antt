@@ -50,6 +50,22 @@ module _ {W : Type 0} (took : W → List ℕ → W → Type 0) where
       let left : HasLeft took f (before ++ (text ++ flat_map (λ t. separator ++ t) texts)) whole g = rw (same, ← append_assoc) p in
       rw add-one (left_more f h k text _ whole (left_more f g h before _ whole left q) r)
 
+  -- the next text is written together with what stands before it
+  pub left_next : (i : ℕ) (f g h : Formatter W) (separator text : List ℕ) (texts : List (List ℕ)) (whole : List ℕ)
+      → HasLeft took f (rest_from i separator (text ∷ texts)) whole g → HasWritten took g ((if i == 0 then [] else separator) ++ text) h
+      → HasLeft took f (rest_from (i + 1) separator texts) whole h
+  left_next zero f g h separator text texts whole p q = left_more f g h text _ whole p q
+  left_next (suc i) f g h separator text texts whole p q =
+      let later : (suc i == 0) ≡ false = grind (arith, nat_tests) in
+      rw add-one (left_more f g h (separator ++ text) _ whole p (rw later at q))
+
+  -- nothing is left, and nothing written
+  pub left_empty : (i : ℕ) (f g h : Formatter W) (separator : List ℕ) (texts more : List (List ℕ)) (whole : List ℕ)
+      → texts ≡ [] → more ≡ [] → HasLeft took f (rest_from i separator texts) whole g → HasWritten took g [] h
+      → HasLeft took f (rest_from (i + 1) separator more) whole h
+  left_empty zero f g h separator texts more whole none end p q = rw end (left_more f g h [] [] whole (rw none at p) q)
+  left_empty (suc i) f g h separator texts more whole none end p q = rw (end, add-one) (left_more f g h [] [] whole (rw none at p) q)
+
   -- no text is left
   pub left_none : (i : ℕ) (f g : Formatter W) (separator : List ℕ) (texts : List (List ℕ)) (whole : List ℕ)
       → texts ≡ [] → HasLeft took f (rest_from i separator texts) whole g → HasWritten took f whole g

@@ -2,3 +2,4 @@
 pub mod CastSteps
 pub mod Faults
 pub mod Filling
+pub mod Labels

@@ -1,16 +1,16 @@
 //! The texts of raw values and of scalars, written from borrowed parts.
 
-ghost use Rattle.std.specs.Prelude.{◌≡◌, ◌++◌, Some, codes, option_map};
+ghost use Rattle.std.specs.Prelude.{◌≡◌, ◌++◌, ◌⊎◌, [], IfNone, IfSome, None, Some, codes, slice_get};
 ghost use Rattle.std.specs.Fmt.{WritesOnOk};
 ghost use Rattle.std.specs.Option.{option_copied};
-ghost use Rattle.vortex_dtype.specs.TypeOf.{fields_of, map_of, type_of, as_type_trees, variants_of};
+ghost use Rattle.vortex_dtype.specs.TypeOf.{fields_of, map_of, type_of, as_type_trees};
 ghost use Rattle.vortex_dtype.specs.TypeTree.{storage};
 ghost use Rattle.vortex_value.specs.Values.RawOf.{raw_of, value_trees, variant_tree, union_tree, value_tree};
-ghost use Rattle.vortex_value.specs.Values.RawTree.{raw_tuple};
+ghost use Rattle.vortex_value.specs.Values.RawTree.{RawTree, raw_tuple, raw_union};
 ghost use Rattle.vortex_value.specs.Values.Refs.{ref_raw, ref_type};
 ghost use Rattle.vortex_value.specs.Values.Scalars.{scalar_raw, scalar_type};
-ghost use Rattle.vortex_value.specs.Texts.{between, child_text, element_texts, entry_text, entry_texts, field_texts, in_braces, in_brackets, joined, name_with, raw_text_of, raw_texts, text_at, text_of};
-ghost use Rattle.vortex_value.specs.Validity.{type_with};
+ghost use Rattle.vortex_value.specs.Steps.Labels.{field_at};
+ghost use Rattle.vortex_value.specs.Texts.{between, element_texts, entry_text, entry_texts, field_texts, in_braces, in_brackets, in_parentheses, joined, raw_text_of, raw_texts, text_at, text_of};
 
 use crate::refs::ScalarRef;
 use crate::scalars::Scalar;
@@ -91,7 +91,7 @@ fn write_elements<W: Write>(
 {
     f.write_str("[")?;
     for (index, item) in items.iter().enumerate() {
-        f.write_str(leaves::before(index, ", "))?;
+        leaves::write_separator(index, ", ", f)?;
         write_part(item.as_ref(), element, f)?;
     }
     f.write_str("]")
@@ -110,7 +110,7 @@ fn write_entries<W: Write>(
 {
     f.write_str("{")?;
     for (index, item) in items.iter().enumerate() {
-        f.write_str(leaves::before(index, ", "))?;
+        leaves::write_separator(index, ", ", f)?;
         write_entry(item.as_ref(), map, f)?;
     }
     f.write_str("}")
@@ -166,69 +166,71 @@ fn write_fields<W: Write>(
         (as_type_trees (fields_of fields.now).types) (value_trees items.now)))) f.new }
 {
     f.write_str("{")?;
-    let named = items.iter().zip(fields.names().iter());
-    for (index, ((item, name), dtype)) in named.zip(fields.dtypes()).enumerate() {
-        f.write_str(leaves::before(index, ", "))?;
-        write_field(name, item.as_ref(), dtype, f)?;
+    for (index, item) in items.iter().enumerate() {
+        write_field(index, item.as_ref(), fields, f)?;
     }
     f.write_str("}")
 }
 
-/// One field: its name, and after a colon its value.
+/// One field: its name, and after a colon its value, with what stands before it. Past the fields it
+/// writes nothing.
 #[cycle(text)]
 fn write_field<W: Write>(
-    field: &FieldName,
+    index: usize,
     value: Option<&ScalarValue>,
-    dtype: &DType,
+    fields: &StructFields,
     f: &mut Formatter<W>,
 ) -> fmt::Result
     ensures { WritesOnOk W.write_str_gives f.old result
-        (field.now ++ (codes ": "
-        ++ text_at (storage (type_of dtype.now)) (raw_of (option_copied value.entry)))) f.new }
+        (field_at index (slice_get (fields_of fields.now).names index)
+        (slice_get (fields_of fields.now).types index) (raw_of (option_copied value.entry))) f.new }
 {
-    leaves::write_name(field, f)?;
-    f.write_str(": ")?;
+    let Some((name, dtype)) = named_field(fields, index) else {
+        return Ok(());
+    };
+    leaves::write_label(index, name, f)?;
     write_part(value, dtype, f)
 }
 
-/// The text of a valid value of a union. Of another type it writes nothing.
+/// The name and the type of the field at this place, if there is one.
+fn named_field(fields: &StructFields, index: usize) -> Option<(&FieldName, &DType)>
+    ensures some { IfSome result
+        (λ v. (slice_get (fields_of fields.now).names index ≡ Some v.0.now)
+        × (slice_get (fields_of fields.now).types index ≡ Some (type_of v.1.now))) }
+    ensures none { IfNone result ((slice_get (fields_of fields.now).names index ≡ None)
+        ⊎ (slice_get (fields_of fields.now).types index ≡ None)) }
+{
+    Some((fields.names().get(index)?, fields.field_by_index(index)?))
+}
+
+/// The name of the variant that the id gives, and in parentheses the child. Of another type it
+/// writes nothing.
 #[cycle(text)]
 #[tactic(auto, using(crate::proofs::TextSteps::shown))]
 fn write_union<W: Write>(union: &UnionValue, dtype: &DType, f: &mut Formatter<W>) -> fmt::Result
     ensures { WritesOnOk W.write_str_gives f.old result
         (text_at (type_of dtype.now) (union_tree union.now)) f.new }
 {
-    match dtype {
-        DType::Union(variants, _) => write_child(union, variants, f),
-        _ => Ok(()),
-    }
-}
-
-/// The name of the variant that the id gives, and in parentheses the child.
-#[cycle(text)]
-#[tactic(auto, using(crate::proofs::TextSteps::shown))]
-fn write_child<W: Write>(
-    union: &UnionValue,
-    variants: &UnionVariants,
-    f: &mut Formatter<W>,
-) -> fmt::Result
-    ensures { WritesOnOk W.write_str_gives f.old result (child_text
-        (name_with union.now.type_id (variants_of variants.now).type_ids
-        (variants_of variants.now).names)
-        (type_with union.now.type_id (variants_of variants.now).type_ids
-        (as_type_trees (variants_of variants.now).types))
-        (λ t. text_at (storage t) (raw_of (option_map (λ b. b.value) union.now.child)))) f.new }
-{
-    let Some((place, variant)) = variant_with(variants, union.type_id) else {
+    let Some((name, variant)) = named_variant(dtype, union.type_id) else {
         return Ok(());
     };
-    let Some(name) = variants.names().get(place) else {
-        return Ok(());
-    };
-    leaves::write_name(name, f)?;
-    f.write_str("(")?;
+    leaves::write_opening(name, f)?;
     write_part(union.child.as_deref(), variant, f)?;
     f.write_str(")")
+}
+
+/// The name and the type of the variant with this id, if the type is a union that has one.
+#[tactic(auto, using(crate::proofs::TextSteps::shown))]
+fn named_variant(dtype: &DType, id: u8) -> Option<(&FieldName, &DType)>
+    ensures some { IfSome result (λ v. (raw : RawTree) → text_at (type_of dtype.now) (raw_union id raw)
+        ≡ v.0.now ++ in_parentheses (text_at (storage (type_of v.1.now)) raw)) }
+    ensures none { IfNone result ((raw : RawTree) → text_at (type_of dtype.now) (raw_union id raw) ≡ []) }
+{
+    let DType::Union(variants, _) = dtype else {
+        return None;
+    };
+    let (place, variant) = variant_with(variants, id)?;
+    Some((variants.names().get(place)?, variant))
 }
 
 /// The scalar in a variant, in parentheses.
@@ -280,7 +282,7 @@ fn write_raw_items<W: Write>(items: &[Option<ScalarValue>], f: &mut Formatter<W>
 {
     f.write_str("[")?;
     for (index, item) in items.iter().enumerate() {
-        f.write_str(leaves::before(index, ", "))?;
+        leaves::write_separator(index, ", ", f)?;
         write_raw_part(item.as_ref(), f)?;
     }
     f.write_str("]")

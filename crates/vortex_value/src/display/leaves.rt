@@ -1,9 +1,10 @@
 //! The texts of truth values, texts and strings of bytes.
 
-ghost use Rattle.std.specs.Prelude.{◌≡◌, ◌==◌, [], codes, drop, if◌then◌else◌, length, map, take};
+ghost use Rattle.std.specs.Prelude.{◌≡◌, ◌++◌, codes, drop, length, map, take};
 ghost use Rattle.std.specs.Fmt.{WritesOnOk};
 ghost use Rattle.std.specs.List.{flat_map};
 ghost use Rattle.std.specs.Str.{chars, encode_utf8_all};
+ghost use Rattle.vortex_value.specs.Steps.Labels.{before_at};
 ghost use Rattle.vortex_value.specs.Texts.{escaped, escaped_char, hexadecimal, in_quotes, joined, null_text, shortened, truth_text, two_digits};
 
 use std::fmt::{self, Formatter, Write};
@@ -27,6 +28,28 @@ pub(super) fn write_name<W: Write>(name: &FieldName, f: &mut Formatter<W>) -> fm
     f.write_str(name.as_str())
 }
 
+/// The name of a field, and the colon after it, with what stands before it.
+pub(super) fn write_label<W: Write>(
+    index: usize,
+    name: &FieldName,
+    f: &mut Formatter<W>,
+) -> fmt::Result
+    ensures { WritesOnOk W.write_str_gives f.old result
+        (before_at index (codes ", ") ++ (name.now ++ codes ": ")) f.new }
+{
+    write_separator(index, ", ", f)?;
+    write_name(name, f)?;
+    f.write_str(": ")
+}
+
+/// The name of a variant, and the parenthesis after it.
+pub(super) fn write_opening<W: Write>(name: &FieldName, f: &mut Formatter<W>) -> fmt::Result
+    ensures { WritesOnOk W.write_str_gives f.old result (name.now ++ codes "(") f.new }
+{
+    write_name(name, f)?;
+    f.write_str("(")
+}
+
 pub(super) fn truth(truth: bool) -> &'static str
     ensures { result.now ≡ truth_text truth }
 {
@@ -34,10 +57,22 @@ pub(super) fn truth(truth: bool) -> &'static str
 }
 
 /// What stands before the part at this place: the separator, but nothing before the first.
-pub(super) fn before(index: usize, separator: &'static str) -> &'static str
-    ensures { result.now ≡ (if index == 0 then [] else separator.now) }
+fn before(index: usize, separator: &'static str) -> &'static str
+    ensures { result.now ≡ before_at index separator.now }
 {
     if index == 0 { "" } else { separator }
+}
+
+/// The separator before the part at this place, but nothing before the first.
+pub(super) fn write_separator<W: Write>(
+    index: usize,
+    separator: &'static str,
+    f: &mut Formatter<W>,
+) -> fmt::Result
+    ensures { WritesOnOk W.write_str_gives f.old result
+        (before_at index separator.now) f.new }
+{
+    f.write_str(before(index, separator))
 }
 
 /// How many characters the text has.
@@ -162,7 +197,7 @@ fn write_spaced<W: Write>(bytes: &[u8], f: &mut Formatter<W>) -> fmt::Result
         (joined (codes " ") (map hexadecimal bytes.now)) f.new }
 {
     for (index, byte) in bytes.iter().enumerate() {
-        f.write_str(before(index, " "))?;
+        write_separator(index, " ", f)?;
         write_hexadecimal(*byte, f)?;
     }
     Ok(())

@@ -12,9 +12,9 @@ write_raw_items-loop-index-preserved g t c plain =
     let i = c.loop-index.index in
     let v = c.index-items-index.result in
     let left = rw (value_trees_at i c.args.items.now v c.loop-index-test.true c.index-items-index.is) at (c.loop-index.invariant plain) in
-    let separator = c.write_str-in-loop-index.ensures.writes left.wrote.plain (search rules) in
+    let separator = c.in_ok-write_separator.ensures left.wrote.plain refl in
     let item = rw c.as_ref.ensures.value at (c.write_raw_part.ensures separator.plain (search rules)) in
-    left_part _ i _ _ _ _ (codes ", ") _ _ _ _ left separator c.before-in-loop-index.ensures item
+    left_part _ i _ _ _ _ (codes ", ") _ _ _ _ left separator refl item
 
 pub write_raw_items-returns : goal.write_raw_items-returns
 write_raw_items-returns g t c plain ok =

@@ -1,6 +1,6 @@
 -- What is left to write in a loop, and that each call goes down the value.
 use Rattle.std.proofs.Common.{◌+◌, ◌*◌, drop, codes}
-use Rattle.vortex_dtype.specs.TypeOf.{fields_of, map_of, type_of, as_type_trees, dtype_trees}
+use Rattle.vortex_dtype.specs.TypeOf.{fields_of, map_of, type_of, as_type_trees}
 use Rattle.vortex_value.specs.Values.RawOf.{value_trees}
 use Rattle.vortex_value.specs.Texts.{element_texts, entry_texts, field_texts}
 use Rattle.vortex_value.proofs.Writes.{Joins}
@@ -21,10 +21,9 @@ invariant-write_entries-loop-index g l =
 
 abbrev pub invariant-write_fields-loop-index : goal.invariant-write_fields-loop-index
 invariant-write_fields-loop-index g l =
-    let left = l.index-iterator.iter in
     let all = fields_of l.fields in
-    Joins g.W.Write.write_str_gives (codes ", ") l.initial.f l.index-iterator.count
-    (field_texts left.a.b.rest.now (dtype_trees left.b.rest.now) (value_trees left.a.a.rest.now)) (field_texts all.names (as_type_trees all.types) (value_trees l.items)) l.f
+    Joins g.W.Write.write_str_gives (codes ", ") l.initial.f l.index
+    (field_texts (drop l.index all.names) (as_type_trees (drop l.index all.types)) (value_trees (drop l.index l.items))) (field_texts all.names (as_type_trees all.types) (value_trees l.items)) l.f
 
 abbrev pub decreases-write_part : goal.decreases-write_part
 decreases-write_part g l = 5 * lent_size l.value + 1
@@ -50,14 +49,11 @@ decreases-write_pair g l = 5 * goal.size-write_pair g l + 2
 abbrev pub decreases-write_fields : goal.decreases-write_fields
 decreases-write_fields g l = 5 * goal.size-write_fields g l + 3
 
-abbrev pub decreases-write_field : goal.decreases-write_field
-decreases-write_field g l = 5 * lent_size l.value + 2
-
 abbrev pub decreases-write_union : goal.decreases-write_union
 decreases-write_union g l = 5 * goal.size-write_union g l + 2
 
-abbrev pub decreases-write_child : goal.decreases-write_child
-decreases-write_child g l = 5 * goal.size-write_child g l + 1
-
 abbrev pub decreases-write_inner : goal.decreases-write_inner
 decreases-write_inner g l = 5 * goal.size-write_inner g l
+
+abbrev pub decreases-write_field : goal.decreases-write_field
+decreases-write_field g l = 5 * lent_size l.value + 2
