@@ -1,9 +1,16 @@
 //! Buffers, ids and kinds, by the calls that no worked case makes.
 
 use crate::fixtures::{I32, byte_buffer, text_buffer, two_names, two_types, union_of_two};
-use crate::hashers::fed;
+use crate::hashers::{fed, hashes};
+use std::mem::size_of;
 use std::process::Abort;
 use vortex_dtype::{BufferString, ByteBuffer, DType, PType, TypeCause, UnionVariants, VortexError};
+use vortex_value::ScalarValue;
+
+// How many bytes a buffer and a raw value take where they stand, as docs/DECISIONS.md says.
+const _: () = prove!(size_of::<ByteBuffer>() == 48 && size_of::<BufferString>() == 48);
+
+const _: () = prove!(size_of::<ScalarValue>() == 56 && size_of::<Option<ScalarValue>>() == 64);
 
 #[test]
 fn buffers_hold_their_bytes(rt: HostRuntime) {
@@ -13,6 +20,30 @@ fn buffers_hold_their_bytes(rt: HostRuntime) {
     assert!(rt; middle.as_slice() == [2, 3].as_slice());
     let again = ByteBuffer::from_slice(buffer.allocator(), &[1, 2, 3, 4]);
     assert!(rt; again.expect(&rt, "the same") == buffer);
+}
+
+#[test]
+fn a_short_slice_of_a_long_buffer_is_its_bytes(rt: HostRuntime) {
+    let long = byte_buffer(&rt, b"abcdefghijklmnopqrstuvw");
+    let all = [
+        long.slice(1..23).expect(&rt, "22 bytes"),
+        byte_buffer(&rt, b"bcdefghijklmnopqrstuvw"),
+        long,
+    ];
+    hashes(&rt, &all[0], &all[1], &all[2]);
+}
+
+#[test]
+fn vectors_and_strings_are_moved_into_buffers(rt: HostRuntime) {
+    let bytes = Vec::from_slice(rt.alloc(), b"abcdefghijklmnopqrstuvw").expect(&rt, "23 bytes");
+    let text = String::from_str(rt.alloc(), "abcdefghijklmnopqrstuvw").expect(&rt, "a string");
+    let all = [
+        ByteBuffer::from_vec(bytes).expect(&rt, "a buffer"),
+        BufferString::from_string(text)
+            .expect(&rt, "a text")
+            .into_inner(),
+    ];
+    assert!(rt; all[0] == all[1] && all[0].len() == 23);
 }
 
 #[test]

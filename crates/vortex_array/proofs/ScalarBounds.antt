@@ -1,7 +1,10 @@
 -- From the bounds of bytes to those of scalars.
-use Rattle.std.proofs.Common.{◌≡◌, ℕ, ◌<◌, ◌≤◌, inl, inr, List, [], ◌∷◌, length, take, slice_range, true, false, true≢false, Option, Some, None, IfSome, if◌then◌else◌, refl, sym, ap, ap₂, subst, ◌∙◌, arith, Ordering, Less, Equal, Greater, ◌≢◌}
+use Rattle.std.proofs.Common.{◌≡◌, ℕ, ◌<◌, ◌≤◌, inl, inr, List, [], ◌∷◌, length, take, slice_range, true, false, true≢false, Option, Some, None, IfSome, MatchOption, MatchResult, Result, Ok, Err, if◌then◌else◌, refl, sym, ap, ap₂, subst, ◌∙◌, arith, Ordering, Less, Equal, Greater, ◌≢◌}
 use Rattle.std.specs.Cmp.Lexicographic.{slice_cmp}
 use Rattle.std.specs.Ordering.{nat_cmp}
+use Rattle.vortex_dtype.specs.Memory.{GivesOrNoMemory}
+use Rattle.vortex_dtype.specs.declared.error.VortexError.{VortexError}
+use Rattle.vortex_dtype.specs.declared.error.VortexError.TheVariants.{OutOfMemory}
 use Rattle.vortex_dtype.specs.Parts.{is_binary_type, is_utf8_type}
 use Rattle.vortex_dtype.specs.TypeTree.{TypeTree, Same, erase, binary_type, utf8_type}
 use Rattle.vortex_value.specs.Values.Content.{Content, content}
@@ -137,17 +140,22 @@ other_text v w same h (inr (b, e)) = h.0 (subst IsTextValue (sym e ∙ same) tt)
 pub lower_slice : (b : List ℕ) (n : ℕ) (r : List ℕ) → IsString b → r ≡ slice_range b 0 n → IsLower b n r
 lower_slice b n r s e = subst (λ v. IsLower b n v) (sym (e ∙ slice_from_start b n)) (IsLower-lower_of b n s)
 
--- of the bytes s of the buffer b, whose first n are p
-pub upper_some : (b s p r : List ℕ) (n : ℕ) → s ≡ b → IsString s → n ≤ length b → p ≡ slice_range s 0 n
-    → next_string p ≡ Some r → IsUpper b n r
-upper_some b s p r n e v l q h =
+-- of the bytes s of the buffer b
+upper_some : (b s r : List ℕ) (n : ℕ) → s ≡ b → IsString s → n ≤ length b → next_string (take n s) ≡ Some r → IsUpper b n r
+upper_some b s r n e v l h =
     let u = upper_of_is_upper b n (subst IsString e v) l in
-    let g : upper_of b n ≡ Some r = ap next_string (sym (q ∙ slice_from_start s n ∙ ap (λ x. take n x) e)) ∙ h in
+    let g : upper_of b n ≡ Some r = ap next_string (sym (ap (λ x. take n x) e)) ∙ h in
     rw g at u
 
-pub upper_none : (b s p : List ℕ) (n : ℕ) → s ≡ b → IsString s → n ≤ length b → p ≡ slice_range s 0 n
-    → next_string p ≡ None → HasNoUpper b n
-upper_none b s p n e v l q h =
+upper_none : (b s : List ℕ) (n : ℕ) → s ≡ b → IsString s → n ≤ length b → next_string (take n s) ≡ None → HasNoUpper b n
+upper_none b s n e v l h =
     let u = upper_of_is_upper b n (subst IsString e v) l in
-    let g : upper_of b n ≡ None = ap next_string (sym (q ∙ slice_from_start s n ∙ ap (λ x. take n x) e)) ∙ h in
+    let g : upper_of b n ≡ None = ap next_string (sym (ap (λ x. take n x) e)) ∙ h in
     rw g at u
+
+pub next_is_upper : (b s : List ℕ) (n : ℕ) (r : Result (Option (List ℕ)) VortexError) → s ≡ b → IsString s → n ≤ length b
+    → GivesOrNoMemory (λ next. next ≡ next_string (take n s)) r
+    → MatchResult r (λ o. MatchOption o (HasNoUpper b n) (λ bound. IsUpper b n bound)) (λ e. e ≡ OutOfMemory)
+next_is_upper b s n (Ok (Some r)) e v l h = upper_some b s r n e v l (sym h)
+next_is_upper b s n (Ok None) e v l h = upper_none b s n e v l (sym h)
+next_is_upper b s n (Err f) e v l h = h

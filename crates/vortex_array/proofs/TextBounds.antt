@@ -1,11 +1,13 @@
 -- The bounds of a text: its longest beginning of whole characters, and the successor of that.
-use Rattle.std.proofs.Common.{◌≡◌, ℕ, ◌<◌, ◌≤◌, ◌+◌, inl, inr, List, [], ◌∷◌, length, refl, sym, ap, subst, arith, ◌++◌, encode_utf8, encode_utf8_all, append_assoc, append-nil, length-append, take, drop, take-append-drop, length-take-le, slice_range, IsCharBoundary, ⊎_elim, IsUtf8, ◌∙◌, eq-or-lt_of_le, subst₂}
+use Rattle.std.proofs.Common.{◌≡◌, ℕ, ◌<◌, ◌≤◌, ◌+◌, inl, inr, List, [], ◌∷◌, Result, Ok, Err, length, refl, sym, ap, subst, arith, ◌++◌, encode_utf8, encode_utf8_all, append_assoc, append-nil, length-append, take, drop, take-append-drop, length-take-le, slice_range, IsCharBoundary, ⊎_elim, IsUtf8, ◌∙◌, eq-or-lt_of_le, subst₂}
 use Rattle.std.specs.Char.{IsScalar, len_utf8}
 use Rattle.std.proofs.str.Laws.{order}
 use Rattle.std.proofs.lemmas.Str.{encodes-append, length-encode, len_utf8_bounds, IsUtf8-append, IsUtf8-encode, IsUtf8-take, encodes_same, IsCharBoundary-at_seam}
 use Rattle.std.proofs.lemmas.List.{same_from_push}
 use Rattle.std.proofs.Math.Seq.{take-append_seam}
 use Rattle.std.specs.String.Boundary.{IsSplitPoint}
+use Rattle.vortex_dtype.specs.Memory.{GivesOrNoMemory}
+use Rattle.vortex_dtype.specs.declared.error.VortexError.{VortexError}
 use Rattle.vortex_array.specs.Texts.{IsTextPrefix, IsTextLower, IsTextUpper, IsSuccessor, IsSuccessorOfLength, EndsWith, IsStuck, IsLast, HasNoNext, HasNoNextOfWidth}
 use Rattle.vortex_array.specs.Strings.{Below, NotAbove}
 use Rattle.vortex_array.proofs.ByteOrder.{Lt, Le, Below-from, Below-to, NotAbove-from, NotAbove-to}
@@ -27,11 +29,11 @@ IsTextLower-prefix s n p u h =
 pub slice_from_start : (b : List ℕ) (n : ℕ) → slice_range b 0 n ≡ take n b
 slice_from_start b n = ap (λ k. take k b) (omega arith)
 
-pub slice_text : (s : List ℕ) (i : ℕ) → IsUtf8 s → IsCharBoundary s i → IsUtf8 (slice_range s 0 i)
-slice_text s i u h = subst IsUtf8 (sym (slice_from_start s i)) (IsUtf8-take s i u h)
+pub length_from_start : (b : List ℕ) (n : ℕ) → n ≤ length b → length (slice_range b 0 n) ≡ n
+length_from_start b n h = ap length (slice_from_start b n) ∙ length-take-le n b h
 
 -- the beginning up to the nearest boundary
-pub floor_lower : (s r q : List ℕ) (n i : ℕ) → q ≡ s → IsUtf8 q → i ≤ n → IsCharBoundary q i
+floor_lower : (s r q : List ℕ) (n i : ℕ) → q ≡ s → IsUtf8 q → i ≤ n → IsCharBoundary q i
     → ((k : ℕ) → i < k → k ≤ n → ¬ (IsCharBoundary q k)) → r ≡ slice_range s 0 i → IsTextLower s n r
 floor_lower s r q n i same u l b near e =
     let t : r ≡ take i q = e ∙ slice_from_start s i ∙ ap (λ v. take i v) (sym same) in
@@ -42,6 +44,12 @@ floor_lower s r q n i same u l b near e =
       boundary = subst (λ k. IsCharBoundary q k) (sym w) b;
       longest = λ k m p. ⊎_elim (λ v. absurd (near k (omega arith) m p)) (λ v. v) (order (length r) k);
     }))
+
+pub slice_lower : (s q : List ℕ) (n i : ℕ) (r : Result (List ℕ) VortexError) → q ≡ s → IsUtf8 q → i ≤ n → IsCharBoundary q i
+    → ((k : ℕ) → i < k → k ≤ n → ¬ (IsCharBoundary q k)) → GivesOrNoMemory (λ t. t ≡ slice_range s 0 i) r
+    → GivesOrNoMemory (λ t. IsTextLower s n t) r
+slice_lower s q n i (Ok t) same u l b near h = floor_lower s t q n i same u l b near h
+slice_lower s q n i (Err e) same u l b near h = h
 
 -- ---- the upper bound
 empty : (xs : List ℕ) → length xs ≡ 0 → xs ≡ []

@@ -5,7 +5,7 @@ ghost use Rattle.std.specs.Option.{option_copied};
 ghost use Rattle.vortex_dtype.specs.TypeOf.{type_of};
 ghost use Rattle.vortex_dtype.specs.TypeTree.{TypeTree};
 ghost use Rattle.vortex_dtype.specs.declared.kinds.PType.TheVariants.{U8, U16, U32, U64, I8, I16, I32, I64};
-ghost use Rattle.vortex_value.specs.Conversions.{Taken, Takes, TakesCopy, as_tuple, each_taken, elements_in, given_number, given_option, given_usize, number_in, or_none, taken_bool, taken_bytes, taken_number, taken_option_bool, taken_option_bytes, taken_option_number, taken_option_text, taken_option_usize, taken_text, taken_usize, taken_vec, unless_null};
+ghost use Rattle.vortex_value.specs.Conversions.{SparesShort, Taken, Takes, TakesCopy, as_tuple, each_taken, elements_in, given_number, given_option, given_usize, number_in, or_none, taken_bool, taken_bytes, taken_number, taken_option_bool, taken_option_bytes, taken_option_number, taken_option_text, taken_option_usize, taken_text, taken_usize, taken_vec, unless_null};
 ghost use Rattle.vortex_value.specs.Values.RawOf.{raw_of, value_tree, value_trees};
 ghost use Rattle.vortex_value.specs.Values.RawTree.{RawTree, absent, raw_bool, raw_text, raw_bytes, raw_tuple};
 ghost use Rattle.vortex_value.specs.Values.Refs.{ref_raw, ref_type};
@@ -417,7 +417,7 @@ impl FromScalar for Option<usize> {
 }
 
 /// `WrongKind` of another type, `IsNull` of a null, `WrongKind` of another kind of raw value; else the
-/// bytes, copied.
+/// bytes, copied: at most 22 take no memory.
 ///
 /// Answers as `TryFrom<&Scalar> for ByteBuffer`.
 impl FromScalar for ByteBuffer {
@@ -426,7 +426,9 @@ impl FromScalar for ByteBuffer {
     ghost taken = { taken_bytes };
 
     fn try_from_scalar(_alloc: Global, scalar: ScalarRef<'_>) -> Result<ByteBuffer, VortexError>
-        ensures { TakesCopy raw_bytes
+        ensures copy { TakesCopy raw_bytes
+            (taken_bytes (ref_type scalar.entry) (ref_raw scalar.entry)) result }
+        ensures inline { SparesShort
             (taken_bytes (ref_type scalar.entry) (ref_raw scalar.entry)) result }
     {
         match (scalar.dtype(), scalar.value()) {
@@ -438,7 +440,7 @@ impl FromScalar for ByteBuffer {
 }
 
 /// `WrongKind` of another type, none of a null, `WrongKind` of another kind of raw value; else the
-/// bytes, copied.
+/// bytes, copied: at most 22 take no memory.
 ///
 /// Answers as `TryFrom<&Scalar> for Option<ByteBuffer>`.
 impl FromScalar for Option<ByteBuffer> {
@@ -450,7 +452,9 @@ impl FromScalar for Option<ByteBuffer> {
         _alloc: Global,
         scalar: ScalarRef<'_>,
     ) -> Result<Option<ByteBuffer>, VortexError>
-        ensures { TakesCopy (given_option raw_bytes)
+        ensures copy { TakesCopy (given_option raw_bytes)
+            (taken_option_bytes (ref_type scalar.entry) (ref_raw scalar.entry)) result }
+        ensures inline { SparesShort
             (taken_option_bytes (ref_type scalar.entry) (ref_raw scalar.entry)) result }
     {
         match (scalar.dtype(), scalar.value()) {
@@ -462,7 +466,7 @@ impl FromScalar for Option<ByteBuffer> {
 }
 
 /// `WrongKind` of another type, `IsNull` of a null, `WrongKind` of another kind of raw value; else the
-/// text, copied.
+/// text, copied: one of at most 22 bytes takes no memory.
 ///
 /// Answers as `TryFrom<&Scalar> for BufferString`.
 impl FromScalar for BufferString {
@@ -471,7 +475,9 @@ impl FromScalar for BufferString {
     ghost taken = { taken_text };
 
     fn try_from_scalar(_alloc: Global, scalar: ScalarRef<'_>) -> Result<BufferString, VortexError>
-        ensures { TakesCopy raw_text
+        ensures copy { TakesCopy raw_text
+            (taken_text (ref_type scalar.entry) (ref_raw scalar.entry)) result }
+        ensures inline { SparesShort
             (taken_text (ref_type scalar.entry) (ref_raw scalar.entry)) result }
     {
         match (scalar.dtype(), scalar.value()) {
@@ -483,7 +489,7 @@ impl FromScalar for BufferString {
 }
 
 /// `WrongKind` of another type, none of a null, `WrongKind` of another kind of raw value; else the
-/// text, copied.
+/// text, copied: one of at most 22 bytes takes no memory.
 ///
 /// Answers as `TryFrom<&Scalar> for Option<BufferString>`.
 impl FromScalar for Option<BufferString> {
@@ -495,7 +501,9 @@ impl FromScalar for Option<BufferString> {
         _alloc: Global,
         scalar: ScalarRef<'_>,
     ) -> Result<Option<BufferString>, VortexError>
-        ensures { TakesCopy (given_option raw_text)
+        ensures copy { TakesCopy (given_option raw_text)
+            (taken_option_text (ref_type scalar.entry) (ref_raw scalar.entry)) result }
+        ensures inline { SparesShort
             (taken_option_text (ref_type scalar.entry) (ref_raw scalar.entry)) result }
     {
         match (scalar.dtype(), scalar.value()) {

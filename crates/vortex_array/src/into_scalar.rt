@@ -1,6 +1,6 @@
 //! Conversions of Rust values into scalars.
 
-ghost use Rattle.std.specs.Prelude.{◌≡◌, IsOkAnd, MatchResult, pos, string_bytes};
+ghost use Rattle.std.specs.Prelude.{◌≡◌, ◌≤◌, length, IsOk, IsOkAnd, MatchResult, pos, string_bytes};
 ghost use Rattle.vortex_dtype.specs.TypeTree.{bool_type, integer_type, utf8_type, binary_type};
 ghost use Rattle.vortex_dtype.specs.declared.error.VortexError.TheVariants.{OutOfMemory};
 ghost use Rattle.vortex_dtype.specs.declared.kinds.Nullability.TheVariants.{NonNullable};
@@ -25,8 +25,8 @@ pub trait IntoScalar: NativeDType {
 
     /// The scalar of the value, of exactly the column type of the Rust type.
     ///
-    /// `OutOfMemory` is its only refusal: texts and bytes that are no buffers are copied, and a
-    /// vector takes room for its elements and for its type.
+    /// `OutOfMemory` is its only refusal: texts and bytes that are no buffers are made into buffers,
+    /// and a vector takes room for its elements and for its type.
     fn try_into_scalar(self, alloc: Global) -> Result<Scalar, VortexError>
         ensures { MatchResult result
             (IsMadeValid Self.native_type (given self))
@@ -163,22 +163,32 @@ impl IntoScalar for BufferString {
     }
 }
 
-/// The text is copied. Ports `From<&str> for Scalar`.
+/// The text is copied: at most 22 bytes take no memory. Ports `From<&str> for Scalar`.
 impl IntoScalar for &str {
     ghost given = { λ text. raw_text text.now };
 
-    fn try_into_scalar(self, alloc: Global) -> Result<Scalar, VortexError> {
+    fn try_into_scalar(self, alloc: Global) -> Result<Scalar, VortexError>
+        ensures made { MatchResult result
+            (IsMadeValid (utf8_type NonNullable) (raw_text self.now))
+            (λ e. e ≡ OutOfMemory) }
+        ensures inline { length self.now ≤ 22 → IsOk result }
+    {
         let text = BufferString::from_str(alloc, self)?;
         Ok(Scalar::utf8(text, Nullability::NonNullable))
     }
 }
 
-/// The text is copied. Ports `From<String> for Scalar`.
+/// The text is moved: at most 22 bytes take no memory. Ports `From<String> for Scalar`.
 impl IntoScalar for String {
     ghost given = { λ text. raw_text (string_bytes text) };
 
-    fn try_into_scalar(self, alloc: Global) -> Result<Scalar, VortexError> {
-        let text = BufferString::from_str(alloc, self.as_str())?;
+    fn try_into_scalar(self, _alloc: Global) -> Result<Scalar, VortexError>
+        ensures made { MatchResult result
+            (IsMadeValid (utf8_type NonNullable) (raw_text (string_bytes self)))
+            (λ e. e ≡ OutOfMemory) }
+        ensures inline { length (string_bytes self) ≤ 22 → IsOk result }
+    {
+        let text = BufferString::from_string(self)?;
         Ok(Scalar::utf8(text, Nullability::NonNullable))
     }
 }
@@ -194,11 +204,16 @@ impl IntoScalar for ByteBuffer {
     }
 }
 
-/// The bytes are copied. Ports `From<&[u8]> for Scalar`.
+/// The bytes are copied: at most 22 take no memory. Ports `From<&[u8]> for Scalar`.
 impl IntoScalar for &[u8] {
     ghost given = { λ bytes. raw_bytes bytes.now };
 
-    fn try_into_scalar(self, alloc: Global) -> Result<Scalar, VortexError> {
+    fn try_into_scalar(self, alloc: Global) -> Result<Scalar, VortexError>
+        ensures made { MatchResult result
+            (IsMadeValid (binary_type NonNullable) (raw_bytes self.now))
+            (λ e. e ≡ OutOfMemory) }
+        ensures inline { length self.now ≤ 22 → IsOk result }
+    {
         let bytes = ByteBuffer::from_slice(alloc, self)?;
         Ok(Scalar::binary(bytes, Nullability::NonNullable))
     }

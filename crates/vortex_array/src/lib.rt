@@ -16,9 +16,9 @@ pub use round_trip::RoundTrip;
 pub use string_like::{IncrementError, StringLike};
 pub use truncation::{ScalarTruncation, lower_bound, upper_bound};
 pub use vortex_dtype::{
-    Breach, BufferString, ByteBuffer, DType, ExtDType, FieldName, FieldNames, MapDType,
-    NativeDType, Nullability, PType, Path, Step, StructFields, TypeCause, TypeIds, UnionVariants,
-    VortexError,
+    Breach, BufferString, ByteBuffer, DType, ExtDType, FieldName, FieldNames, INLINE_BYTES,
+    MapDType, NativeDType, Nullability, PType, Path, Step, StructFields, TypeCause, TypeIds,
+    UnionVariants, VortexError,
 };
 pub use vortex_leaves::{BinaryScalar, BoolScalar, PrimitiveScalar, Utf8Scalar};
 pub use vortex_pvalue::{NativePType, NumericOperator, PValue};

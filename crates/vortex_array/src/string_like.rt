@@ -1,12 +1,13 @@
 //! Texts that can be incremented.
 
-ghost use Rattle.std.specs.Prelude.{◌≡◌, ◌+◌, ◌++◌, List, ℕ, length, encode_utf8, IfOk, MatchOption, MatchResult, string_bytes};
+ghost use Rattle.std.specs.Prelude.{◌≡◌, ◌+◌, ◌≤◌, ◌++◌, List, ℕ, length, encode_utf8, IfErr, IfOk, IsOk, MatchOption, MatchResult, string_bytes};
 ghost use Rattle.std.specs.Char.{IsScalar, len_utf8};
-ghost use Rattle.vortex_array.specs.Increments.{HandsBack};
+ghost use Rattle.vortex_array.specs.Increments.{HandsBack, IsOfNoNext};
 ghost use Rattle.vortex_array.specs.Texts.{EndsWith, HasNoNext, HasNoNextOfWidth, IsLast, IsSuccessor, IsSuccessorOfLength, IsStuck};
 
+use arrayvec::ArrayString;
 use std::alloc::Global;
-use vortex_dtype::{BufferString, VortexError};
+use vortex_dtype::{BufferString, INLINE_BYTES, VortexError};
 
 /// Why a text was not incremented. The text is handed back as it was.
 #[derive(Debug, Drop)]
@@ -80,7 +81,8 @@ impl StringLike for String {
     }
 }
 
-/// Stops also where the next character has more bytes, so that the length stays.
+/// Stops also where the next character has more bytes, so that the length stays. A text of at most
+/// 22 bytes takes no memory.
 impl StringLike for BufferString {
     ghost bytes = { λ text. text };
 
@@ -88,7 +90,12 @@ impl StringLike for BufferString {
 
     ghost stops = { IsStuck };
 
-    fn increment(self) -> Result<BufferString, IncrementError<BufferString>> {
+    fn increment(self) -> Result<BufferString, IncrementError<BufferString>>
+        ensures given { MatchResult result
+            (λ next. IsSuccessorOfLength self next × ¬ (IsStuck self))
+            (λ e. HandsBack (λ text. text) IsStuck self e) }
+        ensures inline { length self ≤ 22 → IfErr result IsOfNoNext }
+    {
         let Some((front, last)) = next_of_length(self.as_str()) else {
             return Err(IncrementError::Last(self));
         };
@@ -140,13 +147,18 @@ fn next_of_length(text: &str) -> Option<(&str, char)>
     Some((front, next))
 }
 
-/// The text of these characters and one more.
+/// The text of these characters and one more. At most 22 bytes take no memory.
 fn with_last(alloc: Global, front: &str, last: char) -> Result<BufferString, VortexError>
-    ensures { IfOk result (λ text. text ≡ front.now ++ encode_utf8 last) }
+    ensures given { IfOk result (λ text. text ≡ front.now ++ encode_utf8 last) }
+    ensures inline { length (front.now ++ encode_utf8 last) ≤ 22 → IsOk result }
 {
+    let mut short = ArrayString::<INLINE_BYTES>::new();
+    if short.try_push_str(front).is_ok() && short.try_push(last).is_ok() {
+        return BufferString::from_str(alloc, short.as_str());
+    }
     let length = front.len().saturating_add(last.len_utf8());
     let mut text = String::with_capacity(alloc, length)?;
     text.push_str(front)?;
     text.push(last)?;
-    BufferString::from_str(alloc, text.as_str())
+    BufferString::from_string(text)
 }

@@ -1,6 +1,6 @@
 //! Lower and upper bounds of scalars by truncation.
 
-ghost use Rattle.std.specs.Prelude.{◌≡◌, ◌<◌, ◌≤◌, ℕ, List, Some, length, IfErr, IfNone, IfOk, IfSome, IsNone, IsOkAnd, IsSomeAnd, MatchOption, MatchResult, refl};
+ghost use Rattle.std.specs.Prelude.{◌≡◌, ◌<◌, ◌≤◌, ℕ, List, Some, length, IfErr, IfNone, IfOk, IfSome, IsNone, IsOk, IsOkAnd, IsSomeAnd, MatchOption, MatchResult, refl};
 ghost use Rattle.std.specs.Cmp.Lexicographic.{slice_cmp};
 ghost use Rattle.std.specs.Ordering.{nat_cmp};
 ghost use Rattle.vortex_dtype.specs.Memory.{GivesOrNoMemory};
@@ -13,14 +13,15 @@ ghost use Rattle.vortex_value.specs.Values.RawKinds.{IsBytesValue, IsTextValue};
 ghost use Rattle.vortex_value.specs.Values.RawOf.{raw_of};
 ghost use Rattle.vortex_value.specs.Values.RawTree.{RawTree, absent, raw_bytes, raw_text};
 ghost use Rattle.vortex_value.specs.Values.Scalars.{IsMadeOf, IsValid, scalar_raw, scalar_type};
-ghost use Rattle.vortex_array.specs.Strings.{Below, NotAbove, HasNoUpper, IsLower, IsString, IsUpper};
+ghost use Rattle.vortex_array.specs.Strings.{Below, NotAbove, HasNoUpper, IsLower, IsString, IsUpper, next_string};
 ghost use Rattle.vortex_array.specs.Texts.{HasNoTextUpper, IsTextLower, IsTextUpper};
 ghost use Rattle.vortex_array.specs.Truncation.{IsLowerOf, IsOther, IsTypeOfKind, IsUpperOf, MayHold};
 
 use crate::carry::carry;
 use crate::string_like::{IncrementError, StringLike};
+use arrayvec::ArrayVec;
 use std::alloc::Global;
-use vortex_dtype::{BufferString, ByteBuffer, Nullability, VortexError};
+use vortex_dtype::{BufferString, ByteBuffer, INLINE_BYTES, Nullability, VortexError};
 use vortex_value::{Scalar, ScalarValue};
 
 /// A value that can be truncated to a length in bytes. Such values are ordered as their bytes.
@@ -65,20 +66,23 @@ pub trait ScalarTruncation: Drop {
         ensures made { IsMadeOf (type_at nullability) (raw_at (bytes self)) result }
         ensures valid { IsValid result };
 
-    /// The best value of at most so many bytes that is not above this one, or `OutOfMemory`.
+    /// The best value of at most so many bytes that is not above this one. `OutOfMemory` only at
+    /// more than 22.
     fn lower_bound(self, alloc: Global, max_length: usize) -> Result<Self, VortexError>
         requires { max_length ≤ length (bytes self) }
-        ensures { GivesOrNoMemory
-            (λ bound. IsBestLower (bytes self) max_length (bytes bound)) result };
+        ensures given { GivesOrNoMemory
+            (λ bound. IsBestLower (bytes self) max_length (bytes bound)) result }
+        ensures inline { max_length ≤ 22 → IsOk result };
 
-    /// The best value at so many bytes that is above this one, none where there is none, or
-    /// `OutOfMemory`.
+    /// The best value at so many bytes that is above this one, none where there is none.
+    /// `OutOfMemory` only at more than 22.
     fn upper_bound(self, alloc: Global, max_length: usize) -> Result<Option<Self>, VortexError>
         requires { max_length ≤ length (bytes self) }
-        ensures { MatchResult result
+        ensures given { MatchResult result
             (λ o. MatchOption o (HasNoBestUpper (bytes self) max_length)
             (λ bound. IsBestUpper (bytes self) max_length (bytes bound)))
-            (λ e. e ≡ OutOfMemory) };
+            (λ e. e ≡ OutOfMemory) }
+        ensures inline { max_length ≤ 22 → IsOk result };
 
     /// Scalars are ordered as their bytes are.
     ghost order_law: { (b c : List ℕ)
@@ -94,7 +98,7 @@ pub trait ScalarTruncation: Drop {
 /// The scalar of the value, or of its lower bound where it is longer than so many bytes, and
 /// whether it is longer; none of none.
 ///
-/// `OutOfMemory` only where the value is longer. Ports `lower_bound`.
+/// `OutOfMemory` only where the value is longer, at more than 22 bytes. Ports `lower_bound`.
 pub fn lower_bound<T: ScalarTruncation>(
     alloc: Global,
     value: Option<T>,
@@ -106,23 +110,22 @@ pub fn lower_bound<T: ScalarTruncation>(
         T.IsBestLower T.raw_at (T.type_at nullability) (T.bytes v) max_length x.0 x.1))) }
     ensures refused { IfErr result (λ e. (e ≡ OutOfMemory)
         × IsSomeAnd value (λ v. max_length < length (T.bytes v))) }
+    ensures inline { max_length ≤ 22 → IsOk result }
 {
     let Some(value) = value else {
         return Ok(None);
     };
-    if max_length < value.len() {
-        let bound = value.lower_bound(alloc, max_length)?;
-        Ok(Some((bound.into_scalar(nullability), true)))
-    } else {
-        let whole = value.into_scalar(nullability);
-        Ok(Some((whole, false)))
+    if value.len() <= max_length {
+        return Ok(Some((value.into_scalar(nullability), false)));
     }
+    let bound = value.lower_bound(alloc, max_length)?;
+    Ok(Some((bound.into_scalar(nullability), true)))
 }
 
 /// The scalar of the value, or of its upper bound where it is longer than so many bytes, and
 /// whether it is longer; none of none, and where a longer value has no upper bound.
 ///
-/// `OutOfMemory` only where the value is longer. Ports `upper_bound`.
+/// `OutOfMemory` only where the value is longer, at more than 22 bytes. Ports `upper_bound`.
 pub fn upper_bound<T: ScalarTruncation>(
     alloc: Global,
     value: Option<T>,
@@ -136,18 +139,18 @@ pub fn upper_bound<T: ScalarTruncation>(
         T.IsBestUpper T.raw_at (T.type_at nullability) (T.bytes v) max_length x.0 x.1))) }
     ensures refused { IfErr result (λ e. (e ≡ OutOfMemory)
         × IsSomeAnd value (λ v. max_length < length (T.bytes v))) }
+    ensures inline { max_length ≤ 22 → IsOk result }
 {
     let Some(value) = value else {
         return Ok(None);
     };
-    if value.len() > max_length {
-        match value.upper_bound(alloc, max_length)? {
-            Some(bound) => Ok(Some((bound.into_scalar(nullability), true))),
-            None => Ok(None),
-        }
-    } else {
-        Ok(Some((value.into_scalar(nullability), false)))
+    if value.len() <= max_length {
+        return Ok(Some((value.into_scalar(nullability), false)));
     }
+    let Some(bound) = value.upper_bound(alloc, max_length)? else {
+        return Ok(None);
+    };
+    Ok(Some((bound.into_scalar(nullability), true)))
 }
 
 /// Bounds among all strings of bytes: the first bytes, and these plus one with carry.
@@ -193,12 +196,7 @@ impl ScalarTruncation for ByteBuffer {
         max_length: usize,
     ) -> Result<Option<ByteBuffer>, VortexError> {
         tell_bytes(self.as_slice());
-        let mut bound = Vec::from_slice(alloc, &self.as_slice()[..max_length])?;
-        if carry(bound.as_mut_slice()) {
-            Ok(Some(ByteBuffer::from_slice(alloc, bound.as_slice())?))
-        } else {
-            Ok(None)
-        }
+        next_bytes(alloc, &self.as_slice()[..max_length])
     }
 
     ghost order_law = { λ b c. refl };
@@ -294,14 +292,32 @@ fn tell_bytes(_bytes: &[u8])
     ensures { IsString _bytes.now }
 {}
 
-/// The longest beginning of whole characters that has at most so many bytes.
+/// The next string of as many bytes, none where there is none. At most 22 bytes take no memory.
+fn next_bytes(alloc: Global, bytes: &[u8]) -> Result<Option<ByteBuffer>, VortexError>
+    ensures given { GivesOrNoMemory (λ next. next ≡ next_string bytes.now) result }
+    ensures inline { length bytes.now ≤ 22 → IsOk result }
+{
+    if let Ok(mut short) = ArrayVec::<u8, INLINE_BYTES>::try_from(bytes) {
+        return if carry(short.as_mut_slice()) {
+            Ok(Some(ByteBuffer::from_slice(alloc, short.as_slice())?))
+        } else {
+            Ok(None)
+        };
+    }
+    let mut long = Vec::from_slice(alloc, bytes)?;
+    if carry(long.as_mut_slice()) {
+        Ok(Some(ByteBuffer::from_vec(long)?))
+    } else {
+        Ok(None)
+    }
+}
+
+/// The longest beginning of whole characters that has at most so many bytes. At most 22 take no
+/// memory.
 fn text_prefix(text: BufferString, max_length: usize) -> Result<BufferString, VortexError>
-    ensures { GivesOrNoMemory (λ r. IsTextLower text max_length r) result }
+    ensures given { GivesOrNoMemory (λ r. IsTextLower text max_length r) result }
+    ensures inline { max_length ≤ 22 → IsOk result }
 {
     let end = text.as_str().floor_char_boundary(max_length);
-    let beginning = text.into_inner().slice(0..end)?;
-    match BufferString::try_from(beginning) {
-        Ok(prefix) => Ok(prefix),
-        Err(_) => unreachable!(),
-    }
+    text.slice(0..end)
 }

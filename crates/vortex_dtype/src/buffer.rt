@@ -1,7 +1,8 @@
 //! Shared, immutable bytes and texts. A contract sees each as its list of bytes.
 
-ghost use Rattle.std.specs.Prelude.{◌≡◌, ◌≤◌, ◌==◌, [], length, slice_range, IsUtf8, nat_eq, refl, Some};
+ghost use Rattle.std.specs.Prelude.{◌≡◌, ◌≤◌, ◌==◌, [], length, slice_range, IsOk, IsUtf8, nat_eq, refl, string_bytes, Some};
 ghost use Rattle.std.specs.Ordering.{nat_cmp};
+ghost use Rattle.std.specs.Str.{IsCharBoundary};
 ghost use Rattle.std.specs.Hash as fed;
 ghost use Rattle.std.specs.Cmp.Lexicographic.{pointwise, slice_cmp, nat_list_eq_equiv, nat_list_cmp_total, texts_ties, texts_po};
 ghost use Rattle.std.specs.Cmp.{partial_equiv_from_equiv};
@@ -10,6 +11,7 @@ ghost use Rattle.std.proofs.Common.{rules};
 ghost use Rattle.vortex_dtype.specs.Memory.{GivesOrNoMemory};
 
 use crate::error::VortexError;
+use arrayvec::ArrayVec;
 use bytes::Bytes;
 use std::alloc::Global;
 use std::cmp::Ordering;
@@ -18,14 +20,24 @@ use std::marker::Model;
 use std::ops::Range;
 use std::str;
 
-/// Bytes that never change. Copies and slices share them.
+/// How many bytes a buffer holds in itself.
+pub const INLINE_BYTES: usize = 22;
+
+/// Bytes that never change: at most 22 in the buffer itself, more shared by copies and slices.
 ///
 /// Ports `vortex_buffer::ByteBuffer`. It keeps its allocator, so that a copy or a slice asks for
 /// none.
 #[derive(Debug, Drop)]
 pub struct ByteBuffer {
-    bytes: Bytes,
+    held: Held,
     alloc: Global,
+}
+
+/// The two ways to hold bytes.
+#[derive(Debug, Drop)]
+enum Held {
+    Inline(ArrayVec<u8, INLINE_BYTES>),
+    Shared(Bytes),
 }
 
 impl Model for ByteBuffer {
@@ -33,27 +45,53 @@ impl Model for ByteBuffer {
 
     ghost Value = { List ℕ };
 
-    ghost view = { λ buffer. buffer.bytes };
+    ghost use Rattle.vortex_dtype.specs.HeldBytes.{held_bytes};
+
+    ghost view = { λ buffer. held_bytes buffer.held };
 }
 
 impl ByteBuffer {
-    /// The buffer of no bytes, or `OutOfMemory`.
+    /// The buffer of no bytes. Takes no memory.
     ///
     /// Ports `ByteBuffer::empty`.
     pub fn empty(alloc: Global) -> Result<ByteBuffer, VortexError>
-        ensures { GivesOrNoMemory (λ buffer. buffer ≡ []) result }
+        ensures given { GivesOrNoMemory (λ buffer. buffer ≡ []) result }
+        ensures inline { IsOk result }
     {
         ByteBuffer::from_slice(alloc, &[])
     }
 
-    /// A buffer with a copy of these bytes, or `OutOfMemory`.
+    /// A buffer with a copy of these bytes. `OutOfMemory` only of more than 22.
     ///
     /// Ports `ByteBuffer::copy_from`.
     pub fn from_slice(alloc: Global, bytes: &[u8]) -> Result<ByteBuffer, VortexError>
-        ensures { GivesOrNoMemory (λ buffer. buffer ≡ bytes.now) result }
+        ensures given { GivesOrNoMemory (λ buffer. buffer ≡ bytes.now) result }
+        ensures inline { length bytes.now ≤ 22 → IsOk result }
     {
-        let bytes = Bytes::copy_from_slice(alloc, bytes)?;
-        Ok(ByteBuffer { bytes, alloc })
+        let held = match ArrayVec::try_from(bytes) {
+            Ok(inline) => Held::Inline(inline),
+            Err(_) => Held::Shared(Bytes::copy_from_slice(alloc, bytes)?),
+        };
+        Ok(ByteBuffer { held, alloc })
+    }
+
+    /// A buffer of these bytes: moved, or copied into the buffer itself where there are at most 22.
+    /// `OutOfMemory` only of more.
+    ///
+    /// Ports `ByteBuffer::from`, of a `Vec<u8>`.
+    pub fn from_vec(bytes: Vec<u8>) -> Result<ByteBuffer, VortexError>
+        ensures given { GivesOrNoMemory (λ buffer. buffer ≡ bytes.items) result }
+        ensures inline { length bytes.items ≤ 22 → IsOk result }
+    {
+        let alloc = *bytes.allocator();
+        if bytes.len() <= INLINE_BYTES {
+            return ByteBuffer::from_slice(alloc, bytes.as_slice());
+        }
+        let shared = Bytes::from_vec(bytes)?;
+        Ok(ByteBuffer {
+            held: Held::Shared(shared),
+            alloc,
+        })
     }
 
     /// The bytes.
@@ -62,7 +100,10 @@ impl ByteBuffer {
     pub fn as_slice(&self) -> &[u8]
         ensures { result.now ≡ self.now }
     {
-        self.bytes.as_slice()
+        match &self.held {
+            Held::Inline(bytes) => bytes.as_slice(),
+            Held::Shared(bytes) => bytes.as_slice(),
+        }
     }
 
     /// How many bytes there are.
@@ -71,7 +112,7 @@ impl ByteBuffer {
     pub fn len(&self) -> usize
         ensures { result ≡ length self.now }
     {
-        self.bytes.len()
+        self.as_slice().len()
     }
 
     /// Whether there are no bytes.
@@ -80,7 +121,7 @@ impl ByteBuffer {
     pub fn is_empty(&self) -> bool
         ensures { result ≡ (length self.now == 0) }
     {
-        self.bytes.is_empty()
+        self.as_slice().is_empty()
     }
 
     /// The allocator that the buffer was made with, and that its copies and slices take. Of this
@@ -89,34 +130,38 @@ impl ByteBuffer {
         self.alloc
     }
 
-    /// The bytes of a range: shared, or copied where they have as many owners as can be counted,
-    /// and only that copy can answer `OutOfMemory`. The caller knows that the range lies within the
-    /// buffer.
+    /// The bytes of a range: shared where there are more than 22, and copied where those have as
+    /// many owners as can be counted. Only that copy can answer `OutOfMemory`. The caller knows that
+    /// the range lies within the buffer.
     ///
     /// Ports `ByteBuffer::slice`, which panics outside the buffer.
     pub fn slice(&self, range: Range<usize>) -> Result<ByteBuffer, VortexError>
         requires ordered { range.start ≤ range.end }
         requires within { range.end ≤ length self.now }
-        ensures { GivesOrNoMemory
+        ensures given { GivesOrNoMemory
             (λ buffer. buffer ≡ slice_range self.now range.start range.end) result }
+        ensures inline { length (slice_range self.now range.start range.end) ≤ 22 → IsOk result }
     {
         let part = &self.as_slice()[range.start..range.end];
-        let bytes = match self.bytes.slice(range) {
-            Ok(shared) => shared,
-            Err(_) => Bytes::copy_from_slice(self.alloc, part)?,
-        };
-        Ok(ByteBuffer {
-            bytes,
-            alloc: self.alloc,
-        })
+        if let Held::Shared(bytes) = &self.held
+            && INLINE_BYTES < part.len()
+            && let Ok(shared) = bytes.slice(range)
+        {
+            return Ok(ByteBuffer {
+                held: Held::Shared(shared),
+                alloc: self.alloc,
+            });
+        }
+        ByteBuffer::from_slice(self.alloc, part)
     }
 
-    /// A buffer of the same bytes: shared, or copied where they have as many owners as can be
-    /// counted, and only that copy can answer `OutOfMemory`.
+    /// A buffer of the same bytes: shared where there are more than 22, and copied where those have
+    /// as many owners as can be counted. Only that copy can answer `OutOfMemory`.
     ///
     /// Ports `ByteBuffer::clone`.
     pub fn clone(&self) -> Result<ByteBuffer, VortexError>
-        ensures { GivesOrNoMemory (λ buffer. buffer ≡ self.now) result }
+        ensures given { GivesOrNoMemory (λ buffer. buffer ≡ self.now) result }
+        ensures inline { length self.now ≤ 22 → IsOk result }
     {
         self.slice(0..self.len())
     }
@@ -189,22 +234,36 @@ impl Model for BufferString {
 }
 
 impl BufferString {
-    /// The empty text, or `OutOfMemory`.
+    /// The empty text. Takes no memory.
     ///
     /// Ports `BufferString::empty`.
     pub fn empty(alloc: Global) -> Result<BufferString, VortexError>
-        ensures { GivesOrNoMemory (λ string. string ≡ []) result }
+        ensures given { GivesOrNoMemory (λ string. string ≡ []) result }
+        ensures inline { IsOk result }
     {
         BufferString::from_str(alloc, "")
     }
 
-    /// A copy of this text, or `OutOfMemory`.
+    /// A copy of this text. `OutOfMemory` only of more than 22 bytes.
     ///
     /// Ports `BufferString::from`, of a `&str`.
     pub fn from_str(alloc: Global, text: &str) -> Result<BufferString, VortexError>
-        ensures { GivesOrNoMemory (λ string. string ≡ text.now) result }
+        ensures given { GivesOrNoMemory (λ string. string ≡ text.now) result }
+        ensures inline { length text.now ≤ 22 → IsOk result }
     {
         let buffer = ByteBuffer::from_slice(alloc, text.as_bytes())?;
+        Ok(BufferString { buffer })
+    }
+
+    /// This text: moved, or copied into the buffer itself where it has at most 22 bytes.
+    /// `OutOfMemory` only of more.
+    ///
+    /// Ports `BufferString::from`, of a `String`.
+    pub fn from_string(text: String) -> Result<BufferString, VortexError>
+        ensures given { GivesOrNoMemory (λ string. string ≡ string_bytes text) result }
+        ensures inline { length (string_bytes text) ≤ 22 → IsOk result }
+    {
+        let buffer = ByteBuffer::from_vec(text.into_bytes())?;
         Ok(BufferString { buffer })
     }
 
@@ -257,12 +316,31 @@ impl BufferString {
         buffer
     }
 
-    /// The same text: shared, or copied where it has as many owners as can be counted, and only
-    /// that copy can answer `OutOfMemory`.
+    /// The text of a range: shared where it has more than 22 bytes, and copied where those have as
+    /// many owners as can be counted. Only that copy can answer `OutOfMemory`. The caller knows that
+    /// the range lies within the text and cuts no character.
+    ///
+    /// Ports `BufferString::slice`, which panics elsewhere.
+    pub fn slice(&self, range: Range<usize>) -> Result<BufferString, VortexError>
+        requires ordered { range.start ≤ range.end }
+        requires within { range.end ≤ length self.now }
+        requires starts { IsCharBoundary self.now range.start }
+        requires ends { IsCharBoundary self.now range.end }
+        ensures given { GivesOrNoMemory
+            (λ string. string ≡ slice_range self.now range.start range.end) result }
+        ensures inline { length (slice_range self.now range.start range.end) ≤ 22 → IsOk result }
+    {
+        let buffer = self.buffer.slice(range)?;
+        Ok(BufferString { buffer })
+    }
+
+    /// The same text: shared where it has more than 22 bytes, and copied where those have as many
+    /// owners as can be counted. Only that copy can answer `OutOfMemory`.
     ///
     /// Ports `BufferString::clone`.
     pub fn clone(&self) -> Result<BufferString, VortexError>
-        ensures { GivesOrNoMemory (λ string. string ≡ self.now) result }
+        ensures given { GivesOrNoMemory (λ string. string ≡ self.now) result }
+        ensures inline { length self.now ≤ 22 → IsOk result }
     {
         let buffer = self.buffer.clone()?;
         Ok(BufferString { buffer })

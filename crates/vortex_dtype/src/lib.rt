@@ -12,7 +12,7 @@ mod names;
 mod native;
 mod types;
 
-pub use buffer::{BufferString, ByteBuffer};
+pub use buffer::{BufferString, ByteBuffer, INLINE_BYTES};
 pub use error::{Breach, Path, Step, TypeCause, VortexError};
 pub use kinds::{Nullability, PType};
 pub use names::{FieldName, FieldNames};

@@ -1,6 +1,6 @@
 -- What Rust values give as raw values, and what Rust types take from a type and a raw value. A value that was taken is
 -- named by the raw value that it gives.
-use Rattle.std.specs.Prelude.{◌≡◌, ℕ, ℤ, pos, Option, Some, None, Result, Ok, Err, if◌then◌else◌, IsOkAnd, IsErrAnd, MatchResult}
+use Rattle.std.specs.Prelude.{◌≡◌, ◌≤◌, ⊤, ℕ, ℤ, pos, Option, Some, None, Result, Ok, Err, if◌then◌else◌, length, IsOk, IsOkAnd, IsErrAnd, MatchResult}
 use Rattle.vortex_dtype.specs.Kinds.{same_kind}
 use Rattle.vortex_dtype.specs.TypeTree.{TypeTree, bool_type, integer_type, utf8_type, binary_type, list_type, fixed_size_list_type}
 use Rattle.vortex_dtype.specs.declared.error.VortexError.{VortexError}
@@ -157,3 +157,14 @@ abbrev pub TakesCopy : {T : Type 0} → (T → RawTree) → Taken → Result T V
 TakesCopy given (Ok absent) r = IsOkAnd r (λ x. given x ≡ absent)
 TakesCopy given (Ok v) r = MatchResult r (λ x. given x ≡ v) (λ e. e ≡ OutOfMemory)
 TakesCopy given (Err e) r = IsErrAnd r (λ f. f ≡ e)
+
+-- a text or a string of at most 22 bytes
+abbrev pub IsShort : RawTree → Type 0
+IsShort (raw_text bs) = length bs ≤ 22
+IsShort (raw_bytes bs) = length bs ≤ 22
+IsShort _ = ⊥
+
+-- whatever the memory, what is taken is answered where it is short
+abbrev pub SparesShort : {T : Type 0} → Taken → Result T VortexError → Type 0
+SparesShort (Ok v) r = IsShort v → IsOk r
+SparesShort (Err e) r = ⊤

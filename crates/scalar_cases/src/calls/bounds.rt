@@ -4,7 +4,7 @@ use crate::answers::{Answer, if_bounded};
 use std::alloc::Global;
 use vortex_array::{IncrementError, ScalarTruncation, StringLike, lower_bound, upper_bound};
 use vortex_dtype::{BufferString, ByteBuffer, Nullability, VortexError};
-use vortex_value::Scalar;
+use vortex_value::{Scalar, ScalarValue};
 
 /// The two bounds.
 #[derive(Clone, Copy)]
@@ -55,7 +55,7 @@ pub enum TextType {
 pub fn increment(alloc: Global, text_type: TextType, text: BufferString) -> Answer {
     match text_type {
         TextType::String => increment_string(alloc, &text),
-        TextType::Buffer => increment_buffer(alloc, text),
+        TextType::Buffer => increment_buffer(text),
     }
 }
 
@@ -69,12 +69,9 @@ fn increment_string(alloc: Global, text: &BufferString) -> Answer {
     }
 }
 
-fn increment_buffer(alloc: Global, text: BufferString) -> Answer {
+fn increment_buffer(text: BufferString) -> Answer {
     match text.increment() {
-        Ok(next) => match String::from_str(alloc, next.as_str()) {
-            Ok(next) => Answer::Text(next),
-            Err(_) => Answer::Refused(VortexError::OutOfMemory),
-        },
+        Ok(next) => Answer::Raw(Some(ScalarValue::Utf8(next))),
         Err(refused) => refusal_of(&refused),
     }
 }

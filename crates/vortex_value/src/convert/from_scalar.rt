@@ -1,6 +1,6 @@
 //! Truth values, texts and strings of bytes out of scalars, valid or not.
 
-ghost use Rattle.vortex_value.specs.Conversions.{Takes, TakesCopy, bytes_in, given_option, or_none, taken_bool, taken_bytes, taken_option_bool, taken_option_bytes, taken_option_text, taken_text, text_in};
+ghost use Rattle.vortex_value.specs.Conversions.{SparesShort, Takes, TakesCopy, bytes_in, given_option, or_none, taken_bool, taken_bytes, taken_option_bool, taken_option_bytes, taken_option_text, taken_text, text_in};
 ghost use Rattle.vortex_value.specs.Values.RawOf.{raw_of};
 ghost use Rattle.vortex_value.specs.Values.RawTree.{raw_bool, raw_bytes, raw_text};
 ghost use Rattle.vortex_value.specs.Values.Scalars.{scalar_raw, scalar_type};
@@ -73,13 +73,15 @@ impl TryFrom<Scalar> for Option<bool> {
 }
 
 /// A copy of the bytes: `WrongKind` where the type is not Binary, then `IsNull` of a null, then
-/// `WrongKind` of another kind of raw value; else `OutOfMemory` where there is none for the copy.
+/// `WrongKind` of another kind of raw value; else `OutOfMemory` where there is none for the copy
+/// of more than 22 bytes.
 /// Ports `impl TryFrom<&Scalar> for ByteBuffer`.
 impl TryFrom<&Scalar> for ByteBuffer {
     type Error = VortexError;
 
     ghost try_from_gives = { λ x r. TakesCopy raw_bytes
-        (taken_bytes (scalar_type x.now) (scalar_raw x.now)) r };
+        (taken_bytes (scalar_type x.now) (scalar_raw x.now)) r
+        × SparesShort (taken_bytes (scalar_type x.now) (scalar_raw x.now)) r };
 
     fn try_from(scalar: &Scalar) -> Result<ByteBuffer, VortexError> {
         match &scalar.value {
@@ -92,13 +94,15 @@ impl TryFrom<&Scalar> for ByteBuffer {
 }
 
 /// A copy of the bytes: `WrongKind` where the type is not Binary; a null is none, without memory; then
-/// `WrongKind` of another kind of raw value; else `OutOfMemory` where there is none for the copy.
+/// `WrongKind` of another kind of raw value; else `OutOfMemory` where there is none for the copy
+/// of more than 22 bytes.
 /// Ports `impl TryFrom<&Scalar> for Option<ByteBuffer>`.
 impl TryFrom<&Scalar> for Option<ByteBuffer> {
     type Error = VortexError;
 
     ghost try_from_gives = { λ x r. TakesCopy (given_option raw_bytes)
-        (taken_option_bytes (scalar_type x.now) (scalar_raw x.now)) r };
+        (taken_option_bytes (scalar_type x.now) (scalar_raw x.now)) r
+        × SparesShort (taken_option_bytes (scalar_type x.now) (scalar_raw x.now)) r };
 
     fn try_from(scalar: &Scalar) -> Result<Option<ByteBuffer>, VortexError> {
         match &scalar.value {
@@ -155,13 +159,15 @@ fn into_bytes(value: Option<ScalarValue>) -> Result<Option<ByteBuffer>, VortexEr
 }
 
 /// A copy of the text: `WrongKind` where the type is not Utf8, then `IsNull` of a null, then
-/// `WrongKind` of another kind of raw value; else `OutOfMemory` where there is none for the copy.
+/// `WrongKind` of another kind of raw value; else `OutOfMemory` where there is none for the copy
+/// of more than 22 bytes.
 /// Ports `impl TryFrom<&Scalar> for BufferString`.
 impl TryFrom<&Scalar> for BufferString {
     type Error = VortexError;
 
     ghost try_from_gives = { λ x r. TakesCopy raw_text
-        (taken_text (scalar_type x.now) (scalar_raw x.now)) r };
+        (taken_text (scalar_type x.now) (scalar_raw x.now)) r
+        × SparesShort (taken_text (scalar_type x.now) (scalar_raw x.now)) r };
 
     fn try_from(scalar: &Scalar) -> Result<BufferString, VortexError> {
         match &scalar.value {
@@ -174,13 +180,15 @@ impl TryFrom<&Scalar> for BufferString {
 }
 
 /// A copy of the text: `WrongKind` where the type is not Utf8; a null is none, without memory; then
-/// `WrongKind` of another kind of raw value; else `OutOfMemory` where there is none for the copy.
+/// `WrongKind` of another kind of raw value; else `OutOfMemory` where there is none for the copy
+/// of more than 22 bytes.
 /// Ports `impl TryFrom<&Scalar> for Option<BufferString>`.
 impl TryFrom<&Scalar> for Option<BufferString> {
     type Error = VortexError;
 
     ghost try_from_gives = { λ x r. TakesCopy (given_option raw_text)
-        (taken_option_text (scalar_type x.now) (scalar_raw x.now)) r };
+        (taken_option_text (scalar_type x.now) (scalar_raw x.now)) r
+        × SparesShort (taken_option_text (scalar_type x.now) (scalar_raw x.now)) r };
 
     fn try_from(scalar: &Scalar) -> Result<Option<BufferString>, VortexError> {
         match &scalar.value {

@@ -2,13 +2,12 @@ use Rattle.std.proofs.Common.{arith}
 use Rattle.vortex_array.proofs.ScalarBounds.{lower_cut, lower_whole, of_value}
 use Rattle.vortex_array.proofs.truncation.lower_bound.Goals as goal
 
-pub returns-in_ok-bound-clause-bound : goal.returns-in_ok-bound-clause-bound
-returns-in_ok-bound-clause-bound g c = of_value _ _ _ c.in-Some.is
-    (lower_cut _ _ _ _ _ _ _ g.met.T.ScalarTruncation.order_law g.met.T.ScalarTruncation.lower_law
-    c.into_scalar.ensures.made c.into_scalar.ensures.valid (omega (arith, c.len.ensures)) c.in_ok-bound.ensures)
-
-pub returns-else-max_length-len-clause-bound : goal.returns-else-max_length-len-clause-bound
-returns-else-max_length-len-clause-bound g c = of_value _ _ _ c.in-Some.is
+pub returns-then-len-max_length-clause-bound : goal.returns-then-len-max_length-clause-bound
+returns-then-len-max_length-clause-bound g c = of_value _ _ _ c.in-Some.is
     (lower_whole _ _ _ _ _ _ g.met.T.ScalarTruncation.order_law
-    c.into_scalar-whole.ensures.made c.into_scalar-whole.ensures.valid
-    (omega (arith, c.len.ensures)))
+    c.into_scalar.ensures.made c.into_scalar.ensures.valid (omega (arith, c.len.ensures)))
+
+pub returns-clause-bound : goal.returns-clause-bound
+returns-clause-bound g c = of_value _ _ _ c.in-Some.is
+    (lower_cut _ _ _ _ _ _ _ g.met.T.ScalarTruncation.order_law g.met.T.ScalarTruncation.lower_law
+    c.into_scalar-2.ensures.made c.into_scalar-2.ensures.valid (omega (arith, c.len.ensures)) c.in_ok-bound.ensures.given)

@@ -1,12 +1,19 @@
-use Rattle.std.proofs.Common.{refl, subst, subst₂, sym}
+use Rattle.std.proofs.Common.{◌≤◌, length, refl, ap, subst, subst₂, sym, true≢false, ◌∙◌}
 use Rattle.vortex_array.specs.Texts.{IsSuccessorOfLength, IsStuck}
 use Rattle.vortex_array.proofs.string_like.BufferStringStringLike.increment.Goals as goal
 
 pub returns-in-Ok : goal.returns-in-Ok
-returns-in-Ok c = (
-  subst₂ IsSuccessorOfLength c.as_str.ensures (sym c.in-Ok.ensures) c.in-Some.ensures.1,
-  subst (λ p. ¬ (IsStuck p)) c.as_str.ensures c.in-Some.ensures.0,
-)
+returns-in-Ok c = record {
+  given = (
+    subst₂ IsSuccessorOfLength c.as_str.ensures (sym c.in-Ok.ensures.given) c.in-Some.ensures.1,
+    subst (λ p. ¬ (IsStuck p)) c.as_str.ensures c.in-Some.ensures.0,
+  );
+  inline = λ _. tt;
+}
 
 pub returns-in-Err : goal.returns-in-Err
-returns-in-Err c = (refl, subst (λ p. ¬ (IsStuck p)) c.as_str.ensures c.in-Some.ensures.0)
+returns-in-Err c = record {
+  given = (refl, subst (λ p. ¬ (IsStuck p)) c.as_str.ensures c.in-Some.ensures.0);
+  inline = λ h. true≢false (sym (c.in-Err.ensures.inline
+      (subst (λ n. n ≤ 22) (sym (c.in-Some.ensures.1.1 ∙ ap length c.as_str.ensures)) h)));
+}
