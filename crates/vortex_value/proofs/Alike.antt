@@ -1,13 +1,13 @@
 -- Two types are alike at a content where, with all extensions looked through, they read it in one way.
 -- What the table allows is alike, and so are the ends of a chain of casts.
-use Rattle.std.proofs.Common.{◌≡◌, ℕ, Bool, true, false, List, [], ◌∷◌, sym, ◌∙◌, subst, rules}
+use Rattle.std.proofs.Common.{◌≡◌, ◌==◌, ℕ, Bool, true, false, if◌then◌else◌, List, [], ◌∷◌, Option, Some, None, sym, ◌∙◌, subst, rules}
 use Rattle.vortex_dtype.specs.TypeTree.{TypeTree, null_type, bool_type, integer_type, utf8_type, binary_type, list_type, fixed_size_list_type, map_type, struct_type, union_type, variant_type, extension_type, TypeTrees, no_types, type_then, erase_all, Same, storage}
 use Rattle.vortex_dtype.specs.declared.kinds.Nullability.{Nullability}
-use Rattle.vortex_value.specs.Casts.{IsNull, IsInteger, Wraps, Sorts, EachPlace, EachEntry, ByElement, ByEntry, ByField, Row, same_type, a_null, into_extension, integers, lists, maps, structs, from_extension, Allows, AllowsFields}
+use Rattle.vortex_value.specs.Casts.{IsNull, IsInteger, Wraps, Sorts, EachPlace, EachEntry, ByElement, ByEntry, ByField, Row, same_type, a_null, into_extension, integers, lists, maps, structs, unions, from_extension, ForId, ByChild, Allows, AllowsFields, AllowsChild}
 use Rattle.vortex_value.specs.Chains.{Steps, last_of}
 use Rattle.vortex_value.specs.Values.Content.{Content, null, truth, whole, text, string, sequence, tagged, typed, Contents, no_contents, content_then, content, contents}
 use Rattle.vortex_value.specs.Values.RawTree.{RawTree, absent, raw_bool, raw_integer, raw_text, raw_bytes, raw_tuple, raw_union, raw_variant, RawTrees, no_raws, raw_then}
-use Rattle.vortex_value.specs.Validity.{EachValid, EntriesValid, FieldsValid, Valid}
+use Rattle.vortex_value.specs.Validity.{type_with, HasType, EachValid, EntriesValid, FieldsValid, Valid}
 
 abbrev pub IsBoolType : TypeTree → Type 0
 IsBoolType (bool_type n) = Unit {0}
@@ -26,6 +26,7 @@ pub data Reading : Type 0 where
   elements_of : TypeTree → Reading
   fields_of : TypeTrees → Reading
   entries_of : TypeTree → TypeTree → Bool → Reading
+  children_of : List ℕ → TypeTrees → Reading
   no_reading : Reading
 
 abbrev pub reading : TypeTree → Reading
@@ -33,6 +34,7 @@ reading (list_type e n) = elements_of e
 reading (fixed_size_list_type e size n) = elements_of e
 reading (struct_type names ts n) = fields_of ts
 reading (map_type k v sorted n) = entries_of k v sorted
+reading (union_type names ts ids n) = children_of ids ts
 reading _ = no_reading
 
 -- from false to true
@@ -48,6 +50,16 @@ ReadAlike p q r (fields_of ss) (fields_of ts) = q ss ts
 ReadAlike p q r (entries_of k v a) (entries_of l w b) = ¬ (Rises a b) × r k l v w
 ReadAlike p q r _ _ = ⊥
 
+-- there are two types, and p holds of them
+abbrev pub BothHave : (TypeTree → TypeTree → Type 0) → Option TypeTree → Option TypeTree → Type 0
+BothHave p (Some a) (Some b) = p a b
+BothHave p _ _ = ⊥
+
+-- both are unions with equal ids, and p holds of the variant types of the id
+abbrev pub TaggedAlike : (TypeTree → TypeTree → Type 0) → ℕ → Reading → Reading → Type 0
+TaggedAlike p id (children_of is ss) (children_of js ts) = (is ≡ js) × BothHave p (type_with id is ss) (type_with id js ts)
+TaggedAlike p id _ _ = ⊥
+
 -- for types that are no extensions
 abbrev mutual
   pub AlikeAt : TypeTree → TypeTree → Content → Type 0
@@ -57,7 +69,7 @@ abbrev mutual
   AlikeAt s t (text bs) = IsTextType s × IsTextType t
   AlikeAt s t (string bs) = IsBytesType s × IsBytesType t
   AlikeAt s t (sequence cs) = ReadAlike (λ e f. EachAlike e f cs) (λ ss ts. FieldsAlike ss ts cs) (λ k l v w. EntriesAlike k l v w cs) (reading s) (reading t)
-  AlikeAt s t (tagged id c) = Same s t
+  AlikeAt s t (tagged id c) = TaggedAlike (λ a b. AlikeAt (storage a) (storage b) c) id (reading s) (reading t)
   AlikeAt s t (typed u c) = Same s t
 
   pub EachAlike : TypeTree → TypeTree → Contents → Type 0
@@ -97,6 +109,19 @@ read_trans p q r i j o (fields_of ss) (fields_of ts) _ g h = absurd h
 read_trans p q r i j o (entries_of k u x) (entries_of l v y) _ g h = absurd h
 read_trans p q r i j o _ _ c g h = absurd g
 
+both_trans : (p : TypeTree → TypeTree → Type 0) → ((a b c : TypeTree) → p a b → p b c → p a c)
+    → (a b c : Option TypeTree) → BothHave p a b → BothHave p b c → BothHave p a c
+both_trans p f (Some a) (Some b) (Some c) g h = f a b c g h
+both_trans p f (Some a) (Some b) None g h = absurd h
+both_trans p f _ _ c g h = absurd g
+
+tagged_trans : (p : TypeTree → TypeTree → Type 0) (id : ℕ) → ((a b c : TypeTree) → p a b → p b c → p a c)
+    → (a b c : Reading) → TaggedAlike p id a b → TaggedAlike p id b c → TaggedAlike p id a c
+tagged_trans p id f (children_of is ss) (children_of js ts) (children_of ks us) g h =
+    (g.0 ∙ h.0, both_trans p f (type_with id is ss) (type_with id js ts) (type_with id ks us) g.1 h.1)
+tagged_trans p id f (children_of is ss) (children_of js ts) _ g h = absurd h
+tagged_trans p id f _ _ c g h = absurd g
+
 mutual
   alike_trans : (s t u : TypeTree) (c : Content) → AlikeAt s t c → AlikeAt t u c → AlikeAt s u c
   alike_trans s t u null g h = tt
@@ -107,7 +132,8 @@ mutual
   alike_trans s t u (sequence cs) g h =
       read_trans (λ e f. EachAlike e f cs) (λ ss ts. FieldsAlike ss ts cs) (λ k l v w. EntriesAlike k l v w cs)
       (λ d e f. each_trans d e f cs) (λ a b c. fields_trans a b c cs) (λ k l m x y z. entries_trans k l m x y z cs) (reading s) (reading t) (reading u) g h
-  alike_trans s t u (tagged i c) g h = g ∙ h
+  alike_trans s t u (tagged i c) g h =
+      tagged_trans (λ a b. AlikeAt (storage a) (storage b) c) i (λ x y z. alike_trans (storage x) (storage y) (storage z) c) (reading s) (reading t) (reading u) g h
   alike_trans s t u (typed x c) g h = g ∙ h
 
   each_trans : (s t u : TypeTree) (cs : Contents) → EachAlike s t cs → EachAlike t u cs → EachAlike s u cs
@@ -147,6 +173,11 @@ rises_same : (a b : Bool) → a ≡ b → ¬ (Rises a b)
 rises_same false true e r = cc
 rises_same _ _ e r = absurd r
 
+choose_both : (p : TypeTree → TypeTree → Type 0) (q : TypeTree → Type 0) (b : Bool) (s t : TypeTree) (o u : Option TypeTree)
+    → (q s → p s t) → (HasType o q → BothHave p o u) → HasType (if b then Some s else o) q → BothHave p (if b then Some s else o) (if b then Some t else u)
+choose_both p q true s t o u f g h = f h
+choose_both p q false s t o u f g h = g h
+
 mutual
   same_alike : (s t : TypeTree) → Same s t → (v : RawTree) → Valid s v → Alike s t (content v)
   same_alike s t e absent p = tt
@@ -166,9 +197,23 @@ mutual
       (rises_same x y sorted, entries_alike k l v w (same_alike k l keys) (same_alike v w values) vs p)
   same_alike (struct_type xs ss n) (struct_type ys ts m) e (raw_tuple vs) p =
       let same : erase_all ss ≡ erase_all ts = cc in same_fields ss ts same vs p
-  same_alike (union_type xs ss is n) (union_type ys ts js m) e (raw_union i v) p = e
+  same_alike (union_type xs ss is n) (union_type ys ts js m) e (raw_union i v) p =
+      let ids : is ≡ js = cc in
+      let types : erase_all ss ≡ erase_all ts = cc in
+      (ids, rw (← ids) (same_child ss ts types i is v p))
   same_alike (variant_type n) (variant_type m) e (raw_variant u v) p = e
   same_alike _ _ e _ p = search rules
+
+  same_child : (ss ts : TypeTrees) → erase_all ss ≡ erase_all ts → (i : ℕ) (is : List ℕ) (v : RawTree) → HasType (type_with i is ss) (λ a. Valid a v)
+      → BothHave (λ a b. Alike a b (content v)) (type_with i is ss) (type_with i is ts)
+  same_child ss ts e i [] v p = absurd p
+  same_child no_types ts e i (j ∷ is) v p = absurd p
+  same_child (type_then s ss) no_types e i (j ∷ is) v p = cc
+  same_child (type_then s ss) (type_then t ts) e i (j ∷ is) v p =
+      let here : Same s t = cc in
+      let rest : erase_all ss ≡ erase_all ts = cc in
+      choose_both (λ a b. Alike a b (content v)) (λ a. Valid a v) (j == i) s t (type_with i is ss) (type_with i is ts)
+      (same_alike s t here v) (same_child ss ts rest i is v) p
 
   same_fields : (ss ts : TypeTrees) → erase_all ss ≡ erase_all ts → (vs : RawTrees) → FieldsValid ss vs → FieldsAlike ss ts (contents vs)
   same_fields no_types no_types e no_raws p = tt
@@ -236,14 +281,33 @@ struct_step : (us : TypeTrees) → FieldStepsTo us → (names : List (List ℕ))
 struct_step us h names n (struct_type others ss m) (raw_tuple vs) p a = h ss vs p a
 struct_step us h names n _ _ p a = absurd a
 
+abbrev ChildStepsTo : TypeTrees → Type 0
+ChildStepsTo us = (i : ℕ) (is : List ℕ) (ss : TypeTrees) (v : RawTree) → HasType (type_with i is ss) (λ a. Valid a v) → AllowsChild i is ss us (content v)
+    → BothHave (λ a b. Alike a b (content v)) (type_with i is ss) (type_with i is us)
+
+choose_step : (p : TypeTree → TypeTree → Type 0) (q : TypeTree → Type 0) (m n : Type 0) (b : Bool) (s t : TypeTree) (o u : Option TypeTree)
+    → (q s → m → p s t) → (HasType o q → n → BothHave p o u)
+    → HasType (if b then Some s else o) q → ForId b m n → BothHave p (if b then Some s else o) (if b then Some t else u)
+choose_step p q m n true s t o u f g h a = f h a
+choose_step p q m n false s t o u f g h a = g h a
+
+union_step : (us : TypeTrees) → ChildStepsTo us → (names : List (List ℕ)) (js : List ℕ) (n : Nullability) (s : TypeTree) (v : RawTree) → Valid s v
+    → ByChild (λ id ss d. AllowsChild id js ss us d) s js (content v) → Alike s (union_type names us js n) (content v)
+union_step us h names js n (union_type others ss is m) (raw_union i v) p a =
+    let ids : is ≡ js = a.0 in
+    let q : HasType (type_with i js ss) (λ t. Valid t v) = rw (← ids) p in
+    let found = h i js ss v q a.1 in
+    (ids, rw ids found)
+union_step us h names js n _ _ p a = absurd a
+
 none : (G : Type 0) → ⊥ → G
 none G h = absurd h
 
 -- the rows one by one; for each row that speaks of parts it is given that these parts make the types alike
-by_rows : (s t : TypeTree) (v : RawTree) (wrapped elements entries fields : Type 0) → Valid s v
-    → (wrapped → Alike s t (content v)) → (elements → Alike s t (content v)) → (entries → Alike s t (content v)) → (fields → Alike s t (content v))
-    → Row s t (content v) wrapped elements entries fields → Alike s t (content v)
-by_rows s t v wrapped elements entries fields p f g h k a = elim a [
+by_rows : (s t : TypeTree) (v : RawTree) (wrapped elements entries fields children : Type 0) → Valid s v
+    → (wrapped → Alike s t (content v)) → (elements → Alike s t (content v)) → (entries → Alike s t (content v)) → (fields → Alike s t (content v)) → (children → Alike s t (content v))
+    → Row s t (content v) wrapped elements entries fields children → Alike s t (content v)
+by_rows s t v wrapped elements entries fields children p f g h k l a = elim a [
   | same_type e ↦ same_alike s t e v p
   | a_null e n ↦ null_alike s t (content v) e
   | into_extension e ↦ f e
@@ -251,32 +315,42 @@ by_rows s t v wrapped elements entries fields p f g h k a = elim a [
   | lists e ↦ g e
   | maps e ↦ h e
   | structs e ↦ k e
+  | unions e ↦ l e
   | from_extension w n ↦ wraps_alike s t v w p
 ]
 
 -- the rows for a type without parts
-plain_rows : (s t : TypeTree) (v : RawTree) → Valid s v → Row s t (content v) ⊥ ⊥ ⊥ ⊥ → Alike s t (content v)
-plain_rows s t v p a = by_rows s t v _ _ _ _ p (none _) (none _) (none _) (none _) a
+plain_rows : (s t : TypeTree) (v : RawTree) → Valid s v → Row s t (content v) ⊥ ⊥ ⊥ ⊥ ⊥ → Alike s t (content v)
+plain_rows s t v p a = by_rows s t v _ _ _ _ _ p (none _) (none _) (none _) (none _) (none _) a
 
 mutual
   pub step_alike : (t : TypeTree) → StepsTo t
   step_alike (list_type f n) s v p a =
-      by_rows s (list_type f n) v _ _ _ _ p (none _) (list_step f (step_alike f) (list_type f n) (λ m e cs h. h) s v p) (none _) (none _) a
+      by_rows s (list_type f n) v _ _ _ _ _ p (none _) (list_step f (step_alike f) (list_type f n) (λ m e cs h. h) s v p) (none _) (none _) (none _) a
   step_alike (fixed_size_list_type f size n) s v p a =
-      by_rows s (fixed_size_list_type f size n) v _ _ _ _ p (none _) (list_step f (step_alike f) (fixed_size_list_type f size n) (λ m e cs h. h) s v p) (none _) (none _) a
+      by_rows s (fixed_size_list_type f size n) v _ _ _ _ _ p (none _) (list_step f (step_alike f) (fixed_size_list_type f size n) (λ m e cs h. h) s v p) (none _) (none _) (none _) a
   step_alike (map_type l w b n) s v p a =
-      by_rows s (map_type l w b n) v _ _ _ _ p (none _) (none _) (map_step l w (step_alike l) (step_alike w) b n s v p) (none _) a
+      by_rows s (map_type l w b n) v _ _ _ _ _ p (none _) (none _) (map_step l w (step_alike l) (step_alike w) b n s v p) (none _) (none _) a
   step_alike (struct_type names us n) s v p a =
-      by_rows s (struct_type names us n) v _ _ _ _ p (none _) (none _) (none _) (struct_step us (fields_step us) names n s v p) a
+      by_rows s (struct_type names us n) v _ _ _ _ _ p (none _) (none _) (none _) (struct_step us (fields_step us) names n s v p) (none _) a
   step_alike (extension_type i m u) s v p a =
-      by_rows s (extension_type i m u) v _ _ _ _ p (λ z. step_alike u s v p z.1) (none _) (none _) (none _) a
+      by_rows s (extension_type i m u) v _ _ _ _ _ p (λ z. step_alike u s v p z.1) (none _) (none _) (none _) (none _) a
   step_alike null_type s v p a = plain_rows s null_type v p a
   step_alike (bool_type n) s v p a = plain_rows s (bool_type n) v p a
   step_alike (integer_type k n) s v p a = plain_rows s (integer_type k n) v p a
   step_alike (utf8_type n) s v p a = plain_rows s (utf8_type n) v p a
   step_alike (binary_type n) s v p a = plain_rows s (binary_type n) v p a
-  step_alike (union_type names us ids n) s v p a = plain_rows s (union_type names us ids n) v p a
+  step_alike (union_type names us ids n) s v p a =
+      by_rows s (union_type names us ids n) v _ _ _ _ _ p (none _) (none _) (none _) (none _) (union_step us (children_step us) names ids n s v p) a
   step_alike (variant_type n) s v p a = plain_rows s (variant_type n) v p a
+
+  children_step : (us : TypeTrees) → ChildStepsTo us
+  children_step us i [] ss v p a = absurd p
+  children_step us i (j ∷ is) no_types v p a = absurd p
+  children_step no_types i (j ∷ is) (type_then s ss) v p a = absurd a
+  children_step (type_then u us) i (j ∷ is) (type_then s ss) v p a =
+      choose_step (λ x y. Alike x y (content v)) (λ x. Valid x v) (Allows s u (content v)) (AllowsChild i is ss us (content v)) (j == i) s u
+      (type_with i is ss) (type_with i is us) (step_alike u s v) (children_step us i is ss v) p a
 
   fields_step : (us : TypeTrees) → FieldStepsTo us
   fields_step no_types no_types no_raws p a = tt

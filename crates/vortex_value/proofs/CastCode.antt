@@ -1,8 +1,9 @@
 -- What the code of a cast meets, one level at a time.
-use Rattle.std.proofs.Common.{◌≡◌, ◌≢◌, ℕ, suc, ◌<◌, ◌⊎◌, inl, inr, true, false, List, [], ◌∷◌, ◌++◌, length, get_or, drop, drop-cons, Option, Some, None, Result, Ok, Err, refl, sym, ap, ◌∙◌, arith, rules}
+use Rattle.std.proofs.Common.{◌≡◌, ◌≢◌, ℕ, suc, ◌<◌, ◌⊎◌, inl, inr, true, false, List, [], ◌∷◌, ◌++◌, length, get_or, drop, drop-cons, Option, Some, None, Result, Ok, Err, option_map, refl, sym, ap, ◌∙◌, arith, rules}
 use Rattle.std.proofs.lemmas.Bool.Decides.{Decides-eqb, Decides-like}
 use Rattle.std.proofs.lemmas.List.{nil_from_length}
 use Rattle.std.specs.Bool.{Decides}
+use Rattle.std.specs.Result.{MatchResult}
 use Rattle.vortex_dtype.specs.Lemmas.TypeLevels.{type_of-List, type_of-FixedSizeList, type_of-Map, type_of-Struct, type_of-Extension}
 use Rattle.vortex_dtype.specs.TypeOf.{MapParts, type_of, dtype_trees}
 use Rattle.vortex_dtype.specs.declared.error.VortexError.{VortexError}
@@ -11,15 +12,16 @@ use Rattle.vortex_dtype.specs.TypeTree.{TypeTree, null_type, bool_type, integer_
 use Rattle.vortex_dtype.specs.declared.types.DType.{DType}
 use Rattle.vortex_value.specs.Breaches.{breaches}
 use Rattle.vortex_value.specs.Casts.{IsExtension}
-use Rattle.vortex_value.specs.Steps.CastSteps.{Makes, accepts, bare_to, both, cast_to, entry_to, fields_to, pair_to, whole_to}
+use Rattle.vortex_value.specs.Steps.CastSteps.{Makes, accepts, bare_to, both, cast_to, entry_to, fields_to, pair_to, types_with, whole_to}
 use Rattle.vortex_value.specs.Values.RawKinds.{TakesNoMemory}
-use Rattle.vortex_value.specs.Values.RawTree.{RawTree, absent, raw_bool, raw_integer, raw_tuple, RawTrees, no_raws, is_absent}
-use Rattle.vortex_value.specs.Values.RawOf.{raw_of, value_trees, value_tree}
+use Rattle.vortex_value.specs.Values.RawTree.{RawTree, absent, raw_bool, raw_integer, raw_tuple, raw_union, RawTrees, no_raws, is_absent}
+use Rattle.vortex_value.specs.Values.RawOf.{raw_of, union_tree, value_trees, value_tree}
 use Rattle.vortex_value.specs.Validity.{Valid}
+use Rattle.vortex_value.specs.declared.unions.UnionValue.{UnionValue}
 use Rattle.vortex_value.specs.declared.values.ScalarValue.{ScalarValue, the_lemmas}
 use Rattle.vortex_value.proofs.ValidSteps.{two_places}
 use Rattle.vortex_value.proofs.ValidityLaws.{valid_exactly_without_breach}
-use Rattle.vortex_value.proofs.ValueSteps.{value_tree-Tuple, count-value_trees}
+use Rattle.vortex_value.proofs.ValueSteps.{value_tree-Tuple, count-value_trees, union_tree-child}
 
 -- a type accepts exactly the values that are valid for it
 pub accepts-Decides : (t : TypeTree) (v : RawTree) → Decides (accepts t v) (Valid t v)
@@ -123,6 +125,17 @@ fields_end [] [] [] p q h = refl
 fields_end (v ∷ vs) ss ts p q h = absurd (omega arith)
 fields_end [] (s ∷ ss) ts p q h = absurd (omega arith)
 fields_end [] [] (t ∷ ts) p q h = absurd (omega arith)
+
+-- a union's child goes between the two types of its id
+pub union_at : (u : UnionValue) (s t a b : TypeTree) → types_with u.type_id s t ≡ Some (a, b)
+    → bare_to (union_tree u) s t ≡ option_map (raw_union u.type_id) (cast_to (raw_of (option_map (λ c. c.value) u.child)) a b)
+union_at u s t a b is = rw (union_tree-child u, is) refl
+
+-- the union that holds what the child became, or no memory for it
+pub made_union : (all : Option RawTree) (id : ℕ) (child : RawTree) (there : Type 0) (r : Result UnionValue VortexError)
+    → MatchResult r (λ made. union_tree made ≡ raw_union id child) (λ e. (e ≡ OutOfMemory) × there) → all ≡ Some (raw_union id child) → Makes union_tree all r
+made_union all id child there (Ok x) h a = a ∙ ap Some (sym h)
+made_union all id child there (Err e) h a = inl h.0
 
 not_absent : (v : ScalarValue) → is_absent (value_tree v) ≡ false
 not_absent v = search (rules, the_lemmas)

@@ -1,25 +1,27 @@
 -- The steps of a cast give what the table of casts says: the one value where the table allows the cast and the target has
 -- the content, and none elsewhere.
-use Rattle.std.proofs.Common.{◌≡◌, ◌≢◌, ◌==◌, ◌⊎◌, inl, inr, ℕ, ℤ, Bool, true, false, ◌&&◌, List, Option, Some, None, Result, Ok, Err, IfErr, if◌then◌else◌, option_map, refl, sym, ap, ◌∙◌, subst}
+use Rattle.std.proofs.Common.{◌≡◌, ◌≢◌, ◌==◌, ◌⊎◌, inl, inr, ℕ, ℤ, Bool, true, false, ◌&&◌, List, [], ◌∷◌, Option, Some, None, Result, Ok, Err, IfErr, if◌then◌else◌, option_map, refl, sym, ap, ◌∙◌, subst}
 use Rattle.std.proofs.lemmas.Bool.Decides.{Decides-and, Decides-eqb, Decides-like, Decides-or}
+use Rattle.std.proofs.lemmas.Slice.Eq.{bytes_eq-Decides}
 use Rattle.std.specs.Bool.{Decides}
+use Rattle.std.specs.Str.{bytes_eq}
 use Rattle.vortex_dtype.specs.Lemmas.TypeLaws.{is_nullable-storage}
 use Rattle.vortex_dtype.specs.TypeOf.{MapParts}
-use Rattle.vortex_dtype.specs.TypeTree.{TypeTree, null_type, bool_type, integer_type, utf8_type, binary_type, list_type, fixed_size_list_type, map_type, struct_type, extension_type, TypeTrees, no_types, type_then, erase_all, IsFlat, IsNullable, Same, is_nullable, nullability_of, storage}
+use Rattle.vortex_dtype.specs.TypeTree.{TypeTree, null_type, bool_type, integer_type, utf8_type, binary_type, list_type, fixed_size_list_type, map_type, struct_type, union_type, extension_type, TypeTrees, no_types, type_then, erase_all, IsFlat, IsNullable, Same, is_nullable, nullability_of, storage}
 use Rattle.vortex_dtype.specs.declared.error.VortexError.{VortexError}
 use Rattle.vortex_dtype.specs.declared.error.VortexError.TheVariants.{CannotCast, OutOfMemory}
 use Rattle.vortex_dtype.specs.declared.kinds.Nullability.{Nullability}
 use Rattle.vortex_dtype.specs.declared.kinds.PType.{PType}
 use Rattle.vortex_pvalue.specs.Numbers.{in_range}
 use Rattle.vortex_pvalue.specs.RangeLaws.{in_range_exactly}
-use Rattle.vortex_value.specs.Steps.CastSteps.{pair, accepts, bare_to, both, cast_to, each_to, entries_to, fields_to, kept, leaves, map_to, number_to, pair_to, sorts, takes_null, tuple_to, whole_to}
-use Rattle.vortex_value.specs.Casts.{Allows, AllowsFields, CanCast, EachEntry, EachPlace, IsCast, IsExtension, IsInteger, IsNull, RefusesCast, Row, Sorts, Wraps, same_type, a_null, into_extension, integers, lists, maps, structs, from_extension}
-use Rattle.vortex_value.specs.Values.Content.{Content, null, sequence, Contents, no_contents, content_then, content, contents}
+use Rattle.vortex_value.specs.Steps.CastSteps.{pair, accepts, bare_to, both, cast_to, child_to, each_to, entries_to, fields_to, kept, leaves, map_to, number_to, pair_to, sorts, takes_null, tuple_to, two_types, types_with, whole_to}
+use Rattle.vortex_value.specs.Casts.{Allows, AllowsChild, AllowsFields, CanCast, EachEntry, EachPlace, ForId, IsCast, IsExtension, IsInteger, IsNull, RefusesCast, Row, Sorts, Wraps, same_type, a_null, into_extension, integers, lists, maps, structs, unions, from_extension}
+use Rattle.vortex_value.specs.Values.Content.{Content, null, sequence, tagged, Contents, no_contents, content_then, content, contents}
 use Rattle.vortex_value.specs.Equality as equality
 use Rattle.vortex_value.specs.Lemmas.EqualityLaws.{same_type-Decides}
 use Rattle.vortex_value.specs.Laws.HasContent.{HasContent, HasEach, HasEntries, HasFields, count_contents}
 use Rattle.vortex_value.specs.Values.RawTree.{RawTree, absent, raw_bool, raw_integer, raw_text, raw_bytes, raw_tuple, raw_union, raw_variant, RawTrees, no_raws, raw_then, count, is_absent}
-use Rattle.vortex_value.specs.Validity.{EachValid, EntriesValid, FieldsValid, Valid, ValidAt}
+use Rattle.vortex_value.specs.Validity.{EachValid, EntriesValid, FieldsValid, HasType, Valid, ValidAt, type_with}
 use Rattle.vortex_value.proofs.Alike.{AlikeAt, step_alike}
 use Rattle.vortex_value.proofs.CastCode.{accepts-Decides}
 use Rattle.vortex_value.proofs.CastLaws.{allows_null, allows_same}
@@ -48,6 +50,7 @@ abbrev IsPlain : RawTree → Type 0
 IsPlain absent = ⊥
 IsPlain (raw_integer k z) = ⊥
 IsPlain (raw_tuple vs) = ⊥
+IsPlain (raw_union i v) = ⊥
 IsPlain _ = Unit {0}
 
 -- by a test that decides it
@@ -68,6 +71,7 @@ never_sorted (map_type k v false n) (map_type l w true m) c h a = elim a [
   | lists e ↦ e
   | maps e ↦ e.0 tt
   | structs e ↦ e
+  | unions e ↦ e
   | from_extension w n ↦ w
 ]
 never_sorted _ _ c h a = h
@@ -132,9 +136,9 @@ leaves_allows id metadata u null_type c there h = from_extension h (λ z. z)
 leaves_allows id metadata u t c there h = from_extension h (λ z. z)
 
 -- the rows for a value that is present: those of the same type, of parts and of what is stored are left
-present_row : (G : Type 0) (s t : TypeTree) (c : Content) (wrapped elements entries fields : Type 0) → ¬ (IsNull c) → (Same s t → G) → (wrapped → G) → (IsInteger s → IsInteger t → G)
-    → (elements → G) → (entries → G) → (fields → G) → (Wraps s t → ¬ (IsExtension t) → G) → Row s t c wrapped elements entries fields → G
-present_row G s t c wrapped elements entries fields there by_same by_wrapped by_integers by_elements by_entries by_fields by_stored a = elim a [
+present_row : (G : Type 0) (s t : TypeTree) (c : Content) (wrapped elements entries fields children : Type 0) → ¬ (IsNull c) → (Same s t → G) → (wrapped → G) → (IsInteger s → IsInteger t → G)
+    → (elements → G) → (entries → G) → (fields → G) → (children → G) → (Wraps s t → ¬ (IsExtension t) → G) → Row s t c wrapped elements entries fields children → G
+present_row G s t c wrapped elements entries fields children there by_same by_wrapped by_integers by_elements by_entries by_fields by_children by_stored a = elim a [
   | same_type e ↦ by_same e
   | a_null e f ↦ absurd (there e)
   | into_extension e ↦ by_wrapped e
@@ -142,22 +146,23 @@ present_row G s t c wrapped elements entries fields there by_same by_wrapped by_
   | lists e ↦ by_elements e
   | maps e ↦ by_entries e
   | structs e ↦ by_fields e
+  | unions e ↦ by_children e
   | from_extension w n ↦ by_stored w n
 ]
 
 -- a type that an extension reaches by what it stores
-stored_row : (id metadata : List ℕ) (u t : TypeTree) (c : Content) (elements entries fields : Type 0) → ¬ (IsNull c) → ¬ (IsExtension t) → ¬ elements → ¬ entries → ¬ fields
-    → Row (extension_type id metadata u) t c ⊥ elements entries fields → Same u t
-stored_row id metadata u t c elements entries fields there plain e f g a =
-    present_row (Same u t) _ t c ⊥ elements entries fields there (λ same. absurd (not_wrapped t id metadata u plain same)) (λ z. absurd z) (λ i j. absurd i)
-    (λ z. absurd (e z)) (λ z. absurd (f z)) (λ z. absurd (g z)) (λ w n. w) a
+stored_row : (id metadata : List ℕ) (u t : TypeTree) (c : Content) (elements entries fields children : Type 0) → ¬ (IsNull c) → ¬ (IsExtension t) → ¬ elements → ¬ entries → ¬ fields
+    → ¬ children → Row (extension_type id metadata u) t c ⊥ elements entries fields children → Same u t
+stored_row id metadata u t c elements entries fields children there plain e f g h a =
+    present_row (Same u t) _ t c ⊥ elements entries fields children there (λ same. absurd (not_wrapped t id metadata u plain same)) (λ z. absurd z) (λ i j. absurd i)
+    (λ z. absurd (e z)) (λ z. absurd (f z)) (λ z. absurd (g z)) (λ z. absurd (h z)) (λ w n. w) a
 
 allows_leaves : (id metadata : List ℕ) (u t : TypeTree) (c : Content) → ¬ (IsNull c) → Allows (extension_type id metadata u) t c → Leaves (extension_type id metadata u) u t
 allows_leaves id metadata u (extension_type i m t) c there a =
-    present_row (Leaves (extension_type id metadata u) u (extension_type i m t)) _ (extension_type i m t) c _ ⊥ ⊥ ⊥ there (λ same. inl same) (λ e. inr (allows_leaves id metadata u t c there e.1))
-    (λ i j. absurd i) (λ z. absurd z) (λ z. absurd z) (λ z. absurd z) (λ w n. absurd (n tt)) a
-allows_leaves id metadata u (map_type k v sorted n) c there a = stored_row id metadata u (map_type k v sorted n) c ⊥ _ ⊥ there (λ z. z) (λ z. z) (λ e. e.1) (λ z. z) a
-allows_leaves id metadata u t c there a = stored_row id metadata u t c _ _ _ there (λ z. z) (λ z. z) (λ z. z) (λ z. z) a
+    present_row (Leaves (extension_type id metadata u) u (extension_type i m t)) _ (extension_type i m t) c _ ⊥ ⊥ ⊥ ⊥ there (λ same. inl same) (λ e. inr (allows_leaves id metadata u t c there e.1))
+    (λ i j. absurd i) (λ z. absurd z) (λ z. absurd z) (λ z. absurd z) (λ z. absurd z) (λ w n. absurd (n tt)) a
+allows_leaves id metadata u (map_type k v sorted n) c there a = stored_row id metadata u (map_type k v sorted n) c ⊥ _ ⊥ ⊥ there (λ z. z) (λ z. z) (λ e. e.1) (λ z. z) (λ z. z) a
+allows_leaves id metadata u t c there a = stored_row id metadata u t c _ _ _ _ there (λ z. z) (λ z. z) (λ z. z) (λ z. z) (λ z. z) a
 
 leaves_stored : (id metadata : List ℕ) (u t : TypeTree) → Leaves (extension_type id metadata u) u t → Same (storage u) (storage t)
 leaves_stored id metadata u (extension_type i m t) (inl same) = same_storage (extension_type id metadata u) (extension_type i m t) same
@@ -177,8 +182,8 @@ left_decided id metadata u t v there valid =
 
 wrapped_left : (s : TypeTree) (id metadata : List ℕ) (u : TypeTree) (c : Content) → ¬ (IsExtension s) → ¬ (IsNull c) → Allows s (extension_type id metadata u) c → Allows s u c
 wrapped_left s id metadata u c plain there a =
-    present_row (Allows s u c) s (extension_type id metadata u) c _ ⊥ ⊥ ⊥ there (λ same. absurd (not_wrapped s id metadata u plain (sym same))) (λ e. e.1)
-    (λ i j. absurd j) (λ z. absurd z) (λ z. absurd z) (λ z. absurd z) (λ w n. absurd (n tt)) a
+    present_row (Allows s u c) s (extension_type id metadata u) c _ ⊥ ⊥ ⊥ ⊥ there (λ same. absurd (not_wrapped s id metadata u plain (sym same))) (λ e. e.1)
+    (λ i j. absurd j) (λ z. absurd z) (λ z. absurd z) (λ z. absurd z) (λ z. absurd z) (λ w n. absurd (n tt)) a
 
 wrapped : (s : TypeTree) (id metadata : List ℕ) (u : TypeTree) (v : RawTree) (made : Option RawTree) → ¬ (IsExtension s) → ¬ (IsNull (content v)) → Decided s u v made
     → Decided s (extension_type id metadata u) v made
@@ -231,7 +236,6 @@ plain_same (raw_text bs) _ t plain h = absurd h.0
 plain_same (raw_bytes bs) (binary_type n) (binary_type m) plain h = refl
 plain_same (raw_bytes bs) (binary_type n) _ plain h = absurd h.1
 plain_same (raw_bytes bs) _ t plain h = absurd h.0
-plain_same (raw_union i v) s t plain h = h
 plain_same (raw_variant u v) s t plain h = h
 plain_same _ s t plain h = absurd plain
 
@@ -285,11 +289,11 @@ list_decided e f s t vs made up down has accept h =
     each (inr h) = h
 
 -- the row that allows a cast between lists
-list_row : (s t : TypeTree) (e f : TypeTree) (cs : Contents) → (Same s t → Same e f) → ¬ (IsInteger s) → ¬ (Wraps s t) → Row s t (sequence cs) ⊥ (EachPlace (Allows e f) cs) ⊥ ⊥
+list_row : (s t : TypeTree) (e f : TypeTree) (cs : Contents) → (Same s t → Same e f) → ¬ (IsInteger s) → ¬ (Wraps s t) → Row s t (sequence cs) ⊥ (EachPlace (Allows e f) cs) ⊥ ⊥ ⊥
     → Same e f ⊎ EachPlace (Allows e f) cs
 list_row s t e f cs same whole_number wraps a =
-    present_row (Same e f ⊎ EachPlace (Allows e f) cs) s t (sequence cs) ⊥ (EachPlace (Allows e f) cs) ⊥ ⊥ (λ z. z) (λ h. inl (same h)) (λ z. absurd z) (λ i j. absurd (whole_number i))
-    (λ h. inr h) (λ z. absurd z) (λ z. absurd z) (λ w n. absurd (wraps w)) a
+    present_row (Same e f ⊎ EachPlace (Allows e f) cs) s t (sequence cs) ⊥ (EachPlace (Allows e f) cs) ⊥ ⊥ ⊥ (λ z. z) (λ h. inl (same h)) (λ z. absurd z) (λ i j. absurd (whole_number i))
+    (λ h. inr h) (λ z. absurd z) (λ z. absurd z) (λ z. absurd z) (λ w n. absurd (wraps w)) a
 
 sized_decided : (e f s : TypeTree) (size : ℕ) (n : Nullability) (vs : RawTrees) (made : Option RawTrees) (test : Bool) → Decides test (count vs ≡ size)
     → (EachPlace (Allows e f) (contents vs) → Allows s (fixed_size_list_type f size n) (sequence (contents vs)))
@@ -314,9 +318,9 @@ map_row : (k l u w : TypeTree) (from to : Bool) (n m : Nullability) (vs : RawTre
 map_row k l u w from to n m vs p a =
     let s = map_type k u from n in
     let t = map_type l w to m in
-    present_row ((sorts from to ≡ false) × EachEntry (Allows k l) (Allows u w) (contents vs)) s t (sequence (contents vs)) ⊥ ⊥ _ ⊥ (λ z. z)
+    present_row ((sorts from to ≡ false) × EachEntry (Allows k l) (Allows u w) (contents vs)) s t (sequence (contents vs)) ⊥ ⊥ _ ⊥ ⊥ (λ z. z)
     (λ same. let key : Same k l = cc in let value : Same u w = cc in let sorted : from ≡ to = cc in (sorts_same from to sorted, same_entries k l u w key value vs p))
-    (λ z. absurd z) (λ i j. absurd i) (λ z. absurd z) (λ h. (not_sorts k u l w from to n m h.0, h.1)) (λ z. absurd z) (λ w n. absurd w) a
+    (λ z. absurd z) (λ i j. absurd i) (λ z. absurd z) (λ h. (not_sorts k u l w from to n m h.0, h.1)) (λ z. absurd z) (λ z. absurd z) (λ w n. absurd w) a
   where
     sorts_same : (from to : Bool) → from ≡ to → sorts from to ≡ false
     sorts_same false false e = refl
@@ -361,8 +365,8 @@ struct_decided names others ss ts n m vs made p h =
     let t = struct_type others ts m in
     tuple_decided _ _ (FieldsValid ts) s t vs made (λ a. structs a)
     (λ a q. (
-      present_row (AllowsFields ss ts (contents vs)) s t (sequence (contents vs)) ⊥ ⊥ ⊥ _ (λ z. z) (λ same. let fields : erase_all ss ≡ erase_all ts = cc in same_fields ss ts fields vs p)
-          (λ z. absurd z) (λ i j. absurd i) (λ z. absurd z) (λ z. absurd z) (λ h. h) (λ w n. absurd w) a,
+      present_row (AllowsFields ss ts (contents vs)) s t (sequence (contents vs)) ⊥ ⊥ ⊥ _ ⊥ (λ z. z) (λ same. let fields : erase_all ss ≡ erase_all ts = cc in same_fields ss ts fields vs p)
+          (λ z. absurd z) (λ i j. absurd i) (λ z. absurd z) (λ z. absurd z) (λ h. h) (λ z. absurd z) (λ w n. absurd w) a,
       q,
     )) (λ ws same valid. valid) h
 
@@ -390,6 +394,84 @@ parts_decided vs each entries fields g h k (map_type a u from n) (map_type l w t
 parts_decided vs each entries fields g h k (struct_type names ss n) (struct_type others ts m) x y p = struct_decided names others ss ts n m vs (fields ss ts) p (k ss ts p)
 parts_decided vs each entries fields g h k s t x y p = λ q. step_alike t s (raw_tuple vs) p q.0
 
+-- the child decides a union
+
+no_second : (o : Option TypeTree) → two_types o None ≡ None
+no_second None = refl
+no_second (Some t) = refl
+
+-- what is decided of a child between the two types of its id, where `allowed` says what the table allows of it
+abbrev ChildDecided : RawTree → (TypeTree → TypeTree → Option RawTree) → Type 0 → Option TypeTree → Option TypeTree → Type 0
+ChildDecided v made allowed source target =
+    Made content allowed (HasType target (λ t. HasContent t (content v))) (λ w. HasType target (λ t. Valid t w)) (content v) (child_to made (two_types source target))
+
+one_or_later : (b : Bool) (s t : TypeTree) (o u : Option TypeTree) (v : RawTree) (made : TypeTree → TypeTree → Option RawTree) (later : Type 0) → (Valid s v → Decided s t v (made s t))
+    → (HasType o (λ a. Valid a v) → ChildDecided v made later o u) → HasType (if b then Some s else o) (λ a. Valid a v)
+    → ChildDecided v made (ForId b (Allows s t (content v)) later) (if b then Some s else o) (if b then Some t else u)
+one_or_later true s t o u v made later here there p = here p
+one_or_later false s t o u v made later here there p = there p
+
+child_decided : (id : ℕ) (v : RawTree) (made : TypeTree → TypeTree → Option RawTree) → ((a b : TypeTree) → Valid a v → Decided a b v (made a b)) → (ids : List ℕ) (ss ts : TypeTrees)
+    → HasType (type_with id ids ss) (λ a. Valid a v) → ChildDecided v made (AllowsChild id ids ss ts (content v)) (type_with id ids ss) (type_with id ids ts)
+child_decided id v made decide [] ss ts p = absurd p
+child_decided id v made decide (i ∷ ids) no_types ts p = absurd p
+child_decided id v made decide (i ∷ ids) (type_then s ss) no_types p = rw (no_second (if i == id then Some s else type_with id ids ss)) (λ q. q.0)
+child_decided id v made decide (i ∷ ids) (type_then s ss) (type_then t ts) p =
+    one_or_later (i == id) s t (type_with id ids ss) (type_with id ids ts) v made (AllowsChild id ids ss ts (content v)) (decide s t) (child_decided id v made decide ids ss ts) p
+
+same_or_later : (b : Bool) (s t : TypeTree) (o : Option TypeTree) (p : TypeTree → Type 0) (c : Content) (later : Type 0) → Same s t → (HasType o p → later) → HasType (if b then Some s else o) p
+    → ForId b (Allows s t c) later
+same_or_later true s t o p c later same there h = allows_same s t c same
+same_or_later false s t o p c later same there h = there h
+
+same_child : (id : ℕ) (ids : List ℕ) (ss ts : TypeTrees) (p : TypeTree → Type 0) (c : Content) → erase_all ss ≡ erase_all ts → HasType (type_with id ids ss) p → AllowsChild id ids ss ts c
+same_child id [] ss ts p c same h = absurd h
+same_child id (i ∷ ids) no_types ts p c same h = absurd h
+same_child id (i ∷ ids) (type_then s ss) no_types p c same h = cc
+same_child id (i ∷ ids) (type_then s ss) (type_then t ts) p c same h =
+    let here : Same s t = cc in
+    let rest : erase_all ss ≡ erase_all ts = cc in
+    same_or_later (i == id) s t (type_with id ids ss) p c (AllowsChild id ids ss ts c) here (same_child id ids ss ts p c rest) h
+
+-- the row that allows a cast between unions
+union_row : (names others : List (List ℕ)) (ss ts : TypeTrees) (is js : List ℕ) (n m : Nullability) (id : ℕ) (c : Content) (p : TypeTree → Type 0) → HasType (type_with id is ss) p
+    → Allows (union_type names ss is n) (union_type others ts js m) (tagged id c) → (is ≡ js) × AllowsChild id js ss ts c
+union_row names others ss ts is js n m id c p h a =
+    present_row ((is ≡ js) × AllowsChild id js ss ts c) (union_type names ss is n) (union_type others ts js m) (tagged id c) ⊥ ⊥ ⊥ ⊥ _ (λ z. z)
+    (λ same.
+    let ids : is ≡ js = cc in
+    let types : erase_all ss ≡ erase_all ts = cc in
+    let there : HasType (type_with id js ss) p = rw (← ids) h in
+    (ids, same_child id js ss ts p c types there))
+    (λ z. absurd z) (λ i j. absurd i) (λ z. absurd z) (λ z. absurd z) (λ z. absurd z) (λ e. e) (λ w n. absurd w) a
+
+-- the ids are the same
+tagged_decided : (names others : List (List ℕ)) (ss ts : TypeTrees) (ids : List ℕ) (n m : Nullability) (id : ℕ) (v : RawTree) (made : Option RawTree) → HasType (type_with id ids ss) (λ a. Valid a v)
+    → Made content (AllowsChild id ids ss ts (content v)) (HasType (type_with id ids ts) (λ t. HasContent t (content v))) (λ w. HasType (type_with id ids ts) (λ t. Valid t w)) (content v) made
+    → Decided (union_type names ss ids n) (union_type others ts ids m) (raw_union id v) (option_map (raw_union id) made)
+tagged_decided names others ss ts ids n m id v None p h = λ q. h ((union_row names others ss ts ids ids n m id (content v) (λ a. Valid a v) p q.0).1, q.1)
+tagged_decided names others ss ts ids n m id v (Some w) p h = (unions (refl, h.0), h.1, ap (tagged id) h.2)
+
+-- the ids are the same or not
+ids_decided : (names others : List (List ℕ)) (ss ts : TypeTrees) (is js : List ℕ) (n m : Nullability) (id : ℕ) (v : RawTree) (made : TypeTree → TypeTree → Option RawTree) (test : Bool) → Decides test (is ≡ js)
+    → ((a b : TypeTree) → Valid a v → Decided a b v (made a b)) → HasType (type_with id is ss) (λ a. Valid a v)
+    → Decided (union_type names ss is n) (union_type others ts js m) (raw_union id v) (option_map (raw_union id) (child_to made (if test then two_types (type_with id is ss) (type_with id js ts) else None)))
+ids_decided names others ss ts is js n m id v made true decides decide p =
+    let P : List ℕ → Type 0 = λ ids.
+    HasType (type_with id ids ss) (λ a. Valid a v)
+    → Decided (union_type names ss ids n) (union_type others ts js m) (raw_union id v) (option_map (raw_union id) (child_to made (two_types (type_with id ids ss) (type_with id js ts)))) in
+    subst P (sym (decides.0 refl)) (λ q. tagged_decided names others ss ts js n m id v _ q (child_decided id v made decide js ss ts q)) p
+ids_decided names others ss ts is js n m id v made false decides decide p =
+    λ q. let same = decides.1 (union_row names others ss ts is js n m id (content v) (λ a. Valid a v) p q.0).0 in cc
+
+union_decided : (id : ℕ) (v : RawTree) (made : TypeTree → TypeTree → Option RawTree) → ((a b : TypeTree) → Valid a v → Decided a b v (made a b))
+    → (s t : TypeTree) → ¬ (IsExtension s) → ¬ (IsExtension t) → ValidAt s (raw_union id v) → Decided s t (raw_union id v) (option_map (raw_union id) (child_to made (types_with id s t)))
+union_decided id v made decide (extension_type i m u) t x y p = absurd (x tt)
+union_decided id v made decide s (extension_type i m u) x y p = absurd (y tt)
+union_decided id v made decide (union_type names ss is n) (union_type others ts js m) x y p =
+    ids_decided names others ss ts is js n m id v made (bytes_eq is js) (bytes_eq-Decides is js) decide p
+union_decided id v made decide s t x y p = λ q. step_alike t s (raw_union id v) p q.0
+
 -- values from one type to another, of which `decide` speaks between types that are no extensions
 
 stored_plain : (t : TypeTree) → ¬ (IsExtension (storage t))
@@ -411,6 +493,8 @@ mutual
   bare_decided (raw_tuple vs) there s t x y p =
       parts_decided vs (λ e f. each_to vs e f) (λ a b. entries_to vs a b) (λ ss ts. fields_to vs ss ts)
       (λ e f q. each_decided vs e f q) (λ a b q. entries_decided vs a b q) (λ ss ts q. fields_decided vs ss ts q) s t x y p
+  bare_decided (raw_union id v) there s t x y p =
+      union_decided id v (λ a b. whole_to (λ i j. bare_to v i j) v a b) (λ a b q. whole_decided (λ i j. bare_to v i j) v (bare_decided v) a b q) s t x y p
   bare_decided v there s t x y p = plain_decided v s t tt x y p
 
   each_decided : (vs : RawTrees) (e f : TypeTree) → EachValid e vs → PartsDecided (EachPlace (Allows e f) (contents vs)) (HasEach f (contents vs)) (EachValid f) vs (each_to vs e f)

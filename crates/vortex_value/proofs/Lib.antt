@@ -15,6 +15,7 @@ pub mod OrderAgrees
 pub mod OrderLaws
 pub mod OrderSteps
 pub mod ReinterpretLaws
+pub mod SameIds
 pub mod SizeLaws
 pub mod SizeSteps
 pub mod StructMakers

@@ -1,13 +1,14 @@
 -- Between types without extensions what is alike is allowed, so a chain leads no further than one cast.
-use Rattle.std.proofs.Common.{◌≡◌, ℕ, ℤ, Bool, true, false, List, ◌⊎◌, inl, inr, refl, rules}
-use Rattle.vortex_dtype.specs.TypeTree.{TypeTree, null_type, bool_type, integer_type, utf8_type, binary_type, list_type, fixed_size_list_type, map_type, struct_type, extension_type, TypeTrees, no_types, type_then, storage}
+use Rattle.std.proofs.Common.{◌≡◌, ◌==◌, ℕ, ℤ, Bool, true, false, if◌then◌else◌, List, [], ◌∷◌, Option, Some, None, ◌⊎◌, inl, inr, refl, subst, rules}
+use Rattle.vortex_dtype.specs.TypeTree.{TypeTree, null_type, bool_type, integer_type, utf8_type, binary_type, list_type, fixed_size_list_type, map_type, struct_type, union_type, extension_type, TypeTrees, no_types, type_then, storage}
 use Rattle.vortex_dtype.specs.declared.kinds.Nullability.{Nullability}
 use Rattle.vortex_value.specs.Laws.CastLaws.{HasNoNull, HaveNoNull, NoWayRound}
-use Rattle.vortex_value.specs.Casts.{Sorts, EachPlace, EachEntry, same_type, integers, lists, maps, structs, Allows, AllowsFields}
+use Rattle.vortex_value.specs.Casts.{Sorts, EachPlace, EachEntry, same_type, integers, lists, maps, structs, unions, ForId, Allows, AllowsFields, AllowsChild}
 use Rattle.vortex_value.specs.Chains.{last_of}
 use Rattle.vortex_value.specs.Values.Content.{Content, null, truth, whole, text, string, sequence, tagged, typed, Contents, no_contents, content_then, content}
 use Rattle.vortex_value.specs.TypesWithin.{HasNoExtension, HaveNoExtension, HasNoMap, HaveNoMap}
-use Rattle.vortex_value.proofs.Alike.{AlikeAt, Alike, EachAlike, FieldsAlike, EntriesAlike, Rises, chain_alike}
+use Rattle.vortex_value.specs.Validity.{type_with}
+use Rattle.vortex_value.proofs.Alike.{AlikeAt, Alike, BothHave, EachAlike, FieldsAlike, EntriesAlike, Rises, chain_alike}
 use Rattle.vortex_value.proofs.CastLaws.{allows_null, allows_same}
 
 -- contents without parts
@@ -53,6 +54,28 @@ not_sorts k v l w _ _ n m h r = absurd r
 abbrev Unmapped : TypeTree → TypeTree → Content → Type 0
 Unmapped s t c = (HasNoMap s × HasNoMap t) ⊎ HasNoNull c
 
+both_none : (p : TypeTree → TypeTree → Type 0) (o : Option TypeTree) → ¬ (BothHave p o None)
+both_none p None h = h
+both_none p (Some a) h = h
+
+choose_child : (p : TypeTree → TypeTree → Type 0) (b : Bool) (s t : TypeTree) (o u : Option TypeTree) (m n : Type 0) → (p s t → m) → (BothHave p o u → n)
+    → BothHave p (if b then Some s else o) (if b then Some t else u) → ForId b m n
+choose_child p true s t o u m n f g h = f h
+choose_child p false s t o u m n f g h = g h
+
+child_allows : (i : ℕ) (c : Content) → ((s t : TypeTree) → HasNoExtension s → HasNoExtension t → Unmapped s t c → Alike s t c → Allows s t c)
+    → (js : List ℕ) (ss ts : TypeTrees) → HaveNoExtension ss → HaveNoExtension ts → (HaveNoMap ss × HaveNoMap ts) ⊎ HasNoNull c
+    → BothHave (λ a b. Alike a b c) (type_with i js ss) (type_with i js ts) → AllowsChild i js ss ts c
+child_allows i c go [] ss ts x y m h = absurd h
+child_allows i c go (j ∷ js) no_types ts x y m h = absurd h
+child_allows i c go (j ∷ js) (type_then s ss) no_types x y m h = absurd (both_none _ _ h)
+child_allows i c go (j ∷ js) (type_then s ss) (type_then t ts) x y (inl m) h =
+    choose_child (λ a b. Alike a b c) (j == i) s t (type_with i js ss) (type_with i js ts) (Allows s t c) (AllowsChild i js ss ts c)
+    (go s t x.0 y.0 (inl (m.0.0, m.1.0))) (child_allows i c go js ss ts x.1 y.1 (inl (m.0.1, m.1.1))) h
+child_allows i c go (j ∷ js) (type_then s ss) (type_then t ts) x y (inr m) h =
+    choose_child (λ a b. Alike a b c) (j == i) s t (type_with i js ss) (type_with i js ts) (Allows s t c) (AllowsChild i js ss ts c)
+    (go s t x.0 y.0 (inr m)) (child_allows i c go js ss ts x.1 y.1 (inr m)) h
+
 -- without extensions what is alike is allowed
 mutual
   bare_allows : (c : Content) (s t : TypeTree) → HasNoExtension s → HasNoExtension t → Unmapped s t c → AlikeAt s t c → Allows s t c
@@ -62,7 +85,10 @@ mutual
   bare_allows (whole z) s t x y m h = whole_allows s t z h
   bare_allows (text bs) s t x y m h = text_allows s t bs h
   bare_allows (string bs) s t x y m h = string_allows s t bs h
-  bare_allows (tagged i c) s t x y m h = allows_same s t (tagged i c) h
+  bare_allows (tagged i c) (union_type names ss is n) (union_type others ts js o) x y m h =
+      let P : List ℕ → Type 0 = λ ks. BothHave (λ a b. Alike a b c) (type_with i ks ss) (type_with i js ts) in
+      unions (h.0, child_allows i c (λ s t u v k g. bare_allows c s t u v k (bare_alike s t c u v g)) js ss ts x y m (subst P h.0 h.1))
+  bare_allows (tagged i c) _ _ x y m h = absurd h
   bare_allows (typed u c) s t x y m h = allows_same s t (typed u c) h
   bare_allows (sequence cs) (list_type e n) (list_type f o) x y m h = lists (bare_each cs e f x y m h)
   bare_allows (sequence cs) (list_type e n) (fixed_size_list_type f size o) x y m h = lists (bare_each cs e f x y m h)

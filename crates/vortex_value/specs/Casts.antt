@@ -1,9 +1,9 @@
 -- Which casts the table allows, which contents a type has, and the one value of a content.
-use Rattle.std.specs.Prelude.{◌≡◌, true, false}
+use Rattle.std.specs.Prelude.{◌≡◌, ◌==◌, ℕ, Bool, true, false, List, ◌∷◌}
 use Rattle.vortex_dtype.specs.TypeTree.{TypeTree, null_type, bool_type, integer_type, utf8_type, binary_type, list_type, fixed_size_list_type, map_type, struct_type, union_type, variant_type, extension_type, TypeTrees, no_types, type_then, IsFlat, Same}
 use Rattle.vortex_dtype.specs.declared.error.VortexError.{VortexError}
 use Rattle.vortex_dtype.specs.declared.error.VortexError.TheVariants.{CannotCast, OutOfMemory}
-use Rattle.vortex_value.specs.Values.Content.{Content, null, sequence, Contents, no_contents, content_then, content}
+use Rattle.vortex_value.specs.Values.Content.{Content, null, sequence, tagged, Contents, no_contents, content_then, content}
 use Rattle.vortex_value.specs.Values.RawTree.{RawTree}
 use Rattle.vortex_value.specs.Validity.{Valid}
 
@@ -59,40 +59,57 @@ abbrev pub ByField : (TypeTrees → Contents → Type 0) → TypeTree → Conten
 ByField p (struct_type names ts n) (sequence cs) = p ts cs
 ByField p _ _ = ⊥
 
--- The rows of the cast table, from a type s and a content c to a type t. The last four parts say what the parts of t
--- allow: the storage of an extension, the elements of a list, the entries of a map, the fields of a struct.
-pub data Row (s t : TypeTree) (c : Content) (wrapped elements entries fields : Type 0) : Type 0 where
-  same_type : Same s t → Row s t c wrapped elements entries fields
-  a_null : IsNull c → ¬ (Sorts s t) → Row s t c wrapped elements entries fields
-  into_extension : wrapped → Row s t c wrapped elements entries fields
-  integers : IsInteger s → IsInteger t → Row s t c wrapped elements entries fields
-  lists : elements → Row s t c wrapped elements entries fields
-  maps : entries → Row s t c wrapped elements entries fields
-  structs : fields → Row s t c wrapped elements entries fields
-  from_extension : Wraps s t → ¬ (IsExtension t) → Row s t c wrapped elements entries fields
+-- p where the id is found, and else q
+abbrev pub ForId : Bool → Type 0 → Type 0 → Type 0
+ForId true p q = p
+ForId false p q = q
+
+-- s is a union with these ids, and p holds of the id and the child, and of its variant types
+abbrev pub ByChild : (ℕ → TypeTrees → Content → Type 0) → TypeTree → List ℕ → Content → Type 0
+ByChild p (union_type names ss is n) js (tagged id c) = (is ≡ js) × p id ss c
+ByChild p _ js _ = ⊥
+
+-- The rows of the cast table, from a type s and a content c to a type t. The last five parts say what the parts of t
+-- allow: the storage of an extension, the elements of a list, the entries of a map, the fields of a struct, the variant
+-- of a union that the content's id gives.
+pub data Row (s t : TypeTree) (c : Content) (wrapped elements entries fields children : Type 0) : Type 0 where
+  same_type : Same s t → Row s t c wrapped elements entries fields children
+  a_null : IsNull c → ¬ (Sorts s t) → Row s t c wrapped elements entries fields children
+  into_extension : wrapped → Row s t c wrapped elements entries fields children
+  integers : IsInteger s → IsInteger t → Row s t c wrapped elements entries fields children
+  lists : elements → Row s t c wrapped elements entries fields children
+  maps : entries → Row s t c wrapped elements entries fields children
+  structs : fields → Row s t c wrapped elements entries fields children
+  unions : children → Row s t c wrapped elements entries fields children
+  from_extension : Wraps s t → ¬ (IsExtension t) → Row s t c wrapped elements entries fields children
 
 -- some row of the table allows the cast from s to t of this content
 abbrev mutual
   pub Allows : TypeTree → TypeTree → Content → Type 0
-  Allows s null_type c = Row s null_type c ⊥ ⊥ ⊥ ⊥
-  Allows s (bool_type n) c = Row s (bool_type n) c ⊥ ⊥ ⊥ ⊥
-  Allows s (integer_type k n) c = Row s (integer_type k n) c ⊥ ⊥ ⊥ ⊥
-  Allows s (utf8_type n) c = Row s (utf8_type n) c ⊥ ⊥ ⊥ ⊥
-  Allows s (binary_type n) c = Row s (binary_type n) c ⊥ ⊥ ⊥ ⊥
-  Allows s (list_type f n) c = Row s (list_type f n) c ⊥ (ByElement (λ e d. Allows e f d) s c) ⊥ ⊥
-  Allows s (fixed_size_list_type f size n) c = Row s (fixed_size_list_type f size n) c ⊥ (ByElement (λ e d. Allows e f d) s c) ⊥ ⊥
+  Allows s null_type c = Row s null_type c ⊥ ⊥ ⊥ ⊥ ⊥
+  Allows s (bool_type n) c = Row s (bool_type n) c ⊥ ⊥ ⊥ ⊥ ⊥
+  Allows s (integer_type k n) c = Row s (integer_type k n) c ⊥ ⊥ ⊥ ⊥ ⊥
+  Allows s (utf8_type n) c = Row s (utf8_type n) c ⊥ ⊥ ⊥ ⊥ ⊥
+  Allows s (binary_type n) c = Row s (binary_type n) c ⊥ ⊥ ⊥ ⊥ ⊥
+  Allows s (list_type f n) c = Row s (list_type f n) c ⊥ (ByElement (λ e d. Allows e f d) s c) ⊥ ⊥ ⊥
+  Allows s (fixed_size_list_type f size n) c = Row s (fixed_size_list_type f size n) c ⊥ (ByElement (λ e d. Allows e f d) s c) ⊥ ⊥ ⊥
   Allows s (map_type l w sorted n) c =
-      Row s (map_type l w sorted n) c ⊥ ⊥ (¬ (Sorts s (map_type l w sorted n)) × ByEntry (λ k d. Allows k l d) (λ v d. Allows v w d) s c) ⊥
-  Allows s (struct_type names us n) c = Row s (struct_type names us n) c ⊥ ⊥ ⊥ (ByField (λ ss cs. AllowsFields ss us cs) s c)
-  Allows s (union_type names us ids n) c = Row s (union_type names us ids n) c ⊥ ⊥ ⊥ ⊥
-  Allows s (variant_type n) c = Row s (variant_type n) c ⊥ ⊥ ⊥ ⊥
-  Allows s (extension_type id metadata u) c = Row s (extension_type id metadata u) c (¬ (IsNull c) × Allows s u c) ⊥ ⊥ ⊥
+      Row s (map_type l w sorted n) c ⊥ ⊥ (¬ (Sorts s (map_type l w sorted n)) × ByEntry (λ k d. Allows k l d) (λ v d. Allows v w d) s c) ⊥ ⊥
+  Allows s (struct_type names us n) c = Row s (struct_type names us n) c ⊥ ⊥ ⊥ (ByField (λ ss cs. AllowsFields ss us cs) s c) ⊥
+  Allows s (union_type names us ids n) c = Row s (union_type names us ids n) c ⊥ ⊥ ⊥ ⊥ (ByChild (λ id ss d. AllowsChild id ids ss us d) s ids c)
+  Allows s (variant_type n) c = Row s (variant_type n) c ⊥ ⊥ ⊥ ⊥ ⊥
+  Allows s (extension_type id metadata u) c = Row s (extension_type id metadata u) c (¬ (IsNull c) × Allows s u c) ⊥ ⊥ ⊥ ⊥
 
   -- equally many fields and places, each place allowed between the fields at it
   pub AllowsFields : TypeTrees → TypeTrees → Contents → Type 0
   AllowsFields no_types no_types no_contents = Unit {0}
   AllowsFields (type_then s ss) (type_then u us) (content_then c cs) = Allows s u c × AllowsFields ss us cs
   AllowsFields _ _ _ = ⊥
+
+  -- between the variant types of the id
+  pub AllowsChild : ℕ → List ℕ → TypeTrees → TypeTrees → Content → Type 0
+  AllowsChild id (i ∷ is) (type_then s ss) (type_then u us) c = ForId (i == id) (Allows s u c) (AllowsChild id is ss us c)
+  AllowsChild id _ _ _ c = ⊥
 
 -- some valid raw value of the type has the content
 pub record Has (t : TypeTree) (c : Content) : Type 0 where

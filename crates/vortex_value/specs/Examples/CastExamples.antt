@@ -2,19 +2,19 @@
 -- contents are written in the words of Examples.
 use Rattle.std.proofs.Common.{ap, sym, ◌∙◌, subst}
 use Rattle.std.proofs.Math.Facts.{leb_yes, yes_leb}
-use Rattle.std.specs.Prelude.{◌≡◌, ◌==◌, ℕ, zero, suc, ℤ, pos, Bool, true, false, not, [], ◌∷◌, refl, codes}
-use Rattle.vortex_dtype.specs.TypeTree.{TypeTree, null_type, integer_type, utf8_type, list_type, fixed_size_list_type, struct_type, union_type, extension_type, type_then, IsNullable, storage, Same}
+use Rattle.std.specs.Prelude.{◌≡◌, ◌==◌, ◌^◌, ℕ, zero, suc, ℤ, pos, Bool, true, false, not, T, leb, List, [], ◌∷◌, Option, Some, None, refl, codes}
+use Rattle.vortex_dtype.specs.TypeTree.{TypeTree, null_type, integer_type, utf8_type, list_type, fixed_size_list_type, struct_type, union_type, extension_type, TypeTrees, type_then, IsNullable, storage, Same}
 use Rattle.vortex_dtype.specs.declared.kinds.Nullability.TheVariants.{NonNullable}
 use Rattle.vortex_dtype.specs.declared.kinds.Nullability.{Nullability}
 use Rattle.vortex_dtype.specs.declared.kinds.PType.TheVariants.{U8, U32, U64, I8, I16, I32, I64}
 use Rattle.vortex_dtype.specs.declared.kinds.PType.{PType}
 use Rattle.vortex_pvalue.specs.Numbers.{InRange}
-use Rattle.vortex_value.specs.Casts.{IsNull, IsInteger, IsExtension, Wraps, Sorts, Row, same_type, a_null, into_extension, integers, lists, maps, structs, from_extension, Allows, Has, CanCast}
+use Rattle.vortex_value.specs.Casts.{IsNull, IsInteger, IsExtension, Wraps, Sorts, Row, same_type, a_null, into_extension, integers, lists, maps, structs, unions, from_extension, Allows, Has, CanCast, IsCast}
 use Rattle.vortex_value.specs.Chains.{Runs}
 use Rattle.vortex_value.specs.Values.Content.{Content, null, truth, whole, text, sequence, tagged, typed, Contents, no_contents, content_then, content, contents}
 use Rattle.vortex_value.specs.Values.RawTree.{RawTree, absent, raw_bool, raw_integer, raw_text, raw_tuple, raw_union, raw_variant, RawTrees, no_raws, raw_then, count}
-use Rattle.vortex_value.specs.Validity.{EachValid, Valid}
-use Rattle.vortex_value.specs.Examples.ValueExamples.{i8, i16, i32, i64, u8, u32, u64, boolean, utf8, binary, variant, or_null, list_of, fixed_list_of, struct_of, union_of, extension_a, extension_b, a_and_b, int_or_string, unsorted_map, sorted_map, tuple, entry, int, parts, number, nested_list, nested_tuple, nested_parts, tell_apart, no_null, is_integer_of, is_sorted_map, i32_valid}
+use Rattle.vortex_value.specs.Validity.{EachValid, HasType, Valid, type_with}
+use Rattle.vortex_value.specs.Examples.ValueExamples.{i8, i16, i32, i64, u8, u32, u64, boolean, utf8, binary, variant, or_null, list_of, fixed_list_of, map_of, struct_of, union_of, extension_a, extension_b, a_and_b, int_or_string, unsorted_map, sorted_map, tuple, entry, int, parts, number, nested_list, nested_tuple, nested_parts, tell_apart, no_null, is_integer_of, is_sorted_map, i32_valid}
 
 -- What the proofs use. A content that a type has is known by cases: a null asks for a nullable type, a number for one
 -- in the kind's range, a sequence for parts that the element type has, and for as many as the size says.
@@ -30,6 +30,10 @@ is_extension _ = false
 abbrev is_integer : TypeTree → Bool
 is_integer (integer_type k n) = true
 is_integer _ = false
+
+abbrev first_variant : TypeTree → TypeTree
+first_variant (union_type names (type_then t ts) ids n) = t
+first_variant _ = null_type
 
 abbrev number_in : Content → ℤ
 number_in (whole z) = z
@@ -101,17 +105,45 @@ fixed_list_needs_size e size n cs h = at h.value h.valid h.same
     at (raw_tuple vs) a q = ap (λ c. count_parts (parts_in c)) (sym q) ∙ (as_many_contents vs ∙ a.0)
     at _ a q = absurd a
 
--- no row applies where none of the eight does
-no_row : {s t : TypeTree} {c : Content} {wrapped elements entries fields : Type 0} → ¬ (Same s t) → (IsNull c → Sorts s t) → ¬ wrapped
-    → (IsInteger s → ¬ (IsInteger t)) → ¬ elements → ¬ entries → ¬ fields → (Wraps s t → IsExtension t) → ¬ (Row s t c wrapped elements entries fields)
-no_row a b w i e m f x (same_type h) = a h
-no_row a b w i e m f x (a_null h n) = n (b h)
-no_row a b w i e m f x (into_extension h) = w h
-no_row a b w i e m f x (integers h k) = i h k
-no_row a b w i e m f x (lists h) = e h
-no_row a b w i e m f x (maps h) = m h
-no_row a b w i e m f x (structs h) = f h
-no_row a b w i e m f x (from_extension h n) = n (x h)
+-- a union has the content of a variant where the type that the id gives has the child
+child_needs_type : (names : List (List ℕ)) (ts : TypeTrees) (ids : List ℕ) (n : Nullability) (id : ℕ) (c : Content)
+    → Has (union_type names ts ids n) (tagged id c) → HasType (type_with id ids ts) (λ t. Has t c)
+child_needs_type names ts ids n id c h = at h.value h.valid h.same
+  where
+    inside : (o : Option TypeTree) (v : RawTree) → HasType o (λ t. Valid t v) → content v ≡ c → HasType o (λ t. Has t c)
+    inside None v a e = a
+    inside (Some t) v a e = record { value = v; valid = a; same = e }
+
+    id_in : Content → ℕ
+    id_in (tagged i d) = i
+    id_in _ = 0
+
+    child_in : Content → Content
+    child_in (tagged i d) = d
+    child_in _ = null
+
+    is_tagged : Content → Bool
+    is_tagged (tagged i d) = true
+    is_tagged _ = false
+
+    at : (v : RawTree) → Valid (union_type names ts ids n) v → content v ≡ tagged id c → HasType (type_with id ids ts) (λ t. Has t c)
+    at absent a e = absurd (tell_apart is_tagged (sym e) tt)
+    at (raw_union i v) a e = inside (type_with id ids ts) v (subst (λ j. HasType (type_with j ids ts) (λ t. Valid t v)) (ap id_in e) a) (ap child_in e)
+    at _ a e = absurd a
+
+-- no row applies where none of the nine does
+no_row : {s t : TypeTree} {c : Content} {wrapped elements entries fields children : Type 0} → ¬ (Same s t) → (IsNull c → Sorts s t) → ¬ wrapped
+    → (IsInteger s → ¬ (IsInteger t)) → ¬ elements → ¬ entries → ¬ fields → ¬ children → (Wraps s t → IsExtension t)
+    → ¬ (Row s t c wrapped elements entries fields children)
+no_row a b w i e m f u x (same_type h) = a h
+no_row a b w i e m f u x (a_null h n) = n (b h)
+no_row a b w i e m f u x (into_extension h) = w h
+no_row a b w i e m f u x (integers h k) = i h k
+no_row a b w i e m f u x (lists h) = e h
+no_row a b w i e m f u x (maps h) = m h
+no_row a b w i e m f u x (structs h) = f h
+no_row a b w i e m f u x (unions h) = u h
+no_row a b w i e m f u x (from_extension h n) = n (x h)
 
 no : ⊥ → ⊥
 no h = h
@@ -131,7 +163,7 @@ pub i8_has_no_thousand : ¬ (Has i8 (number 1000))
 i8_has_no_thousand h = yes_leb (number_needs_range I8 NonNullable (pos 1000) h).sfits
 
 pub no_number_of_i32_becomes_null : (z : ℤ) → ¬ (Allows i32 null_type (whole z))
-no_number_of_i32_becomes_null z = no_row (λ h. tell_apart is_integer h tt) absurd no (λ a b. b) no no no absurd
+no_number_of_i32_becomes_null z = no_row (λ h. tell_apart is_integer h tt) absurd no (λ a b. b) no no no no absurd
 
 -- nulls: to every type that takes one, but for maps that would become sorted
 
@@ -158,7 +190,7 @@ null_of_i32_to_nullable_utf8 = (a_null tt no, the_null refl)
 
 pub null_of_an_unsorted_map_to_the_sorted_one_is_refused : ¬ (Allows unsorted_map sorted_map null)
 null_of_an_unsorted_map_to_the_sorted_one_is_refused =
-    no_row (λ h. tell_apart (λ t. not (is_sorted_map t)) h tt) (λ h. tt) no (λ a b. a) no (λ h. h.1) no absurd
+    no_row (λ h. tell_apart (λ t. not (is_sorted_map t)) h tt) (λ h. tt) no (λ a b. a) no (λ h. h.1) no no absurd
 
 pub null_of_an_unsorted_map_to_nullable_boolean : CanCast unsorted_map (or_null boolean) null
 null_of_an_unsorted_map_to_nullable_boolean = (a_null tt no, the_null refl)
@@ -174,7 +206,7 @@ pub struct_with_that_null_to_one_with_the_sorted_map_is_refused :
     ¬ (Allows (struct_of (codes "m" ∷ []) (unsorted_map ∷ [])) (struct_of (codes "m" ∷ []) (sorted_map ∷ [])) (parts (null ∷ [])))
 struct_with_that_null_to_one_with_the_sorted_map_is_refused =
     no_row (λ h. tell_apart (λ t. not (is_sorted_map (first_field t))) h tt) absurd no (λ a b. a) no no
-    (λ h. null_of_an_unsorted_map_to_the_sorted_one_is_refused h.0) absurd
+    (λ h. null_of_an_unsorted_map_to_the_sorted_one_is_refused h.0) no absurd
   where
     first_field : TypeTree → TypeTree
     first_field (struct_type names (type_then t ts) n) = t
@@ -186,11 +218,11 @@ null_of_an_extension_over_an_unsorted_map_to_the_sorted_one = (a_null tt no, the
 -- an empty map is no null, and is refused too, also on the way into an extension
 
 pub empty_unsorted_map_to_the_sorted_one_is_refused : ¬ (Allows unsorted_map sorted_map (parts []))
-empty_unsorted_map_to_the_sorted_one_is_refused = no_row (λ h. tell_apart (λ t. not (is_sorted_map t)) h tt) absurd no (λ a b. a) no (λ h. h.0 tt) no absurd
+empty_unsorted_map_to_the_sorted_one_is_refused = no_row (λ h. tell_apart (λ t. not (is_sorted_map t)) h tt) absurd no (λ a b. a) no (λ h. h.0 tt) no no absurd
 
 pub empty_unsorted_map_to_an_extension_over_the_sorted_one_is_refused : ¬ (Allows unsorted_map (extension_a sorted_map) (parts []))
 empty_unsorted_map_to_an_extension_over_the_sorted_one_is_refused =
-    no_row (λ h. tell_apart (λ t. not (is_extension t)) h tt) absurd (λ h. empty_unsorted_map_to_the_sorted_one_is_refused h.1) (λ a b. a) no no no absurd
+    no_row (λ h. tell_apart (λ t. not (is_extension t)) h tt) absurd (λ h. empty_unsorted_map_to_the_sorted_one_is_refused h.1) (λ a b. a) no no no no absurd
 
 -- lists: element by element, whether of a fixed size or not
 
@@ -270,7 +302,7 @@ struct_of_a_null_and_a_list = (
 )
 
 pub structs_of_other_counts_are_refused : ¬ (Allows (a_and_b i32 i32) (struct_of (codes "a" ∷ []) (i32 ∷ [])) one_and_two)
-structs_of_other_counts_are_refused = no_row (λ h. tell_apart has_two_fields h tt) absurd no (λ a b. a) no no (λ h. h.1) absurd
+structs_of_other_counts_are_refused = no_row (λ h. tell_apart has_two_fields h tt) absurd no (λ a b. a) no no (λ h. h.1) no absurd
   where
     has_two_fields : TypeTree → Bool
     has_two_fields (struct_type names (type_then s (type_then t ts)) n) = true
@@ -289,12 +321,12 @@ extension_to_its_storage = (from_extension refl no, record { value = int 7; vali
 
 pub extension_to_another_integer_kind_is_refused : ¬ (Allows (extension_a i32) i64 (number 7))
 extension_to_another_integer_kind_is_refused =
-    no_row (λ h. tell_apart is_extension h tt) absurd no (λ a b. a) no no no (λ h. tell_apart (is_integer_of I32) h tt)
+    no_row (λ h. tell_apart is_extension h tt) absurd no (λ a b. a) no no no no (λ h. tell_apart (is_integer_of I32) h tt)
 
 pub extension_unwraps_one_level_alone : ¬ (Allows (extension_a (extension_b i32)) (extension_b i32) (number 7))
 extension_unwraps_one_level_alone =
     no_row (λ h. tell_apart (λ t. is_extension (storage_once t)) h tt) absurd
-    (λ h. no_row (λ e. tell_apart is_extension e tt) absurd no (λ a b. a) no no no (λ e. tell_apart is_extension e tt) h.1) (λ a b. a) no no no (λ h. tt)
+    (λ h. no_row (λ e. tell_apart is_extension e tt) absurd no (λ a b. a) no no no no (λ e. tell_apart is_extension e tt) h.1) (λ a b. a) no no no no (λ h. tt)
   where
     storage_once : TypeTree → TypeTree
     storage_once (extension_type id metadata t) = t
@@ -308,36 +340,21 @@ pub true_into_extensions_at_any_depth : CanCast boolean (extension_a (extension_
 true_into_extensions_at_any_depth =
     (into_extension (no, into_extension (no, same_type refl)), record { value = raw_bool true; valid = tt; same = refl })
 
--- texts, variants and unions: to their own type, and extensions over it
+-- texts and variants: to their own type, and extensions over it
 
 pub text_to_binary_is_refused : ¬ (Allows utf8 binary (text (codes "a")))
-text_to_binary_is_refused = no_row (λ h. tell_apart is_utf8 h tt) absurd no (λ a b. a) no no no absurd
+text_to_binary_is_refused = no_row (λ h. tell_apart is_utf8 h tt) absurd no (λ a b. a) no no no no absurd
   where
     is_utf8 : TypeTree → Bool
     is_utf8 (utf8_type n) = true
     is_utf8 _ = false
 
 pub variant_of_a_u32_to_u32_is_refused : ¬ (Allows variant u32 (typed u32 (number 42)))
-variant_of_a_u32_to_u32_is_refused = no_row (λ h. tell_apart (λ t. not (is_integer t)) h tt) absurd no (λ a b. a) no no no absurd
+variant_of_a_u32_to_u32_is_refused = no_row (λ h. tell_apart (λ t. not (is_integer t)) h tt) absurd no (λ a b. a) no no no no absurd
 
 pub variant_to_a_nullable_variant : CanCast variant (or_null variant) (typed u32 (number 42))
 variant_to_a_nullable_variant =
     (same_type refl, record { value = raw_variant u32 (raw_integer U32 (pos 42)); valid = (tt, (refl, leb_yes tt)); same = refl })
-
-pub union_to_an_extension_over_it : CanCast int_or_string (extension_a int_or_string) (tagged 5 (number 42))
-union_to_an_extension_over_it = (into_extension (no, same_type refl), record { value = raw_union 5 (int 42); valid = i32_valid 42 tt; same = refl })
-
--- the same variants, but for a wider integer
-abbrev long_or_string : TypeTree
-long_or_string = or_null (union_of (codes "int" ∷ codes "string" ∷ []) (5 ∷ 9 ∷ []) (or_null i64 ∷ utf8 ∷ []))
-
-pub union_to_one_of_a_wider_integer_is_refused_for_now : ¬ (Allows int_or_string long_or_string (tagged 5 (number 42)))
-union_to_one_of_a_wider_integer_is_refused_for_now =
-    no_row (λ h. tell_apart (λ t. is_integer_of I32 (first_variant t)) h tt) absurd no (λ a b. a) no no no absurd
-  where
-    first_variant : TypeTree → TypeTree
-    first_variant (union_type names (type_then t ts) ids n) = t
-    first_variant _ = null_type
 
 -- maps: entry by entry
 
@@ -350,6 +367,110 @@ sorted_map_to_the_unsorted_one = (
     same = refl;
   },
 )
+
+-- unions of the same ids: the selected child, between the two types of its id
+
+-- the same ids, with other names and types
+abbrev n_or_s : TypeTree → TypeTree → TypeTree
+n_or_s s t = union_of (codes "n" ∷ codes "s" ∷ []) (5 ∷ 9 ∷ []) (s ∷ t ∷ [])
+
+i64_valid : (n : ℕ) → T (leb (suc n) (2 ^ 63)) → Valid i64 (raw_integer I64 (pos n))
+i64_valid n h = (refl, record { sfits = leb_yes h })
+
+abbrev has_42 : Has (n_or_s (or_null i64) (or_null utf8)) (tagged 5 (number 42))
+has_42 = record { value = raw_union 5 (raw_integer I64 (pos 42)); valid = i64_valid 42 tt; same = refl }
+
+pub number_of_a_union_to_a_wider_one : CanCast int_or_string (n_or_s (or_null i64) (or_null utf8)) (tagged 5 (number 42))
+number_of_a_union_to_a_wider_one = (unions (refl, integers tt tt), has_42)
+
+pub inner_null_to_a_type_that_takes_it : CanCast int_or_string (n_or_s (or_null i64) (or_null utf8)) (tagged 5 null)
+inner_null_to_a_type_that_takes_it = (unions (refl, a_null tt no), record { value = raw_union 5 absent; valid = refl; same = refl })
+
+pub inner_null_to_a_type_that_takes_none_is_allowed : Allows int_or_string (n_or_s i64 utf8) (tagged 5 null)
+inner_null_to_a_type_that_takes_none_is_allowed = unions (refl, a_null tt no)
+
+pub union_of_i64_has_no_inner_null : ¬ (Has (n_or_s i64 utf8) (tagged 5 null))
+union_of_i64_has_no_inner_null h = no_null (null_needs_nullable i64 (child_needs_type _ _ (5 ∷ 9 ∷ []) NonNullable 5 null h))
+
+pub thousand_of_a_union_to_i8_is_allowed : Allows int_or_string (n_or_s i8 utf8) (tagged 5 (number 1000))
+thousand_of_a_union_to_i8_is_allowed = unions (refl, integers tt tt)
+
+pub union_of_i8_has_no_thousand : ¬ (Has (n_or_s i8 utf8) (tagged 5 (number 1000)))
+union_of_i8_has_no_thousand h = i8_has_no_thousand (child_needs_type _ _ (5 ∷ 9 ∷ []) NonNullable 5 (number 1000) h)
+
+-- no integer goes to a truth value, but this one is not there
+pub only_the_selected_variant_has_to_convert : CanCast int_or_string (n_or_s boolean utf8) (tagged 9 (text (codes "x")))
+only_the_selected_variant_has_to_convert = (unions (refl, same_type refl), record { value = raw_union 9 (raw_text (codes "x")); valid = tt; same = refl })
+
+pub number_of_a_union_to_a_boolean_is_refused : ¬ (Allows int_or_string (n_or_s boolean utf8) (tagged 5 (number 42)))
+number_of_a_union_to_a_boolean_is_refused =
+    no_row (λ h. tell_apart (λ t. is_integer (first_variant t)) h tt) absurd no (λ a b. a) no no no
+    (λ h. no_row (λ e. tell_apart is_integer e tt) absurd no (λ a b. b) no no no no absurd h.1) absurd
+
+pub union_to_one_of_its_ids_in_another_order_is_refused :
+    ¬ (Allows int_or_string (union_of (codes "s" ∷ codes "n" ∷ []) (9 ∷ 5 ∷ []) (utf8 ∷ or_null i32 ∷ [])) (tagged 5 (number 42)))
+union_to_one_of_its_ids_in_another_order_is_refused =
+    no_row (λ h. tell_apart (λ t. is_integer (first_variant t)) h tt) absurd no (λ a b. a) no no no (λ h. tell_apart begins_with_five h.0 tt) absurd
+  where
+    begins_with_five : List ℕ → Bool
+    begins_with_five (id ∷ ids) = id == 5
+    begins_with_five [] = false
+
+pub struct_of_a_union :
+    CanCast (struct_of (codes "u" ∷ []) (int_or_string ∷ [])) (struct_of (codes "v" ∷ []) (n_or_s (or_null i64) (or_null utf8) ∷ [])) (parts (tagged 5 (number 42) ∷ []))
+struct_of_a_union = (
+  structs (number_of_a_union_to_a_wider_one.0, tt),
+  record {
+    value = tuple (has_42.value ∷ []);
+    valid = (has_42.valid, tt);
+    same = refl;
+  },
+)
+
+pub null_of_a_union_to_a_nullable_one : CanCast int_or_string (or_null (n_or_s (or_null i64) (or_null utf8))) null
+null_of_a_union_to_a_nullable_one = (a_null tt no, the_null refl)
+
+pub null_of_a_union_to_one_that_takes_none_is_allowed : Allows int_or_string (n_or_s (or_null i64) (or_null utf8)) null
+null_of_a_union_to_one_that_takes_none_is_allowed = a_null tt no
+
+pub union_that_takes_no_null_has_none : ¬ (Has (n_or_s (or_null i64) (or_null utf8)) null)
+union_that_takes_no_null_has_none h = no_null (null_needs_nullable (n_or_s (or_null i64) (or_null utf8)) h)
+
+pub list_of_a_union : CanCast (list_of int_or_string) (list_of (n_or_s (or_null i64) (or_null utf8))) (parts (tagged 5 (number 42) ∷ []))
+list_of_a_union = (lists (number_of_a_union_to_a_wider_one.0, tt), record { value = tuple (has_42.value ∷ []); valid = (has_42.valid, tt); same = refl })
+
+pub map_of_a_union :
+    CanCast (map_of i32 int_or_string) (map_of i64 (n_or_s (or_null i64) (or_null utf8))) (parts (parts (number 1 ∷ tagged 5 (number 42) ∷ []) ∷ []))
+map_of_a_union = (
+  maps (no, (integers tt tt, number_of_a_union_to_a_wider_one.0, tt)),
+  record {
+    value = tuple (entry (raw_integer I64 (pos 1)) has_42.value ∷ []);
+    valid = (i64_valid 1 tt, has_42.valid, tt);
+    same = refl;
+  },
+)
+
+pub union_to_an_extension_over_it : CanCast int_or_string (extension_a int_or_string) (tagged 5 (number 42))
+union_to_an_extension_over_it = (into_extension (no, same_type refl), record { value = raw_union 5 (int 42); valid = i32_valid 42 tt; same = refl })
+
+pub union_to_an_extension_over_a_wider_one : CanCast int_or_string (extension_a (n_or_s (or_null i64) (or_null utf8))) (tagged 5 (number 42))
+union_to_an_extension_over_a_wider_one =
+    (into_extension (no, number_of_a_union_to_a_wider_one.0), record { value = has_42.value; valid = has_42.valid; same = refl })
+
+-- an extension goes to its storage alone
+pub extension_over_a_union_to_a_wider_one_is_refused :
+    ¬ (Allows (extension_a int_or_string) (n_or_s (or_null i64) (or_null utf8)) (tagged 5 (number 42)))
+extension_over_a_union_to_a_wider_one_is_refused =
+    no_row (λ h. tell_apart is_extension h tt) absurd no (λ a b. a) no no no no (λ h. tell_apart (λ t. is_integer_of I32 (first_variant t)) h tt)
+
+-- what a variant holds keeps its type
+pub variant_of_a_union_to_a_wider_one_is_refused :
+    ¬ (Allows variant (n_or_s (or_null i64) (or_null utf8)) (typed int_or_string (tagged 5 (number 42))))
+variant_of_a_union_to_a_wider_one_is_refused = no_row (λ h. tell_apart (λ t. not (is_union t)) h tt) absurd no (λ a b. a) no no no no absurd
+  where
+    is_union : TypeTree → Bool
+    is_union (union_type names ts ids n) = true
+    is_union _ = false
 
 -- Chains: each step is a cast of one content.
 
@@ -375,3 +496,19 @@ list_by_an_extension_to_a_fixed_list = record {
 
     has_u8 : Has (fixed_list_of u8 2) one_and_two
     has_u8 = record { value = one_and_two_of U8; valid = (refl, ((refl, leb_yes tt), ((refl, leb_yes tt), tt))); same = refl }
+
+-- a union by way of wider variants is what the direct cast gives
+pub union_by_a_wider_one : Runs int_or_string (raw_union 5 (int 42)) (n_or_s (or_null i64) (or_null utf8)) (n_or_s i8 utf8 ∷ []) (raw_union 5 (raw_integer I8 (pos 42)))
+union_by_a_wider_one = record {
+  starts = i32_valid 42 tt;
+  ends = (refl, record { sfits = leb_yes tt });
+  same = refl;
+  steps = (
+    number_of_a_union_to_a_wider_one.0,
+    has_42,
+    (unions (refl, integers tt tt), record { value = raw_union 5 (raw_integer I8 (pos 42)); valid = (refl, record { sfits = leb_yes tt }); same = refl }, tt),
+  );
+}
+
+pub union_at_once : IsCast int_or_string (n_or_s i8 utf8) (raw_union 5 (int 42)) (raw_union 5 (raw_integer I8 (pos 42)))
+union_at_once = record { allowed = unions (refl, integers tt tt); valid = (refl, record { sfits = leb_yes tt }); same = refl }

@@ -1,14 +1,16 @@
 -- The steps of a cast, as they compute. They have the shape of the code; that they give what the table of casts says is
 -- the lemma `cast_decided` in proofs.
 use Rattle.std.specs.Prelude.{◌≡◌, ◌≢◌, ◌==◌, ◌&&◌, ◌||◌, ◌⊎◌, not, ℕ, ℤ, Bool, Option, Some, None, Result, IfErr, MatchResult, if◌then◌else◌, length, option_map}
+use Rattle.std.specs.Str.{bytes_eq}
 use Rattle.vortex_dtype.specs.TypeOf.{MapParts}
-use Rattle.vortex_dtype.specs.TypeTree.{TypeTree, integer_type, list_type, fixed_size_list_type, map_type, struct_type, extension_type, TypeTrees, no_types, type_then, IsFlat, is_nullable, storage}
+use Rattle.vortex_dtype.specs.TypeTree.{TypeTree, integer_type, list_type, fixed_size_list_type, map_type, struct_type, union_type, extension_type, TypeTrees, no_types, type_then, IsFlat, is_nullable, storage}
 use Rattle.vortex_dtype.specs.declared.error.VortexError.{VortexError}
 use Rattle.vortex_dtype.specs.declared.error.VortexError.TheVariants.{CannotCast, OutOfMemory}
 use Rattle.vortex_pvalue.specs.Numbers.{in_range}
 use Rattle.vortex_value.specs.Breaches.{breaches}
 use Rattle.vortex_value.specs.Equality.{same_type}
-use Rattle.vortex_value.specs.Values.RawTree.{RawTree, absent, raw_integer, raw_tuple, RawTrees, no_raws, raw_then, count}
+use Rattle.vortex_value.specs.Validity.{type_with}
+use Rattle.vortex_value.specs.Values.RawTree.{RawTree, absent, raw_integer, raw_tuple, raw_union, RawTrees, no_raws, raw_then, count}
 
 -- whether the type accepts the value
 abbrev pub accepts : TypeTree → RawTree → Bool
@@ -63,6 +65,21 @@ tuple_to number each entries fields (map_type k v from n) (map_type l w to m) =
 tuple_to number each entries fields (struct_type names ss n) (struct_type others ts m) = fields ss ts
 tuple_to number each entries fields _ _ = None
 
+-- the two types, if there are both
+abbrev pub two_types : Option TypeTree → Option TypeTree → Option (TypeTree × TypeTree)
+two_types (Some s) (Some t) = Some (s, t)
+two_types _ _ = None
+
+-- the types that the id gives in two unions of the same ids in order
+abbrev pub types_with : ℕ → TypeTree → TypeTree → Option (TypeTree × TypeTree)
+types_with id (union_type names ss is n) (union_type others ts js m) = if bytes_eq is js then two_types (type_with id is ss) (type_with id js ts) else None
+types_with id _ _ = None
+
+-- what a child becomes between the two types of its id
+abbrev pub child_to : (TypeTree → TypeTree → Option RawTree) → Option (TypeTree × TypeTree) → Option RawTree
+child_to made None = None
+child_to made (Some p) = made p.0 p.1
+
 -- a first part and the others, if there are both
 abbrev pub both : Option RawTree → Option RawTrees → Option RawTrees
 both (Some v) (Some vs) = Some (raw_then v vs)
@@ -82,6 +99,7 @@ abbrev mutual
   bare_to (raw_integer k z) s t = number_to z t
   bare_to (raw_tuple vs) s t =
       option_map raw_tuple (tuple_to (count vs) (λ e f. each_to vs e f) (λ a b. map_to (λ m n. entries_to vs m n) a b) (λ ss ts. fields_to vs ss ts) s t)
+  bare_to (raw_union id v) s t = option_map (raw_union id) (child_to (λ a b. whole_to (λ x y. bare_to v x y) v a b) (types_with id s t))
   bare_to v s t = kept (same_type s t) t v
 
   -- each between the same two types

@@ -1,19 +1,21 @@
 //! The steps of a cast that go no further down than the value itself.
 
-ghost use Rattle.std.specs.Prelude.{◌≡◌, ◌==◌, IfErr};
-ghost use Rattle.vortex_dtype.specs.TypeOf.{map_of, type_of};
+ghost use Rattle.std.specs.Prelude.{◌≡◌, ◌==◌, IfErr, option_map};
+ghost use Rattle.std.specs.Str.{bytes_eq};
+ghost use Rattle.vortex_dtype.specs.TypeOf.{map_of, type_of, variants_of};
 ghost use Rattle.vortex_dtype.specs.declared.error.VortexError.TheVariants.{CannotCast};
 ghost use Rattle.vortex_pvalue.specs.Whole.{whole_of};
-ghost use Rattle.vortex_value.specs.Steps.CastSteps.{Makes, SparesMemory, accepts, kept, leaves, number_to, sorts, takes_null};
+ghost use Rattle.vortex_value.specs.Steps.CastSteps.{Makes, SparesMemory, accepts, kept, leaves, number_to, sorts, takes_null, types_with};
 ghost use Rattle.vortex_value.specs.Values.RawOf.{value_tree, value_trees};
 ghost use Rattle.vortex_value.specs.Values.RawTree.{count};
 
 use crate::copies;
 use crate::equality::same_types;
 use crate::scalars::Scalar;
+use crate::storage::variant_with;
 use crate::values::ScalarValue;
 use std::alloc::Global;
-use vortex_dtype::{DType, MapDType, VortexError};
+use vortex_dtype::{DType, MapDType, UnionVariants, VortexError};
 use vortex_pvalue::PValue;
 
 /// Whether keys that are not said to be sorted would be said so.
@@ -52,6 +54,33 @@ pub(super) fn leaves(target: &DType, source: &DType, stored: &DType) -> bool
             same_types(source, target) || leaves(extension.storage_dtype(), source, stored)
         }
         _ => same_types(stored, target),
+    }
+}
+
+/// Whether two unions have the same ids in order.
+fn same_ids(a: &UnionVariants, b: &UnionVariants) -> bool
+    ensures { result ≡ bytes_eq (variants_of a.now).type_ids (variants_of b.now).type_ids }
+{
+    a.type_ids().eq(b.type_ids())
+}
+
+/// The types of the variants with this id, in two unions of the same ids in order.
+#[tactic(auto, using(crate::proofs::CastCode::shown))]
+pub(super) fn types_with<'a>(
+    source: &'a DType,
+    target: &'a DType,
+    id: u8,
+) -> Option<(&'a DType, &'a DType)>
+    ensures { option_map (λ p. (type_of p.0.now, type_of p.1.now)) result
+        ≡ types_with id (type_of source.now) (type_of target.now) }
+{
+    match (source, target) {
+        (DType::Union(from, _), DType::Union(to, _)) if same_ids(from, to) => {
+            let (_, variant) = variant_with(from, id)?;
+            let (_, wanted) = variant_with(to, id)?;
+            Some((variant, wanted))
+        }
+        _ => None,
     }
 }
 

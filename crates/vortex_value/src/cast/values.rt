@@ -3,12 +3,13 @@
 ghost use Rattle.std.specs.Option.{option_copied};
 ghost use Rattle.vortex_dtype.specs.TypeOf.{map_of, type_of, dtype_trees};
 ghost use Rattle.vortex_value.specs.Steps.CastSteps.{Makes, SparesMemory, bare_to, cast_to, each_to, entries_to, entry_to, fields_to, map_to, parts_to, sized};
-ghost use Rattle.vortex_value.specs.Values.RawOf.{raw_of, value_trees, value_tree};
+ghost use Rattle.vortex_value.specs.Values.RawOf.{raw_of, union_tree, value_trees, value_tree};
 ghost use Rattle.vortex_value.specs.Values.RawTree.{count, raw_tuple};
 
-use super::rows::{are_as_many, cast_number, kept, leaves, sorts, takes_null};
+use super::rows::{are_as_many, cast_number, kept, leaves, sorts, takes_null, types_with};
 use crate::equality::same_types;
 use crate::storage::storage_of;
+use crate::unions::UnionValue;
 use crate::values::ScalarValue;
 use std::alloc::Global;
 use vortex_dtype::{DType, MapDType, VortexError};
@@ -73,7 +74,32 @@ fn cast_bare(
         ScalarValue::Tuple(parts) => {
             Ok(ScalarValue::Tuple(cast_parts(alloc, parts, source, target)?))
         }
+        ScalarValue::Union(union) => {
+            Ok(ScalarValue::Union(cast_union(alloc, union, source, target)?))
+        }
         _ => kept(alloc, value, same_types(source, target), target),
+    }
+}
+
+/// The child of a union, cast between the two variants with its id.
+#[cycle(cast)]
+#[tactic(auto, using(crate::proofs::CastCode::shown))]
+fn cast_union(
+    alloc: Global,
+    union: &UnionValue,
+    source: &DType,
+    target: &DType,
+) -> Result<UnionValue, VortexError>
+    ensures made { Makes union_tree (bare_to (union_tree union.now)
+        (type_of source.now) (type_of target.now)) result }
+    ensures flat { SparesMemory (type_of target.now) result }
+{
+    match types_with(source, target, union.type_id) {
+        Some((from, to)) => {
+            let child = cast_value(alloc, union.child.as_deref(), from, to)?;
+            UnionValue::new(alloc, union.type_id, child)
+        }
+        None => Err(VortexError::CannotCast),
     }
 }
 

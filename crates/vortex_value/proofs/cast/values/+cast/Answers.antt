@@ -1,13 +1,14 @@
 -- What is made of a part is a part of what is made, and a part that is refused refuses the whole.
-use Rattle.std.proofs.Common.{◌≡◌, ◌++◌, ◌∷◌, [], Some, Err, inl, inr, length, refl, ap, ◌∙◌, add-one, arith, rules}
+use Rattle.std.proofs.Common.{◌≡◌, ◌++◌, ◌∷◌, [], Some, Err, inl, inr, length, option_map, refl, ap, ◌∙◌, add-one, arith, rules}
 use Rattle.std.proofs.Math.ListN.{drop_of_length-le}
 use Rattle.std.specs.Option.{option_copied}
 use Rattle.vortex_dtype.specs.TypeOf.{map_of, type_of}
 use Rattle.vortex_dtype.specs.declared.types.DType.{the_lemmas}
 use Rattle.vortex_value.specs.Casts.{IsExtension}
-use Rattle.vortex_value.specs.Steps.CastSteps.{each_to, entries_to}
-use Rattle.vortex_value.specs.Values.RawOf.{value_trees}
-use Rattle.vortex_value.proofs.CastCode.{all_done, cast_below, entry_at, fields_at, fields_end, flat_storage, no_entry, no_fields, no_value, none_more, one_more, parts_at, passed_on}
+use Rattle.vortex_value.specs.Steps.CastSteps.{each_to, entries_to, types_with}
+use Rattle.vortex_value.specs.Values.RawOf.{raw_of, value_trees}
+use Rattle.vortex_value.specs.Values.RawTree.{raw_union}
+use Rattle.vortex_value.proofs.CastCode.{all_done, cast_below, entry_at, fields_at, fields_end, flat_storage, made_union, no_entry, no_fields, no_value, none_more, one_more, parts_at, passed_on, union_at}
 use Rattle.vortex_value.proofs.ValueSteps.{value_tree-Tuple}
 use Rattle.vortex_value.proofs.cast.values.+cast.Goals as goal
 
@@ -124,6 +125,30 @@ cast_fields-returns t c =
     let ended : length l.field-iterator.a.rest.now ≡ 0 =
     elim c.in-None.ensures.steps [ inl h ↦ h.1.0 | inr h ↦ elim h.1 [ inl k ↦ omega (arith, k.1.0) | inr k ↦ omega (arith, k.1.0) ] ] in
     all_done l.made.items _ _ l.invariant.0 (fields_end _ _ _ l.invariant.1 l.invariant.2 ended)
+
+-- unions
+
+pub cast_union-returns-in_err-child-in-Some-clause-made : goal.cast_union-returns-in_err-child-in-Some-clause-made
+cast_union-returns-in_err-child-in-Some-clause-made t c =
+    let u = c.args.union.now in
+    let from = type_of c.in-Some.from.now in
+    let to = type_of c.in-Some.to.now in
+    let lent : option_copied c.as_deref.result ≡ option_map (λ b. b.value) u.child = search rules in
+    let found : types_with u.type_id (type_of c.args.source.now) (type_of c.args.target.now) ≡ Some (from, to) = search rules in
+    let is : c.from_residual.result ≡ Err c.in_err-child-in-Some.field-0.0 = search rules in
+    let at = union_at u (type_of c.args.source.now) (type_of c.args.target.now) from to found in
+    passed_on _ _ _ _ _ is (rw lent at c.in_err-child-in-Some.ensures.made) (λ none. at ∙ ap (option_map (raw_union u.type_id)) none)
+
+pub cast_union-returns-in_ok-child-in-Some-clause-made : goal.cast_union-returns-in_ok-child-in-Some-clause-made
+cast_union-returns-in_ok-child-in-Some-clause-made t c =
+    let u = c.args.union.now in
+    let from = type_of c.in-Some.from.now in
+    let to = type_of c.in-Some.to.now in
+    let lent : option_copied c.as_deref.result ≡ option_map (λ b. b.value) u.child = search rules in
+    let found : types_with u.type_id (type_of c.args.source.now) (type_of c.args.target.now) ≡ Some (from, to) = search rules in
+    let at = union_at u (type_of c.args.source.now) (type_of c.args.target.now) from to found in
+    let child = rw lent at c.in_ok-child-in-Some.ensures.made in
+    made_union _ u.type_id (raw_of c.in_ok-child-in-Some.child) _ c.new.result c.new.ensures (at ∙ ap (option_map (raw_union u.type_id)) child)
 
 -- below the extensions of the target
 

@@ -32,6 +32,9 @@ decreases-cast_present l = 8 * goal.size-cast_present l + 2
 abbrev pub decreases-cast_bare : goal.decreases-cast_bare
 decreases-cast_bare l = 8 * goal.size-cast_bare l + 1
 
+abbrev pub decreases-cast_union : goal.decreases-cast_union
+decreases-cast_union l = 8 * goal.size-cast_union l + 1
+
 abbrev pub decreases-cast_parts : goal.decreases-cast_parts
 decreases-cast_parts l = 8 * goal.size-cast_parts l + 6
 
