@@ -2,6 +2,7 @@
 use Rattle.std.proofs.Common.{◌≡◌, ℕ, ◌<◌, ◌≤◌, true, false, Bool, List, [], length, IsSomeAnd, MatchOption, Option, Some, None, nat_le, refl, sym, ap, ◌∙◌, subst, arith, ⊎_elim, if◌then◌else◌}
 use Rattle.std.proofs.lemmas.Bool.Decides.{nat_tests}
 use Rattle.std.proofs.str.Laws.{order}
+use Rattle.hex.specs.Hex.{encode_lower}
 use Rattle.vortex_array.specs.Laws.{BoundsAreComputed, BoundsAreUnique}
 use Rattle.vortex_array.specs.Strings.{IsString, IsLower, IsUpper, HasNoUpper, lower_of, upper_of}
 use Rattle.vortex_array.specs.Truncation.{IsBoundOf, IsLowerOf, IsUpperOf}
@@ -11,7 +12,7 @@ use Rattle.vortex_value.specs.Values.RawTree.{RawTree, raw_bytes}
 use Rattle.vortex_value.specs.Values.Scalars.{scalar_raw}
 use Rattle.vortex_value.specs.declared.scalars.Scalar.{Scalar}
 use Rattle.scalar_rows.specs.Grammar.{bound}
-use Rattle.scalar_rows.specs.Rows.{bound_text, hex_text, request_text}
+use Rattle.scalar_rows.specs.Rows.{bound_text, request_text}
 use Rattle.scalar_rows.specs.declared.commands.Side.TheVariants.{Lower, Upper}
 
 -- what holds of an optional value that is there
@@ -23,7 +24,7 @@ is_match o x N P e h = rw e at h
 
 -- the string itself, or else its bound
 choice : (b : List ℕ) (n : ℕ) (r : List ℕ) (o : Option (List ℕ)) → (length b ≤ n → r ≡ b) → (n < length b → o ≡ Some r)
-    → hex_text r ≡ (if nat_le (length b) n then hex_text b else bound_text o)
+    → encode_lower r ≡ (if nat_le (length b) n then encode_lower b else bound_text o)
 choice b n r o whole best =
     ⊎_elim
     (λ l. let t : nat_le (length b) n ≡ false = grind (arith, nat_tests) in rw (t, best l) refl)
@@ -42,7 +43,7 @@ same_bytes : {Best : List ℕ → ℕ → List ℕ → Type 0} (t : TypeTree) (b
 same_bytes t b n y cut r h e = ap bytes_in (sym h.made.value ∙ e)
 
 pub lower_text : (t : TypeTree) (b : List ℕ) (n : ℕ) (y : Scalar) (cut : Bool) (r : List ℕ) → BoundsAreComputed → BoundsAreUnique → IsString b
-    → IsLowerOf IsLower raw_bytes t b n y cut → scalar_raw y ≡ raw_bytes r → hex_text r ≡ request_text (bound Lower n b)
+    → IsLowerOf IsLower raw_bytes t b n y cut → scalar_raw y ≡ raw_bytes r → encode_lower r ≡ request_text (bound Lower n b)
 lower_text t b n y cut r computed unique s h e =
     let q = same_bytes t b n y cut r h.bound e in
     choice b n r (Some (lower_of b n))
@@ -54,7 +55,7 @@ is_some b n r None unique h k = absurd (h r k.string k.exact k.above)
 is_some b n r (Some x) unique h k = ap (λ v. Some v) (unique.upper b n x r h k)
 
 pub upper_text : (t : TypeTree) (b : List ℕ) (n : ℕ) (y : Scalar) (cut : Bool) (r : List ℕ) → BoundsAreComputed → BoundsAreUnique → IsString b
-    → IsUpperOf IsUpper raw_bytes t b n y cut → scalar_raw y ≡ raw_bytes r → hex_text r ≡ request_text (bound Upper n b)
+    → IsUpperOf IsUpper raw_bytes t b n y cut → scalar_raw y ≡ raw_bytes r → encode_lower r ≡ request_text (bound Upper n b)
 upper_text t b n y cut r computed unique s h e =
     let q = same_bytes t b n y cut r h.bound e in
     choice b n r (upper_of b n)

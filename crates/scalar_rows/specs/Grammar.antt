@@ -1,10 +1,12 @@
 -- What a line asks for: the grammar of the program.
-use Rattle.std.specs.Prelude.{ℕ, ℤ, List, [], ◌∷◌, ◌==◌, ◌&&◌, ◌+◌, ◌*◌, Bool, Option, None, Some, pos, neg_ℤ, if◌then◌else◌, length, nat_lt, nat_le, codes, find}
-use Rattle.std.specs.Char.{digit_value, is_ascii_digit}
+use Rattle.std.specs.Prelude.{ℕ, ℤ, List, [], ◌∷◌, ◌==◌, ◌&&◌, Bool, Option, None, Some, pos, neg_ℤ, if◌then◌else◌, length, nat_lt, nat_le, codes, find}
+use Rattle.std.specs.Char.{is_ascii_digit}
 use Rattle.std.specs.List.{list_all}
 use Rattle.std.specs.Option.{option_map}
+use Rattle.std.specs.Result.{result_ok}
 use Rattle.std.specs.Str.{bytes_eq}
 use Rattle.std.specs.Str.Parse.{digits_value}
+use Rattle.hex.specs.Hex.{decode_of}
 use Rattle.vortex_dtype.specs.declared.kinds.PType.{PType}
 use Rattle.vortex_dtype.specs.declared.kinds.PType.TheVariants.{U8, U16, U32, U64, I8, I16, I32, I64}
 use Rattle.vortex_dtype.specs.Kinds.{kind_text}
@@ -45,18 +47,9 @@ number_named (b ∷ bs) = if b == 45 then negative_named bs else option_map (λ 
 unfoldable pub size_named : List ℕ → Option ℕ
 size_named digits = if nat_le (length digits) 18 then natural_named digits else None
 
--- a byte in front, of two hexadecimal digits of either case
-abbrev pub hex_then : ℕ → ℕ → Option (List ℕ) → Option (List ℕ)
-hex_then c d rest =
-    if nat_lt (digit_value c) 16 && nat_lt (digit_value d) 16
-    then option_map (λ bytes. (digit_value c * 16 + digit_value d) ∷ bytes) rest
-    else None
-
--- HEX: the bytes that an even number of hexadecimal digits represent
+-- HEX: the bytes that an even number of hexadecimal digits of either case represent
 abbrev pub hex_named : List ℕ → Option (List ℕ)
-hex_named [] = Some []
-hex_named (c ∷ []) = None
-hex_named (c ∷ d ∷ digits) = hex_then c d (hex_named digits)
+hex_named word = result_ok (decode_of word)
 
 -- what a line asks for
 pub data Request : Type 0 where

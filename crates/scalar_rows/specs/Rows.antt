@@ -1,23 +1,19 @@
 -- What a text gives, line by line.
 use Rattle.std.specs.Prelude.{ℕ, List, [], ◌∷◌, ◌++◌, Option, None, Some, if◌then◌else◌, codes, length, nat_le}
 use Rattle.std.specs.List.{flat_map}
+use Rattle.hex.specs.Hex.{encode_lower}
 use Rattle.vortex_pvalue.specs.Numbers.{in_range}
 use Rattle.vortex_pvalue.specs.Whole.{number_text}
 use Rattle.vortex_array.specs.Strings.{lower_of, upper_of}
-use Rattle.vortex_value.specs.Texts.{two_digits}
 use Rattle.scalar_rows.specs.Grammar.{Request, cast, bound, request_in}
 use Rattle.scalar_rows.specs.Lines.{lines_of}
 use Rattle.scalar_rows.specs.declared.commands.Side.{Side}
 use Rattle.scalar_rows.specs.declared.commands.Side.TheVariants.{Lower, Upper}
 
--- a string in lower case hexadecimal, two digits a byte
-abbrev pub hex_text : List ℕ → List ℕ
-hex_text bytes = flat_map two_digits bytes
-
--- a bound, or that there is none
+-- a bound in lower case hexadecimal, or that there is none
 abbrev pub bound_text : Option (List ℕ) → List ℕ
 bound_text None = codes "none"
-bound_text (Some bytes) = hex_text bytes
+bound_text (Some bytes) = encode_lower bytes
 
 -- the bound on this side of a string of more than n bytes
 abbrev pub bound_of : Side → ℕ → List ℕ → Option (List ℕ)
@@ -28,7 +24,7 @@ bound_of Upper n bytes = upper_of bytes n
 -- at most n bytes, and else its bound, if there is one
 abbrev pub request_text : Request → List ℕ
 request_text (cast from z to) = if in_range to z then number_text to z else codes "refused"
-request_text (bound side n bytes) = if nat_le (length bytes) n then hex_text bytes else bound_text (bound_of side n bytes)
+request_text (bound side n bytes) = if nat_le (length bytes) n then encode_lower bytes else bound_text (bound_of side n bytes)
 
 -- a line that asks for nothing is bad
 abbrev pub row_text : Option Request → List ℕ

@@ -5,8 +5,7 @@ ghost use Rattle.scalar_rows.specs.Commands.{request_of};
 ghost use Rattle.scalar_rows.specs.Grammar.{bound_operands, bound_request, cast_operands, cast_request, hex_named, kind_named, number_named, request_in, size_named};
 ghost use Rattle.scalar_rows.specs.Lines.{words_of};
 
-use crate::hex::hex_named;
-use crate::numbers::{kind_named, number_named, size_named};
+use crate::numbers::{hex_named, kind_named, number_named, size_named};
 use crate::words::cut_word;
 use std::alloc::{AllocError, Global};
 use vortex_array::{ByteBuffer, PType, PValue};

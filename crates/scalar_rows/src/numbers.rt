@@ -1,9 +1,11 @@
-//! Kinds and numbers: what a word says.
+//! Kinds, numbers and strings of bytes: what a word says.
 
-ghost use Rattle.std.specs.Prelude.{◌≡◌, IfSome, ◌<◌, ◌^◌, length};
-ghost use Rattle.scalar_rows.specs.Grammar.{kind_named, natural_named, number_named, size_named};
+ghost use Rattle.std.specs.Prelude.{◌≡◌, IfOk, IfSome, ◌<◌, ◌^◌, length};
+ghost use Rattle.scalar_rows.specs.Grammar.{hex_named, kind_named, natural_named, number_named, size_named};
 
-use vortex_array::PType;
+use hex::{FromHexError, decode};
+use std::alloc::{AllocError, Global};
+use vortex_array::{ByteBuffer, PType};
 
 /// The kinds of integers.
 const KINDS: [PType; 8] = [
@@ -74,4 +76,20 @@ pub fn number_named(word: &[u8]) -> Option<i128>
         return natural_named(&word[1..]).map(|size| -(size as i128));
     }
     natural_named(word).map(|size| size as i128)
+}
+
+/// The bytes that the digits of the word represent, two a byte; none where it has an odd number of
+/// characters, or one that is no digit.
+pub fn hex_named(alloc: Global, word: &[u8]) -> Result<Option<ByteBuffer>, AllocError>
+    ensures { IfOk result (λ bytes. bytes ≡ hex_named word.now) }
+{
+    let bytes = match decode(alloc, word) {
+        Ok(bytes) => bytes,
+        Err(FromHexError::OutOfMemory) => return Err(AllocError),
+        Err(_) => return Ok(None),
+    };
+    match ByteBuffer::from_vec(bytes) {
+        Ok(value) => Ok(Some(value)),
+        Err(_) => Err(AllocError),
+    }
 }

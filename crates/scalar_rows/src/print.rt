@@ -1,11 +1,12 @@
 //! How an answer is written.
 
 ghost use Rattle.std.specs.Prelude.{◌≡◌, ◌++◌, ◌∷◌, [], OnOk};
+ghost use Rattle.hex.specs.Hex.{encode_lower};
 ghost use Rattle.vortex_pvalue.specs.Whole.{pvalue_text};
 ghost use Rattle.scalar_rows.specs.Answers.{row_of};
 
 use crate::answers::Answer;
-use crate::hex::push_hex;
+use hex::encode_to_slice;
 use itoa::Buffer;
 use std::alloc::AllocError;
 use vortex_array::PValue;
@@ -34,4 +35,19 @@ fn push_value(output: &mut Vec<u8>, value: PValue) -> Result<(), AllocError>
     output.extend_from_slice(buffer.format(value.whole()).as_bytes())?;
     output.extend_from_slice(value.ptype().name().as_bytes())?;
     output.extend_from_slice(b"\n")
+}
+
+/// Writes the bytes in lower case, two digits each.
+fn push_hex(output: &mut Vec<u8>, bytes: &[u8]) -> Result<(), AllocError>
+    ensures { OnOk result (output.new.items ≡ output.old.items ++ encode_lower bytes.now) }
+{
+    let start = output.len();
+    let Some(end) = start.checked_add(2 * bytes.len()) else {
+        return Err(AllocError);
+    };
+    output.resize(end, 0)?;
+    let Ok(()) = encode_to_slice(bytes, &mut output[start..]) else {
+        unreachable!()
+    };
+    Ok(())
 }

@@ -1,4 +1,4 @@
-//! Numbers, integer kinds and bytes in hexadecimal.
+//! Numbers and integer kinds.
 
 use crate::read::named;
 use vortex_dtype::PType;
@@ -65,15 +65,5 @@ fn value_of(number: i128, kind: PType) -> Option<PValue> {
         PType::I16 => Some(PValue::I16(i16::try_from(number).ok()?)),
         PType::I32 => Some(PValue::I32(i32::try_from(number).ok()?)),
         PType::I64 => Some(PValue::I64(i64::try_from(number).ok()?)),
-    }
-}
-
-/// The number of a digit in hexadecimal.
-pub fn hex_digit(digit: u8) -> Option<u8> {
-    match digit {
-        b'0'..=b'9' => Some(digit - b'0'),
-        b'a'..=b'f' => Some(digit - b'a' + 10),
-        b'A'..=b'F' => Some(digit - b'A' + 10),
-        _ => None,
     }
 }

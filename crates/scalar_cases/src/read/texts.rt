@@ -1,9 +1,9 @@
 //! Texts in quotes, names, and bytes in hexadecimal.
 
 use crate::faults::Fault;
-use crate::read::numbers::hex_digit;
 use crate::tokens::Tokens;
-use vortex_dtype::{BufferString, ByteBuffer, FieldName};
+use hex::{FromHexError, decode};
+use vortex_dtype::{BufferString, ByteBuffer, FieldName, VortexError};
 
 /// The most digits of a character's number.
 const DIGITS: u32 = 6;
@@ -14,7 +14,7 @@ pub fn read_text(tokens: &mut Tokens<'_>) -> Option<BufferString> {
     tokens.expect(b'"');
     for _ in 0..tokens.left() {
         match tokens.byte() {
-            Some(b'"') => return kept_text(tokens, &text),
+            Some(b'"') => return kept_text(tokens, ByteBuffer::from_vec(text)),
             Some(b'\\') => read_escape(tokens, &mut text),
             Some(byte) => tokens.push(&mut text, byte),
             None => break,
@@ -24,9 +24,12 @@ pub fn read_text(tokens: &mut Tokens<'_>) -> Option<BufferString> {
     None
 }
 
-/// The text of these bytes.
-fn kept_text(tokens: &mut Tokens<'_>, text: &[u8]) -> Option<BufferString> {
-    match BufferString::try_from(kept_bytes(tokens, text)?) {
+/// The text of the buffer that was made.
+fn kept_text(
+    tokens: &mut Tokens<'_>,
+    made: Result<ByteBuffer, VortexError>,
+) -> Option<BufferString> {
+    match BufferString::try_from(kept_bytes(tokens, made)?) {
         Ok(text) => Some(text),
         Err(_) => {
             tokens.bad_line();
@@ -35,9 +38,12 @@ fn kept_text(tokens: &mut Tokens<'_>, text: &[u8]) -> Option<BufferString> {
     }
 }
 
-/// The buffer of these bytes.
-fn kept_bytes(tokens: &mut Tokens<'_>, bytes: &[u8]) -> Option<ByteBuffer> {
-    match ByteBuffer::from_slice(tokens.alloc, bytes) {
+/// The buffer that was made, if there was memory for it.
+fn kept_bytes(
+    tokens: &mut Tokens<'_>,
+    made: Result<ByteBuffer, VortexError>,
+) -> Option<ByteBuffer> {
+    match made {
         Ok(buffer) => Some(buffer),
         Err(_) => {
             tokens.fail(Fault::NoMemory);
@@ -67,13 +73,13 @@ fn read_character(tokens: &mut Tokens<'_>) -> Option<char> {
     if tokens.byte()? != b'{' {
         return None;
     }
-    let mut number = u32::from(hex_digit(tokens.byte()?)?);
+    let mut number = char::from(tokens.byte()?).to_digit(16)?;
     for _ in 0..DIGITS {
         let byte = tokens.byte()?;
         if byte == b'}' {
             return char::from_u32(number);
         }
-        number = number.wrapping_mul(16) | u32::from(hex_digit(byte)?);
+        number = number.wrapping_mul(16) | char::from(byte).to_digit(16)?;
     }
     None
 }
@@ -93,7 +99,10 @@ pub fn read_name(tokens: &mut Tokens<'_>) -> Option<BufferString> {
     }
     let word = tokens.word();
     match word.first() {
-        Some(first) if !first.is_ascii_digit() => kept_text(tokens, word),
+        Some(first) if !first.is_ascii_digit() => {
+            let made = ByteBuffer::from_slice(tokens.alloc, word);
+            kept_text(tokens, made)
+        }
         _ => {
             tokens.bad_line();
             None
@@ -116,20 +125,13 @@ pub fn read_bytes(tokens: &mut Tokens<'_>) -> Option<ByteBuffer> {
 
 /// The bytes that these digits in hexadecimal represent, two each.
 pub fn bytes_of_hex(tokens: &mut Tokens<'_>, digits: &[u8]) -> Option<ByteBuffer> {
-    let mut bytes = Vec::new(tokens.alloc);
-    let mut high = None;
-    for digit in digits {
-        match (high, hex_digit(*digit)) {
-            (_, None) => tokens.bad_line(),
-            (None, digit) => high = digit,
-            (Some(first), Some(second)) => {
-                tokens.push(&mut bytes, (first << 4) | second);
-                high = None;
-            }
+    let made = match decode(tokens.alloc, digits) {
+        Ok(bytes) => ByteBuffer::from_vec(bytes),
+        Err(FromHexError::OutOfMemory) => Err(VortexError::OutOfMemory),
+        Err(_) => {
+            tokens.bad_line();
+            return None;
         }
-    }
-    if high.is_some() {
-        tokens.bad_line();
-    }
-    kept_bytes(tokens, &bytes)
+    };
+    kept_bytes(tokens, made)
 }

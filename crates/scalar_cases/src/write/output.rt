@@ -1,10 +1,8 @@
 //! Bytes that are written.
 
+use hex::encode_to_slice;
 use itoa::Buffer;
 use std::alloc::{AllocError, Global};
-
-/// The digits of hexadecimal.
-const DIGITS: [u8; 16] = *b"0123456789abcdef";
 
 /// Bytes that are written. Where memory is wanting, that is kept, and `into_bytes` tells.
 #[derive(Drop)]
@@ -55,16 +53,10 @@ impl Output {
         self.word(buffer.format(number));
     }
 
-    /// Adds one digit in hexadecimal.
-    pub fn digit(&mut self, digit: u8) {
-        self.byte(DIGITS[usize::from(digit & 15)]);
-    }
-
     /// Adds two digits in hexadecimal for each of these bytes.
     pub fn hex(&mut self, bytes: &[u8]) {
         for byte in bytes {
-            self.digit(*byte >> 4);
-            self.digit(*byte);
+            self.bytes(&digits_of(*byte));
         }
     }
 
@@ -74,4 +66,13 @@ impl Output {
             self.word(", ");
         }
     }
+}
+
+/// The two digits of a byte in hexadecimal.
+pub fn digits_of(byte: u8) -> [u8; 2] {
+    let mut digits = [0; 2];
+    let Ok(()) = encode_to_slice([byte], &mut digits) else {
+        unreachable!()
+    };
+    digits
 }

@@ -1,6 +1,6 @@
 //! Texts and names.
 
-use crate::write::output::Output;
+use crate::write::output::{Output, digits_of};
 
 /// Writes a text in quotes, escaped.
 pub fn write_text(out: &mut Output, text: &str) {
@@ -26,11 +26,9 @@ fn write_byte(out: &mut Output, byte: u8) {
 
 /// Writes the number of a character in braces.
 fn write_code(out: &mut Output, byte: u8) {
+    let digits = digits_of(byte);
     out.word("\\u{");
-    if byte > 15 {
-        out.digit(byte >> 4);
-    }
-    out.digit(byte);
+    out.bytes(if byte < 16 { &digits[1..] } else { &digits });
     out.byte(b'}');
 }
 
