@@ -1,8 +1,11 @@
 -- Casts keep the content, and a type has one value of each: so chains agree, and equality and order stay.
-use Rattle.std.proofs.Common.{◌≡◌, ◌&&◌, true, ◌∷◌, refl, sym, ap, ◌∙◌, subst}
-use Rattle.vortex_dtype.specs.TypeTree.{TypeTree, null_type, extension_type, Same, IsNullable, as_nullable, storage}
-use Rattle.vortex_value.specs.Casts.{same_type, a_null, Allows, IsCast, Sorts}
-use Rattle.vortex_value.specs.Laws.CastLaws.{CallsAreChains, CastsKeepScalars, CastsKeepValues, ChainsAgree, IntoNullableAndBack, ThereAndBack}
+use Rattle.std.proofs.Common.{◌≡◌, ◌&&◌, true, ◌∷◌, Result, Ok, Err, refl, sym, ap, ◌∙◌, subst}
+use Rattle.vortex_dtype.specs.TypeTree.{TypeTree, null_type, extension_type, IsFlat, Same, IsNullable, as_nullable, storage}
+use Rattle.vortex_dtype.specs.declared.error.VortexError.{VortexError}
+use Rattle.vortex_dtype.specs.declared.error.VortexError.TheVariants.{CannotCast, OutOfMemory}
+use Rattle.vortex_value.specs.CastAnswers.{AnswersCast, GivesCast}
+use Rattle.vortex_value.specs.Casts.{same_type, a_null, Allows, CanCast, IsCast, RefusesCast, Sorts}
+use Rattle.vortex_value.specs.Laws.CastLaws.{CallsAreChains, CastsKeepScalars, ChainsAgree, ChainsKeepValues, IntoNullableAndBack, NullableCastsBack, ThereAndBack}
 use Rattle.vortex_value.specs.Chains.{last_of, Steps}
 use Rattle.vortex_value.specs.Values.Content.{Content, null, content}
 use Rattle.vortex_value.specs.Equality.{equal}
@@ -11,6 +14,7 @@ use Rattle.vortex_value.specs.Lemmas.EqualityLaws.{same_type-Decides}
 use Rattle.vortex_value.specs.Values.RawTree.{RawTree, absent}
 use Rattle.vortex_value.specs.Values.Scalars.{scalar_content, scalar_order, scalar_raw, scalar_type}
 use Rattle.vortex_value.specs.Validity.{Valid}
+use Rattle.vortex_value.specs.declared.scalars.Scalar.{Scalar}
 use Rattle.vortex_value.proofs.Uniqueness.{one_value}
 
 pub chains_agree : ChainsAgree
@@ -19,13 +23,13 @@ chains_agree s v t u ts us w x p q ends = one_value (last_of t ts) (last_of u us
 pub there_and_back : ThereAndBack
 there_and_back s t v w x p there back = one_value s s x v refl back.valid p (back.same ∙ there.same)
 
-pub casts_keep_values : CastsKeepValues
-casts_keep_values s u t v w x y same p q a b =
-    let left = a.same in
-    let right = b.same in
+pub chains_keep_values : ChainsKeepValues
+chains_keep_values s u v w t r ts rs x y same ends p q =
+    let left = p.same in
+    let right = q.same in
     record {
       equality = (λ h. rw (← left, ← right) h, λ h. rw (left, right) h);
-      value = (λ e. one_value s u v w same p q (sym left ∙ ap content e ∙ right), λ e. one_value t t x y refl a.valid b.valid (left ∙ ap content e ∙ sym right));
+      value = (λ e. one_value s u v w same p.starts q.starts (sym left ∙ ap content e ∙ right), λ e. one_value (last_of t ts) (last_of r rs) x y ends p.ends q.ends (left ∙ ap content e ∙ sym right));
       ordered = rw (left, right);
     }
 
@@ -36,9 +40,22 @@ casts_keep_scalars x y a b t same p q =
     let alike : equality.same_type (scalar_type x) (scalar_type y) ≡ true = (same_type-Decides (scalar_type x) (scalar_type y)).1 same in
     (rw (p.typed, q.typed, p.same, q.same, one, alike) refl, rw (p.typed, q.typed, p.same, q.same, one, alike) refl)
 
+-- a cast is possible, and what a call answers is the one value
+possible : (s t : TypeTree) (v w : RawTree) → IsCast s t v w → CanCast s t (content v)
+possible s t v w h = (h.allowed, record { value = w; valid = h.valid; same = h.same })
+
+only_memory : (t : TypeTree) (p : Type 0) (e : VortexError) → p → RefusesCast t p e → (e ≡ OutOfMemory) × ¬ (IsFlat t)
+only_memory t p CannotCast h r = absurd (r h)
+only_memory t p OutOfMemory h r = (refl, r)
+only_memory t p _ h r = absurd r
+
+pub answered : (s t : TypeTree) (v w : RawTree) (r : Result Scalar VortexError) → IsCast s t v w → AnswersCast s t v r → GivesCast t w r
+answered s t v w (Ok y) h a = record { typed = a.one.typed; value = sym (a.one.only w h.valid h.same) }
+answered s t v w (Err e) h a = only_memory t (CanCast s t (content v)) e (possible s t v w h) a.refuses_only
+
 pub calls_are_chains : CallsAreChains
 calls_are_chains = record {
-  cast = λ x y t possible one. record { allowed = possible.0; valid = subst (λ u. Valid u (scalar_raw y)) one.typed one.valid; same = one.same };
+  cast = λ s t v y can one. record { allowed = can.0; valid = subst (λ u. Valid u (scalar_raw y)) one.typed one.valid; same = one.same };
   alone = λ s t v w p h. record { starts = p; ends = h.valid; same = h.same; steps = (h.allowed, record { value = w; valid = h.valid; same = h.same }, tt) };
   further = λ s t u us v w x p h rest. record {
     starts = p;
@@ -46,6 +63,15 @@ calls_are_chains = record {
     same = rest.same ∙ h.same;
     steps = (h.allowed, record { value = w; valid = h.valid; same = h.same }, subst (λ c. Steps t (u ∷ us) c) h.same rest.steps);
   };
+  possible = λ s t ts v x run. (run.steps.0, run.steps.1);
+  last = λ s t v w run. record { allowed = run.steps.0; valid = run.ends; same = run.same };
+  rest = λ s t u us v w x run h. record {
+    starts = h.valid;
+    ends = run.ends;
+    same = run.same ∙ sym h.same;
+    steps = subst (λ c. Steps t (u ∷ us) c) (sym h.same) run.steps.2;
+  };
+  answered = answered;
 }
 
 pub allows_null : (s t : TypeTree) → ¬ (Sorts s t) → Allows s t null
@@ -76,3 +102,10 @@ kept s t v same p = record { allowed = allows_same s t (content v) same; valid =
 
 pub into_nullable_and_back : IntoNullableAndBack
 into_nullable_and_back s v p = (kept s (as_nullable s) v (nullable_same s) (nullable_valid s v p), kept (as_nullable s) s v (sym (nullable_same s)) p)
+
+pub nullable_casts_back : NullableCastsBack
+nullable_casts_back x y r valid made a =
+    let s = scalar_type x in
+    let typed = made.typed in
+    let value = made.value in
+    answered (as_nullable s) s (scalar_raw x) (scalar_raw x) r (into_nullable_and_back s (scalar_raw x) valid).1 (rw (typed, value) at a)

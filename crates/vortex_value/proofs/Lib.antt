@@ -27,5 +27,6 @@ pub mod ValueSteps
 pub mod Variants
 pub mod Writes
 pub mod WayRound
+pub mod ZeroCases
 pub mod ZeroLaws
 pub mod ZeroSteps

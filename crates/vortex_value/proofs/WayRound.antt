@@ -2,14 +2,14 @@
 use Rattle.std.proofs.Common.{◌≡◌, ◌==◌, ℕ, ℤ, Bool, true, false, if◌then◌else◌, List, [], ◌∷◌, Option, Some, None, ◌⊎◌, inl, inr, refl, subst, rules}
 use Rattle.vortex_dtype.specs.TypeTree.{TypeTree, null_type, bool_type, integer_type, utf8_type, binary_type, list_type, fixed_size_list_type, map_type, struct_type, union_type, extension_type, TypeTrees, no_types, type_then, storage}
 use Rattle.vortex_dtype.specs.declared.kinds.Nullability.{Nullability}
-use Rattle.vortex_value.specs.Laws.CastLaws.{HasNoNull, HaveNoNull, NoWayRound}
+use Rattle.vortex_value.specs.Laws.CastLaws.{HasNoNull, HaveNoNull, NoCallFurther, NoWayRound}
 use Rattle.vortex_value.specs.Casts.{Sorts, EachPlace, EachEntry, same_type, integers, lists, maps, structs, unions, ForId, Allows, AllowsFields, AllowsChild}
 use Rattle.vortex_value.specs.Chains.{last_of}
 use Rattle.vortex_value.specs.Values.Content.{Content, null, truth, whole, text, string, sequence, tagged, typed, Contents, no_contents, content_then, content}
 use Rattle.vortex_value.specs.TypesWithin.{HasNoExtension, HaveNoExtension, HasNoMap, HaveNoMap}
 use Rattle.vortex_value.specs.Validity.{type_with}
 use Rattle.vortex_value.proofs.Alike.{AlikeAt, Alike, BothHave, EachAlike, FieldsAlike, EntriesAlike, Rises, chain_alike}
-use Rattle.vortex_value.proofs.CastLaws.{allows_null, allows_same}
+use Rattle.vortex_value.proofs.CastLaws.{allows_null, allows_same, answered}
 
 -- contents without parts
 
@@ -131,3 +131,6 @@ no_way_round s v t ts w run x y m = record {
   valid = run.ends;
   same = run.same;
 }
+
+pub no_call_further : NoCallFurther
+no_call_further s v t ts w r run x y m a = answered s (last_of t ts) v w r (no_way_round s v t ts w run x y m) a

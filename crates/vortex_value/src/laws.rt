@@ -6,11 +6,12 @@
 ghost use Rattle.std.specs.Cmp.{IsEquivalence};
 ghost use Rattle.vortex_dtype.specs.Laws.{AgreesWithHash};
 ghost use Rattle.vortex_value.specs.Breaches.{ValidExactlyWithoutBreach, ValidityIsDecided};
-ghost use Rattle.vortex_value.specs.Laws.CastLaws.{CallsAreChains, CastsKeepScalars, CastsKeepValues, ChainsAgree, IntoNullableAndBack, NoWayRound, ThereAndBack};
+ghost use Rattle.vortex_value.specs.Laws.CastLaws.{CallsAreChains, CastsKeepScalars, ChainsAgree, ChainsKeepValues, IntoNullableAndBack, NoCallFurther, NoWayRound, NullableCastsBack, ThereAndBack};
 ghost use Rattle.vortex_value.specs.Casts.{OneValue};
 ghost use Rattle.vortex_value.specs.Values.Content.{content};
 ghost use Rattle.vortex_value.specs.Equality.{EqualityAgreesWithoutTyped, EqualityIsAnEquivalence, EqualityIsDecided, EqualsByContent, EqualsByTypeAndContent};
 ghost use Rattle.vortex_value.specs.Laws.HasContent.{HasByCases};
+ghost use Rattle.vortex_value.specs.Laws.ZeroCases.{DefaultByCases, ZeroByCases};
 ghost use Rattle.vortex_value.specs.Hashing.{EqualFeedSame};
 ghost use Rattle.vortex_value.specs.Order.{AgreesWhere, IsReversed, IsTransitive, order};
 ghost use Rattle.vortex_value.specs.Reinterpretations.{ScalarsReinterpretBack};
@@ -124,6 +125,18 @@ pub fn zero_is_zero()
     ensures { ZeroIsZero }
 {}
 
+/// The zero of each kind of type: none of Null and of a union without variants, and of a type with
+/// parts what the zeros of its parts make.
+pub fn zero_by_cases()
+    ensures { ZeroByCases }
+{}
+
+/// The default of each kind of type: the null of one that takes it, and else what its kind has, made of
+/// the defaults of its parts.
+pub fn default_by_cases()
+    ensures { DefaultByCases }
+{}
+
 /// A type whose unions have variants at every depth has a default. A default is the content of a
 /// valid value, and null exactly where the type takes a null.
 pub fn default_exists()
@@ -136,8 +149,9 @@ pub fn size_is_sum()
     ensures { SizeIsSum }
 {}
 
-/// What the contract of `cast` says of a scalar and the one that it gave is a cast of the raw value,
-/// and so a chain of one, from which further ones go on: all laws of casts and chains apply to it.
+/// What the contract of a cast says of a value, owned or lent, and the scalar that it gave is a cast,
+/// and so a chain of one, from which further ones go on. Back from a chain, its first cast is possible,
+/// and what a call answers is the value that the cast gives, unless there is no memory.
 pub fn calls_are_chains()
     ensures { CallsAreChains }
 {}
@@ -153,22 +167,26 @@ pub fn there_and_back()
     ensures { ThereAndBack }
 {}
 
-/// Casts to one type, from types that are the same up to nullability, are equal exactly where what
-/// was cast is, and ordered as it is.
+/// What chains to one type gave, from types that are the same up to nullability, is equal exactly where
+/// what was cast is, and ordered as it is.
 pub fn equality_and_order_are_kept()
-    ensures values { CastsKeepValues }
+    ensures values { ChainsKeepValues }
     ensures scalars { CastsKeepScalars ⟦<Scalar as PartialEq>⟧.eq scalar_order }
 {}
 
 /// Between two types without extensions one cast gives what a chain of casts gives, where no map
-/// stands in the two types or no null in the content: no way round leads further.
+/// stands in the two types or no null in the content: no way round leads further. So the direct cast
+/// answers what the chain gave, unless there is no memory.
 pub fn no_way_round()
-    ensures { NoWayRound }
+    ensures values { NoWayRound }
+    ensures calls { NoCallFurther }
 {}
 
-/// `into_nullable`, then `cast` to the type before: the value stays, so the scalar comes back.
+/// `into_nullable`, then `cast` to the type before: the value stays, so the scalar comes back, unless
+/// there is no memory.
 pub fn into_nullable_and_back()
-    ensures { IntoNullableAndBack }
+    ensures values { IntoNullableAndBack }
+    ensures calls { NullableCastsBack }
 {}
 
 /// A type has a content, by some valid raw value, exactly where the cases over kinds of types say

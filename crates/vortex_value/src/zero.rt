@@ -295,9 +295,10 @@ fn is_inner_zero(scalar: &Scalar) -> Option<bool>
 }
 
 impl Scalar {
-    /// The zero of the type, which is never null: false, 0, what is empty, and zeros in the parts of
-    /// a struct, a list of a fixed size and a union's first variant. None exactly for Null, a union
-    /// without variants and a type with such a part.
+    /// The zero of the type, which is never null: false, 0, what is empty, a list and a map whatever
+    /// their parts, and zeros in the fields of a struct, the elements of a list of a fixed size and a
+    /// union's first variant; of an extension that of its storage. None exactly for Null, for a union
+    /// without variants, and where one of those fields, elements, variants or storages has none.
     ///
     /// `OutOfMemory` is its only refusal, and not where there is no zero, nor for a type whose values
     /// take no memory. Ports `Scalar::zero_value`, which panics where there is no zero.
@@ -311,8 +312,9 @@ impl Scalar {
     }
 
     /// The default of the type: the null of a type that takes one, and else as its zero, with
-    /// defaults in its parts. None exactly for a union without variants that takes no null, and a
-    /// type with such a part.
+    /// defaults in the parts. None exactly for a type that takes no null and is a union without
+    /// variants, or has a field, an element of its fixed size, a first variant or a storage without a
+    /// default.
     ///
     /// `OutOfMemory` is its only refusal, and not where there is no default, nor for a type whose
     /// values take no memory. Ports `Scalar::default_value`, which panics where there is no default.
