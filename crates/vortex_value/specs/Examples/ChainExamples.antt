@@ -14,15 +14,13 @@ use Rattle.vortex_value.specs.Examples.ValueExamples.{i32, boolean, u32, utf8, o
 -- is refused, since the maps would come to be sorted
 pub null_of_a_map_by_way_of_booleans : Runs (a_and_b unsorted_map i32) (tuple (absent ∷ int 7 ∷ [])) (a_and_b (or_null boolean) i32) (a_and_b sorted_map i32 ∷ []) (tuple (absent ∷ int 7 ∷ []))
 null_of_a_map_by_way_of_booleans = record {
-  starts = (refl, i32_valid 7 tt, tt);
-  ends = (refl, i32_valid 7 tt, tt);
+  starts = (refl, (i32_valid 7 tt, tt));
+  ends = (refl, (i32_valid 7 tt, tt));
   same = refl;
   steps = (
-    structs (a_null tt (λ h. h), integers tt tt, tt),
-    record { value = tuple (absent ∷ int 7 ∷ []); valid = (refl, i32_valid 7 tt, tt); same = refl },
-    structs (a_null tt (λ h. h), integers tt tt, tt),
-    record { value = tuple (absent ∷ int 7 ∷ []); valid = (refl, i32_valid 7 tt, tt); same = refl },
-    tt,
+    structs (a_null tt (λ h. h), (integers tt tt, tt)),
+    record { value = tuple (absent ∷ int 7 ∷ []); valid = (refl, (i32_valid 7 tt, tt)); same = refl },
+    (structs (a_null tt (λ h. h), (integers tt tt, tt)), record { value = tuple (absent ∷ int 7 ∷ []); valid = (refl, (i32_valid 7 tt, tt)); same = refl }, tt),
   );
 }
 
