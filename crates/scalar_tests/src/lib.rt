@@ -28,6 +28,8 @@ mod numbers;
 #[cfg(test)]
 mod places;
 #[cfg(test)]
+mod readme;
+#[cfg(test)]
 mod round_trips;
 #[cfg(test)]
 mod rust_values;
