@@ -1,4 +1,16 @@
-//! Casts of scalars to another type.
+//! Casts of scalars to another type. A cast is made where some row of the table allows it (`Row`,
+//! in specs/Casts) and the target type has a value of the content. `cast_value` goes down the value:
+//!
+//! | Row | Allows | Function |
+//! |---|---|---|
+//! | `same_type` | a type that is the same up to nullability | those below; other values `kept` |
+//! | `a_null` | a null, but from an unsorted to a sorted map | `cast_value`, `takes_null` |
+//! | `into_extension` | no null, to an extension whose storage takes it | `cast_present`, `leaves` |
+//! | `integers` | a number, to an integer type | `cast_number` |
+//! | `lists` | each element, between lists, of a fixed size or not | `cast_elements`, `cast_sized` |
+//! | `maps` | each key and value, but from an unsorted to a sorted map | `cast_map`, `cast_entries` |
+//! | `structs` | each field by its place, between equally many | `cast_fields` |
+//! | `from_extension` | a value, to the storage type up to nullability | `cast_present`, `leaves` |
 
 ghost use Rattle.std.specs.Prelude.{IfErr, IfOk};
 ghost use Rattle.vortex_dtype.specs.TypeOf.{type_of};
