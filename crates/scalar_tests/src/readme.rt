@@ -3,6 +3,22 @@
 use crate::tour::{list_as_i8s, steps_to_breach, thousand_as};
 use vortex_array::{Breach, Nullability, PType, Scalar, Step, VortexError};
 
+/// Whether the refusal shows the first element as a wrong value.
+fn blames_the_first_element(made: &Result<Scalar, VortexError>) -> bool {
+    match made {
+        Err(refusal) => {
+            matches!(
+                refusal,
+                VortexError::Invalid {
+                    breach: Breach::WrongValue,
+                    ..
+                }
+            ) && steps_to_breach(refusal) == [Step::Element(0)].as_slice()
+        }
+        Ok(_) => false,
+    }
+}
+
 #[test]
 fn a_number_is_cast_or_refused(rt: HostRuntime) {
     let cast = thousand_as(rt.alloc(), PType::I16).expect(&rt, "the same number");
@@ -16,16 +32,7 @@ fn a_number_is_cast_or_refused(rt: HostRuntime) {
 
 #[test]
 fn a_list_of_another_kind_is_refused(rt: HostRuntime) {
-    let refusal = list_as_i8s(rt.alloc()).expect_err(&rt, "a number that i8 does not have");
-    assert!(rt; steps_to_breach(&refusal) == [Step::Element(0)].as_slice());
-    assert!(rt;
-        matches!(
-            &refusal,
-            VortexError::Invalid {
-                breach: Breach::WrongValue,
-                ..
-            }
-        )
-    );
-    drop(refusal);
+    let wrong = list_as_i8s(rt.alloc());
+    assert!(rt; blames_the_first_element(&wrong));
+    drop(wrong);
 }
