@@ -10,6 +10,7 @@
 //! | `lists` | each element, between lists, of a fixed size or not | `cast_elements`, `cast_sized` |
 //! | `maps` | each key and value, but from an unsorted to a sorted map | `cast_map`, `cast_entries` |
 //! | `structs` | each field by its place, between equally many | `cast_fields` |
+//! | `unions` | the child, between the variants with its id of unions of the same ids | `cast_union` |
 //! | `from_extension` | a value, to the storage type up to nullability | `cast_present`, `leaves` |
 
 ghost use Rattle.std.specs.Prelude.{IfErr, IfOk};
