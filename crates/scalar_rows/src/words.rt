@@ -30,7 +30,7 @@ pub fn cut_word(line: &[u8]) -> Option<(&[u8], &[u8])>
     }
 }
 
-/// The place of the first of this byte, told place by place: so the proofs of both cuts take it.
+/// The place of the first such byte, none where there is none.
 fn find_byte(byte: u8, text: &[u8]) -> Option<usize>
     ensures within { IfSome result (λ i. i < length text.now) }
     ensures found { IfSome result (λ i. slice_index text.now i ≡ byte) }

@@ -79,7 +79,7 @@ impl Model for Path {
 }
 
 impl Path {
-    /// The path of these steps. Takes no memory.
+    /// The path of these steps.
     pub fn of(steps: Vec<Step>) -> Path
         ensures { result ≡ steps.items }
     {

@@ -39,8 +39,6 @@ pub enum PType {
 
 impl PType {
     /// How many bytes a number of the kind takes.
-    ///
-    /// Ports `PType::byte_width`.
     pub fn byte_width(&self) -> usize
         ensures { result ≡ byte_width_of self.now }
     {

@@ -2,6 +2,9 @@
 //!
 //! A type is seen by contracts as a tree (`specs/TypeTree`), equal and hashed with or without
 //! nullability; a buffer as its list of bytes.
+//!
+//! A public item ports upstream's of the same name, but where it names another or says that it, or
+//! its type, is of this port alone.
 #![tactic(auto)]
 
 mod buffer;

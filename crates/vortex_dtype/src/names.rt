@@ -29,7 +29,7 @@ impl Model for FieldName {
 }
 
 impl FieldName {
-    /// The name with this text. Takes no memory.
+    /// The name with this text.
     ///
     /// Ports `FieldName::from`.
     pub fn new(text: BufferString) -> FieldName
@@ -49,8 +49,6 @@ impl FieldName {
 
     /// The same name: its text is shared, or copied where it has as many owners as can be counted,
     /// and only that copy can answer `OutOfMemory`.
-    ///
-    /// Ports `FieldName::clone`.
     pub fn clone(&self, _alloc: Global) -> Result<FieldName, VortexError>
         ensures { GivesOrNoMemory (λ name. name ≡ self.now) result }
     {
@@ -79,8 +77,6 @@ impl<'a> FieldNames<'a> {
     }
 
     /// How many names there are.
-    ///
-    /// Ports `FieldNames::len`.
     pub fn len(&self) -> usize
         ensures { result ≡ length (names_in self.now) }
     {
@@ -88,8 +84,6 @@ impl<'a> FieldNames<'a> {
     }
 
     /// The name at this place, and none exactly past the end.
-    ///
-    /// Ports `FieldNames::get`.
     pub fn get(&self, index: usize) -> Option<&'a FieldName>
         ensures { option_map (λ name. name.now) result ≡ slice_get (names_in self.now) index }
     {
@@ -97,8 +91,6 @@ impl<'a> FieldNames<'a> {
     }
 
     /// The names in order, each once.
-    ///
-    /// Ports `FieldNames::iter`.
     pub fn iter(&self) -> slice::Iter<'a, FieldName>
         ensures { iter_rest result ≡ names_in self.now }
     {

@@ -20,8 +20,6 @@ pub trait NativeDType {
     ghost native_type: { TypeTree };
 
     /// The column type, or `OutOfMemory`.
-    ///
-    /// Ports `NativeDType::dtype`.
     fn dtype(alloc: Global) -> Result<DType, VortexError>
         ensures { GivesOrNoMemory (λ dtype. type_of dtype ≡ native_type) result };
 }

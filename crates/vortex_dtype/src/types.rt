@@ -105,8 +105,6 @@ pub struct ExtDType {
 impl DType {
     /// The map type of these parts. `BadType` with `NullableKey` exactly where the key takes a
     /// null, and this before any memory is asked for; else `OutOfMemory` where there is none.
-    ///
-    /// Ports `DType::map`.
     pub fn map(
         alloc: Global,
         key: DType,
@@ -124,8 +122,6 @@ impl DType {
 
     /// Whether the type takes a null: what it says, for an extension what its storage says, and for
     /// the type of nulls always.
-    ///
-    /// Ports `DType::nullability`.
     pub fn nullability(&self) -> Nullability
         ensures { result ≡ nullability_of (type_of self.now) }
     {
@@ -139,8 +135,6 @@ impl DType {
     }
 
     /// Whether the type takes a null.
-    ///
-    /// Ports `DType::is_nullable`.
     pub fn is_nullable(&self) -> bool
         ensures { result ≡ is_nullable (type_of self.now) }
     {
@@ -151,9 +145,6 @@ impl DType {
     }
 
     /// The same type with the outer nullability `Nullable`; for an extension, that of its storage.
-    /// Takes no memory.
-    ///
-    /// Ports `DType::as_nullable`.
     #[cycle(as_nullable)]
     pub fn as_nullable(self) -> DType
         ensures { type_of result ≡ as_nullable (type_of self) }
@@ -177,8 +168,6 @@ impl DType {
     }
 
     /// Whether the types are equal once every nullability at every depth is erased.
-    ///
-    /// Ports `DType::eq_ignore_nullability`.
     pub fn eq_ignore_nullability(&self, other: &DType) -> bool
         ensures { IsTrue result ↔ Same (type_of self.now) (type_of other.now) }
     {
@@ -186,8 +175,6 @@ impl DType {
     }
 
     /// Feeds what the type says once every nullability at every depth is erased.
-    ///
-    /// Ports `DType::hash_ignore_nullability`.
     pub fn hash_ignore_nullability<H: Hasher>(&self, state: &mut H)
         ensures { state.new ≡ fold H.write state.old (tree_feed (erase (type_of self.now))) }
     {
@@ -195,8 +182,6 @@ impl DType {
     }
 
     /// Whether the type is one of texts; an extension over one is not.
-    ///
-    /// Ports `DType::is_utf8`.
     pub fn is_utf8(&self) -> bool
         ensures { result ≡ is_utf8_type (type_of self.now) }
     {
@@ -204,8 +189,6 @@ impl DType {
     }
 
     /// Whether the type is one of strings of bytes; an extension over one is not.
-    ///
-    /// Ports `DType::is_binary`.
     pub fn is_binary(&self) -> bool
         ensures { result ≡ is_binary_type (type_of self.now) }
     {
@@ -213,8 +196,6 @@ impl DType {
     }
 
     /// Whether the type is a map; an extension over one is not.
-    ///
-    /// Ports `DType::is_map`.
     pub fn is_map(&self) -> bool
         ensures { result ≡ is_map_type (type_of self.now) }
     {
@@ -222,8 +203,6 @@ impl DType {
     }
 
     /// Whether the type is a union; an extension over one is not.
-    ///
-    /// Ports `DType::is_union`.
     pub fn is_union(&self) -> bool
         ensures { result ≡ is_union_type (type_of self.now) }
     {
@@ -231,8 +210,6 @@ impl DType {
     }
 
     /// Whether the type is an extension.
-    ///
-    /// Ports `DType::is_extension`.
     pub fn is_extension(&self) -> bool
         ensures { result ≡ is_extension_type (type_of self.now) }
     {
@@ -240,8 +217,6 @@ impl DType {
     }
 
     /// What a map type holds, and none exactly for another type.
-    ///
-    /// Ports `DType::as_map_opt`.
     pub fn as_map_opt(&self) -> Option<&MapDType>
         ensures { option_map (λ map. map_of map.now) result ≡ map_in (type_of self.now) }
     {
@@ -252,8 +227,6 @@ impl DType {
     }
 
     /// What a struct type holds, and none exactly for another type.
-    ///
-    /// Ports `DType::as_struct_fields_opt`.
     #[tactic(auto, using(crate::proofs::HeldParts::shown))]
     pub fn as_struct_fields_opt(&self) -> Option<&StructFields>
         ensures { option_map (λ fields. fields_of fields.now) result
@@ -266,8 +239,6 @@ impl DType {
     }
 
     /// What a union type holds, and none exactly for another type.
-    ///
-    /// Ports `DType::as_union_variants_opt`.
     #[tactic(auto, using(crate::proofs::HeldParts::shown))]
     pub fn as_union_variants_opt(&self) -> Option<&UnionVariants>
         ensures { option_map (λ variants. variants_of variants.now) result
@@ -280,8 +251,6 @@ impl DType {
     }
 
     /// What an extension type holds, and none exactly for another type.
-    ///
-    /// Ports `DType::as_extension_opt`.
     pub fn as_extension_opt(&self) -> Option<&ExtDType>
         ensures { option_map (λ extension. ext_of extension.now) result
             ≡ extension_in (type_of self.now) }
@@ -293,8 +262,6 @@ impl DType {
     }
 
     /// The element type of a list, of fixed size or not, and none exactly for another type.
-    ///
-    /// Ports `DType::as_any_size_list_element_opt`.
     pub fn as_any_size_list_element_opt(&self) -> Option<&DType>
         ensures { option_map (λ element. type_of element.now) result
             ≡ element_in (type_of self.now) }
@@ -308,8 +275,6 @@ impl DType {
 
     /// The same type, every nullability included, or `OutOfMemory`, which the type of nulls, truth
     /// values and integers never answer.
-    ///
-    /// Ports `DType::clone`.
     pub fn clone(&self, alloc: Global) -> Result<DType, VortexError>
         ensures { MatchResult result
             (λ copy. type_of copy ≡ type_of self.now)

@@ -40,10 +40,10 @@ pub struct BinaryScalar<'a> {
 impl<'a> BinaryScalar<'a> {
     ghost use Rattle.vortex_leaves.specs.BytesViews.{IsBytesViewOf, IsValidBytesView, bytes_view_raw, bytes_view_type};
 
-    /// The view of a type and a raw value, or its absence. Takes no memory.
+    /// The view of a type and a raw value, or its absence.
     ///
     /// `WrongKind` where the type is not one of strings of bytes (an extension over one is not), else `Invalid`
-    /// where the value is not valid for the type. Ports `BinaryScalar::try_new`.
+    /// where the value is not valid for the type.
     pub fn try_new(
         alloc: Global,
         dtype: &'a DType,
@@ -66,8 +66,6 @@ impl<'a> BinaryScalar<'a> {
     }
 
     /// The type.
-    ///
-    /// Ports `BinaryScalar::dtype`.
     pub fn dtype(&self) -> &'a DType
         ensures { type_of result.now ≡ bytes_view_type self.now }
     {
@@ -75,8 +73,6 @@ impl<'a> BinaryScalar<'a> {
     }
 
     /// The bytes; none for a null.
-    ///
-    /// Ports `BinaryScalar::value`.
     pub fn value(&self) -> Option<&'a ByteBuffer>
         ensures { MatchOption result
             (bytes_view_raw self.now ≡ absent)
@@ -90,8 +86,6 @@ impl<'a> BinaryScalar<'a> {
     }
 
     /// How many bytes there are; none for a null.
-    ///
-    /// Ports `BinaryScalar::len`.
     pub fn len(&self) -> Option<usize>
         ensures { result ≡ option_map length (bytes_in (bytes_view_raw self.now)) }
     {
@@ -99,8 +93,6 @@ impl<'a> BinaryScalar<'a> {
     }
 
     /// Whether there are no bytes; none for a null.
-    ///
-    /// Ports `BinaryScalar::is_empty`.
     pub fn is_empty(&self) -> Option<bool>
         ensures { result ≡ option_map (λ bytes. length bytes == 0) (bytes_in (bytes_view_raw self.now)) }
     {
@@ -198,7 +190,7 @@ impl Hash for BinaryScalar<'_> {
     }
 }
 
-/// Writes `null`, or in quotes each byte in hexadecimal, with spaces between. Takes no memory.
+/// Writes `null`, or in quotes each byte in hexadecimal, with spaces between.
 impl Display for BinaryScalar<'_> {
     ghost use Rattle.vortex_leaves.specs.BytesViews.{bytes_view_raw, bytes_view_type};
 

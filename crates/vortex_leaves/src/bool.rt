@@ -38,10 +38,10 @@ pub struct BoolScalar<'a> {
 impl<'a> BoolScalar<'a> {
     ghost use Rattle.vortex_leaves.specs.BoolViews.{IsBoolViewOf, IsValidBoolView, bool_view_raw, bool_view_type};
 
-    /// The view of a type and a raw value, or its absence. Takes no memory.
+    /// The view of a type and a raw value, or its absence.
     ///
     /// `WrongKind` where the type is not one of truth values (an extension over one is not), else
-    /// `Invalid` where the value is not valid for the type. Ports `BoolScalar::try_new`.
+    /// `Invalid` where the value is not valid for the type.
     pub fn try_new(
         alloc: Global,
         dtype: &'a DType,
@@ -68,8 +68,6 @@ impl<'a> BoolScalar<'a> {
     }
 
     /// The type.
-    ///
-    /// Ports `BoolScalar::dtype`.
     pub fn dtype(&self) -> &'a DType
         ensures { type_of result.now ≡ bool_view_type self.now }
     {
@@ -77,8 +75,6 @@ impl<'a> BoolScalar<'a> {
     }
 
     /// The truth value; none for a null.
-    ///
-    /// Ports `BoolScalar::value`.
     pub fn value(&self) -> Option<bool>
         ensures { MatchOption result
             (bool_view_raw self.now ≡ absent)
@@ -88,8 +84,6 @@ impl<'a> BoolScalar<'a> {
     }
 
     /// The view of the other truth value, of the same type; a null stays null.
-    ///
-    /// Ports `BoolScalar::invert`.
     pub fn invert(self) -> BoolScalar<'a>
         ensures made { IsBoolViewOf
             (bool_view_type self.entry) (inverted (bool_view_raw self.entry)) result }
@@ -101,9 +95,7 @@ impl<'a> BoolScalar<'a> {
         }
     }
 
-    /// The scalar of the exact type and the value. Takes no memory.
-    ///
-    /// Ports `BoolScalar::into_scalar`.
+    /// The scalar of the exact type and the value.
     pub fn into_scalar(self) -> Scalar
         ensures made { IsMadeOf (bool_view_type self.entry) (bool_view_raw self.entry) result }
         ensures valid { IsValidBoolView self.entry → IsValid result }
@@ -211,7 +203,7 @@ impl Hash for BoolScalar<'_> {
     }
 }
 
-/// Writes `true`, `false` or `null`. Takes no memory.
+/// Writes `true`, `false` or `null`.
 impl Display for BoolScalar<'_> {
     ghost use Rattle.vortex_leaves.specs.BoolViews.{bool_view_raw, bool_view_type};
 

@@ -1,4 +1,7 @@
 //! Views of scalars without parts: truth values, texts, strings of bytes and integers.
+//!
+//! A public item ports upstream's of the same name, but where it names another or says that it, or
+//! its type, is of this port alone.
 #![tactic(auto)]
 
 mod binary;

@@ -41,12 +41,11 @@ impl<'a> PrimitiveScalar<'a> {
     ghost use Rattle.vortex_leaves.specs.PrimitiveViews.{IsNumberViewOf, IsValidNumberView, number_view_kind, number_view_raw, number_view_type, view_number};
 
     /// The view of a type and a raw value, or its absence. An integer of another kind is taken as
-    /// the same number of the type's kind. Takes no memory.
+    /// the same number of the type's kind.
     ///
     /// `WrongKind` where the type is not one of integers (an extension over one is not), else
     /// `Invalid` for a null of a type that takes none and for a value that is no integer, else
-    /// `OutOfRange` where the type's kind does not have the number. Ports
-    /// `PrimitiveScalar::try_new`.
+    /// `OutOfRange` where the type's kind does not have the number.
     pub fn try_new(
         alloc: Global,
         dtype: &'a DType,
@@ -93,8 +92,6 @@ impl<'a> PrimitiveScalar<'a> {
     }
 
     /// The type.
-    ///
-    /// Ports `PrimitiveScalar::dtype`.
     pub fn dtype(&self) -> &'a DType
         ensures { type_of result.now ≡ number_view_type self.now }
     {
@@ -102,8 +99,6 @@ impl<'a> PrimitiveScalar<'a> {
     }
 
     /// The type's kind, also of a null.
-    ///
-    /// Ports `PrimitiveScalar::ptype`.
     pub fn ptype(&self) -> PType
         ensures kind { result ≡ number_view_kind self.now }
         ensures typed { number_view_type self.now
@@ -113,8 +108,6 @@ impl<'a> PrimitiveScalar<'a> {
     }
 
     /// The integer, of the type's kind; none for a null.
-    ///
-    /// Ports `PrimitiveScalar::pvalue`.
     pub fn pvalue(&self) -> Option<PValue>
         ensures { MatchOption result
             (number_view_raw self.now ≡ absent)
@@ -144,8 +137,7 @@ impl<'a> PrimitiveScalar<'a> {
 
     /// The number as a Rust integer of the type's kind; none for a null.
     ///
-    /// `WrongPType` exactly where the type is of another kind, also of a null. Ports
-    /// `PrimitiveScalar::try_typed_value`.
+    /// `WrongPType` exactly where the type is of another kind, also of a null.
     pub fn try_typed_value<T: NativePType>(&self) -> Result<Option<T>, VortexError>
         ensures { MatchResult result
             (λ number. (number_view_kind self.now ≡ T.PTYPE)
@@ -160,8 +152,6 @@ impl<'a> PrimitiveScalar<'a> {
     }
 
     /// Whether the number is zero; none for a null.
-    ///
-    /// Ports `PrimitiveScalar::is_zero`.
     pub fn is_zero(&self) -> Option<bool>
         ensures { result ≡ is_zero_of (number_view_type self.now) (content (number_view_raw self.now)) }
     {
@@ -181,9 +171,7 @@ impl<'a> PrimitiveScalar<'a> {
         }
     }
 
-    /// The same number as a Rust integer, if it has it; some none for a null.
-    ///
-    /// Ports `PrimitiveScalar::as_opt`.
+    /// The same number as a Rust integer: `None` where that does not have it, `Some(None)` for a null.
     pub fn as_opt<T: NativePType>(&self) -> Option<Option<T>>
         ensures { MatchOption result
             (IsSomeAnd (view_number self.now) (λ number. ¬ (InRange T.PTYPE number)))
@@ -237,9 +225,7 @@ impl<'a> TryFrom<&'a Scalar> for PrimitiveScalar<'a> {
     }
 }
 
-/// The scalar of the exact type and the number, valid where the view is. Takes no memory.
-///
-/// Ports `impl From<PrimitiveScalar<'_>> for Scalar`.
+/// The scalar of the exact type and the number, valid where the view is.
 impl From<PrimitiveScalar<'_>> for Scalar {
     ghost use Rattle.vortex_leaves.specs.PrimitiveViews.{number_view_raw, number_view_type};
 

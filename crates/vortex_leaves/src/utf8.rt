@@ -40,10 +40,10 @@ pub struct Utf8Scalar<'a> {
 impl<'a> Utf8Scalar<'a> {
     ghost use Rattle.vortex_leaves.specs.TextViews.{IsTextViewOf, IsValidTextView, text_view_raw, text_view_type};
 
-    /// The view of a type and a raw value, or its absence. Takes no memory.
+    /// The view of a type and a raw value, or its absence.
     ///
     /// `WrongKind` where the type is not one of texts (an extension over one is not), else `Invalid`
-    /// where the value is not valid for the type. Ports `Utf8Scalar::try_new`.
+    /// where the value is not valid for the type.
     pub fn try_new(
         alloc: Global,
         dtype: &'a DType,
@@ -66,8 +66,6 @@ impl<'a> Utf8Scalar<'a> {
     }
 
     /// The type.
-    ///
-    /// Ports `Utf8Scalar::dtype`.
     pub fn dtype(&self) -> &'a DType
         ensures { type_of result.now ≡ text_view_type self.now }
     {
@@ -75,8 +73,6 @@ impl<'a> Utf8Scalar<'a> {
     }
 
     /// The text; none for a null.
-    ///
-    /// Ports `Utf8Scalar::value`.
     pub fn value(&self) -> Option<&'a BufferString>
         ensures { MatchOption result
             (text_view_raw self.now ≡ absent)
@@ -90,8 +86,6 @@ impl<'a> Utf8Scalar<'a> {
     }
 
     /// How many bytes the text has; none for a null.
-    ///
-    /// Ports `Utf8Scalar::len`.
     pub fn len(&self) -> Option<usize>
         ensures { result ≡ option_map length (bytes_in (text_view_raw self.now)) }
     {
@@ -99,8 +93,6 @@ impl<'a> Utf8Scalar<'a> {
     }
 
     /// Whether the text is empty; none for a null.
-    ///
-    /// Ports `Utf8Scalar::is_empty`.
     pub fn is_empty(&self) -> Option<bool>
         ensures { result ≡ option_map (λ text. length text == 0) (bytes_in (text_view_raw self.now)) }
     {
@@ -198,7 +190,7 @@ impl Hash for Utf8Scalar<'_> {
     }
 }
 
-/// Writes `null`, or the whole text in quotes with escapes. Takes no memory.
+/// Writes `null`, or the whole text in quotes with escapes.
 impl Display for Utf8Scalar<'_> {
     ghost use Rattle.vortex_leaves.specs.TextViews.{text_view_raw, text_view_type};
 

@@ -7,7 +7,7 @@ ghost use Rattle.vortex_pvalue.specs.Conversions.{IsNumber, Converts};
 use crate::pvalues::PValue;
 use vortex_dtype::VortexError;
 
-/// The number in its own kind. Ports `impl From<u8> for PValue`.
+/// The number in its own kind.
 impl From<u8> for PValue {
     ghost from_gives = { λ n v. IsNumber PType.U8 (pos n) v };
 
@@ -16,7 +16,7 @@ impl From<u8> for PValue {
     }
 }
 
-/// The number in its own kind. Ports `impl From<u16> for PValue`.
+/// The number in its own kind.
 impl From<u16> for PValue {
     ghost from_gives = { λ n v. IsNumber PType.U16 (pos n) v };
 
@@ -25,7 +25,7 @@ impl From<u16> for PValue {
     }
 }
 
-/// The number in its own kind. Ports `impl From<u32> for PValue`.
+/// The number in its own kind.
 impl From<u32> for PValue {
     ghost from_gives = { λ n v. IsNumber PType.U32 (pos n) v };
 
@@ -34,7 +34,7 @@ impl From<u32> for PValue {
     }
 }
 
-/// The number in its own kind. Ports `impl From<u64> for PValue`.
+/// The number in its own kind.
 impl From<u64> for PValue {
     ghost from_gives = { λ n v. IsNumber PType.U64 (pos n) v };
 
@@ -43,7 +43,7 @@ impl From<u64> for PValue {
     }
 }
 
-/// The number in its own kind. Ports `impl From<i8> for PValue`.
+/// The number in its own kind.
 impl From<i8> for PValue {
     ghost from_gives = { λ n v. IsNumber PType.I8 n v };
 
@@ -52,7 +52,7 @@ impl From<i8> for PValue {
     }
 }
 
-/// The number in its own kind. Ports `impl From<i16> for PValue`.
+/// The number in its own kind.
 impl From<i16> for PValue {
     ghost from_gives = { λ n v. IsNumber PType.I16 n v };
 
@@ -61,7 +61,7 @@ impl From<i16> for PValue {
     }
 }
 
-/// The number in its own kind. Ports `impl From<i32> for PValue`.
+/// The number in its own kind.
 impl From<i32> for PValue {
     ghost from_gives = { λ n v. IsNumber PType.I32 n v };
 
@@ -70,7 +70,7 @@ impl From<i32> for PValue {
     }
 }
 
-/// The number in its own kind. Ports `impl From<i64> for PValue`.
+/// The number in its own kind.
 impl From<i64> for PValue {
     ghost from_gives = { λ n v. IsNumber PType.I64 n v };
 
@@ -79,7 +79,7 @@ impl From<i64> for PValue {
     }
 }
 
-/// The number in the kind of `u64`. Ports `impl From<usize> for PValue`.
+/// The number in the kind of `u64`.
 impl From<usize> for PValue {
     ghost from_gives = { λ n v. IsNumber PType.U64 (pos n) v };
 
@@ -89,8 +89,6 @@ impl From<usize> for PValue {
 }
 
 /// The same number, or `OutOfRange` where `u8` does not have it.
-///
-/// Ports `impl TryFrom<PValue> for u8`.
 impl TryFrom<PValue> for u8 {
     type Error = VortexError;
 
@@ -102,8 +100,6 @@ impl TryFrom<PValue> for u8 {
 }
 
 /// The same number, or `OutOfRange` where `u16` does not have it.
-///
-/// Ports `impl TryFrom<PValue> for u16`.
 impl TryFrom<PValue> for u16 {
     type Error = VortexError;
 
@@ -115,8 +111,6 @@ impl TryFrom<PValue> for u16 {
 }
 
 /// The same number, or `OutOfRange` where `u32` does not have it.
-///
-/// Ports `impl TryFrom<PValue> for u32`.
 impl TryFrom<PValue> for u32 {
     type Error = VortexError;
 
@@ -128,8 +122,6 @@ impl TryFrom<PValue> for u32 {
 }
 
 /// The same number, or `OutOfRange` where `u64` does not have it.
-///
-/// Ports `impl TryFrom<PValue> for u64`.
 impl TryFrom<PValue> for u64 {
     type Error = VortexError;
 
@@ -141,8 +133,6 @@ impl TryFrom<PValue> for u64 {
 }
 
 /// The same number, or `OutOfRange` where `i8` does not have it.
-///
-/// Ports `impl TryFrom<PValue> for i8`.
 impl TryFrom<PValue> for i8 {
     type Error = VortexError;
 
@@ -154,8 +144,6 @@ impl TryFrom<PValue> for i8 {
 }
 
 /// The same number, or `OutOfRange` where `i16` does not have it.
-///
-/// Ports `impl TryFrom<PValue> for i16`.
 impl TryFrom<PValue> for i16 {
     type Error = VortexError;
 
@@ -167,8 +155,6 @@ impl TryFrom<PValue> for i16 {
 }
 
 /// The same number, or `OutOfRange` where `i32` does not have it.
-///
-/// Ports `impl TryFrom<PValue> for i32`.
 impl TryFrom<PValue> for i32 {
     type Error = VortexError;
 
@@ -180,8 +166,6 @@ impl TryFrom<PValue> for i32 {
 }
 
 /// The same number, or `OutOfRange` where `i64` does not have it.
-///
-/// Ports `impl TryFrom<PValue> for i64`.
 impl TryFrom<PValue> for i64 {
     type Error = VortexError;
 
@@ -193,8 +177,6 @@ impl TryFrom<PValue> for i64 {
 }
 
 /// The same number, or `OutOfRange` where 64 bits do not hold it.
-///
-/// Ports `impl TryFrom<PValue> for usize`.
 impl TryFrom<PValue> for usize {
     type Error = VortexError;
 

@@ -1,4 +1,7 @@
 //! Integer values: a kind and a whole number in its range.
+//!
+//! A public item ports upstream's of the same name, but where it names another or says that it, or
+//! its type, is of this port alone.
 #![tactic(auto)]
 
 mod conversions;

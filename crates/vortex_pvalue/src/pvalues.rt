@@ -46,8 +46,6 @@ pub enum PValue {
 
 impl PValue {
     /// The least value of the kind.
-    ///
-    /// Ports `PValue::min_value`.
     pub fn min_value(ptype: PType) -> PValue
         ensures kind { kind_of result ≡ ptype }
         ensures least { whole_of result ≡ least_of ptype }
@@ -65,8 +63,6 @@ impl PValue {
     }
 
     /// The greatest value of the kind.
-    ///
-    /// Ports `PValue::max_value`.
     pub fn max_value(ptype: PType) -> PValue
         ensures kind { kind_of result ≡ ptype }
         ensures greatest { whole_of result ≡ greatest_of ptype }
@@ -84,8 +80,6 @@ impl PValue {
     }
 
     /// The kind's zero.
-    ///
-    /// Ports `PValue::zero`.
     pub fn zero(ptype: &PType) -> PValue
         ensures kind { kind_of result ≡ ptype.now }
         ensures zero { whole_of result ≡ pos 0 }
@@ -103,8 +97,6 @@ impl PValue {
     }
 
     /// Whether the number is zero.
-    ///
-    /// Ports `PValue::is_zero`.
     pub fn is_zero(&self) -> bool
         ensures { IsTrue result ↔ (whole_of self.now ≡ pos 0) }
     {
@@ -112,8 +104,6 @@ impl PValue {
     }
 
     /// The value's kind.
-    ///
-    /// Ports `PValue::ptype`.
     pub fn ptype(&self) -> PType
         ensures kind { result ≡ kind_of self.now }
         ensures in_range { InRange (kind_of self.now) (whole_of self.now) }
@@ -133,8 +123,6 @@ impl PValue {
     }
 
     /// Whether the value's kind is this one.
-    ///
-    /// Ports `PValue::is_instance_of`.
     pub fn is_instance_of(&self, ptype: &PType) -> bool
         ensures { IsTrue result ↔ (kind_of self.now ≡ ptype.now) }
     {
@@ -180,7 +168,7 @@ impl PValue {
 
     /// The same number as a Rust integer.
     ///
-    /// `OutOfRange` where the type does not have the number. Ports `PValue::cast`.
+    /// `OutOfRange` where the type does not have the number.
     pub fn cast<T: NativePType>(&self) -> Result<T, VortexError>
         ensures { MatchResult result
             (λ n. T.value n ≡ whole_of self.now)
@@ -190,8 +178,6 @@ impl PValue {
     }
 
     /// The same number as an `i8`, or `None` where `i8` does not have it.
-    ///
-    /// Ports `PValue::as_i8`.
     pub fn as_i8(self) -> Option<i8>
         ensures { MatchOption result
             (¬ (InRange PType.I8 (whole_of self)))
@@ -201,8 +187,6 @@ impl PValue {
     }
 
     /// The same number as an `i16`, or `None` where `i16` does not have it.
-    ///
-    /// Ports `PValue::as_i16`.
     pub fn as_i16(self) -> Option<i16>
         ensures { MatchOption result
             (¬ (InRange PType.I16 (whole_of self)))
@@ -212,8 +196,6 @@ impl PValue {
     }
 
     /// The same number as an `i32`, or `None` where `i32` does not have it.
-    ///
-    /// Ports `PValue::as_i32`.
     pub fn as_i32(self) -> Option<i32>
         ensures { MatchOption result
             (¬ (InRange PType.I32 (whole_of self)))
@@ -223,8 +205,6 @@ impl PValue {
     }
 
     /// The same number as an `i64`, or `None` where `i64` does not have it.
-    ///
-    /// Ports `PValue::as_i64`.
     pub fn as_i64(self) -> Option<i64>
         ensures { MatchOption result
             (¬ (InRange PType.I64 (whole_of self)))
@@ -234,8 +214,6 @@ impl PValue {
     }
 
     /// The same number as a `u8`, or `None` where `u8` does not have it.
-    ///
-    /// Ports `PValue::as_u8`.
     pub fn as_u8(self) -> Option<u8>
         ensures { MatchOption result
             (¬ (InRange PType.U8 (whole_of self)))
@@ -245,8 +223,6 @@ impl PValue {
     }
 
     /// The same number as a `u16`, or `None` where `u16` does not have it.
-    ///
-    /// Ports `PValue::as_u16`.
     pub fn as_u16(self) -> Option<u16>
         ensures { MatchOption result
             (¬ (InRange PType.U16 (whole_of self)))
@@ -256,8 +232,6 @@ impl PValue {
     }
 
     /// The same number as a `u32`, or `None` where `u32` does not have it.
-    ///
-    /// Ports `PValue::as_u32`.
     pub fn as_u32(self) -> Option<u32>
         ensures { MatchOption result
             (¬ (InRange PType.U32 (whole_of self)))
@@ -267,8 +241,6 @@ impl PValue {
     }
 
     /// The same number as a `u64`, or `None` where `u64` does not have it.
-    ///
-    /// Ports `PValue::as_u64`.
     pub fn as_u64(self) -> Option<u64>
         ensures { MatchOption result
             (¬ (InRange PType.U64 (whole_of self)))
@@ -279,7 +251,7 @@ impl PValue {
 
     /// The value of this kind that has the same bits.
     ///
-    /// Asks a kind of the same width. Ports `PValue::reinterpret_cast`.
+    /// Asks a kind of the same width.
     pub fn reinterpret_cast(&self, ptype: PType) -> PValue
         requires { byte_width_of ptype ≡ byte_width_of (kind_of self.now) }
         ensures kind { kind_of result ≡ ptype }

@@ -35,7 +35,7 @@ impl Scalar {
     /// `Invalid` where the raw value is not valid for the type, with the first breach in reading
     /// order and the path to it; `OutOfMemory` comes in its place where the path has steps and there
     /// is no memory for them. A valid value takes none, nor does any value of a type whose values
-    /// take none. Ports `Scalar::try_new`.
+    /// take none.
     pub fn try_new(
         alloc: Global,
         dtype: DType,
@@ -54,7 +54,7 @@ impl Scalar {
         Ok(Scalar { dtype, value })
     }
 
-    /// The null of a type that takes one. Takes no memory.
+    /// The null of a type that takes one.
     ///
     /// Ports `Scalar::null`, which panics for a type that takes none.
     #[tactic(auto, using(crate::proofs::MakerLaws::null_valid))]
@@ -68,7 +68,7 @@ impl Scalar {
 
     /// The null of the column type of a Rust type, made nullable.
     ///
-    /// `OutOfMemory` where the type finds none. Ports `Scalar::null_native`.
+    /// `OutOfMemory` where the type finds none.
     #[tactic(auto, using(crate::proofs::MakerLaws::takes_null))]
     pub fn null_native<T: NativeDType>(alloc: Global) -> Result<Scalar, VortexError>
         ensures made { IfOk result (IsMadeOf (as_nullable T.native_type) absent) }
@@ -78,9 +78,7 @@ impl Scalar {
         Ok(Scalar::null(T::dtype(alloc)?.as_nullable()))
     }
 
-    /// The scalar of a truth value. Takes no memory.
-    ///
-    /// Ports `Scalar::bool`.
+    /// The scalar of a truth value.
     pub fn bool(value: bool, nullability: Nullability) -> Scalar
         ensures made { IsMadeOf (bool_type nullability) (raw_bool value) result }
         ensures valid { IsValid result }
@@ -91,9 +89,7 @@ impl Scalar {
         }
     }
 
-    /// The scalar of an integer, of its own kind. Takes no memory.
-    ///
-    /// Ports `Scalar::primitive`.
+    /// The scalar of an integer, of its own kind.
     pub fn primitive<T: NativePType>(value: T, nullability: Nullability) -> Scalar
         ensures made { IsMadeOf
             (integer_type T.PTYPE nullability) (raw_integer T.PTYPE (T.value value)) result }
@@ -105,7 +101,7 @@ impl Scalar {
         }
     }
 
-    /// The scalar of an integer value that is of the kind asked for. Takes no memory.
+    /// The scalar of an integer value that is of the kind asked for.
     ///
     /// `WrongPType` exactly where it is of another kind. Ports `Scalar::primitive_value`, which panics
     /// there.
@@ -129,9 +125,7 @@ impl Scalar {
         })
     }
 
-    /// The scalar of a text. Takes no memory.
-    ///
-    /// Ports `Scalar::utf8`.
+    /// The scalar of a text.
     pub fn utf8(text: BufferString, nullability: Nullability) -> Scalar
         ensures made { IsMadeOf (utf8_type nullability) (raw_text text) result }
         ensures valid { IsValid result }
@@ -142,9 +136,9 @@ impl Scalar {
         }
     }
 
-    /// The scalar of the text that these bytes are. Takes no memory.
+    /// The scalar of the text that these bytes are.
     ///
-    /// `NotUtf8` exactly where they are not UTF-8. Ports `Scalar::try_utf8`.
+    /// `NotUtf8` exactly where they are not UTF-8.
     pub fn try_utf8(buffer: ByteBuffer, nullability: Nullability) -> Result<Scalar, VortexError>
         ensures ok { IsOk result ↔ IsUtf8 buffer }
         ensures made { IfOk result (IsMadeOf (utf8_type nullability) (raw_text buffer)) }
@@ -155,9 +149,7 @@ impl Scalar {
         Ok(Scalar::utf8(text, nullability))
     }
 
-    /// The scalar of a string of bytes. Takes no memory.
-    ///
-    /// Ports `Scalar::binary`.
+    /// The scalar of a string of bytes.
     pub fn binary(buffer: ByteBuffer, nullability: Nullability) -> Scalar
         ensures made { IsMadeOf (binary_type nullability) (raw_bytes buffer) result }
         ensures valid { IsValid result }
@@ -168,7 +160,7 @@ impl Scalar {
         }
     }
 
-    /// The scalar of an extension type whose storage is this scalar. Takes no memory.
+    /// The scalar of an extension type whose storage is this scalar.
     ///
     /// `WrongChild` with 0 exactly where the storage's type is not exactly the extension's storage
     /// type, nullability included. Ports `Scalar::extension_ref`, which panics there.
@@ -195,8 +187,7 @@ impl Scalar {
     ///
     /// `UnknownTypeId` where no variant has the id, else `WrongChild` with the variant's place where
     /// the child's type is not exactly the variant's; both before any memory is asked for. Else
-    /// `OutOfMemory` where there is none for the child; a null child takes none. Ports
-    /// `Scalar::union`.
+    /// `OutOfMemory` where there is none for the child; a null child takes none.
     pub fn union(
         alloc: Global,
         variants: UnionVariants,
@@ -225,7 +216,7 @@ impl Scalar {
     /// The scalar of a variant that holds this scalar, its exact type included.
     ///
     /// `VariantNull` exactly where the value is a null of a type other than Null, and this before any
-    /// memory is asked for; else `OutOfMemory` where there is none. Ports `Scalar::variant`.
+    /// memory is asked for; else `OutOfMemory` where there is none.
     pub fn variant(alloc: Global, value: Scalar) -> Result<Scalar, VortexError>
         requires { IsValid value }
         ensures refused { RefusesOrNoMemory

@@ -329,7 +329,7 @@ fn write_text<W: Write>(
 /// Writes the raw text, which is the same whatever the type.
 ///
 /// A text of more than ten characters shows its first five and its last five, a string of bytes
-/// likewise, and nothing is escaped. A variant shows the text of its scalar. Takes no memory.
+/// likewise, and nothing is escaped. A variant shows the text of its scalar.
 ///
 /// Ports the `Display` of `ScalarValue`.
 impl Display for ScalarValue {
@@ -341,7 +341,7 @@ impl Display for ScalarValue {
 }
 
 /// Writes `null` for a null, the text by its type for another valid scalar, and the raw text for one
-/// that is not valid. Takes no memory.
+/// that is not valid.
 ///
 /// Ports the `Display` of `Scalar`, which panics at some scalars that are not valid.
 impl Display for Scalar {
@@ -352,7 +352,7 @@ impl Display for Scalar {
     }
 }
 
-/// Writes what the `Display` of `Scalar` writes. Takes no memory.
+/// Writes what the `Display` of `Scalar` writes.
 impl Display for ScalarRef<'_> {
     ghost output = { λ scalar. Some (text_of (ref_type scalar) (ref_raw scalar)) };
 

@@ -1,4 +1,7 @@
 //! Raw values and scalars: a valid scalar is one type and one content.
+//!
+//! A public item ports upstream's of the same name, but where it names another or says that it, or
+//! its type, is of this port alone.
 #![tactic(auto)]
 
 mod cast;

@@ -83,7 +83,7 @@ fn compare_unions(a: &UnionValue, b: &UnionValue) -> Option<Ordering>
 
 impl Scalar {
     /// The order of the contents, where the types are the same up to nullability, and else none. A
-    /// null is below all others, and two variants have no order. Takes no memory.
+    /// null is below all others, and two variants have no order.
     ///
     /// Ports the `PartialOrd` of `Scalar`. A plain call, since a variant equals itself and has no
     /// order with itself.

@@ -39,7 +39,7 @@ pub struct ScalarRef<'a> {
 }
 
 impl<'a> ScalarRef<'a> {
-    /// The type and the value of the scalar, borrowed. Takes no memory.
+    /// The type and the value of the scalar, borrowed.
     pub fn of(scalar: &'a Scalar) -> ScalarRef<'a>
         ensures { IsRefOf (scalar_type scalar.now) (scalar_raw scalar.now) result }
     {
@@ -50,7 +50,7 @@ impl<'a> ScalarRef<'a> {
     }
 
     /// The type and the raw value, or its absence, borrowed, also where the value is not valid for
-    /// the type. Takes no memory. Of this port alone: views lend their parts by it.
+    /// the type. Of this port alone: views lend their parts by it.
     pub fn from_parts(dtype: &'a DType, value: Option<&'a ScalarValue>) -> ScalarRef<'a>
         ensures { IsRefOf (type_of dtype.now) (raw_of (option_copied value.entry)) result }
     {
@@ -102,7 +102,7 @@ impl<'a> ScalarRef<'a> {
     }
 
     /// The order of the contents, where the types are the same up to nullability, and else none. A
-    /// null is below all others, and two variants have no order. Takes no memory.
+    /// null is below all others, and two variants have no order.
     pub fn partial_cmp(&self, other: &ScalarRef<'_>) -> Option<Ordering>
         ensures { result ≡ ref_order self.now other.now }
     {

@@ -10,7 +10,7 @@ use vortex_dtype::{DType, PType, VortexError};
 
 impl Scalar {
     /// The integer of this kind that has the same bits; a null stays null, and so does the
-    /// nullability. Takes no memory.
+    /// nullability.
     ///
     /// `WidthsDiffer` exactly where the kind has another width than the type's. The type is one of
     /// integers, which the caller knows; an extension over one is not. Ports

@@ -28,8 +28,6 @@ impl Scalar {
     ghost use Rattle.vortex_value.specs.Values.Scalars.{IsMadeOf, IsValid, scalar_content, scalar_type, scalar_raw};
 
     /// The type.
-    ///
-    /// Ports `Scalar::dtype`.
     pub fn dtype(&self) -> &DType
         ensures { result.now ≡ self.now.dtype }
     {
@@ -37,8 +35,6 @@ impl Scalar {
     }
 
     /// The raw value; none for a null.
-    ///
-    /// Ports `Scalar::value`.
     pub fn value(&self) -> Option<&ScalarValue>
         ensures { option_copied result ≡ self.now.value }
     {
@@ -46,8 +42,6 @@ impl Scalar {
     }
 
     /// The raw value, by value; none for a null.
-    ///
-    /// Ports `Scalar::into_value`.
     pub fn into_value(self) -> Option<ScalarValue>
         ensures { result ≡ self.value }
     {
@@ -57,8 +51,6 @@ impl Scalar {
     }
 
     /// The type and the raw value, by value.
-    ///
-    /// Ports `Scalar::into_parts`.
     pub fn into_parts(self) -> (DType, Option<ScalarValue>)
         ensures dtype { result.0 ≡ self.dtype }
         ensures value { result.1 ≡ self.value }
@@ -67,8 +59,6 @@ impl Scalar {
     }
 
     /// Whether the scalar is not null. A union's inner null and a variant's null are not the null.
-    ///
-    /// Ports `Scalar::is_valid`.
     pub fn is_valid(&self) -> bool
         ensures { result ≡ not (is_absent (scalar_raw self.now)) }
     {
@@ -76,8 +66,6 @@ impl Scalar {
     }
 
     /// Whether the scalar is null. A union's inner null and a variant's null are not the null.
-    ///
-    /// Ports `Scalar::is_null`.
     pub fn is_null(&self) -> bool
         ensures { result ≡ is_absent (scalar_raw self.now) }
     {
@@ -85,8 +73,6 @@ impl Scalar {
     }
 
     /// Whether the types are the same up to nullability and the contents equal: what `==` says.
-    ///
-    /// Ports `Scalar::eq_ignore_nullability`.
     pub fn eq_ignore_nullability(&self, other: &Scalar) -> bool
         ensures { IsTrue result ↔ (Same (scalar_type self.now) (scalar_type other.now)
             × EqualContents (scalar_content self.now) (scalar_content other.now)) }

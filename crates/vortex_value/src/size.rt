@@ -132,9 +132,6 @@ fn size_of_child(union: &UnionValue, variants: &UnionVariants) -> usize
 impl Scalar {
     /// The size in bytes: of parts, texts and strings together, a byte more for each union and truth
     /// value, and the width of each integer, which a null has too. It stops at the greatest `usize`.
-    /// Takes no memory.
-    ///
-    /// Ports `Scalar::approx_nbytes`.
     pub fn approx_nbytes(&self) -> usize
         ensures { result ≡ capped (size_of (scalar_type self.now) (scalar_raw self.now)) }
     {

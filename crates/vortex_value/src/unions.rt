@@ -47,8 +47,6 @@ impl UnionValue {
     }
 
     /// The id of the variant.
-    ///
-    /// Ports `UnionValue::type_id`.
     pub fn type_id(&self) -> u8
         ensures { result ≡ self.now.type_id }
     {
@@ -56,8 +54,6 @@ impl UnionValue {
     }
 
     /// The child; none exactly for an inner null.
-    ///
-    /// Ports `UnionValue::child_value`.
     pub fn child_value(&self) -> Option<&ScalarValue>
         ensures { union_tree self.now ≡ raw_union self.now.type_id (raw_of (option_copied result)) }
     {

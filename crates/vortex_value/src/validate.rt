@@ -272,7 +272,7 @@ impl Scalar {
     ///
     /// `Invalid` has the first breach in reading order and the path to it; `OutOfMemory` comes in its
     /// place where the path has steps and there is no memory for them. A valid value takes none, nor
-    /// does any value of a type whose values take none. Ports `Scalar::validate`.
+    /// does any value of a type whose values take none.
     pub fn validate(
         alloc: Global,
         dtype: &DType,
@@ -286,9 +286,7 @@ impl Scalar {
         check(Some(alloc), value, dtype).map_err(refusal)
     }
 
-    /// Whether the raw value, or its absence, is valid for the type. Takes no memory.
-    ///
-    /// Ports `Scalar::is_compatible`.
+    /// Whether the raw value, or its absence, is valid for the type.
     pub fn is_compatible(dtype: &DType, value: Option<&ScalarValue>) -> bool
         ensures { IsTrue result ↔ Valid (type_of dtype.now) (raw_of (option_copied value.entry)) }
     {

@@ -330,9 +330,7 @@ impl Scalar {
 
     /// Whether the value is zero: of a list of a fixed size and a struct each part, of a union the
     /// child of its first variant; none for a null, and for an inner null of a union's first
-    /// variant. Takes no memory.
-    ///
-    /// Ports `Scalar::is_zero`.
+    /// variant.
     pub fn is_zero(&self) -> Option<bool>
         ensures { result ≡ is_zero_of (scalar_type self.now) (scalar_content self.now) }
     {

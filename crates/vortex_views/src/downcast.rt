@@ -55,8 +55,6 @@ pub trait Downcast {
     }
 
     /// The view as a truth value, and none exactly for another kind of type.
-    ///
-    /// Ports `Scalar::as_bool_opt`.
     fn as_bool_opt(&self) -> Option<BoolScalar<'_>>
         requires { Valid (type_at self.now) (raw_at self.now) }
         ensures kind { is_some result ≡ is_bool_type (type_at self.now) }
@@ -74,8 +72,6 @@ pub trait Downcast {
     }
 
     /// The view as an integer, and none exactly for another kind of type.
-    ///
-    /// Ports `Scalar::as_primitive_opt`.
     fn as_primitive_opt(&self) -> Option<PrimitiveScalar<'_>>
         requires { Valid (type_at self.now) (raw_at self.now) }
         ensures kind { is_some result ≡ is_some (kind_in (type_at self.now)) }
@@ -93,8 +89,6 @@ pub trait Downcast {
     }
 
     /// The view as a text, and none exactly for another kind of type.
-    ///
-    /// Ports `Scalar::as_utf8_opt`.
     fn as_utf8_opt(&self) -> Option<Utf8Scalar<'_>>
         requires { Valid (type_at self.now) (raw_at self.now) }
         ensures kind { is_some result ≡ is_utf8_type (type_at self.now) }
@@ -112,8 +106,6 @@ pub trait Downcast {
     }
 
     /// The view as a string of bytes, and none exactly for another kind of type.
-    ///
-    /// Ports `Scalar::as_binary_opt`.
     fn as_binary_opt(&self) -> Option<BinaryScalar<'_>>
         requires { Valid (type_at self.now) (raw_at self.now) }
         ensures kind { is_some result ≡ is_binary_type (type_at self.now) }
@@ -131,8 +123,6 @@ pub trait Downcast {
     }
 
     /// The view as a list, of fixed size or not, and none exactly for another kind of type.
-    ///
-    /// Ports `Scalar::as_list_opt`.
     fn as_list_opt(&self) -> Option<ListScalar<'_>>
         requires { Valid (type_at self.now) (raw_at self.now) }
         ensures kind { is_some result ≡ is_some (element_in (type_at self.now)) }
@@ -151,8 +141,6 @@ pub trait Downcast {
     }
 
     /// The view as a struct, and none exactly for another kind of type.
-    ///
-    /// Ports `Scalar::as_struct_opt`.
     fn as_struct_opt(&self) -> Option<StructScalar<'_>>
         requires { Valid (type_at self.now) (raw_at self.now) }
         ensures kind { is_some result ≡ is_some (fields_in (type_at self.now)) }
@@ -171,8 +159,6 @@ pub trait Downcast {
     }
 
     /// The view as a map, and none exactly for another kind of type.
-    ///
-    /// Ports `Scalar::as_map_opt`.
     fn as_map_opt(&self) -> Option<MapScalar<'_>>
         requires { Valid (type_at self.now) (raw_at self.now) }
         ensures kind { is_some result ≡ is_map_type (type_at self.now) }
@@ -191,8 +177,6 @@ pub trait Downcast {
     }
 
     /// The view as an extension, and none exactly for another kind of type.
-    ///
-    /// Ports `Scalar::as_extension_opt`.
     fn as_extension_opt(&self) -> Option<ExtScalar<'_>>
         requires { Valid (type_at self.now) (raw_at self.now) }
         ensures kind { is_some result ≡ is_extension_type (type_at self.now) }
@@ -211,8 +195,6 @@ pub trait Downcast {
     }
 
     /// The view as a union, and none exactly for another kind of type.
-    ///
-    /// Ports `Scalar::as_union_opt`.
     fn as_union_opt(&self) -> Option<UnionScalar<'_>>
         requires { Valid (type_at self.now) (raw_at self.now) }
         ensures kind { is_some result ≡ is_union_type (type_at self.now) }
@@ -231,8 +213,6 @@ pub trait Downcast {
     }
 
     /// The view as a variant, and none exactly for another kind of type.
-    ///
-    /// Ports `Scalar::as_variant_opt`.
     fn as_variant_opt(&self) -> Option<VariantScalar<'_>>
         requires { Valid (type_at self.now) (raw_at self.now) }
         ensures kind { is_some result ≡ is_variant_type (type_at self.now) }

@@ -26,8 +26,6 @@ use vortex_dtype::{DType, ExtDType, VortexError};
 use vortex_value::{Scalar, ScalarRef, ScalarValue};
 
 /// A view of a scalar whose type is an extension: a raw value of its storage, or a null.
-///
-/// Ports `ExtScalar`.
 #[derive(Clone, Copy, Debug)]
 pub struct ExtScalar<'a> {
     scalar: ScalarRef<'a>,
@@ -38,8 +36,6 @@ impl<'a> ExtScalar<'a> {
     ghost use Rattle.vortex_views.specs.Extensions.{ext_ref};
 
     /// The type.
-    ///
-    /// Ports `ExtScalar::dtype`.
     pub fn dtype(&self) -> &'a DType
         ensures { type_of result.now ≡ ref_type (ext_ref self.now) }
     {
@@ -47,8 +43,6 @@ impl<'a> ExtScalar<'a> {
     }
 
     /// The id, the metadata and the storage type, also of a null.
-    ///
-    /// Ports `ExtScalar::ext_dtype`.
     pub fn ext_dtype(&self) -> &'a ExtDType
         ensures { Some (ext_of result.now) ≡ extension_in (ref_type (ext_ref self.now)) }
     {
@@ -57,7 +51,7 @@ impl<'a> ExtScalar<'a> {
 
     /// The same raw value as a scalar of the storage type, which may be an extension too.
     ///
-    /// `OutOfMemory` is its only refusal. Ports `ExtScalar::to_storage_scalar`.
+    /// `OutOfMemory` is its only refusal.
     pub fn to_storage_scalar(&self, alloc: Global) -> Result<Scalar, VortexError>
         ensures stored { IfOk result (λ made. IfSome (extension_in (ref_type (ext_ref self.now)))
             (λ extension. IsMadeOf extension.storage (ref_raw (ext_ref self.now)) made)) }
@@ -69,8 +63,6 @@ impl<'a> ExtScalar<'a> {
     }
 
     /// The raw value; none for a null.
-    ///
-    /// Ports `ExtScalar::value`.
     pub fn value(&self) -> Option<&'a ScalarValue>
         ensures { raw_of (option_copied result) ≡ ref_raw (ext_ref self.now) }
     {
@@ -78,7 +70,7 @@ impl<'a> ExtScalar<'a> {
     }
 
     /// The order of the contents, where the types are the same up to nullability, id and metadata
-    /// included, and else none. A null is below all others. Takes no memory.
+    /// included, and else none. A null is below all others.
     ///
     /// Ports the `PartialOrd` of `ExtScalar`.
     pub fn partial_cmp(&self, other: &ExtScalar<'_>) -> Option<Ordering>
@@ -137,7 +129,7 @@ fn is_nested(dtype: &DType) -> bool
 }
 
 /// The view of a scalar: of its type and its raw value, whether or not the value is valid for the
-/// type; of a valid scalar it is valid. Takes no memory.
+/// type; of a valid scalar it is valid.
 ///
 /// `WrongKind` exactly where the type is no extension, or the raw value is neither absent nor of the
 /// kind that the storage has below all extensions. Integers of all kinds are of one kind, and of the
@@ -198,7 +190,7 @@ impl Hash for ExtScalar<'_> {
     }
 }
 
-/// Writes what the scalar's own `Display` writes: the text of the storage. Takes no memory.
+/// Writes what the scalar's own `Display` writes: the text of the storage.
 ///
 /// Ports the `Display` of `ExtScalar`.
 impl Display for ExtScalar<'_> {

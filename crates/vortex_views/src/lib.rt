@@ -1,5 +1,8 @@
 //! Views of scalars: a list, a map, a struct, a union, a variant or an extension, whose parts are
 //! lent or copied.
+//!
+//! A public item ports upstream's of the same name, but where it names another or says that it, or
+//! its type, is of this port alone.
 #![tactic(auto)]
 
 mod downcast;

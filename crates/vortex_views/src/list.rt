@@ -29,8 +29,6 @@ use vortex_dtype::{DType, VortexError};
 use vortex_value::{Scalar, ScalarRef, ScalarValue};
 
 /// A view of a scalar whose type is a list, of fixed size or not: a null, or elements of one type.
-///
-/// Ports `ListScalar`.
 #[derive(Clone, Copy, Debug)]
 pub struct ListScalar<'a> {
     scalar: ScalarRef<'a>,
@@ -69,8 +67,6 @@ impl<'a> ListScalar<'a> {
     }
 
     /// The type.
-    ///
-    /// Ports `ListScalar::dtype`.
     pub fn dtype(&self) -> &'a DType
         ensures { type_of result.now ≡ ref_type (list_ref self.now) }
     {
@@ -78,8 +74,6 @@ impl<'a> ListScalar<'a> {
     }
 
     /// How many elements there are; a null has none.
-    ///
-    /// Ports `ListScalar::len`.
     pub fn len(&self) -> usize
         ensures { result ≡ length (parts_of (ref_raw (list_ref self.now))) }
     {
@@ -87,8 +81,6 @@ impl<'a> ListScalar<'a> {
     }
 
     /// Whether there is no element, as of a null.
-    ///
-    /// Ports `ListScalar::is_empty`.
     pub fn is_empty(&self) -> bool
         ensures { result ≡ (length (parts_of (ref_raw (list_ref self.now))) == 0) }
     {
@@ -96,8 +88,6 @@ impl<'a> ListScalar<'a> {
     }
 
     /// Whether it is null.
-    ///
-    /// Ports `ListScalar::is_null`.
     pub fn is_null(&self) -> bool
         ensures { result ≡ is_absent (ref_raw (list_ref self.now)) }
     {
@@ -105,8 +95,6 @@ impl<'a> ListScalar<'a> {
     }
 
     /// The type of the elements.
-    ///
-    /// Ports `ListScalar::element_dtype`.
     pub fn element_dtype(&self) -> &'a DType
         ensures { Some (type_of result.now) ≡ element_in (ref_type (list_ref self.now)) }
     {
@@ -114,7 +102,7 @@ impl<'a> ListScalar<'a> {
     }
 
     /// The element at this place, borrowed, and none exactly past the end, as anywhere of a null.
-    /// Takes no memory. Of this port alone.
+    /// Of this port alone.
     pub fn element_ref(&self, index: usize) -> Option<ScalarRef<'a>>
         ensures lent { option_map ref_part result
             ≡ slice_get (elements_of (ref_type (list_ref self.now)) (ref_raw (list_ref self.now))) index }
@@ -125,7 +113,7 @@ impl<'a> ListScalar<'a> {
 
     /// A scalar of the element at this place, and none exactly past the end, as anywhere of a null.
     ///
-    /// `OutOfMemory` where there is none for the copy. Ports `ListScalar::element`.
+    /// `OutOfMemory` where there is none for the copy.
     pub fn element(&self, alloc: Global, index: usize) -> Result<Option<Scalar>, VortexError>
         ensures copied { IfOk result (λ copy. option_map scalar_part copy
             ≡ slice_get (elements_of (ref_type (list_ref self.now)) (ref_raw (list_ref self.now))) index) }
@@ -138,7 +126,7 @@ impl<'a> ListScalar<'a> {
 
     /// Scalars of all elements, in order, and none exactly for a null.
     ///
-    /// `OutOfMemory` where there is none for the copies. Ports `ListScalar::elements`.
+    /// `OutOfMemory` where there is none for the copies.
     pub fn elements(&self, alloc: Global) -> Result<Option<Vec<Scalar>>, VortexError>
         ensures copied { IfOk result (λ copies. option_map (λ xs. map scalar_part xs.items) copies
             ≡ unless_null (ref_raw (list_ref self.now))
@@ -156,7 +144,7 @@ impl<'a> ListScalar<'a> {
     }
 
     /// The order of the contents, where the types are the same up to nullability, and else none: a
-    /// list and one of fixed size have no order. A null is below all others. Takes no memory.
+    /// list and one of fixed size have no order. A null is below all others.
     ///
     /// Ports the `PartialOrd` of `ListScalar`, which compares element types alone.
     pub fn partial_cmp(&self, other: &ListScalar<'_>) -> Option<Ordering>
@@ -193,7 +181,7 @@ fn copied_all(
 }
 
 /// The view of a scalar: of its type and its raw value, whether or not the value is valid for the
-/// type; of a valid scalar it is valid. Takes no memory.
+/// type; of a valid scalar it is valid.
 ///
 /// `WrongKind` exactly where the type is no list, or the raw value is neither absent nor a tuple.
 /// Ports `TryFrom<&Scalar> for ListScalar`.
@@ -253,7 +241,7 @@ impl Hash for ListScalar<'_> {
     }
 }
 
-/// Writes what the scalar's own `Display` writes. Takes no memory.
+/// Writes what the scalar's own `Display` writes.
 ///
 /// Ports the `Display` of `ListScalar`.
 impl Display for ListScalar<'_> {

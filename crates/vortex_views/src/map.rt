@@ -31,8 +31,6 @@ use vortex_value::{Scalar, ScalarRef, ScalarValue};
 
 /// A view of a scalar whose type is a map: a null, or entries in order, each a key and a value. Keys
 /// may repeat.
-///
-/// Ports `MapScalar`.
 #[derive(Clone, Copy, Debug)]
 pub struct MapScalar<'a> {
     scalar: ScalarRef<'a>,
@@ -71,8 +69,6 @@ impl<'a> MapScalar<'a> {
     }
 
     /// The type.
-    ///
-    /// Ports `MapScalar::dtype`.
     pub fn dtype(&self) -> &'a DType
         ensures { type_of result.now ≡ ref_type (map_ref self.now) }
     {
@@ -80,8 +76,6 @@ impl<'a> MapScalar<'a> {
     }
 
     /// The key type, the value type, and whether the keys are sorted.
-    ///
-    /// Ports `MapScalar::map_dtype`.
     pub fn map_dtype(&self) -> &'a MapDType
         ensures { Some (map_of result.now) ≡ map_in (ref_type (map_ref self.now)) }
     {
@@ -89,8 +83,6 @@ impl<'a> MapScalar<'a> {
     }
 
     /// How many entries there are; a null has none.
-    ///
-    /// Ports `MapScalar::len`.
     pub fn len(&self) -> usize
         ensures { result ≡ length (parts_of (ref_raw (map_ref self.now))) }
     {
@@ -98,8 +90,6 @@ impl<'a> MapScalar<'a> {
     }
 
     /// Whether there is no entry, as of a null.
-    ///
-    /// Ports `MapScalar::is_empty`.
     pub fn is_empty(&self) -> bool
         ensures { result ≡ (length (parts_of (ref_raw (map_ref self.now))) == 0) }
     {
@@ -107,8 +97,6 @@ impl<'a> MapScalar<'a> {
     }
 
     /// Whether it is null.
-    ///
-    /// Ports `MapScalar::is_null`.
     pub fn is_null(&self) -> bool
         ensures { result ≡ is_absent (ref_raw (map_ref self.now)) }
     {
@@ -116,7 +104,7 @@ impl<'a> MapScalar<'a> {
     }
 
     /// The key and the value of the entry at this place, borrowed, and none exactly past the end, as
-    /// anywhere of a null. Takes no memory. Of this port alone.
+    /// anywhere of a null. Of this port alone.
     pub fn entry_ref(&self, index: usize) -> Option<(ScalarRef<'a>, ScalarRef<'a>)>
         ensures lent { option_map ref_entry result
             ≡ slice_get (entries_of (ref_type (map_ref self.now)) (ref_raw (map_ref self.now))) index }
@@ -129,7 +117,7 @@ impl<'a> MapScalar<'a> {
     /// Scalars of the key and the value of the entry at this place, and none exactly past the end, as
     /// anywhere of a null.
     ///
-    /// `OutOfMemory` where there is none for the copies. Ports `MapScalar::entry`.
+    /// `OutOfMemory` where there is none for the copies.
     pub fn entry(
         &self,
         alloc: Global,
@@ -150,8 +138,6 @@ impl<'a> MapScalar<'a> {
 
     /// The entries, in order, each as a scalar of its key and one of its value, or `OutOfMemory`; of
     /// a null none. It takes no memory itself.
-    ///
-    /// Ports `MapScalar::entries`.
     pub fn entries(&self, alloc: Global) -> Entries<'a>
         ensures all { entries_left result
             ≡ entries_of (ref_type (map_ref self.now)) (ref_raw (map_ref self.now)) }
@@ -162,8 +148,6 @@ impl<'a> MapScalar<'a> {
 
     /// The keys, in order, each as a scalar, or `OutOfMemory`; of a null none. It takes no memory
     /// itself.
-    ///
-    /// Ports `MapScalar::keys`.
     pub fn keys(&self, alloc: Global) -> Keys<'a>
         ensures all { keys_left result ≡ map (λ entry. entry.0)
             (entries_of (ref_type (map_ref self.now)) (ref_raw (map_ref self.now))) }
@@ -174,8 +158,6 @@ impl<'a> MapScalar<'a> {
 
     /// The values, in order, each as a scalar, or `OutOfMemory`; of a null none. It takes no memory
     /// itself.
-    ///
-    /// Ports `MapScalar::values`.
     pub fn values(&self, alloc: Global) -> Values<'a>
         ensures all { values_left result ≡ map (λ entry. entry.1)
             (entries_of (ref_type (map_ref self.now)) (ref_raw (map_ref self.now))) }
@@ -193,7 +175,7 @@ impl<'a> MapScalar<'a> {
 }
 
 /// The view of a scalar: of its type and its raw value, whether or not the value is valid for the
-/// type; of a valid scalar it is valid. Takes no memory.
+/// type; of a valid scalar it is valid.
 ///
 /// `WrongKind` exactly where the type is no map, or the raw value is neither absent nor a tuple.
 /// Ports `TryFrom<&Scalar> for MapScalar`.
@@ -255,7 +237,7 @@ impl Hash for MapScalar<'_> {
     }
 }
 
-/// Writes what the scalar's own `Display` writes. Takes no memory.
+/// Writes what the scalar's own `Display` writes.
 ///
 /// Ports the `Display` of `MapScalar`.
 impl Display for MapScalar<'_> {

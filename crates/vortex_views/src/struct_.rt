@@ -32,8 +32,6 @@ use vortex_dtype::{DType, FieldName, FieldNames, StructFields, VortexError};
 use vortex_value::{Scalar, ScalarRef, ScalarValue};
 
 /// A view of a scalar whose type is a struct: a null, or a value for each field.
-///
-/// Ports `StructScalar`.
 #[derive(Clone, Copy, Debug)]
 pub struct StructScalar<'a> {
     scalar: ScalarRef<'a>,
@@ -45,8 +43,6 @@ impl<'a> StructScalar<'a> {
     ghost use Rattle.vortex_views.specs.Structs.{struct_ref};
 
     /// The type.
-    ///
-    /// Ports `StructScalar::dtype`.
     pub fn dtype(&self) -> &'a DType
         ensures { type_of result.now ≡ ref_type (struct_ref self.now) }
     {
@@ -54,8 +50,6 @@ impl<'a> StructScalar<'a> {
     }
 
     /// The names and the types of the fields, also of a null.
-    ///
-    /// Ports `StructScalar::struct_fields`.
     pub fn struct_fields(&self) -> &'a StructFields
         ensures { Some (fields_of result.now) ≡ fields_in (ref_type (struct_ref self.now)) }
     {
@@ -63,8 +57,6 @@ impl<'a> StructScalar<'a> {
     }
 
     /// The names of the fields, in order, also of a null.
-    ///
-    /// Ports `StructScalar::names`.
     pub fn names(&self) -> FieldNames<'a>
         ensures { Some (names_in result)
             ≡ option_map (λ fields. fields.names) (fields_in (ref_type (struct_ref self.now))) }
@@ -73,8 +65,6 @@ impl<'a> StructScalar<'a> {
     }
 
     /// Whether it is null.
-    ///
-    /// Ports `StructScalar::is_null`.
     pub fn is_null(&self) -> bool
         ensures { result ≡ is_absent (ref_raw (struct_ref self.now)) }
     {
@@ -115,8 +105,8 @@ impl<'a> StructScalar<'a> {
         copied(alloc, self.field_ref_by_idx(index))
     }
 
-    /// The field at this place, borrowed, and none exactly past the end, as anywhere of a null. Takes
-    /// no memory. Of this port alone.
+    /// The field at this place, borrowed, and none exactly past the end, as anywhere of a null. Of
+    /// this port alone.
     pub fn field_ref_by_idx(&self, index: usize) -> Option<ScalarRef<'a>>
         ensures lent { option_map ref_part result ≡ slice_get (fields_within
             (ref_type (struct_ref self.now)) (ref_raw (struct_ref self.now))) index }
@@ -150,7 +140,7 @@ impl<'a> StructScalar<'a> {
     /// `WrongLength` exactly where it has another number of fields. Both come of a null too, and
     /// before any memory is asked for. Then as `Scalar::cast`: `CannotCast` only where the table of
     /// casts does not allow the cast or the target has no value of the content, and else
-    /// `OutOfMemory`. Ports `StructScalar::cast`.
+    /// `OutOfMemory`.
     pub fn cast(&self, alloc: Global, dtype: &DType) -> Result<Scalar, VortexError>
         requires { IsValidRef (struct_ref self.now) }
         ensures refused { MatchOption (struct_cast_cause
@@ -174,7 +164,7 @@ impl<'a> StructScalar<'a> {
     /// stand twice, with this struct's nullability. Of a null it is the null of that type.
     ///
     /// `NoField` exactly where some name is the name of no field, of a null too, and this before any
-    /// memory is asked for; else `OutOfMemory` where there is none. Ports `StructScalar::project`.
+    /// memory is asked for; else `OutOfMemory` where there is none.
     pub fn project(&self, alloc: Global, projection: &[FieldName]) -> Result<Scalar, VortexError>
         ensures refused { RefusesOrNoMemory
             (selection_cause (fields_in (ref_type (struct_ref self.now))) projection.now) result }
@@ -210,7 +200,7 @@ impl<'a> StructScalar<'a> {
     }
 
     /// The order of the contents, where the types are the same up to nullability, and else none. A
-    /// null is below all others. Takes no memory.
+    /// null is below all others.
     ///
     /// Ports the `PartialOrd` of `StructScalar`.
     pub fn partial_cmp(&self, other: &StructScalar<'_>) -> Option<Ordering>
@@ -320,7 +310,7 @@ fn scalar_of(
 }
 
 /// The view of a scalar: of its type and its raw value, whether or not the value is valid for the
-/// type; of a valid scalar it is valid. Takes no memory.
+/// type; of a valid scalar it is valid.
 ///
 /// `WrongKind` exactly where the type is no struct, or the raw value is neither absent nor a tuple.
 /// Ports `TryFrom<&Scalar> for StructScalar`.
@@ -380,7 +370,7 @@ impl Hash for StructScalar<'_> {
     }
 }
 
-/// Writes what the scalar's own `Display` writes. Takes no memory.
+/// Writes what the scalar's own `Display` writes.
 ///
 /// Ports the `Display` of `StructScalar`.
 impl Display for StructScalar<'_> {

@@ -27,7 +27,7 @@ use vortex_value::{Scalar, ScalarRef, ScalarValue, UnionValue};
 /// A view of a scalar whose type is a union: a null, or a value of one of the variants.
 ///
 /// A union whose child is null, an inner null, is itself not null: it has an id, and its child is a
-/// null scalar. Ports `UnionScalar`.
+/// null scalar.
 #[derive(Clone, Copy, Debug)]
 pub struct UnionScalar<'a> {
     scalar: ScalarRef<'a>,
@@ -42,7 +42,7 @@ impl<'a> UnionScalar<'a> {
     /// `WrongKind` exactly where the type is no union, an extension over one included; else `Invalid`
     /// where the raw value is not valid for the type, with the first breach in reading order and the
     /// path to it, and `OutOfMemory` in its place where the path has steps and there is no memory for
-    /// them. A valid value takes none. Ports `UnionScalar::try_new`.
+    /// them. A valid value takes none.
     #[tactic(auto, using(crate::proofs::UnionSteps::shown))]
     pub fn try_new(
         alloc: Global,
@@ -75,8 +75,6 @@ impl<'a> UnionScalar<'a> {
     }
 
     /// The type.
-    ///
-    /// Ports `UnionScalar::dtype`.
     pub fn dtype(&self) -> &'a DType
         ensures { type_of result.now ≡ ref_type (union_ref self.now) }
     {
@@ -84,8 +82,6 @@ impl<'a> UnionScalar<'a> {
     }
 
     /// The variants of the type, also where the union is null.
-    ///
-    /// Ports `UnionScalar::variants`.
     pub fn variants(&self) -> &'a UnionVariants
         ensures { union_type_of (variants_of result.now) (nullability_of (ref_type (union_ref self.now)))
             ≡ ref_type (union_ref self.now) }
@@ -97,8 +93,6 @@ impl<'a> UnionScalar<'a> {
     }
 
     /// Whether the union itself takes a null, whatever its variants take.
-    ///
-    /// Ports `UnionScalar::nullability`.
     pub fn nullability(&self) -> Nullability
         ensures { result ≡ nullability_of (ref_type (union_ref self.now)) }
     {
@@ -106,8 +100,6 @@ impl<'a> UnionScalar<'a> {
     }
 
     /// Whether the union itself is null; an inner null is not.
-    ///
-    /// Ports `UnionScalar::is_null`.
     pub fn is_null(&self) -> bool
         ensures { result ≡ is_absent (ref_raw (union_ref self.now)) }
     {
@@ -115,8 +107,6 @@ impl<'a> UnionScalar<'a> {
     }
 
     /// The id of the chosen variant, and none exactly of a null.
-    ///
-    /// Ports `UnionScalar::type_id`.
     pub fn type_id(&self) -> Option<u8>
         ensures id { result ≡ id_of (ref_raw (union_ref self.now)) }
         ensures present { IfNone result (ref_raw (union_ref self.now) ≡ absent) }
@@ -128,8 +118,6 @@ impl<'a> UnionScalar<'a> {
     }
 
     /// The place of the chosen variant among the variants, and none exactly of a null.
-    ///
-    /// Ports `UnionScalar::child_index`.
     pub fn child_index(&self) -> Option<usize>
         requires { IsValidRef (union_ref self.now) }
         ensures place { result
@@ -144,8 +132,6 @@ impl<'a> UnionScalar<'a> {
 
     /// The name of the chosen variant, and none exactly of a null. A type that has fewer names than
     /// ids, which no maker of types gives, has none for some variants.
-    ///
-    /// Ports `UnionScalar::variant_name`.
     #[tactic(auto, using(crate::proofs::UnionSteps::chosen))]
     pub fn variant_name(&self) -> Option<&'a FieldName>
         requires { IsValidRef (union_ref self.now) }
@@ -179,7 +165,7 @@ impl<'a> UnionScalar<'a> {
     /// A scalar of its own of the child, of the chosen variant's type, and none exactly of a null. An
     /// inner null is a scalar that is null.
     ///
-    /// `OutOfMemory` is its only refusal, and never of a null. Ports `UnionScalar::child`.
+    /// `OutOfMemory` is its only refusal, and never of a null.
     #[tactic(auto, using(crate::proofs::UnionSteps::copied_child))]
     pub fn child(&self, alloc: Global) -> Result<Option<Scalar>, VortexError>
         requires { IsValidRef (union_ref self.now) }
@@ -242,7 +228,7 @@ impl Eq for UnionScalar<'_> {
 }
 
 /// Writes `null`, or the name of the chosen variant and the child's text in parentheses, as
-/// `int(42i32)`. Takes no memory.
+/// `int(42i32)`.
 ///
 /// Ports the `Display` of `UnionScalar`.
 impl Display for UnionScalar<'_> {

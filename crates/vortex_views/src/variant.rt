@@ -15,8 +15,7 @@ use vortex_value::{Scalar, ScalarRef, ScalarValue};
 
 /// A view of a scalar whose type is a variant: a null, or a scalar that brings its type along.
 ///
-/// The variant-null, which holds the null of the type of nulls, is itself not null. Ports
-/// `VariantScalar`.
+/// The variant-null, which holds the null of the type of nulls, is itself not null.
 #[derive(Clone, Copy, Debug)]
 pub struct VariantScalar<'a> {
     scalar: ScalarRef<'a>,
@@ -37,8 +36,6 @@ impl<'a> VariantScalar<'a> {
     }
 
     /// The type.
-    ///
-    /// Ports `VariantScalar::dtype`.
     pub fn dtype(&self) -> &'a DType
         ensures { type_of result.now ≡ ref_type (variant_ref self.now) }
     {
@@ -46,8 +43,6 @@ impl<'a> VariantScalar<'a> {
     }
 
     /// Whether the variant itself is null; the variant-null is not.
-    ///
-    /// Ports `VariantScalar::is_null`.
     pub fn is_null(&self) -> bool
         ensures { result ≡ is_absent (ref_raw (variant_ref self.now)) }
     {
@@ -55,8 +50,6 @@ impl<'a> VariantScalar<'a> {
     }
 
     /// The scalar that the variant holds, and none exactly of a null.
-    ///
-    /// Ports `VariantScalar::value`.
     pub fn value(&self) -> Option<&'a Scalar>
         ensures inner { option_map (λ inner. scalar_part inner.now) result
             ≡ inner_of (ref_raw (variant_ref self.now)) }
@@ -73,8 +66,6 @@ impl<'a> VariantScalar<'a> {
 
     /// Whether the scalar that the variant holds is null, as the variant-null is; none exactly of a
     /// null.
-    ///
-    /// Ports `VariantScalar::is_variant_null`.
     pub fn is_variant_null(&self) -> Option<bool>
         ensures null { result ≡ is_inner_null (ref_raw (variant_ref self.now)) }
         ensures present { IfNone result (ref_raw (variant_ref self.now) ≡ absent) }
@@ -87,8 +78,6 @@ impl<'a> VariantScalar<'a> {
 
     /// Whether the variant is zero: the variant-null is, and else what the scalar that it holds says,
     /// which says nothing at a union whose child is null. None of a null.
-    ///
-    /// Ports `VariantScalar::is_zero`.
     pub fn is_zero(&self) -> Option<bool>
         requires { IsValidRef (variant_ref self.now) }
         ensures { result
@@ -102,7 +91,7 @@ impl<'a> VariantScalar<'a> {
     }
 }
 
-/// Writes `null`, or `variant(..)` with the text of the scalar that it holds. Takes no memory.
+/// Writes `null`, or `variant(..)` with the text of the scalar that it holds.
 ///
 /// Ports the `Display` of `VariantScalar`.
 impl Display for VariantScalar<'_> {

@@ -33,8 +33,6 @@ impl ExtDType {
     }
 
     /// The id.
-    ///
-    /// Ports `ExtDType::id`.
     pub fn id(&self) -> &BufferString
         ensures { result.now ≡ (ext_of self.now).id }
     {
@@ -42,8 +40,6 @@ impl ExtDType {
     }
 
     /// The metadata.
-    ///
-    /// Ports `ExtDType::metadata`.
     pub fn metadata(&self) -> &ByteBuffer
         ensures { result.now ≡ (ext_of self.now).metadata }
     {
@@ -51,8 +47,6 @@ impl ExtDType {
     }
 
     /// The type of what the extension stores.
-    ///
-    /// Ports `ExtDType::storage_dtype`.
     pub fn storage_dtype(&self) -> &DType
         ensures tree { type_of result.now ≡ (ext_of self.now).storage }
     {
@@ -60,8 +54,6 @@ impl ExtDType {
     }
 
     /// The same parts, or `OutOfMemory`.
-    ///
-    /// Ports `ExtDType::clone`.
     pub fn clone(&self, alloc: Global) -> Result<ExtDType, VortexError>
         ensures { GivesOrNoMemory (λ copy. ext_of copy ≡ ext_of self.now) result }
     {

@@ -32,8 +32,6 @@ impl StructFields {
     }
 
     /// How many fields there are.
-    ///
-    /// Ports `StructFields::nfields`.
     pub fn nfields(&self) -> usize
         ensures { result ≡ length (fields_of self.now).types }
     {
@@ -41,8 +39,6 @@ impl StructFields {
     }
 
     /// The names, in order.
-    ///
-    /// Ports `StructFields::names`.
     pub fn names(&self) -> FieldNames<'_>
         ensures { names_in result ≡ (fields_of self.now).names }
     {
@@ -57,8 +53,6 @@ impl StructFields {
     }
 
     /// The place of the first field with the name, and none exactly where no field has it.
-    ///
-    /// Ports `StructFields::find`.
     pub fn find(&self, name: &str) -> Option<usize>
         ensures { result ≡ field_index (fields_of self.now) name.now }
     {
@@ -78,8 +72,6 @@ impl StructFields {
     /// For each of the names, in their order, that name and the type of the first field that has
     /// it. `NoField` exactly where some name is the name of no field, and this before any memory is
     /// asked for; else `OutOfMemory` where there is none.
-    ///
-    /// Ports `StructFields::project`.
     pub fn project(&self, alloc: Global, names: &[FieldName]) -> Result<StructFields, VortexError>
         ensures refused { RefusesOrNoMemory (project_cause (fields_of self.now) names.now) result }
         ensures made { IfOk result (λ fields.
@@ -131,8 +123,6 @@ impl StructFields {
     }
 
     /// The same names and types, or `OutOfMemory`.
-    ///
-    /// Ports `StructFields::clone`.
     pub fn clone(&self, alloc: Global) -> Result<StructFields, VortexError>
         ensures { GivesOrNoMemory (λ copy. fields_of copy ≡ fields_of self.now) result }
     {

@@ -13,8 +13,6 @@ use std::alloc::Global;
 impl MapDType {
     /// The parts of a map type. `BadType` with `NullableKey` exactly where the key takes a null,
     /// and this before any memory is asked for; else `OutOfMemory` where there is none.
-    ///
-    /// Ports `MapDType::try_new`.
     pub fn try_new(
         alloc: Global,
         key: DType,
@@ -38,8 +36,6 @@ impl MapDType {
     }
 
     /// The key type. It takes no null, as `try_new` saw to.
-    ///
-    /// Ports `MapDType::key_dtype`.
     pub fn key_dtype(&self) -> &DType
         ensures tree { type_of result.now ≡ (map_of self.now).key }
     {
@@ -47,8 +43,6 @@ impl MapDType {
     }
 
     /// The value type.
-    ///
-    /// Ports `MapDType::value_dtype`.
     pub fn value_dtype(&self) -> &DType
         ensures tree { type_of result.now ≡ (map_of self.now).value }
     {
@@ -56,8 +50,6 @@ impl MapDType {
     }
 
     /// Whether the keys of the type's values are sorted.
-    ///
-    /// Ports `MapDType::keys_sorted`.
     pub fn keys_sorted(&self) -> bool
         ensures { result ≡ (map_of self.now).keys_sorted }
     {
@@ -65,8 +57,6 @@ impl MapDType {
     }
 
     /// The same parts, or `OutOfMemory`.
-    ///
-    /// Ports `MapDType::clone`.
     pub fn clone(&self, alloc: Global) -> Result<MapDType, VortexError>
         ensures { GivesOrNoMemory (λ copy. map_of copy ≡ map_of self.now) result }
     {

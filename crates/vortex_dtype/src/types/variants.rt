@@ -17,8 +17,6 @@ use std::slice;
 impl UnionVariants {
     /// The variants with these names, types and ids. `BadType` with `LengthsDiffer` where they are
     /// not equally many, and else with `RepeatedTypeId` where two ids are equal. Takes no memory.
-    ///
-    /// Ports `UnionVariants::try_new`.
     pub fn try_new(
         _alloc: Global,
         names: Vec<FieldName>,
@@ -52,8 +50,6 @@ impl UnionVariants {
     }
 
     /// How many variants there are.
-    ///
-    /// Ports `UnionVariants::len`.
     pub fn len(&self) -> usize
         ensures { result ≡ length (variants_of self.now).type_ids }
     {
@@ -61,8 +57,6 @@ impl UnionVariants {
     }
 
     /// The place of the variant with the id, and none exactly where no variant has it.
-    ///
-    /// Ports `UnionVariants::tag_to_child_index`.
     pub fn tag_to_child_index(&self, tag: u8) -> Option<usize>
         ensures { result ≡ position (λ id. id == tag) (variants_of self.now).type_ids }
     {
@@ -90,8 +84,6 @@ impl UnionVariants {
     }
 
     /// The names, in order.
-    ///
-    /// Ports `UnionVariants::names`.
     pub fn names(&self) -> FieldNames<'_>
         ensures { names_in result ≡ (variants_of self.now).names }
     {
@@ -99,8 +91,6 @@ impl UnionVariants {
     }
 
     /// The same variants, or `OutOfMemory`.
-    ///
-    /// Ports `UnionVariants::clone`.
     pub fn clone(&self, alloc: Global) -> Result<UnionVariants, VortexError>
         ensures { GivesOrNoMemory (λ copy. variants_of copy ≡ variants_of self.now) result }
     {
@@ -167,8 +157,6 @@ impl UnionVariants {
     ghost use Rattle.vortex_dtype.specs.Names.{ids_left};
 
     /// The ids, in order, each once.
-    ///
-    /// Ports `UnionVariants::type_ids`.
     pub fn type_ids(&self) -> TypeIds<'_>
         ensures { ids_left result ≡ (variants_of self.now).type_ids }
     {

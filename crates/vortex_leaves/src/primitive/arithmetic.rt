@@ -89,7 +89,7 @@ impl<'a> PrimitiveScalar<'a> {
 
     /// The sum of two integers of one kind; of a null, the null.
     ///
-    /// None exactly where the kind does not have the sum. Ports `PrimitiveScalar::checked_add`.
+    /// None exactly where the kind does not have the sum.
     pub fn checked_add(&self, other: &PrimitiveScalar<'a>) -> Option<PrimitiveScalar<'a>>
         requires { AreOfOneType self.now other.now }
         ensures { MatchOption result
@@ -101,8 +101,7 @@ impl<'a> PrimitiveScalar<'a> {
 
     /// The first of two integers of one kind less the second; of a null, the null.
     ///
-    /// None exactly where the kind does not have the difference. Ports
-    /// `PrimitiveScalar::checked_sub`.
+    /// None exactly where the kind does not have the difference.
     pub fn checked_sub(&self, other: &PrimitiveScalar<'a>) -> Option<PrimitiveScalar<'a>>
         requires { AreOfOneType self.now other.now }
         ensures { MatchOption result

@@ -65,7 +65,7 @@ impl Hash for PrimitiveScalar<'_> {
     }
 }
 
-/// Writes `null`, or the number in decimal and then its kind. Takes no memory.
+/// Writes `null`, or the number in decimal and then its kind.
 impl Display for PrimitiveScalar<'_> {
     ghost output = { λ x. Some (text_of (number_view_type x) (number_view_raw x)) };
 

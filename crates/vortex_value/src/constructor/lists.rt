@@ -71,7 +71,7 @@ impl Scalar {
 
     /// The list of no children.
     ///
-    /// `OutOfMemory` where there is none. Ports `Scalar::list_empty`.
+    /// `OutOfMemory` where there is none.
     pub fn list_empty(
         alloc: Global,
         element_dtype: DType,

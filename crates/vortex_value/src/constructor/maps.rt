@@ -48,8 +48,6 @@ impl Scalar {
     }
 
     /// The map of these entries, or why they make none: the same answers as `map`.
-    ///
-    /// Ports `Scalar::try_map`.
     pub fn try_map<I: IntoIterator<Item = (Scalar, Scalar)>>(
         alloc: Global,
         dtype: DType,

@@ -10,7 +10,7 @@ use crate::values::ScalarValue;
 use vortex_dtype::{BufferString, ByteBuffer, DType, VortexError};
 
 /// `WrongKind` where the type is not Bool, then `IsNull` of a null, then `WrongKind` of another
-/// kind of raw value. Takes no memory. Ports `impl TryFrom<&Scalar> for bool`.
+/// kind of raw value.
 impl TryFrom<&Scalar> for bool {
     type Error = VortexError;
 
@@ -28,7 +28,7 @@ impl TryFrom<&Scalar> for bool {
 }
 
 /// `WrongKind` where the type is not Bool; a null is none; then `WrongKind` of another kind of raw
-/// value. Takes no memory. Ports `impl TryFrom<&Scalar> for Option<bool>`.
+/// value.
 impl TryFrom<&Scalar> for Option<bool> {
     type Error = VortexError;
 
@@ -45,7 +45,7 @@ impl TryFrom<&Scalar> for Option<bool> {
     }
 }
 
-/// As of a borrowed scalar. Ports `impl TryFrom<Scalar> for bool`.
+/// As of a borrowed scalar.
 impl TryFrom<Scalar> for bool {
     type Error = VortexError;
 
@@ -58,7 +58,7 @@ impl TryFrom<Scalar> for bool {
     }
 }
 
-/// As of a borrowed scalar. Ports `impl TryFrom<Scalar> for Option<bool>`.
+/// As of a borrowed scalar.
 impl TryFrom<Scalar> for Option<bool> {
     type Error = VortexError;
 
@@ -75,7 +75,6 @@ impl TryFrom<Scalar> for Option<bool> {
 /// A copy of the bytes: `WrongKind` where the type is not Binary, then `IsNull` of a null, then
 /// `WrongKind` of another kind of raw value; else `OutOfMemory` where there is none for the copy
 /// of more than 22 bytes.
-/// Ports `impl TryFrom<&Scalar> for ByteBuffer`.
 impl TryFrom<&Scalar> for ByteBuffer {
     type Error = VortexError;
 
@@ -96,7 +95,6 @@ impl TryFrom<&Scalar> for ByteBuffer {
 /// A copy of the bytes: `WrongKind` where the type is not Binary; a null is none, without memory; then
 /// `WrongKind` of another kind of raw value; else `OutOfMemory` where there is none for the copy
 /// of more than 22 bytes.
-/// Ports `impl TryFrom<&Scalar> for Option<ByteBuffer>`.
 impl TryFrom<&Scalar> for Option<ByteBuffer> {
     type Error = VortexError;
 
@@ -115,7 +113,7 @@ impl TryFrom<&Scalar> for Option<ByteBuffer> {
 }
 
 /// The bytes, moved: `WrongKind` where the type is not Binary, then `IsNull` of a null, then `WrongKind`
-/// of another kind of raw value. Takes no memory. Ports `impl TryFrom<Scalar> for ByteBuffer`.
+/// of another kind of raw value.
 impl TryFrom<Scalar> for ByteBuffer {
     type Error = VortexError;
 
@@ -130,7 +128,7 @@ impl TryFrom<Scalar> for ByteBuffer {
 }
 
 /// The bytes, moved: `WrongKind` where the type is not Binary; a null is none; then `WrongKind` of
-/// another kind of raw value. Takes no memory. Ports `impl TryFrom<Scalar> for Option<ByteBuffer>`.
+/// another kind of raw value.
 impl TryFrom<Scalar> for Option<ByteBuffer> {
     type Error = VortexError;
 
@@ -161,7 +159,6 @@ fn into_bytes(value: Option<ScalarValue>) -> Result<Option<ByteBuffer>, VortexEr
 /// A copy of the text: `WrongKind` where the type is not Utf8, then `IsNull` of a null, then
 /// `WrongKind` of another kind of raw value; else `OutOfMemory` where there is none for the copy
 /// of more than 22 bytes.
-/// Ports `impl TryFrom<&Scalar> for BufferString`.
 impl TryFrom<&Scalar> for BufferString {
     type Error = VortexError;
 
@@ -182,7 +179,6 @@ impl TryFrom<&Scalar> for BufferString {
 /// A copy of the text: `WrongKind` where the type is not Utf8; a null is none, without memory; then
 /// `WrongKind` of another kind of raw value; else `OutOfMemory` where there is none for the copy
 /// of more than 22 bytes.
-/// Ports `impl TryFrom<&Scalar> for Option<BufferString>`.
 impl TryFrom<&Scalar> for Option<BufferString> {
     type Error = VortexError;
 
@@ -201,7 +197,7 @@ impl TryFrom<&Scalar> for Option<BufferString> {
 }
 
 /// The text, moved: `WrongKind` where the type is not Utf8, then `IsNull` of a null, then `WrongKind`
-/// of another kind of raw value. Takes no memory. Ports `impl TryFrom<Scalar> for BufferString`.
+/// of another kind of raw value.
 impl TryFrom<Scalar> for BufferString {
     type Error = VortexError;
 
@@ -216,7 +212,7 @@ impl TryFrom<Scalar> for BufferString {
 }
 
 /// The text, moved: `WrongKind` where the type is not Utf8; a null is none; then `WrongKind` of
-/// another kind of raw value. Takes no memory. Ports `impl TryFrom<Scalar> for Option<BufferString>`.
+/// another kind of raw value.
 impl TryFrom<Scalar> for Option<BufferString> {
     type Error = VortexError;
 

@@ -11,7 +11,7 @@ use crate::scalars::Scalar;
 use crate::values::ScalarValue;
 use vortex_dtype::{BufferString, ByteBuffer, DType, Nullability};
 
-/// The truth value. Takes no memory. Ports `impl From<bool> for ScalarValue`.
+/// The truth value.
 impl From<bool> for ScalarValue {
     ghost from_gives = { λ b v. value_tree v ≡ raw_bool b };
 
@@ -20,7 +20,7 @@ impl From<bool> for ScalarValue {
     }
 }
 
-/// Of the type that takes no null. Takes no memory. Ports `impl From<bool> for Scalar`.
+/// Of the type that takes no null.
 impl From<bool> for Scalar {
     ghost from_gives = { λ b y. IsMadeValid (bool_type NonNullable) (raw_bool b) y };
 
@@ -29,8 +29,7 @@ impl From<bool> for Scalar {
     }
 }
 
-/// Of the nullable type; none is the null. Takes no memory. Ports
-/// `impl From<Option<bool>> for Scalar`.
+/// Of the nullable type; none is the null.
 impl From<Option<bool>> for Scalar {
     ghost from_gives = { λ o y. IsMadeValid (bool_type Nullable) (given_option raw_bool o) y };
 
@@ -42,7 +41,7 @@ impl From<Option<bool>> for Scalar {
     }
 }
 
-/// The text, moved. Takes no memory. Ports `impl From<BufferString> for ScalarValue`.
+/// The text, moved.
 impl From<BufferString> for ScalarValue {
     ghost from_gives = { λ t v. value_tree v ≡ raw_text t };
 
@@ -51,8 +50,7 @@ impl From<BufferString> for ScalarValue {
     }
 }
 
-/// Of the type that takes no null, with the text moved. Takes no memory. Ports
-/// `impl From<BufferString> for Scalar`.
+/// Of the type that takes no null, with the text moved.
 impl From<BufferString> for Scalar {
     ghost from_gives = { λ t y. IsMadeValid (utf8_type NonNullable) (raw_text t) y };
 
@@ -61,8 +59,7 @@ impl From<BufferString> for Scalar {
     }
 }
 
-/// Of the nullable type, with the text moved; none is the null. Takes no memory. Ports
-/// `impl From<Option<BufferString>> for Scalar`.
+/// Of the nullable type, with the text moved; none is the null.
 impl From<Option<BufferString>> for Scalar {
     ghost from_gives = { λ o y. IsMadeValid (utf8_type Nullable) (given_option raw_text o) y };
 
@@ -74,7 +71,7 @@ impl From<Option<BufferString>> for Scalar {
     }
 }
 
-/// The bytes, moved. Takes no memory. Ports `impl From<ByteBuffer> for ScalarValue`.
+/// The bytes, moved.
 impl From<ByteBuffer> for ScalarValue {
     ghost from_gives = { λ b v. value_tree v ≡ raw_bytes b };
 
@@ -83,8 +80,7 @@ impl From<ByteBuffer> for ScalarValue {
     }
 }
 
-/// Of the type that takes no null, with the bytes moved. Takes no memory. Ports
-/// `impl From<ByteBuffer> for Scalar`.
+/// Of the type that takes no null, with the bytes moved.
 impl From<ByteBuffer> for Scalar {
     ghost from_gives = { λ b y. IsMadeValid (binary_type NonNullable) (raw_bytes b) y };
 
@@ -93,8 +89,7 @@ impl From<ByteBuffer> for Scalar {
     }
 }
 
-/// Of the nullable type, with the bytes moved; none is the null. Takes no memory. Ports
-/// `impl From<Option<ByteBuffer>> for Scalar`.
+/// Of the nullable type, with the bytes moved; none is the null.
 impl From<Option<ByteBuffer>> for Scalar {
     ghost from_gives = { λ o y. IsMadeValid (binary_type Nullable) (given_option raw_bytes o) y };
 

@@ -20,7 +20,7 @@ use vortex_pvalue::{NativePType, PValue};
 mod from_integers;
 mod into_integers;
 
-/// The integer value. Takes no memory. Ports `impl From<PValue> for ScalarValue`.
+/// The integer value.
 impl From<PValue> for ScalarValue {
     ghost from_gives = { λ p v. value_tree v ≡ raw_integer (kind_of p) (whole_of p) };
 
@@ -97,7 +97,7 @@ fn take_optional<T: NativePType>(scalar: &Scalar) -> Result<Option<T>, VortexErr
     }
 }
 
-/// The number, as a `u64`. Takes no memory. Ports `impl From<usize> for ScalarValue`.
+/// The number, as a `u64`.
 impl From<usize> for ScalarValue {
     ghost from_gives = { λ n v. value_tree v ≡ given_usize n };
 
@@ -106,7 +106,7 @@ impl From<usize> for ScalarValue {
     }
 }
 
-/// Of the type of `u64` that takes no null. Takes no memory. Ports `impl From<usize> for Scalar`.
+/// Of the type of `u64` that takes no null.
 impl From<usize> for Scalar {
     ghost from_gives = { λ n y. IsMadeValid (integer_type U64 NonNullable) (given_usize n) y };
 
@@ -115,8 +115,7 @@ impl From<usize> for Scalar {
     }
 }
 
-/// Of the nullable type of `u64`; none is the null. Takes no memory. Ports
-/// `impl From<Option<usize>> for Scalar`.
+/// Of the nullable type of `u64`; none is the null.
 impl From<Option<usize>> for Scalar {
     ghost from_gives = { λ o y. IsMadeValid
         (integer_type U64 Nullable) (given_option given_usize o) y };
@@ -129,8 +128,8 @@ impl From<Option<usize>> for Scalar {
     }
 }
 
-/// `WrongKind` where the value is no integer, then `OutOfRange` where 64 bits do not hold it. Takes
-/// no memory. Ports `impl TryFrom<&ScalarValue> for usize`, which panics at another kind of value.
+/// `WrongKind` where the value is no integer, then `OutOfRange` where 64 bits do not hold it. Ports
+/// `impl TryFrom<&ScalarValue> for usize`, which panics at another kind of value.
 impl TryFrom<&ScalarValue> for usize {
     type Error = VortexError;
 
@@ -143,7 +142,7 @@ impl TryFrom<&ScalarValue> for usize {
 
 /// `WrongKind` where the type is no integer, also of an extension over one, then `IsNull` of a null,
 /// then `WrongKind` of another kind of raw value, and `OutOfRange` where 64 bits do not hold the
-/// number. Takes no memory. Ports `impl TryFrom<&Scalar> for usize`.
+/// number.
 impl TryFrom<&Scalar> for usize {
     type Error = VortexError;
 
@@ -159,8 +158,7 @@ impl TryFrom<&Scalar> for usize {
 }
 
 /// `WrongKind` where the type is no integer; a null is none; then `WrongKind` of another kind of raw
-/// value, and `OutOfRange` where 64 bits do not hold the number. Takes no memory. Ports
-/// `impl TryFrom<&Scalar> for Option<usize>`.
+/// value, and `OutOfRange` where 64 bits do not hold the number.
 impl TryFrom<&Scalar> for Option<usize> {
     type Error = VortexError;
 

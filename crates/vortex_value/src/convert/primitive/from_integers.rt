@@ -11,8 +11,8 @@ use crate::scalars::Scalar;
 use crate::values::ScalarValue;
 use vortex_dtype::VortexError;
 
-/// `WrongKind` where the value is no integer, then `OutOfRange` where `u8` does not have it. Takes no
-/// memory. Ports `impl TryFrom<&ScalarValue> for u8`, which panics at another kind of value.
+/// `WrongKind` where the value is no integer, then `OutOfRange` where `u8` does not have it. Ports
+/// `impl TryFrom<&ScalarValue> for u8`, which panics at another kind of value.
 impl TryFrom<&ScalarValue> for u8 {
     type Error = VortexError;
 
@@ -25,7 +25,7 @@ impl TryFrom<&ScalarValue> for u8 {
 }
 
 /// Looks at the raw value alone: `IsNull` of a null, then `WrongKind` where it is no integer, then
-/// `OutOfRange` where `u8` does not have it. Takes no memory. Ports `impl TryFrom<&Scalar> for u8`.
+/// `OutOfRange` where `u8` does not have it.
 impl TryFrom<&Scalar> for u8 {
     type Error = VortexError;
 
@@ -39,7 +39,7 @@ impl TryFrom<&Scalar> for u8 {
 
 /// `WrongKind` where the type is no integer, then `WrongPType` where it is of another kind; a null is
 /// none; then `WrongKind` of another kind of raw value, and `OutOfRange` where `u8` does not have the
-/// number. Takes no memory. Ports `impl TryFrom<&Scalar> for Option<u8>`.
+/// number.
 impl TryFrom<&Scalar> for Option<u8> {
     type Error = VortexError;
 
@@ -51,8 +51,8 @@ impl TryFrom<&Scalar> for Option<u8> {
     }
 }
 
-/// `WrongKind` where the value is no integer, then `OutOfRange` where `u16` does not have it. Takes no
-/// memory. Ports `impl TryFrom<&ScalarValue> for u16`, which panics at another kind of value.
+/// `WrongKind` where the value is no integer, then `OutOfRange` where `u16` does not have it. Ports
+/// `impl TryFrom<&ScalarValue> for u16`, which panics at another kind of value.
 impl TryFrom<&ScalarValue> for u16 {
     type Error = VortexError;
 
@@ -65,7 +65,7 @@ impl TryFrom<&ScalarValue> for u16 {
 }
 
 /// Looks at the raw value alone: `IsNull` of a null, then `WrongKind` where it is no integer, then
-/// `OutOfRange` where `u16` does not have it. Takes no memory. Ports `impl TryFrom<&Scalar> for u16`.
+/// `OutOfRange` where `u16` does not have it.
 impl TryFrom<&Scalar> for u16 {
     type Error = VortexError;
 
@@ -79,7 +79,7 @@ impl TryFrom<&Scalar> for u16 {
 
 /// `WrongKind` where the type is no integer, then `WrongPType` where it is of another kind; a null is
 /// none; then `WrongKind` of another kind of raw value, and `OutOfRange` where `u16` does not have the
-/// number. Takes no memory. Ports `impl TryFrom<&Scalar> for Option<u16>`.
+/// number.
 impl TryFrom<&Scalar> for Option<u16> {
     type Error = VortexError;
 
@@ -91,8 +91,8 @@ impl TryFrom<&Scalar> for Option<u16> {
     }
 }
 
-/// `WrongKind` where the value is no integer, then `OutOfRange` where `u32` does not have it. Takes no
-/// memory. Ports `impl TryFrom<&ScalarValue> for u32`, which panics at another kind of value.
+/// `WrongKind` where the value is no integer, then `OutOfRange` where `u32` does not have it. Ports
+/// `impl TryFrom<&ScalarValue> for u32`, which panics at another kind of value.
 impl TryFrom<&ScalarValue> for u32 {
     type Error = VortexError;
 
@@ -105,7 +105,7 @@ impl TryFrom<&ScalarValue> for u32 {
 }
 
 /// Looks at the raw value alone: `IsNull` of a null, then `WrongKind` where it is no integer, then
-/// `OutOfRange` where `u32` does not have it. Takes no memory. Ports `impl TryFrom<&Scalar> for u32`.
+/// `OutOfRange` where `u32` does not have it.
 impl TryFrom<&Scalar> for u32 {
     type Error = VortexError;
 
@@ -119,7 +119,7 @@ impl TryFrom<&Scalar> for u32 {
 
 /// `WrongKind` where the type is no integer, then `WrongPType` where it is of another kind; a null is
 /// none; then `WrongKind` of another kind of raw value, and `OutOfRange` where `u32` does not have the
-/// number. Takes no memory. Ports `impl TryFrom<&Scalar> for Option<u32>`.
+/// number.
 impl TryFrom<&Scalar> for Option<u32> {
     type Error = VortexError;
 
@@ -131,8 +131,8 @@ impl TryFrom<&Scalar> for Option<u32> {
     }
 }
 
-/// `WrongKind` where the value is no integer, then `OutOfRange` where `u64` does not have it. Takes no
-/// memory. Ports `impl TryFrom<&ScalarValue> for u64`, which panics at another kind of value.
+/// `WrongKind` where the value is no integer, then `OutOfRange` where `u64` does not have it. Ports
+/// `impl TryFrom<&ScalarValue> for u64`, which panics at another kind of value.
 impl TryFrom<&ScalarValue> for u64 {
     type Error = VortexError;
 
@@ -145,7 +145,7 @@ impl TryFrom<&ScalarValue> for u64 {
 }
 
 /// Looks at the raw value alone: `IsNull` of a null, then `WrongKind` where it is no integer, then
-/// `OutOfRange` where `u64` does not have it. Takes no memory. Ports `impl TryFrom<&Scalar> for u64`.
+/// `OutOfRange` where `u64` does not have it.
 impl TryFrom<&Scalar> for u64 {
     type Error = VortexError;
 
@@ -159,7 +159,7 @@ impl TryFrom<&Scalar> for u64 {
 
 /// `WrongKind` where the type is no integer, then `WrongPType` where it is of another kind; a null is
 /// none; then `WrongKind` of another kind of raw value, and `OutOfRange` where `u64` does not have the
-/// number. Takes no memory. Ports `impl TryFrom<&Scalar> for Option<u64>`.
+/// number.
 impl TryFrom<&Scalar> for Option<u64> {
     type Error = VortexError;
 
@@ -171,8 +171,8 @@ impl TryFrom<&Scalar> for Option<u64> {
     }
 }
 
-/// `WrongKind` where the value is no integer, then `OutOfRange` where `i8` does not have it. Takes no
-/// memory. Ports `impl TryFrom<&ScalarValue> for i8`, which panics at another kind of value.
+/// `WrongKind` where the value is no integer, then `OutOfRange` where `i8` does not have it. Ports
+/// `impl TryFrom<&ScalarValue> for i8`, which panics at another kind of value.
 impl TryFrom<&ScalarValue> for i8 {
     type Error = VortexError;
 
@@ -185,7 +185,7 @@ impl TryFrom<&ScalarValue> for i8 {
 }
 
 /// Looks at the raw value alone: `IsNull` of a null, then `WrongKind` where it is no integer, then
-/// `OutOfRange` where `i8` does not have it. Takes no memory. Ports `impl TryFrom<&Scalar> for i8`.
+/// `OutOfRange` where `i8` does not have it.
 impl TryFrom<&Scalar> for i8 {
     type Error = VortexError;
 
@@ -199,7 +199,7 @@ impl TryFrom<&Scalar> for i8 {
 
 /// `WrongKind` where the type is no integer, then `WrongPType` where it is of another kind; a null is
 /// none; then `WrongKind` of another kind of raw value, and `OutOfRange` where `i8` does not have the
-/// number. Takes no memory. Ports `impl TryFrom<&Scalar> for Option<i8>`.
+/// number.
 impl TryFrom<&Scalar> for Option<i8> {
     type Error = VortexError;
 
@@ -211,8 +211,8 @@ impl TryFrom<&Scalar> for Option<i8> {
     }
 }
 
-/// `WrongKind` where the value is no integer, then `OutOfRange` where `i16` does not have it. Takes no
-/// memory. Ports `impl TryFrom<&ScalarValue> for i16`, which panics at another kind of value.
+/// `WrongKind` where the value is no integer, then `OutOfRange` where `i16` does not have it. Ports
+/// `impl TryFrom<&ScalarValue> for i16`, which panics at another kind of value.
 impl TryFrom<&ScalarValue> for i16 {
     type Error = VortexError;
 
@@ -225,7 +225,7 @@ impl TryFrom<&ScalarValue> for i16 {
 }
 
 /// Looks at the raw value alone: `IsNull` of a null, then `WrongKind` where it is no integer, then
-/// `OutOfRange` where `i16` does not have it. Takes no memory. Ports `impl TryFrom<&Scalar> for i16`.
+/// `OutOfRange` where `i16` does not have it.
 impl TryFrom<&Scalar> for i16 {
     type Error = VortexError;
 
@@ -239,7 +239,7 @@ impl TryFrom<&Scalar> for i16 {
 
 /// `WrongKind` where the type is no integer, then `WrongPType` where it is of another kind; a null is
 /// none; then `WrongKind` of another kind of raw value, and `OutOfRange` where `i16` does not have the
-/// number. Takes no memory. Ports `impl TryFrom<&Scalar> for Option<i16>`.
+/// number.
 impl TryFrom<&Scalar> for Option<i16> {
     type Error = VortexError;
 
@@ -251,8 +251,8 @@ impl TryFrom<&Scalar> for Option<i16> {
     }
 }
 
-/// `WrongKind` where the value is no integer, then `OutOfRange` where `i32` does not have it. Takes no
-/// memory. Ports `impl TryFrom<&ScalarValue> for i32`, which panics at another kind of value.
+/// `WrongKind` where the value is no integer, then `OutOfRange` where `i32` does not have it. Ports
+/// `impl TryFrom<&ScalarValue> for i32`, which panics at another kind of value.
 impl TryFrom<&ScalarValue> for i32 {
     type Error = VortexError;
 
@@ -265,7 +265,7 @@ impl TryFrom<&ScalarValue> for i32 {
 }
 
 /// Looks at the raw value alone: `IsNull` of a null, then `WrongKind` where it is no integer, then
-/// `OutOfRange` where `i32` does not have it. Takes no memory. Ports `impl TryFrom<&Scalar> for i32`.
+/// `OutOfRange` where `i32` does not have it.
 impl TryFrom<&Scalar> for i32 {
     type Error = VortexError;
 
@@ -279,7 +279,7 @@ impl TryFrom<&Scalar> for i32 {
 
 /// `WrongKind` where the type is no integer, then `WrongPType` where it is of another kind; a null is
 /// none; then `WrongKind` of another kind of raw value, and `OutOfRange` where `i32` does not have the
-/// number. Takes no memory. Ports `impl TryFrom<&Scalar> for Option<i32>`.
+/// number.
 impl TryFrom<&Scalar> for Option<i32> {
     type Error = VortexError;
 
@@ -291,8 +291,8 @@ impl TryFrom<&Scalar> for Option<i32> {
     }
 }
 
-/// `WrongKind` where the value is no integer, then `OutOfRange` where `i64` does not have it. Takes no
-/// memory. Ports `impl TryFrom<&ScalarValue> for i64`, which panics at another kind of value.
+/// `WrongKind` where the value is no integer, then `OutOfRange` where `i64` does not have it. Ports
+/// `impl TryFrom<&ScalarValue> for i64`, which panics at another kind of value.
 impl TryFrom<&ScalarValue> for i64 {
     type Error = VortexError;
 
@@ -305,7 +305,7 @@ impl TryFrom<&ScalarValue> for i64 {
 }
 
 /// Looks at the raw value alone: `IsNull` of a null, then `WrongKind` where it is no integer, then
-/// `OutOfRange` where `i64` does not have it. Takes no memory. Ports `impl TryFrom<&Scalar> for i64`.
+/// `OutOfRange` where `i64` does not have it.
 impl TryFrom<&Scalar> for i64 {
     type Error = VortexError;
 
@@ -319,7 +319,7 @@ impl TryFrom<&Scalar> for i64 {
 
 /// `WrongKind` where the type is no integer, then `WrongPType` where it is of another kind; a null is
 /// none; then `WrongKind` of another kind of raw value, and `OutOfRange` where `i64` does not have the
-/// number. Takes no memory. Ports `impl TryFrom<&Scalar> for Option<i64>`.
+/// number.
 impl TryFrom<&Scalar> for Option<i64> {
     type Error = VortexError;
 

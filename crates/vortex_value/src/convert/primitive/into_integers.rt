@@ -14,7 +14,7 @@ use crate::values::ScalarValue;
 use vortex_dtype::Nullability;
 use vortex_pvalue::NativePType;
 
-/// The number in its own kind. Takes no memory. Ports `impl From<u8> for ScalarValue`.
+/// The number in its own kind.
 impl From<u8> for ScalarValue {
     ghost from_gives = { λ n v. value_tree v ≡ raw_integer U8 (pos n) };
 
@@ -23,7 +23,7 @@ impl From<u8> for ScalarValue {
     }
 }
 
-/// Of the type that takes no null. Takes no memory. Ports `impl From<u8> for Scalar`.
+/// Of the type that takes no null.
 impl From<u8> for Scalar {
     ghost from_gives = { λ n y. IsMadeValid
         (integer_type U8 NonNullable) (raw_integer U8 (pos n)) y };
@@ -33,8 +33,7 @@ impl From<u8> for Scalar {
     }
 }
 
-/// Of the nullable type; none is the null. Takes no memory. Ports
-/// `impl From<Option<u8>> for Scalar`.
+/// Of the nullable type; none is the null.
 impl From<Option<u8>> for Scalar {
     ghost from_gives = { λ o y. IsMadeValid
         (integer_type U8 Nullable) (given_option (given_number U8 pos) o) y };
@@ -44,7 +43,7 @@ impl From<Option<u8>> for Scalar {
     }
 }
 
-/// The number in its own kind. Takes no memory. Ports `impl From<u16> for ScalarValue`.
+/// The number in its own kind.
 impl From<u16> for ScalarValue {
     ghost from_gives = { λ n v. value_tree v ≡ raw_integer U16 (pos n) };
 
@@ -53,7 +52,7 @@ impl From<u16> for ScalarValue {
     }
 }
 
-/// Of the type that takes no null. Takes no memory. Ports `impl From<u16> for Scalar`.
+/// Of the type that takes no null.
 impl From<u16> for Scalar {
     ghost from_gives = { λ n y. IsMadeValid
         (integer_type U16 NonNullable) (raw_integer U16 (pos n)) y };
@@ -63,8 +62,7 @@ impl From<u16> for Scalar {
     }
 }
 
-/// Of the nullable type; none is the null. Takes no memory. Ports
-/// `impl From<Option<u16>> for Scalar`.
+/// Of the nullable type; none is the null.
 impl From<Option<u16>> for Scalar {
     ghost from_gives = { λ o y. IsMadeValid
         (integer_type U16 Nullable) (given_option (given_number U16 pos) o) y };
@@ -74,7 +72,7 @@ impl From<Option<u16>> for Scalar {
     }
 }
 
-/// The number in its own kind. Takes no memory. Ports `impl From<u32> for ScalarValue`.
+/// The number in its own kind.
 impl From<u32> for ScalarValue {
     ghost from_gives = { λ n v. value_tree v ≡ raw_integer U32 (pos n) };
 
@@ -83,7 +81,7 @@ impl From<u32> for ScalarValue {
     }
 }
 
-/// Of the type that takes no null. Takes no memory. Ports `impl From<u32> for Scalar`.
+/// Of the type that takes no null.
 impl From<u32> for Scalar {
     ghost from_gives = { λ n y. IsMadeValid
         (integer_type U32 NonNullable) (raw_integer U32 (pos n)) y };
@@ -93,8 +91,7 @@ impl From<u32> for Scalar {
     }
 }
 
-/// Of the nullable type; none is the null. Takes no memory. Ports
-/// `impl From<Option<u32>> for Scalar`.
+/// Of the nullable type; none is the null.
 impl From<Option<u32>> for Scalar {
     ghost from_gives = { λ o y. IsMadeValid
         (integer_type U32 Nullable) (given_option (given_number U32 pos) o) y };
@@ -104,7 +101,7 @@ impl From<Option<u32>> for Scalar {
     }
 }
 
-/// The number in its own kind. Takes no memory. Ports `impl From<u64> for ScalarValue`.
+/// The number in its own kind.
 impl From<u64> for ScalarValue {
     ghost from_gives = { λ n v. value_tree v ≡ raw_integer U64 (pos n) };
 
@@ -113,7 +110,7 @@ impl From<u64> for ScalarValue {
     }
 }
 
-/// Of the type that takes no null. Takes no memory. Ports `impl From<u64> for Scalar`.
+/// Of the type that takes no null.
 impl From<u64> for Scalar {
     ghost from_gives = { λ n y. IsMadeValid
         (integer_type U64 NonNullable) (raw_integer U64 (pos n)) y };
@@ -123,8 +120,7 @@ impl From<u64> for Scalar {
     }
 }
 
-/// Of the nullable type; none is the null. Takes no memory. Ports
-/// `impl From<Option<u64>> for Scalar`.
+/// Of the nullable type; none is the null.
 impl From<Option<u64>> for Scalar {
     ghost from_gives = { λ o y. IsMadeValid
         (integer_type U64 Nullable) (given_option (given_number U64 pos) o) y };
@@ -134,7 +130,7 @@ impl From<Option<u64>> for Scalar {
     }
 }
 
-/// The number in its own kind. Takes no memory. Ports `impl From<i8> for ScalarValue`.
+/// The number in its own kind.
 impl From<i8> for ScalarValue {
     ghost from_gives = { λ n v. value_tree v ≡ raw_integer I8 n };
 
@@ -143,7 +139,7 @@ impl From<i8> for ScalarValue {
     }
 }
 
-/// Of the type that takes no null. Takes no memory. Ports `impl From<i8> for Scalar`.
+/// Of the type that takes no null.
 impl From<i8> for Scalar {
     ghost from_gives = { λ n y. IsMadeValid
         (integer_type I8 NonNullable) (raw_integer I8 n) y };
@@ -153,8 +149,7 @@ impl From<i8> for Scalar {
     }
 }
 
-/// Of the nullable type; none is the null. Takes no memory. Ports
-/// `impl From<Option<i8>> for Scalar`.
+/// Of the nullable type; none is the null.
 impl From<Option<i8>> for Scalar {
     ghost from_gives = { λ o y. IsMadeValid
         (integer_type I8 Nullable) (given_option (given_number I8 (λ n. n)) o) y };
@@ -164,7 +159,7 @@ impl From<Option<i8>> for Scalar {
     }
 }
 
-/// The number in its own kind. Takes no memory. Ports `impl From<i16> for ScalarValue`.
+/// The number in its own kind.
 impl From<i16> for ScalarValue {
     ghost from_gives = { λ n v. value_tree v ≡ raw_integer I16 n };
 
@@ -173,7 +168,7 @@ impl From<i16> for ScalarValue {
     }
 }
 
-/// Of the type that takes no null. Takes no memory. Ports `impl From<i16> for Scalar`.
+/// Of the type that takes no null.
 impl From<i16> for Scalar {
     ghost from_gives = { λ n y. IsMadeValid
         (integer_type I16 NonNullable) (raw_integer I16 n) y };
@@ -183,8 +178,7 @@ impl From<i16> for Scalar {
     }
 }
 
-/// Of the nullable type; none is the null. Takes no memory. Ports
-/// `impl From<Option<i16>> for Scalar`.
+/// Of the nullable type; none is the null.
 impl From<Option<i16>> for Scalar {
     ghost from_gives = { λ o y. IsMadeValid
         (integer_type I16 Nullable) (given_option (given_number I16 (λ n. n)) o) y };
@@ -194,7 +188,7 @@ impl From<Option<i16>> for Scalar {
     }
 }
 
-/// The number in its own kind. Takes no memory. Ports `impl From<i32> for ScalarValue`.
+/// The number in its own kind.
 impl From<i32> for ScalarValue {
     ghost from_gives = { λ n v. value_tree v ≡ raw_integer I32 n };
 
@@ -203,7 +197,7 @@ impl From<i32> for ScalarValue {
     }
 }
 
-/// Of the type that takes no null. Takes no memory. Ports `impl From<i32> for Scalar`.
+/// Of the type that takes no null.
 impl From<i32> for Scalar {
     ghost from_gives = { λ n y. IsMadeValid
         (integer_type I32 NonNullable) (raw_integer I32 n) y };
@@ -213,8 +207,7 @@ impl From<i32> for Scalar {
     }
 }
 
-/// Of the nullable type; none is the null. Takes no memory. Ports
-/// `impl From<Option<i32>> for Scalar`.
+/// Of the nullable type; none is the null.
 impl From<Option<i32>> for Scalar {
     ghost from_gives = { λ o y. IsMadeValid
         (integer_type I32 Nullable) (given_option (given_number I32 (λ n. n)) o) y };
@@ -224,7 +217,7 @@ impl From<Option<i32>> for Scalar {
     }
 }
 
-/// The number in its own kind. Takes no memory. Ports `impl From<i64> for ScalarValue`.
+/// The number in its own kind.
 impl From<i64> for ScalarValue {
     ghost from_gives = { λ n v. value_tree v ≡ raw_integer I64 n };
 
@@ -233,7 +226,7 @@ impl From<i64> for ScalarValue {
     }
 }
 
-/// Of the type that takes no null. Takes no memory. Ports `impl From<i64> for Scalar`.
+/// Of the type that takes no null.
 impl From<i64> for Scalar {
     ghost from_gives = { λ n y. IsMadeValid
         (integer_type I64 NonNullable) (raw_integer I64 n) y };
@@ -243,8 +236,7 @@ impl From<i64> for Scalar {
     }
 }
 
-/// Of the nullable type; none is the null. Takes no memory. Ports
-/// `impl From<Option<i64>> for Scalar`.
+/// Of the nullable type; none is the null.
 impl From<Option<i64>> for Scalar {
     ghost from_gives = { λ o y. IsMadeValid
         (integer_type I64 Nullable) (given_option (given_number I64 (λ n. n)) o) y };
