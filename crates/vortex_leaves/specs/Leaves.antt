@@ -55,6 +55,6 @@ pub record Lends {X : Type 0} (type_at : X → TypeTree) (raw_at : X → RawTree
   pub typed : type_at x ≡ t
   pub value : raw_at x ≡ v
 
--- the call gives a view that p holds of, and refuses as another kind exactly where there is none
+-- the call gives a view, of which p holds, exactly where type and value fit, and else refuses as another kind
 abbrev pub GivesView : {X : Type 0} → (X → Type 0) → Type 0 → Result X VortexError → Type 0
-GivesView p fits result = MatchResult result p (λ e. (e ≡ WrongKind) × ¬ fits)
+GivesView p fits result = MatchResult result (λ view. p view × fits) (λ e. (e ≡ WrongKind) × ¬ fits)

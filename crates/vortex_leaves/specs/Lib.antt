@@ -4,6 +4,7 @@ pub mod BoolLaws
 pub mod BoolViews
 pub mod BytesLaws
 pub mod BytesViews
+pub mod Laws
 pub mod LeafOrders
 pub mod Leaves
 pub mod NumberLaws

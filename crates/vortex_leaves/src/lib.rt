@@ -6,6 +6,7 @@
 
 mod binary;
 mod bool;
+pub mod laws;
 mod primitive;
 mod utf8;
 
