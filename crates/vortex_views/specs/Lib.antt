@@ -1,6 +1,7 @@
 pub mod ExtensionParts
 pub mod Extensions
 pub mod Iterators
+pub mod Laws
 pub mod Lists
 pub mod Maps
 pub mod PartExamples

@@ -3,7 +3,7 @@ use Rattle.std.specs.Prelude.{◌&&◌, ℕ, Bool, true, false, List, [], ◌∷
 use Rattle.std.specs.Hash.{HashWrites}
 use Rattle.vortex_dtype.specs.Parts.{element_in, map_in}
 use Rattle.vortex_dtype.specs.TypeOf.{MapParts}
-use Rattle.vortex_dtype.specs.TypeTree.{TypeTree}
+use Rattle.vortex_dtype.specs.TypeTree.{TypeTree, IsFlat}
 use Rattle.vortex_value.specs.Equality.{equal, same_type}
 use Rattle.vortex_value.specs.Hashing.{typed_feed}
 use Rattle.vortex_value.specs.Texts.{text_of}
@@ -41,6 +41,14 @@ IsValidPart p = Valid p.0 p.1
 -- the same of both
 abbrev pub AreValidParts : Part × Part → Type 0
 AreValidParts e = IsValidPart e.0 × IsValidPart e.1
+
+-- the type is one whose values take no memory
+abbrev pub IsFlatPart : Part → Type 0
+IsFlatPart p = IsFlat p.0
+
+-- the same of both
+abbrev pub AreFlatParts : Part × Part → Type 0
+AreFlatParts e = IsFlatPart e.0 × IsFlatPart e.1
 
 -- the values that a tree holds, as a list
 abbrev pub listed_raws : RawTrees → List RawTree

@@ -1,14 +1,15 @@
 //! Views of extensions.
 
-ghost use Rattle.std.specs.Prelude.{◌≡◌, ◌&&◌, Some, false, is_some, true, IfErr, IfOk, IfSome, MatchResult};
+ghost use Rattle.std.specs.Prelude.{◌≡◌, Some, is_some, true, IfErr, IfOk, IfSome, IsOk, IsTrue};
 ghost use Rattle.std.specs.Cmp.{partial_equiv_from_equiv};
 ghost use Rattle.std.specs.Hash.{and-Alike, on_Alike};
 ghost use Rattle.std.specs.Option.{option_copied};
 ghost use Rattle.std.proofs.lemmas.Cmp.{on_equiv};
 ghost use Rattle.vortex_dtype.specs.Parts.{extension_in};
 ghost use Rattle.vortex_dtype.specs.TypeOf.{ext_of, type_of};
-ghost use Rattle.vortex_dtype.specs.TypeTree.{storage};
-ghost use Rattle.vortex_dtype.specs.declared.error.VortexError.TheVariants.{OutOfMemory, WrongKind};
+ghost use Rattle.vortex_dtype.specs.TypeTree.{IsFlat, storage};
+ghost use Rattle.vortex_dtype.specs.declared.error.VortexError.TheVariants.{OutOfMemory};
+ghost use Rattle.vortex_leaves.specs.Leaves.{GivesView};
 ghost use Rattle.vortex_value.specs.Lemmas.EqualityLaws.{equal-equiv};
 ghost use Rattle.vortex_value.specs.Lemmas.HashLaws.{content_feed-Alike, type_feed-Alike};
 ghost use Rattle.vortex_value.specs.Values.Content.{typed};
@@ -51,12 +52,16 @@ impl<'a> ExtScalar<'a> {
 
     /// The same raw value as a scalar of the storage type, which may be an extension too.
     ///
-    /// `OutOfMemory` is its only refusal.
+    /// `OutOfMemory` is its only refusal, and not of a valid one whose storage is of a type whose
+    /// values take no memory. Ports `ExtScalar::to_storage_scalar`.
     pub fn to_storage_scalar(&self, alloc: Global) -> Result<Scalar, VortexError>
         ensures stored { IfOk result (λ made. IfSome (extension_in (ref_type (ext_ref self.now)))
             (λ extension. IsMadeOf extension.storage (ref_raw (ext_ref self.now)) made)) }
         ensures valid { IsValidRef (ext_ref self.now) → IfOk result IsValid }
         ensures refused { IfErr result (λ e. e ≡ OutOfMemory) }
+        ensures flat { IsValidRef (ext_ref self.now)
+            → IfSome (extension_in (ref_type (ext_ref self.now)))
+            (λ extension. IsFlat extension.storage) → IsOk result }
     {
         let storage = self.ext_dtype().storage_dtype();
         ScalarRef::from_parts(storage, self.scalar.value()).to_scalar(alloc)
@@ -139,10 +144,10 @@ impl<'a> TryFrom<&'a Scalar> for ExtScalar<'a> {
 
     ghost use Rattle.vortex_views.specs.Extensions.{ext_ref};
 
-    ghost try_from_gives = { λ scalar result. MatchResult result
+    ghost try_from_gives = { λ scalar. GivesView
         (λ view. IsRefOf (scalar_type scalar.now) (scalar_raw scalar.now) (ext_ref view))
-        (λ e. (e ≡ WrongKind) × ((is_some (extension_in (scalar_type scalar.now))
-        && is_of_kind (storage (scalar_type scalar.now)) (scalar_raw scalar.now)) ≡ false)) };
+        (IsTrue (is_some (extension_in (scalar_type scalar.now)))
+        × IsTrue (is_of_kind (storage (scalar_type scalar.now)) (scalar_raw scalar.now))) };
 
     fn try_from(scalar: &'a Scalar) -> Result<ExtScalar<'a>, VortexError> {
         if scalar.dtype().as_extension_opt().is_none() {

@@ -1,6 +1,6 @@
 //! Views of lists, of fixed size or not.
 
-ghost use Rattle.std.specs.Prelude.{◌≡◌, ◌↔◌, ◌&&◌, ◌==◌, ◌<◌, Some, true, false, length, map, option_map, slice_get, is_some, IfErr, IfOk, IfSome, IsOk, IsTrue, MatchResult};
+ghost use Rattle.std.specs.Prelude.{◌≡◌, ◌↔◌, ◌==◌, ◌<◌, Some, true, false, length, map, option_map, slice_get, is_some, IfErr, IfOk, IfSome, IsOk, IsTrue, MatchResult};
 ghost use Rattle.std.specs.Cmp.{partial_equiv_from_equiv};
 ghost use Rattle.std.specs.Hash.{and-Alike, on_Alike};
 ghost use Rattle.std.specs.List.{All};
@@ -8,8 +8,7 @@ ghost use Rattle.std.specs.Option.{option_copied};
 ghost use Rattle.std.proofs.lemmas.Cmp.{on_equiv};
 ghost use Rattle.vortex_dtype.specs.Parts.{element_in};
 ghost use Rattle.vortex_dtype.specs.TypeOf.{type_of};
-ghost use Rattle.vortex_dtype.specs.declared.error.VortexError.TheVariants.{WrongKind};
-ghost use Rattle.vortex_leaves.specs.Leaves.{RefusesView};
+ghost use Rattle.vortex_leaves.specs.Leaves.{GivesView, RefusesView};
 ghost use Rattle.vortex_value.specs.Lemmas.EqualityLaws.{equal-equiv};
 ghost use Rattle.vortex_value.specs.Lemmas.HashLaws.{content_feed-Alike, type_feed-Alike};
 ghost use Rattle.vortex_value.specs.Values.Content.{typed};
@@ -18,7 +17,7 @@ ghost use Rattle.vortex_value.specs.Values.RawTree.{is_absent};
 ghost use Rattle.vortex_value.specs.Values.Refs.{IsRefOf, IsValidRef, ref_content, ref_order, ref_raw, ref_type};
 ghost use Rattle.vortex_value.specs.Values.Scalars.{IsValid, scalar_raw, scalar_type};
 ghost use Rattle.vortex_value.specs.Validity.{Valid};
-ghost use Rattle.vortex_views.specs.Parts.{elements_of, is_null_or_tuple, parts_of, ref_equal, ref_feed, ref_part, ref_text, scalar_part, unless_null};
+ghost use Rattle.vortex_views.specs.Parts.{IsFlatPart, elements_of, is_null_or_tuple, parts_of, ref_equal, ref_feed, ref_part, ref_text, scalar_part, unless_null};
 
 use crate::parts::{copied, is_null_or_tuple, items_of, part_at};
 use std::alloc::Global;
@@ -113,13 +112,17 @@ impl<'a> ListScalar<'a> {
 
     /// A scalar of the element at this place, and none exactly past the end, as anywhere of a null.
     ///
-    /// `OutOfMemory` where there is none for the copy.
+    /// `OutOfMemory` where there is none for the copy, and not for a valid element of a type whose
+    /// values take none. Ports `ListScalar::element`.
     pub fn element(&self, alloc: Global, index: usize) -> Result<Option<Scalar>, VortexError>
         ensures copied { IfOk result (λ copy. option_map scalar_part copy
             ≡ slice_get (elements_of (ref_type (list_ref self.now)) (ref_raw (list_ref self.now))) index) }
         ensures valid { IsValidRef (list_ref self.now) → IfOk result (λ copy. IfSome copy IsValid) }
         ensures refused { IfErr result (λ e. (e ≡ VortexError.OutOfMemory)
             × (index < length (parts_of (ref_raw (list_ref self.now))))) }
+        ensures flat { IsValidRef (list_ref self.now) → IfSome
+            (slice_get (elements_of (ref_type (list_ref self.now)) (ref_raw (list_ref self.now))) index)
+            IsFlatPart → IsOk result }
     {
         copied(alloc, self.element_ref(index))
     }
@@ -190,10 +193,10 @@ impl<'a> TryFrom<&'a Scalar> for ListScalar<'a> {
 
     ghost use Rattle.vortex_views.specs.Lists.{list_ref};
 
-    ghost try_from_gives = { λ scalar result. MatchResult result
+    ghost try_from_gives = { λ scalar. GivesView
         (λ view. IsRefOf (scalar_type scalar.now) (scalar_raw scalar.now) (list_ref view))
-        (λ e. (e ≡ WrongKind) × ((is_some (element_in (scalar_type scalar.now))
-        && is_null_or_tuple (scalar_raw scalar.now)) ≡ false)) };
+        (IsTrue (is_some (element_in (scalar_type scalar.now)))
+        × IsTrue (is_null_or_tuple (scalar_raw scalar.now))) };
 
     fn try_from(scalar: &'a Scalar) -> Result<ListScalar<'a>, VortexError> {
         if scalar.dtype().as_any_size_list_element_opt().is_none() {

@@ -1,6 +1,6 @@
 //! Views of maps.
 
-ghost use Rattle.std.specs.Prelude.{◌≡◌, ◌↔◌, ◌&&◌, ◌==◌, ◌<◌, Some, true, false, length, map, option_map, slice_get, is_some, IfErr, IfOk, IfSome, IsOk, IsTrue, MatchResult};
+ghost use Rattle.std.specs.Prelude.{◌≡◌, ◌↔◌, ◌==◌, ◌<◌, Some, true, length, map, option_map, slice_get, is_some, IfErr, IfOk, IfSome, IsOk, IsTrue};
 ghost use Rattle.std.specs.Cmp.{partial_equiv_from_equiv};
 ghost use Rattle.std.specs.Hash.{and-Alike, on_Alike};
 ghost use Rattle.std.specs.List.{All};
@@ -8,8 +8,7 @@ ghost use Rattle.std.specs.Option.{option_copied};
 ghost use Rattle.std.proofs.lemmas.Cmp.{on_equiv};
 ghost use Rattle.vortex_dtype.specs.Parts.{map_in};
 ghost use Rattle.vortex_dtype.specs.TypeOf.{map_of, type_of};
-ghost use Rattle.vortex_dtype.specs.declared.error.VortexError.TheVariants.{WrongKind};
-ghost use Rattle.vortex_leaves.specs.Leaves.{RefusesView};
+ghost use Rattle.vortex_leaves.specs.Leaves.{GivesView, RefusesView};
 ghost use Rattle.vortex_value.specs.Lemmas.EqualityLaws.{equal-equiv};
 ghost use Rattle.vortex_value.specs.Lemmas.HashLaws.{content_feed-Alike, type_feed-Alike};
 ghost use Rattle.vortex_value.specs.Values.Content.{typed};
@@ -19,7 +18,7 @@ ghost use Rattle.vortex_value.specs.Values.Refs.{IsRefOf, IsValidRef, ref_conten
 ghost use Rattle.vortex_value.specs.Values.Scalars.{IsValid, scalar_raw, scalar_type};
 ghost use Rattle.vortex_value.specs.Validity.{Valid};
 ghost use Rattle.vortex_views.specs.Iterators.{entries_left, keys_left, values_left};
-ghost use Rattle.vortex_views.specs.Parts.{AreValidParts, IsValidPart, entries_of, is_null_or_tuple, parts_of, ref_entry, ref_equal, ref_feed, ref_text, scalar_entry};
+ghost use Rattle.vortex_views.specs.Parts.{AreFlatParts, AreValidParts, IsValidPart, entries_of, is_null_or_tuple, parts_of, ref_entry, ref_equal, ref_feed, ref_text, scalar_entry};
 
 use crate::iterators::{Entries, Keys, Values};
 use crate::parts::{copied_entry, entry_at, is_null_or_tuple, items_of};
@@ -117,7 +116,8 @@ impl<'a> MapScalar<'a> {
     /// Scalars of the key and the value of the entry at this place, and none exactly past the end, as
     /// anywhere of a null.
     ///
-    /// `OutOfMemory` where there is none for the copies.
+    /// `OutOfMemory` where there is none for the copies, and not for a valid entry of types whose
+    /// values take none. Ports `MapScalar::entry`.
     pub fn entry(
         &self,
         alloc: Global,
@@ -129,6 +129,9 @@ impl<'a> MapScalar<'a> {
             → IfOk result (λ copy. IfSome copy (λ entry. IsValid entry.0 × IsValid entry.1)) }
         ensures refused { IfErr result (λ e. (e ≡ VortexError.OutOfMemory)
             × (index < length (parts_of (ref_raw (map_ref self.now))))) }
+        ensures flat { IsValidRef (map_ref self.now) → IfSome
+            (slice_get (entries_of (ref_type (map_ref self.now)) (ref_raw (map_ref self.now))) index)
+            AreFlatParts → IsOk result }
     {
         match self.entry_ref(index) {
             Some(entry) => Ok(Some(copied_entry(alloc, entry)?)),
@@ -184,10 +187,10 @@ impl<'a> TryFrom<&'a Scalar> for MapScalar<'a> {
 
     ghost use Rattle.vortex_views.specs.Maps.{map_ref};
 
-    ghost try_from_gives = { λ scalar result. MatchResult result
+    ghost try_from_gives = { λ scalar. GivesView
         (λ view. IsRefOf (scalar_type scalar.now) (scalar_raw scalar.now) (map_ref view))
-        (λ e. (e ≡ WrongKind) × ((is_some (map_in (scalar_type scalar.now))
-        && is_null_or_tuple (scalar_raw scalar.now)) ≡ false)) };
+        (IsTrue (is_some (map_in (scalar_type scalar.now)))
+        × IsTrue (is_null_or_tuple (scalar_raw scalar.now))) };
 
     fn try_from(scalar: &'a Scalar) -> Result<MapScalar<'a>, VortexError> {
         if scalar.dtype().as_map_opt().is_none() {

@@ -1,10 +1,11 @@
 //! The parts of values: how views find them, lend them and copy them.
 
-ghost use Rattle.std.specs.Prelude.{◌≡◌, IfErr, IfOk, IsSome, MatchResult, map, option_map, slice_get};
+ghost use Rattle.std.specs.Prelude.{◌≡◌, IfErr, IfOk, IfSome, IsOk, IsSome, MatchResult, map, option_map, slice_get};
 ghost use Rattle.std.specs.Option.{option_copied};
 ghost use Rattle.vortex_dtype.specs.TypeOf.{map_of, type_of};
 ghost use Rattle.vortex_value.specs.Values.RawOf.{raw_of};
-ghost use Rattle.vortex_views.specs.Parts.{entry_of, is_null_or_tuple, part_or_null, parts_of, ref_entry, ref_part, scalar_entry, scalar_part};
+ghost use Rattle.vortex_value.specs.Values.Refs.{IsValidRef};
+ghost use Rattle.vortex_views.specs.Parts.{AreFlatParts, IsFlatPart, entry_of, is_null_or_tuple, part_or_null, parts_of, ref_entry, ref_part, scalar_entry, scalar_part};
 
 use std::alloc::Global;
 use vortex_dtype::{DType, MapDType, VortexError};
@@ -77,9 +78,10 @@ pub(crate) fn entry_at<'a>(
 
 /// A scalar of its own of a part that is lent, or `OutOfMemory`.
 pub(crate) fn copied_part(alloc: Global, part: ScalarRef<'_>) -> Result<Scalar, VortexError>
-    ensures { MatchResult result
+    ensures given { MatchResult result
         (λ copy. scalar_part copy ≡ ref_part part.entry)
         (λ e. e ≡ VortexError.OutOfMemory) }
+    ensures flat { IsFlatPart (ref_part part.entry) → IsValidRef part.entry → IsOk result }
 {
     part.to_scalar(alloc)
 }
@@ -89,9 +91,11 @@ pub(crate) fn copied_entry(
     alloc: Global,
     entry: (ScalarRef<'_>, ScalarRef<'_>),
 ) -> Result<(Scalar, Scalar), VortexError>
-    ensures { MatchResult result
+    ensures given { MatchResult result
         (λ copy. scalar_entry copy ≡ ref_entry entry.entry)
         (λ e. e ≡ VortexError.OutOfMemory) }
+    ensures flat { AreFlatParts (ref_entry entry.entry)
+        → IsValidRef entry.entry.0 → IsValidRef entry.entry.1 → IsOk result }
 {
     let key = copied_part(alloc, entry.0)?;
     match copied_part(alloc, entry.1) {
@@ -110,6 +114,8 @@ pub(crate) fn copied(
 ) -> Result<Option<Scalar>, VortexError>
     ensures copied { IfOk result (λ copy. option_map scalar_part copy ≡ option_map ref_part part.entry) }
     ensures refused { IfErr result (λ e. (e ≡ VortexError.OutOfMemory) × IsSome part.entry) }
+    ensures flat { IfSome (option_map ref_part part.entry) IsFlatPart
+        → IfSome part.entry IsValidRef → IsOk result }
 {
     match part {
         Some(part) => Ok(Some(copied_part(alloc, part)?)),

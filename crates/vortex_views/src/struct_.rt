@@ -1,6 +1,6 @@
 //! Views of structs.
 
-ghost use Rattle.std.specs.Prelude.{◌≡◌, ◌&&◌, Err, Ok, Some, false, true, is_none, is_some, map, option_map, slice_get, All, IfErr, IfOk, IfSome, IsErrAnd, IsSome, MatchOption, MatchResult};
+ghost use Rattle.std.specs.Prelude.{◌≡◌, Err, Ok, Some, true, is_none, is_some, map, option_map, slice_get, All, IfErr, IfOk, IfSome, IsErrAnd, IsOk, IsSome, IsTrue, MatchOption, MatchResult};
 ghost use Rattle.std.specs.Cmp.{partial_equiv_from_equiv};
 ghost use Rattle.std.specs.Hash.{and-Alike, on_Alike};
 ghost use Rattle.std.specs.List.{zip};
@@ -10,7 +10,8 @@ ghost use Rattle.vortex_dtype.specs.Names.{names_in};
 ghost use Rattle.vortex_dtype.specs.Parts.{fields_in};
 ghost use Rattle.vortex_dtype.specs.Refusals.{RefusesExactly, RefusesOrNoMemory};
 ghost use Rattle.vortex_dtype.specs.TypeOf.{fields_of, type_of};
-ghost use Rattle.vortex_dtype.specs.declared.error.VortexError.TheVariants.{OutOfMemory, WrongKind};
+ghost use Rattle.vortex_dtype.specs.declared.error.VortexError.TheVariants.{OutOfMemory};
+ghost use Rattle.vortex_leaves.specs.Leaves.{GivesView};
 ghost use Rattle.vortex_value.specs.Casts.{CanCast, RefusesCast};
 ghost use Rattle.vortex_value.specs.Lemmas.EqualityLaws.{equal-equiv};
 ghost use Rattle.vortex_value.specs.Lemmas.HashLaws.{content_feed-Alike, type_feed-Alike};
@@ -19,7 +20,7 @@ ghost use Rattle.vortex_value.specs.Values.RawOf.{raw_of};
 ghost use Rattle.vortex_value.specs.Values.RawTree.{is_absent};
 ghost use Rattle.vortex_value.specs.Values.Refs.{IsRefOf, IsValidRef, ref_content, ref_order, ref_raw, ref_type};
 ghost use Rattle.vortex_value.specs.Values.Scalars.{IsTheOne, IsValid, scalar_raw, scalar_type};
-ghost use Rattle.vortex_views.specs.Parts.{IsValidPart, is_null_or_tuple, parts_of, ref_equal, ref_feed, ref_part, ref_text, scalar_part};
+ghost use Rattle.vortex_views.specs.Parts.{IsFlatPart, IsValidPart, is_null_or_tuple, parts_of, ref_equal, ref_feed, ref_part, ref_text, scalar_part};
 ghost use Rattle.vortex_views.specs.StructParts.{IsProjectedType, IsProjectedValue, counts_cause, field_named, fields_within, selection_cause, struct_cast_cause, value_named};
 
 use crate::iterators::Fields;
@@ -74,8 +75,8 @@ impl<'a> StructScalar<'a> {
     /// A scalar of the first field with the name, and none exactly where no field has it, as anywhere
     /// of a null.
     ///
-    /// `OutOfMemory` where there is none for the copy. Ports `StructScalar::field`, which panics at a
-    /// null.
+    /// `OutOfMemory` where there is none for the copy, and not for a valid field of a type whose
+    /// values take none. Ports `StructScalar::field`, which panics at a null.
     pub fn field(&self, alloc: Global, name: &str) -> Result<Option<Scalar>, VortexError>
         ensures copied { IfOk result (λ copy. option_map scalar_part copy ≡ field_named
             (ref_type (struct_ref self.now)) (ref_raw (struct_ref self.now)) name.now) }
@@ -83,6 +84,9 @@ impl<'a> StructScalar<'a> {
             → IfOk result (λ copy. IfSome copy IsValid) }
         ensures refused { IfErr result (λ e. (e ≡ OutOfMemory) × IsSome (field_named
             (ref_type (struct_ref self.now)) (ref_raw (struct_ref self.now)) name.now)) }
+        ensures flat { IsValidRef (struct_ref self.now) → IfSome (field_named
+            (ref_type (struct_ref self.now)) (ref_raw (struct_ref self.now)) name.now) IsFlatPart
+            → IsOk result }
     {
         match self.struct_fields().find(name) {
             Some(index) => self.field_by_idx(alloc, index),
@@ -92,8 +96,8 @@ impl<'a> StructScalar<'a> {
 
     /// A scalar of the field at this place, and none exactly past the end, as anywhere of a null.
     ///
-    /// `OutOfMemory` where there is none for the copy. Ports `StructScalar::field_by_idx`, which
-    /// panics at a null.
+    /// `OutOfMemory` where there is none for the copy, and not for a valid field of a type whose
+    /// values take none. Ports `StructScalar::field_by_idx`, which panics at a null.
     pub fn field_by_idx(&self, alloc: Global, index: usize) -> Result<Option<Scalar>, VortexError>
         ensures copied { IfOk result (λ copy. option_map scalar_part copy ≡ slice_get (fields_within
             (ref_type (struct_ref self.now)) (ref_raw (struct_ref self.now))) index) }
@@ -101,6 +105,9 @@ impl<'a> StructScalar<'a> {
             → IfOk result (λ copy. IfSome copy IsValid) }
         ensures refused { IfErr result (λ e. (e ≡ OutOfMemory) × IsSome (slice_get (fields_within
             (ref_type (struct_ref self.now)) (ref_raw (struct_ref self.now))) index)) }
+        ensures flat { IsValidRef (struct_ref self.now) → IfSome (slice_get (fields_within
+            (ref_type (struct_ref self.now)) (ref_raw (struct_ref self.now))) index) IsFlatPart
+            → IsOk result }
     {
         copied(alloc, self.field_ref_by_idx(index))
     }
@@ -319,10 +326,10 @@ impl<'a> TryFrom<&'a Scalar> for StructScalar<'a> {
 
     ghost use Rattle.vortex_views.specs.Structs.{struct_ref};
 
-    ghost try_from_gives = { λ scalar result. MatchResult result
+    ghost try_from_gives = { λ scalar. GivesView
         (λ view. IsRefOf (scalar_type scalar.now) (scalar_raw scalar.now) (struct_ref view))
-        (λ e. (e ≡ WrongKind) × ((is_some (fields_in (scalar_type scalar.now))
-        && is_null_or_tuple (scalar_raw scalar.now)) ≡ false)) };
+        (IsTrue (is_some (fields_in (scalar_type scalar.now)))
+        × IsTrue (is_null_or_tuple (scalar_raw scalar.now))) };
 
     fn try_from(scalar: &'a Scalar) -> Result<StructScalar<'a>, VortexError> {
         if scalar.dtype().as_struct_fields_opt().is_none() {

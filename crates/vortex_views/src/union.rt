@@ -15,7 +15,7 @@ ghost use Rattle.vortex_value.specs.Values.RawOf.{raw_of, union_tree};
 ghost use Rattle.vortex_value.specs.Values.RawTree.{absent, is_absent};
 ghost use Rattle.vortex_value.specs.Values.Refs.{IsRefOf, IsValidRef, ref_content, ref_raw, ref_type};
 ghost use Rattle.vortex_value.specs.Values.Scalars.{IsValid};
-ghost use Rattle.vortex_views.specs.Parts.{ref_equal, ref_part, ref_text, scalar_part};
+ghost use Rattle.vortex_views.specs.Parts.{IsFlatPart, ref_equal, ref_part, ref_text, scalar_part};
 ghost use Rattle.vortex_views.specs.ViewKinds.{is_of_union};
 
 use crate::parts::copied;
@@ -165,7 +165,8 @@ impl<'a> UnionScalar<'a> {
     /// A scalar of its own of the child, of the chosen variant's type, and none exactly of a null. An
     /// inner null is a scalar that is null.
     ///
-    /// `OutOfMemory` is its only refusal, and never of a null.
+    /// `OutOfMemory` is its only refusal, and never of a null or of a child of a type whose values
+    /// take no memory. Ports `UnionScalar::child`.
     #[tactic(auto, using(crate::proofs::UnionSteps::copied_child))]
     pub fn child(&self, alloc: Global) -> Result<Option<Scalar>, VortexError>
         requires { IsValidRef (union_ref self.now) }
@@ -176,6 +177,8 @@ impl<'a> UnionScalar<'a> {
         ensures valid { IfOk result (λ child. IfSome child IsValid) }
         ensures refused { IfErr result (λ e. (e ≡ VortexError.OutOfMemory)
             × (is_absent (ref_raw (union_ref self.now)) ≡ false)) }
+        ensures flat { IfSome (child_of (ref_type (union_ref self.now)) (ref_raw (union_ref self.now)))
+            IsFlatPart → IsOk result }
     {
         copied(alloc, self.child_ref())
     }
