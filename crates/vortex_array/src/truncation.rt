@@ -4,7 +4,7 @@ ghost use Rattle.std.specs.Prelude.{◌≡◌, ◌<◌, ◌≤◌, ℕ, List, So
 ghost use Rattle.std.specs.Cmp.Lexicographic.{slice_cmp};
 ghost use Rattle.std.specs.Ordering.{nat_cmp};
 ghost use Rattle.vortex_dtype.specs.Memory.{GivesOrNoMemory};
-ghost use Rattle.vortex_dtype.specs.TypeTree.{TypeTree, binary_type, utf8_type};
+ghost use Rattle.vortex_dtype.specs.TypeTree.{TypeTree, binary_type, nullability_of, utf8_type};
 ghost use Rattle.vortex_dtype.specs.declared.error.VortexError.TheVariants.{OutOfMemory, WrongKind};
 ghost use Rattle.vortex_dtype.specs.declared.kinds.Nullability.{Nullability};
 ghost use Rattle.vortex_value.specs.Values.Content.{content};
@@ -84,6 +84,9 @@ pub trait ScalarTruncation: Drop {
             (λ e. e ≡ OutOfMemory) }
         ensures inline { max_length ≤ 22 → IsOk result };
 
+    /// The type at a nullability has that nullability.
+    ghost type_law: { (n : Nullability) → nullability_of (type_at n) ≡ n };
+
     /// Scalars are ordered as their bytes are.
     ghost order_law: { (b c : List ℕ)
         → order (content (raw_at b)) (content (raw_at c)) ≡ Some (slice_cmp nat_cmp b c) };
@@ -110,6 +113,8 @@ pub fn lower_bound<T: ScalarTruncation>(
         T.IsBestLower T.raw_at (T.type_at nullability) (T.bytes v) max_length x.0 x.1))) }
     ensures refused { IfErr result (λ e. (e ≡ OutOfMemory)
         × IsSomeAnd value (λ v. max_length < length (T.bytes v))) }
+    ensures nullability { IfOk result (λ given. IfSome given
+        (λ x. nullability_of (scalar_type x.0) ≡ nullability)) }
     ensures inline { max_length ≤ 22 → IsOk result }
 {
     let Some(value) = value else {
@@ -139,6 +144,8 @@ pub fn upper_bound<T: ScalarTruncation>(
         T.IsBestUpper T.raw_at (T.type_at nullability) (T.bytes v) max_length x.0 x.1))) }
     ensures refused { IfErr result (λ e. (e ≡ OutOfMemory)
         × IsSomeAnd value (λ v. max_length < length (T.bytes v))) }
+    ensures nullability { IfOk result (λ given. IfSome given
+        (λ x. nullability_of (scalar_type x.0) ≡ nullability)) }
     ensures inline { max_length ≤ 22 → IsOk result }
 {
     let Some(value) = value else {
@@ -199,6 +206,8 @@ impl ScalarTruncation for ByteBuffer {
         next_bytes(alloc, &self.as_slice()[..max_length])
     }
 
+    ghost type_law = { λ n. refl };
+
     ghost order_law = { λ b c. refl };
 
     ghost lower_law = { λ b n r h. h.not_above };
@@ -253,6 +262,8 @@ impl ScalarTruncation for BufferString {
             Err(IncrementError::Memory(_)) => Err(VortexError::OutOfMemory),
         }
     }
+
+    ghost type_law = { λ n. refl };
 
     ghost order_law = { λ b c. refl };
 
