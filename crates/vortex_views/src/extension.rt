@@ -53,7 +53,7 @@ impl<'a> ExtScalar<'a> {
     /// The same raw value as a scalar of the storage type, which may be an extension too.
     ///
     /// `OutOfMemory` is its only refusal, and not of a valid one whose storage is of a type whose
-    /// values take no memory. Ports `ExtScalar::to_storage_scalar`.
+    /// values take no memory.
     pub fn to_storage_scalar(&self, alloc: Global) -> Result<Scalar, VortexError>
         ensures stored { IfOk result (λ made. IfSome (extension_in (ref_type (ext_ref self.now)))
             (λ extension. IsMadeOf extension.storage (ref_raw (ext_ref self.now)) made)) }

@@ -113,7 +113,7 @@ impl<'a> ListScalar<'a> {
     /// A scalar of the element at this place, and none exactly past the end, as anywhere of a null.
     ///
     /// `OutOfMemory` where there is none for the copy, and not for a valid element of a type whose
-    /// values take none. Ports `ListScalar::element`.
+    /// values take none.
     pub fn element(&self, alloc: Global, index: usize) -> Result<Option<Scalar>, VortexError>
         ensures copied { IfOk result (λ copy. option_map scalar_part copy
             ≡ slice_get (elements_of (ref_type (list_ref self.now)) (ref_raw (list_ref self.now))) index) }

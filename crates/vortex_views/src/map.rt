@@ -117,7 +117,7 @@ impl<'a> MapScalar<'a> {
     /// anywhere of a null.
     ///
     /// `OutOfMemory` where there is none for the copies, and not for a valid entry of types whose
-    /// values take none. Ports `MapScalar::entry`.
+    /// values take none.
     pub fn entry(
         &self,
         alloc: Global,

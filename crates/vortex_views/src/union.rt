@@ -166,7 +166,7 @@ impl<'a> UnionScalar<'a> {
     /// inner null is a scalar that is null.
     ///
     /// `OutOfMemory` is its only refusal, and never of a null or of a child of a type whose values
-    /// take no memory. Ports `UnionScalar::child`.
+    /// take no memory.
     #[tactic(auto, using(crate::proofs::UnionSteps::copied_child))]
     pub fn child(&self, alloc: Global) -> Result<Option<Scalar>, VortexError>
         requires { IsValidRef (union_ref self.now) }
