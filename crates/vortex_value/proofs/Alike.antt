@@ -21,7 +21,7 @@ abbrev pub IsBytesType : TypeTree → Type 0
 IsBytesType (binary_type n) = Unit {0}
 IsBytesType _ = ⊥
 
--- how a type reads a sequence: as elements, as fields, as entries (sorted or not), or not at all
+-- how a type reads a sequence, as elements, as fields or as entries (sorted or not), or a child under an id; or neither
 pub data Reading : Type 0 where
   elements_of : TypeTree → Reading
   fields_of : TypeTrees → Reading
@@ -109,6 +109,7 @@ read_trans p q r i j o (fields_of ss) (fields_of ts) _ g h = absurd h
 read_trans p q r i j o (entries_of k u x) (entries_of l v y) _ g h = absurd h
 read_trans p q r i j o _ _ c g h = absurd g
 
+-- the same of optional types, and of the types of one id
 both_trans : (p : TypeTree → TypeTree → Type 0) → ((a b c : TypeTree) → p a b → p b c → p a c)
     → (a b c : Option TypeTree) → BothHave p a b → BothHave p b c → BothHave p a c
 both_trans p f (Some a) (Some b) (Some c) g h = f a b c g h
@@ -173,6 +174,7 @@ rises_same : (a b : Bool) → a ≡ b → ¬ (Rises a b)
 rises_same false true e r = cc
 rises_same _ _ e r = absurd r
 
+-- under the first id, or a later one
 choose_both : (p : TypeTree → TypeTree → Type 0) (q : TypeTree → Type 0) (b : Bool) (s t : TypeTree) (o u : Option TypeTree)
     → (q s → p s t) → (HasType o q → BothHave p o u) → HasType (if b then Some s else o) q → BothHave p (if b then Some s else o) (if b then Some t else u)
 choose_both p q true s t o u f g h = f h
@@ -204,6 +206,7 @@ mutual
   same_alike (variant_type n) (variant_type m) e (raw_variant u v) p = e
   same_alike _ _ e _ p = search rules
 
+  -- between the two types of an id
   same_child : (ss ts : TypeTrees) → erase_all ss ≡ erase_all ts → (i : ℕ) (is : List ℕ) (v : RawTree) → HasType (type_with i is ss) (λ a. Valid a v)
       → BothHave (λ a b. Alike a b (content v)) (type_with i is ss) (type_with i is ts)
   same_child ss ts e i [] v p = absurd p
@@ -281,6 +284,7 @@ struct_step : (us : TypeTrees) → FieldStepsTo us → (names : List (List ℕ))
 struct_step us h names n (struct_type others ss m) (raw_tuple vs) p a = h ss vs p a
 struct_step us h names n _ _ p a = absurd a
 
+-- what the table allows of a child, to one of these types, is alike
 abbrev ChildStepsTo : TypeTrees → Type 0
 ChildStepsTo us = (i : ℕ) (is : List ℕ) (ss : TypeTrees) (v : RawTree) → HasType (type_with i is ss) (λ a. Valid a v) → AllowsChild i is ss us (content v)
     → BothHave (λ a b. Alike a b (content v)) (type_with i is ss) (type_with i is us)

@@ -54,6 +54,8 @@ not_sorts k v l w _ _ n m h r = absurd r
 abbrev Unmapped : TypeTree → TypeTree → Content → Type 0
 Unmapped s t c = (HasNoMap s × HasNoMap t) ⊎ HasNoNull c
 
+-- a child under an id
+
 both_none : (p : TypeTree → TypeTree → Type 0) (o : Option TypeTree) → ¬ (BothHave p o None)
 both_none p None h = h
 both_none p (Some a) h = h
