@@ -11,8 +11,10 @@ use Rattle.vortex_dtype.specs.declared.error.VortexError.TheVariants.{CannotCast
 use Rattle.vortex_dtype.specs.TypeTree.{TypeTree, null_type, bool_type, integer_type, extension_type, IsFlat, storage}
 use Rattle.vortex_dtype.specs.declared.types.DType.{DType}
 use Rattle.vortex_value.specs.Breaches.{breaches}
+use Rattle.vortex_value.specs.CastAnswers.{IsLeaf, IsTakenWhole}
 use Rattle.vortex_value.specs.Casts.{IsExtension}
 use Rattle.vortex_value.specs.Steps.CastSteps.{Makes, accepts, bare_to, both, cast_to, entry_to, fields_to, pair_to, types_with, whole_to}
+use Rattle.vortex_value.specs.Values.Content.{Content}
 use Rattle.vortex_value.specs.Values.RawKinds.{TakesNoMemory}
 use Rattle.vortex_value.specs.Values.RawTree.{RawTree, absent, raw_bool, raw_integer, raw_tuple, raw_union, RawTrees, no_raws, is_absent}
 use Rattle.vortex_value.specs.Values.RawOf.{raw_of, union_tree, value_trees, value_tree}
@@ -148,5 +150,10 @@ below bare v s t there plain = refl
 -- from a type that is no extension a value that is present goes to what the target stores
 pub cast_below : (v : ScalarValue) (s t : TypeTree) → ¬ (IsExtension s) → cast_to (value_tree v) s t ≡ bare_to (value_tree v) s (storage t)
 cast_below v s t plain = below (λ a b. bare_to (value_tree v) a b) (value_tree v) s t (not_absent v) plain
+
+-- of a type that is no extension what is taken whole is a leaf
+pub leaf_of : (s : TypeTree) (c : Content) → ¬ (IsExtension s) → IsTakenWhole s c → IsLeaf c
+leaf_of s c plain (inl extension) = absurd (plain extension)
+leaf_of s c plain (inr leaf) = leaf
 
 pub ruleset shown = (type_of-List, type_of-FixedSizeList, type_of-Map, type_of-Struct, type_of-Extension, value_tree-Tuple, count-value_trees, flat_accepts, flat_storage, after-none, after-all, after-append)

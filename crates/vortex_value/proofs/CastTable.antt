@@ -1,6 +1,6 @@
 -- The steps of a cast give what the table of casts says: the one value where the table allows the cast and the target has
 -- the content, and none elsewhere.
-use Rattle.std.proofs.Common.{◌≡◌, ◌≢◌, ◌==◌, ◌⊎◌, inl, inr, ℕ, ℤ, Bool, true, false, ◌&&◌, List, [], ◌∷◌, Option, Some, None, Result, Ok, Err, IfErr, if◌then◌else◌, option_map, refl, sym, ap, ◌∙◌, subst}
+use Rattle.std.proofs.Common.{◌≡◌, ◌≢◌, ◌==◌, ◌⊎◌, inl, inr, ℕ, ℤ, Bool, true, false, ◌&&◌, List, [], ◌∷◌, Option, Some, None, Result, Ok, Err, IfErr, if◌then◌else◌, option_map, refl, sym, ap, ◌∙◌, subst, IsSome}
 use Rattle.std.proofs.lemmas.Bool.Decides.{Decides-and, Decides-eqb, Decides-like, Decides-or}
 use Rattle.std.proofs.lemmas.Slice.Eq.{bytes_eq-Decides}
 use Rattle.std.specs.Bool.{Decides}
@@ -538,3 +538,11 @@ cast_refused v s t e p (inr refused) spared =
 pub refused_with : {A : Type 0} (r : Result A VortexError) (e : VortexError) (P : VortexError → Type 0) → r ≡ Err e → P e → IfErr r P
 refused_with (Ok x) e P is p = cc
 refused_with (Err f) e P is p = let same : f ≡ e = cc in subst P (sym same) p
+
+-- what there is to make is possible
+pub cast_of_some : (v : RawTree) (s t : TypeTree) → Valid s v → IsSome (cast_to v s t) → CanCast s t (content v)
+cast_of_some v s t p some = possible (cast_to v s t) (cast_decided v s t p) some
+  where
+    possible : (made : Option RawTree) → Decided s t v made → IsSome made → CanCast s t (content v)
+    possible (Some w) h some = (h.0, record { value = w; valid = h.1; same = h.2 })
+    possible None h some = cc

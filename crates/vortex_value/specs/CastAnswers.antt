@@ -15,10 +15,14 @@ IsLeaf (sequence cs) = ⊥
 IsLeaf (tagged id c) = IsLeaf c
 IsLeaf _ = Unit {0}
 
--- e refuses a cast from s of the content c, which is possible where p holds: of an extension and of a leaf out of memory
--- is not answered in place of an impossible cast
+-- a cast from s looks at no parts of the content: s is an extension, or the content a leaf
+abbrev pub IsTakenWhole : TypeTree → Content → Type 0
+IsTakenWhole s c = IsExtension s ⊎ IsLeaf c
+
+-- e refuses a cast from s of the content c, which is possible where p holds: of what is taken whole out of memory is not
+-- answered in place of an impossible cast
 abbrev pub HidesNoLeaf : TypeTree → Content → Type 0 → VortexError → Type 0
-HidesNoLeaf s c p e = IsExtension s ⊎ IsLeaf c → e ≡ OutOfMemory → p
+HidesNoLeaf s c p e = IsTakenWhole s c → e ≡ OutOfMemory → p
 
 -- r is an answer to a cast of the value v of type s to t, by the contract of casts
 pub record AnswersCast (s t : TypeTree) (v : RawTree) (r : Result Scalar VortexError) : Type 0 where

@@ -16,6 +16,7 @@
 ghost use Rattle.std.specs.Prelude.{IfErr, IfOk};
 ghost use Rattle.vortex_dtype.specs.TypeOf.{type_of};
 ghost use Rattle.vortex_dtype.specs.TypeTree.{as_nullable};
+ghost use Rattle.vortex_value.specs.CastAnswers.{HidesNoLeaf};
 ghost use Rattle.vortex_value.specs.Casts.{CanCast, RefusesCast};
 ghost use Rattle.vortex_value.specs.Values.Refs.{IsValidRef, ref_content, ref_type};
 ghost use Rattle.vortex_value.specs.Values.Scalars.{IsMadeOf, IsTheOne, IsValid, scalar_content, scalar_raw, scalar_type};
@@ -33,13 +34,17 @@ impl Scalar {
     ///
     /// `CannotCast` only where the table of casts does not allow the cast or the target type has no
     /// value of the content; `OutOfMemory` only for a target other than Null, truth values and
-    /// integers; no other refusal. Ports `Scalar::cast`.
+    /// integers, and of an extension and of what holds no sequence only where the cast is possible;
+    /// no other refusal. Ports `Scalar::cast`.
     pub fn cast(&self, alloc: Global, target: &DType) -> Result<Scalar, VortexError>
         requires { IsValid self.now }
         ensures succeeds_only { IfOk result
             (λ _. CanCast (scalar_type self.now) (type_of target.now) (scalar_content self.now)) }
         ensures one { IfOk result (IsTheOne (type_of target.now) (scalar_content self.now)) }
         ensures refuses_only { IfErr result (RefusesCast (type_of target.now)
+            (CanCast (scalar_type self.now) (type_of target.now) (scalar_content self.now))) }
+        ensures leaf_refused { IfErr result
+            (HidesNoLeaf (scalar_type self.now) (scalar_content self.now)
             (CanCast (scalar_type self.now) (type_of target.now) (scalar_content self.now))) }
     {
         ScalarRef::of(self).cast(alloc, target)
@@ -71,6 +76,9 @@ impl ScalarRef<'_> {
             (λ _. CanCast (ref_type self.now) (type_of target.now) (ref_content self.now)) }
         ensures one { IfOk result (IsTheOne (type_of target.now) (ref_content self.now)) }
         ensures refuses_only { IfErr result (RefusesCast (type_of target.now)
+            (CanCast (ref_type self.now) (type_of target.now) (ref_content self.now))) }
+        ensures leaf_refused { IfErr result
+            (HidesNoLeaf (ref_type self.now) (ref_content self.now)
             (CanCast (ref_type self.now) (type_of target.now) (ref_content self.now))) }
     {
         let value = values::cast_value(alloc, self.value(), self.dtype(), target)?;

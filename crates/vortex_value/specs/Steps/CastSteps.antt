@@ -1,6 +1,6 @@
 -- The steps of a cast, as they compute. They have the shape of the code; that they give what the table of casts says is
 -- the lemma `cast_decided` in proofs.
-use Rattle.std.specs.Prelude.{◌≡◌, ◌≢◌, ◌==◌, ◌&&◌, ◌||◌, ◌⊎◌, not, ℕ, ℤ, Bool, Option, Some, None, Result, IfErr, MatchResult, if◌then◌else◌, length, option_map}
+use Rattle.std.specs.Prelude.{◌≡◌, ◌≢◌, ◌==◌, ◌&&◌, ◌||◌, ◌⊎◌, not, ℕ, ℤ, Bool, Option, Some, None, Result, IfErr, MatchResult, if◌then◌else◌, length, option_map, IsSome}
 use Rattle.std.specs.Str.{bytes_eq}
 use Rattle.vortex_dtype.specs.TypeOf.{MapParts}
 use Rattle.vortex_dtype.specs.TypeTree.{TypeTree, integer_type, list_type, fixed_size_list_type, map_type, struct_type, union_type, extension_type, TypeTrees, no_types, type_then, IsFlat, is_nullable, storage}
@@ -138,3 +138,7 @@ Makes tree made r = MatchResult r (λ x. made ≡ Some (tree x)) (λ e. (e ≡ O
 -- no memory is wanted for a type whose values take none
 abbrev pub SparesMemory : {A : Type 0} → TypeTree → Result A VortexError → Type 0
 SparesMemory t r = IsFlat t → IfErr r (λ e. e ≢ OutOfMemory)
+
+-- memory is wanted only for what there is to make
+abbrev pub RefusesSome : {A B : Type 0} → Option B → Result A VortexError → Type 0
+RefusesSome made r = IfErr r (λ e. e ≡ OutOfMemory → IsSome made)

@@ -5,7 +5,7 @@ ghost use Rattle.std.specs.Str.{bytes_eq};
 ghost use Rattle.vortex_dtype.specs.TypeOf.{map_of, type_of, variants_of};
 ghost use Rattle.vortex_dtype.specs.declared.error.VortexError.TheVariants.{CannotCast};
 ghost use Rattle.vortex_pvalue.specs.Whole.{whole_of};
-ghost use Rattle.vortex_value.specs.Steps.CastSteps.{Makes, SparesMemory, accepts, kept, leaves, number_to, sorts, takes_null, types_with};
+ghost use Rattle.vortex_value.specs.Steps.CastSteps.{Makes, SparesMemory, accepts, kept, leaves, number_to, sorts, takes_null, types_with, RefusesSome};
 ghost use Rattle.vortex_value.specs.Values.RawOf.{value_tree, value_trees};
 ghost use Rattle.vortex_value.specs.Values.RawTree.{count};
 
@@ -102,6 +102,8 @@ pub(super) fn kept(
     ensures made { Makes value_tree
         (kept allowed (type_of target.now) (value_tree value.now)) result }
     ensures flat { SparesMemory (type_of target.now) result }
+    ensures whole { RefusesSome
+        (kept allowed (type_of target.now) (value_tree value.now)) result }
 {
     if allowed && accepts(target, value) {
         copies::copy_value(alloc, value)

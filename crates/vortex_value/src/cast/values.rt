@@ -2,8 +2,10 @@
 
 ghost use Rattle.std.specs.Option.{option_copied};
 ghost use Rattle.vortex_dtype.specs.TypeOf.{map_of, type_of, dtype_trees};
-ghost use Rattle.vortex_value.specs.Steps.CastSteps.{Makes, SparesMemory, bare_to, cast_to, each_to, entries_to, entry_to, fields_to, map_to, parts_to, sized};
+ghost use Rattle.vortex_value.specs.Steps.CastSteps.{Makes, SparesMemory, bare_to, cast_to, each_to, entries_to, entry_to, fields_to, map_to, parts_to, sized, RefusesSome};
 ghost use Rattle.vortex_value.specs.Values.RawOf.{raw_of, union_tree, value_trees, value_tree};
+ghost use Rattle.vortex_value.specs.CastAnswers.{IsLeaf, IsTakenWhole};
+ghost use Rattle.vortex_value.specs.Values.Content.{content};
 ghost use Rattle.vortex_value.specs.Values.RawTree.{count, raw_tuple};
 
 use super::rows::{are_as_many, cast_number, kept, leaves, sorts, takes_null, types_with};
@@ -26,6 +28,9 @@ pub(super) fn cast_value(
     ensures made { Makes raw_of (cast_to (raw_of (option_copied value.entry))
         (type_of source.now) (type_of target.now)) result }
     ensures flat { SparesMemory (type_of target.now) result }
+    ensures whole { IsTakenWhole (type_of source.now) (content (raw_of (option_copied value.entry)))
+        → RefusesSome (cast_to (raw_of (option_copied value.entry))
+        (type_of source.now) (type_of target.now)) result }
 {
     match value {
         Some(value) => Ok(Some(cast_present(alloc, value, source, target)?)),
@@ -46,6 +51,9 @@ fn cast_present(
     ensures made { Makes value_tree (cast_to (value_tree value.now)
         (type_of source.now) (type_of target.now)) result }
     ensures flat { SparesMemory (type_of target.now) result }
+    ensures whole { IsTakenWhole (type_of source.now) (content (value_tree value.now))
+        → RefusesSome (cast_to (value_tree value.now)
+        (type_of source.now) (type_of target.now)) result }
 {
     match source {
         DType::Extension(extension) => {
@@ -68,6 +76,8 @@ fn cast_bare(
     ensures made { Makes value_tree (bare_to (value_tree value.now)
         (type_of source.now) (type_of target.now)) result }
     ensures flat { SparesMemory (type_of target.now) result }
+    ensures whole { IsLeaf (content (value_tree value.now)) → RefusesSome
+        (bare_to (value_tree value.now) (type_of source.now) (type_of target.now)) result }
 {
     match value {
         ScalarValue::Primitive(number) => cast_number(*number, target),
@@ -92,6 +102,8 @@ fn cast_union(
 ) -> Result<UnionValue, VortexError>
     ensures made { Makes union_tree (bare_to (union_tree union.now)
         (type_of source.now) (type_of target.now)) result }
+    ensures whole { IsLeaf (content (union_tree union.now)) → RefusesSome
+        (bare_to (union_tree union.now) (type_of source.now) (type_of target.now)) result }
     ensures flat { SparesMemory (type_of target.now) result }
 {
     match types_with(source, target, union.type_id) {

@@ -6,9 +6,10 @@ use Rattle.vortex_dtype.specs.TypeOf.{map_of, type_of}
 use Rattle.vortex_dtype.specs.declared.types.DType.{the_lemmas}
 use Rattle.vortex_value.specs.Casts.{IsExtension}
 use Rattle.vortex_value.specs.Steps.CastSteps.{each_to, entries_to, types_with}
-use Rattle.vortex_value.specs.Values.RawOf.{raw_of, value_trees}
+use Rattle.vortex_value.specs.Values.RawOf.{raw_of, value_trees, value_tree}
 use Rattle.vortex_value.specs.Values.RawTree.{raw_union}
-use Rattle.vortex_value.proofs.CastCode.{all_done, cast_below, entry_at, fields_at, fields_end, flat_storage, made_union, no_entry, no_fields, no_value, none_more, one_more, parts_at, passed_on, union_at}
+use Rattle.vortex_value.proofs.CastCode.{all_done, cast_below, entry_at, fields_at, fields_end, flat_storage, made_union, no_entry, no_fields, no_value, none_more, one_more, parts_at, passed_on, union_at, leaf_of}
+use Rattle.vortex_value.specs.Values.Content.{content}
 use Rattle.vortex_value.proofs.ValueSteps.{value_tree-Tuple}
 use Rattle.vortex_value.proofs.cast.values.+cast.Goals as goal
 
@@ -158,4 +159,7 @@ cast_present-returns-in_default t c =
     record {
       made = rw (cast_below c.args.value.now (type_of c.args.source.now) (type_of c.args.target.now) plain, ← c.storage_of.ensures) c.cast_bare.ensures.made;
       flat = λ flat. c.cast_bare.ensures.flat (rw c.storage_of.ensures (flat_storage (type_of c.args.target.now) flat));
+      whole = λ taken.
+          let leaf = leaf_of (type_of c.args.source.now) (content (value_tree c.args.value.now)) plain taken in
+          rw (cast_below c.args.value.now (type_of c.args.source.now) (type_of c.args.target.now) plain, ← c.storage_of.ensures) (c.cast_bare.ensures.whole leaf);
     }

@@ -1,11 +1,12 @@
 -- What the steps make is the one value that the table says.
 use Rattle.std.proofs.Common.{◌≡◌, Err, sym, ◌∙◌, refl, rules}
 use Rattle.vortex_dtype.specs.TypeOf.{type_of}
+use Rattle.vortex_value.specs.CastAnswers.{HidesNoLeaf}
 use Rattle.vortex_value.specs.Casts.{CanCast, RefusesCast}
 use Rattle.vortex_value.specs.Values.RawOf.{raw_of}
 use Rattle.vortex_value.specs.Values.Refs.{ref_content, ref_type}
 use Rattle.vortex_value.specs.Values.Scalars.{IsTheOne}
-use Rattle.vortex_value.proofs.CastTable.{cast_made, cast_refused, refused_with}
+use Rattle.vortex_value.proofs.CastTable.{cast_made, cast_of_some, cast_refused, refused_with}
 use Rattle.vortex_value.proofs.MakerLaws.{typed_with, untyped_with}
 use Rattle.vortex_value.proofs.Uniqueness.{one_value}
 use Rattle.vortex_value.proofs.refs.ScalarRef.cast.Goals as goal
@@ -42,3 +43,18 @@ pub returns-in_err-value-clause-refuses_only : goal.returns-in_err-value-clause-
 returns-in_err-value-clause-refuses_only c =
     let is : c.from_residual.result ≡ Err c.in_err-value.field-0.0 = search rules in
     refused_with _ _ _ is (cast_refused _ _ _ _ c.requires (rw (c.value.ensures, c.dtype.ensures) at c.in_err-value.ensures.made) c.in_err-value.ensures.flat)
+
+pub returns-clause-leaf_refused : goal.returns-clause-leaf_refused
+returns-clause-leaf_refused c =
+    let t = type_of c.args.target.now in
+    let x = c.args.self.now in
+    let can = CanCast (ref_type x) t (ref_content x) in
+    let made = cast_made _ (raw_of c.in_ok-value.value) _ _ c.requires (rw (c.value.ensures, c.dtype.ensures) at c.in_ok-value.ensures.made) in
+    untyped_with _ _ c.clone.result c.in_ok-value.value c.with_type.result (HidesNoLeaf (ref_type x) (ref_content x) can) c.with_type.ensures c.clone.ensures
+    (λ e none whole memory. (made.allowed, record { value = raw_of c.in_ok-value.value; valid = made.valid; same = made.same }))
+
+pub returns-in_err-value-clause-leaf_refused : goal.returns-in_err-value-clause-leaf_refused
+returns-in_err-value-clause-leaf_refused c =
+    let is : c.from_residual.result ≡ Err c.in_err-value.field-0.0 = search rules in
+    let whole = rw (c.value.ensures, c.dtype.ensures) at c.in_err-value.ensures.whole in
+    refused_with _ _ _ is (λ taken memory. cast_of_some _ _ _ c.requires (whole taken memory))
