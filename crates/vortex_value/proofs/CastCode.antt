@@ -1,5 +1,5 @@
 -- What the code of a cast meets, one level at a time.
-use Rattle.std.proofs.Common.{◌≡◌, ◌≢◌, ℕ, suc, ◌<◌, ◌⊎◌, inl, inr, true, false, List, [], ◌∷◌, ◌++◌, length, get_or, drop, drop-cons, Option, Some, None, Result, Ok, Err, option_map, refl, sym, ap, ◌∙◌, arith, rules}
+use Rattle.std.proofs.Common.{◌≡◌, ◌≢◌, ℕ, suc, ◌<◌, ◌⊎◌, inl, inr, true, false, List, [], ◌∷◌, ◌++◌, length, get_or, drop, drop-cons, Option, Some, None, Result, Ok, Err, option_map, refl, sym, ap, ◌∙◌, arith, rules, IsSome, subst}
 use Rattle.std.proofs.lemmas.Bool.Decides.{Decides-eqb, Decides-like}
 use Rattle.std.proofs.lemmas.List.{nil_from_length}
 use Rattle.std.specs.Bool.{Decides}
@@ -13,8 +13,8 @@ use Rattle.vortex_dtype.specs.declared.types.DType.{DType}
 use Rattle.vortex_value.specs.Breaches.{breaches}
 use Rattle.vortex_value.specs.CastAnswers.{IsLeaf, IsTakenWhole}
 use Rattle.vortex_value.specs.Casts.{IsExtension}
-use Rattle.vortex_value.specs.Steps.CastSteps.{Makes, accepts, bare_to, both, cast_to, entry_to, fields_to, pair_to, types_with, whole_to}
-use Rattle.vortex_value.specs.Values.Content.{Content}
+use Rattle.vortex_value.specs.Steps.CastSteps.{Makes, RefusesSome, accepts, bare_to, both, cast_to, entry_to, fields_to, pair_to, types_with, whole_to}
+use Rattle.vortex_value.specs.Values.Content.{Content, content}
 use Rattle.vortex_value.specs.Values.RawKinds.{TakesNoMemory}
 use Rattle.vortex_value.specs.Values.RawTree.{RawTree, absent, raw_bool, raw_integer, raw_tuple, raw_union, RawTrees, no_raws, is_absent}
 use Rattle.vortex_value.specs.Values.RawOf.{raw_of, union_tree, value_trees, value_tree}
@@ -157,3 +157,19 @@ leaf_of s c plain (inl extension) = absurd (plain extension)
 leaf_of s c plain (inr leaf) = leaf
 
 pub ruleset shown = (type_of-List, type_of-FixedSizeList, type_of-Map, type_of-Struct, type_of-Extension, value_tree-Tuple, count-value_trees, flat_accepts, flat_storage, after-none, after-all, after-append)
+
+-- the child of a leaf is one
+pub leaf_child : (u : UnionValue) → IsLeaf (content (union_tree u)) → IsLeaf (content (raw_of (option_map (λ c. c.value) u.child)))
+leaf_child u leaf = rw (union_tree-child u) at leaf
+
+some_mapped : {A B : Type 0} (f : A → B) (o : Option A) → IsSome o → IsSome (option_map f o)
+some_mapped f (Some x) some = refl
+some_mapped f None some = some
+
+-- where the child is there to make, so is the union
+pub some_union : (id : ℕ) (all child : Option RawTree) → all ≡ option_map (raw_union id) child → IsSome child → IsSome all
+some_union id all child same some = subst IsSome (sym same) (some_mapped (raw_union id) child some)
+
+pub spares_some : (all : Option RawTree) (w : RawTree) (r : Result UnionValue VortexError) → all ≡ Some w → RefusesSome all r
+spares_some all w (Ok x) is = tt
+spares_some all w (Err e) is = λ memory. subst IsSome (sym is) refl

@@ -8,8 +8,9 @@ use Rattle.vortex_value.specs.Casts.{IsExtension}
 use Rattle.vortex_value.specs.Steps.CastSteps.{each_to, entries_to, types_with}
 use Rattle.vortex_value.specs.Values.RawOf.{raw_of, value_trees, value_tree}
 use Rattle.vortex_value.specs.Values.RawTree.{raw_union}
-use Rattle.vortex_value.proofs.CastCode.{all_done, cast_below, entry_at, fields_at, fields_end, flat_storage, made_union, no_entry, no_fields, no_value, none_more, one_more, parts_at, passed_on, union_at, leaf_of}
+use Rattle.vortex_value.proofs.CastCode.{all_done, cast_below, entry_at, fields_at, fields_end, flat_storage, made_union, no_entry, no_fields, no_value, none_more, one_more, parts_at, passed_on, union_at, leaf_child, leaf_of, some_union, spares_some}
 use Rattle.vortex_value.specs.Values.Content.{content}
+use Rattle.vortex_value.proofs.CastTable.{refused_with}
 use Rattle.vortex_value.proofs.ValueSteps.{value_tree-Tuple}
 use Rattle.vortex_value.proofs.cast.values.+cast.Goals as goal
 
@@ -150,6 +151,29 @@ cast_union-returns-in_ok-child-in-Some-clause-made t c =
     let at = union_at u (type_of c.args.source.now) (type_of c.args.target.now) from to found in
     let child = rw lent at c.in_ok-child-in-Some.ensures.made in
     made_union _ u.type_id (raw_of c.in_ok-child-in-Some.child) _ c.new.result c.new.ensures (at ∙ ap (option_map (raw_union u.type_id)) child)
+
+pub cast_union-returns-in_err-child-in-Some-clause-whole : goal.cast_union-returns-in_err-child-in-Some-clause-whole
+cast_union-returns-in_err-child-in-Some-clause-whole t c = λ leaf.
+    let u = c.args.union.now in
+    let from = type_of c.in-Some.from.now in
+    let to = type_of c.in-Some.to.now in
+    let lent : option_copied c.as_deref.result ≡ option_map (λ b. b.value) u.child = search rules in
+    let found : types_with u.type_id (type_of c.args.source.now) (type_of c.args.target.now) ≡ Some (from, to) = search rules in
+    let is : c.from_residual.result ≡ Err c.in_err-child-in-Some.field-0.0 = search rules in
+    let at = union_at u (type_of c.args.source.now) (type_of c.args.target.now) from to found in
+    let whole = rw lent at c.in_err-child-in-Some.ensures.whole in
+    refused_with _ _ _ is (λ memory. some_union u.type_id _ _ at (whole (inr (leaf_child u leaf)) memory))
+
+pub cast_union-returns-in_ok-child-in-Some-clause-whole : goal.cast_union-returns-in_ok-child-in-Some-clause-whole
+cast_union-returns-in_ok-child-in-Some-clause-whole t c = λ leaf.
+    let u = c.args.union.now in
+    let from = type_of c.in-Some.from.now in
+    let to = type_of c.in-Some.to.now in
+    let lent : option_copied c.as_deref.result ≡ option_map (λ b. b.value) u.child = search rules in
+    let found : types_with u.type_id (type_of c.args.source.now) (type_of c.args.target.now) ≡ Some (from, to) = search rules in
+    let at = union_at u (type_of c.args.source.now) (type_of c.args.target.now) from to found in
+    let child = rw lent at c.in_ok-child-in-Some.ensures.made in
+    spares_some _ _ c.new.result (at ∙ ap (option_map (raw_union u.type_id)) child)
 
 -- below the extensions of the target
 
