@@ -1,12 +1,12 @@
 -- The zero and the default of each kind of type.
-use Rattle.std.proofs.Common.{◌≡◌, ℕ, zero, suc, List, [], ◌∷◌, map, Option, Some, None, refl, ap, ◌∙◌}
+use Rattle.std.proofs.Common.{◌≡◌, ℕ, zero, suc, List, [], ◌∷◌, map, Option, Some, None, refl, ap}
 use Rattle.std.specs.Prelude.{replicate, Bool, true, false, option_map}
 use Rattle.vortex_dtype.specs.TypeOf.{as_type_trees}
 use Rattle.vortex_dtype.specs.TypeTree.{TypeTree, union_type, TypeTrees, no_types, type_then}
 use Rattle.vortex_dtype.specs.declared.kinds.Nullability.{Nullability}
 use Rattle.vortex_dtype.specs.declared.kinds.Nullability.TheVariants.{NonNullable}
 use Rattle.vortex_value.specs.Laws.ZeroCases.{DefaultByCases, ZeroByCases, each_of}
-use Rattle.vortex_value.specs.Values.Content.{Content, sequence, Contents}
+use Rattle.vortex_value.specs.Values.Content.{Content, sequence}
 use Rattle.vortex_value.specs.Zero.{and_rest, filling, fillings, null_or, places_of, repeated}
 use Rattle.vortex_value.proofs.FillingLaws.{null_fills}
 

@@ -1,14 +1,12 @@
 -- Worked cases of chains and of leaves, each a theorem. Types, values and contents are written in the words of
 -- ValueExamples.
-use Rattle.std.specs.Prelude.{◌≡◌, ℕ, [], ◌∷◌, refl, codes}
-use Rattle.vortex_dtype.specs.TypeTree.{TypeTree}
-use Rattle.vortex_dtype.specs.declared.kinds.PType.TheVariants.{I64}
+use Rattle.std.specs.Prelude.{[], ◌∷◌, refl, codes}
 use Rattle.vortex_value.specs.CastAnswers.{IsLeaf}
 use Rattle.vortex_value.specs.Casts.{a_null, integers, structs}
 use Rattle.vortex_value.specs.Chains.{Runs}
 use Rattle.vortex_value.specs.Values.Content.{null, text, tagged, typed}
 use Rattle.vortex_value.specs.Values.RawTree.{absent}
-use Rattle.vortex_value.specs.Examples.ValueExamples.{i32, boolean, u32, utf8, or_null, a_and_b, unsorted_map, sorted_map, tuple, int, parts, number, i32_valid}
+use Rattle.vortex_value.specs.Examples.ValueExamples.{i32, boolean, u32, or_null, a_and_b, unsorted_map, sorted_map, tuple, int, parts, number, i32_valid}
 
 -- a null of an unsorted map becomes one of a sorted map by way of truth values, with a number beside it: the direct cast
 -- is refused, since the maps would come to be sorted

@@ -5,7 +5,7 @@ use Rattle.vortex_dtype.specs.TypeTree.{TypeTree, null_type, bool_type, integer_
 use Rattle.vortex_dtype.specs.declared.kinds.Nullability.{Nullability}
 use Rattle.vortex_dtype.specs.declared.kinds.Nullability.TheVariants.{NonNullable}
 use Rattle.vortex_dtype.specs.declared.kinds.PType.{PType}
-use Rattle.vortex_value.specs.Values.Content.{Content, null, truth, whole, text, string, sequence, tagged, typed, Contents, no_contents, content_then}
+use Rattle.vortex_value.specs.Values.Content.{Content, null, truth, whole, text, string, sequence, tagged, typed, Contents, no_contents}
 use Rattle.vortex_value.specs.Zero.{and_rest, default_of, zero_of}
 
 -- the contents, where there is each
