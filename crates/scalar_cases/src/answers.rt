@@ -56,6 +56,30 @@ pub fn truth_if_any(is_true: Option<bool>) -> Answer {
     }
 }
 
+/// The answer of a call that takes a truth value out.
+pub fn if_truth(taken: Result<bool, VortexError>) -> Answer {
+    match taken {
+        Ok(is_true) => truth(is_true),
+        Err(refusal) => Answer::Refused(refusal),
+    }
+}
+
+/// The answer of a call that takes a truth value out, where there is one.
+pub fn if_any_truth(taken: Result<Option<bool>, VortexError>) -> Answer {
+    match taken {
+        Ok(is_true) => truth_if_any(is_true),
+        Err(refusal) => Answer::Refused(refusal),
+    }
+}
+
+/// The answer of a count that a null leaves open.
+pub fn count_if_any(count: Option<usize>) -> Answer {
+    match count {
+        Some(count) => Answer::Number(count),
+        None => Answer::Word("none"),
+    }
+}
+
 /// The answer of a comparison.
 pub fn order(order: Option<Ordering>) -> Answer {
     Answer::Word(match order {
@@ -164,6 +188,24 @@ pub fn made_bytes(made: Result<ByteBuffer, VortexError>) -> Answer {
 pub fn made_text(made: Result<BufferString, VortexError>) -> Answer {
     match made {
         Ok(text) => Answer::Raw(Some(ScalarValue::Utf8(text))),
+        Err(refusal) => Answer::Refused(refusal),
+    }
+}
+
+/// The answer of a call that gives bytes, where there are any.
+pub fn if_bytes(given: Result<Option<ByteBuffer>, VortexError>) -> Answer {
+    match given {
+        Ok(Some(bytes)) => Answer::Raw(Some(ScalarValue::Binary(bytes))),
+        Ok(None) => Answer::Word("none"),
+        Err(refusal) => Answer::Refused(refusal),
+    }
+}
+
+/// The answer of a call that gives a text of a raw value, where there is one.
+pub fn if_text(given: Result<Option<BufferString>, VortexError>) -> Answer {
+    match given {
+        Ok(Some(text)) => Answer::Raw(Some(ScalarValue::Utf8(text))),
+        Ok(None) => Answer::Word("none"),
         Err(refusal) => Answer::Refused(refusal),
     }
 }

@@ -7,17 +7,19 @@ pub mod queries;
 mod recorder;
 pub mod takes;
 pub mod views;
+pub mod wholes;
 
 use crate::read::named;
-use bounds::BoundCall;
+use bounds::{BoundCall, StringCall};
 use makers::{ListCall, Makes, MapCall};
 use queries::{
     Asks, PartCall, ScalarCall, ScalarsCall, TargetCall, TypeCall, TypesCall, ValidCall,
     ValidsCall, ValueCall,
 };
 use takes::RustCall;
-use views::{KindCall, PlaceCall, ViewCall};
+use views::{KindCall, MakerCall, Operation, PlaceCall, ViewCall};
 use vortex_pvalue::NumericOperator;
+use wholes::WholeCall;
 
 /// What a call is given, and which of the calls that are given it.
 #[derive(Clone, Copy)]
@@ -29,11 +31,12 @@ pub enum Shape {
 }
 
 /// The table of calls: the name of each, and what it is given.
-const CALLS: [(&str, Shape); 55] = [
+const CALLS: [(&str, Shape); 75] = [
     ("same", Shape::Query(Asks::Types(TypesCall::Same))),
     ("equal_types", Shape::Query(Asks::Types(TypesCall::Equal))),
     ("as_nullable", Shape::Maker(Makes::AsNullable)),
     ("project", Shape::Query(Asks::Project)),
+    ("find", Shape::Query(Asks::Find)),
     ("validate", Shape::Query(Asks::Scalar(ScalarCall::Validate))),
     (
         "compatible",
@@ -91,6 +94,10 @@ const CALLS: [(&str, Shape); 55] = [
         Shape::Query(Asks::Valid(ValidCall::View(ViewCall::Child))),
     ),
     (
+        "child_index",
+        Shape::Query(Asks::Valid(ValidCall::View(ViewCall::ChildIndex))),
+    ),
+    (
         "type_id",
         Shape::Query(Asks::Valid(ValidCall::View(ViewCall::TypeId))),
     ),
@@ -115,37 +122,100 @@ const CALLS: [(&str, Shape); 55] = [
         "cast_struct",
         Shape::Query(Asks::Target(TargetCall::CastStruct)),
     ),
-    ("view", Shape::Query(Asks::View)),
+    ("view", Shape::Query(Asks::View(MakerCall::TryNew))),
+    ("try_view", Shape::Query(Asks::View(MakerCall::TryFrom))),
+    (
+        "view_text",
+        Shape::Query(Asks::Valid(ValidCall::Whole(WholeCall::Text))),
+    ),
+    (
+        "len",
+        Shape::Query(Asks::Valid(ValidCall::Whole(WholeCall::Length))),
+    ),
+    (
+        "is_empty",
+        Shape::Query(Asks::Valid(ValidCall::Whole(WholeCall::IsEmpty))),
+    ),
+    (
+        "is_null",
+        Shape::Query(Asks::Valid(ValidCall::Whole(WholeCall::IsNull))),
+    ),
+    (
+        "view_order",
+        Shape::Query(Asks::Valids(ValidsCall::ViewOrder)),
+    ),
     (
         "add",
-        Shape::Query(Asks::Valids(ValidsCall::Arithmetic(NumericOperator::Add))),
+        Shape::Query(Asks::Valids(ValidsCall::Arithmetic(Operation::Checked(
+            NumericOperator::Add,
+        )))),
     ),
     (
         "sub",
-        Shape::Query(Asks::Valids(ValidsCall::Arithmetic(NumericOperator::Sub))),
+        Shape::Query(Asks::Valids(ValidsCall::Arithmetic(Operation::Checked(
+            NumericOperator::Sub,
+        )))),
     ),
     (
         "mul",
-        Shape::Query(Asks::Valids(ValidsCall::Arithmetic(NumericOperator::Mul))),
+        Shape::Query(Asks::Valids(ValidsCall::Arithmetic(Operation::Checked(
+            NumericOperator::Mul,
+        )))),
     ),
     (
         "div",
-        Shape::Query(Asks::Valids(ValidsCall::Arithmetic(NumericOperator::Div))),
+        Shape::Query(Asks::Valids(ValidsCall::Arithmetic(Operation::Checked(
+            NumericOperator::Div,
+        )))),
+    ),
+    (
+        "numeric_add",
+        Shape::Query(Asks::Valids(ValidsCall::Arithmetic(Operation::Numeric(
+            NumericOperator::Add,
+        )))),
+    ),
+    (
+        "numeric_sub",
+        Shape::Query(Asks::Valids(ValidsCall::Arithmetic(Operation::Numeric(
+            NumericOperator::Sub,
+        )))),
+    ),
+    (
+        "plus",
+        Shape::Query(Asks::Valids(ValidsCall::Arithmetic(Operation::Plus))),
+    ),
+    (
+        "minus",
+        Shape::Query(Asks::Valids(ValidsCall::Arithmetic(Operation::Minus))),
     ),
     (
         "reinterpret",
         Shape::Query(Asks::Kind(KindCall::Reinterpret)),
     ),
-    ("as", Shape::Query(Asks::Kind(KindCall::As))),
+    ("as", Shape::Query(Asks::Kind(KindCall::AsOpt))),
+    ("as_", Shape::Query(Asks::Kind(KindCall::As))),
+    ("typed_value", Shape::Query(Asks::Kind(KindCall::Typed))),
     ("take", Shape::Query(Asks::Rust(RustCall::Take))),
     ("give", Shape::Query(Asks::Rust(RustCall::Give))),
+    ("try_from", Shape::Query(Asks::Rust(RustCall::TryFrom))),
+    ("try_from_owned", Shape::Maker(Makes::Owned)),
     ("lower", Shape::Maker(Makes::Bound(BoundCall::Lower))),
     ("upper", Shape::Maker(Makes::Bound(BoundCall::Upper))),
+    ("own_lower", Shape::Maker(Makes::Bound(BoundCall::OwnLower))),
+    ("own_upper", Shape::Maker(Makes::Bound(BoundCall::OwnUpper))),
+    (
+        "truncated_bytes",
+        Shape::Maker(Makes::Truncated(StringCall::Bytes)),
+    ),
+    (
+        "truncated_text",
+        Shape::Maker(Makes::Truncated(StringCall::Text)),
+    ),
     ("increment", Shape::Maker(Makes::Increment)),
 ];
 
 /// The calls of parts, of which no case is: the lines of a watched run are.
-const PARTS: [(&str, Shape); 29] = [
+const PARTS: [(&str, Shape); 30] = [
     (
         "empty_bytes",
         Shape::Query(Asks::Nothing(PartCall::EmptyBytes)),
@@ -219,6 +289,7 @@ const PARTS: [(&str, Shape); 29] = [
         "to_scalar",
         Shape::Query(Asks::Scalar(ScalarCall::ToScalar)),
     ),
+    ("borrow", Shape::Query(Asks::Scalar(ScalarCall::Borrow))),
     ("display", Shape::Query(Asks::Scalar(ScalarCall::Display))),
 ];
 

@@ -25,7 +25,7 @@ const TEXT_TYPES: [(&str, TextType); 2] = [
     ("buffer_string", TextType::Buffer),
 ];
 
-const VIEWS: [(&str, View); 7] = [
+const VIEWS: [(&str, View); 9] = [
     ("BoolScalar", View::Bool),
     ("Utf8Scalar", View::Utf8),
     ("BinaryScalar", View::Binary),
@@ -33,12 +33,15 @@ const VIEWS: [(&str, View); 7] = [
     ("ListScalar", View::List),
     ("MapScalar", View::Map),
     ("UnionScalar", View::Union),
+    ("StructScalar", View::Struct),
+    ("ExtScalar", View::Extension),
 ];
 
-const RUST_LEAVES: [(&str, RustLeaf); 4] = [
+const RUST_LEAVES: [(&str, RustLeaf); 5] = [
     ("bool", RustLeaf::Bool),
     ("usize", RustLeaf::Usize),
     ("string", RustLeaf::Text),
+    ("buffer_string", RustLeaf::Buffer),
     ("bytes", RustLeaf::Bytes),
 ];
 

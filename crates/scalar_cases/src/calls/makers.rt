@@ -6,12 +6,14 @@ ghost use Rattle.vortex_value.specs.Makers.{IsValidEntry};
 ghost use Rattle.vortex_value.specs.Values.Scalars.{IsValid};
 
 use crate::answers::{Answer, made, made_type, made_union};
-use crate::calls::bounds::{self, BoundCall, TextType};
+use crate::calls::bounds::{self, BoundCall, StringCall, TextType};
 use crate::calls::parts;
 use crate::calls::queries::validate;
+use crate::calls::takes::{self, RustType};
 use crate::inputs::{
-    entries_input, fields_input, id_input, length_input, nullability_input, scalar_input,
-    scalars_input, text_input, text_type_input, type_input, value_input, variants_input,
+    entries_input, fields_input, id_input, length_input, nullability_input, rust_input,
+    scalar_input, scalars_input, text_input, text_type_input, type_input, value_input,
+    variants_input,
 };
 use crate::read::types::Fields;
 use crate::tokens::Tokens;
@@ -56,6 +58,10 @@ pub enum Maker {
     UnionValue(u8, Option<ScalarValue>),
     /// A bound of the scalar's value at so many bytes, of this nullability.
     Bound(BoundCall, Scalar, usize, Nullability),
+    /// The value of the scalar that can be truncated.
+    Truncated(StringCall, Scalar),
+    /// The Rust value of the scalar.
+    Owned(RustType, Scalar),
     /// The text incremented, as text of this type; none where it could not be read.
     Increment(TextType, Option<BufferString>),
 }
@@ -94,6 +100,8 @@ pub enum Makes {
     ExtensionType,
     UnionValue,
     Bound(BoundCall),
+    Truncated(StringCall),
+    Owned,
     Increment,
 }
 
@@ -129,6 +137,8 @@ pub fn read_maker(tokens: &mut Tokens<'_>, makes: Makes) -> Maker {
             let length = length_input(tokens);
             Maker::Bound(call, scalar, length, nullability_input(tokens))
         }
+        Makes::Truncated(call) => Maker::Truncated(call, scalar_input(tokens)),
+        Makes::Owned => Maker::Owned(rust_input(tokens), scalar_input(tokens)),
         Makes::Increment => {
             let text_type = text_type_input(tokens);
             Maker::Increment(text_type, text_input(tokens))
@@ -156,6 +166,8 @@ pub fn answer_maker(alloc: Global, maker: Maker) -> Answer {
         Maker::ExtensionType(like, storage) => made_type(parts::extension(alloc, like, storage)),
         Maker::UnionValue(id, child) => made_union(UnionValue::new(alloc, id, child)),
         Maker::Bound(call, scalar, length, n) => bounds::bound(alloc, call, scalar, length, n),
+        Maker::Truncated(call, scalar) => bounds::truncated(call, scalar),
+        Maker::Owned(rust, scalar) => takes::try_from_owned(rust, scalar),
         Maker::Increment(text_type, Some(text)) => bounds::increment(alloc, text_type, text),
         Maker::Increment(_, None) => Answer::Refused(VortexError::NotUtf8),
     }

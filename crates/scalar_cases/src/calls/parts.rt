@@ -2,13 +2,14 @@
 
 use crate::answers::{Answer, made_bytes, made_text, truth};
 use crate::read::types::Fields;
+use crate::same::same_as_lent;
 use std::alloc::Global;
 use std::fmt::{self, Write};
 use vortex_dtype::{
     BufferString, ByteBuffer, DType, ExtDType, FieldName, MapDType, Nullability, StructFields,
     UnionVariants, VortexError,
 };
-use vortex_value::Scalar;
+use vortex_value::{Scalar, ScalarRef};
 
 /// The bytes of a text.
 pub fn bytes_of(alloc: Global, text: &BufferString) -> Answer {
@@ -94,6 +95,14 @@ fn extension_like(alloc: Global, like: &ExtDType, storage: DType) -> Result<DTyp
     let id = like.id().clone()?;
     let metadata = like.metadata().clone()?;
     Ok(DType::Extension(ExtDType::new(alloc, id, metadata, storage)?))
+}
+
+/// Whether the scalar that is made of the lent parts is what they are.
+pub fn borrow(alloc: Global, scalar: &Scalar) -> Answer {
+    match ScalarRef::try_new(alloc, scalar.dtype(), scalar.value()) {
+        Ok(lent) => truth(same_as_lent(scalar, lent)),
+        Err(refusal) => Answer::Refused(refusal),
+    }
 }
 
 /// A writer that counts the bytes that it is given.

@@ -4,13 +4,14 @@ ghost use Rattle.std.specs.Prelude.{OnOk};
 ghost use Rattle.vortex_value.specs.Values.Scalars.{IsValid};
 
 use crate::answers::{
-    Answer, if_made, made, made_bytes, made_raw, made_text, made_type, made_union, order, text_of,
-    truth, truth_if_any,
+    Answer, count_if_any, if_made, made, made_bytes, made_raw, made_text, made_type, made_union,
+    order, text_of, truth, truth_if_any, wrong_kind,
 };
 use crate::calls::parts;
 use crate::calls::recorder::fed;
 use crate::calls::takes::{self, RustCall, RustType};
-use crate::calls::views::{self, KindCall, PlaceCall, View, ViewCall};
+use crate::calls::views::{self, KindCall, MakerCall, Operation, PlaceCall, View, ViewCall};
+use crate::calls::wholes::{self, WholeCall};
 use crate::inputs::{
     kind_input, length_input, names_input, rust_input, scalar_input, text_input, type_input,
     value_input, view_input,
@@ -18,7 +19,6 @@ use crate::inputs::{
 use crate::tokens::Tokens;
 use std::alloc::Global;
 use vortex_dtype::{BufferString, ByteBuffer, DType, FieldName, NativeDType, PType, VortexError};
-use vortex_pvalue::NumericOperator;
 use vortex_value::{Scalar, ScalarRef, ScalarValue};
 
 /// A call and the inputs that it borrows.
@@ -32,6 +32,8 @@ pub enum Query {
     Types(TypesCall, DType, DType),
     /// The fields of these names.
     Project(DType, Vec<FieldName>),
+    /// The place of the first field of this name; none where it could not be read.
+    Find(DType, Option<BufferString>),
     /// A copy of the first name.
     Names(Vec<FieldName>),
     /// A call of a scalar, which need not be valid.
@@ -46,8 +48,8 @@ pub enum Query {
     Target(TargetCall, Scalar, DType),
     /// A call of an optional raw value.
     Value(ValueCall, Option<ScalarValue>),
-    /// The maker of a view, of a scalar that need not be valid.
-    View(View, Scalar),
+    /// What makes a view, of a scalar that need not be valid.
+    View(MakerCall, View, Scalar),
     /// A call of a valid scalar and a place.
     Place(PlaceCall, Scalar, usize),
     /// The field of a valid struct by its name; none where it could not be read.
@@ -95,6 +97,7 @@ pub enum ScalarCall {
     Clone,
     Text,
     ToScalar,
+    Borrow,
     Display,
 }
 
@@ -111,13 +114,15 @@ pub enum ValidCall {
     IsZero,
     Size,
     View(ViewCall),
+    Whole(WholeCall),
 }
 
 /// The calls of two valid scalars.
 #[derive(Clone, Copy)]
 pub enum ValidsCall {
     Order,
-    Arithmetic(NumericOperator),
+    ViewOrder,
+    Arithmetic(Operation),
 }
 
 /// The calls of a valid scalar and a type.
@@ -150,6 +155,7 @@ pub enum Asks {
     Type(TypeCall),
     Types(TypesCall),
     Project,
+    Find,
     Names,
     Scalar(ScalarCall),
     Scalars(ScalarsCall),
@@ -157,7 +163,7 @@ pub enum Asks {
     Valids(ValidsCall),
     Target(TargetCall),
     Value(ValueCall),
-    View,
+    View(MakerCall),
     Place(PlaceCall),
     Field,
     ProjectStruct,
@@ -172,6 +178,7 @@ pub fn read_query(tokens: &mut Tokens<'_>, asks: Asks) -> Query {
         Asks::Type(call) => Query::Type(call, type_input(tokens)),
         Asks::Types(call) => Query::Types(call, type_input(tokens), type_input(tokens)),
         Asks::Project => Query::Project(type_input(tokens), names_input(tokens)),
+        Asks::Find => Query::Find(type_input(tokens), text_input(tokens)),
         Asks::Names => Query::Names(names_input(tokens)),
         Asks::Scalar(call) => Query::Scalar(call, scalar_input(tokens)),
         Asks::Scalars(call) => Query::Scalars(call, scalar_input(tokens), scalar_input(tokens)),
@@ -179,7 +186,7 @@ pub fn read_query(tokens: &mut Tokens<'_>, asks: Asks) -> Query {
         Asks::Valids(call) => Query::Valids(call, scalar_input(tokens), scalar_input(tokens)),
         Asks::Target(call) => Query::Target(call, scalar_input(tokens), type_input(tokens)),
         Asks::Value(call) => Query::Value(call, value_input(tokens)),
-        Asks::View => Query::View(view_input(tokens), scalar_input(tokens)),
+        Asks::View(call) => Query::View(call, view_input(tokens), scalar_input(tokens)),
         Asks::Place(call) => Query::Place(call, scalar_input(tokens), length_input(tokens)),
         Asks::Field => Query::Field(scalar_input(tokens), text_input(tokens)),
         Asks::ProjectStruct => Query::ProjectStruct(scalar_input(tokens), names_input(tokens)),
@@ -195,6 +202,7 @@ pub fn answer_query(alloc: Global, query: &Query) -> Answer {
         Query::Type(call, dtype) => of_type(alloc, *call, dtype),
         Query::Types(call, first, second) => of_types(*call, first, second),
         Query::Project(dtype, names) => project(alloc, dtype, names),
+        Query::Find(dtype, name) => find(dtype, name),
         Query::Names(names) => parts::clone_name(alloc, names),
         Query::Scalar(call, scalar) => of_scalar(alloc, *call, scalar),
         Query::Scalars(call, first, second) => of_scalars(*call, first, second),
@@ -202,7 +210,8 @@ pub fn answer_query(alloc: Global, query: &Query) -> Answer {
         Query::Valids(call, first, second) => of_valids(alloc, *call, first, second),
         Query::Target(call, scalar, target) => of_target(alloc, *call, scalar, target),
         Query::Value(call, value) => of_value(alloc, *call, value),
-        Query::View(view, scalar) => views::viewed(alloc, *view, scalar),
+        Query::View(MakerCall::TryNew, view, scalar) => views::viewed(alloc, *view, scalar),
+        Query::View(MakerCall::TryFrom, view, scalar) => wholes::try_view(alloc, *view, scalar),
         Query::Place(call, scalar, place) => of_place(alloc, *call, scalar, *place),
         Query::Field(scalar, name) => of_field(alloc, scalar, name),
         Query::ProjectStruct(scalar, names) => project_struct(alloc, scalar, names),
@@ -267,6 +276,14 @@ fn project(alloc: Global, dtype: &DType, names: &[FieldName]) -> Answer {
     }
 }
 
+fn find(dtype: &DType, name: &Option<BufferString>) -> Answer {
+    match (dtype, name) {
+        (DType::Struct(fields, _), Some(name)) => count_if_any(fields.find(name.as_str())),
+        (_, Some(_)) => wrong_kind(),
+        (_, None) => Answer::Refused(VortexError::NotUtf8),
+    }
+}
+
 fn of_scalar(alloc: Global, call: ScalarCall, scalar: &Scalar) -> Answer {
     match call {
         ScalarCall::Validate => match validate(alloc, scalar) {
@@ -277,6 +294,7 @@ fn of_scalar(alloc: Global, call: ScalarCall, scalar: &Scalar) -> Answer {
         ScalarCall::Clone => made(scalar.clone(alloc)),
         ScalarCall::Text => text_of(alloc, scalar),
         ScalarCall::ToScalar => made(ScalarRef::of(scalar).to_scalar(alloc)),
+        ScalarCall::Borrow => parts::borrow(alloc, scalar),
         ScalarCall::Display => parts::display(scalar),
     }
 }
@@ -295,6 +313,7 @@ fn of_valid(alloc: Global, call: ValidCall, scalar: &Scalar) -> Answer {
             ValidCall::IsZero => truth_if_any(scalar.is_zero()),
             ValidCall::Size => Answer::Number(scalar.approx_nbytes()),
             ValidCall::View(call) => views::of_view(alloc, call, scalar),
+            ValidCall::Whole(call) => wholes::of_whole(alloc, call, scalar),
         },
         Err(refusal) => Answer::Refused(refusal),
     }
@@ -307,7 +326,8 @@ fn of_valids(alloc: Global, call: ValidsCall, first: &Scalar, second: &Scalar) -
     match validate(alloc, second) {
         Ok(()) => match call {
             ValidsCall::Order => order(first.partial_cmp(second)),
-            ValidsCall::Arithmetic(operator) => views::arithmetic(operator, first, second),
+            ValidsCall::ViewOrder => wholes::view_order(first, second),
+            ValidsCall::Arithmetic(operation) => views::arithmetic(operation, first, second),
         },
         Err(refusal) => Answer::Refused(refusal),
     }

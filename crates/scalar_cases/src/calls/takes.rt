@@ -1,12 +1,15 @@
 //! Rust values of scalars, and scalars of Rust values.
 
-use crate::answers::{Answer, made, written, wrong_kind};
+use crate::answers::{
+    Answer, if_any_truth, if_bytes, if_text, if_truth, made, made_bytes, made_text, unmet, written,
+    wrong_kind,
+};
 use crate::write::output::Output;
 use crate::write::texts::write_text;
 use crate::write::values::write_number;
 use std::alloc::Global;
 use vortex_array::{FromScalar, IntoScalar};
-use vortex_dtype::{BufferString, ByteBuffer, PType};
+use vortex_dtype::{BufferString, ByteBuffer, PType, VortexError};
 use vortex_pvalue::NativePType;
 use vortex_value::{Scalar, ScalarRef, ScalarValue};
 
@@ -28,6 +31,7 @@ pub enum RustLeaf {
     Number(PType),
     Usize,
     Text,
+    Buffer,
     Bytes,
 }
 
@@ -38,19 +42,30 @@ pub enum RustCall {
     Take,
     /// The scalar of the Rust value of the scalar.
     Give,
+    /// The Rust value that the conversion of the borrowed scalar gives.
+    TryFrom,
 }
 
-/// A call, and how many vectors of the Rust type stand one in another.
+/// Whether a scalar is made again, and how many vectors of the Rust type stand one in another.
 #[derive(Clone, Copy)]
 struct Asked {
-    call: RustCall,
+    gives: bool,
     vectors: u32,
 }
 
 /// What a call answers of the scalar as a Rust value of this type.
 pub fn of_rust(alloc: Global, call: RustCall, rust: RustType, scalar: &Scalar) -> Answer {
+    match call {
+        RustCall::Take => through_traits(alloc, false, rust, scalar),
+        RustCall::Give => through_traits(alloc, true, rust, scalar),
+        RustCall::TryFrom => try_from(alloc, rust, scalar),
+    }
+}
+
+/// What `FromScalar` answers, and where it `gives` the scalar that `IntoScalar` makes of that.
+fn through_traits(alloc: Global, gives: bool, rust: RustType, scalar: &Scalar) -> Answer {
     let asked = Asked {
-        call,
+        gives,
         vectors: rust.vectors,
     };
     match (rust.leaf, rust.is_optional) {
@@ -61,7 +76,10 @@ pub fn of_rust(alloc: Global, call: RustCall, rust: RustType, scalar: &Scalar) -
         (RustLeaf::Usize, false) => nested::<usize>(alloc, asked, scalar),
         (RustLeaf::Usize, true) => nested::<Option<usize>>(alloc, asked, scalar),
         (RustLeaf::Text, false) => nested::<String>(alloc, asked, scalar),
-        (RustLeaf::Text, true) => nested::<Option<BufferString>>(alloc, asked, scalar),
+        (RustLeaf::Buffer, false) => nested::<BufferString>(alloc, asked, scalar),
+        (RustLeaf::Text | RustLeaf::Buffer, true) => {
+            nested::<Option<BufferString>>(alloc, asked, scalar)
+        }
         (RustLeaf::Bytes, false) => nested::<ByteBuffer>(alloc, asked, scalar),
         (RustLeaf::Bytes, true) => nested::<Option<ByteBuffer>>(alloc, asked, scalar),
     }
@@ -99,34 +117,96 @@ fn nested<T: FromScalar + IntoScalar + Written + Drop>(
     asked: Asked,
     scalar: &Scalar,
 ) -> Answer {
-    let call = asked.call;
+    let gives = asked.gives;
     match asked.vectors {
-        0 => taken::<T>(alloc, call, scalar),
-        1 => taken::<Vec<T>>(alloc, call, scalar),
-        2 => taken::<Vec<Vec<T>>>(alloc, call, scalar),
-        _ => taken::<Vec<Vec<Vec<T>>>>(alloc, call, scalar),
+        0 => taken::<T>(alloc, gives, scalar),
+        1 => taken::<Vec<T>>(alloc, gives, scalar),
+        2 => taken::<Vec<Vec<T>>>(alloc, gives, scalar),
+        _ => taken::<Vec<Vec<Vec<T>>>>(alloc, gives, scalar),
     }
 }
 
 fn taken<T: FromScalar + IntoScalar + Written + Drop>(
     alloc: Global,
-    call: RustCall,
+    gives: bool,
     scalar: &Scalar,
 ) -> Answer {
     match T::try_from_scalar(alloc, ScalarRef::of(scalar)) {
-        Ok(value) => of_value(alloc, call, value),
+        Ok(value) if gives => made(value.try_into_scalar(alloc)),
+        Ok(value) => written_value(alloc, value),
         Err(refusal) => Answer::Refused(refusal),
     }
 }
 
-fn of_value<T: IntoScalar + Written + Drop>(alloc: Global, call: RustCall, value: T) -> Answer {
-    match call {
-        RustCall::Take => {
-            let mut out = Output::new(alloc);
-            value.write(&mut out);
-            written(out)
+fn written_value<T: Written + Drop>(alloc: Global, value: T) -> Answer {
+    let mut out = Output::new(alloc);
+    value.write(&mut out);
+    written(out)
+}
+
+/// What `TryFrom<&Scalar>` answers; a text is one of a buffer.
+fn try_from(alloc: Global, rust: RustType, scalar: &Scalar) -> Answer {
+    match (rust.vectors, rust.leaf, rust.is_optional) {
+        (0, RustLeaf::Bool, false) => if_truth(bool::try_from(scalar)),
+        (0, RustLeaf::Bool, true) => if_any_truth(Option::<bool>::try_from(scalar)),
+        (0, RustLeaf::Number(kind), false) => try_number(alloc, scalar, kind),
+        (0, RustLeaf::Number(kind), true) => try_optional_number(alloc, scalar, kind),
+        (0, RustLeaf::Usize, false) => converted(alloc, usize::try_from(scalar)),
+        (0, RustLeaf::Usize, true) => converted(alloc, Option::<usize>::try_from(scalar)),
+        (0, RustLeaf::Buffer, false) => made_text(BufferString::try_from(scalar)),
+        (0, RustLeaf::Buffer, true) => if_text(Option::<BufferString>::try_from(scalar)),
+        (0, RustLeaf::Bytes, false) => made_bytes(ByteBuffer::try_from(scalar)),
+        (0, RustLeaf::Bytes, true) => if_bytes(Option::<ByteBuffer>::try_from(scalar)),
+        _ => unmet(),
+    }
+}
+
+fn try_number(alloc: Global, scalar: &Scalar, kind: PType) -> Answer {
+    match kind {
+        PType::U8 => converted(alloc, u8::try_from(scalar)),
+        PType::U16 => converted(alloc, u16::try_from(scalar)),
+        PType::U32 => converted(alloc, u32::try_from(scalar)),
+        PType::U64 => converted(alloc, u64::try_from(scalar)),
+        PType::I8 => converted(alloc, i8::try_from(scalar)),
+        PType::I16 => converted(alloc, i16::try_from(scalar)),
+        PType::I32 => converted(alloc, i32::try_from(scalar)),
+        PType::I64 => converted(alloc, i64::try_from(scalar)),
+    }
+}
+
+fn try_optional_number(alloc: Global, scalar: &Scalar, kind: PType) -> Answer {
+    match kind {
+        PType::U8 => converted(alloc, Option::<u8>::try_from(scalar)),
+        PType::U16 => converted(alloc, Option::<u16>::try_from(scalar)),
+        PType::U32 => converted(alloc, Option::<u32>::try_from(scalar)),
+        PType::U64 => converted(alloc, Option::<u64>::try_from(scalar)),
+        PType::I8 => converted(alloc, Option::<i8>::try_from(scalar)),
+        PType::I16 => converted(alloc, Option::<i16>::try_from(scalar)),
+        PType::I32 => converted(alloc, Option::<i32>::try_from(scalar)),
+        PType::I64 => converted(alloc, Option::<i64>::try_from(scalar)),
+    }
+}
+
+fn converted<T: Written + Drop>(alloc: Global, value: Result<T, VortexError>) -> Answer {
+    match value {
+        Ok(value) => written_value(alloc, value),
+        Err(refusal) => Answer::Refused(refusal),
+    }
+}
+
+/// What `TryFrom<Scalar>` answers.
+pub fn try_from_owned(rust: RustType, scalar: Scalar) -> Answer {
+    match (rust.vectors, rust.leaf, rust.is_optional) {
+        (0, RustLeaf::Bool, false) => if_truth(bool::try_from(scalar)),
+        (0, RustLeaf::Bool, true) => if_any_truth(Option::<bool>::try_from(scalar)),
+        (0, RustLeaf::Buffer, false) => made_text(BufferString::try_from(scalar)),
+        (0, RustLeaf::Buffer, true) => if_text(Option::<BufferString>::try_from(scalar)),
+        (0, RustLeaf::Bytes, false) => made_bytes(ByteBuffer::try_from(scalar)),
+        (0, RustLeaf::Bytes, true) => if_bytes(Option::<ByteBuffer>::try_from(scalar)),
+        _ => {
+            drop(scalar);
+            unmet()
         }
-        RustCall::Give => made(value.try_into_scalar(alloc)),
     }
 }
 

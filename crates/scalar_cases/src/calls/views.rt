@@ -3,9 +3,9 @@
 ghost use Rattle.vortex_leaves.specs.PrimitiveViews.{AreOfOneType};
 ghost use Rattle.vortex_value.specs.Values.Scalars.{IsValid};
 
-use crate::answers::{Answer, if_entry, if_made, if_parts, made, unmet, wrong_kind};
+use crate::answers::{Answer, count_if_any, if_entry, if_made, if_parts, made, unmet, wrong_kind};
 use crate::same::same_as_lent;
-use std::alloc::Global;
+use std::alloc::{AllocError, Global};
 use vortex_dtype::{DType, FieldName, PType, VortexError};
 use vortex_pvalue::{NativePType, NumericOperator};
 use vortex_value::{Scalar, ScalarRef};
@@ -14,7 +14,7 @@ use vortex_views::{
     UnionScalar, Utf8Scalar,
 };
 
-/// The views that are made of a type and a raw value.
+/// The views that are made of a scalar, or of a type and a raw value.
 #[derive(Clone, Copy)]
 pub enum View {
     Bool,
@@ -24,6 +24,17 @@ pub enum View {
     List,
     Map,
     Union,
+    Struct,
+    Extension,
+}
+
+/// What makes a view.
+#[derive(Clone, Copy)]
+pub enum MakerCall {
+    /// The maker that takes a type and a raw value.
+    TryNew,
+    /// The conversion of a borrowed scalar.
+    TryFrom,
 }
 
 /// The calls of a view of a valid scalar.
@@ -35,6 +46,7 @@ pub enum ViewCall {
     Keys,
     Values,
     Child,
+    ChildIndex,
     TypeId,
     VariantName,
     Inner,
@@ -54,7 +66,22 @@ pub enum PlaceCall {
 #[derive(Clone, Copy)]
 pub enum KindCall {
     Reinterpret,
+    AsOpt,
     As,
+    Typed,
+}
+
+/// How two numbers are computed with.
+#[derive(Clone, Copy)]
+pub enum Operation {
+    /// By the call of the operator that answers none where the number does not fit.
+    Checked(NumericOperator),
+    /// By the call that is given the operator.
+    Numeric(NumericOperator),
+    /// By `+` itself.
+    Plus,
+    /// By `-` itself.
+    Minus,
 }
 
 /// The scalar that a view shows.
@@ -70,6 +97,7 @@ pub fn viewed(alloc: Global, view: View, scalar: &Scalar) -> Answer {
             Ok(view) => Answer::Scalar(Scalar::from(view)),
             Err(refusal) => Answer::Refused(refusal),
         },
+        View::Struct | View::Extension => unmet(),
         view => match viewed_type(alloc, view, scalar) {
             Ok(dtype) => made(ScalarRef::from_parts(dtype, value).to_scalar(alloc)),
             Err(refusal) => Answer::Refused(refusal),
@@ -91,7 +119,7 @@ fn viewed_type<'a>(
         View::List => ListScalar::try_new(alloc, dtype, value)?.dtype(),
         View::Map => MapScalar::try_new(alloc, dtype, value)?.dtype(),
         View::Union => UnionScalar::try_new(alloc, dtype, value)?.dtype(),
-        View::Bool | View::Primitive => dtype,
+        _ => dtype,
     })
 }
 
@@ -103,7 +131,9 @@ pub fn of_view(alloc: Global, call: ViewCall, scalar: &Scalar) -> Answer
         ViewCall::Elements => elements(alloc, scalar),
         ViewCall::Fields => fields(alloc, scalar),
         ViewCall::Entries | ViewCall::Keys | ViewCall::Values => of_map(alloc, call, scalar),
-        ViewCall::Child | ViewCall::TypeId | ViewCall::VariantName => of_union(alloc, call, scalar),
+        ViewCall::Child | ViewCall::ChildIndex | ViewCall::TypeId | ViewCall::VariantName => {
+            of_union(alloc, call, scalar)
+        }
         ViewCall::Inner => inner(alloc, scalar),
         ViewCall::Storage => storage(alloc, scalar),
         ViewCall::Invert => invert(scalar),
@@ -156,6 +186,7 @@ fn of_union(alloc: Global, call: ViewCall, scalar: &Scalar) -> Answer
     match scalar.as_union_opt() {
         Some(union) => match call {
             ViewCall::TypeId => type_id(union.type_id()),
+            ViewCall::ChildIndex => count_if_any(union.child_index()),
             ViewCall::VariantName => variant_name(alloc, union.variant_name()),
             _ => if_made(union.child(alloc)),
         },
@@ -180,53 +211,91 @@ fn variant_name(alloc: Global, name: Option<&FieldName>) -> Answer {
     }
 }
 
-/// The parts that an iterator gave, and whether each is what is lent at its place.
-#[derive(Drop)]
+/// How many items an iterator gave, and what was wrong with them.
+#[derive(Clone, Copy)]
 struct Items {
-    parts: Vec<Scalar>,
     seen: usize,
-    is_short: bool,
+    refused: usize,
     is_wrong: bool,
 }
 
 impl Items {
-    fn new(alloc: Global) -> Items {
+    fn new() -> Items {
         Items {
-            parts: Vec::new(alloc),
             seen: 0,
-            is_short: false,
+            refused: 0,
             is_wrong: false,
         }
     }
 
-    /// Keeps an item, where there was memory for it.
-    fn add(&mut self, item: Result<Scalar, VortexError>, lent: Option<ScalarRef<'_>>) {
+    /// Counts an item that is there: whether it is what is lent at its place.
+    fn add(&mut self, is_lent: bool) {
         self.seen = self.seen.saturating_add(1);
-        match item {
-            Ok(part) => self.keep(part, lent),
-            Err(_) => self.is_short = true,
-        }
+        self.is_wrong = self.is_wrong || !is_lent;
     }
 
-    fn keep(&mut self, part: Scalar, lent: Option<ScalarRef<'_>>) {
-        if !is_lent(&part, lent) {
-            self.is_wrong = true;
-        }
-        let pushed = self.parts.push(part);
-        self.is_short = self.is_short || pushed.is_err();
-        drop(pushed);
+    /// Counts an item for which there was no memory; for nothing else is one refused.
+    fn add_refused(&mut self, refusal: &VortexError) {
+        self.seen = self.seen.saturating_add(1);
+        self.refused = self.refused.saturating_add(1);
+        self.is_wrong = self.is_wrong || !matches!(refusal, VortexError::OutOfMemory);
     }
 
-    /// All of so many parts, or that an item found no memory.
-    fn answer(self, count: usize) -> Answer {
+    /// What is wrong, where there were to be so many items: a word of its own for several refused.
+    fn fault(self, count: usize) -> Option<Answer> {
         if self.is_wrong || self.seen != count {
-            Answer::Word("wrong items")
-        } else if self.is_short {
-            Answer::Refused(VortexError::OutOfMemory)
-        } else {
-            Answer::Parts(self.parts)
+            return Some(Answer::Word("wrong items"));
+        }
+        match self.refused {
+            0 => None,
+            1 => Some(Answer::Refused(VortexError::OutOfMemory)),
+            _ => Some(Answer::Word("OutOfMemory, of several items")),
         }
     }
+}
+
+/// The parts that an iterator gave. Their room is made first, so that what is refused later is an
+/// item.
+#[derive(Drop)]
+struct Parts {
+    parts: Vec<Scalar>,
+    items: Items,
+}
+
+impl Parts {
+    fn new(alloc: Global, count: usize) -> Result<Parts, AllocError> {
+        Ok(Parts {
+            parts: Vec::with_capacity(alloc, count)?,
+            items: Items::new(),
+        })
+    }
+
+    /// Keeps an item, which is to be what is lent at its place.
+    fn add(&mut self, item: Result<Scalar, VortexError>, lent: Option<ScalarRef<'_>>) {
+        match item {
+            Ok(part) => {
+                self.items.add(is_lent(&part, lent));
+                drop(self.parts.push(part));
+            }
+            Err(refusal) => {
+                self.items.add_refused(&refusal);
+                drop(refusal);
+            }
+        }
+    }
+
+    /// All of so many parts, or what is wrong with them.
+    fn answer(self, count: usize) -> Answer {
+        match self.items.fault(count) {
+            Some(fault) => fault,
+            None => Answer::Parts(self.parts),
+        }
+    }
+}
+
+/// The answer where there was no memory for the room of parts.
+fn no_room() -> Answer {
+    Answer::Refused(VortexError::OutOfMemory)
 }
 
 /// Whether a part is what is lent at its place.
@@ -243,15 +312,17 @@ fn fields(alloc: Global, scalar: &Scalar) -> Answer
     let Some(view) = scalar.as_struct_opt() else {
         return wrong_kind();
     };
-    let mut items = Items::new(alloc);
     let Some(fields) = view.fields_iter(alloc) else {
         return Answer::Word("none");
     };
+    let Ok(mut parts) = Parts::new(alloc, view.names().len()) else {
+        return no_room();
+    };
     for field in fields {
-        let lent = view.field_ref_by_idx(items.seen);
-        items.add(field, lent);
+        let lent = view.field_ref_by_idx(parts.items.seen);
+        parts.add(field, lent);
     }
-    items.answer(view.names().len())
+    parts.answer(view.names().len())
 }
 
 fn of_map(alloc: Global, call: ViewCall, scalar: &Scalar) -> Answer
@@ -268,57 +339,74 @@ fn of_map(alloc: Global, call: ViewCall, scalar: &Scalar) -> Answer
 }
 
 fn keys(alloc: Global, map: MapScalar<'_>) -> Answer {
-    let mut items = Items::new(alloc);
+    let Ok(mut parts) = Parts::new(alloc, map.len()) else {
+        return no_room();
+    };
     for key in map.keys(alloc) {
-        let lent = match map.entry_ref(items.seen) {
+        let lent = match map.entry_ref(parts.items.seen) {
             Some((key, _)) => Some(key),
             None => None,
         };
-        items.add(key, lent);
+        parts.add(key, lent);
     }
-    items.answer(map.len())
+    parts.answer(map.len())
 }
 
 fn values(alloc: Global, map: MapScalar<'_>) -> Answer {
-    let mut items = Items::new(alloc);
+    let Ok(mut parts) = Parts::new(alloc, map.len()) else {
+        return no_room();
+    };
     for value in map.values(alloc) {
-        let lent = match map.entry_ref(items.seen) {
+        let lent = match map.entry_ref(parts.items.seen) {
             Some((_, value)) => Some(value),
             None => None,
         };
-        items.add(value, lent);
+        parts.add(value, lent);
     }
-    items.answer(map.len())
+    parts.answer(map.len())
 }
 
 fn entries(alloc: Global, map: MapScalar<'_>) -> Answer {
-    let mut entries = Vec::new(alloc);
-    let mut seen = 0usize;
+    let Ok(mut entries) = Vec::with_capacity(alloc, map.len()) else {
+        return no_room();
+    };
+    let mut items = Items::new();
     for entry in map.entries(alloc) {
-        seen = seen.saturating_add(1);
-        keep_entry(&mut entries, entry);
+        keep_entry(&mut entries, &mut items, entry, map);
     }
-    all_entries(entries, seen, map.len())
+    match items.fault(map.len()) {
+        Some(fault) => {
+            drop(entries);
+            fault
+        }
+        None => Answer::Entries(entries),
+    }
 }
 
-/// Keeps an entry for which there was memory.
-fn keep_entry(entries: &mut Vec<(Scalar, Scalar)>, entry: Result<(Scalar, Scalar), VortexError>) {
+/// Keeps an entry, which is to be what is lent at its place.
+fn keep_entry(
+    entries: &mut Vec<(Scalar, Scalar)>,
+    items: &mut Items,
+    entry: Result<(Scalar, Scalar), VortexError>,
+    map: MapScalar<'_>,
+) {
     match entry {
-        Ok(entry) => drop(entries.push(entry)),
-        Err(refusal) => drop(refusal),
+        Ok(entry) => {
+            items.add(is_lent_entry(&entry, map.entry_ref(items.seen)));
+            drop(entries.push(entry));
+        }
+        Err(refusal) => {
+            items.add_refused(&refusal);
+            drop(refusal);
+        }
     }
 }
 
-/// The entries, where as many items were seen as there are, and each was kept.
-fn all_entries(entries: Vec<(Scalar, Scalar)>, seen: usize, count: usize) -> Answer {
-    if seen == count && entries.len() == seen {
-        return Answer::Entries(entries);
-    }
-    drop(entries);
-    if seen == count {
-        Answer::Refused(VortexError::OutOfMemory)
-    } else {
-        Answer::Word("wrong items")
+/// Whether an entry is what is lent at its place.
+fn is_lent_entry(entry: &(Scalar, Scalar), lent: Option<(ScalarRef<'_>, ScalarRef<'_>)>) -> bool {
+    match lent {
+        Some((key, value)) => same_as_lent(&entry.0, key) && same_as_lent(&entry.1, value),
+        None => false,
     }
 }
 
@@ -375,14 +463,14 @@ pub fn cast_struct(alloc: Global, scalar: &Scalar, target: &DType) -> Answer
 }
 
 /// The sum, difference, product or quotient of two numbers.
-pub fn arithmetic(operator: NumericOperator, first: &Scalar, second: &Scalar) -> Answer
+pub fn arithmetic(operation: Operation, first: &Scalar, second: &Scalar) -> Answer
     requires first { IsValid first.now }
     requires second { IsValid second.now }
 {
     match (first.as_primitive_opt(), second.as_primitive_opt()) {
         (Some(x), Some(y)) => {
             if first.dtype().eq_ignore_nullability(second.dtype()) {
-                if_computed(computed(operator, x, y))
+                computed(operation, x, y)
             } else {
                 unmet()
             }
@@ -391,17 +479,36 @@ pub fn arithmetic(operator: NumericOperator, first: &Scalar, second: &Scalar) ->
     }
 }
 
-fn computed<'a>(
-    operator: NumericOperator,
-    x: PrimitiveScalar<'a>,
-    y: PrimitiveScalar<'a>,
-) -> Option<PrimitiveScalar<'a>>
+/// A number that does not fit is none by the checked calls, and not asked for by `+` and `-`.
+fn computed(operation: Operation, x: PrimitiveScalar<'_>, y: PrimitiveScalar<'_>) -> Answer
     requires { AreOfOneType x y }
 {
-    match operator {
-        NumericOperator::Add => x.checked_add(&y),
-        NumericOperator::Sub => x.checked_sub(&y),
-        _ => x.checked_binary_numeric(&y, operator),
+    match operation {
+        Operation::Checked(NumericOperator::Add) => if_computed(x.checked_add(&y)),
+        Operation::Checked(NumericOperator::Sub) => if_computed(x.checked_sub(&y)),
+        Operation::Checked(operator) | Operation::Numeric(operator) => {
+            if_computed(x.checked_binary_numeric(&y, operator))
+        }
+        Operation::Plus => plus(x, y),
+        Operation::Minus => minus(x, y),
+    }
+}
+
+fn plus<'a>(x: PrimitiveScalar<'a>, y: PrimitiveScalar<'a>) -> Answer
+    requires { AreOfOneType x y }
+{
+    match x.checked_add(&y) {
+        Some(_) => Answer::Scalar(Scalar::from(x + y)),
+        None => unmet(),
+    }
+}
+
+fn minus<'a>(x: PrimitiveScalar<'a>, y: PrimitiveScalar<'a>) -> Answer
+    requires { AreOfOneType x y }
+{
+    match x.checked_sub(&y) {
+        Some(_) => Answer::Scalar(Scalar::from(x - y)),
+        None => unmet(),
     }
 }
 
@@ -419,30 +526,40 @@ pub fn of_kind(call: KindCall, scalar: &Scalar, kind: PType) -> Answer
     match scalar.as_primitive_opt() {
         Some(view) => match call {
             KindCall::Reinterpret => made(scalar.primitive_reinterpret_cast(kind)),
-            KindCall::As => as_kind(view, kind),
+            _ => as_kind(call, view, kind),
         },
         None => wrong_kind(),
     }
 }
 
-fn as_kind(view: PrimitiveScalar<'_>, kind: PType) -> Answer {
+fn as_kind(call: KindCall, view: PrimitiveScalar<'_>, kind: PType) -> Answer {
     match kind {
-        PType::U8 => as_number::<u8>(view),
-        PType::U16 => as_number::<u16>(view),
-        PType::U32 => as_number::<u32>(view),
-        PType::U64 => as_number::<u64>(view),
-        PType::I8 => as_number::<i8>(view),
-        PType::I16 => as_number::<i16>(view),
-        PType::I32 => as_number::<i32>(view),
-        PType::I64 => as_number::<i64>(view),
+        PType::U8 => as_number::<u8>(call, view),
+        PType::U16 => as_number::<u16>(call, view),
+        PType::U32 => as_number::<u32>(call, view),
+        PType::U64 => as_number::<u64>(call, view),
+        PType::I8 => as_number::<i8>(call, view),
+        PType::I16 => as_number::<i16>(call, view),
+        PType::I32 => as_number::<i32>(call, view),
+        PType::I64 => as_number::<i64>(call, view),
     }
 }
 
-/// The number in the kind of a Rust type.
-fn as_number<T: NativePType>(view: PrimitiveScalar<'_>) -> Answer {
-    match view.as_opt::<T>() {
-        Some(Some(number)) => Answer::Integer(number.into_pvalue()),
-        Some(None) => Answer::Word("null"),
-        None => Answer::Word("none"),
+/// The number as a Rust type.
+fn as_number<T: NativePType>(call: KindCall, view: PrimitiveScalar<'_>) -> Answer {
+    match (call, view.as_opt::<T>()) {
+        (KindCall::Typed, _) if view.ptype() == T::PTYPE => native(view.typed_value::<T>()),
+        (KindCall::Typed, _) => unmet(),
+        (KindCall::As, Some(_)) => native(view.as_::<T>()),
+        (KindCall::As, None) => unmet(),
+        (_, Some(number)) => native(number),
+        (_, None) => Answer::Word("none"),
+    }
+}
+
+fn native<T: NativePType>(number: Option<T>) -> Answer {
+    match number {
+        Some(number) => Answer::Integer(number.into_pvalue()),
+        None => Answer::Word("null"),
     }
 }
