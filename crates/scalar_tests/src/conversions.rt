@@ -78,6 +78,31 @@ fn raw_values_give_numbers(rt: HostRuntime) {
 }
 
 #[test]
+fn raw_values_hold_what_they_are_made_of(rt: HostRuntime) {
+    assert!(rt; ScalarValue::from(true).as_bool() && !ScalarValue::from(false).as_bool());
+    let bytes = ScalarValue::from(byte_buffer(&rt, &[10, 20, 30]));
+    assert!(rt; bytes.as_binary().as_slice() == [10, 20, 30].as_slice());
+    drop(bytes);
+    let text = ScalarValue::from(text_buffer(&rt, "test"));
+    assert!(rt; text.as_utf8().as_str() == "test");
+    drop(text);
+}
+
+#[test]
+fn scalars_are_of_the_type_of_what_they_are_made_of(rt: HostRuntime) {
+    let all = [
+        Scalar::from(Some(false)),
+        Scalar::from(text_buffer(&rt, "test")),
+    ];
+    assert!(rt; matches!(&all[0].dtype, DType::Bool(Nullable)));
+    assert!(rt; !bool::try_from(&all[0]).expect(&rt, "a truth value"));
+    assert!(rt; matches!(&all[1].dtype, DType::Utf8(NonNullable)));
+    let text = BufferString::try_from(&all[1]).expect(&rt, "a text");
+    assert!(rt; text.as_str() == "test");
+    drop(text);
+}
+
+#[test]
 fn numbers_that_do_not_fit_are_refused(rt: HostRuntime) {
     let thousand = ScalarValue::from(1000i32);
     assert!(rt; is_refused(i8::try_from(&thousand), VortexError::OutOfRange));

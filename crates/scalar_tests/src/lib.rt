@@ -12,6 +12,8 @@ mod columns;
 #[cfg(test)]
 mod conversions;
 #[cfg(test)]
+mod fillings;
+#[cfg(test)]
 mod fixtures;
 #[cfg(test)]
 mod hashers;
@@ -25,6 +27,8 @@ mod leaf_views;
 mod makers;
 #[cfg(test)]
 mod numbers;
+#[cfg(test)]
+mod orders;
 #[cfg(test)]
 mod places;
 #[cfg(test)]

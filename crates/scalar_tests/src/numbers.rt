@@ -51,6 +51,10 @@ fn limits_and_zero(rt: HostRuntime) {
     assert!(rt; least.as_i64() == Some(-128) && least.is_instance_of(&PType::I8));
     let most = PValue::max_value(PType::U64);
     assert!(rt; most.as_u64() == Some(u64::MAX) && most.is_instance_of(&PType::U64));
+    let least = PValue::min_value(PType::U8);
+    assert!(rt; least.is_zero() && least.is_instance_of(&PType::U8));
+    let most = PValue::max_value(PType::I64);
+    assert!(rt; most.as_i64() == Some(i64::MAX) && most.is_instance_of(&PType::I64));
     let zero = PValue::zero(&PType::U16);
     assert!(rt; zero.is_zero() && zero.is_instance_of(&PType::U16));
     assert!(rt; !PValue::I8(-1).is_zero() && !zero.is_instance_of(&PType::I16));

@@ -1,16 +1,22 @@
 //! What a caller derives of several casts, from the contract of `cast` and the laws alone.
 
-ghost use Rattle.std.specs.Prelude.{◌≡◌, IfErr, IfOk};
+ghost use Rattle.std.specs.Prelude.{◌≡◌, [], ◌∷◌, IfErr, IfOk};
 ghost use Rattle.vortex_dtype.specs.TypeOf.{type_of};
-ghost use Rattle.vortex_dtype.specs.TypeTree.{integer_type, list_type};
-ghost use Rattle.vortex_value.specs.Values.Scalars.{IsMadeOf, IsValid, scalar_raw, scalar_type};
+ghost use Rattle.vortex_dtype.specs.TypeTree.{Same, integer_type, list_type};
+ghost use Rattle.vortex_value.specs.Chains.{Runs};
+ghost use Rattle.vortex_value.specs.TypesWithin.{HasNoExtension, HasNoMap};
+ghost use Rattle.vortex_value.specs.Values.Scalars.{IsMadeOf, IsValid, scalar_order, scalar_raw, scalar_type};
 
 use crate::fixtures::{integer, tuple};
 use std::alloc::Global;
+use std::cmp::Ordering;
 use std::process::Abort;
 use vortex_dtype::{DType, Nullability, PType, VortexError};
 use vortex_value::Scalar;
-use vortex_value::laws::{calls_are_chains, chains_agree, has_by_cases, there_and_back};
+use vortex_value::laws::{
+    calls_are_chains, chains_agree, equality_and_order_are_kept, has_by_cases,
+    into_nullable_and_back, no_way_round, there_and_back,
+};
 
 /// The type of lists of integers of a kind.
 fn list_of(alloc: Global, kind: PType) -> Result<DType, VortexError>
@@ -59,6 +65,85 @@ fn two_ways(
     Ok((chained, direct))
 }
 
+/// A scalar cast by way of a type between: a chain of two casts.
+fn by_way_of(
+    alloc: Global,
+    scalar: &Scalar,
+    between: &DType,
+    target: &DType,
+) -> Result<Scalar, VortexError>
+    requires { IsValid scalar.now }
+    ensures { IfOk result (λ made. Runs (scalar_type scalar.now) (scalar_raw scalar.now)
+        (type_of between.now) (type_of target.now ∷ []) (scalar_raw made)) }
+{
+    calls_are_chains();
+    let step = scalar.cast(alloc, between)?;
+    step.cast(alloc, target)
+}
+
+/// A scalar cast at once, where the way by the type between is not refused; none where it is.
+///
+/// `OutOfMemory` is its only refusal.
+fn at_once(
+    alloc: Global,
+    scalar: &Scalar,
+    between: &DType,
+    target: &DType,
+) -> Result<Option<Scalar>, VortexError>
+    requires valid { IsValid scalar.now }
+    requires source { HasNoExtension (scalar_type scalar.now) × HasNoMap (scalar_type scalar.now) }
+    requires last { HasNoExtension (type_of target.now) × HasNoMap (type_of target.now) }
+    ensures { IfErr result (λ e. e ≡ VortexError.OutOfMemory) }
+{
+    no_way_round();
+    match by_way_of(alloc, scalar, between, target) {
+        Ok(made) => drop(made),
+        Err(refusal) => {
+            drop(refusal);
+            return Ok(None);
+        }
+    }
+    let made = scalar.cast(alloc, target)?;
+    Ok(Some(made))
+}
+
+/// A scalar made nullable and cast back to its type: what it was.
+///
+/// `OutOfMemory` is its only refusal.
+fn nullable_and_back(alloc: Global, scalar: Scalar, dtype: &DType) -> Result<Scalar, VortexError>
+    requires valid { IsValid scalar }
+    requires typed { type_of dtype.now ≡ scalar_type scalar }
+    ensures came_back { IfOk result (IsMadeOf (scalar_type scalar) (scalar_raw scalar)) }
+    ensures refused { IfErr result (λ e. e ≡ VortexError.OutOfMemory) }
+{
+    into_nullable_and_back();
+    let nullable = scalar.into_nullable();
+    let back = nullable.cast(alloc, dtype);
+    drop(nullable);
+    back
+}
+
+/// Two scalars of one type, cast to another: they are ordered as they were, and equal where they
+/// were.
+fn cast_both(
+    alloc: Global,
+    first: &Scalar,
+    second: &Scalar,
+    target: &DType,
+) -> Result<(Scalar, Scalar), VortexError>
+    requires valid { IsValid first.now × IsValid second.now }
+    requires typed { Same (scalar_type first.now) (scalar_type second.now) }
+    ensures ordered { IfOk result
+        (λ made. scalar_order made.0 made.1 ≡ scalar_order first.now second.now) }
+    ensures equal { IfOk result (λ made. ⟦<Scalar as PartialEq>⟧.eq made.0 made.1
+        ≡ ⟦<Scalar as PartialEq>⟧.eq first.now second.now) }
+{
+    equality_and_order_are_kept();
+    let one = first.cast(alloc, target)?;
+    let other = second.cast(alloc, target)?;
+    Ok((one, other))
+}
+
 /// The list of these two numbers.
 fn pair(rt: &(impl AllocGlobal + Abort), first: i32, second: i32) -> Scalar
     ensures valid { IsValid result }
@@ -94,4 +179,44 @@ fn two_ways_agree(rt: HostRuntime) {
     assert!(rt; made.0 == made.1);
     drop(made);
     drop(number);
+}
+
+#[test]
+fn no_way_round_leads_further(rt: HostRuntime) {
+    let number = Scalar::primitive(255i32, Nullability::NonNullable);
+    let types = [
+        DType::Primitive(PType::I64, Nullability::NonNullable),
+        DType::Primitive(PType::U8, Nullability::Nullable),
+        DType::Bool(Nullability::NonNullable),
+    ];
+    let made = at_once(rt.alloc(), &number, &types[0], &types[1]).expect(&rt, "memory");
+    let made = made.expect(&rt, "a way");
+    assert!(rt; u8::try_from(&made).expect(&rt, "a number") == 255);
+    let none = at_once(rt.alloc(), &number, &types[2], &types[1]).expect(&rt, "memory");
+    assert!(rt; none.is_none());
+    drop(none);
+    drop(made);
+    drop(number);
+}
+
+#[test]
+fn what_was_made_nullable_comes_back(rt: HostRuntime) {
+    let list = pair(&rt, i32::MIN, 7);
+    let dtype = list_of(rt.alloc(), PType::I32).expect(&rt, "a type");
+    let back = nullable_and_back(rt.alloc(), list, &dtype).expect(&rt, "the list");
+    assert!(rt; back == pair(&rt, i32::MIN, 7));
+    assert!(rt; back.dtype == dtype);
+    drop(back);
+    drop(dtype);
+}
+
+#[test]
+fn casts_keep_equality_and_order(rt: HostRuntime) {
+    let lists = [pair(&rt, 1, 2), pair(&rt, 1, 3)];
+    let longs = list_of(rt.alloc(), PType::I64).expect(&rt, "a type");
+    let made = cast_both(rt.alloc(), &lists[0], &lists[1], &longs).expect(&rt, "casts");
+    assert!(rt; made.0.partial_cmp(&made.1) == Some(Ordering::Less));
+    assert!(rt; made.0 != made.1);
+    drop(made);
+    drop(longs);
 }

@@ -1,10 +1,17 @@
 //! Views of lists and maps: what no worked case asks of them.
 
+ghost use Rattle.std.specs.Prelude.{◌≡◌, length};
+ghost use Rattle.vortex_value.specs.Values.Refs.{ref_raw};
+ghost use Rattle.vortex_views.specs.Maps.{map_ref};
+ghost use Rattle.vortex_views.specs.Parts.{parts_of};
+
 use crate::fixtures::{I32, integer, list, map, text, tuple};
 use crate::hashers::{fed, hashes};
+use std::collections::HashSet;
 use std::process::Abort;
 use vortex_dtype::{DType, Nullability, PType};
 use vortex_value::Scalar;
+use vortex_views::laws::iterators_give_each_part;
 use vortex_views::{ListScalar, MapScalar};
 
 /// The map {1: "one", 2: null}.
@@ -27,6 +34,21 @@ fn parts_of_maps_go_through_adapters(rt: HostRuntime) {
         .values(rt.alloc())
         .filter(|value| matches!(value, Ok(scalar) if scalar.is_null()));
     assert!(rt; nulls.count() == 1);
+    drop(scalar);
+}
+
+/// How many keys a map gives: as many as it has entries.
+fn keys_given(rt: &impl AllocGlobal, map: MapScalar<'_>) -> usize
+    ensures { result ≡ length (parts_of (ref_raw (map_ref map))) }
+{
+    iterators_give_each_part();
+    map.keys(rt.alloc()).count()
+}
+
+#[test]
+fn maps_give_each_key(rt: HostRuntime) {
+    let scalar = two_entries(&rt);
+    assert!(rt; keys_given(&rt, map_view(&rt, &scalar)) == 2);
     drop(scalar);
 }
 
@@ -83,4 +105,18 @@ fn views_of_maps_hash(rt: HostRuntime) {
     ];
     let view = map_view(&rt, &all[0]);
     hashes(&rt, &view, &map_view(&rt, &all[1]), &map_view(&rt, &all[2]));
+}
+
+#[test]
+fn equal_maps_are_one_in_a_set(rt: HostRuntime) {
+    let all = [
+        one_entry(&rt, Nullability::Nullable),
+        one_entry(&rt, Nullability::NonNullable),
+        two_entries(&rt),
+    ];
+    let mut set = HashSet::new(rt.alloc());
+    assert!(rt; set.insert(map_view(&rt, &all[0])).expect(&rt, "memory"));
+    assert!(rt; set.contains(&map_view(&rt, &all[1])));
+    assert!(rt; !set.contains(&map_view(&rt, &all[2])));
+    drop(set);
 }

@@ -1,0 +1,56 @@
+//! What a caller derives of zeros and defaults, from the contracts and the laws alone.
+
+ghost use Rattle.std.specs.Prelude.{◌≡◌, Some, true, IfErr, IfOk, IfSome};
+ghost use Rattle.vortex_dtype.specs.TypeOf.{type_of};
+ghost use Rattle.vortex_value.specs.TypesWithin.{UnionsHaveVariants};
+ghost use Rattle.vortex_value.specs.Values.Scalars.{scalar_content, scalar_type};
+ghost use Rattle.vortex_value.specs.Zero.{is_zero_of};
+
+use crate::fixtures::I32;
+use std::alloc::Global;
+use vortex_dtype::{DType, Nullability, VortexError};
+use vortex_value::Scalar;
+use vortex_value::laws::{default_exists, zero_is_zero};
+
+/// The zero of a type, none where there is none: one that is zero.
+fn zero_of(alloc: Global, dtype: &DType) -> Result<Option<Scalar>, VortexError>
+    ensures { IfOk result (λ made. IfSome made
+        (λ zero. is_zero_of (scalar_type zero) (scalar_content zero) ≡ Some true)) }
+{
+    zero_is_zero();
+    Scalar::zero_value(alloc, dtype)
+}
+
+/// The default of a type whose unions have variants: there is one.
+///
+/// `OutOfMemory` is its only refusal.
+fn default_of(alloc: Global, dtype: &DType) -> Result<Scalar, VortexError>
+    requires { UnionsHaveVariants (type_of dtype.now) }
+    ensures { IfErr result (λ e. e ≡ VortexError.OutOfMemory) }
+{
+    default_exists();
+    match Scalar::default_value(alloc, dtype)? {
+        Some(default) => Ok(default),
+        None => unreachable!(),
+    }
+}
+
+#[test]
+fn a_zero_is_zero(rt: HostRuntime) {
+    let zero = zero_of(rt.alloc(), &I32).expect(&rt, "memory");
+    let zero = zero.expect(&rt, "a zero");
+    assert!(rt; zero.is_zero() == Some(true));
+    drop(zero);
+    let none = zero_of(rt.alloc(), &DType::Null).expect(&rt, "memory");
+    assert!(rt; none.is_none());
+    drop(none);
+}
+
+#[test]
+fn a_default_is_there(rt: HostRuntime) {
+    let dtype = DType::Variant(Nullability::Nullable);
+    let default = default_of(rt.alloc(), &dtype).expect(&rt, "memory");
+    assert!(rt; default.is_null());
+    drop(default);
+    drop(dtype);
+}

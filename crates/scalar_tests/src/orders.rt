@@ -1,0 +1,47 @@
+//! What a caller derives of the order of scalars, from the laws alone.
+
+ghost use Rattle.std.specs.Prelude.{◌≡◌, Some, IfSome};
+ghost use Rattle.vortex_value.specs.Values.Scalars.{scalar_order};
+
+use std::cmp::Ordering;
+use vortex_dtype::Nullability::NonNullable;
+use vortex_value::Scalar;
+use vortex_value::laws::{order_is_reversed, order_is_transitive};
+
+/// The order of two scalars, seen from the other side.
+fn order_from_behind(first: &Scalar, second: &Scalar) -> Option<Ordering>
+    ensures { result ≡ scalar_order first.now second.now }
+{
+    order_is_reversed();
+    match second.partial_cmp(first) {
+        Some(order) => Some(order.reverse()),
+        None => None,
+    }
+}
+
+/// The order of the first and the third, where it is known by the second, without a look at both.
+fn order_through(first: &Scalar, second: &Scalar, third: &Scalar) -> Option<Ordering>
+    ensures { IfSome result (λ order. scalar_order first.now third.now ≡ Some order) }
+{
+    order_is_transitive();
+    match (first.partial_cmp(second), second.partial_cmp(third)) {
+        (Some(Ordering::Less), Some(Ordering::Less)) => Some(Ordering::Less),
+        (Some(Ordering::Less), Some(Ordering::Equal)) => Some(Ordering::Less),
+        _ => None,
+    }
+}
+
+#[test]
+fn orders_are_derived(rt: HostRuntime) {
+    let all = [
+        Scalar::primitive(1i32, NonNullable),
+        Scalar::primitive(2i32, NonNullable),
+        Scalar::primitive(3i32, NonNullable),
+        Scalar::primitive(3i64, NonNullable),
+    ];
+    assert!(rt; order_from_behind(&all[0], &all[1]) == Some(Ordering::Less));
+    assert!(rt; order_from_behind(&all[0], &all[3]).is_none());
+    assert!(rt; order_through(&all[0], &all[1], &all[2]) == Some(Ordering::Less));
+    assert!(rt; order_through(&all[0], &all[2], &all[2]) == Some(Ordering::Less));
+    assert!(rt; order_through(&all[0], &all[2], &all[3]).is_none());
+}
