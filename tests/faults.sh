@@ -1,6 +1,7 @@
 #!/bin/sh
-# Runs the built program `scalar_rows` under real faults: a folder as its input, a full device as its output, and each
-# allocation of memory refused in turn. The last line is 'N passed, M failed'; the status is 1 if any failed.
+# Runs the built program `scalar_rows` under real faults: a folder as its input, a full device as its output, each
+# allocation of memory refused in turn, and each read and each write failing in turn, also an input that does not end. The
+# last line is 'N passed, M failed'; the status is 1 if any failed.
 set -eu
 top=$(CDPATH='' cd -- "$(dirname -- "$0")/.." && pwd)
 program=$top/crates/scalar_rows/out/scalar_rows
@@ -35,6 +36,33 @@ with_refusal() {
 
 build_refusals() {
     cc -shared -fPIC -O1 -o "$folder/refuse.so" "$top/tests/refuse_nth.c"
+    cc -shared -fPIC -O1 -o "$folder/fail_io.so" "$top/tests/fail_io.c"
+}
+
+# with_io SETTING..: runs it on "$folder/input" with streams that fail or give little, as tests/fail_io.c says
+with_io() {
+    attempt env "$@" LD_PRELOAD="$folder/fail_io.so" "$program" < "$folder/input" > "$folder/output"
+}
+
+# each_fails SETTING FAULT SHORT: sees that each read or write that fails ends the run, and that at last none does
+each_fails() {
+    place=1
+    while [ "$place" -le 1000 ]; do
+        with_io "$1=$place" "$3"
+        if [ "$status" -eq 0 ]; then
+            break
+        fi
+        if [ "$1" = FAIL_WRITE ]; then
+            : > "$folder/output"
+        fi
+        judge "$1=$place" 1 "$folder/nothing" "$2"
+        place=$((place + 1))
+    done
+    judge "$1: none of $((place - 1)) fails" 0 "$folder/rows" "$folder/nothing"
+    if [ "$place" -lt 4 ]; then
+        failed=$((failed + 1))
+        echo "$1: only $((place - 1)) failed"
+    fi
 }
 
 "$top/scalar_rows" --build < /dev/null
@@ -60,6 +88,19 @@ judge 'a folder as the input' 1 "$folder/nothing" "$folder/read"
 : > "$folder/output"
 attempt "$program" < "$folder/input" > /dev/full
 judge 'a full device as the output' 1 "$folder/nothing" "$folder/write"
+
+attempt "$program" < /dev/null > "$folder/output"
+judge 'an empty input' 0 "$folder/nothing" "$folder/nothing"
+
+each_fails FAIL_READ "$folder/read" SHORT_READ=1000
+each_fails FAIL_WRITE "$folder/write" SHORT_WRITE=200
+
+echo 'bad line' > "$folder/bad"
+head -c 1048575 /dev/zero > "$folder/long"
+attempt env SHORT_READ=1 LD_PRELOAD="$folder/fail_io.so" "$program" < "$folder/long" > "$folder/output"
+judge 'an input of as many reads as are made' 0 "$folder/bad" "$folder/nothing"
+attempt env SHORT_READ=1 LD_PRELOAD="$folder/fail_io.so" "$program" < /dev/zero > "$folder/output"
+judge 'an input that does not end' 1 "$folder/nothing" "$folder/read"
 
 allocation=1
 while [ "$allocation" -le 1000 ]; do

@@ -1,1 +1,2 @@
 mod ListCasts
+mod Ways

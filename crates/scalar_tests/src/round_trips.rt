@@ -97,14 +97,18 @@ fn at_once(
 {
     no_way_round();
     match by_way_of(alloc, scalar, between, target) {
-        Ok(made) => drop(made),
+        Ok(made) => {
+            drop(made);
+            match scalar.cast(alloc, target) {
+                Ok(made) => Ok(Some(made)),
+                Err(refusal) => Err(refusal),
+            }
+        }
         Err(refusal) => {
             drop(refusal);
-            return Ok(None);
+            Ok(None)
         }
     }
-    let made = scalar.cast(alloc, target)?;
-    Ok(Some(made))
 }
 
 /// A scalar made nullable and cast back to its type: what it was.

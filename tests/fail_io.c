@@ -1,0 +1,41 @@
+// A library that is preloaded into a program and makes its standard streams fail in the middle: the read of standard
+// input whose number FAIL_READ gives, counted from 1, and the write to standard output whose number FAIL_WRITE gives.
+// With SHORT_READ and SHORT_WRITE a read or a write takes at most so many bytes.
+
+#define _GNU_SOURCE
+#include <errno.h>
+#include <stdlib.h>
+#include <sys/syscall.h>
+#include <unistd.h>
+
+// The number that the variable of the environment has, or 0.
+static long number(const char *name) {
+    const char *text = getenv(name);
+    return text ? atol(text) : 0;
+}
+
+// The bytes that one call may take: no more than the variable says, where it is set.
+static size_t at_most(size_t size, const char *name) {
+    long most = number(name);
+    return most > 0 && (size_t)most < size ? (size_t)most : size;
+}
+
+ssize_t read(int file, void *bytes, size_t size) {
+    static long reads = 0;
+    if (file != 0) return syscall(SYS_read, file, bytes, size);
+    if (++reads == number("FAIL_READ")) {
+        errno = EIO;
+        return -1;
+    }
+    return syscall(SYS_read, file, bytes, at_most(size, "SHORT_READ"));
+}
+
+ssize_t write(int file, const void *bytes, size_t size) {
+    static long writes = 0;
+    if (file != 1) return syscall(SYS_write, file, bytes, size);
+    if (++writes == number("FAIL_WRITE")) {
+        errno = EIO;
+        return -1;
+    }
+    return syscall(SYS_write, file, bytes, at_most(size, "SHORT_WRITE"));
+}
