@@ -547,13 +547,27 @@ fn as_kind(call: KindCall, view: PrimitiveScalar<'_>, kind: PType) -> Answer {
 
 /// The number as a Rust type.
 fn as_number<T: NativePType>(call: KindCall, view: PrimitiveScalar<'_>) -> Answer {
-    match (call, view.as_opt::<T>()) {
-        (KindCall::Typed, _) if view.ptype() == T::PTYPE => native(view.typed_value::<T>()),
-        (KindCall::Typed, _) => unmet(),
-        (KindCall::As, Some(_)) => native(view.as_::<T>()),
-        (KindCall::As, None) => unmet(),
-        (_, Some(number)) => native(number),
-        (_, None) => Answer::Word("none"),
+    match call {
+        KindCall::Typed if view.ptype() == T::PTYPE => native(view.typed_value::<T>()),
+        KindCall::Typed => unmet(),
+        KindCall::As => as_known::<T>(view),
+        _ => match view.as_opt::<T>() {
+            Some(number) => native(number),
+            None => Answer::Word("none"),
+        },
+    }
+}
+
+/// The number as a Rust type, where that has it.
+fn as_known<T: NativePType>(view: PrimitiveScalar<'_>) -> Answer {
+    match view.as_opt::<T>() {
+        Some(Some(number)) => {
+            // The proof reads here that the number is in the type's range.
+            let _in_range = number.into_pvalue();
+            native(view.as_::<T>())
+        }
+        Some(None) => native(view.as_::<T>()),
+        None => unmet(),
     }
 }
 
