@@ -8,6 +8,7 @@ mod recorder;
 pub mod takes;
 pub mod views;
 pub mod wholes;
+mod zones;
 
 use crate::read::named;
 use bounds::{BoundCall, StringCall};
@@ -31,7 +32,7 @@ pub enum Shape {
 }
 
 /// The table of calls: the name of each, and what it is given.
-const CALLS: [(&str, Shape); 75] = [
+const CALLS: [(&str, Shape); 76] = [
     ("same", Shape::Query(Asks::Types(TypesCall::Same))),
     ("equal_types", Shape::Query(Asks::Types(TypesCall::Equal))),
     ("as_nullable", Shape::Maker(Makes::AsNullable)),
@@ -212,6 +213,7 @@ const CALLS: [(&str, Shape); 75] = [
         Shape::Maker(Makes::Truncated(StringCall::Text)),
     ),
     ("increment", Shape::Maker(Makes::Increment)),
+    ("may_contain", Shape::Maker(Makes::MayContain)),
 ];
 
 /// The calls of parts, of which no case is: the lines of a watched run are.

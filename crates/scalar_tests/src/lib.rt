@@ -53,3 +53,5 @@ mod union_views;
 mod values;
 #[cfg(test)]
 mod views;
+#[cfg(test)]
+mod zones;

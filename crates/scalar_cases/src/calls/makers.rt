@@ -7,9 +7,9 @@ ghost use Rattle.vortex_value.specs.Values.Scalars.{IsValid};
 
 use crate::answers::{Answer, made, made_type, made_union};
 use crate::calls::bounds::{self, BoundCall, StringCall, TextType};
-use crate::calls::parts;
 use crate::calls::queries::validate;
 use crate::calls::takes::{self, RustType};
+use crate::calls::{parts, zones};
 use crate::inputs::{
     entries_input, fields_input, id_input, length_input, nullability_input, rust_input,
     scalar_input, scalars_input, text_input, text_type_input, type_input, value_input,
@@ -64,6 +64,9 @@ pub enum Maker {
     Owned(RustType, Scalar),
     /// The text incremented, as text of this type; none where it could not be read.
     Increment(TextType, Option<BufferString>),
+    /// Whether the bounds of a zone from the first to the second scalar, at so many bytes, hold the
+    /// third possible.
+    MayContain(Scalar, Scalar, usize, Scalar),
 }
 
 /// The makers of lists.
@@ -103,6 +106,7 @@ pub enum Makes {
     Truncated(StringCall),
     Owned,
     Increment,
+    MayContain,
 }
 
 /// Reads what a call is given.
@@ -143,6 +147,12 @@ pub fn read_maker(tokens: &mut Tokens<'_>, makes: Makes) -> Maker {
             let text_type = text_type_input(tokens);
             Maker::Increment(text_type, text_input(tokens))
         }
+        Makes::MayContain => {
+            let least = scalar_input(tokens);
+            let greatest = scalar_input(tokens);
+            let length = length_input(tokens);
+            Maker::MayContain(least, greatest, length, scalar_input(tokens))
+        }
     }
 }
 
@@ -170,6 +180,11 @@ pub fn answer_maker(alloc: Global, maker: Maker) -> Answer {
         Maker::Owned(rust, scalar) => takes::try_from_owned(rust, scalar),
         Maker::Increment(text_type, Some(text)) => bounds::increment(alloc, text_type, text),
         Maker::Increment(_, None) => Answer::Refused(VortexError::NotUtf8),
+        Maker::MayContain(least, greatest, length, value) => {
+            let answer = zones::may_contain(alloc, least, greatest, length, &value);
+            drop(value);
+            answer
+        }
     }
 }
 

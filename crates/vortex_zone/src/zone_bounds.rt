@@ -1,0 +1,145 @@
+//! The bounds of a zone.
+
+ghost use Rattle.std.specs.Prelude.{◌≡◌, ◌≢◌, ◌≤◌, List, IfErr, IfNone, IfOk, IfSome, Err};
+ghost use Rattle.std.specs.Option.{option_copied};
+ghost use Rattle.vortex_dtype.specs.TypeTree.{Same, binary_type, utf8_type};
+ghost use Rattle.vortex_dtype.specs.declared.error.VortexError.TheVariants.{OutOfMemory};
+ghost use Rattle.vortex_dtype.specs.declared.kinds.Nullability.TheVariants.{NonNullable};
+ghost use Rattle.vortex_value.specs.Values.Scalars.{IsValid, scalar_type};
+ghost use Rattle.vortex_zone.specs.Zone.{AreBoundsOf, AreBoundsOfKind, IsLongerThan, IsOfKind, LosesNothing, Stops, may_hold, refusal};
+
+use std::alloc::Global;
+use std::cmp::Ordering;
+use std::marker::Model;
+use vortex_array::{
+    BufferString, ByteBuffer, Nullability, Scalar, ScalarTruncation, VortexError, lower_bound,
+    upper_bound,
+};
+use vortex_value::laws::{order_is_reversed, order_is_transitive};
+
+/// The bounds of a zone, whose values lie from a least to a greatest one: both cut to a length in
+/// bytes. A value outside of them is not in the zone.
+///
+/// There is no upper bound where no string, or text, of that length is above the greatest value.
+#[derive(Debug, Drop)]
+pub struct ZoneBounds {
+    lower: Scalar,
+    upper: Option<Scalar>,
+}
+
+impl Model for ZoneBounds {
+    ghost use Rattle.std.specs.Coded.{codes};
+    ghost use Rattle.vortex_value.specs.contracts.scalars.Scalar as scalar;
+    ghost use Rattle.vortex_zone.specs.Zone.{AreValidBounds, Bounds};
+
+    ghost Value = { Bounds };
+
+    ghost coded = { Prim.hlevel (codes, scalar.the_row.coded) };
+
+    ghost view = { λ z. record { lower = z.lower; upper = z.upper } };
+
+    ghost invariant = { λ z. AreValidBounds z.lower z.upper };
+}
+
+impl ZoneBounds {
+    /// The bounds at n bytes of a zone whose values lie from `least` to `greatest`, two texts or two
+    /// strings of bytes. These are not compared.
+    ///
+    /// `WrongKind` unless both types are Utf8 or both Binary (an extension is neither); then
+    /// `IsNull` where one is null; then `OutOfMemory`, only where one is longer than n, at more than
+    /// 22 bytes.
+    pub fn of(
+        alloc: Global,
+        least: Scalar,
+        greatest: Scalar,
+        n: usize,
+    ) -> Result<ZoneBounds, VortexError>
+        requires least_valid { IsValid least }
+        requires greatest_valid { IsValid greatest }
+        ensures bounds { IfOk result (AreBoundsOf least greatest n) }
+        ensures typed { IfOk result (λ z. Same (scalar_type z.lower) (scalar_type least)) }
+        ensures loses_nothing { IfOk result (LosesNothing least greatest) }
+        ensures refused { IfSome (refusal least greatest) (λ e. result ≡ Err e) }
+        ensures memory { IfNone (refusal least greatest)
+            (IfErr result (λ e. (e ≡ OutOfMemory) × IsLongerThan n least greatest)) }
+        ensures inline { n ≤ 22 → IfErr result (λ e. e ≢ OutOfMemory) }
+    {
+        order_is_reversed();
+        order_is_transitive();
+        if least.dtype().is_utf8() && greatest.dtype().is_utf8() {
+            return of_kind::<BufferString>(alloc, least, greatest, n);
+        }
+        if least.dtype().is_binary() && greatest.dtype().is_binary() {
+            return of_kind::<ByteBuffer>(alloc, least, greatest, n);
+        }
+        drop((least, greatest));
+        Err(VortexError::WrongKind)
+    }
+
+    /// The lower bound, of non-nullable type: no value of the zone is below it.
+    pub fn lower(&self) -> &Scalar
+        ensures lent { result.now ≡ self.now.lower }
+        ensures valid { IsValid result.now }
+    {
+        &self.lower
+    }
+
+    /// The upper bound, of the same type, none where there is none: no value of the zone is above it.
+    pub fn upper(&self) -> Option<&Scalar>
+        ensures lent { option_copied result ≡ self.now.upper }
+        ensures valid { IfSome self.now.upper
+            (λ u. IsValid u × (scalar_type u ≡ scalar_type self.now.lower)) }
+    {
+        self.upper.as_ref()
+    }
+
+    /// Whether the zone may hold the value: false exactly for one that is no null and lies below the
+    /// lower bound, or above the upper one where there is one. Takes no memory.
+    pub fn may_contain(&self, value: &Scalar) -> bool
+        requires valid { IsValid value.now }
+        requires typed { Same (scalar_type value.now) (scalar_type self.now.lower) }
+        ensures { result ≡ may_hold self.now value.now }
+    {
+        if value.is_null() {
+            return true;
+        }
+        if value.partial_cmp(&self.lower) == Some(Ordering::Less) {
+            return false;
+        }
+        match &self.upper {
+            Some(upper) => value.partial_cmp(upper) != Some(Ordering::Greater),
+            None => true,
+        }
+    }
+}
+
+/// The bounds of a zone of texts, or of one of strings of bytes.
+fn of_kind<T: ScalarTruncation>(
+    alloc: Global,
+    least: Scalar,
+    greatest: Scalar,
+    n: usize,
+) -> Result<ZoneBounds, VortexError>
+    requires least_kind { IsOfKind T.type_at T.raw_at least }
+    requires greatest_kind { IsOfKind T.type_at T.raw_at greatest }
+    ensures bounds { IfOk result (AreBoundsOfKind T.IsBestLower T.IsBestUpper T.HasNoBestUpper
+        T.raw_at (T.type_at NonNullable) least greatest n) }
+    ensures refused { IfErr result (Stops T.raw_at least greatest n) }
+    ensures inline { n ≤ 22 → IfErr result (λ e. e ≢ OutOfMemory) }
+{
+    let least = T::from_scalar(least)?;
+    let greatest = T::from_scalar(greatest)?;
+    let (Some(least), Some(greatest)) = (least, greatest) else {
+        return Err(VortexError::IsNull);
+    };
+    let Some((lower, _)) = lower_bound(alloc, Some(least), n, Nullability::NonNullable)? else {
+        unreachable!()
+    };
+    match upper_bound(alloc, Some(greatest), n, Nullability::NonNullable)? {
+        Some((upper, _)) => Ok(ZoneBounds {
+            lower,
+            upper: Some(upper),
+        }),
+        None => Ok(ZoneBounds { lower, upper: None }),
+    }
+}
