@@ -45,7 +45,7 @@ fn bool_view<'a>(rt: &impl Abort, scalar: &'a Scalar) -> BoolScalar<'a> {
     BoolScalar::try_from(scalar).expect(rt, "a truth value")
 }
 
-fn text_view<'a>(rt: &impl Abort, scalar: &'a Scalar) -> Utf8Scalar<'a> {
+pub fn text_view<'a>(rt: &impl Abort, scalar: &'a Scalar) -> Utf8Scalar<'a> {
     Utf8Scalar::try_from(scalar).expect(rt, "a text")
 }
 

@@ -52,6 +52,8 @@ mod union_views;
 #[cfg(test)]
 mod values;
 #[cfg(test)]
+mod view_laws;
+#[cfg(test)]
 mod views;
 #[cfg(test)]
 mod zones;

@@ -149,7 +149,7 @@ fn cast_both(
 }
 
 /// The list of these two numbers.
-fn pair(rt: &(impl AllocGlobal + Abort), first: i32, second: i32) -> Scalar
+pub fn pair(rt: &(impl AllocGlobal + Abort), first: i32, second: i32) -> Scalar
     ensures valid { IsValid result }
     ensures typed { scalar_type result ≡
         list_type (integer_type PType.I32 Nullability.NonNullable) Nullability.NonNullable }

@@ -64,6 +64,16 @@ fn extensions_are_viewed_by_the_kind_below(rt: HostRuntime) {
     assert!(rt; view == view);
 }
 
+#[test]
+fn structs_are_viewed_of_tuples(rt: HostRuntime) {
+    let scalar = Scalar {
+        dtype: struct_of_two(&rt, I32, I32),
+        value: integer(1),
+    };
+    assert!(rt; StructScalar::try_from(&scalar).is_err());
+    drop(scalar);
+}
+
 fn struct_view<'a>(rt: &impl Abort, scalar: &'a Scalar) -> StructScalar<'a> {
     StructScalar::try_from(scalar).expect(rt, "a struct")
 }

@@ -120,3 +120,19 @@ fn equal_maps_are_one_in_a_set(rt: HostRuntime) {
     assert!(rt; !set.contains(&map_view(&rt, &all[2])));
     drop(set);
 }
+
+#[test]
+fn lists_and_maps_are_viewed_of_tuples(rt: HostRuntime) {
+    let all = [
+        Scalar {
+            dtype: list(&rt, I32),
+            value: integer(1),
+        },
+        Scalar {
+            dtype: map(&rt, I32, false),
+            value: integer(1),
+        },
+    ];
+    assert!(rt; ListScalar::try_from(&all[0]).is_err());
+    assert!(rt; MapScalar::try_from(&all[1]).is_err());
+}
