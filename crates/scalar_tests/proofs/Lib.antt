@@ -1,2 +1,3 @@
+mod CastCallers
 mod ListCasts
 mod Ways

@@ -10,6 +10,7 @@ use Rattle.vortex_dtype.specs.declared.kinds.PType.TheVariants.{I32, I64}
 use Rattle.vortex_pvalue.specs.Numbers.{InRange}
 use Rattle.vortex_value.specs.Laws.CastLaws.{CallsAreChains, ChainsAgree, ThereAndBack}
 use Rattle.vortex_value.specs.Casts.{Allows, CanCast, EachPlace, IsCast, RefusesCast, integers, lists}
+use Rattle.vortex_value.specs.Chains.{Runs}
 use Rattle.vortex_value.specs.Values.Content.{Content, null, whole, sequence, Contents, no_contents, content_then, content}
 use Rattle.vortex_value.specs.Laws.HasContent.{HasByCases, HasContent, HasEach}
 use Rattle.vortex_value.specs.Values.RawTree.{RawTree}
@@ -74,10 +75,21 @@ pub back_again : CallsAreChains → ThereAndBack → (x y z : Scalar) (t : TypeT
     → CanCast (scalar_type y) (scalar_type x) (scalar_content y) → IsTheOne (scalar_type x) (scalar_content y) z
     → IsMadeOf (scalar_type x) (scalar_raw x) z
 back_again calls law x y z t valid can one can' one' =
-    let first : IsCast (scalar_type x) t (scalar_raw x) (scalar_raw y) = calls.cast x y t can one in
+    let first : IsCast (scalar_type x) t (scalar_raw x) (scalar_raw y) = calls.cast (scalar_type x) t (scalar_raw x) y can one in
     let e : scalar_type y ≡ t = one.typed in
-    let second : IsCast t (scalar_type x) (scalar_raw y) (scalar_raw z) = rw e at (calls.cast y z (scalar_type x) can' one') in
+    let second : IsCast t (scalar_type x) (scalar_raw y) (scalar_raw z) = rw e at (calls.cast (scalar_type y) (scalar_type x) (scalar_raw y) z can' one') in
     record { typed = one'.typed; value = law (scalar_type x) t _ _ _ valid first second }
+
+-- a cast of the value v to u by way of t
+pub by_way : CallsAreChains → (s : TypeTree) (v : RawTree) (y z : Scalar) (t u : TypeTree) → Valid s v
+    → CanCast s t (content v) → IsTheOne t (content v) y → CanCast (scalar_type y) u (scalar_content y) → IsTheOne u (scalar_content y) z
+    → Runs s v t (u ∷ []) (scalar_raw z)
+by_way calls s v y z t u valid can one can' one' =
+    let e : scalar_type y ≡ t = one.typed in
+    let first = calls.cast s t v y can one in
+    let second : IsCast t u (scalar_raw y) (scalar_raw z) = rw e at (calls.cast (scalar_type y) u (scalar_raw y) z can' one') in
+    let between : Valid t (scalar_raw y) = rw e at one.valid in
+    calls.further s t u [] v _ _ valid first (calls.alone t u _ _ between second)
 
 -- casts of x to u by way of t, and at once
 pub ways_agree : CallsAreChains → ChainsAgree → (x y z w : Scalar) (t u : TypeTree) → IsValid x
@@ -87,12 +99,8 @@ pub ways_agree : CallsAreChains → ChainsAgree → (x y z w : Scalar) (t u : Ty
     → scalar_raw z ≡ scalar_raw w
 ways_agree calls law x y z w t u valid can one can' one' can'' one'' =
     let s = scalar_type x in
-    let e : scalar_type y ≡ t = one.typed in
-    let first = calls.cast x y t can one in
-    let second : IsCast t u (scalar_raw y) (scalar_raw z) = rw e at (calls.cast y z u can' one') in
-    let between : Valid t (scalar_raw y) = rw e at one.valid in
-    let chained = calls.further s t u [] _ _ _ valid first (calls.alone t u _ _ between second) in
-    law s (scalar_raw x) t u (u ∷ []) [] _ _ chained (calls.alone s u _ _ valid (calls.cast x w u can'' one'')) refl
+    let chained = by_way calls s (scalar_raw x) y z t u valid can one can' one' in
+    law s (scalar_raw x) t u (u ∷ []) [] _ _ chained (calls.alone s u _ _ valid (calls.cast s u (scalar_raw x) w can'' one'')) refl
 
 -- of a result: what holds of its value by two facts, and why it is a refusal
 pub if_both : {A B : Type 0} (r : Result A B) (P Q R : A → Type 0) → IfOk r P → IfOk r Q → ((x : A) → P x → Q x → R x) → IfOk r R
