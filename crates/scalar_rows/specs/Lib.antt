@@ -1,5 +1,0 @@
-pub mod Answers
-pub mod Commands
-pub mod Grammar
-pub mod Lines
-pub mod Rows

@@ -1,7 +1,7 @@
 //! A program's input and output where readers give little at a time and where reads and writes
 //! fail in the middle.
 
-use rows_io::{RowsError, fault_line, read_all, write_out};
+use rows::{RowsError, fault_line, read_all, write_out};
 use std::io::{self, Read, Write};
 use std::process::Abort;
 

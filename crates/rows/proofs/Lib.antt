@@ -1,0 +1,6 @@
+pub mod Bounds
+pub mod Castings
+pub mod Cuts
+pub mod KnownReads
+pub mod Numerals
+pub mod Operands

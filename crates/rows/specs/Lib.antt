@@ -1,0 +1,6 @@
+pub mod Answers
+pub mod Commands
+pub mod FaultTexts
+pub mod Grammar
+pub mod Lines
+pub mod Rows

@@ -1,0 +1,36 @@
+-- What a text gives, line by line.
+use Rattle.std.specs.Prelude.{ℕ, List, [], ◌∷◌, ◌++◌, Option, None, Some, if◌then◌else◌, codes, length, nat_le}
+use Rattle.std.specs.List.{flat_map}
+use Rattle.hex.specs.Hex.{encode_lower}
+use Rattle.vortex_pvalue.specs.Numbers.{in_range}
+use Rattle.vortex_pvalue.specs.Whole.{number_text}
+use Rattle.vortex_array.specs.Strings.{lower_of, upper_of}
+use Rattle.rows.specs.Grammar.{Request, cast, bound, request_in}
+use Rattle.rows.specs.Lines.{lines_of}
+use Rattle.rows.specs.declared.commands.Side.{Side}
+use Rattle.rows.specs.declared.commands.Side.TheVariants.{Lower, Upper}
+
+-- a bound in lower case hexadecimal, or that there is none
+abbrev pub bound_text : Option (List ℕ) → List ℕ
+bound_text None = codes "none"
+bound_text (Some bytes) = encode_lower bytes
+
+-- the bound on this side of a string of more than n bytes
+abbrev pub bound_of : Side → ℕ → List ℕ → Option (List ℕ)
+bound_of Lower n bytes = Some (lower_of bytes n)
+bound_of Upper n bytes = upper_of bytes n
+
+-- what a request gives: the number, if the second kind has it, or that the cast is refused; the string itself, if it has
+-- at most n bytes, and else its bound, if there is one
+abbrev pub request_text : Request → List ℕ
+request_text (cast from z to) = if in_range to z then number_text to z else codes "refused"
+request_text (bound side n bytes) = if nat_le (length bytes) n then encode_lower bytes else bound_text (bound_of side n bytes)
+
+-- a line that asks for nothing is bad
+abbrev pub row_text : Option Request → List ℕ
+row_text None = codes "bad line"
+row_text (Some request) = request_text request
+
+-- what a text gives: an output line for each line
+abbrev pub rows_of : List ℕ → List ℕ
+rows_of text = flat_map (λ line. row_text (request_in line) ++ 10 ∷ []) (lines_of text)

@@ -1,0 +1,18 @@
+//! All that the program `scalar_rows` does but its `main`: lines such as `cast i32 1000 i16` are
+//! read, and what each gives, as `1000i16`, is written.
+#![tactic(auto)]
+
+mod answers;
+mod commands;
+mod faults;
+mod input;
+mod numbers;
+mod output;
+mod print;
+mod run;
+mod words;
+
+pub use faults::{RowsError, fault_line};
+pub use input::read_all;
+pub use output::write_out;
+pub use run::run;
