@@ -9,10 +9,10 @@ mod input;
 mod numbers;
 mod output;
 mod print;
-mod run;
+mod program;
 mod words;
 
 pub use faults::{RowsError, fault_line};
 pub use input::read_all;
 pub use output::write_out;
-pub use run::run;
+pub use program::run;

@@ -58,4 +58,6 @@ mod view_laws;
 #[cfg(test)]
 mod views;
 #[cfg(test)]
+mod whole_runs;
+#[cfg(test)]
 mod zones;

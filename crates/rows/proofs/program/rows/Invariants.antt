@@ -1,7 +1,7 @@
 -- What was written so far and what the rest gives are what all gives.
 use Rattle.std.proofs.Common.{◌≡◌, ◌++◌, length}
 use Rattle.rows.specs.Rows.{rows_of}
-use Rattle.rows.proofs.run.rows.Given as goal
+use Rattle.rows.proofs.program.rows.Given as goal
 
 abbrev pub invariant-loop-rest : goal.invariant-loop-rest
 invariant-loop-rest l = l.output.items ++ rows_of l.rest ≡ rows_of l.input
