@@ -1,0 +1,6 @@
+-- The zero that is given is zero.
+use Rattle.scalar_tests.proofs.GivenZeros.{given_zero}
+use Rattle.scalar_tests.proofs.fillings.zero_of.Goals as goal
+
+pub returns : goal.returns
+returns c = given_zero c.zero_is_zero.ensures _ c.zero_value.result c.zero_value.ensures.one
