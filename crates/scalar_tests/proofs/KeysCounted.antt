@@ -12,7 +12,7 @@ use Rattle.vortex_views.specs.Parts.{Part, parts_by, parts_of}
 -- what is counted along a run is what was left
 pub counted : {S A B : Type 0} (view : A → B) (left : S → List B) (steps : S → Option (Result A VortexError) → S → Type 0) → GivesEachPart view left steps
     → (s : S) (parts : List B) (n : ℕ) → left s ≡ parts → ((xs : List (Result A VortexError)) × Drains steps s xs × (n ≡ length xs)) → n ≡ length parts
-counted view left steps law s parts n is ran = ran.1.1 ∙ AllZip-long _ _ _ (law s ran.0 ran.1.0) ∙ ap length is
+counted view left steps law s parts n is ran = ran.2 ∙ AllZip-long _ _ _ (law s ran.0 ran.1) ∙ ap length is
 
 -- a map has as many keys as parts
 pub as_many : {X : Type 0} (part : X → RawTree → Part × Part) (o : Option X) (v : RawTree) → is_some o ≡ true
