@@ -1,3 +1,3 @@
-mod CastCallers
+mod GivenZeros
+mod KeysCounted
 mod ListCasts
-mod Ways

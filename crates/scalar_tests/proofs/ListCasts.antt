@@ -1,14 +1,15 @@
 -- Which casts between lists of integers are possible, and what the laws say of the scalars that several casts give.
 use Rattle.std.proofs.Common.{◌≡◌, ℤ, pos, negsuc, [], ◌∷◌, Ok, Err, IfErr, IfOk, arith, refl}
 use Rattle.std.specs.Prelude.{Result}
-use Rattle.vortex_dtype.specs.TypeTree.{TypeTree, integer_type, list_type}
+use Rattle.vortex_dtype.specs.TypeTree.{TypeTree, as_nullable, integer_type, list_type}
 use Rattle.vortex_dtype.specs.declared.error.VortexError.{VortexError}
 use Rattle.vortex_dtype.specs.declared.error.VortexError.TheVariants.{CannotCast, OutOfMemory}
 use Rattle.vortex_dtype.specs.declared.kinds.Nullability.TheVariants.{NonNullable}
 use Rattle.vortex_dtype.specs.declared.kinds.PType.{PType}
 use Rattle.vortex_dtype.specs.declared.kinds.PType.TheVariants.{I32, I64}
 use Rattle.vortex_pvalue.specs.Numbers.{InRange}
-use Rattle.vortex_value.specs.Laws.CastLaws.{CallsAreChains, ChainsAgree, ThereAndBack}
+use Rattle.vortex_value.specs.CastAnswers.{AnswersCast, GivesCast}
+use Rattle.vortex_value.specs.Laws.CastLaws.{CallsAreChains, ChainsAgree, NullableCastsBack, ThereAndBack}
 use Rattle.vortex_value.specs.Casts.{Allows, CanCast, EachPlace, IsCast, RefusesCast, integers, lists}
 use Rattle.vortex_value.specs.Chains.{Runs}
 use Rattle.vortex_value.specs.Values.Content.{Content, null, whole, sequence, Contents, no_contents, content_then, content}
@@ -101,6 +102,11 @@ ways_agree calls law x y z w t u valid can one can' one' can'' one'' =
     let s = scalar_type x in
     let chained = by_way calls s (scalar_raw x) y z t u valid can one can' one' in
     law s (scalar_raw x) t u (u ∷ []) [] _ _ chained (calls.alone s u _ _ valid (calls.cast s u (scalar_raw x) w can'' one'')) refl
+
+-- y, which is x made nullable, cast back to the type of x
+pub comes_back : NullableCastsBack → (x y : Scalar) (t : TypeTree) (r : Result Scalar VortexError) → t ≡ scalar_type x → IsValid x
+    → IsMadeOf (as_nullable (scalar_type x)) (scalar_raw x) y → AnswersCast (scalar_type y) t (scalar_raw y) r → GivesCast (scalar_type x) (scalar_raw x) r
+comes_back law x y t r e valid made answers = law x y r valid made (rw e at answers)
 
 -- of a result: what holds of its value by two facts, and why it is a refusal
 pub if_both : {A B : Type 0} (r : Result A B) (P Q R : A → Type 0) → IfOk r P → IfOk r Q → ((x : A) → P x → Q x → R x) → IfOk r R

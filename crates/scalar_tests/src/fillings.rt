@@ -2,7 +2,9 @@
 
 ghost use Rattle.std.specs.Prelude.{◌≡◌, Some, true, IfErr, IfOk, IfSome};
 ghost use Rattle.vortex_dtype.specs.TypeOf.{type_of};
+ghost use Rattle.vortex_dtype.specs.TypeTree.{IsNullable};
 ghost use Rattle.vortex_value.specs.TypesWithin.{UnionsHaveVariants};
+ghost use Rattle.vortex_value.specs.Values.Content.{null};
 ghost use Rattle.vortex_value.specs.Values.Scalars.{scalar_content, scalar_type};
 ghost use Rattle.vortex_value.specs.Zero.{is_zero_of};
 
@@ -10,7 +12,7 @@ use crate::fixtures::I32;
 use std::alloc::Global;
 use vortex_dtype::{DType, Nullability, VortexError};
 use vortex_value::Scalar;
-use vortex_value::laws::{default_exists, zero_is_zero};
+use vortex_value::laws::{default_by_cases, default_exists, zero_is_zero};
 
 /// The zero of a type, none where there is none: one that is zero.
 fn zero_of(alloc: Global, dtype: &DType) -> Result<Option<Scalar>, VortexError>
@@ -35,6 +37,21 @@ fn default_of(alloc: Global, dtype: &DType) -> Result<Scalar, VortexError>
     }
 }
 
+/// The default of a nullable type: its null.
+///
+/// `OutOfMemory` is its only refusal.
+fn default_of_nullable(alloc: Global, dtype: &DType) -> Result<Scalar, VortexError>
+    requires { IsNullable (type_of dtype.now) }
+    ensures made { IfOk result (λ made. scalar_content made ≡ null) }
+    ensures refused { IfErr result (λ e. e ≡ VortexError.OutOfMemory) }
+{
+    default_by_cases();
+    match Scalar::default_value(alloc, dtype)? {
+        Some(default) => Ok(default),
+        None => unreachable!(),
+    }
+}
+
 #[test]
 fn a_zero_is_zero(rt: HostRuntime) {
     let zero = zero_of(rt.alloc(), &I32).expect(&rt, "memory");
@@ -50,6 +67,15 @@ fn a_zero_is_zero(rt: HostRuntime) {
 fn a_default_is_there(rt: HostRuntime) {
     let dtype = DType::Variant(Nullability::Nullable);
     let default = default_of(rt.alloc(), &dtype).expect(&rt, "memory");
+    assert!(rt; default.is_null());
+    drop(default);
+    drop(dtype);
+}
+
+#[test]
+fn the_default_of_a_nullable_type_is_null(rt: HostRuntime) {
+    let dtype = DType::Utf8(Nullability::Nullable);
+    let default = default_of_nullable(rt.alloc(), &dtype).expect(&rt, "memory");
     assert!(rt; default.is_null());
     drop(default);
     drop(dtype);

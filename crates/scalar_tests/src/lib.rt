@@ -8,8 +8,6 @@ mod borrowed;
 #[cfg(test)]
 mod bounds;
 #[cfg(test)]
-mod cast_laws;
-#[cfg(test)]
 mod columns;
 #[cfg(test)]
 mod conversions;

@@ -3,6 +3,7 @@
 ghost use Rattle.std.specs.Prelude.{◌≡◌, [], ◌∷◌, IfErr, IfOk};
 ghost use Rattle.vortex_dtype.specs.TypeOf.{type_of};
 ghost use Rattle.vortex_dtype.specs.TypeTree.{Same, integer_type, list_type};
+ghost use Rattle.vortex_value.specs.CastAnswers.{GivesCast};
 ghost use Rattle.vortex_value.specs.Chains.{Runs};
 ghost use Rattle.vortex_value.specs.TypesWithin.{HasNoExtension, HasNoMap};
 ghost use Rattle.vortex_value.specs.Values.Scalars.{IsMadeOf, IsValid, scalar_order, scalar_raw, scalar_type};
@@ -81,44 +82,31 @@ fn by_way_of(
     step.cast(alloc, target)
 }
 
-/// A scalar cast at once, where the way by the type between is not refused; none where it is.
-///
-/// `OutOfMemory` is its only refusal.
+/// A scalar cast at once, of which `chained` is the cast by way of the type between: its value, or
+/// out of memory.
 fn at_once(
     alloc: Global,
     scalar: &Scalar,
-    between: &DType,
+    _between: &DType,
     target: &DType,
-) -> Result<Option<Scalar>, VortexError>
+    chained: &Scalar,
+) -> Result<Scalar, VortexError>
     requires valid { IsValid scalar.now }
+    requires chain { Runs (scalar_type scalar.now) (scalar_raw scalar.now)
+        (type_of _between.now) (type_of target.now ∷ []) (scalar_raw chained.now) }
     requires source { HasNoExtension (scalar_type scalar.now) × HasNoMap (scalar_type scalar.now) }
     requires last { HasNoExtension (type_of target.now) × HasNoMap (type_of target.now) }
-    ensures { IfErr result (λ e. e ≡ VortexError.OutOfMemory) }
+    ensures { GivesCast (type_of target.now) (scalar_raw chained.now) result }
 {
     no_way_round();
-    match by_way_of(alloc, scalar, between, target) {
-        Ok(made) => {
-            drop(made);
-            match scalar.cast(alloc, target) {
-                Ok(made) => Ok(Some(made)),
-                Err(refusal) => Err(refusal),
-            }
-        }
-        Err(refusal) => {
-            drop(refusal);
-            Ok(None)
-        }
-    }
+    scalar.cast(alloc, target)
 }
 
-/// A scalar made nullable and cast back to its type: what it was.
-///
-/// `OutOfMemory` is its only refusal.
+/// A scalar made nullable and cast back to its type: what it was, or out of memory.
 fn nullable_and_back(alloc: Global, scalar: Scalar, dtype: &DType) -> Result<Scalar, VortexError>
     requires valid { IsValid scalar }
     requires typed { type_of dtype.now ≡ scalar_type scalar }
-    ensures came_back { IfOk result (IsMadeOf (scalar_type scalar) (scalar_raw scalar)) }
-    ensures refused { IfErr result (λ e. e ≡ VortexError.OutOfMemory) }
+    ensures { GivesCast (scalar_type scalar) (scalar_raw scalar) result }
 {
     into_nullable_and_back();
     let nullable = scalar.into_nullable();
@@ -191,24 +179,20 @@ fn no_way_round_leads_further(rt: HostRuntime) {
     let types = [
         DType::Primitive(PType::I64, Nullability::NonNullable),
         DType::Primitive(PType::U8, Nullability::Nullable),
-        DType::Bool(Nullability::NonNullable),
     ];
-    let made = at_once(rt.alloc(), &number, &types[0], &types[1]).expect(&rt, "memory");
-    let made = made.expect(&rt, "a way");
-    assert!(rt; u8::try_from(&made).expect(&rt, "a number") == 255);
-    let none = at_once(rt.alloc(), &number, &types[2], &types[1]).expect(&rt, "memory");
-    assert!(rt; none.is_none());
-    drop(none);
+    let chained = by_way_of(rt.alloc(), &number, &types[0], &types[1]).expect(&rt, "casts");
+    let direct = at_once(rt.alloc(), &number, &types[0], &types[1], &chained);
+    let made = [chained, direct.expect(&rt, "memory")];
+    assert!(rt; made[0] == made[1]);
     drop(made);
     drop(number);
 }
 
 #[test]
 fn what_was_made_nullable_comes_back(rt: HostRuntime) {
-    let list = pair(&rt, i32::MIN, 7);
-    let dtype = list_of(rt.alloc(), PType::I32).expect(&rt, "a type");
-    let back = nullable_and_back(rt.alloc(), list, &dtype).expect(&rt, "the list");
-    assert!(rt; back == pair(&rt, i32::MIN, 7));
+    let dtype = DType::Bool(Nullability::NonNullable);
+    let truth = Scalar::bool(true, Nullability::NonNullable);
+    let back = nullable_and_back(rt.alloc(), truth, &dtype).expect(&rt, "memory");
     assert!(rt; back.dtype == dtype);
     drop(back);
     drop(dtype);

@@ -8,22 +8,17 @@ ghost use Rattle.vortex_value.specs.Equality.{EqualContents};
 ghost use Rattle.vortex_value.specs.Hashing.{typed_feed};
 ghost use Rattle.vortex_value.specs.TypesWithin.{HasNoVariant};
 ghost use Rattle.vortex_value.specs.Values.Refs.{IsValidRef, ref_content, ref_type};
-ghost use Rattle.vortex_value.specs.Values.Scalars.{IsValid, scalar_type};
-ghost use Rattle.vortex_views.specs.Extensions.{ext_ref};
 ghost use Rattle.vortex_views.specs.Lists.{list_ref};
 ghost use Rattle.vortex_views.specs.Parts.{ref_feed};
-ghost use Rattle.vortex_views.specs.Structs.{struct_ref};
 
-use crate::fixtures::{I32, byte_buffer, integer, name, text_buffer, tuple};
+use crate::fixtures::text_buffer;
 use crate::leaf_views::text_view;
 use crate::round_trips::pair;
 use std::cmp::Ordering;
-use std::process::Abort;
 use vortex_dtype::Nullability::{NonNullable, Nullable};
-use vortex_dtype::{DType, ExtDType, StructFields};
 use vortex_leaves::Utf8Scalar;
 use vortex_value::Scalar;
-use vortex_views::{ExtScalar, ListScalar, StructScalar};
+use vortex_views::ListScalar;
 
 /// Whether the order says Equal of two texts.
 fn are_tied_texts(first: &Utf8Scalar<'_>, second: &Utf8Scalar<'_>) -> bool
@@ -56,61 +51,6 @@ fn are_tied_lists(first: &ListScalar<'_>, second: &ListScalar<'_>) -> bool
     matches!(first.partial_cmp(second), Some(Ordering::Equal))
 }
 
-/// Whether the order says Equal of two structs.
-fn are_tied_structs(first: &StructScalar<'_>, second: &StructScalar<'_>) -> bool
-    requires valid { IsValidRef (struct_ref first.now) }
-    requires typed { HasNoVariant (ref_type (struct_ref first.now)) }
-    ensures { IsTrue result → ref_feed (struct_ref first.now) ≡ ref_feed (struct_ref second.now) }
-{
-    vortex_views::laws::hash_agrees();
-    vortex_views::laws::order_agrees_with_equality();
-    matches!(first.partial_cmp(second), Some(Ordering::Equal))
-}
-
-/// Whether the order says Equal of two values of extensions.
-fn are_tied_extensions(first: &ExtScalar<'_>, second: &ExtScalar<'_>) -> bool
-    requires valid { IsValidRef (ext_ref first.now) }
-    requires typed { HasNoVariant (ref_type (ext_ref first.now)) }
-    ensures { IsTrue result → ref_feed (ext_ref first.now) ≡ ref_feed (ext_ref second.now) }
-{
-    vortex_views::laws::hash_agrees();
-    vortex_views::laws::order_agrees_with_equality();
-    matches!(first.partial_cmp(second), Some(Ordering::Equal))
-}
-
-/// The struct of this number alone.
-fn struct_of(rt: &(impl AllocGlobal + Abort), number: i32) -> Scalar
-    ensures valid { IsValid result }
-    ensures typed { HasNoVariant (scalar_type result) }
-{
-    let names = vec![in rt.alloc(); name(rt, "a")].expect(rt, "names");
-    let dtypes = vec![in rt.alloc(); I32].expect(rt, "types");
-    let fields = StructFields::new(rt.alloc(), names, dtypes).expect(rt, "fields");
-    let made = Scalar {
-        dtype: DType::Struct(fields, NonNullable),
-        value: tuple(rt, [integer(number)]),
-    };
-    let checked = Scalar::validate(rt.alloc(), made.dtype(), made.value());
-    checked.expect(rt, "a valid struct");
-    made
-}
-
-/// The number of an extension of integers.
-fn extended(rt: &(impl AllocGlobal + Abort), number: i32) -> Scalar
-    ensures valid { IsValid result }
-    ensures typed { HasNoVariant (scalar_type result) }
-{
-    let id = text_buffer(rt, "id");
-    let extension = ExtDType::new(rt.alloc(), id, byte_buffer(rt, &[]), I32);
-    let made = Scalar {
-        dtype: DType::Extension(extension.expect(rt, "an extension")),
-        value: integer(number),
-    };
-    let checked = Scalar::validate(rt.alloc(), made.dtype(), made.value());
-    checked.expect(rt, "a valid number");
-    made
-}
-
 #[test]
 fn tied_texts_are_seen(rt: HostRuntime) {
     let all = [
@@ -131,22 +71,4 @@ fn tied_lists_are_seen(rt: HostRuntime) {
     let third = ListScalar::try_from(&all[2]).expect(&rt, "a list");
     assert!(rt; are_tied_lists(&first, &second));
     assert!(rt; !are_tied_lists(&first, &third));
-}
-
-#[test]
-fn tied_structs_are_seen(rt: HostRuntime) {
-    let all = [struct_of(&rt, 1), struct_of(&rt, 2)];
-    let first = StructScalar::try_from(&all[0]).expect(&rt, "a struct");
-    let second = StructScalar::try_from(&all[1]).expect(&rt, "a struct");
-    assert!(rt; are_tied_structs(&first, &first));
-    assert!(rt; !are_tied_structs(&first, &second));
-}
-
-#[test]
-fn tied_extensions_are_seen(rt: HostRuntime) {
-    let all = [extended(&rt, 7), extended(&rt, 8)];
-    let first = ExtScalar::try_from(&all[0]).expect(&rt, "an extension");
-    let second = ExtScalar::try_from(&all[1]).expect(&rt, "an extension");
-    assert!(rt; are_tied_extensions(&first, &first));
-    assert!(rt; !are_tied_extensions(&first, &second));
 }

@@ -39,7 +39,7 @@ fn parts_of_maps_go_through_adapters(rt: HostRuntime) {
 
 /// How many keys a map gives: as many as it has entries.
 fn keys_given(rt: &impl AllocGlobal, map: MapScalar<'_>) -> usize
-    ensures { result ≡ length (parts_of (ref_raw (map_ref map))) }
+    ensures { result ≡ length (parts_of (ref_raw (map_ref map.entry))) }
 {
     iterators_give_each_part();
     map.keys(rt.alloc()).count()

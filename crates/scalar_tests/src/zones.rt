@@ -28,7 +28,9 @@ fn is_read(
     ensures { IfOk result (λ read. IsWithin least greatest value.now → IsTrue read) }
 {
     let bounds = ZoneBounds::of(alloc, least, greatest, length)?;
-    Ok(bounds.may_contain(value))
+    let read = bounds.may_contain(value);
+    drop(bounds);
+    Ok(read)
 }
 
 /// Whether a zone is read for a null: always.
