@@ -4,6 +4,6 @@ use Rattle.scalar_tests.proofs.round_trips.nullable_and_back.Goals as goal
 
 pub returns : goal.returns
 returns c =
-    comes_back c.into_nullable_and_back.ensures.calls c.args.scalar _ _ c.cast-back.back c.requires.typed c.requires.valid
+    comes_back c.into_nullable_and_back.ensures.calls c.args.scalar _ _ c.cast-back.result c.requires.typed c.requires.valid
     c.into_nullable-nullable.ensures.made
     (record { succeeds_only = c.cast-back.ensures.succeeds_only; one = c.cast-back.ensures.one; refuses_only = c.cast-back.ensures.refuses_only })

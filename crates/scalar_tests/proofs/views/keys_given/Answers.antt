@@ -1,7 +1,8 @@
 -- As many keys are given as were left.
 use Rattle.std.proofs.Common.{◌∙◌}
+use Rattle.vortex_views.specs.contracts.iterators.KeysIterator.TheImpl.{ghosts}
 use Rattle.scalar_tests.proofs.KeysCounted.{as_many, counted}
 use Rattle.scalar_tests.proofs.views.keys_given.Goals as goal
 
 pub returns : goal.returns
-returns c = counted _ _ _ c.iterators_give_each_part.ensures.keys _ _ _ c.keys.ensures.all c.count.ensures.ran ∙ as_many _ _ _ c.args.map.kind
+returns g c = counted _ _ ghosts.next_gives c.iterators_give_each_part.ensures.keys c.keys.result _ _ c.keys.ensures.all c.count.ensures.ran ∙ as_many _ _ _ c.args.map.kind
