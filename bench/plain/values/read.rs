@@ -1,0 +1,320 @@
+//! Lines as they are read.
+
+use std::sync::Arc;
+
+use crate::error::TypeCause;
+use crate::pvalues::PValue;
+use crate::types::{
+    DType, ExtDType, FieldName, MapDType, Nullability, PType, StructFields, UnionVariants,
+};
+use crate::values::{BufferString, ByteBuffer, Scalar, ScalarValue, UnionValue};
+
+/// A line that cannot be read.
+pub struct BadLine;
+
+pub type Read<T> = Result<T, BadLine>;
+
+pub struct Reader<'a> {
+    line: &'a str,
+    at: usize,
+    /// Of the first type that cannot be made.
+    pub refusal: Option<TypeCause>,
+}
+
+fn is_word(byte: u8) -> bool {
+    byte.is_ascii_alphanumeric() || byte == b'_'
+}
+
+/// Words, numbers and texts.
+impl<'a> Reader<'a> {
+    pub fn new(line: &'a str) -> Self {
+        Self {
+            line,
+            at: 0,
+            refusal: None,
+        }
+    }
+
+    fn peek(&self) -> Option<u8> {
+        self.line.as_bytes().get(self.at).copied()
+    }
+
+    fn next(&mut self) -> Read<u8> {
+        let byte = self.peek().ok_or(BadLine)?;
+        self.at += 1;
+        Ok(byte)
+    }
+
+    /// The bytes up to the first that is none of these.
+    fn run(&mut self, of: impl Fn(u8) -> bool) -> &'a str {
+        let start = self.at;
+        while self.peek().is_some_and(&of) {
+            self.at += 1;
+        }
+        &self.line[start..self.at]
+    }
+
+    pub fn spaces(&mut self) -> usize {
+        self.run(|byte| byte == b' ').len()
+    }
+
+    pub fn end(&mut self) -> Read<()> {
+        self.spaces();
+        if self.at == self.line.len() {
+            Ok(())
+        } else {
+            Err(BadLine)
+        }
+    }
+
+    /// Takes the token, where it comes next.
+    fn take(&mut self, token: u8) -> bool {
+        self.spaces();
+        let is_next = self.peek() == Some(token);
+        self.at += usize::from(is_next);
+        is_next
+    }
+
+    fn need(&mut self, token: u8) -> Read<()> {
+        if self.take(token) {
+            Ok(())
+        } else {
+            Err(BadLine)
+        }
+    }
+
+    pub fn word(&mut self) -> Read<&'a str> {
+        self.spaces();
+        let word = self.run(is_word);
+        if word.is_empty() || word.as_bytes()[0].is_ascii_digit() {
+            Err(BadLine)
+        } else {
+            Ok(word)
+        }
+    }
+
+    fn number<T: std::str::FromStr>(&mut self) -> Read<T> {
+        self.spaces();
+        self.run(|byte| byte.is_ascii_digit())
+            .parse()
+            .map_err(|_| BadLine)
+    }
+
+    fn hex(&mut self) -> Read<Vec<u8>> {
+        let digits = self.run(|byte| byte.is_ascii_hexdigit());
+        let byte = |at| u8::from_str_radix(digits.get(at..at + 2)?, 16).ok();
+        (0..digits.len())
+            .step_by(2)
+            .map(|at| byte(at).ok_or(BadLine))
+            .collect()
+    }
+
+    fn quoted(&mut self) -> Read<String> {
+        self.need(b'"')?;
+        let mut text = String::new();
+        loop {
+            text.push_str(self.run(|byte| byte != b'"' && byte != b'\\'));
+            if self.next()? == b'"' {
+                return Ok(text);
+            }
+            text.push(match self.next()? {
+                b'\\' => '\\',
+                b'"' => '"',
+                b'n' => '\n',
+                b'r' => '\r',
+                b't' => '\t',
+                b'u' => self.code_point()?,
+                _ => return Err(BadLine),
+            });
+        }
+    }
+
+    fn code_point(&mut self) -> Read<char> {
+        self.need(b'{')?;
+        let digits = self.run(|byte| byte.is_ascii_hexdigit());
+        self.need(b'}')?;
+        let code = u32::from_str_radix(digits, 16).map_err(|_| BadLine)?;
+        char::from_u32(code).ok_or(BadLine)
+    }
+
+    fn name(&mut self) -> Read<FieldName> {
+        self.spaces();
+        match self.peek() {
+            Some(b'"') => Ok(self.quoted()?.into()),
+            _ => Ok(self.word()?.into()),
+        }
+    }
+
+    /// Parts with commas between, up to the closing bracket.
+    fn parts(&mut self, close: u8, mut read: impl FnMut(&mut Self) -> Read<()>) -> Read<()> {
+        if self.take(close) {
+            return Ok(());
+        }
+        loop {
+            read(self)?;
+            if self.take(close) {
+                return Ok(());
+            }
+            self.need(b',')?;
+        }
+    }
+}
+
+/// Types.
+impl Reader<'_> {
+    pub fn dtype(&mut self) -> Read<DType> {
+        let dtype = self.bare_type()?;
+        Ok(if self.take(b'?') {
+            dtype.into_nullable()
+        } else {
+            dtype
+        })
+    }
+
+    fn bare_type(&mut self) -> Read<DType> {
+        let not = Nullability::NonNullable;
+        if self.take(b'{') {
+            return Ok(DType::Struct(self.fields()?, not));
+        }
+        let word = self.word()?;
+        Ok(match word {
+            "null" => DType::Null,
+            "bool" => DType::Bool(not),
+            "utf8" => DType::Utf8(not),
+            "binary" => DType::Binary(not),
+            "variant" => DType::Variant(not),
+            "list" | "fsl" | "map" | "union" | "ext" => {
+                self.need(b'(')?;
+                self.type_with_parts(word)?
+            }
+            word => DType::Primitive(PType::named(word).ok_or(BadLine)?, not),
+        })
+    }
+
+    /// What stands behind the open bracket.
+    fn type_with_parts(&mut self, word: &str) -> Read<DType> {
+        let not = Nullability::NonNullable;
+        let dtype = match word {
+            "union" => return Ok(DType::Union(self.variants()?, not)),
+            "list" => DType::List(Arc::new(self.dtype()?), not),
+            "map" => DType::Map(self.map()?, not),
+            "fsl" => {
+                let element = Arc::new(self.dtype()?);
+                self.need(b',')?;
+                DType::FixedSizeList(element, self.number()?, not)
+            }
+            _ => {
+                let id = self.name()?;
+                self.need(b',')?;
+                self.spaces();
+                let metadata = self.hex()?;
+                self.need(b',')?;
+                DType::Extension(ExtDType::new(id, metadata.into(), self.dtype()?))
+            }
+        };
+        self.need(b')')?;
+        Ok(dtype)
+    }
+
+    fn map(&mut self) -> Read<MapDType> {
+        let key = self.dtype()?;
+        self.need(b',')?;
+        let value = self.dtype()?;
+        let keys_sorted = self.take(b',');
+        if keys_sorted && self.word()? != "sorted" {
+            return Err(BadLine);
+        }
+        if key.is_nullable() {
+            self.refusal.get_or_insert(TypeCause::NullableKey);
+        }
+        Ok(MapDType::new(key, value, keys_sorted))
+    }
+
+    fn fields(&mut self) -> Read<StructFields> {
+        let (mut names, mut dtypes) = (Vec::new(), Vec::new());
+        self.parts(b'}', |reader| {
+            names.push(reader.name()?);
+            reader.need(b':')?;
+            dtypes.push(reader.dtype()?);
+            Ok(())
+        })?;
+        Ok(StructFields::new(names, dtypes))
+    }
+
+    fn variants(&mut self) -> Read<UnionVariants> {
+        let (mut names, mut dtypes, mut type_ids) = (Vec::new(), Vec::new(), Vec::new());
+        let mut is_repeated = false;
+        self.parts(b')', |reader| {
+            let id: u8 = reader.number()?;
+            is_repeated |= type_ids.contains(&id);
+            type_ids.push(id);
+            names.push(reader.name()?);
+            reader.need(b':')?;
+            dtypes.push(reader.dtype()?);
+            Ok(())
+        })?;
+        if is_repeated {
+            self.refusal.get_or_insert(TypeCause::RepeatedTypeId);
+        }
+        Ok(UnionVariants::new(names, dtypes, type_ids))
+    }
+}
+
+/// Raw values.
+impl Reader<'_> {
+    pub fn scalar(&mut self) -> Read<Scalar> {
+        let dtype = self.dtype()?;
+        self.need(b':')?;
+        Ok(Scalar::new_unchecked(dtype, self.raw()?))
+    }
+
+    fn raw(&mut self) -> Read<Option<ScalarValue>> {
+        self.spaces();
+        Ok(Some(match self.peek().ok_or(BadLine)? {
+            b'"' => ScalarValue::Utf8(BufferString::new(self.quoted()?)),
+            b'[' => {
+                self.at += 1;
+                let mut elements = Vec::new();
+                self.parts(b']', |reader| {
+                    elements.push(reader.raw()?);
+                    Ok(())
+                })?;
+                ScalarValue::Tuple(elements)
+            }
+            b'<' => {
+                self.at += 1;
+                let inner = self.scalar()?;
+                self.need(b'>')?;
+                ScalarValue::Variant(Box::new(inner))
+            }
+            b'-' | b'0'..=b'9' => self.number_or_union()?,
+            b'x' => {
+                self.at += 1;
+                ScalarValue::Binary(ByteBuffer::new(self.hex()?))
+            }
+            _ => match self.word()? {
+                "null" => return Ok(None),
+                "true" => ScalarValue::Bool(true),
+                "false" => ScalarValue::Bool(false),
+                _ => return Err(BadLine),
+            },
+        }))
+    }
+
+    fn number_or_union(&mut self) -> Read<ScalarValue> {
+        let number = self.run(|byte| byte == b'-' || byte.is_ascii_digit());
+        let kind = self.run(is_word);
+        if !kind.is_empty() {
+            let whole = number.parse().map_err(|_| BadLine)?;
+            let ptype = PType::named(kind).ok_or(BadLine)?;
+            return Ok(ScalarValue::Primitive(
+                PValue::from_whole(whole, ptype).ok_or(BadLine)?,
+            ));
+        }
+        let type_id = number.parse().map_err(|_| BadLine)?;
+        self.need(b'(')?;
+        let child = self.raw()?;
+        self.need(b')')?;
+        Ok(ScalarValue::Union(UnionValue::new(type_id, child)))
+    }
+}
