@@ -76,9 +76,7 @@ impl ByteBuffer {
     }
 
     /// A buffer of these bytes: moved, or copied into the buffer itself where there are at most 22.
-    /// `OutOfMemory` only of more.
-    ///
-    /// Ports `ByteBuffer::from`, of a `Vec<u8>`.
+    /// `OutOfMemory` only of more. Of this port alone.
     pub fn from_vec(bytes: Vec<u8>) -> Result<ByteBuffer, VortexError>
         ensures given { GivesOrNoMemory (λ buffer. buffer ≡ bytes.items) result }
         ensures inline { length bytes.items ≤ 22 → IsOk result }
@@ -256,9 +254,7 @@ impl BufferString {
     }
 
     /// This text: moved, or copied into the buffer itself where it has at most 22 bytes.
-    /// `OutOfMemory` only of more.
-    ///
-    /// Ports `BufferString::from`, of a `String`.
+    /// `OutOfMemory` only of more. Of this port alone.
     pub fn from_string(text: String) -> Result<BufferString, VortexError>
         ensures given { GivesOrNoMemory (λ string. string ≡ string_bytes text) result }
         ensures inline { length (string_bytes text) ≤ 22 → IsOk result }
@@ -318,9 +314,7 @@ impl BufferString {
 
     /// The text of a range: shared where it has more than 22 bytes, and copied where those have as
     /// many owners as can be counted. Only that copy can answer `OutOfMemory`. The caller knows that
-    /// the range lies within the text and cuts no character.
-    ///
-    /// Ports `BufferString::slice`, which panics elsewhere.
+    /// the range lies within the text and cuts no character. Of this port alone.
     pub fn slice(&self, range: Range<usize>) -> Result<BufferString, VortexError>
         requires ordered { range.start ≤ range.end }
         requires within { range.end ≤ length self.now }

@@ -1,7 +1,7 @@
 -- Steps of the check of validity: what one level of a raw value and of a type is, and loops over parts.
-use Rattle.std.proofs.Common.{◌≡◌, ◌≢◌, ℕ, suc, ◌+◌, ◌<◌, Bool, true, Result, List, [], ◌∷◌, ◌++◌, length, Option, Some, None, drop, get_or, drop-cons, add-one, refl, ap, subst, arith}
+use Rattle.std.proofs.Common.{◌≡◌, ◌≢◌, ℕ, suc, ◌+◌, ◌<◌, Bool, true, false, List, [], ◌∷◌, ◌++◌, length, Option, Some, None, Global, drop, get_or, drop-cons, add-one, refl, sym, ap, arith, true≢false}
 use Rattle.std.proofs.lemmas.List.{get_or_default}
-use Rattle.std.specs.Result.{ForErr}
+use Rattle.std.specs.Option.{is_some}
 use Rattle.vortex_dtype.specs.declared.error.Step.{Step}
 use Rattle.vortex_dtype.specs.declared.error.Step.TheVariants.{Element, Entry, Key, Value}
 use Rattle.vortex_dtype.specs.declared.error.Breach.TheVariants.{WrongLength}
@@ -13,6 +13,7 @@ use Rattle.vortex_value.specs.Values.RawOf.{raw_of, value_trees}
 use Rattle.vortex_value.specs.Values.RawTree.{raw_tuple, no_raws}
 use Rattle.vortex_value.specs.declared.validate.Fault.{Fault}
 use Rattle.vortex_value.specs.declared.validate.Fault.TheVariants.{NoMemory, NoPath, First}
+use Rattle.vortex_value.specs.declared.validate.Trace.{Trace}
 use Rattle.vortex_value.specs.declared.values.ScalarValue.{ScalarValue}
 use Rattle.vortex_dtype.specs.Lemmas.TypeLaws.{is_nullable-storage}
 use Rattle.vortex_dtype.specs.Lemmas.TypeLevels.{type_of-List, type_of-FixedSizeList, type_of-Map, type_of-Struct, type_of-Union}
@@ -34,6 +35,10 @@ Shows-more kept (First steps breach) (f ∷ fs) gs h = h
 pub under-steps : (step : Step) (fs : List Found) → fs ≢ [] → HasSteps (first (under step fs))
 under-steps step [] h = h refl
 under-steps step (f ∷ fs) h = λ e. cc
+
+pub none-under : (step : Step) (fs : List Found) → under step fs ≡ [] → fs ≡ []
+none-under step [] h = refl
+none-under step (f ∷ fs) h = cc
 
 pub some-steps : (fs : List Found) → HasSteps (first fs) → fs ≢ []
 some-steps [] h = absurd h
@@ -81,16 +86,33 @@ pub entry_with : (k w : TypeTree) (vs : List (Option ScalarValue)) (x : Option S
     → breaches_of_entry k w (raw_tuple (value_trees vs)) ≡ under Key (breaches k (raw_of x)) ++ under Value (breaches w (raw_of (get_or vs 1 None)))
 entry_with k w vs x two a = entry_of k w vs x (get_or vs 1 None) two a (get_or_default vs 1 None (get_or vs 1 None) (omega arith))
 
-pub Checks-both : (kept : Bool) (r : Result (Unit {0}) Fault) (fs gs : List Found) → fs ≡ [] → Checks kept r gs → Checks kept r (fs ++ gs)
-Checks-both kept r fs gs e h = rw e h
+pub Shows-some : (kept : Bool) (f : Fault) (fs : List Found) → Shows kept f fs → fs ≢ []
+Shows-some kept NoMemory fs h = some-steps fs h
+Shows-some kept NoPath fs h = h.1
+Shows-some kept (First steps breach) fs h = some-first fs _ h
+
+-- what a check of a part leaves where it passed, and where it did not
+pub passed : (path before : Option Global) (r : Bool) (trace : Trace) (fs : List Found) → before ≡ path → Checks before r trace fs → r ≡ true → (trace.path ≡ path) × (fs ≡ [])
+passed path before true trace fs same h e = rw (← same) h
+passed path before false trace fs same h e = absurd (true≢false (sym e))
+
+pub refused : (path before : Option Global) (r : Bool) (trace : Trace) (fs : List Found) → before ≡ path → Checks before r trace fs → r ≡ false → Checks path false trace fs
+refused path before true trace fs same h e = absurd (true≢false e)
+refused path before false trace fs same h e = rw (← same) h
+
+-- the first breach of a part is the first of the whole
+pub Checks-part : (path : Option Global) (r : Bool) (before after : Trace) (step : Step) (fs gs : List Found) → Checks path false before fs → Checks path r after (under step fs)
+    → Checks path r after (under step fs ++ gs)
+Checks-part path true before after step fs gs part h = absurd (Shows-some (is_some path) before.fault fs part (none-under step fs h.1))
+Checks-part path false before after step fs gs part h = Shows-more (is_some path) after.fault (under step fs) gs h
 
 Shows-path : (f : Fault) (fs : List Found) → Shows true f fs → HasPath f
 Shows-path NoMemory fs h = tt
 Shows-path NoPath fs h = cc
 Shows-path (First steps breach) fs h = tt
 
--- a check that keeps the path shows no fault without one
-pub Checks-path : (r : Result (Unit {0}) Fault) (fs : List Found) → Checks true r fs → ForErr r HasPath
-Checks-path r fs h = λ f is. Shows-path f fs (subst (λ q. Checks true q fs) is h)
+-- a check that keeps the path leaves no fault without one
+pub Checks-path : (alloc : Global) (trace : Trace) (fs : List Found) → Checks (Some alloc) false trace fs → HasPath trace.fault
+Checks-path alloc trace fs h = Shows-path trace.fault fs h
 
 pub ruleset shown = (elements_at, entries_at, value_tree-Tuple, count-value_trees, type_of-List, type_of-FixedSizeList, type_of-Map, type_of-Struct, type_of-Union, is_nullable-storage, Shows-more, count_types-as_type_trees)

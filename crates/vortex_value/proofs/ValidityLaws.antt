@@ -1,6 +1,7 @@
 -- A raw value is valid exactly where it has no breach.
-use Rattle.std.proofs.Common.{◌≡◌, ◌≢◌, ◌↔◌, ℕ, suc, ℤ, Bool, true, false, ◌&&◌, not, ◌==◌, if◌then◌else◌, List, [], ◌∷◌, ◌++◌, Option, Some, None, Result, Ok, Err, IsOk, IsTrue, refl, sym, ap, arith, true≢false}
+use Rattle.std.proofs.Common.{◌≡◌, ◌≢◌, ◌↔◌, ℕ, suc, ℤ, Bool, true, false, ◌&&◌, not, ◌==◌, if◌then◌else◌, List, [], ◌∷◌, ◌++◌, Option, Some, None, Global, IsTrue, refl, sym, ap, arith, true≢false}
 use Rattle.std.specs.Bool.{Decides}
+use Rattle.std.specs.Option.{is_some}
 use Rattle.std.proofs.Math.Nat.{suc-ne-zero}
 use Rattle.std.proofs.lemmas.Bool.{and_parts, false_from_ne_true}
 use Rattle.std.proofs.lemmas.Bool.Decides.{Decides-eqb}
@@ -16,12 +17,11 @@ use Rattle.vortex_dtype.specs.declared.kinds.PType.{PType}
 use Rattle.vortex_pvalue.specs.Numbers.{InRange, in_range}
 use Rattle.vortex_pvalue.specs.RangeLaws.{in_range_true, in_range_back}
 use Rattle.vortex_value.specs.Breaches.{Found, here, under, count_types, is_empty, is_null_type, child_breaches, breaches_at, element_breaches, entry_breaches, field_breaches, breaches, is_valid, ValidExactlyWithoutBreach, ValidityIsDecided}
-use Rattle.vortex_value.specs.Steps.Faults.{Checks, Shows}
+use Rattle.vortex_value.specs.Steps.Faults.{Checks}
 use Rattle.vortex_value.specs.Values.RawTree.{RawTree, absent, raw_bool, raw_integer, raw_text, raw_bytes, raw_tuple, raw_union, raw_variant, RawTrees, no_raws, raw_then, count, is_absent}
 use Rattle.vortex_value.specs.Validity.{type_with, HasType, MayBeInside, ValidAt, EachValid, EntriesValid, FieldsValid, Valid}
-use Rattle.vortex_value.specs.declared.validate.Fault.{Fault}
-use Rattle.vortex_value.specs.declared.validate.Fault.TheVariants.{NoMemory, NoPath, First}
-use Rattle.vortex_value.proofs.ValidSteps.{some-first, some-steps}
+use Rattle.vortex_value.specs.declared.validate.Trace.{Trace}
+use Rattle.vortex_value.proofs.ValidSteps.{Shows-some}
 
 -- lists of breaches
 
@@ -213,12 +213,7 @@ pub is_valid-only : (t : TypeTree) (v : RawTree) (b : Bool) → (IsTrue b ↔ Va
 is_valid-only t v true h = (validity_is_decided t v).1 (h.0 refl)
 is_valid-only t v false h = false_from_ne_true _ (λ valid. true≢false (sym (h.1 ((validity_is_decided t v).0 valid))))
 
-shown : (kept : Bool) (f : Fault) (fs : List Found) → Shows kept f fs → fs ≢ []
-shown kept NoMemory fs h = some-steps fs h
-shown kept NoPath fs h = h.1
-shown kept (First steps breach) fs h = some-first fs _ h
-
--- a check that shows the first breach passes exactly the valid values
-pub Checks-valid : {A : Type 0} (kept : Bool) (r : Result A Fault) (t : TypeTree) (v : RawTree) → Checks kept r (breaches t v) → IsOk r ↔ Valid t v
-Checks-valid kept (Ok x) t v h = (λ _. ValidAt-from_none (storage t) v h, λ _. refl)
-Checks-valid kept (Err f) t v h = (λ ok. absurd (true≢false (sym ok)), λ valid. absurd (shown kept f _ h (none-from_ValidAt (storage t) v valid)))
+-- a check passes exactly the valid values
+pub Checks-valid : (path : Option Global) (r : Bool) (trace : Trace) (t : TypeTree) (v : RawTree) → Checks path r trace (breaches t v) → IsTrue r ↔ Valid t v
+Checks-valid path true trace t v h = (λ _. ValidAt-from_none (storage t) v h.1, λ _. refl)
+Checks-valid path false trace t v h = (λ passes. absurd (true≢false (sym passes)), λ valid. absurd (Shows-some (is_some path) trace.fault _ h (none-from_ValidAt (storage t) v valid)))

@@ -5,13 +5,13 @@
 //! |---|---|---|
 //! | `same_type` | a type that is the same up to nullability | those below; other values `kept` |
 //! | `a_null` | a null, but from an unsorted to a sorted map | `cast_value`, `takes_null` |
-//! | `into_extension` | no null, to an extension whose storage takes it | `cast_present`, `leaves` |
+//! | `into_extension` | no null, to an extension whose storage takes it | `cast_present`, `may_leave_extension` |
 //! | `integers` | a number, to an integer type | `cast_number` |
 //! | `lists` | each element, between lists, of a fixed size or not | `cast_elements`, `cast_sized` |
 //! | `maps` | each key and value, but from an unsorted to a sorted map | `cast_map`, `cast_entries` |
 //! | `structs` | each field by its place, between equally many | `cast_fields` |
 //! | `unions` | the child, between the variants with its id of unions of the same ids | `cast_union` |
-//! | `from_extension` | a value, to the storage type up to nullability | `cast_present`, `leaves` |
+//! | `from_extension` | a value, to the storage type up to nullability | `cast_present`, `may_leave_extension` |
 
 ghost use Rattle.std.specs.Prelude.{IfErr, IfOk};
 ghost use Rattle.vortex_dtype.specs.TypeOf.{type_of};
@@ -26,7 +26,7 @@ use crate::scalars::{Scalar, with_type};
 use std::alloc::Global;
 use vortex_dtype::{DType, VortexError};
 
-mod rows;
+mod rules;
 mod values;
 
 impl Scalar {

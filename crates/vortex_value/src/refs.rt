@@ -16,7 +16,7 @@ ghost use Rattle.vortex_value.specs.Hashing.{typed_feed};
 ghost use Rattle.vortex_value.specs.Values.RawOf.{raw_of};
 ghost use Rattle.vortex_value.specs.Values.RawTree.{is_absent};
 ghost use Rattle.vortex_value.specs.Values.Refs.{IsRefOf, IsValidRef, ref_content, ref_order, ref_raw, ref_type};
-ghost use Rattle.vortex_value.specs.Values.Scalars.{IsMadeOf, scalar_raw, scalar_type};
+ghost use Rattle.vortex_value.specs.Values.Scalars.{IsMadeOf, IsValid, scalar_raw, scalar_type};
 ghost use Rattle.vortex_value.specs.Validity.{Valid};
 
 use crate::copies::copy_optional;
@@ -41,7 +41,8 @@ pub struct ScalarRef<'a> {
 impl<'a> ScalarRef<'a> {
     /// The type and the value of the scalar, borrowed.
     pub fn of(scalar: &'a Scalar) -> ScalarRef<'a>
-        ensures { IsRefOf (scalar_type scalar.now) (scalar_raw scalar.now) result }
+        ensures made { IsRefOf (scalar_type scalar.now) (scalar_raw scalar.now) result }
+        ensures valid { IsValid scalar.now → IsValidRef result }
     {
         ScalarRef {
             dtype: &scalar.dtype,
@@ -52,7 +53,9 @@ impl<'a> ScalarRef<'a> {
     /// The type and the raw value, or its absence, borrowed, also where the value is not valid for
     /// the type. Of this port alone: views lend their parts by it.
     pub fn from_parts(dtype: &'a DType, value: Option<&'a ScalarValue>) -> ScalarRef<'a>
-        ensures { IsRefOf (type_of dtype.now) (raw_of (option_copied value.entry)) result }
+        ensures made { IsRefOf (type_of dtype.now) (raw_of (option_copied value.entry)) result }
+        ensures valid { Valid (type_of dtype.now) (raw_of (option_copied value.entry))
+            → IsValidRef result }
     {
         ScalarRef { dtype, value }
     }

@@ -1,21 +1,31 @@
 //! What a type is below its extensions, and which type a union's id gives.
 
 ghost use Rattle.std.specs.Prelude.{◌≡◌, ◌==◌, IfSome, Some, option_map, position};
-ghost use Rattle.vortex_dtype.specs.TypeOf.{type_of, as_type_trees, variants_of};
+ghost use Rattle.vortex_dtype.specs.TypeOf.{ext_of, type_of, as_type_trees, variants_of};
 ghost use Rattle.vortex_dtype.specs.TypeTree.{storage};
 ghost use Rattle.vortex_value.specs.Steps.Filling.{first_of};
 ghost use Rattle.vortex_value.specs.Validity.{type_with};
 
-use vortex_dtype::{DType, UnionVariants};
+use vortex_dtype::{DType, ExtDType, UnionVariants};
 
-/// The type below all extensions.
+/// The type below all extensions. A type that is none costs no call.
+#[cycle(storage_of)]
+#[inline(always)]
 pub(crate) fn storage_of(dtype: &DType) -> &DType
     ensures { type_of result.now ≡ storage (type_of dtype.now) }
 {
     match dtype {
-        DType::Extension(extension) => storage_of(extension.storage_dtype()),
+        DType::Extension(extension) => storage_below(extension),
         _ => dtype,
     }
+}
+
+/// The type below this extension and all below it.
+#[cycle(storage_of)]
+fn storage_below(extension: &ExtDType) -> &DType
+    ensures { type_of result.now ≡ storage (ext_of extension.now).storage }
+{
+    storage_of(extension.storage_dtype())
 }
 
 /// The place and the type of the variant with this id, if there is one.

@@ -1,12 +1,13 @@
 //! Which raw values are valid for a type, and the path to the first breach where one is not.
 
-ghost use Rattle.std.specs.Prelude.{◌≡◌, ◌≢◌, ◌↔◌, Bool, Err, List, IfErr, IsOk, IsTrue, option_map, true};
+ghost use Rattle.std.specs.Prelude.{◌≡◌, ◌≢◌, ◌↔◌, Bool, Err, List, Option, IfErr, IsOk, IsTrue, false, option_map, true};
+ghost use Rattle.std.specs.Global.{Global};
 ghost use Rattle.std.specs.Option.{is_some, option_copied};
 ghost use Rattle.vortex_dtype.specs.TypeOf.{map_of, type_of, as_type_trees, dtype_trees, variants_of};
 ghost use Rattle.vortex_dtype.specs.TypeTree.{IsFlat, variant_type};
 ghost use Rattle.vortex_dtype.specs.declared.kinds.Nullability.TheVariants.{NonNullable};
 ghost use Rattle.vortex_value.specs.Breaches.{Found, Refuses, breaches, breaches_at, breaches_of_entry, child_breaches, element_breaches, entry_breaches, field_breaches, here, under};
-ghost use Rattle.vortex_value.specs.Steps.Faults.{Checks, HasPath, Shows};
+ghost use Rattle.vortex_value.specs.Steps.Faults.{Checks, HasPath, Shows, is_leaf};
 ghost use Rattle.vortex_value.specs.Values.RawOf.{raw_of, value_trees, variant_tree, value_tree};
 ghost use Rattle.vortex_value.specs.Values.RawTree.{raw_tuple};
 ghost use Rattle.vortex_value.specs.Validity.{Valid, type_with};
@@ -16,6 +17,7 @@ use crate::storage::{storage_of, variant_with};
 use crate::unions::UnionValue;
 use crate::values::ScalarValue;
 use std::alloc::Global;
+use std::mem;
 use vortex_dtype::{Breach, DType, MapDType, Path, Step, UnionVariants, VortexError};
 
 /// Why a raw value is not valid.
@@ -57,19 +59,53 @@ fn within(fault: Fault, step: Step) -> Fault
     }
 }
 
-/// What the check of a part says of the whole.
-fn below(step: Step, checked: Result<(), Fault>) -> Result<(), Fault>
-    ensures { (kept : Bool) (fs : List Found)
-        → Checks kept checked fs → Checks kept result (under step fs) }
-{
-    checked.map_err(|fault| within(fault, step))
+/// What a check leaves behind where it does not pass.
+#[derive(Drop)]
+struct Trace {
+    /// The memory for the steps of the path; none where no path is kept.
+    path: Option<Global>,
+    /// Why the value is not valid, once that is known.
+    fault: Fault,
 }
 
-/// The refusal that a fault with a path is: the steps from the outermost on.
-fn refusal(fault: Fault) -> VortexError
-    requires { HasPath fault }
-    ensures { (fs : List Found) → Shows true fault fs → Refuses result fs }
+impl Trace {
+    /// Of a check that is to come.
+    fn new(path: Option<Global>) -> Trace
+        ensures { result.path ≡ path }
+    {
+        Trace {
+            path,
+            fault: Fault::NoPath,
+        }
+    }
+
+    /// Leaves a breach of the value itself, and answers that it is not valid.
+    #[cold]
+    fn refuse(&mut self, breach: Breach) -> bool
+        ensures { Checks self.old.path result self.new (here breach) }
+    {
+        self.fault = breach_here(self.path, breach);
+        false
+    }
+
+    /// Leaves the breach of a part, seen from one level up, and answers that the whole is not valid.
+    #[cold]
+    fn refuse_part(&mut self, step: Step) -> bool
+        ensures { (path : Option Global) (fs : List Found)
+            → Checks path false self.old fs → Checks path result self.new (under step fs) }
+    {
+        let fault = mem::replace(&mut self.fault, Fault::NoMemory);
+        self.fault = within(fault, step);
+        false
+    }
+}
+
+/// The refusal that a trace with a path is: the steps from the outermost on.
+fn refusal(trace: Trace) -> VortexError
+    requires { HasPath trace.fault }
+    ensures { (fs : List Found) → Shows true trace.fault fs → Refuses result fs }
 {
+    let Trace { path: _, fault } = trace;
     match fault {
         Fault::NoMemory => VortexError::OutOfMemory,
         Fault::NoPath => unreachable!(),
@@ -83,186 +119,189 @@ fn refusal(fault: Fault) -> VortexError
     }
 }
 
-/// The first breach of a raw value, or of its absence, at this type. Without an allocator no path is
-/// kept, and no memory taken.
+/// Whether the raw value has no parts and is of just this type. Asked first, it saves most calls of
+/// the recursion.
+#[inline(always)]
+fn is_leaf_of(value: &ScalarValue, dtype: &DType) -> bool
+    ensures { result ≡ is_leaf (type_of dtype.now) (value_tree value.now) }
+{
+    match (value, dtype) {
+        (ScalarValue::Primitive(number), DType::Primitive(kind, _)) => number.ptype() == *kind,
+        (ScalarValue::Utf8(_), DType::Utf8(_)) => true,
+        (ScalarValue::Binary(_), DType::Binary(_)) => true,
+        (ScalarValue::Bool(_), DType::Bool(_)) => true,
+        _ => false,
+    }
+}
+
+/// Whether a raw value, or its absence, is valid for the type. Where it is not, the trace has the
+/// first breach.
 #[cycle(validity)]
+#[inline(always)]
 #[tactic(auto, using(crate::proofs::ValidSteps::shown))]
-fn check(path: Option<Global>, value: Option<&ScalarValue>, dtype: &DType) -> Result<(), Fault>
-    ensures { Checks (is_some path) result
+fn check(value: Option<&ScalarValue>, dtype: &DType, trace: &mut Trace) -> bool
+    ensures { Checks trace.old.path result trace.new
         (breaches (type_of dtype.now) (raw_of (option_copied value.entry))) }
 {
     match value {
-        Some(value) => check_value(path, value, dtype),
-        None if dtype.is_nullable() => Ok(()),
-        None => Err(breach_here(path, Breach::NullNotAllowed)),
+        Some(value) => check_present(value, dtype, trace),
+        None => dtype.is_nullable() || trace.refuse(Breach::NullNotAllowed),
     }
 }
 
-/// The first breach of a raw value that is present.
+/// The same for a raw value that is present.
+#[cycle(validity)]
+#[inline(always)]
+#[tactic(auto, using(crate::proofs::ValidSteps::shown))]
+fn check_present(value: &ScalarValue, dtype: &DType, trace: &mut Trace) -> bool
+    ensures { Checks trace.old.path result trace.new
+        (breaches (type_of dtype.now) (value_tree value.now)) }
+{
+    is_leaf_of(value, dtype) || check_value(value, dtype, trace)
+}
+
+/// The same, of an extension by its storage.
 #[cycle(validity)]
 #[tactic(auto, using(crate::proofs::ValidSteps::shown))]
-fn check_value(path: Option<Global>, value: &ScalarValue, dtype: &DType) -> Result<(), Fault>
-    ensures { Checks (is_some path) result (breaches (type_of dtype.now) (value_tree value.now)) }
+fn check_value(value: &ScalarValue, dtype: &DType, trace: &mut Trace) -> bool
+    ensures { Checks trace.old.path result trace.new
+        (breaches (type_of dtype.now) (value_tree value.now)) }
 {
     match (storage_of(dtype), value) {
-        (DType::Bool(_), ScalarValue::Bool(_)) => Ok(()),
-        (DType::Utf8(_), ScalarValue::Utf8(_)) => Ok(()),
-        (DType::Binary(_), ScalarValue::Binary(_)) => Ok(()),
-        (DType::Primitive(kind, _), ScalarValue::Primitive(number)) => {
-            if number.ptype() == *kind {
-                Ok(())
-            } else {
-                Err(breach_here(path, Breach::WrongValue))
-            }
-        }
         (DType::List(element, _), ScalarValue::Tuple(items)) => {
-            check_elements(path, items, element)
+            check_elements(items, element, trace)
         }
         (DType::FixedSizeList(element, size, _), ScalarValue::Tuple(items)) => {
             if items.len() == *size as usize {
-                check_elements(path, items, element)
+                check_elements(items, element, trace)
             } else {
-                Err(breach_here(path, Breach::WrongLength))
+                trace.refuse(Breach::WrongLength)
             }
         }
-        (DType::Map(map, _), ScalarValue::Tuple(items)) => check_entries(path, items, map),
+        (DType::Map(map, _), ScalarValue::Tuple(items)) => check_entries(items, map, trace),
         (DType::Struct(fields, _), ScalarValue::Tuple(items)) => {
             if items.len() == fields.nfields() {
-                check_fields(path, items, fields.dtypes())
+                check_fields(items, fields.dtypes(), trace)
             } else {
-                Err(breach_here(path, Breach::WrongLength))
+                trace.refuse(Breach::WrongLength)
             }
         }
         (DType::Union(variants, _), ScalarValue::Union(union)) => {
-            check_child(path, union, variants)
+            check_child(union, variants, trace)
         }
-        (DType::Variant(_), ScalarValue::Variant(scalar)) => check_variant(path, scalar),
-        _ => Err(breach_here(path, Breach::WrongValue)),
+        (DType::Variant(_), ScalarValue::Variant(scalar)) => check_variant(scalar, trace),
+        (storage, value) => is_leaf_of(value, storage) || trace.refuse(Breach::WrongValue),
     }
 }
 
-/// The first breach of the elements of a list, in order.
+/// Whether the elements of a list are valid, in order.
 #[cycle(validity)]
 #[tactic(auto, using(crate::proofs::ValidSteps::shown))]
-fn check_elements(
-    path: Option<Global>,
-    items: &[Option<ScalarValue>],
-    element: &DType,
-) -> Result<(), Fault>
-    ensures { Checks (is_some path) result
+fn check_elements(items: &[Option<ScalarValue>], element: &DType, trace: &mut Trace) -> bool
+    ensures { Checks trace.old.path result trace.new
         (element_breaches (type_of element.now) 0 (value_trees items.now)) }
 {
     for (index, item) in items.iter().enumerate() {
-        below(Step::Element(index), check(path, item.as_ref(), element))?;
+        if !check(item.as_ref(), element, trace) {
+            return trace.refuse_part(Step::Element(index));
+        }
     }
-    Ok(())
+    true
 }
 
-/// The first breach of the entries of a map, in order.
+/// Whether the entries of a map are valid, in order.
 #[cycle(validity)]
 #[tactic(auto, using(crate::proofs::ValidSteps::shown))]
-fn check_entries(
-    path: Option<Global>,
-    items: &[Option<ScalarValue>],
-    map: &MapDType,
-) -> Result<(), Fault>
-    ensures { Checks (is_some path) result
+fn check_entries(items: &[Option<ScalarValue>], map: &MapDType, trace: &mut Trace) -> bool
+    ensures { Checks trace.old.path result trace.new
         (entry_breaches (map_of map.now).key (map_of map.now).value 0 (value_trees items.now)) }
 {
     for (index, item) in items.iter().enumerate() {
-        below(Step::Entry(index), check_entry(path, item.as_ref(), map))?;
+        if !check_entry(item.as_ref(), map, trace) {
+            return trace.refuse_part(Step::Entry(index));
+        }
     }
-    Ok(())
+    true
 }
 
-/// The first breach of one entry of a map: it is a tuple, and no null.
+/// Whether one entry of a map is valid: it is a tuple, and no null.
 #[cycle(validity)]
 #[tactic(auto, using(crate::proofs::ValidSteps::shown))]
-fn check_entry(
-    path: Option<Global>,
-    entry: Option<&ScalarValue>,
-    map: &MapDType,
-) -> Result<(), Fault>
-    ensures { Checks (is_some path) result
+fn check_entry(entry: Option<&ScalarValue>, map: &MapDType, trace: &mut Trace) -> bool
+    ensures { Checks trace.old.path result trace.new
         (breaches_of_entry (map_of map.now).key (map_of map.now).value
         (raw_of (option_copied entry.entry))) }
 {
     match entry {
-        None => Err(breach_here(path, Breach::NullEntry)),
-        Some(ScalarValue::Tuple(parts)) => check_pair(path, parts, map),
-        Some(_) => Err(breach_here(path, Breach::WrongValue)),
+        None => trace.refuse(Breach::NullEntry),
+        Some(ScalarValue::Tuple(parts)) => check_pair(parts, map, trace),
+        Some(_) => trace.refuse(Breach::WrongValue),
     }
 }
 
-/// The first breach of the parts of an entry: a key, and then a value.
+/// Whether the parts of an entry are valid: a key, and then a value.
 #[cycle(validity)]
 #[tactic(auto, using(crate::proofs::ValidSteps::shown))]
-fn check_pair(
-    path: Option<Global>,
-    parts: &[Option<ScalarValue>],
-    map: &MapDType,
-) -> Result<(), Fault>
-    ensures { Checks (is_some path) result
+fn check_pair(parts: &[Option<ScalarValue>], map: &MapDType, trace: &mut Trace) -> bool
+    ensures { Checks trace.old.path result trace.new
         (breaches_of_entry (map_of map.now).key (map_of map.now).value
         (raw_tuple (value_trees parts.now))) }
 {
     if parts.len() != 2 {
-        return Err(breach_here(path, Breach::WrongLength));
+        return trace.refuse(Breach::WrongLength);
     }
-    let key = check(path, parts[0].as_ref(), map.key_dtype());
-    below(Step::Key, key)?;
-    let value = check(path, parts[1].as_ref(), map.value_dtype());
-    below(Step::Value, value)
+    if !check(parts[0].as_ref(), map.key_dtype(), trace) {
+        return trace.refuse_part(Step::Key);
+    }
+    check(parts[1].as_ref(), map.value_dtype(), trace) || trace.refuse_part(Step::Value)
 }
 
-/// The first breach of the fields of a struct, in order.
+/// Whether the fields of a struct are valid, in order.
 #[cycle(validity)]
 #[tactic(auto, using(crate::proofs::ValidSteps::shown))]
-fn check_fields(
-    path: Option<Global>,
-    items: &[Option<ScalarValue>],
-    fields: &[DType],
-) -> Result<(), Fault>
-    ensures { Checks (is_some path) result
+fn check_fields(items: &[Option<ScalarValue>], fields: &[DType], trace: &mut Trace) -> bool
+    ensures { Checks trace.old.path result trace.new
         (field_breaches 0 (dtype_trees fields.now) (value_trees items.now)) }
 {
     for (index, (item, field)) in items.iter().zip(fields).enumerate() {
-        below(Step::Field(index), check(path, item.as_ref(), field))?;
+        if !check(item.as_ref(), field, trace) {
+            return trace.refuse_part(Step::Field(index));
+        }
     }
-    Ok(())
+    true
 }
 
-/// The first breach of a union: its id has a variant, and its child fits that.
+/// Whether a union is valid: its id has a variant, and its child fits that.
 #[cycle(validity)]
 #[tactic(auto, using(crate::proofs::ValidSteps::shown))]
-fn check_child(
-    path: Option<Global>,
-    union: &UnionValue,
-    variants: &UnionVariants,
-) -> Result<(), Fault>
-    ensures { Checks (is_some path) result (child_breaches
+fn check_child(union: &UnionValue, variants: &UnionVariants, trace: &mut Trace) -> bool
+    ensures { Checks trace.old.path result trace.new (child_breaches
         (type_with union.now.type_id (variants_of variants.now).type_ids
         (as_type_trees (variants_of variants.now).types))
         (λ t. breaches t (raw_of (option_map (λ b. b.value) union.now.child)))) }
 {
     match variant_with(variants, union.type_id) {
-        Some((_, variant)) => below(Step::Child, check(path, union.child.as_deref(), variant)),
-        None => Err(breach_here(path, Breach::UnknownTypeId)),
+        Some((_, variant)) => {
+            check(union.child.as_deref(), variant, trace) || trace.refuse_part(Step::Child)
+        }
+        None => trace.refuse(Breach::UnknownTypeId),
     }
 }
 
-/// The first breach of the scalar in a variant: a null is of type Null alone.
+/// Whether the scalar in a variant is valid: a null is of type Null alone.
 #[cycle(validity)]
 #[tactic(auto, using(crate::proofs::ValidSteps::shown))]
-fn check_variant(path: Option<Global>, scalar: &Scalar) -> Result<(), Fault>
-    ensures { Checks (is_some path) result
+fn check_variant(scalar: &Scalar, trace: &mut Trace) -> bool
+    ensures { Checks trace.old.path result trace.new
         (breaches_at (variant_type NonNullable) (variant_tree scalar.now)) }
 {
     match &scalar.value {
-        Some(value) => below(Step::Inner, check_value(path, value, &scalar.dtype)),
+        Some(value) => {
+            check_present(value, &scalar.dtype, trace) || trace.refuse_part(Step::Inner)
+        }
         None => match &scalar.dtype {
-            DType::Null => Ok(()),
-            _ => Err(breach_here(path, Breach::VariantNull)),
+            DType::Null => true,
+            _ => trace.refuse(Breach::VariantNull),
         },
     }
 }
@@ -283,13 +322,18 @@ impl Scalar {
             (λ e. Refuses e (breaches (type_of dtype.now) (raw_of (option_copied value.entry)))) }
         ensures flat { IsFlat (type_of dtype.now) → result ≢ Err VortexError.OutOfMemory }
     {
-        check(Some(alloc), value, dtype).map_err(refusal)
+        let mut trace = Trace::new(Some(alloc));
+        if check(value, dtype, &mut trace) {
+            Ok(())
+        } else {
+            Err(refusal(trace))
+        }
     }
 
     /// Whether the raw value, or its absence, is valid for the type.
     pub fn is_compatible(dtype: &DType, value: Option<&ScalarValue>) -> bool
         ensures { IsTrue result ↔ Valid (type_of dtype.now) (raw_of (option_copied value.entry)) }
     {
-        check(None, value, dtype).is_ok()
+        check(value, dtype, &mut Trace::new(None))
     }
 }

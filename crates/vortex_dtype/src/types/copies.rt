@@ -2,12 +2,13 @@
 
 ghost use Rattle.std.specs.Prelude.{◌≡◌, MatchResult, map};
 ghost use Rattle.vortex_dtype.specs.Memory.{GivesOrNoMemory};
-ghost use Rattle.vortex_dtype.specs.TypeTree.{IsFlat};
-ghost use Rattle.vortex_dtype.specs.TypeOf.{type_of, fields_of, variants_of, map_of, ext_of};
+ghost use Rattle.vortex_dtype.specs.TypeTree.{IsFlat, fixed_size_list_type, list_type};
+ghost use Rattle.vortex_dtype.specs.TypeOf.{type_of, fields_of, variants_of, map_of, ext_of, map_type_of, struct_type_of, union_type_of, extension_type_of};
 ghost use Rattle.vortex_dtype.specs.declared.error.VortexError.TheVariants.{OutOfMemory};
 
 use super::{DType, ExtDType, MapDType, StructFields, UnionVariants};
 use crate::error::VortexError;
+use crate::kinds::Nullability;
 use crate::names::FieldName;
 use std::alloc::Global;
 
@@ -43,7 +44,11 @@ fn copy_all(alloc: Global, dtypes: &[DType]) -> Result<Vec<DType>, VortexError>
 }
 
 /// The same type. Types whose values take no memory take none either.
+///
+/// A type without parts is copied where the call stands. Each that has parts goes to a function of
+/// its own, which alone pays for what it holds.
 #[cycle(copy)]
+#[inline(always)]
 pub(super) fn copy(alloc: Global, dtype: &DType) -> Result<DType, VortexError>
     ensures { MatchResult result
         (λ c. type_of c ≡ type_of dtype.now)
@@ -55,16 +60,73 @@ pub(super) fn copy(alloc: Global, dtype: &DType) -> Result<DType, VortexError>
         DType::Primitive(kind, n) => Ok(DType::Primitive(*kind, *n)),
         DType::Utf8(n) => Ok(DType::Utf8(*n)),
         DType::Binary(n) => Ok(DType::Binary(*n)),
-        DType::List(element, n) => Ok(DType::List(copy_box(alloc, element)?, *n)),
-        DType::FixedSizeList(element, size, n) => {
-            Ok(DType::FixedSizeList(copy_box(alloc, element)?, *size, *n))
-        }
-        DType::Map(map, n) => Ok(DType::Map(copy_map(alloc, map)?, *n)),
-        DType::Struct(fields, n) => Ok(DType::Struct(copy_fields(alloc, fields)?, *n)),
-        DType::Union(variants, n) => Ok(DType::Union(copy_variants(alloc, variants)?, *n)),
+        DType::List(element, n) => copy_list(alloc, element, *n),
+        DType::FixedSizeList(element, size, n) => copy_sized(alloc, element, *size, *n),
+        DType::Map(map, n) => copy_map_type(alloc, map, *n),
+        DType::Struct(fields, n) => copy_struct(alloc, fields, *n),
+        DType::Union(variants, n) => copy_union(alloc, variants, *n),
         DType::Variant(n) => Ok(DType::Variant(*n)),
-        DType::Extension(extension) => Ok(DType::Extension(copy_extension(alloc, extension)?)),
+        DType::Extension(extension) => copy_over(alloc, extension),
     }
+}
+
+/// The type of lists of the same elements.
+#[cycle(copy)]
+#[inline(never)]
+fn copy_list(alloc: Global, element: &DType, n: Nullability) -> Result<DType, VortexError>
+    ensures { GivesOrNoMemory (λ c. type_of c ≡ list_type (type_of element.now) n) result }
+{
+    Ok(DType::List(copy_box(alloc, element)?, n))
+}
+
+/// The type of lists of so many of the same elements.
+#[cycle(copy)]
+#[inline(never)]
+fn copy_sized(
+    alloc: Global,
+    element: &DType,
+    size: u32,
+    n: Nullability,
+) -> Result<DType, VortexError>
+    ensures { GivesOrNoMemory (λ c. type_of c ≡ fixed_size_list_type (type_of element.now) size n) result }
+{
+    Ok(DType::FixedSizeList(copy_box(alloc, element)?, size, n))
+}
+
+/// The type of the same maps.
+#[cycle(copy)]
+#[inline(never)]
+fn copy_map_type(alloc: Global, map: &MapDType, n: Nullability) -> Result<DType, VortexError>
+    ensures { GivesOrNoMemory (λ c. type_of c ≡ map_type_of (map_of map.now) n) result }
+{
+    Ok(DType::Map(copy_map(alloc, map)?, n))
+}
+
+/// The type of structs of the same fields.
+#[cycle(copy)]
+#[inline(never)]
+fn copy_struct(alloc: Global, fields: &StructFields, n: Nullability) -> Result<DType, VortexError>
+    ensures { GivesOrNoMemory (λ c. type_of c ≡ struct_type_of (fields_of fields.now) n) result }
+{
+    Ok(DType::Struct(copy_fields(alloc, fields)?, n))
+}
+
+/// The type of unions of the same variants.
+#[cycle(copy)]
+#[inline(never)]
+fn copy_union(alloc: Global, variants: &UnionVariants, n: Nullability) -> Result<DType, VortexError>
+    ensures { GivesOrNoMemory (λ c. type_of c ≡ union_type_of (variants_of variants.now) n) result }
+{
+    Ok(DType::Union(copy_variants(alloc, variants)?, n))
+}
+
+/// The same extension type.
+#[cycle(copy)]
+#[inline(never)]
+fn copy_over(alloc: Global, extension: &ExtDType) -> Result<DType, VortexError>
+    ensures { GivesOrNoMemory (λ c. type_of c ≡ extension_type_of (ext_of extension.now)) result }
+{
+    Ok(DType::Extension(copy_extension(alloc, extension)?))
 }
 
 /// The same map parts.

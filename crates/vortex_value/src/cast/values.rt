@@ -8,7 +8,9 @@ ghost use Rattle.vortex_value.specs.CastAnswers.{IsLeaf, IsTakenWhole};
 ghost use Rattle.vortex_value.specs.Values.Content.{content};
 ghost use Rattle.vortex_value.specs.Values.RawTree.{count, raw_tuple};
 
-use super::rows::{are_as_many, cast_number, kept, leaves, sorts, takes_null, types_with};
+use super::rules::{
+    are_as_many, cast_number, kept, may_leave_extension, takes_null, types_with, would_claim_sorted,
+};
 use crate::equality::same_types;
 use crate::storage::storage_of;
 use crate::unions::UnionValue;
@@ -57,7 +59,7 @@ fn cast_present(
 {
     match source {
         DType::Extension(extension) => {
-            let allowed = leaves(target, source, extension.storage_dtype());
+            let allowed = may_leave_extension(source, extension.storage_dtype(), target);
             kept(alloc, value, allowed, target)
         }
         _ => cast_bare(alloc, value, source, storage_of(target)),
@@ -129,16 +131,13 @@ fn cast_parts(
     ensures flat { SparesMemory (type_of target.now) result }
 {
     match (source, target) {
-        (DType::List(from, _), DType::List(to, _)) => cast_elements(alloc, parts, from, to),
-        (DType::FixedSizeList(from, _, _), DType::List(to, _)) => {
+        (DType::List(from, _) | DType::FixedSizeList(from, _, _), DType::List(to, _)) => {
             cast_elements(alloc, parts, from, to)
         }
-        (DType::List(from, _), DType::FixedSizeList(to, size, _)) => {
-            cast_sized(alloc, parts, *size, from, to)
-        }
-        (DType::FixedSizeList(from, _, _), DType::FixedSizeList(to, size, _)) => {
-            cast_sized(alloc, parts, *size, from, to)
-        }
+        (
+            DType::List(from, _) | DType::FixedSizeList(from, _, _),
+            DType::FixedSizeList(to, size, _),
+        ) => cast_sized(alloc, parts, *size, from, to),
         (DType::Map(from, _), DType::Map(to, _)) => cast_map(alloc, parts, from, to),
         (DType::Struct(from, _), DType::Struct(to, _)) => {
             cast_fields(alloc, parts, from.dtypes(), to.dtypes())
@@ -197,7 +196,7 @@ fn cast_map(
     ensures { Makes (λ made. value_trees made.items) (map_to (entries_to (value_trees entries.now))
         (map_of from.now) (map_of to.now)) result }
 {
-    if sorts(from, to) {
+    if would_claim_sorted(from, to) {
         Err(VortexError::CannotCast)
     } else {
         cast_entries(alloc, entries, from, to)

@@ -1,16 +1,46 @@
-//! Truth values, texts and strings of bytes out of scalars, valid or not.
+//! Truth values, texts and strings of bytes out of scalars, valid or not. The impls for `ScalarRef`
+//! are of this port alone.
 
 ghost use Rattle.vortex_value.specs.Conversions.{SparesShort, Takes, TakesCopy, bytes_in, given_option, or_none, taken_bool, taken_bytes, taken_option_bool, taken_option_bytes, taken_option_text, taken_text, text_in};
 ghost use Rattle.vortex_value.specs.Values.RawOf.{raw_of};
 ghost use Rattle.vortex_value.specs.Values.RawTree.{raw_bool, raw_bytes, raw_text};
+ghost use Rattle.vortex_value.specs.Values.Refs.{ref_raw, ref_type};
 ghost use Rattle.vortex_value.specs.Values.Scalars.{scalar_raw, scalar_type};
 
+use crate::refs::ScalarRef;
 use crate::scalars::Scalar;
 use crate::values::ScalarValue;
 use vortex_dtype::{BufferString, ByteBuffer, DType, VortexError};
 
-/// `WrongKind` where the type is not Bool, then `IsNull` of a null, then `WrongKind` of another
-/// kind of raw value.
+/// As the optional one, and `IsNull` of a null.
+impl TryFrom<ScalarRef<'_>> for bool {
+    type Error = VortexError;
+
+    ghost try_from_gives = { λ x r. Takes raw_bool (taken_bool (ref_type x) (ref_raw x)) r };
+
+    fn try_from(scalar: ScalarRef<'_>) -> Result<bool, VortexError> {
+        Option::<bool>::try_from(scalar)?.ok_or(VortexError::IsNull)
+    }
+}
+
+/// `WrongKind` where the type is not Bool; a null is none; then `WrongKind` of another kind of raw
+/// value.
+impl TryFrom<ScalarRef<'_>> for Option<bool> {
+    type Error = VortexError;
+
+    ghost try_from_gives = { λ x r. Takes (given_option raw_bool)
+        (taken_option_bool (ref_type x) (ref_raw x)) r };
+
+    fn try_from(scalar: ScalarRef<'_>) -> Result<Option<bool>, VortexError> {
+        match (scalar.dtype(), scalar.value()) {
+            (DType::Bool(_), Some(ScalarValue::Bool(truth))) => Ok(Some(*truth)),
+            (DType::Bool(_), None) => Ok(None),
+            _ => Err(VortexError::WrongKind),
+        }
+    }
+}
+
+/// As of a borrowed scalar.
 impl TryFrom<&Scalar> for bool {
     type Error = VortexError;
 
@@ -18,17 +48,11 @@ impl TryFrom<&Scalar> for bool {
         (taken_bool (scalar_type x.now) (scalar_raw x.now)) r };
 
     fn try_from(scalar: &Scalar) -> Result<bool, VortexError> {
-        match &scalar.value {
-            _ if !matches!(scalar.dtype, DType::Bool(_)) => Err(VortexError::WrongKind),
-            Some(ScalarValue::Bool(truth)) => Ok(*truth),
-            Some(_) => Err(VortexError::WrongKind),
-            None => Err(VortexError::IsNull),
-        }
+        bool::try_from(ScalarRef::of(scalar))
     }
 }
 
-/// `WrongKind` where the type is not Bool; a null is none; then `WrongKind` of another kind of raw
-/// value.
+/// As of a borrowed scalar.
 impl TryFrom<&Scalar> for Option<bool> {
     type Error = VortexError;
 
@@ -36,12 +60,7 @@ impl TryFrom<&Scalar> for Option<bool> {
         (taken_option_bool (scalar_type x.now) (scalar_raw x.now)) r };
 
     fn try_from(scalar: &Scalar) -> Result<Option<bool>, VortexError> {
-        match &scalar.value {
-            _ if !matches!(scalar.dtype, DType::Bool(_)) => Err(VortexError::WrongKind),
-            Some(ScalarValue::Bool(truth)) => Ok(Some(*truth)),
-            Some(_) => Err(VortexError::WrongKind),
-            None => Ok(None),
-        }
+        Option::<bool>::try_from(ScalarRef::of(scalar))
     }
 }
 
@@ -72,9 +91,38 @@ impl TryFrom<Scalar> for Option<bool> {
     }
 }
 
-/// A copy of the bytes: `WrongKind` where the type is not Binary, then `IsNull` of a null, then
+/// As the optional one, and `IsNull` of a null.
+impl TryFrom<ScalarRef<'_>> for ByteBuffer {
+    type Error = VortexError;
+
+    ghost try_from_gives = { λ x r. TakesCopy raw_bytes (taken_bytes (ref_type x) (ref_raw x)) r
+        × SparesShort (taken_bytes (ref_type x) (ref_raw x)) r };
+
+    fn try_from(scalar: ScalarRef<'_>) -> Result<ByteBuffer, VortexError> {
+        Option::<ByteBuffer>::try_from(scalar)?.ok_or(VortexError::IsNull)
+    }
+}
+
+/// A copy of the bytes: `WrongKind` where the type is not Binary; a null is none, without memory; then
 /// `WrongKind` of another kind of raw value; else `OutOfMemory` where there is none for the copy
 /// of more than 22 bytes.
+impl TryFrom<ScalarRef<'_>> for Option<ByteBuffer> {
+    type Error = VortexError;
+
+    ghost try_from_gives = { λ x r. TakesCopy (given_option raw_bytes)
+        (taken_option_bytes (ref_type x) (ref_raw x)) r
+        × SparesShort (taken_option_bytes (ref_type x) (ref_raw x)) r };
+
+    fn try_from(scalar: ScalarRef<'_>) -> Result<Option<ByteBuffer>, VortexError> {
+        match (scalar.dtype(), scalar.value()) {
+            (DType::Binary(_), Some(ScalarValue::Binary(bytes))) => Ok(Some(bytes.clone()?)),
+            (DType::Binary(_), None) => Ok(None),
+            _ => Err(VortexError::WrongKind),
+        }
+    }
+}
+
+/// As of a borrowed scalar.
 impl TryFrom<&Scalar> for ByteBuffer {
     type Error = VortexError;
 
@@ -83,18 +131,11 @@ impl TryFrom<&Scalar> for ByteBuffer {
         × SparesShort (taken_bytes (scalar_type x.now) (scalar_raw x.now)) r };
 
     fn try_from(scalar: &Scalar) -> Result<ByteBuffer, VortexError> {
-        match &scalar.value {
-            _ if !scalar.dtype.is_binary() => Err(VortexError::WrongKind),
-            Some(ScalarValue::Binary(bytes)) => bytes.clone(),
-            Some(_) => Err(VortexError::WrongKind),
-            None => Err(VortexError::IsNull),
-        }
+        ByteBuffer::try_from(ScalarRef::of(scalar))
     }
 }
 
-/// A copy of the bytes: `WrongKind` where the type is not Binary; a null is none, without memory; then
-/// `WrongKind` of another kind of raw value; else `OutOfMemory` where there is none for the copy
-/// of more than 22 bytes.
+/// As of a borrowed scalar.
 impl TryFrom<&Scalar> for Option<ByteBuffer> {
     type Error = VortexError;
 
@@ -103,27 +144,18 @@ impl TryFrom<&Scalar> for Option<ByteBuffer> {
         × SparesShort (taken_option_bytes (scalar_type x.now) (scalar_raw x.now)) r };
 
     fn try_from(scalar: &Scalar) -> Result<Option<ByteBuffer>, VortexError> {
-        match &scalar.value {
-            _ if !scalar.dtype.is_binary() => Err(VortexError::WrongKind),
-            Some(ScalarValue::Binary(bytes)) => Ok(Some(bytes.clone()?)),
-            Some(_) => Err(VortexError::WrongKind),
-            None => Ok(None),
-        }
+        Option::<ByteBuffer>::try_from(ScalarRef::of(scalar))
     }
 }
 
-/// The bytes, moved: `WrongKind` where the type is not Binary, then `IsNull` of a null, then `WrongKind`
-/// of another kind of raw value.
+/// As the optional one, and `IsNull` of a null.
 impl TryFrom<Scalar> for ByteBuffer {
     type Error = VortexError;
 
     ghost try_from_gives = { λ x r. Takes raw_bytes (taken_bytes (scalar_type x) (scalar_raw x)) r };
 
     fn try_from(scalar: Scalar) -> Result<ByteBuffer, VortexError> {
-        match Option::<ByteBuffer>::try_from(scalar)? {
-            Some(bytes) => Ok(bytes),
-            None => Err(VortexError::IsNull),
-        }
+        Option::<ByteBuffer>::try_from(scalar)?.ok_or(VortexError::IsNull)
     }
 }
 
@@ -156,9 +188,38 @@ fn into_bytes(value: Option<ScalarValue>) -> Result<Option<ByteBuffer>, VortexEr
     }
 }
 
-/// A copy of the text: `WrongKind` where the type is not Utf8, then `IsNull` of a null, then
+/// As the optional one, and `IsNull` of a null.
+impl TryFrom<ScalarRef<'_>> for BufferString {
+    type Error = VortexError;
+
+    ghost try_from_gives = { λ x r. TakesCopy raw_text (taken_text (ref_type x) (ref_raw x)) r
+        × SparesShort (taken_text (ref_type x) (ref_raw x)) r };
+
+    fn try_from(scalar: ScalarRef<'_>) -> Result<BufferString, VortexError> {
+        Option::<BufferString>::try_from(scalar)?.ok_or(VortexError::IsNull)
+    }
+}
+
+/// A copy of the text: `WrongKind` where the type is not Utf8; a null is none, without memory; then
 /// `WrongKind` of another kind of raw value; else `OutOfMemory` where there is none for the copy
 /// of more than 22 bytes.
+impl TryFrom<ScalarRef<'_>> for Option<BufferString> {
+    type Error = VortexError;
+
+    ghost try_from_gives = { λ x r. TakesCopy (given_option raw_text)
+        (taken_option_text (ref_type x) (ref_raw x)) r
+        × SparesShort (taken_option_text (ref_type x) (ref_raw x)) r };
+
+    fn try_from(scalar: ScalarRef<'_>) -> Result<Option<BufferString>, VortexError> {
+        match (scalar.dtype(), scalar.value()) {
+            (DType::Utf8(_), Some(ScalarValue::Utf8(text))) => Ok(Some(text.clone()?)),
+            (DType::Utf8(_), None) => Ok(None),
+            _ => Err(VortexError::WrongKind),
+        }
+    }
+}
+
+/// As of a borrowed scalar.
 impl TryFrom<&Scalar> for BufferString {
     type Error = VortexError;
 
@@ -167,18 +228,11 @@ impl TryFrom<&Scalar> for BufferString {
         × SparesShort (taken_text (scalar_type x.now) (scalar_raw x.now)) r };
 
     fn try_from(scalar: &Scalar) -> Result<BufferString, VortexError> {
-        match &scalar.value {
-            _ if !scalar.dtype.is_utf8() => Err(VortexError::WrongKind),
-            Some(ScalarValue::Utf8(text)) => text.clone(),
-            Some(_) => Err(VortexError::WrongKind),
-            None => Err(VortexError::IsNull),
-        }
+        BufferString::try_from(ScalarRef::of(scalar))
     }
 }
 
-/// A copy of the text: `WrongKind` where the type is not Utf8; a null is none, without memory; then
-/// `WrongKind` of another kind of raw value; else `OutOfMemory` where there is none for the copy
-/// of more than 22 bytes.
+/// As of a borrowed scalar.
 impl TryFrom<&Scalar> for Option<BufferString> {
     type Error = VortexError;
 
@@ -187,27 +241,18 @@ impl TryFrom<&Scalar> for Option<BufferString> {
         × SparesShort (taken_option_text (scalar_type x.now) (scalar_raw x.now)) r };
 
     fn try_from(scalar: &Scalar) -> Result<Option<BufferString>, VortexError> {
-        match &scalar.value {
-            _ if !scalar.dtype.is_utf8() => Err(VortexError::WrongKind),
-            Some(ScalarValue::Utf8(text)) => Ok(Some(text.clone()?)),
-            Some(_) => Err(VortexError::WrongKind),
-            None => Ok(None),
-        }
+        Option::<BufferString>::try_from(ScalarRef::of(scalar))
     }
 }
 
-/// The text, moved: `WrongKind` where the type is not Utf8, then `IsNull` of a null, then `WrongKind`
-/// of another kind of raw value.
+/// As the optional one, and `IsNull` of a null.
 impl TryFrom<Scalar> for BufferString {
     type Error = VortexError;
 
     ghost try_from_gives = { λ x r. Takes raw_text (taken_text (scalar_type x) (scalar_raw x)) r };
 
     fn try_from(scalar: Scalar) -> Result<BufferString, VortexError> {
-        match Option::<BufferString>::try_from(scalar)? {
-            Some(text) => Ok(text),
-            None => Err(VortexError::IsNull),
-        }
+        Option::<BufferString>::try_from(scalar)?.ok_or(VortexError::IsNull)
     }
 }
 

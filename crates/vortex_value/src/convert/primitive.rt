@@ -1,5 +1,5 @@
-//! Conversions between scalars and integers: the rule of each, for all integer types, and those of
-//! `PValue` and `usize`. The impls of the eight types stand in `primitive/`.
+//! Conversions between scalars and integers: the rules, for all integer types, and `PValue` and
+//! `usize`. What is taken as one of the eight stands in `from_integers`, impl by impl.
 
 ghost use Rattle.std.specs.Prelude.{◌≡◌};
 ghost use Rattle.std.specs.Option.{option_copied};
@@ -10,15 +10,36 @@ ghost use Rattle.vortex_pvalue.specs.Whole.{kind_of, whole_of};
 ghost use Rattle.vortex_value.specs.Conversions.{IsMadeValid, Takes, given_number, given_option, given_usize, number_in, or_none, taken_number, taken_option_number, taken_option_usize, taken_usize};
 ghost use Rattle.vortex_value.specs.Values.RawOf.{raw_of, value_tree};
 ghost use Rattle.vortex_value.specs.Values.RawTree.{raw_integer};
+ghost use Rattle.vortex_value.specs.Values.Refs.{ref_raw, ref_type};
 ghost use Rattle.vortex_value.specs.Values.Scalars.{scalar_raw, scalar_type};
 
+use crate::refs::ScalarRef;
 use crate::scalars::Scalar;
 use crate::values::ScalarValue;
 use vortex_dtype::{DType, Nullability, PType, VortexError};
 use vortex_pvalue::{NativePType, PValue};
 
 mod from_integers;
-mod into_integers;
+
+/// The eight integers. A trait of this crate, so that one impl for them all stands beside those for
+/// other types.
+pub trait Integer: NativePType {}
+
+impl Integer for u8 {}
+
+impl Integer for u16 {}
+
+impl Integer for u32 {}
+
+impl Integer for u64 {}
+
+impl Integer for i8 {}
+
+impl Integer for i16 {}
+
+impl Integer for i32 {}
+
+impl Integer for i64 {}
 
 /// The integer value.
 impl From<PValue> for ScalarValue {
@@ -29,14 +50,35 @@ impl From<PValue> for ScalarValue {
     }
 }
 
-/// The nullable scalar of an integer, or the null.
-fn optional_scalar<T: NativePType>(value: Option<T>) -> Scalar
-    ensures { IsMadeValid (integer_type T.PTYPE Nullable)
-        (given_option (given_number T.PTYPE T.value) value) result }
-{
-    match value {
-        Some(value) => Scalar::primitive(value, Nullability::Nullable),
-        None => Scalar::null(DType::Primitive(T::PTYPE, Nullability::Nullable)),
+/// The number in its own kind.
+impl<T: Integer> From<T> for ScalarValue {
+    ghost from_gives = { λ n v. value_tree v ≡ given_number T.PTYPE T.value n };
+
+    fn from(value: T) -> ScalarValue {
+        ScalarValue::Primitive(value.into_pvalue())
+    }
+}
+
+/// Of the type that takes no null.
+impl<T: Integer> From<T> for Scalar {
+    ghost from_gives = { λ n y. IsMadeValid
+        (integer_type T.PTYPE NonNullable) (given_number T.PTYPE T.value n) y };
+
+    fn from(value: T) -> Scalar {
+        Scalar::primitive(value, Nullability::NonNullable)
+    }
+}
+
+/// Of the nullable type; none is the null.
+impl<T: Integer> From<Option<T>> for Scalar {
+    ghost from_gives = { λ o y. IsMadeValid
+        (integer_type T.PTYPE Nullable) (given_option (given_number T.PTYPE T.value) o) y };
+
+    fn from(value: Option<T>) -> Scalar {
+        match value {
+            Some(value) => Scalar::primitive(value, Nullability::Nullable),
+            None => Scalar::null(DType::Primitive(T::PTYPE, Nullability::Nullable)),
+        }
     }
 }
 
@@ -59,41 +101,70 @@ fn take_number<T: NativePType>(value: &ScalarValue) -> Result<T, VortexError>
     }
 }
 
-/// The number of a scalar of any type, `IsNull` of a null.
-fn take_present<T: NativePType>(scalar: &Scalar) -> Result<T, VortexError>
-    ensures { Takes (given_number T.PTYPE T.value)
-        (taken_number T.PTYPE (scalar_type scalar.now) (scalar_raw scalar.now)) result }
-{
-    match &scalar.value {
-        Some(value) => take_number(value),
-        None => Err(VortexError::IsNull),
-    }
-}
-
 /// The number of a raw value, or none of a null.
 fn take_or_none<T: NativePType>(value: Option<&ScalarValue>) -> Result<Option<T>, VortexError>
     ensures { Takes (given_option (given_number T.PTYPE T.value))
         (or_none (number_in T.PTYPE) (raw_of (option_copied value.entry))) result }
 {
     match value {
-        Some(value) => match take_number(value) {
-            Ok(number) => Ok(Some(number)),
-            Err(refusal) => Err(refusal),
-        },
+        Some(value) => Ok(Some(take_number(value)?)),
         None => Ok(None),
     }
 }
 
-/// The number of a scalar of exactly the kind of this type, `WrongPType` of another kind, or none of
-/// a null.
-fn take_optional<T: NativePType>(scalar: &Scalar) -> Result<Option<T>, VortexError>
-    ensures { Takes (given_option (given_number T.PTYPE T.value))
-        (taken_option_number T.PTYPE (scalar_type scalar.now) (scalar_raw scalar.now)) result }
-{
-    match scalar.dtype {
-        DType::Primitive(ptype, _) if ptype == T::PTYPE => take_or_none(scalar.value.as_ref()),
-        DType::Primitive(..) => Err(VortexError::WrongPType),
-        _ => Err(VortexError::WrongKind),
+impl ScalarRef<'_> {
+    /// The number as this integer type, whatever the scalar's type, valid or not. Of this port alone.
+    ///
+    /// `IsNull` of a null, then `WrongKind` where the raw value is no integer, then `OutOfRange` where
+    /// the integer type does not have the number.
+    pub fn number<T: NativePType>(&self) -> Result<T, VortexError>
+        ensures { Takes (given_number T.PTYPE T.value)
+            (taken_number T.PTYPE (ref_type self.now) (ref_raw self.now)) result }
+    {
+        match self.value() {
+            Some(value) => take_number(value),
+            None => Err(VortexError::IsNull),
+        }
+    }
+
+    /// The number of an integer of exactly this kind, and none of a null. Of this port alone.
+    ///
+    /// `WrongKind` where the type is no integer, then `WrongPType` where it is of another kind, of a
+    /// null too; then `WrongKind` where the raw value is no integer, and `OutOfRange` where the integer
+    /// type does not have the number.
+    pub fn optional_number<T: NativePType>(&self) -> Result<Option<T>, VortexError>
+        ensures { Takes (given_option (given_number T.PTYPE T.value))
+            (taken_option_number T.PTYPE (ref_type self.now) (ref_raw self.now)) result }
+    {
+        match self.dtype() {
+            DType::Primitive(ptype, _) if *ptype == T::PTYPE => take_or_none(self.value()),
+            DType::Primitive(..) => Err(VortexError::WrongPType),
+            _ => Err(VortexError::WrongKind),
+        }
+    }
+}
+
+/// Of exactly this kind. Of this port alone.
+impl<T: Integer> TryFrom<ScalarRef<'_>> for Option<T> {
+    type Error = VortexError;
+
+    ghost try_from_gives = { λ x r. Takes (given_option (given_number T.PTYPE T.value))
+        (taken_option_number T.PTYPE (ref_type x) (ref_raw x)) r };
+
+    fn try_from(scalar: ScalarRef<'_>) -> Result<Option<T>, VortexError> {
+        scalar.optional_number()
+    }
+}
+
+/// As of a borrowed scalar.
+impl<T: Integer> TryFrom<&Scalar> for Option<T> {
+    type Error = VortexError;
+
+    ghost try_from_gives = { λ x r. Takes (given_option (given_number T.PTYPE T.value))
+        (taken_option_number T.PTYPE (scalar_type x.now) (scalar_raw x.now)) r };
+
+    fn try_from(scalar: &Scalar) -> Result<Option<T>, VortexError> {
+        Option::<T>::try_from(ScalarRef::of(scalar))
     }
 }
 
@@ -143,6 +214,20 @@ impl TryFrom<&ScalarValue> for usize {
 /// `WrongKind` where the type is no integer, also of an extension over one, then `IsNull` of a null,
 /// then `WrongKind` of another kind of raw value, and `OutOfRange` where 64 bits do not hold the
 /// number.
+impl TryFrom<ScalarRef<'_>> for usize {
+    type Error = VortexError;
+
+    ghost try_from_gives = { λ x r. Takes given_usize (taken_usize (ref_type x) (ref_raw x)) r };
+
+    fn try_from(scalar: ScalarRef<'_>) -> Result<usize, VortexError> {
+        match scalar.dtype() {
+            DType::Primitive(..) => Ok(scalar.number::<u64>()? as usize),
+            _ => Err(VortexError::WrongKind),
+        }
+    }
+}
+
+/// As of a borrowed scalar.
 impl TryFrom<&Scalar> for usize {
     type Error = VortexError;
 
@@ -150,15 +235,28 @@ impl TryFrom<&Scalar> for usize {
         (taken_usize (scalar_type x.now) (scalar_raw x.now)) r };
 
     fn try_from(scalar: &Scalar) -> Result<usize, VortexError> {
-        match scalar.dtype {
-            DType::Primitive(..) => Ok(take_present::<u64>(scalar)? as usize),
-            _ => Err(VortexError::WrongKind),
-        }
+        usize::try_from(ScalarRef::of(scalar))
     }
 }
 
 /// `WrongKind` where the type is no integer; a null is none; then `WrongKind` of another kind of raw
 /// value, and `OutOfRange` where 64 bits do not hold the number.
+impl TryFrom<ScalarRef<'_>> for Option<usize> {
+    type Error = VortexError;
+
+    ghost try_from_gives = { λ x r. Takes (given_option given_usize)
+        (taken_option_usize (ref_type x) (ref_raw x)) r };
+
+    fn try_from(scalar: ScalarRef<'_>) -> Result<Option<usize>, VortexError> {
+        match (scalar.dtype(), scalar.value()) {
+            (DType::Primitive(..), Some(value)) => Ok(Some(usize::try_from(value)?)),
+            (DType::Primitive(..), None) => Ok(None),
+            _ => Err(VortexError::WrongKind),
+        }
+    }
+}
+
+/// As of a borrowed scalar.
 impl TryFrom<&Scalar> for Option<usize> {
     type Error = VortexError;
 
@@ -166,10 +264,6 @@ impl TryFrom<&Scalar> for Option<usize> {
         (taken_option_usize (scalar_type x.now) (scalar_raw x.now)) r };
 
     fn try_from(scalar: &Scalar) -> Result<Option<usize>, VortexError> {
-        match (&scalar.dtype, &scalar.value) {
-            (DType::Primitive(..), Some(value)) => Ok(Some(take_number::<u64>(value)? as usize)),
-            (DType::Primitive(..), None) => Ok(None),
-            _ => Err(VortexError::WrongKind),
-        }
+        Option::<usize>::try_from(ScalarRef::of(scalar))
     }
 }

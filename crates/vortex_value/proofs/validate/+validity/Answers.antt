@@ -1,88 +1,83 @@
 -- A breach of a part is one of the whole.
-use Rattle.std.proofs.Common.{◌≡◌, Err, add-one, refl, arith, rules, inl, inr}
-use Rattle.std.proofs.lemmas.List.{drop_all, nil_from_length}
-use Rattle.vortex_dtype.specs.TypeOf.{map_of, type_of}
-use Rattle.vortex_value.proofs.ValidSteps.{elements_at, entries_at, entry_of, entry_with, no_entry, no_values, Checks-both, Shows-more}
+use Rattle.std.proofs.Common.{◌+◌, suc, None, drop, get_or, refl}
+use Rattle.vortex_dtype.specs.TypeOf.{map_of, type_of, dtype_trees}
+use Rattle.vortex_dtype.specs.declared.error.Step.TheVariants.{Element, Entry, Field, Key, Value}
+use Rattle.vortex_value.specs.Breaches.{breaches, breaches_of_entry, element_breaches, entry_breaches, field_breaches, under}
+use Rattle.vortex_value.specs.Values.RawOf.{raw_of, value_trees}
+use Rattle.vortex_value.proofs.ValidSteps.{elements_at, entries_at, entry_of, entry_with, no_entry, passed, refused, Checks-part}
 use Rattle.vortex_value.proofs.validate.+validity.Goals as goal
 
-pub check_elements-loop-index-preserved : goal.check_elements-loop-index-preserved
-check_elements-loop-index-preserved t c =
+pub check_elements-returns-then-not-check : goal.check_elements-returns-then-not-check
+check_elements-returns-then-not-check t c =
+    let path = c.args.trace.now.path in
     let e = type_of c.args.element.now in
+    let i = c.loop-index.index in
+    let items = c.args.items.now in
     let v = c.index-items-index.result in
-    let none = c.in_ok-below.ensures _ _ (rw c.as_ref.ensures.value at c.check.ensures) in
-    rw (c.loop-index.invariant, elements_at e c.loop-index.index c.args.items.now v c.loop-index-test.true c.index-items-index.is, none) refl
+    let fs = breaches e (raw_of v) in
+    let part = refused path _ _ c.check.new.trace fs c.loop-index.invariant.path (rw c.as_ref.ensures.value at c.check.ensures) c.if-not-check.true in
+    rw (c.loop-index.invariant.left, elements_at e i items v c.loop-index-test.true c.index-items-index.is)
+    (Checks-part path c.refuse_part.result c.check.new.trace c.refuse_part.new.self (Element i) fs (element_breaches e (i + 1) (value_trees (drop (i + 1) items))) part (c.refuse_part.ensures path fs part))
 
-pub check_elements-returns-in_err-below : goal.check_elements-returns-in_err-below
-check_elements-returns-in_err-below t c =
-    let e = type_of c.args.element.now in
-    let v = c.index-items-index.result in
-    let same : c.from_residual.result ≡ Err c.in_err-below.field-0.0 = search rules in
-    rw (same, c.loop-index.invariant, elements_at e c.loop-index.index c.args.items.now v c.loop-index-test.true c.index-items-index.is)
-    (Shows-more _ _ _ _ (c.in_err-below.ensures _ _ (rw c.as_ref.ensures.value at c.check.ensures)))
-
-pub check_elements-returns : goal.check_elements-returns
-check_elements-returns t c = rw (c.loop-index.invariant, drop_all c.loop-index.index c.args.items.now (omega arith)) refl
-
-pub check_entries-loop-index-preserved : goal.check_entries-loop-index-preserved
-check_entries-loop-index-preserved t c =
+pub check_entries-returns-then-not-check_entry : goal.check_entries-returns-then-not-check_entry
+check_entries-returns-then-not-check_entry t c =
+    let path = c.args.trace.now.path in
     let m = map_of c.args.map.now in
+    let i = c.loop-index.index in
+    let items = c.args.items.now in
     let v = c.index-items-index.result in
-    let none = c.in_ok-below.ensures _ _ (rw c.as_ref.ensures.value at c.check_entry.ensures) in
-    rw (c.loop-index.invariant, entries_at m.key m.value c.loop-index.index c.args.items.now v c.loop-index-test.true c.index-items-index.is, none) refl
+    let fs = breaches_of_entry m.key m.value (raw_of v) in
+    let part = refused path _ _ c.check_entry.new.trace fs c.loop-index.invariant.path (rw c.as_ref.ensures.value at c.check_entry.ensures) c.if-not-check_entry.true in
+    rw (c.loop-index.invariant.left, entries_at m.key m.value i items v c.loop-index-test.true c.index-items-index.is)
+    (Checks-part path c.refuse_part.result c.check_entry.new.trace c.refuse_part.new.self (Entry i) fs (entry_breaches m.key m.value (i + 1) (value_trees (drop (i + 1) items))) part (c.refuse_part.ensures path fs part))
 
-pub check_entries-returns-in_err-below : goal.check_entries-returns-in_err-below
-check_entries-returns-in_err-below t c =
-    let m = map_of c.args.map.now in
-    let v = c.index-items-index.result in
-    let same : c.from_residual.result ≡ Err c.in_err-below.field-0.0 = search rules in
-    rw (same, c.loop-index.invariant, entries_at m.key m.value c.loop-index.index c.args.items.now v c.loop-index-test.true c.index-items-index.is)
-    (Shows-more _ _ _ _ (c.in_err-below.ensures _ _ (rw c.as_ref.ensures.value at c.check_entry.ensures)))
-
-pub check_entries-returns : goal.check_entries-returns
-check_entries-returns t c = rw (c.loop-index.invariant, drop_all c.loop-index.index c.args.items.now (omega arith)) refl
-
-pub check_fields-loop-index-preserved : goal.check_fields-loop-index-preserved
-check_fields-loop-index-preserved t c =
+pub check_fields-returns-then-not-check : goal.check_fields-returns-then-not-check
+check_fields-returns-then-not-check t c =
     let ((values, types), here, next, small) = c.in-Some.ensures.steps in
-    let left = rw (values, types) at c.loop-index.invariant in
-    let none = c.in_ok-below.ensures _ _ (rw c.as_ref.ensures.value at c.check.ensures) in
-    rw (next, add-one, ← left, rw here at none) refl
-
-pub check_fields-returns : goal.check_fields-returns
-check_fields-returns t c =
-    rw (← c.loop-index.invariant) (elim c.in-None.ensures.steps.0 [
-      | inl (x, none) ↦ rw (nil_from_length _ none.0, no_values) refl
-      | inr (x, none) ↦ rw (nil_from_length _ none.0) refl
-    ])
-
-pub check_fields-returns-in_err-below : goal.check_fields-returns-in_err-below
-check_fields-returns-in_err-below t c =
-    let ((values, types), here, next, small) = c.in-Some.ensures.steps in
-    let left = rw (values, types) at c.loop-index.invariant in
-    let same : c.from_residual.result ≡ Err c.in_err-below.field-0.0 = search rules in
-    let part = c.in_err-below.ensures _ _ (rw c.as_ref.ensures.value at c.check.ensures) in
-    rw (same, ← left) (Shows-more _ _ _ _ (rw here at part))
+    let left = rw (values, types) at c.loop-index.invariant.left in
+    let path = c.args.trace.now.path in
+    let i = c.loop-index.index-iterator.count in
+    let rest = c.next.new.self.iter in
+    let fs = breaches (type_of c.in-Some.field.now) (raw_of c.in-Some.item.now) in
+    let part = refused path _ _ c.check.new.trace fs c.loop-index.invariant.path (rw c.as_ref.ensures.value at c.check.ensures) c.if-not-check.true in
+    rw (← left)
+    (Checks-part path c.refuse_part.result c.check.new.trace c.refuse_part.new.self (Field i) fs (field_breaches (suc i) (dtype_trees rest.b.rest.now) (value_trees rest.a.rest.now)) part (rw here at (c.refuse_part.ensures path fs part)))
 
 pub check_pair-returns-then-parts-ne2 : goal.check_pair-returns-then-parts-ne2
 check_pair-returns-then-parts-ne2 t c =
     let m = map_of c.args.map.now in
-    rw (no_entry m.key m.value c.args.parts.now c.if-parts-ne2.true) c.breach_here.ensures
+    rw (no_entry m.key m.value c.args.parts.now c.if-parts-ne2.true) c.refuse.ensures
 
-pub check_pair-returns-in_err-below : goal.check_pair-returns-in_err-below
-check_pair-returns-in_err-below t c =
+pub check_pair-returns-then-not-check : goal.check_pair-returns-then-not-check
+check_pair-returns-then-not-check t c =
     let m = map_of c.args.map.now in
     let x = c.index-parts-0.result in
-    let key = rw (c.as_ref.ensures.value, c.key_dtype.ensures.tree) at c.check-key.ensures in
-    let same : c.from_residual.result ≡ Err c.in_err-below.field-0.0 = search rules in
-    rw (same, entry_with m.key m.value c.args.parts.now x c.if-parts-ne2.false c.index-parts-0.is)
-    (Shows-more _ _ _ _ (c.in_err-below.ensures _ _ key))
+    let path = c.args.trace.now.path in
+    let key = rw (c.as_ref.ensures.value, c.key_dtype.ensures.tree) at c.check.ensures in
+    let part = refused path _ _ c.check.new.trace (breaches m.key (raw_of x)) refl key c.if-not-check.true in
+    rw (entry_with m.key m.value c.args.parts.now x c.if-parts-ne2.false c.index-parts-0.is)
+    (Checks-part path c.refuse_part.result c.check.new.trace c.refuse_part.new.self Key (breaches m.key (raw_of x)) (under Value (breaches m.value (raw_of (get_or c.args.parts.now 1 None)))) part (c.refuse_part.ensures path _ part))
 
-pub check_pair-returns : goal.check_pair-returns
-check_pair-returns t c =
+pub check_pair-returns-then-check : goal.check_pair-returns-then-check
+check_pair-returns-then-check t c =
     let m = map_of c.args.map.now in
     let x = c.index-parts-0.result in
     let y = c.index-parts-1.result in
-    let key = rw (c.as_ref.ensures.value, c.key_dtype.ensures.tree) at c.check-key.ensures in
-    let value = rw (c.as_ref-2.ensures.value, c.value_dtype.ensures.tree) at c.check-value.ensures in
-    rw (entry_of m.key m.value c.args.parts.now x y c.if-parts-ne2.false c.index-parts-0.is c.index-parts-1.is)
-    (Checks-both _ _ _ _ (c.in_ok-below.ensures _ _ key) (c.below-2.ensures _ _ value))
+    let path = c.args.trace.now.path in
+    let key = rw (c.as_ref.ensures.value, c.key_dtype.ensures.tree) at c.check.ensures in
+    let (same, none) = passed path path c.check.result c.check.new.trace (breaches m.key (raw_of x)) refl key c.if-not-check.false in
+    let value = rw (c.as_ref-2.ensures.value, c.value_dtype.ensures.tree) at c.check-2.ensures in
+    let (kept, all) = passed path _ c.check-2.result c.check-2.new.trace (breaches m.value (raw_of y)) same value c.if-check.true in
+    rw (c.if-check.true, entry_of m.key m.value c.args.parts.now x y c.if-parts-ne2.false c.index-parts-0.is c.index-parts-1.is, none, all) (kept, refl)
+
+pub check_pair-returns-else-check : goal.check_pair-returns-else-check
+check_pair-returns-else-check t c =
+    let m = map_of c.args.map.now in
+    let x = c.index-parts-0.result in
+    let y = c.index-parts-1.result in
+    let path = c.args.trace.now.path in
+    let key = rw (c.as_ref.ensures.value, c.key_dtype.ensures.tree) at c.check.ensures in
+    let (same, none) = passed path path c.check.result c.check.new.trace (breaches m.key (raw_of x)) refl key c.if-not-check.false in
+    let value = rw (c.as_ref-2.ensures.value, c.value_dtype.ensures.tree) at c.check-2.ensures in
+    let part = refused path _ c.check-2.result c.check-2.new.trace (breaches m.value (raw_of y)) same value c.if-check.false in
+    rw (entry_of m.key m.value c.args.parts.now x y c.if-parts-ne2.false c.index-parts-0.is c.index-parts-1.is, none) (c.refuse_part-else-check.ensures path (breaches m.value (raw_of y)) part)

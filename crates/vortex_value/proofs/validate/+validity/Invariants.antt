@@ -7,40 +7,49 @@ use Rattle.vortex_value.proofs.Lent.{lent_size}
 use Rattle.vortex_value.proofs.validate.+validity.Given as goal
 
 abbrev pub invariant-check_elements-loop-index : goal.invariant-check_elements-loop-index
-invariant-check_elements-loop-index l =
-    element_breaches (type_of l.element) 0 (value_trees l.items) ≡ element_breaches (type_of l.element) l.index (value_trees (drop l.index l.items))
+invariant-check_elements-loop-index l = record {
+  path : l.trace.path ≡ l.fn.trace.path;
+  left : element_breaches (type_of l.element) 0 (value_trees l.items) ≡ element_breaches (type_of l.element) l.index (value_trees (drop l.index l.items));
+}
 
 abbrev pub invariant-check_entries-loop-index : goal.invariant-check_entries-loop-index
-invariant-check_entries-loop-index l =
-    entry_breaches (map_of l.map).key (map_of l.map).value 0 (value_trees l.items) ≡ entry_breaches (map_of l.map).key (map_of l.map).value l.index (value_trees (drop l.index l.items))
+invariant-check_entries-loop-index l = record {
+  path : l.trace.path ≡ l.fn.trace.path;
+  left : entry_breaches (map_of l.map).key (map_of l.map).value 0 (value_trees l.items) ≡ entry_breaches (map_of l.map).key (map_of l.map).value l.index (value_trees (drop l.index l.items));
+}
 
 abbrev pub invariant-check_fields-loop-index : goal.invariant-check_fields-loop-index
-invariant-check_fields-loop-index l =
-    field_breaches l.index-iterator.count (dtype_trees l.index-iterator.iter.b.rest.now) (value_trees l.index-iterator.iter.a.rest.now) ≡ field_breaches 0 (dtype_trees l.fields) (value_trees l.items)
+invariant-check_fields-loop-index l = record {
+  path : l.trace.path ≡ l.fn.trace.path;
+  left : field_breaches l.index-iterator.count (dtype_trees l.index-iterator.iter.b.rest.now) (value_trees l.index-iterator.iter.a.rest.now) ≡ field_breaches 0 (dtype_trees l.fields) (value_trees l.items);
+}
 
 abbrev pub decreases-check : goal.decreases-check
-decreases-check l = 3 * lent_size l.value + 1
+decreases-check l = 4 * lent_size l.value + 2
+
+abbrev pub decreases-check_present : goal.decreases-check_present
+decreases-check_present l = 4 * goal.size-check_present l + 1
 
 abbrev pub decreases-check_value : goal.decreases-check_value
-decreases-check_value l = 3 * goal.size-check_value l
+decreases-check_value l = 4 * goal.size-check_value l
 
 abbrev pub decreases-check_elements : goal.decreases-check_elements
-decreases-check_elements l = 3 * goal.size-check_elements l + 2
+decreases-check_elements l = 4 * goal.size-check_elements l + 3
 
 abbrev pub decreases-check_entries : goal.decreases-check_entries
-decreases-check_entries l = 3 * goal.size-check_entries l + 2
+decreases-check_entries l = 4 * goal.size-check_entries l + 3
 
 abbrev pub decreases-check_entry : goal.decreases-check_entry
-decreases-check_entry l = 3 * lent_size l.entry + 1
+decreases-check_entry l = 4 * lent_size l.entry + 2
 
 abbrev pub decreases-check_pair : goal.decreases-check_pair
-decreases-check_pair l = 3 * goal.size-check_pair l + 2
+decreases-check_pair l = 4 * goal.size-check_pair l + 3
 
 abbrev pub decreases-check_fields : goal.decreases-check_fields
-decreases-check_fields l = 3 * goal.size-check_fields l + 2
+decreases-check_fields l = 4 * goal.size-check_fields l + 3
 
 abbrev pub decreases-check_child : goal.decreases-check_child
-decreases-check_child l = 3 * goal.size-check_child l + 1
+decreases-check_child l = 4 * goal.size-check_child l + 1
 
 abbrev pub decreases-check_variant : goal.decreases-check_variant
-decreases-check_variant l = 3 * goal.size-check_variant l
+decreases-check_variant l = 4 * goal.size-check_variant l

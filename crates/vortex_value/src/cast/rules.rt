@@ -1,4 +1,4 @@
-//! The steps of a cast that go no further down than the value itself.
+//! What the cast table asks of two types, and the steps that go no further down than the value.
 
 ghost use Rattle.std.specs.Prelude.{◌≡◌, ◌==◌, IfErr, option_map};
 ghost use Rattle.std.specs.Str.{bytes_eq};
@@ -19,7 +19,7 @@ use vortex_dtype::{DType, MapDType, UnionVariants, VortexError};
 use vortex_pvalue::PValue;
 
 /// Whether keys that are not said to be sorted would be said so.
-pub(super) fn sorts(source: &MapDType, target: &MapDType) -> bool
+pub(super) fn would_claim_sorted(source: &MapDType, target: &MapDType) -> bool
     ensures { result ≡ sorts (map_of source.now).keys_sorted (map_of target.now).keys_sorted }
 {
     !source.keys_sorted() && target.keys_sorted()
@@ -39,19 +39,20 @@ pub(super) fn takes_null(source: &DType, target: &DType) -> bool
     ensures { result ≡ takes_null (type_of source.now) (type_of target.now) }
 {
     match (source, target) {
-        (DType::Map(from, _), DType::Map(to, _)) => !sorts(from, to) && target.is_nullable(),
+        (DType::Map(from, _), DType::Map(to, _)) if would_claim_sorted(from, to) => false,
         _ => target.is_nullable(),
     }
 }
 
 /// Whether a value that is present may leave an extension over the stored type for the target.
 #[tactic(auto, using(crate::proofs::CastCode::shown))]
-pub(super) fn leaves(target: &DType, source: &DType, stored: &DType) -> bool
+pub(super) fn may_leave_extension(source: &DType, stored: &DType, target: &DType) -> bool
     ensures { result ≡ leaves (type_of source.now) (type_of stored.now) (type_of target.now) }
 {
     match target {
         DType::Extension(extension) => {
-            same_types(source, target) || leaves(extension.storage_dtype(), source, stored)
+            same_types(source, target)
+                || may_leave_extension(source, stored, extension.storage_dtype())
         }
         _ => same_types(stored, target),
     }

@@ -2,7 +2,7 @@ use Rattle.std.proofs.Common.{◌≡◌, refl, ◌∙◌}
 use Rattle.std.specs.Str.{bytes_eq}
 use Rattle.vortex_dtype.specs.Names.{ids_left}
 use Rattle.vortex_value.proofs.SameIds.{eq_compares}
-use Rattle.vortex_value.proofs.cast.rows.same_ids.Goals as goal
+use Rattle.vortex_value.proofs.cast.rules.same_ids.Goals as goal
 
 pub returns : goal.returns
 returns c =
