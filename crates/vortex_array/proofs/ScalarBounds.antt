@@ -5,17 +5,15 @@ use Rattle.std.specs.Ordering.{nat_cmp}
 use Rattle.vortex_dtype.specs.Memory.{GivesOrNoMemory}
 use Rattle.vortex_dtype.specs.declared.error.VortexError.{VortexError}
 use Rattle.vortex_dtype.specs.declared.error.VortexError.TheVariants.{OutOfMemory}
-use Rattle.vortex_dtype.specs.Parts.{is_binary_type, is_utf8_type}
-use Rattle.vortex_dtype.specs.TypeTree.{TypeTree, Same, erase, binary_type, utf8_type}
+use Rattle.vortex_dtype.specs.TypeTree.{TypeTree, Same, erase}
 use Rattle.vortex_value.specs.Values.Content.{Content, content}
 use Rattle.vortex_value.specs.Lemmas.EqualityLaws.{same_type-Decides}
 use Rattle.vortex_value.specs.Order.{order, typed_order}
-use Rattle.vortex_value.specs.Values.RawKinds.{IsBytesValue, IsTextValue}
-use Rattle.vortex_value.specs.Values.RawTree.{RawTree, raw_bytes, raw_text}
+use Rattle.vortex_value.specs.Values.RawTree.{RawTree}
 use Rattle.vortex_value.specs.Values.Scalars.{IsMadeOf, IsValid, scalar_content, scalar_order, scalar_raw, scalar_type}
 use Rattle.vortex_value.specs.declared.scalars.Scalar.{Scalar}
 use Rattle.vortex_array.specs.Strings.{Below, IsLower, IsString, IsUpper, HasNoUpper, NotAbove, next_string, upper_of}
-use Rattle.vortex_array.specs.Truncation.{IsBoundOf, IsLowerOf, IsOther, IsSource, IsTypeOfKind, IsUpTo, IsUpperOf, MayHold}
+use Rattle.vortex_array.specs.Truncation.{IsBoundOf, IsLowerOf, IsSource, IsUpTo, IsUpperOf}
 use Rattle.vortex_array.proofs.ByteOrder.{Le, NotAbove-from}
 use Rattle.vortex_array.proofs.NextString.{upper_of_is_upper}
 use Rattle.vortex_array.proofs.StringBounds.{IsLower-lower_of}
@@ -120,21 +118,6 @@ upper_cut Best raw t b r n y law upper_law m v l k = record {
 
 pub of_value : {V : Type 0} (o : Option V) (v : V) (P : V → Type 0) → o ≡ Some v → P v → IfSome o P
 of_value o v P e h = rw e h
-
--- ---- scalars of another kind
-pub not_binary : (t : TypeTree) → is_binary_type t ≡ false → ¬ (IsTypeOfKind binary_type t)
-not_binary t e (n, h) = let q : true ≡ false = sym (ap is_binary_type h) ∙ e in true≢false q
-
-pub not_utf8 : (t : TypeTree) → is_utf8_type t ≡ false → ¬ (IsTypeOfKind utf8_type t)
-not_utf8 t e (n, h) = let q : true ≡ false = sym (ap is_utf8_type h) ∙ e in true≢false q
-
-pub other_bytes : (v w : RawTree) → v ≡ w → IsOther IsBytesValue w → ¬ (MayHold raw_bytes v)
-other_bytes v w same h (inl e) = h.1 (sym same ∙ e)
-other_bytes v w same h (inr (b, e)) = h.0 (subst IsBytesValue (sym e ∙ same) tt)
-
-pub other_text : (v w : RawTree) → v ≡ w → IsOther IsTextValue w → ¬ (MayHold raw_text v)
-other_text v w same h (inl e) = h.1 (sym same ∙ e)
-other_text v w same h (inr (b, e)) = h.0 (subst IsTextValue (sym e ∙ same) tt)
 
 -- ---- the bounds of a buffer
 pub lower_slice : (b : List ℕ) (n : ℕ) (r : List ℕ) → IsString b → r ≡ slice_range b 0 n → IsLower b n r

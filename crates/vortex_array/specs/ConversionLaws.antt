@@ -1,9 +1,10 @@
 -- Values are taken back from what they give. Trait implementations cite these lemmas.
-use Rattle.std.specs.Prelude.{◌≡◌, ℕ, ℤ, pos, true, List, [], ◌∷◌, Some, None, Ok}
+use Rattle.std.specs.Prelude.{◌≡◌, ℕ, ℤ, pos, List, [], ◌∷◌, Some, None, Ok}
 use Rattle.std.proofs.Common.{refl, ap, ◌∙◌}
-use Rattle.vortex_dtype.specs.Kinds.{same_kind}
-use Rattle.vortex_dtype.specs.TypeTree.{TypeTree, bool_type, integer_type, utf8_type, binary_type, list_type}
+use Rattle.vortex_dtype.specs.Lemmas.TypeLaws.{same_kind-Decides}
+use Rattle.vortex_dtype.specs.TypeTree.{TypeTree, as_nullable, bool_type, integer_type, utf8_type, binary_type, list_type}
 use Rattle.vortex_dtype.specs.declared.kinds.Nullability.{Nullability}
+use Rattle.vortex_dtype.specs.declared.kinds.Nullability.TheVariants.{NonNullable, Nullable}
 use Rattle.vortex_dtype.specs.declared.kinds.PType.{PType}
 use Rattle.vortex_dtype.specs.declared.kinds.PType.TheVariants.{U64}
 use Rattle.vortex_pvalue.specs.RangeLaws.{in_range_true}
@@ -19,14 +20,21 @@ pub option_bool_back : (n : Nullability) → TakesBack (given_option raw_bool) t
 option_bool_back n None valid = refl
 option_bool_back n (Some b) valid = refl
 
--- a number of any kind
-pub number_back : {T : Type 0} (k : PType) (n : Nullability) (number : T → ℤ) → TakesBack (given_number k number) (taken_number k) (integer_type k n)
+-- an integer, at the column type of its kind
+number_back : {T : Type 0} (k : PType) (n : Nullability) (number : T → ℤ) → TakesBack (given_number k number) (taken_number k) (integer_type k n)
 number_back k n number x valid = rw (in_range_true k (number x) valid.1) refl
 
-pub option_number_back : {T : Type 0} (k : PType) (n : Nullability) (number : T → ℤ) → same_kind k k ≡ true
-    → TakesBack (given_option (given_number k number)) (taken_option_number k) (integer_type k n)
-option_number_back k n number same None valid = rw same refl
-option_number_back k n number same (Some x) valid = rw (same, in_range_true k (number x) valid.1) refl
+pub integer_back : {T : Type 0} (k : PType) (t : TypeTree) (number : T → ℤ) → t ≡ integer_type k NonNullable → TakesBack (given_number k number) (taken_number k) t
+integer_back k t number e = rw e (number_back k NonNullable number)
+
+-- an optional one, at the nullable column type
+option_number_back : {T : Type 0} (k : PType) (n : Nullability) (number : T → ℤ) → TakesBack (given_option (given_number k number)) (taken_option_number k) (integer_type k n)
+option_number_back k n number None valid = rw ((same_kind-Decides k k).1 refl) refl
+option_number_back k n number (Some x) valid = rw ((same_kind-Decides k k).1 refl, in_range_true k (number x) valid.1) refl
+
+pub option_integer_back : {T : Type 0} (k : PType) (t : TypeTree) (number : T → ℤ) → t ≡ integer_type k NonNullable
+    → TakesBack (given_option (given_number k number)) (taken_option_number k) (as_nullable t)
+option_integer_back k t number e = rw e (option_number_back k Nullable number)
 
 pub usize_back : (n : Nullability) → TakesBack given_usize taken_usize (integer_type U64 n)
 usize_back n x valid = rw (in_range_true U64 (pos x) valid.1) refl

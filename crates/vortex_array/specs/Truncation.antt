@@ -16,10 +16,6 @@ IsTypeOfKind kind t = (n : Nullability) × (t ≡ kind n)
 abbrev pub MayHold : (List ℕ → RawTree) → RawTree → Type 0
 MayHold raw v = (v ≡ absent) ⊎ ((b : List ℕ) × (v ≡ raw b))
 
--- v is a raw value, and not of this kind
-abbrev pub IsOther : (RawTree → Type 0) → RawTree → Type 0
-IsOther Is v = ¬ (Is v) × ¬ (v ≡ absent)
-
 -- the order says Less or Equal
 abbrev pub IsUpTo : Option Ordering → Type 0
 IsUpTo o = (o ≡ Some Less) ⊎ (o ≡ Some Equal)

@@ -1,16 +1,17 @@
 //! Conversions of Rust values into scalars.
 
-ghost use Rattle.std.specs.Prelude.{◌≡◌, ◌≤◌, length, IsOk, IsOkAnd, MatchResult, pos, string_bytes};
+ghost use Rattle.std.specs.Prelude.{◌≡◌, ◌≤◌, length, IsOk, IsOkAnd, MatchResult, string_bytes};
 ghost use Rattle.vortex_dtype.specs.TypeTree.{bool_type, integer_type, utf8_type, binary_type};
 ghost use Rattle.vortex_dtype.specs.declared.error.VortexError.TheVariants.{OutOfMemory};
 ghost use Rattle.vortex_dtype.specs.declared.kinds.Nullability.TheVariants.{NonNullable};
-ghost use Rattle.vortex_dtype.specs.declared.kinds.PType.TheVariants.{U8, U16, U32, U64, I8, I16, I32, I64};
+ghost use Rattle.vortex_dtype.specs.declared.kinds.PType.TheVariants.{U64};
 ghost use Rattle.vortex_value.specs.Conversions.{IsMadeValid, given_number, given_option, given_usize};
 ghost use Rattle.vortex_value.specs.Values.RawOf.{raw_of, value_trees};
 ghost use Rattle.vortex_value.specs.Values.RawTree.{RawTree, raw_bool, raw_text, raw_bytes};
 ghost use Rattle.vortex_value.specs.Validity.{EachValid, Valid};
 ghost use Rattle.vortex_array.specs.Conversions.{given_each, given_vec};
 
+use crate::integers::Integer;
 use std::alloc::Global;
 use vortex_dtype::{BufferString, ByteBuffer, NativeDType, Nullability, VortexError};
 use vortex_value::{Scalar, ScalarValue};
@@ -44,97 +45,13 @@ impl IntoScalar for bool {
     }
 }
 
-/// Takes no memory. Gives what `From<u8> for Scalar` does.
-impl IntoScalar for u8 {
-    ghost given = { given_number U8 pos };
+/// The eight integers. Takes no memory. Gives what `From` for `Scalar` does.
+impl<T: Integer> IntoScalar for T {
+    ghost given = { given_number T.PTYPE T.value };
 
     fn try_into_scalar(self, _alloc: Global) -> Result<Scalar, VortexError>
         ensures { IsOkAnd result
-            (IsMadeValid (integer_type U8 NonNullable) (given_number U8 pos self)) }
-    {
-        Ok(Scalar::primitive(self, Nullability::NonNullable))
-    }
-}
-
-/// Takes no memory. Gives what `From<u16> for Scalar` does.
-impl IntoScalar for u16 {
-    ghost given = { given_number U16 pos };
-
-    fn try_into_scalar(self, _alloc: Global) -> Result<Scalar, VortexError>
-        ensures { IsOkAnd result
-            (IsMadeValid (integer_type U16 NonNullable) (given_number U16 pos self)) }
-    {
-        Ok(Scalar::primitive(self, Nullability::NonNullable))
-    }
-}
-
-/// Takes no memory. Gives what `From<u32> for Scalar` does.
-impl IntoScalar for u32 {
-    ghost given = { given_number U32 pos };
-
-    fn try_into_scalar(self, _alloc: Global) -> Result<Scalar, VortexError>
-        ensures { IsOkAnd result
-            (IsMadeValid (integer_type U32 NonNullable) (given_number U32 pos self)) }
-    {
-        Ok(Scalar::primitive(self, Nullability::NonNullable))
-    }
-}
-
-/// Takes no memory. Gives what `From<u64> for Scalar` does.
-impl IntoScalar for u64 {
-    ghost given = { given_number U64 pos };
-
-    fn try_into_scalar(self, _alloc: Global) -> Result<Scalar, VortexError>
-        ensures { IsOkAnd result
-            (IsMadeValid (integer_type U64 NonNullable) (given_number U64 pos self)) }
-    {
-        Ok(Scalar::primitive(self, Nullability::NonNullable))
-    }
-}
-
-/// Takes no memory. Gives what `From<i8> for Scalar` does.
-impl IntoScalar for i8 {
-    ghost given = { given_number I8 (λ n. n) };
-
-    fn try_into_scalar(self, _alloc: Global) -> Result<Scalar, VortexError>
-        ensures { IsOkAnd result
-            (IsMadeValid (integer_type I8 NonNullable) (given_number I8 (λ n. n) self)) }
-    {
-        Ok(Scalar::primitive(self, Nullability::NonNullable))
-    }
-}
-
-/// Takes no memory. Gives what `From<i16> for Scalar` does.
-impl IntoScalar for i16 {
-    ghost given = { given_number I16 (λ n. n) };
-
-    fn try_into_scalar(self, _alloc: Global) -> Result<Scalar, VortexError>
-        ensures { IsOkAnd result
-            (IsMadeValid (integer_type I16 NonNullable) (given_number I16 (λ n. n) self)) }
-    {
-        Ok(Scalar::primitive(self, Nullability::NonNullable))
-    }
-}
-
-/// Takes no memory. Gives what `From<i32> for Scalar` does.
-impl IntoScalar for i32 {
-    ghost given = { given_number I32 (λ n. n) };
-
-    fn try_into_scalar(self, _alloc: Global) -> Result<Scalar, VortexError>
-        ensures { IsOkAnd result
-            (IsMadeValid (integer_type I32 NonNullable) (given_number I32 (λ n. n) self)) }
-    {
-        Ok(Scalar::primitive(self, Nullability::NonNullable))
-    }
-}
-
-/// Takes no memory. Gives what `From<i64> for Scalar` does.
-impl IntoScalar for i64 {
-    ghost given = { given_number I64 (λ n. n) };
-
-    fn try_into_scalar(self, _alloc: Global) -> Result<Scalar, VortexError>
-        ensures { IsOkAnd result
-            (IsMadeValid (integer_type I64 NonNullable) (given_number I64 (λ n. n) self)) }
+            (IsMadeValid (integer_type T.PTYPE NonNullable) (given_number T.PTYPE T.value self)) }
     {
         Ok(Scalar::primitive(self, Nullability::NonNullable))
     }

@@ -4,6 +4,7 @@
 
 mod carry;
 mod from_scalar;
+mod integers;
 mod into_scalar;
 pub mod laws;
 mod round_trip;

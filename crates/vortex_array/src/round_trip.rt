@@ -1,12 +1,12 @@
 //! Values that are taken back from the scalars that they make.
 
-ghost use Rattle.std.specs.Prelude.{pos, refl, string_bytes};
+ghost use Rattle.std.specs.Prelude.{refl, string_bytes};
 ghost use Rattle.vortex_dtype.specs.declared.kinds.Nullability.TheVariants.{NonNullable, Nullable};
-ghost use Rattle.vortex_dtype.specs.declared.kinds.PType.TheVariants.{U8, U16, U32, U64, I8, I16, I32, I64};
-ghost use Rattle.vortex_array.specs.ConversionLaws.{bool_back, bytes_back, number_back, option_bool_back, option_bytes_back, option_number_back, option_text_back, option_usize_back, text_back, usize_back, vec_back, vec_named};
+ghost use Rattle.vortex_array.specs.ConversionLaws.{bool_back, bytes_back, integer_back, option_bool_back, option_bytes_back, option_integer_back, option_text_back, option_usize_back, text_back, usize_back, vec_back, vec_named};
 ghost use Rattle.vortex_array.specs.Conversions.{NamesAsGiven, TakesBack};
 
 use crate::from_scalar::FromScalar;
+use crate::integers::Integer;
 use crate::into_scalar::IntoScalar;
 use vortex_dtype::{BufferString, ByteBuffer};
 
@@ -34,100 +34,18 @@ impl RoundTrip for Option<bool> {
     ghost taken_back = { option_bool_back Nullable };
 }
 
-impl RoundTrip for u8 {
+/// The eight integers.
+impl<T: Integer> RoundTrip for T {
     ghost named = { λ x. refl };
 
-    ghost taken_back = { number_back U8 NonNullable pos };
+    ghost taken_back = { integer_back T.PTYPE T.native_type T.value T.column };
 }
 
-impl RoundTrip for Option<u8> {
+/// The eight integers, optional.
+impl<T: Integer> RoundTrip for Option<T> {
     ghost named = { λ x. refl };
 
-    ghost taken_back = { option_number_back U8 Nullable pos refl };
-}
-
-impl RoundTrip for u16 {
-    ghost named = { λ x. refl };
-
-    ghost taken_back = { number_back U16 NonNullable pos };
-}
-
-impl RoundTrip for Option<u16> {
-    ghost named = { λ x. refl };
-
-    ghost taken_back = { option_number_back U16 Nullable pos refl };
-}
-
-impl RoundTrip for u32 {
-    ghost named = { λ x. refl };
-
-    ghost taken_back = { number_back U32 NonNullable pos };
-}
-
-impl RoundTrip for Option<u32> {
-    ghost named = { λ x. refl };
-
-    ghost taken_back = { option_number_back U32 Nullable pos refl };
-}
-
-impl RoundTrip for u64 {
-    ghost named = { λ x. refl };
-
-    ghost taken_back = { number_back U64 NonNullable pos };
-}
-
-impl RoundTrip for Option<u64> {
-    ghost named = { λ x. refl };
-
-    ghost taken_back = { option_number_back U64 Nullable pos refl };
-}
-
-impl RoundTrip for i8 {
-    ghost named = { λ x. refl };
-
-    ghost taken_back = { number_back I8 NonNullable (λ n. n) };
-}
-
-impl RoundTrip for Option<i8> {
-    ghost named = { λ x. refl };
-
-    ghost taken_back = { option_number_back I8 Nullable (λ n. n) refl };
-}
-
-impl RoundTrip for i16 {
-    ghost named = { λ x. refl };
-
-    ghost taken_back = { number_back I16 NonNullable (λ n. n) };
-}
-
-impl RoundTrip for Option<i16> {
-    ghost named = { λ x. refl };
-
-    ghost taken_back = { option_number_back I16 Nullable (λ n. n) refl };
-}
-
-impl RoundTrip for i32 {
-    ghost named = { λ x. refl };
-
-    ghost taken_back = { number_back I32 NonNullable (λ n. n) };
-}
-
-impl RoundTrip for Option<i32> {
-    ghost named = { λ x. refl };
-
-    ghost taken_back = { option_number_back I32 Nullable (λ n. n) refl };
-}
-
-impl RoundTrip for i64 {
-    ghost named = { λ x. refl };
-
-    ghost taken_back = { number_back I64 NonNullable (λ n. n) };
-}
-
-impl RoundTrip for Option<i64> {
-    ghost named = { λ x. refl };
-
-    ghost taken_back = { option_number_back I64 Nullable (λ n. n) refl };
+    ghost taken_back = { option_integer_back T.PTYPE T.native_type T.value T.column };
 }
 
 impl RoundTrip for usize {

@@ -12,7 +12,8 @@ use vortex_dtype::{BufferString, INLINE_BYTES, VortexError};
 /// Why a text was not incremented. The text is handed back as it was.
 #[derive(Debug, Drop)]
 pub enum IncrementError<S> {
-    /// It is empty, or no character follows its last one.
+    /// It is empty, or no character follows its last one; of a `BufferString` also where the next one
+    /// has more bytes.
     Last(S),
     /// No memory was left.
     Memory(S),

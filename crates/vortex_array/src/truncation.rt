@@ -9,20 +9,18 @@ ghost use Rattle.vortex_dtype.specs.declared.error.VortexError.TheVariants.{OutO
 ghost use Rattle.vortex_dtype.specs.declared.kinds.Nullability.{Nullability};
 ghost use Rattle.vortex_value.specs.Values.Content.{content};
 ghost use Rattle.vortex_value.specs.Order.{order};
-ghost use Rattle.vortex_value.specs.Values.RawKinds.{IsBytesValue, IsTextValue};
-ghost use Rattle.vortex_value.specs.Values.RawOf.{raw_of};
 ghost use Rattle.vortex_value.specs.Values.RawTree.{RawTree, absent, raw_bytes, raw_text};
 ghost use Rattle.vortex_value.specs.Values.Scalars.{IsMadeOf, IsValid, scalar_raw, scalar_type};
 ghost use Rattle.vortex_array.specs.Strings.{Below, NotAbove, HasNoUpper, IsLower, IsString, IsUpper, next_string};
 ghost use Rattle.vortex_array.specs.Texts.{HasNoTextUpper, IsTextLower, IsTextUpper};
-ghost use Rattle.vortex_array.specs.Truncation.{IsLowerOf, IsOther, IsTypeOfKind, IsUpperOf, MayHold};
+ghost use Rattle.vortex_array.specs.Truncation.{IsLowerOf, IsTypeOfKind, IsUpperOf, MayHold};
 
 use crate::carry::carry;
 use crate::string_like::{IncrementError, StringLike};
 use arrayvec::ArrayVec;
 use std::alloc::Global;
 use vortex_dtype::{BufferString, ByteBuffer, INLINE_BYTES, Nullability, VortexError};
-use vortex_value::{Scalar, ScalarValue};
+use vortex_value::Scalar;
 
 /// A value that can be truncated to a length in bytes. Such values are ordered as their bytes.
 ///
@@ -175,12 +173,7 @@ impl ScalarTruncation for ByteBuffer {
     ghost HasNoBestUpper = { HasNoUpper };
 
     fn from_scalar(scalar: Scalar) -> Result<Option<ByteBuffer>, VortexError> {
-        if scalar.dtype.is_binary() {
-            bytes_or_null(scalar.into_value())
-        } else {
-            drop(scalar);
-            Err(VortexError::WrongKind)
-        }
+        Option::<ByteBuffer>::try_from(scalar)
     }
 
     fn len(&self) -> usize {
@@ -231,12 +224,7 @@ impl ScalarTruncation for BufferString {
     ghost HasNoBestUpper = { HasNoTextUpper };
 
     fn from_scalar(scalar: Scalar) -> Result<Option<BufferString>, VortexError> {
-        if scalar.dtype.is_utf8() {
-            text_or_null(scalar.into_value())
-        } else {
-            drop(scalar);
-            Err(VortexError::WrongKind)
-        }
+        Option::<BufferString>::try_from(scalar)
     }
 
     fn len(&self) -> usize {
@@ -270,32 +258,6 @@ impl ScalarTruncation for BufferString {
     ghost lower_law = { λ b n r h. h.not_above };
 
     ghost upper_law = { λ b n r h. h.above };
-}
-
-/// The string of bytes that the raw value is, none of a null; `WrongKind` where it is neither.
-fn bytes_or_null(value: Option<ScalarValue>) -> Result<Option<ByteBuffer>, VortexError>
-    ensures { MatchResult result
-        (λ o. MatchOption o (raw_of value ≡ absent) (λ bytes. raw_of value ≡ raw_bytes bytes))
-        (λ e. (e ≡ WrongKind) × IsOther IsBytesValue (raw_of value)) }
-{
-    match value {
-        Some(ScalarValue::Binary(bytes)) => Ok(Some(bytes)),
-        Some(_) => Err(VortexError::WrongKind),
-        None => Ok(None),
-    }
-}
-
-/// The text that the raw value is, none of a null; `WrongKind` where it is neither.
-fn text_or_null(value: Option<ScalarValue>) -> Result<Option<BufferString>, VortexError>
-    ensures { MatchResult result
-        (λ o. MatchOption o (raw_of value ≡ absent) (λ text. raw_of value ≡ raw_text text))
-        (λ e. (e ≡ WrongKind) × IsOther IsTextValue (raw_of value)) }
-{
-    match value {
-        Some(ScalarValue::Utf8(text)) => Ok(Some(text)),
-        Some(_) => Err(VortexError::WrongKind),
-        None => Ok(None),
-    }
 }
 
 /// Says of the items of a slice that they are bytes. Does nothing.

@@ -122,7 +122,7 @@ impl<'a> PrimitiveScalar<'a> {
     ///
     /// Ports `PrimitiveScalar::typed_value`, which panics at another kind.
     pub fn typed_value<T: NativePType>(&self) -> Option<T>
-        requires { number_view_kind self.now ≡ T.PTYPE }
+        requires { kind_in (number_view_type self.now) ≡ Some T.PTYPE }
         ensures { option_map T.value result ≡ view_number self.now }
     {
         match self.pvalue {
