@@ -4,3 +4,4 @@ pub mod Cuts
 pub mod KnownReads
 pub mod Numerals
 pub mod Operands
+pub mod Beginnings

@@ -1,29 +1,96 @@
--- A `cast` with more than three words after it, and a bound with more than two.
-use Rattle.std.proofs.Common.{◌≡◌, ℕ, ◌==◌, true, false, Bool, List, [], ◌∷◌, None, refl, sym, ap, ◌∙◌}
+-- What the words after a command ask for: the last of those that are cut may be more than one word.
+use Rattle.std.proofs.Common.{◌≡◌, ℕ, ℤ, ◌==◌, true, false, Bool, List, [], ◌∷◌, Option, None, Some, refl, sym, ap, ◌∙◌, subst, arith}
+use Rattle.std.proofs.lemmas.Bool.{false≢true}
+use Rattle.std.proofs.lemmas.Option.{none-some}
+use Rattle.std.proofs.lemmas.Slice.Eq.{bytes_eq-Decides}
+use Rattle.std.specs.List.{find}
+use Rattle.std.specs.Prelude.{codes, if◌then◌else◌}
+use Rattle.std.specs.Str.{bytes_eq}
+use Rattle.vortex_dtype.specs.Kinds.{kind_text}
+use Rattle.vortex_dtype.specs.declared.kinds.PType.{PType}
+use Rattle.vortex_dtype.specs.declared.kinds.PType.TheVariants.{U8, U16, U32, U64, I8, I16, I32, I64}
 use Rattle.rows.specs.Lines.{words_of}
-use Rattle.rows.specs.Grammar.{bound_operands, cast_operands}
+use Rattle.rows.specs.Grammar.{Request, all_kinds, bound_operands, cast_operands, cast_request, kind_named, number_named, request_in, request_in_words}
 use Rattle.rows.specs.declared.commands.Side.{Side}
+use Rattle.rows.specs.declared.commands.Side.TheVariants.{Lower, Upper}
+use Rattle.rows.proofs.Beginnings.{lone_word, some_word}
 
-abbrev HasWord : List ℕ → Type 0
-HasWord line = (w : List ℕ) × (ws : List (List ℕ)) × (words_of line ≡ w ∷ ws)
+-- the text of a kind is one word
+text_alone : (kind : PType) → words_of (kind_text kind) ≡ kind_text kind ∷ []
+text_alone U8 = refl
+text_alone U16 = refl
+text_alone U32 = refl
+text_alone U64 = refl
+text_alone I8 = refl
+text_alone I16 = refl
+text_alone I32 = refl
+text_alone I64 = refl
 
--- each line has a word
-some_word : (line : List ℕ) → HasWord line
-some_word [] = ([], [], refl)
-some_word (b ∷ bs) = by_test (b == 32) refl (some_word bs)
+-- the kind that is found has the text
+found : (word : List ℕ) (kinds : List PType) (kind : PType) → find (λ k. bytes_eq word (kind_text k)) kinds ≡ Some kind → bytes_eq word (kind_text kind) ≡ true
+found word [] kind e = absurd (none-some kind e)
+found word (k ∷ kinds) kind e = by_test (bytes_eq word (kind_text k)) refl (found word kinds kind)
   where
-    by_test : (t : Bool) → (b == 32) ≡ t → HasWord bs → HasWord (b ∷ bs)
-    by_test true e more = ([], words_of bs, rw e refl)
-    by_test false e more = (b ∷ more.0, more.1, rw (e, more.2) refl)
+    by_test : (t : Bool) → bytes_eq word (kind_text k) ≡ t → (find (λ j. bytes_eq word (kind_text j)) kinds ≡ Some kind → bytes_eq word (kind_text kind) ≡ true) → bytes_eq word (kind_text kind) ≡ true
+    by_test true t later = let same : Some k ≡ Some kind = rw t at e in let is : k ≡ kind = grind arith in subst (λ (j : PType). bytes_eq word (kind_text j) ≡ true) is t
+    by_test false t later = later (rw t at e)
 
--- more than three words are no operands of `cast`
-pub more_than_three : (l a r b s c t : List ℕ) → words_of l ≡ a ∷ words_of r → words_of r ≡ b ∷ words_of s → words_of s ≡ c ∷ words_of t → None ≡ cast_operands (words_of l)
-more_than_three l a r b s c t e f g =
-    let more = some_word t in
-    sym (ap cast_operands (e ∙ ap (λ ws. a ∷ ws) (f ∙ ap (λ ws. b ∷ ws) (g ∙ ap (λ ws. c ∷ ws) more.2))))
+-- what names a kind is one word
+kind_alone : (word : List ℕ) (kind : PType) → kind_named word ≡ Some kind → words_of word ≡ word ∷ []
+unfolding kind_named
+kind_alone word kind e =
+    let is : word ≡ kind_text kind = (bytes_eq-Decides word (kind_text kind)).0 (found word all_kinds kind e) in
+    subst (λ (l : List ℕ). words_of l ≡ l ∷ []) (sym is) (text_alone kind)
+
+-- without the kind to cast to, nothing is asked for
+no_kind : (from : Option PType) (number : Option ℤ) → cast_request from number None ≡ None
+no_kind None number = refl
+no_kind (Some from) None = refl
+no_kind (Some from) (Some z) = refl
+
+-- the last of three may be more words, and then names no kind
+three : (a b s : List ℕ) → cast_request (kind_named a) (number_named b) (kind_named s) ≡ cast_operands (a ∷ b ∷ words_of s)
+three a b s = by_kind (kind_named s) refl
+  where
+    by_words : (w : List ℕ) (ws : List (List ℕ)) → words_of s ≡ w ∷ ws → kind_named s ≡ None → cast_request (kind_named a) (number_named b) None ≡ cast_operands (a ∷ b ∷ words_of s)
+    by_words w [] q e =
+        let same : w ≡ s = lone_word s w q in
+        rw q (ap (cast_request (kind_named a) (number_named b)) (sym e ∙ ap kind_named (sym same)))
+    by_words w (v ∷ ws) q e = rw q (no_kind _ _)
+
+    by_kind : (o : Option PType) → kind_named s ≡ o → cast_request (kind_named a) (number_named b) (kind_named s) ≡ cast_operands (a ∷ b ∷ words_of s)
+    by_kind None e = let more = some_word s in ap (cast_request (kind_named a) (number_named b)) e ∙ by_words more.0 more.1 more.2 e
+    by_kind (Some kind) e = rw (kind_alone s kind e) refl
+
+-- what three words ask for, of which the last may be more
+pub three_words : (l a r b s : List ℕ) → words_of l ≡ a ∷ words_of r → words_of r ≡ b ∷ words_of s
+    → cast_request (kind_named a) (number_named b) (kind_named s) ≡ cast_operands (words_of l)
+three_words l a r b s e f =
+    three a b s ∙ sym (ap cast_operands (e ∙ ap (λ (ws : List (List ℕ)). a ∷ ws) f))
 
 -- more than two words are no operands of `lower` and `upper`
 pub more_than_two : (side : Side) (l a r b s : List ℕ) → words_of l ≡ a ∷ words_of r → words_of r ≡ b ∷ words_of s → None ≡ bound_operands side (words_of l)
 more_than_two side l a r b s e f =
     let more = some_word s in
     sym (ap (bound_operands side) (e ∙ ap (λ ws. a ∷ ws) (f ∙ ap (λ ws. b ∷ ws) more.2)))
+
+-- without operands, and with another name, nothing is asked for
+nothing : (w : List ℕ) (ws : List (List ℕ)) → (bytes_eq w (codes "cast") ≡ true → ws ≡ []) → (bytes_eq w (codes "lower") ≡ true → ws ≡ []) → (bytes_eq w (codes "upper") ≡ true → ws ≡ [])
+    → request_in_words (w ∷ ws) ≡ None
+nothing w ws = chain (bytes_eq w (codes "cast")) (bytes_eq w (codes "lower")) (bytes_eq w (codes "upper"))
+  where
+    chain : (x y z : Bool) → (x ≡ true → ws ≡ []) → (y ≡ true → ws ≡ []) → (z ≡ true → ws ≡ [])
+        → (if x then cast_operands ws else if y then bound_operands Lower ws else if z then bound_operands Upper ws else None) ≡ None
+    chain true y z a b c = ap cast_operands (a refl)
+    chain false true z a b c = ap (bound_operands Lower) (b refl)
+    chain false false true a b c = ap (bound_operands Upper) (c refl)
+    chain false false false a b c = refl
+
+-- a line that begins with no command
+pub no_command : (line : List ℕ) → ((ws : List (List ℕ)) → words_of line ≡ codes "cast" ∷ ws → ws ≡ []) → ((ws : List (List ℕ)) → words_of line ≡ codes "lower" ∷ ws → ws ≡ [])
+    → ((ws : List (List ℕ)) → words_of line ≡ codes "upper" ∷ ws → ws ≡ []) → None ≡ request_in line
+no_command line a b c =
+    let more = some_word line in
+    let is = λ (name : List ℕ) (alone : (ws : List (List ℕ)) → words_of line ≡ name ∷ ws → ws ≡ []) (e : bytes_eq more.0 name ≡ true).
+    alone more.1 (more.2 ∙ ap (λ (w : List ℕ). w ∷ more.1) ((bytes_eq-Decides more.0 name).0 e)) in
+    sym (ap request_in_words more.2 ∙ nothing more.0 more.1 (is (codes "cast") a) (is (codes "lower") b) (is (codes "upper") c))

@@ -3,12 +3,18 @@ use Rattle.std.specs.Prelude.{ℕ, List, [], ◌∷◌, ◌++◌, Option, None, 
 use Rattle.std.specs.List.{flat_map}
 use Rattle.hex.specs.Hex.{encode_lower}
 use Rattle.vortex_pvalue.specs.Numbers.{in_range}
-use Rattle.vortex_pvalue.specs.Whole.{number_text}
+use Rattle.vortex_pvalue.specs.Whole.{number_text, pvalue_text}
+use Rattle.vortex_pvalue.specs.declared.pvalues.PValue.{PValue}
 use Rattle.vortex_array.specs.Strings.{lower_of, upper_of}
 use Rattle.rows.specs.Grammar.{Request, cast, bound, request_in}
 use Rattle.rows.specs.Lines.{lines_of}
 use Rattle.rows.specs.declared.commands.Side.{Side}
 use Rattle.rows.specs.declared.commands.Side.TheVariants.{Lower, Upper}
+
+-- a number with its kind, or that the cast is refused
+abbrev pub cast_text : Option PValue → List ℕ
+cast_text None = codes "refused"
+cast_text (Some number) = pvalue_text number
 
 -- a bound in lower case hexadecimal, or that there is none
 abbrev pub bound_text : Option (List ℕ) → List ℕ

@@ -14,57 +14,73 @@ ghost use Rattle.vortex_value.specs.Values.Content.{whole};
 ghost use Rattle.vortex_value.specs.Values.RawKinds.{IsBytesValue, IsIntegerValue};
 ghost use Rattle.vortex_value.specs.Values.RawTree.{raw_bytes, raw_integer};
 ghost use Rattle.vortex_value.specs.Values.Scalars.{IsTheOne, scalar_raw};
-ghost use Rattle.rows.specs.Answers.{text_of};
-ghost use Rattle.rows.specs.Commands.{request_of};
 ghost use Rattle.rows.specs.Grammar.{bound};
-ghost use Rattle.rows.specs.Rows.{request_text};
+ghost use Rattle.rows.specs.Rows.{bound_text, request_text};
 ghost use Rattle.rows.specs.declared.commands.Side.TheVariants.{Lower, Upper};
 
-use crate::commands::{Command, Side};
+use crate::commands::Side;
 use std::alloc::{AllocError, Global};
 use vortex_array::laws::{bounds_are_computed, bounds_are_unique};
 use vortex_array::{
     ByteBuffer, DType, Nullability, PType, PValue, Scalar, VortexError, lower_bound, upper_bound,
 };
 
-/// What a command gives.
-#[derive(Debug, Drop)]
-pub enum Answer {
-    /// The number is not in the range of the second kind.
-    Refused,
-    /// The number in the second kind.
-    Number(PValue),
-    /// The string itself, or its bound.
-    Bytes(ByteBuffer),
-    /// There is no upper bound.
-    NoBound,
+/// The number in another kind, where that has it.
+pub fn number_in_kind(alloc: Global, number: PValue, kind: PType) -> Option<PValue>
+    ensures { MatchOption result
+        (¬ (InRange kind (whole_of number)))
+        (IsNumber kind (whole_of number)) }
+{
+    let target = DType::Primitive(kind, Nullability::NonNullable);
+    match cast_scalar(alloc, number, &target) {
+        Ok(made) => Some(number_of(made)),
+        Err(_) => None,
+    }
 }
 
-/// What a command gives.
-pub fn answer_to(alloc: Global, command: Command) -> Result<Answer, AllocError>
-    ensures { IfOk result (λ answer. text_of answer ≡ request_text (request_of command)) }
+/// The scalar of the number, cast.
+fn cast_scalar(alloc: Global, number: PValue, target: &DType) -> Result<Scalar, VortexError>
+    ensures one { IfOk result (IsTheOne (type_of target.now) (whole (whole_of number))) }
+    ensures refused { IfErr result (RefusesCast (type_of target.now)
+        (CanCast (integer_type (kind_of number) NonNullable)
+        (type_of target.now) (whole (whole_of number)))) }
 {
-    match command {
-        Command::Cast { number, to } => Ok(match number_in_kind(alloc, number, to) {
-            Some(number) => Answer::Number(number),
-            None => Answer::Refused,
-        }),
-        Command::Bound {
-            side: Side::Lower,
-            length,
-            value,
-        } => lower_at(alloc, length, value),
-        Command::Bound {
-            side: Side::Upper,
-            length,
-            value,
-        } => upper_at(alloc, length, value),
+    let own = number.ptype();
+    let Ok(source) = Scalar::primitive_value(number, own, Nullability::NonNullable) else {
+        unreachable!()
+    };
+    source.cast(alloc, target)
+}
+
+/// The number of a scalar that has one.
+fn number_of(scalar: Scalar) -> PValue
+    requires { IsIntegerValue (scalar_raw scalar) }
+    ensures { scalar_raw scalar ≡ raw_integer (kind_of result) (whole_of result) }
+{
+    match scalar.into_value() {
+        Some(value) => value.into_primitive(),
+        None => unreachable!(),
+    }
+}
+
+/// The string, or its bound on this side, if there is one.
+pub fn bound_at(
+    alloc: Global,
+    side: Side,
+    length: u64,
+    value: ByteBuffer,
+) -> Result<Option<ByteBuffer>, AllocError>
+    ensures { IfOk result (λ given. bound_text given ≡ request_text (bound side length value)) }
+{
+    match side {
+        Side::Lower => lower_at(alloc, length, value),
+        Side::Upper => upper_at(alloc, length, value),
     }
 }
 
 /// The string, or its lower bound.
-fn lower_at(alloc: Global, length: u64, value: ByteBuffer) -> Result<Answer, AllocError>
-    ensures { IfOk result (λ answer. text_of answer ≡ request_text (bound Lower length value)) }
+fn lower_at(alloc: Global, length: u64, value: ByteBuffer) -> Result<Option<ByteBuffer>, AllocError>
+    ensures { IfOk result (λ given. bound_text given ≡ request_text (bound Lower length value)) }
 {
     tell_bounds(value.as_slice());
     let length = length as usize;
@@ -72,14 +88,14 @@ fn lower_at(alloc: Global, length: u64, value: ByteBuffer) -> Result<Answer, All
         return Err(AllocError);
     };
     match given {
-        Some((bound, _)) => Ok(Answer::Bytes(bytes_of(bound))),
+        Some((bound, _)) => Ok(Some(bytes_of(bound))),
         None => unreachable!(),
     }
 }
 
 /// The string, or its upper bound.
-fn upper_at(alloc: Global, length: u64, value: ByteBuffer) -> Result<Answer, AllocError>
-    ensures { IfOk result (λ answer. text_of answer ≡ request_text (bound Upper length value)) }
+fn upper_at(alloc: Global, length: u64, value: ByteBuffer) -> Result<Option<ByteBuffer>, AllocError>
+    ensures { IfOk result (λ given. bound_text given ≡ request_text (bound Upper length value)) }
 {
     tell_bounds(value.as_slice());
     let length = length as usize;
@@ -87,8 +103,8 @@ fn upper_at(alloc: Global, length: u64, value: ByteBuffer) -> Result<Answer, All
         return Err(AllocError);
     };
     match given {
-        Some((bound, _)) => Ok(Answer::Bytes(bytes_of(bound))),
-        None => Ok(Answer::NoBound),
+        Some((bound, _)) => Ok(Some(bytes_of(bound))),
+        None => Ok(None),
     }
 }
 
@@ -109,44 +125,6 @@ fn bytes_of(scalar: Scalar) -> ByteBuffer
 {
     match scalar.into_value() {
         Some(value) => value.into_binary(),
-        None => unreachable!(),
-    }
-}
-
-/// The number in another kind, where that has it.
-fn number_in_kind(alloc: Global, number: PValue, kind: PType) -> Option<PValue>
-    ensures { MatchOption result
-        (¬ (InRange kind (whole_of number)))
-        (IsNumber kind (whole_of number)) }
-{
-    let target = DType::Primitive(kind, Nullability::NonNullable);
-    match cast_number(alloc, number, &target) {
-        Ok(made) => Some(number_of(made)),
-        Err(_) => None,
-    }
-}
-
-/// The scalar of the number, cast.
-fn cast_number(alloc: Global, number: PValue, target: &DType) -> Result<Scalar, VortexError>
-    ensures one { IfOk result (IsTheOne (type_of target.now) (whole (whole_of number))) }
-    ensures refused { IfErr result (RefusesCast (type_of target.now)
-        (CanCast (integer_type (kind_of number) NonNullable)
-        (type_of target.now) (whole (whole_of number)))) }
-{
-    let own = number.ptype();
-    let Ok(source) = Scalar::primitive_value(number, own, Nullability::NonNullable) else {
-        unreachable!()
-    };
-    source.cast(alloc, target)
-}
-
-/// The number of a scalar that has one.
-fn number_of(scalar: Scalar) -> PValue
-    requires { IsIntegerValue (scalar_raw scalar) }
-    ensures { scalar_raw scalar ≡ raw_integer (kind_of result) (whole_of result) }
-{
-    match scalar.into_value() {
-        Some(value) => value.into_primitive(),
         None => unreachable!(),
     }
 }

@@ -7,18 +7,6 @@ use hex::{FromHexError, decode};
 use std::alloc::{AllocError, Global};
 use vortex_array::{ByteBuffer, PType};
 
-/// The kinds of integers.
-const KINDS: [PType; 8] = [
-    PType::U8,
-    PType::U16,
-    PType::U32,
-    PType::U64,
-    PType::I8,
-    PType::I16,
-    PType::I32,
-    PType::I64,
-];
-
 /// The most digits of a number.
 const DIGITS: usize = 20;
 
@@ -30,30 +18,41 @@ const SIZE_DIGITS: usize = 18;
 pub fn kind_named(word: &[u8]) -> Option<PType>
     ensures { result ≡ kind_named word.now }
 {
-    KINDS
-        .iter()
-        .copied()
-        .find(|kind| word == kind.name().as_bytes())
+    match word {
+        b"u8" => Some(PType::U8),
+        b"u16" => Some(PType::U16),
+        b"u32" => Some(PType::U32),
+        b"u64" => Some(PType::U64),
+        b"i8" => Some(PType::I8),
+        b"i16" => Some(PType::I16),
+        b"i32" => Some(PType::I32),
+        b"i64" => Some(PType::I64),
+        _ => None,
+    }
 }
 
-/// The number that 1 to 20 digits represent.
+/// The number that 1 to 20 digits represent. All but the last fit 64 bits.
 #[tactic(auto, using(crate::proofs::Numerals::digits))]
 fn natural_named(digits: &[u8]) -> Option<u128>
     ensures number { result ≡ natural_named digits.now }
     ensures small { IfSome result (λ n. n < 10 ^ 20) }
     ensures short { IfSome result (λ n. n < 10 ^ length digits.now) }
 {
-    if digits.is_empty() || digits.len() > DIGITS {
+    let (last, others) = digits.split_last()?;
+    if others.len() >= DIGITS {
         return None;
     }
-    let mut number = 0u128;
-    for digit in digits {
+    let mut number = 0u64;
+    for digit in others {
         if !digit.is_ascii_digit() {
             return None;
         }
-        number = number * 10 + u128::from(*digit - b'0');
+        number = number * 10 + u64::from(*digit - b'0');
     }
-    Some(number)
+    if !last.is_ascii_digit() {
+        return None;
+    }
+    Some(u128::from(number) * 10 + u128::from(*last - b'0'))
 }
 
 /// The number that 1 to 18 digits represent.

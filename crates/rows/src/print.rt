@@ -1,40 +1,66 @@
 //! How an answer is written.
 
-ghost use Rattle.std.specs.Prelude.{◌≡◌, ◌++◌, ◌∷◌, [], OnOk};
+ghost use Rattle.std.specs.Prelude.{◌≡◌, ◌++◌, ◌∷◌, [], OnOk, codes};
+ghost use Rattle.std.specs.Fmt.{signed_decimal};
 ghost use Rattle.hex.specs.Hex.{encode_lower};
-ghost use Rattle.vortex_pvalue.specs.Whole.{pvalue_text};
-ghost use Rattle.rows.specs.Answers.{row_of};
+ghost use Rattle.vortex_pvalue.specs.Whole.{pvalue_text, whole_of};
+ghost use Rattle.rows.specs.Rows.{bound_text, cast_text};
 
-use crate::answers::Answer;
 use hex::encode_to_slice;
 use itoa::Buffer;
 use std::alloc::AllocError;
-use vortex_array::PValue;
+use vortex_array::{ByteBuffer, PValue};
 
-/// Writes the answer to a line and a line feed; without one the line is none of the grammar.
-pub fn push_answer(output: &mut Vec<u8>, answer: Option<Answer>) -> Result<(), AllocError>
-    ensures { OnOk result (output.new.items ≡ output.old.items ++ (row_of answer ++ 10 ∷ [])) }
+/// Writes what a cast gives: the number, or that it was refused.
+pub fn push_number(output: &mut Vec<u8>, number: Option<PValue>) -> Result<(), AllocError>
+    ensures { OnOk result (output.new.items ≡ output.old.items ++ (cast_text number ++ 10 ∷ [])) }
 {
-    match answer {
-        None => output.extend_from_slice(b"bad line\n"),
-        Some(Answer::Refused) => output.extend_from_slice(b"refused\n"),
-        Some(Answer::Number(value)) => push_value(output, value),
-        Some(Answer::Bytes(value)) => {
-            push_hex(output, value.as_slice())?;
-            output.extend_from_slice(b"\n")
-        }
-        Some(Answer::NoBound) => output.extend_from_slice(b"none\n"),
+    match number {
+        Some(number) => push_value(output, number),
+        None => output.extend_from_slice(b"refused\n"),
     }
+}
+
+/// Writes what a bound gives: the string, or that there is none.
+pub fn push_string(output: &mut Vec<u8>, bytes: Option<ByteBuffer>) -> Result<(), AllocError>
+    ensures { OnOk result (output.new.items ≡ output.old.items ++ (bound_text bytes ++ 10 ∷ [])) }
+{
+    match bytes {
+        Some(bytes) => {
+            push_hex(output, bytes.as_slice())?;
+            Ok(output.push(b'\n')?)
+        }
+        None => output.extend_from_slice(b"none\n"),
+    }
+}
+
+/// Writes that the line asks for nothing.
+pub fn push_bad_line(output: &mut Vec<u8>) -> Result<(), AllocError>
+    ensures { OnOk result (output.new.items ≡ output.old.items ++ (codes "bad line" ++ 10 ∷ [])) }
+{
+    output.extend_from_slice(b"bad line\n")
 }
 
 /// Writes the value's text and a line feed.
 fn push_value(output: &mut Vec<u8>, value: PValue) -> Result<(), AllocError>
     ensures { OnOk result (output.new.items ≡ output.old.items ++ (pvalue_text value ++ 10 ∷ [])) }
 {
-    let mut buffer = Buffer::new();
-    output.extend_from_slice(buffer.format(value.whole()).as_bytes())?;
+    push_whole(output, value)?;
     output.extend_from_slice(value.ptype().name().as_bytes())?;
-    output.extend_from_slice(b"\n")
+    Ok(output.push(b'\n')?)
+}
+
+/// Writes the value's number: one of 64 bits, signed where it is negative.
+fn push_whole(output: &mut Vec<u8>, value: PValue) -> Result<(), AllocError>
+    ensures { OnOk result (output.new.items ≡ output.old.items ++ signed_decimal (whole_of value)) }
+{
+    let number = value.whole();
+    let mut buffer = Buffer::new();
+    if number < 0 {
+        output.extend_from_slice(buffer.format(number as i64).as_bytes())
+    } else {
+        output.extend_from_slice(buffer.format(number as u64).as_bytes())
+    }
 }
 
 /// Writes the bytes in lower case, two digits each.

@@ -1,20 +1,22 @@
 //! The whole program: from all lines to all answers.
 
-ghost use Rattle.std.specs.Prelude.{◌≡◌, ◌≢◌, ◌++◌, ◌∷◌, [], IfErr, IfOk, IfSome, OnOk};
+ghost use Rattle.std.specs.Prelude.{◌≡◌, ◌≢◌, ◌++◌, ◌∷◌, [], Some, IfErr, IfOk, IfSome, OnOk};
 ghost use Rattle.std.specs.Io.KnownBytes.{Appends, IsAtEnd};
-ghost use Rattle.rows.specs.Answers.{row_of};
-ghost use Rattle.rows.specs.Grammar.{request_in};
-ghost use Rattle.rows.specs.Rows.{row_text, rows_of};
+ghost use Rattle.vortex_pvalue.specs.Whole.{kind_of, whole_of};
+ghost use Rattle.rows.specs.Grammar.{bound_request, cast, hex_named, request_in};
+ghost use Rattle.rows.specs.Rows.{request_text, row_text, rows_of};
 
-use crate::answers::{Answer, answer_to};
-use crate::commands::command_in;
+use crate::answers::{bound_at, number_in_kind};
+use crate::commands::{Command, Side, command_in};
 use crate::faults::RowsError;
 use crate::input::read_all;
+use crate::numbers::hex_named;
 use crate::output::write_out;
-use crate::print::push_answer;
+use crate::print::{push_bad_line, push_number, push_string};
 use crate::words::first_line;
 use std::alloc::{AllocError, Global};
 use std::io::{Read, Write};
+use vortex_array::{PType, PValue};
 
 /// Reads all there is, and writes what its lines give and nothing else.
 ///
@@ -57,15 +59,46 @@ fn push_row(alloc: Global, output: &mut Vec<u8>, line: &[u8]) -> Result<(), Allo
     ensures { OnOk result (output.new.items ≡
         output.old.items ++ (row_text (request_in line.now) ++ 10 ∷ [])) }
 {
-    push_answer(output, answer_in(alloc, line)?)
+    match command_in(line) {
+        Some(Command::Cast { number, to }) => push_cast(alloc, output, number, to),
+        Some(
+            Command::Bound {
+                side,
+                length,
+                digits,
+            },
+        ) => push_bound(alloc, output, side, length, digits),
+        None => push_bad_line(output),
+    }
 }
 
-/// What a line gives, if it is one of the grammar.
-fn answer_in(alloc: Global, line: &[u8]) -> Result<Option<Answer>, AllocError>
-    ensures { IfOk result (λ answer. row_of answer ≡ row_text (request_in line.now)) }
+/// Writes what a cast gives and a line feed.
+fn push_cast(
+    alloc: Global,
+    output: &mut Vec<u8>,
+    number: PValue,
+    to: PType,
+) -> Result<(), AllocError>
+    ensures { OnOk result (output.new.items ≡ output.old.items
+        ++ (request_text (cast (kind_of number) (whole_of number) to) ++ 10 ∷ [])) }
 {
-    match command_in(alloc, line)? {
-        Some(command) => Ok(Some(answer_to(alloc, command)?)),
-        None => Ok(None),
+    push_number(output, number_in_kind(alloc, number, to))
+}
+
+/// Writes what a bound gives and a line feed. Apart, so that a cast pays for none of it.
+#[inline(never)]
+fn push_bound(
+    alloc: Global,
+    output: &mut Vec<u8>,
+    side: Side,
+    length: u64,
+    digits: &[u8],
+) -> Result<(), AllocError>
+    ensures { OnOk result (output.new.items ≡ output.old.items
+        ++ (row_text (bound_request side (Some length) (hex_named digits.now)) ++ 10 ∷ [])) }
+{
+    match hex_named(alloc, digits)? {
+        Some(value) => push_string(output, bound_at(alloc, side, length, value)?),
+        None => push_bad_line(output),
     }
 }

@@ -1,6 +1,6 @@
 //! Lines and words.
 
-ghost use Rattle.std.specs.Prelude.{◌≡◌, ◌≢◌, ◌∷◌, ◌<◌, ℕ, [], length, slice_index, IfNone, IfSome};
+ghost use Rattle.std.specs.Prelude.{◌≡◌, ◌≢◌, ◌∷◌, ◌<◌, ℕ, List, [], length, slice_index, IfNone, IfSome};
 ghost use Rattle.rows.specs.Lines.{lines_of, words_of};
 
 use memchr::memchr;
@@ -12,30 +12,69 @@ pub fn first_line(text: &[u8]) -> (&[u8], &[u8])
     ensures lines { lines_of text.now ≡ result.0.now ∷ lines_of result.1.now }
     ensures shorter { length result.1.now < length text.now }
 {
-    match find_byte(b'\n', text) {
+    match line_end(text) {
         Some(end) => (&text[..end], &text[end + 1..]),
         None => (text, &[]),
     }
 }
 
+/// The place of the first line feed, none where there is none.
+fn line_end(text: &[u8]) -> Option<usize>
+    ensures within { IfSome result (λ i. i < length text.now) }
+    ensures found { IfSome result (λ i. slice_index text.now i ≡ 10) }
+    ensures first { IfSome result (λ i. (k : ℕ) → k < i → slice_index text.now k ≢ 10) }
+    ensures none { IfNone result ((k : ℕ) → k < length text.now → slice_index text.now k ≢ 10) }
+{
+    memchr(b'\n', text)
+}
+
 /// The first word and what follows the space after it, if there is a space.
 #[tactic(auto, using(crate::proofs::Cuts::words))]
-pub fn cut_word(line: &[u8]) -> Option<(&[u8], &[u8])>
-    ensures some { IfSome result (λ cut. words_of line.now ≡ cut.0.now ∷ words_of cut.1.now) }
-    ensures none { IfNone result (words_of line.now ≡ line.now ∷ []) }
+pub fn cut_word(text: &[u8]) -> Option<(&[u8], &[u8])>
+    ensures some { IfSome result (λ cut. words_of text.now ≡ cut.0.now ∷ words_of cut.1.now) }
+    ensures none { IfNone result (words_of text.now ≡ text.now ∷ []) }
 {
-    match find_byte(b' ', line) {
-        Some(end) => Some((&line[..end], &line[end + 1..])),
+    match word_end(text) {
+        Some(end) => Some((&text[..end], &text[end + 1..])),
         None => None,
     }
 }
 
-/// The place of the first such byte, none where there is none.
-fn find_byte(byte: u8, text: &[u8]) -> Option<usize>
+/// The place of the first space, none where there is none. Words are short: byte by byte.
+fn word_end(text: &[u8]) -> Option<usize>
     ensures within { IfSome result (λ i. i < length text.now) }
-    ensures found { IfSome result (λ i. slice_index text.now i ≡ byte) }
-    ensures first { IfSome result (λ i. (k : ℕ) → k < i → slice_index text.now k ≢ byte) }
-    ensures none { IfNone result ((k : ℕ) → k < length text.now → slice_index text.now k ≢ byte) }
+    ensures found { IfSome result (λ i. slice_index text.now i ≡ 32) }
+    ensures first { IfSome result (λ i. (k : ℕ) → k < i → slice_index text.now k ≢ 32) }
+    ensures none { IfNone result ((k : ℕ) → k < length text.now → slice_index text.now k ≢ 32) }
 {
-    memchr(byte, text)
+    for (i, byte) in text.iter().enumerate() {
+        if *byte == b' ' {
+            return Some(i);
+        }
+    }
+    None
+}
+
+/// What follows the word and a space, where the text begins with both.
+#[inline(always)]
+#[tactic(auto, using(crate::proofs::Beginnings::beginnings))]
+pub fn after_word<'a>(text: &'a [u8], word: &[u8]) -> Option<&'a [u8]>
+    requires { (k : ℕ) → k < length word.now → slice_index word.now k ≢ 32 }
+    ensures some { IfSome result (λ rest. words_of text.now ≡ word.now ∷ words_of rest.now) }
+    ensures none { IfNone result
+        ((ws : List (List ℕ)) → words_of text.now ≡ word.now ∷ ws → ws ≡ []) }
+{
+    let end = word.len();
+    if text.len() <= end {
+        return None;
+    }
+    if text[end] != b' ' {
+        return None;
+    }
+    for (i, byte) in word.iter().enumerate() {
+        if text[i] != *byte {
+            return None;
+        }
+    }
+    Some(&text[end + 1..])
 }

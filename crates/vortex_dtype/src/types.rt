@@ -275,6 +275,7 @@ impl DType {
 
     /// The same type, every nullability included, or `OutOfMemory`, which the type of nulls, truth
     /// values and integers never answer.
+    #[inline(always)]
     pub fn clone(&self, alloc: Global) -> Result<DType, VortexError>
         ensures { MatchResult result
             (λ copy. type_of copy ≡ type_of self.now)
