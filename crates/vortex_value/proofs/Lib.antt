@@ -5,6 +5,7 @@ pub mod CastCode
 pub mod CastLaws
 pub mod CastTable
 pub mod ContentLaws
+pub mod CopySteps
 pub mod HashSteps
 pub mod ItemMakers
 pub mod Lent
