@@ -7,6 +7,7 @@ pub mod CastTable
 pub mod ContentLaws
 pub mod CopySteps
 pub mod HashSteps
+pub mod Inner
 pub mod ItemMakers
 pub mod Lent
 pub mod ListMakers

@@ -1,5 +1,5 @@
 -- What a step of a copy of a tuple does.
-use Rattle.std.specs.Prelude.{◌≡◌, ◌+◌, List, [], ◌∷◌, ◌++◌, map, Option, option_map, Vec}
+use Rattle.std.specs.Prelude.{◌≡◌, ◌+◌, [], ◌∷◌, ◌++◌, map, Option, option_map, Vec}
 use Rattle.std.specs.Global.{Global}
 use Rattle.std.specs.Vec.{vec_capacity, vec_len}
 use Rattle.vortex_value.specs.Values.RawOf.{value_tree}
