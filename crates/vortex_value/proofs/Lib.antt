@@ -5,7 +5,9 @@ pub mod CastCode
 pub mod CastLaws
 pub mod CastTable
 pub mod ContentLaws
+pub mod CopySteps
 pub mod HashSteps
+pub mod Inner
 pub mod ItemMakers
 pub mod Lent
 pub mod ListMakers

@@ -1,19 +1,24 @@
 //! Copies of raw values and of scalars: the same tree, in memory of its own.
 
-ghost use Rattle.std.specs.Prelude.{◌≡◌, MatchResult, false, map, option_map};
+ghost use Rattle.std.specs.Prelude.{◌≡◌, ◌<◌, IfOk, MatchResult, None, Some, false, map, option_map};
 ghost use Rattle.std.specs.Option.{is_none, option_copied};
+ghost use Rattle.std.specs.Vec.{vec_capacity, vec_len};
 ghost use Rattle.vortex_dtype.specs.Memory.{GivesOrNoMemory};
 ghost use Rattle.vortex_dtype.specs.TypeOf.{type_of};
 ghost use Rattle.vortex_dtype.specs.TypeTree.{IsFlat};
 ghost use Rattle.vortex_dtype.specs.declared.error.VortexError.TheVariants.{OutOfMemory};
+ghost use Rattle.vortex_pvalue.specs.Whole.{kind_of, whole_of};
+ghost use Rattle.vortex_value.specs.Steps.Copies.{Adds};
 ghost use Rattle.vortex_value.specs.Values.RawKinds.{TakesNoMemory};
-ghost use Rattle.vortex_value.specs.Values.RawOf.{value_tree, union_tree, raw_of};
+ghost use Rattle.vortex_value.specs.Values.RawOf.{value_tree, value_trees, variant_tree, union_tree, raw_of};
+ghost use Rattle.vortex_value.specs.Values.RawTree.{raw_bool, raw_integer, raw_text, raw_bytes, raw_tuple};
 
 use crate::scalars::{Scalar, with_type};
 use crate::unions::UnionValue;
 use crate::values::ScalarValue;
-use std::alloc::Global;
-use vortex_dtype::VortexError;
+use std::alloc::{AllocError, Global};
+use vortex_dtype::{BufferString, ByteBuffer, VortexError};
+use vortex_pvalue::PValue;
 
 /// The same raw value. Truth values and integers take no memory.
 #[cycle(copies)]
@@ -57,17 +62,161 @@ pub(crate) fn copy_optional(
 fn copy_tuple(
     alloc: Global,
     values: &[Option<ScalarValue>],
-) -> Result<Vec<Option<ScalarValue>>, VortexError>
-    ensures { GivesOrNoMemory
+) -> Result<Vec<Option<ScalarValue>>, AllocError>
+    ensures { IfOk result
         (λ copies.
         map (option_map value_tree) copies.items
-        ≡ map (option_map value_tree) values.now) result }
+        ≡ map (option_map value_tree) values.now) }
 {
     let mut copies = Vec::with_capacity(alloc, values.len())?;
     for value in values {
-        copies.push(copy_optional(alloc, value.as_ref())?)?;
+        push_copy(alloc, value.as_ref(), &mut copies)?;
     }
     Ok(copies)
+}
+
+/// Appends a copy of the value, or of its absence. Each kind has a function of its own, which pays
+/// for its own locals alone.
+#[cycle(copies)]
+#[inline(always)]
+#[tactic(auto, using(crate::proofs::ValueSteps::shown))]
+fn push_copy(
+    alloc: Global,
+    value: Option<&ScalarValue>,
+    copies: &mut Vec<Option<ScalarValue>>,
+) -> Result<(), AllocError>
+    requires { vec_len copies.old < vec_capacity copies.old }
+    ensures { IfOk result (λ _. Adds copies.old copies.new
+        (option_map value_tree (option_copied value.entry))) }
+{
+    match value {
+        None => push_null(copies),
+        Some(ScalarValue::Bool(truth)) => push_bool(*truth, copies),
+        Some(ScalarValue::Primitive(number)) => push_number(number, copies),
+        Some(ScalarValue::Utf8(text)) => push_text(text, copies),
+        Some(ScalarValue::Binary(bytes)) => push_bytes(bytes, copies),
+        Some(ScalarValue::Tuple(values)) => push_tuple(alloc, values, copies),
+        Some(ScalarValue::Union(union)) => push_union(alloc, union, copies),
+        Some(ScalarValue::Variant(scalar)) => push_variant(alloc, scalar, copies),
+    }
+}
+
+/// Appends a null.
+#[inline(never)]
+fn push_null(copies: &mut Vec<Option<ScalarValue>>) -> Result<(), AllocError>
+    requires { vec_len copies.old < vec_capacity copies.old }
+    ensures { IfOk result (λ _. Adds copies.old copies.new None) }
+{
+    copies.push_reserved(None);
+    Ok(())
+}
+
+/// Appends a truth value.
+#[inline(never)]
+fn push_bool(truth: bool, copies: &mut Vec<Option<ScalarValue>>) -> Result<(), AllocError>
+    requires { vec_len copies.old < vec_capacity copies.old }
+    ensures { IfOk result (λ _. Adds copies.old copies.new (Some (raw_bool truth))) }
+{
+    copies.push_reserved(Some(ScalarValue::Bool(truth)));
+    Ok(())
+}
+
+/// Appends an integer.
+#[inline(always)]
+fn push_number(number: &PValue, copies: &mut Vec<Option<ScalarValue>>) -> Result<(), AllocError>
+    requires { vec_len copies.old < vec_capacity copies.old }
+    ensures { IfOk result (λ _. Adds copies.old copies.new
+        (Some (raw_integer (kind_of number.now) (whole_of number.now)))) }
+{
+    copies.push_reserved(Some(ScalarValue::Primitive(*number)));
+    Ok(())
+}
+
+/// Appends a copy of a text.
+#[inline(never)]
+fn push_text(text: &BufferString, copies: &mut Vec<Option<ScalarValue>>) -> Result<(), AllocError>
+    requires { vec_len copies.old < vec_capacity copies.old }
+    ensures { IfOk result (λ _. Adds copies.old copies.new (Some (raw_text text.now))) }
+{
+    match text.clone() {
+        Ok(text) => {
+            copies.push_reserved(Some(ScalarValue::Utf8(text)));
+            Ok(())
+        }
+        Err(_) => Err(AllocError),
+    }
+}
+
+/// Appends a copy of a string of bytes.
+#[inline(never)]
+fn push_bytes(bytes: &ByteBuffer, copies: &mut Vec<Option<ScalarValue>>) -> Result<(), AllocError>
+    requires { vec_len copies.old < vec_capacity copies.old }
+    ensures { IfOk result (λ _. Adds copies.old copies.new (Some (raw_bytes bytes.now))) }
+{
+    match bytes.clone() {
+        Ok(bytes) => {
+            copies.push_reserved(Some(ScalarValue::Binary(bytes)));
+            Ok(())
+        }
+        Err(_) => Err(AllocError),
+    }
+}
+
+/// Appends a copy of the parts.
+#[cycle(copies)]
+#[inline(never)]
+#[tactic(auto, using(crate::proofs::ValueSteps::shown))]
+fn push_tuple(
+    alloc: Global,
+    values: &[Option<ScalarValue>],
+    copies: &mut Vec<Option<ScalarValue>>,
+) -> Result<(), AllocError>
+    requires { vec_len copies.old < vec_capacity copies.old }
+    ensures { IfOk result (λ _. Adds copies.old copies.new
+        (Some (raw_tuple (value_trees values.now)))) }
+{
+    let parts = copy_tuple(alloc, values)?;
+    copies.push_reserved(Some(ScalarValue::Tuple(parts)));
+    Ok(())
+}
+
+/// Appends a copy of a union's value.
+#[cycle(copies)]
+#[inline(never)]
+#[tactic(auto, using(crate::proofs::ValueSteps::shown))]
+fn push_union(
+    alloc: Global,
+    union: &UnionValue,
+    copies: &mut Vec<Option<ScalarValue>>,
+) -> Result<(), AllocError>
+    requires { vec_len copies.old < vec_capacity copies.old }
+    ensures { IfOk result (λ _. Adds copies.old copies.new (Some (union_tree union.now))) }
+{
+    let child = copy_child(alloc, union.child.as_deref())?;
+    let type_id = union.type_id;
+    copies.push_reserved(Some(ScalarValue::Union(UnionValue { type_id, child })));
+    Ok(())
+}
+
+/// Appends a copy of a variant's scalar.
+#[cycle(copies)]
+#[inline(never)]
+#[tactic(auto, using(crate::proofs::ValueSteps::shown))]
+fn push_variant(
+    alloc: Global,
+    scalar: &Scalar,
+    copies: &mut Vec<Option<ScalarValue>>,
+) -> Result<(), AllocError>
+    requires { vec_len copies.old < vec_capacity copies.old }
+    ensures { IfOk result (λ _. Adds copies.old copies.new (Some (variant_tree scalar.now))) }
+{
+    match copy_boxed(alloc, scalar) {
+        Ok(scalar) => {
+            copies.push_reserved(Some(ScalarValue::Variant(scalar)));
+            Ok(())
+        }
+        Err(_) => Err(AllocError),
+    }
 }
 
 /// The same id and child.
@@ -78,8 +227,133 @@ pub(crate) fn copy_union(alloc: Global, union: &UnionValue) -> Result<UnionValue
         (λ copy. union_tree copy ≡ union_tree union.now)
         (λ e. (e ≡ OutOfMemory) × (is_none union.now.child ≡ false)) }
 {
-    let child = copy_optional(alloc, union.child.as_deref())?;
-    UnionValue::new(alloc, union.type_id, child)
+    let child = copy_child(alloc, union.child.as_deref())?;
+    Ok(UnionValue {
+        type_id: union.type_id,
+        child,
+    })
+}
+
+/// The child of a union in a box of its own. Without one it takes no memory.
+#[cycle(copies)]
+#[inline(always)]
+#[tactic(auto, using(crate::proofs::ValueSteps::shown))]
+fn copy_child(
+    alloc: Global,
+    child: Option<&ScalarValue>,
+) -> Result<Option<Box<ScalarValue>>, AllocError>
+    ensures { MatchResult result
+        (λ copy. option_map (λ b. value_tree b.value) copy ≡ option_map value_tree (option_copied child.entry))
+        (λ _. is_none (option_copied child.entry) ≡ false) }
+{
+    match child {
+        Some(child) => Ok(Some(box_copy(alloc, child)?)),
+        None => Ok(None),
+    }
+}
+
+/// A copy of the value in a box, as by `push_copy` with a function for each kind.
+#[cycle(copies)]
+#[inline(always)]
+#[tactic(auto, using(crate::proofs::ValueSteps::shown))]
+fn box_copy(alloc: Global, value: &ScalarValue) -> Result<Box<ScalarValue>, AllocError>
+    ensures { IfOk result (λ copy. value_tree copy.value ≡ value_tree value.now) }
+{
+    match value {
+        ScalarValue::Bool(truth) => box_bool(alloc, *truth),
+        ScalarValue::Primitive(number) => box_number(alloc, number),
+        ScalarValue::Utf8(text) => box_text(alloc, text),
+        ScalarValue::Binary(bytes) => box_bytes(alloc, bytes),
+        ScalarValue::Tuple(values) => box_tuple(alloc, values),
+        ScalarValue::Union(union) => box_union(alloc, union),
+        ScalarValue::Variant(scalar) => box_variant(alloc, scalar),
+    }
+}
+
+/// The value in a box.
+#[inline(always)]
+fn boxed(alloc: Global, value: ScalarValue) -> Result<Box<ScalarValue>, AllocError>
+    ensures { IfOk result (λ made. made.value ≡ value) }
+{
+    match Box::new(alloc, value) {
+        Ok(made) => Ok(made),
+        Err(_) => Err(AllocError),
+    }
+}
+
+/// A truth value in a box.
+#[inline(never)]
+fn box_bool(alloc: Global, truth: bool) -> Result<Box<ScalarValue>, AllocError>
+    ensures { IfOk result (λ made. value_tree made.value ≡ raw_bool truth) }
+{
+    boxed(alloc, ScalarValue::Bool(truth))
+}
+
+/// An integer in a box.
+#[inline(never)]
+fn box_number(alloc: Global, number: &PValue) -> Result<Box<ScalarValue>, AllocError>
+    ensures { IfOk result (λ made. value_tree made.value ≡
+        raw_integer (kind_of number.now) (whole_of number.now)) }
+{
+    boxed(alloc, ScalarValue::Primitive(*number))
+}
+
+/// A copy of a text in a box.
+#[inline(never)]
+fn box_text(alloc: Global, text: &BufferString) -> Result<Box<ScalarValue>, AllocError>
+    ensures { IfOk result (λ made. value_tree made.value ≡ raw_text text.now) }
+{
+    match text.clone() {
+        Ok(text) => boxed(alloc, ScalarValue::Utf8(text)),
+        Err(_) => Err(AllocError),
+    }
+}
+
+/// A copy of a string of bytes in a box.
+#[inline(never)]
+fn box_bytes(alloc: Global, bytes: &ByteBuffer) -> Result<Box<ScalarValue>, AllocError>
+    ensures { IfOk result (λ made. value_tree made.value ≡ raw_bytes bytes.now) }
+{
+    match bytes.clone() {
+        Ok(bytes) => boxed(alloc, ScalarValue::Binary(bytes)),
+        Err(_) => Err(AllocError),
+    }
+}
+
+/// A copy of the parts in a box.
+#[cycle(copies)]
+#[inline(never)]
+#[tactic(auto, using(crate::proofs::ValueSteps::shown))]
+fn box_tuple(alloc: Global, values: &[Option<ScalarValue>]) -> Result<Box<ScalarValue>, AllocError>
+    ensures { IfOk result (λ made. value_tree made.value ≡ raw_tuple (value_trees values.now)) }
+{
+    boxed(alloc, ScalarValue::Tuple(copy_tuple(alloc, values)?))
+}
+
+/// A copy of a union's value in a box.
+#[cycle(copies)]
+#[inline(never)]
+#[tactic(auto, using(crate::proofs::ValueSteps::shown))]
+fn box_union(alloc: Global, union: &UnionValue) -> Result<Box<ScalarValue>, AllocError>
+    ensures { IfOk result (λ made. value_tree made.value ≡ union_tree union.now) }
+{
+    match copy_union(alloc, union) {
+        Ok(union) => boxed(alloc, ScalarValue::Union(union)),
+        Err(_) => Err(AllocError),
+    }
+}
+
+/// A copy of a variant's scalar in a box.
+#[cycle(copies)]
+#[inline(never)]
+#[tactic(auto, using(crate::proofs::ValueSteps::shown))]
+fn box_variant(alloc: Global, scalar: &Scalar) -> Result<Box<ScalarValue>, AllocError>
+    ensures { IfOk result (λ made. value_tree made.value ≡ variant_tree scalar.now) }
+{
+    match copy_boxed(alloc, scalar) {
+        Ok(scalar) => boxed(alloc, ScalarValue::Variant(scalar)),
+        Err(_) => Err(AllocError),
+    }
 }
 
 /// The same scalar, in a box of its own: a function for the two refusals, so that `copy_value` has

@@ -1,10 +1,11 @@
 //! The texts of raw values and of scalars, written from borrowed parts.
 
-ghost use Rattle.std.specs.Prelude.{◌≡◌, ◌++◌, ◌⊎◌, [], IfNone, IfSome, None, Some, codes, slice_get};
+ghost use Rattle.std.specs.Prelude.{◌≡◌, ◌++◌, ◌⊎◌, [], IfNone, IfSome, IsTrue, None, Some, codes, false, slice_get};
 ghost use Rattle.std.specs.Fmt.{WritesOnOk};
 ghost use Rattle.std.specs.Option.{option_copied};
 ghost use Rattle.vortex_dtype.specs.TypeOf.{fields_of, map_of, type_of, as_type_trees};
 ghost use Rattle.vortex_dtype.specs.TypeTree.{storage};
+ghost use Rattle.vortex_value.specs.Breaches.{is_valid};
 ghost use Rattle.vortex_value.specs.Values.RawOf.{raw_of, value_trees, variant_tree, union_tree, value_tree};
 ghost use Rattle.vortex_value.specs.Values.RawTree.{RawTree, raw_tuple, raw_union};
 ghost use Rattle.vortex_value.specs.Values.Refs.{ref_raw, ref_type};
@@ -322,7 +323,40 @@ fn write_text<W: Write>(
     if Scalar::is_compatible(dtype, value) {
         write_part(value, dtype, f)
     } else {
-        write_raw_part(value, f)
+        write_invalid(value, dtype, f)
+    }
+}
+
+/// The raw text of a value that is not valid for the type. Of variants in one another validity is
+/// not looked at again.
+#[cycle(raw_text)]
+#[tactic(auto, using(crate::proofs::Inner::inner))]
+fn write_invalid<W: Write>(
+    value: Option<&ScalarValue>,
+    dtype: &DType,
+    f: &mut Formatter<W>,
+) -> fmt::Result
+    requires { is_valid (type_of dtype.now) (raw_of (option_copied value)) ≡ false }
+    ensures { WritesOnOk W.write_str_gives f.old result
+        (raw_text_of (raw_of (option_copied value.entry))) f.new }
+{
+    match value {
+        Some(ScalarValue::Variant(scalar)) if is_decided_inside(scalar, dtype) => {
+            write_invalid(scalar.value.as_ref(), &scalar.dtype, f)
+        }
+        _ => write_raw_part(value, f),
+    }
+}
+
+/// Whether a variant of this scalar is valid for the type where the scalar is, and only there.
+#[tactic(auto, using(crate::proofs::Inner::inner))]
+fn is_decided_inside(scalar: &Scalar, dtype: &DType) -> bool
+    ensures { IsTrue result → is_valid (type_of dtype.now) (variant_tree scalar.now)
+        ≡ is_valid (scalar_type scalar.now) (scalar_raw scalar.now) }
+{
+    match (storage_of(dtype), &scalar.value) {
+        (DType::Variant(_), Some(_)) => true,
+        _ => false,
     }
 }
 

@@ -16,6 +16,7 @@ use std::cmp::Ordering;
 
 /// The order of two optional raw values: a null is below all others.
 #[cycle(order)]
+#[inline(always)]
 #[tactic(auto, using(crate::proofs::OrderSteps::shown))]
 pub(crate) fn compare(a: Option<&ScalarValue>, b: Option<&ScalarValue>) -> Option<Ordering>
     ensures { result ≡ order
@@ -31,6 +32,7 @@ pub(crate) fn compare(a: Option<&ScalarValue>, b: Option<&ScalarValue>) -> Optio
 
 /// The order of two raw values; there is none of variants, and none of two kinds.
 #[cycle(order)]
+#[inline(always)]
 #[tactic(auto, using(crate::proofs::OrderSteps::shown))]
 fn compare_values(a: &ScalarValue, b: &ScalarValue) -> Option<Ordering>
     ensures { result ≡ order (content (value_tree a.now)) (content (value_tree b.now)) }

@@ -17,6 +17,7 @@ use vortex_dtype::{DType, MapDType, UnionVariants};
 
 /// The size of an optional raw value of the type.
 #[cycle(size)]
+#[inline(always)]
 #[tactic(auto, using(crate::proofs::SizeSteps::shown))]
 fn size(value: Option<&ScalarValue>, dtype: &DType) -> usize
     ensures { result ≡ capped (size_of (type_of dtype.now) (raw_of (option_copied value.entry))) }
@@ -39,9 +40,7 @@ fn size(value: Option<&ScalarValue>, dtype: &DType) -> usize
         (DType::Union(variants, _), Some(ScalarValue::Union(union))) => {
             size_of_child(union, variants).saturating_add(1)
         }
-        (DType::Variant(_), Some(ScalarValue::Variant(scalar))) => {
-            size(scalar.value.as_ref(), &scalar.dtype)
-        }
+        (DType::Variant(_), Some(ScalarValue::Variant(scalar))) => size_of_inner(scalar),
         _ => 0,
     }
 }
@@ -127,6 +126,15 @@ fn size_of_child(union: &UnionValue, variants: &UnionVariants) -> usize
         Some((_, variant)) => size(union.child.as_deref(), variant),
         None => 0,
     }
+}
+
+/// The size of a variant's scalar: a function of its own, since one that calls itself is not inlined.
+#[cycle(size)]
+#[tactic(auto, using(crate::proofs::SizeSteps::shown))]
+fn size_of_inner(scalar: &Scalar) -> usize
+    ensures { result ≡ capped (size_of (scalar_type scalar.now) (scalar_raw scalar.now)) }
+{
+    size(scalar.value.as_ref(), &scalar.dtype)
 }
 
 impl Scalar {

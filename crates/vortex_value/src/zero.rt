@@ -200,6 +200,7 @@ fn filled(alloc: Global, dtype: &DType, nulls: bool) -> Result<Option<Scalar>, V
 }
 
 /// Whether the number is zero.
+#[inline(always)]
 fn is_zero_number(number: &PValue) -> bool
     ensures { result ≡ int_eq (whole_of number.now) (pos 0) }
 {
@@ -208,6 +209,7 @@ fn is_zero_number(number: &PValue) -> bool
 
 /// Whether an optional raw value of the type is zero; none for a null.
 #[cycle(is_zero)]
+#[inline(always)]
 #[tactic(auto, using(crate::proofs::ZeroSteps::shown))]
 fn is_zero(value: Option<&ScalarValue>, dtype: &DType) -> Option<bool>
     ensures { result ≡

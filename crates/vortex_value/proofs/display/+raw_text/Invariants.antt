@@ -12,19 +12,22 @@ invariant-write_raw_items-loop-index g l =
     (raw_texts (value_trees (drop l.index l.items))) (raw_texts (value_trees l.items)) l.f
 
 abbrev pub decreases-write_raw_part : goal.decreases-write_raw_part
-decreases-write_raw_part g l = 3 * lent_size l.value + 1
+decreases-write_raw_part g l = 4 * lent_size l.value + 1
 
 abbrev pub decreases-write_raw : goal.decreases-write_raw
-decreases-write_raw g l = 3 * goal.size-write_raw g l
+decreases-write_raw g l = 4 * goal.size-write_raw g l
 
 abbrev pub decreases-write_raw_items : goal.decreases-write_raw_items
-decreases-write_raw_items g l = 3 * goal.size-write_raw_items g l + 2
+decreases-write_raw_items g l = 4 * goal.size-write_raw_items g l + 2
 
 abbrev pub decreases-write_raw_union : goal.decreases-write_raw_union
-decreases-write_raw_union g l = 3 * goal.size-write_raw_union g l + 1
+decreases-write_raw_union g l = 4 * goal.size-write_raw_union g l + 1
 
 abbrev pub decreases-write_scalar : goal.decreases-write_scalar
-decreases-write_scalar g l = 3 * goal.size-write_scalar g l
+decreases-write_scalar g l = 4 * goal.size-write_scalar g l
 
 abbrev pub decreases-write_text : goal.decreases-write_text
-decreases-write_text g l = 3 * lent_size l.value + 2
+decreases-write_text g l = 4 * lent_size l.value + 3
+
+abbrev pub decreases-write_invalid : goal.decreases-write_invalid
+decreases-write_invalid g l = 4 * lent_size l.value + 2

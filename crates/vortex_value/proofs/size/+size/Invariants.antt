@@ -38,3 +38,6 @@ decreases-size_of_fields l = 3 * goal.size-size_of_fields l + 2
 
 abbrev pub decreases-size_of_child : goal.decreases-size_of_child
 decreases-size_of_child l = 3 * goal.size-size_of_child l + 1
+
+abbrev pub decreases-size_of_inner : goal.decreases-size_of_inner
+decreases-size_of_inner l = 3 * goal.size-size_of_inner l + 2
