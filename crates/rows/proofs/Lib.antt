@@ -4,4 +4,5 @@ pub mod Cuts
 pub mod KnownReads
 pub mod Numerals
 pub mod Operands
+pub mod Places
 pub mod Beginnings

@@ -14,6 +14,7 @@ const DIGITS: usize = 20;
 const SIZE_DIGITS: usize = 18;
 
 /// The kind with this name.
+#[inline(always)]
 #[tactic(auto, unfolding(crate::specs::Grammar::kind_named))]
 pub fn kind_named(word: &[u8]) -> Option<PType>
     ensures { result ≡ kind_named word.now }

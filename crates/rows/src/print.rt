@@ -3,13 +3,14 @@
 ghost use Rattle.std.specs.Prelude.{◌≡◌, ◌++◌, ◌∷◌, [], OnOk, codes};
 ghost use Rattle.std.specs.Fmt.{signed_decimal};
 ghost use Rattle.hex.specs.Hex.{encode_lower};
+ghost use Rattle.vortex_dtype.specs.Kinds.{kind_text};
 ghost use Rattle.vortex_pvalue.specs.Whole.{pvalue_text, whole_of};
 ghost use Rattle.rows.specs.Rows.{bound_text, cast_text};
 
 use hex::encode_to_slice;
 use itoa::Buffer;
 use std::alloc::AllocError;
-use vortex_array::{ByteBuffer, PValue};
+use vortex_array::{ByteBuffer, PType, PValue};
 
 /// Writes what a cast gives: the number, or that it was refused.
 pub fn push_number(output: &mut Vec<u8>, number: Option<PValue>) -> Result<(), AllocError>
@@ -46,8 +47,7 @@ fn push_value(output: &mut Vec<u8>, value: PValue) -> Result<(), AllocError>
     ensures { OnOk result (output.new.items ≡ output.old.items ++ (pvalue_text value ++ 10 ∷ [])) }
 {
     push_whole(output, value)?;
-    output.extend_from_slice(value.ptype().name().as_bytes())?;
-    Ok(output.push(b'\n')?)
+    push_kind(output, value.ptype())
 }
 
 /// Writes the value's number: one of 64 bits, signed where it is negative.
@@ -60,6 +60,22 @@ fn push_whole(output: &mut Vec<u8>, value: PValue) -> Result<(), AllocError>
         output.extend_from_slice(buffer.format(number as i64).as_bytes())
     } else {
         output.extend_from_slice(buffer.format(number as u64).as_bytes())
+    }
+}
+
+/// Writes the kind's name and a line feed. Each is a literal, so that it is stored at once.
+fn push_kind(output: &mut Vec<u8>, kind: PType) -> Result<(), AllocError>
+    ensures { OnOk result (output.new.items ≡ output.old.items ++ (kind_text kind ++ 10 ∷ [])) }
+{
+    match kind {
+        PType::U8 => output.extend_from_slice(b"u8\n"),
+        PType::U16 => output.extend_from_slice(b"u16\n"),
+        PType::U32 => output.extend_from_slice(b"u32\n"),
+        PType::U64 => output.extend_from_slice(b"u64\n"),
+        PType::I8 => output.extend_from_slice(b"i8\n"),
+        PType::I16 => output.extend_from_slice(b"i16\n"),
+        PType::I32 => output.extend_from_slice(b"i32\n"),
+        PType::I64 => output.extend_from_slice(b"i64\n"),
     }
 }
 

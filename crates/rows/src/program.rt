@@ -55,6 +55,7 @@ fn rows(alloc: Global, input: &[u8]) -> Result<Vec<u8>, AllocError>
 }
 
 /// Writes what a line gives and a line feed.
+#[inline(always)]
 fn push_row(alloc: Global, output: &mut Vec<u8>, line: &[u8]) -> Result<(), AllocError>
     ensures { OnOk result (output.new.items ≡
         output.old.items ++ (row_text (request_in line.now) ++ 10 ∷ [])) }

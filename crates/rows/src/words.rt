@@ -3,7 +3,7 @@
 ghost use Rattle.std.specs.Prelude.{◌≡◌, ◌≢◌, ◌∷◌, ◌<◌, ℕ, List, [], length, slice_index, IfNone, IfSome};
 ghost use Rattle.rows.specs.Lines.{lines_of, words_of};
 
-use memchr::memchr;
+use memchr::memchr_iter;
 
 /// The first line, and what follows its line feed.
 #[tactic(auto, using(crate::proofs::Cuts::lines))]
@@ -18,14 +18,14 @@ pub fn first_line(text: &[u8]) -> (&[u8], &[u8])
     }
 }
 
-/// The place of the first line feed, none where there is none.
+/// The place of the first line feed, none where there is none: one that is near is found soonest.
 fn line_end(text: &[u8]) -> Option<usize>
     ensures within { IfSome result (λ i. i < length text.now) }
     ensures found { IfSome result (λ i. slice_index text.now i ≡ 10) }
     ensures first { IfSome result (λ i. (k : ℕ) → k < i → slice_index text.now k ≢ 10) }
     ensures none { IfNone result ((k : ℕ) → k < length text.now → slice_index text.now k ≢ 10) }
 {
-    memchr(b'\n', text)
+    memchr_iter(b'\n', text).next()
 }
 
 /// The first word and what follows the space after it, if there is a space.
