@@ -26,7 +26,9 @@ use crate::scalars::{Scalar, with_type};
 use std::alloc::Global;
 use vortex_dtype::{DType, VortexError};
 
+mod refusals;
 mod rules;
+mod steps;
 mod values;
 
 impl Scalar {

@@ -3,10 +3,11 @@ use Rattle.std.proofs.Common.{◌≡◌, Err, sym, ◌∙◌, refl, rules}
 use Rattle.vortex_dtype.specs.TypeOf.{type_of}
 use Rattle.vortex_value.specs.CastAnswers.{HidesNoLeaf}
 use Rattle.vortex_value.specs.Casts.{CanCast, RefusesCast}
+use Rattle.vortex_value.specs.Steps.CastSteps.{error_of}
 use Rattle.vortex_value.specs.Values.RawOf.{raw_of}
 use Rattle.vortex_value.specs.Values.Refs.{ref_content, ref_type}
 use Rattle.vortex_value.specs.Values.Scalars.{IsTheOne}
-use Rattle.vortex_value.proofs.CastTable.{cast_made, cast_of_some, cast_refused, refused_with}
+use Rattle.vortex_value.proofs.CastTable.{cast_made, cast_of_some, cast_refused, no_memory, refused_with}
 use Rattle.vortex_value.proofs.MakerLaws.{typed_with, untyped_with}
 use Rattle.vortex_value.proofs.Uniqueness.{one_value}
 use Rattle.vortex_value.proofs.refs.ScalarRef.cast.Goals as goal
@@ -41,7 +42,7 @@ returns-clause-refuses_only c =
 
 pub returns-in_err-value-clause-refuses_only : goal.returns-in_err-value-clause-refuses_only
 returns-in_err-value-clause-refuses_only c =
-    let is : c.from_residual.result ≡ Err c.in_err-value.field-0.0 = search rules in
+    let is : c.from_residual.result ≡ Err (error_of c.in_err-value.field-0.0) = search rules in
     refused_with _ _ _ is (cast_refused _ _ _ _ c.requires (rw (c.value.ensures, c.dtype.ensures) at c.in_err-value.ensures.made) c.in_err-value.ensures.flat)
 
 pub returns-clause-leaf_refused : goal.returns-clause-leaf_refused
@@ -55,6 +56,6 @@ returns-clause-leaf_refused c =
 
 pub returns-in_err-value-clause-leaf_refused : goal.returns-in_err-value-clause-leaf_refused
 returns-in_err-value-clause-leaf_refused c =
-    let is : c.from_residual.result ≡ Err c.in_err-value.field-0.0 = search rules in
+    let is : c.from_residual.result ≡ Err (error_of c.in_err-value.field-0.0) = search rules in
     let whole = rw (c.value.ensures, c.dtype.ensures) at c.in_err-value.ensures.whole in
-    refused_with _ _ _ is (λ taken memory. cast_of_some _ _ _ c.requires (whole taken memory))
+    refused_with _ _ _ is (λ taken memory. cast_of_some _ _ _ c.requires (whole taken (no_memory _ memory)))
