@@ -158,6 +158,11 @@ pub(super) fn push_leaf(
     ensures { Appends made.old.items made.new.items (leaf_to (value_tree value.now)
         (type_of source.now) (type_of target.now)) result }
 {
-    let copy = cast_leaf(alloc, value, source, target)?;
-    push(Some(copy), made)
+    if !stays(value, source, target) {
+        return Err(Refusal::Impossible);
+    }
+    match copies::copy_value(alloc, value) {
+        Ok(copy) => push(Some(copy), made),
+        Err(_) => Err(Refusal::NoMemory),
+    }
 }

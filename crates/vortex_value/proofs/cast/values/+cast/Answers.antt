@@ -1,5 +1,5 @@
 -- What is made of a part is a part of what is made, and a part that is refused refuses the whole.
-use Rattle.std.proofs.Common.{◌≡◌, ◌++◌, ◌∷◌, [], Some, Err, inl, inr, length, option_map, refl, sym, ap, ◌∙◌, add-one, arith, rules}
+use Rattle.std.proofs.Common.{◌≡◌, Some, Err, inl, inr, length, option_map, refl, sym, ap, ◌∙◌, add-one, arith, rules}
 use Rattle.std.proofs.Math.ListN.{drop_of_length-le}
 use Rattle.std.specs.Option.{option_copied}
 use Rattle.vortex_dtype.specs.TypeOf.{map_of, type_of}
