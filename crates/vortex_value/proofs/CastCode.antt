@@ -1,24 +1,24 @@
 -- What the code of a cast meets, one level at a time.
-use Rattle.std.proofs.Common.{◌≡◌, ◌≢◌, ℕ, suc, ◌<◌, ◌⊎◌, inl, inr, true, false, List, [], ◌∷◌, ◌++◌, length, get_or, drop, drop-cons, Option, Some, None, Result, Ok, Err, option_map, refl, sym, ap, ◌∙◌, arith, rules, IsSome, subst}
+use Rattle.std.proofs.Common.{◌≡◌, ◌≢◌, ℕ, suc, ◌<◌, inl, inr, true, false, List, [], ◌∷◌, ◌++◌, length, get_or, drop, drop-cons, Option, Some, None, Result, Ok, Err, option_map, refl, sym, ap, ◌∙◌, arith, rules, IfErr, IsSome, subst}
 use Rattle.std.proofs.lemmas.Bool.Decides.{Decides-eqb, Decides-like}
 use Rattle.std.proofs.lemmas.List.{nil_from_length}
 use Rattle.std.specs.Bool.{Decides}
 use Rattle.std.specs.Result.{MatchResult}
 use Rattle.vortex_dtype.specs.Lemmas.TypeLevels.{type_of-List, type_of-FixedSizeList, type_of-Map, type_of-Struct, type_of-Extension}
 use Rattle.vortex_dtype.specs.TypeOf.{MapParts, type_of, dtype_trees}
-use Rattle.vortex_dtype.specs.declared.error.VortexError.{VortexError}
-use Rattle.vortex_dtype.specs.declared.error.VortexError.TheVariants.{CannotCast, OutOfMemory}
-use Rattle.vortex_dtype.specs.TypeTree.{TypeTree, null_type, bool_type, integer_type, extension_type, IsFlat, storage}
+use Rattle.vortex_dtype.specs.TypeTree.{TypeTree, null_type, bool_type, integer_type, utf8_type, binary_type, variant_type, extension_type, IsFlat, storage}
 use Rattle.vortex_dtype.specs.declared.types.DType.{DType}
 use Rattle.vortex_value.specs.Breaches.{breaches}
 use Rattle.vortex_value.specs.CastAnswers.{IsLeaf, IsTakenWhole}
 use Rattle.vortex_value.specs.Casts.{IsExtension}
-use Rattle.vortex_value.specs.Steps.CastSteps.{Makes, RefusesSome, accepts, bare_to, both, cast_to, entry_to, fields_to, pair_to, types_with, whole_to}
+use Rattle.vortex_value.specs.Steps.CastSteps.{Appends, Makes, Refused, RefusesSome, accepts, bare_to, both, cast_to, entry_to, fields_to, pair_to, stays, types_with, whole_to}
 use Rattle.vortex_value.specs.Values.Content.{Content, content}
 use Rattle.vortex_value.specs.Values.RawKinds.{TakesNoMemory}
-use Rattle.vortex_value.specs.Values.RawTree.{RawTree, absent, raw_bool, raw_integer, raw_tuple, raw_union, RawTrees, no_raws, is_absent}
+use Rattle.vortex_value.specs.Values.RawTree.{RawTree, absent, raw_bool, raw_integer, raw_text, raw_bytes, raw_tuple, raw_union, raw_variant, RawTrees, no_raws, is_absent}
 use Rattle.vortex_value.specs.Values.RawOf.{raw_of, union_tree, value_trees, value_tree}
 use Rattle.vortex_value.specs.Validity.{Valid}
+use Rattle.vortex_value.specs.declared.cast.refusals.Refusal.{Refusal}
+use Rattle.vortex_value.specs.declared.cast.refusals.Refusal.TheVariants.{NoMemory}
 use Rattle.vortex_value.specs.declared.unions.UnionValue.{UnionValue}
 use Rattle.vortex_value.specs.declared.values.ScalarValue.{ScalarValue, the_lemmas}
 use Rattle.vortex_value.proofs.ValidSteps.{two_places}
@@ -43,6 +43,16 @@ flat_takes _ v h p = absurd h
 -- what a flat type accepts takes no memory
 pub flat_accepts : (t : TypeTree) (v : RawTree) → IsFlat t → accepts t v ≡ true → TakesNoMemory v
 flat_accepts t v h p = flat_takes t v h ((accepts-Decides t v).0 p)
+
+-- what stays and is of a flat type takes no memory
+pub flat_stays : (v : RawTree) (s t : TypeTree) → IsFlat t → stays v s t ≡ true → TakesNoMemory v
+flat_stays (raw_bool b) s t h e = tt
+flat_stays (raw_integer k z) s t h e = tt
+flat_stays absent s t h e = tt
+flat_stays (raw_text bs) (utf8_type n) (utf8_type m) h e = absurd h
+flat_stays (raw_bytes bs) (binary_type n) (binary_type m) h e = absurd h
+flat_stays (raw_variant u v) (variant_type n) (variant_type m) h e = absurd h
+flat_stays _ s t h e = cc
 
 pub flat_storage : (t : TypeTree) → IsFlat t → IsFlat (storage t)
 flat_storage (extension_type id metadata t) h = absurd h
@@ -84,11 +94,28 @@ pub all_done : (vs : List (Option ScalarValue)) (all here : Option RawTrees) →
 all_done vs all here a e = a ∙ ap (after vs) e ∙ after-all vs
 
 -- the refusal of a part, passed on
-pub passed_on : {A B C : Type 0} (tree : A → C) (part : Option B) (all : Option C) (r : Result A VortexError) (e : VortexError) → r ≡ Err e
-    → (e ≡ OutOfMemory) ⊎ ((e ≡ CannotCast) × (part ≡ None)) → (part ≡ None → all ≡ None) → Makes tree all r
+pub passed_on : {A B C : Type 0} (tree : A → C) (part : Option B) (all : Option C) (r : Result A Refusal) (e : Refusal) → r ≡ Err e → Refused part e → (part ≡ None → all ≡ None) → Makes tree all r
 passed_on tree part all (Ok x) e is h none = cc
 passed_on tree part all (Err f) e is (inl m) none = inl cc
 passed_on tree part all (Err f) e is (inr m) none = inr (cc, none m.1)
+
+-- the same where a part was to be appended
+pub passed_up : {B : Type 0} (before now : List (Option ScalarValue)) (part : Option B) (all : Option RawTree) (r : Result (Unit {0}) Refusal) (e : Refusal) → r ≡ Err e → Refused part e → (part ≡ None → all ≡ None)
+    → Appends before now all r
+passed_up before now part all (Ok x) e is h none = cc
+passed_up before now part all (Err f) e is (inl m) none = inl cc
+passed_up before now part all (Err f) e is (inr m) none = inr (cc, none m.1)
+
+-- a part that was pushed is appended
+pub appended : (before now : List (Option ScalarValue)) (v : Option ScalarValue) (made : Option RawTree) (r : Result (Unit {0}) Refusal)
+    → MatchResult r (λ x. now ≡ before ++ v ∷ []) (λ e. e ≡ NoMemory) → made ≡ Some (raw_of v) → Appends before now made r
+appended before now v made (Ok x) h is = (v, h, is)
+appended before now v made (Err e) h is = inl h
+
+-- the parts that are done, with the one that was appended
+pub one_added : (before now : List (Option ScalarValue)) (all here rest : Option RawTrees) (made : Option RawTree) → all ≡ after before here → here ≡ both made rest
+    → (v : Option ScalarValue) × (now ≡ before ++ v ∷ []) × (made ≡ Some (raw_of v)) → all ≡ after now rest
+one_added before now all here rest made a b h = rw h.1 (one_more before h.0 all here rest made a b h.2)
 
 -- the parts from place i on
 pub parts_at : (vs : List (Option ScalarValue)) (i : ℕ) (v : Option ScalarValue) → i < length vs → v ≡ get_or vs i v → drop i vs ≡ v ∷ drop (suc i) vs
@@ -109,6 +136,12 @@ no_entry [] s t other = refl
 no_entry (a ∷ []) s t other = refl
 no_entry (a ∷ b ∷ []) s t other = absurd (other refl)
 no_entry (a ∷ b ∷ c ∷ vs) s t other = refl
+
+-- a key and a value that were appended to no parts make their pair
+pub pair_added : (key value : Option RawTree) (before one two : List (Option ScalarValue)) (all : Option RawTree) → before ≡ []
+    → (v : Option ScalarValue) × (one ≡ before ++ v ∷ []) × (key ≡ Some (raw_of v)) → (v : Option ScalarValue) × (two ≡ one ++ v ∷ []) × (value ≡ Some (raw_of v))
+    → all ≡ pair_to key value → all ≡ Some (raw_tuple (value_trees two))
+pair_added key value before one two all none p q a = a ∙ rw (p.2, q.2, q.1, p.1, none) refl
 
 -- fields and types of other numbers
 pub no_fields : (vs : List (Option ScalarValue)) (ss ts : List DType) → ¬ ((length vs ≡ length ss) × (length ss ≡ length ts)) → fields_to (value_trees vs) (dtype_trees ss) (dtype_trees ts) ≡ None
@@ -134,10 +167,10 @@ pub union_at : (u : UnionValue) (s t a b : TypeTree) → types_with u.type_id s 
 union_at u s t a b is = rw (union_tree-child u, is) refl
 
 -- the union that holds what the child became, or no memory for it
-pub made_union : (all : Option RawTree) (id : ℕ) (child : RawTree) (there : Type 0) (r : Result UnionValue VortexError)
-    → MatchResult r (λ made. union_tree made ≡ raw_union id child) (λ e. (e ≡ OutOfMemory) × there) → all ≡ Some (raw_union id child) → Makes union_tree all r
-made_union all id child there (Ok x) h a = a ∙ ap Some (sym h)
-made_union all id child there (Err e) h a = inl h.0
+pub made_union : (all : Option RawTree) (id : ℕ) (child : RawTree) (r : Result UnionValue Refusal)
+    → MatchResult r (λ made. union_tree made ≡ raw_union id child) (λ e. e ≡ NoMemory) → all ≡ Some (raw_union id child) → Makes union_tree all r
+made_union all id child (Ok x) h a = a ∙ ap Some (sym h)
+made_union all id child (Err e) h a = inl h
 
 not_absent : (v : ScalarValue) → is_absent (value_tree v) ≡ false
 not_absent v = search (rules, the_lemmas)
@@ -156,7 +189,7 @@ pub leaf_of : (s : TypeTree) (c : Content) → ¬ (IsExtension s) → IsTakenWho
 leaf_of s c plain (inl extension) = absurd (plain extension)
 leaf_of s c plain (inr leaf) = leaf
 
-pub ruleset shown = (type_of-List, type_of-FixedSizeList, type_of-Map, type_of-Struct, type_of-Extension, value_tree-Tuple, count-value_trees, flat_accepts, flat_storage, after-none, after-all, after-append)
+pub ruleset shown = (type_of-List, type_of-FixedSizeList, type_of-Map, type_of-Struct, type_of-Extension, value_tree-Tuple, count-value_trees, flat_accepts, flat_stays, flat_storage, after-none, after-all, after-append)
 
 -- the child of a leaf is one
 pub leaf_child : (u : UnionValue) → IsLeaf (content (union_tree u)) → IsLeaf (content (raw_of (option_map (λ c. c.value) u.child)))
@@ -170,6 +203,10 @@ some_mapped f None some = some
 pub some_union : (id : ℕ) (all child : Option RawTree) → all ≡ option_map (raw_union id) child → IsSome child → IsSome all
 some_union id all child same some = subst IsSome (sym same) (some_mapped (raw_union id) child some)
 
-pub spares_some : (all : Option RawTree) (w : RawTree) (r : Result UnionValue VortexError) → all ≡ Some w → RefusesSome all r
+pub spares_some : (all : Option RawTree) (w : RawTree) (r : Result UnionValue Refusal) → all ≡ Some w → RefusesSome all r
 spares_some all w (Ok x) is = tt
 spares_some all w (Err e) is = λ memory. subst IsSome (sym is) refl
+
+pub refused_as : {A : Type 0} (r : Result A Refusal) (e : Refusal) (P : Refusal → Type 0) → r ≡ Err e → P e → IfErr r P
+refused_as (Ok x) e P is p = cc
+refused_as (Err f) e P is p = let same : f ≡ e = cc in subst P (sym same) p

@@ -1,9 +1,13 @@
 -- Casts keep the content, and a type has one value of each: so chains agree, and equality and order stay.
-use Rattle.std.proofs.Common.{◌≡◌, ◌&&◌, true, ◌∷◌, Result, Ok, Err, refl, sym, ap, ◌∙◌, subst}
+use Rattle.std.proofs.Common.{◌≡◌, ◌&&◌, Bool, true, ◌∷◌, Result, Ok, Err, IfErr, IfOk, IsOk, refl, sym, ap, ◌∙◌, subst}
+use Rattle.vortex_dtype.specs.Lemmas.TypeLaws.{tree_eq-same}
+use Rattle.vortex_dtype.specs.TypeEquality.{tree_eq}
+use Rattle.vortex_dtype.specs.TypeOf.{type_of}
 use Rattle.vortex_dtype.specs.TypeTree.{TypeTree, null_type, extension_type, IsFlat, Same, IsNullable, as_nullable, storage}
+use Rattle.vortex_dtype.specs.declared.types.DType.{DType}
 use Rattle.vortex_dtype.specs.declared.error.VortexError.{VortexError}
 use Rattle.vortex_dtype.specs.declared.error.VortexError.TheVariants.{CannotCast, OutOfMemory}
-use Rattle.vortex_value.specs.CastAnswers.{AnswersCast, GivesCast}
+use Rattle.vortex_value.specs.CastAnswers.{AnswersCast, GivesCast, HidesNoLeaf}
 use Rattle.vortex_value.specs.Casts.{same_type, a_null, Allows, CanCast, IsCast, RefusesCast, Sorts}
 use Rattle.vortex_value.specs.Laws.CastLaws.{CallsAreChains, CastsKeepScalars, ChainsAgree, ChainsKeepValues, IntoNullableAndBack, NullableCastsBack, ThereAndBack}
 use Rattle.vortex_value.specs.Chains.{last_of, Steps}
@@ -12,7 +16,7 @@ use Rattle.vortex_value.specs.Equality.{equal}
 use Rattle.vortex_value.specs.Equality as equality
 use Rattle.vortex_value.specs.Lemmas.EqualityLaws.{same_type-Decides}
 use Rattle.vortex_value.specs.Values.RawTree.{RawTree, absent}
-use Rattle.vortex_value.specs.Values.Scalars.{scalar_content, scalar_order, scalar_raw, scalar_type}
+use Rattle.vortex_value.specs.Values.Scalars.{IsMadeOf, scalar_content, scalar_order, scalar_raw, scalar_type}
 use Rattle.vortex_value.specs.Validity.{Valid}
 use Rattle.vortex_value.specs.declared.scalars.Scalar.{Scalar}
 use Rattle.vortex_value.proofs.Uniqueness.{one_value}
@@ -99,6 +103,34 @@ nullable_valid _ _ p = p
 -- a value that is valid for two types that are the same is its own cast
 kept : (s t : TypeTree) (v : RawTree) → Same s t → Valid t v → IsCast s t v v
 kept s t v same p = record { allowed = allows_same s t (content v) same; valid = p; same = refl }
+
+-- types that the test finds equal are the same tree
+pub equal_types : (a b : DType) (s : TypeTree) {test : Bool} → type_of a ≡ s → test ≡ tree_eq (type_of a) (type_of b) → test ≡ true → s ≡ type_of b
+equal_types a b s typed told found = sym typed ∙ tree_eq-same (type_of a) (type_of b) (sym told ∙ found)
+
+not_ok : (e : VortexError) → ¬ (IsOk {T = Scalar} (Err e))
+not_ok e h = cc
+
+-- a copy of a valid scalar answers the cast to its own type
+pub copy_answers : (s t : TypeTree) (v : RawTree) (r : Result Scalar VortexError) → s ≡ t → Valid s v → IfOk r (IsMadeOf s v) → IfErr r (λ e. e ≡ OutOfMemory) → (IsFlat s → Valid s v → IsOk r)
+    → AnswersCast s t v r
+copy_answers s t v r e p made refused flat = subst (λ u. AnswersCast s u v r) e (answers r made refused flat)
+  where
+    answers : (r : Result Scalar VortexError) → IfOk r (IsMadeOf s v) → IfErr r (λ e. e ≡ OutOfMemory) → (IsFlat s → Valid s v → IsOk r) → AnswersCast s s v r
+    answers (Ok x) made refused flat =
+        let there : Valid s (scalar_raw x) = rw made.value p in
+        let same : content (scalar_raw x) ≡ content v = ap content made.value in
+        record {
+          succeeds_only = possible s s v v (kept s s v refl p);
+          one = record { typed = made.typed; valid = rw made.typed there; same = same; only = λ w q d. one_value s s w (scalar_raw x) refl q there (d ∙ sym same) };
+          refuses_only = tt;
+        }
+    answers (Err f) made refused flat = record { succeeds_only = tt; one = tt; refuses_only = rw refused (λ h. not_ok f (flat h p)) }
+
+-- which is possible
+pub copy_hides : (s t : TypeTree) (v : RawTree) (r : Result Scalar VortexError) → s ≡ t → Valid s v → IfErr r (HidesNoLeaf s (content v) (CanCast s t (content v)))
+copy_hides s t v (Ok x) e p = tt
+copy_hides s t v (Err f) e p = λ whole memory. subst (λ u. CanCast s u (content v)) e (possible s s v v (kept s s v refl p))
 
 pub into_nullable_and_back : IntoNullableAndBack
 into_nullable_and_back s v p = (kept s (as_nullable s) v (nullable_same s) (nullable_valid s v p), kept (as_nullable s) s v (sym (nullable_same s)) p)

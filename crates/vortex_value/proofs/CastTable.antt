@@ -7,20 +7,21 @@ use Rattle.std.specs.Bool.{Decides}
 use Rattle.std.specs.Str.{bytes_eq}
 use Rattle.vortex_dtype.specs.Lemmas.TypeLaws.{is_nullable-storage}
 use Rattle.vortex_dtype.specs.TypeOf.{MapParts}
-use Rattle.vortex_dtype.specs.TypeTree.{TypeTree, null_type, bool_type, integer_type, utf8_type, binary_type, list_type, fixed_size_list_type, map_type, struct_type, union_type, extension_type, TypeTrees, no_types, type_then, erase_all, IsFlat, IsNullable, Same, is_nullable, nullability_of, storage}
+use Rattle.vortex_dtype.specs.TypeTree.{TypeTree, null_type, bool_type, integer_type, utf8_type, binary_type, list_type, fixed_size_list_type, map_type, struct_type, union_type, variant_type, extension_type, TypeTrees, no_types, type_then, erase_all, IsFlat, IsNullable, Same, is_nullable, nullability_of, storage}
 use Rattle.vortex_dtype.specs.declared.error.VortexError.{VortexError}
-use Rattle.vortex_dtype.specs.declared.error.VortexError.TheVariants.{CannotCast, OutOfMemory}
+use Rattle.vortex_dtype.specs.declared.error.VortexError.TheVariants.{OutOfMemory}
 use Rattle.vortex_dtype.specs.declared.kinds.Nullability.{Nullability}
 use Rattle.vortex_dtype.specs.declared.kinds.PType.{PType}
 use Rattle.vortex_pvalue.specs.Numbers.{in_range}
 use Rattle.vortex_pvalue.specs.RangeLaws.{in_range_exactly}
-use Rattle.vortex_value.specs.Steps.CastSteps.{pair, accepts, bare_to, both, cast_to, child_to, each_to, entries_to, fields_to, kept, leaves, map_to, number_to, pair_to, sorts, takes_null, tuple_to, two_types, types_with, whole_to}
+use Rattle.vortex_value.specs.Steps.CastSteps.{pair, Refused, accepts, bare_to, both, cast_to, child_to, each_to, entries_to, error_of, fields_to, kept, leaf_to, leaves, map_to, number_to, pair_to, sorts, stays, takes_null, tuple_to, two_types, types_with, whole_to}
 use Rattle.vortex_value.specs.Casts.{Allows, AllowsChild, AllowsFields, CanCast, EachEntry, EachPlace, ForId, IsCast, IsExtension, IsInteger, IsNull, RefusesCast, Row, Sorts, Wraps, same_type, a_null, into_extension, integers, lists, maps, structs, unions, from_extension}
 use Rattle.vortex_value.specs.Values.Content.{Content, null, sequence, tagged, Contents, no_contents, content_then, content, contents}
-use Rattle.vortex_value.specs.Equality as equality
 use Rattle.vortex_value.specs.Lemmas.EqualityLaws.{same_type-Decides}
 use Rattle.vortex_value.specs.Laws.HasContent.{HasContent, HasEach, HasEntries, HasFields, count_contents}
 use Rattle.vortex_value.specs.Values.RawTree.{RawTree, absent, raw_bool, raw_integer, raw_text, raw_bytes, raw_tuple, raw_union, raw_variant, RawTrees, no_raws, raw_then, count, is_absent}
+use Rattle.vortex_value.specs.declared.cast.refusals.Refusal.{Refusal}
+use Rattle.vortex_value.specs.declared.cast.refusals.Refusal.TheVariants.{Impossible, NoMemory}
 use Rattle.vortex_value.specs.Validity.{EachValid, EntriesValid, FieldsValid, HasType, Valid, ValidAt, type_with}
 use Rattle.vortex_value.proofs.Alike.{AlikeAt, step_alike}
 use Rattle.vortex_value.proofs.CastCode.{accepts-Decides}
@@ -218,31 +219,44 @@ bare (extension_type id metadata t) plain = absurd (plain tt)
 bare null_type plain = refl
 bare t plain = refl
 
--- a value without parts stays between types that are the same
-same_decided : (s t : TypeTree) (v : RawTree) → Valid s v → (Allows s t (content v) → HasContent t (content v) → Same s t) → Decided s t v (kept (equality.same_type s t) t v)
-same_decided s t v valid only =
-    let test = same_type-Decides s t in
-    kept_decided (equality.same_type s t) s t v valid (λ found. allows_same s t (content v) (test.0 found))
-    (λ a has. let same = only a has in (test.1 same, same_storage s t same))
+-- values without parts
 
--- values of the kinds without parts that are alike are of one type
-plain_same : (v : RawTree) (s t : TypeTree) → IsPlain v → AlikeAt s t (content v) → Same s t
-plain_same (raw_bool b) (bool_type n) (bool_type m) plain h = refl
-plain_same (raw_bool b) (bool_type n) _ plain h = absurd h.1
-plain_same (raw_bool b) _ t plain h = absurd h.0
-plain_same (raw_text bs) (utf8_type n) (utf8_type m) plain h = refl
-plain_same (raw_text bs) (utf8_type n) _ plain h = absurd h.1
-plain_same (raw_text bs) _ t plain h = absurd h.0
-plain_same (raw_bytes bs) (binary_type n) (binary_type m) plain h = refl
-plain_same (raw_bytes bs) (binary_type n) _ plain h = absurd h.1
-plain_same (raw_bytes bs) _ t plain h = absurd h.0
-plain_same (raw_variant u v) s t plain h = h
-plain_same _ s t plain h = absurd plain
+stays_same : (v : RawTree) (s t : TypeTree) → stays v s t ≡ true → Same s t
+stays_same (raw_bool b) (bool_type n) (bool_type m) e = refl
+stays_same (raw_text bs) (utf8_type n) (utf8_type m) e = refl
+stays_same (raw_bytes bs) (binary_type n) (binary_type m) e = refl
+stays_same (raw_variant u v) (variant_type n) (variant_type m) e = refl
+stays_same _ s t e = cc
 
-plain_decided : (v : RawTree) (s t : TypeTree) → IsPlain v → ¬ (IsExtension s) → ¬ (IsExtension t) → ValidAt s v → Decided s t v (kept (equality.same_type s t) t v)
-plain_decided v s t plain x y p =
+stays_valid : (v : RawTree) (s t : TypeTree) → stays v s t ≡ true → ValidAt s v → Valid t v
+stays_valid (raw_bool b) (bool_type n) (bool_type m) e p = p
+stays_valid (raw_text bs) (utf8_type n) (utf8_type m) e p = p
+stays_valid (raw_bytes bs) (binary_type n) (binary_type m) e p = p
+stays_valid (raw_variant u v) (variant_type n) (variant_type m) e p = p
+stays_valid _ s t e p = cc
+
+-- values of the kinds without parts stay between types that are alike
+stays_alike : (v : RawTree) (s t : TypeTree) → IsPlain v → ValidAt s v → AlikeAt s t (content v) → stays v s t ≡ true
+stays_alike (raw_bool b) (bool_type n) (bool_type m) plain p h = refl
+stays_alike (raw_bool b) (bool_type n) _ plain p h = absurd h.1
+stays_alike (raw_bool b) _ t plain p h = absurd h.0
+stays_alike (raw_text bs) (utf8_type n) (utf8_type m) plain p h = refl
+stays_alike (raw_text bs) (utf8_type n) _ plain p h = absurd h.1
+stays_alike (raw_text bs) _ t plain p h = absurd h.0
+stays_alike (raw_bytes bs) (binary_type n) (binary_type m) plain p h = refl
+stays_alike (raw_bytes bs) (binary_type n) _ plain p h = absurd h.1
+stays_alike (raw_bytes bs) _ t plain p h = absurd h.0
+stays_alike (raw_variant u v) (variant_type n) (variant_type m) plain p h = refl
+stays_alike (raw_variant u v) (variant_type n) _ plain p h = cc
+stays_alike (raw_variant u v) _ t plain p h = absurd p
+stays_alike _ s t plain p h = absurd plain
+
+leaf_decided : (v : RawTree) (s t : TypeTree) → IsPlain v → ¬ (IsExtension s) → ¬ (IsExtension t) → ValidAt s v → Decided s t v (leaf_to v s t)
+leaf_decided v s t plain x y p =
     let valid : Valid s v = rw (bare s x) p in
-    same_decided s t v valid (λ a has. plain_same v s t plain (rw (bare s x, bare t y) at (step_alike t s v valid a)))
+    decided_by (stays v s t) s t v v
+    (λ found. (allows_same s t (content v) (stays_same v s t found), stays_valid v s t found p, refl))
+    (λ missed q. let there = stays_alike v s t plain p (rw (bare s x, bare t y) at (step_alike t s v valid q.0)) in cc)
 
 -- parts
 
@@ -495,7 +509,7 @@ mutual
       (λ e f q. each_decided vs e f q) (λ a b q. entries_decided vs a b q) (λ ss ts q. fields_decided vs ss ts q) s t x y p
   bare_decided (raw_union id v) there s t x y p =
       union_decided id v (λ a b. whole_to (λ i j. bare_to v i j) v a b) (λ a b q. whole_decided (λ i j. bare_to v i j) v (bare_decided v) a b q) s t x y p
-  bare_decided v there s t x y p = plain_decided v s t tt x y p
+  bare_decided v there s t x y p = leaf_decided v s t tt x y p
 
   each_decided : (vs : RawTrees) (e f : TypeTree) → EachValid e vs → PartsDecided (EachPlace (Allows e f) (contents vs)) (HasEach f (contents vs)) (EachValid f) vs (each_to vs e f)
   each_decided no_raws e f p = (tt, tt, refl)
@@ -528,12 +542,16 @@ pub cast_made : (v w : RawTree) (s t : TypeTree) → Valid s v → cast_to v s t
 cast_made v w s t p made = let h = rw made at (cast_decided v s t p) in record { allowed = h.0; valid = h.1; same = h.2 }
 
 -- what a refusal says
-pub cast_refused : (v : RawTree) (s t : TypeTree) (e : VortexError) → Valid s v → (e ≡ OutOfMemory) ⊎ ((e ≡ CannotCast) × (cast_to v s t ≡ None)) → (IsFlat t → e ≢ OutOfMemory)
-    → RefusesCast t (CanCast s t (content v)) e
+pub cast_refused : (v : RawTree) (s t : TypeTree) (e : Refusal) → Valid s v → Refused (cast_to v s t) e → (IsFlat t → e ≢ NoMemory) → RefusesCast t (CanCast s t (content v)) (error_of e)
 cast_refused v s t e p (inl memory) spared = rw memory (λ flat. spared flat memory)
 cast_refused v s t e p (inr refused) spared =
     let h = rw refused.1 at (cast_decided v s t p) in
     rw refused.0 (λ q. h (q.0, (has_by_cases t (content v)).0 q.1))
+
+-- a refusal that becomes out of memory is that
+pub no_memory : (e : Refusal) → error_of e ≡ OutOfMemory → e ≡ NoMemory
+no_memory NoMemory is = refl
+no_memory Impossible is = cc
 
 pub refused_with : {A : Type 0} (r : Result A VortexError) (e : VortexError) (P : VortexError → Type 0) → r ≡ Err e → P e → IfErr r P
 refused_with (Ok x) e P is p = cc

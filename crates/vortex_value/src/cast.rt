@@ -3,15 +3,17 @@
 //!
 //! | Row | Allows | Function |
 //! |---|---|---|
-//! | `same_type` | a type that is the same up to nullability | those below; other values `kept` |
+//! | `same_type` | a type that is the same up to nullability | those below; values without parts `cast_leaf` |
 //! | `a_null` | a null, but from an unsorted to a sorted map | `cast_value`, `takes_null` |
-//! | `into_extension` | no null, to an extension whose storage takes it | `cast_present`, `may_leave_extension` |
+//! | `into_extension` | no null, to an extension whose storage takes it | `cast_present`, `leave_extension` |
 //! | `integers` | a number, to an integer type | `cast_number` |
 //! | `lists` | each element, between lists, of a fixed size or not | `cast_elements`, `cast_sized` |
 //! | `maps` | each key and value, but from an unsorted to a sorted map | `cast_map`, `cast_entries` |
 //! | `structs` | each field by its place, between equally many | `cast_fields` |
 //! | `unions` | the child, between the variants with its id of unions of the same ids | `cast_union` |
-//! | `from_extension` | a value, to the storage type up to nullability | `cast_present`, `may_leave_extension` |
+//! | `from_extension` | a value, to the storage type up to nullability | `leave_extension` |
+//!
+//! Parts are appended where they are to stand, by `push_cast`, with a function for each kind too.
 
 ghost use Rattle.std.specs.Prelude.{IfErr, IfOk};
 ghost use Rattle.vortex_dtype.specs.TypeOf.{type_of};
@@ -26,7 +28,9 @@ use crate::scalars::{Scalar, with_type};
 use std::alloc::Global;
 use vortex_dtype::{DType, VortexError};
 
+mod refusals;
 mod rules;
+mod steps;
 mod values;
 
 impl Scalar {
@@ -81,7 +85,11 @@ impl ScalarRef<'_> {
             (HidesNoLeaf (ref_type self.now) (ref_content self.now)
             (CanCast (ref_type self.now) (type_of target.now) (ref_content self.now))) }
     {
-        let value = values::cast_value(alloc, self.value(), self.dtype(), target)?;
+        let source = self.dtype();
+        if source == target {
+            return self.to_scalar(alloc);
+        }
+        let value = values::cast_value(alloc, self.value(), source, target)?;
         with_type(target.clone(alloc), value)
     }
 }

@@ -1,16 +1,25 @@
 -- The steps of a cast, as they compute. They have the shape of the code; that they give what the table of casts says is
 -- the lemma `cast_decided` in proofs.
-use Rattle.std.specs.Prelude.{◌≡◌, ◌≢◌, ◌==◌, ◌&&◌, ◌||◌, ◌⊎◌, not, ℕ, ℤ, Bool, Option, Some, None, Result, IfErr, MatchResult, if◌then◌else◌, length, option_map, IsSome}
+use Rattle.std.specs.Prelude.{◌≡◌, ◌≢◌, ◌==◌, ◌&&◌, ◌||◌, ◌⊎◌, not, ℕ, ℤ, Bool, true, false, List, [], ◌∷◌, ◌++◌, Option, Some, None, Result, IfErr, MatchResult, if◌then◌else◌, length, option_map, IsSome, Vec}
+use Rattle.std.specs.Global.{Global}
 use Rattle.std.specs.Str.{bytes_eq}
-use Rattle.vortex_dtype.specs.TypeOf.{MapParts}
-use Rattle.vortex_dtype.specs.TypeTree.{TypeTree, integer_type, list_type, fixed_size_list_type, map_type, struct_type, union_type, extension_type, TypeTrees, no_types, type_then, IsFlat, is_nullable, storage}
+use Rattle.vortex_dtype.specs.TypeOf.{MapParts, type_of}
+use Rattle.vortex_dtype.specs.TypeTree.{TypeTree, bool_type, integer_type, utf8_type, binary_type, list_type, fixed_size_list_type, map_type, struct_type, union_type, variant_type, extension_type, TypeTrees, no_types, type_then, IsFlat, is_nullable, storage}
 use Rattle.vortex_dtype.specs.declared.error.VortexError.{VortexError}
 use Rattle.vortex_dtype.specs.declared.error.VortexError.TheVariants.{CannotCast, OutOfMemory}
+use Rattle.vortex_dtype.specs.declared.types.DType.{DType}
 use Rattle.vortex_pvalue.specs.Numbers.{in_range}
 use Rattle.vortex_value.specs.Breaches.{breaches}
+use Rattle.vortex_value.specs.CastAnswers.{IsLeaf, IsTakenWhole}
+use Rattle.vortex_value.specs.Casts.{IsExtension}
 use Rattle.vortex_value.specs.Equality.{same_type}
 use Rattle.vortex_value.specs.Validity.{type_with}
-use Rattle.vortex_value.specs.Values.RawTree.{RawTree, absent, raw_integer, raw_tuple, raw_union, RawTrees, no_raws, raw_then, count}
+use Rattle.vortex_value.specs.Values.Content.{content}
+use Rattle.vortex_value.specs.Values.RawOf.{raw_of, value_trees}
+use Rattle.vortex_value.specs.Values.RawTree.{RawTree, absent, raw_bool, raw_integer, raw_text, raw_bytes, raw_tuple, raw_union, raw_variant, RawTrees, no_raws, raw_then, count}
+use Rattle.vortex_value.specs.declared.cast.refusals.Refusal.{Refusal}
+use Rattle.vortex_value.specs.declared.cast.refusals.Refusal.TheVariants.{Impossible, NoMemory}
+use Rattle.vortex_value.specs.declared.values.ScalarValue.{ScalarValue}
 
 -- whether the type accepts the value
 abbrev pub accepts : TypeTree → RawTree → Bool
@@ -30,9 +39,25 @@ abbrev pub leaves : TypeTree → TypeTree → TypeTree → Bool
 leaves s u (extension_type id metadata t) = same_type s (extension_type id metadata t) || leaves s u t
 leaves s u t = same_type u t
 
+-- whether a value without parts stays what it is: it and the two types are of one kind
+abbrev pub stays : RawTree → TypeTree → TypeTree → Bool
+stays (raw_bool b) (bool_type n) (bool_type m) = true
+stays (raw_text bs) (utf8_type n) (utf8_type m) = true
+stays (raw_bytes bs) (binary_type n) (binary_type m) = true
+stays (raw_variant u v) (variant_type n) (variant_type m) = true
+stays _ _ _ = false
+
+-- what a value without parts becomes between types that are no extensions
+abbrev pub leaf_to : RawTree → TypeTree → TypeTree → Option RawTree
+leaf_to v s t = if stays v s t then Some v else None
+
 -- the value itself, if the types allow it and the target accepts it
 abbrev pub kept : Bool → TypeTree → RawTree → Option RawTree
 kept allowed t v = if allowed && accepts t v then Some v else None
+
+-- the value itself, if it may leave the extension s, which stores u, for t
+abbrev pub left_to : RawTree → TypeTree → TypeTree → TypeTree → Option RawTree
+left_to v s u t = kept (leaves s u t) t v
 
 -- the number in the kind of the target
 abbrev pub number_to : ℤ → TypeTree → Option RawTree
@@ -42,8 +67,13 @@ number_to z t = None
 -- a value from one type to another: `bare` says what becomes of it between types that are no extensions
 abbrev pub whole_to : (TypeTree → TypeTree → Option RawTree) → RawTree → TypeTree → TypeTree → Option RawTree
 whole_to bare absent s t = if takes_null s t then Some absent else None
-whole_to bare v (extension_type id metadata u) t = kept (leaves (extension_type id metadata u) u t) t v
+whole_to bare v (extension_type id metadata u) t = left_to v (extension_type id metadata u) u t
 whole_to bare v s t = bare s (storage t)
+
+-- where there is a type, it is what t stores, and s is no extension
+abbrev pub IsBareTarget : TypeTree → TypeTree → Option DType → Type 0
+IsBareTarget s t None = Unit {0}
+IsBareTarget s t (Some stored) = ¬ (IsExtension s) × (type_of stored ≡ storage t)
 
 -- what the parts become, where there are so many as the size says
 abbrev pub sized : ℕ → ℕ → Option RawTrees → Option RawTrees
@@ -100,7 +130,7 @@ abbrev mutual
   bare_to (raw_tuple vs) s t =
       option_map raw_tuple (tuple_to (count vs) (λ e f. each_to vs e f) (λ a b. map_to (λ m n. entries_to vs m n) a b) (λ ss ts. fields_to vs ss ts) s t)
   bare_to (raw_union id v) s t = option_map (raw_union id) (child_to (λ a b. whole_to (λ x y. bare_to v x y) v a b) (types_with id s t))
-  bare_to v s t = kept (same_type s t) t v
+  bare_to v s t = leaf_to v s t
 
   -- each between the same two types
   pub each_to : RawTrees → TypeTree → TypeTree → Option RawTrees
@@ -131,14 +161,40 @@ cast_to v = whole_to (λ a b. bare_to v a b) v
 abbrev pub parts_to : RawTrees → TypeTree → TypeTree → Option RawTrees
 parts_to vs = tuple_to (count vs) (λ e f. each_to vs e f) (λ a b. map_to (λ m n. entries_to vs m n) a b) (λ ss ts. fields_to vs ss ts)
 
+-- the error that a refusal becomes
+abbrev pub error_of : Refusal → VortexError
+error_of Impossible = CannotCast
+error_of NoMemory = OutOfMemory
+
+-- e refuses a step that makes `made`: there is no memory, or nothing to make
+abbrev pub Refused : {B : Type 0} → Option B → Refusal → Type 0
+Refused made e = (e ≡ NoMemory) ⊎ ((e ≡ Impossible) × (made ≡ None))
+
 -- an answer of a step that makes `made`, if there is that: a value with its tree, or a refusal
-abbrev pub Makes : {A B : Type 0} → (A → B) → Option B → Result A VortexError → Type 0
-Makes tree made r = MatchResult r (λ x. made ≡ Some (tree x)) (λ e. (e ≡ OutOfMemory) ⊎ ((e ≡ CannotCast) × (made ≡ None)))
+abbrev pub Makes : {A B : Type 0} → (A → B) → Option B → Result A Refusal → Type 0
+Makes tree made r = MatchResult r (λ x. made ≡ Some (tree x)) (λ e. Refused made e)
+
+-- the same for parts
+abbrev pub MakesParts : Option RawTrees → Result (Vec (Option ScalarValue) Global) Refusal → Type 0
+MakesParts = Makes (λ vs. value_trees vs.items)
+
+-- an answer of a step that appends `made` to what was there before, if there is that
+abbrev pub Appends : List (Option ScalarValue) → List (Option ScalarValue) → Option RawTree → Result (Unit {0}) Refusal → Type 0
+Appends before now made r =
+    MatchResult r (λ _. (v : Option ScalarValue) × (now ≡ before ++ v ∷ []) × (made ≡ Some (raw_of v))) (λ e. Refused made e)
 
 -- no memory is wanted for a type whose values take none
-abbrev pub SparesMemory : {A : Type 0} → TypeTree → Result A VortexError → Type 0
-SparesMemory t r = IsFlat t → IfErr r (λ e. e ≢ OutOfMemory)
+abbrev pub SparesMemory : {A : Type 0} → TypeTree → Result A Refusal → Type 0
+SparesMemory t r = IsFlat t → IfErr r (λ e. e ≢ NoMemory)
 
 -- memory is wanted only for what there is to make
-abbrev pub RefusesSome : {A B : Type 0} → Option B → Result A VortexError → Type 0
-RefusesSome made r = IfErr r (λ e. e ≡ OutOfMemory → IsSome made)
+abbrev pub RefusesSome : {A B : Type 0} → Option B → Result A Refusal → Type 0
+RefusesSome made r = IfErr r (λ e. e ≡ NoMemory → IsSome made)
+
+-- a cast of v from s to t that takes v whole wants memory only for what there is to make
+abbrev pub SparesWhole : {A : Type 0} → RawTree → TypeTree → TypeTree → Result A Refusal → Type 0
+SparesWhole v s t r = IsTakenWhole s (content v) → RefusesSome (cast_to v s t) r
+
+-- the same between types that are no extensions
+abbrev pub SparesLeaf : {A : Type 0} → RawTree → TypeTree → TypeTree → Result A Refusal → Type 0
+SparesLeaf v s t r = IsLeaf (content v) → RefusesSome (bare_to v s t) r

@@ -1,22 +1,18 @@
-//! What the cast table asks of two types, and the steps that go no further down than the value.
+//! What the cast table asks of two types, and of a value that stays what it is.
 
-ghost use Rattle.std.specs.Prelude.{◌≡◌, ◌==◌, IfErr, option_map};
+ghost use Rattle.std.specs.Prelude.{◌≡◌, ◌==◌, option_map};
+ghost use Rattle.std.specs.Option.{option_copied};
 ghost use Rattle.std.specs.Str.{bytes_eq};
 ghost use Rattle.vortex_dtype.specs.TypeOf.{map_of, type_of, variants_of};
-ghost use Rattle.vortex_dtype.specs.declared.error.VortexError.TheVariants.{CannotCast};
-ghost use Rattle.vortex_pvalue.specs.Whole.{whole_of};
-ghost use Rattle.vortex_value.specs.Steps.CastSteps.{Makes, SparesMemory, accepts, kept, leaves, number_to, sorts, takes_null, types_with, RefusesSome};
+ghost use Rattle.vortex_value.specs.Steps.CastSteps.{IsBareTarget, accepts, leaves, sorts, stays, takes_null, types_with};
 ghost use Rattle.vortex_value.specs.Values.RawOf.{value_tree, value_trees};
 ghost use Rattle.vortex_value.specs.Values.RawTree.{count};
 
-use crate::copies;
 use crate::equality::same_types;
 use crate::scalars::Scalar;
-use crate::storage::variant_with;
+use crate::storage::{storage_of, variant_with};
 use crate::values::ScalarValue;
-use std::alloc::Global;
-use vortex_dtype::{DType, MapDType, UnionVariants, VortexError};
-use vortex_pvalue::PValue;
+use vortex_dtype::{DType, MapDType, UnionVariants};
 
 /// Whether keys that are not said to be sorted would be said so.
 pub(super) fn would_claim_sorted(source: &MapDType, target: &MapDType) -> bool
@@ -41,6 +37,19 @@ pub(super) fn takes_null(source: &DType, target: &DType) -> bool
     match (source, target) {
         (DType::Map(from, _), DType::Map(to, _)) if would_claim_sorted(from, to) => false,
         _ => target.is_nullable(),
+    }
+}
+
+/// What the target stores, if the source is no extension: the type to which a value that is present
+/// is cast by its kind.
+#[inline(always)]
+#[tactic(auto, using(crate::proofs::CastCode::shown))]
+pub(super) fn bare_target<'a>(source: &DType, target: &'a DType) -> Option<&'a DType>
+    ensures { IsBareTarget (type_of source.now) (type_of target.now) (option_copied result) }
+{
+    match source {
+        DType::Extension(_) => None,
+        _ => Some(storage_of(target)),
     }
 }
 
@@ -86,43 +95,22 @@ pub(super) fn types_with<'a>(
 }
 
 /// Whether the type accepts the value.
-fn accepts(dtype: &DType, value: &ScalarValue) -> bool
+pub(super) fn accepts(dtype: &DType, value: &ScalarValue) -> bool
     ensures { result ≡ accepts (type_of dtype.now) (value_tree value.now) }
 {
     Scalar::is_compatible(dtype, Some(value))
 }
 
-/// The same value, where the types allow it and the target accepts it.
+/// Whether a value without parts stays what it is: it and the two types are of one kind.
 #[tactic(auto, using(crate::proofs::CastCode::shown))]
-pub(super) fn kept(
-    alloc: Global,
-    value: &ScalarValue,
-    allowed: bool,
-    target: &DType,
-) -> Result<ScalarValue, VortexError>
-    ensures made { Makes value_tree
-        (kept allowed (type_of target.now) (value_tree value.now)) result }
-    ensures flat { SparesMemory (type_of target.now) result }
-    ensures whole { RefusesSome
-        (kept allowed (type_of target.now) (value_tree value.now)) result }
+pub(super) fn stays(value: &ScalarValue, source: &DType, target: &DType) -> bool
+    ensures { result ≡ stays (value_tree value.now) (type_of source.now) (type_of target.now) }
 {
-    if allowed && accepts(target, value) {
-        copies::copy_value(alloc, value)
-    } else {
-        Err(VortexError::CannotCast)
-    }
-}
-
-/// The same number in the kind of the target.
-pub(super) fn cast_number(number: PValue, target: &DType) -> Result<ScalarValue, VortexError>
-    ensures made { Makes value_tree (number_to (whole_of number) (type_of target.now)) result }
-    ensures flat { IfErr result (λ e. e ≡ CannotCast) }
-{
-    match target {
-        DType::Primitive(kind, _) => match PValue::from_whole(number.whole(), *kind) {
-            Some(number) => Ok(ScalarValue::Primitive(number)),
-            None => Err(VortexError::CannotCast),
-        },
-        _ => Err(VortexError::CannotCast),
+    match (value, target) {
+        (ScalarValue::Bool(_), DType::Bool(_)) => matches!(source, DType::Bool(_)),
+        (ScalarValue::Utf8(_), DType::Utf8(_)) => matches!(source, DType::Utf8(_)),
+        (ScalarValue::Binary(_), DType::Binary(_)) => matches!(source, DType::Binary(_)),
+        (ScalarValue::Variant(_), DType::Variant(_)) => matches!(source, DType::Variant(_)),
+        _ => false,
     }
 }

@@ -1,22 +1,22 @@
-//! The recursion of a cast, down the value.
+//! The recursion of a cast, down the value. Each kind of value has a function of its own, which pays
+//! for its own locals alone; parts are appended where they are to stand.
 
 ghost use Rattle.std.specs.Option.{option_copied};
 ghost use Rattle.vortex_dtype.specs.TypeOf.{map_of, type_of, dtype_trees};
-ghost use Rattle.vortex_value.specs.Steps.CastSteps.{Makes, SparesMemory, bare_to, cast_to, each_to, entries_to, entry_to, fields_to, map_to, parts_to, sized, RefusesSome};
+ghost use Rattle.vortex_value.specs.Steps.CastSteps.{Appends, IsBareTarget, Makes, MakesParts, SparesLeaf, SparesMemory, SparesWhole, bare_to, cast_to, each_to, entries_to, entry_to, fields_to, map_to, parts_to, sized};
 ghost use Rattle.vortex_value.specs.Values.RawOf.{raw_of, union_tree, value_trees, value_tree};
-ghost use Rattle.vortex_value.specs.CastAnswers.{IsLeaf, IsTakenWhole};
-ghost use Rattle.vortex_value.specs.Values.Content.{content};
 ghost use Rattle.vortex_value.specs.Values.RawTree.{count, raw_tuple};
 
-use super::rules::{
-    are_as_many, cast_number, kept, may_leave_extension, takes_null, types_with, would_claim_sorted,
+use super::refusals::Refusal;
+use super::rules::{are_as_many, bare_target, takes_null, types_with, would_claim_sorted};
+use super::steps::{
+    cast_leaf, cast_number, leave_extension, push, push_leaf, push_number, union_of,
 };
-use crate::equality::same_types;
 use crate::storage::storage_of;
 use crate::unions::UnionValue;
 use crate::values::ScalarValue;
 use std::alloc::Global;
-use vortex_dtype::{DType, MapDType, VortexError};
+use vortex_dtype::{DType, MapDType};
 
 /// The raw value that the target type has for the content of a value of the source type.
 #[cycle(cast)]
@@ -26,18 +26,17 @@ pub(super) fn cast_value(
     value: Option<&ScalarValue>,
     source: &DType,
     target: &DType,
-) -> Result<Option<ScalarValue>, VortexError>
+) -> Result<Option<ScalarValue>, Refusal>
     ensures made { Makes raw_of (cast_to (raw_of (option_copied value.entry))
         (type_of source.now) (type_of target.now)) result }
     ensures flat { SparesMemory (type_of target.now) result }
-    ensures whole { IsTakenWhole (type_of source.now) (content (raw_of (option_copied value.entry)))
-        → RefusesSome (cast_to (raw_of (option_copied value.entry))
-        (type_of source.now) (type_of target.now)) result }
+    ensures whole { SparesWhole (raw_of (option_copied value.entry))
+        (type_of source.now) (type_of target.now) result }
 {
     match value {
         Some(value) => Ok(Some(cast_present(alloc, value, source, target)?)),
         None if takes_null(source, target) => Ok(None),
-        None => Err(VortexError::CannotCast),
+        None => Err(Refusal::Impossible),
     }
 }
 
@@ -49,18 +48,16 @@ fn cast_present(
     value: &ScalarValue,
     source: &DType,
     target: &DType,
-) -> Result<ScalarValue, VortexError>
+) -> Result<ScalarValue, Refusal>
     ensures made { Makes value_tree (cast_to (value_tree value.now)
         (type_of source.now) (type_of target.now)) result }
     ensures flat { SparesMemory (type_of target.now) result }
-    ensures whole { IsTakenWhole (type_of source.now) (content (value_tree value.now))
-        → RefusesSome (cast_to (value_tree value.now)
-        (type_of source.now) (type_of target.now)) result }
+    ensures whole { SparesWhole (value_tree value.now)
+        (type_of source.now) (type_of target.now) result }
 {
     match source {
         DType::Extension(extension) => {
-            let allowed = may_leave_extension(source, extension.storage_dtype(), target);
-            kept(alloc, value, allowed, target)
+            leave_extension(alloc, value, source, extension.storage_dtype(), target)
         }
         _ => cast_bare(alloc, value, source, storage_of(target)),
     }
@@ -74,23 +71,145 @@ fn cast_bare(
     value: &ScalarValue,
     source: &DType,
     target: &DType,
-) -> Result<ScalarValue, VortexError>
+) -> Result<ScalarValue, Refusal>
     ensures made { Makes value_tree (bare_to (value_tree value.now)
         (type_of source.now) (type_of target.now)) result }
     ensures flat { SparesMemory (type_of target.now) result }
-    ensures whole { IsLeaf (content (value_tree value.now)) → RefusesSome
-        (bare_to (value_tree value.now) (type_of source.now) (type_of target.now)) result }
+    ensures whole { SparesLeaf (value_tree value.now)
+        (type_of source.now) (type_of target.now) result }
 {
     match value {
-        ScalarValue::Primitive(number) => cast_number(*number, target),
+        ScalarValue::Primitive(number) => cast_number(number, target),
         ScalarValue::Tuple(parts) => {
             Ok(ScalarValue::Tuple(cast_parts(alloc, parts, source, target)?))
         }
         ScalarValue::Union(union) => {
             Ok(ScalarValue::Union(cast_union(alloc, union, source, target)?))
         }
-        _ => kept(alloc, value, same_types(source, target), target),
+        _ => cast_leaf(alloc, value, source, target),
     }
+}
+
+/// Appends what a value becomes.
+#[cycle(cast)]
+#[inline(always)]
+#[tactic(auto, using(crate::proofs::CastCode::shown))]
+fn push_cast(
+    alloc: Global,
+    value: Option<&ScalarValue>,
+    source: &DType,
+    target: &DType,
+    made: &mut Vec<Option<ScalarValue>>,
+) -> Result<(), Refusal>
+    ensures { Appends made.old.items made.new.items (cast_to (raw_of (option_copied value.entry))
+        (type_of source.now) (type_of target.now)) result }
+{
+    push_stored(
+        alloc,
+        value,
+        source,
+        target,
+        bare_target(source, target),
+        made,
+    )
+}
+
+/// The same, where the caller asked once for many values what the target stores.
+#[cycle(cast)]
+#[inline(always)]
+#[tactic(auto, using(crate::proofs::CastCode::shown))]
+fn push_stored(
+    alloc: Global,
+    value: Option<&ScalarValue>,
+    source: &DType,
+    target: &DType,
+    stored: Option<&DType>,
+    made: &mut Vec<Option<ScalarValue>>,
+) -> Result<(), Refusal>
+    requires { IsBareTarget (type_of source.now) (type_of target.now) (option_copied stored) }
+    ensures { Appends made.old.items made.new.items (cast_to (raw_of (option_copied value.entry))
+        (type_of source.now) (type_of target.now)) result }
+{
+    match (value, stored) {
+        (Some(value), Some(stored)) => push_bare(alloc, value, source, stored, made),
+        _ => push_whole(alloc, value, source, target, made),
+    }
+}
+
+/// Appends what a null becomes, or a value of an extension.
+#[cycle(cast)]
+#[inline(never)]
+#[tactic(auto, using(crate::proofs::CastCode::shown))]
+fn push_whole(
+    alloc: Global,
+    value: Option<&ScalarValue>,
+    source: &DType,
+    target: &DType,
+    made: &mut Vec<Option<ScalarValue>>,
+) -> Result<(), Refusal>
+    ensures { Appends made.old.items made.new.items (cast_to (raw_of (option_copied value.entry))
+        (type_of source.now) (type_of target.now)) result }
+{
+    let value = cast_value(alloc, value, source, target)?;
+    push(value, made)
+}
+
+/// Appends what a value becomes between types that are no extensions.
+#[cycle(cast)]
+#[inline(always)]
+#[tactic(auto, using(crate::proofs::CastCode::shown))]
+fn push_bare(
+    alloc: Global,
+    value: &ScalarValue,
+    source: &DType,
+    target: &DType,
+    made: &mut Vec<Option<ScalarValue>>,
+) -> Result<(), Refusal>
+    ensures { Appends made.old.items made.new.items (bare_to (value_tree value.now)
+        (type_of source.now) (type_of target.now)) result }
+{
+    match value {
+        ScalarValue::Primitive(number) => push_number(number, target, made),
+        ScalarValue::Tuple(parts) => push_tuple(alloc, parts, source, target, made),
+        ScalarValue::Union(union) => push_union(alloc, union, source, target, made),
+        _ => push_leaf(alloc, value, source, target, made),
+    }
+}
+
+/// Appends what a tuple of these parts becomes.
+#[cycle(cast)]
+#[inline(never)]
+#[tactic(auto, using(crate::proofs::CastCode::shown))]
+fn push_tuple(
+    alloc: Global,
+    parts: &[Option<ScalarValue>],
+    source: &DType,
+    target: &DType,
+    made: &mut Vec<Option<ScalarValue>>,
+) -> Result<(), Refusal>
+    ensures { Appends made.old.items made.new.items (bare_to (raw_tuple (value_trees parts.now))
+        (type_of source.now) (type_of target.now)) result }
+{
+    let parts = cast_parts(alloc, parts, source, target)?;
+    push(Some(ScalarValue::Tuple(parts)), made)
+}
+
+/// Appends what a union's value becomes.
+#[cycle(cast)]
+#[inline(never)]
+#[tactic(auto, using(crate::proofs::CastCode::shown))]
+fn push_union(
+    alloc: Global,
+    union: &UnionValue,
+    source: &DType,
+    target: &DType,
+    made: &mut Vec<Option<ScalarValue>>,
+) -> Result<(), Refusal>
+    ensures { Appends made.old.items made.new.items (bare_to (union_tree union.now)
+        (type_of source.now) (type_of target.now)) result }
+{
+    let union = cast_union(alloc, union, source, target)?;
+    push(Some(ScalarValue::Union(union)), made)
 }
 
 /// The child of a union, cast between the two variants with its id.
@@ -101,19 +220,19 @@ fn cast_union(
     union: &UnionValue,
     source: &DType,
     target: &DType,
-) -> Result<UnionValue, VortexError>
+) -> Result<UnionValue, Refusal>
     ensures made { Makes union_tree (bare_to (union_tree union.now)
         (type_of source.now) (type_of target.now)) result }
-    ensures whole { IsLeaf (content (union_tree union.now)) → RefusesSome
-        (bare_to (union_tree union.now) (type_of source.now) (type_of target.now)) result }
     ensures flat { SparesMemory (type_of target.now) result }
+    ensures whole { SparesLeaf (union_tree union.now)
+        (type_of source.now) (type_of target.now) result }
 {
     match types_with(source, target, union.type_id) {
         Some((from, to)) => {
             let child = cast_value(alloc, union.child.as_deref(), from, to)?;
-            UnionValue::new(alloc, union.type_id, child)
+            union_of(alloc, union.type_id, child)
         }
-        None => Err(VortexError::CannotCast),
+        None => Err(Refusal::Impossible),
     }
 }
 
@@ -125,8 +244,8 @@ fn cast_parts(
     parts: &[Option<ScalarValue>],
     source: &DType,
     target: &DType,
-) -> Result<Vec<Option<ScalarValue>>, VortexError>
-    ensures made { Makes (λ made. value_trees made.items) (parts_to (value_trees parts.now)
+) -> Result<Vec<Option<ScalarValue>>, Refusal>
+    ensures made { MakesParts (parts_to (value_trees parts.now)
         (type_of source.now) (type_of target.now)) result }
     ensures flat { SparesMemory (type_of target.now) result }
 {
@@ -142,7 +261,7 @@ fn cast_parts(
         (DType::Struct(from, _), DType::Struct(to, _)) => {
             cast_fields(alloc, parts, from.dtypes(), to.dtypes())
         }
-        _ => Err(VortexError::CannotCast),
+        _ => Err(Refusal::Impossible),
     }
 }
 
@@ -155,14 +274,14 @@ fn cast_sized(
     size: u32,
     from: &DType,
     to: &DType,
-) -> Result<Vec<Option<ScalarValue>>, VortexError>
-    ensures { Makes (λ made. value_trees made.items) (sized (count (value_trees elements.now)) size
+) -> Result<Vec<Option<ScalarValue>>, Refusal>
+    ensures { MakesParts (sized (count (value_trees elements.now)) size
         (each_to (value_trees elements.now) (type_of from.now) (type_of to.now))) result }
 {
     if are_as_many(elements, size) {
         cast_elements(alloc, elements, from, to)
     } else {
-        Err(VortexError::CannotCast)
+        Err(Refusal::Impossible)
     }
 }
 
@@ -174,13 +293,14 @@ fn cast_elements(
     elements: &[Option<ScalarValue>],
     from: &DType,
     to: &DType,
-) -> Result<Vec<Option<ScalarValue>>, VortexError>
-    ensures { Makes (λ made. value_trees made.items)
+) -> Result<Vec<Option<ScalarValue>>, Refusal>
+    ensures { MakesParts
         (each_to (value_trees elements.now) (type_of from.now) (type_of to.now)) result }
 {
+    let stored = bare_target(from, to);
     let mut made = Vec::with_capacity(alloc, elements.len())?;
     for element in elements {
-        made.push(cast_value(alloc, element.as_ref(), from, to)?)?;
+        push_stored(alloc, element.as_ref(), from, to, stored, &mut made)?;
     }
     Ok(made)
 }
@@ -192,12 +312,12 @@ fn cast_map(
     entries: &[Option<ScalarValue>],
     from: &MapDType,
     to: &MapDType,
-) -> Result<Vec<Option<ScalarValue>>, VortexError>
-    ensures { Makes (λ made. value_trees made.items) (map_to (entries_to (value_trees entries.now))
+) -> Result<Vec<Option<ScalarValue>>, Refusal>
+    ensures { MakesParts (map_to (entries_to (value_trees entries.now))
         (map_of from.now) (map_of to.now)) result }
 {
     if would_claim_sorted(from, to) {
-        Err(VortexError::CannotCast)
+        Err(Refusal::Impossible)
     } else {
         cast_entries(alloc, entries, from, to)
     }
@@ -210,55 +330,71 @@ fn cast_entries(
     entries: &[Option<ScalarValue>],
     from: &MapDType,
     to: &MapDType,
-) -> Result<Vec<Option<ScalarValue>>, VortexError>
-    ensures { Makes (λ made. value_trees made.items) (entries_to (value_trees entries.now)
+) -> Result<Vec<Option<ScalarValue>>, Refusal>
+    ensures { MakesParts (entries_to (value_trees entries.now)
         (map_of from.now) (map_of to.now)) result }
 {
     let mut made = Vec::with_capacity(alloc, entries.len())?;
     for entry in entries {
-        made.push(Some(cast_entry(alloc, entry.as_ref(), from, to)?))?;
+        push_entry(alloc, entry.as_ref(), from, to, &mut made)?;
     }
     Ok(made)
 }
 
-/// The entry, where it is a pair, its key and its value cast.
+/// Appends what an entry becomes, where it is a pair.
 #[cycle(cast)]
+#[inline(always)]
 #[tactic(auto, using(crate::proofs::CastCode::shown))]
-fn cast_entry(
+fn push_entry(
     alloc: Global,
     entry: Option<&ScalarValue>,
     from: &MapDType,
     to: &MapDType,
-) -> Result<ScalarValue, VortexError>
-    ensures { Makes value_tree (entry_to (raw_of (option_copied entry.entry))
+    made: &mut Vec<Option<ScalarValue>>,
+) -> Result<(), Refusal>
+    ensures { Appends made.old.items made.new.items (entry_to (raw_of (option_copied entry.entry))
         (map_of from.now) (map_of to.now)) result }
 {
     match entry {
-        Some(ScalarValue::Tuple(parts)) => cast_pair(alloc, parts, from, to),
-        _ => Err(VortexError::CannotCast),
+        Some(ScalarValue::Tuple(parts)) => push_pair(alloc, parts, from, to, made),
+        _ => Err(Refusal::Impossible),
     }
 }
 
-/// The key and the value of an entry, cast.
+/// Appends the pair of what a key and a value become.
 #[cycle(cast)]
+#[inline(never)]
 #[tactic(auto, using(crate::proofs::CastCode::shown))]
-fn cast_pair(
+fn push_pair(
     alloc: Global,
     parts: &[Option<ScalarValue>],
     from: &MapDType,
     to: &MapDType,
-) -> Result<ScalarValue, VortexError>
-    ensures { Makes value_tree (entry_to (raw_tuple (value_trees parts.now))
+    made: &mut Vec<Option<ScalarValue>>,
+) -> Result<(), Refusal>
+    ensures { Appends made.old.items made.new.items (entry_to (raw_tuple (value_trees parts.now))
         (map_of from.now) (map_of to.now)) result }
 {
     if parts.len() != 2 {
-        return Err(VortexError::CannotCast);
+        return Err(Refusal::Impossible);
     }
     let (key, value) = (&parts[0], &parts[1]);
     let mut pair = Vec::with_capacity(alloc, 2)?;
-    pair.push(cast_value(alloc, key.as_ref(), from.key_dtype(), to.key_dtype())?)?;
-    pair.push(cast_value(alloc, value.as_ref(), from.value_dtype(), to.value_dtype())?)?;
-    Ok(ScalarValue::Tuple(pair))
+    push_cast(
+        alloc,
+        key.as_ref(),
+        from.key_dtype(),
+        to.key_dtype(),
+        &mut pair,
+    )?;
+    push_cast(
+        alloc,
+        value.as_ref(),
+        from.value_dtype(),
+        to.value_dtype(),
+        &mut pair,
+    )?;
+    push(Some(ScalarValue::Tuple(pair)), made)
 }
 
 /// Each field, cast to the type at its place, where there are equally many.
@@ -269,19 +405,19 @@ fn cast_fields(
     fields: &[Option<ScalarValue>],
     sources: &[DType],
     targets: &[DType],
-) -> Result<Vec<Option<ScalarValue>>, VortexError>
-    ensures { Makes (λ made. value_trees made.items)
-        (fields_to (value_trees fields.now) (dtype_trees sources.now) (dtype_trees targets.now)) result }
+) -> Result<Vec<Option<ScalarValue>>, Refusal>
+    ensures { MakesParts (fields_to (value_trees fields.now)
+        (dtype_trees sources.now) (dtype_trees targets.now)) result }
 {
     if fields.len() != sources.len() {
-        return Err(VortexError::CannotCast);
+        return Err(Refusal::Impossible);
     }
     if sources.len() != targets.len() {
-        return Err(VortexError::CannotCast);
+        return Err(Refusal::Impossible);
     }
     let mut made = Vec::with_capacity(alloc, fields.len())?;
     for (field, (source, target)) in fields.iter().zip(sources.iter().zip(targets)) {
-        made.push(cast_value(alloc, field.as_ref(), source, target)?)?;
+        push_cast(alloc, field.as_ref(), source, target, &mut made)?;
     }
     Ok(made)
 }

@@ -24,37 +24,55 @@ invariant-cast_fields-loop-field l =
     × (length fields ≡ length sources) × (length sources ≡ length targets)
 
 abbrev pub decreases-cast_value : goal.decreases-cast_value
-decreases-cast_value l = 8 * lent_size l.value + 3
+decreases-cast_value l = 16 * lent_size l.value + 3
 
 abbrev pub decreases-cast_present : goal.decreases-cast_present
-decreases-cast_present l = 8 * goal.size-cast_present l + 2
+decreases-cast_present l = 16 * goal.size-cast_present l + 2
 
 abbrev pub decreases-cast_bare : goal.decreases-cast_bare
-decreases-cast_bare l = 8 * goal.size-cast_bare l + 1
+decreases-cast_bare l = 16 * goal.size-cast_bare l + 1
+
+abbrev pub decreases-push_cast : goal.decreases-push_cast
+decreases-push_cast l = 16 * lent_size l.value + 6
+
+abbrev pub decreases-push_stored : goal.decreases-push_stored
+decreases-push_stored l = 16 * lent_size l.value + 5
+
+abbrev pub decreases-push_whole : goal.decreases-push_whole
+decreases-push_whole l = 16 * lent_size l.value + 4
+
+abbrev pub decreases-push_bare : goal.decreases-push_bare
+decreases-push_bare l = 16 * goal.size-push_bare l + 1
+
+abbrev pub decreases-push_tuple : goal.decreases-push_tuple
+decreases-push_tuple l = 16 * goal.size-push_tuple l + 10
+
+abbrev pub decreases-push_union : goal.decreases-push_union
+decreases-push_union l = 16 * goal.size-push_union l + 2
 
 abbrev pub decreases-cast_union : goal.decreases-cast_union
-decreases-cast_union l = 8 * goal.size-cast_union l + 1
+decreases-cast_union l = 16 * goal.size-cast_union l + 1
 
 abbrev pub decreases-cast_parts : goal.decreases-cast_parts
-decreases-cast_parts l = 8 * goal.size-cast_parts l + 6
+decreases-cast_parts l = 16 * goal.size-cast_parts l + 9
 
 abbrev pub decreases-cast_sized : goal.decreases-cast_sized
-decreases-cast_sized l = 8 * goal.size-cast_sized l + 5
+decreases-cast_sized l = 16 * goal.size-cast_sized l + 8
 
 abbrev pub decreases-cast_elements : goal.decreases-cast_elements
-decreases-cast_elements l = 8 * goal.size-cast_elements l + 4
+decreases-cast_elements l = 16 * goal.size-cast_elements l + 7
 
 abbrev pub decreases-cast_map : goal.decreases-cast_map
-decreases-cast_map l = 8 * goal.size-cast_map l + 5
+decreases-cast_map l = 16 * goal.size-cast_map l + 8
 
 abbrev pub decreases-cast_entries : goal.decreases-cast_entries
-decreases-cast_entries l = 8 * goal.size-cast_entries l + 4
+decreases-cast_entries l = 16 * goal.size-cast_entries l + 7
 
-abbrev pub decreases-cast_entry : goal.decreases-cast_entry
-decreases-cast_entry l = 8 * lent_size l.entry + 1
+abbrev pub decreases-push_entry : goal.decreases-push_entry
+decreases-push_entry l = 16 * lent_size l.entry + 1
 
-abbrev pub decreases-cast_pair : goal.decreases-cast_pair
-decreases-cast_pair l = 8 * goal.size-cast_pair l + 4
+abbrev pub decreases-push_pair : goal.decreases-push_pair
+decreases-push_pair l = 16 * goal.size-push_pair l + 7
 
 abbrev pub decreases-cast_fields : goal.decreases-cast_fields
-decreases-cast_fields l = 8 * goal.size-cast_fields l + 4
+decreases-cast_fields l = 16 * goal.size-cast_fields l + 7

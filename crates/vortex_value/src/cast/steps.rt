@@ -1,0 +1,168 @@
+//! The steps of a cast that go no further down than the value.
+
+ghost use Rattle.std.specs.Prelude.{◌≡◌, ◌++◌, [], ◌∷◌, IfErr, MatchResult, option_map};
+ghost use Rattle.vortex_dtype.specs.TypeOf.{type_of};
+ghost use Rattle.vortex_pvalue.specs.Whole.{kind_of, whole_of};
+ghost use Rattle.vortex_value.specs.Steps.CastSteps.{Appends, Makes, RefusesSome, SparesMemory, leaf_to, left_to, number_to};
+ghost use Rattle.vortex_value.specs.Values.RawKinds.{TakesNoMemory};
+ghost use Rattle.vortex_value.specs.Values.RawOf.{raw_of, union_tree, value_tree};
+ghost use Rattle.vortex_value.specs.Values.RawTree.{raw_integer, raw_union};
+ghost use Rattle.vortex_value.specs.declared.cast.refusals.Refusal.TheVariants.{Impossible, NoMemory};
+
+use super::refusals::Refusal;
+use super::rules::{accepts, may_leave_extension, stays};
+use crate::copies;
+use crate::unions::UnionValue;
+use crate::values::ScalarValue;
+use std::alloc::Global;
+use vortex_dtype::DType;
+use vortex_pvalue::PValue;
+
+/// A copy of the value. Truth values and integers take no memory.
+fn copied(alloc: Global, value: &ScalarValue) -> Result<ScalarValue, Refusal>
+    ensures { MatchResult result
+        (λ copy. value_tree copy ≡ value_tree value.now)
+        (λ e. (e ≡ NoMemory) × ¬ (TakesNoMemory (value_tree value.now))) }
+{
+    match copies::copy_value(alloc, value) {
+        Ok(copy) => Ok(copy),
+        Err(_) => Err(Refusal::NoMemory),
+    }
+}
+
+/// The same value, where it may leave the extension for the target, and the target accepts it.
+#[inline(never)]
+#[tactic(auto, using(crate::proofs::CastCode::shown))]
+pub(super) fn leave_extension(
+    alloc: Global,
+    value: &ScalarValue,
+    source: &DType,
+    stored: &DType,
+    target: &DType,
+) -> Result<ScalarValue, Refusal>
+    ensures made { Makes value_tree (left_to (value_tree value.now)
+        (type_of source.now) (type_of stored.now) (type_of target.now)) result }
+    ensures flat { SparesMemory (type_of target.now) result }
+    ensures whole { RefusesSome (left_to (value_tree value.now)
+        (type_of source.now) (type_of stored.now) (type_of target.now)) result }
+{
+    if may_leave_extension(source, stored, target) && accepts(target, value) {
+        copied(alloc, value)
+    } else {
+        Err(Refusal::Impossible)
+    }
+}
+
+/// The same value, one without parts, where it stays what it is.
+#[inline(never)]
+#[tactic(auto, using(crate::proofs::CastCode::shown))]
+pub(super) fn cast_leaf(
+    alloc: Global,
+    value: &ScalarValue,
+    source: &DType,
+    target: &DType,
+) -> Result<ScalarValue, Refusal>
+    ensures made { Makes value_tree (leaf_to (value_tree value.now)
+        (type_of source.now) (type_of target.now)) result }
+    ensures flat { SparesMemory (type_of target.now) result }
+    ensures whole { RefusesSome (leaf_to (value_tree value.now)
+        (type_of source.now) (type_of target.now)) result }
+{
+    if stays(value, source, target) {
+        copied(alloc, value)
+    } else {
+        Err(Refusal::Impossible)
+    }
+}
+
+/// The value of a union with this id and child.
+pub(super) fn union_of(
+    alloc: Global,
+    type_id: u8,
+    child: Option<ScalarValue>,
+) -> Result<UnionValue, Refusal>
+    ensures { MatchResult result
+        (λ made. union_tree made ≡ raw_union type_id (raw_of child))
+        (λ e. e ≡ NoMemory) }
+{
+    match UnionValue::new(alloc, type_id, child) {
+        Ok(made) => Ok(made),
+        Err(_) => Err(Refusal::NoMemory),
+    }
+}
+
+/// The number in the kind of the target, if that is a type of integers and has it.
+#[inline(always)]
+fn number_in(number: &PValue, target: &DType) -> Option<PValue>
+    ensures { option_map (λ n. raw_integer (kind_of n) (whole_of n)) result
+        ≡ number_to (whole_of number.now) (type_of target.now) }
+{
+    match target {
+        DType::Primitive(kind, _) => PValue::from_whole(number.whole(), *kind),
+        _ => None,
+    }
+}
+
+/// The same number in the kind of the target.
+pub(super) fn cast_number(number: &PValue, target: &DType) -> Result<ScalarValue, Refusal>
+    ensures made { Makes value_tree (number_to (whole_of number.now) (type_of target.now)) result }
+    ensures flat { IfErr result (λ e. e ≡ Impossible) }
+{
+    match number_in(number, target) {
+        Some(number) => Ok(ScalarValue::Primitive(number)),
+        None => Err(Refusal::Impossible),
+    }
+}
+
+/// Appends a part, or drops it where there is no memory.
+#[inline(always)]
+pub(super) fn push(
+    part: Option<ScalarValue>,
+    made: &mut Vec<Option<ScalarValue>>,
+) -> Result<(), Refusal>
+    ensures { MatchResult result
+        (λ _. made.new.items ≡ made.old.items ++ part ∷ [])
+        (λ e. e ≡ NoMemory) }
+{
+    match made.push(part) {
+        Ok(()) => Ok(()),
+        Err(_) => Err(Refusal::NoMemory),
+    }
+}
+
+/// Appends the same number in the kind of the target.
+#[inline(always)]
+pub(super) fn push_number(
+    number: &PValue,
+    target: &DType,
+    made: &mut Vec<Option<ScalarValue>>,
+) -> Result<(), Refusal>
+    ensures { Appends made.old.items made.new.items
+        (number_to (whole_of number.now) (type_of target.now)) result }
+{
+    match number_in(number, target) {
+        Some(number) => push(Some(ScalarValue::Primitive(number)), made),
+        None => Err(Refusal::Impossible),
+    }
+}
+
+/// Appends the same value, one without parts, where it stays what it is.
+#[inline(never)]
+pub(super) fn push_leaf(
+    alloc: Global,
+    value: &ScalarValue,
+    source: &DType,
+    target: &DType,
+    made: &mut Vec<Option<ScalarValue>>,
+) -> Result<(), Refusal>
+    ensures { Appends made.old.items made.new.items (leaf_to (value_tree value.now)
+        (type_of source.now) (type_of target.now)) result }
+{
+    if !stays(value, source, target) {
+        return Err(Refusal::Impossible);
+    }
+    match copies::copy_value(alloc, value) {
+        Ok(copy) => push(Some(copy), made),
+        Err(_) => Err(Refusal::NoMemory),
+    }
+}
