@@ -43,10 +43,7 @@ pub(crate) fn item_or_null<'a>(
     ensures { raw_of (option_copied result)
         ≡ part_or_null (raw_of (option_copied value.entry)) place }
 {
-    match items_of(value).get(place) {
-        Some(item) => item.as_ref(),
-        None => None,
-    }
+    items_of(value).get(place)?.as_ref()
 }
 
 /// The key and the value of an entry of a map of this type.

@@ -280,10 +280,8 @@ fn value_named<'a>(
     ensures { raw_of (option_copied result)
         ≡ value_named (fields_of fields.now) (raw_of (option_copied value.entry)) name.now }
 {
-    match fields.find(name) {
-        Some(place) => item_or_null(value, place),
-        None => None,
-    }
+    let place = fields.find(name)?;
+    item_or_null(value, place)
 }
 
 /// The same raw value, or its absence, or `OutOfMemory`.

@@ -111,10 +111,7 @@ impl<'a> UnionScalar<'a> {
         ensures id { result ≡ id_of (ref_raw (union_ref self.now)) }
         ensures present { IfNone result (ref_raw (union_ref self.now) ≡ absent) }
     {
-        match self.chosen() {
-            Some(union) => Some(union.type_id()),
-            None => None,
-        }
+        self.chosen().map(|union| union.type_id())
     }
 
     /// The place of the chosen variant among the variants, and none exactly of a null.
@@ -124,10 +121,8 @@ impl<'a> UnionScalar<'a> {
             ≡ chosen_place (ref_type (union_ref self.now)) (ref_raw (union_ref self.now)) }
         ensures present { IfNone result (ref_raw (union_ref self.now) ≡ absent) }
     {
-        match self.type_id() {
-            Some(id) => self.variants().tag_to_child_index(id),
-            None => None,
-        }
+        let id = self.type_id()?;
+        self.variants().tag_to_child_index(id)
     }
 
     /// The name of the chosen variant, and none exactly of a null. A type that has fewer names than
@@ -140,10 +135,8 @@ impl<'a> UnionScalar<'a> {
         ensures present { IsNamedUnion (ref_type (union_ref self.now))
             → IfNone result (ref_raw (union_ref self.now) ≡ absent) }
     {
-        match self.child_index() {
-            Some(index) => self.variants().names().get(index),
-            None => None,
-        }
+        let index = self.child_index()?;
+        self.variants().names().get(index)
     }
 
     /// The type of the chosen variant, and none exactly of a null.
@@ -156,10 +149,8 @@ impl<'a> UnionScalar<'a> {
             ≡ chosen_type (ref_type (union_ref self.now)) (ref_raw (union_ref self.now)) }
         ensures present { IfNone result (ref_raw (union_ref self.now) ≡ absent) }
     {
-        match self.child_index() {
-            Some(index) => self.variants().variant_by_index(index),
-            None => None,
-        }
+        let index = self.child_index()?;
+        self.variants().variant_by_index(index)
     }
 
     /// A scalar of its own of the child, of the chosen variant's type, and none exactly of a null. An
@@ -192,10 +183,9 @@ impl<'a> UnionScalar<'a> {
         ensures present { IfNone result (ref_raw (union_ref self.now) ≡ absent) }
         ensures valid { IfSome result IsValidRef }
     {
-        match (self.chosen(), self.variant_dtype()) {
-            (Some(union), Some(dtype)) => Some(ScalarRef::from_parts(dtype, union.child_value())),
-            _ => None,
-        }
+        let union = self.chosen()?;
+        let dtype = self.variant_dtype()?;
+        Some(ScalarRef::from_parts(dtype, union.child_value()))
     }
 
     /// The id and the child.

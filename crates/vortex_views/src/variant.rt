@@ -70,10 +70,7 @@ impl<'a> VariantScalar<'a> {
         ensures null { result ≡ is_inner_null (ref_raw (variant_ref self.now)) }
         ensures present { IfNone result (ref_raw (variant_ref self.now) ≡ absent) }
     {
-        match self.value() {
-            Some(inner) => Some(inner.is_null()),
-            None => None,
-        }
+        self.value().map(|inner| inner.is_null())
     }
 
     /// Whether the variant is zero: the variant-null is, and else what the scalar that it holds says,
