@@ -1,19 +1,17 @@
 //! What a command gives.
 
-ghost use Rattle.std.specs.Prelude.{◌≡◌, IfErr, IfOk, MatchOption};
+ghost use Rattle.std.specs.Prelude.{◌≡◌, IfOk, MatchOption};
 ghost use Rattle.vortex_array.specs.Laws.{BoundsAreComputed, BoundsAreUnique};
 ghost use Rattle.vortex_array.specs.Strings.{IsString};
-ghost use Rattle.vortex_dtype.specs.TypeOf.{type_of};
 ghost use Rattle.vortex_dtype.specs.TypeTree.{integer_type};
 ghost use Rattle.vortex_dtype.specs.declared.kinds.Nullability.TheVariants.{NonNullable};
 ghost use Rattle.vortex_pvalue.specs.Conversions.{IsNumber};
 ghost use Rattle.vortex_pvalue.specs.Numbers.{InRange};
 ghost use Rattle.vortex_pvalue.specs.Whole.{kind_of, whole_of};
-ghost use Rattle.vortex_value.specs.Casts.{CanCast, RefusesCast};
 ghost use Rattle.vortex_value.specs.Values.Content.{whole};
 ghost use Rattle.vortex_value.specs.Values.RawKinds.{IsBytesValue, IsIntegerValue};
 ghost use Rattle.vortex_value.specs.Values.RawTree.{raw_bytes, raw_integer};
-ghost use Rattle.vortex_value.specs.Values.Scalars.{IsTheOne, scalar_raw};
+ghost use Rattle.vortex_value.specs.Values.Scalars.{IsValid, scalar_content, scalar_raw, scalar_type};
 ghost use Rattle.rows.specs.Grammar.{bound};
 ghost use Rattle.rows.specs.Rows.{bound_text, request_text};
 ghost use Rattle.rows.specs.declared.commands.Side.TheVariants.{Lower, Upper};
@@ -22,7 +20,7 @@ use crate::commands::Side;
 use std::alloc::{AllocError, Global};
 use vortex_array::laws::{bounds_are_computed, bounds_are_unique};
 use vortex_array::{
-    ByteBuffer, DType, Nullability, PType, PValue, Scalar, VortexError, lower_bound, upper_bound,
+    ByteBuffer, DType, Nullability, PType, PValue, Scalar, lower_bound, upper_bound,
 };
 
 /// The number in another kind, where that has it.
@@ -32,24 +30,23 @@ pub fn number_in_kind(alloc: Global, number: PValue, kind: PType) -> Option<PVal
         (IsNumber kind (whole_of number)) }
 {
     let target = DType::Primitive(kind, Nullability::NonNullable);
-    match cast_scalar(alloc, number, &target) {
+    let source = scalar_of(number);
+    match source.cast(alloc, &target) {
         Ok(made) => Some(number_of(made)),
         Err(_) => None,
     }
 }
 
-/// The scalar of the number, cast.
-fn cast_scalar(alloc: Global, number: PValue, target: &DType) -> Result<Scalar, VortexError>
-    ensures one { IfOk result (IsTheOne (type_of target.now) (whole (whole_of number))) }
-    ensures refused { IfErr result (RefusesCast (type_of target.now)
-        (CanCast (integer_type (kind_of number) NonNullable)
-        (type_of target.now) (whole (whole_of number)))) }
+/// The scalar of the number.
+fn scalar_of(number: PValue) -> Scalar
+    ensures typed { scalar_type result ≡ integer_type (kind_of number) NonNullable }
+    ensures content { scalar_content result ≡ whole (whole_of number) }
+    ensures valid { IsValid result }
 {
-    let own = number.ptype();
-    let Ok(source) = Scalar::primitive_value(number, own, Nullability::NonNullable) else {
-        unreachable!()
-    };
-    source.cast(alloc, target)
+    match Scalar::primitive_value(number, number.ptype(), Nullability::NonNullable) {
+        Ok(scalar) => scalar,
+        Err(_) => unreachable!(),
+    }
 }
 
 /// The number of a scalar that has one.

@@ -5,4 +5,5 @@ use Rattle.rows.proofs.answers.number_in_kind.Goals as goal
 
 pub returns : goal.returns
 returns c =
-    refused (kind_of c.args.number) c.args.kind (whole_of c.args.number) _ c.in-Err.ensures.refused
+    refused (kind_of c.args.number) c.args.kind (whole_of c.args.number) _
+    (rw (c.scalar_of-source.ensures.typed, c.scalar_of-source.ensures.content) at c.in-Err.ensures.refuses_only)
