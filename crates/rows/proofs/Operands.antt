@@ -1,6 +1,5 @@
 -- What the words after a command ask for: the last of those that are cut may be more than one word.
-use Rattle.std.proofs.Common.{◌≡◌, ℕ, ℤ, ◌==◌, true, false, Bool, List, [], ◌∷◌, Option, None, Some, refl, sym, ap, ◌∙◌, subst, arith}
-use Rattle.std.proofs.lemmas.Bool.{false≢true}
+use Rattle.std.proofs.Common.{◌≡◌, ℕ, ℤ, true, false, Bool, List, [], ◌∷◌, Option, None, Some, refl, sym, ap, ◌∙◌, subst, arith}
 use Rattle.std.proofs.lemmas.Option.{none-some}
 use Rattle.std.proofs.lemmas.Slice.Eq.{bytes_eq-Decides}
 use Rattle.std.specs.List.{find}
@@ -10,7 +9,7 @@ use Rattle.vortex_dtype.specs.Kinds.{kind_text}
 use Rattle.vortex_dtype.specs.declared.kinds.PType.{PType}
 use Rattle.vortex_dtype.specs.declared.kinds.PType.TheVariants.{U8, U16, U32, U64, I8, I16, I32, I64}
 use Rattle.rows.specs.Lines.{words_of}
-use Rattle.rows.specs.Grammar.{Request, all_kinds, bound_operands, cast_operands, cast_request, kind_named, number_named, request_in, request_in_words}
+use Rattle.rows.specs.Grammar.{all_kinds, bound_operands, cast_operands, cast_request, kind_named, number_named, request_in, request_in_words}
 use Rattle.rows.specs.declared.commands.Side.{Side}
 use Rattle.rows.specs.declared.commands.Side.TheVariants.{Lower, Upper}
 use Rattle.rows.proofs.Beginnings.{lone_word, some_word}
