@@ -25,7 +25,7 @@ use vortex_dtype::{Breach, DType, MapDType, Path, Step, UnionVariants, VortexErr
 enum Fault {
     /// There is no memory for the steps of the path.
     NoMemory,
-    /// There is a breach, and the check keeps no path.
+    /// The check keeps no path, or there is no breach yet.
     NoPath,
     /// The first breach with its steps, the innermost first.
     First { steps: Vec<Step>, breach: Breach },
