@@ -1,11 +1,11 @@
 -- Zones, one after another, until no line is left.
-use Rattle.std.proofs.Common.{◌≡◌, ℕ, ◌+◌, ◌-◌, ◌<◌, ◌≤◌, ◌^◌, min, suc, List, [], ◌∷◌, ◌++◌, length, take, drop, map, get_or, slice_index_or, refl, sym, ap, ◌∙◌, subst, arith, ⊎_elim, append_assoc, append-nil, length-append}
+use Rattle.std.proofs.Common.{◌≡◌, ℕ, ◌+◌, ◌-◌, ◌<◌, ◌≤◌, ◌^◌, min, List, [], ◌∷◌, ◌++◌, length, slice_index_or, refl, sym, ap, ◌∙◌, subst, arith, ⊎_elim, append_assoc, append-nil, length-append}
 use Rattle.std.proofs.lemmas.List.{get_or-append-add, get_or-map, length-map, map-append, get_or_append_left, get_or_at, take-append-le, take_at}
 use Rattle.std.proofs.lemmas.List.Concat.{flat_map-append}
 use Rattle.std.proofs.lemmas.List.Elements.{All-map, All-nil, All-push}
 use Rattle.std.proofs.str.Laws.{order}
 use Rattle.std.specs.Borrow.{Bor}
-use Rattle.std.specs.List.{All, flat_map}
+use Rattle.std.specs.List.{All}
 use Rattle.line_zones.specs.LineValues.{HasValue, lines_at}
 use Rattle.line_zones.specs.Zones.{AreBoundsOfLines, AreOfSize, HoldTheirLines, HoldsItsLines, lines_in, zone_lines}
 use Rattle.line_zones.specs.declared.values.LineKind.{LineKind}

@@ -1,5 +1,5 @@
 -- Bounds of the least and the greatest line rule none of the lines out.
-use Rattle.std.proofs.Common.{◌≡◌, ℕ, ◌<◌, Bool, true, false, List, length, slice_index_or, Option, Some, None, Ordering, Less, Greater, refl, sym, ap, ◌∙◌, subst, rules, IsTrue}
+use Rattle.std.proofs.Common.{◌≡◌, ℕ, Bool, true, false, List, slice_index_or, Option, Some, None, Ordering, Less, refl, sym, ap, ◌∙◌, rules, IsTrue}
 use Rattle.std.proofs.lemmas.Cmp.{nat_list_cmp_total}
 use Rattle.std.proofs.lemmas.Slice.Eq.{bytes_eq-Decides}
 use Rattle.std.specs.Cmp.Lexicographic.{slice_cmp}
@@ -19,7 +19,6 @@ use Rattle.vortex_value.specs.declared.values.ScalarValue.{the_lemmas}
 use Rattle.vortex_value.specs.declared.values.ScalarValue.TheVariants.{Utf8 as TextValue, Binary as BytesValue}
 use Rattle.vortex_array.specs.Strings.{NotAbove}
 use Rattle.vortex_zone.specs.Zone.{Bounds, IsWithin, may_hold}
-use Rattle.line_zones.specs.Extremes.{IsGreatestLine, IsLeastLine}
 use Rattle.line_zones.specs.LineValues.{IsValueOf, line_raw, line_type, line_value}
 use Rattle.line_zones.specs.Zones.{AreBoundsOfLines}
 use Rattle.line_zones.specs.declared.values.LineKind.{LineKind}

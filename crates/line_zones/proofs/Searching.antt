@@ -1,12 +1,11 @@
 -- Zones, searched one after another.
-use Rattle.std.proofs.Common.{◌≡◌, ℕ, ◌+◌, ◌<◌, ◌≤◌, ◌^◌, true, false, count_by, List, [], ◌∷◌, ◌++◌, length, take, drop, get_or, refl, sym, ap, ◌∙◌, subst, arith, append_assoc, append-nil, length-take, IsTrue}
-use Rattle.std.proofs.lemmas.List.{drop_more, take_more}
+use Rattle.std.proofs.Common.{◌≡◌, ℕ, ◌+◌, ◌<◌, ◌≤◌, true, false, count_by, List, [], ◌∷◌, ◌++◌, length, take, get_or, refl, sym, ap, ◌∙◌, subst, arith, append-nil, length-take}
+use Rattle.std.proofs.lemmas.List.{take_more}
 use Rattle.std.proofs.lemmas.List.Concat.{flat_map-append}
 use Rattle.std.proofs.lemmas.List.Sums.{count_by-le-length, count_by_more_no, count_by_more_yes}
-use Rattle.std.specs.Borrow.{Bor}
 use Rattle.vortex_value.specs.declared.scalars.Scalar.{Scalar}
 use Rattle.vortex_zone.specs.Zone.{may_hold}
-use Rattle.line_zones.specs.LineValues.{IsValueOf, line_value, lines_at}
+use Rattle.line_zones.specs.LineValues.{IsValueOf, line_value}
 use Rattle.line_zones.specs.Numbers.{numbers_from}
 use Rattle.line_zones.specs.Zones.{HoldTheirLines, HoldsItsLines, lines_in, zone_lines}
 use Rattle.line_zones.specs.declared.values.LineKind.{LineKind}

@@ -1,5 +1,5 @@
 -- Lines that are texts, up to the first that is none.
-use Rattle.std.proofs.Common.{◌≡◌, ℕ, ◌+◌, ◌<◌, ◌≤◌, List, [], length, take, get_or, slice_index_or, refl, sym, ap, ◌∙◌, subst, arith, length-take, IsUtf8}
+use Rattle.std.proofs.Common.{◌≡◌, ℕ, ◌+◌, ◌<◌, ◌≤◌, List, [], length, take, get_or, sym, subst, arith, length-take, IsUtf8}
 use Rattle.std.proofs.lemmas.List.{get_or-map, get_or-take, length-map, take_all}
 use Rattle.std.proofs.lemmas.List.Elements.{All-more}
 use Rattle.std.specs.Borrow.{Bor}

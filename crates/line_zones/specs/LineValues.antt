@@ -1,5 +1,5 @@
 -- The values of lines: texts, or strings of bytes.
-use Rattle.std.specs.Prelude.{◌≡◌, ◌<◌, ℕ, List, [], length, map, slice_index_or, IsUtf8, Some}
+use Rattle.std.specs.Prelude.{◌<◌, ℕ, List, [], length, map, slice_index_or, IsUtf8, Some}
 use Rattle.std.specs.Borrow.{Bor}
 use Rattle.vortex_dtype.specs.TypeTree.{TypeTree, binary_type, utf8_type}
 use Rattle.vortex_dtype.specs.declared.kinds.Nullability.TheVariants.{NonNullable}

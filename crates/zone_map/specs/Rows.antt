@@ -1,9 +1,11 @@
 -- The rows that are written.
 use Rattle.std.specs.Prelude.{ℕ, ◌+◌, List, [], ◌∷◌, ◌++◌, Option, None, Some, codes}
 use Rattle.std.specs.List.{flat_map}
-use Rattle.vortex_value.specs.Texts.{decimal, text_of}
+use Rattle.std.specs.Fmt.{decimal}
+use Rattle.vortex_value.specs.Texts.{text_of}
 use Rattle.vortex_value.specs.Values.Scalars.{scalar_raw, scalar_type}
 use Rattle.vortex_value.specs.declared.scalars.Scalar.{Scalar}
+use Rattle.line_zones.specs.Numbers.{numbers_from}
 use Rattle.line_zones.specs.declared.zones.Zone.{Zone}
 
 -- the row of a line that equals the word: NUMBER:LINE
@@ -13,6 +15,10 @@ found_row word number = decimal number ++ (codes ":" ++ (word ++ codes "\n"))
 -- of all such lines
 abbrev pub found_rows : List ℕ → List ℕ → List ℕ
 found_rows word numbers = flat_map (found_row word) numbers
+
+-- of all lines of a text that equal the word
+abbrev pub rows_of_lines : List ℕ → List (List ℕ) → List ℕ
+rows_of_lines word lines = found_rows word (numbers_from 1 word lines)
 
 -- the text of a bound, if there is one
 abbrev pub bound_text : Option Scalar → List ℕ

@@ -1,6 +1,8 @@
 //! Looks for a word among the lines of standard input, and searches only zones that may contain it.
 #![tactic(auto)]
 
+ghost use Rattle.std.specs.Prelude.{◌<◌};
+
 mod faults;
 mod options;
 mod print;
@@ -10,10 +12,8 @@ mod splits;
 pub use faults::Fault;
 pub use options::{Asked, Options, options_in};
 pub use program::{Tally, Zoning, find_word, show_zones};
-
-use std::env;
-use std::io;
 use std::process::ExitCode;
+use std::{env, io};
 
 /// The status where no line was found.
 const NONE_FOUND: u8 = 1;
@@ -49,7 +49,9 @@ fn words_given(rt: &HostRuntime) -> io::Result<Vec<String>> {
 }
 
 /// Does what is asked; on standard error stands how many zones were searched, or why not.
-fn answer(rt: &HostRuntime, options: &Options<'_>) -> ExitCode {
+fn answer(rt: &HostRuntime, options: &Options<'_>) -> ExitCode
+    requires { 0 < options.now.zoning.size }
+{
     let done = match options.asked {
         Asked::Find(word) => find_lines(rt, options.zoning, word),
         Asked::Show => show(rt, options.zoning),
@@ -64,14 +66,10 @@ fn answer(rt: &HostRuntime, options: &Options<'_>) -> ExitCode {
 }
 
 /// Writes the lines that equal the word, and tells how many zones were searched.
-fn find_lines(rt: &HostRuntime, zoning: Zoning, word: &str) -> Result<ExitCode, Fault> {
-    let tally = find_word(
-        rt.alloc(),
-        zoning,
-        word,
-        &mut rt.stdin(),
-        &mut rt.stdout(),
-    )?;
+fn find_lines(rt: &HostRuntime, zoning: Zoning, word: &str) -> Result<ExitCode, Fault>
+    requires { 0 < zoning.size }
+{
+    let tally = find_word(rt.alloc(), zoning, word, &mut rt.stdin(), &mut rt.stdout())?;
     let _ = eprintln!(rt; "zones {}, searched {}", tally.zones, tally.searched);
     Ok(if tally.found == 0 {
         ExitCode::from(NONE_FOUND)
@@ -81,7 +79,9 @@ fn find_lines(rt: &HostRuntime, zoning: Zoning, word: &str) -> Result<ExitCode, 
 }
 
 /// Writes the zones.
-fn show(rt: &HostRuntime, zoning: Zoning) -> Result<ExitCode, Fault> {
+fn show(rt: &HostRuntime, zoning: Zoning) -> Result<ExitCode, Fault>
+    requires { 0 < zoning.size }
+{
     show_zones(rt.alloc(), zoning, &mut rt.stdin(), &mut rt.stdout())?;
     Ok(ExitCode::SUCCESS)
 }

@@ -1,7 +1,5 @@
 -- The lines that are no longer left are those of the zones.
-use Rattle.std.proofs.Common.{◌≡◌, length}
 use Rattle.std.specs.Slice.Iter.{chunks_rest, chunks_size}
-use Rattle.line_zones.specs.Zones.{lines_in}
 use Rattle.line_zones.proofs.Growing.{AreCutTo}
 use Rattle.line_zones.proofs.zones.zones_of.Given as goal
 
