@@ -1,6 +1,6 @@
 //! How lines that were found, and zones, are written.
 
-ghost use Rattle.std.specs.Prelude.{◌≡◌, ◌≤◌, ◌++◌, ◌<◌, ◌^◌, IfOk, OnOk, string_bytes};
+ghost use Rattle.std.specs.Prelude.{◌≡◌, ◌++◌, IfOk, OnOk, string_bytes};
 ghost use Rattle.zone_map.specs.Rows.{found_rows, found_row, zone_row, zone_rows};
 
 use line_zones::Zone;
