@@ -11,9 +11,6 @@ use Rattle.vortex_array.specs.Strings.{NotAbove}
 use Rattle.line_zones.specs.Extremes.{IsGreatestLine, IsLeastLine}
 use Rattle.line_zones.specs.LineValues.{lines_at}
 
-abbrev pub line_cmp : Bor (List ℕ) → Bor (List ℕ) → Ordering
-line_cmp x y = slice_cmp nat_cmp x.now y.now
-
 is_not_gt : (o : Ordering) → o ≢ Greater → is_gt o ≡ false
 is_not_gt Less h = refl
 is_not_gt Equal h = refl
@@ -44,24 +41,24 @@ is_not_less : (o : Ordering) → is_lt o ≡ false → o ≢ Less
 is_not_less o h = λ e. let bad : true ≡ false = sym (ap is_lt e) ∙ h in absurd (cc bad)
 
 -- of two lines, one that is above neither
-record IsLesser (a b new : Bor (List ℕ)) : Type 0 where
+record IsLesser (a b new : List ℕ) : Type 0 where
   pub one : (new ≡ a) ⊎ (new ≡ b)
-  pub first : NotAbove new.now a.now
-  pub second : NotAbove new.now b.now
+  pub first : NotAbove new a
+  pub second : NotAbove new b
 
-lesser_by : (a b : Bor (List ℕ)) (t : Bool) → is_lt (line_cmp b a) ≡ t → IsLesser a b (cond t b a)
-lesser_by a b true e = record { one = inr refl; first = below_not_above b.now a.now (is_less _ e); second = itself b.now }
-lesser_by a b false e = record { one = inl refl; first = itself a.now; second = not_below_above b.now a.now (is_not_less _ e) }
+lesser_by : (a b : List ℕ) (t : Bool) → is_lt (slice_cmp nat_cmp b a) ≡ t → IsLesser a b (cond t b a)
+lesser_by a b true e = record { one = inr refl; first = below_not_above b a (is_less _ e); second = itself b }
+lesser_by a b false e = record { one = inl refl; first = itself a; second = not_below_above b a (is_not_less _ e) }
 
 -- one that is below neither
-record IsGreater (a b new : Bor (List ℕ)) : Type 0 where
+record IsGreater (a b new : List ℕ) : Type 0 where
   pub one : (new ≡ a) ⊎ (new ≡ b)
-  pub first : NotAbove a.now new.now
-  pub second : NotAbove b.now new.now
+  pub first : NotAbove a new
+  pub second : NotAbove b new
 
-greater_by : (a b : Bor (List ℕ)) (t : Bool) → is_lt (line_cmp b a) ≡ t → IsGreater a b (cond t a b)
-greater_by a b true e = record { one = inl refl; first = itself a.now; second = below_not_above b.now a.now (is_less _ e) }
-greater_by a b false e = record { one = inr refl; first = not_below_above b.now a.now (is_not_less _ e); second = itself b.now }
+greater_by : (a b : List ℕ) (t : Bool) → is_lt (slice_cmp nat_cmp b a) ≡ t → IsGreater a b (cond t a b)
+greater_by a b true e = record { one = inl refl; first = itself a; second = below_not_above b a (is_less _ e) }
+greater_by a b false e = record { one = inr refl; first = not_below_above b a (is_not_less _ e); second = itself b }
 
 -- one of the lines, above none of those before place i
 pub record IsLeastTo (lines : List (Bor (List ℕ))) (i : ℕ) (least : List ℕ) : Type 0 where
@@ -85,32 +82,34 @@ least_yet lines d some = record { among = line_among lines 0 d some; none_below 
 pub greatest_yet : (lines : List (Bor (List ℕ))) (d : Bor (List ℕ)) → 0 < length lines → IsGreatestTo lines 0 (get_or lines 0 d).now
 greatest_yet lines d some = record { among = line_among lines 0 d some; none_above = All-nil (λ l. NotAbove l (get_or lines 0 d).now) }
 
-pub least_next : (lines : List (Bor (List ℕ))) (i : ℕ) (d least new : Bor (List ℕ)) → IsLeastTo lines i least.now → i < length lines
-    → new ≡ ord_min line_cmp least (get_or lines i d) → IsLeastTo lines (i + 1) new.now
+pub least_next : (lines : List (Bor (List ℕ))) (i : ℕ) (d : Bor (List ℕ)) (least new : List ℕ) → IsLeastTo lines i least → i < length lines
+    → new ≡ ord_min (slice_cmp nat_cmp) least (get_or lines i d).now → IsLeastTo lines (i + 1) new
 least_next lines i d least new so_far inside made =
-    let lesser : IsLesser least (get_or lines i d) new = subst (IsLesser least (get_or lines i d)) (sym made) (lesser_by least (get_or lines i d) _ refl) in
+    let line : List ℕ = (get_or lines i d).now in
+    let lesser : IsLesser least line new = subst (IsLesser least line) (sym made) (lesser_by least line _ refl) in
     record {
       among = ⊎_elim
-          (λ e. subst (λ (l : Bor (List ℕ)). Contains (lines_at lines) l.now) (sym e) so_far.among)
-          (λ e. subst (λ (l : Bor (List ℕ)). Contains (lines_at lines) l.now) (sym e) (line_among lines i d inside))
+          (λ e. subst (Contains (lines_at lines)) (sym e) so_far.among)
+          (λ e. subst (Contains (lines_at lines)) (sym e) (line_among lines i d inside))
           lesser.one;
-      none_below = All-more (λ l. NotAbove new.now l) (lines_at lines) i new.now (omega (arith, length-map lines (λ (l : Bor (List ℕ)). l.now)))
-          (λ k e below. goes_on new.now least.now _ lesser.first (so_far.none_below k e below))
-          (subst (NotAbove new.now) (sym (line_is lines i d new.now inside)) lesser.second);
+      none_below = All-more (λ l. NotAbove new l) (lines_at lines) i new (omega (arith, length-map lines (λ (l : Bor (List ℕ)). l.now)))
+          (λ k e below. goes_on new least _ lesser.first (so_far.none_below k e below))
+          (subst (NotAbove new) (sym (line_is lines i d new inside)) lesser.second);
     }
 
-pub greatest_next : (lines : List (Bor (List ℕ))) (i : ℕ) (d greatest new : Bor (List ℕ)) → IsGreatestTo lines i greatest.now → i < length lines
-    → new ≡ ord_max line_cmp greatest (get_or lines i d) → IsGreatestTo lines (i + 1) new.now
+pub greatest_next : (lines : List (Bor (List ℕ))) (i : ℕ) (d : Bor (List ℕ)) (greatest new : List ℕ) → IsGreatestTo lines i greatest → i < length lines
+    → new ≡ ord_max (slice_cmp nat_cmp) greatest (get_or lines i d).now → IsGreatestTo lines (i + 1) new
 greatest_next lines i d greatest new so_far inside made =
-    let greater : IsGreater greatest (get_or lines i d) new = subst (IsGreater greatest (get_or lines i d)) (sym made) (greater_by greatest (get_or lines i d) _ refl) in
+    let line : List ℕ = (get_or lines i d).now in
+    let greater : IsGreater greatest line new = subst (IsGreater greatest line) (sym made) (greater_by greatest line _ refl) in
     record {
       among = ⊎_elim
-          (λ e. subst (λ (l : Bor (List ℕ)). Contains (lines_at lines) l.now) (sym e) so_far.among)
-          (λ e. subst (λ (l : Bor (List ℕ)). Contains (lines_at lines) l.now) (sym e) (line_among lines i d inside))
+          (λ e. subst (Contains (lines_at lines)) (sym e) so_far.among)
+          (λ e. subst (Contains (lines_at lines)) (sym e) (line_among lines i d inside))
           greater.one;
-      none_above = All-more (λ l. NotAbove l new.now) (lines_at lines) i new.now (omega (arith, length-map lines (λ (l : Bor (List ℕ)). l.now)))
-          (λ k e below. goes_on _ greatest.now new.now (so_far.none_above k e below) greater.first)
-          (subst (λ (l : List ℕ). NotAbove l new.now) (sym (line_is lines i d new.now inside)) greater.second);
+      none_above = All-more (λ l. NotAbove l new) (lines_at lines) i new (omega (arith, length-map lines (λ (l : Bor (List ℕ)). l.now)))
+          (λ k e below. goes_on _ greatest new (so_far.none_above k e below) greater.first)
+          (subst (λ (l : List ℕ). NotAbove l new) (sym (line_is lines i d new inside)) greater.second);
     }
 
 to_all : (lines : List (Bor (List ℕ))) (i : ℕ) → length lines ≤ i → take i (lines_at lines) ≡ lines_at lines

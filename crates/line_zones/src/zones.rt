@@ -1,7 +1,9 @@
 //! Zones of lines.
 
 ghost use Rattle.std.specs.Prelude.{◌≡◌, ◌<◌, length, IfErr, IfOk};
+ghost use Rattle.std.specs.Cmp.Lexicographic.{slice_cmp};
 ghost use Rattle.std.specs.List.{All};
+ghost use Rattle.std.specs.Ordering.{nat_cmp, ord_max, ord_min};
 ghost use Rattle.line_zones.specs.LineValues.{HasValue, lines_at};
 ghost use Rattle.line_zones.specs.Extremes.{IsGreatestLine, IsLeastLine};
 ghost use Rattle.line_zones.specs.Zones.{AreBoundsOfLines, AreOfSize, HoldTheirLines, lines_in, zone_lines};
@@ -114,7 +116,7 @@ fn least_of<'a>(lines: &[&'a [u8]]) -> &'a [u8]
 {
     let mut least = lines[0];
     for line in lines {
-        least = least.min(*line);
+        least = lesser(least, *line);
     }
     least
 }
@@ -126,7 +128,21 @@ fn greatest_of<'a>(lines: &[&'a [u8]]) -> &'a [u8]
 {
     let mut greatest = lines[0];
     for line in lines {
-        greatest = greatest.max(*line);
+        greatest = greater(greatest, *line);
     }
     greatest
+}
+
+/// The lesser of two lines. `cmp` passes what they share in long strides, where `<` goes byte by byte.
+fn lesser<'a>(one: &'a [u8], other: &'a [u8]) -> &'a [u8]
+    ensures { result.now ≡ ord_min (slice_cmp nat_cmp) one.now other.now }
+{
+    if other.cmp(&one).is_lt() { other } else { one }
+}
+
+/// The greater of two lines.
+fn greater<'a>(one: &'a [u8], other: &'a [u8]) -> &'a [u8]
+    ensures { result.now ≡ ord_max (slice_cmp nat_cmp) one.now other.now }
+{
+    if other.cmp(&one).is_lt() { one } else { other }
 }

@@ -6,7 +6,7 @@ loop-line-init c = greatest_yet c.args.lines.now _ c.requires
 
 pub loop-line-preserved : goal.loop-line-preserved
 loop-line-preserved c =
-    greatest_next c.args.lines.now c.loop-line.line-index _ c.loop-line.greatest c.max-greatest.result c.loop-line.invariant c.loop-line-test.true c.max-greatest.ensures
+    greatest_next c.args.lines.now c.loop-line.line-index _ c.loop-line.greatest.now c.greater-greatest.result.now c.loop-line.invariant c.loop-line-test.true c.greater-greatest.ensures
 
 pub returns : goal.returns
 returns c = greatest_of_all c.args.lines.now c.loop-line.line-index _ c.loop-line.invariant c.loop-line-test.false
