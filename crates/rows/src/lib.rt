@@ -16,3 +16,4 @@ pub use faults::{RowsError, fault_line};
 pub use input::read_all;
 pub use output::write_out;
 pub use program::run;
+pub use words::first_line;

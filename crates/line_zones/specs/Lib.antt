@@ -1,0 +1,5 @@
+pub mod Extremes
+pub mod LineValues
+pub mod Numbers
+pub mod Refusals
+pub mod Zones

@@ -1,0 +1,19 @@
+-- Which fault it is that there are no zones, and of which line.
+use Rattle.std.specs.Prelude.{◌≡◌, ◌+◌, ℕ, List}
+use Rattle.line_zones.specs.LineValues.{IsFirstOther}
+use Rattle.line_zones.specs.declared.values.LineKind.{LineKind}
+use Rattle.line_zones.specs.declared.zones.ZonesError.{ZonesError}
+use Rattle.line_zones.specs.declared.zones.ZonesError.TheVariants.{NotUtf8, Memory}
+use Rattle.rows.specs.declared.faults.RowsError.TheVariants.{Memory as NoMemory}
+use Rattle.zone_map.specs.declared.faults.Fault.{Fault}
+use Rattle.zone_map.specs.declared.faults.Fault.TheVariants.{NotUtf8 as LineFault, Stream}
+
+-- the fault of a program that finds no zones
+abbrev pub fault_of : ZonesError → Fault
+fault_of (NotUtf8 number) = LineFault number
+fault_of Memory = Stream NoMemory
+
+-- a fault of a line has the number of the first that has no value, counted from 1
+abbrev pub IsOfLine : LineKind → List (List ℕ) → Fault → Type 0
+IsOfLine kind lines (LineFault number) = (place : ℕ) × (number ≡ place + 1) × IsFirstOther kind lines place
+IsOfLine kind lines (Stream error) = Unit {0}

@@ -1,0 +1,36 @@
+-- The rows that are written.
+use Rattle.std.specs.Prelude.{ℕ, ◌+◌, List, [], ◌∷◌, ◌++◌, Option, None, Some, codes}
+use Rattle.std.specs.List.{flat_map}
+use Rattle.std.specs.Fmt.{decimal}
+use Rattle.vortex_value.specs.Texts.{text_of}
+use Rattle.vortex_value.specs.Values.Scalars.{scalar_raw, scalar_type}
+use Rattle.vortex_value.specs.declared.scalars.Scalar.{Scalar}
+use Rattle.line_zones.specs.Numbers.{numbers_from}
+use Rattle.line_zones.specs.declared.zones.Zone.{Zone}
+
+-- the row of a line that equals the word: NUMBER:LINE
+abbrev pub found_row : List ℕ → ℕ → List ℕ
+found_row word number = decimal number ++ (codes ":" ++ (word ++ codes "\n"))
+
+-- of all such lines
+abbrev pub found_rows : List ℕ → List ℕ → List ℕ
+found_rows word numbers = flat_map (found_row word) numbers
+
+-- of all lines of a text that equal the word
+abbrev pub rows_of_lines : List ℕ → List (List ℕ) → List ℕ
+rows_of_lines word lines = found_rows word (numbers_from 1 word lines)
+
+-- the text of a bound, if there is one
+abbrev pub bound_text : Option Scalar → List ℕ
+bound_text None = codes "none"
+bound_text (Some bound) = text_of (scalar_type bound) (scalar_raw bound)
+
+-- the row of the zone with this number: NUMBER FIRST LOWER UPPER
+abbrev pub zone_row : ℕ → Zone → List ℕ
+zone_row number z =
+    decimal number ++ (codes " " ++ (decimal z.first ++ (codes " " ++ (bound_text (Some z.bounds.lower) ++ (codes " " ++ (bound_text z.bounds.upper ++ codes "\n"))))))
+
+-- of all zones, where the first has this number
+abbrev pub zone_rows : ℕ → List Zone → List ℕ
+zone_rows number [] = []
+zone_rows number (z ∷ zones) = zone_row number z ++ zone_rows (number + 1) zones

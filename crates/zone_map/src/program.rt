@@ -1,0 +1,112 @@
+//! The whole program but its words: from all lines to the rows of what is asked.
+
+ghost use Rattle.std.specs.Prelude.{◌≡◌, ◌≢◌, ◌<◌, IfErr, IfOk, IfSome, OnOk, length, string_bytes};
+ghost use Rattle.std.specs.Io.KnownBytes.{Appends, IsAtEnd};
+ghost use Rattle.rows.specs.Lines.{lines_of};
+ghost use Rattle.rows.specs.declared.faults.RowsError.TheVariants.{Write};
+ghost use Rattle.line_zones.specs.Numbers.{numbers_from};
+ghost use Rattle.zone_map.specs.Faults.{IsOfLine};
+ghost use Rattle.zone_map.specs.Rows.{rows_of_lines};
+ghost use Rattle.zone_map.specs.declared.faults.Fault.TheVariants.{Stream};
+
+use crate::faults::Fault;
+use crate::print::{rows_of_found, rows_of_zones};
+use crate::splits::split_lines;
+use line_zones::{LineKind, find, zones_of};
+use rows::{read_all, write_out};
+use std::alloc::Global;
+use std::io::{Read, Write};
+
+/// How lines are split into zones.
+#[derive(Clone, Copy, Debug)]
+pub struct Zoning {
+    /// What lines are taken for.
+    pub kind: LineKind,
+    /// How many lines a zone has.
+    pub size: usize,
+    /// How many bytes a bound has.
+    pub length: usize,
+}
+
+/// How a search went.
+#[derive(Debug, Drop)]
+pub struct Tally {
+    /// How many lines equal the word.
+    pub found: usize,
+    /// How many zones there are.
+    pub zones: usize,
+    /// How many of them were searched.
+    pub searched: usize,
+}
+
+/// Reads all there is, and writes the rows of the lines that equal the word.
+pub fn find_word<R: Read, W: Write>(
+    alloc: Global,
+    zoning: Zoning,
+    word: &str,
+    reader: &mut R,
+    writer: &mut W,
+) -> Result<Tally, Fault>
+    requires { 0 < zoning.size }
+    // What was written is the rows of the lines of all that there was.
+    ensures rows { OnOk result (IfSome (R.remaining reader.old) (λ input.
+        Appends (W.contents writer.old) (W.contents writer.new) (rows_of_lines word.now (lines_of input)))) }
+    ensures end { OnOk result (IsAtEnd (R.remaining reader.new)) }
+    ensures found { IfOk result (λ tally. IfSome (R.remaining reader.old) (λ input.
+        tally.found ≡ length (numbers_from 1 word.now (lines_of input)))) }
+    ensures refused { IfErr result (λ fault. IfSome (R.remaining reader.old)
+        (λ input. IsOfLine zoning.kind (lines_of input) fault)) }
+    // After a fault other than one of the writer, nothing was written.
+    ensures untouched { IfErr result (λ fault. fault ≢ Stream Write → writer.new ≡ writer.old) }
+{
+    let input = read_all(alloc, reader)?;
+    let (rows, tally) = found_in(alloc, zoning, word, &input)?;
+    write_out(writer, rows.as_bytes())?;
+    Ok(tally)
+}
+
+/// The rows of the lines that equal the word.
+fn found_in(
+    alloc: Global,
+    zoning: Zoning,
+    word: &str,
+    input: &[u8],
+) -> Result<(String, Tally), Fault>
+    requires { 0 < zoning.size }
+    ensures rows { IfOk result
+        (λ given. string_bytes given.0 ≡ rows_of_lines word.now (lines_of input.now)) }
+    ensures found { IfOk result
+        (λ given. given.1.found ≡ length (numbers_from 1 word.now (lines_of input.now))) }
+    ensures refused { IfErr result (IsOfLine zoning.kind (lines_of input.now)) }
+{
+    let lines = split_lines(alloc, input)?;
+    let zones = zones_of(alloc, zoning.kind, &lines, zoning.size, zoning.length)?;
+    let found = find(alloc, zoning.kind, &zones, word.as_bytes())?;
+    let rows = rows_of_found(alloc, &found.numbers, word)?;
+    let tally = Tally {
+        found: found.numbers.len(),
+        zones: zones.len(),
+        searched: found.searched,
+    };
+    Ok((rows, tally))
+}
+
+/// Reads all there is, and writes the rows of the zones.
+pub fn show_zones<R: Read, W: Write>(
+    alloc: Global,
+    zoning: Zoning,
+    reader: &mut R,
+    writer: &mut W,
+) -> Result<(), Fault>
+    requires { 0 < zoning.size }
+    ensures end { OnOk result (IsAtEnd (R.remaining reader.new)) }
+    // After a fault other than one of the writer, nothing was written.
+    ensures untouched { IfErr result (λ fault. fault ≢ Stream Write → writer.new ≡ writer.old) }
+{
+    let input = read_all(alloc, reader)?;
+    let lines = split_lines(alloc, &input)?;
+    let zones = zones_of(alloc, zoning.kind, &lines, zoning.size, zoning.length)?;
+    let rows = rows_of_zones(alloc, &zones)?;
+    write_out(writer, rows.as_bytes())?;
+    Ok(())
+}
