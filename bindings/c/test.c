@@ -6,6 +6,7 @@
 #include <stdio.h>
 #include <stdlib.h>
 #include <string.h>
+#include <unistd.h>
 
 static int passed = 0, failed = 0;
 
@@ -158,14 +159,21 @@ static uint32_t take_memory(int which) {
     }
 }
 
+// Writes by `write` itself, which tests/refuse_nth.c listens to.
+static void say(const char *line) {
+    if (write(2, line, strlen(line)) < 0) exit(2);
+}
+
 // 0 where the call gives its bound, 3 where it finds no memory and writes nothing, 1 where it does neither, or leaks.
 static int memory(int which) {
     static const uint8_t bound[] = "012345678901234567890124";
+    // What the allocator keeps of freed memory for later counts as in use: so a first call fills that.
+    take_memory(which);
     fresh();
     size_t before = mallinfo2().uordblks;
-    fputs("called\n", stderr);
+    say("called\n");
     uint32_t status = take_memory(which);
-    fputs("answered\n", stderr);
+    say("answered\n");
     if (mallinfo2().uordblks != before) return 1;
     if (status == VORTEX_NO_MEMORY) return count == 77 && nothing_written() ? 3 : 1;
     if (status != VORTEX_GIVEN) return 1;
