@@ -7,4 +7,6 @@ mod bounds;
 mod columns;
 mod integers;
 mod status;
+#[cfg(test)]
+mod tests;
 mod zones;
