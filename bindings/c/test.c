@@ -1,0 +1,192 @@
+// Tests of the C interface: what each status says, and that it alone is written. `test` runs them, and says how many
+// passed; `test memory N` makes the Nth call that takes memory once, between the lines `called` and `answered` on
+// standard error, for tests/bindings, which refuses its allocations.
+#include "vortex.h"
+#include <malloc.h>
+#include <stdio.h>
+#include <stdlib.h>
+#include <string.h>
+#include <unistd.h>
+
+static int passed = 0, failed = 0;
+
+static void check(int holds, int line) {
+    if (holds) {
+        passed++;
+    } else {
+        failed++;
+        printf("test.c:%d does not hold\n", line);
+    }
+}
+#define CHECK(condition) check(condition, __LINE__)
+
+#define BYTES(text) (const uint8_t *)text, sizeof text - 1
+#define ROOM 32
+
+// A room and a count as they are before each call, and what a call may not have written.
+static uint8_t room[ROOM], other[ROOM];
+static size_t count;
+static struct vortex_bound_lengths lengths;
+
+static void fresh(void) {
+    memset(room, 'q', ROOM);
+    memset(other, 'q', ROOM);
+    count = 77;
+    lengths = (struct vortex_bound_lengths){77, 78, true};
+}
+
+static int is_kept(const uint8_t *from, size_t after) {
+    for (size_t i = after; i < ROOM; i++)
+        if (from[i] != 'q') return 0;
+    return 1;
+}
+
+static int holds(const uint8_t *from, size_t length, const char *text) {
+    return length == strlen(text) && !memcmp(from, text, length) && is_kept(from, length);
+}
+
+static int lengths_kept(void) { return lengths.lower == 77 && lengths.upper == 78 && lengths.has_upper; }
+
+static void casts(void) {
+    uint64_t out = 7;
+    CHECK(vortex_cast_integer(VORTEX_I8, (uint64_t)-5, VORTEX_I64, &out) == VORTEX_GIVEN && out == (uint64_t)-5);
+    CHECK(vortex_cast_integer(VORTEX_U64, UINT64_MAX, VORTEX_U64, &out) == VORTEX_GIVEN && out == UINT64_MAX);
+    out = 7;
+    CHECK(vortex_cast_integer(VORTEX_I8, (uint64_t)-5, VORTEX_U64, &out) == VORTEX_NONE && out == 7);
+    CHECK(vortex_cast_integer(VORTEX_I8, 251, VORTEX_I64, &out) == VORTEX_NOT_A_NUMBER && out == 7);
+    CHECK(vortex_cast_integer(VORTEX_U8, 256, VORTEX_I64, &out) == VORTEX_NOT_A_NUMBER && out == 7);
+    CHECK(vortex_cast_integer(8, 0, VORTEX_I64, &out) == VORTEX_NOT_A_NUMBER && out == 7);
+    CHECK(vortex_cast_integer(VORTEX_I64, 0, 255, &out) == VORTEX_NOT_A_NUMBER && out == 7);
+}
+
+static void lower_bounds(void) {
+    CHECK(vortex_lower_bound_bytes(BYTES(""), 4) == 0);
+    CHECK(vortex_lower_bound_bytes(BYTES("apple"), 3) == 3);
+    CHECK(vortex_lower_bound_bytes(BYTES("apple"), SIZE_MAX) == 5);
+    fresh();
+    CHECK(vortex_lower_bound_text(BYTES("a\xc3\xb1"), 2, &count) == VORTEX_GIVEN && count == 1);
+    CHECK(vortex_lower_bound_text(BYTES("a\xc3\xb1"), 3, &count) == VORTEX_GIVEN && count == 3);
+    fresh();
+    CHECK(vortex_lower_bound_text(BYTES("a\xc3"), 1, &count) == VORTEX_NOT_UTF8 && count == 77);
+}
+
+static void upper_bounds(void) {
+    fresh();
+    CHECK(vortex_upper_bound_bytes(BYTES("a\xff\xffz"), 3, room, ROOM, &count) == VORTEX_GIVEN);
+    CHECK(count == 3 && !memcmp(room, "b\0\0", 3) && is_kept(room, 3));
+    fresh();
+    CHECK(vortex_upper_bound_bytes(BYTES("apple"), 5, room, 5, &count) == VORTEX_GIVEN && holds(room, count, "apple"));
+    fresh();
+    CHECK(vortex_upper_bound_bytes(BYTES("\xff\xffz"), 2, room, ROOM, &count) == VORTEX_NONE && count == 77 && is_kept(room, 0));
+    CHECK(vortex_upper_bound_bytes(BYTES("apple"), 3, room, 2, &count) == VORTEX_NO_ROOM && count == 3 && is_kept(room, 0));
+    CHECK(vortex_upper_bound_bytes(BYTES(""), 0, room, 0, &count) == VORTEX_GIVEN && count == 0 && is_kept(room, 0));
+    fresh();
+    CHECK(vortex_upper_bound_text(BYTES("a\xc3\xb1z"), 3, room, 3, &count) == VORTEX_GIVEN && holds(room, count, "a\xc3\xb2"));
+    fresh();
+    CHECK(vortex_upper_bound_text(BYTES("\x7fz"), 1, room, ROOM, &count) == VORTEX_NONE && count == 77 && is_kept(room, 0));
+    CHECK(vortex_upper_bound_text(BYTES("a\xff"), 1, room, ROOM, &count) == VORTEX_NOT_UTF8 && count == 77 && is_kept(room, 0));
+    CHECK(vortex_upper_bound_text(BYTES("apple"), 3, room, 2, &count) == VORTEX_NO_ROOM && count == 3 && is_kept(room, 0));
+}
+
+static void zones(void) {
+    CHECK(vortex_may_contain_bytes(BYTES("app"), BYTES("bao"), true, BYTES("banana")));
+    CHECK(vortex_may_contain_bytes(BYTES("app"), BYTES("bao"), true, BYTES("app")));
+    CHECK(!vortex_may_contain_bytes(BYTES("app"), BYTES("bao"), true, BYTES("ap")));
+    CHECK(!vortex_may_contain_bytes(BYTES("app"), BYTES("bao"), true, BYTES("bap")));
+    CHECK(vortex_may_contain_bytes(BYTES("app"), BYTES(""), false, BYTES("bap")));
+    bool answer = true;
+    CHECK(vortex_may_contain_text(BYTES("app"), BYTES("bao"), true, BYTES("bap"), &answer) == VORTEX_GIVEN && !answer);
+    CHECK(vortex_may_contain_text(BYTES("app"), BYTES("bao"), true, BYTES("b"), &answer) == VORTEX_GIVEN && answer);
+    CHECK(vortex_may_contain_text(BYTES("app"), BYTES("\xff"), false, BYTES("b"), &answer) == VORTEX_GIVEN && answer);
+    answer = true;
+    CHECK(vortex_may_contain_text(BYTES("app"), BYTES("\xff"), true, BYTES("a"), &answer) == VORTEX_NOT_UTF8 && answer);
+    CHECK(vortex_may_contain_text(BYTES("\xff"), BYTES("b"), true, BYTES("a"), &answer) == VORTEX_NOT_UTF8 && answer);
+    CHECK(vortex_may_contain_text(BYTES("app"), BYTES("b"), true, BYTES("\xc3"), &answer) == VORTEX_NOT_UTF8 && answer);
+}
+
+typedef uint32_t column_call(const uint8_t *, size_t, const uint64_t *, size_t, size_t, uint8_t *, size_t, uint8_t *, size_t,
+                             struct vortex_bound_lengths *);
+
+static int nothing_written(void) { return lengths_kept() && is_kept(room, 0) && is_kept(other, 0); }
+
+static void columns_of(column_call *call) {
+    static const uint64_t offsets[] = {0, 4, 9, 12}, down[] = {0, 4, 3, 12}, past[] = {0, 4, 9, 13}, huge[] = {0, UINT64_MAX};
+    const uint8_t *bytes = (const uint8_t *)"pearapplefig";
+    fresh();
+    CHECK(call(bytes, 12, offsets, 4, 2, room, 2, other, 2, &lengths) == VORTEX_GIVEN && lengths.has_upper);
+    CHECK(holds(room, lengths.lower, "ap") && holds(other, lengths.upper, "pf"));
+    fresh();
+    CHECK(call(bytes, 12, offsets + 1, 3, 22, room, ROOM, other, ROOM, &lengths) == VORTEX_GIVEN && lengths.has_upper);
+    CHECK(holds(room, lengths.lower, "apple") && holds(other, lengths.upper, "fig"));
+    fresh();
+    CHECK(call(bytes, 12, offsets, 1, 2, room, ROOM, other, ROOM, &lengths) == VORTEX_NONE && nothing_written());
+    CHECK(call(bytes, 12, offsets, 0, 2, room, ROOM, other, ROOM, &lengths) == VORTEX_NONE && nothing_written());
+    CHECK(call(bytes, 12, down, 4, 2, room, ROOM, other, ROOM, &lengths) == VORTEX_BAD_OFFSETS && nothing_written());
+    CHECK(call(bytes, 12, past, 4, 2, room, ROOM, other, ROOM, &lengths) == VORTEX_BAD_OFFSETS && nothing_written());
+    CHECK(call(bytes, 12, huge, 2, 2, room, ROOM, other, ROOM, &lengths) == VORTEX_BAD_OFFSETS && nothing_written());
+    CHECK(call(bytes, 12, offsets, 4, 2, room, 1, other, 2, &lengths) == VORTEX_NO_ROOM && is_kept(room, 0) && is_kept(other, 0));
+    CHECK(lengths.lower == 2 && lengths.upper == 2 && lengths.has_upper);
+    fresh();
+    CHECK(call(bytes, 12, offsets, 4, 3, room, 3, other, 2, &lengths) == VORTEX_NO_ROOM && is_kept(room, 0) && is_kept(other, 0));
+    CHECK(lengths.lower == 3 && lengths.upper == 3 && lengths.has_upper);
+}
+
+static void columns(void) {
+    static const uint64_t offsets[] = {0, 2, 5};
+    columns_of(vortex_column_bounds_bytes);
+    columns_of(vortex_column_bounds_text);
+    fresh();
+    CHECK(vortex_column_bounds_bytes(BYTES("ab\xff\xff\xff"), offsets, 3, 2, room, ROOM, other, ROOM, &lengths) == VORTEX_GIVEN);
+    CHECK(holds(room, lengths.lower, "ab") && !lengths.has_upper && lengths.upper == 0 && is_kept(other, 0));
+    fresh();
+    CHECK(vortex_column_bounds_text(BYTES("ab\xff\xff\xff"), offsets, 3, 2, room, ROOM, other, ROOM, &lengths) == VORTEX_NOT_UTF8);
+    CHECK(nothing_written());
+    CHECK(vortex_column_bounds_text(BYTES("ab\x7f\x7f\x7f"), offsets, 3, 2, room, ROOM, other, ROOM, &lengths) == VORTEX_GIVEN);
+    CHECK(holds(room, lengths.lower, "ab") && !lengths.has_upper && lengths.upper == 0 && is_kept(other, 0));
+}
+
+#define LONG "0123456789012345678901234567"
+
+// The calls that take memory, at more than 22 bytes.
+static uint32_t take_memory(int which) {
+    static const uint64_t offsets[] = {0, 28};
+    switch (which) {
+    case 0: return vortex_upper_bound_bytes(BYTES(LONG), 24, room, ROOM, &count);
+    case 1: return vortex_upper_bound_text(BYTES(LONG), 24, room, ROOM, &count);
+    case 2: return vortex_column_bounds_bytes(BYTES(LONG), offsets, 2, 24, room, ROOM, other, ROOM, &lengths);
+    case 3: return vortex_column_bounds_text(BYTES(LONG), offsets, 2, 24, room, ROOM, other, ROOM, &lengths);
+    default: exit(2);
+    }
+}
+
+// Writes by `write` itself, which tests/refuse_nth.c listens to.
+static void say(const char *line) {
+    if (write(2, line, strlen(line)) < 0) exit(2);
+}
+
+// 0 where the call gives its bound, 3 where it finds no memory and writes nothing, 1 where it does neither, or leaks.
+static int memory(int which) {
+    static const uint8_t bound[] = "012345678901234567890124";
+    // What the allocator keeps of freed memory for later counts as in use: so a first call fills that.
+    take_memory(which);
+    fresh();
+    size_t before = mallinfo2().uordblks;
+    say("called\n");
+    uint32_t status = take_memory(which);
+    say("answered\n");
+    if (mallinfo2().uordblks != before) return 1;
+    if (status == VORTEX_NO_MEMORY) return count == 77 && nothing_written() ? 3 : 1;
+    if (status != VORTEX_GIVEN) return 1;
+    return memcmp(which < 2 ? room : other, bound, 24) ? 1 : 0;
+}
+
+int main(int argc, char **argv) {
+    if (argc == 3) return memory(atoi(argv[2]));
+    casts();
+    lower_bounds();
+    upper_bounds();
+    zones();
+    columns();
+    printf("%d passed, %d failed\n", passed, failed);
+    return failed != 0;
+}

@@ -1,0 +1,47 @@
+"""Calls a second through the boundary, beside plain Python."""
+
+import timeit
+from array import array
+from itertools import accumulate
+
+import vortex
+from vortex import Kind, ZoneBounds
+
+
+def seconds(call, calls: int) -> float:
+    """The seconds of one call: the best of five rounds."""
+    return min(timeit.repeat(call, number=calls, repeat=5)) / calls
+
+
+def compare(name: str, ours, plain, calls: int = 100_000) -> None:
+    of_ours, of_plain = seconds(ours, calls), seconds(plain, calls)
+    print(f"Python, {name}: {1e-6 / of_ours:.6f} million calls a second, {of_ours / of_plain:.2f} of the time of plain Python")
+
+
+def plain_upper(value: bytes, n: int) -> bytes | None:
+    if len(value) <= n:
+        return value
+    number = int.from_bytes(value[:n], "big") + 1
+    return None if number >= 256**n else number.to_bytes(n, "big")
+
+
+def plain_column(data: bytes, offsets: array, n: int) -> tuple[bytes, bytes | None]:
+    values = [data[start:end] for start, end in zip(offsets, offsets[1:])]
+    return min(values)[:n], plain_upper(max(values), n)
+
+
+def main() -> None:
+    value = bytes(range(200))
+    zone = ZoneBounds.of("apple pie", "banana split", 16)
+    compare("cast", lambda: vortex.cast(1000, Kind.I64, Kind.I16), lambda: 1000 if -32768 <= 1000 < 32768 else None)
+    compare("lower bound of 200 bytes at 16", lambda: vortex.lower_bound(value, 16), lambda: value[:16])
+    compare("upper bound of 200 bytes at 16", lambda: vortex.upper_bound(value, 16), lambda: plain_upper(value, 16))
+    compare("a literal and a zone", lambda: zone.may_contain("cherry"), lambda: zone.lower <= "cherry" <= zone.upper)
+    values = [str(number * 2_654_435_761 % 10**12).encode() for number in range(1_000_000)]
+    data = b"".join(values)
+    offsets = array("Q", accumulate(map(len, values), initial=0))
+    compare("a column of a million values", lambda: vortex.column_bounds(data, offsets, 16), lambda: plain_column(data, offsets, 16), 1)
+
+
+if __name__ == "__main__":
+    main()

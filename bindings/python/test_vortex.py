@@ -1,0 +1,200 @@
+"""100,000 random values of each call, compared with plain Python, and what each error comes of.
+
+python3 -m unittest runs it, in this folder.
+"""
+
+from __future__ import annotations
+
+import doctest
+import random
+import unittest
+from array import array
+from itertools import accumulate, pairwise
+
+import vortex
+from vortex import Kind, ZoneBounds
+
+COUNT = 100_000
+RANGES = {
+    kind: range(-(2 ** (int(kind.name[1:]) - 1)), 2 ** (int(kind.name[1:]) - 1))
+    if kind.is_signed
+    else range(2 ** int(kind.name[1:]))
+    for kind in Kind
+}
+# The least and the greatest character of each width in UTF-8, and those beside the surrogates.
+EDGES = "\0A\x7f\x80\u07ff\u0800\ud7ff\ue000\uffff\U00010000\U0010fffe\U0010ffff"
+
+
+def some_number(source: random.Random, kind: Kind) -> int:
+    within = RANGES[kind]
+    near = source.choice([0, 128, 256, 2**15, 2**16, 2**31, 2**32, 2**63]) * source.choice([1, -1]) + source.randrange(-2, 3)
+    return near if near in within else source.choice([within[0], within[-1], source.randrange(within[0], within[-1] + 1)])
+
+
+def some_bytes(source: random.Random) -> bytes:
+    high = source.randrange(8) == 0
+    return bytes(255 if high or source.randrange(2) else source.randrange(256) for _ in range(source.randrange(30)))
+
+
+def some_char(source: random.Random) -> str:
+    code = source.randrange(0x110000 - 0x800)
+    return chr(code if code < 0xD800 else code + 0x800)
+
+
+def some_text(source: random.Random) -> str:
+    return "".join(source.choice(EDGES) if source.randrange(2) else some_char(source) for _ in range(source.randrange(12)))
+
+
+def some_length(source: random.Random, of: int) -> int:
+    return 2**64 + source.randrange(3) - 2 if source.randrange(20) == 0 else source.randrange(of + 3)
+
+
+def some_offset(source: random.Random, end: int) -> int:
+    return source.randrange(-3, 2**65) if source.randrange(20) == 0 else source.randrange(end + 2)
+
+
+def plain_upper(value: bytes, n: int) -> bytes | None:
+    if len(value) <= n:
+        return value
+    number = int.from_bytes(value[:n], "big") + 1
+    return None if number >= 256**n else number.to_bytes(n, "big")
+
+
+def plain_lower_text(value: str, n: int) -> str:
+    return value.encode()[:n].decode(errors="ignore")
+
+
+def plain_upper_text(value: str, n: int) -> str | None:
+    if len(value.encode()) <= n:
+        return value
+    front = plain_lower_text(value, n)
+    if not front or ord(front[-1]) in (0xD7FF, 0x10FFFF):
+        return None
+    bound = front[:-1] + chr(ord(front[-1]) + 1)
+    return bound if len(bound.encode()) == len(front.encode()) else None
+
+
+class Compared(unittest.TestCase):
+    def test_casts(self) -> None:
+        source = random.Random(1)
+        kinds = list(Kind)
+        for of in kinds:
+            for to in kinds:
+                for _ in range(COUNT // 64 + 1):
+                    number = some_number(source, of)
+                    self.assertEqual(vortex.cast(number, of, to), number if number in RANGES[to] else None)
+
+    def test_bounds_of_bytes(self) -> None:
+        source = random.Random(2)
+        for _ in range(COUNT):
+            value = some_bytes(source)
+            n = some_length(source, len(value))
+            self.assertEqual(vortex.lower_bound(value, n), value[:n])
+            self.assertEqual(vortex.upper_bound(value, n), plain_upper(value, n))
+
+    def test_bounds_of_texts(self) -> None:
+        source = random.Random(3)
+        for _ in range(COUNT):
+            value = some_text(source)
+            n = some_length(source, len(value.encode()))
+            self.assertEqual(vortex.lower_bound_text(value, n), plain_lower_text(value, n))
+            self.assertEqual(vortex.upper_bound_text(value, n), plain_upper_text(value, n))
+
+    def test_zones(self) -> None:
+        source = random.Random(4)
+        for some, lower_of, upper_of in [(some_bytes, lambda v, n: v[:n], plain_upper), (some_text, plain_lower_text, plain_upper_text)]:
+            key = (lambda value: value.encode()) if some is some_text else bytes
+            for _ in range(COUNT):
+                least, greatest, value = some(source), some(source), some(source)
+                n = some_length(source, len(key(least)))
+                bounds = ZoneBounds.of(least, greatest, n)
+                self.assertEqual((bounds.lower, bounds.upper), (lower_of(least, n), upper_of(greatest, n)))
+                is_below = key(value) < key(bounds.lower)
+                is_above = bounds.upper is not None and key(value) > key(bounds.upper)
+                self.assertEqual(bounds.may_contain(value), not is_below and not is_above)
+
+    def test_columns(self) -> None:
+        source = random.Random(5)
+        for some, lower_of, upper_of, call in [
+            (some_bytes, lambda v, n: v[:n], plain_upper, vortex.column_bounds),
+            (some_text, plain_lower_text, plain_upper_text, vortex.column_bounds_text),
+        ]:
+            key = (lambda value: value.encode()) if some is some_text else bytes
+            for _ in range(COUNT):
+                values = [some(source) for _ in range(source.randrange(4))]
+                offsets = array("Q", accumulate((len(key(value)) for value in values), initial=0))
+                n = some_length(source, 20)
+                bounds = call(b"".join(map(key, values)), offsets, n)
+                if not values:
+                    self.assertIsNone(bounds)
+                    continue
+                self.assertEqual(bounds.lower, lower_of(min(values, key=key), n))
+                self.assertEqual(bounds.upper, upper_of(max(values, key=key), n))
+
+    def test_hostile_offsets(self) -> None:
+        source = random.Random(6)
+        for _ in range(COUNT):
+            data = some_bytes(source)
+            offsets = [some_offset(source, len(data)) for _ in range(source.randrange(5))]
+            is_number = all(0 <= offset < 2**64 for offset in offsets)
+            if is_number and all(a <= b <= len(data) for a, b in pairwise(offsets)):
+                self.assertEqual(vortex.column_bounds(data, offsets, 8) is not None, len(offsets) > 1)
+            else:
+                with self.assertRaises(vortex.BadOffsets):
+                    vortex.column_bounds(data, offsets, 8)
+
+
+class Refused(unittest.TestCase):
+    def test_numbers_of_no_kind(self) -> None:
+        for number, kind in [(256, Kind.U8), (-1, Kind.U64), (128, Kind.I8), (2**64, Kind.U64), (2**63, Kind.I64), (-(2**63) - 1, Kind.I64)]:
+            with self.assertRaises(vortex.NotANumber):
+                vortex.cast(number, kind, Kind.U64)
+        with self.assertRaises(ValueError):
+            vortex.cast(1, 8, Kind.U64)
+
+    def test_texts_that_are_none(self) -> None:
+        for call in [vortex.lower_bound_text, vortex.upper_bound_text]:
+            with self.assertRaises(vortex.NotUtf8):
+                call("a\ud800", 1)
+        with self.assertRaises(vortex.NotUtf8):
+            ZoneBounds("a", "b").may_contain("\ud800")
+        with self.assertRaises(vortex.NotUtf8):
+            vortex.column_bounds_text("ñ", [0, 1], 8)
+
+    def test_one_family(self) -> None:
+        for error in [vortex.BadOffsets, vortex.NegativeLength, vortex.NotANumber, vortex.NotUtf8, vortex.OutOfMemory]:
+            self.assertTrue(issubclass(error, vortex.VortexError))
+        with self.assertRaises(vortex.NegativeLength):
+            vortex.lower_bound(b"a", -1)
+
+    def test_values_of_other_types(self) -> None:
+        for value in [None, "a", 3, [1]]:
+            with self.assertRaises(TypeError):
+                vortex.lower_bound(value, 1)
+
+
+class Taken(unittest.TestCase):
+    def test_bytes_of_each_kind(self) -> None:
+        for value in [b"a\0bc", bytearray(b"a\0bc"), memoryview(b"a\0bc"), memoryview(b"a.\0.b.c.")[::2]]:
+            self.assertEqual(vortex.lower_bound(value, 3), b"a\0b")
+            self.assertEqual(vortex.upper_bound(value, 3), b"a\0c")
+
+    def test_a_column_of_each_kind(self) -> None:
+        for data in [b"abcd", bytearray(b"abcd"), memoryview(b"abcd")]:
+            for offsets in [[1, 2, 4], (1, 2, 4), array("Q", [1, 2, 4]), iter([1, 2, 4])]:
+                self.assertEqual(vortex.column_bounds(data, offsets, 1), ZoneBounds(b"b", b"d"))
+
+    def test_no_upper_bound(self) -> None:
+        bounds = vortex.column_bounds(b"a\xff\xff", [0, 1, 3], 1)
+        self.assertEqual(bounds, ZoneBounds(b"a", None))
+        self.assertTrue(bounds.may_contain(b"\xff\xff\xff"))
+        self.assertFalse(bounds.may_contain(b""))
+
+
+def load_tests(loader: unittest.TestLoader, tests: unittest.TestSuite, pattern: str | None) -> unittest.TestSuite:
+    tests.addTests(doctest.DocTestSuite(vortex))
+    return tests
+
+
+if __name__ == "__main__":
+    unittest.main()

@@ -1,0 +1,21 @@
+//! The bounds of a column of texts at 16 bytes, and what they rule out.
+
+fn main() -> Result<(), vortex::ColumnError> {
+    let values = ["banana", "apple", "cherry pie with cream"];
+    let ends = values.iter().scan(0, |end, value| {
+        *end += value.len() as u64;
+        Some(*end)
+    });
+    let offsets: Vec<u64> = std::iter::once(0).chain(ends).collect();
+    let bounds = vortex::column_bounds_text(&values.concat(), &offsets, 16)?.expect("values");
+    println!("{} to {}", bounds.lower(), bounds.upper().unwrap_or("any"));
+    for literal in ["cherry", "zucchini"] {
+        let found = if bounds.may_contain(literal) {
+            "maybe"
+        } else {
+            "no"
+        };
+        println!("{literal}: {found}");
+    }
+    Ok(())
+}

@@ -1,0 +1,93 @@
+//! Bounds of a whole column, in one call.
+
+use crate::{ZoneBounds, out_of_memory, raw};
+use std::fmt;
+
+/// Why a column has no bounds.
+#[derive(Clone, Copy, Debug, PartialEq, Eq)]
+pub enum ColumnError {
+    /// An offset is below the one before it, or past the end of the bytes.
+    BadOffsets,
+    /// The least or the greatest value does not begin and end where a character does.
+    NotUtf8,
+}
+
+impl fmt::Display for ColumnError {
+    fn fmt(&self, f: &mut fmt::Formatter<'_>) -> fmt::Result {
+        f.write_str(match self {
+            ColumnError::BadOffsets => "an offset goes down, or past the end of the bytes",
+            ColumnError::NotUtf8 => "the least or the greatest value is no text",
+        })
+    }
+}
+
+impl std::error::Error for ColumnError {}
+
+/// The bounds at n bytes of a column of strings of bytes, from its least value to its greatest one; none of no values.
+///
+/// Value k has the bytes from `offsets[k]` to `offsets[k + 1]`, so that n values have n + 1 offsets.
+///
+/// ```
+/// let bounds = vortex::column_bounds(b"pearapplefig", &[0, 4, 9, 12], 2)?.expect("three values");
+/// assert_eq!(bounds.lower(), b"ap");
+/// assert_eq!(bounds.upper(), Some(&b"pf"[..]));
+/// # Ok::<(), vortex::ColumnError>(())
+/// ```
+pub fn column_bounds(
+    bytes: &[u8],
+    offsets: &[u64],
+    n: usize,
+) -> Result<Option<ZoneBounds<[u8]>>, ColumnError> {
+    let bounds = bounds_of(raw::vortex_column_bounds_bytes, bytes, offsets, n)?;
+    Ok(bounds.map(|(lower, upper)| ZoneBounds::from_parts(lower, upper)))
+}
+
+/// The same of a column of texts.
+pub fn column_bounds_text(
+    text: &str,
+    offsets: &[u64],
+    n: usize,
+) -> Result<Option<ZoneBounds<str>>, ColumnError> {
+    let bounds = bounds_of(raw::vortex_column_bounds_text, text.as_bytes(), offsets, n)?;
+    let of_text = |bytes| String::from_utf8(bytes).expect("the bound of a text is a text");
+    Ok(bounds.map(|(lower, upper)| ZoneBounds::from_parts(of_text(lower), upper.map(of_text))))
+}
+
+fn bounds_of(
+    call: raw::Column,
+    bytes: &[u8],
+    offsets: &[u64],
+    n: usize,
+) -> Result<Option<(Vec<u8>, Option<Vec<u8>>)>, ColumnError> {
+    // So many bytes always suffice.
+    let room = n.min(bytes.len());
+    let (mut lower, mut upper) = (vec![0; room], vec![0; room]);
+    let mut lengths = raw::BoundLengths::default();
+    // SAFETY: each pointer and length are of one slice, and the rooms and `lengths` are places of their own.
+    let status = unsafe {
+        call(
+            bytes.as_ptr(),
+            bytes.len(),
+            offsets.as_ptr(),
+            offsets.len(),
+            n,
+            lower.as_mut_ptr(),
+            lower.len(),
+            upper.as_mut_ptr(),
+            upper.len(),
+            &mut lengths,
+        )
+    };
+    match status {
+        raw::GIVEN => {
+            lower.truncate(lengths.lower);
+            upper.truncate(lengths.upper);
+            Ok(Some((lower, lengths.has_upper.then_some(upper))))
+        }
+        raw::NONE => Ok(None),
+        raw::BAD_OFFSETS => Err(ColumnError::BadOffsets),
+        raw::NOT_UTF8 => Err(ColumnError::NotUtf8),
+        raw::NO_MEMORY => out_of_memory(room),
+        other => unreachable!("status {other}: the rooms suffice"),
+    }
+}

@@ -1,0 +1,105 @@
+//! The exports of crates/vortex_c as C sees them, written by hand: nothing compares them with that crate.
+//!
+//! A slice crosses as a pointer and then a length. None of them keeps a pointer, and none asks more than the header
+//! bindings/c/vortex.h lists.
+
+pub const GIVEN: u32 = 0;
+pub const NONE: u32 = 1;
+pub const NO_MEMORY: u32 = 2;
+pub const NOT_UTF8: u32 = 4;
+pub const BAD_OFFSETS: u32 = 6;
+
+#[repr(C)]
+#[derive(Default)]
+pub struct BoundLengths {
+    pub lower: usize,
+    pub upper: usize,
+    pub has_upper: bool,
+}
+
+/// An upper bound of a value at n bytes, into a room.
+pub type Upper = unsafe extern "C" fn(*const u8, usize, usize, *mut u8, usize, &mut usize) -> u32;
+
+/// The bounds of a column.
+pub type Column = unsafe extern "C" fn(
+    *const u8,
+    usize,
+    *const u64,
+    usize,
+    usize,
+    *mut u8,
+    usize,
+    *mut u8,
+    usize,
+    &mut BoundLengths,
+) -> u32;
+
+unsafe extern "C" {
+    pub fn vortex_cast_integer(from: u8, bits: u64, to: u8, out: &mut u64) -> u32;
+    pub fn vortex_lower_bound_bytes(value: *const u8, length: usize, n: usize) -> usize;
+    pub fn vortex_lower_bound_text(
+        value: *const u8,
+        length: usize,
+        n: usize,
+        count: &mut usize,
+    ) -> u32;
+    pub fn vortex_upper_bound_bytes(
+        value: *const u8,
+        length: usize,
+        n: usize,
+        room: *mut u8,
+        room_length: usize,
+        count: &mut usize,
+    ) -> u32;
+    pub fn vortex_upper_bound_text(
+        value: *const u8,
+        length: usize,
+        n: usize,
+        room: *mut u8,
+        room_length: usize,
+        count: &mut usize,
+    ) -> u32;
+    pub fn vortex_may_contain_bytes(
+        lower: *const u8,
+        lower_length: usize,
+        upper: *const u8,
+        upper_length: usize,
+        has_upper: bool,
+        value: *const u8,
+        value_length: usize,
+    ) -> bool;
+    pub fn vortex_may_contain_text(
+        lower: *const u8,
+        lower_length: usize,
+        upper: *const u8,
+        upper_length: usize,
+        has_upper: bool,
+        value: *const u8,
+        value_length: usize,
+        answer: &mut bool,
+    ) -> u32;
+    pub fn vortex_column_bounds_bytes(
+        bytes: *const u8,
+        bytes_length: usize,
+        offsets: *const u64,
+        offsets_length: usize,
+        n: usize,
+        lower_room: *mut u8,
+        lower_room_length: usize,
+        upper_room: *mut u8,
+        upper_room_length: usize,
+        lengths: &mut BoundLengths,
+    ) -> u32;
+    pub fn vortex_column_bounds_text(
+        bytes: *const u8,
+        bytes_length: usize,
+        offsets: *const u64,
+        offsets_length: usize,
+        n: usize,
+        lower_room: *mut u8,
+        lower_room_length: usize,
+        upper_room: *mut u8,
+        upper_room_length: usize,
+        lengths: &mut BoundLengths,
+    ) -> u32;
+}

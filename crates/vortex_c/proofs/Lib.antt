@@ -1,0 +1,6 @@
+mod Beginnings
+mod Castings
+mod ColumnBounds
+mod ColumnOrder
+mod Truncations
+mod ZoneAnswers

@@ -1,0 +1,42 @@
+-- What the calls on a beginning give, said of the whole.
+use Rattle.std.proofs.Common.{◌≡◌, ℕ, ◌<◌, ◌≤◌, List, length, take, slice_range, min, Option, Some, None, Result, Ok, Err, MatchOption, MatchResult, ap, subst, sym, arith, IsCharBoundary}
+use Rattle.std.proofs.lemmas.List.{take_all}
+use Rattle.vortex_array.specs.Laws.{BoundsAreComputed}
+use Rattle.vortex_array.specs.Strings.{HasNoUpper, IsLower, IsString, IsUpper}
+use Rattle.vortex_array.specs.Texts.{HasNoTextUpper, IsTextUpper}
+use Rattle.vortex_c.specs.Bounds.{HasNone, IsWholeOrBest}
+use Rattle.vortex_c.proofs.Beginnings.{IsNearest, no_text_upper_of_take, no_upper_of_take, text_upper_of_take, upper_of_take}
+
+-- the range from the start
+pub taken : (n : ℕ) (b : List ℕ) → slice_range b 0 n ≡ take n b
+taken n b = ap (λ k. take k b) (omega arith)
+
+-- as many of the first bytes as there are, and at most n, are the lower bound
+pub lower_or_whole : (b : List ℕ) (n i : ℕ) → BoundsAreComputed → IsString b → i ≡ min n (length b) → IsWholeOrBest IsLower b n (take i b)
+lower_or_whole b n i computed s e = (
+  λ l. take_all i b (omega arith),
+  λ l. subst (λ k. IsLower b n (take k b)) (omega arith) (computed.lower b n s),
+)
+
+-- what the upper bound of the first n bytes is to the whole
+pub upper_or_none : {E : Type 0} (b copy : List ℕ) (n : ℕ) (P : E → Type 0) (r : Result (Option (List ℕ)) E) → n < length b → copy ≡ take n b
+    → MatchResult r (λ o. MatchOption o (HasNoUpper copy n) (λ v. IsUpper copy n v)) P
+    → MatchResult r (λ o. MatchOption o (HasNone HasNoUpper b n) (λ v. IsWholeOrBest IsUpper b n v)) P
+upper_or_none b copy n P (Ok None) l e h = (l, no_upper_of_take b n (omega arith) (subst (λ s. HasNoUpper s n) e h))
+upper_or_none b copy n P (Ok (Some r)) l e h = (
+  λ m. absurd (omega arith),
+  λ _. upper_of_take b n r (omega arith) (subst (λ s. IsUpper s n r) e h),
+)
+upper_or_none b copy n P (Err x) l e h = h
+
+-- the same of a text, cut at the nearest boundary
+pub text_upper_made : (s copy : List ℕ) (n i : ℕ) (r made : List ℕ) → n < length s → copy ≡ take i s → i ≤ n → IsCharBoundary s i → IsNearest s n i
+    → IsTextUpper copy i r → made ≡ r → IsWholeOrBest IsTextUpper s n made
+text_upper_made s copy n i r made l e m b near h same = (
+  λ k. absurd (omega arith),
+  λ _. subst (λ v. IsTextUpper s n v) (sym same) (text_upper_of_take s n i r m b near (subst (λ t. IsTextUpper t i r) e h)),
+)
+
+pub no_text_upper_made : (s copy : List ℕ) (n i : ℕ) → n < length s → copy ≡ take i s → i ≤ n → IsCharBoundary s i → IsNearest s n i
+    → HasNoTextUpper copy i → HasNone HasNoTextUpper s n
+no_text_upper_made s copy n i l e m b near h = (l, no_text_upper_of_take s n i m b near (subst (λ t. HasNoTextUpper t i) e h))

@@ -1,0 +1,4 @@
+pub mod Bounds
+pub mod Columns
+pub mod Integers
+pub mod Zones

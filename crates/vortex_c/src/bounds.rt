@@ -1,0 +1,203 @@
+//! Bounds of bytes and of texts.
+
+ghost use Rattle.std.specs.Prelude.{◌≡◌, ◌≢◌, ◌≤◌, ◌<◌, ◌⊎◌, [], IfOk, IfSome, IsCharBoundary, IsOk, IsUtf8, MatchOption, MatchResult, drop, length, take, unwrap_or};
+ghost use Rattle.vortex_dtype.specs.declared.error.VortexError.TheVariants.{OutOfMemory};
+ghost use Rattle.vortex_array.specs.Strings.{HasNoUpper, IsLower, IsString, IsUpper};
+ghost use Rattle.vortex_array.specs.Texts.{HasNoTextUpper, IsTextLower, IsTextUpper};
+ghost use Rattle.vortex_c.specs.Bounds.{HasNone, IsWholeOrBest, SomeOfLength};
+
+use crate::status::{GIVEN, NO_MEMORY, NO_ROOM, NONE, NOT_UTF8};
+use std::alloc::Global;
+use std::str;
+use vortex_array::laws::bounds_are_computed;
+use vortex_array::{BufferString, ByteBuffer, ScalarTruncation, VortexError};
+
+/// How many of the first bytes are the lower bound. Takes no memory.
+#[unsafe(no_mangle)]
+pub extern "C" fn vortex_lower_bound_bytes(value: &[u8], max_length: usize) -> usize
+    ensures within { result ≤ length value.now }
+    ensures fits { result ≤ max_length }
+    ensures bound { IsWholeOrBest IsLower value.now max_length (take result value.now) }
+{
+    bounds_are_computed();
+    tell_bytes(value);
+    max_length.min(value.len())
+}
+
+/// How many of the first bytes of a text are its lower bound. Takes no memory.
+#[unsafe(no_mangle)]
+pub extern "C" fn vortex_lower_bound_text(value: &[u8], max_length: usize, count: &mut usize) -> u32
+    ensures statuses { (result ≡ GIVEN) ⊎ (result ≡ NOT_UTF8) }
+    ensures within { result ≡ GIVEN → count.new ≤ length value.now }
+    ensures fits { result ≡ GIVEN → count.new ≤ max_length }
+    ensures given { result ≡ GIVEN
+        → IsWholeOrBest IsTextLower value.now max_length (take count.new value.now) }
+    ensures text { result ≡ GIVEN → IsUtf8 value.now }
+    ensures refused { result ≡ NOT_UTF8 → ¬ (IsUtf8 value.now) }
+    ensures kept { result ≢ GIVEN → count.new ≡ count.old }
+{
+    let Ok(text) = str::from_utf8(value) else {
+        return NOT_UTF8;
+    };
+    *count = lower_length(text, max_length);
+    GIVEN
+}
+
+/// The upper bound of bytes, written to the room.
+#[unsafe(no_mangle)]
+pub extern "C" fn vortex_upper_bound_bytes(
+    alloc: Global,
+    value: &[u8],
+    max_length: usize,
+    room: &mut [u8],
+    count: &mut usize,
+) -> u32
+    ensures statuses { (result ≡ GIVEN)
+        ⊎ ((result ≡ NONE) ⊎ ((result ≡ NO_MEMORY) ⊎ (result ≡ NO_ROOM))) }
+    ensures within { result ≡ GIVEN → count.new ≤ length room.new }
+    ensures given { result ≡ GIVEN
+        → IsWholeOrBest IsUpper value.now max_length (take count.new room.new) }
+    ensures none { result ≡ NONE → HasNone HasNoUpper value.now max_length }
+    ensures inline { max_length ≤ 22 → result ≢ NO_MEMORY }
+    ensures inline_value { length value.now ≤ 22 → result ≢ NO_MEMORY }
+    ensures small { result ≡ NO_ROOM → length room.old < count.new }
+    ensures needed { result ≡ NO_ROOM → SomeOfLength IsUpper value.now max_length count.new }
+    ensures enough { max_length ≤ length room.old → result ≢ NO_ROOM }
+    ensures enough_of_value { length value.now ≤ length room.old → result ≢ NO_ROOM }
+    ensures rest { result ≡ GIVEN → drop count.new room.new ≡ drop count.new room.old }
+    ensures kept_room { result ≢ GIVEN → room.new ≡ room.old }
+    ensures kept_count { (result ≢ GIVEN) × (result ≢ NO_ROOM) → count.new ≡ count.old }
+{
+    if value.len() <= max_length {
+        return give(value, room, count);
+    }
+    match upper_of_bytes(alloc, value, max_length) {
+        Ok(Some(bound)) => give(bound.as_slice(), room, count),
+        Ok(None) => NONE,
+        Err(_) => NO_MEMORY,
+    }
+}
+
+/// The upper bound of a text, written to the room.
+#[unsafe(no_mangle)]
+pub extern "C" fn vortex_upper_bound_text(
+    alloc: Global,
+    value: &[u8],
+    max_length: usize,
+    room: &mut [u8],
+    count: &mut usize,
+) -> u32
+    ensures statuses { (result ≡ GIVEN) ⊎ ((result ≡ NONE)
+        ⊎ ((result ≡ NO_MEMORY) ⊎ ((result ≡ NO_ROOM) ⊎ (result ≡ NOT_UTF8)))) }
+    ensures within { result ≡ GIVEN → count.new ≤ length room.new }
+    ensures given { result ≡ GIVEN
+        → IsWholeOrBest IsTextUpper value.now max_length (take count.new room.new) }
+    ensures none { result ≡ NONE → HasNone HasNoTextUpper value.now max_length }
+    ensures text { result ≢ NOT_UTF8 → IsUtf8 value.now }
+    ensures refused { result ≡ NOT_UTF8 → ¬ (IsUtf8 value.now) }
+    ensures inline { max_length ≤ 22 → result ≢ NO_MEMORY }
+    ensures inline_value { length value.now ≤ 22 → result ≢ NO_MEMORY }
+    ensures small { result ≡ NO_ROOM → length room.old < count.new }
+    ensures needed { result ≡ NO_ROOM → SomeOfLength IsTextUpper value.now max_length count.new }
+    ensures enough { max_length ≤ length room.old → result ≢ NO_ROOM }
+    ensures enough_of_value { length value.now ≤ length room.old → result ≢ NO_ROOM }
+    ensures rest { result ≡ GIVEN → drop count.new room.new ≡ drop count.new room.old }
+    ensures kept_room { result ≢ GIVEN → room.new ≡ room.old }
+    ensures kept_count { (result ≢ GIVEN) × (result ≢ NO_ROOM) → count.new ≡ count.old }
+{
+    let Ok(text) = str::from_utf8(value) else {
+        return NOT_UTF8;
+    };
+    if value.len() <= max_length {
+        return give(value, room, count);
+    }
+    match upper_of_text(alloc, text, max_length) {
+        Ok(Some(bound)) => give(bound.as_slice(), room, count),
+        Ok(None) => NONE,
+        Err(_) => NO_MEMORY,
+    }
+}
+
+/// How many of the first bytes of the text are its lower bound.
+pub(crate) fn lower_length(text: &str, max_length: usize) -> usize
+    ensures boundary { IsCharBoundary text.now result }
+    ensures fits { result ≤ max_length }
+    ensures bound { IsWholeOrBest IsTextLower text.now max_length (take result text.now) }
+{
+    text.floor_char_boundary(max_length)
+}
+
+/// The bytes, or the upper bound of more than so many.
+pub(crate) fn upper_of_bytes(
+    alloc: Global,
+    value: &[u8],
+    max_length: usize,
+) -> Result<Option<ByteBuffer>, VortexError>
+    ensures given { MatchResult result
+        (λ o. MatchOption o (HasNone HasNoUpper value.now max_length)
+        (λ r. IsWholeOrBest IsUpper value.now max_length r))
+        (λ e. e ≡ OutOfMemory) }
+    ensures fits { IfOk result (λ o. length (unwrap_or o []) ≤ max_length) }
+    ensures within { IfOk result (λ o. length (unwrap_or o []) ≤ length value.now) }
+    ensures inline { max_length ≤ 22 → IsOk result }
+    ensures inline_value { length value.now ≤ 22 → IsOk result }
+{
+    if value.len() <= max_length {
+        return Ok(Some(ByteBuffer::from_slice(alloc, value)?));
+    }
+    let beginning = ByteBuffer::from_slice(alloc, &value[..max_length])?;
+    beginning.upper_bound(alloc, max_length)
+}
+
+/// The text, or the upper bound of one of more than so many bytes.
+pub(crate) fn upper_of_text(
+    alloc: Global,
+    text: &str,
+    max_length: usize,
+) -> Result<Option<ByteBuffer>, VortexError>
+    ensures given { MatchResult result
+        (λ o. MatchOption o (HasNone HasNoTextUpper text.now max_length)
+        (λ r. IsWholeOrBest IsTextUpper text.now max_length r))
+        (λ e. e ≡ OutOfMemory) }
+    ensures fits { IfOk result (λ o. length (unwrap_or o []) ≤ max_length) }
+    ensures within { IfOk result (λ o. length (unwrap_or o []) ≤ length text.now) }
+    ensures text { IfOk result (λ o. IfSome o (λ r. IsUtf8 r)) }
+    ensures inline { max_length ≤ 22 → IsOk result }
+    ensures inline_value { length text.now ≤ 22 → IsOk result }
+{
+    if text.len() <= max_length {
+        return Ok(Some(ByteBuffer::from_slice(alloc, text.as_bytes())?));
+    }
+    let end = text.floor_char_boundary(max_length);
+    let beginning = BufferString::from_str(alloc, &text[..end])?;
+    match beginning.upper_bound(alloc, end)? {
+        Some(bound) => Ok(Some(bound.into_inner())),
+        None => Ok(None),
+    }
+}
+
+/// Writes the bound to the room, and its length; only the length where the room is too small.
+fn give(bound: &[u8], room: &mut [u8], count: &mut usize) -> u32
+    ensures statuses { (result ≡ GIVEN) ⊎ (result ≡ NO_ROOM) }
+    ensures count { count.new ≡ length bound.now }
+    ensures within { result ≡ GIVEN → length bound.now ≤ length room.old }
+    ensures given { result ≡ GIVEN → take (length bound.now) room.new ≡ bound.now }
+    ensures rest { result ≡ GIVEN
+        → drop (length bound.now) room.new ≡ drop (length bound.now) room.old }
+    ensures small { result ≡ NO_ROOM → length room.old < length bound.now }
+    ensures kept { result ≢ GIVEN → room.new ≡ room.old }
+{
+    let needed = bound.len();
+    *count = needed;
+    if needed <= room.len() {
+        room[..needed].copy_from_slice(bound);
+        GIVEN
+    } else {
+        NO_ROOM
+    }
+}
+
+/// Says of the items of a slice that they are bytes. Does nothing.
+fn tell_bytes(_bytes: &[u8])
+    ensures { IsString _bytes.now }
+{}

@@ -1,0 +1,12 @@
+//! Casts, bounds and pruning for callers from C.
+//!
+//! Of a call that answers a status, the clauses say what each status means and what was written.
+#![tactic(auto)]
+
+mod bounds;
+mod columns;
+mod integers;
+mod status;
+#[cfg(test)]
+mod tests;
+mod zones;
