@@ -7,6 +7,4 @@ mod bounds;
 mod columns;
 mod integers;
 mod status;
-#[cfg(test)]
-mod tests;
 mod zones;
