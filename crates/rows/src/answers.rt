@@ -27,9 +27,11 @@ use vortex_array::{
     ByteBuffer, DType, Nullability, PType, PValue, Scalar, VortexError, lower_bound, upper_bound,
 };
 
-/// What a command gives.
+/// What a line gives.
 #[derive(Debug, Drop)]
 pub enum Answer {
+    /// The line is none of the grammar.
+    BadLine,
     /// The number is not in the range of the second kind.
     Refused,
     /// The number in the second kind.
@@ -122,6 +124,7 @@ fn number_in_kind(alloc: Global, number: PValue, kind: PType) -> Option<PValue>
     let target = DType::Primitive(kind, Nullability::NonNullable);
     match cast_number(alloc, number, &target) {
         Ok(made) => Some(number_of(made)),
+        // Refused for its number alone: the cast of a number takes no memory.
         Err(_) => None,
     }
 }

@@ -3,7 +3,7 @@
 ghost use Rattle.std.specs.Prelude.{◌≡◌, ◌++◌, ◌∷◌, [], OnOk};
 ghost use Rattle.hex.specs.Hex.{encode_lower};
 ghost use Rattle.vortex_pvalue.specs.Whole.{pvalue_text};
-ghost use Rattle.rows.specs.Answers.{row_of};
+ghost use Rattle.rows.specs.Answers.{text_of};
 
 use crate::answers::Answer;
 use hex::encode_to_slice;
@@ -11,19 +11,19 @@ use itoa::Buffer;
 use std::alloc::AllocError;
 use vortex_array::PValue;
 
-/// Writes the answer to a line and a line feed; without one the line is none of the grammar.
-pub fn push_answer(output: &mut Vec<u8>, answer: Option<Answer>) -> Result<(), AllocError>
-    ensures { OnOk result (output.new.items ≡ output.old.items ++ (row_of answer ++ 10 ∷ [])) }
+/// Writes the answer to a line and a line feed.
+pub fn push_answer(output: &mut Vec<u8>, answer: Answer) -> Result<(), AllocError>
+    ensures { OnOk result (output.new.items ≡ output.old.items ++ (text_of answer ++ 10 ∷ [])) }
 {
     match answer {
-        None => output.extend_from_slice(b"bad line\n"),
-        Some(Answer::Refused) => output.extend_from_slice(b"refused\n"),
-        Some(Answer::Number(value)) => push_value(output, value),
-        Some(Answer::Bytes(value)) => {
+        Answer::BadLine => output.extend_from_slice(b"bad line\n"),
+        Answer::Refused => output.extend_from_slice(b"refused\n"),
+        Answer::Number(value) => push_value(output, value),
+        Answer::Bytes(value) => {
             push_hex(output, value.as_slice())?;
             output.extend_from_slice(b"\n")
         }
-        Some(Answer::NoBound) => output.extend_from_slice(b"none\n"),
+        Answer::NoBound => output.extend_from_slice(b"none\n"),
     }
 }
 

@@ -2,7 +2,7 @@
 
 ghost use Rattle.std.specs.Prelude.{◌≡◌, ◌≢◌, ◌++◌, ◌∷◌, [], IfErr, IfOk, IfSome, OnOk};
 ghost use Rattle.std.specs.Io.KnownBytes.{Appends, IsAtEnd};
-ghost use Rattle.rows.specs.Answers.{row_of};
+ghost use Rattle.rows.specs.Answers.{text_of};
 ghost use Rattle.rows.specs.Grammar.{request_in};
 ghost use Rattle.rows.specs.Rows.{row_text, rows_of};
 
@@ -60,12 +60,12 @@ fn push_row(alloc: Global, output: &mut Vec<u8>, line: &[u8]) -> Result<(), Allo
     push_answer(output, answer_in(alloc, line)?)
 }
 
-/// What a line gives, if it is one of the grammar.
-fn answer_in(alloc: Global, line: &[u8]) -> Result<Option<Answer>, AllocError>
-    ensures { IfOk result (λ answer. row_of answer ≡ row_text (request_in line.now)) }
+/// What a line gives.
+fn answer_in(alloc: Global, line: &[u8]) -> Result<Answer, AllocError>
+    ensures { IfOk result (λ answer. text_of answer ≡ row_text (request_in line.now)) }
 {
     match command_in(alloc, line)? {
-        Some(command) => Ok(Some(answer_to(alloc, command)?)),
-        None => Ok(None),
+        Some(command) => answer_to(alloc, command),
+        None => Ok(Answer::BadLine),
     }
 }
