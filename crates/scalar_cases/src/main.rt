@@ -1,25 +1,11 @@
 //! Reads worked cases, one a line, and says which of them do not come out as written. Given the
-//! word `--memory` it watches each call, as `runs` says.
+//! word `--memory` it watches each call, as `Run` says.
 #![tactic(auto)]
 
-mod answers;
-mod calls;
-mod cases;
-mod faults;
-mod inputs;
-mod lines;
-mod read;
-mod runs;
-mod same;
-mod tokens;
-mod write;
-
-use lines::run_lines;
-use runs::Run;
-use std::io::{Read, Write};
+use rows::{RowsError, fault_line, read_all, write_out};
 use std::process::ExitCode;
 use std::rt::Env;
-use write::output::Output;
+use worked_cases::{Run, run_lines};
 
 /// Runs the lines of standard input. The status is 0 where no case is wrong, else 1.
 fn main(rt: HostRuntime) -> ExitCode {
@@ -27,27 +13,23 @@ fn main(rt: HostRuntime) -> ExitCode {
         Ok(true) => ExitCode::SUCCESS,
         Ok(false) => ExitCode::FAILURE,
         Err(fault) => {
-            let _ = rt.eprintln(fault);
+            let _ = rt.eprintln(fault_line(&fault));
             ExitCode::FAILURE
         }
     }
 }
 
 /// Runs the lines of standard input, and tells whether no case is wrong, or why it stops.
-fn run_input(rt: &HostRuntime) -> Result<bool, &'static str> {
-    let mut input = Vec::new(rt.alloc());
-    if rt.stdin().read_to_end(&mut input).is_err() {
-        return Err("read failed");
-    }
-    let mut out = Output::new(rt.alloc());
-    let Ok(totals) = run_lines(Run::new(rt, is_watched(rt)), &mut out, &input) else {
-        return Err("out of memory");
+fn run_input(rt: &HostRuntime) -> Result<bool, RowsError> {
+    let input = read_all(rt.alloc(), &mut rt.stdin())?;
+    let run = if is_watched(rt) {
+        Run::watched(rt)
+    } else {
+        Run::alone(rt.alloc())
     };
-    let Ok(bytes) = out.into_bytes() else {
-        return Err("out of memory");
-    };
-    write_all(rt, &bytes)?;
-    Ok(totals.is_right())
+    let report = run_lines(run, &input)?;
+    write_out(&mut rt.stdout(), &report.text)?;
+    Ok(report.is_right)
 }
 
 /// Whether the first word of the command line is `--memory`.
@@ -57,12 +39,4 @@ fn is_watched(rt: &HostRuntime) -> bool {
         Ok(length) => word[..length] == b"--memory"[..],
         Err(_) => false,
     }
-}
-
-fn write_all(rt: &HostRuntime, bytes: &[u8]) -> Result<(), &'static str> {
-    let mut writer = rt.stdout();
-    if writer.write_all(bytes).is_err() || writer.flush().is_err() {
-        return Err("write failed");
-    }
-    Ok(())
 }

@@ -1,0 +1,265 @@
+//! What calls are given: each argument stands after spaces.
+
+use crate::read::numbers::{integer, read_natural, read_negative};
+use crate::read::read_named;
+use crate::read::texts::{bytes_of_hex, read_name, read_text};
+use crate::read::types::{Fields, read_fields, read_id, read_type};
+use crate::read::values::{read_scalar, read_value};
+use crate::same::{same_raw, same_scalar};
+use crate::tokens::Tokens;
+use rows::kind_named;
+use vortex_dtype::{BufferString, ByteBuffer, DType, FieldName, Nullability, PType};
+use vortex_pvalue::PValue;
+use vortex_value::{Scalar, ScalarValue};
+
+/// How many brackets may be open at one time.
+const ROOM: u32 = 256;
+
+/// What a call is given.
+pub trait Inputs: Drop {
+    /// Reads what stands next in a line.
+    fn read(tokens: &mut Tokens<'_>) -> Self;
+
+    /// Whether what a call borrowed is the same as a copy. What is no more than a number or a word
+    /// always is.
+    fn is_same(&self, _copy: &Self) -> bool {
+        true
+    }
+}
+
+/// What may stand in a list.
+pub trait Item: Drop {
+    /// Reads an item.
+    fn read_item(tokens: &mut Tokens<'_>) -> Self;
+
+    /// Whether an item is the same as a copy.
+    fn is_same_item(&self, copy: &Self) -> bool;
+}
+
+impl Inputs for () {
+    fn read(_tokens: &mut Tokens<'_>) {}
+}
+
+impl<A: Inputs, B: Inputs> Inputs for (A, B) {
+    fn read(tokens: &mut Tokens<'_>) -> (A, B) {
+        (A::read(tokens), B::read(tokens))
+    }
+
+    fn is_same(&self, copy: &(A, B)) -> bool {
+        self.0.is_same(&copy.0) && self.1.is_same(&copy.1)
+    }
+}
+
+impl<A: Inputs, B: Inputs, C: Inputs> Inputs for (A, B, C) {
+    fn read(tokens: &mut Tokens<'_>) -> (A, B, C) {
+        (A::read(tokens), B::read(tokens), C::read(tokens))
+    }
+}
+
+impl<A: Inputs, B: Inputs, C: Inputs, D: Inputs> Inputs for (A, B, C, D) {
+    fn read(tokens: &mut Tokens<'_>) -> (A, B, C, D) {
+        (
+            A::read(tokens),
+            B::read(tokens),
+            C::read(tokens),
+            D::read(tokens),
+        )
+    }
+}
+
+/// A type.
+impl Inputs for DType {
+    fn read(tokens: &mut Tokens<'_>) -> DType {
+        tokens.spaces();
+        read_type(tokens, ROOM)
+    }
+
+    fn is_same(&self, copy: &DType) -> bool {
+        self == copy
+    }
+}
+
+/// A scalar, which need not be valid.
+impl Inputs for Scalar {
+    fn read(tokens: &mut Tokens<'_>) -> Scalar {
+        tokens.spaces();
+        read_scalar(tokens, ROOM)
+    }
+
+    fn is_same(&self, copy: &Scalar) -> bool {
+        same_scalar(self, copy)
+    }
+}
+
+/// A raw value, or `null` for its absence.
+impl Inputs for Option<ScalarValue> {
+    fn read(tokens: &mut Tokens<'_>) -> Option<ScalarValue> {
+        tokens.spaces();
+        read_value(tokens, ROOM)
+    }
+
+    fn is_same(&self, copy: &Option<ScalarValue>) -> bool {
+        same_raw(self, copy)
+    }
+}
+
+/// Items in brackets.
+impl<T: Item> Inputs for Vec<T> {
+    fn read(tokens: &mut Tokens<'_>) -> Vec<T> {
+        let mut items = Vec::new(tokens.alloc);
+        tokens.spaces();
+        tokens.expect(b'[');
+        for before in 0..=tokens.left() {
+            if !tokens.has_item(before, b']') {
+                break;
+            }
+            let item = T::read_item(tokens);
+            tokens.push(&mut items, item);
+        }
+        items
+    }
+
+    fn is_same(&self, copy: &Vec<T>) -> bool {
+        self.len() == copy.len() && self.iter().zip(copy).all(|(x, y)| x.is_same_item(y))
+    }
+}
+
+impl Item for Scalar {
+    fn read_item(tokens: &mut Tokens<'_>) -> Scalar {
+        read_scalar(tokens, ROOM - 1)
+    }
+
+    fn is_same_item(&self, copy: &Scalar) -> bool {
+        same_scalar(self, copy)
+    }
+}
+
+/// A key and its value.
+impl Item for (Scalar, Scalar) {
+    fn read_item(tokens: &mut Tokens<'_>) -> (Scalar, Scalar) {
+        tokens.expect(b'(');
+        let key = read_scalar(tokens, ROOM - 2);
+        tokens.expect(b',');
+        let value = read_scalar(tokens, ROOM - 2);
+        tokens.expect(b')');
+        (key, value)
+    }
+
+    fn is_same_item(&self, copy: &(Scalar, Scalar)) -> bool {
+        same_scalar(&self.0, &copy.0) && same_scalar(&self.1, &copy.1)
+    }
+}
+
+impl Item for FieldName {
+    fn read_item(tokens: &mut Tokens<'_>) -> FieldName {
+        FieldName::new(read_name(tokens))
+    }
+
+    fn is_same_item(&self, copy: &FieldName) -> bool {
+        self == copy
+    }
+}
+
+/// The fields of a struct type.
+impl Inputs for Fields {
+    fn read(tokens: &mut Tokens<'_>) -> Fields {
+        tokens.spaces();
+        tokens.expect(b'{');
+        read_fields(tokens, false, b'}', ROOM - 1)
+    }
+}
+
+/// The variants of a union type.
+#[derive(Drop)]
+pub struct Variants(pub Fields);
+
+impl Inputs for Variants {
+    fn read(tokens: &mut Tokens<'_>) -> Variants {
+        tokens.spaces();
+        tokens.expect(b'(');
+        Variants(read_fields(tokens, true, b')', ROOM - 1))
+    }
+}
+
+/// The id of a union's variant.
+impl Inputs for u8 {
+    fn read(tokens: &mut Tokens<'_>) -> u8 {
+        tokens.spaces();
+        read_id(tokens)
+    }
+}
+
+/// A length in bytes, or a place.
+impl Inputs for usize {
+    fn read(tokens: &mut Tokens<'_>) -> usize {
+        tokens.spaces();
+        read_natural(tokens, u64::MAX) as usize
+    }
+}
+
+/// Whether a type takes a null.
+impl Inputs for Nullability {
+    fn read(tokens: &mut Tokens<'_>) -> Nullability {
+        const WORDS: [(&str, Nullability); 2] = [
+            ("nullable", Nullability::Nullable),
+            ("non_nullable", Nullability::NonNullable),
+        ];
+        tokens.spaces();
+        read_named(tokens, &WORDS, Nullability::NonNullable)
+    }
+}
+
+/// A kind of integer.
+impl Inputs for PType {
+    fn read(tokens: &mut Tokens<'_>) -> PType {
+        tokens.spaces();
+        let kind = kind_named(tokens.word());
+        tokens.or_bad(kind, PType::U8)
+    }
+}
+
+/// A truth value.
+impl Inputs for bool {
+    fn read(tokens: &mut Tokens<'_>) -> bool {
+        tokens.spaces();
+        read_named(tokens, &[("true", true), ("false", false)], false)
+    }
+}
+
+/// An integer and its kind.
+impl Inputs for PValue {
+    fn read(tokens: &mut Tokens<'_>) -> PValue {
+        tokens.spaces();
+        let number = match tokens.peek() {
+            Some(b'-') => read_negative(tokens),
+            _ => integer(tokens.word(), false),
+        };
+        tokens.or_bad(number, PValue::U8(0))
+    }
+}
+
+/// A text in quotes.
+impl Inputs for BufferString {
+    fn read(tokens: &mut Tokens<'_>) -> BufferString {
+        tokens.spaces();
+        read_text(tokens)
+    }
+
+    fn is_same(&self, copy: &BufferString) -> bool {
+        self == copy
+    }
+}
+
+/// Bytes in hexadecimal, after an `x`.
+impl Inputs for ByteBuffer {
+    fn read(tokens: &mut Tokens<'_>) -> ByteBuffer {
+        tokens.spaces();
+        match tokens.word() {
+            [b'x', digits @ ..] => bytes_of_hex(tokens, digits),
+            _ => {
+                tokens.bad_line();
+                bytes_of_hex(tokens, &[])
+            }
+        }
+    }
+}

@@ -1,0 +1,24 @@
+//! What the words of a line stand for.
+
+pub mod numbers;
+pub mod texts;
+pub mod types;
+pub mod values;
+
+use crate::tokens::Tokens;
+
+/// What the word stands for in the table, if it stands there.
+pub fn named<T: Copy>(table: &[(&str, T)], word: &[u8]) -> Option<T> {
+    for (name, meaning) in table {
+        if name.as_bytes() == word {
+            return Some(*meaning);
+        }
+    }
+    None
+}
+
+/// Reads a word of the table. Any other makes the line a bad one.
+pub fn read_named<T: Copy>(tokens: &mut Tokens<'_>, table: &[(&str, T)], otherwise: T) -> T {
+    let meaning = named(table, tokens.word());
+    tokens.or_bad(meaning, otherwise)
+}

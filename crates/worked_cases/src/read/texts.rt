@@ -1,0 +1,129 @@
+//! Texts in quotes, names, and bytes in hexadecimal.
+
+use crate::tokens::Tokens;
+use hex::{FromHexError, decode};
+use std::alloc::Global;
+use vortex_dtype::{BufferString, ByteBuffer, FieldName, VortexError};
+
+/// The most digits of a character's number.
+const DIGITS: u32 = 6;
+
+/// Reads a text in quotes.
+pub fn read_text(tokens: &mut Tokens<'_>) -> BufferString {
+    let mut text = Vec::new(tokens.alloc);
+    tokens.expect(b'"');
+    for _ in 0..tokens.left() {
+        match tokens.byte() {
+            Some(b'"') => return made_text(tokens, text_of(text)),
+            Some(b'\\') => read_escape(tokens, &mut text),
+            Some(byte) => tokens.push(&mut text, byte),
+            None => break,
+        }
+    }
+    tokens.bad_line();
+    no_text(tokens.alloc)
+}
+
+fn text_of(bytes: Vec<u8>) -> Result<BufferString, VortexError> {
+    BufferString::try_from(ByteBuffer::from_vec(bytes)?)
+}
+
+/// The text that was made; where there was no memory for it, no text.
+fn made_text(tokens: &mut Tokens<'_>, made: Result<BufferString, VortexError>) -> BufferString {
+    match tokens.made(made) {
+        Some(text) => text,
+        None => no_text(tokens.alloc),
+    }
+}
+
+/// What stands for a text that could not be read.
+fn no_text(alloc: Global) -> BufferString {
+    match BufferString::empty(alloc) {
+        Ok(text) => text,
+        Err(_) => unreachable!(),
+    }
+}
+
+/// Reads what follows a backslash, and adds the character that it stands for.
+fn read_escape(tokens: &mut Tokens<'_>, text: &mut Vec<u8>) {
+    match tokens.byte() {
+        Some(b'\\') => tokens.push(text, b'\\'),
+        Some(b'"') => tokens.push(text, b'"'),
+        Some(b'n') => tokens.push(text, b'\n'),
+        Some(b'r') => tokens.push(text, b'\r'),
+        Some(b't') => tokens.push(text, b'\t'),
+        Some(b'u') => match read_character(tokens) {
+            Some(character) => push_character(tokens, text, character),
+            None => tokens.bad_line(),
+        },
+        _ => tokens.bad_line(),
+    }
+}
+
+/// Reads a character's number, 1 to 6 digits in braces.
+fn read_character(tokens: &mut Tokens<'_>) -> Option<char> {
+    if tokens.byte()? != b'{' {
+        return None;
+    }
+    let mut number = char::from(tokens.byte()?).to_digit(16)?;
+    for _ in 0..DIGITS {
+        let byte = tokens.byte()?;
+        if byte == b'}' {
+            return char::from_u32(number);
+        }
+        number = number.wrapping_mul(16) | char::from(byte).to_digit(16)?;
+    }
+    None
+}
+
+/// Adds the bytes of a character.
+fn push_character(tokens: &mut Tokens<'_>, text: &mut Vec<u8>, character: char) {
+    let mut bytes = [0; 4];
+    for byte in character.encode_utf8(&mut bytes).as_bytes() {
+        tokens.push(text, *byte);
+    }
+}
+
+/// Reads a name: a word that begins with no digit, or a text in quotes.
+pub fn read_name(tokens: &mut Tokens<'_>) -> BufferString {
+    if tokens.peek() == Some(b'"') {
+        return read_text(tokens);
+    }
+    let word = tokens.word();
+    match word.first() {
+        Some(first) if !first.is_ascii_digit() => made_text(
+            tokens,
+            text_of_word(tokens.alloc, word),
+        ),
+        _ => {
+            tokens.bad_line();
+            no_text(tokens.alloc)
+        }
+    }
+}
+
+fn text_of_word(alloc: Global, word: &[u8]) -> Result<BufferString, VortexError> {
+    BufferString::try_from(ByteBuffer::from_slice(alloc, word)?)
+}
+
+/// Reads a name, and adds it to the others.
+pub fn push_name(tokens: &mut Tokens<'_>, names: &mut Vec<FieldName>) {
+    let name = FieldName::new(read_name(tokens));
+    tokens.push(names, name);
+}
+
+/// The bytes that these digits in hexadecimal represent, two each, of which there may be none.
+pub fn bytes_of_hex(tokens: &mut Tokens<'_>, digits: &[u8]) -> ByteBuffer {
+    let made = match decode(tokens.alloc, digits) {
+        Ok(bytes) => ByteBuffer::from_vec(bytes),
+        Err(FromHexError::OutOfMemory) => Err(VortexError::OutOfMemory),
+        Err(_) => {
+            tokens.bad_line();
+            ByteBuffer::empty(tokens.alloc)
+        }
+    };
+    match tokens.made(made) {
+        Some(bytes) => bytes,
+        None => no_text(tokens.alloc).into_inner(),
+    }
+}

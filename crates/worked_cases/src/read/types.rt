@@ -1,0 +1,248 @@
+//! Types.
+
+ghost use Rattle.std.specs.Prelude.{◌≡◌, ◌+◌, IfSome};
+
+use crate::read::named;
+use crate::read::numbers::read_natural;
+use crate::read::texts::{bytes_of_hex, push_name, read_name};
+use crate::tokens::Tokens;
+use rows::kind_named;
+use vortex_dtype::{
+    BufferString, ByteBuffer, DType, ExtDType, FieldName, PType, StructFields, UnionVariants,
+    VortexError,
+};
+
+/// What a type begins with.
+#[derive(Clone, Copy)]
+enum Head {
+    Null,
+    Bool,
+    Integer(PType),
+    Utf8,
+    Binary,
+    Variant,
+    List,
+    FixedSizeList,
+    Map,
+    Struct,
+    Union,
+    Extension,
+}
+
+const HEADS: [(&str, Head); 10] = [
+    ("null", Head::Null),
+    ("bool", Head::Bool),
+    ("utf8", Head::Utf8),
+    ("binary", Head::Binary),
+    ("variant", Head::Variant),
+    ("list", Head::List),
+    ("fsl", Head::FixedSizeList),
+    ("map", Head::Map),
+    ("union", Head::Union),
+    ("ext", Head::Extension),
+];
+
+/// Reads what a type begins with, and the bracket of its parts.
+fn read_head(tokens: &mut Tokens<'_>) -> Head {
+    if tokens.takes(b'{') {
+        return Head::Struct;
+    }
+    let head = head_named(tokens.word());
+    if let Some(
+        Head::List | Head::FixedSizeList | Head::Map | Head::Union | Head::Extension,
+    ) = head
+    {
+        tokens.expect(b'(');
+    }
+    tokens.or_bad(head, Head::Null)
+}
+
+fn head_named(word: &[u8]) -> Option<Head> {
+    match named(&HEADS, word) {
+        None => kind_named(word).map(Head::Integer),
+        head => head,
+    }
+}
+
+/// How many more brackets may be open within one.
+pub fn within(tokens: &mut Tokens<'_>, room: u32) -> Option<u32>
+    ensures { IfSome result (λ left. left + 1 ≡ room) }
+{
+    let left = room.checked_sub(1);
+    if left.is_none() {
+        tokens.bad_line();
+    }
+    left
+}
+
+/// Reads a type in which so many brackets may be open at one time.
+#[cycle(types)]
+pub fn read_type(tokens: &mut Tokens<'_>, room: u32) -> DType {
+    match read_head(tokens) {
+        Head::Null => DType::Null,
+        Head::Bool => DType::Bool(tokens.nullability()),
+        Head::Integer(kind) => DType::Primitive(kind, tokens.nullability()),
+        Head::Utf8 => DType::Utf8(tokens.nullability()),
+        Head::Binary => DType::Binary(tokens.nullability()),
+        Head::Variant => DType::Variant(tokens.nullability()),
+        head => match within(tokens, room) {
+            Some(room) => {
+                let made = read_parts(tokens, head, room);
+                made_type(tokens, made)
+            }
+            None => DType::Null,
+        },
+    }
+}
+
+/// The type that was made; for one that was refused, the type of nulls.
+fn made_type(tokens: &mut Tokens<'_>, made: Result<DType, VortexError>) -> DType {
+    tokens.made(made).unwrap_or(DType::Null)
+}
+
+/// Reads the parts of a type.
+#[cycle(types)]
+fn read_parts(tokens: &mut Tokens<'_>, head: Head, room: u32) -> Result<DType, VortexError> {
+    match head {
+        Head::FixedSizeList => {
+            let element = read_type(tokens, room);
+            fixed_size_list_of(tokens, element)
+        }
+        Head::Map => {
+            let key = read_type(tokens, room);
+            tokens.expect(b',');
+            let value = read_type(tokens, room);
+            map_of(tokens, key, value)
+        }
+        Head::Struct => {
+            let fields = read_fields(tokens, false, b'}', room);
+            struct_of(tokens, fields)
+        }
+        Head::Union => {
+            let fields = read_fields(tokens, true, b')', room);
+            union_of(tokens, fields)
+        }
+        Head::Extension => {
+            let (id, metadata) = read_extension_head(tokens);
+            let storage = read_type(tokens, room);
+            extension_of(tokens, id, metadata, storage)
+        }
+        _ => {
+            let element = read_type(tokens, room);
+            list_of(tokens, element)
+        }
+    }
+}
+
+/// The names, types and ids of fields or variants.
+#[derive(Drop)]
+pub struct Fields {
+    pub names: Vec<FieldName>,
+    pub dtypes: Vec<DType>,
+    pub type_ids: Vec<u8>,
+}
+
+/// Reads fields, each with an id before it where they are variants.
+#[cycle(types)]
+pub fn read_fields(tokens: &mut Tokens<'_>, has_ids: bool, close: u8, room: u32) -> Fields {
+    let mut fields = Fields {
+        names: Vec::new(tokens.alloc),
+        dtypes: Vec::new(tokens.alloc),
+        type_ids: Vec::new(tokens.alloc),
+    };
+    for before in 0..=tokens.left() {
+        if !tokens.has_item(before, close) {
+            break;
+        }
+        read_field_head(tokens, has_ids, &mut fields);
+        let dtype = read_type(tokens, room);
+        tokens.push(&mut fields.dtypes, dtype);
+    }
+    fields
+}
+
+/// Reads the id of a variant, and the name of it or of a field.
+fn read_field_head(tokens: &mut Tokens<'_>, has_ids: bool, fields: &mut Fields) {
+    if has_ids {
+        let id = read_id(tokens);
+        tokens.push(&mut fields.type_ids, id);
+    }
+    push_name(tokens, &mut fields.names);
+    tokens.expect(b':');
+}
+
+/// Reads an id of a union's variant.
+pub fn read_id(tokens: &mut Tokens<'_>) -> u8 {
+    read_natural(tokens, u64::from(u8::MAX)) as u8
+}
+
+/// The list type over this element type, of which the end is read.
+fn list_of(tokens: &mut Tokens<'_>, element: DType) -> Result<DType, VortexError> {
+    tokens.expect(b')');
+    let nullability = tokens.nullability();
+    Ok(DType::List(Box::new(tokens.alloc, element)?, nullability))
+}
+
+/// The type of lists of the size that is read.
+fn fixed_size_list_of(tokens: &mut Tokens<'_>, element: DType) -> Result<DType, VortexError> {
+    tokens.expect(b',');
+    let size = read_natural(tokens, u64::from(u32::MAX)) as u32;
+    tokens.expect(b')');
+    let nullability = tokens.nullability();
+    Ok(DType::FixedSizeList(Box::new(tokens.alloc, element)?, size, nullability))
+}
+
+/// The map type of this key and value type, of which the end is read.
+fn map_of(tokens: &mut Tokens<'_>, key: DType, value: DType) -> Result<DType, VortexError> {
+    let is_sorted = tokens.takes(b',');
+    if is_sorted && tokens.word() != b"sorted".as_slice() {
+        tokens.bad_line();
+    }
+    tokens.expect(b')');
+    let nullability = tokens.nullability();
+    DType::map(tokens.alloc, key, value, is_sorted, nullability)
+}
+
+/// The struct type of these fields, nullable where a question mark follows.
+fn struct_of(tokens: &mut Tokens<'_>, fields: Fields) -> Result<DType, VortexError> {
+    let nullability = tokens.nullability();
+    if fields.names.len() != fields.dtypes.len() {
+        // Only where memory was wanting for one of them.
+        return Err(VortexError::OutOfMemory);
+    }
+    let fields = StructFields::new(tokens.alloc, fields.names, fields.dtypes)?;
+    Ok(DType::Struct(fields, nullability))
+}
+
+/// The union type of these variants, nullable where a question mark follows.
+fn union_of(tokens: &mut Tokens<'_>, fields: Fields) -> Result<DType, VortexError> {
+    let nullability = tokens.nullability();
+    let Fields {
+        names,
+        dtypes,
+        type_ids,
+    } = fields;
+    let variants = UnionVariants::try_new(tokens.alloc, names, dtypes, type_ids)?;
+    Ok(DType::Union(variants, nullability))
+}
+
+/// Reads the id and the metadata of an extension.
+fn read_extension_head(tokens: &mut Tokens<'_>) -> (BufferString, ByteBuffer) {
+    let id = read_name(tokens);
+    tokens.expect(b',');
+    let digits = tokens.word();
+    let metadata = bytes_of_hex(tokens, digits);
+    tokens.expect(b',');
+    (id, metadata)
+}
+
+/// The extension type over this storage type, of which the end is read.
+fn extension_of(
+    tokens: &mut Tokens<'_>,
+    id: BufferString,
+    metadata: ByteBuffer,
+    storage: DType,
+) -> Result<DType, VortexError> {
+    tokens.expect(b')');
+    Ok(DType::Extension(ExtDType::new(tokens.alloc, id, metadata, storage)?))
+}

@@ -1,0 +1,136 @@
+//! Raw values and scalars.
+
+use crate::read::numbers::{integer, natural, read_negative};
+use crate::read::texts::{bytes_of_hex, read_text};
+use crate::read::types::{read_type, within};
+use crate::tokens::Tokens;
+use std::alloc::Global;
+use vortex_dtype::{DType, VortexError};
+use vortex_pvalue::PValue;
+use vortex_value::{Scalar, ScalarValue, UnionValue};
+
+/// What a raw value begins with.
+#[derive(Drop)]
+enum Head {
+    Whole(Option<ScalarValue>),
+    Tuple,
+    Union(u8),
+    Variant,
+}
+
+/// Reads what a raw value begins with, and the bracket of its parts.
+fn read_head(tokens: &mut Tokens<'_>) -> Head {
+    match tokens.peek() {
+        Some(b'"') => Head::Whole(Some(ScalarValue::Utf8(read_text(tokens)))),
+        Some(b'-') => {
+            let number = read_negative(tokens);
+            integer_head(tokens, number)
+        }
+        Some(b'[') => {
+            tokens.expect(b'[');
+            Head::Tuple
+        }
+        Some(b'<') => {
+            tokens.expect(b'<');
+            Head::Variant
+        }
+        _ => read_word(tokens),
+    }
+}
+
+/// Reads a null, a truth value, a string of bytes, an integer or a union's id.
+fn read_word(tokens: &mut Tokens<'_>) -> Head {
+    match tokens.word() {
+        b"null" => Head::Whole(None),
+        b"true" => Head::Whole(Some(ScalarValue::Bool(true))),
+        b"false" => Head::Whole(Some(ScalarValue::Bool(false))),
+        [b'x', digits @ ..] => {
+            Head::Whole(Some(ScalarValue::Binary(bytes_of_hex(tokens, digits))))
+        }
+        word => match natural(word) {
+            Some(id) => read_union_head(tokens, id),
+            None => integer_head(tokens, integer(word, false)),
+        },
+    }
+}
+
+/// An integer; where there is none, the line is a bad one.
+fn integer_head(tokens: &mut Tokens<'_>, number: Option<PValue>) -> Head {
+    if number.is_none() {
+        tokens.bad_line();
+    }
+    Head::Whole(number.map(ScalarValue::Primitive))
+}
+
+/// Reads the bracket that follows a union's id.
+fn read_union_head(tokens: &mut Tokens<'_>, id: u64) -> Head {
+    tokens.expect(b'(');
+    if id < 256 {
+        return Head::Union(id as u8);
+    }
+    tokens.bad_line();
+    Head::Whole(None)
+}
+
+/// Reads a raw value in which so many brackets may be open at one time; none is a null.
+#[cycle(values)]
+pub fn read_value(tokens: &mut Tokens<'_>, room: u32) -> Option<ScalarValue> {
+    match read_head(tokens) {
+        Head::Whole(value) => value,
+        head => {
+            let room = within(tokens, room)?;
+            read_parts(tokens, head, room)
+        }
+    }
+}
+
+/// Reads the parts of a raw value.
+#[cycle(values)]
+fn read_parts(tokens: &mut Tokens<'_>, head: Head, room: u32) -> Option<ScalarValue> {
+    match head {
+        Head::Whole(value) => value,
+        Head::Tuple => Some(ScalarValue::Tuple(read_tuple(tokens, room))),
+        Head::Union(id) => {
+            let child = read_value(tokens, room);
+            tokens.expect(b')');
+            let made = union_of(tokens.alloc, id, child);
+            tokens.made(made)
+        }
+        Head::Variant => {
+            let scalar = read_scalar(tokens, room);
+            tokens.expect(b'>');
+            let made = variant_of(tokens.alloc, scalar);
+            tokens.made(made)
+        }
+    }
+}
+
+#[cycle(values)]
+fn read_tuple(tokens: &mut Tokens<'_>, room: u32) -> Vec<Option<ScalarValue>> {
+    let mut parts = Vec::new(tokens.alloc);
+    for before in 0..=tokens.left() {
+        if !tokens.has_item(before, b']') {
+            break;
+        }
+        let part = read_value(tokens, room);
+        tokens.push(&mut parts, part);
+    }
+    parts
+}
+
+fn union_of(alloc: Global, id: u8, child: Option<ScalarValue>) -> Result<ScalarValue, VortexError> {
+    Ok(ScalarValue::Union(UnionValue::new(alloc, id, child)?))
+}
+
+fn variant_of(alloc: Global, scalar: Scalar) -> Result<ScalarValue, VortexError> {
+    Ok(ScalarValue::Variant(Box::new(alloc, scalar)?))
+}
+
+/// Reads a scalar, which need not be valid.
+#[cycle(values)]
+pub fn read_scalar(tokens: &mut Tokens<'_>, room: u32) -> Scalar {
+    let dtype = read_type(tokens, room);
+    tokens.expect(b':');
+    let value = read_value(tokens, room);
+    Scalar { dtype, value }
+}

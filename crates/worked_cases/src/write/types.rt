@@ -1,0 +1,134 @@
+//! Types.
+
+use crate::write::output::Output;
+use crate::write::texts::write_name;
+use vortex_dtype::{DType, ExtDType, MapDType, Nullability, StructFields, UnionVariants};
+
+/// Writes the question mark of a type that takes a null.
+fn write_nullability(out: &mut Output, nullability: Nullability) {
+    if nullability == Nullability::Nullable {
+        out.char('?');
+    }
+}
+
+/// Writes the name of a type without parts.
+fn write_flat(out: &mut Output, name: &str, nullability: Nullability) {
+    out.word(name);
+    write_nullability(out, nullability);
+}
+
+/// How many types may stand in one another: more than a line can hold.
+const ROOM: u32 = 1024;
+
+/// Writes a type.
+pub fn write_type(out: &mut Output, dtype: &DType) {
+    write_within(out, dtype, ROOM);
+}
+
+/// Writes a type in which at most so many types stand in one another.
+#[cycle(types)]
+fn write_within(out: &mut Output, dtype: &DType, room: u32) {
+    if room == 0 {
+        return;
+    }
+    let room = room - 1;
+    match dtype {
+        DType::Null => out.word("null"),
+        DType::Bool(n) => write_flat(out, "bool", *n),
+        DType::Primitive(kind, n) => write_flat(out, kind.name(), *n),
+        DType::Utf8(n) => write_flat(out, "utf8", *n),
+        DType::Binary(n) => write_flat(out, "binary", *n),
+        DType::Variant(n) => write_flat(out, "variant", *n),
+        DType::List(element, n) => {
+            out.word("list(");
+            write_within(out, element, room);
+            write_flat(out, ")", *n);
+        }
+        DType::FixedSizeList(element, size, n) => {
+            out.word("fsl(");
+            write_within(out, element, room);
+            out.word(", ");
+            out.number(*size);
+            write_flat(out, ")", *n);
+        }
+        DType::Map(map, n) => {
+            write_map(out, map, room);
+            write_nullability(out, *n);
+        }
+        DType::Struct(fields, n) => {
+            write_fields(out, fields, room);
+            write_nullability(out, *n);
+        }
+        DType::Union(variants, n) => {
+            write_variants(out, variants, room);
+            write_nullability(out, *n);
+        }
+        DType::Extension(extension) => {
+            write_extension_head(out, extension);
+            write_within(out, extension.storage_dtype(), room);
+            out.char(')');
+        }
+    }
+}
+
+#[cycle(types)]
+fn write_map(out: &mut Output, map: &MapDType, room: u32) {
+    out.word("map(");
+    write_within(out, map.key_dtype(), room);
+    out.word(", ");
+    write_within(out, map.value_dtype(), room);
+    out.word(if map.keys_sorted() { ", sorted)" } else { ")" });
+}
+
+#[cycle(types)]
+fn write_fields(out: &mut Output, fields: &StructFields, room: u32) {
+    out.char('{');
+    for (place, dtype) in fields.dtypes().iter().enumerate() {
+        write_field_head(out, fields, place);
+        write_within(out, dtype, room);
+    }
+    out.char('}');
+}
+
+/// Writes the name of the field at this place.
+fn write_field_head(out: &mut Output, fields: &StructFields, place: usize) {
+    out.comma(place);
+    if let Some(name) = fields.names().get(place) {
+        write_name(out, name.as_str());
+    }
+    out.word(": ");
+}
+
+#[cycle(types)]
+fn write_variants(out: &mut Output, variants: &UnionVariants, room: u32) {
+    out.word("union(");
+    for place in 0..variants.len() {
+        write_variant_head(out, variants, place);
+        if let Some(dtype) = variants.variant_by_index(place) {
+            write_within(out, dtype, room);
+        }
+    }
+    out.char(')');
+}
+
+/// Writes the id and the name of the variant at this place.
+fn write_variant_head(out: &mut Output, variants: &UnionVariants, place: usize) {
+    out.comma(place);
+    if place < variants.len() {
+        out.number(variants.child_index_to_tag(place));
+    }
+    out.char(' ');
+    if let Some(name) = variants.names().get(place) {
+        write_name(out, name.as_str());
+    }
+    out.word(": ");
+}
+
+/// Writes the id and the metadata of an extension.
+fn write_extension_head(out: &mut Output, extension: &ExtDType) {
+    out.word("ext(");
+    write_name(out, extension.id().as_str());
+    out.word(", ");
+    out.hex(extension.metadata().as_slice());
+    out.word(", ");
+}

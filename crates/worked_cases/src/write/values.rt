@@ -1,0 +1,84 @@
+//! Raw values and scalars.
+
+use crate::answers::truth_word;
+use crate::write::output::Output;
+use crate::write::texts::write_text;
+use crate::write::types::write_type;
+use vortex_pvalue::PValue;
+use vortex_value::{Scalar, ScalarValue, UnionValue};
+
+/// Writes an integer without its kind.
+pub fn write_number(out: &mut Output, number: PValue) {
+    out.number(number.whole());
+}
+
+/// Writes an integer and its kind.
+fn write_integer(out: &mut Output, number: PValue) {
+    write_number(out, number);
+    out.word(number.ptype().name());
+}
+
+/// Writes a raw value.
+#[cycle(values)]
+pub fn write_value(out: &mut Output, value: &ScalarValue) {
+    match value {
+        ScalarValue::Bool(truth) => out.word(truth_word(*truth)),
+        ScalarValue::Primitive(number) => write_integer(out, *number),
+        ScalarValue::Utf8(text) => write_text(out, text.as_str()),
+        ScalarValue::Binary(bytes) => {
+            out.char('x');
+            out.hex(bytes.as_slice());
+        }
+        ScalarValue::Tuple(parts) => write_tuple(out, parts),
+        ScalarValue::Union(union) => write_union(out, union),
+        ScalarValue::Variant(scalar) => write_variant(out, scalar),
+    }
+}
+
+#[cycle(values)]
+fn write_tuple(out: &mut Output, parts: &[Option<ScalarValue>]) {
+    out.char('[');
+    for (place, part) in parts.iter().enumerate() {
+        out.comma(place);
+        match part {
+            Some(value) => write_value(out, value),
+            None => out.word("null"),
+        }
+    }
+    out.char(']');
+}
+
+#[cycle(values)]
+fn write_union(out: &mut Output, union: &UnionValue) {
+    out.number(union.type_id);
+    out.char('(');
+    match &union.child {
+        Some(child) => write_value(out, child),
+        None => out.word("null"),
+    }
+    out.char(')');
+}
+
+#[cycle(values)]
+fn write_variant(out: &mut Output, scalar: &Scalar) {
+    out.char('<');
+    write_scalar(out, scalar);
+    out.char('>');
+}
+
+/// Writes a raw value, or `null`.
+#[cycle(values)]
+fn write_raw(out: &mut Output, value: &Option<ScalarValue>) {
+    match value {
+        Some(value) => write_value(out, value),
+        None => out.word("null"),
+    }
+}
+
+/// Writes a scalar.
+#[cycle(values)]
+pub fn write_scalar(out: &mut Output, scalar: &Scalar) {
+    write_type(out, &scalar.dtype);
+    out.char(':');
+    write_raw(out, &scalar.value);
+}
