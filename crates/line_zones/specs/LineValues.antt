@@ -2,7 +2,7 @@
 use Rattle.std.specs.Prelude.{◌<◌, ℕ, List, [], length, map, slice_index_or, IsUtf8, Some}
 use Rattle.std.specs.Borrow.{Bor}
 use Rattle.vortex_dtype.specs.TypeTree.{TypeTree, binary_type, utf8_type}
-use Rattle.vortex_dtype.specs.declared.kinds.Nullability.TheVariants.{NonNullable}
+use Rattle.vortex_dtype.specs.declared.nullability.Nullability.TheVariants.{NonNullable}
 use Rattle.vortex_dtype.specs.declared.types.DType.TheVariants.{Utf8, Binary as BinaryType}
 use Rattle.vortex_value.specs.Values.RawTree.{RawTree, raw_bytes, raw_text}
 use Rattle.vortex_value.specs.Values.Scalars.{IsMadeOf, IsValid}

@@ -5,17 +5,17 @@ use Rattle.std.proofs.lemmas.Slice.Eq.{bytes_eq-Decides}
 use Rattle.std.specs.List.{find}
 use Rattle.std.specs.Prelude.{codes, if◌then◌else◌}
 use Rattle.std.specs.Str.{bytes_eq}
-use Rattle.vortex_dtype.specs.Kinds.{kind_text}
-use Rattle.vortex_dtype.specs.declared.kinds.PType.{PType}
-use Rattle.vortex_dtype.specs.declared.kinds.PType.TheVariants.{U8, U16, U32, U64, I8, I16, I32, I64}
+use Rattle.vortex_dtype.specs.PTypes.{ptype_text}
+use Rattle.vortex_dtype.specs.declared.ptype.PType.{PType}
+use Rattle.vortex_dtype.specs.declared.ptype.PType.TheVariants.{U8, U16, U32, U64, I8, I16, I32, I64}
 use Rattle.rows.specs.Lines.{words_of}
-use Rattle.rows.specs.Grammar.{all_kinds, bound_operands, cast_operands, cast_request, kind_named, number_named, request_in, request_in_words}
+use Rattle.rows.specs.Grammar.{all_ptypes, bound_operands, cast_operands, cast_request, ptype_named, number_named, request_in, request_in_words}
 use Rattle.rows.specs.declared.commands.Side.{Side}
 use Rattle.rows.specs.declared.commands.Side.TheVariants.{Lower, Upper}
 use Rattle.rows.proofs.Beginnings.{lone_word, some_word}
 
 -- the text of a kind is one word
-text_alone : (kind : PType) → words_of (kind_text kind) ≡ kind_text kind ∷ []
+text_alone : (ptype : PType) → words_of (ptype_text ptype) ≡ ptype_text ptype ∷ []
 text_alone U8 = refl
 text_alone U16 = refl
 text_alone U32 = refl
@@ -26,44 +26,44 @@ text_alone I32 = refl
 text_alone I64 = refl
 
 -- the kind that is found has the text
-found : (word : List ℕ) (kinds : List PType) (kind : PType) → find (λ k. bytes_eq word (kind_text k)) kinds ≡ Some kind → bytes_eq word (kind_text kind) ≡ true
-found word [] kind e = absurd (none-some kind e)
-found word (k ∷ kinds) kind e = by_test (bytes_eq word (kind_text k)) refl (found word kinds kind)
+found : (word : List ℕ) (ptypes : List PType) (ptype : PType) → find (λ k. bytes_eq word (ptype_text k)) ptypes ≡ Some ptype → bytes_eq word (ptype_text ptype) ≡ true
+found word [] ptype e = absurd (none-some ptype e)
+found word (k ∷ ptypes) ptype e = by_test (bytes_eq word (ptype_text k)) refl (found word ptypes ptype)
   where
-    by_test : (t : Bool) → bytes_eq word (kind_text k) ≡ t → (find (λ j. bytes_eq word (kind_text j)) kinds ≡ Some kind → bytes_eq word (kind_text kind) ≡ true) → bytes_eq word (kind_text kind) ≡ true
-    by_test true t later = let same : Some k ≡ Some kind = rw t at e in let is : k ≡ kind = grind arith in subst (λ (j : PType). bytes_eq word (kind_text j) ≡ true) is t
+    by_test : (t : Bool) → bytes_eq word (ptype_text k) ≡ t → (find (λ j. bytes_eq word (ptype_text j)) ptypes ≡ Some ptype → bytes_eq word (ptype_text ptype) ≡ true) → bytes_eq word (ptype_text ptype) ≡ true
+    by_test true t later = let same : Some k ≡ Some ptype = rw t at e in let is : k ≡ ptype = grind arith in subst (λ (j : PType). bytes_eq word (ptype_text j) ≡ true) is t
     by_test false t later = later (rw t at e)
 
 -- what names a kind is one word
-kind_alone : (word : List ℕ) (kind : PType) → kind_named word ≡ Some kind → words_of word ≡ word ∷ []
-unfolding kind_named
-kind_alone word kind e =
-    let is : word ≡ kind_text kind = (bytes_eq-Decides word (kind_text kind)).0 (found word all_kinds kind e) in
-    subst (λ (l : List ℕ). words_of l ≡ l ∷ []) (sym is) (text_alone kind)
+ptype_alone : (word : List ℕ) (ptype : PType) → ptype_named word ≡ Some ptype → words_of word ≡ word ∷ []
+unfolding ptype_named
+ptype_alone word ptype e =
+    let is : word ≡ ptype_text ptype = (bytes_eq-Decides word (ptype_text ptype)).0 (found word all_ptypes ptype e) in
+    subst (λ (l : List ℕ). words_of l ≡ l ∷ []) (sym is) (text_alone ptype)
 
 -- without the kind to cast to, nothing is asked for
-no_kind : (from : Option PType) (number : Option ℤ) → cast_request from number None ≡ None
-no_kind None number = refl
-no_kind (Some from) None = refl
-no_kind (Some from) (Some z) = refl
+no_ptype : (from : Option PType) (number : Option ℤ) → cast_request from number None ≡ None
+no_ptype None number = refl
+no_ptype (Some from) None = refl
+no_ptype (Some from) (Some z) = refl
 
 -- the last of three may be more words, and then names no kind
-three : (a b s : List ℕ) → cast_request (kind_named a) (number_named b) (kind_named s) ≡ cast_operands (a ∷ b ∷ words_of s)
-three a b s = by_kind (kind_named s) refl
+three : (a b s : List ℕ) → cast_request (ptype_named a) (number_named b) (ptype_named s) ≡ cast_operands (a ∷ b ∷ words_of s)
+three a b s = by_ptype (ptype_named s) refl
   where
-    by_words : (w : List ℕ) (ws : List (List ℕ)) → words_of s ≡ w ∷ ws → kind_named s ≡ None → cast_request (kind_named a) (number_named b) None ≡ cast_operands (a ∷ b ∷ words_of s)
+    by_words : (w : List ℕ) (ws : List (List ℕ)) → words_of s ≡ w ∷ ws → ptype_named s ≡ None → cast_request (ptype_named a) (number_named b) None ≡ cast_operands (a ∷ b ∷ words_of s)
     by_words w [] q e =
         let same : w ≡ s = lone_word s w q in
-        rw q (ap (cast_request (kind_named a) (number_named b)) (sym e ∙ ap kind_named (sym same)))
-    by_words w (v ∷ ws) q e = rw q (no_kind _ _)
+        rw q (ap (cast_request (ptype_named a) (number_named b)) (sym e ∙ ap ptype_named (sym same)))
+    by_words w (v ∷ ws) q e = rw q (no_ptype _ _)
 
-    by_kind : (o : Option PType) → kind_named s ≡ o → cast_request (kind_named a) (number_named b) (kind_named s) ≡ cast_operands (a ∷ b ∷ words_of s)
-    by_kind None e = let more = some_word s in ap (cast_request (kind_named a) (number_named b)) e ∙ by_words more.0 more.1 more.2 e
-    by_kind (Some kind) e = rw (kind_alone s kind e) refl
+    by_ptype : (o : Option PType) → ptype_named s ≡ o → cast_request (ptype_named a) (number_named b) (ptype_named s) ≡ cast_operands (a ∷ b ∷ words_of s)
+    by_ptype None e = let more = some_word s in ap (cast_request (ptype_named a) (number_named b)) e ∙ by_words more.0 more.1 more.2 e
+    by_ptype (Some ptype) e = rw (ptype_alone s ptype e) refl
 
 -- what three words ask for, of which the last may be more
 pub three_words : (l a r b s : List ℕ) → words_of l ≡ a ∷ words_of r → words_of r ≡ b ∷ words_of s
-    → cast_request (kind_named a) (number_named b) (kind_named s) ≡ cast_operands (words_of l)
+    → cast_request (ptype_named a) (number_named b) (ptype_named s) ≡ cast_operands (words_of l)
 three_words l a r b s e f =
     three a b s ∙ sym (ap cast_operands (e ∙ ap (λ (ws : List (List ℕ)). a ∷ ws) f))
 

@@ -7,20 +7,20 @@ use Rattle.std.specs.Result.{result_ok}
 use Rattle.std.specs.Str.{bytes_eq}
 use Rattle.std.specs.Str.Parse.{digits_value}
 use Rattle.hex.specs.Hex.{decode_of}
-use Rattle.vortex_dtype.specs.declared.kinds.PType.{PType}
-use Rattle.vortex_dtype.specs.declared.kinds.PType.TheVariants.{U8, U16, U32, U64, I8, I16, I32, I64}
-use Rattle.vortex_dtype.specs.Kinds.{kind_text}
+use Rattle.vortex_dtype.specs.declared.ptype.PType.{PType}
+use Rattle.vortex_dtype.specs.declared.ptype.PType.TheVariants.{U8, U16, U32, U64, I8, I16, I32, I64}
+use Rattle.vortex_dtype.specs.PTypes.{ptype_text}
 use Rattle.vortex_pvalue.specs.Numbers.{in_range}
 use Rattle.rows.specs.Lines.{words_of}
 use Rattle.rows.specs.declared.commands.Side.{Side}
 use Rattle.rows.specs.declared.commands.Side.TheVariants.{Lower, Upper}
 
-abbrev pub all_kinds : List PType
-all_kinds = U8 ∷ U16 ∷ U32 ∷ U64 ∷ I8 ∷ I16 ∷ I32 ∷ I64 ∷ []
+abbrev pub all_ptypes : List PType
+all_ptypes = U8 ∷ U16 ∷ U32 ∷ U64 ∷ I8 ∷ I16 ∷ I32 ∷ I64 ∷ []
 
 -- KIND: the kind with this name
-unfoldable pub kind_named : List ℕ → Option PType
-kind_named word = find (λ kind. bytes_eq word (kind_text kind)) all_kinds
+unfoldable pub ptype_named : List ℕ → Option PType
+ptype_named word = find (λ ptype. bytes_eq word (ptype_text ptype)) all_ptypes
 
 -- digits alone
 unfoldable pub all_digits : List ℕ → Bool
@@ -67,7 +67,7 @@ cast_request None number to = None
 
 -- the words after `cast`: KIND NUMBER KIND
 abbrev pub cast_operands : List (List ℕ) → Option Request
-cast_operands (from ∷ number ∷ to ∷ []) = cast_request (kind_named from) (number_named number) (kind_named to)
+cast_operands (from ∷ number ∷ to ∷ []) = cast_request (ptype_named from) (number_named number) (ptype_named to)
 cast_operands _ = None
 
 -- a bound asks for a length and a string

@@ -4,10 +4,10 @@ ghost use Rattle.std.specs.Prelude.{◌≡◌, IfOk, MatchOption};
 ghost use Rattle.vortex_array.specs.Laws.{BoundsAreComputed, BoundsAreUnique};
 ghost use Rattle.vortex_array.specs.Strings.{IsString};
 ghost use Rattle.vortex_dtype.specs.TypeTree.{integer_type};
-ghost use Rattle.vortex_dtype.specs.declared.kinds.Nullability.TheVariants.{NonNullable};
+ghost use Rattle.vortex_dtype.specs.declared.nullability.Nullability.TheVariants.{NonNullable};
 ghost use Rattle.vortex_pvalue.specs.Conversions.{IsNumber};
 ghost use Rattle.vortex_pvalue.specs.Numbers.{InRange};
-ghost use Rattle.vortex_pvalue.specs.Whole.{kind_of, whole_of};
+ghost use Rattle.vortex_pvalue.specs.Whole.{ptype_of, whole_of};
 ghost use Rattle.vortex_value.specs.Values.Content.{whole};
 ghost use Rattle.vortex_value.specs.Values.RawKinds.{IsBytesValue, IsIntegerValue};
 ghost use Rattle.vortex_value.specs.Values.RawTree.{raw_bytes, raw_integer};
@@ -24,12 +24,12 @@ use vortex_array::{
 };
 
 /// The number in another kind, where that has it.
-pub fn number_in_kind(alloc: Global, number: PValue, kind: PType) -> Option<PValue>
+pub fn number_in_ptype(alloc: Global, number: PValue, ptype: PType) -> Option<PValue>
     ensures { MatchOption result
-        (¬ (InRange kind (whole_of number)))
-        (IsNumber kind (whole_of number)) }
+        (¬ (InRange ptype (whole_of number)))
+        (IsNumber ptype (whole_of number)) }
 {
-    let target = DType::Primitive(kind, Nullability::NonNullable);
+    let target = DType::Primitive(ptype, Nullability::NonNullable);
     let source = scalar_of(number);
     match source.cast(alloc, &target) {
         Ok(made) => Some(number_of(made)),
@@ -39,7 +39,7 @@ pub fn number_in_kind(alloc: Global, number: PValue, kind: PType) -> Option<PVal
 
 /// The scalar of the number.
 fn scalar_of(number: PValue) -> Scalar
-    ensures typed { scalar_type result ≡ integer_type (kind_of number) NonNullable }
+    ensures typed { scalar_type result ≡ integer_type (ptype_of number) NonNullable }
     ensures content { scalar_content result ≡ whole (whole_of number) }
     ensures valid { IsValid result }
 {
@@ -52,7 +52,7 @@ fn scalar_of(number: PValue) -> Scalar
 /// The number of a scalar that has one.
 fn number_of(scalar: Scalar) -> PValue
     requires { IsIntegerValue (scalar_raw scalar) }
-    ensures { scalar_raw scalar ≡ raw_integer (kind_of result) (whole_of result) }
+    ensures { scalar_raw scalar ≡ raw_integer (ptype_of result) (whole_of result) }
 {
     match scalar.into_value() {
         Some(value) => value.into_primitive(),

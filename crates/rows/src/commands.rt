@@ -2,10 +2,10 @@
 
 ghost use Rattle.std.specs.Prelude.{◌≡◌};
 ghost use Rattle.rows.specs.Commands.{asked_by};
-ghost use Rattle.rows.specs.Grammar.{bound_operands, cast_operands, cast_request, kind_named, number_named, request_in};
+ghost use Rattle.rows.specs.Grammar.{bound_operands, cast_operands, cast_request, number_named, ptype_named, request_in};
 ghost use Rattle.rows.specs.Lines.{words_of};
 
-use crate::numbers::{kind_named, number_named, size_named};
+use crate::numbers::{number_named, ptype_named, size_named};
 use crate::words::{after_word, cut_word};
 use vortex_array::{PType, PValue};
 
@@ -82,10 +82,10 @@ fn cast_of(operands: &[u8]) -> Option<Command<'_>>
 /// The cast that these three ask for. Where `to` is more than one word, it is no kind.
 fn cast_of_words<'a>(from: &[u8], number: &[u8], to: &[u8]) -> Option<Command<'a>>
     ensures { asked_by result
-        ≡ cast_request (kind_named from.now) (number_named number.now) (kind_named to.now) }
+        ≡ cast_request (ptype_named from.now) (number_named number.now) (ptype_named to.now) }
 {
-    let from = kind_named(from)?;
-    let to = kind_named(to)?;
+    let from = ptype_named(from)?;
+    let to = ptype_named(to)?;
     let number = PValue::from_whole(number_named(number)?, from)?;
     Some(Command::Cast { number, to })
 }

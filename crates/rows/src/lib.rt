@@ -14,7 +14,7 @@ mod words;
 
 pub use faults::{RowsError, fault_line};
 pub use input::read_all;
-pub use numbers::kind_named;
+pub use numbers::ptype_named;
 pub use output::write_out;
 pub use program::run;
 pub use words::first_line;

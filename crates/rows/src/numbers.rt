@@ -1,7 +1,7 @@
 //! Kinds, numbers and strings of bytes: what a word says.
 
 ghost use Rattle.std.specs.Prelude.{◌≡◌, IfOk, IfSome, ◌<◌, ◌^◌, length};
-ghost use Rattle.rows.specs.Grammar.{hex_named, kind_named, natural_named, number_named, size_named};
+ghost use Rattle.rows.specs.Grammar.{hex_named, ptype_named, natural_named, number_named, size_named};
 
 use hex::{FromHexError, decode};
 use std::alloc::{AllocError, Global};
@@ -15,9 +15,9 @@ const SIZE_DIGITS: usize = 18;
 
 /// The kind with this name.
 #[inline(always)]
-#[tactic(auto, unfolding(crate::specs::Grammar::kind_named))]
-pub fn kind_named(word: &[u8]) -> Option<PType>
-    ensures { result ≡ kind_named word.now }
+#[tactic(auto, unfolding(crate::specs::Grammar::ptype_named))]
+pub fn ptype_named(word: &[u8]) -> Option<PType>
+    ensures { result ≡ ptype_named word.now }
 {
     match word {
         b"u8" => Some(PType::U8),

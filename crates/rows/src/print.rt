@@ -3,7 +3,7 @@
 ghost use Rattle.std.specs.Prelude.{◌≡◌, ◌++◌, ◌∷◌, [], OnOk, codes};
 ghost use Rattle.std.specs.Fmt.{signed_decimal};
 ghost use Rattle.hex.specs.Hex.{encode_lower};
-ghost use Rattle.vortex_dtype.specs.Kinds.{kind_text};
+ghost use Rattle.vortex_dtype.specs.PTypes.{ptype_text};
 ghost use Rattle.vortex_pvalue.specs.Whole.{pvalue_text, whole_of};
 ghost use Rattle.rows.specs.Rows.{bound_text, cast_text};
 
@@ -47,7 +47,7 @@ fn push_value(output: &mut Vec<u8>, value: PValue) -> Result<(), AllocError>
     ensures { OnOk result (output.new.items ≡ output.old.items ++ (pvalue_text value ++ 10 ∷ [])) }
 {
     push_whole(output, value)?;
-    push_kind(output, value.ptype())
+    push_ptype(output, value.ptype())
 }
 
 /// Writes the value's number: one of 64 bits, signed where it is negative.
@@ -64,10 +64,10 @@ fn push_whole(output: &mut Vec<u8>, value: PValue) -> Result<(), AllocError>
 }
 
 /// Writes the kind's name and a line feed. Each is a literal, so that it is stored at once.
-fn push_kind(output: &mut Vec<u8>, kind: PType) -> Result<(), AllocError>
-    ensures { OnOk result (output.new.items ≡ output.old.items ++ (kind_text kind ++ 10 ∷ [])) }
+fn push_ptype(output: &mut Vec<u8>, ptype: PType) -> Result<(), AllocError>
+    ensures { OnOk result (output.new.items ≡ output.old.items ++ (ptype_text ptype ++ 10 ∷ [])) }
 {
-    match kind {
+    match ptype {
         PType::U8 => output.extend_from_slice(b"u8\n"),
         PType::U16 => output.extend_from_slice(b"u16\n"),
         PType::U32 => output.extend_from_slice(b"u32\n"),

@@ -2,11 +2,11 @@
 
 ghost use Rattle.std.specs.Prelude.{◌≡◌, ◌≢◌, ◌++◌, ◌∷◌, [], Some, IfErr, IfOk, IfSome, OnOk};
 ghost use Rattle.std.specs.Io.KnownBytes.{Appends, IsAtEnd};
-ghost use Rattle.vortex_pvalue.specs.Whole.{kind_of, whole_of};
+ghost use Rattle.vortex_pvalue.specs.Whole.{ptype_of, whole_of};
 ghost use Rattle.rows.specs.Grammar.{bound_request, cast, hex_named, request_in};
 ghost use Rattle.rows.specs.Rows.{request_text, row_text, rows_of};
 
-use crate::answers::{bound_at, number_in_kind};
+use crate::answers::{bound_at, number_in_ptype};
 use crate::commands::{Command, Side, command_in};
 use crate::faults::RowsError;
 use crate::input::read_all;
@@ -81,9 +81,9 @@ fn push_cast(
     to: PType,
 ) -> Result<(), AllocError>
     ensures { OnOk result (output.new.items ≡ output.old.items
-        ++ (request_text (cast (kind_of number) (whole_of number) to) ++ 10 ∷ [])) }
+        ++ (request_text (cast (ptype_of number) (whole_of number) to) ++ 10 ∷ [])) }
 {
-    push_number(output, number_in_kind(alloc, number, to))
+    push_number(output, number_in_ptype(alloc, number, to))
 }
 
 /// Writes what a bound gives and a line feed. Apart, so that a cast pays for none of it.

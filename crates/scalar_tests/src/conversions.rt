@@ -16,10 +16,10 @@ fn is_refused<T: Drop>(answer: Result<T, VortexError>, cause: VortexError) -> bo
 }
 
 /// Whether the scalar is of this kind of integers that take no null, and holds a value of the kind.
-fn is_of_kind(found: &Scalar, kind: PType) -> bool {
+fn is_of_ptype(found: &Scalar, asked: PType) -> bool {
     match (&found.dtype, &found.value) {
         (DType::Primitive(ptype, NonNullable), Some(ScalarValue::Primitive(number))) => {
-            *ptype == kind && number.ptype() == kind
+            *ptype == asked && number.ptype() == asked
         }
         _ => false,
     }
@@ -33,13 +33,13 @@ fn unsigned_numbers_go_and_come_back(rt: HostRuntime) {
         Scalar::from(7u32),
         Scalar::from(u64::MAX),
     ];
-    assert!(rt; is_of_kind(&all[0], PType::U8));
+    assert!(rt; is_of_ptype(&all[0], PType::U8));
     assert!(rt; u8::try_from(&all[0]).expect(&rt, "a u8") == 200);
-    assert!(rt; is_of_kind(&all[1], PType::U16));
+    assert!(rt; is_of_ptype(&all[1], PType::U16));
     assert!(rt; u16::try_from(&all[1]).expect(&rt, "a u16") == 65535);
-    assert!(rt; is_of_kind(&all[2], PType::U32));
+    assert!(rt; is_of_ptype(&all[2], PType::U32));
     assert!(rt; u32::try_from(&all[2]).expect(&rt, "a u32") == 7);
-    assert!(rt; is_of_kind(&all[3], PType::U64));
+    assert!(rt; is_of_ptype(&all[3], PType::U64));
     assert!(rt; u64::try_from(&all[3]).expect(&rt, "a u64") == u64::MAX);
 }
 
@@ -51,13 +51,13 @@ fn signed_numbers_go_and_come_back(rt: HostRuntime) {
         Scalar::from(-5i32),
         Scalar::from(i64::MIN),
     ];
-    assert!(rt; is_of_kind(&all[0], PType::I8));
+    assert!(rt; is_of_ptype(&all[0], PType::I8));
     assert!(rt; i8::try_from(&all[0]).expect(&rt, "an i8") == -128);
-    assert!(rt; is_of_kind(&all[1], PType::I16));
+    assert!(rt; is_of_ptype(&all[1], PType::I16));
     assert!(rt; i16::try_from(&all[1]).expect(&rt, "an i16") == -5);
-    assert!(rt; is_of_kind(&all[2], PType::I32));
+    assert!(rt; is_of_ptype(&all[2], PType::I32));
     assert!(rt; i32::try_from(&all[2]).expect(&rt, "an i32") == -5);
-    assert!(rt; is_of_kind(&all[3], PType::I64));
+    assert!(rt; is_of_ptype(&all[3], PType::I64));
     assert!(rt; i64::try_from(&all[3]).expect(&rt, "an i64") == i64::MIN);
 }
 
@@ -163,7 +163,7 @@ fn usizes_are_wide(rt: HostRuntime) {
         },
     ];
     assert!(rt; usize::try_from(&all[0]).expect(&rt, "a usize") == 4294967296);
-    assert!(rt; is_of_kind(&all[1], PType::U64));
+    assert!(rt; is_of_ptype(&all[1], PType::U64));
     assert!(rt; Option::<usize>::try_from(&all[2]).expect(&rt, "a usize") == Some(1000));
 }
 

@@ -1,9 +1,8 @@
 //! Views of scalars without parts: what no worked case says of them.
 
-ghost use Rattle.std.specs.Option.{option_copied};
 ghost use Rattle.vortex_dtype.specs.TypeOf.{type_of};
-ghost use Rattle.vortex_value.specs.Values.RawOf.{raw_of};
-ghost use Rattle.vortex_leaves.specs.Numbers.{in_kind_of};
+ghost use Rattle.vortex_value.specs.Values.RawOf.{lent_raw};
+ghost use Rattle.vortex_leaves.specs.Numbers.{in_ptype_of};
 ghost use Rattle.vortex_leaves.specs.PrimitiveViews.{IsNumberViewOf};
 
 use crate::fixtures::{I32, Raw, bytes, integer, text};
@@ -232,7 +231,7 @@ fn view_of<'a>(
     value: Option<&ScalarValue>,
 ) -> PrimitiveScalar<'a>
     ensures { IsNumberViewOf (type_of dtype.now)
-        (in_kind_of (type_of dtype.now) (raw_of (option_copied value.entry))) result }
+        (in_ptype_of (type_of dtype.now) (lent_raw value.entry)) result }
 {
     PrimitiveScalar::try_new(rt.alloc(), dtype, value).expect(rt, "an integer")
 }

@@ -20,12 +20,12 @@ use vortex_value::laws::{
 };
 
 /// The type of lists of integers of a kind.
-fn list_of(alloc: Global, kind: PType) -> Result<DType, VortexError>
+fn list_of(alloc: Global, ptype: PType) -> Result<DType, VortexError>
     ensures made { IfOk result (λ made. type_of made ≡
-        list_type (integer_type kind Nullability.NonNullable) Nullability.NonNullable) }
+        list_type (integer_type ptype Nullability.NonNullable) Nullability.NonNullable) }
     ensures refused { IfErr result (λ e. e ≡ VortexError.OutOfMemory) }
 {
-    let element = DType::Primitive(kind, Nullability::NonNullable);
+    let element = DType::Primitive(ptype, Nullability::NonNullable);
     let element = Box::new(alloc, element)?;
     Ok(DType::List(element, Nullability::NonNullable))
 }

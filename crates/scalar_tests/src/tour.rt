@@ -5,9 +5,9 @@ use std::alloc::Global;
 use vortex_array::{DType, Nullability, PType, Scalar, Step, VortexError};
 
 /// 1000, an i32, as an integer of another kind: Ok for I16; Err(CannotCast) for I8, which has no 1000.
-pub fn thousand_as(alloc: Global, kind: PType) -> Result<Scalar, VortexError> {
+pub fn thousand_as(alloc: Global, ptype: PType) -> Result<Scalar, VortexError> {
     let thousand = Scalar::primitive(1000i32, Nullability::NonNullable);
-    let target = DType::Primitive(kind, Nullability::NonNullable);
+    let target = DType::Primitive(ptype, Nullability::NonNullable);
     thousand.cast(alloc, &target)
 }
 

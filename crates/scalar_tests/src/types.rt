@@ -88,18 +88,18 @@ fn variants_are_as_many_as_their_names_and_ids(rt: HostRuntime) {
 }
 
 /// Sees the width and the sign of a kind.
-fn sees_kind(rt: &impl Abort, kind: PType, width: usize, is_signed: bool) {
-    assert!(rt; kind.byte_width() == width && kind.is_signed() == is_signed);
+fn sees_ptype(rt: &impl Abort, ptype: PType, width: usize, is_signed: bool) {
+    assert!(rt; ptype.byte_width() == width && ptype.is_signed() == is_signed);
 }
 
 #[test]
 fn integer_kinds_have_a_width_and_a_sign(rt: HostRuntime) {
-    sees_kind(&rt, PType::U8, 1, false);
-    sees_kind(&rt, PType::U16, 2, false);
-    sees_kind(&rt, PType::U32, 4, false);
-    sees_kind(&rt, PType::U64, 8, false);
-    sees_kind(&rt, PType::I8, 1, true);
-    sees_kind(&rt, PType::I16, 2, true);
-    sees_kind(&rt, PType::I32, 4, true);
-    sees_kind(&rt, PType::I64, 8, true);
+    sees_ptype(&rt, PType::U8, 1, false);
+    sees_ptype(&rt, PType::U16, 2, false);
+    sees_ptype(&rt, PType::U32, 4, false);
+    sees_ptype(&rt, PType::U64, 8, false);
+    sees_ptype(&rt, PType::I8, 1, true);
+    sees_ptype(&rt, PType::I16, 2, true);
+    sees_ptype(&rt, PType::I32, 4, true);
+    sees_ptype(&rt, PType::I64, 8, true);
 }

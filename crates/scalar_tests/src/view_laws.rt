@@ -7,8 +7,8 @@ ghost use Rattle.vortex_leaves.specs.TextViews.{text_view_content, text_view_typ
 ghost use Rattle.vortex_value.specs.Equality.{EqualContents};
 ghost use Rattle.vortex_value.specs.Hashing.{typed_feed};
 ghost use Rattle.vortex_value.specs.TypesWithin.{HasNoVariant};
-ghost use Rattle.vortex_value.specs.Values.Refs.{IsValidRef, ref_content, ref_type};
-ghost use Rattle.vortex_views.specs.Lists.{list_ref};
+ghost use Rattle.vortex_value.specs.Values.Refs.{IsValidRef, ref_content};
+ghost use Rattle.vortex_views.specs.Lists.{list_ref, list_view_type};
 ghost use Rattle.vortex_views.specs.Parts.{ref_feed};
 
 use crate::fixtures::text_buffer;
@@ -38,9 +38,9 @@ fn are_tied_texts(first: &Utf8Scalar<'_>, second: &Utf8Scalar<'_>) -> bool
 /// Whether the order says Equal of two lists.
 fn are_tied_lists(first: &ListScalar<'_>, second: &ListScalar<'_>) -> bool
     requires valid { IsValidRef (list_ref first.now) }
-    requires typed { HasNoVariant (ref_type (list_ref first.now)) }
+    requires typed { HasNoVariant (list_view_type first.now) }
     ensures types { IsTrue result
-        → Same (ref_type (list_ref first.now)) (ref_type (list_ref second.now)) }
+        → Same (list_view_type first.now) (list_view_type second.now) }
     ensures contents { IsTrue result
         → EqualContents (ref_content (list_ref first.now)) (ref_content (list_ref second.now)) }
     ensures fed { IsTrue result → ref_feed (list_ref first.now) ≡ ref_feed (list_ref second.now) }

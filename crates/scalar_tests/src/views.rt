@@ -1,8 +1,7 @@
 //! Views of lists and maps: what no worked case asks of them.
 
 ghost use Rattle.std.specs.Prelude.{◌≡◌, length};
-ghost use Rattle.vortex_value.specs.Values.Refs.{ref_raw};
-ghost use Rattle.vortex_views.specs.Maps.{map_ref};
+ghost use Rattle.vortex_views.specs.Maps.{map_view_raw};
 ghost use Rattle.vortex_views.specs.Parts.{parts_of};
 
 use crate::fixtures::{I32, integer, list, map, text, tuple};
@@ -39,7 +38,7 @@ fn parts_of_maps_go_through_adapters(rt: HostRuntime) {
 
 /// How many keys a map gives: as many as it has entries.
 fn keys_given(rt: &impl AllocGlobal, map: MapScalar<'_>) -> usize
-    ensures { result ≡ length (parts_of (ref_raw (map_ref map.entry))) }
+    ensures { result ≡ length (parts_of (map_view_raw map.entry)) }
 {
     iterators_give_each_part();
     map.keys(rt.alloc()).count()

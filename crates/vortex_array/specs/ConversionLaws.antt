@@ -1,12 +1,12 @@
 -- Values are taken back from what they give. Trait implementations cite these lemmas.
 use Rattle.std.specs.Prelude.{◌≡◌, ℕ, ℤ, pos, List, [], ◌∷◌, Some, None, Ok}
 use Rattle.std.proofs.Common.{refl, ap, ◌∙◌}
-use Rattle.vortex_dtype.specs.Lemmas.TypeLaws.{same_kind-Decides}
+use Rattle.vortex_dtype.specs.Lemmas.TypeLaws.{same_ptype-Decides}
 use Rattle.vortex_dtype.specs.TypeTree.{TypeTree, as_nullable, bool_type, integer_type, utf8_type, binary_type, list_type}
-use Rattle.vortex_dtype.specs.declared.kinds.Nullability.{Nullability}
-use Rattle.vortex_dtype.specs.declared.kinds.Nullability.TheVariants.{NonNullable, Nullable}
-use Rattle.vortex_dtype.specs.declared.kinds.PType.{PType}
-use Rattle.vortex_dtype.specs.declared.kinds.PType.TheVariants.{U64}
+use Rattle.vortex_dtype.specs.declared.nullability.Nullability.{Nullability}
+use Rattle.vortex_dtype.specs.declared.nullability.Nullability.TheVariants.{NonNullable, Nullable}
+use Rattle.vortex_dtype.specs.declared.ptype.PType.{PType}
+use Rattle.vortex_dtype.specs.declared.ptype.PType.TheVariants.{U64}
 use Rattle.vortex_pvalue.specs.RangeLaws.{in_range_true}
 use Rattle.vortex_value.specs.Conversions.{Taken, as_tuple, each_taken, given_number, given_option, given_usize, taken_bool, taken_bytes, taken_number, taken_option_bool, taken_option_bytes, taken_option_number, taken_option_text, taken_option_usize, taken_text, taken_usize, taken_vec}
 use Rattle.vortex_value.specs.Validity.{EachValid}
@@ -29,8 +29,8 @@ integer_back k t number e = rw e (number_back k NonNullable number)
 
 -- an optional one, at the nullable column type
 option_number_back : {T : Type 0} (k : PType) (n : Nullability) (number : T → ℤ) → TakesBack (given_option (given_number k number)) (taken_option_number k) (integer_type k n)
-option_number_back k n number None valid = rw ((same_kind-Decides k k).1 refl) refl
-option_number_back k n number (Some x) valid = rw ((same_kind-Decides k k).1 refl, in_range_true k (number x) valid.1) refl
+option_number_back k n number None valid = rw ((same_ptype-Decides k k).1 refl) refl
+option_number_back k n number (Some x) valid = rw ((same_ptype-Decides k k).1 refl, in_range_true k (number x) valid.1) refl
 
 pub option_integer_back : {T : Type 0} (k : PType) (t : TypeTree) (number : T → ℤ) → t ≡ integer_type k NonNullable
     → TakesBack (given_option (given_number k number)) (taken_option_number k) (as_nullable t)

@@ -3,7 +3,7 @@ use Rattle.std.specs.Prelude.{◌≡◌, ℕ, ◌<◌, ◌≤◌, ◌↔◌, ◌
 use Rattle.std.specs.declared.cmp.Ordering.{Ordering}
 use Rattle.std.specs.declared.cmp.Ordering.TheVariants.{Less, Equal}
 use Rattle.vortex_dtype.specs.TypeTree.{TypeTree, Same}
-use Rattle.vortex_dtype.specs.declared.kinds.Nullability.{Nullability}
+use Rattle.vortex_dtype.specs.declared.nullability.Nullability.{Nullability}
 use Rattle.vortex_value.specs.Values.RawTree.{RawTree, absent}
 use Rattle.vortex_value.specs.Values.Scalars.{IsMadeOf, IsValid, scalar_order, scalar_raw, scalar_type}
 use Rattle.vortex_value.specs.declared.scalars.Scalar.{Scalar}

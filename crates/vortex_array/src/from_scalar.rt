@@ -1,11 +1,10 @@
 //! Conversions of scalars into Rust values.
 
 ghost use Rattle.std.specs.Prelude.{◌≡◌, Err, string_bytes};
-ghost use Rattle.std.specs.Option.{option_copied};
 ghost use Rattle.vortex_dtype.specs.TypeOf.{type_of};
 ghost use Rattle.vortex_dtype.specs.TypeTree.{TypeTree};
 ghost use Rattle.vortex_value.specs.Conversions.{SparesShort, Taken, Takes, TakesCopy, as_tuple, each_taken, elements_in, given_number, given_option, given_usize, taken_bool, taken_bytes, taken_number, taken_option_bool, taken_option_bytes, taken_option_number, taken_option_text, taken_option_usize, taken_text, taken_usize, taken_vec, unless_null};
-ghost use Rattle.vortex_value.specs.Values.RawOf.{raw_of, value_trees};
+ghost use Rattle.vortex_value.specs.Values.RawOf.{lent_raw, raw_of, value_trees};
 ghost use Rattle.vortex_value.specs.Values.RawTree.{RawTree, raw_bool, raw_text, raw_bytes, raw_tuple};
 ghost use Rattle.vortex_value.specs.Values.Refs.{ref_raw, ref_type};
 ghost use Rattle.vortex_array.specs.Conversions.{Copies, HasParts, TakesOrNoMemory, given_vec};
@@ -232,9 +231,9 @@ fn take_list<T: FromScalar + Drop>(
 ) -> Result<Vec<T>, VortexError>
     ensures value { TakesOrNoMemory (given_vec T.given)
         (unless_null (elements_in (T.taken (type_of element.now)))
-        (raw_of (option_copied value.entry))) result }
+        (lent_raw value.entry)) result }
     ensures memory { result ≡ Err VortexError.OutOfMemory
-        → HasParts (raw_of (option_copied value.entry)) }
+        → HasParts (lent_raw value.entry) }
 {
     match value {
         Some(ScalarValue::Tuple(parts)) => take_elements(alloc, element, parts),

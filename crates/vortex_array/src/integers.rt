@@ -2,7 +2,7 @@
 
 ghost use Rattle.std.specs.Prelude.{◌≡◌, refl};
 ghost use Rattle.vortex_dtype.specs.TypeTree.{integer_type};
-ghost use Rattle.vortex_dtype.specs.declared.kinds.Nullability.TheVariants.{NonNullable};
+ghost use Rattle.vortex_dtype.specs.declared.nullability.Nullability.TheVariants.{NonNullable};
 
 use vortex_dtype::NativeDType;
 use vortex_pvalue::NativePType;

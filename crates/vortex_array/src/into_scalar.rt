@@ -3,8 +3,8 @@
 ghost use Rattle.std.specs.Prelude.{◌≡◌, ◌≤◌, length, IsOk, IsOkAnd, MatchResult, string_bytes};
 ghost use Rattle.vortex_dtype.specs.TypeTree.{bool_type, integer_type, utf8_type, binary_type};
 ghost use Rattle.vortex_dtype.specs.declared.error.VortexError.TheVariants.{OutOfMemory};
-ghost use Rattle.vortex_dtype.specs.declared.kinds.Nullability.TheVariants.{NonNullable};
-ghost use Rattle.vortex_dtype.specs.declared.kinds.PType.TheVariants.{U64};
+ghost use Rattle.vortex_dtype.specs.declared.nullability.Nullability.TheVariants.{NonNullable};
+ghost use Rattle.vortex_dtype.specs.declared.ptype.PType.TheVariants.{U64};
 ghost use Rattle.vortex_value.specs.Conversions.{IsMadeValid, given_number, given_option, given_usize};
 ghost use Rattle.vortex_value.specs.Values.RawOf.{raw_of, value_trees};
 ghost use Rattle.vortex_value.specs.Values.RawTree.{RawTree, raw_bool, raw_text, raw_bytes};

@@ -1,7 +1,7 @@
 //! Values that are taken back from the scalars that they make.
 
 ghost use Rattle.std.specs.Prelude.{refl, string_bytes};
-ghost use Rattle.vortex_dtype.specs.declared.kinds.Nullability.TheVariants.{NonNullable, Nullable};
+ghost use Rattle.vortex_dtype.specs.declared.nullability.Nullability.TheVariants.{NonNullable, Nullable};
 ghost use Rattle.vortex_array.specs.ConversionLaws.{bool_back, bytes_back, integer_back, option_bool_back, option_bytes_back, option_integer_back, option_text_back, option_usize_back, text_back, usize_back, vec_back, vec_named};
 ghost use Rattle.vortex_array.specs.Conversions.{NamesAsGiven, TakesBack};
 

@@ -6,7 +6,7 @@ ghost use Rattle.std.specs.Ordering.{nat_cmp};
 ghost use Rattle.vortex_dtype.specs.Memory.{GivesOrNoMemory};
 ghost use Rattle.vortex_dtype.specs.TypeTree.{TypeTree, binary_type, nullability_of, utf8_type};
 ghost use Rattle.vortex_dtype.specs.declared.error.VortexError.TheVariants.{OutOfMemory, WrongKind};
-ghost use Rattle.vortex_dtype.specs.declared.kinds.Nullability.{Nullability};
+ghost use Rattle.vortex_dtype.specs.declared.nullability.Nullability.{Nullability};
 ghost use Rattle.vortex_value.specs.Values.Content.{content};
 ghost use Rattle.vortex_value.specs.Order.{order};
 ghost use Rattle.vortex_value.specs.Values.RawTree.{RawTree, absent, raw_bytes, raw_text};

@@ -3,7 +3,7 @@ use Rattle.std.proofs.Common.{◌≡◌, ℕ, ◌||◌, List, Bool, true, false,
 use Rattle.std.specs.Cmp.Lexicographic.{slice_cmp}
 use Rattle.std.specs.Ordering.{is_some_and, is_lt, is_gt}
 use Rattle.vortex_dtype.specs.TypeTree.{TypeTree, Same, binary_type, utf8_type}
-use Rattle.vortex_dtype.specs.declared.kinds.Nullability.TheVariants.{NonNullable}
+use Rattle.vortex_dtype.specs.declared.nullability.Nullability.TheVariants.{NonNullable}
 use Rattle.vortex_value.specs.Equality.{same_type}
 use Rattle.vortex_value.specs.Lemmas.EqualityLaws.{same_type-Decides}
 use Rattle.vortex_value.specs.Order.{order}

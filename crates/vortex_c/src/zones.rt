@@ -2,7 +2,7 @@
 
 ghost use Rattle.std.specs.Prelude.{◌≡◌, ◌≢◌, ◌⊎◌, IsTrue, IsUtf8, MatchBool};
 ghost use Rattle.vortex_dtype.specs.TypeTree.{binary_type, utf8_type};
-ghost use Rattle.vortex_dtype.specs.declared.kinds.Nullability.TheVariants.{NonNullable};
+ghost use Rattle.vortex_dtype.specs.declared.nullability.Nullability.TheVariants.{NonNullable};
 ghost use Rattle.vortex_value.specs.Values.RawTree.{raw_bytes, raw_text};
 ghost use Rattle.vortex_c.specs.Columns.{some_where};
 ghost use Rattle.vortex_c.specs.Zones.{IsAnswerOfZones, may_hold_bytes};

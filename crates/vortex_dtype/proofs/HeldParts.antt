@@ -1,6 +1,6 @@
 -- What struct and union types hold: looked up in their trees, and part by part.
 use Rattle.std.proofs.Common.{◌≡◌, Some, map, sym, ap, ◌∙◌, rules}
-use Rattle.vortex_dtype.specs.declared.kinds.Nullability.{Nullability}
+use Rattle.vortex_dtype.specs.declared.nullability.Nullability.{Nullability}
 use Rattle.vortex_dtype.specs.declared.types.DType.{Struct, Union, the_lemmas}
 use Rattle.vortex_dtype.specs.declared.types.StructFields.{StructFields}
 use Rattle.vortex_dtype.specs.declared.types.UnionVariants.{UnionVariants}

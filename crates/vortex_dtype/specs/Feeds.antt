@@ -5,17 +5,17 @@ use Rattle.std.specs.Hash.{HashWrites}
 use Rattle.vortex_dtype.specs.TypeTree.{TypeTree, TypeTrees, null_type, bool_type, integer_type, utf8_type, binary_type, list_type, fixed_size_list_type, map_type, struct_type, union_type, variant_type, extension_type, no_types, type_then, trim, trim_all}
 use Rattle.vortex_dtype.specs.TypeOf.{ExtensionParts, MapParts, FieldParts, VariantParts, as_type_trees}
 use Rattle.vortex_dtype.specs.TypeEquality.{nullability_code}
-use Rattle.vortex_dtype.specs.Kinds.{kind_index}
-use Rattle.vortex_dtype.specs.declared.kinds.Nullability.{Nullability}
-use Rattle.vortex_dtype.specs.declared.kinds.PType.{PType}
+use Rattle.vortex_dtype.specs.PTypes.{ptype_index}
+use Rattle.vortex_dtype.specs.declared.nullability.Nullability.{Nullability}
+use Rattle.vortex_dtype.specs.declared.ptype.PType.{PType}
 
 -- a nullability feeds its number
 abbrev pub nullability_feed : Nullability → HashWrites
 nullability_feed n = fed.u8 (nullability_code n)
 
 -- an integer kind feeds its number
-abbrev pub kind_feed : PType → HashWrites
-kind_feed k = fed.u8 (kind_index k)
+abbrev pub ptype_feed : PType → HashWrites
+ptype_feed k = fed.u8 (ptype_index k)
 
 -- a text, an id or metadata feeds its length and its bytes
 abbrev pub bytes_feed : List ℕ → HashWrites
@@ -45,7 +45,7 @@ abbrev mutual
   pub tree_feed : TypeTree → HashWrites
   tree_feed null_type = fed.u8 0
   tree_feed (bool_type n) = fed.u8 1 ++ nullability_feed n
-  tree_feed (integer_type k n) = fed.u8 2 ++ kind_feed k ++ nullability_feed n
+  tree_feed (integer_type k n) = fed.u8 2 ++ ptype_feed k ++ nullability_feed n
   tree_feed (utf8_type n) = fed.u8 3 ++ nullability_feed n
   tree_feed (binary_type n) = fed.u8 4 ++ nullability_feed n
   tree_feed (list_type e n) = fed.u8 5 ++ tree_feed e ++ nullability_feed n

@@ -1,8 +1,8 @@
 -- The laws of types: the tree of each variant, equality and sameness are equivalences, and a type made nullable is the same type.
 use Rattle.std.specs.Prelude.{◌≡◌, ◌↔◌, ℕ, ◌==◌, Bool, false, List, Some, position, slice_get, IsTrue, Box}
 use Rattle.std.specs.Global.{Global}
-use Rattle.vortex_dtype.specs.declared.kinds.Nullability.{Nullability}
-use Rattle.vortex_dtype.specs.declared.kinds.PType.{PType}
+use Rattle.vortex_dtype.specs.declared.nullability.Nullability.{Nullability}
+use Rattle.vortex_dtype.specs.declared.ptype.PType.{PType}
 use Rattle.vortex_dtype.specs.declared.types.DType.{DType}
 use Rattle.vortex_dtype.specs.declared.types.DType.TheVariants as types
 use Rattle.vortex_dtype.specs.declared.types.ExtDType.{ExtDType}

@@ -3,11 +3,11 @@ use Rattle.std.specs.Prelude.{ℕ, ◌&&◌, ◌==◌, List, Bool, true, false}
 use Rattle.std.specs.Bool.{beq}
 use Rattle.std.specs.Cmp.Lexicographic.{pointwise}
 use Rattle.std.specs.Str.{bytes_eq}
-use Rattle.vortex_dtype.specs.Kinds.{same_kind}
+use Rattle.vortex_dtype.specs.PTypes.{same_ptype}
 use Rattle.vortex_dtype.specs.TypeTree.{TypeTree, TypeTrees, null_type, bool_type, integer_type, utf8_type, binary_type, list_type, fixed_size_list_type, map_type, struct_type, union_type, variant_type, extension_type, no_types, type_then, trim, trim_all}
 use Rattle.vortex_dtype.specs.TypeOf.{ExtensionParts, MapParts, FieldParts, VariantParts, as_type_trees}
-use Rattle.vortex_dtype.specs.declared.kinds.Nullability.{Nullability}
-use Rattle.vortex_dtype.specs.declared.kinds.Nullability.TheVariants.{NonNullable, Nullable}
+use Rattle.vortex_dtype.specs.declared.nullability.Nullability.{Nullability}
+use Rattle.vortex_dtype.specs.declared.nullability.Nullability.TheVariants.{NonNullable, Nullable}
 
 -- a number for each nullability
 abbrev pub nullability_code : Nullability → ℕ
@@ -27,7 +27,7 @@ abbrev mutual
   pub tree_eq : TypeTree → TypeTree → Bool
   tree_eq null_type null_type = true
   tree_eq (bool_type m) (bool_type n) = nullability_eq m n
-  tree_eq (integer_type j m) (integer_type k n) = same_kind j k && nullability_eq m n
+  tree_eq (integer_type j m) (integer_type k n) = same_ptype j k && nullability_eq m n
   tree_eq (utf8_type m) (utf8_type n) = nullability_eq m n
   tree_eq (binary_type m) (binary_type n) = nullability_eq m n
   tree_eq (list_type s m) (list_type t n) = tree_eq s t && nullability_eq m n

@@ -1,7 +1,7 @@
 -- The tree of a declared type, and what its parts hold.
 use Rattle.std.specs.Prelude.{ℕ, List, [], ◌∷◌, Bool, map as list_map}
 use Rattle.vortex_dtype.specs.TypeTree.{TypeTree, TypeTrees, null_type, bool_type, integer_type, utf8_type, binary_type, list_type, fixed_size_list_type, map_type, struct_type, union_type, variant_type, extension_type, no_types, type_then}
-use Rattle.vortex_dtype.specs.declared.kinds.Nullability.{Nullability}
+use Rattle.vortex_dtype.specs.declared.nullability.Nullability.{Nullability}
 use Rattle.vortex_dtype.specs.declared.types.DType.{DType, fold-DType}
 use Rattle.vortex_dtype.specs.declared.types.DType.TheOpen.{DType-F, ExtDType-F, MapDType-F, StructFields-F, UnionVariants-F}
 use Rattle.vortex_dtype.specs.declared.types.ExtDType.{ExtDType, fold-ExtDType}

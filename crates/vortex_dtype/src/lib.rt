@@ -9,16 +9,18 @@
 
 mod buffer;
 mod error;
-mod kinds;
 pub mod laws;
 mod names;
 mod native;
+mod nullability;
+mod ptype;
 mod types;
 
 pub use buffer::{BufferString, ByteBuffer, INLINE_BYTES};
 pub use error::{Breach, Path, Step, TypeCause, VortexError};
-pub use kinds::{Nullability, PType};
 pub use names::{FieldName, FieldNames};
 pub use native::NativeDType;
+pub use nullability::Nullability;
+pub use ptype::PType;
 pub use types::variants::TypeIds;
 pub use types::{DType, ExtDType, MapDType, StructFields, UnionVariants};

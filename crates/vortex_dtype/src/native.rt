@@ -4,12 +4,13 @@ ghost use Rattle.std.specs.Prelude.{◌≡◌};
 ghost use Rattle.vortex_dtype.specs.Memory.{GivesOrNoMemory};
 ghost use Rattle.vortex_dtype.specs.TypeTree.{TypeTree, as_nullable, bool_type, integer_type, utf8_type, binary_type, list_type};
 ghost use Rattle.vortex_dtype.specs.TypeOf.{type_of};
-ghost use Rattle.vortex_dtype.specs.declared.kinds.Nullability.TheVariants.{NonNullable};
-ghost use Rattle.vortex_dtype.specs.declared.kinds.PType.TheVariants.{U8, U16, U32, U64, I8, I16, I32, I64};
+ghost use Rattle.vortex_dtype.specs.declared.nullability.Nullability.TheVariants.{NonNullable};
+ghost use Rattle.vortex_dtype.specs.declared.ptype.PType.TheVariants.{U8, U16, U32, U64, I8, I16, I32, I64};
 
 use crate::buffer::{BufferString, ByteBuffer};
 use crate::error::VortexError;
-use crate::kinds::{Nullability, PType};
+use crate::nullability::Nullability;
+use crate::ptype::PType;
 use crate::types::DType;
 use std::alloc::Global;
 

@@ -10,8 +10,9 @@ ghost use Rattle.vortex_dtype.specs.declared.error.VortexError.TheVariants.{OutO
 
 use crate::buffer::{BufferString, ByteBuffer};
 use crate::error::VortexError;
-use crate::kinds::{Nullability, PType};
 use crate::names::FieldName;
+use crate::nullability::Nullability;
+use crate::ptype::PType;
 use std::alloc::Global;
 use std::hash::Hasher;
 
@@ -152,7 +153,7 @@ impl DType {
         match self {
             DType::Null => DType::Null,
             DType::Bool(_) => DType::Bool(Nullability::Nullable),
-            DType::Primitive(kind, _) => DType::Primitive(kind, Nullability::Nullable),
+            DType::Primitive(ptype, _) => DType::Primitive(ptype, Nullability::Nullable),
             DType::Utf8(_) => DType::Utf8(Nullability::Nullable),
             DType::Binary(_) => DType::Binary(Nullability::Nullable),
             DType::List(element, _) => DType::List(element, Nullability::Nullable),

@@ -2,7 +2,7 @@
 use Rattle.std.specs.Prelude.{◌+ℤ◌, ◌-ℤ◌, ◌*ℤ◌, ℤ, pos, Option, Some, None, option_map, if◌then◌else◌, int_div}
 use Rattle.std.specs.Ordering.{int_eq}
 use Rattle.vortex_dtype.specs.TypeTree.{TypeTree, is_nullable}
-use Rattle.vortex_dtype.specs.declared.kinds.PType.{PType}
+use Rattle.vortex_dtype.specs.declared.ptype.PType.{PType}
 use Rattle.vortex_pvalue.specs.Numbers.{in_range}
 use Rattle.vortex_pvalue.specs.declared.operators.NumericOperator.{NumericOperator}
 use Rattle.vortex_pvalue.specs.declared.operators.NumericOperator.TheVariants.{Add, Sub, Mul, Div}

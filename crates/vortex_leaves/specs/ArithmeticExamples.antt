@@ -1,6 +1,6 @@
 -- Worked cases of checked arithmetic, each a theorem.
 use Rattle.std.specs.Prelude.{◌≡◌, pos, negsuc, Some, None, refl}
-use Rattle.vortex_dtype.specs.declared.kinds.PType.TheVariants.{U8, I8, I32, U64}
+use Rattle.vortex_dtype.specs.declared.ptype.PType.TheVariants.{U8, I8, I32, U64}
 use Rattle.vortex_pvalue.specs.declared.operators.NumericOperator.TheVariants.{Add, Sub, Mul, Div}
 use Rattle.vortex_leaves.specs.Arithmetic.{arithmetic}
 

@@ -4,7 +4,7 @@ use Rattle.std.specs.Cmp.{bool_cmp_total}
 use Rattle.std.specs.Option.{option_cmp}
 use Rattle.std.specs.Ordering.{bool_cmp, is_eq}
 use Rattle.vortex_dtype.specs.TypeTree.{TypeTree, bool_type, erase}
-use Rattle.vortex_dtype.specs.declared.kinds.Nullability.TheVariants.{NonNullable}
+use Rattle.vortex_dtype.specs.declared.nullability.Nullability.TheVariants.{NonNullable}
 use Rattle.vortex_value.specs.Equality.{equal, same_type}
 use Rattle.vortex_value.specs.Order.{order}
 use Rattle.vortex_value.specs.Values.Content.{content}

@@ -4,7 +4,7 @@ use Rattle.vortex_dtype.specs.TypeTree.{TypeTree, integer_type}
 use Rattle.vortex_dtype.specs.declared.error.VortexError.{VortexError}
 use Rattle.vortex_dtype.specs.declared.error.VortexError.TheVariants.{OutOfRange, WrongKind}
 use Rattle.vortex_pvalue.specs.Numbers.{InRange}
-use Rattle.vortex_pvalue.specs.Whole.{kind_of, whole_of}
+use Rattle.vortex_pvalue.specs.Whole.{ptype_of, whole_of}
 use Rattle.vortex_pvalue.specs.declared.pvalues.PValue.{PValue}
 use Rattle.vortex_value.specs.Breaches.{Refuses, breaches}
 use Rattle.vortex_value.specs.Values.RawTree.{RawTree, absent, raw_integer}
@@ -17,12 +17,12 @@ number_in _ = None
 -- an optional integer as a raw value
 abbrev pub raw_number : Option PValue → RawTree
 raw_number None = absent
-raw_number (Some p) = raw_integer (kind_of p) (whole_of p)
+raw_number (Some p) = raw_integer (ptype_of p) (whole_of p)
 
 -- the same raw value, an integer at an integer type in the type's kind
-abbrev pub in_kind_of : TypeTree → RawTree → RawTree
-in_kind_of (integer_type k n) (raw_integer l z) = raw_integer k z
-in_kind_of t v = v
+abbrev pub in_ptype_of : TypeTree → RawTree → RawTree
+in_ptype_of (integer_type k n) (raw_integer l z) = raw_integer k z
+in_ptype_of t v = v
 
 -- an integer type, and null or an integer of any kind whose number the type's kind has
 abbrev pub HoldsNumber : TypeTree → RawTree → Type 0

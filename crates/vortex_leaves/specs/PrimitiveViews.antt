@@ -2,7 +2,7 @@
 use Rattle.std.specs.Prelude.{◌≡◌, ℤ, Option, Some}
 use Rattle.vortex_dtype.specs.TypeOf.{type_of}
 use Rattle.vortex_dtype.specs.TypeTree.{TypeTree, Same}
-use Rattle.vortex_dtype.specs.declared.kinds.PType.{PType}
+use Rattle.vortex_dtype.specs.declared.ptype.PType.{PType}
 use Rattle.vortex_pvalue.specs.declared.operators.NumericOperator.{NumericOperator}
 use Rattle.vortex_value.specs.Validity.{Valid}
 use Rattle.vortex_value.specs.Values.Content.{Content, content}
@@ -17,8 +17,8 @@ abbrev pub number_view_type : PrimitiveScalar → TypeTree
 number_view_type x = type_of x.dtype.now
 
 -- the kind of a view's type
-abbrev pub number_view_kind : PrimitiveScalar → PType
-number_view_kind x = x.ptype
+abbrev pub number_view_ptype : PrimitiveScalar → PType
+number_view_ptype x = x.ptype
 
 -- the raw value of a view
 abbrev pub number_view_raw : PrimitiveScalar → RawTree
@@ -42,7 +42,7 @@ IsNumberViewOf = Lends number_view_type number_view_raw
 
 -- what the operation gives of the numbers of two views
 abbrev pub view_arithmetic : NumericOperator → PrimitiveScalar → PrimitiveScalar → Option (Option ℤ)
-view_arithmetic op x y = arithmetic op (number_view_kind x) (view_number x) (view_number y)
+view_arithmetic op x y = arithmetic op (number_view_ptype x) (view_number x) (view_number y)
 
 -- the types are the same up to nullability
 abbrev pub AreOfOneType : PrimitiveScalar → PrimitiveScalar → Type 0

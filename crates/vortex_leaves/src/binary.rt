@@ -3,7 +3,6 @@
 ghost use Rattle.std.specs.Prelude.{◌≡◌, ◌≢◌, ◌↔◌, ◌==◌, ◌&&◌, Err, IfErr, IfOk, IsOk, IsTrue, MatchOption, Some, length, option_map};
 ghost use Rattle.std.specs.Cmp.{partial_equiv_from_equiv};
 ghost use Rattle.std.specs.Hash.{and-Alike, on_Alike};
-ghost use Rattle.std.specs.Option.{option_copied};
 ghost use Rattle.std.proofs.lemmas.Cmp.{on_equiv};
 ghost use Rattle.vortex_dtype.specs.Parts.{is_binary_type};
 ghost use Rattle.vortex_dtype.specs.TypeOf.{type_of};
@@ -15,7 +14,7 @@ ghost use Rattle.vortex_value.specs.Order.{typed_order};
 ghost use Rattle.vortex_value.specs.Texts.{text_of};
 ghost use Rattle.vortex_value.specs.Validity.{Valid};
 ghost use Rattle.vortex_value.specs.Values.Content.{typed};
-ghost use Rattle.vortex_value.specs.Values.RawOf.{raw_of};
+ghost use Rattle.vortex_value.specs.Values.RawOf.{lent_raw};
 ghost use Rattle.vortex_value.specs.Values.RawTree.{absent, raw_bytes};
 ghost use Rattle.vortex_value.specs.Values.Refs.{ref_raw, ref_type};
 ghost use Rattle.vortex_value.specs.Values.Scalars.{scalar_raw, scalar_type};
@@ -50,12 +49,12 @@ impl<'a> BinaryScalar<'a> {
         value: Option<&'a ScalarValue>,
     ) -> Result<BinaryScalar<'a>, VortexError>
         ensures ok { IsOk result ↔ (IsTrue (is_binary_type (type_of dtype.now))
-            × Valid (type_of dtype.now) (raw_of (option_copied value.entry))) }
+            × Valid (type_of dtype.now) (lent_raw value.entry)) }
         ensures made { IfOk result
-            (IsBytesViewOf (type_of dtype.now) (raw_of (option_copied value.entry))) }
+            (IsBytesViewOf (type_of dtype.now) (lent_raw value.entry)) }
         ensures valid { IfOk result IsValidBytesView }
         ensures refused { IfErr result (RefusesView (is_binary_type (type_of dtype.now))
-            (type_of dtype.now) (raw_of (option_copied value.entry))) }
+            (type_of dtype.now) (lent_raw value.entry)) }
         ensures memory { result ≢ Err VortexError.OutOfMemory }
     {
         if !dtype.is_binary() {

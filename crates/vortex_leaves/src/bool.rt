@@ -1,7 +1,6 @@
 //! Views of truth values.
 
 ghost use Rattle.std.specs.Prelude.{◌≡◌, ◌≢◌, ◌↔◌, ◌&&◌, Err, IfErr, IfOk, IsOk, IsTrue, MatchOption, Some};
-ghost use Rattle.std.specs.Option.{option_copied};
 ghost use Rattle.vortex_dtype.specs.TypeOf.{type_of};
 ghost use Rattle.std.specs.Cmp.{partial_equiv_from_equiv};
 ghost use Rattle.std.specs.Hash.{and-Alike, on_Alike};
@@ -14,7 +13,7 @@ ghost use Rattle.vortex_value.specs.Order.{typed_order};
 ghost use Rattle.vortex_value.specs.Texts.{text_of};
 ghost use Rattle.vortex_value.specs.Validity.{Valid};
 ghost use Rattle.vortex_value.specs.Values.Content.{typed};
-ghost use Rattle.vortex_value.specs.Values.RawOf.{raw_of};
+ghost use Rattle.vortex_value.specs.Values.RawOf.{lent_raw};
 ghost use Rattle.vortex_value.specs.Values.RawTree.{absent, raw_bool};
 ghost use Rattle.vortex_value.specs.Values.Scalars.{IsMadeOf, IsValid, scalar_raw, scalar_type};
 ghost use Rattle.vortex_leaves.specs.Leaves.{GivesView, RefusesView, inverted, is_bool_type, may_be_truth};
@@ -48,12 +47,12 @@ impl<'a> BoolScalar<'a> {
         value: Option<&ScalarValue>,
     ) -> Result<BoolScalar<'a>, VortexError>
         ensures ok { IsOk result ↔ (IsTrue (is_bool_type (type_of dtype.now))
-            × Valid (type_of dtype.now) (raw_of (option_copied value.entry))) }
+            × Valid (type_of dtype.now) (lent_raw value.entry)) }
         ensures made { IfOk result
-            (IsBoolViewOf (type_of dtype.now) (raw_of (option_copied value.entry))) }
+            (IsBoolViewOf (type_of dtype.now) (lent_raw value.entry)) }
         ensures valid { IfOk result IsValidBoolView }
         ensures refused { IfErr result (RefusesView (is_bool_type (type_of dtype.now))
-            (type_of dtype.now) (raw_of (option_copied value.entry))) }
+            (type_of dtype.now) (lent_raw value.entry)) }
         ensures memory { result ≢ Err VortexError.OutOfMemory }
     {
         let DType::Bool(_) = dtype else {

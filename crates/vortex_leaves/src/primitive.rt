@@ -1,21 +1,20 @@
 //! Views of integers.
 
 ghost use Rattle.std.specs.Prelude.{◌≡◌, ◌≢◌, ◌↔◌, ◌&&◌, Err, IfErr, IfOk, IsOk, IsSome, IsSomeAnd, MatchOption, MatchResult, Some, IfSome, option_map};
-ghost use Rattle.std.specs.Option.{option_copied};
 ghost use Rattle.std.proofs.Props.{props};
 ghost use Rattle.vortex_dtype.specs.TypeOf.{type_of};
 ghost use Rattle.vortex_dtype.specs.TypeTree.{integer_type, nullability_of};
 ghost use Rattle.vortex_pvalue.specs.Numbers.{InRange};
-ghost use Rattle.vortex_pvalue.specs.Whole.{kind_of, whole_of};
-ghost use Rattle.vortex_value.specs.Reinterpretations.{kind_in};
+ghost use Rattle.vortex_pvalue.specs.Whole.{ptype_of, whole_of};
+ghost use Rattle.vortex_value.specs.Reinterpretations.{ptype_in};
 ghost use Rattle.vortex_value.specs.Validity.{Valid};
 ghost use Rattle.vortex_value.specs.Values.Content.{content};
-ghost use Rattle.vortex_value.specs.Values.RawOf.{raw_of};
+ghost use Rattle.vortex_value.specs.Values.RawOf.{lent_raw};
 ghost use Rattle.vortex_value.specs.Values.RawTree.{absent, raw_integer};
 ghost use Rattle.vortex_value.specs.Values.Scalars.{IsMadeOf, IsValid, scalar_raw, scalar_type};
 ghost use Rattle.vortex_value.specs.Zero.{is_zero_of};
 ghost use Rattle.vortex_leaves.specs.Leaves.{GivesView};
-ghost use Rattle.vortex_leaves.specs.Numbers.{HoldsNumber, RefusesNumber, in_kind_of};
+ghost use Rattle.vortex_leaves.specs.Numbers.{HoldsNumber, RefusesNumber, in_ptype_of};
 
 use std::alloc::Global;
 use vortex_dtype::{DType, PType, VortexError};
@@ -33,12 +32,12 @@ pub struct PrimitiveScalar<'a> {
     dtype: &'a DType,
     ptype: PType,
     pvalue: Option<PValue>,
-    ghost kind: { ∥ kind_in (type_of dtype.now) ≡ Some ptype ∥₁ },
-    ghost holds: { ∥ IfSome pvalue (λ number. kind_of number ≡ ptype) ∥₁ },
+    ghost kind: { ∥ ptype_in (type_of dtype.now) ≡ Some ptype ∥₁ },
+    ghost holds: { ∥ IfSome pvalue (λ number. ptype_of number ≡ ptype) ∥₁ },
 }
 
 impl<'a> PrimitiveScalar<'a> {
-    ghost use Rattle.vortex_leaves.specs.PrimitiveViews.{IsNumberViewOf, IsValidNumberView, number_view_kind, number_view_raw, number_view_type, view_number};
+    ghost use Rattle.vortex_leaves.specs.PrimitiveViews.{IsNumberViewOf, IsValidNumberView, number_view_ptype, number_view_raw, number_view_type, view_number};
 
     /// The view of a type and a raw value, or its absence. An integer of another kind is taken as
     /// the same number of the type's kind.
@@ -51,13 +50,13 @@ impl<'a> PrimitiveScalar<'a> {
         dtype: &'a DType,
         value: Option<&ScalarValue>,
     ) -> Result<PrimitiveScalar<'a>, VortexError>
-        ensures ok { IsOk result ↔ (IsSome (kind_in (type_of dtype.now)) × Valid (type_of dtype.now)
-            (in_kind_of (type_of dtype.now) (raw_of (option_copied value.entry)))) }
+        ensures ok { IsOk result ↔ (IsSome (ptype_in (type_of dtype.now)) × Valid (type_of dtype.now)
+            (in_ptype_of (type_of dtype.now) (lent_raw value.entry))) }
         ensures made { IfOk result (IsNumberViewOf (type_of dtype.now)
-            (in_kind_of (type_of dtype.now) (raw_of (option_copied value.entry)))) }
+            (in_ptype_of (type_of dtype.now) (lent_raw value.entry))) }
         ensures valid { IfOk result IsValidNumberView }
         ensures refused { IfErr result
-            (RefusesNumber (type_of dtype.now) (raw_of (option_copied value.entry))) }
+            (RefusesNumber (type_of dtype.now) (lent_raw value.entry)) }
         ensures memory { result ≢ Err VortexError.OutOfMemory }
     {
         let DType::Primitive(ptype, _) = dtype else {
@@ -80,8 +79,8 @@ impl<'a> PrimitiveScalar<'a> {
 
     /// The view of a number of the type's kind.
     fn of(dtype: &'a DType, ptype: PType, number: PValue) -> PrimitiveScalar<'a>
-        requires kind { kind_in (type_of dtype.now) ≡ Some ptype }
-        requires number_kind { kind_of number ≡ ptype }
+        requires ptype { ptype_in (type_of dtype.now) ≡ Some ptype }
+        requires number_ptype { ptype_of number ≡ ptype }
         ensures { IsNumberViewOf (type_of dtype.now) (raw_integer ptype (whole_of number)) result }
     {
         PrimitiveScalar {
@@ -100,7 +99,7 @@ impl<'a> PrimitiveScalar<'a> {
 
     /// The type's kind, also of a null.
     pub fn ptype(&self) -> PType
-        ensures kind { result ≡ number_view_kind self.now }
+        ensures ptype { result ≡ number_view_ptype self.now }
         ensures typed { number_view_type self.now
             ≡ integer_type result (nullability_of (number_view_type self.now)) }
     {
@@ -112,8 +111,8 @@ impl<'a> PrimitiveScalar<'a> {
         ensures { MatchOption result
             (number_view_raw self.now ≡ absent)
             (λ number. (number_view_raw self.now
-            ≡ raw_integer (number_view_kind self.now) (whole_of number))
-            × (kind_of number ≡ number_view_kind self.now)) }
+            ≡ raw_integer (number_view_ptype self.now) (whole_of number))
+            × (ptype_of number ≡ number_view_ptype self.now)) }
     {
         self.pvalue
     }
@@ -122,7 +121,7 @@ impl<'a> PrimitiveScalar<'a> {
     ///
     /// Ports `PrimitiveScalar::typed_value`, which panics at another kind.
     pub fn typed_value<T: NativePType>(&self) -> Option<T>
-        requires { kind_in (number_view_type self.now) ≡ Some T.PTYPE }
+        requires { ptype_in (number_view_type self.now) ≡ Some T.PTYPE }
         ensures { option_map T.value result ≡ view_number self.now }
     {
         match self.pvalue {
@@ -140,9 +139,9 @@ impl<'a> PrimitiveScalar<'a> {
     /// `WrongPType` exactly where the type is of another kind, also of a null.
     pub fn try_typed_value<T: NativePType>(&self) -> Result<Option<T>, VortexError>
         ensures { MatchResult result
-            (λ number. (number_view_kind self.now ≡ T.PTYPE)
+            (λ number. (number_view_ptype self.now ≡ T.PTYPE)
             × (option_map T.value number ≡ view_number self.now))
-            (λ e. (e ≡ VortexError.WrongPType) × ¬ (number_view_kind self.now ≡ T.PTYPE)) }
+            (λ e. (e ≡ VortexError.WrongPType) × ¬ (number_view_ptype self.now ≡ T.PTYPE)) }
     {
         if self.ptype == T::PTYPE {
             Ok(self.typed_value::<T>())
@@ -199,7 +198,7 @@ impl<'a> TryFrom<&'a Scalar> for PrimitiveScalar<'a> {
 
     ghost try_from_gives = { λ scalar. GivesView
         (IsNumberViewOf (scalar_type scalar.now)
-        (in_kind_of (scalar_type scalar.now) (scalar_raw scalar.now)))
+        (in_ptype_of (scalar_type scalar.now) (scalar_raw scalar.now)))
         (HoldsNumber (scalar_type scalar.now) (scalar_raw scalar.now)) };
 
     fn try_from(scalar: &'a Scalar) -> Result<PrimitiveScalar<'a>, VortexError> {

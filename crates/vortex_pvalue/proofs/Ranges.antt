@@ -3,9 +3,9 @@ use Rattle.std.proofs.Common.{◌≤ℤ◌, ◌<ℤ◌, ◌+ℤ◌, ◌^◌, ℤ
 use Rattle.std.specs.Int.{w8, w16, w32, w64}
 use Rattle.std.proofs.lemmas.Int.{ints}
 use Rattle.num_traits.specs.Ints.{unsigned-bounds, signed-bounds}
-use Rattle.vortex_dtype.specs.declared.kinds.PType.{PType}
-use Rattle.vortex_dtype.specs.declared.kinds.PType.TheVariants.{U8, U16, U32, U64, I8, I16, I32, I64}
-use Rattle.vortex_pvalue.specs.KindLaws.{RangeIsInterval}
+use Rattle.vortex_dtype.specs.declared.ptype.PType.{PType}
+use Rattle.vortex_dtype.specs.declared.ptype.PType.TheVariants.{U8, U16, U32, U64, I8, I16, I32, I64}
+use Rattle.vortex_pvalue.specs.PTypeLaws.{RangeIsInterval}
 use Rattle.vortex_pvalue.specs.Numbers.{least_of, greatest_of, bits_of}
 
 -- a kind has the numbers from its least to its greatest, and no others

@@ -7,9 +7,9 @@ use Rattle.std.proofs.Math.Nat.{zero-mul, one-mul, suc-mul, mod-eq_of_lt}
 use Rattle.std.proofs.lemmas.Int.{ints, SFits-int_wrap, to_z_pos, of_z-to_z}
 use Rattle.std.proofs.lemmas.Nat.{pow_pos}
 use Rattle.num_traits.specs.Ints.{unsigned-wrap_fits}
-use Rattle.vortex_dtype.specs.declared.kinds.PType.{PType}
-use Rattle.vortex_dtype.specs.declared.kinds.PType.TheVariants.{U8, U16, U32, U64, I8, I16, I32, I64}
-use Rattle.vortex_pvalue.specs.KindLaws.{WrappedExists, WrappedIsUnique, ReinterpretsBack}
+use Rattle.vortex_dtype.specs.declared.ptype.PType.{PType}
+use Rattle.vortex_dtype.specs.declared.ptype.PType.TheVariants.{U8, U16, U32, U64, I8, I16, I32, I64}
+use Rattle.vortex_pvalue.specs.PTypeLaws.{WrappedExists, WrappedIsUnique, ReinterpretsBack}
 use Rattle.vortex_pvalue.specs.Numbers.{IsWrapped, wrapped, least_of, bits_of}
 use Rattle.vortex_pvalue.proofs.Multiples.{times-add, times-neg, one_in_window}
 use Rattle.vortex_pvalue.proofs.Ranges.{range_is_interval, greatest-below}

@@ -3,14 +3,14 @@ use Rattle.std.specs.Prelude.{◌≡◌, ℤ, MatchResult}
 use Rattle.std.specs.declared.result.Result.{Result}
 use Rattle.vortex_dtype.specs.declared.error.VortexError.{VortexError}
 use Rattle.vortex_dtype.specs.declared.error.VortexError.TheVariants.{OutOfRange}
-use Rattle.vortex_dtype.specs.declared.kinds.PType.{PType}
+use Rattle.vortex_dtype.specs.declared.ptype.PType.{PType}
 use Rattle.vortex_pvalue.specs.Numbers.{InRange}
-use Rattle.vortex_pvalue.specs.Whole.{whole_of, kind_of}
+use Rattle.vortex_pvalue.specs.Whole.{whole_of, ptype_of}
 use Rattle.vortex_pvalue.specs.declared.pvalues.PValue.{PValue}
 
 -- the value is this number in this kind, which has it
 abbrev pub IsNumber : PType → ℤ → PValue → Type 0
-IsNumber k z v = (kind_of v ≡ k) × (whole_of v ≡ z) × InRange k z
+IsNumber k z v = (ptype_of v ≡ k) × (whole_of v ≡ z) × InRange k z
 
 -- the same number, or `OutOfRange` exactly where the kind does not have it
 abbrev pub Converts : {T : Type 0} → (T → ℤ) → PType → PValue → Result T VortexError → Type 0

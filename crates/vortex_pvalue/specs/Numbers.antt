@@ -1,9 +1,9 @@
 -- The numbers of the eight integer kinds.
 use Rattle.std.specs.Prelude.{◌≡◌, ℕ, ℤ, Bool, false, pos, negsuc, nat_lt, ◌-◌, ◌*◌, ◌^◌, ◌+ℤ◌, ◌*ℤ◌, FitsSigned}
 use Rattle.std.specs.Int.{FitsUnsignedBits, int_rem_euclid, int_wrap, w8, w16, w32, w64}
-use Rattle.vortex_dtype.specs.Kinds.{byte_width_of}
-use Rattle.vortex_dtype.specs.declared.kinds.PType.{PType}
-use Rattle.vortex_dtype.specs.declared.kinds.PType.TheVariants.{U8, U16, U32, U64, I8, I16, I32, I64}
+use Rattle.vortex_dtype.specs.PTypes.{byte_width_of}
+use Rattle.vortex_dtype.specs.declared.ptype.PType.{PType}
+use Rattle.vortex_dtype.specs.declared.ptype.PType.TheVariants.{U8, U16, U32, U64, I8, I16, I32, I64}
 
 -- the kind has this number: from 0 to 2 ^ bits - 1, or from -2 ^ (bits - 1) to 2 ^ (bits - 1) - 1
 abbrev pub InRange : PType → ℤ → Type 0

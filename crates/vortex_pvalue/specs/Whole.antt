@@ -1,9 +1,9 @@
 -- What an integer value stands for: a kind, a whole number and a text.
 use Rattle.std.specs.Prelude.{ℕ, ℤ, pos, List, ◌++◌}
 use Rattle.std.specs.Fmt.{signed_decimal}
-use Rattle.vortex_dtype.specs.declared.kinds.PType.{PType}
-use Rattle.vortex_dtype.specs.declared.kinds.PType.TheVariants as kinds
-use Rattle.vortex_dtype.specs.Kinds.{kind_text}
+use Rattle.vortex_dtype.specs.declared.ptype.PType.{PType}
+use Rattle.vortex_dtype.specs.declared.ptype.PType.TheVariants as kinds
+use Rattle.vortex_dtype.specs.PTypes.{ptype_text}
 use Rattle.vortex_pvalue.specs.declared.pvalues.PValue.{PValue}
 use Rattle.vortex_pvalue.specs.declared.pvalues.PValue.TheVariants.{U8, U16, U32, U64, I8, I16, I32, I64}
 
@@ -19,20 +19,20 @@ whole_of (I32 z) = z
 whole_of (I64 z) = z
 
 -- the kind
-abbrev pub kind_of : PValue → PType
-kind_of (U8 n) = kinds.U8
-kind_of (U16 n) = kinds.U16
-kind_of (U32 n) = kinds.U32
-kind_of (U64 n) = kinds.U64
-kind_of (I8 z) = kinds.I8
-kind_of (I16 z) = kinds.I16
-kind_of (I32 z) = kinds.I32
-kind_of (I64 z) = kinds.I64
+abbrev pub ptype_of : PValue → PType
+ptype_of (U8 n) = kinds.U8
+ptype_of (U16 n) = kinds.U16
+ptype_of (U32 n) = kinds.U32
+ptype_of (U64 n) = kinds.U64
+ptype_of (I8 z) = kinds.I8
+ptype_of (I16 z) = kinds.I16
+ptype_of (I32 z) = kinds.I32
+ptype_of (I64 z) = kinds.I64
 
 -- the text of a number of a kind: the number in decimal, then the kind's name
 abbrev pub number_text : PType → ℤ → List ℕ
-number_text k z = signed_decimal z ++ kind_text k
+number_text k z = signed_decimal z ++ ptype_text k
 
 -- the text of the value
 abbrev pub pvalue_text : PValue → List ℕ
-pvalue_text v = number_text (kind_of v) (whole_of v)
+pvalue_text v = number_text (ptype_of v) (whole_of v)

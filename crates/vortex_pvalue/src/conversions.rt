@@ -1,7 +1,7 @@
 //! Conversions between integer values and Rust integers.
 
 ghost use Rattle.std.specs.Prelude.{pos};
-ghost use Rattle.vortex_dtype.specs.declared.kinds.PType.{PType};
+ghost use Rattle.vortex_dtype.specs.declared.ptype.PType.{PType};
 ghost use Rattle.vortex_pvalue.specs.Conversions.{IsNumber, Converts};
 
 use crate::pvalues::PValue;

@@ -1,6 +1,6 @@
 //! The laws of the kinds' numbers, and of equality, order and hash. They do nothing when they run.
 
-ghost use Rattle.vortex_pvalue.specs.KindLaws.{TestIsRange, RangeIsInterval, WrappedExists, WrappedIsUnique, ReinterpretsBack, EqualsByNumber, AgreesWithOrder, AgreesWithHash};
+ghost use Rattle.vortex_pvalue.specs.PTypeLaws.{TestIsRange, RangeIsInterval, WrappedExists, WrappedIsUnique, ReinterpretsBack, EqualsByNumber, AgreesWithOrder, AgreesWithHash};
 ghost use Rattle.std.specs.Cmp.{IsEquivalence};
 
 use crate::pvalues::PValue;

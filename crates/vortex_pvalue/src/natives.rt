@@ -1,9 +1,9 @@
 //! The Rust integers that stand for the eight kinds.
 
 ghost use Rattle.std.specs.Prelude.{◌≡◌, ◌↔◌, ℤ, IfSome, IfNone};
-ghost use Rattle.vortex_dtype.specs.declared.kinds.PType.{PType};
+ghost use Rattle.vortex_dtype.specs.declared.ptype.PType.{PType};
 ghost use Rattle.vortex_pvalue.specs.Numbers.{InRange};
-ghost use Rattle.vortex_pvalue.specs.Whole.{whole_of, kind_of};
+ghost use Rattle.vortex_pvalue.specs.Whole.{whole_of, ptype_of};
 
 use crate::pvalues::PValue;
 use num_traits::PrimInt;
@@ -21,7 +21,7 @@ pub trait NativePType: PrimInt {
     /// The integer as a value of its own kind.
     fn into_pvalue(self) -> PValue
         ensures whole { whole_of result ≡ Self.value self }
-        ensures kind { kind_of result ≡ PTYPE }
+        ensures ptype { ptype_of result ≡ PTYPE }
         ensures in_range { InRange PTYPE (whole_of result) };
 
     /// The same number as this type, if it has it.
@@ -35,7 +35,7 @@ pub trait NativePType: PrimInt {
     }
 
     // The type has just the kind's numbers.
-    ghost kind_law: { (z : ℤ) → Self.fits z ↔ InRange PTYPE z };
+    ghost ptype_law: { (z : ℤ) → Self.fits z ↔ InRange PTYPE z };
 }
 
 impl NativePType for u8 {
@@ -47,7 +47,7 @@ impl NativePType for u8 {
         PValue::U8(self)
     }
 
-    ghost kind_law = { λ z. ((λ h. h), (λ h. h)) };
+    ghost ptype_law = { λ z. ((λ h. h), (λ h. h)) };
 }
 
 impl NativePType for u16 {
@@ -59,7 +59,7 @@ impl NativePType for u16 {
         PValue::U16(self)
     }
 
-    ghost kind_law = { λ z. ((λ h. h), (λ h. h)) };
+    ghost ptype_law = { λ z. ((λ h. h), (λ h. h)) };
 }
 
 impl NativePType for u32 {
@@ -71,7 +71,7 @@ impl NativePType for u32 {
         PValue::U32(self)
     }
 
-    ghost kind_law = { λ z. ((λ h. h), (λ h. h)) };
+    ghost ptype_law = { λ z. ((λ h. h), (λ h. h)) };
 }
 
 impl NativePType for u64 {
@@ -83,7 +83,7 @@ impl NativePType for u64 {
         PValue::U64(self)
     }
 
-    ghost kind_law = { λ z. ((λ h. h), (λ h. h)) };
+    ghost ptype_law = { λ z. ((λ h. h), (λ h. h)) };
 }
 
 impl NativePType for i8 {
@@ -95,7 +95,7 @@ impl NativePType for i8 {
         PValue::I8(self)
     }
 
-    ghost kind_law = { λ z. ((λ h. h), (λ h. h)) };
+    ghost ptype_law = { λ z. ((λ h. h), (λ h. h)) };
 }
 
 impl NativePType for i16 {
@@ -107,7 +107,7 @@ impl NativePType for i16 {
         PValue::I16(self)
     }
 
-    ghost kind_law = { λ z. ((λ h. h), (λ h. h)) };
+    ghost ptype_law = { λ z. ((λ h. h), (λ h. h)) };
 }
 
 impl NativePType for i32 {
@@ -119,7 +119,7 @@ impl NativePType for i32 {
         PValue::I32(self)
     }
 
-    ghost kind_law = { λ z. ((λ h. h), (λ h. h)) };
+    ghost ptype_law = { λ z. ((λ h. h), (λ h. h)) };
 }
 
 impl NativePType for i64 {
@@ -131,5 +131,5 @@ impl NativePType for i64 {
         PValue::I64(self)
     }
 
-    ghost kind_law = { λ z. ((λ h. h), (λ h. h)) };
+    ghost ptype_law = { λ z. ((λ h. h), (λ h. h)) };
 }

@@ -6,12 +6,12 @@ ghost use Rattle.std.specs.Cmp.Rules.{comparing, hashing};
 ghost use Rattle.std.specs.Hash as fed;
 ghost use Rattle.std.specs.Ordering.{int_cmp, int_eq, on, as_partial_cmp};
 ghost use Rattle.arrayvec.specs.ArrayVec.{array_vec_len};
-ghost use Rattle.vortex_dtype.specs.Kinds.{byte_width_of};
+ghost use Rattle.vortex_dtype.specs.PTypes.{byte_width_of};
 ghost use Rattle.vortex_pvalue.specs.Bytes.{bytes_of};
 ghost use Rattle.vortex_pvalue.specs.Conversions.{IsNumber};
-ghost use Rattle.vortex_pvalue.specs.KindLaws.{other_sign};
+ghost use Rattle.vortex_pvalue.specs.PTypeLaws.{other_sign};
 ghost use Rattle.vortex_pvalue.specs.Numbers.{InRange, least_of, greatest_of, wrapped};
-ghost use Rattle.vortex_pvalue.specs.Whole.{whole_of, kind_of, pvalue_text};
+ghost use Rattle.vortex_pvalue.specs.Whole.{whole_of, ptype_of, pvalue_text};
 
 use crate::natives::NativePType;
 use arrayvec::ArrayVec;
@@ -47,7 +47,7 @@ pub enum PValue {
 impl PValue {
     /// The least value of the kind.
     pub fn min_value(ptype: PType) -> PValue
-        ensures kind { kind_of result ≡ ptype }
+        ensures ptype { ptype_of result ≡ ptype }
         ensures least { whole_of result ≡ least_of ptype }
     {
         match ptype {
@@ -64,7 +64,7 @@ impl PValue {
 
     /// The greatest value of the kind.
     pub fn max_value(ptype: PType) -> PValue
-        ensures kind { kind_of result ≡ ptype }
+        ensures ptype { ptype_of result ≡ ptype }
         ensures greatest { whole_of result ≡ greatest_of ptype }
     {
         match ptype {
@@ -81,7 +81,7 @@ impl PValue {
 
     /// The kind's zero.
     pub fn zero(ptype: &PType) -> PValue
-        ensures kind { kind_of result ≡ ptype.now }
+        ensures ptype { ptype_of result ≡ ptype.now }
         ensures zero { whole_of result ≡ pos 0 }
     {
         match ptype {
@@ -105,8 +105,8 @@ impl PValue {
 
     /// The value's kind.
     pub fn ptype(&self) -> PType
-        ensures kind { result ≡ kind_of self.now }
-        ensures in_range { InRange (kind_of self.now) (whole_of self.now) }
+        ensures ptype { result ≡ ptype_of self.now }
+        ensures in_range { InRange (ptype_of self.now) (whole_of self.now) }
     {
         // The proof reads here that the number is in the kind's range.
         let _number = self.whole();
@@ -124,7 +124,7 @@ impl PValue {
 
     /// Whether the value's kind is this one.
     pub fn is_instance_of(&self, ptype: &PType) -> bool
-        ensures { IsTrue result ↔ (kind_of self.now ≡ ptype.now) }
+        ensures { IsTrue result ↔ (ptype_of self.now ≡ ptype.now) }
     {
         self.ptype() == *ptype
     }
@@ -134,7 +134,7 @@ impl PValue {
     /// An item of our own.
     pub fn whole(&self) -> i128
         ensures whole { result ≡ whole_of self.now }
-        ensures in_range { InRange (kind_of self.now) result }
+        ensures in_range { InRange (ptype_of self.now) result }
     {
         match self {
             PValue::U8(n) => *n as i128,
@@ -253,8 +253,8 @@ impl PValue {
     ///
     /// Asks a kind of the same width.
     pub fn reinterpret_cast(&self, ptype: PType) -> PValue
-        requires { byte_width_of ptype ≡ byte_width_of (kind_of self.now) }
-        ensures kind { kind_of result ≡ ptype }
+        requires { byte_width_of ptype ≡ byte_width_of (ptype_of self.now) }
+        ensures ptype { ptype_of result ≡ ptype }
         ensures wrapped { whole_of result ≡ wrapped ptype (whole_of self.now) }
     {
         if self.ptype() == ptype {
@@ -266,8 +266,8 @@ impl PValue {
 
     /// The value of the same width and the other sign that has the same bits.
     fn with_other_sign(&self) -> PValue
-        ensures kind { kind_of result ≡ other_sign (kind_of self.now) }
-        ensures wrapped { whole_of result ≡ wrapped (other_sign (kind_of self.now)) (whole_of self.now) }
+        ensures ptype { ptype_of result ≡ other_sign (ptype_of self.now) }
+        ensures wrapped { whole_of result ≡ wrapped (other_sign (ptype_of self.now)) (whole_of self.now) }
     {
         match self {
             PValue::U8(n) => PValue::I8(n.cast_signed()),
@@ -285,8 +285,8 @@ impl PValue {
     ///
     /// Ports `PValue`'s `ToBytes::to_le_bytes`.
     pub fn to_le_bytes(&self) -> ArrayVec<u8, 8>
-        ensures bytes { result.items ≡ bytes_of (kind_of self.now) (whole_of self.now) }
-        ensures width { array_vec_len result ≡ byte_width_of (kind_of self.now) }
+        ensures bytes { result.items ≡ bytes_of (ptype_of self.now) (whole_of self.now) }
+        ensures width { array_vec_len result ≡ byte_width_of (ptype_of self.now) }
     {
         match self {
             PValue::U8(n) => inline(&n.to_le_bytes()),

@@ -2,7 +2,7 @@
 -- What the table allows is alike, and so are the ends of a chain of casts.
 use Rattle.std.proofs.Common.{◌≡◌, ◌==◌, ℕ, Bool, true, false, if◌then◌else◌, List, [], ◌∷◌, Option, Some, None, sym, ◌∙◌, subst, rules}
 use Rattle.vortex_dtype.specs.TypeTree.{TypeTree, null_type, bool_type, integer_type, utf8_type, binary_type, list_type, fixed_size_list_type, map_type, struct_type, union_type, variant_type, extension_type, TypeTrees, no_types, type_then, erase_all, Same, storage}
-use Rattle.vortex_dtype.specs.declared.kinds.Nullability.{Nullability}
+use Rattle.vortex_dtype.specs.declared.nullability.Nullability.{Nullability}
 use Rattle.vortex_value.specs.Casts.{IsNull, IsInteger, Wraps, Sorts, EachPlace, EachEntry, ByElement, ByEntry, ByField, Row, same_type, a_null, into_extension, integers, lists, maps, structs, unions, from_extension, ForId, ByChild, Allows, AllowsFields, AllowsChild}
 use Rattle.vortex_value.specs.Chains.{Steps, last_of}
 use Rattle.vortex_value.specs.Values.Content.{Content, null, truth, whole, text, string, sequence, tagged, typed, Contents, no_contents, content_then, content, contents}

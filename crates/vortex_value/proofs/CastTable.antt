@@ -10,8 +10,8 @@ use Rattle.vortex_dtype.specs.TypeOf.{MapParts}
 use Rattle.vortex_dtype.specs.TypeTree.{TypeTree, null_type, bool_type, integer_type, utf8_type, binary_type, list_type, fixed_size_list_type, map_type, struct_type, union_type, variant_type, extension_type, TypeTrees, no_types, type_then, erase_all, IsFlat, IsNullable, Same, is_nullable, nullability_of, storage}
 use Rattle.vortex_dtype.specs.declared.error.VortexError.{VortexError}
 use Rattle.vortex_dtype.specs.declared.error.VortexError.TheVariants.{OutOfMemory}
-use Rattle.vortex_dtype.specs.declared.kinds.Nullability.{Nullability}
-use Rattle.vortex_dtype.specs.declared.kinds.PType.{PType}
+use Rattle.vortex_dtype.specs.declared.nullability.Nullability.{Nullability}
+use Rattle.vortex_dtype.specs.declared.ptype.PType.{PType}
 use Rattle.vortex_pvalue.specs.Numbers.{in_range}
 use Rattle.vortex_pvalue.specs.RangeLaws.{in_range_exactly}
 use Rattle.vortex_value.specs.Steps.CastSteps.{pair, Refused, accepts, bare_to, both, cast_to, child_to, each_to, entries_to, error_of, fields_to, kept, leaf_to, leaves, map_to, number_to, pair_to, sorts, stays, takes_null, tuple_to, two_types, types_with, whole_to}

@@ -7,8 +7,8 @@ use Rattle.std.proofs.lemmas.Option.{some_pair_parts}
 use Rattle.vortex_dtype.specs.TypeOf.{fields_of, type_of, dtype_trees, as_type_trees, variants_of}
 use Rattle.vortex_dtype.specs.Lemmas.TypeSize.{type_size, types_size, type_size-at}
 use Rattle.vortex_dtype.specs.TypeTree.{TypeTree, TypeTrees, fixed_size_list_type, struct_type, union_type, says_nullable}
-use Rattle.vortex_dtype.specs.declared.kinds.Nullability.{Nullability}
-use Rattle.vortex_dtype.specs.declared.kinds.Nullability.TheVariants.{NonNullable, Nullable}
+use Rattle.vortex_dtype.specs.declared.nullability.Nullability.{Nullability}
+use Rattle.vortex_dtype.specs.declared.nullability.Nullability.TheVariants.{NonNullable, Nullable}
 use Rattle.vortex_dtype.specs.declared.types.DType.{DType, FixedSizeList, Struct, Union}
 use Rattle.vortex_dtype.specs.declared.types.StructFields.{StructFields}
 use Rattle.vortex_dtype.specs.declared.types.UnionVariants.{UnionVariants}

@@ -2,7 +2,7 @@
 use Rattle.std.proofs.Common.{◌≡◌, false, List, [], ◌∷◌, refl, rules}
 use Rattle.vortex_dtype.specs.TypeTree.{TypeTree, storage, variant_type}
 use Rattle.vortex_dtype.specs.declared.error.Step.TheVariants.{Inner}
-use Rattle.vortex_dtype.specs.declared.kinds.Nullability.{Nullability}
+use Rattle.vortex_dtype.specs.declared.nullability.Nullability.{Nullability}
 use Rattle.vortex_value.specs.Breaches.{Found, breaches, is_empty, is_valid, under}
 use Rattle.vortex_value.specs.Values.RawOf.{value_tree}
 use Rattle.vortex_value.specs.Values.RawTree.{raw_variant, is_absent}

@@ -1,10 +1,10 @@
 -- Reinterpreting twice.
 use Rattle.std.proofs.Common.{◌≡◌, refl}
-use Rattle.vortex_dtype.specs.Kinds.{byte_width_of}
+use Rattle.vortex_dtype.specs.PTypes.{byte_width_of}
 use Rattle.vortex_dtype.specs.TypeTree.{integer_type}
-use Rattle.vortex_dtype.specs.declared.kinds.Nullability.{Nullability}
-use Rattle.vortex_dtype.specs.declared.kinds.PType.{PType}
-use Rattle.vortex_pvalue.specs.KindLaws.{ReinterpretsBack}
+use Rattle.vortex_dtype.specs.declared.nullability.Nullability.{Nullability}
+use Rattle.vortex_dtype.specs.declared.ptype.PType.{PType}
+use Rattle.vortex_pvalue.specs.PTypeLaws.{ReinterpretsBack}
 use Rattle.vortex_value.specs.Reinterpretations.{ScalarsReinterpretBack, reinterpreted}
 use Rattle.vortex_value.specs.Validity.{Valid}
 use Rattle.vortex_value.specs.Values.RawTree.{RawTree, absent, raw_integer}

@@ -1,8 +1,8 @@
 -- Types that are the same up to nullability have one raw value of each content.
 use Rattle.std.proofs.Common.{◌≡◌, ℕ, ℤ, ◌==◌, Bool, true, false, if◌then◌else◌, List, [], ◌∷◌, Option, Some, refl, sym, ap, ◌∙◌, rules}
 use Rattle.vortex_dtype.specs.TypeTree.{TypeTree, integer_type, list_type, fixed_size_list_type, map_type, struct_type, union_type, variant_type, extension_type, TypeTrees, no_types, type_then, erase, erase_all, Same, storage}
-use Rattle.vortex_dtype.specs.declared.kinds.Nullability.{Nullability}
-use Rattle.vortex_dtype.specs.declared.kinds.PType.{PType}
+use Rattle.vortex_dtype.specs.declared.nullability.Nullability.{Nullability}
+use Rattle.vortex_dtype.specs.declared.ptype.PType.{PType}
 use Rattle.vortex_value.specs.Casts.{OneValue}
 use Rattle.vortex_value.specs.Values.Content.{content, contents}
 use Rattle.vortex_value.specs.Values.RawTree.{RawTree, absent, raw_bool, raw_integer, raw_text, raw_bytes, raw_tuple, raw_union, raw_variant, RawTrees, no_raws, raw_then}
@@ -23,9 +23,9 @@ integer_of : (a : PType) (n : Nullability) (t : TypeTree) (l : PType) (z : ℤ) 
 integer_of a n (integer_type b m) l z e q = let x : a ≡ b = cc in q.0 ∙ sym x
 integer_of a n _ l z e q = absurd q
 
-one_kind : (s t : TypeTree) (k l : PType) (y z : ℤ) → Same s t → ValidAt s (raw_integer k y) → ValidAt t (raw_integer l z) → k ≡ l
-one_kind (integer_type a n) t k l y z e p q = p.0 ∙ sym (integer_of a n t l z e q)
-one_kind _ t k l y z e p q = absurd p
+one_ptype : (s t : TypeTree) (k l : PType) (y z : ℤ) → Same s t → ValidAt s (raw_integer k y) → ValidAt t (raw_integer l z) → k ≡ l
+one_ptype (integer_type a n) t k l y z e p q = p.0 ∙ sym (integer_of a n t l z e q)
+one_ptype _ t k l y z e p q = absurd p
 
 -- tuples: by what the type of the first is
 
@@ -146,7 +146,7 @@ mutual
   one (raw_bool a) (raw_bool b) s t e p q c = cc
   one (raw_text a) (raw_text b) s t e p q c = cc
   one (raw_bytes a) (raw_bytes b) s t e p q c = cc
-  one (raw_integer k y) (raw_integer l z) s t e p q c = integers k l y z (one_kind s t k l y z e p q) c
+  one (raw_integer k y) (raw_integer l z) s t e p q c = integers k l y z (one_ptype s t k l y z e p q) c
   one (raw_tuple vs) (raw_tuple ws) s t e p q c =
       let x : contents vs ≡ contents ws = cc in
       ap raw_tuple (tuple_same s t vs ws (vs ≡ ws) e

@@ -5,15 +5,15 @@ use Rattle.std.specs.Option.{is_some}
 use Rattle.std.proofs.Math.Nat.{suc-ne-zero}
 use Rattle.std.proofs.lemmas.Bool.{and_parts, false_from_ne_true}
 use Rattle.std.proofs.lemmas.Bool.Decides.{Decides-eqb}
-use Rattle.vortex_dtype.specs.Kinds.{same_kind}
-use Rattle.vortex_dtype.specs.Lemmas.TypeLaws.{same_kind-Decides}
+use Rattle.vortex_dtype.specs.PTypes.{same_ptype}
+use Rattle.vortex_dtype.specs.Lemmas.TypeLaws.{same_ptype-Decides}
 use Rattle.vortex_dtype.specs.TypeTree.{TypeTree, null_type, bool_type, integer_type, utf8_type, binary_type, list_type, fixed_size_list_type, map_type, struct_type, union_type, variant_type, TypeTrees, no_types, type_then, nullability_of, says_nullable, IsNullable, is_nullable, storage}
 use Rattle.vortex_dtype.specs.declared.error.Breach.TheVariants.{VariantNull}
 use Rattle.vortex_dtype.specs.declared.error.Step.{Step}
 use Rattle.vortex_dtype.specs.declared.error.Step.TheVariants.{Child, Inner}
-use Rattle.vortex_dtype.specs.declared.kinds.Nullability.{Nullability}
-use Rattle.vortex_dtype.specs.declared.kinds.Nullability.TheVariants.{NonNullable, Nullable}
-use Rattle.vortex_dtype.specs.declared.kinds.PType.{PType}
+use Rattle.vortex_dtype.specs.declared.nullability.Nullability.{Nullability}
+use Rattle.vortex_dtype.specs.declared.nullability.Nullability.TheVariants.{NonNullable, Nullable}
+use Rattle.vortex_dtype.specs.declared.ptype.PType.{PType}
 use Rattle.vortex_pvalue.specs.Numbers.{InRange, in_range}
 use Rattle.vortex_pvalue.specs.RangeLaws.{in_range_true, in_range_back}
 use Rattle.vortex_value.specs.Breaches.{Found, here, under, count_types, is_empty, is_null_type, child_breaches, breaches_at, element_breaches, entry_breaches, field_breaches, breaches, is_valid, ValidExactlyWithoutBreach, ValidityIsDecided}
@@ -49,11 +49,11 @@ both_none s fs gs p q = rw (p, q)
 
 -- what the tests of a node say
 
-integer_valid : (k l : PType) (z : ℤ) (fs : List Found) (f : Found) → (if same_kind l k && in_range k z then [] else (f ∷ fs)) ≡ [] → (l ≡ k) × InRange k z
-integer_valid k l z fs f h = let p = and_parts (same_kind l k) (in_range k z) (when_none (same_kind l k && in_range k z) f fs h) in ((same_kind-Decides l k).0 p.0, in_range_back k z p.1)
+integer_valid : (k l : PType) (z : ℤ) (fs : List Found) (f : Found) → (if same_ptype l k && in_range k z then [] else (f ∷ fs)) ≡ [] → (l ≡ k) × InRange k z
+integer_valid k l z fs f h = let p = and_parts (same_ptype l k) (in_range k z) (when_none (same_ptype l k && in_range k z) f fs h) in ((same_ptype-Decides l k).0 p.0, in_range_back k z p.1)
 
-integer_none : (k l : PType) (z : ℤ) (fs : List Found) → l ≡ k → InRange k z → (if same_kind l k && in_range k z then [] else fs) ≡ []
-integer_none k l z fs p q = rw ((same_kind-Decides l k).1 p, in_range_true k z q)
+integer_none : (k l : PType) (z : ℤ) (fs : List Found) → l ≡ k → InRange k z → (if same_ptype l k && in_range k z then [] else fs) ≡ []
+integer_none k l z fs p q = rw ((same_ptype-Decides l k).1 p, in_range_true k z q)
 
 -- a type that says that it takes nulls is nullable
 pub says_nullable-Decides : (n : Nullability) → Decides (says_nullable n) (n ≡ Nullable)

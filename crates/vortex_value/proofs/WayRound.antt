@@ -1,7 +1,7 @@
 -- Between types without extensions what is alike is allowed, so a chain leads no further than one cast.
 use Rattle.std.proofs.Common.{◌≡◌, ◌==◌, ℕ, ℤ, Bool, true, false, if◌then◌else◌, List, [], ◌∷◌, Option, Some, None, ◌⊎◌, inl, inr, refl, subst, rules}
 use Rattle.vortex_dtype.specs.TypeTree.{TypeTree, null_type, bool_type, integer_type, utf8_type, binary_type, list_type, fixed_size_list_type, map_type, struct_type, union_type, extension_type, TypeTrees, no_types, type_then, storage}
-use Rattle.vortex_dtype.specs.declared.kinds.Nullability.{Nullability}
+use Rattle.vortex_dtype.specs.declared.nullability.Nullability.{Nullability}
 use Rattle.vortex_value.specs.Laws.CastLaws.{HasNoNull, HaveNoNull, NoCallFurther, NoWayRound}
 use Rattle.vortex_value.specs.Casts.{Sorts, EachPlace, EachEntry, same_type, integers, lists, maps, structs, unions, ForId, Allows, AllowsFields, AllowsChild}
 use Rattle.vortex_value.specs.Chains.{last_of}

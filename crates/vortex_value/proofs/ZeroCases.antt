@@ -3,8 +3,8 @@ use Rattle.std.proofs.Common.{◌≡◌, ℕ, zero, suc, List, [], ◌∷◌, ma
 use Rattle.std.specs.Prelude.{replicate, Bool, true, false, option_map}
 use Rattle.vortex_dtype.specs.TypeOf.{as_type_trees}
 use Rattle.vortex_dtype.specs.TypeTree.{TypeTree, union_type, TypeTrees, no_types, type_then}
-use Rattle.vortex_dtype.specs.declared.kinds.Nullability.{Nullability}
-use Rattle.vortex_dtype.specs.declared.kinds.Nullability.TheVariants.{NonNullable}
+use Rattle.vortex_dtype.specs.declared.nullability.Nullability.{Nullability}
+use Rattle.vortex_dtype.specs.declared.nullability.Nullability.TheVariants.{NonNullable}
 use Rattle.vortex_value.specs.Laws.ZeroCases.{DefaultByCases, ZeroByCases, each_of}
 use Rattle.vortex_value.specs.Values.Content.{Content, sequence}
 use Rattle.vortex_value.specs.Zero.{and_rest, filling, fillings, null_or, places_of, repeated}

@@ -1,6 +1,6 @@
 -- Every breach of validity with its path, in reading order, and what a check answers of them.
 use Rattle.std.specs.Prelude.{◌≡◌, ◌≢◌, ◌↔◌, ℕ, suc, ◌==◌, ◌&&◌, not, Bool, true, false, List, [], ◌∷◌, ◌++◌, Option, Some, None, IsTrue, if◌then◌else◌}
-use Rattle.vortex_dtype.specs.Kinds.{same_kind}
+use Rattle.vortex_dtype.specs.PTypes.{same_ptype}
 use Rattle.vortex_dtype.specs.TypeTree.{TypeTree, null_type, bool_type, integer_type, utf8_type, binary_type, list_type, fixed_size_list_type, map_type, struct_type, union_type, variant_type, TypeTrees, no_types, type_then, is_nullable, storage}
 use Rattle.vortex_dtype.specs.declared.error.Breach.{Breach}
 use Rattle.vortex_dtype.specs.declared.error.Breach.TheVariants.{NullNotAllowed, WrongValue, WrongLength, UnknownTypeId, NullEntry, VariantNull}
@@ -57,7 +57,7 @@ abbrev mutual
   breaches_at (bool_type n) (raw_bool b) = []
   breaches_at (utf8_type n) (raw_text bs) = []
   breaches_at (binary_type n) (raw_bytes bs) = []
-  breaches_at (integer_type k n) (raw_integer l z) = if same_kind l k && in_range k z then [] else here WrongValue
+  breaches_at (integer_type k n) (raw_integer l z) = if same_ptype l k && in_range k z then [] else here WrongValue
   breaches_at (list_type e n) (raw_tuple vs) = element_breaches e 0 vs
   breaches_at (fixed_size_list_type e size n) (raw_tuple vs) = if count vs == size then element_breaches e 0 vs else here WrongLength
   breaches_at (map_type k w sorted n) (raw_tuple vs) = entry_breaches k w 0 vs

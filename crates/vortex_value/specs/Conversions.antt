@@ -1,12 +1,12 @@
 -- What Rust values give as raw values, and what Rust types take from a type and a raw value. A value that was taken is
 -- named by the raw value that it gives.
 use Rattle.std.specs.Prelude.{◌≡◌, ◌≤◌, ⊤, ℕ, ℤ, pos, Option, Some, None, Result, Ok, Err, if◌then◌else◌, length, IsOk, IsOkAnd, IsErrAnd, MatchResult}
-use Rattle.vortex_dtype.specs.Kinds.{same_kind}
+use Rattle.vortex_dtype.specs.PTypes.{same_ptype}
 use Rattle.vortex_dtype.specs.TypeTree.{TypeTree, bool_type, integer_type, utf8_type, binary_type, list_type, fixed_size_list_type}
 use Rattle.vortex_dtype.specs.declared.error.VortexError.{VortexError}
 use Rattle.vortex_dtype.specs.declared.error.VortexError.TheVariants.{OutOfMemory, WrongKind, OutOfRange, WrongPType, IsNull}
-use Rattle.vortex_dtype.specs.declared.kinds.PType.{PType}
-use Rattle.vortex_dtype.specs.declared.kinds.PType.TheVariants.{U64}
+use Rattle.vortex_dtype.specs.declared.ptype.PType.{PType}
+use Rattle.vortex_dtype.specs.declared.ptype.PType.TheVariants.{U64}
 use Rattle.vortex_pvalue.specs.Numbers.{in_range}
 use Rattle.vortex_value.specs.Values.RawTree.{RawTree, absent, raw_bool, raw_integer, raw_text, raw_bytes, raw_tuple, RawTrees, no_raws, raw_then}
 use Rattle.vortex_value.specs.Values.Scalars.{IsMadeOf, IsValid}
@@ -84,7 +84,7 @@ taken_number k t v = unless_null (number_in k) v
 -- an optional one: another type, another integer kind, of a null too; a null is none; another kind of raw value, a
 -- number that does not fit
 abbrev pub taken_option_number : PType → TypeTree → RawTree → Taken
-taken_option_number k (integer_type l n) v = if same_kind l k then or_none (number_in k) v else Err WrongPType
+taken_option_number k (integer_type l n) v = if same_ptype l k then or_none (number_in k) v else Err WrongPType
 taken_option_number k _ v = Err WrongKind
 
 -- usize: another type, a null, another kind of raw value, a number that does not fit

@@ -7,7 +7,7 @@ use Rattle.vortex_dtype.specs.TypeOf.{ExtensionParts, FieldParts, MapParts, Vari
 use Rattle.vortex_dtype.specs.TypeTree.{TypeTree, extension_type, union_type}
 use Rattle.vortex_dtype.specs.declared.error.VortexError.{VortexError}
 use Rattle.vortex_dtype.specs.declared.error.VortexError.TheVariants.{WrongKind, WrongChild, WrongLength, UnknownTypeId, VariantNull, TooMany}
-use Rattle.vortex_dtype.specs.declared.kinds.Nullability.{Nullability}
+use Rattle.vortex_dtype.specs.declared.nullability.Nullability.{Nullability}
 use Rattle.vortex_value.specs.Breaches.{is_null_type}
 use Rattle.vortex_value.specs.Values.RawOf.{as_raw_trees, value_trees}
 use Rattle.vortex_value.specs.Values.RawTree.{RawTree, raw_tuple, RawTrees, no_raws, raw_then, is_absent}

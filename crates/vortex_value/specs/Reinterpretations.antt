@@ -1,16 +1,16 @@
 -- Integers in another kind of the same width.
 use Rattle.std.specs.Prelude.{◌≡◌, Option, Some, None}
-use Rattle.vortex_dtype.specs.Kinds.{byte_width_of}
+use Rattle.vortex_dtype.specs.PTypes.{byte_width_of}
 use Rattle.vortex_dtype.specs.TypeTree.{TypeTree, integer_type}
-use Rattle.vortex_dtype.specs.declared.kinds.PType.{PType}
+use Rattle.vortex_dtype.specs.declared.ptype.PType.{PType}
 use Rattle.vortex_pvalue.specs.Numbers.{wrapped}
 use Rattle.vortex_value.specs.Validity.{Valid}
 use Rattle.vortex_value.specs.Values.RawTree.{RawTree, raw_integer}
 
 -- the kind of an integer type; an extension over one has none
-abbrev pub kind_in : TypeTree → Option PType
-kind_in (integer_type k n) = Some k
-kind_in _ = None
+abbrev pub ptype_in : TypeTree → Option PType
+ptype_in (integer_type k n) = Some k
+ptype_in _ = None
 
 -- the type is one of integers of the width of k
 abbrev pub IsAsWide : PType → TypeTree → Type 0
@@ -18,9 +18,9 @@ IsAsWide k (integer_type l n) = byte_width_of l ≡ byte_width_of k
 IsAsWide k _ = ⊥
 
 -- an integer type in the kind k
-abbrev pub in_kind : PType → TypeTree → TypeTree
-in_kind k (integer_type l n) = integer_type k n
-in_kind k t = t
+abbrev pub in_ptype : PType → TypeTree → TypeTree
+in_ptype k (integer_type l n) = integer_type k n
+in_ptype k t = t
 
 -- an integer in the kind k, with the same bits
 abbrev pub reinterpreted : PType → RawTree → RawTree
@@ -29,5 +29,5 @@ reinterpreted k v = v
 
 -- What is valid for an integer type, reinterpreted in a kind of the same width and back, is itself, and so is the type.
 abbrev pub ScalarsReinterpretBack : Type 0
-ScalarsReinterpretBack = (k l : PType) (t : TypeTree) (v : RawTree) → kind_in t ≡ Some k → IsAsWide l t → Valid t v
-    → (in_kind k (in_kind l t) ≡ t) × (reinterpreted k (reinterpreted l v) ≡ v)
+ScalarsReinterpretBack = (k l : PType) (t : TypeTree) (v : RawTree) → ptype_in t ≡ Some k → IsAsWide l t → Valid t v
+    → (in_ptype k (in_ptype l t) ≡ t) × (reinterpreted k (reinterpreted l v) ≡ v)

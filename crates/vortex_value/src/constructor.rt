@@ -5,8 +5,8 @@ ghost use Rattle.vortex_dtype.specs.Refusals.{RefusesExactly, RefusesOrNoMemory}
 ghost use Rattle.vortex_dtype.specs.TypeOf.{type_of, ext_of, variants_of};
 ghost use Rattle.vortex_dtype.specs.TypeTree.{IsFlat, IsNullable, as_nullable, bool_type, integer_type, utf8_type, binary_type, variant_type};
 ghost use Rattle.vortex_dtype.specs.declared.error.VortexError.TheVariants.{OutOfMemory};
-ghost use Rattle.vortex_dtype.specs.declared.kinds.Nullability.TheVariants.{NonNullable};
-ghost use Rattle.vortex_pvalue.specs.Whole.{kind_of, whole_of};
+ghost use Rattle.vortex_dtype.specs.declared.nullability.Nullability.TheVariants.{NonNullable};
+ghost use Rattle.vortex_pvalue.specs.Whole.{ptype_of, whole_of};
 ghost use Rattle.vortex_value.specs.Breaches.{Refuses, breaches};
 ghost use Rattle.vortex_value.specs.Makers.{child_cause, union_cause, inside_cause, union_of, extension_over};
 ghost use Rattle.vortex_value.specs.Values.RawOf.{raw_of, value_tree};
@@ -110,7 +110,7 @@ impl Scalar {
         ptype: PType,
         nullability: Nullability,
     ) -> Result<Scalar, VortexError>
-        ensures ok { IsOk result ↔ (kind_of value ≡ ptype) }
+        ensures ok { IsOk result ↔ (ptype_of value ≡ ptype) }
         ensures made { IfOk result
             (IsMadeOf (integer_type ptype nullability) (raw_integer ptype (whole_of value))) }
         ensures valid { IfOk result IsValid }

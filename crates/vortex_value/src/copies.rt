@@ -7,10 +7,10 @@ ghost use Rattle.vortex_dtype.specs.Memory.{GivesOrNoMemory};
 ghost use Rattle.vortex_dtype.specs.TypeOf.{type_of};
 ghost use Rattle.vortex_dtype.specs.TypeTree.{IsFlat};
 ghost use Rattle.vortex_dtype.specs.declared.error.VortexError.TheVariants.{OutOfMemory};
-ghost use Rattle.vortex_pvalue.specs.Whole.{kind_of, whole_of};
+ghost use Rattle.vortex_pvalue.specs.Whole.{ptype_of, whole_of};
 ghost use Rattle.vortex_value.specs.Steps.Copies.{Adds};
 ghost use Rattle.vortex_value.specs.Values.RawKinds.{TakesNoMemory};
-ghost use Rattle.vortex_value.specs.Values.RawOf.{value_tree, value_trees, variant_tree, union_tree, raw_of};
+ghost use Rattle.vortex_value.specs.Values.RawOf.{value_tree, value_trees, variant_tree, union_tree, raw_of, lent_raw};
 ghost use Rattle.vortex_value.specs.Values.RawTree.{raw_bool, raw_integer, raw_text, raw_bytes, raw_tuple};
 
 use crate::scalars::{Scalar, with_type};
@@ -48,7 +48,7 @@ pub(crate) fn copy_optional(
 ) -> Result<Option<ScalarValue>, VortexError>
     ensures { MatchResult result
         (λ copy. option_map value_tree copy ≡ option_map value_tree (option_copied value.entry))
-        (λ e. (e ≡ OutOfMemory) × ¬ (TakesNoMemory (raw_of (option_copied value.entry)))) }
+        (λ e. (e ≡ OutOfMemory) × ¬ (TakesNoMemory (lent_raw value.entry))) }
 {
     match value {
         Some(value) => Ok(Some(copy_value(alloc, value)?)),
@@ -126,7 +126,7 @@ fn push_bool(truth: bool, copies: &mut Vec<Option<ScalarValue>>) -> Result<(), A
 fn push_number(number: &PValue, copies: &mut Vec<Option<ScalarValue>>) -> Result<(), AllocError>
     requires { vec_len copies.old < vec_capacity copies.old }
     ensures { IfOk result (λ _. Adds copies.old copies.new
-        (Some (raw_integer (kind_of number.now) (whole_of number.now)))) }
+        (Some (raw_integer (ptype_of number.now) (whole_of number.now)))) }
 {
     copies.push_reserved(Some(ScalarValue::Primitive(*number)));
     Ok(())
@@ -293,7 +293,7 @@ fn box_bool(alloc: Global, truth: bool) -> Result<Box<ScalarValue>, AllocError>
 #[inline(never)]
 fn box_number(alloc: Global, number: &PValue) -> Result<Box<ScalarValue>, AllocError>
     ensures { IfOk result (λ made. value_tree made.value ≡
-        raw_integer (kind_of number.now) (whole_of number.now)) }
+        raw_integer (ptype_of number.now) (whole_of number.now)) }
 {
     boxed(alloc, ScalarValue::Primitive(*number))
 }

@@ -2,11 +2,10 @@
 
 ghost use Rattle.std.specs.Prelude.{◌≡◌, ◌++◌, ◌⊎◌, [], IfNone, IfSome, IsTrue, None, Some, codes, false, slice_get};
 ghost use Rattle.std.specs.Fmt.{WritesOnOk};
-ghost use Rattle.std.specs.Option.{option_copied};
 ghost use Rattle.vortex_dtype.specs.TypeOf.{fields_of, map_of, type_of, as_type_trees};
 ghost use Rattle.vortex_dtype.specs.TypeTree.{storage};
 ghost use Rattle.vortex_value.specs.Breaches.{is_valid};
-ghost use Rattle.vortex_value.specs.Values.RawOf.{raw_of, value_trees, variant_tree, union_tree, value_tree};
+ghost use Rattle.vortex_value.specs.Values.RawOf.{value_trees, variant_tree, union_tree, value_tree, lent_raw};
 ghost use Rattle.vortex_value.specs.Values.RawTree.{RawTree, raw_tuple, raw_union};
 ghost use Rattle.vortex_value.specs.Values.Refs.{ref_raw, ref_type};
 ghost use Rattle.vortex_value.specs.Values.Scalars.{scalar_raw, scalar_type};
@@ -31,7 +30,7 @@ fn write_part<W: Write>(
     f: &mut Formatter<W>,
 ) -> fmt::Result
     ensures { WritesOnOk W.write_str_gives f.old result
-        (text_at (storage (type_of dtype.now)) (raw_of (option_copied value.entry))) f.new }
+        (text_at (storage (type_of dtype.now)) (lent_raw value.entry)) f.new }
 {
     match value {
         Some(value) => write_value(value, dtype, f),
@@ -127,7 +126,7 @@ fn write_entry<W: Write>(
 ) -> fmt::Result
     ensures { WritesOnOk W.write_str_gives f.old result
         (entry_text (map_of map.now).key (map_of map.now).value
-        (raw_of (option_copied entry.entry))) f.new }
+        (lent_raw entry.entry)) f.new }
 {
     match entry {
         Some(ScalarValue::Tuple(parts)) => write_pair(parts, map, f),
@@ -184,7 +183,7 @@ fn write_field<W: Write>(
 ) -> fmt::Result
     ensures { WritesOnOk W.write_str_gives f.old result
         (field_at index (slice_get (fields_of fields.now).names index)
-        (slice_get (fields_of fields.now).types index) (raw_of (option_copied value.entry))) f.new }
+        (slice_get (fields_of fields.now).types index) (lent_raw value.entry)) f.new }
 {
     let Some((name, dtype)) = named_field(fields, index) else {
         return Ok(());
@@ -250,7 +249,7 @@ fn write_inner<W: Write>(scalar: &Scalar, f: &mut Formatter<W>) -> fmt::Result
 #[cycle(raw_text)]
 fn write_raw_part<W: Write>(value: Option<&ScalarValue>, f: &mut Formatter<W>) -> fmt::Result
     ensures { WritesOnOk W.write_str_gives f.old result
-        (raw_text_of (raw_of (option_copied value.entry))) f.new }
+        (raw_text_of (lent_raw value.entry)) f.new }
 {
     match value {
         Some(value) => write_raw(value, f),
@@ -318,7 +317,7 @@ fn write_text<W: Write>(
     f: &mut Formatter<W>,
 ) -> fmt::Result
     ensures { WritesOnOk W.write_str_gives f.old result
-        (text_of (type_of dtype.now) (raw_of (option_copied value.entry))) f.new }
+        (text_of (type_of dtype.now) (lent_raw value.entry)) f.new }
 {
     if Scalar::is_compatible(dtype, value) {
         write_part(value, dtype, f)
@@ -336,9 +335,9 @@ fn write_invalid<W: Write>(
     dtype: &DType,
     f: &mut Formatter<W>,
 ) -> fmt::Result
-    requires { is_valid (type_of dtype.now) (raw_of (option_copied value)) ≡ false }
+    requires { is_valid (type_of dtype.now) (lent_raw value) ≡ false }
     ensures { WritesOnOk W.write_str_gives f.old result
-        (raw_text_of (raw_of (option_copied value.entry))) f.new }
+        (raw_text_of (lent_raw value.entry)) f.new }
 {
     match value {
         Some(ScalarValue::Variant(scalar)) if is_decided_inside(scalar, dtype) => {

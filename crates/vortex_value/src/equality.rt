@@ -2,13 +2,12 @@
 
 ghost use Rattle.std.specs.Prelude.{◌≡◌, ◌&&◌};
 ghost use Rattle.std.specs.Cmp.{partial_equiv_from_equiv};
-ghost use Rattle.std.specs.Option.{option_copied};
 ghost use Rattle.std.proofs.lemmas.Cmp.{on_equiv};
 ghost use Rattle.vortex_dtype.specs.TypeOf.{type_of};
 ghost use Rattle.vortex_value.specs.Values.Content.{content, contents, typed};
 ghost use Rattle.vortex_value.specs.Equality.{equal, all_equal, same_type};
 ghost use Rattle.vortex_value.specs.Lemmas.EqualityLaws.{equal-equiv};
-ghost use Rattle.vortex_value.specs.Values.RawOf.{raw_of, value_trees, variant_tree, union_tree, value_tree};
+ghost use Rattle.vortex_value.specs.Values.RawOf.{value_trees, variant_tree, union_tree, value_tree, lent_raw};
 ghost use Rattle.vortex_value.specs.Values.Scalars.{scalar_type, scalar_content};
 
 use crate::scalars::Scalar;
@@ -47,7 +46,7 @@ fn equal_values(a: &ScalarValue, b: &ScalarValue) -> bool
 #[tactic(auto, using(crate::proofs::ValueSteps::shown))]
 pub(crate) fn equal_optional(a: Option<&ScalarValue>, b: Option<&ScalarValue>) -> bool
     ensures { result ≡ equal
-        (content (raw_of (option_copied a.entry))) (content (raw_of (option_copied b.entry))) }
+        (content (lent_raw a.entry)) (content (lent_raw b.entry)) }
 {
     match (a, b) {
         (Some(x), Some(y)) => equal_values(x, y),

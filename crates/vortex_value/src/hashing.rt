@@ -2,11 +2,10 @@
 
 ghost use Rattle.std.specs.Prelude.{◌≡◌, fold};
 ghost use Rattle.std.specs.Hash.{and-Alike, on_Alike};
-ghost use Rattle.std.specs.Option.{option_copied};
 ghost use Rattle.vortex_value.specs.Values.Content.{content, contents};
 ghost use Rattle.vortex_value.specs.Lemmas.HashLaws.{content_feed-Alike, type_feed-Alike};
 ghost use Rattle.vortex_value.specs.Hashing.{content_feed, counted_feed, typed_feed};
-ghost use Rattle.vortex_value.specs.Values.RawOf.{raw_of, value_trees, union_tree, value_tree};
+ghost use Rattle.vortex_value.specs.Values.RawOf.{value_trees, union_tree, value_tree, lent_raw};
 ghost use Rattle.vortex_value.specs.Values.Scalars.{scalar_content, scalar_type};
 
 use crate::scalars::Scalar;
@@ -19,7 +18,7 @@ use std::hash::{Hash, Hasher};
 #[tactic(auto, using(crate::proofs::HashSteps::shown))]
 pub(crate) fn feed<H: Hasher>(value: Option<&ScalarValue>, state: &mut H)
     ensures { state.new ≡ fold H.write state.old
-        (content_feed (content (raw_of (option_copied value.entry)))) }
+        (content_feed (content (lent_raw value.entry))) }
 {
     match value {
         Some(value) => feed_value(value, state),

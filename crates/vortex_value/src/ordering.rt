@@ -1,11 +1,10 @@
 //! The order of raw values and of scalars: nulls first, contents by kind, variants never.
 
 ghost use Rattle.std.specs.Prelude.{◌≡◌, Some, length};
-ghost use Rattle.std.specs.Option.{option_copied};
 ghost use Rattle.std.specs.Ordering.{nat_cmp};
 ghost use Rattle.vortex_value.specs.Values.Content.{content, contents};
 ghost use Rattle.vortex_value.specs.Order.{order, orders};
-ghost use Rattle.vortex_value.specs.Values.RawOf.{raw_of, value_trees, union_tree, value_tree};
+ghost use Rattle.vortex_value.specs.Values.RawOf.{value_trees, union_tree, value_tree, lent_raw};
 ghost use Rattle.vortex_value.specs.Values.Scalars.{scalar_order};
 
 use crate::refs::ScalarRef;
@@ -20,7 +19,7 @@ use std::cmp::Ordering;
 #[tactic(auto, using(crate::proofs::OrderSteps::shown))]
 pub(crate) fn compare(a: Option<&ScalarValue>, b: Option<&ScalarValue>) -> Option<Ordering>
     ensures { result ≡ order
-        (content (raw_of (option_copied a.entry))) (content (raw_of (option_copied b.entry))) }
+        (content (lent_raw a.entry)) (content (lent_raw b.entry)) }
 {
     match (a, b) {
         (Some(a), Some(b)) => compare_values(a, b),

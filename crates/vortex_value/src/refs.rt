@@ -3,7 +3,6 @@
 ghost use Rattle.std.specs.Prelude.{◌≡◌, ◌≢◌, ◌↔◌, ◌&&◌, Err, IfErr, IfOk, IsOk};
 ghost use Rattle.std.specs.Cmp.{partial_equiv_from_equiv};
 ghost use Rattle.std.specs.Hash.{and-Alike, on_Alike};
-ghost use Rattle.std.specs.Option.{option_copied};
 ghost use Rattle.std.proofs.lemmas.Cmp.{on_equiv};
 ghost use Rattle.vortex_dtype.specs.TypeOf.{type_of};
 ghost use Rattle.vortex_dtype.specs.TypeTree.{IsFlat};
@@ -13,7 +12,7 @@ ghost use Rattle.vortex_value.specs.Equality.{equal, same_type};
 ghost use Rattle.vortex_value.specs.Lemmas.EqualityLaws.{equal-equiv};
 ghost use Rattle.vortex_value.specs.Lemmas.HashLaws.{content_feed-Alike, type_feed-Alike};
 ghost use Rattle.vortex_value.specs.Hashing.{typed_feed};
-ghost use Rattle.vortex_value.specs.Values.RawOf.{raw_of};
+ghost use Rattle.vortex_value.specs.Values.RawOf.{lent_raw};
 ghost use Rattle.vortex_value.specs.Values.RawTree.{is_absent};
 ghost use Rattle.vortex_value.specs.Values.Refs.{IsRefOf, IsValidRef, ref_content, ref_order, ref_raw, ref_type};
 ghost use Rattle.vortex_value.specs.Values.Scalars.{IsMadeOf, IsValid, scalar_raw, scalar_type};
@@ -53,8 +52,8 @@ impl<'a> ScalarRef<'a> {
     /// The type and the raw value, or its absence, borrowed, also where the value is not valid for
     /// the type. Of this port alone: views lend their parts by it.
     pub fn from_parts(dtype: &'a DType, value: Option<&'a ScalarValue>) -> ScalarRef<'a>
-        ensures made { IsRefOf (type_of dtype.now) (raw_of (option_copied value.entry)) result }
-        ensures valid { Valid (type_of dtype.now) (raw_of (option_copied value.entry))
+        ensures made { IsRefOf (type_of dtype.now) (lent_raw value.entry) result }
+        ensures valid { Valid (type_of dtype.now) (lent_raw value.entry)
             → IsValidRef result }
     {
         ScalarRef { dtype, value }
@@ -71,12 +70,12 @@ impl<'a> ScalarRef<'a> {
         dtype: &'a DType,
         value: Option<&'a ScalarValue>,
     ) -> Result<ScalarRef<'a>, VortexError>
-        ensures ok { IsOk result ↔ Valid (type_of dtype.now) (raw_of (option_copied value.entry)) }
+        ensures ok { IsOk result ↔ Valid (type_of dtype.now) (lent_raw value.entry) }
         ensures made { IfOk result
-            (IsRefOf (type_of dtype.now) (raw_of (option_copied value.entry))) }
+            (IsRefOf (type_of dtype.now) (lent_raw value.entry)) }
         ensures valid { IfOk result IsValidRef }
         ensures refused { IfErr result
-            (λ e. Refuses e (breaches (type_of dtype.now) (raw_of (option_copied value.entry)))) }
+            (λ e. Refuses e (breaches (type_of dtype.now) (lent_raw value.entry))) }
         ensures flat { IsFlat (type_of dtype.now) → result ≢ Err VortexError.OutOfMemory }
     {
         Scalar::validate(alloc, dtype, value)?;
@@ -92,7 +91,7 @@ impl<'a> ScalarRef<'a> {
 
     /// The raw value; none for a null.
     pub fn value(&self) -> Option<&'a ScalarValue>
-        ensures { raw_of (option_copied result) ≡ ref_raw self.now }
+        ensures { lent_raw result ≡ ref_raw self.now }
     {
         self.value
     }

@@ -1,7 +1,7 @@
 //! Integer scalars in another kind of the same width.
 
 ghost use Rattle.std.specs.Prelude.{◌≡◌, ◌↔◌, IfErr, IfOk, IsOk, IsSome};
-ghost use Rattle.vortex_value.specs.Reinterpretations.{IsAsWide, in_kind, kind_in, reinterpreted};
+ghost use Rattle.vortex_value.specs.Reinterpretations.{IsAsWide, in_ptype, ptype_in, reinterpreted};
 ghost use Rattle.vortex_value.specs.Values.Scalars.{IsMadeOf, IsValid, scalar_raw, scalar_type};
 
 use crate::scalars::Scalar;
@@ -17,17 +17,17 @@ impl Scalar {
     /// `Scalar::primitive_reinterpret_cast`, which panics at another type.
     pub fn primitive_reinterpret_cast(&self, ptype: PType) -> Result<Scalar, VortexError>
         requires valid { IsValid self.now }
-        requires integer { IsSome (kind_in (scalar_type self.now)) }
+        requires integer { IsSome (ptype_in (scalar_type self.now)) }
         ensures ok { IsOk result ↔ IsAsWide ptype (scalar_type self.now) }
         ensures made { IfOk result (IsMadeOf
-            (in_kind ptype (scalar_type self.now)) (reinterpreted ptype (scalar_raw self.now))) }
+            (in_ptype ptype (scalar_type self.now)) (reinterpreted ptype (scalar_raw self.now))) }
         ensures valid { IfOk result IsValid }
         ensures refused { IfErr result (λ e. e ≡ VortexError.WidthsDiffer) }
     {
-        let DType::Primitive(kind, nullability) = &self.dtype else {
+        let DType::Primitive(own, nullability) = &self.dtype else {
             unreachable!()
         };
-        if kind.byte_width() != ptype.byte_width() {
+        if own.byte_width() != ptype.byte_width() {
             return Err(VortexError::WidthsDiffer);
         }
         let value = match &self.value {

@@ -1,9 +1,8 @@
 //! The size of scalars in bytes: the sum of the sizes of their parts, as far as a `usize` counts.
 
 ghost use Rattle.std.specs.Prelude.{◌≡◌, option_map};
-ghost use Rattle.std.specs.Option.{option_copied};
 ghost use Rattle.vortex_dtype.specs.TypeOf.{map_of, type_of, as_type_trees, dtype_trees, variants_of};
-ghost use Rattle.vortex_value.specs.Values.RawOf.{raw_of, value_trees};
+ghost use Rattle.vortex_value.specs.Values.RawOf.{lent_raw, raw_of, value_trees};
 ghost use Rattle.vortex_value.specs.Values.RawTree.{raw_tuple};
 ghost use Rattle.vortex_value.specs.Values.Scalars.{scalar_raw, scalar_type};
 ghost use Rattle.vortex_value.specs.Size.{capped, child_size, elements_size, entries_size, entry_size, fields_size, size_of};
@@ -20,11 +19,11 @@ use vortex_dtype::{DType, MapDType, UnionVariants};
 #[inline(always)]
 #[tactic(auto, using(crate::proofs::SizeSteps::shown))]
 fn size(value: Option<&ScalarValue>, dtype: &DType) -> usize
-    ensures { result ≡ capped (size_of (type_of dtype.now) (raw_of (option_copied value.entry))) }
+    ensures { result ≡ capped (size_of (type_of dtype.now) (lent_raw value.entry)) }
 {
     match (storage_of(dtype), value) {
         (DType::Bool(_), _) => 1,
-        (DType::Primitive(kind, _), _) => kind.byte_width(),
+        (DType::Primitive(ptype, _), _) => ptype.byte_width(),
         (DType::Utf8(_), Some(ScalarValue::Utf8(text))) => text.len(),
         (DType::Binary(_), Some(ScalarValue::Binary(bytes))) => bytes.len(),
         (DType::List(element, _), Some(ScalarValue::Tuple(items))) => size_of_elements(
@@ -77,7 +76,7 @@ fn size_of_entries(items: &[Option<ScalarValue>], map: &MapDType) -> usize
 #[tactic(auto, using(crate::proofs::SizeSteps::shown))]
 fn size_of_entry(entry: Option<&ScalarValue>, map: &MapDType) -> usize
     ensures { result ≡ capped (entry_size (map_of map.now).key (map_of map.now).value
-        (raw_of (option_copied entry.entry))) }
+        (lent_raw entry.entry)) }
 {
     match entry {
         Some(ScalarValue::Tuple(parts)) => size_of_pair(parts, map),

@@ -1,7 +1,7 @@
 //! The raw values of unions.
 
 ghost use Rattle.std.specs.Prelude.{◌≡◌, MatchResult, false};
-ghost use Rattle.std.specs.Option.{is_none, option_copied};
+ghost use Rattle.std.specs.Option.{is_none};
 ghost use Rattle.vortex_dtype.specs.declared.error.VortexError.TheVariants.{OutOfMemory};
 ghost use Rattle.vortex_value.specs.Values.RawTree.{raw_union, is_absent};
 
@@ -24,7 +24,7 @@ pub struct UnionValue {
 
 #[tactic(auto, using(crate::proofs::ValueSteps::shown))]
 impl UnionValue {
-    ghost use Rattle.vortex_value.specs.Values.RawOf.{union_tree, raw_of};
+    ghost use Rattle.vortex_value.specs.Values.RawOf.{union_tree, raw_of, lent_raw};
 
     /// The value of the variant with this id. `OutOfMemory` is its only refusal, and never without a
     /// child.
@@ -55,7 +55,7 @@ impl UnionValue {
 
     /// The child; none exactly for an inner null.
     pub fn child_value(&self) -> Option<&ScalarValue>
-        ensures { union_tree self.now ≡ raw_union self.now.type_id (raw_of (option_copied result)) }
+        ensures { union_tree self.now ≡ raw_union self.now.type_id (lent_raw result) }
     {
         self.child.as_deref()
     }

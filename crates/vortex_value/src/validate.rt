@@ -2,13 +2,13 @@
 
 ghost use Rattle.std.specs.Prelude.{◌≡◌, ◌≢◌, ◌↔◌, Bool, Err, List, Option, IfErr, IsOk, IsTrue, false, option_map, true};
 ghost use Rattle.std.specs.Global.{Global};
-ghost use Rattle.std.specs.Option.{is_some, option_copied};
+ghost use Rattle.std.specs.Option.{is_some};
 ghost use Rattle.vortex_dtype.specs.TypeOf.{map_of, type_of, as_type_trees, dtype_trees, variants_of};
 ghost use Rattle.vortex_dtype.specs.TypeTree.{IsFlat, variant_type};
-ghost use Rattle.vortex_dtype.specs.declared.kinds.Nullability.TheVariants.{NonNullable};
+ghost use Rattle.vortex_dtype.specs.declared.nullability.Nullability.TheVariants.{NonNullable};
 ghost use Rattle.vortex_value.specs.Breaches.{Found, Refuses, breaches, breaches_at, breaches_of_entry, child_breaches, element_breaches, entry_breaches, field_breaches, here, under};
 ghost use Rattle.vortex_value.specs.Steps.Faults.{Checks, HasPath, Shows, is_leaf};
-ghost use Rattle.vortex_value.specs.Values.RawOf.{raw_of, value_trees, variant_tree, value_tree};
+ghost use Rattle.vortex_value.specs.Values.RawOf.{raw_of, value_trees, variant_tree, value_tree, lent_raw};
 ghost use Rattle.vortex_value.specs.Values.RawTree.{raw_tuple};
 ghost use Rattle.vortex_value.specs.Validity.{Valid, type_with};
 
@@ -126,7 +126,7 @@ fn is_leaf_of(value: &ScalarValue, dtype: &DType) -> bool
     ensures { result ≡ is_leaf (type_of dtype.now) (value_tree value.now) }
 {
     match (value, dtype) {
-        (ScalarValue::Primitive(number), DType::Primitive(kind, _)) => number.ptype() == *kind,
+        (ScalarValue::Primitive(number), DType::Primitive(ptype, _)) => number.ptype() == *ptype,
         (ScalarValue::Utf8(_), DType::Utf8(_)) => true,
         (ScalarValue::Binary(_), DType::Binary(_)) => true,
         (ScalarValue::Bool(_), DType::Bool(_)) => true,
@@ -141,7 +141,7 @@ fn is_leaf_of(value: &ScalarValue, dtype: &DType) -> bool
 #[tactic(auto, using(crate::proofs::ValidSteps::shown))]
 fn check(value: Option<&ScalarValue>, dtype: &DType, trace: &mut Trace) -> bool
     ensures { Checks trace.old.path result trace.new
-        (breaches (type_of dtype.now) (raw_of (option_copied value.entry))) }
+        (breaches (type_of dtype.now) (lent_raw value.entry)) }
 {
     match value {
         Some(value) => check_present(value, dtype, trace),
@@ -230,7 +230,7 @@ fn check_entries(items: &[Option<ScalarValue>], map: &MapDType, trace: &mut Trac
 fn check_entry(entry: Option<&ScalarValue>, map: &MapDType, trace: &mut Trace) -> bool
     ensures { Checks trace.old.path result trace.new
         (breaches_of_entry (map_of map.now).key (map_of map.now).value
-        (raw_of (option_copied entry.entry))) }
+        (lent_raw entry.entry)) }
 {
     match entry {
         None => trace.refuse(Breach::NullEntry),
@@ -317,9 +317,9 @@ impl Scalar {
         dtype: &DType,
         value: Option<&ScalarValue>,
     ) -> Result<(), VortexError>
-        ensures ok { IsOk result ↔ Valid (type_of dtype.now) (raw_of (option_copied value.entry)) }
+        ensures ok { IsOk result ↔ Valid (type_of dtype.now) (lent_raw value.entry) }
         ensures refused { IfErr result
-            (λ e. Refuses e (breaches (type_of dtype.now) (raw_of (option_copied value.entry)))) }
+            (λ e. Refuses e (breaches (type_of dtype.now) (lent_raw value.entry))) }
         ensures flat { IsFlat (type_of dtype.now) → result ≢ Err VortexError.OutOfMemory }
     {
         let mut trace = Trace::new(Some(alloc));
@@ -332,7 +332,7 @@ impl Scalar {
 
     /// Whether the raw value, or its absence, is valid for the type.
     pub fn is_compatible(dtype: &DType, value: Option<&ScalarValue>) -> bool
-        ensures { IsTrue result ↔ Valid (type_of dtype.now) (raw_of (option_copied value.entry)) }
+        ensures { IsTrue result ↔ Valid (type_of dtype.now) (lent_raw value.entry) }
     {
         check(value, dtype, &mut Trace::new(None))
     }

@@ -2,7 +2,7 @@
 
 ghost use Rattle.std.specs.Prelude.{◌≡◌, MatchResult};
 ghost use Rattle.vortex_dtype.specs.declared.error.VortexError.TheVariants.{OutOfMemory};
-ghost use Rattle.vortex_pvalue.specs.Whole.{kind_of, whole_of};
+ghost use Rattle.vortex_pvalue.specs.Whole.{ptype_of, whole_of};
 ghost use Rattle.vortex_value.specs.Values.RawKinds.{IsBoolValue, IsIntegerValue, IsTextValue, IsBytesValue, IsTupleValue, IsUnionValue, IsVariantValue, TakesNoMemory};
 ghost use Rattle.vortex_value.specs.Values.RawTree.{raw_bool, raw_integer, raw_text, raw_bytes, raw_tuple};
 
@@ -57,7 +57,7 @@ impl ScalarValue {
     /// Ports `ScalarValue::as_primitive`, which panics at another kind of value.
     pub fn as_primitive(&self) -> &PValue
         requires { IsIntegerValue (value_tree self.now) }
-        ensures { value_tree self.now ≡ raw_integer (kind_of result.now) (whole_of result.now) }
+        ensures { value_tree self.now ≡ raw_integer (ptype_of result.now) (whole_of result.now) }
     {
         match self {
             ScalarValue::Primitive(number) => number,
@@ -149,7 +149,7 @@ impl ScalarValue {
     /// Ports `ScalarValue::into_primitive`, which panics at another kind of value.
     pub fn into_primitive(self) -> PValue
         requires { IsIntegerValue (value_tree self) }
-        ensures { value_tree self ≡ raw_integer (kind_of result) (whole_of result) }
+        ensures { value_tree self ≡ raw_integer (ptype_of result) (whole_of result) }
     {
         match self {
             ScalarValue::Primitive(integer) => integer,

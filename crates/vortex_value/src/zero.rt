@@ -1,7 +1,7 @@
 //! The zero and the default of a type, and whether a scalar is zero.
 
 ghost use Rattle.std.specs.Prelude.{◌≡◌, ◌&&◌, IfErr, IfOk, IsOk, IsSome, MatchResult, length, option_map, pos};
-ghost use Rattle.std.specs.Option.{is_some, option_copied};
+ghost use Rattle.std.specs.Option.{is_some};
 ghost use Rattle.std.specs.Ordering.{int_eq};
 ghost use Rattle.vortex_dtype.specs.Memory.{GivesOrNoMemory};
 ghost use Rattle.vortex_dtype.specs.TypeOf.{type_of, as_type_trees, dtype_trees, variants_of};
@@ -9,7 +9,7 @@ ghost use Rattle.vortex_dtype.specs.TypeTree.{IsFlat, is_nullable};
 ghost use Rattle.vortex_dtype.specs.declared.error.VortexError.TheVariants.{OutOfMemory};
 ghost use Rattle.vortex_pvalue.specs.Whole.{whole_of};
 ghost use Rattle.vortex_value.specs.Values.Content.{content, contents};
-ghost use Rattle.vortex_value.specs.Values.RawOf.{raw_of, value_trees, union_tree};
+ghost use Rattle.vortex_value.specs.Values.RawOf.{raw_of, value_trees, union_tree, lent_raw};
 ghost use Rattle.vortex_value.specs.Values.Scalars.{scalar_content, scalar_type};
 ghost use Rattle.vortex_value.specs.Steps.Filling.{EachFills, FillFields, Fills, FillsFirst, child_filling, first_of};
 ghost use Rattle.vortex_value.specs.Zero.{IsTheOneOf, default_of, each_zero, fields_zero, filling, fillings, is_zero_of, of_first, of_inner, places_of, zero_of};
@@ -99,7 +99,7 @@ fn fill(alloc: Global, dtype: &DType, nulls: bool) -> Result<Option<ScalarValue>
     }
     match dtype {
         DType::Bool(_) => Ok(Some(ScalarValue::Bool(false))),
-        DType::Primitive(kind, _) => Ok(Some(ScalarValue::Primitive(PValue::zero(kind)))),
+        DType::Primitive(ptype, _) => Ok(Some(ScalarValue::Primitive(PValue::zero(ptype)))),
         DType::Utf8(_) => Ok(Some(ScalarValue::Utf8(BufferString::empty(alloc)?))),
         DType::Binary(_) => Ok(Some(ScalarValue::Binary(ByteBuffer::empty(alloc)?))),
         DType::List(_, _) => Ok(Some(ScalarValue::Tuple(Vec::new(alloc)))),
@@ -213,7 +213,7 @@ fn is_zero_number(number: &PValue) -> bool
 #[tactic(auto, using(crate::proofs::ZeroSteps::shown))]
 fn is_zero(value: Option<&ScalarValue>, dtype: &DType) -> Option<bool>
     ensures { result ≡
-        is_zero_of (type_of dtype.now) (content (raw_of (option_copied value.entry))) }
+        is_zero_of (type_of dtype.now) (content (lent_raw value.entry)) }
 {
     match (storage_of(dtype), value) {
         (DType::Bool(_), Some(ScalarValue::Bool(truth))) => Some(!*truth),

@@ -9,7 +9,7 @@ use Rattle.vortex_dtype.specs.TypeOf.{FieldParts, as_type_trees, fields_of, stru
 use Rattle.vortex_dtype.specs.TypeTree.{TypeTree, TypeTrees, no_types, type_then, struct_type, nullability_of}
 use Rattle.vortex_dtype.specs.declared.error.VortexError.{VortexError}
 use Rattle.vortex_dtype.specs.declared.error.VortexError.TheVariants.{OutOfMemory}
-use Rattle.vortex_dtype.specs.declared.kinds.Nullability.{Nullability}
+use Rattle.vortex_dtype.specs.declared.nullability.Nullability.{Nullability}
 use Rattle.vortex_dtype.specs.declared.types.DType.{DType, Struct}
 use Rattle.vortex_dtype.specs.declared.types.StructFields.{StructFields}
 use Rattle.vortex_value.specs.Validity.{FieldsValid, Valid}

@@ -6,7 +6,7 @@ use Rattle.std.proofs.lemmas.Option.{slice_get-get_or}
 use Rattle.vortex_dtype.specs.Parts.{is_union_type}
 use Rattle.vortex_dtype.specs.TypeOf.{VariantParts, union_type_of, as_type_trees}
 use Rattle.vortex_dtype.specs.TypeTree.{TypeTree, union_type, storage}
-use Rattle.vortex_dtype.specs.declared.kinds.Nullability.{Nullability}
+use Rattle.vortex_dtype.specs.declared.nullability.Nullability.{Nullability}
 use Rattle.vortex_value.specs.Validity.{HasType, Valid, ValidAt, type_with}
 use Rattle.vortex_value.specs.Values.RawTree.{RawTree, absent, raw_union}
 use Rattle.vortex_value.specs.Lemmas.VariantPlaces.{type_with-position}

@@ -1,8 +1,8 @@
 -- Worked cases of the parts of lists and maps, each a theorem.
 use Rattle.std.specs.Prelude.{◌≡◌, pos, false, [], ◌∷◌, Some, None, slice_get, refl, codes}
 use Rattle.vortex_dtype.specs.TypeTree.{TypeTree, integer_type, utf8_type, list_type, fixed_size_list_type, map_type}
-use Rattle.vortex_dtype.specs.declared.kinds.Nullability.TheVariants.{NonNullable, Nullable}
-use Rattle.vortex_dtype.specs.declared.kinds.PType.TheVariants.{I32}
+use Rattle.vortex_dtype.specs.declared.nullability.Nullability.TheVariants.{NonNullable, Nullable}
+use Rattle.vortex_dtype.specs.declared.ptype.PType.TheVariants.{I32}
 use Rattle.vortex_value.specs.Values.RawTree.{RawTree, absent, raw_integer, raw_text, raw_tuple, no_raws, raw_then}
 use Rattle.vortex_views.specs.Parts.{elements_of, entries_of, unless_null}
 

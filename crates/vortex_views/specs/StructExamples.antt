@@ -4,8 +4,8 @@ use Rattle.vortex_dtype.specs.Parts.{fields_in}
 use Rattle.vortex_dtype.specs.TypeOf.{FieldParts}
 use Rattle.vortex_dtype.specs.TypeTree.{TypeTree, null_type, integer_type, utf8_type, struct_type, no_types, type_then, extension_type, storage}
 use Rattle.vortex_dtype.specs.declared.error.VortexError.TheVariants.{NoField, WrongKind, WrongLength}
-use Rattle.vortex_dtype.specs.declared.kinds.Nullability.TheVariants.{NonNullable, Nullable}
-use Rattle.vortex_dtype.specs.declared.kinds.PType.TheVariants.{I32, I64}
+use Rattle.vortex_dtype.specs.declared.nullability.Nullability.TheVariants.{NonNullable, Nullable}
+use Rattle.vortex_dtype.specs.declared.ptype.PType.TheVariants.{I32, I64}
 use Rattle.vortex_value.specs.Values.RawTree.{RawTree, absent, raw_bool, raw_integer, raw_text, raw_tuple, no_raws, raw_then}
 use Rattle.vortex_views.specs.ExtensionParts.{is_of_kind}
 use Rattle.vortex_views.specs.StructParts.{IsProjectedValue, field_named, fields_within, selection_cause, struct_cast_cause}

@@ -4,6 +4,7 @@ use Rattle.vortex_dtype.specs.TypeTree.{TypeTree, union_type}
 use Rattle.vortex_value.specs.Texts.{name_with}
 use Rattle.vortex_value.specs.Validity.{type_with}
 use Rattle.vortex_value.specs.Values.RawTree.{RawTree, raw_union}
+use Rattle.vortex_value.specs.Values.Refs.{ref_raw, ref_type}
 use Rattle.vortex_value.specs.declared.refs.ScalarRef.{ScalarRef}
 use Rattle.vortex_views.specs.Parts.{Part}
 use Rattle.vortex_views.specs.declared.union.UnionScalar.{UnionScalar}
@@ -11,6 +12,13 @@ use Rattle.vortex_views.specs.declared.union.UnionScalar.{UnionScalar}
 -- the borrowed scalar that is viewed as a union
 abbrev pub union_ref : UnionScalar → ScalarRef
 union_ref x = x.scalar
+
+-- its type and its raw value
+abbrev pub union_view_type : UnionScalar → TypeTree
+union_view_type x = ref_type (union_ref x)
+
+abbrev pub union_view_raw : UnionScalar → RawTree
+union_view_raw x = ref_raw (union_ref x)
 
 -- the id that a union's value has; a null has none
 abbrev pub id_of : RawTree → Option ℕ

@@ -6,7 +6,7 @@ ghost use Rattle.vortex_dtype.specs.TypeTree.{TypeTree};
 ghost use Rattle.vortex_leaves.specs.BoolViews.{IsBoolViewOf};
 ghost use Rattle.vortex_leaves.specs.BytesViews.{IsBytesViewOf};
 ghost use Rattle.vortex_leaves.specs.Leaves.{is_bool_type};
-ghost use Rattle.vortex_value.specs.Reinterpretations.{kind_in};
+ghost use Rattle.vortex_value.specs.Reinterpretations.{ptype_in};
 ghost use Rattle.vortex_leaves.specs.PrimitiveViews.{IsNumberViewOf};
 ghost use Rattle.vortex_leaves.specs.TextViews.{IsTextViewOf};
 ghost use Rattle.vortex_value.specs.Validity.{Valid};
@@ -65,7 +65,7 @@ pub trait Downcast {
     /// Ports `Scalar::as_primitive`, which panics at another kind of type.
     fn as_primitive(&self) -> PrimitiveScalar<'_>
         requires valid { Valid (type_at self.now) (raw_at self.now) }
-        requires kind { is_some (kind_in (type_at self.now)) ≡ true }
+        requires kind { is_some (ptype_in (type_at self.now)) ≡ true }
         ensures { IsNumberViewOf (type_at self.now) (raw_at self.now) result }
     {
         self.as_primitive_opt().unwrap()
@@ -74,7 +74,7 @@ pub trait Downcast {
     /// The view as an integer, and none exactly for another kind of type.
     fn as_primitive_opt(&self) -> Option<PrimitiveScalar<'_>>
         requires { Valid (type_at self.now) (raw_at self.now) }
-        ensures kind { is_some result ≡ is_some (kind_in (type_at self.now)) }
+        ensures kind { is_some result ≡ is_some (ptype_in (type_at self.now)) }
         ensures view { IfSome result (IsNumberViewOf (type_at self.now) (raw_at self.now)) };
 
     /// The view as a text. The caller knows the kind of the type.

@@ -3,7 +3,6 @@
 ghost use Rattle.std.specs.Prelude.{◌≡◌, Some, is_some, true, IfErr, IfOk, IfSome, IsOk, IsTrue};
 ghost use Rattle.std.specs.Cmp.{partial_equiv_from_equiv};
 ghost use Rattle.std.specs.Hash.{and-Alike, on_Alike};
-ghost use Rattle.std.specs.Option.{option_copied};
 ghost use Rattle.std.proofs.lemmas.Cmp.{on_equiv};
 ghost use Rattle.vortex_dtype.specs.Parts.{extension_in};
 ghost use Rattle.vortex_dtype.specs.TypeOf.{ext_of, type_of};
@@ -13,8 +12,8 @@ ghost use Rattle.vortex_leaves.specs.Leaves.{GivesView};
 ghost use Rattle.vortex_value.specs.Lemmas.EqualityLaws.{equal-equiv};
 ghost use Rattle.vortex_value.specs.Lemmas.HashLaws.{content_feed-Alike, type_feed-Alike};
 ghost use Rattle.vortex_value.specs.Values.Content.{typed};
-ghost use Rattle.vortex_value.specs.Values.RawOf.{raw_of, value_tree};
-ghost use Rattle.vortex_value.specs.Values.Refs.{IsRefOf, IsValidRef, ref_content, ref_order, ref_raw, ref_type};
+ghost use Rattle.vortex_value.specs.Values.RawOf.{lent_raw, value_tree};
+ghost use Rattle.vortex_value.specs.Values.Refs.{IsRefOf, IsValidRef, ref_content, ref_order, ref_type};
 ghost use Rattle.vortex_value.specs.Values.Scalars.{IsMadeOf, IsValid, scalar_raw, scalar_type};
 ghost use Rattle.vortex_views.specs.ExtensionParts.{is_nested, is_of_kind};
 ghost use Rattle.vortex_views.specs.Parts.{ref_equal, ref_feed, ref_text};
@@ -34,18 +33,18 @@ pub struct ExtScalar<'a> {
 }
 
 impl<'a> ExtScalar<'a> {
-    ghost use Rattle.vortex_views.specs.Extensions.{ext_ref};
+    ghost use Rattle.vortex_views.specs.Extensions.{ext_ref, ext_view_raw, ext_view_type};
 
     /// The type.
     pub fn dtype(&self) -> &'a DType
-        ensures { type_of result.now ≡ ref_type (ext_ref self.now) }
+        ensures { type_of result.now ≡ ext_view_type self.now }
     {
         self.scalar.dtype()
     }
 
     /// The id, the metadata and the storage type, also of a null.
     pub fn ext_dtype(&self) -> &'a ExtDType
-        ensures { Some (ext_of result.now) ≡ extension_in (ref_type (ext_ref self.now)) }
+        ensures { Some (ext_of result.now) ≡ extension_in (ext_view_type self.now) }
     {
         self.scalar.dtype().as_extension_opt().unwrap()
     }
@@ -55,12 +54,12 @@ impl<'a> ExtScalar<'a> {
     /// `OutOfMemory` is its only refusal, and not of a valid one whose storage is of a type whose
     /// values take no memory.
     pub fn to_storage_scalar(&self, alloc: Global) -> Result<Scalar, VortexError>
-        ensures stored { IfOk result (λ made. IfSome (extension_in (ref_type (ext_ref self.now)))
-            (λ extension. IsMadeOf extension.storage (ref_raw (ext_ref self.now)) made)) }
+        ensures stored { IfOk result (λ made. IfSome (extension_in (ext_view_type self.now))
+            (λ extension. IsMadeOf extension.storage (ext_view_raw self.now) made)) }
         ensures valid { IsValidRef (ext_ref self.now) → IfOk result IsValid }
         ensures refused { IfErr result (λ e. e ≡ OutOfMemory) }
         ensures flat { IsValidRef (ext_ref self.now)
-            → IfSome (extension_in (ref_type (ext_ref self.now)))
+            → IfSome (extension_in (ext_view_type self.now))
             (λ extension. IsFlat extension.storage) → IsOk result }
     {
         let storage = self.ext_dtype().storage_dtype();
@@ -69,7 +68,7 @@ impl<'a> ExtScalar<'a> {
 
     /// The raw value; none for a null.
     pub fn value(&self) -> Option<&'a ScalarValue>
-        ensures { raw_of (option_copied result) ≡ ref_raw (ext_ref self.now) }
+        ensures { lent_raw result ≡ ext_view_raw self.now }
     {
         self.scalar.value()
     }
@@ -98,7 +97,7 @@ fn storage_of(dtype: &DType) -> &DType
 /// Whether there is no value, or one of the kind of raw value that this type has, which is no
 /// extension.
 fn is_of_kind(dtype: &DType, value: Option<&ScalarValue>) -> bool
-    ensures { result ≡ is_of_kind (type_of dtype.now) (raw_of (option_copied value.entry)) }
+    ensures { result ≡ is_of_kind (type_of dtype.now) (lent_raw value.entry) }
 {
     match value {
         Some(value) => is_value_of_kind(dtype, value),
@@ -168,7 +167,7 @@ impl PartialEq for ExtScalar<'_> {
     ghost eq = { λ a b. ref_equal (ext_ref a) (ext_ref b) };
 
     ghost laws = { partial_equiv_from_equiv
-        (on_equiv (λ x. typed (ref_type (ext_ref x)) (ref_content (ext_ref x))) equal-equiv) };
+        (on_equiv (λ x. typed (ext_view_type x) (ref_content (ext_ref x))) equal-equiv) };
 
     fn eq(&self, other: &ExtScalar<'_>) -> bool {
         self.scalar == other.scalar
@@ -178,7 +177,7 @@ impl PartialEq for ExtScalar<'_> {
 impl Eq for ExtScalar<'_> {
     ghost use Rattle.vortex_views.specs.Extensions.{ext_ref};
 
-    ghost laws = { on_equiv (λ x. typed (ref_type (ext_ref x)) (ref_content (ext_ref x)))
+    ghost laws = { on_equiv (λ x. typed (ext_view_type x) (ref_content (ext_ref x)))
         equal-equiv };
 }
 
@@ -187,7 +186,7 @@ impl Hash for ExtScalar<'_> {
 
     ghost hash_input = { λ x. ref_feed (ext_ref x) };
 
-    ghost respects_eq = { (and-Alike (on_Alike (λ x. ref_type (ext_ref x)) type_feed-Alike)
+    ghost respects_eq = { (and-Alike (on_Alike ext_view_type type_feed-Alike)
         (on_Alike (λ x. ref_content (ext_ref x)) content_feed-Alike)).fed };
 
     fn hash<H: Hasher>(&self, state: &mut H) {

@@ -4,7 +4,6 @@ ghost use Rattle.std.specs.Prelude.{◌≡◌, ◌↔◌, ◌==◌, ◌<◌, Som
 ghost use Rattle.std.specs.Cmp.{partial_equiv_from_equiv};
 ghost use Rattle.std.specs.Hash.{and-Alike, on_Alike};
 ghost use Rattle.std.specs.List.{All};
-ghost use Rattle.std.specs.Option.{option_copied};
 ghost use Rattle.std.proofs.lemmas.Cmp.{on_equiv};
 ghost use Rattle.vortex_dtype.specs.Parts.{element_in};
 ghost use Rattle.vortex_dtype.specs.TypeOf.{type_of};
@@ -12,9 +11,9 @@ ghost use Rattle.vortex_leaves.specs.Leaves.{GivesView, RefusesView};
 ghost use Rattle.vortex_value.specs.Lemmas.EqualityLaws.{equal-equiv};
 ghost use Rattle.vortex_value.specs.Lemmas.HashLaws.{content_feed-Alike, type_feed-Alike};
 ghost use Rattle.vortex_value.specs.Values.Content.{typed};
-ghost use Rattle.vortex_value.specs.Values.RawOf.{raw_of};
+ghost use Rattle.vortex_value.specs.Values.RawOf.{lent_raw, raw_of};
 ghost use Rattle.vortex_value.specs.Values.RawTree.{is_absent};
-ghost use Rattle.vortex_value.specs.Values.Refs.{IsRefOf, IsValidRef, ref_content, ref_order, ref_raw, ref_type};
+ghost use Rattle.vortex_value.specs.Values.Refs.{IsRefOf, IsValidRef, ref_content, ref_order, ref_type};
 ghost use Rattle.vortex_value.specs.Values.Scalars.{IsValid, scalar_raw, scalar_type};
 ghost use Rattle.vortex_value.specs.Validity.{Valid};
 ghost use Rattle.vortex_views.specs.Parts.{IsFlatPart, elements_of, is_null_or_tuple, parts_of, ref_equal, ref_feed, ref_part, ref_text, scalar_part, unless_null};
@@ -35,7 +34,7 @@ pub struct ListScalar<'a> {
 }
 
 impl<'a> ListScalar<'a> {
-    ghost use Rattle.vortex_views.specs.Lists.{list_ref};
+    ghost use Rattle.vortex_views.specs.Lists.{list_ref, list_view_raw, list_view_type};
 
     /// The type and the raw value, or its absence, viewed as a list.
     ///
@@ -50,13 +49,13 @@ impl<'a> ListScalar<'a> {
         value: Option<&'a ScalarValue>,
     ) -> Result<ListScalar<'a>, VortexError>
         ensures ok { IsOk result ↔ (IsTrue (is_some (element_in (type_of dtype.now)))
-            × Valid (type_of dtype.now) (raw_of (option_copied value.entry))) }
+            × Valid (type_of dtype.now) (lent_raw value.entry)) }
         ensures made { IfOk result (λ view.
-            IsRefOf (type_of dtype.now) (raw_of (option_copied value.entry)) (list_ref view)) }
+            IsRefOf (type_of dtype.now) (lent_raw value.entry) (list_ref view)) }
         ensures valid { IfOk result (λ view. IsValidRef (list_ref view)) }
         ensures refused { IfErr result
             (RefusesView (is_some (element_in (type_of dtype.now)))
-            (type_of dtype.now) (raw_of (option_copied value.entry))) }
+            (type_of dtype.now) (lent_raw value.entry)) }
     {
         if dtype.as_any_size_list_element_opt().is_none() {
             return Err(VortexError::WrongKind);
@@ -67,35 +66,35 @@ impl<'a> ListScalar<'a> {
 
     /// The type.
     pub fn dtype(&self) -> &'a DType
-        ensures { type_of result.now ≡ ref_type (list_ref self.now) }
+        ensures { type_of result.now ≡ list_view_type self.now }
     {
         self.scalar.dtype()
     }
 
     /// How many elements there are; a null has none.
     pub fn len(&self) -> usize
-        ensures { result ≡ length (parts_of (ref_raw (list_ref self.now))) }
+        ensures { result ≡ length (parts_of (list_view_raw self.now)) }
     {
         self.items().len()
     }
 
     /// Whether there is no element, as of a null.
     pub fn is_empty(&self) -> bool
-        ensures { result ≡ (length (parts_of (ref_raw (list_ref self.now))) == 0) }
+        ensures { result ≡ (length (parts_of (list_view_raw self.now)) == 0) }
     {
         self.len() == 0
     }
 
     /// Whether it is null.
     pub fn is_null(&self) -> bool
-        ensures { result ≡ is_absent (ref_raw (list_ref self.now)) }
+        ensures { result ≡ is_absent (list_view_raw self.now) }
     {
         self.scalar.is_null()
     }
 
     /// The type of the elements.
     pub fn element_dtype(&self) -> &'a DType
-        ensures { Some (type_of result.now) ≡ element_in (ref_type (list_ref self.now)) }
+        ensures { Some (type_of result.now) ≡ element_in (list_view_type self.now) }
     {
         self.scalar.dtype().as_any_size_list_element_opt().unwrap()
     }
@@ -104,7 +103,7 @@ impl<'a> ListScalar<'a> {
     /// Of this port alone.
     pub fn element_ref(&self, index: usize) -> Option<ScalarRef<'a>>
         ensures lent { option_map ref_part result
-            ≡ slice_get (elements_of (ref_type (list_ref self.now)) (ref_raw (list_ref self.now))) index }
+            ≡ slice_get (elements_of (list_view_type self.now) (list_view_raw self.now)) index }
         ensures valid { IsValidRef (list_ref self.now) → IfSome result IsValidRef }
     {
         part_at(self.element_dtype(), self.items(), index)
@@ -116,12 +115,12 @@ impl<'a> ListScalar<'a> {
     /// values take none.
     pub fn element(&self, alloc: Global, index: usize) -> Result<Option<Scalar>, VortexError>
         ensures copied { IfOk result (λ copy. option_map scalar_part copy
-            ≡ slice_get (elements_of (ref_type (list_ref self.now)) (ref_raw (list_ref self.now))) index) }
+            ≡ slice_get (elements_of (list_view_type self.now) (list_view_raw self.now)) index) }
         ensures valid { IsValidRef (list_ref self.now) → IfOk result (λ copy. IfSome copy IsValid) }
         ensures refused { IfErr result (λ e. (e ≡ VortexError.OutOfMemory)
-            × (index < length (parts_of (ref_raw (list_ref self.now))))) }
+            × (index < length (parts_of (list_view_raw self.now)))) }
         ensures flat { IsValidRef (list_ref self.now) → IfSome
-            (slice_get (elements_of (ref_type (list_ref self.now)) (ref_raw (list_ref self.now))) index)
+            (slice_get (elements_of (list_view_type self.now) (list_view_raw self.now)) index)
             IsFlatPart → IsOk result }
     {
         copied(alloc, self.element_ref(index))
@@ -132,12 +131,12 @@ impl<'a> ListScalar<'a> {
     /// `OutOfMemory` where there is none for the copies.
     pub fn elements(&self, alloc: Global) -> Result<Option<Vec<Scalar>>, VortexError>
         ensures copied { IfOk result (λ copies. option_map (λ xs. map scalar_part xs.items) copies
-            ≡ unless_null (ref_raw (list_ref self.now))
-            (elements_of (ref_type (list_ref self.now)) (ref_raw (list_ref self.now)))) }
+            ≡ unless_null (list_view_raw self.now)
+            (elements_of (list_view_type self.now) (list_view_raw self.now))) }
         ensures valid { IsValidRef (list_ref self.now)
             → IfOk result (λ copies. IfSome copies (λ xs. All IsValid xs.items)) }
         ensures refused { IfErr result (λ e. (e ≡ VortexError.OutOfMemory)
-            × (is_absent (ref_raw (list_ref self.now)) ≡ false)) }
+            × (is_absent (list_view_raw self.now) ≡ false)) }
     {
         if self.is_null() {
             return Ok(None);
@@ -158,7 +157,7 @@ impl<'a> ListScalar<'a> {
 
     /// The raw values of the elements.
     fn items(&self) -> &'a [Option<ScalarValue>]
-        ensures { map raw_of result.now ≡ parts_of (ref_raw (list_ref self.now)) }
+        ensures { map raw_of result.now ≡ parts_of (list_view_raw self.now) }
     {
         items_of(self.scalar.value())
     }
@@ -217,7 +216,7 @@ impl PartialEq for ListScalar<'_> {
     ghost eq = { λ a b. ref_equal (list_ref a) (list_ref b) };
 
     ghost laws = { partial_equiv_from_equiv
-        (on_equiv (λ x. typed (ref_type (list_ref x)) (ref_content (list_ref x))) equal-equiv) };
+        (on_equiv (λ x. typed (list_view_type x) (ref_content (list_ref x))) equal-equiv) };
 
     fn eq(&self, other: &ListScalar<'_>) -> bool {
         self.scalar == other.scalar
@@ -227,7 +226,7 @@ impl PartialEq for ListScalar<'_> {
 impl Eq for ListScalar<'_> {
     ghost use Rattle.vortex_views.specs.Lists.{list_ref};
 
-    ghost laws = { on_equiv (λ x. typed (ref_type (list_ref x)) (ref_content (list_ref x)))
+    ghost laws = { on_equiv (λ x. typed (list_view_type x) (ref_content (list_ref x)))
         equal-equiv };
 }
 
@@ -236,7 +235,7 @@ impl Hash for ListScalar<'_> {
 
     ghost hash_input = { λ x. ref_feed (list_ref x) };
 
-    ghost respects_eq = { (and-Alike (on_Alike (λ x. ref_type (list_ref x)) type_feed-Alike)
+    ghost respects_eq = { (and-Alike (on_Alike list_view_type type_feed-Alike)
         (on_Alike (λ x. ref_content (list_ref x)) content_feed-Alike)).fed };
 
     fn hash<H: Hasher>(&self, state: &mut H) {

@@ -4,7 +4,6 @@ ghost use Rattle.std.specs.Prelude.{◌≡◌, ◌↔◌, ◌==◌, ◌<◌, Som
 ghost use Rattle.std.specs.Cmp.{partial_equiv_from_equiv};
 ghost use Rattle.std.specs.Hash.{and-Alike, on_Alike};
 ghost use Rattle.std.specs.List.{All};
-ghost use Rattle.std.specs.Option.{option_copied};
 ghost use Rattle.std.proofs.lemmas.Cmp.{on_equiv};
 ghost use Rattle.vortex_dtype.specs.Parts.{map_in};
 ghost use Rattle.vortex_dtype.specs.TypeOf.{map_of, type_of};
@@ -12,9 +11,9 @@ ghost use Rattle.vortex_leaves.specs.Leaves.{GivesView, RefusesView};
 ghost use Rattle.vortex_value.specs.Lemmas.EqualityLaws.{equal-equiv};
 ghost use Rattle.vortex_value.specs.Lemmas.HashLaws.{content_feed-Alike, type_feed-Alike};
 ghost use Rattle.vortex_value.specs.Values.Content.{typed};
-ghost use Rattle.vortex_value.specs.Values.RawOf.{raw_of};
+ghost use Rattle.vortex_value.specs.Values.RawOf.{lent_raw, raw_of};
 ghost use Rattle.vortex_value.specs.Values.RawTree.{is_absent};
-ghost use Rattle.vortex_value.specs.Values.Refs.{IsRefOf, IsValidRef, ref_content, ref_raw, ref_type};
+ghost use Rattle.vortex_value.specs.Values.Refs.{IsRefOf, IsValidRef, ref_content, ref_type};
 ghost use Rattle.vortex_value.specs.Values.Scalars.{IsValid, scalar_raw, scalar_type};
 ghost use Rattle.vortex_value.specs.Validity.{Valid};
 ghost use Rattle.vortex_views.specs.Iterators.{entries_left, keys_left, values_left};
@@ -37,7 +36,7 @@ pub struct MapScalar<'a> {
 }
 
 impl<'a> MapScalar<'a> {
-    ghost use Rattle.vortex_views.specs.Maps.{map_ref};
+    ghost use Rattle.vortex_views.specs.Maps.{map_ref, map_view_raw, map_view_type};
 
     /// The type and the raw value, or its absence, viewed as a map.
     ///
@@ -52,13 +51,13 @@ impl<'a> MapScalar<'a> {
         value: Option<&'a ScalarValue>,
     ) -> Result<MapScalar<'a>, VortexError>
         ensures ok { IsOk result ↔ (IsTrue (is_some (map_in (type_of dtype.now)))
-            × Valid (type_of dtype.now) (raw_of (option_copied value.entry))) }
+            × Valid (type_of dtype.now) (lent_raw value.entry)) }
         ensures made { IfOk result (λ view.
-            IsRefOf (type_of dtype.now) (raw_of (option_copied value.entry)) (map_ref view)) }
+            IsRefOf (type_of dtype.now) (lent_raw value.entry) (map_ref view)) }
         ensures valid { IfOk result (λ view. IsValidRef (map_ref view)) }
         ensures refused { IfErr result
             (RefusesView (is_some (map_in (type_of dtype.now)))
-            (type_of dtype.now) (raw_of (option_copied value.entry))) }
+            (type_of dtype.now) (lent_raw value.entry)) }
     {
         if dtype.as_map_opt().is_none() {
             return Err(VortexError::WrongKind);
@@ -69,35 +68,35 @@ impl<'a> MapScalar<'a> {
 
     /// The type.
     pub fn dtype(&self) -> &'a DType
-        ensures { type_of result.now ≡ ref_type (map_ref self.now) }
+        ensures { type_of result.now ≡ map_view_type self.now }
     {
         self.scalar.dtype()
     }
 
     /// The key type, the value type, and whether the keys are sorted.
     pub fn map_dtype(&self) -> &'a MapDType
-        ensures { Some (map_of result.now) ≡ map_in (ref_type (map_ref self.now)) }
+        ensures { Some (map_of result.now) ≡ map_in (map_view_type self.now) }
     {
         self.scalar.dtype().as_map_opt().unwrap()
     }
 
     /// How many entries there are; a null has none.
     pub fn len(&self) -> usize
-        ensures { result ≡ length (parts_of (ref_raw (map_ref self.now))) }
+        ensures { result ≡ length (parts_of (map_view_raw self.now)) }
     {
         self.items().len()
     }
 
     /// Whether there is no entry, as of a null.
     pub fn is_empty(&self) -> bool
-        ensures { result ≡ (length (parts_of (ref_raw (map_ref self.now))) == 0) }
+        ensures { result ≡ (length (parts_of (map_view_raw self.now)) == 0) }
     {
         self.len() == 0
     }
 
     /// Whether it is null.
     pub fn is_null(&self) -> bool
-        ensures { result ≡ is_absent (ref_raw (map_ref self.now)) }
+        ensures { result ≡ is_absent (map_view_raw self.now) }
     {
         self.scalar.is_null()
     }
@@ -106,7 +105,7 @@ impl<'a> MapScalar<'a> {
     /// anywhere of a null. Of this port alone.
     pub fn entry_ref(&self, index: usize) -> Option<(ScalarRef<'a>, ScalarRef<'a>)>
         ensures lent { option_map ref_entry result
-            ≡ slice_get (entries_of (ref_type (map_ref self.now)) (ref_raw (map_ref self.now))) index }
+            ≡ slice_get (entries_of (map_view_type self.now) (map_view_raw self.now)) index }
         ensures valid { IsValidRef (map_ref self.now)
             → IfSome result (λ entry. IsValidRef entry.0 × IsValidRef entry.1) }
     {
@@ -124,13 +123,13 @@ impl<'a> MapScalar<'a> {
         index: usize,
     ) -> Result<Option<(Scalar, Scalar)>, VortexError>
         ensures copied { IfOk result (λ copy. option_map scalar_entry copy
-            ≡ slice_get (entries_of (ref_type (map_ref self.now)) (ref_raw (map_ref self.now))) index) }
+            ≡ slice_get (entries_of (map_view_type self.now) (map_view_raw self.now)) index) }
         ensures valid { IsValidRef (map_ref self.now)
             → IfOk result (λ copy. IfSome copy (λ entry. IsValid entry.0 × IsValid entry.1)) }
         ensures refused { IfErr result (λ e. (e ≡ VortexError.OutOfMemory)
-            × (index < length (parts_of (ref_raw (map_ref self.now))))) }
+            × (index < length (parts_of (map_view_raw self.now)))) }
         ensures flat { IsValidRef (map_ref self.now) → IfSome
-            (slice_get (entries_of (ref_type (map_ref self.now)) (ref_raw (map_ref self.now))) index)
+            (slice_get (entries_of (map_view_type self.now) (map_view_raw self.now)) index)
             AreFlatParts → IsOk result }
     {
         match self.entry_ref(index) {
@@ -143,7 +142,7 @@ impl<'a> MapScalar<'a> {
     /// a null none. It takes no memory itself.
     pub fn entries(&self, alloc: Global) -> Entries<'a>
         ensures all { entries_left result
-            ≡ entries_of (ref_type (map_ref self.now)) (ref_raw (map_ref self.now)) }
+            ≡ entries_of (map_view_type self.now) (map_view_raw self.now) }
         ensures valid { IsValidRef (map_ref self.now) → All AreValidParts (entries_left result) }
     {
         Entries::new(self.map_dtype(), self.items(), alloc)
@@ -153,7 +152,7 @@ impl<'a> MapScalar<'a> {
     /// itself.
     pub fn keys(&self, alloc: Global) -> Keys<'a>
         ensures all { keys_left result ≡ map (λ entry. entry.0)
-            (entries_of (ref_type (map_ref self.now)) (ref_raw (map_ref self.now))) }
+            (entries_of (map_view_type self.now) (map_view_raw self.now)) }
         ensures valid { IsValidRef (map_ref self.now) → All IsValidPart (keys_left result) }
     {
         Keys::of(self.entries(alloc))
@@ -163,7 +162,7 @@ impl<'a> MapScalar<'a> {
     /// itself.
     pub fn values(&self, alloc: Global) -> Values<'a>
         ensures all { values_left result ≡ map (λ entry. entry.1)
-            (entries_of (ref_type (map_ref self.now)) (ref_raw (map_ref self.now))) }
+            (entries_of (map_view_type self.now) (map_view_raw self.now)) }
         ensures valid { IsValidRef (map_ref self.now) → All IsValidPart (values_left result) }
     {
         Values::of(self.entries(alloc))
@@ -171,7 +170,7 @@ impl<'a> MapScalar<'a> {
 
     /// The raw values of the entries.
     fn items(&self) -> &'a [Option<ScalarValue>]
-        ensures { map raw_of result.now ≡ parts_of (ref_raw (map_ref self.now)) }
+        ensures { map raw_of result.now ≡ parts_of (map_view_raw self.now) }
     {
         items_of(self.scalar.value())
     }
@@ -213,7 +212,7 @@ impl PartialEq for MapScalar<'_> {
     ghost eq = { λ a b. ref_equal (map_ref a) (map_ref b) };
 
     ghost laws = { partial_equiv_from_equiv
-        (on_equiv (λ x. typed (ref_type (map_ref x)) (ref_content (map_ref x))) equal-equiv) };
+        (on_equiv (λ x. typed (map_view_type x) (ref_content (map_ref x))) equal-equiv) };
 
     fn eq(&self, other: &MapScalar<'_>) -> bool {
         self.scalar == other.scalar
@@ -223,7 +222,7 @@ impl PartialEq for MapScalar<'_> {
 impl Eq for MapScalar<'_> {
     ghost use Rattle.vortex_views.specs.Maps.{map_ref};
 
-    ghost laws = { on_equiv (λ x. typed (ref_type (map_ref x)) (ref_content (map_ref x)))
+    ghost laws = { on_equiv (λ x. typed (map_view_type x) (ref_content (map_ref x)))
         equal-equiv };
 }
 
@@ -232,7 +231,7 @@ impl Hash for MapScalar<'_> {
 
     ghost hash_input = { λ x. ref_feed (map_ref x) };
 
-    ghost respects_eq = { (and-Alike (on_Alike (λ x. ref_type (map_ref x)) type_feed-Alike)
+    ghost respects_eq = { (and-Alike (on_Alike map_view_type type_feed-Alike)
         (on_Alike (λ x. ref_content (map_ref x)) content_feed-Alike)).fed };
 
     fn hash<H: Hasher>(&self, state: &mut H) {

@@ -1,9 +1,8 @@
 //! The parts of values: how views find them, lend them and copy them.
 
 ghost use Rattle.std.specs.Prelude.{◌≡◌, IfErr, IfOk, IfSome, IsOk, IsSome, MatchResult, map, option_map, slice_get};
-ghost use Rattle.std.specs.Option.{option_copied};
 ghost use Rattle.vortex_dtype.specs.TypeOf.{map_of, type_of};
-ghost use Rattle.vortex_value.specs.Values.RawOf.{raw_of};
+ghost use Rattle.vortex_value.specs.Values.RawOf.{lent_raw, raw_of};
 ghost use Rattle.vortex_value.specs.Values.Refs.{IsValidRef};
 ghost use Rattle.vortex_views.specs.Parts.{AreFlatParts, IsFlatPart, entry_of, is_null_or_tuple, part_or_null, parts_of, ref_entry, ref_part, scalar_entry, scalar_part};
 
@@ -14,7 +13,7 @@ use vortex_value::{Scalar, ScalarRef, ScalarValue};
 /// The values of a list, a struct, a map or an entry, in order; nothing else has any.
 #[tactic(auto, using(crate::proofs::PartSteps::shown))]
 pub(crate) fn items_of<'a>(value: Option<&'a ScalarValue>) -> &'a [Option<ScalarValue>]
-    ensures { map raw_of result.now ≡ parts_of (raw_of (option_copied value.entry)) }
+    ensures { map raw_of result.now ≡ parts_of (lent_raw value.entry) }
 {
     match value {
         Some(ScalarValue::Tuple(items)) => items,
@@ -40,8 +39,8 @@ pub(crate) fn item_or_null<'a>(
     value: Option<&'a ScalarValue>,
     place: usize,
 ) -> Option<&'a ScalarValue>
-    ensures { raw_of (option_copied result)
-        ≡ part_or_null (raw_of (option_copied value.entry)) place }
+    ensures { lent_raw result
+        ≡ part_or_null (lent_raw value.entry) place }
 {
     items_of(value).get(place)?.as_ref()
 }
@@ -52,7 +51,7 @@ pub(crate) fn lent_entry<'a>(
     entry: Option<&'a ScalarValue>,
 ) -> (ScalarRef<'a>, ScalarRef<'a>)
     ensures { ref_entry result
-        ≡ entry_of (map_of map_dtype.now) (raw_of (option_copied entry.entry)) }
+        ≡ entry_of (map_of map_dtype.now) (lent_raw entry.entry) }
 {
     (
         ScalarRef::from_parts(map_dtype.key_dtype(), item_or_null(entry, 0)),
@@ -122,7 +121,7 @@ pub(crate) fn copied(
 
 /// Whether there is no value, or one of a list, a struct or a map.
 pub(crate) fn is_null_or_tuple(value: Option<&ScalarValue>) -> bool
-    ensures { result ≡ is_null_or_tuple (raw_of (option_copied value.entry)) }
+    ensures { result ≡ is_null_or_tuple (lent_raw value.entry) }
 {
     matches!(value, None | Some(ScalarValue::Tuple(_)))
 }

@@ -4,7 +4,6 @@ ghost use Rattle.std.specs.Prelude.{◌≡◌, Err, Ok, Some, true, is_none, is_
 ghost use Rattle.std.specs.Cmp.{partial_equiv_from_equiv};
 ghost use Rattle.std.specs.Hash.{and-Alike, on_Alike};
 ghost use Rattle.std.specs.List.{zip};
-ghost use Rattle.std.specs.Option.{option_copied};
 ghost use Rattle.std.proofs.lemmas.Cmp.{on_equiv};
 ghost use Rattle.vortex_dtype.specs.Names.{names_in};
 ghost use Rattle.vortex_dtype.specs.Parts.{fields_in};
@@ -16,9 +15,9 @@ ghost use Rattle.vortex_value.specs.Casts.{CanCast, RefusesCast};
 ghost use Rattle.vortex_value.specs.Lemmas.EqualityLaws.{equal-equiv};
 ghost use Rattle.vortex_value.specs.Lemmas.HashLaws.{content_feed-Alike, type_feed-Alike};
 ghost use Rattle.vortex_value.specs.Values.Content.{typed};
-ghost use Rattle.vortex_value.specs.Values.RawOf.{raw_of};
+ghost use Rattle.vortex_value.specs.Values.RawOf.{lent_raw, raw_of};
 ghost use Rattle.vortex_value.specs.Values.RawTree.{is_absent};
-ghost use Rattle.vortex_value.specs.Values.Refs.{IsRefOf, IsValidRef, ref_content, ref_order, ref_raw, ref_type};
+ghost use Rattle.vortex_value.specs.Values.Refs.{IsRefOf, IsValidRef, ref_content, ref_order, ref_type};
 ghost use Rattle.vortex_value.specs.Values.Scalars.{IsTheOne, IsValid, scalar_raw, scalar_type};
 ghost use Rattle.vortex_views.specs.Parts.{IsFlatPart, IsValidPart, is_null_or_tuple, parts_of, ref_equal, ref_feed, ref_part, ref_text, scalar_part};
 ghost use Rattle.vortex_views.specs.StructParts.{IsProjectedType, IsProjectedValue, counts_cause, field_named, fields_within, selection_cause, struct_cast_cause, value_named};
@@ -41,18 +40,18 @@ pub struct StructScalar<'a> {
 
 impl<'a> StructScalar<'a> {
     ghost use Rattle.vortex_views.specs.Iterators.{fields_left};
-    ghost use Rattle.vortex_views.specs.Structs.{struct_ref};
+    ghost use Rattle.vortex_views.specs.Structs.{struct_ref, struct_view_raw, struct_view_type};
 
     /// The type.
     pub fn dtype(&self) -> &'a DType
-        ensures { type_of result.now ≡ ref_type (struct_ref self.now) }
+        ensures { type_of result.now ≡ struct_view_type self.now }
     {
         self.scalar.dtype()
     }
 
     /// The names and the types of the fields, also of a null.
     pub fn struct_fields(&self) -> &'a StructFields
-        ensures { Some (fields_of result.now) ≡ fields_in (ref_type (struct_ref self.now)) }
+        ensures { Some (fields_of result.now) ≡ fields_in (struct_view_type self.now) }
     {
         self.scalar.dtype().as_struct_fields_opt().unwrap()
     }
@@ -60,14 +59,14 @@ impl<'a> StructScalar<'a> {
     /// The names of the fields, in order, also of a null.
     pub fn names(&self) -> FieldNames<'a>
         ensures { Some (names_in result)
-            ≡ option_map (λ fields. fields.names) (fields_in (ref_type (struct_ref self.now))) }
+            ≡ option_map (λ fields. fields.names) (fields_in (struct_view_type self.now)) }
     {
         self.struct_fields().names()
     }
 
     /// Whether it is null.
     pub fn is_null(&self) -> bool
-        ensures { result ≡ is_absent (ref_raw (struct_ref self.now)) }
+        ensures { result ≡ is_absent (struct_view_raw self.now) }
     {
         self.scalar.is_null()
     }
@@ -79,13 +78,13 @@ impl<'a> StructScalar<'a> {
     /// values take none. Ports `StructScalar::field`, which panics at a null.
     pub fn field(&self, alloc: Global, name: &str) -> Result<Option<Scalar>, VortexError>
         ensures copied { IfOk result (λ copy. option_map scalar_part copy ≡ field_named
-            (ref_type (struct_ref self.now)) (ref_raw (struct_ref self.now)) name.now) }
+            (struct_view_type self.now) (struct_view_raw self.now) name.now) }
         ensures valid { IsValidRef (struct_ref self.now)
             → IfOk result (λ copy. IfSome copy IsValid) }
         ensures refused { IfErr result (λ e. (e ≡ OutOfMemory) × IsSome (field_named
-            (ref_type (struct_ref self.now)) (ref_raw (struct_ref self.now)) name.now)) }
+            (struct_view_type self.now) (struct_view_raw self.now) name.now)) }
         ensures flat { IsValidRef (struct_ref self.now) → IfSome (field_named
-            (ref_type (struct_ref self.now)) (ref_raw (struct_ref self.now)) name.now) IsFlatPart
+            (struct_view_type self.now) (struct_view_raw self.now) name.now) IsFlatPart
             → IsOk result }
     {
         match self.struct_fields().find(name) {
@@ -100,13 +99,13 @@ impl<'a> StructScalar<'a> {
     /// values take none. Ports `StructScalar::field_by_idx`, which panics at a null.
     pub fn field_by_idx(&self, alloc: Global, index: usize) -> Result<Option<Scalar>, VortexError>
         ensures copied { IfOk result (λ copy. option_map scalar_part copy ≡ slice_get (fields_within
-            (ref_type (struct_ref self.now)) (ref_raw (struct_ref self.now))) index) }
+            (struct_view_type self.now) (struct_view_raw self.now)) index) }
         ensures valid { IsValidRef (struct_ref self.now)
             → IfOk result (λ copy. IfSome copy IsValid) }
         ensures refused { IfErr result (λ e. (e ≡ OutOfMemory) × IsSome (slice_get (fields_within
-            (ref_type (struct_ref self.now)) (ref_raw (struct_ref self.now))) index)) }
+            (struct_view_type self.now) (struct_view_raw self.now)) index)) }
         ensures flat { IsValidRef (struct_ref self.now) → IfSome (slice_get (fields_within
-            (ref_type (struct_ref self.now)) (ref_raw (struct_ref self.now))) index) IsFlatPart
+            (struct_view_type self.now) (struct_view_raw self.now)) index) IsFlatPart
             → IsOk result }
     {
         copied(alloc, self.field_ref_by_idx(index))
@@ -116,7 +115,7 @@ impl<'a> StructScalar<'a> {
     /// this port alone.
     pub fn field_ref_by_idx(&self, index: usize) -> Option<ScalarRef<'a>>
         ensures lent { option_map ref_part result ≡ slice_get (fields_within
-            (ref_type (struct_ref self.now)) (ref_raw (struct_ref self.now))) index }
+            (struct_view_type self.now) (struct_view_raw self.now)) index }
         ensures valid { IsValidRef (struct_ref self.now) → IfSome result IsValidRef }
     {
         field_at(self.struct_fields(), self.items(), index)
@@ -127,9 +126,9 @@ impl<'a> StructScalar<'a> {
     ///
     /// Ports `StructScalar::fields_iter`, whose iterator has no name.
     pub fn fields_iter(&self, alloc: Global) -> Option<Fields<'a>>
-        ensures null { is_none result ≡ is_absent (ref_raw (struct_ref self.now)) }
+        ensures null { is_none result ≡ is_absent (struct_view_raw self.now) }
         ensures fields { IfSome result (λ fields. fields_left fields ≡ fields_within
-            (ref_type (struct_ref self.now)) (ref_raw (struct_ref self.now))) }
+            (struct_view_type self.now) (struct_view_raw self.now)) }
         ensures valid { IsValidRef (struct_ref self.now)
             → IfSome result (λ fields. All IsValidPart (fields_left fields)) }
     {
@@ -151,11 +150,11 @@ impl<'a> StructScalar<'a> {
     pub fn cast(&self, alloc: Global, dtype: &DType) -> Result<Scalar, VortexError>
         requires { IsValidRef (struct_ref self.now) }
         ensures refused { MatchOption (struct_cast_cause
-            (fields_in (ref_type (struct_ref self.now))) (fields_in (type_of dtype.now)))
-            (IfErr result (RefusesCast (type_of dtype.now) (CanCast (ref_type (struct_ref self.now))
+            (fields_in (struct_view_type self.now)) (fields_in (type_of dtype.now)))
+            (IfErr result (RefusesCast (type_of dtype.now) (CanCast (struct_view_type self.now)
             (type_of dtype.now) (ref_content (struct_ref self.now)))))
             (λ cause. IsErrAnd result (λ e. e ≡ cause)) }
-        ensures succeeds_only { IfOk result (λ _. CanCast (ref_type (struct_ref self.now))
+        ensures succeeds_only { IfOk result (λ _. CanCast (struct_view_type self.now)
             (type_of dtype.now) (ref_content (struct_ref self.now))) }
         ensures one { IfOk result
             (IsTheOne (type_of dtype.now) (ref_content (struct_ref self.now))) }
@@ -174,12 +173,12 @@ impl<'a> StructScalar<'a> {
     /// memory is asked for; else `OutOfMemory` where there is none.
     pub fn project(&self, alloc: Global, projection: &[FieldName]) -> Result<Scalar, VortexError>
         ensures refused { RefusesOrNoMemory
-            (selection_cause (fields_in (ref_type (struct_ref self.now))) projection.now) result }
+            (selection_cause (fields_in (struct_view_type self.now)) projection.now) result }
         ensures typed { IfOk result (λ made. IsProjectedType
-            (ref_type (struct_ref self.now)) projection.now (scalar_type made)) }
-        ensures value { IfOk result (λ made. IfSome (fields_in (ref_type (struct_ref self.now)))
+            (struct_view_type self.now) projection.now (scalar_type made)) }
+        ensures value { IfOk result (λ made. IfSome (fields_in (struct_view_type self.now))
             (λ fields. IsProjectedValue fields projection.now
-            (ref_raw (struct_ref self.now)) (scalar_raw made))) }
+            (struct_view_raw self.now) (scalar_raw made))) }
         ensures valid { IsValidRef (struct_ref self.now) → IfOk result IsValid }
     {
         let fields = self.struct_fields().project(alloc, projection)?;
@@ -194,9 +193,9 @@ impl<'a> StructScalar<'a> {
         projection: &[FieldName],
     ) -> Result<Option<ScalarValue>, VortexError>
         ensures { MatchResult result
-            (λ made. IfSome (fields_in (ref_type (struct_ref self.now)))
+            (λ made. IfSome (fields_in (struct_view_type self.now))
             (λ fields. IsProjectedValue fields projection.now
-            (ref_raw (struct_ref self.now)) (raw_of made)))
+            (struct_view_raw self.now) (raw_of made)))
             (λ e. e ≡ OutOfMemory) }
     {
         if self.is_null() {
@@ -218,7 +217,7 @@ impl<'a> StructScalar<'a> {
 
     /// The raw values of the fields.
     fn items(&self) -> &'a [Option<ScalarValue>]
-        ensures { map raw_of result.now ≡ parts_of (ref_raw (struct_ref self.now)) }
+        ensures { map raw_of result.now ≡ parts_of (struct_view_raw self.now) }
     {
         items_of(self.scalar.value())
     }
@@ -260,7 +259,7 @@ fn named_values(
 ) -> Result<Vec<Option<ScalarValue>>, VortexError>
     ensures { MatchResult result
         (λ made. map raw_of made.items ≡ map
-        (value_named (fields_of fields.now) (raw_of (option_copied value.entry))) names.now)
+        (value_named (fields_of fields.now) (lent_raw value.entry)) names.now)
         (λ e. e ≡ OutOfMemory) }
 {
     let mut made = Vec::with_capacity(alloc, names.len())?;
@@ -277,8 +276,8 @@ fn value_named<'a>(
     value: Option<&'a ScalarValue>,
     name: &str,
 ) -> Option<&'a ScalarValue>
-    ensures { raw_of (option_copied result)
-        ≡ value_named (fields_of fields.now) (raw_of (option_copied value.entry)) name.now }
+    ensures { lent_raw result
+        ≡ value_named (fields_of fields.now) (lent_raw value.entry) name.now }
 {
     let place = fields.find(name)?;
     item_or_null(value, place)
@@ -287,7 +286,7 @@ fn value_named<'a>(
 /// The same raw value, or its absence, or `OutOfMemory`.
 fn copy_of(alloc: Global, value: Option<&ScalarValue>) -> Result<Option<ScalarValue>, VortexError>
     ensures { MatchResult result
-        (λ copy. raw_of copy ≡ raw_of (option_copied value.entry))
+        (λ copy. raw_of copy ≡ lent_raw value.entry)
         (λ e. e ≡ OutOfMemory) }
 {
     match value {
@@ -348,7 +347,7 @@ impl PartialEq for StructScalar<'_> {
     ghost eq = { λ a b. ref_equal (struct_ref a) (struct_ref b) };
 
     ghost laws = { partial_equiv_from_equiv
-        (on_equiv (λ x. typed (ref_type (struct_ref x)) (ref_content (struct_ref x))) equal-equiv) };
+        (on_equiv (λ x. typed (struct_view_type x) (ref_content (struct_ref x))) equal-equiv) };
 
     fn eq(&self, other: &StructScalar<'_>) -> bool {
         self.scalar == other.scalar
@@ -358,7 +357,7 @@ impl PartialEq for StructScalar<'_> {
 impl Eq for StructScalar<'_> {
     ghost use Rattle.vortex_views.specs.Structs.{struct_ref};
 
-    ghost laws = { on_equiv (λ x. typed (ref_type (struct_ref x)) (ref_content (struct_ref x)))
+    ghost laws = { on_equiv (λ x. typed (struct_view_type x) (ref_content (struct_ref x)))
         equal-equiv };
 }
 
@@ -367,7 +366,7 @@ impl Hash for StructScalar<'_> {
 
     ghost hash_input = { λ x. ref_feed (struct_ref x) };
 
-    ghost respects_eq = { (and-Alike (on_Alike (λ x. ref_type (struct_ref x)) type_feed-Alike)
+    ghost respects_eq = { (and-Alike (on_Alike struct_view_type type_feed-Alike)
         (on_Alike (λ x. ref_content (struct_ref x)) content_feed-Alike)).fed };
 
     fn hash<H: Hasher>(&self, state: &mut H) {

@@ -2,7 +2,6 @@
 
 ghost use Rattle.std.specs.Prelude.{◌≡◌, ◌↔◌, true, option_map, IfErr, IfNone, IfOk, IfSome, IsOk, IsTrue, MatchOption, Some, false};
 ghost use Rattle.std.specs.Cmp.{partial_equiv_from_equiv};
-ghost use Rattle.std.specs.Option.{option_copied};
 ghost use Rattle.std.proofs.lemmas.Cmp.{on_equiv};
 ghost use Rattle.vortex_dtype.specs.Parts.{is_union_type};
 ghost use Rattle.vortex_dtype.specs.TypeOf.{type_of, union_type_of, variants_of};
@@ -11,7 +10,7 @@ ghost use Rattle.vortex_leaves.specs.Leaves.{RefusesView};
 ghost use Rattle.vortex_value.specs.Lemmas.EqualityLaws.{equal-equiv};
 ghost use Rattle.vortex_value.specs.Validity.{Valid};
 ghost use Rattle.vortex_value.specs.Values.Content.{typed};
-ghost use Rattle.vortex_value.specs.Values.RawOf.{raw_of, union_tree};
+ghost use Rattle.vortex_value.specs.Values.RawOf.{lent_raw, union_tree};
 ghost use Rattle.vortex_value.specs.Values.RawTree.{absent, is_absent};
 ghost use Rattle.vortex_value.specs.Values.Refs.{IsRefOf, IsValidRef, ref_content, ref_raw, ref_type};
 ghost use Rattle.vortex_value.specs.Values.Scalars.{IsValid};
@@ -35,7 +34,7 @@ pub struct UnionScalar<'a> {
 }
 
 impl<'a> UnionScalar<'a> {
-    ghost use Rattle.vortex_views.specs.Unions.{IsNamedUnion, child_of, chosen_name, chosen_place, chosen_type, id_of, union_ref};
+    ghost use Rattle.vortex_views.specs.Unions.{IsNamedUnion, child_of, chosen_name, chosen_place, chosen_type, id_of, union_ref, union_view_raw, union_view_type};
 
     /// The type and the raw value, or its absence, viewed as a union.
     ///
@@ -50,12 +49,12 @@ impl<'a> UnionScalar<'a> {
         value: Option<&'a ScalarValue>,
     ) -> Result<UnionScalar<'a>, VortexError>
         ensures ok { IsOk result ↔ (IsTrue (is_union_type (type_of dtype.now))
-            × Valid (type_of dtype.now) (raw_of (option_copied value.entry))) }
+            × Valid (type_of dtype.now) (lent_raw value.entry)) }
         ensures made { IfOk result (λ view.
-            IsRefOf (type_of dtype.now) (raw_of (option_copied value.entry)) (union_ref view)) }
+            IsRefOf (type_of dtype.now) (lent_raw value.entry) (union_ref view)) }
         ensures valid { IfOk result (λ view. IsValidRef (union_ref view)) }
         ensures refused { IfErr result (RefusesView (is_union_type (type_of dtype.now))
-            (type_of dtype.now) (raw_of (option_copied value.entry))) }
+            (type_of dtype.now) (lent_raw value.entry)) }
     {
         if !dtype.is_union() {
             return Err(VortexError::WrongKind);
@@ -76,15 +75,15 @@ impl<'a> UnionScalar<'a> {
 
     /// The type.
     pub fn dtype(&self) -> &'a DType
-        ensures { type_of result.now ≡ ref_type (union_ref self.now) }
+        ensures { type_of result.now ≡ union_view_type self.now }
     {
         self.scalar.dtype()
     }
 
     /// The variants of the type, also where the union is null.
     pub fn variants(&self) -> &'a UnionVariants
-        ensures { union_type_of (variants_of result.now) (nullability_of (ref_type (union_ref self.now)))
-            ≡ ref_type (union_ref self.now) }
+        ensures { union_type_of (variants_of result.now) (nullability_of (union_view_type self.now))
+            ≡ union_view_type self.now }
     {
         match self.scalar.dtype() {
             DType::Union(variants, _) => variants,
@@ -94,22 +93,22 @@ impl<'a> UnionScalar<'a> {
 
     /// Whether the union itself takes a null, whatever its variants take.
     pub fn nullability(&self) -> Nullability
-        ensures { result ≡ nullability_of (ref_type (union_ref self.now)) }
+        ensures { result ≡ nullability_of (union_view_type self.now) }
     {
         self.scalar.dtype().nullability()
     }
 
     /// Whether the union itself is null; an inner null is not.
     pub fn is_null(&self) -> bool
-        ensures { result ≡ is_absent (ref_raw (union_ref self.now)) }
+        ensures { result ≡ is_absent (union_view_raw self.now) }
     {
         self.scalar.is_null()
     }
 
     /// The id of the chosen variant, and none exactly of a null.
     pub fn type_id(&self) -> Option<u8>
-        ensures id { result ≡ id_of (ref_raw (union_ref self.now)) }
-        ensures present { IfNone result (ref_raw (union_ref self.now) ≡ absent) }
+        ensures id { result ≡ id_of (union_view_raw self.now) }
+        ensures present { IfNone result (union_view_raw self.now ≡ absent) }
     {
         self.chosen().map(|union| union.type_id())
     }
@@ -118,8 +117,8 @@ impl<'a> UnionScalar<'a> {
     pub fn child_index(&self) -> Option<usize>
         requires { IsValidRef (union_ref self.now) }
         ensures place { result
-            ≡ chosen_place (ref_type (union_ref self.now)) (ref_raw (union_ref self.now)) }
-        ensures present { IfNone result (ref_raw (union_ref self.now) ≡ absent) }
+            ≡ chosen_place (union_view_type self.now) (union_view_raw self.now) }
+        ensures present { IfNone result (union_view_raw self.now ≡ absent) }
     {
         let id = self.type_id()?;
         self.variants().tag_to_child_index(id)
@@ -131,9 +130,9 @@ impl<'a> UnionScalar<'a> {
     pub fn variant_name(&self) -> Option<&'a FieldName>
         requires { IsValidRef (union_ref self.now) }
         ensures name { option_map (λ name. name.now) result
-            ≡ chosen_name (ref_type (union_ref self.now)) (ref_raw (union_ref self.now)) }
-        ensures present { IsNamedUnion (ref_type (union_ref self.now))
-            → IfNone result (ref_raw (union_ref self.now) ≡ absent) }
+            ≡ chosen_name (union_view_type self.now) (union_view_raw self.now) }
+        ensures present { IsNamedUnion (union_view_type self.now)
+            → IfNone result (union_view_raw self.now ≡ absent) }
     {
         let index = self.child_index()?;
         self.variants().names().get(index)
@@ -146,8 +145,8 @@ impl<'a> UnionScalar<'a> {
     pub fn variant_dtype(&self) -> Option<&'a DType>
         requires { IsValidRef (union_ref self.now) }
         ensures tree { option_map (λ dtype. type_of dtype.now) result
-            ≡ chosen_type (ref_type (union_ref self.now)) (ref_raw (union_ref self.now)) }
-        ensures present { IfNone result (ref_raw (union_ref self.now) ≡ absent) }
+            ≡ chosen_type (union_view_type self.now) (union_view_raw self.now) }
+        ensures present { IfNone result (union_view_raw self.now ≡ absent) }
     {
         let index = self.child_index()?;
         self.variants().variant_by_index(index)
@@ -162,13 +161,13 @@ impl<'a> UnionScalar<'a> {
     pub fn child(&self, alloc: Global) -> Result<Option<Scalar>, VortexError>
         requires { IsValidRef (union_ref self.now) }
         ensures copied { IfOk result (λ child. option_map scalar_part child
-            ≡ child_of (ref_type (union_ref self.now)) (ref_raw (union_ref self.now))) }
+            ≡ child_of (union_view_type self.now) (union_view_raw self.now)) }
         ensures present { IfOk result
-            (λ child. IfNone child (ref_raw (union_ref self.now) ≡ absent)) }
+            (λ child. IfNone child (union_view_raw self.now ≡ absent)) }
         ensures valid { IfOk result (λ child. IfSome child IsValid) }
         ensures refused { IfErr result (λ e. (e ≡ VortexError.OutOfMemory)
-            × (is_absent (ref_raw (union_ref self.now)) ≡ false)) }
-        ensures flat { IfSome (child_of (ref_type (union_ref self.now)) (ref_raw (union_ref self.now)))
+            × (is_absent (union_view_raw self.now) ≡ false)) }
+        ensures flat { IfSome (child_of (union_view_type self.now) (union_view_raw self.now))
             IsFlatPart → IsOk result }
     {
         copied(alloc, self.child_ref())
@@ -179,8 +178,8 @@ impl<'a> UnionScalar<'a> {
     fn child_ref(&self) -> Option<ScalarRef<'a>>
         requires { IsValidRef (union_ref self.now) }
         ensures lent { option_map ref_part result
-            ≡ child_of (ref_type (union_ref self.now)) (ref_raw (union_ref self.now)) }
-        ensures present { IfNone result (ref_raw (union_ref self.now) ≡ absent) }
+            ≡ child_of (union_view_type self.now) (union_view_raw self.now) }
+        ensures present { IfNone result (union_view_raw self.now ≡ absent) }
         ensures valid { IfSome result IsValidRef }
     {
         let union = self.chosen()?;
@@ -190,8 +189,8 @@ impl<'a> UnionScalar<'a> {
 
     /// The id and the child.
     fn chosen(&self) -> Option<&'a UnionValue>
-        ensures { MatchOption result (ref_raw (union_ref self.now) ≡ absent)
-            (λ union. ref_raw (union_ref self.now) ≡ union_tree union.now) }
+        ensures { MatchOption result (union_view_raw self.now ≡ absent)
+            (λ union. union_view_raw self.now ≡ union_tree union.now) }
     {
         match self.scalar.value() {
             Some(ScalarValue::Union(union)) => Some(union),
@@ -207,7 +206,7 @@ impl PartialEq for UnionScalar<'_> {
     ghost eq = { λ a b. ref_equal (union_ref a) (union_ref b) };
 
     ghost laws = { partial_equiv_from_equiv
-        (on_equiv (λ x. typed (ref_type (union_ref x)) (ref_content (union_ref x))) equal-equiv) };
+        (on_equiv (λ x. typed (union_view_type x) (ref_content (union_ref x))) equal-equiv) };
 
     fn eq(&self, other: &UnionScalar<'_>) -> bool {
         self.scalar == other.scalar
@@ -217,7 +216,7 @@ impl PartialEq for UnionScalar<'_> {
 impl Eq for UnionScalar<'_> {
     ghost use Rattle.vortex_views.specs.Unions.{union_ref};
 
-    ghost laws = { on_equiv (λ x. typed (ref_type (union_ref x)) (ref_content (union_ref x))) equal-equiv };
+    ghost laws = { on_equiv (λ x. typed (union_view_type x) (ref_content (union_ref x))) equal-equiv };
 }
 
 /// Writes `null`, or the name of the chosen variant and the child's text in parentheses, as

@@ -23,7 +23,7 @@ pub struct VariantScalar<'a> {
 }
 
 impl<'a> VariantScalar<'a> {
-    ghost use Rattle.vortex_views.specs.Variants.{inner_of, is_inner_null, variant_ref};
+    ghost use Rattle.vortex_views.specs.Variants.{inner_of, is_inner_null, variant_ref, variant_view_raw, variant_view_type};
 
     /// A borrowed scalar, viewed as a variant. The caller knows that it is one.
     ///
@@ -37,14 +37,14 @@ impl<'a> VariantScalar<'a> {
 
     /// The type.
     pub fn dtype(&self) -> &'a DType
-        ensures { type_of result.now ≡ ref_type (variant_ref self.now) }
+        ensures { type_of result.now ≡ variant_view_type self.now }
     {
         self.scalar.dtype()
     }
 
     /// Whether the variant itself is null; the variant-null is not.
     pub fn is_null(&self) -> bool
-        ensures { result ≡ is_absent (ref_raw (variant_ref self.now)) }
+        ensures { result ≡ is_absent (variant_view_raw self.now) }
     {
         self.scalar.is_null()
     }
@@ -52,8 +52,8 @@ impl<'a> VariantScalar<'a> {
     /// The scalar that the variant holds, and none exactly of a null.
     pub fn value(&self) -> Option<&'a Scalar>
         ensures inner { option_map (λ inner. scalar_part inner.now) result
-            ≡ inner_of (ref_raw (variant_ref self.now)) }
-        ensures present { IfNone result (ref_raw (variant_ref self.now) ≡ absent) }
+            ≡ inner_of (variant_view_raw self.now) }
+        ensures present { IfNone result (variant_view_raw self.now ≡ absent) }
         ensures valid { IsValidRef (variant_ref self.now)
             → IfSome result (λ inner. IsValid inner.now) }
     {
@@ -67,8 +67,8 @@ impl<'a> VariantScalar<'a> {
     /// Whether the scalar that the variant holds is null, as the variant-null is; none exactly of a
     /// null.
     pub fn is_variant_null(&self) -> Option<bool>
-        ensures null { result ≡ is_inner_null (ref_raw (variant_ref self.now)) }
-        ensures present { IfNone result (ref_raw (variant_ref self.now) ≡ absent) }
+        ensures null { result ≡ is_inner_null (variant_view_raw self.now) }
+        ensures present { IfNone result (variant_view_raw self.now ≡ absent) }
     {
         self.value().map(|inner| inner.is_null())
     }
@@ -78,7 +78,7 @@ impl<'a> VariantScalar<'a> {
     pub fn is_zero(&self) -> Option<bool>
         requires { IsValidRef (variant_ref self.now) }
         ensures { result
-            ≡ is_zero_of (ref_type (variant_ref self.now)) (ref_content (variant_ref self.now)) }
+            ≡ is_zero_of (variant_view_type self.now) (ref_content (variant_ref self.now)) }
     {
         match self.value() {
             Some(inner) if inner.is_null() => Some(true),

@@ -4,7 +4,7 @@ ghost use Rattle.std.specs.Prelude.{◌≡◌, ◌≢◌, ◌≤◌, List, IfErr
 ghost use Rattle.std.specs.Option.{option_copied};
 ghost use Rattle.vortex_dtype.specs.TypeTree.{Same, binary_type, utf8_type};
 ghost use Rattle.vortex_dtype.specs.declared.error.VortexError.TheVariants.{OutOfMemory};
-ghost use Rattle.vortex_dtype.specs.declared.kinds.Nullability.TheVariants.{NonNullable};
+ghost use Rattle.vortex_dtype.specs.declared.nullability.Nullability.TheVariants.{NonNullable};
 ghost use Rattle.vortex_value.specs.Values.Scalars.{IsValid, scalar_type};
 ghost use Rattle.vortex_zone.specs.Zone.{AreBoundsOf, AreBoundsOfKind, IsLongerThan, IsOfKind, LosesNothing, Stops, may_hold, refusal};
 

@@ -7,7 +7,7 @@ use crate::read::types::{Fields, read_fields, read_id, read_type};
 use crate::read::values::{read_scalar, read_value};
 use crate::same::{same_raw, same_scalar};
 use crate::tokens::Tokens;
-use rows::kind_named;
+use rows::ptype_named;
 use vortex_dtype::{BufferString, ByteBuffer, DType, FieldName, Nullability, PType};
 use vortex_pvalue::PValue;
 use vortex_value::{Scalar, ScalarValue};
@@ -213,8 +213,8 @@ impl Inputs for Nullability {
 impl Inputs for PType {
     fn read(tokens: &mut Tokens<'_>) -> PType {
         tokens.spaces();
-        let kind = kind_named(tokens.word());
-        tokens.or_bad(kind, PType::U8)
+        let ptype = ptype_named(tokens.word());
+        tokens.or_bad(ptype, PType::U8)
     }
 }
 

@@ -9,13 +9,13 @@ use Rattle.std.proofs.lemmas.Bool.{and_from}
 use Rattle.std.proofs.lemmas.Bool.Decides.{same_from_decides, Decides-like}
 use Rattle.std.proofs.lemmas.Option.{same_Some}
 use Rattle.std.proofs.lemmas.Slice.Eq.{bytes_eq-Decides, slice_eq-Decides}
-use Rattle.vortex_dtype.specs.declared.kinds.Nullability.{Nullability}
-use Rattle.vortex_dtype.specs.declared.kinds.Nullability.TheVariants.{NonNullable, Nullable}
-use Rattle.vortex_dtype.specs.declared.kinds.PType.{PType}
-use Rattle.vortex_dtype.specs.declared.kinds.PType.TheVariants.{U8, U16, U32, U64, I8, I16, I32, I64}
+use Rattle.vortex_dtype.specs.declared.nullability.Nullability.{Nullability}
+use Rattle.vortex_dtype.specs.declared.nullability.Nullability.TheVariants.{NonNullable, Nullable}
+use Rattle.vortex_dtype.specs.declared.ptype.PType.{PType}
+use Rattle.vortex_dtype.specs.declared.ptype.PType.TheVariants.{U8, U16, U32, U64, I8, I16, I32, I64}
 use Rattle.vortex_dtype.specs.TypeTree.{TypeTree, TypeTrees, null_type, bool_type, integer_type, utf8_type, binary_type, list_type, fixed_size_list_type, map_type, struct_type, union_type, variant_type, extension_type, no_types, type_then, trim, trim_all, storage, is_nullable}
 use Rattle.vortex_dtype.specs.TypeEquality.{nullability_eq, names_eq, tree_eq, trees_eq, map_eq, fields_eq, variants_eq, ext_eq}
-use Rattle.vortex_dtype.specs.Kinds.{kind_index, same_kind}
+use Rattle.vortex_dtype.specs.PTypes.{ptype_index, same_ptype}
 use Rattle.vortex_dtype.specs.TypeOf.{as_type_trees, MapParts, FieldParts, VariantParts, ExtensionParts, map_type_of, struct_type_of, union_type_of, extension_type_of}
 use Rattle.vortex_dtype.specs.Parts.{listed_types, map_in, fields_in, variants_in, extension_in}
 
@@ -29,22 +29,22 @@ nullability_eq-refl : (m : Nullability) → nullability_eq m m ≡ true
 nullability_eq-refl NonNullable = refl
 nullability_eq-refl Nullable = refl
 
-same_kind-same : (j k : PType) → same_kind j k ≡ true → j ≡ k
-same_kind-same U8 U8 e = refl
-same_kind-same U16 U16 e = refl
-same_kind-same U32 U32 e = refl
-same_kind-same U64 U64 e = refl
-same_kind-same I8 I8 e = refl
-same_kind-same I16 I16 e = refl
-same_kind-same I32 I32 e = refl
-same_kind-same I64 I64 e = refl
-same_kind-same _ _ e = absurd (true≢false (sym e))
+same_ptype-same : (j k : PType) → same_ptype j k ≡ true → j ≡ k
+same_ptype-same U8 U8 e = refl
+same_ptype-same U16 U16 e = refl
+same_ptype-same U32 U32 e = refl
+same_ptype-same U64 U64 e = refl
+same_ptype-same I8 I8 e = refl
+same_ptype-same I16 I16 e = refl
+same_ptype-same I32 I32 e = refl
+same_ptype-same I64 I64 e = refl
+same_ptype-same _ _ e = absurd (true≢false (sym e))
 
-same_kind-refl : (k : PType) → same_kind k k ≡ true
-same_kind-refl k = (unsigned_Decides (kind_index k) (kind_index k)).1 refl
+same_ptype-refl : (k : PType) → same_ptype k k ≡ true
+same_ptype-refl k = (unsigned_Decides (ptype_index k) (ptype_index k)).1 refl
 
-pub same_kind-Decides : (j k : PType) → Decides (same_kind j k) (j ≡ k)
-same_kind-Decides j k = (same_kind-same j k, λ e. subst (λ (l : PType). same_kind j l ≡ true) e (same_kind-refl j))
+pub same_ptype-Decides : (j k : PType) → Decides (same_ptype j k) (j ≡ k)
+same_ptype-Decides j k = (same_ptype-same j k, λ e. subst (λ (l : PType). same_ptype j l ≡ true) e (same_ptype-refl j))
 
 bytes_eq-refl : (xs : List ℕ) → bytes_eq xs xs ≡ true
 bytes_eq-refl xs = (bytes_eq-Decides xs xs).1 refl
@@ -64,7 +64,7 @@ mutual
   tree_eq-same (binary_type m) (binary_type n) e = ap binary_type (nullability_eq-same m n e)
   tree_eq-same (variant_type m) (variant_type n) e = ap variant_type (nullability_eq-same m n e)
   tree_eq-same (integer_type p m) (integer_type q n) e =
-      let a = same_kind-same p q (first_so _ _ e) in
+      let a = same_ptype-same p q (first_so _ _ e) in
       let z = nullability_eq-same m n (second_so _ _ e) in cc
   tree_eq-same (list_type s m) (list_type t n) e =
       let a = tree_eq-same s t (first_so _ _ e) in
@@ -115,7 +115,7 @@ mutual
   tree_eq-refl (utf8_type n) = nullability_eq-refl n
   tree_eq-refl (binary_type n) = nullability_eq-refl n
   tree_eq-refl (variant_type n) = nullability_eq-refl n
-  tree_eq-refl (integer_type p n) = and_from _ _ (same_kind-refl p) (nullability_eq-refl n)
+  tree_eq-refl (integer_type p n) = and_from _ _ (same_ptype-refl p) (nullability_eq-refl n)
   tree_eq-refl (list_type t n) = and_from _ _ (tree_eq-refl t) (nullability_eq-refl n)
   tree_eq-refl (fixed_size_list_type t k n) = and_from _ _ (and_from _ _ (tree_eq-refl t) ((unsigned_Decides k k).1 refl)) (nullability_eq-refl n)
   tree_eq-refl (map_type s t k n) = and_from _ _ (and_from _ _ (and_from _ _ (tree_eq-refl s) (tree_eq-refl t)) ((booleans_Decides k k).1 refl)) (nullability_eq-refl n)

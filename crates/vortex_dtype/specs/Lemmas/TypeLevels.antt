@@ -1,7 +1,7 @@
 -- The tree of a declared type, variant by variant. Lemmas, which crates above cite.
 use Rattle.std.proofs.Common.{◌≡◌, ℕ, Box, Global, rules}
-use Rattle.vortex_dtype.specs.declared.kinds.Nullability.{Nullability}
-use Rattle.vortex_dtype.specs.declared.kinds.PType.{PType}
+use Rattle.vortex_dtype.specs.declared.nullability.Nullability.{Nullability}
+use Rattle.vortex_dtype.specs.declared.ptype.PType.{PType}
 use Rattle.vortex_dtype.specs.declared.types.DType.{DType, Null, Bool, Primitive, Utf8, Binary, List, FixedSizeList, Map, Struct, Union, Variant, Extension, the_lemmas}
 use Rattle.vortex_dtype.specs.declared.types.ExtDType.{ExtDType}
 use Rattle.vortex_dtype.specs.declared.types.MapDType.{MapDType}

@@ -8,7 +8,7 @@ ghost use Rattle.vortex_dtype.specs.declared.error.VortexError.TheVariants.{OutO
 
 use super::{DType, ExtDType, MapDType, StructFields, UnionVariants};
 use crate::error::VortexError;
-use crate::kinds::Nullability;
+use crate::nullability::Nullability;
 use crate::names::FieldName;
 use std::alloc::Global;
 
@@ -57,7 +57,7 @@ pub(super) fn copy(alloc: Global, dtype: &DType) -> Result<DType, VortexError>
     match dtype {
         DType::Null => Ok(DType::Null),
         DType::Bool(n) => Ok(DType::Bool(*n)),
-        DType::Primitive(kind, n) => Ok(DType::Primitive(*kind, *n)),
+        DType::Primitive(ptype, n) => Ok(DType::Primitive(*ptype, *n)),
         DType::Utf8(n) => Ok(DType::Utf8(*n)),
         DType::Binary(n) => Ok(DType::Binary(*n)),
         DType::List(element, n) => copy_list(alloc, element, *n),

@@ -10,7 +10,7 @@ ghost use Rattle.vortex_dtype.specs.Lemmas.TypeLaws.{tree_eq-equiv, equiv-from_D
 ghost use Rattle.vortex_dtype.specs.TypeOf.{type_of, dtype_trees, fields_of, variants_of, map_of, ext_of};
 
 use super::{DType, ExtDType, MapDType, StructFields, UnionVariants};
-use crate::kinds::Nullability;
+use crate::nullability::Nullability;
 
 /// Whether two nullabilities agree; they all do where nullability does not count.
 fn nullabilities_agree(exact: bool, a: Nullability, b: Nullability) -> bool

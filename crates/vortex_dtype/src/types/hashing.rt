@@ -9,7 +9,7 @@ ghost use Rattle.vortex_dtype.specs.Feeds.{variant_number, tree_feed, trees_feed
 ghost use Rattle.vortex_dtype.specs.TypeOf.{type_of, dtype_trees, fields_of, variants_of, map_of, ext_of};
 
 use super::{DType, ExtDType, MapDType, StructFields, UnionVariants};
-use crate::kinds::Nullability;
+use crate::nullability::Nullability;
 use std::hash::{Hash, Hasher};
 
 /// Feeds a nullability; all feed the same where nullability does not count.
@@ -51,8 +51,8 @@ pub(super) fn feed<H: Hasher>(exact: bool, dtype: &DType, state: &mut H)
     let n = match dtype {
         DType::Null => return,
         DType::Bool(n) | DType::Utf8(n) | DType::Binary(n) | DType::Variant(n) => *n,
-        DType::Primitive(kind, n) => {
-            state.write_u8(*kind as u8);
+        DType::Primitive(ptype, n) => {
+            state.write_u8(*ptype as u8);
             *n
         }
         DType::List(element, n) => {

@@ -2,11 +2,11 @@
 
 ghost use Rattle.std.specs.Prelude.{◌≡◌, ◌≢◌, MatchOption, None, Some};
 ghost use Rattle.vortex_dtype.specs.TypeOf.{type_of};
-ghost use Rattle.vortex_dtype.specs.declared.kinds.PType.{PType};
+ghost use Rattle.vortex_dtype.specs.declared.ptype.PType.{PType};
 ghost use Rattle.vortex_pvalue.specs.Conversions.{IsNumber};
 ghost use Rattle.vortex_pvalue.specs.Whole.{whole_of};
 ghost use Rattle.vortex_pvalue.specs.declared.operators.NumericOperator.TheVariants.{Add, Sub};
-ghost use Rattle.vortex_value.specs.Reinterpretations.{kind_in};
+ghost use Rattle.vortex_value.specs.Reinterpretations.{ptype_in};
 ghost use Rattle.vortex_leaves.specs.Arithmetic.{numeric_type, outcome, within};
 
 use super::PrimitiveScalar;
@@ -40,7 +40,7 @@ fn compute_in(op: NumericOperator, ptype: PType, left: i128, right: i128) -> Opt
 }
 
 impl<'a> PrimitiveScalar<'a> {
-    ghost use Rattle.vortex_leaves.specs.PrimitiveViews.{AreOfOneType, IsOutcome, number_view_kind, number_view_type, view_arithmetic};
+    ghost use Rattle.vortex_leaves.specs.PrimitiveViews.{AreOfOneType, IsOutcome, number_view_ptype, number_view_type, view_arithmetic};
 
     /// What the operation gives of two integers of one kind, quotients cut toward zero; of a null,
     /// the null. The type is the left one where it is nullable, and else the right one.
@@ -73,12 +73,12 @@ impl<'a> PrimitiveScalar<'a> {
     }
 
     /// The type of what comes out: the left one where it is nullable, and else the right one.
-    #[tactic(auto, using(crate::proofs::NumberLaws::one_kind))]
+    #[tactic(auto, using(crate::proofs::NumberLaws::one_ptype))]
     fn outcome_dtype(&self, other: &PrimitiveScalar<'a>) -> &'a DType
         requires { AreOfOneType self.now other.now }
         ensures typed { type_of result.now
             ≡ numeric_type (number_view_type self.now) (number_view_type other.now) }
-        ensures kind { kind_in (type_of result.now) ≡ Some (number_view_kind self.now) }
+        ensures ptype { ptype_in (type_of result.now) ≡ Some (number_view_ptype self.now) }
     {
         if self.dtype.is_nullable() {
             self.dtype

@@ -4,10 +4,10 @@ use Rattle.std.proofs.Common.{ap, sym, ◌∙◌, subst}
 use Rattle.std.proofs.Math.Facts.{leb_yes, yes_leb}
 use Rattle.std.specs.Prelude.{◌≡◌, ◌==◌, ◌^◌, ℕ, zero, suc, ℤ, pos, Bool, true, false, not, T, leb, List, [], ◌∷◌, Option, Some, None, refl, codes}
 use Rattle.vortex_dtype.specs.TypeTree.{TypeTree, null_type, integer_type, utf8_type, list_type, fixed_size_list_type, struct_type, union_type, extension_type, TypeTrees, type_then, IsNullable, storage, Same}
-use Rattle.vortex_dtype.specs.declared.kinds.Nullability.TheVariants.{NonNullable}
-use Rattle.vortex_dtype.specs.declared.kinds.Nullability.{Nullability}
-use Rattle.vortex_dtype.specs.declared.kinds.PType.TheVariants.{U8, U32, U64, I8, I16, I32, I64}
-use Rattle.vortex_dtype.specs.declared.kinds.PType.{PType}
+use Rattle.vortex_dtype.specs.declared.nullability.Nullability.TheVariants.{NonNullable}
+use Rattle.vortex_dtype.specs.declared.nullability.Nullability.{Nullability}
+use Rattle.vortex_dtype.specs.declared.ptype.PType.TheVariants.{U8, U32, U64, I8, I16, I32, I64}
+use Rattle.vortex_dtype.specs.declared.ptype.PType.{PType}
 use Rattle.vortex_pvalue.specs.Numbers.{InRange}
 use Rattle.vortex_value.specs.Casts.{IsNull, IsInteger, IsExtension, Wraps, Sorts, Row, same_type, a_null, into_extension, integers, lists, maps, structs, unions, from_extension, Allows, Has, CanCast, IsCast}
 use Rattle.vortex_value.specs.Chains.{Runs}

@@ -2,7 +2,7 @@
 -- values are written in the words of ValueExamples.
 use Rattle.std.specs.Prelude.{◌≡◌, pos, negsuc, true, [], ◌∷◌, Some, None, Ok, Err, refl, codes}
 use Rattle.vortex_dtype.specs.declared.error.VortexError.TheVariants.{WrongKind, OutOfRange, WrongPType, IsNull}
-use Rattle.vortex_dtype.specs.declared.kinds.PType.TheVariants.{U64, I8, I16, I32, I64}
+use Rattle.vortex_dtype.specs.declared.ptype.PType.TheVariants.{U64, I8, I16, I32, I64}
 use Rattle.vortex_value.specs.Conversions.{given_number, given_option, given_usize, taken_bool, taken_option_bool, taken_number, taken_option_number, taken_usize, taken_option_usize, taken_text, taken_option_text, taken_bytes, taken_option_bytes, taken_vec}
 use Rattle.vortex_value.specs.Values.RawTree.{absent, raw_bool, raw_integer, raw_text, raw_bytes}
 use Rattle.vortex_value.specs.Examples.ValueExamples.{i8, i32, i64, u64, boolean, utf8, binary, or_null, list_of, fixed_list_of, extension_a, tuple, int}

@@ -5,7 +5,7 @@ use Rattle.std.specs.Fmt.{digits}
 use Rattle.std.specs.List.{repeat}
 use Rattle.std.specs.Str.{chars}
 use Rattle.vortex_dtype.specs.TypeTree.{null_type}
-use Rattle.vortex_dtype.specs.declared.kinds.PType.TheVariants.{U32, I8}
+use Rattle.vortex_dtype.specs.declared.ptype.PType.TheVariants.{U32, I8}
 use Rattle.vortex_value.specs.Examples.ValueExamples.{i32, i64, u32, boolean, utf8, binary, variant, or_null, list_of, fixed_list_of, struct_of, a_and_b, extension_a, int_or_string, unsorted_map, tuple, entry, int}
 use Rattle.vortex_value.specs.Values.RawTree.{absent, raw_bool, raw_integer, raw_text, raw_bytes, raw_union, raw_variant}
 use Rattle.vortex_value.specs.Texts.{escaped_char, raw_text_of, text_of}

@@ -8,10 +8,10 @@ use Rattle.std.specs.declared.cmp.Ordering.TheVariants.{Less, Equal, Greater}
 use Rattle.vortex_dtype.specs.TypeTree.{TypeTree, null_type, bool_type, integer_type, utf8_type, binary_type, list_type, fixed_size_list_type, map_type, struct_type, union_type, variant_type, extension_type, TypeTrees, no_types, type_then, says_nullable, as_nullable, Same}
 use Rattle.vortex_dtype.specs.declared.error.Breach.TheVariants.{NullNotAllowed, WrongValue, WrongLength, UnknownTypeId, NullEntry, VariantNull}
 use Rattle.vortex_dtype.specs.declared.error.Step.TheVariants.{Element, Entry, Key, Value, Field, Child, Inner}
-use Rattle.vortex_dtype.specs.declared.kinds.Nullability.TheVariants.{NonNullable, Nullable}
-use Rattle.vortex_dtype.specs.declared.kinds.PType.TheVariants.{U8, U32, U64, I8, I16, I32, I64}
-use Rattle.vortex_dtype.specs.declared.kinds.PType.{PType}
-use Rattle.vortex_dtype.specs.Kinds.{same_kind}
+use Rattle.vortex_dtype.specs.declared.nullability.Nullability.TheVariants.{NonNullable, Nullable}
+use Rattle.vortex_dtype.specs.declared.ptype.PType.TheVariants.{U8, U32, U64, I8, I16, I32, I64}
+use Rattle.vortex_dtype.specs.declared.ptype.PType.{PType}
+use Rattle.vortex_dtype.specs.PTypes.{same_ptype}
 use Rattle.vortex_pvalue.specs.Numbers.{in_range, wrapped}
 use Rattle.vortex_value.specs.Breaches.{breaches, first, is_null_type}
 use Rattle.vortex_value.specs.Values.Content.{Content, null, truth, whole, text, string, sequence, tagged, typed, Contents, no_contents, content_then, content}
@@ -160,7 +160,7 @@ pub no_null : ¬ (NonNullable ≡ Nullable)
 no_null h = tell_apart (λ n. not (says_nullable n)) h tt
 
 abbrev pub is_integer_of : PType → TypeTree → Bool
-is_integer_of k (integer_type l n) = same_kind k l
+is_integer_of k (integer_type l n) = same_ptype k l
 is_integer_of k _ = false
 
 abbrev pub is_sorted_map : TypeTree → Bool
@@ -197,7 +197,7 @@ pub i32_takes_one : Valid i32 (int 1)
 i32_takes_one = i32_valid 1 tt
 
 pub i32_takes_no_i64 : ¬ (Valid i32 (raw_integer I64 (pos 1)))
-i32_takes_no_i64 h = tell_apart (same_kind I64) h.0 tt
+i32_takes_no_i64 h = tell_apart (same_ptype I64) h.0 tt
 
 pub i8_takes_127 : Valid i8 (raw_integer I8 (pos 127))
 i8_takes_127 = (refl, record { sfits = leb_yes tt })

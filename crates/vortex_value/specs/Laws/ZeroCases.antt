@@ -2,9 +2,9 @@
 use Rattle.std.specs.Prelude.{◌≡◌, ℕ, pos, Bool, false, List, [], ◌∷◌, map, replicate, Option, Some, None, option_map}
 use Rattle.vortex_dtype.specs.TypeOf.{as_type_trees}
 use Rattle.vortex_dtype.specs.TypeTree.{TypeTree, null_type, bool_type, integer_type, utf8_type, binary_type, list_type, fixed_size_list_type, map_type, struct_type, union_type, variant_type, extension_type, TypeTrees, no_types, type_then, IsNullable}
-use Rattle.vortex_dtype.specs.declared.kinds.Nullability.{Nullability}
-use Rattle.vortex_dtype.specs.declared.kinds.Nullability.TheVariants.{NonNullable}
-use Rattle.vortex_dtype.specs.declared.kinds.PType.{PType}
+use Rattle.vortex_dtype.specs.declared.nullability.Nullability.{Nullability}
+use Rattle.vortex_dtype.specs.declared.nullability.Nullability.TheVariants.{NonNullable}
+use Rattle.vortex_dtype.specs.declared.ptype.PType.{PType}
 use Rattle.vortex_value.specs.Values.Content.{Content, null, truth, whole, text, string, sequence, tagged, typed, Contents, no_contents}
 use Rattle.vortex_value.specs.Zero.{and_rest, default_of, zero_of}
 

@@ -2,7 +2,7 @@
 use Rattle.std.specs.Prelude.{◌≡◌, ◌≢◌, ◌&&◌, List, [], Bool, true, false, Option, Some, reverse}
 use Rattle.std.specs.Global.{Global}
 use Rattle.std.specs.Option.{is_some}
-use Rattle.vortex_dtype.specs.Kinds.{same_kind}
+use Rattle.vortex_dtype.specs.PTypes.{same_ptype}
 use Rattle.vortex_dtype.specs.TypeTree.{TypeTree, bool_type, integer_type, utf8_type, binary_type}
 use Rattle.vortex_pvalue.specs.Numbers.{in_range}
 use Rattle.vortex_value.specs.Breaches.{Found, HasSteps, first}
@@ -32,5 +32,5 @@ abbrev pub is_leaf : TypeTree → RawTree → Bool
 is_leaf (bool_type n) (raw_bool b) = true
 is_leaf (utf8_type n) (raw_text bs) = true
 is_leaf (binary_type n) (raw_bytes bs) = true
-is_leaf (integer_type k n) (raw_integer l z) = same_kind l k && in_range k z
+is_leaf (integer_type k n) (raw_integer l z) = same_ptype l k && in_range k z
 is_leaf _ _ = false

@@ -1,12 +1,11 @@
 -- What contracts say of borrowed scalars: a type and an optional raw value.
 use Rattle.std.specs.Prelude.{◌≡◌, Option}
-use Rattle.std.specs.Option.{option_copied}
 use Rattle.std.specs.declared.cmp.Ordering.{Ordering}
 use Rattle.vortex_dtype.specs.TypeOf.{type_of}
 use Rattle.vortex_dtype.specs.TypeTree.{TypeTree}
 use Rattle.vortex_value.specs.Values.Content.{Content, content}
 use Rattle.vortex_value.specs.Order.{typed_order}
-use Rattle.vortex_value.specs.Values.RawOf.{raw_of}
+use Rattle.vortex_value.specs.Values.RawOf.{lent_raw}
 use Rattle.vortex_value.specs.Values.RawTree.{RawTree}
 use Rattle.vortex_value.specs.Validity.{Valid}
 use Rattle.vortex_value.specs.declared.refs.ScalarRef.{ScalarRef}
@@ -17,7 +16,7 @@ ref_type x = type_of x.dtype.now
 
 -- the raw value of a borrowed scalar
 abbrev pub ref_raw : ScalarRef → RawTree
-ref_raw x = raw_of (option_copied x.value)
+ref_raw x = lent_raw x.value
 
 -- the content of a borrowed scalar
 abbrev pub ref_content : ScalarRef → Content

@@ -2,7 +2,7 @@
 
 ghost use Rattle.std.specs.Prelude.{◌≡◌, ◌++◌, [], ◌∷◌, IfErr, MatchResult, option_map};
 ghost use Rattle.vortex_dtype.specs.TypeOf.{type_of};
-ghost use Rattle.vortex_pvalue.specs.Whole.{kind_of, whole_of};
+ghost use Rattle.vortex_pvalue.specs.Whole.{ptype_of, whole_of};
 ghost use Rattle.vortex_value.specs.Steps.CastSteps.{Appends, Makes, RefusesSome, SparesMemory, leaf_to, left_to, number_to};
 ghost use Rattle.vortex_value.specs.Values.RawKinds.{TakesNoMemory};
 ghost use Rattle.vortex_value.specs.Values.RawOf.{raw_of, union_tree, value_tree};
@@ -94,11 +94,11 @@ pub(super) fn union_of(
 /// The number in the kind of the target, if that is a type of integers and has it.
 #[inline(always)]
 fn number_in(number: &PValue, target: &DType) -> Option<PValue>
-    ensures { option_map (λ n. raw_integer (kind_of n) (whole_of n)) result
+    ensures { option_map (λ n. raw_integer (ptype_of n) (whole_of n)) result
         ≡ number_to (whole_of number.now) (type_of target.now) }
 {
     match target {
-        DType::Primitive(kind, _) => PValue::from_whole(number.whole(), *kind),
+        DType::Primitive(ptype, _) => PValue::from_whole(number.whole(), *ptype),
         _ => None,
     }
 }

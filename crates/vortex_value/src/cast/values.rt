@@ -4,7 +4,7 @@
 ghost use Rattle.std.specs.Option.{option_copied};
 ghost use Rattle.vortex_dtype.specs.TypeOf.{map_of, type_of, dtype_trees};
 ghost use Rattle.vortex_value.specs.Steps.CastSteps.{Appends, IsBareTarget, Makes, MakesParts, SparesLeaf, SparesMemory, SparesWhole, bare_to, cast_to, each_to, entries_to, entry_to, fields_to, map_to, parts_to, sized};
-ghost use Rattle.vortex_value.specs.Values.RawOf.{raw_of, union_tree, value_trees, value_tree};
+ghost use Rattle.vortex_value.specs.Values.RawOf.{raw_of, union_tree, value_trees, value_tree, lent_raw};
 ghost use Rattle.vortex_value.specs.Values.RawTree.{count, raw_tuple};
 
 use super::refusals::Refusal;
@@ -27,10 +27,10 @@ pub(super) fn cast_value(
     source: &DType,
     target: &DType,
 ) -> Result<Option<ScalarValue>, Refusal>
-    ensures made { Makes raw_of (cast_to (raw_of (option_copied value.entry))
+    ensures made { Makes raw_of (cast_to (lent_raw value.entry)
         (type_of source.now) (type_of target.now)) result }
     ensures flat { SparesMemory (type_of target.now) result }
-    ensures whole { SparesWhole (raw_of (option_copied value.entry))
+    ensures whole { SparesWhole (lent_raw value.entry)
         (type_of source.now) (type_of target.now) result }
 {
     match value {
@@ -101,7 +101,7 @@ fn push_cast(
     target: &DType,
     made: &mut Vec<Option<ScalarValue>>,
 ) -> Result<(), Refusal>
-    ensures { Appends made.old.items made.new.items (cast_to (raw_of (option_copied value.entry))
+    ensures { Appends made.old.items made.new.items (cast_to (lent_raw value.entry)
         (type_of source.now) (type_of target.now)) result }
 {
     push_stored(
@@ -127,7 +127,7 @@ fn push_stored(
     made: &mut Vec<Option<ScalarValue>>,
 ) -> Result<(), Refusal>
     requires { IsBareTarget (type_of source.now) (type_of target.now) (option_copied stored) }
-    ensures { Appends made.old.items made.new.items (cast_to (raw_of (option_copied value.entry))
+    ensures { Appends made.old.items made.new.items (cast_to (lent_raw value.entry)
         (type_of source.now) (type_of target.now)) result }
 {
     match (value, stored) {
@@ -147,7 +147,7 @@ fn push_whole(
     target: &DType,
     made: &mut Vec<Option<ScalarValue>>,
 ) -> Result<(), Refusal>
-    ensures { Appends made.old.items made.new.items (cast_to (raw_of (option_copied value.entry))
+    ensures { Appends made.old.items made.new.items (cast_to (lent_raw value.entry)
         (type_of source.now) (type_of target.now)) result }
 {
     let value = cast_value(alloc, value, source, target)?;
@@ -352,7 +352,7 @@ fn push_entry(
     to: &MapDType,
     made: &mut Vec<Option<ScalarValue>>,
 ) -> Result<(), Refusal>
-    ensures { Appends made.old.items made.new.items (entry_to (raw_of (option_copied entry.entry))
+    ensures { Appends made.old.items made.new.items (entry_to (lent_raw entry.entry)
         (map_of from.now) (map_of to.now)) result }
 {
     match entry {

@@ -2,7 +2,7 @@
 
 ghost use Rattle.std.specs.Prelude.{◌≡◌};
 ghost use Rattle.vortex_dtype.specs.TypeTree.{bool_type, utf8_type, binary_type};
-ghost use Rattle.vortex_dtype.specs.declared.kinds.Nullability.TheVariants.{NonNullable, Nullable};
+ghost use Rattle.vortex_dtype.specs.declared.nullability.Nullability.TheVariants.{NonNullable, Nullable};
 ghost use Rattle.vortex_value.specs.Conversions.{IsMadeValid, given_option};
 ghost use Rattle.vortex_value.specs.Values.RawOf.{value_tree};
 ghost use Rattle.vortex_value.specs.Values.RawTree.{raw_bool, raw_text, raw_bytes};

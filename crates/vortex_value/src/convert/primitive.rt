@@ -2,13 +2,12 @@
 //! `usize`. What is taken as one of the eight stands in `from_integers`, impl by impl.
 
 ghost use Rattle.std.specs.Prelude.{◌≡◌};
-ghost use Rattle.std.specs.Option.{option_copied};
 ghost use Rattle.vortex_dtype.specs.TypeTree.{integer_type};
-ghost use Rattle.vortex_dtype.specs.declared.kinds.Nullability.TheVariants.{NonNullable, Nullable};
-ghost use Rattle.vortex_dtype.specs.declared.kinds.PType.TheVariants.{U64};
-ghost use Rattle.vortex_pvalue.specs.Whole.{kind_of, whole_of};
+ghost use Rattle.vortex_dtype.specs.declared.nullability.Nullability.TheVariants.{NonNullable, Nullable};
+ghost use Rattle.vortex_dtype.specs.declared.ptype.PType.TheVariants.{U64};
+ghost use Rattle.vortex_pvalue.specs.Whole.{ptype_of, whole_of};
 ghost use Rattle.vortex_value.specs.Conversions.{IsMadeValid, Takes, given_number, given_option, given_usize, number_in, or_none, taken_number, taken_option_number, taken_option_usize, taken_usize};
-ghost use Rattle.vortex_value.specs.Values.RawOf.{raw_of, value_tree};
+ghost use Rattle.vortex_value.specs.Values.RawOf.{lent_raw, value_tree};
 ghost use Rattle.vortex_value.specs.Values.RawTree.{raw_integer};
 ghost use Rattle.vortex_value.specs.Values.Refs.{ref_raw, ref_type};
 ghost use Rattle.vortex_value.specs.Values.Scalars.{scalar_raw, scalar_type};
@@ -43,7 +42,7 @@ impl Integer for i64 {}
 
 /// The integer value.
 impl From<PValue> for ScalarValue {
-    ghost from_gives = { λ p v. value_tree v ≡ raw_integer (kind_of p) (whole_of p) };
+    ghost from_gives = { λ p v. value_tree v ≡ raw_integer (ptype_of p) (whole_of p) };
 
     fn from(value: PValue) -> ScalarValue {
         ScalarValue::Primitive(value)
@@ -104,7 +103,7 @@ fn take_number<T: NativePType>(value: &ScalarValue) -> Result<T, VortexError>
 /// The number of a raw value, or none of a null.
 fn take_or_none<T: NativePType>(value: Option<&ScalarValue>) -> Result<Option<T>, VortexError>
     ensures { Takes (given_option (given_number T.PTYPE T.value))
-        (or_none (number_in T.PTYPE) (raw_of (option_copied value.entry))) result }
+        (or_none (number_in T.PTYPE) (lent_raw value.entry)) result }
 {
     match value {
         Some(value) => Ok(Some(take_number(value)?)),

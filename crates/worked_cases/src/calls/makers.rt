@@ -28,8 +28,8 @@ pub fn answer_line(line: &mut Line<'_>) -> Result<Option<Answer>, AllocError> {
         b"binary" => line.taking(|_, (bytes, n): (ByteBuffer, Nullability)| {
             Ok(Answer::Scalar(Scalar::binary(bytes, n)))
         }),
-        b"primitive_value" => line.taking(|_, (value, kind, n): (PValue, PType, Nullability)| {
-            Ok(Answer::Scalar(Scalar::primitive_value(value, kind, n)?))
+        b"primitive_value" => line.taking(|_, (value, ptype, n): (PValue, PType, Nullability)| {
+            Ok(Answer::Scalar(Scalar::primitive_value(value, ptype, n)?))
         }),
         b"list" => line.taking(list),
         b"fixed_size_list" => line.taking(fixed_size_list),

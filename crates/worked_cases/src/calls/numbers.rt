@@ -18,10 +18,10 @@ pub fn answer_line(line: &mut Line<'_>) -> Result<Option<Answer>, AllocError> {
     match line.name {
         b"invert" => line.borrowing(invert),
         b"reinterpret" => line.borrowing(reinterpret),
-        b"as" => line.borrowing(|alloc, x: &(Scalar, PType)| in_kind(alloc, Conversion::Opt, x)),
-        b"as_" => line.borrowing(|alloc, x: &(Scalar, PType)| in_kind(alloc, Conversion::As, x)),
+        b"as" => line.borrowing(|alloc, x: &(Scalar, PType)| in_ptype(alloc, Conversion::Opt, x)),
+        b"as_" => line.borrowing(|alloc, x: &(Scalar, PType)| in_ptype(alloc, Conversion::As, x)),
         b"typed_value" => {
-            line.borrowing(|alloc, x: &(Scalar, PType)| in_kind(alloc, Conversion::Typed, x))
+            line.borrowing(|alloc, x: &(Scalar, PType)| in_ptype(alloc, Conversion::Typed, x))
         }
         name => match named(&OPERATIONS, name) {
             Some(operation) => line.borrowing(move |alloc, numbers: &(Scalar, Scalar)| {
@@ -100,10 +100,10 @@ fn computed(operation: Operation, x: PrimitiveScalar<'_>, y: PrimitiveScalar<'_>
     or_none(number.map(Scalar::from).map(Answer::Scalar))
 }
 
-fn reinterpret(alloc: Global, (scalar, kind): &(Scalar, PType)) -> Answering {
+fn reinterpret(alloc: Global, (scalar, ptype): &(Scalar, PType)) -> Answering {
     validate(alloc, scalar)?;
     of_kind(scalar.as_primitive_opt())?;
-    Ok(Answer::Scalar(scalar.primitive_reinterpret_cast(*kind)?))
+    Ok(Answer::Scalar(scalar.primitive_reinterpret_cast(*ptype)?))
 }
 
 /// How a number is taken as a Rust type.
@@ -117,14 +117,14 @@ enum Conversion {
     Typed,
 }
 
-fn in_kind(alloc: Global, conversion: Conversion, (scalar, kind): &(Scalar, PType)) -> Answering {
+fn in_ptype(alloc: Global, conversion: Conversion, (scalar, ptype): &(Scalar, PType)) -> Answering {
     validate(alloc, scalar)?;
     let view = of_kind(scalar.as_primitive_opt())?;
-    Ok(as_kind(conversion, view, *kind))
+    Ok(as_ptype(conversion, view, *ptype))
 }
 
-fn as_kind(conversion: Conversion, view: PrimitiveScalar<'_>, kind: PType) -> Answer {
-    match kind {
+fn as_ptype(conversion: Conversion, view: PrimitiveScalar<'_>, ptype: PType) -> Answer {
+    match ptype {
         PType::U8 => as_number::<u8>(conversion, view),
         PType::U16 => as_number::<u16>(conversion, view),
         PType::U32 => as_number::<u32>(conversion, view),

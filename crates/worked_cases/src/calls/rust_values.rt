@@ -6,7 +6,7 @@ use crate::inputs::Inputs;
 use crate::read::named;
 use crate::tokens::Tokens;
 use crate::write::output::Output;
-use rows::kind_named;
+use rows::ptype_named;
 use std::alloc::{AllocError, Global};
 use vortex_array::{FromScalar, IntoScalar};
 use vortex_dtype::{BufferString, ByteBuffer, PType};
@@ -88,7 +88,7 @@ fn rust_word<'a>(tokens: &mut Tokens<'a>) -> &'a [u8] {
 
 fn leaf_named(word: &[u8]) -> Option<RustLeaf> {
     match named(&LEAVES, word) {
-        None => kind_named(word).map(RustLeaf::Number),
+        None => ptype_named(word).map(RustLeaf::Number),
         leaf => leaf,
     }
 }
@@ -109,8 +109,8 @@ fn through_traits(alloc: Global, gives: bool, rust: RustType, scalar: &Scalar) -
     match (rust.leaf, rust.is_optional) {
         (RustLeaf::Bool, false) => nested::<bool>(alloc, asked, scalar),
         (RustLeaf::Bool, true) => nested::<Option<bool>>(alloc, asked, scalar),
-        (RustLeaf::Number(kind), false) => number(alloc, asked, scalar, kind),
-        (RustLeaf::Number(kind), true) => optional_number(alloc, asked, scalar, kind),
+        (RustLeaf::Number(ptype), false) => number(alloc, asked, scalar, ptype),
+        (RustLeaf::Number(ptype), true) => optional_number(alloc, asked, scalar, ptype),
         (RustLeaf::Usize, false) => nested::<usize>(alloc, asked, scalar),
         (RustLeaf::Usize, true) => nested::<Option<usize>>(alloc, asked, scalar),
         (RustLeaf::Text, false) => nested::<String>(alloc, asked, scalar),
@@ -123,8 +123,8 @@ fn through_traits(alloc: Global, gives: bool, rust: RustType, scalar: &Scalar) -
     }
 }
 
-fn number(alloc: Global, asked: Asked, scalar: &Scalar, kind: PType) -> Answering {
-    match kind {
+fn number(alloc: Global, asked: Asked, scalar: &Scalar, ptype: PType) -> Answering {
+    match ptype {
         PType::U8 => nested::<u8>(alloc, asked, scalar),
         PType::U16 => nested::<u16>(alloc, asked, scalar),
         PType::U32 => nested::<u32>(alloc, asked, scalar),
@@ -136,8 +136,8 @@ fn number(alloc: Global, asked: Asked, scalar: &Scalar, kind: PType) -> Answerin
     }
 }
 
-fn optional_number(alloc: Global, asked: Asked, scalar: &Scalar, kind: PType) -> Answering {
-    match kind {
+fn optional_number(alloc: Global, asked: Asked, scalar: &Scalar, ptype: PType) -> Answering {
+    match ptype {
         PType::U8 => nested::<Option<u8>>(alloc, asked, scalar),
         PType::U16 => nested::<Option<u16>>(alloc, asked, scalar),
         PType::U32 => nested::<Option<u32>>(alloc, asked, scalar),
@@ -182,8 +182,8 @@ fn try_from(alloc: Global, (rust, scalar): &(RustType, Scalar)) -> Answering {
     match (rust.vectors, rust.leaf, rust.is_optional) {
         (0, RustLeaf::Bool, false) => bool::try_from(scalar)?.answer(alloc),
         (0, RustLeaf::Bool, true) => Option::<bool>::try_from(scalar)?.answer(alloc),
-        (0, RustLeaf::Number(kind), false) => try_number(alloc, scalar, kind),
-        (0, RustLeaf::Number(kind), true) => try_optional_number(alloc, scalar, kind),
+        (0, RustLeaf::Number(ptype), false) => try_number(alloc, scalar, ptype),
+        (0, RustLeaf::Number(ptype), true) => try_optional_number(alloc, scalar, ptype),
         (0, RustLeaf::Usize, false) => usize::try_from(scalar)?.answer(alloc),
         (0, RustLeaf::Usize, true) => Option::<usize>::try_from(scalar)?.answer(alloc),
         (0, RustLeaf::Buffer, false) => BufferString::try_from(scalar)?.answer(alloc),
@@ -194,8 +194,8 @@ fn try_from(alloc: Global, (rust, scalar): &(RustType, Scalar)) -> Answering {
     }
 }
 
-fn try_number(alloc: Global, scalar: &Scalar, kind: PType) -> Answering {
-    match kind {
+fn try_number(alloc: Global, scalar: &Scalar, ptype: PType) -> Answering {
+    match ptype {
         PType::U8 => u8::try_from(scalar)?.answer(alloc),
         PType::U16 => u16::try_from(scalar)?.answer(alloc),
         PType::U32 => u32::try_from(scalar)?.answer(alloc),
@@ -207,8 +207,8 @@ fn try_number(alloc: Global, scalar: &Scalar, kind: PType) -> Answering {
     }
 }
 
-fn try_optional_number(alloc: Global, scalar: &Scalar, kind: PType) -> Answering {
-    match kind {
+fn try_optional_number(alloc: Global, scalar: &Scalar, ptype: PType) -> Answering {
+    match ptype {
         PType::U8 => Option::<u8>::try_from(scalar)?.answer(alloc),
         PType::U16 => Option::<u16>::try_from(scalar)?.answer(alloc),
         PType::U32 => Option::<u32>::try_from(scalar)?.answer(alloc),

@@ -3,7 +3,7 @@
 ghost use Rattle.std.specs.Prelude.{◌≤◌};
 
 use crate::tokens::Tokens;
-use rows::kind_named;
+use rows::ptype_named;
 use vortex_pvalue::PValue;
 
 /// The number that these digits represent, if they are digits and it is below 2^64.
@@ -37,9 +37,9 @@ pub fn read_natural(tokens: &mut Tokens<'_>, most: u64) -> u64
 
 /// The integer that this word is, after its minus sign if it has one: digits and a kind.
 pub fn integer(word: &[u8], is_negative: bool) -> Option<PValue> {
-    let (digits, kind) = split_digits(word);
+    let (digits, ptype) = split_digits(word);
     let size = i128::from(natural(digits)?);
-    PValue::from_whole(if is_negative { -size } else { size }, kind_named(kind)?)
+    PValue::from_whole(if is_negative { -size } else { size }, ptype_named(ptype)?)
 }
 
 /// The digits in front, and what follows them.

@@ -6,7 +6,7 @@ use crate::read::named;
 use crate::read::numbers::read_natural;
 use crate::read::texts::{bytes_of_hex, push_name, read_name};
 use crate::tokens::Tokens;
-use rows::kind_named;
+use rows::ptype_named;
 use vortex_dtype::{
     BufferString, ByteBuffer, DType, ExtDType, FieldName, PType, StructFields, UnionVariants,
     VortexError,
@@ -59,7 +59,7 @@ fn read_head(tokens: &mut Tokens<'_>) -> Head {
 
 fn head_named(word: &[u8]) -> Option<Head> {
     match named(&HEADS, word) {
-        None => kind_named(word).map(Head::Integer),
+        None => ptype_named(word).map(Head::Integer),
         head => head,
     }
 }
@@ -81,7 +81,7 @@ pub fn read_type(tokens: &mut Tokens<'_>, room: u32) -> DType {
     match read_head(tokens) {
         Head::Null => DType::Null,
         Head::Bool => DType::Bool(tokens.nullability()),
-        Head::Integer(kind) => DType::Primitive(kind, tokens.nullability()),
+        Head::Integer(ptype) => DType::Primitive(ptype, tokens.nullability()),
         Head::Utf8 => DType::Utf8(tokens.nullability()),
         Head::Binary => DType::Binary(tokens.nullability()),
         Head::Variant => DType::Variant(tokens.nullability()),

@@ -35,7 +35,7 @@ fn write_within(out: &mut Output, dtype: &DType, room: u32) {
     match dtype {
         DType::Null => out.word("null"),
         DType::Bool(n) => write_flat(out, "bool", *n),
-        DType::Primitive(kind, n) => write_flat(out, kind.name(), *n),
+        DType::Primitive(ptype, n) => write_flat(out, ptype.name(), *n),
         DType::Utf8(n) => write_flat(out, "utf8", *n),
         DType::Binary(n) => write_flat(out, "binary", *n),
         DType::Variant(n) => write_flat(out, "variant", *n),

@@ -2,10 +2,9 @@
 use Rattle.std.proofs.Common.{◌≡◌, ◌∙◌, [], drop, codes, false, refl, arith, rules}
 use Rattle.std.proofs.Output.{has_written_append}
 use Rattle.std.proofs.lemmas.List.{drop_all}
-use Rattle.std.specs.Option.{option_copied}
 use Rattle.vortex_dtype.specs.TypeOf.{type_of}
 use Rattle.vortex_value.specs.Breaches.{is_valid}
-use Rattle.vortex_value.specs.Values.RawOf.{raw_of}
+use Rattle.vortex_value.specs.Values.RawOf.{lent_raw}
 use Rattle.vortex_value.proofs.TextSteps.{value_trees_at}
 use Rattle.vortex_value.proofs.ValidityLaws.{is_valid-only}
 use Rattle.vortex_value.proofs.Writes.{left_none, left_part}
@@ -38,6 +37,6 @@ write_text-returns-else-is_compatible g t c plain ok =
 pub write_text-write_invalid-requires : goal.write_text-write_invalid-requires
 write_text-write_invalid-requires g t c κs within =
     let u = type_of c.args.dtype.now in
-    let v = raw_of (option_copied c.args.value) in
+    let v = lent_raw c.args.value in
     let invalid : is_valid u v ≡ false = is_valid-only u v c.is_compatible.result c.is_compatible.ensures ∙ c.if-is_compatible.false in
     search (rules, invalid)

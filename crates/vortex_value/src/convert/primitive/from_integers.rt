@@ -6,7 +6,7 @@
 //! value; those for `ScalarRef` are of this port alone.
 
 ghost use Rattle.std.specs.Prelude.{pos};
-ghost use Rattle.vortex_dtype.specs.declared.kinds.PType.TheVariants.{U8, U16, U32, U64, I8, I16, I32, I64};
+ghost use Rattle.vortex_dtype.specs.declared.ptype.PType.TheVariants.{U8, U16, U32, U64, I8, I16, I32, I64};
 ghost use Rattle.vortex_value.specs.Conversions.{Takes, given_number, number_in, taken_number};
 ghost use Rattle.vortex_value.specs.Values.RawOf.{value_tree};
 ghost use Rattle.vortex_value.specs.Values.Refs.{ref_raw, ref_type};

@@ -1,9 +1,8 @@
 use Rattle.std.proofs.Common.{IfSome}
 use Rattle.vortex_dtype.specs.Parts.{fields_in}
-use Rattle.vortex_value.specs.Values.Refs.{ref_raw, ref_type}
 use Rattle.vortex_views.proofs.FieldSteps.{made-typed, made-valid, made-value, projected-type}
 use Rattle.vortex_views.specs.StructParts.{IsProjectedValue}
-use Rattle.vortex_views.specs.Structs.{struct_ref}
+use Rattle.vortex_views.specs.Structs.{struct_view_raw, struct_view_type}
 use Rattle.vortex_views.proofs.struct_.StructScalar.project.Goals as goal
 
 pub returns-clause-typed : goal.returns-clause-typed
@@ -13,7 +12,7 @@ returns-clause-typed c =
 
 pub returns-clause-value : goal.returns-clause-value
 returns-clause-value c =
-    made-value _ _ (λ w. IfSome (fields_in (ref_type (struct_ref c.args.self.now))) (λ f. IsProjectedValue f c.args.projection.now (ref_raw (struct_ref c.args.self.now)) w))
+    made-value _ _ (λ w. IfSome (fields_in (struct_view_type c.args.self.now)) (λ f. IsProjectedValue f c.args.projection.now (struct_view_raw c.args.self.now) w))
     c.scalar_of.ensures.value c.projected_value-value.ensures
 
 pub returns-clause-valid : goal.returns-clause-valid

@@ -1,18 +1,7 @@
-//! The integer kinds, and whether a type takes a null.
+//! The integer kinds.
 
 ghost use Rattle.std.specs.Prelude.{◌≡◌};
-ghost use Rattle.vortex_dtype.specs.Kinds.{byte_width_of, is_signed_kind, kind_text};
-
-/// Whether a type takes a null.
-///
-/// Ports `vortex_array::dtype::Nullability`.
-#[derive(Clone, Copy, Debug, PartialEq, Eq, Hash)]
-pub enum Nullability {
-    /// It does not.
-    NonNullable,
-    /// It does.
-    Nullable,
-}
+ghost use Rattle.vortex_dtype.specs.PTypes.{byte_width_of, is_signed_ptype, ptype_text};
 
 /// An integer kind: signed or unsigned, of 1, 2, 4 or 8 bytes.
 ///
@@ -54,7 +43,7 @@ impl PType {
     ///
     /// Ports `PType::is_signed_int`.
     pub fn is_signed(&self) -> bool
-        ensures { result ≡ is_signed_kind self.now }
+        ensures { result ≡ is_signed_ptype self.now }
     {
         match self {
             PType::U8 | PType::U16 | PType::U32 | PType::U64 => false,
@@ -65,7 +54,7 @@ impl PType {
     /// The kind's name, as `u8`. Of this port alone, for what upstream's `Display` of a kind
     /// prints.
     pub fn name(&self) -> &'static str
-        ensures { result.now ≡ kind_text self.now }
+        ensures { result.now ≡ ptype_text self.now }
     {
         match self {
             PType::U8 => "u8",

@@ -2,9 +2,9 @@
 use Rattle.std.specs.Prelude.{◌≡◌, ◌↔◌, ◌≤ℤ◌, ℤ, Bool, true, Option, Some, IsTrue}
 use Rattle.std.specs.declared.cmp.Ordering.{Ordering}
 use Rattle.std.specs.declared.cmp.Ordering.TheVariants.{Equal}
-use Rattle.vortex_dtype.specs.Kinds.{byte_width_of}
-use Rattle.vortex_dtype.specs.declared.kinds.PType.{PType}
-use Rattle.vortex_dtype.specs.declared.kinds.PType.TheVariants.{U8, U16, U32, U64, I8, I16, I32, I64}
+use Rattle.vortex_dtype.specs.PTypes.{byte_width_of}
+use Rattle.vortex_dtype.specs.declared.ptype.PType.{PType}
+use Rattle.vortex_dtype.specs.declared.ptype.PType.TheVariants.{U8, U16, U32, U64, I8, I16, I32, I64}
 use Rattle.vortex_pvalue.specs.Numbers.{InRange, in_range, IsWrapped, wrapped, least_of, greatest_of}
 use Rattle.vortex_pvalue.specs.Whole.{whole_of}
 use Rattle.vortex_pvalue.specs.declared.pvalues.PValue.{PValue}
