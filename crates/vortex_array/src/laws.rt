@@ -6,8 +6,14 @@
 
 ghost use Rattle.vortex_array.specs.Conversions.{NamesAsGiven, TakesBack};
 ghost use Rattle.vortex_array.specs.Laws.{BoundsAreComputed, BoundsAreUnique};
+ghost use Rattle.vortex_array.specs.Strings.{IsString};
 
 use crate::round_trip::RoundTrip;
+
+/// The items of a slice of bytes are a string, each below 256.
+pub fn items_are_bytes(_bytes: &[u8])
+    ensures { IsString _bytes.now }
+{}
 
 /// The bounds of a string are its first bytes, and these plus one with carry.
 pub fn bounds_are_computed()

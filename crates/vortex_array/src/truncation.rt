@@ -11,11 +11,12 @@ ghost use Rattle.vortex_value.specs.Values.Content.{content};
 ghost use Rattle.vortex_value.specs.Order.{order};
 ghost use Rattle.vortex_value.specs.Values.RawTree.{RawTree, absent, raw_bytes, raw_text};
 ghost use Rattle.vortex_value.specs.Values.Scalars.{IsMadeOf, IsValid, scalar_raw, scalar_type};
-ghost use Rattle.vortex_array.specs.Strings.{Below, NotAbove, HasNoUpper, IsLower, IsString, IsUpper, next_string};
+ghost use Rattle.vortex_array.specs.Strings.{Below, NotAbove, HasNoUpper, IsLower, IsUpper, next_string};
 ghost use Rattle.vortex_array.specs.Texts.{HasNoTextUpper, IsTextLower, IsTextUpper};
 ghost use Rattle.vortex_array.specs.Truncation.{IsLowerOf, IsTypeOfKind, IsUpperOf, MayHold};
 
 use crate::carry::carry;
+use crate::laws::items_are_bytes;
 use crate::string_like::{IncrementError, StringLike};
 use arrayvec::ArrayVec;
 use std::alloc::Global;
@@ -186,7 +187,7 @@ impl ScalarTruncation for ByteBuffer {
 
     #[tactic(auto, using(crate::proofs::ScalarBounds::lower_slice))]
     fn lower_bound(self, _alloc: Global, max_length: usize) -> Result<ByteBuffer, VortexError> {
-        tell_bytes(self.as_slice());
+        items_are_bytes(self.as_slice());
         self.slice(0..max_length)
     }
 
@@ -195,7 +196,7 @@ impl ScalarTruncation for ByteBuffer {
         alloc: Global,
         max_length: usize,
     ) -> Result<Option<ByteBuffer>, VortexError> {
-        tell_bytes(self.as_slice());
+        items_are_bytes(self.as_slice());
         next_bytes(alloc, &self.as_slice()[..max_length])
     }
 
@@ -259,11 +260,6 @@ impl ScalarTruncation for BufferString {
 
     ghost upper_law = { λ b n r h. h.above };
 }
-
-/// Says of the items of a slice that they are bytes. Does nothing.
-fn tell_bytes(_bytes: &[u8])
-    ensures { IsString _bytes.now }
-{}
 
 /// The next string of as many bytes, none where there is none. At most 22 bytes take no memory.
 fn next_bytes(alloc: Global, bytes: &[u8]) -> Result<Option<ByteBuffer>, VortexError>

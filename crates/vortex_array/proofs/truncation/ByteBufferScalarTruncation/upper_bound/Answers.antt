@@ -5,7 +5,7 @@ use Rattle.vortex_array.proofs.truncation.ByteBufferScalarTruncation.upper_bound
 
 pub returns : goal.returns
 returns c =
-    let s = subst IsString (c.as_slice.ensures ∙ sym c.as_slice-2.ensures) c.tell_bytes.ensures in
+    let s = subst IsString (c.as_slice.ensures ∙ sym c.as_slice-2.ensures) c.items_are_bytes.ensures in
     record {
       given = next_is_upper _ _ _ _ c.as_slice-2.ensures s c.requires c.next_bytes.ensures.given;
       inline = λ m.
