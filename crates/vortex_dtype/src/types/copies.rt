@@ -1,6 +1,6 @@
 //! Copies of types and of their parts.
 
-ghost use Rattle.std.specs.Prelude.{◌≡◌, MatchResult, map};
+ghost use Rattle.std.specs.Prelude.{◌≡◌, IfOk, MatchResult, map};
 ghost use Rattle.vortex_dtype.specs.Memory.{GivesOrNoMemory};
 ghost use Rattle.vortex_dtype.specs.TypeTree.{IsFlat, fixed_size_list_type, list_type};
 ghost use Rattle.vortex_dtype.specs.TypeOf.{type_of, fields_of, variants_of, map_of, ext_of, map_type_of, struct_type_of, union_type_of, extension_type_of};
@@ -8,37 +8,57 @@ ghost use Rattle.vortex_dtype.specs.declared.error.VortexError.TheVariants.{OutO
 
 use super::{DType, ExtDType, MapDType, StructFields, UnionVariants};
 use crate::error::VortexError;
-use crate::nullability::Nullability;
 use crate::names::FieldName;
-use std::alloc::Global;
+use crate::nullability::Nullability;
+use std::alloc::{AllocError, Global};
 
 /// The same names.
-fn copy_names(alloc: Global, names: &[FieldName]) -> Result<Vec<FieldName>, VortexError>
-    ensures { GivesOrNoMemory (λ copies. copies.items ≡ names.now) result }
+fn copy_names(alloc: Global, names: &[FieldName]) -> Result<Vec<FieldName>, AllocError>
+    ensures { IfOk result (λ copies. copies.items ≡ names.now) }
 {
     let mut copies = Vec::with_capacity(alloc, names.len())?;
     for name in names {
-        copies.push(name.clone(alloc)?)?;
+        match name.clone(alloc) {
+            Ok(name) => copies.push_reserved(name),
+            Err(_) => return Err(AllocError),
+        }
     }
     Ok(copies)
 }
 
+/// The type in a box.
+#[inline(always)]
+fn boxed(alloc: Global, dtype: DType) -> Result<Box<DType>, AllocError>
+    ensures { IfOk result (λ made. made.value ≡ dtype) }
+{
+    match Box::new(alloc, dtype) {
+        Ok(made) => Ok(made),
+        Err(_) => Err(AllocError),
+    }
+}
+
 /// The same type, in a box of its own.
 #[cycle(copy)]
-fn copy_box(alloc: Global, dtype: &DType) -> Result<Box<DType>, VortexError>
-    ensures { GivesOrNoMemory (λ c. type_of c.value ≡ type_of dtype.now) result }
+fn copy_box(alloc: Global, dtype: &DType) -> Result<Box<DType>, AllocError>
+    ensures { IfOk result (λ c. type_of c.value ≡ type_of dtype.now) }
 {
-    Ok(Box::new(alloc, copy(alloc, dtype)?)?)
+    match copy(alloc, dtype) {
+        Ok(dtype) => boxed(alloc, dtype),
+        Err(_) => Err(AllocError),
+    }
 }
 
 /// The same types.
 #[cycle(copy)]
-fn copy_all(alloc: Global, dtypes: &[DType]) -> Result<Vec<DType>, VortexError>
-    ensures { GivesOrNoMemory (λ copies. map type_of copies.items ≡ map type_of dtypes.now) result }
+fn copy_all(alloc: Global, dtypes: &[DType]) -> Result<Vec<DType>, AllocError>
+    ensures { IfOk result (λ copies. map type_of copies.items ≡ map type_of dtypes.now) }
 {
     let mut copies = Vec::with_capacity(alloc, dtypes.len())?;
     for dtype in dtypes {
-        copies.push(copy(alloc, dtype)?)?;
+        match copy(alloc, dtype) {
+            Ok(dtype) => copies.push_reserved(dtype),
+            Err(_) => return Err(AllocError),
+        }
     }
     Ok(copies)
 }
