@@ -3,21 +3,20 @@
 ghost use Rattle.std.specs.Prelude.{◌≡◌, ◌<◌, IfOk, MatchResult, None, Some, false, map, option_map};
 ghost use Rattle.std.specs.Option.{is_none, option_copied};
 ghost use Rattle.std.specs.Vec.{vec_capacity, vec_len};
-ghost use Rattle.vortex_dtype.specs.Memory.{GivesOrNoMemory};
 ghost use Rattle.vortex_dtype.specs.TypeOf.{type_of};
-ghost use Rattle.vortex_dtype.specs.TypeTree.{IsFlat};
+ghost use Rattle.vortex_dtype.specs.TypeTree.{IsFlat, binary_type, bool_type, integer_type, null_type, utf8_type};
 ghost use Rattle.vortex_dtype.specs.declared.error.VortexError.TheVariants.{OutOfMemory};
 ghost use Rattle.vortex_pvalue.specs.Whole.{ptype_of, whole_of};
 ghost use Rattle.vortex_value.specs.Steps.Copies.{Adds};
 ghost use Rattle.vortex_value.specs.Values.RawKinds.{TakesNoMemory};
 ghost use Rattle.vortex_value.specs.Values.RawOf.{value_tree, value_trees, variant_tree, union_tree, raw_of, lent_raw};
-ghost use Rattle.vortex_value.specs.Values.RawTree.{raw_bool, raw_integer, raw_text, raw_bytes, raw_tuple};
+ghost use Rattle.vortex_value.specs.Values.RawTree.{absent, raw_bool, raw_integer, raw_text, raw_bytes, raw_tuple, raw_variant};
 
 use crate::scalars::{Scalar, with_type};
 use crate::unions::UnionValue;
 use crate::values::ScalarValue;
 use std::alloc::{AllocError, Global};
-use vortex_dtype::{BufferString, ByteBuffer, VortexError};
+use vortex_dtype::{BufferString, ByteBuffer, DType, Nullability, PType, VortexError};
 use vortex_pvalue::PValue;
 
 /// The same raw value. Truth values and integers take no memory.
@@ -210,13 +209,9 @@ fn push_variant(
     requires { vec_len copies.old < vec_capacity copies.old }
     ensures { IfOk result (λ _. Adds copies.old copies.new (Some (variant_tree scalar.now))) }
 {
-    match copy_boxed(alloc, scalar) {
-        Ok(scalar) => {
-            copies.push_reserved(Some(ScalarValue::Variant(scalar)));
-            Ok(())
-        }
-        Err(_) => Err(AllocError),
-    }
+    let scalar = copy_boxed(alloc, scalar)?;
+    copies.push_reserved(Some(ScalarValue::Variant(scalar)));
+    Ok(())
 }
 
 /// The same id and child.
@@ -272,7 +267,7 @@ fn box_copy(alloc: Global, value: &ScalarValue) -> Result<Box<ScalarValue>, Allo
 
 /// The value in a box.
 #[inline(always)]
-fn boxed(alloc: Global, value: ScalarValue) -> Result<Box<ScalarValue>, AllocError>
+fn boxed<T: Drop>(alloc: Global, value: T) -> Result<Box<T>, AllocError>
     ensures { IfOk result (λ made. made.value ≡ value) }
 {
     match Box::new(alloc, value) {
@@ -350,22 +345,147 @@ fn box_union(alloc: Global, union: &UnionValue) -> Result<Box<ScalarValue>, Allo
 fn box_variant(alloc: Global, scalar: &Scalar) -> Result<Box<ScalarValue>, AllocError>
     ensures { IfOk result (λ made. value_tree made.value ≡ variant_tree scalar.now) }
 {
-    match copy_boxed(alloc, scalar) {
-        Ok(scalar) => boxed(alloc, ScalarValue::Variant(scalar)),
+    boxed(alloc, ScalarValue::Variant(copy_boxed(alloc, scalar)?))
+}
+
+/// The same scalar, in a box of its own. A leaf of just its type costs no recursion; each kind has a
+/// function of its own, as by `push_copy`.
+#[cycle(copies)]
+#[inline(always)]
+#[tactic(auto, using(crate::proofs::ValueSteps::shown))]
+pub(crate) fn copy_boxed(alloc: Global, scalar: &Scalar) -> Result<Box<Scalar>, AllocError>
+    ensures { IfOk result (λ copy. variant_tree copy.value ≡ variant_tree scalar.now) }
+{
+    match (&scalar.dtype, &scalar.value) {
+        (DType::Null, None) => hold_null(alloc),
+        (DType::Bool(n), Some(ScalarValue::Bool(truth))) => hold_bool(alloc, *n, *truth),
+        (DType::Primitive(ptype, n), Some(ScalarValue::Primitive(number))) => {
+            hold_number(alloc, *ptype, *n, number)
+        }
+        (DType::Utf8(n), Some(ScalarValue::Utf8(text))) => hold_text(alloc, *n, text),
+        (DType::Binary(n), Some(ScalarValue::Binary(bytes))) => hold_bytes(alloc, *n, bytes),
+        (dtype, Some(ScalarValue::Tuple(values))) => hold_tuple(alloc, values, dtype),
+        _ => hold_whole(alloc, scalar),
+    }
+}
+
+/// The null of the type of nulls in a box.
+#[inline(never)]
+fn hold_null(alloc: Global) -> Result<Box<Scalar>, AllocError>
+    ensures { IfOk result (λ made. variant_tree made.value ≡ raw_variant null_type absent) }
+{
+    let dtype = DType::Null;
+    boxed(alloc, Scalar { dtype, value: None })
+}
+
+/// A truth value with its type in a box.
+#[inline(never)]
+fn hold_bool(alloc: Global, n: Nullability, truth: bool) -> Result<Box<Scalar>, AllocError>
+    ensures { IfOk result (λ made. variant_tree made.value
+        ≡ raw_variant (bool_type n) (raw_bool truth)) }
+{
+    let value = Some(ScalarValue::Bool(truth));
+    let dtype = DType::Bool(n);
+    boxed(alloc, Scalar { dtype, value })
+}
+
+/// An integer with its type in a box.
+#[inline(never)]
+fn hold_number(
+    alloc: Global,
+    ptype: PType,
+    n: Nullability,
+    number: &PValue,
+) -> Result<Box<Scalar>, AllocError>
+    ensures { IfOk result (λ made. variant_tree made.value ≡ raw_variant (integer_type ptype n)
+        (raw_integer (ptype_of number.now) (whole_of number.now))) }
+{
+    let value = Some(ScalarValue::Primitive(*number));
+    let dtype = DType::Primitive(ptype, n);
+    boxed(alloc, Scalar { dtype, value })
+}
+
+/// A copy of a text with its type in a box.
+#[inline(never)]
+fn hold_text(alloc: Global, n: Nullability, text: &BufferString) -> Result<Box<Scalar>, AllocError>
+    ensures { IfOk result (λ made. variant_tree made.value
+        ≡ raw_variant (utf8_type n) (raw_text text.now)) }
+{
+    match text.clone() {
+        Ok(text) => {
+            let value = Some(ScalarValue::Utf8(text));
+            let dtype = DType::Utf8(n);
+            boxed(alloc, Scalar { dtype, value })
+        }
         Err(_) => Err(AllocError),
     }
 }
 
-/// The same scalar, in a box of its own: a function for the two refusals, so that `copy_value` has
-/// one.
-#[cycle(copies)]
-#[tactic(auto, using(crate::proofs::ValueSteps::shown))]
-fn copy_boxed(alloc: Global, scalar: &Scalar) -> Result<Box<Scalar>, VortexError>
-    ensures { GivesOrNoMemory
-        (λ copy. (type_of copy.value.dtype ≡ type_of scalar.now.dtype)
-        × (raw_of copy.value.value ≡ raw_of scalar.now.value)) result }
+/// A copy of a string of bytes with its type in a box.
+#[inline(never)]
+fn hold_bytes(alloc: Global, n: Nullability, bytes: &ByteBuffer) -> Result<Box<Scalar>, AllocError>
+    ensures { IfOk result (λ made. variant_tree made.value
+        ≡ raw_variant (binary_type n) (raw_bytes bytes.now)) }
 {
-    Ok(Box::new(alloc, copy_scalar(alloc, scalar)?)?)
+    match bytes.clone() {
+        Ok(bytes) => {
+            let value = Some(ScalarValue::Binary(bytes));
+            let dtype = DType::Binary(n);
+            boxed(alloc, Scalar { dtype, value })
+        }
+        Err(_) => Err(AllocError),
+    }
+}
+
+/// A copy of the parts with their type in a box.
+#[cycle(copies)]
+#[inline(never)]
+#[tactic(auto, using(crate::proofs::ValueSteps::shown))]
+fn hold_tuple(
+    alloc: Global,
+    values: &[Option<ScalarValue>],
+    dtype: &DType,
+) -> Result<Box<Scalar>, AllocError>
+    ensures { IfOk result (λ made. variant_tree made.value
+        ≡ raw_variant (type_of dtype.now) (raw_tuple (value_trees values.now))) }
+{
+    hold_parts(alloc, dtype, copy_tuple(alloc, values)?)
+}
+
+/// The parts with a copy of their type in a box.
+#[inline(always)]
+#[tactic(auto, using(crate::proofs::ValueSteps::shown))]
+fn hold_parts(
+    alloc: Global,
+    dtype: &DType,
+    parts: Vec<Option<ScalarValue>>,
+) -> Result<Box<Scalar>, AllocError>
+    ensures { IfOk result (λ made. variant_tree made.value
+        ≡ raw_variant (type_of dtype.now) (raw_tuple (value_trees parts.items))) }
+{
+    match dtype.clone(alloc) {
+        Ok(dtype) => {
+            let value = Some(ScalarValue::Tuple(parts));
+            boxed(alloc, Scalar { dtype, value })
+        }
+        Err(_) => {
+            drop(parts);
+            Err(AllocError)
+        }
+    }
+}
+
+/// A copy of any scalar in a box.
+#[cycle(copies)]
+#[inline(never)]
+#[tactic(auto, using(crate::proofs::ValueSteps::shown))]
+fn hold_whole(alloc: Global, scalar: &Scalar) -> Result<Box<Scalar>, AllocError>
+    ensures { IfOk result (λ copy. variant_tree copy.value ≡ variant_tree scalar.now) }
+{
+    match copy_scalar(alloc, scalar) {
+        Ok(scalar) => boxed(alloc, scalar),
+        Err(_) => Err(AllocError),
+    }
 }
 
 /// The same type and raw value. A flat type with a value that takes no memory takes none.

@@ -1,46 +1,146 @@
 //! Copies of types and of their parts.
 
-ghost use Rattle.std.specs.Prelude.{◌≡◌, MatchResult, map};
+ghost use Rattle.std.specs.Prelude.{◌≡◌, ◌<◌, IfOk, MatchResult, map};
+ghost use Rattle.std.specs.Vec.{vec_capacity, vec_len};
+ghost use Rattle.vortex_dtype.specs.Copies.{Adds};
 ghost use Rattle.vortex_dtype.specs.Memory.{GivesOrNoMemory};
-ghost use Rattle.vortex_dtype.specs.TypeTree.{IsFlat, fixed_size_list_type, list_type};
+ghost use Rattle.vortex_dtype.specs.TypeTree.{IsFlat, fixed_size_list_type, integer_type, list_type, utf8_type};
 ghost use Rattle.vortex_dtype.specs.TypeOf.{type_of, fields_of, variants_of, map_of, ext_of, map_type_of, struct_type_of, union_type_of, extension_type_of};
 ghost use Rattle.vortex_dtype.specs.declared.error.VortexError.TheVariants.{OutOfMemory};
 
 use super::{DType, ExtDType, MapDType, StructFields, UnionVariants};
 use crate::error::VortexError;
-use crate::nullability::Nullability;
 use crate::names::FieldName;
-use std::alloc::Global;
+use crate::nullability::Nullability;
+use crate::ptype::PType;
+use std::alloc::{AllocError, Global};
 
 /// The same names.
-fn copy_names(alloc: Global, names: &[FieldName]) -> Result<Vec<FieldName>, VortexError>
-    ensures { GivesOrNoMemory (λ copies. copies.items ≡ names.now) result }
+fn copy_names(alloc: Global, names: &[FieldName]) -> Result<Vec<FieldName>, AllocError>
+    ensures { IfOk result (λ copies. copies.items ≡ names.now) }
 {
     let mut copies = Vec::with_capacity(alloc, names.len())?;
     for name in names {
-        copies.push(name.clone(alloc)?)?;
+        match name.clone(alloc) {
+            Ok(name) => copies.push_reserved(name),
+            Err(_) => return Err(AllocError),
+        }
     }
     Ok(copies)
 }
 
-/// The same type, in a box of its own.
-#[cycle(copy)]
-fn copy_box(alloc: Global, dtype: &DType) -> Result<Box<DType>, VortexError>
-    ensures { GivesOrNoMemory (λ c. type_of c.value ≡ type_of dtype.now) result }
+/// The type in a box.
+#[inline(always)]
+fn boxed(alloc: Global, dtype: DType) -> Result<Box<DType>, AllocError>
+    ensures { IfOk result (λ made. made.value ≡ dtype) }
 {
-    Ok(Box::new(alloc, copy(alloc, dtype)?)?)
+    match Box::new(alloc, dtype) {
+        Ok(made) => Ok(made),
+        Err(_) => Err(AllocError),
+    }
+}
+
+/// The same type, in a box of its own. The kinds that most parts have are made where they stand.
+#[cycle(copy)]
+#[inline(always)]
+fn copy_box(alloc: Global, dtype: &DType) -> Result<Box<DType>, AllocError>
+    ensures { IfOk result (λ c. type_of c.value ≡ type_of dtype.now) }
+{
+    match dtype {
+        DType::Primitive(ptype, n) => box_primitive(alloc, *ptype, *n),
+        DType::Utf8(n) => box_utf8(alloc, *n),
+        _ => box_whole(alloc, dtype),
+    }
+}
+
+/// A type of integers in a box.
+#[inline(never)]
+fn box_primitive(alloc: Global, ptype: PType, n: Nullability) -> Result<Box<DType>, AllocError>
+    ensures { IfOk result (λ made. type_of made.value ≡ integer_type ptype n) }
+{
+    boxed(alloc, DType::Primitive(ptype, n))
+}
+
+/// The type of texts in a box.
+#[inline(never)]
+fn box_utf8(alloc: Global, n: Nullability) -> Result<Box<DType>, AllocError>
+    ensures { IfOk result (λ made. type_of made.value ≡ utf8_type n) }
+{
+    boxed(alloc, DType::Utf8(n))
+}
+
+/// A copy of any type in a box.
+#[cycle(copy)]
+#[inline(never)]
+fn box_whole(alloc: Global, dtype: &DType) -> Result<Box<DType>, AllocError>
+    ensures { IfOk result (λ c. type_of c.value ≡ type_of dtype.now) }
+{
+    match copy(alloc, dtype) {
+        Ok(dtype) => boxed(alloc, dtype),
+        Err(_) => Err(AllocError),
+    }
 }
 
 /// The same types.
 #[cycle(copy)]
-fn copy_all(alloc: Global, dtypes: &[DType]) -> Result<Vec<DType>, VortexError>
-    ensures { GivesOrNoMemory (λ copies. map type_of copies.items ≡ map type_of dtypes.now) result }
+fn copy_all(alloc: Global, dtypes: &[DType]) -> Result<Vec<DType>, AllocError>
+    ensures { IfOk result (λ copies. map type_of copies.items ≡ map type_of dtypes.now) }
 {
     let mut copies = Vec::with_capacity(alloc, dtypes.len())?;
     for dtype in dtypes {
-        copies.push(copy(alloc, dtype)?)?;
+        push_copy(alloc, dtype, &mut copies)?;
     }
     Ok(copies)
+}
+
+/// Appends the same type, as `copy_box` makes it.
+#[cycle(copy)]
+#[inline(always)]
+fn push_copy(alloc: Global, dtype: &DType, copies: &mut Vec<DType>) -> Result<(), AllocError>
+    requires { vec_len copies.old < vec_capacity copies.old }
+    ensures { IfOk result (λ _. Adds copies.old copies.new (type_of dtype.now)) }
+{
+    match dtype {
+        DType::Primitive(ptype, n) => push_primitive(*ptype, *n, copies),
+        DType::Utf8(n) => push_utf8(*n, copies),
+        _ => push_whole(alloc, dtype, copies),
+    }
+}
+
+/// Appends a type of integers.
+#[inline(never)]
+fn push_primitive(ptype: PType, n: Nullability, copies: &mut Vec<DType>) -> Result<(), AllocError>
+    requires { vec_len copies.old < vec_capacity copies.old }
+    ensures { IfOk result (λ _. Adds copies.old copies.new (integer_type ptype n)) }
+{
+    copies.push_reserved(DType::Primitive(ptype, n));
+    Ok(())
+}
+
+/// Appends the type of texts.
+#[inline(never)]
+fn push_utf8(n: Nullability, copies: &mut Vec<DType>) -> Result<(), AllocError>
+    requires { vec_len copies.old < vec_capacity copies.old }
+    ensures { IfOk result (λ _. Adds copies.old copies.new (utf8_type n)) }
+{
+    copies.push_reserved(DType::Utf8(n));
+    Ok(())
+}
+
+/// Appends a copy of any type.
+#[cycle(copy)]
+#[inline(never)]
+fn push_whole(alloc: Global, dtype: &DType, copies: &mut Vec<DType>) -> Result<(), AllocError>
+    requires { vec_len copies.old < vec_capacity copies.old }
+    ensures { IfOk result (λ _. Adds copies.old copies.new (type_of dtype.now)) }
+{
+    match copy(alloc, dtype) {
+        Ok(dtype) => {
+            copies.push_reserved(dtype);
+            Ok(())
+        }
+        Err(_) => Err(AllocError),
+    }
 }
 
 /// The same type. Types whose values take no memory take none either.

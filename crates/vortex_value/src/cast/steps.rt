@@ -5,17 +5,18 @@ ghost use Rattle.vortex_dtype.specs.TypeOf.{type_of};
 ghost use Rattle.vortex_pvalue.specs.Whole.{ptype_of, whole_of};
 ghost use Rattle.vortex_value.specs.Steps.CastSteps.{Appends, Makes, RefusesSome, SparesMemory, leaf_to, left_to, number_to};
 ghost use Rattle.vortex_value.specs.Values.RawKinds.{TakesNoMemory};
-ghost use Rattle.vortex_value.specs.Values.RawOf.{raw_of, union_tree, value_tree};
-ghost use Rattle.vortex_value.specs.Values.RawTree.{raw_integer, raw_union};
+ghost use Rattle.vortex_value.specs.Values.RawOf.{raw_of, union_tree, value_tree, variant_tree};
+ghost use Rattle.vortex_value.specs.Values.RawTree.{raw_integer, raw_text, raw_union};
 ghost use Rattle.vortex_value.specs.declared.cast.refusals.Refusal.TheVariants.{Impossible, NoMemory};
 
 use super::refusals::Refusal;
 use super::rules::{accepts, may_leave_extension, stays};
 use crate::copies;
+use crate::scalars::Scalar;
 use crate::unions::UnionValue;
 use crate::values::ScalarValue;
 use std::alloc::Global;
-use vortex_dtype::DType;
+use vortex_dtype::{BufferString, DType};
 use vortex_pvalue::PValue;
 
 /// A copy of the value. Truth values and integers take no memory.
@@ -114,12 +115,27 @@ pub(super) fn cast_number(number: &PValue, target: &DType) -> Result<ScalarValue
     }
 }
 
-/// Appends a part, or drops it where there is no memory.
+/// Appends a part, or drops it where there is no memory. Mostly there is room for it.
 #[inline(always)]
 pub(super) fn push(
     part: Option<ScalarValue>,
     made: &mut Vec<Option<ScalarValue>>,
 ) -> Result<(), Refusal>
+    ensures { MatchResult result
+        (λ _. made.new.items ≡ made.old.items ++ part ∷ [])
+        (λ e. e ≡ NoMemory) }
+{
+    if made.len() < made.capacity() {
+        made.push_reserved(part);
+        Ok(())
+    } else {
+        push_more(part, made)
+    }
+}
+
+/// The same where there may be no room.
+#[inline(never)]
+fn push_more(part: Option<ScalarValue>, made: &mut Vec<Option<ScalarValue>>) -> Result<(), Refusal>
     ensures { MatchResult result
         (λ _. made.new.items ≡ made.old.items ++ part ∷ [])
         (λ e. e ≡ NoMemory) }
@@ -147,7 +163,8 @@ pub(super) fn push_number(
 }
 
 /// Appends the same value, one without parts, where it stays what it is.
-#[inline(never)]
+#[inline(always)]
+#[tactic(auto, using(crate::proofs::ValueSteps::shown))]
 pub(super) fn push_leaf(
     alloc: Global,
     value: &ScalarValue,
@@ -161,8 +178,51 @@ pub(super) fn push_leaf(
     if !stays(value, source, target) {
         return Err(Refusal::Impossible);
     }
+    match value {
+        ScalarValue::Utf8(text) => push_text(text, made),
+        ScalarValue::Variant(scalar) => push_variant(alloc, scalar, made),
+        _ => push_copied(alloc, value, made),
+    }
+}
+
+/// Appends a copy of the value.
+#[inline(never)]
+fn push_copied(
+    alloc: Global,
+    value: &ScalarValue,
+    made: &mut Vec<Option<ScalarValue>>,
+) -> Result<(), Refusal>
+    ensures { Appends made.old.items made.new.items (Some (value_tree value.now)) result }
+{
     match copies::copy_value(alloc, value) {
         Ok(copy) => push(Some(copy), made),
+        Err(_) => Err(Refusal::NoMemory),
+    }
+}
+
+/// Appends a copy of a text.
+#[inline(never)]
+fn push_text(text: &BufferString, made: &mut Vec<Option<ScalarValue>>) -> Result<(), Refusal>
+    ensures { Appends made.old.items made.new.items (Some (raw_text text.now)) result }
+{
+    match text.clone() {
+        Ok(text) => push(Some(ScalarValue::Utf8(text)), made),
+        Err(_) => Err(Refusal::NoMemory),
+    }
+}
+
+/// Appends a copy of a variant's scalar.
+#[inline(never)]
+#[tactic(auto, using(crate::proofs::ValueSteps::shown))]
+fn push_variant(
+    alloc: Global,
+    scalar: &Scalar,
+    made: &mut Vec<Option<ScalarValue>>,
+) -> Result<(), Refusal>
+    ensures { Appends made.old.items made.new.items (Some (variant_tree scalar.now)) result }
+{
+    match copies::copy_boxed(alloc, scalar) {
+        Ok(copy) => push(Some(ScalarValue::Variant(copy)), made),
         Err(_) => Err(Refusal::NoMemory),
     }
 }

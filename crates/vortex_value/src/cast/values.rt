@@ -334,14 +334,17 @@ fn cast_entries(
     ensures { MakesParts (entries_to (value_trees entries.now)
         (map_of from.now) (map_of to.now)) result }
 {
+    let keys = bare_target(from.key_dtype(), to.key_dtype());
+    let values = bare_target(from.value_dtype(), to.value_dtype());
     let mut made = Vec::with_capacity(alloc, entries.len())?;
     for entry in entries {
-        push_entry(alloc, entry.as_ref(), from, to, &mut made)?;
+        push_entry(alloc, entry.as_ref(), from, to, keys, values, &mut made)?;
     }
     Ok(made)
 }
 
-/// Appends what an entry becomes, where it is a pair.
+/// Appends what an entry becomes, where it is a pair. The caller asked once what the key and value
+/// types of the target store.
 #[cycle(cast)]
 #[inline(always)]
 #[tactic(auto, using(crate::proofs::CastCode::shown))]
@@ -350,13 +353,18 @@ fn push_entry(
     entry: Option<&ScalarValue>,
     from: &MapDType,
     to: &MapDType,
+    keys: Option<&DType>,
+    values: Option<&DType>,
     made: &mut Vec<Option<ScalarValue>>,
 ) -> Result<(), Refusal>
+    requires keys { IsBareTarget (map_of from.now).key (map_of to.now).key (option_copied keys) }
+    requires values { IsBareTarget (map_of from.now).value (map_of to.now).value
+        (option_copied values) }
     ensures { Appends made.old.items made.new.items (entry_to (lent_raw entry.entry)
         (map_of from.now) (map_of to.now)) result }
 {
     match entry {
-        Some(ScalarValue::Tuple(parts)) => push_pair(alloc, parts, from, to, made),
+        Some(ScalarValue::Tuple(parts)) => push_pair(alloc, parts, from, to, keys, values, made),
         _ => Err(Refusal::Impossible),
     }
 }
@@ -370,28 +378,35 @@ fn push_pair(
     parts: &[Option<ScalarValue>],
     from: &MapDType,
     to: &MapDType,
+    keys: Option<&DType>,
+    values: Option<&DType>,
     made: &mut Vec<Option<ScalarValue>>,
 ) -> Result<(), Refusal>
+    requires keys { IsBareTarget (map_of from.now).key (map_of to.now).key (option_copied keys) }
+    requires values { IsBareTarget (map_of from.now).value (map_of to.now).value
+        (option_copied values) }
     ensures { Appends made.old.items made.new.items (entry_to (raw_tuple (value_trees parts.now))
         (map_of from.now) (map_of to.now)) result }
 {
     if parts.len() != 2 {
         return Err(Refusal::Impossible);
     }
-    let (key, value) = (&parts[0], &parts[1]);
+    let (key, value) = (parts[0].as_ref(), parts[1].as_ref());
     let mut pair = Vec::with_capacity(alloc, 2)?;
-    push_cast(
+    push_stored(
         alloc,
-        key.as_ref(),
+        key,
         from.key_dtype(),
         to.key_dtype(),
+        keys,
         &mut pair,
     )?;
-    push_cast(
+    push_stored(
         alloc,
-        value.as_ref(),
+        value,
         from.value_dtype(),
         to.value_dtype(),
+        values,
         &mut pair,
     )?;
     push(Some(ScalarValue::Tuple(pair)), made)

@@ -61,26 +61,26 @@ cast_entries-returns t c =
 pub push_pair-returns-then-parts-ne2 : goal.push_pair-returns-then-parts-ne2
 push_pair-returns-then-parts-ne2 t c = inr (refl, no_entry c.args.parts.now _ _ c.if-parts-ne2.true)
 
-pub push_pair-returns-in_err-push_cast : goal.push_pair-returns-in_err-push_cast
-push_pair-returns-in_err-push_cast t c =
+pub push_pair-returns-in_err-push_stored : goal.push_pair-returns-in_err-push_stored
+push_pair-returns-in_err-push_stored t c =
     let xs = c.args.parts.now in
     let x = c.index-parts-0.result in
     let y = c.index-parts-1.result in
-    let lent : option_copied c.as_ref.result ≡ c.index-parts-0.result = search rules in
-    let is : c.from_residual-in_err-push_cast.result ≡ Err c.in_err-push_cast.field-0.0 = search rules in
+    let lent : option_copied c.as_ref-key.result ≡ c.index-parts-0.result = search rules in
+    let is : c.from_residual-in_err-push_stored.result ≡ Err c.in_err-push_stored.field-0.0 = search rules in
     let at = entry_at xs x y (map_of c.args.from.now) (map_of c.args.to.now) c.if-parts-ne2.false c.index-parts-0.is c.index-parts-1.is in
-    let refused = rw (lent, c.key_dtype.ensures.tree, c.key_dtype-2.ensures.tree) at c.in_err-push_cast.ensures in
+    let refused = rw (lent, c.key_dtype.ensures.tree, c.key_dtype-2.ensures.tree) at c.in_err-push_stored.ensures in
     passed_up _ _ _ _ _ _ is refused (λ none. rw none at at)
 
-pub push_pair-returns-in_err-push_cast-2 : goal.push_pair-returns-in_err-push_cast-2
-push_pair-returns-in_err-push_cast-2 t c =
+pub push_pair-returns-in_err-push_stored-2 : goal.push_pair-returns-in_err-push_stored-2
+push_pair-returns-in_err-push_stored-2 t c =
     let xs = c.args.parts.now in
     let x = c.index-parts-0.result in
     let y = c.index-parts-1.result in
-    let lent : option_copied c.as_ref-2.result ≡ c.index-parts-1.result = search rules in
-    let is : c.from_residual-in_err-push_cast-2.result ≡ Err c.in_err-push_cast-2.field-0.0 = search rules in
+    let lent : option_copied c.as_ref-value.result ≡ c.index-parts-1.result = search rules in
+    let is : c.from_residual-in_err-push_stored-2.result ≡ Err c.in_err-push_stored-2.field-0.0 = search rules in
     let at = entry_at xs x y (map_of c.args.from.now) (map_of c.args.to.now) c.if-parts-ne2.false c.index-parts-0.is c.index-parts-1.is in
-    let refused = rw (lent, c.value_dtype.ensures.tree, c.value_dtype-2.ensures.tree) at c.in_err-push_cast-2.ensures in
+    let refused = rw (lent, c.value_dtype.ensures.tree, c.value_dtype-2.ensures.tree) at c.in_err-push_stored-2.ensures in
     passed_up _ _ _ _ _ _ is refused (λ none. (rw none at at) ∙ no_value _)
 
 pub push_pair-returns : goal.push_pair-returns
@@ -88,13 +88,13 @@ push_pair-returns t c =
     let xs = c.args.parts.now in
     let x = c.index-parts-0.result in
     let y = c.index-parts-1.result in
-    let pair = c.push_cast-2.new.made in
-    let lent : option_copied c.as_ref.result ≡ x = search rules in
-    let lent_value : option_copied c.as_ref-2.result ≡ y = search rules in
+    let pair = c.push_stored-2.new.made in
+    let lent : option_copied c.as_ref-key.result ≡ x = search rules in
+    let lent_value : option_copied c.as_ref-value.result ≡ y = search rules in
     let at = entry_at xs x y (map_of c.args.from.now) (map_of c.args.to.now) c.if-parts-ne2.false c.index-parts-0.is c.index-parts-1.is in
-    let key = rw (lent, c.key_dtype.ensures.tree, c.key_dtype-2.ensures.tree) at c.in_ok-push_cast.ensures in
-    let value = rw (lent_value, c.value_dtype.ensures.tree, c.value_dtype-2.ensures.tree) at c.in_ok-push_cast-2.ensures in
-    let made = pair_added _ _ c.in_ok-pair.pair.items c.push_cast.new.made.items pair.items _ c.in_ok-pair.ensures.items key value at in
+    let key = rw (lent, c.key_dtype.ensures.tree, c.key_dtype-2.ensures.tree) at c.in_ok-push_stored.ensures in
+    let value = rw (lent_value, c.value_dtype.ensures.tree, c.value_dtype-2.ensures.tree) at c.in_ok-push_stored-2.ensures in
+    let made = pair_added _ _ c.in_ok-pair.pair.items c.push_stored.new.made.items pair.items _ c.in_ok-pair.ensures.items key value at in
     appended _ _ (Some (Tuple pair)) _ c.push.result c.push.ensures (made ∙ ap Some (sym (value_tree-Tuple pair)))
 
 -- structs
