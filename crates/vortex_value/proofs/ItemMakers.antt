@@ -10,7 +10,7 @@ use Rattle.vortex_dtype.specs.declared.error.VortexError.{VortexError}
 use Rattle.vortex_dtype.specs.declared.error.VortexError.TheVariants.{OutOfMemory}
 use Rattle.vortex_dtype.specs.declared.types.DType.{DType}
 use Rattle.vortex_value.specs.Items.{IsRefusedAtLast, MadeOfItems}
-use Rattle.vortex_value.specs.Values.RawOf.{value_tree}
+use Rattle.vortex_value.specs.Values.RawOf.{raw_of}
 use Rattle.vortex_value.specs.Values.RawTree.{RawTrees, raw_tuple}
 use Rattle.vortex_value.specs.Values.Scalars.{IsMadeOf, IsValid}
 use Rattle.vortex_value.specs.Validity.{Valid}
@@ -70,25 +70,25 @@ pub kind_known : {F : Type 0} (o : Option F) (f : F) (P : Type 0) (Q : F → Typ
 kind_known o f P Q h q = subst (λ k. MatchOption k P Q) (sym h) q
 
 -- what the code answers of a raw value: the scalar that it makes of this type, or the same refusal
-abbrev pub Made : DType → Result ScalarValue VortexError → Result Scalar VortexError → Type 0
-Made dtype value result = MatchResult value (λ v. result ≡ Ok (record { dtype = dtype; value = Some v })) (λ e. result ≡ Err e)
+abbrev pub Made : DType → Result (Option ScalarValue) VortexError → Result Scalar VortexError → Type 0
+Made dtype value result = MatchResult value (λ v. result ≡ Ok (record { dtype = dtype; value = v })) (λ e. result ≡ Err e)
 
 module _ {U S A : Type 0} (gives : U → S → Type 0) (steps : S → Option A → S → Type 0) (iterable : U) (it : S) (given : gives iterable it)
     (dtype : DType) (cause : List A → Option VortexError) (raws : List A → RawTrees) where
   -- the raw value is made of all the items, which give no cause to refuse
-  abbrev Tells : ScalarValue → Type 0
-  Tells v = WholeRun steps it (λ p. (cause p.items ≡ None) × (value_tree v ≡ raw_tuple (raws p.items)))
+  abbrev Tells : Option ScalarValue → Type 0
+  Tells v = WholeRun steps it (λ p. (cause p.items ≡ None) × (raw_of v ≡ raw_tuple (raws p.items)))
 
-  pub made_of_items : (value : Result ScalarValue VortexError) (result : Result Scalar VortexError) → Made dtype value result → IfOk value Tells
+  pub made_of_items : (value : Result (Option ScalarValue) VortexError) (result : Result Scalar VortexError) → Made dtype value result → IfOk value Tells
       → MadeOfItems gives steps iterable cause (λ items. IsMadeOf (type_of dtype) (raw_tuple (raws items))) result
   made_of_items (Ok v) result is told =
       subst (λ r. MadeOfItems gives steps iterable cause (λ items. IsMadeOf (type_of dtype) (raw_tuple (raws items))) r) (sym is)
       (it, given, (told.0, told.1, told.2, (told.3.0, record { typed = refl; value = told.3.1 })))
   made_of_items (Err e) result is told = subst (λ r. MadeOfItems gives steps iterable cause (λ items. IsMadeOf (type_of dtype) (raw_tuple (raws items))) r) (sym is) tt
 
-  pub valid_of_items : (P : A → Type 0) (value : Result ScalarValue VortexError) (result : Result Scalar VortexError) → Made dtype value result → IfOk value Tells
+  pub valid_of_items : (P : A → Type 0) (value : Result (Option ScalarValue) VortexError) (result : Result Scalar VortexError) → Made dtype value result → IfOk value Tells
       → EachRunFrom steps it (λ p. All P p.items) → ((xs : List A) → cause xs ≡ None → All P xs → Valid (type_of dtype) (raw_tuple (raws xs))) → IfOk result IsValid
   valid_of_items P (Ok v) result is told each valid =
       subst (λ r. IfOk r IsValid) (sym is)
-      (scalar_valid dtype (Some v) (type_of dtype) (raw_tuple (raws told.0.items)) refl told.3.1 (valid told.0.items told.3.0 (each told.0 told.0.seen told.1)))
+      (scalar_valid dtype v (type_of dtype) (raw_tuple (raws told.0.items)) refl told.3.1 (valid told.0.items told.3.0 (each told.0 told.0.seen told.1)))
   valid_of_items P (Err e) result is told each valid = subst (λ r. IfOk r IsValid) (sym is) tt

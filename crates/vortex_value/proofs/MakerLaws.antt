@@ -9,7 +9,7 @@ use Rattle.vortex_dtype.specs.declared.error.VortexError.{VortexError}
 use Rattle.vortex_dtype.specs.declared.error.VortexError.TheVariants.{OutOfMemory, WrongChild}
 use Rattle.vortex_dtype.specs.declared.types.DType.{DType}
 use Rattle.vortex_value.specs.Makers.{child_cause, union_cause, tagged_cause}
-use Rattle.vortex_value.specs.Values.RawOf.{raw_of, value_tree}
+use Rattle.vortex_value.specs.Values.RawOf.{raw_of}
 use Rattle.vortex_value.specs.Values.RawTree.{RawTree, absent}
 use Rattle.vortex_value.specs.Values.Scalars.{IsValid}
 use Rattle.vortex_value.specs.Validity.{type_with, HasType, Valid}
@@ -89,8 +89,8 @@ untyped_with T E (Ok d) value result P is typed p = subst (λ r. IfErr r P) (sym
 untyped_with T E (Err e) value result P is typed p = subst (λ r. IfErr r P) (sym is) (p e typed)
 
 -- what holds with each raw value of this tree holds of the scalar of it
-pub valued_with : (E : VortexError → Type 0) (dtype : DType) (value : Result ScalarValue VortexError) (result : Result Scalar VortexError) (v : RawTree) (P : Scalar → Type 0)
-    → MatchResult value (λ x. result ≡ Ok (record { dtype = dtype; value = Some x })) (λ e. result ≡ Err e) → MatchResult value (λ x. value_tree x ≡ v) E
-    → ((x : ScalarValue) → value_tree x ≡ v → P (record { dtype = dtype; value = Some x })) → IfOk result P
+pub valued_with : (E : VortexError → Type 0) (dtype : DType) (value : Result (Option ScalarValue) VortexError) (result : Result Scalar VortexError) (v : RawTree) (P : Scalar → Type 0)
+    → MatchResult value (λ x. result ≡ Ok (record { dtype = dtype; value = x })) (λ e. result ≡ Err e) → MatchResult value (λ x. raw_of x ≡ v) E
+    → ((x : Option ScalarValue) → raw_of x ≡ v → P (record { dtype = dtype; value = x })) → IfOk result P
 valued_with E dtype (Ok x) result v P is made p = subst (λ r. IfOk r P) (sym is) (p x made)
 valued_with E dtype (Err e) result v P is made p = subst (λ r. IfOk r P) (sym is) tt

@@ -1,6 +1,6 @@
 //! Makers of scalars: each answers a valid scalar of the stated type, or refuses by name.
 
-ghost use Rattle.std.specs.Prelude.{◌≡◌, ◌≢◌, ◌↔◌, None, Ok, Err, IsOk, IfOk, IfErr, IsUtf8, MatchResult, Some, false, true};
+ghost use Rattle.std.specs.Prelude.{◌≡◌, ◌≢◌, ◌↔◌, None, Err, IsOk, IfOk, IfErr, IsUtf8, MatchResult, Some, false, true};
 ghost use Rattle.vortex_dtype.specs.Refusals.{RefusesExactly, RefusesOrNoMemory};
 ghost use Rattle.vortex_dtype.specs.TypeOf.{type_of, ext_of, variants_of};
 ghost use Rattle.vortex_dtype.specs.TypeTree.{IsFlat, IsNullable, as_nullable, bool_type, integer_type, utf8_type, binary_type, variant_type};
@@ -9,7 +9,7 @@ ghost use Rattle.vortex_dtype.specs.declared.nullability.Nullability.TheVariants
 ghost use Rattle.vortex_pvalue.specs.Whole.{ptype_of, whole_of};
 ghost use Rattle.vortex_value.specs.Breaches.{Refuses, breaches};
 ghost use Rattle.vortex_value.specs.Makers.{child_cause, union_cause, inside_cause, union_of, extension_over};
-ghost use Rattle.vortex_value.specs.Values.RawOf.{raw_of, value_tree};
+ghost use Rattle.vortex_value.specs.Values.RawOf.{raw_of};
 ghost use Rattle.vortex_value.specs.Values.RawTree.{absent, raw_bool, raw_integer, raw_text, raw_bytes, raw_union, raw_variant, is_absent};
 ghost use Rattle.vortex_value.specs.Values.Scalars.{IsMadeOf, IsValid, scalar_raw, scalar_type};
 ghost use Rattle.vortex_value.specs.Validity.{Valid};
@@ -210,7 +210,7 @@ impl Scalar {
             return Err(cause);
         }
         let value = union_value(alloc, type_id, child);
-        scalar_of(DType::Union(variants, nullability), value)
+        Scalar::with_value(DType::Union(variants, nullability), value)
     }
 
     /// The scalar of a variant that holds this scalar, its exact type included.
@@ -240,31 +240,17 @@ impl Scalar {
 
 /// The raw value of a union with this id and child.
 #[tactic(auto, using(crate::proofs::ValueSteps::shown))]
-fn union_value(alloc: Global, type_id: u8, child: Scalar) -> Result<ScalarValue, VortexError>
+fn union_value(
+    alloc: Global,
+    type_id: u8,
+    child: Scalar,
+) -> Result<Option<ScalarValue>, VortexError>
     ensures { MatchResult result
-        (λ value. value_tree value ≡ raw_union type_id (scalar_raw child))
+        (λ value. raw_of value ≡ raw_union type_id (scalar_raw child))
         (λ e. (e ≡ OutOfMemory) × (is_absent (scalar_raw child) ≡ false)) }
 {
     let union = UnionValue::new(alloc, type_id, child.into_value())?;
-    Ok(ScalarValue::Union(union))
-}
-
-/// The scalar of this type and raw value, or the refusal that came in the value's place.
-fn scalar_of(dtype: DType, value: Result<ScalarValue, VortexError>) -> Result<Scalar, VortexError>
-    ensures { MatchResult value
-        (λ v. result ≡ Ok (record { dtype = dtype; value = Some v }))
-        (λ e. result ≡ Err e) }
-{
-    match value {
-        Ok(value) => Ok(Scalar {
-            dtype,
-            value: Some(value),
-        }),
-        Err(cause) => {
-            drop(dtype);
-            Err(cause)
-        }
-    }
+    Ok(Some(ScalarValue::Union(union)))
 }
 
 /// Sees that a child's type is exactly the expected one.

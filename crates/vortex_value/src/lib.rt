@@ -25,5 +25,6 @@ mod zero;
 
 pub use refs::ScalarRef;
 pub use scalars::Scalar;
+pub use storage::storage_of;
 pub use unions::UnionValue;
 pub use values::ScalarValue;

@@ -91,6 +91,25 @@ impl Scalar {
     {
         copies::copy_scalar(alloc, self)
     }
+
+    /// The scalar of this type and of the value that was made for it, or why none was made. The type
+    /// is then dropped as a whole, by a call. Of this port alone: makers here and above go by it.
+    pub fn with_value(
+        dtype: DType,
+        value: Result<Option<ScalarValue>, VortexError>,
+    ) -> Result<Scalar, VortexError>
+        ensures { MatchResult value
+            (λ v. result ≡ Ok (record { dtype = dtype; value = v }))
+            (λ e. result ≡ Err e) }
+    {
+        match value {
+            Ok(value) => Ok(Scalar { dtype, value }),
+            Err(cause) => {
+                drop(dtype);
+                Err(cause)
+            }
+        }
+    }
 }
 
 /// The scalar of this value and of the type that was made for it, or why none was made. The value is

@@ -8,10 +8,11 @@ ghost use Rattle.vortex_value.specs.Validity.{type_with};
 
 use vortex_dtype::{DType, ExtDType, UnionVariants};
 
-/// The type below all extensions. A type that is none costs no call.
+/// The type below all extensions. A type that is none costs no call. Of this port alone: views look at
+/// what a type stores by it.
 #[cycle(storage_of)]
 #[inline(always)]
-pub(crate) fn storage_of(dtype: &DType) -> &DType
+pub fn storage_of(dtype: &DType) -> &DType
     ensures { type_of result.now ≡ storage (type_of dtype.now) }
 {
     match dtype {

@@ -1,15 +1,15 @@
 //! The zero and the default of a type, and whether a scalar is zero.
 
-ghost use Rattle.std.specs.Prelude.{◌≡◌, ◌&&◌, IfErr, IfOk, IsOk, IsSome, MatchResult, length, option_map, pos};
+ghost use Rattle.std.specs.Prelude.{◌≡◌, ◌&&◌, [], IfErr, IfOk, IsOk, IsSome, MatchResult, length, option_map, pos};
 ghost use Rattle.std.specs.Option.{is_some};
 ghost use Rattle.std.specs.Ordering.{int_eq};
-ghost use Rattle.vortex_dtype.specs.Memory.{GivesOrNoMemory};
 ghost use Rattle.vortex_dtype.specs.TypeOf.{type_of, as_type_trees, dtype_trees, variants_of};
 ghost use Rattle.vortex_dtype.specs.TypeTree.{IsFlat, is_nullable};
 ghost use Rattle.vortex_dtype.specs.declared.error.VortexError.TheVariants.{OutOfMemory};
 ghost use Rattle.vortex_pvalue.specs.Whole.{whole_of};
 ghost use Rattle.vortex_value.specs.Values.Content.{content, contents};
 ghost use Rattle.vortex_value.specs.Values.RawOf.{raw_of, value_trees, union_tree, lent_raw};
+ghost use Rattle.vortex_value.specs.Values.RawTree.{raw_union};
 ghost use Rattle.vortex_value.specs.Values.Scalars.{scalar_content, scalar_type};
 ghost use Rattle.vortex_value.specs.Steps.Filling.{EachFills, FillFields, Fills, FillsFirst, child_filling, first_of};
 ghost use Rattle.vortex_value.specs.Zero.{IsTheOneOf, default_of, each_zero, fields_zero, filling, fillings, is_zero_of, of_first, of_inner, places_of, zero_of};
@@ -18,7 +18,7 @@ use crate::scalars::{Scalar, with_type};
 use crate::storage::{first_variant, storage_of};
 use crate::unions::UnionValue;
 use crate::values::ScalarValue;
-use std::alloc::Global;
+use std::alloc::{AllocError, Global};
 use vortex_dtype::{BufferString, ByteBuffer, DType, UnionVariants, VortexError};
 use vortex_pvalue::PValue;
 
@@ -82,45 +82,88 @@ fn are_filled(dtypes: &[DType], nulls: bool) -> bool
     true
 }
 
-/// What fills the type, of which it is known that something does; none is the null.
+/// Puts what fills the type, of which it is known that something does, where it is to stand: none is
+/// the null. A refusal is a byte, where an error has several words, since each level of a type answers
+/// with it.
 #[cycle(fill)]
 #[tactic(auto, using(crate::proofs::FillingSteps::filled))]
-fn fill(alloc: Global, dtype: &DType, nulls: bool) -> Result<Option<ScalarValue>, VortexError>
+fn fill(
+    alloc: Global,
+    dtype: &DType,
+    nulls: bool,
+    place: &mut Option<ScalarValue>,
+) -> Result<(), AllocError>
     requires { IsSome (filling nulls (type_of dtype.now)) }
     ensures { MatchResult result
-        (λ made. Fills nulls (type_of dtype.now) (raw_of made))
-        (λ e. (e ≡ OutOfMemory) × ¬ (IsFlat (type_of dtype.now))) }
+        (λ _. Fills nulls (type_of dtype.now) (raw_of place.new))
+        (λ _. ¬ (IsFlat (type_of dtype.now))) }
 {
     if let DType::Extension(extension) = dtype {
-        return fill(alloc, extension.storage_dtype(), nulls);
+        return fill(alloc, extension.storage_dtype(), nulls, place);
     }
     if is_null_filled(dtype, nulls) {
-        return Ok(None);
+        *place = None;
+        return Ok(());
     }
     match dtype {
-        DType::Bool(_) => Ok(Some(ScalarValue::Bool(false))),
-        DType::Primitive(ptype, _) => Ok(Some(ScalarValue::Primitive(PValue::zero(ptype)))),
-        DType::Utf8(_) => Ok(Some(ScalarValue::Utf8(BufferString::empty(alloc)?))),
-        DType::Binary(_) => Ok(Some(ScalarValue::Binary(ByteBuffer::empty(alloc)?))),
-        DType::List(_, _) => Ok(Some(ScalarValue::Tuple(Vec::new(alloc)))),
+        DType::Bool(_) => *place = Some(ScalarValue::Bool(false)),
+        DType::Primitive(ptype, _) => *place = Some(ScalarValue::Primitive(PValue::zero(ptype))),
+        DType::Utf8(_) => *place = Some(ScalarValue::Utf8(empty_text(alloc)?)),
+        DType::Binary(_) => *place = Some(ScalarValue::Binary(empty_bytes(alloc)?)),
+        DType::List(_, _) => *place = Some(ScalarValue::Tuple(Vec::new(alloc))),
         DType::FixedSizeList(element, size, _) => {
             let items = fill_places(alloc, element, *size, nulls)?;
-            Ok(Some(ScalarValue::Tuple(items)))
+            *place = Some(ScalarValue::Tuple(items));
         }
-        DType::Map(_, _) => Ok(Some(ScalarValue::Tuple(Vec::new(alloc)))),
+        DType::Map(_, _) => *place = Some(ScalarValue::Tuple(Vec::new(alloc))),
         DType::Struct(fields, _) => {
             let items = fill_fields(alloc, fields.dtypes(), nulls)?;
-            Ok(Some(ScalarValue::Tuple(items)))
+            *place = Some(ScalarValue::Tuple(items));
         }
         DType::Union(variants, _) => {
             let union = fill_first(alloc, variants, nulls)?;
-            Ok(Some(ScalarValue::Union(union)))
+            *place = Some(ScalarValue::Union(union));
         }
         DType::Variant(_) => {
             let null = Box::new(alloc, Scalar::null(DType::Null))?;
-            Ok(Some(ScalarValue::Variant(null)))
+            *place = Some(ScalarValue::Variant(null));
         }
         DType::Null | DType::Extension(_) => unreachable!(),
+    }
+    Ok(())
+}
+
+/// The empty text.
+fn empty_text(alloc: Global) -> Result<BufferString, AllocError>
+    ensures { IfOk result (λ text. text ≡ []) }
+{
+    match BufferString::empty(alloc) {
+        Ok(text) => Ok(text),
+        Err(_) => Err(AllocError),
+    }
+}
+
+/// The buffer of no bytes.
+fn empty_bytes(alloc: Global) -> Result<ByteBuffer, AllocError>
+    ensures { IfOk result (λ bytes. bytes ≡ []) }
+{
+    match ByteBuffer::empty(alloc) {
+        Ok(bytes) => Ok(bytes),
+        Err(_) => Err(AllocError),
+    }
+}
+
+/// The value of a union with this id and child.
+fn union_of(
+    alloc: Global,
+    type_id: u8,
+    child: Option<ScalarValue>,
+) -> Result<UnionValue, AllocError>
+    ensures { IfOk result (λ made. union_tree made ≡ raw_union type_id (raw_of child)) }
+{
+    match UnionValue::new(alloc, type_id, child) {
+        Ok(made) => Ok(made),
+        Err(_) => Err(AllocError),
     }
 }
 
@@ -132,15 +175,17 @@ fn fill_places(
     element: &DType,
     size: u32,
     nulls: bool,
-) -> Result<Vec<Option<ScalarValue>>, VortexError>
+) -> Result<Vec<Option<ScalarValue>>, AllocError>
     requires { IsSome (places_of size (filling nulls (type_of element.now))) }
-    ensures { GivesOrNoMemory
+    ensures { IfOk result
         (λ items. (length items.items ≡ size)
-        × EachFills nulls (type_of element.now) (value_trees items.items)) result }
+        × EachFills nulls (type_of element.now) (value_trees items.items)) }
 {
     let mut items = Vec::with_capacity(alloc, size as usize)?;
     for _ in 0..size {
-        items.push(fill(alloc, element, nulls)?)?;
+        let mut item = None;
+        fill(alloc, element, nulls, &mut item)?;
+        items.push(item)?;
     }
     Ok(items)
 }
@@ -152,14 +197,16 @@ fn fill_fields(
     alloc: Global,
     dtypes: &[DType],
     nulls: bool,
-) -> Result<Vec<Option<ScalarValue>>, VortexError>
+) -> Result<Vec<Option<ScalarValue>>, AllocError>
     requires { IsSome (fillings nulls (dtype_trees dtypes.now)) }
-    ensures { GivesOrNoMemory
-        (λ items. FillFields nulls (dtype_trees dtypes.now) (value_trees items.items)) result }
+    ensures { IfOk result
+        (λ items. FillFields nulls (dtype_trees dtypes.now) (value_trees items.items)) }
 {
     let mut items = Vec::with_capacity(alloc, dtypes.len())?;
     for dtype in dtypes {
-        items.push(fill(alloc, dtype, nulls)?)?;
+        let mut item = None;
+        fill(alloc, dtype, nulls, &mut item)?;
+        items.push(item)?;
     }
     Ok(items)
 }
@@ -171,16 +218,20 @@ fn fill_first(
     alloc: Global,
     variants: &UnionVariants,
     nulls: bool,
-) -> Result<UnionValue, VortexError>
+) -> Result<UnionValue, AllocError>
     requires { IsSome (child_filling (filling nulls)
         (first_of (variants_of variants.now).type_ids (variants_of variants.now).types)) }
-    ensures { GivesOrNoMemory
+    ensures { IfOk result
         (λ made. FillsFirst nulls
         (first_of (variants_of variants.now).type_ids (variants_of variants.now).types)
-        (union_tree made)) result }
+        (union_tree made)) }
 {
     match first_variant(variants) {
-        Some((id, variant)) => UnionValue::new(alloc, id, fill(alloc, variant, nulls)?),
+        Some((id, variant)) => {
+            let mut child = None;
+            fill(alloc, variant, nulls, &mut child)?;
+            union_of(alloc, id, child)
+        }
         None => unreachable!(),
     }
 }
@@ -195,7 +246,8 @@ fn filled(alloc: Global, dtype: &DType, nulls: bool) -> Result<Option<Scalar>, V
     if !is_filled(dtype, nulls) {
         return Ok(None);
     }
-    let value = fill(alloc, dtype, nulls)?;
+    let mut value = None;
+    fill(alloc, dtype, nulls, &mut value)?;
     Ok(Some(with_type(dtype.clone(alloc), value)?))
 }
 

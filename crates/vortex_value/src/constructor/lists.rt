@@ -8,7 +8,7 @@ ghost use Rattle.vortex_dtype.specs.TypeOf.{type_of};
 ghost use Rattle.vortex_dtype.specs.TypeTree.{list_type, fixed_size_list_type};
 ghost use Rattle.vortex_dtype.specs.declared.error.VortexError.TheVariants.{OutOfMemory};
 ghost use Rattle.vortex_value.specs.Makers.{count_cause, list_cause, child_trees, wrong_place};
-ghost use Rattle.vortex_value.specs.Values.RawOf.{value_tree};
+ghost use Rattle.vortex_value.specs.Values.RawOf.{raw_of};
 ghost use Rattle.vortex_value.specs.Values.RawTree.{raw_tuple, no_raws};
 ghost use Rattle.vortex_value.specs.Values.Scalars.{IsMadeOf, IsValid};
 
@@ -40,7 +40,7 @@ impl Scalar {
         let (element, _, value) = list_parts(alloc, element_dtype, children)?;
         Ok(Scalar {
             dtype: DType::List(element, nullability),
-            value: Some(value),
+            value,
         })
     }
 
@@ -65,7 +65,7 @@ impl Scalar {
         let (element, size, value) = list_parts(alloc, element_dtype, children)?;
         Ok(Scalar {
             dtype: DType::FixedSizeList(element, size, nullability),
-            value: Some(value),
+            value,
         })
     }
 
@@ -96,11 +96,11 @@ fn list_parts(
     alloc: Global,
     element: DType,
     children: Vec<Scalar>,
-) -> Result<(Box<DType>, u32, ScalarValue), VortexError>
+) -> Result<(Box<DType>, u32, Option<ScalarValue>), VortexError>
     ensures refused { RefusesOrNoMemory (list_cause (type_of element) children.items) result }
     ensures made { IfOk result (λ parts. (type_of parts.0.value ≡ type_of element)
         × (parts.1 ≡ length children.items)
-        × (value_tree parts.2 ≡ raw_tuple (child_trees children.items))) }
+        × (raw_of parts.2 ≡ raw_tuple (child_trees children.items))) }
 {
     let size = match list_size(&element, &children) {
         Ok(size) => size,
@@ -158,13 +158,16 @@ fn as_size(count: usize) -> Result<u32, VortexError>
 }
 
 /// The raw value of which these children are the parts.
-pub(super) fn tuple_of(alloc: Global, children: Vec<Scalar>) -> Result<ScalarValue, VortexError>
+pub(super) fn tuple_of(
+    alloc: Global,
+    children: Vec<Scalar>,
+) -> Result<Option<ScalarValue>, VortexError>
     ensures { GivesOrNoMemory
-        (λ value. value_tree value ≡ raw_tuple (child_trees children.items)) result }
+        (λ value. raw_of value ≡ raw_tuple (child_trees children.items)) result }
 {
     let mut values = Vec::with_capacity(alloc, children.len())?;
     for child in children {
         values.push(child.into_value())?;
     }
-    Ok(ScalarValue::Tuple(values))
+    Ok(Some(ScalarValue::Tuple(values)))
 }

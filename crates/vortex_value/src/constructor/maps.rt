@@ -9,11 +9,10 @@ ghost use Rattle.vortex_dtype.specs.TypeOf.{type_of, map_of};
 ghost use Rattle.vortex_dtype.specs.declared.error.VortexError.TheVariants.{WrongKind};
 ghost use Rattle.vortex_value.specs.Items.{GivesOnly, IsRefusedAtLast, MadeOfItems, RefusesAtLast};
 ghost use Rattle.vortex_value.specs.Makers.{IsValidEntry, entries_cause, entry_cause, is_entry_of, map_cause, raw_entries, raw_entry};
-ghost use Rattle.vortex_value.specs.Values.RawOf.{raw_of, value_tree};
+ghost use Rattle.vortex_value.specs.Values.RawOf.{raw_of};
 ghost use Rattle.vortex_value.specs.Values.RawTree.{raw_tuple};
 ghost use Rattle.vortex_value.specs.Values.Scalars.{IsMadeOf, IsValid};
 
-use super::scalar_of;
 use crate::scalars::Scalar;
 use crate::values::ScalarValue;
 use std::alloc::Global;
@@ -44,7 +43,7 @@ impl Scalar {
         ensures valid { IfOk result IsValid }
     {
         let value = map_value(alloc, &dtype, entries.into_iter());
-        scalar_of(dtype, value)
+        Scalar::with_value(dtype, value)
     }
 
     /// The map of these entries, or why they make none: the same answers as `map`.
@@ -73,7 +72,7 @@ fn map_value<I: Iterator<Item = (Scalar, Scalar)>>(
     alloc: Global,
     dtype: &DType,
     entries: I,
-) -> Result<ScalarValue, VortexError>
+) -> Result<Option<ScalarValue>, VortexError>
     requires can { I.can_next entries }
     requires ends { IsFinite (I.remaining entries) }
     ensures refused { MatchOption (map_in (type_of dtype.now))
@@ -82,7 +81,7 @@ fn map_value<I: Iterator<Item = (Scalar, Scalar)>>(
         (λ run. IsRefusedAtLast (entries_cause parts) e run.items))) }
     ensures made { IfOk result (λ value. WholeRun I.next_gives entries
         (λ run. (map_cause (map_in (type_of dtype.now)) run.items ≡ None)
-        × (value_tree value ≡ raw_tuple (raw_entries run.items)))) }
+        × (raw_of value ≡ raw_tuple (raw_entries run.items)))) }
 {
     let Some(map) = dtype.as_map_opt() else {
         return Err(VortexError::WrongKind);
@@ -92,7 +91,7 @@ fn map_value<I: Iterator<Item = (Scalar, Scalar)>>(
         let part = part_of(alloc, map, parts.len(), entry)?;
         parts.push(part)?;
     }
-    Ok(ScalarValue::Tuple(parts))
+    Ok(Some(ScalarValue::Tuple(parts)))
 }
 
 /// The part that an entry at this place makes: a tuple of its key and value.

@@ -11,12 +11,11 @@ ghost use Rattle.vortex_dtype.specs.TypeOf.{type_of, fields_of};
 ghost use Rattle.vortex_dtype.specs.declared.error.VortexError.TheVariants.{OutOfMemory, WrongKind};
 ghost use Rattle.vortex_value.specs.Items.{GivesOnly, MadeOfItems, RefusesItems};
 ghost use Rattle.vortex_value.specs.Makers.{fields_cause, child_trees, struct_cause};
-ghost use Rattle.vortex_value.specs.Values.RawOf.{value_tree};
+ghost use Rattle.vortex_value.specs.Values.RawOf.{raw_of};
 ghost use Rattle.vortex_value.specs.Values.RawTree.{raw_tuple};
 ghost use Rattle.vortex_value.specs.Values.Scalars.{IsMadeOf, IsValid, scalar_type};
 
 use super::lists::tuple_of;
-use super::scalar_of;
 use crate::scalars::Scalar;
 use crate::values::ScalarValue;
 use std::alloc::Global;
@@ -46,7 +45,7 @@ impl Scalar {
         ensures valid { IfOk result IsValid }
     {
         let value = struct_value(alloc, &dtype, children.into_iter());
-        scalar_of(dtype, value)
+        Scalar::with_value(dtype, value)
     }
 }
 
@@ -55,7 +54,7 @@ fn struct_value<I: Iterator<Item = Scalar>>(
     alloc: Global,
     dtype: &DType,
     children: I,
-) -> Result<ScalarValue, VortexError>
+) -> Result<Option<ScalarValue>, VortexError>
     requires can { I.can_next children }
     requires ends { IsFinite (I.remaining children) }
     ensures refused { MatchOption (fields_in (type_of dtype.now))
@@ -64,7 +63,7 @@ fn struct_value<I: Iterator<Item = Scalar>>(
         (λ run. fields_cause fields.types run.items ≡ Some e))) }
     ensures made { IfOk result (λ value. WholeRun I.next_gives children
         (λ run. (struct_cause (fields_in (type_of dtype.now)) run.items ≡ None)
-        × (value_tree value ≡ raw_tuple (child_trees run.items)))) }
+        × (raw_of value ≡ raw_tuple (child_trees run.items)))) }
 {
     let Some(fields) = dtype.as_struct_fields_opt() else {
         return Err(VortexError::WrongKind);
@@ -78,10 +77,10 @@ fn fields_value(
     alloc: Global,
     fields: &StructFields,
     children: Vec<Scalar>,
-) -> Result<ScalarValue, VortexError>
+) -> Result<Option<ScalarValue>, VortexError>
     ensures refused { RefusesOrNoMemory
         (fields_cause (fields_of fields.now).types children.items) result }
-    ensures made { IfOk result (λ value. value_tree value ≡ raw_tuple (child_trees children.items)) }
+    ensures made { IfOk result (λ value. raw_of value ≡ raw_tuple (child_trees children.items)) }
 {
     check_fields(fields, &children)?;
     tuple_of(alloc, children)

@@ -44,8 +44,8 @@ fill_fields-fill-requires t c =
 
 pub fill_fields-loop-dtype-preserved : goal.fill_fields-loop-dtype-preserved
 fill_fields-loop-dtype-preserved t c =
-    let pushed : c.push.new.self.items ≡ c.loop-dtype.items.items ++ c.in_ok-fill.field-0 ∷ [] = search rules in
-    rw pushed (fields_push_at c.args.nulls c.args.dtypes.now c.loop-dtype.dtype-index c.dtype-item.result c.loop-dtype.items.items c.in_ok-fill.field-0
+    let pushed : c.push.new.self.items ≡ c.loop-dtype.items.items ++ c.fill.new.place ∷ [] = search rules in
+    rw pushed (fields_push_at c.args.nulls c.args.dtypes.now c.loop-dtype.dtype-index c.dtype-item.result c.loop-dtype.items.items c.fill.new.place
     c.loop-dtype-test.true c.dtype-item.is c.loop-dtype.invariant c.in_ok-fill.ensures)
 
 pub fill_first-fill-requires : goal.fill_first-fill-requires

@@ -9,5 +9,5 @@ pub returns : goal.returns
 returns c =
     let t = type_of c.args.dtype.now in
     subst (λ r. IfOk r (λ y. IsTheOneOf t (filling c.args.nulls t) (Some y))) c.in_ok-with_type.was
-    (typed_with _ c.clone.result c.in_ok-value.value c.with_type.result t (λ y. IsTheOneOf t (filling c.args.nulls t) (Some y)) c.with_type.ensures c.clone.ensures
-    (λ d typed. the_filling c.args.nulls t _ typed c.in_ok-value.ensures))
+    (typed_with _ c.clone.result c.fill.new.place c.with_type.result t (λ y. IsTheOneOf t (filling c.args.nulls t) (Some y)) c.with_type.ensures c.clone.ensures
+    (λ d typed. the_filling c.args.nulls t _ typed c.in_ok-fill.ensures))

@@ -1,4 +1,4 @@
-use Rattle.std.proofs.Common.{◌≡◌, None, Some, ap, ◌∙◌, rules}
+use Rattle.std.proofs.Common.{◌≡◌, None, ap, ◌∙◌, rules}
 use Rattle.vortex_dtype.specs.TypeOf.{type_of}
 use Rattle.vortex_dtype.specs.TypeTree.{list_type}
 use Rattle.vortex_dtype.specs.declared.types.DType.{List}
@@ -16,5 +16,5 @@ returns-clause-valid c =
     let xs = c.args.children.items in
     let parts = c.in_ok-element in
     let accepted : list_cause (type_of c.args.element_dtype) c.args.children.items ≡ None = search rules in
-    scalar_valid (List parts.element n) (Some parts.value) (list_type e n) (raw_tuple (child_trees xs))
+    scalar_valid (List parts.element n) parts.value (list_type e n) (raw_tuple (child_trees xs))
     (type_of-List parts.element n ∙ ap (λ t. list_type t n) parts.ensures.made.0) parts.ensures.made.2 (list_valid e xs accepted c.requires)

@@ -16,8 +16,8 @@ returns-clause-valid c =
     let raw = raw_union c.args.type_id (scalar_raw c.args.child) in
     let accepted : union_cause (variants_of c.args.variants) c.args.type_id (type_of c.args.child.dtype) ≡ None = search rules in
     let child = union_valid variants id (type_of c.args.child.dtype) (scalar_raw c.args.child) accepted c.requires in
-    valued_with _ dtype c.union_value-value.result c.scalar_of.result raw IsValid c.scalar_of.ensures c.union_value-value.ensures
-    (λ x made. scalar_valid dtype (Some x) (union_of variants c.args.nullability) raw (type_of-Union c.args.variants c.args.nullability) made child)
+    valued_with _ dtype c.union_value-value.result c.with_value.result raw IsValid c.with_value.ensures c.union_value-value.ensures
+    (λ x made. scalar_valid dtype x (union_of variants c.args.nullability) raw (type_of-Union c.args.variants c.args.nullability) made child)
 
 pub returns-in-Err-clause-childless : goal.returns-in-Err-clause-childless
 returns-in-Err-clause-childless c absent same =
