@@ -84,7 +84,8 @@ impl<'a> BinaryScalar<'a> {
 
     /// Whether there are no bytes; none for a null.
     pub fn is_empty(&self) -> Option<bool>
-        ensures { result ≡ option_map (λ bytes. length bytes == 0) (bytes_in (bytes_view_raw self.now)) }
+        ensures { result
+            ≡ option_map (λ bytes. length bytes == 0) (bytes_in (bytes_view_raw self.now)) }
     {
         self.value().map(|bytes| bytes.is_empty())
     }
@@ -100,7 +101,8 @@ impl<'a> TryFrom<&'a Scalar> for BinaryScalar<'a> {
 
     ghost try_from_gives = { λ scalar. GivesView
         (IsBytesViewOf (scalar_type scalar.now) (scalar_raw scalar.now))
-        (IsTrue (is_binary_type (scalar_type scalar.now)) × IsTrue (may_be_bytes (scalar_raw scalar.now))) };
+        (IsTrue (is_binary_type (scalar_type scalar.now))
+        × IsTrue (may_be_bytes (scalar_raw scalar.now))) };
 
     fn try_from(scalar: &'a Scalar) -> Result<BinaryScalar<'a>, VortexError> {
         match (scalar.dtype(), scalar.value()) {

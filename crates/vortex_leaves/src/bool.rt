@@ -112,7 +112,8 @@ impl<'a> TryFrom<&'a Scalar> for BoolScalar<'a> {
 
     ghost try_from_gives = { λ scalar. GivesView
         (IsBoolViewOf (scalar_type scalar.now) (scalar_raw scalar.now))
-        (IsTrue (is_bool_type (scalar_type scalar.now)) × IsTrue (may_be_truth (scalar_raw scalar.now))) };
+        (IsTrue (is_bool_type (scalar_type scalar.now))
+        × IsTrue (may_be_truth (scalar_raw scalar.now))) };
 
     fn try_from(scalar: &'a Scalar) -> Result<BoolScalar<'a>, VortexError> {
         let DType::Bool(_) = scalar.dtype() else {

@@ -50,8 +50,8 @@ impl<'a> PrimitiveScalar<'a> {
         dtype: &'a DType,
         value: Option<&ScalarValue>,
     ) -> Result<PrimitiveScalar<'a>, VortexError>
-        ensures ok { IsOk result ↔ (IsSome (ptype_in (type_of dtype.now)) × Valid (type_of dtype.now)
-            (in_ptype_of (type_of dtype.now) (lent_raw value.entry))) }
+        ensures ok { IsOk result ↔ (IsSome (ptype_in (type_of dtype.now))
+            × Valid (type_of dtype.now) (in_ptype_of (type_of dtype.now) (lent_raw value.entry))) }
         ensures made { IfOk result (IsNumberViewOf (type_of dtype.now)
             (in_ptype_of (type_of dtype.now) (lent_raw value.entry))) }
         ensures valid { IfOk result IsValidNumberView }
@@ -151,7 +151,8 @@ impl<'a> PrimitiveScalar<'a> {
 
     /// Whether the number is zero; none for a null.
     pub fn is_zero(&self) -> Option<bool>
-        ensures { result ≡ is_zero_of (number_view_type self.now) (content (number_view_raw self.now)) }
+        ensures { result
+            ≡ is_zero_of (number_view_type self.now) (content (number_view_raw self.now)) }
     {
         self.pvalue.map(|number| number.is_zero())
     }

@@ -84,7 +84,8 @@ impl<'a> Utf8Scalar<'a> {
 
     /// Whether the text is empty; none for a null.
     pub fn is_empty(&self) -> Option<bool>
-        ensures { result ≡ option_map (λ text. length text == 0) (bytes_in (text_view_raw self.now)) }
+        ensures { result
+            ≡ option_map (λ text. length text == 0) (bytes_in (text_view_raw self.now)) }
     {
         self.value().map(|text| text.is_empty())
     }
@@ -100,7 +101,8 @@ impl<'a> TryFrom<&'a Scalar> for Utf8Scalar<'a> {
 
     ghost try_from_gives = { λ scalar. GivesView
         (IsTextViewOf (scalar_type scalar.now) (scalar_raw scalar.now))
-        (IsTrue (is_utf8_type (scalar_type scalar.now)) × IsTrue (may_be_text (scalar_raw scalar.now))) };
+        (IsTrue (is_utf8_type (scalar_type scalar.now))
+        × IsTrue (may_be_text (scalar_raw scalar.now))) };
 
     fn try_from(scalar: &'a Scalar) -> Result<Utf8Scalar<'a>, VortexError> {
         match (scalar.dtype(), scalar.value()) {
