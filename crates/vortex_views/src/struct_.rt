@@ -295,9 +295,9 @@ fn scalar_of(
     dtype: DType,
     value: Result<Option<ScalarValue>, VortexError>,
 ) -> Result<Scalar, VortexError>
-    ensures typed { IfOk result (λ scalar. scalar_type scalar ≡ type_of dtype) }
-    ensures value { IfOk result (λ scalar. value ≡ Ok scalar.value) }
-    ensures refused { IfErr result (λ e. value ≡ Err e) }
+    ensures { MatchResult value
+        (λ v. result ≡ Ok (record { dtype = dtype; value = v }))
+        (λ e. result ≡ Err e) }
 {
     match value {
         Ok(value) => Ok(Scalar { dtype, value }),
