@@ -7,6 +7,8 @@ use Rattle.vortex_dtype.specs.TypeTree.{TypeTree}
 use Rattle.vortex_value.specs.Conversions.{Taken}
 use Rattle.vortex_value.specs.Validity.{Valid}
 use Rattle.vortex_value.specs.Values.RawTree.{RawTree, raw_text, raw_bytes, raw_tuple, RawTrees, no_raws, raw_then}
+use Rattle.vortex_value.specs.Values.Refs.{ref_raw, ref_type}
+use Rattle.vortex_value.specs.declared.refs.ScalarRef.{ScalarRef}
 
 -- what each gives, in order
 abbrev pub given_each : {T : Type 0} → (T → RawTree) → List T → RawTrees
@@ -16,6 +18,10 @@ given_each given (x ∷ xs) = raw_then (given x) (given_each given xs)
 -- a Vec gives the tuple of what its elements give
 abbrev pub given_vec : {T : Type 0} → (T → RawTree) → Vec T Global → RawTree
 given_vec given v = raw_tuple (given_each given v.items)
+
+-- what is taken of a borrowed scalar: of its type and its raw value
+abbrev pub taken_from : (TypeTree → RawTree → Taken) → ScalarRef → Taken
+taken_from taken x = taken (ref_type x) (ref_raw x)
 
 -- the answer is the value that gives what is taken, or the refusal, unless there is no memory
 abbrev pub TakesOrNoMemory : {T : Type 0} → (T → RawTree) → Taken → Result T VortexError → Type 0

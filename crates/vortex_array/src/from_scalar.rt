@@ -7,7 +7,7 @@ ghost use Rattle.vortex_value.specs.Conversions.{SparesShort, Taken, Takes, Take
 ghost use Rattle.vortex_value.specs.Values.RawOf.{lent_raw, raw_of, value_trees};
 ghost use Rattle.vortex_value.specs.Values.RawTree.{RawTree, raw_bool, raw_text, raw_bytes, raw_tuple};
 ghost use Rattle.vortex_value.specs.Values.Refs.{ref_raw, ref_type};
-ghost use Rattle.vortex_array.specs.Conversions.{Copies, HasParts, TakesOrNoMemory, given_vec};
+ghost use Rattle.vortex_array.specs.Conversions.{Copies, HasParts, TakesOrNoMemory, given_vec, taken_from};
 
 use crate::integers::Integer;
 use std::alloc::Global;
@@ -31,8 +31,7 @@ pub trait FromScalar {
     /// copied, or of an element's refusal where there is none for the elements before it; never in
     /// place of a refusal of the type, of a null or of another kind of raw value.
     fn try_from_scalar(alloc: Global, scalar: ScalarRef<'_>) -> Result<Self, VortexError>
-        ensures value { TakesOrNoMemory given
-            (taken (ref_type scalar.entry) (ref_raw scalar.entry)) result }
+        ensures value { TakesOrNoMemory given (taken_from taken scalar.entry) result }
         ensures memory { result ≡ Err VortexError.OutOfMemory
             → Copies taken (ref_type scalar.entry) (ref_raw scalar.entry) };
 }
@@ -43,8 +42,7 @@ impl FromScalar for bool {
     ghost taken = { taken_bool };
 
     fn try_from_scalar(_alloc: Global, scalar: ScalarRef<'_>) -> Result<bool, VortexError>
-        ensures { Takes raw_bool
-            (taken_bool (ref_type scalar.entry) (ref_raw scalar.entry)) result }
+        ensures { Takes raw_bool (taken_from taken_bool scalar.entry) result }
     {
         bool::try_from(scalar)
     }
@@ -56,8 +54,7 @@ impl FromScalar for Option<bool> {
     ghost taken = { taken_option_bool };
 
     fn try_from_scalar(_alloc: Global, scalar: ScalarRef<'_>) -> Result<Option<bool>, VortexError>
-        ensures { Takes (given_option raw_bool)
-            (taken_option_bool (ref_type scalar.entry) (ref_raw scalar.entry)) result }
+        ensures { Takes (given_option raw_bool) (taken_from taken_option_bool scalar.entry) result }
     {
         Option::<bool>::try_from(scalar)
     }
@@ -71,7 +68,7 @@ impl<T: Integer> FromScalar for T {
 
     fn try_from_scalar(_alloc: Global, scalar: ScalarRef<'_>) -> Result<T, VortexError>
         ensures { Takes (given_number T.PTYPE T.value)
-            (taken_number T.PTYPE (ref_type scalar.entry) (ref_raw scalar.entry)) result }
+            (taken_from (taken_number T.PTYPE) scalar.entry) result }
     {
         scalar.number()
     }
@@ -85,7 +82,7 @@ impl<T: Integer> FromScalar for Option<T> {
 
     fn try_from_scalar(_alloc: Global, scalar: ScalarRef<'_>) -> Result<Option<T>, VortexError>
         ensures { Takes (given_option (given_number T.PTYPE T.value))
-            (taken_option_number T.PTYPE (ref_type scalar.entry) (ref_raw scalar.entry)) result }
+            (taken_from (taken_option_number T.PTYPE) scalar.entry) result }
     {
         scalar.optional_number()
     }
@@ -97,8 +94,7 @@ impl FromScalar for usize {
     ghost taken = { taken_usize };
 
     fn try_from_scalar(_alloc: Global, scalar: ScalarRef<'_>) -> Result<usize, VortexError>
-        ensures { Takes given_usize
-            (taken_usize (ref_type scalar.entry) (ref_raw scalar.entry)) result }
+        ensures { Takes given_usize (taken_from taken_usize scalar.entry) result }
     {
         usize::try_from(scalar)
     }
@@ -111,7 +107,7 @@ impl FromScalar for Option<usize> {
 
     fn try_from_scalar(_alloc: Global, scalar: ScalarRef<'_>) -> Result<Option<usize>, VortexError>
         ensures { Takes (given_option given_usize)
-            (taken_option_usize (ref_type scalar.entry) (ref_raw scalar.entry)) result }
+            (taken_from taken_option_usize scalar.entry) result }
     {
         Option::<usize>::try_from(scalar)
     }
@@ -123,10 +119,8 @@ impl FromScalar for ByteBuffer {
     ghost taken = { taken_bytes };
 
     fn try_from_scalar(_alloc: Global, scalar: ScalarRef<'_>) -> Result<ByteBuffer, VortexError>
-        ensures copy { TakesCopy raw_bytes
-            (taken_bytes (ref_type scalar.entry) (ref_raw scalar.entry)) result }
-        ensures inline { SparesShort
-            (taken_bytes (ref_type scalar.entry) (ref_raw scalar.entry)) result }
+        ensures copy { TakesCopy raw_bytes (taken_from taken_bytes scalar.entry) result }
+        ensures inline { SparesShort (taken_from taken_bytes scalar.entry) result }
     {
         ByteBuffer::try_from(scalar)
     }
@@ -142,9 +136,8 @@ impl FromScalar for Option<ByteBuffer> {
         scalar: ScalarRef<'_>,
     ) -> Result<Option<ByteBuffer>, VortexError>
         ensures copy { TakesCopy (given_option raw_bytes)
-            (taken_option_bytes (ref_type scalar.entry) (ref_raw scalar.entry)) result }
-        ensures inline { SparesShort
-            (taken_option_bytes (ref_type scalar.entry) (ref_raw scalar.entry)) result }
+            (taken_from taken_option_bytes scalar.entry) result }
+        ensures inline { SparesShort (taken_from taken_option_bytes scalar.entry) result }
     {
         Option::<ByteBuffer>::try_from(scalar)
     }
@@ -156,10 +149,8 @@ impl FromScalar for BufferString {
     ghost taken = { taken_text };
 
     fn try_from_scalar(_alloc: Global, scalar: ScalarRef<'_>) -> Result<BufferString, VortexError>
-        ensures copy { TakesCopy raw_text
-            (taken_text (ref_type scalar.entry) (ref_raw scalar.entry)) result }
-        ensures inline { SparesShort
-            (taken_text (ref_type scalar.entry) (ref_raw scalar.entry)) result }
+        ensures copy { TakesCopy raw_text (taken_from taken_text scalar.entry) result }
+        ensures inline { SparesShort (taken_from taken_text scalar.entry) result }
     {
         BufferString::try_from(scalar)
     }
@@ -175,9 +166,8 @@ impl FromScalar for Option<BufferString> {
         scalar: ScalarRef<'_>,
     ) -> Result<Option<BufferString>, VortexError>
         ensures copy { TakesCopy (given_option raw_text)
-            (taken_option_text (ref_type scalar.entry) (ref_raw scalar.entry)) result }
-        ensures inline { SparesShort
-            (taken_option_text (ref_type scalar.entry) (ref_raw scalar.entry)) result }
+            (taken_from taken_option_text scalar.entry) result }
+        ensures inline { SparesShort (taken_from taken_option_text scalar.entry) result }
     {
         Option::<BufferString>::try_from(scalar)
     }
@@ -191,7 +181,7 @@ impl FromScalar for String {
 
     fn try_from_scalar(alloc: Global, scalar: ScalarRef<'_>) -> Result<String, VortexError>
         ensures { TakesCopy (λ text. raw_text (string_bytes text))
-            (taken_text (ref_type scalar.entry) (ref_raw scalar.entry)) result }
+            (taken_from taken_text scalar.entry) result }
     {
         match (scalar.dtype(), scalar.value()) {
             (DType::Utf8(_), None) => Err(VortexError::IsNull),
@@ -230,10 +220,8 @@ fn take_list<T: FromScalar + Drop>(
     value: Option<&ScalarValue>,
 ) -> Result<Vec<T>, VortexError>
     ensures value { TakesOrNoMemory (given_vec T.given)
-        (unless_null (elements_in (T.taken (type_of element.now)))
-        (lent_raw value.entry)) result }
-    ensures memory { result ≡ Err VortexError.OutOfMemory
-        → HasParts (lent_raw value.entry) }
+        (unless_null (elements_in (T.taken (type_of element.now))) (lent_raw value.entry)) result }
+    ensures memory { result ≡ Err VortexError.OutOfMemory → HasParts (lent_raw value.entry) }
 {
     match value {
         Some(ScalarValue::Tuple(parts)) => take_elements(alloc, element, parts),

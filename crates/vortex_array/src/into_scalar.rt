@@ -62,8 +62,7 @@ impl IntoScalar for usize {
     ghost given = { given_usize };
 
     fn try_into_scalar(self, _alloc: Global) -> Result<Scalar, VortexError>
-        ensures { IsOkAnd result
-            (IsMadeValid (integer_type U64 NonNullable) (given_usize self)) }
+        ensures { IsOkAnd result (IsMadeValid (integer_type U64 NonNullable) (given_usize self)) }
     {
         Ok(Scalar::primitive(self as u64, Nullability::NonNullable))
     }

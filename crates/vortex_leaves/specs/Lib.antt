@@ -3,6 +3,7 @@ pub mod ArithmeticExamples
 pub mod BoolLaws
 pub mod BoolViews
 pub mod BytesLaws
+pub mod BytesOrders
 pub mod BytesViews
 pub mod Laws
 pub mod LeafOrders
@@ -12,3 +13,4 @@ pub mod Numbers
 pub mod PrimitiveViews
 pub mod TextLaws
 pub mod TextViews
+pub mod ViewLaws

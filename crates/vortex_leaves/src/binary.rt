@@ -2,23 +2,19 @@
 
 ghost use Rattle.std.specs.Prelude.{◌≡◌, ◌≢◌, ◌↔◌, ◌==◌, ◌&&◌, Err, IfErr, IfOk, IsOk, IsTrue, MatchOption, Some, length, option_map};
 ghost use Rattle.std.specs.Cmp.{partial_equiv_from_equiv};
-ghost use Rattle.std.specs.Hash.{and-Alike, on_Alike};
-ghost use Rattle.std.proofs.lemmas.Cmp.{on_equiv};
 ghost use Rattle.vortex_dtype.specs.Parts.{is_binary_type};
 ghost use Rattle.vortex_dtype.specs.TypeOf.{type_of};
 ghost use Rattle.vortex_value.specs.Equality.{equal, same_type};
 ghost use Rattle.vortex_value.specs.Hashing.{typed_feed};
-ghost use Rattle.vortex_value.specs.Lemmas.EqualityLaws.{equal-equiv};
-ghost use Rattle.vortex_value.specs.Lemmas.HashLaws.{content_feed-Alike, type_feed-Alike};
 ghost use Rattle.vortex_value.specs.Order.{typed_order};
 ghost use Rattle.vortex_value.specs.Texts.{text_of};
 ghost use Rattle.vortex_value.specs.Validity.{Valid};
-ghost use Rattle.vortex_value.specs.Values.Content.{typed};
 ghost use Rattle.vortex_value.specs.Values.RawOf.{lent_raw};
 ghost use Rattle.vortex_value.specs.Values.RawTree.{absent, raw_bytes};
 ghost use Rattle.vortex_value.specs.Values.Refs.{ref_raw, ref_type};
 ghost use Rattle.vortex_value.specs.Values.Scalars.{scalar_raw, scalar_type};
 ghost use Rattle.vortex_leaves.specs.Leaves.{GivesView, RefusesView, bytes_in, may_be_bytes};
+ghost use Rattle.vortex_leaves.specs.ViewLaws.{view_alike, view_equiv};
 
 use std::alloc::Global;
 use std::cmp::Ordering;
@@ -50,8 +46,7 @@ impl<'a> BinaryScalar<'a> {
     ) -> Result<BinaryScalar<'a>, VortexError>
         ensures ok { IsOk result ↔ (IsTrue (is_binary_type (type_of dtype.now))
             × Valid (type_of dtype.now) (lent_raw value.entry)) }
-        ensures made { IfOk result
-            (IsBytesViewOf (type_of dtype.now) (lent_raw value.entry)) }
+        ensures made { IfOk result (IsBytesViewOf (type_of dtype.now) (lent_raw value.entry)) }
         ensures valid { IfOk result IsValidBytesView }
         ensures refused { IfErr result (RefusesView (is_binary_type (type_of dtype.now))
             (type_of dtype.now) (lent_raw value.entry)) }
@@ -77,11 +72,7 @@ impl<'a> BinaryScalar<'a> {
             (bytes_view_raw self.now ≡ absent)
             (λ bytes. bytes_view_raw self.now ≡ raw_bytes bytes.now) }
     {
-        match self.scalar.value() {
-            Some(ScalarValue::Binary(bytes)) => Some(bytes),
-            Some(_) => unreachable!(),
-            None => None,
-        }
+        Some(self.scalar.value()?.as_binary())
     }
 
     /// How many bytes there are; none for a null.
@@ -93,7 +84,8 @@ impl<'a> BinaryScalar<'a> {
 
     /// Whether there are no bytes; none for a null.
     pub fn is_empty(&self) -> Option<bool>
-        ensures { result ≡ option_map (λ bytes. length bytes == 0) (bytes_in (bytes_view_raw self.now)) }
+        ensures { result
+            ≡ option_map (λ bytes. length bytes == 0) (bytes_in (bytes_view_raw self.now)) }
     {
         self.value().map(|bytes| bytes.is_empty())
     }
@@ -109,17 +101,15 @@ impl<'a> TryFrom<&'a Scalar> for BinaryScalar<'a> {
 
     ghost try_from_gives = { λ scalar. GivesView
         (IsBytesViewOf (scalar_type scalar.now) (scalar_raw scalar.now))
-        (IsTrue (is_binary_type (scalar_type scalar.now)) × IsTrue (may_be_bytes (scalar_raw scalar.now))) };
+        (IsTrue (is_binary_type (scalar_type scalar.now))
+        × IsTrue (may_be_bytes (scalar_raw scalar.now))) };
 
     fn try_from(scalar: &'a Scalar) -> Result<BinaryScalar<'a>, VortexError> {
-        if !scalar.dtype().is_binary() {
-            return Err(VortexError::WrongKind);
-        }
-        match scalar.value() {
-            Some(ScalarValue::Binary(_)) | None => Ok(BinaryScalar {
+        match (scalar.dtype(), scalar.value()) {
+            (DType::Binary(_), None | Some(ScalarValue::Binary(_))) => Ok(BinaryScalar {
                 scalar: ScalarRef::of(scalar),
             }),
-            Some(_) => Err(VortexError::WrongKind),
+            _ => Err(VortexError::WrongKind),
         }
     }
 }
@@ -130,8 +120,7 @@ impl PartialEq for BinaryScalar<'_> {
     ghost eq = { λ a b. same_type (bytes_view_type a) (bytes_view_type b)
         && equal (bytes_view_content a) (bytes_view_content b) };
 
-    ghost laws = { partial_equiv_from_equiv
-        (on_equiv (λ x. typed (bytes_view_type x) (bytes_view_content x)) equal-equiv) };
+    ghost laws = { partial_equiv_from_equiv (view_equiv bytes_view_type bytes_view_content) };
 
     fn eq(&self, other: &BinaryScalar<'_>) -> bool {
         self.scalar == other.scalar
@@ -141,7 +130,7 @@ impl PartialEq for BinaryScalar<'_> {
 impl Eq for BinaryScalar<'_> {
     ghost use Rattle.vortex_leaves.specs.BytesViews.{bytes_view_content, bytes_view_type};
 
-    ghost laws = { on_equiv (λ x. typed (bytes_view_type x) (bytes_view_content x)) equal-equiv };
+    ghost laws = { view_equiv bytes_view_type bytes_view_content };
 }
 
 impl PartialOrd for BinaryScalar<'_> {
@@ -181,8 +170,7 @@ impl Hash for BinaryScalar<'_> {
 
     ghost hash_input = { λ x. typed_feed (bytes_view_type x) (bytes_view_content x) };
 
-    ghost respects_eq = { (and-Alike (on_Alike bytes_view_type type_feed-Alike)
-        (on_Alike bytes_view_content content_feed-Alike)).fed };
+    ghost respects_eq = { (view_alike bytes_view_type bytes_view_content).fed };
 
     fn hash<H: Hasher>(&self, state: &mut H) {
         self.scalar.hash(state);

@@ -3,20 +3,16 @@
 ghost use Rattle.std.specs.Prelude.{◌≡◌, ◌≢◌, ◌↔◌, ◌&&◌, Err, IfErr, IfOk, IsOk, IsTrue, MatchOption, Some};
 ghost use Rattle.vortex_dtype.specs.TypeOf.{type_of};
 ghost use Rattle.std.specs.Cmp.{partial_equiv_from_equiv};
-ghost use Rattle.std.specs.Hash.{and-Alike, on_Alike};
-ghost use Rattle.std.proofs.lemmas.Cmp.{on_equiv};
 ghost use Rattle.vortex_value.specs.Equality.{equal, same_type};
 ghost use Rattle.vortex_value.specs.Hashing.{typed_feed};
-ghost use Rattle.vortex_value.specs.Lemmas.EqualityLaws.{equal-equiv};
-ghost use Rattle.vortex_value.specs.Lemmas.HashLaws.{content_feed-Alike, type_feed-Alike};
 ghost use Rattle.vortex_value.specs.Order.{typed_order};
 ghost use Rattle.vortex_value.specs.Texts.{text_of};
 ghost use Rattle.vortex_value.specs.Validity.{Valid};
-ghost use Rattle.vortex_value.specs.Values.Content.{typed};
 ghost use Rattle.vortex_value.specs.Values.RawOf.{lent_raw};
 ghost use Rattle.vortex_value.specs.Values.RawTree.{absent, raw_bool};
 ghost use Rattle.vortex_value.specs.Values.Scalars.{IsMadeOf, IsValid, scalar_raw, scalar_type};
 ghost use Rattle.vortex_leaves.specs.Leaves.{GivesView, RefusesView, inverted, is_bool_type, may_be_truth};
+ghost use Rattle.vortex_leaves.specs.ViewLaws.{view_alike, view_equiv};
 
 use std::alloc::Global;
 use std::cmp::Ordering;
@@ -48,8 +44,7 @@ impl<'a> BoolScalar<'a> {
     ) -> Result<BoolScalar<'a>, VortexError>
         ensures ok { IsOk result ↔ (IsTrue (is_bool_type (type_of dtype.now))
             × Valid (type_of dtype.now) (lent_raw value.entry)) }
-        ensures made { IfOk result
-            (IsBoolViewOf (type_of dtype.now) (lent_raw value.entry)) }
+        ensures made { IfOk result (IsBoolViewOf (type_of dtype.now) (lent_raw value.entry)) }
         ensures valid { IfOk result IsValidBoolView }
         ensures refused { IfErr result (RefusesView (is_bool_type (type_of dtype.now))
             (type_of dtype.now) (lent_raw value.entry)) }
@@ -117,7 +112,8 @@ impl<'a> TryFrom<&'a Scalar> for BoolScalar<'a> {
 
     ghost try_from_gives = { λ scalar. GivesView
         (IsBoolViewOf (scalar_type scalar.now) (scalar_raw scalar.now))
-        (IsTrue (is_bool_type (scalar_type scalar.now)) × IsTrue (may_be_truth (scalar_raw scalar.now))) };
+        (IsTrue (is_bool_type (scalar_type scalar.now))
+        × IsTrue (may_be_truth (scalar_raw scalar.now))) };
 
     fn try_from(scalar: &'a Scalar) -> Result<BoolScalar<'a>, VortexError> {
         let DType::Bool(_) = scalar.dtype() else {
@@ -141,8 +137,7 @@ impl PartialEq for BoolScalar<'_> {
     ghost eq = { λ a b. same_type (bool_view_type a) (bool_view_type b)
         && equal (bool_view_content a) (bool_view_content b) };
 
-    ghost laws = { partial_equiv_from_equiv
-        (on_equiv (λ x. typed (bool_view_type x) (bool_view_content x)) equal-equiv) };
+    ghost laws = { partial_equiv_from_equiv (view_equiv bool_view_type bool_view_content) };
 
     fn eq(&self, other: &BoolScalar<'_>) -> bool {
         self.dtype.eq_ignore_nullability(other.dtype) && self.value == other.value
@@ -152,7 +147,7 @@ impl PartialEq for BoolScalar<'_> {
 impl Eq for BoolScalar<'_> {
     ghost use Rattle.vortex_leaves.specs.BoolViews.{bool_view_content, bool_view_type};
 
-    ghost laws = { on_equiv (λ x. typed (bool_view_type x) (bool_view_content x)) equal-equiv };
+    ghost laws = { view_equiv bool_view_type bool_view_content };
 }
 
 impl PartialOrd for BoolScalar<'_> {
@@ -192,8 +187,7 @@ impl Hash for BoolScalar<'_> {
 
     ghost hash_input = { λ x. typed_feed (bool_view_type x) (bool_view_content x) };
 
-    ghost respects_eq = { (and-Alike (on_Alike bool_view_type type_feed-Alike)
-        (on_Alike bool_view_content content_feed-Alike)).fed };
+    ghost respects_eq = { (view_alike bool_view_type bool_view_content).fed };
 
     fn hash<H: Hasher>(&self, state: &mut H) {
         let value = self.value.map(ScalarValue::Bool);

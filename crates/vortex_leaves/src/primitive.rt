@@ -50,13 +50,12 @@ impl<'a> PrimitiveScalar<'a> {
         dtype: &'a DType,
         value: Option<&ScalarValue>,
     ) -> Result<PrimitiveScalar<'a>, VortexError>
-        ensures ok { IsOk result ↔ (IsSome (ptype_in (type_of dtype.now)) × Valid (type_of dtype.now)
-            (in_ptype_of (type_of dtype.now) (lent_raw value.entry))) }
+        ensures ok { IsOk result ↔ (IsSome (ptype_in (type_of dtype.now))
+            × Valid (type_of dtype.now) (in_ptype_of (type_of dtype.now) (lent_raw value.entry))) }
         ensures made { IfOk result (IsNumberViewOf (type_of dtype.now)
             (in_ptype_of (type_of dtype.now) (lent_raw value.entry))) }
         ensures valid { IfOk result IsValidNumberView }
-        ensures refused { IfErr result
-            (RefusesNumber (type_of dtype.now) (lent_raw value.entry)) }
+        ensures refused { IfErr result (RefusesNumber (type_of dtype.now) (lent_raw value.entry)) }
         ensures memory { result ≢ Err VortexError.OutOfMemory }
     {
         let DType::Primitive(ptype, _) = dtype else {
@@ -152,7 +151,8 @@ impl<'a> PrimitiveScalar<'a> {
 
     /// Whether the number is zero; none for a null.
     pub fn is_zero(&self) -> Option<bool>
-        ensures { result ≡ is_zero_of (number_view_type self.now) (content (number_view_raw self.now)) }
+        ensures { result
+            ≡ is_zero_of (number_view_type self.now) (content (number_view_raw self.now)) }
     {
         self.pvalue.map(|number| number.is_zero())
     }
@@ -164,10 +164,7 @@ impl<'a> PrimitiveScalar<'a> {
         requires { IfSome (view_number self.now) (InRange T.PTYPE) }
         ensures { option_map T.value result ≡ view_number self.now }
     {
-        match self.as_opt::<T>() {
-            Some(number) => number,
-            None => unreachable!(),
-        }
+        self.as_opt::<T>().unwrap()
     }
 
     /// The same number as a Rust integer: `None` where that does not have it, `Some(None)` for a null.
@@ -177,10 +174,7 @@ impl<'a> PrimitiveScalar<'a> {
             (λ number. option_map T.value number ≡ view_number self.now) }
     {
         match self.pvalue {
-            Some(number) => match T::from_pvalue(&number) {
-                Some(native) => Some(Some(native)),
-                None => None,
-            },
+            Some(number) => Some(Some(T::from_pvalue(&number)?)),
             None => Some(None),
         }
     }

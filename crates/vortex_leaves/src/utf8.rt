@@ -2,23 +2,19 @@
 
 ghost use Rattle.std.specs.Prelude.{◌≡◌, ◌≢◌, ◌↔◌, ◌==◌, ◌&&◌, Err, IfErr, IfOk, IsOk, IsTrue, MatchOption, Some, length, option_map};
 ghost use Rattle.std.specs.Cmp.{partial_equiv_from_equiv};
-ghost use Rattle.std.specs.Hash.{and-Alike, on_Alike};
-ghost use Rattle.std.proofs.lemmas.Cmp.{on_equiv};
 ghost use Rattle.vortex_dtype.specs.Parts.{is_utf8_type};
 ghost use Rattle.vortex_dtype.specs.TypeOf.{type_of};
 ghost use Rattle.vortex_value.specs.Equality.{equal, same_type};
 ghost use Rattle.vortex_value.specs.Hashing.{typed_feed};
-ghost use Rattle.vortex_value.specs.Lemmas.EqualityLaws.{equal-equiv};
-ghost use Rattle.vortex_value.specs.Lemmas.HashLaws.{content_feed-Alike, type_feed-Alike};
 ghost use Rattle.vortex_value.specs.Order.{typed_order};
 ghost use Rattle.vortex_value.specs.Texts.{text_of};
 ghost use Rattle.vortex_value.specs.Validity.{Valid};
-ghost use Rattle.vortex_value.specs.Values.Content.{typed};
 ghost use Rattle.vortex_value.specs.Values.RawOf.{lent_raw};
 ghost use Rattle.vortex_value.specs.Values.RawTree.{absent, raw_text};
 ghost use Rattle.vortex_value.specs.Values.Refs.{ref_raw, ref_type};
 ghost use Rattle.vortex_value.specs.Values.Scalars.{scalar_raw, scalar_type};
 ghost use Rattle.vortex_leaves.specs.Leaves.{GivesView, RefusesView, bytes_in, may_be_text};
+ghost use Rattle.vortex_leaves.specs.ViewLaws.{view_alike, view_equiv};
 
 use std::alloc::Global;
 use std::cmp::Ordering;
@@ -50,8 +46,7 @@ impl<'a> Utf8Scalar<'a> {
     ) -> Result<Utf8Scalar<'a>, VortexError>
         ensures ok { IsOk result ↔ (IsTrue (is_utf8_type (type_of dtype.now))
             × Valid (type_of dtype.now) (lent_raw value.entry)) }
-        ensures made { IfOk result
-            (IsTextViewOf (type_of dtype.now) (lent_raw value.entry)) }
+        ensures made { IfOk result (IsTextViewOf (type_of dtype.now) (lent_raw value.entry)) }
         ensures valid { IfOk result IsValidTextView }
         ensures refused { IfErr result (RefusesView (is_utf8_type (type_of dtype.now))
             (type_of dtype.now) (lent_raw value.entry)) }
@@ -77,11 +72,7 @@ impl<'a> Utf8Scalar<'a> {
             (text_view_raw self.now ≡ absent)
             (λ text. text_view_raw self.now ≡ raw_text text.now) }
     {
-        match self.scalar.value() {
-            Some(ScalarValue::Utf8(text)) => Some(text),
-            Some(_) => unreachable!(),
-            None => None,
-        }
+        Some(self.scalar.value()?.as_utf8())
     }
 
     /// How many bytes the text has; none for a null.
@@ -93,7 +84,8 @@ impl<'a> Utf8Scalar<'a> {
 
     /// Whether the text is empty; none for a null.
     pub fn is_empty(&self) -> Option<bool>
-        ensures { result ≡ option_map (λ text. length text == 0) (bytes_in (text_view_raw self.now)) }
+        ensures { result
+            ≡ option_map (λ text. length text == 0) (bytes_in (text_view_raw self.now)) }
     {
         self.value().map(|text| text.is_empty())
     }
@@ -109,17 +101,15 @@ impl<'a> TryFrom<&'a Scalar> for Utf8Scalar<'a> {
 
     ghost try_from_gives = { λ scalar. GivesView
         (IsTextViewOf (scalar_type scalar.now) (scalar_raw scalar.now))
-        (IsTrue (is_utf8_type (scalar_type scalar.now)) × IsTrue (may_be_text (scalar_raw scalar.now))) };
+        (IsTrue (is_utf8_type (scalar_type scalar.now))
+        × IsTrue (may_be_text (scalar_raw scalar.now))) };
 
     fn try_from(scalar: &'a Scalar) -> Result<Utf8Scalar<'a>, VortexError> {
-        if !scalar.dtype().is_utf8() {
-            return Err(VortexError::WrongKind);
-        }
-        match scalar.value() {
-            Some(ScalarValue::Utf8(_)) | None => Ok(Utf8Scalar {
+        match (scalar.dtype(), scalar.value()) {
+            (DType::Utf8(_), None | Some(ScalarValue::Utf8(_))) => Ok(Utf8Scalar {
                 scalar: ScalarRef::of(scalar),
             }),
-            Some(_) => Err(VortexError::WrongKind),
+            _ => Err(VortexError::WrongKind),
         }
     }
 }
@@ -130,8 +120,7 @@ impl PartialEq for Utf8Scalar<'_> {
     ghost eq = { λ a b. same_type (text_view_type a) (text_view_type b)
         && equal (text_view_content a) (text_view_content b) };
 
-    ghost laws = { partial_equiv_from_equiv
-        (on_equiv (λ x. typed (text_view_type x) (text_view_content x)) equal-equiv) };
+    ghost laws = { partial_equiv_from_equiv (view_equiv text_view_type text_view_content) };
 
     fn eq(&self, other: &Utf8Scalar<'_>) -> bool {
         self.scalar == other.scalar
@@ -141,7 +130,7 @@ impl PartialEq for Utf8Scalar<'_> {
 impl Eq for Utf8Scalar<'_> {
     ghost use Rattle.vortex_leaves.specs.TextViews.{text_view_content, text_view_type};
 
-    ghost laws = { on_equiv (λ x. typed (text_view_type x) (text_view_content x)) equal-equiv };
+    ghost laws = { view_equiv text_view_type text_view_content };
 }
 
 impl PartialOrd for Utf8Scalar<'_> {
@@ -181,8 +170,7 @@ impl Hash for Utf8Scalar<'_> {
 
     ghost hash_input = { λ x. typed_feed (text_view_type x) (text_view_content x) };
 
-    ghost respects_eq = { (and-Alike (on_Alike text_view_type type_feed-Alike)
-        (on_Alike text_view_content content_feed-Alike)).fed };
+    ghost respects_eq = { (view_alike text_view_type text_view_content).fed };
 
     fn hash<H: Hasher>(&self, state: &mut H) {
         self.scalar.hash(state);

@@ -191,15 +191,19 @@ projected-type fields n d t f names k p e q = record {
   typed = type_of-Struct fields n ∙ ap (struct_type_of (fields_of fields)) (e ∙ ap nullability_of q);
 }
 
-pub made-typed : (r : Result Scalar VortexError) (t u : TypeTree) (names : List (List ℕ)) → IfOk r (λ s. scalar_type s ≡ u) → IsProjectedType t names u
-    → IfOk r (λ s. IsProjectedType t names (scalar_type s))
-made-typed (Ok s) t u names e p = subst (IsProjectedType t names) (sym e) p
-made-typed (Err e) t u names _ p = tt
+-- the scalar of this type and of what was made of its value, or why none was made
+abbrev pub IsWithValue : DType → Result (Option ScalarValue) VortexError → Result Scalar VortexError → Type 0
+IsWithValue d o r = MatchResult o (λ v. r ≡ Ok (record { dtype = d; value = v })) (λ e. r ≡ Err e)
 
-pub made-value : (r : Result Scalar VortexError) (o : Result (Option ScalarValue) VortexError) (p : RawTree → Type 0) → IfOk r (λ s. o ≡ Ok s.value)
+pub made-typed : (d : DType) (o : Result (Option ScalarValue) VortexError) (r : Result Scalar VortexError) (t : TypeTree) (names : List (List ℕ)) → IsWithValue d o r
+    → IsProjectedType t names (type_of d) → IfOk r (λ s. IsProjectedType t names (scalar_type s))
+made-typed d (Ok v) r t names h p = rw h p
+made-typed d (Err e) r t names h p = rw h tt
+
+pub made-value : (d : DType) (o : Result (Option ScalarValue) VortexError) (r : Result Scalar VortexError) (p : RawTree → Type 0) → IsWithValue d o r
     → MatchResult o (λ made. p (raw_of made)) (λ e. e ≡ OutOfMemory) → IfOk r (λ s. p (scalar_raw s))
-made-value (Ok s) o p e m = subst (λ o. MatchResult o (λ made. p (raw_of made)) (λ e. e ≡ OutOfMemory)) e m
-made-value (Err e) o p _ m = tt
+made-value d (Ok v) r p h m = rw h m
+made-value d (Err e) r p h m = rw h tt
 
 pub made-valid : (r : Result Scalar VortexError) (t : TypeTree) (v : RawTree) (names : List (List ℕ)) → IfOk r (λ s. IsProjectedType t names (scalar_type s))
     → IfOk r (λ s. IfSome (fields_in t) (λ f. IsProjectedValue f names v (scalar_raw s))) → Valid t v → IfOk r IsValid

@@ -13,3 +13,4 @@ pub mod UnionExamples
 pub mod Unions
 pub mod Variants
 pub mod ViewKinds
+pub mod ViewLaws

@@ -2,21 +2,17 @@
 
 ghost use Rattle.std.specs.Prelude.{◌≡◌, Some, is_some, true, IfErr, IfOk, IfSome, IsOk, IsTrue};
 ghost use Rattle.std.specs.Cmp.{partial_equiv_from_equiv};
-ghost use Rattle.std.specs.Hash.{and-Alike, on_Alike};
-ghost use Rattle.std.proofs.lemmas.Cmp.{on_equiv};
 ghost use Rattle.vortex_dtype.specs.Parts.{extension_in};
 ghost use Rattle.vortex_dtype.specs.TypeOf.{ext_of, type_of};
 ghost use Rattle.vortex_dtype.specs.TypeTree.{IsFlat, storage};
 ghost use Rattle.vortex_dtype.specs.declared.error.VortexError.TheVariants.{OutOfMemory};
 ghost use Rattle.vortex_leaves.specs.Leaves.{GivesView};
-ghost use Rattle.vortex_value.specs.Lemmas.EqualityLaws.{equal-equiv};
-ghost use Rattle.vortex_value.specs.Lemmas.HashLaws.{content_feed-Alike, type_feed-Alike};
-ghost use Rattle.vortex_value.specs.Values.Content.{typed};
 ghost use Rattle.vortex_value.specs.Values.RawOf.{lent_raw, value_tree};
-ghost use Rattle.vortex_value.specs.Values.Refs.{IsRefOf, IsValidRef, ref_content, ref_order, ref_type};
+ghost use Rattle.vortex_value.specs.Values.Refs.{IsRefOf, IsValidRef, ref_order, ref_type};
 ghost use Rattle.vortex_value.specs.Values.Scalars.{IsMadeOf, IsValid, scalar_raw, scalar_type};
 ghost use Rattle.vortex_views.specs.ExtensionParts.{is_nested, is_of_kind};
 ghost use Rattle.vortex_views.specs.Parts.{ref_equal, ref_feed, ref_text};
+ghost use Rattle.vortex_views.specs.ViewLaws.{ref_alike, ref_equiv};
 
 use std::alloc::Global;
 use std::cmp::Ordering;
@@ -162,12 +158,11 @@ impl<'a> TryFrom<&'a Scalar> for ExtScalar<'a> {
 }
 
 impl PartialEq for ExtScalar<'_> {
-    ghost use Rattle.vortex_views.specs.Extensions.{ext_ref, ext_view_type};
+    ghost use Rattle.vortex_views.specs.Extensions.{ext_ref};
 
     ghost eq = { λ a b. ref_equal (ext_ref a) (ext_ref b) };
 
-    ghost laws = { partial_equiv_from_equiv
-        (on_equiv (λ x. typed (ext_view_type x) (ref_content (ext_ref x))) equal-equiv) };
+    ghost laws = { partial_equiv_from_equiv (ref_equiv ext_ref) };
 
     fn eq(&self, other: &ExtScalar<'_>) -> bool {
         self.scalar == other.scalar
@@ -175,19 +170,17 @@ impl PartialEq for ExtScalar<'_> {
 }
 
 impl Eq for ExtScalar<'_> {
-    ghost use Rattle.vortex_views.specs.Extensions.{ext_ref, ext_view_type};
+    ghost use Rattle.vortex_views.specs.Extensions.{ext_ref};
 
-    ghost laws = { on_equiv (λ x. typed (ext_view_type x) (ref_content (ext_ref x)))
-        equal-equiv };
+    ghost laws = { ref_equiv ext_ref };
 }
 
 impl Hash for ExtScalar<'_> {
-    ghost use Rattle.vortex_views.specs.Extensions.{ext_ref, ext_view_type};
+    ghost use Rattle.vortex_views.specs.Extensions.{ext_ref};
 
     ghost hash_input = { λ x. ref_feed (ext_ref x) };
 
-    ghost respects_eq = { (and-Alike (on_Alike ext_view_type type_feed-Alike)
-        (on_Alike (λ x. ref_content (ext_ref x)) content_feed-Alike)).fed };
+    ghost respects_eq = { (ref_alike ext_ref).fed };
 
     fn hash<H: Hasher>(&self, state: &mut H) {
         self.scalar.hash(state);

@@ -2,21 +2,17 @@
 
 ghost use Rattle.std.specs.Prelude.{◌≡◌, ◌↔◌, ◌==◌, ◌<◌, Some, true, false, length, map, option_map, slice_get, is_some, IfErr, IfOk, IfSome, IsOk, IsTrue, MatchResult};
 ghost use Rattle.std.specs.Cmp.{partial_equiv_from_equiv};
-ghost use Rattle.std.specs.Hash.{and-Alike, on_Alike};
 ghost use Rattle.std.specs.List.{All};
-ghost use Rattle.std.proofs.lemmas.Cmp.{on_equiv};
 ghost use Rattle.vortex_dtype.specs.Parts.{element_in};
 ghost use Rattle.vortex_dtype.specs.TypeOf.{type_of};
 ghost use Rattle.vortex_leaves.specs.Leaves.{GivesView, RefusesView};
-ghost use Rattle.vortex_value.specs.Lemmas.EqualityLaws.{equal-equiv};
-ghost use Rattle.vortex_value.specs.Lemmas.HashLaws.{content_feed-Alike, type_feed-Alike};
-ghost use Rattle.vortex_value.specs.Values.Content.{typed};
 ghost use Rattle.vortex_value.specs.Values.RawOf.{lent_raw, raw_of};
 ghost use Rattle.vortex_value.specs.Values.RawTree.{is_absent};
-ghost use Rattle.vortex_value.specs.Values.Refs.{IsRefOf, IsValidRef, ref_content, ref_order, ref_type};
+ghost use Rattle.vortex_value.specs.Values.Refs.{IsRefOf, IsValidRef, ref_order, ref_type};
 ghost use Rattle.vortex_value.specs.Values.Scalars.{IsValid, scalar_raw, scalar_type};
 ghost use Rattle.vortex_value.specs.Validity.{Valid};
 ghost use Rattle.vortex_views.specs.Parts.{IsFlatPart, elements_of, is_null_or_tuple, parts_of, ref_equal, ref_feed, ref_part, ref_text, scalar_part, unless_null};
+ghost use Rattle.vortex_views.specs.ViewLaws.{ref_alike, ref_equiv};
 
 use crate::parts::{copied, is_null_or_tuple, items_of, part_at};
 use std::alloc::Global;
@@ -53,8 +49,7 @@ impl<'a> ListScalar<'a> {
         ensures made { IfOk result (λ view.
             IsRefOf (type_of dtype.now) (lent_raw value.entry) (list_ref view)) }
         ensures valid { IfOk result (λ view. IsValidRef (list_ref view)) }
-        ensures refused { IfErr result
-            (RefusesView (is_some (element_in (type_of dtype.now)))
+        ensures refused { IfErr result (RefusesView (is_some (element_in (type_of dtype.now)))
             (type_of dtype.now) (lent_raw value.entry)) }
     {
         if dtype.as_any_size_list_element_opt().is_none() {
@@ -211,12 +206,11 @@ impl<'a> TryFrom<&'a Scalar> for ListScalar<'a> {
 }
 
 impl PartialEq for ListScalar<'_> {
-    ghost use Rattle.vortex_views.specs.Lists.{list_ref, list_view_type};
+    ghost use Rattle.vortex_views.specs.Lists.{list_ref};
 
     ghost eq = { λ a b. ref_equal (list_ref a) (list_ref b) };
 
-    ghost laws = { partial_equiv_from_equiv
-        (on_equiv (λ x. typed (list_view_type x) (ref_content (list_ref x))) equal-equiv) };
+    ghost laws = { partial_equiv_from_equiv (ref_equiv list_ref) };
 
     fn eq(&self, other: &ListScalar<'_>) -> bool {
         self.scalar == other.scalar
@@ -224,19 +218,17 @@ impl PartialEq for ListScalar<'_> {
 }
 
 impl Eq for ListScalar<'_> {
-    ghost use Rattle.vortex_views.specs.Lists.{list_ref, list_view_type};
+    ghost use Rattle.vortex_views.specs.Lists.{list_ref};
 
-    ghost laws = { on_equiv (λ x. typed (list_view_type x) (ref_content (list_ref x)))
-        equal-equiv };
+    ghost laws = { ref_equiv list_ref };
 }
 
 impl Hash for ListScalar<'_> {
-    ghost use Rattle.vortex_views.specs.Lists.{list_ref, list_view_type};
+    ghost use Rattle.vortex_views.specs.Lists.{list_ref};
 
     ghost hash_input = { λ x. ref_feed (list_ref x) };
 
-    ghost respects_eq = { (and-Alike (on_Alike list_view_type type_feed-Alike)
-        (on_Alike (λ x. ref_content (list_ref x)) content_feed-Alike)).fed };
+    ghost respects_eq = { (ref_alike list_ref).fed };
 
     fn hash<H: Hasher>(&self, state: &mut H) {
         self.scalar.hash(state);

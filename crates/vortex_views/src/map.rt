@@ -2,22 +2,18 @@
 
 ghost use Rattle.std.specs.Prelude.{◌≡◌, ◌↔◌, ◌==◌, ◌<◌, Some, true, length, map, option_map, slice_get, is_some, IfErr, IfOk, IfSome, IsOk, IsTrue};
 ghost use Rattle.std.specs.Cmp.{partial_equiv_from_equiv};
-ghost use Rattle.std.specs.Hash.{and-Alike, on_Alike};
 ghost use Rattle.std.specs.List.{All};
-ghost use Rattle.std.proofs.lemmas.Cmp.{on_equiv};
 ghost use Rattle.vortex_dtype.specs.Parts.{map_in};
 ghost use Rattle.vortex_dtype.specs.TypeOf.{map_of, type_of};
 ghost use Rattle.vortex_leaves.specs.Leaves.{GivesView, RefusesView};
-ghost use Rattle.vortex_value.specs.Lemmas.EqualityLaws.{equal-equiv};
-ghost use Rattle.vortex_value.specs.Lemmas.HashLaws.{content_feed-Alike, type_feed-Alike};
-ghost use Rattle.vortex_value.specs.Values.Content.{typed};
 ghost use Rattle.vortex_value.specs.Values.RawOf.{lent_raw, raw_of};
 ghost use Rattle.vortex_value.specs.Values.RawTree.{is_absent};
-ghost use Rattle.vortex_value.specs.Values.Refs.{IsRefOf, IsValidRef, ref_content, ref_type};
+ghost use Rattle.vortex_value.specs.Values.Refs.{IsRefOf, IsValidRef, ref_type};
 ghost use Rattle.vortex_value.specs.Values.Scalars.{IsValid, scalar_raw, scalar_type};
 ghost use Rattle.vortex_value.specs.Validity.{Valid};
 ghost use Rattle.vortex_views.specs.Iterators.{entries_left, keys_left, values_left};
 ghost use Rattle.vortex_views.specs.Parts.{AreFlatParts, AreValidParts, IsValidPart, entries_of, is_null_or_tuple, parts_of, ref_entry, ref_equal, ref_feed, ref_text, scalar_entry};
+ghost use Rattle.vortex_views.specs.ViewLaws.{ref_alike, ref_equiv};
 
 use crate::iterators::{Entries, Keys, Values};
 use crate::parts::{copied_entry, entry_at, is_null_or_tuple, items_of};
@@ -55,8 +51,7 @@ impl<'a> MapScalar<'a> {
         ensures made { IfOk result (λ view.
             IsRefOf (type_of dtype.now) (lent_raw value.entry) (map_ref view)) }
         ensures valid { IfOk result (λ view. IsValidRef (map_ref view)) }
-        ensures refused { IfErr result
-            (RefusesView (is_some (map_in (type_of dtype.now)))
+        ensures refused { IfErr result (RefusesView (is_some (map_in (type_of dtype.now)))
             (type_of dtype.now) (lent_raw value.entry)) }
     {
         if dtype.as_map_opt().is_none() {
@@ -207,12 +202,11 @@ impl<'a> TryFrom<&'a Scalar> for MapScalar<'a> {
 /// Equality of entries in order, with types that are the same up to nullability: the order of keys
 /// and repeats count.
 impl PartialEq for MapScalar<'_> {
-    ghost use Rattle.vortex_views.specs.Maps.{map_ref, map_view_type};
+    ghost use Rattle.vortex_views.specs.Maps.{map_ref};
 
     ghost eq = { λ a b. ref_equal (map_ref a) (map_ref b) };
 
-    ghost laws = { partial_equiv_from_equiv
-        (on_equiv (λ x. typed (map_view_type x) (ref_content (map_ref x))) equal-equiv) };
+    ghost laws = { partial_equiv_from_equiv (ref_equiv map_ref) };
 
     fn eq(&self, other: &MapScalar<'_>) -> bool {
         self.scalar == other.scalar
@@ -220,19 +214,17 @@ impl PartialEq for MapScalar<'_> {
 }
 
 impl Eq for MapScalar<'_> {
-    ghost use Rattle.vortex_views.specs.Maps.{map_ref, map_view_type};
+    ghost use Rattle.vortex_views.specs.Maps.{map_ref};
 
-    ghost laws = { on_equiv (λ x. typed (map_view_type x) (ref_content (map_ref x)))
-        equal-equiv };
+    ghost laws = { ref_equiv map_ref };
 }
 
 impl Hash for MapScalar<'_> {
-    ghost use Rattle.vortex_views.specs.Maps.{map_ref, map_view_type};
+    ghost use Rattle.vortex_views.specs.Maps.{map_ref};
 
     ghost hash_input = { λ x. ref_feed (map_ref x) };
 
-    ghost respects_eq = { (and-Alike (on_Alike map_view_type type_feed-Alike)
-        (on_Alike (λ x. ref_content (map_ref x)) content_feed-Alike)).fed };
+    ghost respects_eq = { (ref_alike map_ref).fed };
 
     fn hash<H: Hasher>(&self, state: &mut H) {
         self.scalar.hash(state);

@@ -39,8 +39,7 @@ pub(crate) fn item_or_null<'a>(
     value: Option<&'a ScalarValue>,
     place: usize,
 ) -> Option<&'a ScalarValue>
-    ensures { lent_raw result
-        ≡ part_or_null (lent_raw value.entry) place }
+    ensures { lent_raw result ≡ part_or_null (lent_raw value.entry) place }
 {
     items_of(value).get(place)?.as_ref()
 }
@@ -50,8 +49,7 @@ pub(crate) fn lent_entry<'a>(
     map_dtype: &'a MapDType,
     entry: Option<&'a ScalarValue>,
 ) -> (ScalarRef<'a>, ScalarRef<'a>)
-    ensures { ref_entry result
-        ≡ entry_of (map_of map_dtype.now) (lent_raw entry.entry) }
+    ensures { ref_entry result ≡ entry_of (map_of map_dtype.now) (lent_raw entry.entry) }
 {
     (
         ScalarRef::from_parts(map_dtype.key_dtype(), item_or_null(entry, 0)),
@@ -108,7 +106,8 @@ pub(crate) fn copied(
     alloc: Global,
     part: Option<ScalarRef<'_>>,
 ) -> Result<Option<Scalar>, VortexError>
-    ensures copied { IfOk result (λ copy. option_map scalar_part copy ≡ option_map ref_part part.entry) }
+    ensures copied { IfOk result (λ copy.
+        option_map scalar_part copy ≡ option_map ref_part part.entry) }
     ensures refused { IfErr result (λ e. (e ≡ VortexError.OutOfMemory) × IsSome part.entry) }
     ensures flat { IfSome (option_map ref_part part.entry) IsFlatPart
         → IfSome part.entry IsValidRef → IsOk result }

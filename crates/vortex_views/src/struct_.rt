@@ -2,9 +2,7 @@
 
 ghost use Rattle.std.specs.Prelude.{◌≡◌, Err, Ok, Some, true, is_none, is_some, map, option_map, slice_get, All, IfErr, IfOk, IfSome, IsErrAnd, IsOk, IsSome, IsTrue, MatchOption, MatchResult};
 ghost use Rattle.std.specs.Cmp.{partial_equiv_from_equiv};
-ghost use Rattle.std.specs.Hash.{and-Alike, on_Alike};
 ghost use Rattle.std.specs.List.{zip};
-ghost use Rattle.std.proofs.lemmas.Cmp.{on_equiv};
 ghost use Rattle.vortex_dtype.specs.Names.{names_in};
 ghost use Rattle.vortex_dtype.specs.Parts.{fields_in};
 ghost use Rattle.vortex_dtype.specs.Refusals.{RefusesExactly, RefusesOrNoMemory};
@@ -12,15 +10,13 @@ ghost use Rattle.vortex_dtype.specs.TypeOf.{fields_of, type_of};
 ghost use Rattle.vortex_dtype.specs.declared.error.VortexError.TheVariants.{OutOfMemory};
 ghost use Rattle.vortex_leaves.specs.Leaves.{GivesView};
 ghost use Rattle.vortex_value.specs.Casts.{CanCast, RefusesCast};
-ghost use Rattle.vortex_value.specs.Lemmas.EqualityLaws.{equal-equiv};
-ghost use Rattle.vortex_value.specs.Lemmas.HashLaws.{content_feed-Alike, type_feed-Alike};
-ghost use Rattle.vortex_value.specs.Values.Content.{typed};
 ghost use Rattle.vortex_value.specs.Values.RawOf.{lent_raw, raw_of};
 ghost use Rattle.vortex_value.specs.Values.RawTree.{is_absent};
 ghost use Rattle.vortex_value.specs.Values.Refs.{IsRefOf, IsValidRef, ref_content, ref_order, ref_type};
 ghost use Rattle.vortex_value.specs.Values.Scalars.{IsTheOne, IsValid, scalar_raw, scalar_type};
 ghost use Rattle.vortex_views.specs.Parts.{IsFlatPart, IsValidPart, is_null_or_tuple, parts_of, ref_equal, ref_feed, ref_part, ref_text, scalar_part};
 ghost use Rattle.vortex_views.specs.StructParts.{IsProjectedType, IsProjectedValue, counts_cause, field_named, fields_within, selection_cause, struct_cast_cause, value_named};
+ghost use Rattle.vortex_views.specs.ViewLaws.{ref_alike, ref_equiv};
 
 use crate::iterators::Fields;
 use crate::parts::{copied, is_null_or_tuple, item_or_null, items_of, part_at};
@@ -276,8 +272,7 @@ fn value_named<'a>(
     value: Option<&'a ScalarValue>,
     name: &str,
 ) -> Option<&'a ScalarValue>
-    ensures { lent_raw result
-        ≡ value_named (fields_of fields.now) (lent_raw value.entry) name.now }
+    ensures { lent_raw result ≡ value_named (fields_of fields.now) (lent_raw value.entry) name.now }
 {
     let place = fields.find(name)?;
     item_or_null(value, place)
@@ -300,9 +295,9 @@ fn scalar_of(
     dtype: DType,
     value: Result<Option<ScalarValue>, VortexError>,
 ) -> Result<Scalar, VortexError>
-    ensures typed { IfOk result (λ scalar. scalar_type scalar ≡ type_of dtype) }
-    ensures value { IfOk result (λ scalar. value ≡ Ok scalar.value) }
-    ensures refused { IfErr result (λ e. value ≡ Err e) }
+    ensures { MatchResult value
+        (λ v. result ≡ Ok (record { dtype = dtype; value = v }))
+        (λ e. result ≡ Err e) }
 {
     match value {
         Ok(value) => Ok(Scalar { dtype, value }),
@@ -342,12 +337,11 @@ impl<'a> TryFrom<&'a Scalar> for StructScalar<'a> {
 }
 
 impl PartialEq for StructScalar<'_> {
-    ghost use Rattle.vortex_views.specs.Structs.{struct_ref, struct_view_type};
+    ghost use Rattle.vortex_views.specs.Structs.{struct_ref};
 
     ghost eq = { λ a b. ref_equal (struct_ref a) (struct_ref b) };
 
-    ghost laws = { partial_equiv_from_equiv
-        (on_equiv (λ x. typed (struct_view_type x) (ref_content (struct_ref x))) equal-equiv) };
+    ghost laws = { partial_equiv_from_equiv (ref_equiv struct_ref) };
 
     fn eq(&self, other: &StructScalar<'_>) -> bool {
         self.scalar == other.scalar
@@ -355,19 +349,17 @@ impl PartialEq for StructScalar<'_> {
 }
 
 impl Eq for StructScalar<'_> {
-    ghost use Rattle.vortex_views.specs.Structs.{struct_ref, struct_view_type};
+    ghost use Rattle.vortex_views.specs.Structs.{struct_ref};
 
-    ghost laws = { on_equiv (λ x. typed (struct_view_type x) (ref_content (struct_ref x)))
-        equal-equiv };
+    ghost laws = { ref_equiv struct_ref };
 }
 
 impl Hash for StructScalar<'_> {
-    ghost use Rattle.vortex_views.specs.Structs.{struct_ref, struct_view_type};
+    ghost use Rattle.vortex_views.specs.Structs.{struct_ref};
 
     ghost hash_input = { λ x. ref_feed (struct_ref x) };
 
-    ghost respects_eq = { (and-Alike (on_Alike struct_view_type type_feed-Alike)
-        (on_Alike (λ x. ref_content (struct_ref x)) content_feed-Alike)).fed };
+    ghost respects_eq = { (ref_alike struct_ref).fed };
 
     fn hash<H: Hasher>(&self, state: &mut H) {
         self.scalar.hash(state);

@@ -2,20 +2,18 @@
 
 ghost use Rattle.std.specs.Prelude.{◌≡◌, ◌↔◌, true, option_map, IfErr, IfNone, IfOk, IfSome, IsOk, IsTrue, MatchOption, Some, false};
 ghost use Rattle.std.specs.Cmp.{partial_equiv_from_equiv};
-ghost use Rattle.std.proofs.lemmas.Cmp.{on_equiv};
 ghost use Rattle.vortex_dtype.specs.Parts.{is_union_type};
 ghost use Rattle.vortex_dtype.specs.TypeOf.{type_of, union_type_of, variants_of};
 ghost use Rattle.vortex_dtype.specs.TypeTree.{nullability_of};
 ghost use Rattle.vortex_leaves.specs.Leaves.{RefusesView};
-ghost use Rattle.vortex_value.specs.Lemmas.EqualityLaws.{equal-equiv};
 ghost use Rattle.vortex_value.specs.Validity.{Valid};
-ghost use Rattle.vortex_value.specs.Values.Content.{typed};
 ghost use Rattle.vortex_value.specs.Values.RawOf.{lent_raw, union_tree};
 ghost use Rattle.vortex_value.specs.Values.RawTree.{absent, is_absent};
-ghost use Rattle.vortex_value.specs.Values.Refs.{IsRefOf, IsValidRef, ref_content, ref_raw, ref_type};
+ghost use Rattle.vortex_value.specs.Values.Refs.{IsRefOf, IsValidRef, ref_raw, ref_type};
 ghost use Rattle.vortex_value.specs.Values.Scalars.{IsValid};
 ghost use Rattle.vortex_views.specs.Parts.{IsFlatPart, ref_equal, ref_part, ref_text, scalar_part};
 ghost use Rattle.vortex_views.specs.ViewKinds.{is_of_union};
+ghost use Rattle.vortex_views.specs.ViewLaws.{ref_equiv};
 
 use crate::parts::copied;
 use std::alloc::Global;
@@ -116,8 +114,7 @@ impl<'a> UnionScalar<'a> {
     /// The place of the chosen variant among the variants, and none exactly of a null.
     pub fn child_index(&self) -> Option<usize>
         requires { IsValidRef (union_ref self.now) }
-        ensures place { result
-            ≡ chosen_place (union_view_type self.now) (union_view_raw self.now) }
+        ensures place { result ≡ chosen_place (union_view_type self.now) (union_view_raw self.now) }
         ensures present { IfNone result (union_view_raw self.now ≡ absent) }
     {
         let id = self.type_id()?;
@@ -162,8 +159,7 @@ impl<'a> UnionScalar<'a> {
         requires { IsValidRef (union_ref self.now) }
         ensures copied { IfOk result (λ child. option_map scalar_part child
             ≡ child_of (union_view_type self.now) (union_view_raw self.now)) }
-        ensures present { IfOk result
-            (λ child. IfNone child (union_view_raw self.now ≡ absent)) }
+        ensures present { IfOk result (λ child. IfNone child (union_view_raw self.now ≡ absent)) }
         ensures valid { IfOk result (λ child. IfSome child IsValid) }
         ensures refused { IfErr result (λ e. (e ≡ VortexError.OutOfMemory)
             × (is_absent (union_view_raw self.now) ≡ false)) }
@@ -201,12 +197,11 @@ impl<'a> UnionScalar<'a> {
 }
 
 impl PartialEq for UnionScalar<'_> {
-    ghost use Rattle.vortex_views.specs.Unions.{union_ref, union_view_type};
+    ghost use Rattle.vortex_views.specs.Unions.{union_ref};
 
     ghost eq = { λ a b. ref_equal (union_ref a) (union_ref b) };
 
-    ghost laws = { partial_equiv_from_equiv
-        (on_equiv (λ x. typed (union_view_type x) (ref_content (union_ref x))) equal-equiv) };
+    ghost laws = { partial_equiv_from_equiv (ref_equiv union_ref) };
 
     fn eq(&self, other: &UnionScalar<'_>) -> bool {
         self.scalar == other.scalar
@@ -214,9 +209,9 @@ impl PartialEq for UnionScalar<'_> {
 }
 
 impl Eq for UnionScalar<'_> {
-    ghost use Rattle.vortex_views.specs.Unions.{union_ref, union_view_type};
+    ghost use Rattle.vortex_views.specs.Unions.{union_ref};
 
-    ghost laws = { on_equiv (λ x. typed (union_view_type x) (ref_content (union_ref x))) equal-equiv };
+    ghost laws = { ref_equiv union_ref };
 }
 
 /// Writes `null`, or the name of the chosen variant and the child's text in parentheses, as

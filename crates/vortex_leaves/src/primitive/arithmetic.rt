@@ -126,10 +126,7 @@ impl<'a> Add for PrimitiveScalar<'a> {
     ghost add_gives = { IsOutcome Add };
 
     fn add(self, rhs: PrimitiveScalar<'a>) -> PrimitiveScalar<'a> {
-        match self.checked_add(&rhs) {
-            Some(sum) => sum,
-            None => unreachable!(),
-        }
+        self.checked_add(&rhs).unwrap()
     }
 }
 
@@ -147,9 +144,6 @@ impl<'a> Sub for PrimitiveScalar<'a> {
     ghost sub_gives = { IsOutcome Sub };
 
     fn sub(self, rhs: PrimitiveScalar<'a>) -> PrimitiveScalar<'a> {
-        match self.checked_sub(&rhs) {
-            Some(difference) => difference,
-            None => unreachable!(),
-        }
+        self.checked_sub(&rhs).unwrap()
     }
 }

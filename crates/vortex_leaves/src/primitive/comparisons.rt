@@ -2,17 +2,13 @@
 
 ghost use Rattle.std.specs.Prelude.{◌&&◌, Some};
 ghost use Rattle.std.specs.Cmp.{partial_equiv_from_equiv};
-ghost use Rattle.std.specs.Hash.{and-Alike, on_Alike};
-ghost use Rattle.std.proofs.lemmas.Cmp.{on_equiv};
 ghost use Rattle.vortex_value.specs.Equality.{equal, same_type};
 ghost use Rattle.vortex_value.specs.Hashing.{typed_feed};
-ghost use Rattle.vortex_value.specs.Lemmas.EqualityLaws.{equal-equiv};
-ghost use Rattle.vortex_value.specs.Lemmas.HashLaws.{content_feed-Alike, type_feed-Alike};
 ghost use Rattle.vortex_value.specs.Order.{typed_order};
 ghost use Rattle.vortex_value.specs.Texts.{text_of};
-ghost use Rattle.vortex_value.specs.Values.Content.{typed};
 ghost use Rattle.vortex_leaves.specs.NumberLaws.{number_order};
 ghost use Rattle.vortex_leaves.specs.PrimitiveViews.{number_view_content, number_view_raw, number_view_type};
+ghost use Rattle.vortex_leaves.specs.ViewLaws.{view_alike, view_equiv};
 
 use super::PrimitiveScalar;
 use std::cmp::Ordering;
@@ -24,8 +20,7 @@ impl PartialEq for PrimitiveScalar<'_> {
     ghost eq = { λ a b. same_type (number_view_type a) (number_view_type b)
         && equal (number_view_content a) (number_view_content b) };
 
-    ghost laws = { partial_equiv_from_equiv
-        (on_equiv (λ x. typed (number_view_type x) (number_view_content x)) equal-equiv) };
+    ghost laws = { partial_equiv_from_equiv (view_equiv number_view_type number_view_content) };
 
     fn eq(&self, other: &PrimitiveScalar<'_>) -> bool {
         self.dtype.eq_ignore_nullability(other.dtype) && self.pvalue == other.pvalue
@@ -33,7 +28,7 @@ impl PartialEq for PrimitiveScalar<'_> {
 }
 
 impl Eq for PrimitiveScalar<'_> {
-    ghost laws = { on_equiv (λ x. typed (number_view_type x) (number_view_content x)) equal-equiv };
+    ghost laws = { view_equiv number_view_type number_view_content };
 }
 
 /// None exactly where the kinds differ; else a null is below the others, and numbers go by size.
@@ -55,8 +50,7 @@ impl PartialOrd for PrimitiveScalar<'_> {
 impl Hash for PrimitiveScalar<'_> {
     ghost hash_input = { λ x. typed_feed (number_view_type x) (number_view_content x) };
 
-    ghost respects_eq = { (and-Alike (on_Alike number_view_type type_feed-Alike)
-        (on_Alike number_view_content content_feed-Alike)).fed };
+    ghost respects_eq = { (view_alike number_view_type number_view_content).fed };
 
     fn hash<H: Hasher>(&self, state: &mut H) {
         let value = self.pvalue.map(ScalarValue::Primitive);

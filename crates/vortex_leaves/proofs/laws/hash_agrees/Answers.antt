@@ -1,19 +1,18 @@
-use Rattle.std.specs.Hash.{and-Alike, on_Alike}
-use Rattle.vortex_value.specs.Lemmas.HashLaws.{content_feed-Alike, type_feed-Alike}
 use Rattle.vortex_leaves.specs.BoolViews.{bool_view_content, bool_view_type}
 use Rattle.vortex_leaves.specs.BytesViews.{bytes_view_content, bytes_view_type}
 use Rattle.vortex_leaves.specs.PrimitiveViews.{number_view_content, number_view_type}
 use Rattle.vortex_leaves.specs.TextViews.{text_view_content, text_view_type}
+use Rattle.vortex_leaves.specs.ViewLaws.{view_alike}
 use Rattle.vortex_leaves.proofs.laws.hash_agrees.Goals as goal
 
 pub returns-clause-truths : goal.returns-clause-truths
-returns-clause-truths c = (and-Alike (on_Alike bool_view_type type_feed-Alike) (on_Alike bool_view_content content_feed-Alike)).fed
+returns-clause-truths c = (view_alike bool_view_type bool_view_content).fed
 
 pub returns-clause-texts : goal.returns-clause-texts
-returns-clause-texts c = (and-Alike (on_Alike text_view_type type_feed-Alike) (on_Alike text_view_content content_feed-Alike)).fed
+returns-clause-texts c = (view_alike text_view_type text_view_content).fed
 
 pub returns-clause-strings : goal.returns-clause-strings
-returns-clause-strings c = (and-Alike (on_Alike bytes_view_type type_feed-Alike) (on_Alike bytes_view_content content_feed-Alike)).fed
+returns-clause-strings c = (view_alike bytes_view_type bytes_view_content).fed
 
 pub returns-clause-integers : goal.returns-clause-integers
-returns-clause-integers c = (and-Alike (on_Alike number_view_type type_feed-Alike) (on_Alike number_view_content content_feed-Alike)).fed
+returns-clause-integers c = (view_alike number_view_type number_view_content).fed
