@@ -162,7 +162,7 @@ impl<'a> TryFrom<&'a Scalar> for ExtScalar<'a> {
 }
 
 impl PartialEq for ExtScalar<'_> {
-    ghost use Rattle.vortex_views.specs.Extensions.{ext_ref};
+    ghost use Rattle.vortex_views.specs.Extensions.{ext_ref, ext_view_type};
 
     ghost eq = { λ a b. ref_equal (ext_ref a) (ext_ref b) };
 
@@ -175,14 +175,14 @@ impl PartialEq for ExtScalar<'_> {
 }
 
 impl Eq for ExtScalar<'_> {
-    ghost use Rattle.vortex_views.specs.Extensions.{ext_ref};
+    ghost use Rattle.vortex_views.specs.Extensions.{ext_ref, ext_view_type};
 
     ghost laws = { on_equiv (λ x. typed (ext_view_type x) (ref_content (ext_ref x)))
         equal-equiv };
 }
 
 impl Hash for ExtScalar<'_> {
-    ghost use Rattle.vortex_views.specs.Extensions.{ext_ref};
+    ghost use Rattle.vortex_views.specs.Extensions.{ext_ref, ext_view_type};
 
     ghost hash_input = { λ x. ref_feed (ext_ref x) };
 

@@ -211,7 +211,7 @@ impl<'a> TryFrom<&'a Scalar> for ListScalar<'a> {
 }
 
 impl PartialEq for ListScalar<'_> {
-    ghost use Rattle.vortex_views.specs.Lists.{list_ref};
+    ghost use Rattle.vortex_views.specs.Lists.{list_ref, list_view_type};
 
     ghost eq = { λ a b. ref_equal (list_ref a) (list_ref b) };
 
@@ -224,14 +224,14 @@ impl PartialEq for ListScalar<'_> {
 }
 
 impl Eq for ListScalar<'_> {
-    ghost use Rattle.vortex_views.specs.Lists.{list_ref};
+    ghost use Rattle.vortex_views.specs.Lists.{list_ref, list_view_type};
 
     ghost laws = { on_equiv (λ x. typed (list_view_type x) (ref_content (list_ref x)))
         equal-equiv };
 }
 
 impl Hash for ListScalar<'_> {
-    ghost use Rattle.vortex_views.specs.Lists.{list_ref};
+    ghost use Rattle.vortex_views.specs.Lists.{list_ref, list_view_type};
 
     ghost hash_input = { λ x. ref_feed (list_ref x) };
 

@@ -207,7 +207,7 @@ impl<'a> TryFrom<&'a Scalar> for MapScalar<'a> {
 /// Equality of entries in order, with types that are the same up to nullability: the order of keys
 /// and repeats count.
 impl PartialEq for MapScalar<'_> {
-    ghost use Rattle.vortex_views.specs.Maps.{map_ref};
+    ghost use Rattle.vortex_views.specs.Maps.{map_ref, map_view_type};
 
     ghost eq = { λ a b. ref_equal (map_ref a) (map_ref b) };
 
@@ -220,14 +220,14 @@ impl PartialEq for MapScalar<'_> {
 }
 
 impl Eq for MapScalar<'_> {
-    ghost use Rattle.vortex_views.specs.Maps.{map_ref};
+    ghost use Rattle.vortex_views.specs.Maps.{map_ref, map_view_type};
 
     ghost laws = { on_equiv (λ x. typed (map_view_type x) (ref_content (map_ref x)))
         equal-equiv };
 }
 
 impl Hash for MapScalar<'_> {
-    ghost use Rattle.vortex_views.specs.Maps.{map_ref};
+    ghost use Rattle.vortex_views.specs.Maps.{map_ref, map_view_type};
 
     ghost hash_input = { λ x. ref_feed (map_ref x) };
 

@@ -342,7 +342,7 @@ impl<'a> TryFrom<&'a Scalar> for StructScalar<'a> {
 }
 
 impl PartialEq for StructScalar<'_> {
-    ghost use Rattle.vortex_views.specs.Structs.{struct_ref};
+    ghost use Rattle.vortex_views.specs.Structs.{struct_ref, struct_view_type};
 
     ghost eq = { λ a b. ref_equal (struct_ref a) (struct_ref b) };
 
@@ -355,14 +355,14 @@ impl PartialEq for StructScalar<'_> {
 }
 
 impl Eq for StructScalar<'_> {
-    ghost use Rattle.vortex_views.specs.Structs.{struct_ref};
+    ghost use Rattle.vortex_views.specs.Structs.{struct_ref, struct_view_type};
 
     ghost laws = { on_equiv (λ x. typed (struct_view_type x) (ref_content (struct_ref x)))
         equal-equiv };
 }
 
 impl Hash for StructScalar<'_> {
-    ghost use Rattle.vortex_views.specs.Structs.{struct_ref};
+    ghost use Rattle.vortex_views.specs.Structs.{struct_ref, struct_view_type};
 
     ghost hash_input = { λ x. ref_feed (struct_ref x) };
 

@@ -201,7 +201,7 @@ impl<'a> UnionScalar<'a> {
 }
 
 impl PartialEq for UnionScalar<'_> {
-    ghost use Rattle.vortex_views.specs.Unions.{union_ref};
+    ghost use Rattle.vortex_views.specs.Unions.{union_ref, union_view_type};
 
     ghost eq = { λ a b. ref_equal (union_ref a) (union_ref b) };
 
@@ -214,7 +214,7 @@ impl PartialEq for UnionScalar<'_> {
 }
 
 impl Eq for UnionScalar<'_> {
-    ghost use Rattle.vortex_views.specs.Unions.{union_ref};
+    ghost use Rattle.vortex_views.specs.Unions.{union_ref, union_view_type};
 
     ghost laws = { on_equiv (λ x. typed (union_view_type x) (ref_content (union_ref x))) equal-equiv };
 }
