@@ -1,9 +1,12 @@
-//! Hashers that tests feed: one that adds up and one that hears nothing.
+//! Hashers that tests feed: one that adds up and one that hears nothing; and scalars, fed to both.
 
 ghost use Rattle.std.specs.Prelude.{◌+◌, ◌%◌, ◌^◌, fold};
 
+use crate::fixtures::{integer, variant};
 use std::hash::{Hash, Hasher};
 use std::process::Abort;
+use vortex_dtype::{DType, Nullability, PType};
+use vortex_value::Scalar;
 
 /// A hasher that adds all bytes up, so that their order is lost.
 #[derive(Drop)]
@@ -62,4 +65,23 @@ pub fn hashes<T: Hash + PartialEq>(rt: &impl Abort, one: &T, same: &T, other: &T
     assert!(rt; fed(one) == fed(same));
     assert!(rt; unheard(one) == unheard(same));
     assert!(rt; fed(one) != fed(other));
+}
+
+/// A variant of a number, of a nullable type or not.
+fn variant_of(rt: &(impl AllocGlobal + Abort), number: i32, nullability: Nullability) -> Scalar {
+    let inner = DType::Primitive(PType::I32, nullability);
+    Scalar {
+        dtype: DType::Variant(Nullability::NonNullable),
+        value: variant(rt, inner, integer(number)),
+    }
+}
+
+#[test]
+fn equal_scalars_feed_each_hasher_the_same(rt: HostRuntime) {
+    let all = [
+        variant_of(&rt, 42, Nullability::NonNullable),
+        variant_of(&rt, 42, Nullability::Nullable),
+        variant_of(&rt, 43, Nullability::Nullable),
+    ];
+    hashes(&rt, &all[0], &all[1], &all[2]);
 }

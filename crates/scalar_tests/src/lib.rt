@@ -4,8 +4,6 @@
 #![tactic(auto)]
 
 #[cfg(test)]
-mod borrowed;
-#[cfg(test)]
 mod fillings;
 #[cfg(test)]
 mod fixtures;
@@ -28,6 +26,8 @@ mod round_trips;
 #[cfg(test)]
 mod rust_values;
 #[cfg(test)]
+mod sizes;
+#[cfg(test)]
 mod streams;
 #[cfg(test)]
 mod struct_views;
@@ -35,8 +35,6 @@ mod struct_views;
 mod texts;
 #[cfg(test)]
 mod tour;
-#[cfg(test)]
-mod types;
 #[cfg(test)]
 mod view_laws;
 #[cfg(test)]
