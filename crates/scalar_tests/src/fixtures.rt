@@ -51,14 +51,10 @@ pub fn tuple<const N: usize>(rt: &(impl AllocGlobal + Abort), parts: [Raw; N]) -
     Some(ScalarValue::Tuple(parts))
 }
 
-/// A union's id and child.
-pub fn union_value(rt: &(impl AllocGlobal + Abort), id: u8, child: Raw) -> UnionValue {
-    UnionValue::new(rt.alloc(), id, child).expect(rt, "a union")
-}
-
 /// A union's raw value.
 pub fn union(rt: &(impl AllocGlobal + Abort), id: u8, child: Raw) -> Raw {
-    Some(ScalarValue::Union(union_value(rt, id, child)))
+    let value = UnionValue::new(rt.alloc(), id, child).expect(rt, "a union");
+    Some(ScalarValue::Union(value))
 }
 
 /// A variant's raw value, whatever the scalar.
@@ -73,82 +69,45 @@ pub fn list(rt: &(impl AllocGlobal + Abort), element: DType) -> DType {
     DType::List(element, NonNullable)
 }
 
-/// The type of lists of one size.
-pub fn fixed_size_list(rt: &(impl AllocGlobal + Abort), element: DType, size: u32) -> DType {
-    let element = Box::new(rt.alloc(), element).expect(rt, "a list");
-    DType::FixedSizeList(element, size, NonNullable)
-}
-
 /// The map type from integers to these values.
-pub fn map(rt: &(impl AllocGlobal + Abort), value: DType, keys_sorted: bool) -> DType {
-    let made = DType::map(rt.alloc(), I32, value, keys_sorted, NonNullable);
+pub fn map(rt: &(impl AllocGlobal + Abort), value: DType) -> DType {
+    let made = DType::map(rt.alloc(), I32, value, false, NonNullable);
     made.expect(rt, "a map")
 }
 
 /// A name.
-pub fn name(rt: &(impl AllocGlobal + Abort), text: &str) -> FieldName {
+fn name(rt: &(impl AllocGlobal + Abort), text: &str) -> FieldName {
     FieldName::new(text_buffer(rt, text))
 }
 
 /// Two names.
-pub fn two_names(rt: &(impl AllocGlobal + Abort), first: &str, second: &str) -> Vec<FieldName>
+fn two_names(rt: &(impl AllocGlobal + Abort), first: &str, second: &str) -> Vec<FieldName>
     ensures { length result.items ≡ 2 }
 {
     vec![in rt.alloc(); name(rt, first), name(rt, second)].expect(rt, "names")
 }
 
 /// Two types.
-pub fn two_types(rt: &(impl AllocGlobal + Abort), first: DType, second: DType) -> Vec<DType>
+fn two_types(rt: &(impl AllocGlobal + Abort), first: DType, second: DType) -> Vec<DType>
     ensures { length result.items ≡ 2 }
 {
     vec![in rt.alloc(); first, second].expect(rt, "types")
 }
 
-/// The struct type of one field `a`.
-pub fn struct_of_one(rt: &(impl AllocGlobal + Abort), field: DType) -> DType {
-    let names = vec![in rt.alloc(); name(rt, "a")].expect(rt, "names");
-    let dtypes = vec![in rt.alloc(); field].expect(rt, "types");
-    let fields = StructFields::new(rt.alloc(), names, dtypes).expect(rt, "fields");
-    DType::Struct(fields, NonNullable)
-}
-
 /// The struct type of the fields `a` and `b`.
 pub fn struct_of_two(rt: &(impl AllocGlobal + Abort), first: DType, second: DType) -> DType {
-    struct_of_names(rt, two_names(rt, "a", "b"), two_types(rt, first, second))
-}
-
-/// The struct type of two fields, the names first.
-pub fn struct_of_names(
-    rt: &(impl AllocGlobal + Abort),
-    names: Vec<FieldName>,
-    dtypes: Vec<DType>,
-) -> DType
-    requires { length names.items ≡ length dtypes.items }
-{
+    let names = two_names(rt, "a", "b");
+    let dtypes = two_types(rt, first, second);
     let fields = StructFields::new(rt.alloc(), names, dtypes).expect(rt, "fields");
     DType::Struct(fields, NonNullable)
 }
 
 /// The nullable union type of `int` (id 5, integers and nulls) and `string` (id 9, texts).
 pub fn union_of_two(rt: &(impl AllocGlobal + Abort)) -> DType {
-    union_of_ids(rt, &[5, 9])
-}
-
-/// The nullable union type of `int` (integers and nulls) and `string` (texts) with these ids.
-pub fn union_of_ids(rt: &(impl AllocGlobal + Abort), ids: &[u8]) -> DType {
     let names = two_names(rt, "int", "string");
     let int = DType::Primitive(PType::I32, Nullable);
     let dtypes = two_types(rt, int, DType::Utf8(NonNullable));
-    let ids = Vec::from_slice(rt.alloc(), ids).expect(rt, "ids");
+    let ids = Vec::from_slice(rt.alloc(), &[5, 9]).expect(rt, "ids");
     let variants = UnionVariants::try_new(rt.alloc(), names, dtypes, ids).expect(rt, "variants");
     DType::Union(variants, Nullable)
-}
-
-/// Integers in as many lists of one element.
-pub fn nested_type(rt: &(impl AllocGlobal + Abort), depth: u32) -> DType {
-    let mut dtype = I32;
-    for _ in 0..depth {
-        dtype = list(rt, dtype);
-    }
-    dtype
 }

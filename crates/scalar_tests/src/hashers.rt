@@ -1,37 +1,12 @@
-//! Hashers that tests feed: one that records, one that adds up and one that hears nothing.
+//! Hashers that tests feed: one that adds up and one that hears nothing; and scalars, fed to both.
 
-ghost use Rattle.std.specs.Prelude.{◌+◌, ◌*◌, ◌%◌, ◌^◌, bit_xor, fold};
+ghost use Rattle.std.specs.Prelude.{◌+◌, ◌%◌, ◌^◌, fold};
 
+use crate::fixtures::{integer, variant};
 use std::hash::{Hash, Hasher};
 use std::process::Abort;
-
-/// A hasher that keeps a digest of all the bytes that it is fed, in their order: where two digests
-/// differ, so do the feeds.
-#[derive(Drop)]
-pub struct Recorder(u64);
-
-impl Recorder {
-    /// The digest of no bytes.
-    pub fn new() -> Recorder {
-        Recorder(14695981039346656037)
-    }
-}
-
-impl Hasher for Recorder {
-    ghost write = { λ s bytes. record { 0 = fold (λ h b. (bit_xor h b * 1099511628211) % 2 ^ 64) s.0 bytes } };
-
-    ghost finish = { λ s. s.0 };
-
-    fn finish(&self) -> u64 {
-        self.0
-    }
-
-    fn write(&mut self, bytes: &[u8]) {
-        for b in bytes {
-            self.0 = (self.0 ^ (*b as u64)).wrapping_mul(1099511628211);
-        }
-    }
-}
+use vortex_dtype::{DType, Nullability, PType};
+use vortex_value::Scalar;
 
 /// A hasher that adds all bytes up, so that their order is lost.
 #[derive(Drop)]
@@ -69,33 +44,44 @@ impl Hasher for Deaf {
     fn write(&mut self, _bytes: &[u8]) {}
 }
 
-/// What a value feeds.
-pub fn fed<T: Hash>(value: &T) -> u64 {
-    let mut hasher = Recorder::new();
-    value.hash(&mut hasher);
-    hasher.finish()
-}
-
 /// The sum of the bytes that a value feeds.
-pub fn fed_in_all<T: Hash>(value: &T) -> u64 {
+pub fn fed<T: Hash>(value: &T) -> u64 {
     let mut hasher = Adder(0);
     value.hash(&mut hasher);
     hasher.finish()
 }
 
 /// What a hasher that hears nothing says of a value.
-pub fn unheard<T: Hash>(value: &T) -> u64 {
+fn unheard<T: Hash>(value: &T) -> u64 {
     let mut hasher = Deaf;
     value.hash(&mut hasher);
     hasher.finish()
 }
 
 /// Sees that the first two are equal and feed each hasher the same, and that a third is another and
-/// feeds another.
+/// feeds another sum.
 pub fn hashes<T: Hash + PartialEq>(rt: &impl Abort, one: &T, same: &T, other: &T) {
     assert!(rt; *one == *same && *one != *other);
     assert!(rt; fed(one) == fed(same));
-    assert!(rt; fed_in_all(one) == fed_in_all(same));
     assert!(rt; unheard(one) == unheard(same));
     assert!(rt; fed(one) != fed(other));
+}
+
+/// A variant of a number, of a nullable type or not.
+fn variant_of(rt: &(impl AllocGlobal + Abort), number: i32, nullability: Nullability) -> Scalar {
+    let inner = DType::Primitive(PType::I32, nullability);
+    Scalar {
+        dtype: DType::Variant(Nullability::NonNullable),
+        value: variant(rt, inner, integer(number)),
+    }
+}
+
+#[test]
+fn equal_scalars_feed_each_hasher_the_same(rt: HostRuntime) {
+    let all = [
+        variant_of(&rt, 42, Nullability::NonNullable),
+        variant_of(&rt, 42, Nullability::Nullable),
+        variant_of(&rt, 43, Nullability::Nullable),
+    ];
+    hashes(&rt, &all[0], &all[1], &all[2]);
 }

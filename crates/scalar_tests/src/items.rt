@@ -141,7 +141,7 @@ fn stops_at_first(rt: &impl Abort, (answer, asked): (Answer, u32)) {
 fn structs_of_another_kind_take_no_child(rt: HostRuntime) {
     asks_nothing(&rt, struct_from_two(&rt, DType::Null));
     asks_nothing(&rt, struct_from_two(&rt, I32));
-    asks_nothing(&rt, struct_from_two(&rt, map(&rt, I32, false)));
+    asks_nothing(&rt, struct_from_two(&rt, map(&rt, I32)));
 }
 
 #[test]
@@ -166,14 +166,14 @@ fn maps_are_not_made_of_structs(rt: HostRuntime) {
 
 #[test]
 fn maps_take_all_entries(rt: HostRuntime) {
-    takes_both(&rt, map_from_two(&rt, map(&rt, I32, false)));
-    takes_both(&rt, try_map_from_two(&rt, map(&rt, I32, false)));
+    takes_both(&rt, map_from_two(&rt, map(&rt, I32)));
+    takes_both(&rt, try_map_from_two(&rt, map(&rt, I32)));
 }
 
 #[test]
 fn maps_take_no_entry_past_a_wrong_one(rt: HostRuntime) {
     let text = DType::Utf8(NonNullable);
-    stops_at_first(&rt, map_from_two(&rt, map(&rt, text, false)));
+    stops_at_first(&rt, map_from_two(&rt, map(&rt, text)));
     let text = DType::Utf8(NonNullable);
-    stops_at_first(&rt, try_map_from_two(&rt, map(&rt, text, false)));
+    stops_at_first(&rt, try_map_from_two(&rt, map(&rt, text)));
 }

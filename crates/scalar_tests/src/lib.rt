@@ -1,16 +1,8 @@
-//! What no worked case says of types, raw values and scalars: values that move, calls through a
-//! bound, integer values alone, hashers, iterators, readers and writers of other kinds, and
-//! callers of laws. A crate of its own, so that the crates below are proved once.
+//! What no worked case says of types, raw values and scalars: hashers, iterators, readers and
+//! writers of other kinds, and callers of laws. A crate of its own, so that the crates below are
+//! proved once.
 #![tactic(auto)]
 
-#[cfg(test)]
-mod borrowed;
-#[cfg(test)]
-mod bounds;
-#[cfg(test)]
-mod columns;
-#[cfg(test)]
-mod conversions;
 #[cfg(test)]
 mod fillings;
 #[cfg(test)]
@@ -20,11 +12,7 @@ mod hashers;
 #[cfg(test)]
 mod items;
 #[cfg(test)]
-mod kinds;
-#[cfg(test)]
 mod leaf_views;
-#[cfg(test)]
-mod makers;
 #[cfg(test)]
 mod numbers;
 #[cfg(test)]
@@ -38,6 +26,8 @@ mod round_trips;
 #[cfg(test)]
 mod rust_values;
 #[cfg(test)]
+mod sizes;
+#[cfg(test)]
 mod streams;
 #[cfg(test)]
 mod struct_views;
@@ -45,12 +35,6 @@ mod struct_views;
 mod texts;
 #[cfg(test)]
 mod tour;
-#[cfg(test)]
-mod types;
-#[cfg(test)]
-mod union_views;
-#[cfg(test)]
-mod values;
 #[cfg(test)]
 mod view_laws;
 #[cfg(test)]

@@ -1,4 +1,4 @@
-//! Views of lists and maps: what no worked case asks of them.
+//! Views of lists and maps: hashers for them, a set of maps, and a caller of a law.
 
 ghost use Rattle.std.specs.Prelude.{◌≡◌, length};
 ghost use Rattle.vortex_views.specs.Maps.{map_view_raw};
@@ -15,25 +15,11 @@ use vortex_views::{ListScalar, MapScalar};
 
 /// The map {1: "one", 2: null}.
 fn two_entries(rt: &(impl AllocGlobal + Abort)) -> Scalar {
-    let dtype = map(rt, DType::Utf8(Nullability::Nullable), false);
+    let dtype = map(rt, DType::Utf8(Nullability::Nullable));
     let one = tuple(rt, [integer(1), text(rt, "one")]);
     let two = tuple(rt, [integer(2), None]);
     let value = tuple(rt, [one, two]);
     Scalar { dtype, value }
-}
-
-#[test]
-fn parts_of_maps_go_through_adapters(rt: HostRuntime) {
-    let scalar = two_entries(&rt);
-    let view = MapScalar::try_from(&scalar).expect(&rt, "a map");
-    assert!(rt; view.entries(rt.alloc()).count() == 2);
-    let copied = view.keys(rt.alloc()).map(|key| key.is_ok());
-    assert!(rt; copied.count() == 2);
-    let nulls = view
-        .values(rt.alloc())
-        .filter(|value| matches!(value, Ok(scalar) if scalar.is_null()));
-    assert!(rt; nulls.count() == 1);
-    drop(scalar);
 }
 
 /// How many keys a map gives: as many as it has entries.
@@ -89,7 +75,7 @@ fn map_view<'a>(rt: &impl Abort, scalar: &'a Scalar) -> MapScalar<'a> {
 
 /// The map {1: "one"}, its values of a nullable type or not.
 fn one_entry(rt: &(impl AllocGlobal + Abort), nullability: Nullability) -> Scalar {
-    let dtype = map(rt, DType::Utf8(nullability), false);
+    let dtype = map(rt, DType::Utf8(nullability));
     let entry = tuple(rt, [integer(1), text(rt, "one")]);
     let value = tuple(rt, [entry]);
     Scalar { dtype, value }
@@ -118,20 +104,4 @@ fn equal_maps_are_one_in_a_set(rt: HostRuntime) {
     assert!(rt; set.contains(&map_view(&rt, &all[1])));
     assert!(rt; !set.contains(&map_view(&rt, &all[2])));
     drop(set);
-}
-
-#[test]
-fn lists_and_maps_are_viewed_of_tuples(rt: HostRuntime) {
-    let all = [
-        Scalar {
-            dtype: list(&rt, I32),
-            value: integer(1),
-        },
-        Scalar {
-            dtype: map(&rt, I32, false),
-            value: integer(1),
-        },
-    ];
-    assert!(rt; ListScalar::try_from(&all[0]).is_err());
-    assert!(rt; MapScalar::try_from(&all[1]).is_err());
 }

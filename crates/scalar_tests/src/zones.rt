@@ -1,4 +1,4 @@
-//! Pruning: what a caller derives from the bounds of a zone alone, and the bounds themselves.
+//! Pruning: what a caller derives from the bounds of a zone alone.
 
 ghost use Rattle.std.specs.Prelude.{◌≡◌, IfOk, IsTrue};
 ghost use Rattle.vortex_dtype.specs.TypeTree.{Same};
@@ -51,20 +51,6 @@ fn a_value_between_is_read(rt: HostRuntime) {
     let read = is_read(rt.alloc(), least, greatest, 3, &value).expect(&rt, "bounds");
     assert!(rt; read);
     drop(value);
-}
-
-#[test]
-fn bounds_are_lent(rt: HostRuntime) {
-    let least = Scalar::utf8(text_buffer(&rt, "apple"), Nullability::NonNullable);
-    let greatest = Scalar::utf8(text_buffer(&rt, "banana"), Nullability::Nullable);
-    let bounds = ZoneBounds::of(rt.alloc(), least, greatest, 3).expect(&rt, "bounds");
-    let cut = [
-        Scalar::utf8(text_buffer(&rt, "app"), Nullability::NonNullable),
-        Scalar::utf8(text_buffer(&rt, "bao"), Nullability::NonNullable),
-    ];
-    assert!(rt; *bounds.lower() == cut[0]);
-    assert!(rt; bounds.upper().is_some_and(|upper| *upper == cut[1]));
-    drop((bounds, cut));
 }
 
 #[test]

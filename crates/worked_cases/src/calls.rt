@@ -49,14 +49,10 @@ impl<'a> Line<'a> {
         if str::from_utf8(self.text).is_err() {
             return Ok(Answer::BadLine);
         }
-        let answered = match self.answered()? {
-            None if self.run.is_watched() => parts::answer_line(self)?,
-            answered => answered,
-        };
-        Ok(answered.unwrap_or(Answer::BadLine))
+        Ok(self.answered()?.unwrap_or(Answer::BadLine))
     }
 
-    /// What the call answers of which a case may be, if the line names one.
+    /// What the call answers, if the line names one.
     fn answered(&mut self) -> Result<Option<Answer>, AllocError> {
         if let Some(answer) = types::answer_line(self)? {
             return Ok(Some(answer));
@@ -79,7 +75,10 @@ impl<'a> Line<'a> {
         if let Some(answer) = bounds::answer_line(self)? {
             return Ok(Some(answer));
         }
-        rust_values::answer_line(self)
+        if let Some(answer) = rust_values::answer_line(self)? {
+            return Ok(Some(answer));
+        }
+        parts::answer_line(self)
     }
 
     /// What a call answers that borrows its inputs. Where it is watched, these have to be as they

@@ -3,7 +3,7 @@
 use std::alloc::Global;
 
 /// How lines are run: alone, or watched. A watched run says on standard error when a call is made
-/// and when it has answered, sees that what the call borrows is as it was, and knows `PARTS` too.
+/// and when it has answered, and sees that what the call borrows is as it was.
 #[derive(Clone, Copy)]
 pub struct Run<'a> {
     alloc: Global,

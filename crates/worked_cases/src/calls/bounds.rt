@@ -19,14 +19,10 @@ use vortex_zone::ZoneBounds;
 /// What the line's call answers, if it is one of these.
 pub fn answer_line(line: &mut Line<'_>) -> Result<Option<Answer>, AllocError> {
     match line.name {
-        b"lower" => line.taking(|alloc, inputs: Truncated| bound(alloc, Side::Lower, inputs)),
-        b"upper" => line.taking(|alloc, inputs: Truncated| bound(alloc, Side::Upper, inputs)),
-        b"own_lower" => {
-            line.taking(|alloc, inputs: Truncated| bound(alloc, Side::OwnLower, inputs))
-        }
-        b"own_upper" => {
-            line.taking(|alloc, inputs: Truncated| bound(alloc, Side::OwnUpper, inputs))
-        }
+        b"lower" => line.taking(|alloc, x: Truncated| bound(alloc, Side::Lower, x)),
+        b"upper" => line.taking(|alloc, x: Truncated| bound(alloc, Side::Upper, x)),
+        b"own_lower" => line.taking(|alloc, x: Truncated| bound(alloc, Side::OwnLower, x)),
+        b"own_upper" => line.taking(|alloc, x: Truncated| bound(alloc, Side::OwnUpper, x)),
         b"truncated_bytes" => line.taking(|_, scalar: Scalar| {
             Ok(or_none(ByteBuffer::from_scalar(scalar)?.map(bytes)))
         }),

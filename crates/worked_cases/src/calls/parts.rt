@@ -1,4 +1,4 @@
-//! Calls of parts of types and values, of which no case is: the lines of a watched run are.
+//! Calls of parts of types and values: how they are copied, made and lent.
 
 use crate::answers::{Answer, Answering, buffer_text, bytes};
 use crate::calls::Line;

@@ -248,49 +248,27 @@ impl Answers for bool {
     }
 }
 
-impl Answers for u8 {
-    fn answer(self, _alloc: Global) -> Answering {
-        Ok(Answer::Integer(self.into_pvalue()))
-    }
-}
+/// The eight integers. A trait of this crate, so that one impl for them all stands beside those for
+/// other types.
+trait Whole: NativePType {}
 
-impl Answers for u16 {
-    fn answer(self, _alloc: Global) -> Answering {
-        Ok(Answer::Integer(self.into_pvalue()))
-    }
-}
+impl Whole for u8 {}
 
-impl Answers for u32 {
-    fn answer(self, _alloc: Global) -> Answering {
-        Ok(Answer::Integer(self.into_pvalue()))
-    }
-}
+impl Whole for u16 {}
 
-impl Answers for u64 {
-    fn answer(self, _alloc: Global) -> Answering {
-        Ok(Answer::Integer(self.into_pvalue()))
-    }
-}
+impl Whole for u32 {}
 
-impl Answers for i8 {
-    fn answer(self, _alloc: Global) -> Answering {
-        Ok(Answer::Integer(self.into_pvalue()))
-    }
-}
+impl Whole for u64 {}
 
-impl Answers for i16 {
-    fn answer(self, _alloc: Global) -> Answering {
-        Ok(Answer::Integer(self.into_pvalue()))
-    }
-}
+impl Whole for i8 {}
 
-impl Answers for i32 {
-    fn answer(self, _alloc: Global) -> Answering {
-        Ok(Answer::Integer(self.into_pvalue()))
-    }
-}
+impl Whole for i16 {}
 
-impl Answers for i64 {
+impl Whole for i32 {}
+
+impl Whole for i64 {}
+
+impl<T: Whole> Answers for T {
     fn answer(self, _alloc: Global) -> Answering {
         Ok(Answer::Integer(self.into_pvalue()))
     }

@@ -9,7 +9,7 @@ use crate::calls::makers::where_valid;
 use crate::calls::recorder::fed;
 use std::alloc::{AllocError, Global};
 use vortex_dtype::{DType, VortexError};
-use vortex_value::{Scalar, ScalarValue};
+use vortex_value::{Scalar, ScalarRef, ScalarValue};
 
 /// What the line's call answers, if it is one of these.
 pub fn answer_line(line: &mut Line<'_>) -> Result<Option<Answer>, AllocError> {
@@ -27,6 +27,14 @@ pub fn answer_line(line: &mut Line<'_>) -> Result<Option<Answer>, AllocError> {
         b"hash" => line.borrowing(|_, (x, y): &(Scalar, Scalar)| {
             Ok(Answer::SameFeed(fed(x) == fed(y)))
         }),
+        b"hash_lent" => line.borrowing(|_, (x, y): &(Scalar, Scalar)| {
+            Ok(Answer::SameFeed(fed(&ScalarRef::of(x)) == fed(y)))
+        }),
+        b"hash_raw" => {
+            line.borrowing(|_, (x, y): &(Option<ScalarValue>, Option<ScalarValue>)| {
+                Ok(Answer::SameFeed(fed(x) == fed(y)))
+            })
+        }
         b"order" => line.borrowing(order),
         b"is_zero" => line.borrowing(is_zero),
         b"size" => line.borrowing(size),

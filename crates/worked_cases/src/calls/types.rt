@@ -2,6 +2,7 @@
 
 use crate::answers::{Answer, Answering, or_none};
 use crate::calls::Line;
+use crate::calls::recorder::fed;
 use std::alloc::{AllocError, Global};
 use vortex_dtype::{BufferString, DType, FieldName, VortexError};
 use vortex_value::Scalar;
@@ -13,6 +14,9 @@ pub fn answer_line(line: &mut Line<'_>) -> Result<Option<Answer>, AllocError> {
             Ok(Answer::Truth(x.eq_ignore_nullability(y)))
         }),
         b"equal_types" => line.borrowing(|_, (x, y): &(DType, DType)| Ok(Answer::Truth(x == y))),
+        b"hash_types" => line.borrowing(|_, (x, y): &(DType, DType)| {
+            Ok(Answer::SameFeed(fed(x) == fed(y)))
+        }),
         b"as_nullable" => line.taking(|_, dtype: DType| Ok(Answer::Type(dtype.as_nullable()))),
         b"project" => line.borrowing(project),
         b"find" => line.borrowing(find),

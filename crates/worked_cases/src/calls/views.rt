@@ -33,6 +33,7 @@ pub fn answer_line(line: &mut Line<'_>) -> Result<Option<Answer>, AllocError> {
         b"type_id" => line.borrowing(type_id),
         b"variant_name" => line.borrowing(variant_name),
         b"inner" => line.borrowing(inner),
+        b"is_variant_null" => line.borrowing(is_variant_null),
         b"storage" => line.borrowing(storage),
         _ => Ok(None),
     }
@@ -266,6 +267,12 @@ fn inner(alloc: Global, scalar: &Scalar) -> Answering {
         Some(held) => Ok(Answer::Scalar(held.clone(alloc)?)),
         None => Ok(Answer::None),
     }
+}
+
+fn is_variant_null(alloc: Global, scalar: &Scalar) -> Answering {
+    validate(alloc, scalar)?;
+    let variant = of_kind(scalar.as_variant_opt())?;
+    Ok(or_none(variant.is_variant_null().map(Answer::Truth)))
 }
 
 fn storage(alloc: Global, scalar: &Scalar) -> Answering {

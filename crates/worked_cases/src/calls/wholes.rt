@@ -22,22 +22,10 @@ pub fn answer_line(line: &mut Line<'_>) -> Result<Option<Answer>, AllocError> {
     match line.name {
         b"view" => line.borrowing(viewed),
         b"try_view" => line.borrowing(try_view),
-        b"view_text" => line.borrowing(|alloc, scalar: &Scalar| {
-            validate(alloc, scalar)?;
-            text(alloc, scalar)
-        }),
-        b"len" => line.borrowing(|alloc, scalar: &Scalar| {
-            validate(alloc, scalar)?;
-            length(scalar)
-        }),
-        b"is_empty" => line.borrowing(|alloc, scalar: &Scalar| {
-            validate(alloc, scalar)?;
-            is_empty(scalar)
-        }),
-        b"is_null" => line.borrowing(|alloc, scalar: &Scalar| {
-            validate(alloc, scalar)?;
-            is_null(scalar)
-        }),
+        b"view_text" => line.borrowing(text),
+        b"len" => line.borrowing(length),
+        b"is_empty" => line.borrowing(is_empty),
+        b"is_null" => line.borrowing(is_null),
         b"view_order" => line.borrowing(view_order),
         _ => Ok(None),
     }
@@ -124,9 +112,8 @@ fn try_view(alloc: Global, (view, scalar): &(View, Scalar)) -> Answering {
 }
 
 /// The text of the view.
-fn text(alloc: Global, scalar: &Scalar) -> Answering
-    requires { IsValid scalar.now }
-{
+fn text(alloc: Global, scalar: &Scalar) -> Answering {
+    validate(alloc, scalar)?;
     match scalar.dtype() {
         DType::Bool(_) => text_of(alloc, &scalar.as_bool()),
         DType::Primitive(_, _) => text_of(alloc, &scalar.as_primitive()),
@@ -152,9 +139,8 @@ fn text_with_parts(alloc: Global, scalar: &Scalar) -> Answering
 }
 
 /// How many bytes, elements or entries there are.
-fn length(scalar: &Scalar) -> Answering
-    requires { IsValid scalar.now }
-{
+fn length(alloc: Global, scalar: &Scalar) -> Answering {
+    validate(alloc, scalar)?;
     let length = match scalar.dtype() {
         DType::Utf8(_) => scalar.as_utf8().len(),
         DType::Binary(_) => scalar.as_binary().len(),
@@ -166,9 +152,8 @@ fn length(scalar: &Scalar) -> Answering
 }
 
 /// Whether there is no byte, element or entry.
-fn is_empty(scalar: &Scalar) -> Answering
-    requires { IsValid scalar.now }
-{
+fn is_empty(alloc: Global, scalar: &Scalar) -> Answering {
+    validate(alloc, scalar)?;
     let is_empty = match scalar.dtype() {
         DType::Utf8(_) => scalar.as_utf8().is_empty(),
         DType::Binary(_) => scalar.as_binary().is_empty(),
@@ -180,9 +165,8 @@ fn is_empty(scalar: &Scalar) -> Answering
 }
 
 /// Whether the view is of a null.
-fn is_null(scalar: &Scalar) -> Answering
-    requires { IsValid scalar.now }
-{
+fn is_null(alloc: Global, scalar: &Scalar) -> Answering {
+    validate(alloc, scalar)?;
     Ok(Answer::Truth(match scalar.dtype() {
         DType::List(_, _) | DType::FixedSizeList(_, _, _) => scalar.as_list().is_null(),
         DType::Map(_, _) => scalar.as_map().is_null(),

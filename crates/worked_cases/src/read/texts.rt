@@ -14,7 +14,7 @@ pub fn read_text(tokens: &mut Tokens<'_>) -> BufferString {
     tokens.expect(b'"');
     for _ in 0..tokens.left() {
         match tokens.byte() {
-            Some(b'"') => return made_text(tokens, text_of(text)),
+            Some(b'"') => return made_text(tokens, ByteBuffer::from_vec(text)),
             Some(b'\\') => read_escape(tokens, &mut text),
             Some(byte) => tokens.push(&mut text, byte),
             None => break,
@@ -24,13 +24,13 @@ pub fn read_text(tokens: &mut Tokens<'_>) -> BufferString {
     no_text(tokens.alloc)
 }
 
-fn text_of(bytes: Vec<u8>) -> Result<BufferString, VortexError> {
-    BufferString::try_from(ByteBuffer::from_vec(bytes)?)
+fn text_of(bytes: Result<ByteBuffer, VortexError>) -> Result<BufferString, VortexError> {
+    BufferString::try_from(bytes?)
 }
 
-/// The text that was made; where there was no memory for it, no text.
-fn made_text(tokens: &mut Tokens<'_>, made: Result<BufferString, VortexError>) -> BufferString {
-    match tokens.made(made) {
+/// The text of bytes that were made; where there was no memory for them, no text.
+fn made_text(tokens: &mut Tokens<'_>, bytes: Result<ByteBuffer, VortexError>) -> BufferString {
+    match tokens.made(text_of(bytes)) {
         Some(text) => text,
         None => no_text(tokens.alloc),
     }
@@ -91,19 +91,15 @@ pub fn read_name(tokens: &mut Tokens<'_>) -> BufferString {
     }
     let word = tokens.word();
     match word.first() {
-        Some(first) if !first.is_ascii_digit() => made_text(
-            tokens,
-            text_of_word(tokens.alloc, word),
-        ),
+        Some(first) if !first.is_ascii_digit() => {
+            let bytes = ByteBuffer::from_slice(tokens.alloc, word);
+            made_text(tokens, bytes)
+        }
         _ => {
             tokens.bad_line();
             no_text(tokens.alloc)
         }
     }
-}
-
-fn text_of_word(alloc: Global, word: &[u8]) -> Result<BufferString, VortexError> {
-    BufferString::try_from(ByteBuffer::from_slice(alloc, word)?)
 }
 
 /// Reads a name, and adds it to the others.
