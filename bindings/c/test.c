@@ -145,9 +145,24 @@ static void columns(void) {
     CHECK(holds(room, lengths.lower, "ab") && !lengths.has_upper && lengths.upper == 0 && is_kept(other, 0));
 }
 
+static void calls(void) {
+    fresh();
+    CHECK(vortex_call(BYTES("cast i32:1000i32 i16"), room, ROOM, &count) == VORTEX_GIVEN && holds(room, count, "i16:1000i16"));
+    fresh();
+    CHECK(vortex_call(BYTES("cast i32:1000i32 i8"), room, 10, &count) == VORTEX_GIVEN && holds(room, count, "CannotCast"));
+    fresh();
+    CHECK(vortex_call(BYTES("cast i32:1000i32 i8"), room, 9, &count) == VORTEX_NO_ROOM && count == 10 && is_kept(room, 0));
+    CHECK(vortex_call(BYTES("cast i32:1000i32 i8"), room, 0, &count) == VORTEX_NO_ROOM && count == 10 && is_kept(room, 0));
+    CHECK(vortex_call(BYTES("cast i32:1i32 i8 => 7"), room, ROOM, &count) == VORTEX_GIVEN && holds(room, count, "i8:1i8"));
+    fresh();
+    CHECK(vortex_call(BYTES(""), room, ROOM, &count) == VORTEX_GIVEN && holds(room, count, "bad line"));
+    fresh();
+    CHECK(vortex_call(BYTES("clone utf8:\"\xff\""), room, ROOM, &count) == VORTEX_GIVEN && holds(room, count, "bad line"));
+}
+
 #define LONG "0123456789012345678901234567"
 
-// The calls that take memory, at more than 22 bytes.
+// The calls that take memory: of bounds at more than 22 bytes, and of a line that makes lists.
 static uint32_t take_memory(int which) {
     static const uint64_t offsets[] = {0, 28};
     switch (which) {
@@ -155,6 +170,7 @@ static uint32_t take_memory(int which) {
     case 1: return vortex_upper_bound_text(BYTES(LONG), 24, room, ROOM, &count);
     case 2: return vortex_column_bounds_bytes(BYTES(LONG), offsets, 2, 24, room, ROOM, other, ROOM, &lengths);
     case 3: return vortex_column_bounds_text(BYTES(LONG), offsets, 2, 24, room, ROOM, other, ROOM, &lengths);
+    case 4: return vortex_call(BYTES("cast list(i32):[1i32, 2i32] list(i64)"), room, ROOM, &count);
     default: exit(2);
     }
 }
@@ -164,10 +180,16 @@ static void say(const char *line) {
     if (write(2, line, strlen(line)) < 0) exit(2);
 }
 
-// 0 where the call gives its bound, 3 where it finds no memory and writes nothing, 1 where it does neither, or leaks.
+// Of what was given: 0 where it is the bound, or the cast list; 3 where it is that the cast found no memory; 1 otherwise.
+static int given(int which) {
+    if (which == 4) return holds(room, count, "list(i64):[1i64, 2i64]") ? 0 : holds(room, count, "OutOfMemory") ? 3 : 1;
+    return memcmp(which < 2 ? room : other, "012345678901234567890124", 24) ? 1 : 0;
+}
+
+// 0 where the call gives what it is to give, 3 where it finds no memory and writes nothing else, 1 where it does neither, or
+// leaks.
 static int memory(int which) {
-    static const uint8_t bound[] = "012345678901234567890124";
-    // What the allocator keeps of freed memory for later counts as in use: so a first call fills that.
+    // What the allocator takes for itself counts as in use: so a first call has it take that.
     take_memory(which);
     fresh();
     size_t before = mallinfo2().uordblks;
@@ -176,8 +198,7 @@ static int memory(int which) {
     say("answered\n");
     if (mallinfo2().uordblks != before) return 1;
     if (status == VORTEX_NO_MEMORY) return count == 77 && nothing_written() ? 3 : 1;
-    if (status != VORTEX_GIVEN) return 1;
-    return memcmp(which < 2 ? room : other, bound, 24) ? 1 : 0;
+    return status == VORTEX_GIVEN ? given(which) : 1;
 }
 
 int main(int argc, char **argv) {
@@ -187,6 +208,7 @@ int main(int argc, char **argv) {
     upper_bounds();
     zones();
     columns();
+    calls();
     printf("%d passed, %d failed\n", passed, failed);
     return failed != 0;
 }

@@ -1,5 +1,5 @@
-/* Casts that never change a value, bounds that never exclude one, pruning that loses none: proved in Rattle, by the
- * contracts in crates/vortex_c. This header is written by hand.
+/* Casts that never change a value, bounds that never exclude one, pruning that loses none, and any other call of the
+ * library by a line of text: proved in Rattle, by the contracts in crates/vortex_c. This header is written by hand.
  *
  * A call answers a status, where it can do other than succeed. What its comment does not name under a status is not
  * written then.
@@ -103,6 +103,17 @@ uint32_t vortex_column_bounds_text(const uint8_t *bytes, size_t bytes_length, co
                                    size_t offsets_length, size_t n, uint8_t *lower_room, size_t lower_room_length,
                                    uint8_t *upper_room, size_t upper_room_length,
                                    struct vortex_bound_lengths *lengths);
+
+/* Any call of the library, by a line of text, as the worked cases in crates/scalar_cases/stdin have them: the call's name
+ * and what it is given. `cast i32:1000i32 i16` answers `i16:1000i16`. A refusal is an answer as well, as `CannotCast`, and
+ * so is `bad line`, to a line that is none. An arrow at the line's end, and what follows it, is passed over.
+ * GIVEN: the answer is in the first *count bytes of the room, and is UTF-8; those after it are as they were. Which answer
+ * it is, no clause says: the stored cases are run.
+ * NO_ROOM: *count, more than room_length, is how many bytes the answer has. So a room of no bytes asks how many.
+ * NO_MEMORY: there is none in which to read the line or to write the answer. Where the call itself finds none, that is its
+ * answer, `OutOfMemory`.
+ * Brackets in one another take stack: at 256, the most that are read, 600 kilobytes were seen, and 20 without any. */
+uint32_t vortex_call(const uint8_t *line, size_t line_length, uint8_t *room, size_t room_length, size_t *count);
 
 #ifdef __cplusplus
 }

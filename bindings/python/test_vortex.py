@@ -1,4 +1,4 @@
-"""100,000 random values of each call, compared with plain Python, and what each error comes of.
+"""100,000 random values of each call, compared with plain Python, the stored cases, and what each error comes of.
 
 python3 -m unittest runs it, in this folder.
 """
@@ -10,11 +10,13 @@ import random
 import unittest
 from array import array
 from itertools import accumulate, pairwise
+from pathlib import Path
 
 import vortex
 from vortex import Kind, ZoneBounds
 
 COUNT = 100_000
+CASES = Path(__file__).resolve().parents[2] / "crates/scalar_cases"
 RANGES = {
     kind: range(-(2 ** (int(kind.name[1:]) - 1)), 2 ** (int(kind.name[1:]) - 1))
     if kind.is_signed
@@ -144,6 +146,30 @@ class Compared(unittest.TestCase):
                     vortex.column_bounds(data, offsets, 8)
 
 
+def is_right(line: str) -> bool:
+    """Whether the call before an arrow of the line answers what follows it. A text in a line may have an arrow too."""
+    parts = line.split(" => ")
+    return any(vortex.call(" => ".join(parts[:place])) == " => ".join(parts[place:]) for place in range(1, len(parts)))
+
+
+class Cases(unittest.TestCase):
+    def test_stored_cases(self) -> None:
+        lines = (CASES / "stdin").read_text(encoding="utf-8").split("\n")
+        cases = [line for line in lines if not line.startswith("#") and " => " in line]
+        self.assertEqual((CASES / "stdout").read_text(), f"{len(cases)} cases, 0 wrong\n")
+        self.assertEqual([line for line in cases if not is_right(line)], [])
+
+    def test_an_answer_of_any_length(self) -> None:
+        for length in [0, 100, 248, 249, 250, 100_000]:
+            text = 'utf8:"' + "a" * length + '"'
+            self.assertEqual(vortex.call(f"clone {text}"), text)
+
+    def test_what_is_no_line(self) -> None:
+        for line in ["", "cast", "cast i32:1i32", "# cast i32:1i32 i8", "cast i32:1i32 i8\n", "\0"]:
+            self.assertEqual(vortex.call(line), "bad line")
+        self.assertEqual(vortex.call("cast i32:1i32 i8 => 7"), "i8:1i8")
+
+
 class Refused(unittest.TestCase):
     def test_numbers_of_no_kind(self) -> None:
         for number, kind in [(256, Kind.U8), (-1, Kind.U64), (128, Kind.I8), (2**64, Kind.U64), (2**63, Kind.I64), (-(2**63) - 1, Kind.I64)]:
@@ -158,6 +184,8 @@ class Refused(unittest.TestCase):
                 call("a\ud800", 1)
         with self.assertRaises(vortex.NotUtf8):
             ZoneBounds("a", "b").may_contain("\ud800")
+        with self.assertRaises(vortex.NotUtf8):
+            vortex.call('clone utf8:"\ud800"')
         with self.assertRaises(vortex.NotUtf8):
             vortex.column_bounds_text("ñ", [0, 1], 8)
 
@@ -193,6 +221,7 @@ class Taken(unittest.TestCase):
 
 def load_tests(loader: unittest.TestLoader, tests: unittest.TestSuite, pattern: str | None) -> unittest.TestSuite:
     tests.addTests(doctest.DocTestSuite(vortex))
+    tests.addTests(doctest.DocFileSuite("../README.md", globs={"vortex": vortex}, encoding="utf-8"))
     return tests
 
 

@@ -1,4 +1,4 @@
-"""Casts that never change a value, bounds that never exclude one, and pruning that loses none.
+"""Casts that never change a value, bounds that never exclude one, pruning that loses none, and any call by a line.
 
 The work is done by functions that are proved against their contracts, in Rattle. This module is their face: it is plain
 Python, and not proved. It loads `libvortex.so`, which `tools/build_bindings` puts into bindings/out, or into the folder
@@ -32,6 +32,7 @@ __all__ = [
     "OutOfMemory",
     "VortexError",
     "ZoneBounds",
+    "call",
     "cast",
     "column_bounds",
     "column_bounds_text",
@@ -130,6 +131,7 @@ _may_contain_bytes = _declare("may_contain_bytes", c_bool, *_BYTES, *_BYTES, c_b
 _may_contain_text = _declare("may_contain_text", c_uint32, *_BYTES, *_BYTES, c_bool, *_BYTES, POINTER(c_bool))
 _column_bytes = _declare("column_bounds_bytes", c_uint32, *_COLUMN)
 _column_text = _declare("column_bounds_text", c_uint32, *_COLUMN)
+_call = _declare("call", c_uint32, *_BYTES, *_ROOM, POINTER(c_size_t))
 
 
 def _check(status: int) -> None:
@@ -315,3 +317,24 @@ def column_bounds_text(data: str | bytes | bytearray | memoryview, offsets: Iter
         return None
     lower, upper = bounds
     return ZoneBounds(lower.decode(), None if upper is None else upper.decode())
+
+
+def call(line: str) -> str:
+    """What a call answers that is a line of text: its name and what it is given, as the worked cases in
+    crates/scalar_cases/stdin have them.
+
+    A refusal is an answer as well, OutOfMemory among them, and so is `bad line`, to a line that is none. An arrow at the
+    line's end, and what follows it, is passed over. Raises OutOfMemory where there is no memory for the line or the answer.
+
+    >>> call("cast i32:1000i32 i16"), call("cast i32:1000i32 i8")
+    ('i16:1000i16', 'CannotCast')
+    """
+    encoded = _encoded(line)
+    count = c_size_t(256)
+    status = _NO_ROOM
+    while status == _NO_ROOM:
+        length = count.value
+        room = _room(length)
+        status = _call(encoded, len(encoded), room, length, byref(count))
+    _check(status)
+    return ctypes.string_at(room, count.value).decode()

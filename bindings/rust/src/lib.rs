@@ -1,4 +1,5 @@
-//! Casts that never change a value, bounds that never exclude one, and pruning that loses none.
+//! Casts that never change a value, bounds that never exclude one, pruning that loses none, and any other call of the
+//! library by a line of text.
 //!
 //! The work is done by functions that are proved against their contracts, in Rattle. This crate is their safe face: it
 //! is plain Rust, and not proved.
@@ -19,12 +20,14 @@
 //! # Ok::<(), vortex::ColumnError>(())
 //! ```
 
+mod call;
 mod column;
 mod integer;
 mod raw;
 mod truncation;
 mod zone;
 
+pub use call::call;
 pub use column::{ColumnError, column_bounds, column_bounds_text};
 pub use integer::{Integer, cast};
 pub use truncation::{lower_bound, lower_bound_text, upper_bound, upper_bound_text};

@@ -6,6 +6,7 @@
 pub const GIVEN: u32 = 0;
 pub const NONE: u32 = 1;
 pub const NO_MEMORY: u32 = 2;
+pub const NO_ROOM: u32 = 3;
 pub const NOT_UTF8: u32 = 4;
 pub const BAD_OFFSETS: u32 = 6;
 
@@ -101,5 +102,12 @@ unsafe extern "C" {
         upper_room: *mut u8,
         upper_room_length: usize,
         lengths: &mut BoundLengths,
+    ) -> u32;
+    pub fn vortex_call(
+        line: *const u8,
+        line_length: usize,
+        room: *mut u8,
+        room_length: usize,
+        count: &mut usize,
     ) -> u32;
 }

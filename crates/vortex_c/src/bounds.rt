@@ -177,7 +177,7 @@ pub(crate) fn upper_of_text(
 }
 
 /// Writes the bound to the room, and its length; only the length where the room is too small.
-fn give(bound: &[u8], room: &mut [u8], count: &mut usize) -> u32
+pub(crate) fn give(bound: &[u8], room: &mut [u8], count: &mut usize) -> u32
     ensures statuses { (result ≡ GIVEN) ⊎ (result ≡ NO_ROOM) }
     ensures count { count.new ≡ length bound.now }
     ensures within { result ≡ GIVEN → length bound.now ≤ length room.old }

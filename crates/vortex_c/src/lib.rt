@@ -1,9 +1,10 @@
-//! Casts, bounds and pruning for callers from C.
+//! Casts, bounds, pruning, and any other call by its line, for callers from C.
 //!
 //! Of a call that answers a status, the clauses say what each status means and what was written.
 #![tactic(auto)]
 
 mod bounds;
+mod calls;
 mod columns;
 mod integers;
 mod status;
