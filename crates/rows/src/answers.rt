@@ -20,7 +20,7 @@ use crate::commands::Side;
 use std::alloc::{AllocError, Global};
 use vortex_array::laws::{bounds_are_computed, bounds_are_unique};
 use vortex_array::{
-    ByteBuffer, DType, Nullability, PType, PValue, Scalar, lower_bound, upper_bound,
+    ByteBuffer, DType, Nullability, PType, PValue, Scalar, ScalarValue, lower_bound, upper_bound,
 };
 
 /// The number in another kind, where that has it.
@@ -32,7 +32,7 @@ pub fn number_in_ptype(alloc: Global, number: PValue, ptype: PType) -> Option<PV
     let target = DType::Primitive(ptype, Nullability::NonNullable);
     let source = scalar_of(number);
     match source.cast(alloc, &target) {
-        Ok(made) => Some(number_of(made)),
+        Ok(made) => Some(number_of(&made)),
         Err(_) => None,
     }
 }
@@ -43,19 +43,19 @@ fn scalar_of(number: PValue) -> Scalar
     ensures content { scalar_content result ≡ whole (whole_of number) }
     ensures valid { IsValid result }
 {
-    match Scalar::primitive_value(number, number.ptype(), Nullability::NonNullable) {
-        Ok(scalar) => scalar,
-        Err(_) => unreachable!(),
+    Scalar {
+        dtype: DType::Primitive(number.ptype(), Nullability::NonNullable),
+        value: Some(ScalarValue::Primitive(number)),
     }
 }
 
 /// The number of a scalar that has one.
-fn number_of(scalar: Scalar) -> PValue
-    requires { IsIntegerValue (scalar_raw scalar) }
-    ensures { scalar_raw scalar ≡ raw_integer (ptype_of result) (whole_of result) }
+fn number_of(scalar: &Scalar) -> PValue
+    requires { IsIntegerValue (scalar_raw scalar.now) }
+    ensures { scalar_raw scalar.now ≡ raw_integer (ptype_of result) (whole_of result) }
 {
-    match scalar.into_value() {
-        Some(value) => value.into_primitive(),
+    match scalar.value() {
+        Some(value) => *value.as_primitive(),
         None => unreachable!(),
     }
 }
