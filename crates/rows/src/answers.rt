@@ -8,6 +8,7 @@ ghost use Rattle.vortex_dtype.specs.declared.nullability.Nullability.TheVariants
 ghost use Rattle.vortex_pvalue.specs.Conversions.{IsNumber};
 ghost use Rattle.vortex_pvalue.specs.Numbers.{InRange};
 ghost use Rattle.vortex_pvalue.specs.Whole.{ptype_of, whole_of};
+ghost use Rattle.vortex_value.specs.Casts.{IsInteger};
 ghost use Rattle.vortex_value.specs.Values.Content.{whole};
 ghost use Rattle.vortex_value.specs.Values.RawKinds.{IsBytesValue, IsIntegerValue};
 ghost use Rattle.vortex_value.specs.Values.RawTree.{raw_bytes, raw_integer};
@@ -49,14 +50,16 @@ fn scalar_of(number: PValue) -> Scalar
     }
 }
 
-/// The number of a scalar that has one.
+/// The number of a scalar that has one. The type is looked at too, so that it is known that the
+/// scalar holds nothing to let go.
 fn number_of(scalar: &Scalar) -> PValue
-    requires { IsIntegerValue (scalar_raw scalar.now) }
+    requires typed { IsInteger (scalar_type scalar.now) }
+    requires present { IsIntegerValue (scalar_raw scalar.now) }
     ensures { scalar_raw scalar.now ≡ raw_integer (ptype_of result) (whole_of result) }
 {
-    match scalar.value() {
-        Some(value) => *value.as_primitive(),
-        None => unreachable!(),
+    match (scalar.dtype(), scalar.value()) {
+        (DType::Primitive(_, _), Some(value)) => *value.as_primitive(),
+        _ => unreachable!(),
     }
 }
 
