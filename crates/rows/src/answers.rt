@@ -33,8 +33,14 @@ pub fn number_in_ptype(alloc: Global, number: PValue, ptype: PType) -> Option<PV
     let target = DType::Primitive(ptype, Nullability::NonNullable);
     let source = scalar_of(number);
     match source.cast(alloc, &target) {
-        Ok(made) => Some(number_of(&made)),
-        Err(_) => None,
+        Ok(made) => {
+            let_go(source);
+            Some(number_of(&made))
+        }
+        Err(_) => {
+            let_go(source);
+            None
+        }
     }
 }
 
@@ -61,6 +67,14 @@ fn number_of(scalar: &Scalar) -> PValue
         (DType::Primitive(_, _), Some(value)) => *value.as_primitive(),
         _ => unreachable!(),
     }
+}
+
+/// Drops the scalar of a number, which holds nothing to let go.
+fn let_go(scalar: Scalar)
+    requires typed { IsInteger (scalar_type scalar) }
+    requires present { IsIntegerValue (scalar_raw scalar) }
+{
+    let _number = number_of(&scalar);
 }
 
 /// The string, or its bound on this side, if there is one.
