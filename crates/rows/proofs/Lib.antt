@@ -6,3 +6,4 @@ pub mod Numerals
 pub mod Operands
 pub mod Places
 pub mod Beginnings
+pub mod HexWords

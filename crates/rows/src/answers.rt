@@ -8,6 +8,7 @@ ghost use Rattle.vortex_dtype.specs.declared.nullability.Nullability.TheVariants
 ghost use Rattle.vortex_pvalue.specs.Conversions.{IsNumber};
 ghost use Rattle.vortex_pvalue.specs.Numbers.{InRange};
 ghost use Rattle.vortex_pvalue.specs.Whole.{ptype_of, whole_of};
+ghost use Rattle.vortex_value.specs.Casts.{IsInteger};
 ghost use Rattle.vortex_value.specs.Values.Content.{whole};
 ghost use Rattle.vortex_value.specs.Values.RawKinds.{IsBytesValue, IsIntegerValue};
 ghost use Rattle.vortex_value.specs.Values.RawTree.{raw_bytes, raw_integer};
@@ -20,7 +21,7 @@ use crate::commands::Side;
 use std::alloc::{AllocError, Global};
 use vortex_array::laws::{bounds_are_computed, bounds_are_unique};
 use vortex_array::{
-    ByteBuffer, DType, Nullability, PType, PValue, Scalar, lower_bound, upper_bound,
+    ByteBuffer, DType, Nullability, PType, PValue, Scalar, ScalarValue, lower_bound, upper_bound,
 };
 
 /// The number in another kind, where that has it.
@@ -32,8 +33,14 @@ pub fn number_in_ptype(alloc: Global, number: PValue, ptype: PType) -> Option<PV
     let target = DType::Primitive(ptype, Nullability::NonNullable);
     let source = scalar_of(number);
     match source.cast(alloc, &target) {
-        Ok(made) => Some(number_of(made)),
-        Err(_) => None,
+        Ok(made) => {
+            let_go(source);
+            Some(number_of(&made))
+        }
+        Err(_) => {
+            let_go(source);
+            None
+        }
     }
 }
 
@@ -43,21 +50,31 @@ fn scalar_of(number: PValue) -> Scalar
     ensures content { scalar_content result ≡ whole (whole_of number) }
     ensures valid { IsValid result }
 {
-    match Scalar::primitive_value(number, number.ptype(), Nullability::NonNullable) {
-        Ok(scalar) => scalar,
-        Err(_) => unreachable!(),
+    Scalar {
+        dtype: DType::Primitive(number.ptype(), Nullability::NonNullable),
+        value: Some(ScalarValue::Primitive(number)),
     }
 }
 
-/// The number of a scalar that has one.
-fn number_of(scalar: Scalar) -> PValue
-    requires { IsIntegerValue (scalar_raw scalar) }
-    ensures { scalar_raw scalar ≡ raw_integer (ptype_of result) (whole_of result) }
+/// The number of a scalar that has one. The type is looked at too, so that it is known that the
+/// scalar holds nothing to let go.
+fn number_of(scalar: &Scalar) -> PValue
+    requires typed { IsInteger (scalar_type scalar.now) }
+    requires present { IsIntegerValue (scalar_raw scalar.now) }
+    ensures { scalar_raw scalar.now ≡ raw_integer (ptype_of result) (whole_of result) }
 {
-    match scalar.into_value() {
-        Some(value) => value.into_primitive(),
-        None => unreachable!(),
+    match (scalar.dtype(), scalar.value()) {
+        (DType::Primitive(_, _), Some(value)) => *value.as_primitive(),
+        _ => unreachable!(),
     }
+}
+
+/// Drops the scalar of a number, which holds nothing to let go.
+fn let_go(scalar: Scalar)
+    requires typed { IsInteger (scalar_type scalar) }
+    requires present { IsIntegerValue (scalar_raw scalar) }
+{
+    let _number = number_of(&scalar);
 }
 
 /// The string, or its bound on this side, if there is one.

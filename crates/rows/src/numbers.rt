@@ -1,11 +1,11 @@
 //! Kinds, numbers and strings of bytes: what a word says.
 
-ghost use Rattle.std.specs.Prelude.{◌≡◌, IfOk, IfSome, ◌<◌, ◌^◌, length};
+ghost use Rattle.std.specs.Prelude.{◌≡◌, IfOk, IfSome, IsOk, ◌<◌, ◌≤◌, ◌^◌, length};
 ghost use Rattle.rows.specs.Grammar.{hex_named, ptype_named, natural_named, number_named, size_named};
 
-use hex::{FromHexError, decode};
+use hex::{FromHexError, decode, decode_to_slice};
 use std::alloc::{AllocError, Global};
-use vortex_array::{ByteBuffer, PType};
+use vortex_array::{ByteBuffer, INLINE_BYTES, PType};
 
 /// The most digits of a number.
 const DIGITS: usize = 20;
@@ -79,8 +79,35 @@ pub fn number_named(word: &[u8]) -> Option<i128>
 }
 
 /// The bytes that the digits of the word represent, two a byte; none where it has an odd number of
-/// characters, or one that is no digit.
+/// characters, or one that is no digit. At most 44 digits take no memory.
 pub fn hex_named(alloc: Global, word: &[u8]) -> Result<Option<ByteBuffer>, AllocError>
+    ensures bytes { IfOk result (λ bytes. bytes ≡ hex_named word.now) }
+    ensures short { length word.now ≤ 44 → IsOk result }
+{
+    if word.len() <= 2 * INLINE_BYTES {
+        Ok(short_hex(alloc, word))
+    } else {
+        long_hex(alloc, word)
+    }
+}
+
+/// The same of a word whose bytes a buffer holds in itself.
+#[tactic(auto, using(crate::proofs::HexWords::sized))]
+fn short_hex(alloc: Global, word: &[u8]) -> Option<ByteBuffer>
+    requires { length word.now ≤ 44 }
+    ensures { result ≡ hex_named word.now }
+{
+    let mut room = [0; INLINE_BYTES];
+    let bytes = &mut room[..word.len() / 2];
+    decode_to_slice(word, bytes).ok()?;
+    match ByteBuffer::from_slice(alloc, bytes) {
+        Ok(value) => Some(value),
+        Err(_) => unreachable!(),
+    }
+}
+
+/// The same of any word, by way of a vector.
+fn long_hex(alloc: Global, word: &[u8]) -> Result<Option<ByteBuffer>, AllocError>
     ensures { IfOk result (λ bytes. bytes ≡ hex_named word.now) }
 {
     let bytes = match decode(alloc, word) {
