@@ -1,8 +1,6 @@
 //! What a command gives.
 
 ghost use Rattle.std.specs.Prelude.{◌≡◌, IfOk, MatchOption};
-ghost use Rattle.vortex_array.specs.Laws.{BoundsAreComputed, BoundsAreUnique};
-ghost use Rattle.vortex_array.specs.Strings.{IsString};
 ghost use Rattle.vortex_dtype.specs.TypeTree.{integer_type};
 ghost use Rattle.vortex_dtype.specs.declared.nullability.Nullability.TheVariants.{NonNullable};
 ghost use Rattle.vortex_pvalue.specs.Conversions.{IsNumber};
@@ -19,7 +17,7 @@ ghost use Rattle.rows.specs.declared.commands.Side.TheVariants.{Lower, Upper};
 
 use crate::commands::Side;
 use std::alloc::{AllocError, Global};
-use vortex_array::laws::{bounds_are_computed, bounds_are_unique};
+use vortex_array::laws::{bounds_are_computed, bounds_are_unique, items_are_bytes};
 use vortex_array::{
     ByteBuffer, DType, Nullability, PType, PValue, Scalar, ScalarValue, lower_bound, upper_bound,
 };
@@ -96,7 +94,9 @@ pub fn bound_at(
 fn lower_at(alloc: Global, length: u64, value: ByteBuffer) -> Result<Option<ByteBuffer>, AllocError>
     ensures { IfOk result (λ given. bound_text given ≡ request_text (bound Lower length value)) }
 {
-    tell_bounds(value.as_slice());
+    bounds_are_computed();
+    bounds_are_unique();
+    items_are_bytes(value.as_slice());
     let length = length as usize;
     let Ok(given) = lower_bound(alloc, Some(value), length, Nullability::NonNullable) else {
         return Err(AllocError);
@@ -111,7 +111,9 @@ fn lower_at(alloc: Global, length: u64, value: ByteBuffer) -> Result<Option<Byte
 fn upper_at(alloc: Global, length: u64, value: ByteBuffer) -> Result<Option<ByteBuffer>, AllocError>
     ensures { IfOk result (λ given. bound_text given ≡ request_text (bound Upper length value)) }
 {
-    tell_bounds(value.as_slice());
+    bounds_are_computed();
+    bounds_are_unique();
+    items_are_bytes(value.as_slice());
     let length = length as usize;
     let Ok(given) = upper_bound(alloc, Some(value), length, Nullability::NonNullable) else {
         return Err(AllocError);
@@ -120,16 +122,6 @@ fn upper_at(alloc: Global, length: u64, value: ByteBuffer) -> Result<Option<Byte
         Some((bound, _)) => Ok(Some(bytes_of(bound))),
         None => Ok(None),
     }
-}
-
-/// Says of the items of a slice that they are bytes, and what bounds are. Does nothing.
-fn tell_bounds(_bytes: &[u8])
-    ensures bytes { IsString _bytes.now }
-    ensures computed { BoundsAreComputed }
-    ensures unique { BoundsAreUnique }
-{
-    bounds_are_computed();
-    bounds_are_unique();
 }
 
 /// The bytes of a scalar that has some.

@@ -2,14 +2,14 @@
 
 ghost use Rattle.std.specs.Prelude.{◌≡◌, ◌≢◌, ◌≤◌, ◌<◌, ◌⊎◌, [], IfOk, IfSome, IsCharBoundary, IsOk, IsUtf8, MatchOption, MatchResult, drop, length, take, unwrap_or};
 ghost use Rattle.vortex_dtype.specs.declared.error.VortexError.TheVariants.{OutOfMemory};
-ghost use Rattle.vortex_array.specs.Strings.{HasNoUpper, IsLower, IsString, IsUpper};
+ghost use Rattle.vortex_array.specs.Strings.{HasNoUpper, IsLower, IsUpper};
 ghost use Rattle.vortex_array.specs.Texts.{HasNoTextUpper, IsTextLower, IsTextUpper};
 ghost use Rattle.vortex_c.specs.Bounds.{HasNone, IsWholeOrBest, SomeOfLength};
 
 use crate::status::{GIVEN, NO_MEMORY, NO_ROOM, NONE, NOT_UTF8};
 use std::alloc::Global;
 use std::str;
-use vortex_array::laws::bounds_are_computed;
+use vortex_array::laws::{bounds_are_computed, items_are_bytes};
 use vortex_array::{BufferString, ByteBuffer, ScalarTruncation, VortexError};
 
 /// How many of the first bytes are the lower bound. Takes no memory.
@@ -20,7 +20,7 @@ pub extern "C" fn vortex_lower_bound_bytes(value: &[u8], max_length: usize) -> u
     ensures bound { IsWholeOrBest IsLower value.now max_length (take result value.now) }
 {
     bounds_are_computed();
-    tell_bytes(value);
+    items_are_bytes(value);
     max_length.min(value.len())
 }
 
@@ -196,8 +196,3 @@ pub(crate) fn give(bound: &[u8], room: &mut [u8], count: &mut usize) -> u32
         NO_ROOM
     }
 }
-
-/// Says of the items of a slice that they are bytes. Does nothing.
-fn tell_bytes(_bytes: &[u8])
-    ensures { IsString _bytes.now }
-{}

@@ -19,7 +19,7 @@ use std::cmp::Ordering;
 use std::fmt::{self, Display, Formatter, Write};
 use std::hash::{Hash, Hasher};
 use vortex_dtype::{DType, ExtDType, VortexError};
-use vortex_value::{Scalar, ScalarRef, ScalarValue};
+use vortex_value::{Scalar, ScalarRef, ScalarValue, storage_of};
 
 /// A view of a scalar whose type is an extension: a raw value of its storage, or a null.
 #[derive(Clone, Copy, Debug)]
@@ -77,16 +77,6 @@ impl<'a> ExtScalar<'a> {
         ensures { result ≡ ref_order (ext_ref self.now) (ext_ref other.now) }
     {
         self.scalar.partial_cmp(&other.scalar)
-    }
-}
-
-/// The type below all extensions.
-fn storage_of(dtype: &DType) -> &DType
-    ensures { type_of result.now ≡ storage (type_of dtype.now) }
-{
-    match dtype {
-        DType::Extension(extension) => storage_of(extension.storage_dtype()),
-        _ => dtype,
     }
 }
 

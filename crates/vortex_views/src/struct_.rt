@@ -179,7 +179,7 @@ impl<'a> StructScalar<'a> {
     {
         let fields = self.struct_fields().project(alloc, projection)?;
         let value = self.projected_value(alloc, projection);
-        scalar_of(DType::Struct(fields, self.dtype().nullability()), value)
+        Scalar::with_value(DType::Struct(fields, self.dtype().nullability()), value)
     }
 
     /// The raw value of the projection to these names.
@@ -287,24 +287,6 @@ fn copy_of(alloc: Global, value: Option<&ScalarValue>) -> Result<Option<ScalarVa
     match value {
         Some(value) => Ok(Some(value.clone(alloc)?)),
         None => Ok(None),
-    }
-}
-
-/// The scalar of this type and what was made of its value, or the refusal of that.
-fn scalar_of(
-    dtype: DType,
-    value: Result<Option<ScalarValue>, VortexError>,
-) -> Result<Scalar, VortexError>
-    ensures { MatchResult value
-        (λ v. result ≡ Ok (record { dtype = dtype; value = v }))
-        (λ e. result ≡ Err e) }
-{
-    match value {
-        Ok(value) => Ok(Scalar { dtype, value }),
-        Err(refusal) => {
-            drop(dtype);
-            Err(refusal)
-        }
     }
 }
 

@@ -6,6 +6,6 @@ use Rattle.rows.proofs.answers.lower_at.Goals as goal
 
 pub returns : goal.returns
 returns c =
-    lower_text _ _ _ _ _ _ c.tell_bounds.ensures.computed c.tell_bounds.ensures.unique
-    (subst IsString c.as_slice.ensures c.tell_bounds.ensures.bytes)
+    lower_text _ _ _ _ _ _ c.bounds_are_computed.ensures c.bounds_are_unique.ensures
+    (subst IsString c.as_slice.ensures c.items_are_bytes.ensures)
     (is_given _ _ _ c.in-Some.is c.in-Ok.ensures.bound) c.bytes_of.ensures
