@@ -1,6 +1,6 @@
 //! What a command gives.
 
-ghost use Rattle.std.specs.Prelude.{◌≡◌, IfOk, MatchOption};
+ghost use Rattle.std.specs.Prelude.{◌≡◌, ◌≤◌, IfOk, IsOk, MatchOption};
 ghost use Rattle.vortex_array.specs.Laws.{BoundsAreComputed, BoundsAreUnique};
 ghost use Rattle.vortex_array.specs.Strings.{IsString};
 ghost use Rattle.vortex_dtype.specs.TypeTree.{integer_type};
@@ -77,14 +77,15 @@ fn let_go(scalar: Scalar)
     let _number = number_of(&scalar);
 }
 
-/// The string, or its bound on this side, if there is one.
+/// The string, or its bound on this side, if there is one. No more than 22 bytes take no memory.
 pub fn bound_at(
     alloc: Global,
     side: Side,
     length: u64,
     value: ByteBuffer,
 ) -> Result<Option<ByteBuffer>, AllocError>
-    ensures { IfOk result (λ given. bound_text given ≡ request_text (bound side length value)) }
+    ensures text { IfOk result (λ given. bound_text given ≡ request_text (bound side length value)) }
+    ensures inline { length ≤ 22 → IsOk result }
 {
     match side {
         Side::Lower => lower_at(alloc, length, value),
@@ -94,7 +95,8 @@ pub fn bound_at(
 
 /// The string, or its lower bound.
 fn lower_at(alloc: Global, length: u64, value: ByteBuffer) -> Result<Option<ByteBuffer>, AllocError>
-    ensures { IfOk result (λ given. bound_text given ≡ request_text (bound Lower length value)) }
+    ensures text { IfOk result (λ given. bound_text given ≡ request_text (bound Lower length value)) }
+    ensures inline { length ≤ 22 → IsOk result }
 {
     tell_bounds(value.as_slice());
     let length = length as usize;
@@ -109,7 +111,8 @@ fn lower_at(alloc: Global, length: u64, value: ByteBuffer) -> Result<Option<Byte
 
 /// The string, or its upper bound.
 fn upper_at(alloc: Global, length: u64, value: ByteBuffer) -> Result<Option<ByteBuffer>, AllocError>
-    ensures { IfOk result (λ given. bound_text given ≡ request_text (bound Upper length value)) }
+    ensures text { IfOk result (λ given. bound_text given ≡ request_text (bound Upper length value)) }
+    ensures inline { length ≤ 22 → IsOk result }
 {
     tell_bounds(value.as_slice());
     let length = length as usize;
