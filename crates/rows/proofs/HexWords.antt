@@ -1,5 +1,5 @@
 -- Hexadecimal digits that are read into just the room that they need.
-use Rattle.std.proofs.Common.{◌≡◌, ℕ, ◌==◌, ◌/◌, ◌%◌, true, List, length, refl, if◌then◌else◌}
+use Rattle.std.proofs.Common.{◌≡◌, ℕ, ◌/◌, List, length, refl}
 use Rattle.std.proofs.lemmas.Bool.{eq-eqb}
 use Rattle.hex.specs.Hex.{decode_of, decode_sized}
 

@@ -1,6 +1,6 @@
 //! What a command gives.
 
-ghost use Rattle.std.specs.Prelude.{◌≡◌, IfOk, MatchOption};
+ghost use Rattle.std.specs.Prelude.{◌≡◌, ◌≤◌, IfOk, IsOk, MatchOption};
 ghost use Rattle.vortex_dtype.specs.TypeTree.{integer_type};
 ghost use Rattle.vortex_dtype.specs.declared.nullability.Nullability.TheVariants.{NonNullable};
 ghost use Rattle.vortex_pvalue.specs.Conversions.{IsNumber};
@@ -75,14 +75,15 @@ fn let_go(scalar: Scalar)
     let _number = number_of(&scalar);
 }
 
-/// The string, or its bound on this side, if there is one.
+/// The string, or its bound on this side, if there is one. No more than 22 bytes take no memory.
 pub fn bound_at(
     alloc: Global,
     side: Side,
     length: u64,
     value: ByteBuffer,
 ) -> Result<Option<ByteBuffer>, AllocError>
-    ensures { IfOk result (λ given. bound_text given ≡ request_text (bound side length value)) }
+    ensures text { IfOk result (λ given. bound_text given ≡ request_text (bound side length value)) }
+    ensures inline { length ≤ 22 → IsOk result }
 {
     match side {
         Side::Lower => lower_at(alloc, length, value),
@@ -92,7 +93,8 @@ pub fn bound_at(
 
 /// The string, or its lower bound.
 fn lower_at(alloc: Global, length: u64, value: ByteBuffer) -> Result<Option<ByteBuffer>, AllocError>
-    ensures { IfOk result (λ given. bound_text given ≡ request_text (bound Lower length value)) }
+    ensures text { IfOk result (λ given. bound_text given ≡ request_text (bound Lower length value)) }
+    ensures inline { length ≤ 22 → IsOk result }
 {
     bounds_are_computed();
     bounds_are_unique();
@@ -109,7 +111,8 @@ fn lower_at(alloc: Global, length: u64, value: ByteBuffer) -> Result<Option<Byte
 
 /// The string, or its upper bound.
 fn upper_at(alloc: Global, length: u64, value: ByteBuffer) -> Result<Option<ByteBuffer>, AllocError>
-    ensures { IfOk result (λ given. bound_text given ≡ request_text (bound Upper length value)) }
+    ensures text { IfOk result (λ given. bound_text given ≡ request_text (bound Upper length value)) }
+    ensures inline { length ≤ 22 → IsOk result }
 {
     bounds_are_computed();
     bounds_are_unique();

@@ -2,6 +2,7 @@
 
 ghost use Rattle.std.specs.Prelude.{◌≡◌, ◌≢◌, IfErr, IfOk, IfSome, OnOk};
 ghost use Rattle.std.specs.Io.KnownBytes.{IsAtEnd};
+ghost use Rattle.rows.specs.Reading.{GaveSome};
 
 use crate::faults::RowsError;
 use std::alloc::Global;
@@ -16,13 +17,15 @@ const READS: u32 = 1_048_576;
 /// Reads to the end, in pieces.
 ///
 /// `Read` for every error of the reader, and where the input has not ended within the reads that
-/// are made; `Memory` where no memory is left.
+/// are made; `Memory` where no memory is left for what was read.
 #[tactic(auto, using(crate::proofs::KnownReads::reads))]
 pub fn read_all<R: Read>(alloc: Global, reader: &mut R) -> Result<Vec<u8>, RowsError>
     ensures bytes { IfOk result
         (λ input. IfSome (R.remaining reader.old) (λ all. input.items ≡ all)) }
     ensures end { OnOk result (IsAtEnd (R.remaining reader.new)) }
     ensures fault { IfErr result (λ e. e ≢ RowsError.Write) }
+    ensures memory { IfErr result (λ e. e ≡ RowsError.Memory
+        → GaveSome (R.remaining reader.old) (R.remaining reader.new)) }
 {
     let mut input = Vec::new(alloc);
     let mut piece = [0u8; PIECE];
