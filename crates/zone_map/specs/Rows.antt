@@ -1,4 +1,4 @@
--- The rows that are written.
+-- The rows that are written of lines that were found, and of zones.
 use Rattle.std.specs.Prelude.{ℕ, ◌+◌, List, [], ◌∷◌, ◌++◌, Option, None, Some, codes}
 use Rattle.std.specs.List.{flat_map}
 use Rattle.std.specs.Fmt.{decimal}
@@ -20,15 +20,19 @@ found_rows word numbers = flat_map (found_row word) numbers
 abbrev pub rows_of_lines : List ℕ → List (List ℕ) → List ℕ
 rows_of_lines word lines = found_rows word (numbers_from 1 word lines)
 
+-- the row of a zone with this number, first line and texts of bounds: NUMBER FIRST LOWER UPPER
+abbrev pub row_of_texts : ℕ → ℕ → List ℕ → List ℕ → List ℕ
+row_of_texts number first lower upper =
+    decimal number ++ (codes " " ++ (decimal first ++ (codes " " ++ (lower ++ (codes " " ++ (upper ++ codes "\n"))))))
+
 -- the text of a bound, if there is one
 abbrev pub bound_text : Option Scalar → List ℕ
 bound_text None = codes "none"
 bound_text (Some bound) = text_of (scalar_type bound) (scalar_raw bound)
 
--- the row of the zone with this number: NUMBER FIRST LOWER UPPER
+-- the row of the zone, which has this number
 abbrev pub zone_row : ℕ → Zone → List ℕ
-zone_row number z =
-    decimal number ++ (codes " " ++ (decimal z.first ++ (codes " " ++ (bound_text (Some z.bounds.lower) ++ (codes " " ++ (bound_text z.bounds.upper ++ codes "\n"))))))
+zone_row number z = row_of_texts number z.first (bound_text (Some z.bounds.lower)) (bound_text z.bounds.upper)
 
 -- of all zones, where the first has this number
 abbrev pub zone_rows : ℕ → List Zone → List ℕ

@@ -1,12 +1,13 @@
 //! The whole program but its words: from all lines to the rows of what is asked.
 
-ghost use Rattle.std.specs.Prelude.{◌≡◌, ◌≢◌, ◌<◌, IfErr, IfOk, IfSome, OnOk, length, string_bytes};
+ghost use Rattle.std.specs.Prelude.{◌≡◌, ◌≢◌, ◌<◌, List, ℕ, IfErr, IfOk, IfSome, OnOk, length, string_bytes};
 ghost use Rattle.std.specs.Io.KnownBytes.{Appends, IsAtEnd};
 ghost use Rattle.rows.specs.Lines.{lines_of};
 ghost use Rattle.rows.specs.declared.faults.RowsError.TheVariants.{Write};
 ghost use Rattle.line_zones.specs.Numbers.{numbers_from};
 ghost use Rattle.zone_map.specs.Faults.{IsOfLine};
 ghost use Rattle.zone_map.specs.Rows.{rows_of_lines};
+ghost use Rattle.zone_map.specs.ZoneBytes.{ShowsZones};
 ghost use Rattle.zone_map.specs.declared.faults.Fault.TheVariants.{Stream};
 
 use crate::faults::Fault;
@@ -99,14 +100,30 @@ pub fn show_zones<R: Read, W: Write>(
     writer: &mut W,
 ) -> Result<(), Fault>
     requires { 0 < zoning.size }
+    // What was written is the rows of the zones of all that there was.
+    ensures rows { OnOk result (IfSome (R.remaining reader.old) (λ input. (text : List ℕ)
+        × ShowsZones zoning.kind zoning.size zoning.length (lines_of input) text
+        × Appends (W.contents writer.old) (W.contents writer.new) text)) }
     ensures end { OnOk result (IsAtEnd (R.remaining reader.new)) }
+    ensures refused { IfErr result (λ fault. IfSome (R.remaining reader.old)
+        (λ input. IsOfLine zoning.kind (lines_of input) fault)) }
     // After a fault other than one of the writer, nothing was written.
     ensures untouched { IfErr result (λ fault. fault ≢ Stream Write → writer.new ≡ writer.old) }
 {
     let input = read_all(alloc, reader)?;
-    let lines = split_lines(alloc, &input)?;
-    let zones = zones_of(alloc, zoning.kind, &lines, zoning.size, zoning.length)?;
-    let rows = rows_of_zones(alloc, &zones)?;
+    let rows = shown_in(alloc, zoning, &input)?;
     write_out(writer, rows.as_bytes())?;
     Ok(())
+}
+
+/// The rows of the zones.
+fn shown_in(alloc: Global, zoning: Zoning, input: &[u8]) -> Result<String, Fault>
+    requires { 0 < zoning.size }
+    ensures rows { IfOk result (λ text. ShowsZones zoning.kind zoning.size zoning.length
+        (lines_of input.now) (string_bytes text)) }
+    ensures refused { IfErr result (IsOfLine zoning.kind (lines_of input.now)) }
+{
+    let lines = split_lines(alloc, input)?;
+    let zones = zones_of(alloc, zoning.kind, &lines, zoning.size, zoning.length)?;
+    Ok(rows_of_zones(alloc, &zones)?)
 }
