@@ -1,4 +1,4 @@
-"""Casts that never change a value, bounds that never exclude one, pruning that loses none, and any call by a line.
+"""Casts that never change a value, bounds that never exclude one, pruning that loses none, and the calls of worked cases by a line.
 
 The work is done by functions that are proved against their contracts, in Rattle. This module is their face: it is plain
 Python, and not proved. It loads `libvortex.so`, which `tools/build_bindings` puts into bindings/out, or into the folder

@@ -9,8 +9,8 @@ use crate::calls::views::of_kind;
 use crate::read::named;
 use std::alloc::{AllocError, Global};
 use vortex_dtype::{PType, VortexError};
-use vortex_pvalue::{NativePType, NumericOperator};
-use vortex_value::Scalar;
+use vortex_pvalue::{NativePType, NumericOperator, PValue};
+use vortex_value::{Scalar, ScalarValue};
 use vortex_views::{Downcast, PrimitiveScalar};
 
 /// What the line's call answers, if it is one of these.
@@ -23,6 +23,14 @@ pub fn answer_line(line: &mut Line<'_>) -> Result<Option<Answer>, AllocError> {
         b"typed_value" => {
             line.borrowing(|alloc, x: &(Scalar, PType)| in_ptype(alloc, Conversion::Typed, x))
         }
+        b"try_typed_value" => {
+            line.borrowing(|alloc, x: &(Scalar, PType)| in_ptype(alloc, Conversion::TryTyped, x))
+        }
+        b"min_value" => line.taking(|_, ptype: PType| Ok(integer(PValue::min_value(ptype)))),
+        b"max_value" => line.taking(|_, ptype: PType| Ok(integer(PValue::max_value(ptype)))),
+        b"is_instance_of" => line.borrowing(|_, (number, ptype): &(PValue, PType)| {
+            Ok(Answer::Truth(number.is_instance_of(ptype)))
+        }),
         name => match named(&OPERATIONS, name) {
             Some(operation) => line.borrowing(move |alloc, numbers: &(Scalar, Scalar)| {
                 arithmetic(alloc, operation, numbers)
@@ -30,6 +38,11 @@ pub fn answer_line(line: &mut Line<'_>) -> Result<Option<Answer>, AllocError> {
             None => Ok(None),
         },
     }
+}
+
+/// An integer with its kind.
+fn integer(number: PValue) -> Answer {
+    Answer::Raw(ScalarValue::Primitive(number))
 }
 
 fn invert(alloc: Global, scalar: &Scalar) -> Answering {
@@ -115,15 +128,17 @@ enum Conversion {
     As,
     /// By `typed_value`, where the number is of the type.
     Typed,
+    /// By the call that refuses another type.
+    TryTyped,
 }
 
 fn in_ptype(alloc: Global, conversion: Conversion, (scalar, ptype): &(Scalar, PType)) -> Answering {
     validate(alloc, scalar)?;
     let view = of_kind(scalar.as_primitive_opt())?;
-    Ok(as_ptype(conversion, view, *ptype))
+    as_ptype(conversion, view, *ptype)
 }
 
-fn as_ptype(conversion: Conversion, view: PrimitiveScalar<'_>, ptype: PType) -> Answer {
+fn as_ptype(conversion: Conversion, view: PrimitiveScalar<'_>, ptype: PType) -> Answering {
     match ptype {
         PType::U8 => as_number::<u8>(conversion, view),
         PType::U16 => as_number::<u16>(conversion, view),
@@ -137,13 +152,14 @@ fn as_ptype(conversion: Conversion, view: PrimitiveScalar<'_>, ptype: PType) -> 
 }
 
 /// The number as a Rust type.
-fn as_number<T: NativePType>(conversion: Conversion, view: PrimitiveScalar<'_>) -> Answer {
-    match conversion {
+fn as_number<T: NativePType>(conversion: Conversion, view: PrimitiveScalar<'_>) -> Answering {
+    Ok(match conversion {
         Conversion::Typed if view.ptype() == T::PTYPE => native(view.typed_value::<T>()),
         Conversion::Typed => Answer::Unmet,
+        Conversion::TryTyped => native(view.try_typed_value::<T>()?),
         Conversion::As => as_known::<T>(view),
-        _ => or_none(view.as_opt::<T>().map(native)),
-    }
+        Conversion::Opt => or_none(view.as_opt::<T>().map(native)),
+    })
 }
 
 /// The number as a Rust type, where that has it.

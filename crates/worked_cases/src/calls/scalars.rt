@@ -35,6 +35,7 @@ pub fn answer_line(line: &mut Line<'_>) -> Result<Option<Answer>, AllocError> {
                 Ok(Answer::SameFeed(fed(x) == fed(y)))
             })
         }
+        b"remake" => line.taking(remake),
         b"order" => line.borrowing(order),
         b"is_zero" => line.borrowing(is_zero),
         b"size" => line.borrowing(size),
@@ -51,6 +52,24 @@ pub fn validate(alloc: Global, scalar: &Scalar) -> Result<(), VortexError>
     ensures { OnOk result (IsValid scalar.now) }
 {
     Scalar::validate(alloc, scalar.dtype(), scalar.value())
+}
+
+/// The raw value again, made of what it is taken apart into.
+fn remake(alloc: Global, value: Option<ScalarValue>) -> Answering {
+    let Some(value) = value else {
+        return Ok(Answer::Null);
+    };
+    Ok(Answer::Raw(match &value {
+        ScalarValue::Bool(_) => ScalarValue::from(value.into_bool()),
+        ScalarValue::Primitive(_) => ScalarValue::from(value.into_primitive()),
+        ScalarValue::Utf8(_) => ScalarValue::from(value.into_utf8()),
+        ScalarValue::Binary(_) => ScalarValue::from(value.into_binary()),
+        ScalarValue::Tuple(_) => ScalarValue::Tuple(value.into_list()),
+        ScalarValue::Union(_) => ScalarValue::Union(value.into_union()),
+        ScalarValue::Variant(_) => {
+            ScalarValue::Variant(Box::new(alloc, value.into_variant())?)
+        }
+    }))
 }
 
 fn try_new(alloc: Global, scalar: Scalar) -> Answering {
