@@ -1,19 +1,29 @@
--- The bounds of a zone of lines as bytes, and what is shown of them.
-use Rattle.std.proofs.Common.{◌≡◌, ℕ, ◌<◌, inl, inr, Bool, List, length, Option, Some, None, MatchOption, refl, sym, ap, ◌∙◌, subst}
+-- The bounds of a zone of lines as bytes: what is shown of them, and which words they hold possible.
+use Rattle.std.proofs.Common.{◌≡◌, ℕ, ◌<◌, ◌||◌, inl, inr, Bool, true, false, not, List, length, Option, Some, None, MatchOption, refl, sym, ap, ◌∙◌, subst, rules, nat_cmp}
+use Rattle.std.specs.Cmp.Lexicographic.{slice_cmp}
+use Rattle.std.specs.Ordering.{is_gt, is_lt, is_some_and}
+use Rattle.vortex_dtype.specs.Lemmas.TypeLevels.{type_of-Binary, type_of-Utf8}
+use Rattle.vortex_dtype.specs.TypeTree.{TypeTree}
+use Rattle.vortex_dtype.specs.declared.nullability.Nullability.TheVariants.{NonNullable}
+use Rattle.vortex_value.specs.Order.{typed_order}
 use Rattle.vortex_value.specs.Texts.{text_of}
-use Rattle.vortex_value.specs.Values.RawTree.{raw_bytes, raw_text}
-use Rattle.vortex_value.specs.Values.Scalars.{IsMadeOf, scalar_raw, scalar_type}
+use Rattle.vortex_value.specs.Values.Content.{content}
+use Rattle.vortex_value.specs.Values.RawOf.{value_tree}
+use Rattle.vortex_value.specs.Values.RawTree.{RawTree, is_absent, raw_bytes, raw_text}
+use Rattle.vortex_value.specs.Values.Scalars.{IsMadeOf, scalar_order, scalar_raw, scalar_type}
 use Rattle.vortex_value.specs.declared.scalars.Scalar.{Scalar}
+use Rattle.vortex_value.specs.declared.values.ScalarValue.{the_lemmas}
+use Rattle.vortex_value.specs.declared.values.ScalarValue.TheVariants.{Utf8 as TextValue, Binary as BytesValue}
 use Rattle.vortex_array.specs.Strings.{HasNoUpper, IsLower, IsUpper}
 use Rattle.vortex_array.specs.Texts.{HasNoTextUpper, IsTextLower, IsTextUpper}
 use Rattle.vortex_array.specs.Truncation.{IsUpperOf}
-use Rattle.vortex_zone.specs.Zone.{AreBoundsOfKind, Bounds}
-use Rattle.line_zones.specs.LineValues.{line_raw, line_type}
+use Rattle.vortex_zone.specs.Zone.{AreBoundsOfKind, Bounds, is_above, may_hold}
+use Rattle.line_zones.specs.LineValues.{line_raw, line_type, line_value}
 use Rattle.line_zones.specs.Zones.{AreBoundsOfLines}
 use Rattle.line_zones.specs.declared.values.LineKind.{LineKind}
 use Rattle.line_zones.specs.declared.values.LineKind.TheVariants.{Text, Binary}
 use Rattle.zone_map.specs.Rows.{bound_text}
-use Rattle.zone_map.specs.ZoneBytes.{AreByteBounds, ByteBounds, IsWholeOrBest, bytes_text, upper_text}
+use Rattle.zone_map.specs.ZoneBytes.{AreByteBounds, ByteBounds, IsWholeOrBest, bytes_text, is_above_upper, may_hold_word, upper_text}
 
 -- ---- the bytes of bounds
 
@@ -144,3 +154,51 @@ lower_is_shown kind b z are = text_of_made kind b.lower z.lower are.lower
 
 pub upper_is_shown : (kind : LineKind) (b : ByteBounds) (z : Bounds) → AreScalars kind b z → bound_text z.upper ≡ upper_text kind b.upper
 upper_is_shown kind b z are = upper_shown kind b.upper z.upper are.upper
+
+-- ---- which words they hold possible
+
+text_tree : (line : List ℕ) → value_tree (TextValue line) ≡ raw_text line
+text_tree line = search (rules, the_lemmas)
+
+bytes_tree : (line : List ℕ) → value_tree (BytesValue line) ≡ raw_bytes line
+bytes_tree line = search (rules, the_lemmas)
+
+line_made : (kind : LineKind) (line : List ℕ) → IsMadeOf (line_type kind) (line_raw kind line) (line_value kind line)
+line_made Text line = record { typed = type_of-Utf8 NonNullable; value = text_tree line }
+line_made Binary line = record { typed = type_of-Binary NonNullable; value = bytes_tree line }
+
+order_of_parts : (x y : Scalar) (s t : TypeTree) (q r : RawTree) → scalar_type x ≡ s → scalar_raw x ≡ q → scalar_type y ≡ t → scalar_raw y ≡ r
+    → scalar_order x y ≡ typed_order s (content q) t (content r)
+order_of_parts x y s t q r d e f g = rw (d, e, f, g) refl
+
+lines_order : (kind : LineKind) (l m : List ℕ) → typed_order (line_type kind) (content (line_raw kind l)) (line_type kind) (content (line_raw kind m)) ≡ Some (slice_cmp nat_cmp l m)
+lines_order Text l m = refl
+lines_order Binary l m = refl
+
+-- the order of two values is that of their bytes
+order_is : (kind : LineKind) (word bytes : List ℕ) (y : Scalar) → IsMadeOf (line_type kind) (line_raw kind bytes) y → scalar_order (line_value kind word) y ≡ Some (slice_cmp nat_cmp word bytes)
+order_is kind word bytes y made =
+    let value = line_made kind word in
+    order_of_parts (line_value kind word) y _ _ _ _ value.typed value.value made.typed made.value ∙ lines_order kind word bytes
+
+above_is : (kind : LineKind) (word : List ℕ) (bytes : Option (List ℕ)) (u : Option Scalar) → IsUpperScalar kind bytes u → is_above (line_value kind word) u ≡ is_above_upper word bytes
+above_is kind word None None made = refl
+above_is kind word None (Some y) made = absurd made
+above_is kind word (Some bytes) None made = absurd made
+above_is kind word (Some bytes) (Some y) made = ap (is_some_and is_gt) (order_is kind word bytes y made)
+
+present : (kind : LineKind) (line : List ℕ) → is_absent (line_raw kind line) ≡ false
+present Text line = refl
+present Binary line = refl
+
+joined : (a b c d e : Bool) → a ≡ false → b ≡ d → c ≡ e → (a || not (b || c)) ≡ not (d || e)
+joined true b c d e h k l = cc
+joined false b c d e h k l = ap (λ x. not (x || c)) k ∙ ap (λ x. not (d || x)) l
+
+-- the bytes tell what the zone does
+pub hold_is : (kind : LineKind) (word : List ℕ) (b : ByteBounds) (z : Bounds) → AreScalars kind b z → may_hold z (line_value kind word) ≡ may_hold_word word b
+hold_is kind word b z are =
+    joined (is_absent (scalar_raw (line_value kind word))) (is_some_and is_lt (scalar_order (line_value kind word) z.lower)) (is_above (line_value kind word) z.upper) _ _
+    (ap is_absent (line_made kind word).value ∙ present kind word)
+    (ap (is_some_and is_lt) (order_is kind word b.lower z.lower are.lower))
+    (above_is kind word b.upper z.upper are.upper)

@@ -1,17 +1,20 @@
 -- The zones of lines are those that their bytes tell of.
-use Rattle.std.proofs.Common.{◌≡◌, ◌≢◌, ℕ, suc, ◌+◌, ◌<◌, ◌≤◌, List, [], ◌∷◌, ◌++◌, length, take, drop, slice_index_or, Option, Some, None, IfSome, refl, sym, ap, ◌∙◌, subst, arith, append-nil, length-append}
+use Rattle.std.proofs.Common.{◌≡◌, ◌≢◌, ℕ, suc, ◌+◌, ◌<◌, ◌≤◌, List, [], ◌∷◌, ◌++◌, length, take, drop, slice_index_or, cond, count_by, Option, Some, None, IfSome, refl, sym, ap, ◌∙◌, subst, arith, append-nil, length-append}
 use Rattle.std.proofs.lemmas.List.{drop_all, drop_at, length-map, take_all, take_at}
 use Rattle.std.proofs.lemmas.List.Elements.{All-head, All-tail}
+use Rattle.std.proofs.lemmas.List.Sums.{sum_by-cons}
 use Rattle.std.specs.Borrow.{Bor}
 use Rattle.std.specs.Io.KnownBytes.{Appends}
 use Rattle.std.specs.List.{All}
 use Rattle.rows.specs.Lines.{lines_of}
+use Rattle.vortex_zone.specs.Zone.{may_hold}
+use Rattle.line_zones.specs.LineValues.{line_value}
 use Rattle.line_zones.specs.Zones.{AreBoundsOfLines, AreOfSize, HoldTheirLines, lines_in, zone_lines}
 use Rattle.line_zones.specs.declared.values.LineKind.{LineKind}
 use Rattle.line_zones.specs.declared.zones.Zone.{Zone}
 use Rattle.zone_map.specs.Rows.{bound_text, row_of_texts, zone_row, zone_rows}
-use Rattle.zone_map.specs.ZoneBytes.{AreBoundsOfZones, AreByteBounds, ByteBounds, ShowsZones, bytes_text, row_of_bounds, rows_of_bounds}
-use Rattle.zone_map.proofs.Bytes.{AreBytesOf, AreScalars, bytes_of, lower_is_shown, upper_is_shown}
+use Rattle.zone_map.specs.ZoneBytes.{AreBoundsOfZones, AreByteBounds, AreCounted, ByteBounds, ShowsZones, bytes_text, may_hold_word, row_of_bounds, rows_of_bounds}
+use Rattle.zone_map.proofs.Bytes.{AreBytesOf, AreScalars, bytes_of, hold_is, lower_is_shown, upper_is_shown}
 
 -- the first zone has the first lines, and the others have those after them
 first_lines : (size : ℕ) (z : Zone) (zones : List Zone) → AreOfSize size (z ∷ zones) → take size (lines_in (z ∷ zones)) ≡ zone_lines z
@@ -111,3 +114,35 @@ pub shown_of_input : (known : Option (List ℕ)) (input : List ℕ) (old new : O
     → ShowsZones kind size n (lines_of input) text → Appends old new text → IfSome known (λ all. (t : List ℕ) × ShowsZones kind size n (lines_of all) t × Appends old new t)
 shown_of_input None input old new kind size n text same shows added = tt
 shown_of_input (Some all) input old new kind size n text same shows added = (text, subst (λ (i : List ℕ). ShowsZones kind size n (lines_of i) text) same shows, added)
+
+-- ---- how many there are
+
+same_count : (kind : LineKind) (bytes : List ByteBounds) (zones : List Zone) → AreScalarsOfAll kind bytes zones → length zones ≡ length bytes
+same_count kind [] [] are = refl
+same_count kind [] (z ∷ zones) are = absurd are
+same_count kind (b ∷ bytes) [] are = absurd are
+same_count kind (b ∷ bytes) (z ∷ zones) are = ap suc (same_count kind bytes zones are.1)
+
+same_holding : (kind : LineKind) (word : List ℕ) (bytes : List ByteBounds) (zones : List Zone) → AreScalarsOfAll kind bytes zones
+    → count_by (λ z. may_hold z.bounds (line_value kind word)) zones ≡ count_by (may_hold_word word) bytes
+same_holding kind word [] [] are = refl
+same_holding kind word [] (z ∷ zones) are = absurd are
+same_holding kind word (b ∷ bytes) [] are = absurd are
+same_holding kind word (b ∷ bytes) (z ∷ zones) are =
+    sum_by-cons (λ (y : Zone). cond (may_hold y.bounds (line_value kind word)) 1 0) z zones
+    ∙ ap (λ h. cond h 1 0 + count_by (λ (y : Zone). may_hold y.bounds (line_value kind word)) zones) (hold_is kind word b z.bounds are.0)
+    ∙ ap (λ n. cond (may_hold_word word b) 1 0 + n) (same_holding kind word bytes zones are.1)
+    ∙ sym (sum_by-cons (λ (c : ByteBounds). cond (may_hold_word word c) 1 0) b bytes)
+
+-- so many zones, and so many that may hold the word
+pub are_counted : (kind : LineKind) (size n : ℕ) (word : List ℕ) (lines : List (List ℕ)) (zones : List Zone) (count searched : ℕ) → lines_in zones ≡ lines → AreOfSize size zones
+    → All (λ z. AreBoundsOfLines kind n (zone_lines z) z.bounds) zones → count ≡ length zones → searched ≡ count_by (λ z. may_hold z.bounds (line_value kind word)) zones
+    → AreCounted kind size n word lines count searched
+are_counted kind size n word lines zones count searched all sizes bounds counted held =
+    let have : HaveBytes kind size n zones = have_bytes kind size n zones sizes bounds in
+    record {
+      zones = have.bytes;
+      are_bounds = subst (λ (ls : List (List ℕ)). AreBoundsOfZones kind size n ls have.bytes) all have.are;
+      all = counted ∙ same_count kind have.bytes zones have.scalars;
+      holding = held ∙ same_holding kind word have.bytes zones have.scalars;
+    }

@@ -1,5 +1,7 @@
--- The zones of some lines, by the bytes of their bounds, and their rows.
-use Rattle.std.specs.Prelude.{◌≡◌, ◌≢◌, ℕ, ◌+◌, ◌<◌, ◌≤◌, List, [], ◌∷◌, ◌++◌, length, map, take, drop, Option, None, Some, MatchOption, codes}
+-- The zones of some lines, by the bytes of their bounds: their rows, and which of them may hold a word.
+use Rattle.std.specs.Prelude.{◌≡◌, ◌≢◌, ℕ, ◌+◌, ◌<◌, ◌≤◌, List, [], ◌∷◌, ◌++◌, length, map, take, drop, Option, None, Some, MatchOption, Bool, false, not, ◌||◌, codes, count_by}
+use Rattle.std.specs.Cmp.Lexicographic.{slice_cmp}
+use Rattle.std.specs.Ordering.{is_gt, is_lt, nat_cmp}
 use Rattle.vortex_value.specs.Texts.{escaped, hexadecimal, in_quotes, joined}
 use Rattle.vortex_array.specs.Strings.{HasNoUpper, IsLower, IsUpper}
 use Rattle.vortex_array.specs.Texts.{HasNoTextUpper, IsTextLower, IsTextUpper}
@@ -71,3 +73,21 @@ rows_of_bounds kind size number first (z ∷ zones) = row_of_bounds kind number 
 -- text is the rows of all zones of these lines, of so many lines each, with bounds at n bytes
 abbrev pub ShowsZones : LineKind → ℕ → ℕ → List (List ℕ) → List ℕ → Type 0
 ShowsZones kind size n lines text = (zones : List ByteBounds) × AreBoundsOfZones kind size n lines zones × (text ≡ rows_of_bounds kind size 1 1 zones)
+
+-- ---- which may hold a word
+
+-- whether the word is above the bound, where there is one
+abbrev pub is_above_upper : List ℕ → Option (List ℕ) → Bool
+is_above_upper word None = false
+is_above_upper word (Some upper) = is_gt (slice_cmp nat_cmp word upper)
+
+-- whether the word is neither below the lower bound nor above the upper one
+abbrev pub may_hold_word : List ℕ → ByteBounds → Bool
+may_hold_word word z = not (is_lt (slice_cmp nat_cmp word z.lower) || is_above_upper word z.upper)
+
+-- these lines have so many zones, of which so many may hold the word
+pub record AreCounted (kind : LineKind) (size n : ℕ) (word : List ℕ) (lines : List (List ℕ)) (count searched : ℕ) : Type 0 where
+  pub zones : List ByteBounds
+  pub are_bounds : AreBoundsOfZones kind size n lines zones
+  pub all : count ≡ length zones
+  pub holding : searched ≡ count_by (may_hold_word word) zones

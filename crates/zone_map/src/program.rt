@@ -7,7 +7,7 @@ ghost use Rattle.rows.specs.declared.faults.RowsError.TheVariants.{Write};
 ghost use Rattle.line_zones.specs.Numbers.{numbers_from};
 ghost use Rattle.zone_map.specs.Faults.{IsOfLine};
 ghost use Rattle.zone_map.specs.Rows.{rows_of_lines};
-ghost use Rattle.zone_map.specs.ZoneBytes.{ShowsZones};
+ghost use Rattle.zone_map.specs.ZoneBytes.{AreCounted, ShowsZones};
 ghost use Rattle.zone_map.specs.declared.faults.Fault.TheVariants.{Stream};
 
 use crate::faults::Fault;
@@ -55,6 +55,10 @@ pub fn find_word<R: Read, W: Write>(
     ensures end { OnOk result (IsAtEnd (R.remaining reader.new)) }
     ensures found { IfOk result (λ tally. IfSome (R.remaining reader.old) (λ input.
         tally.found ≡ length (numbers_from 1 word.now (lines_of input)))) }
+    // As many zones as there are, and as many searched as may hold the word by their bounds.
+    ensures counted { IfOk result (λ tally. IfSome (R.remaining reader.old)
+        (λ input. AreCounted zoning.kind zoning.size zoning.length
+        word.now (lines_of input) tally.zones tally.searched)) }
     ensures refused { IfErr result (λ fault. IfSome (R.remaining reader.old)
         (λ input. IsOfLine zoning.kind (lines_of input) fault)) }
     // After a fault other than one of the writer, nothing was written.
@@ -78,6 +82,8 @@ fn found_in(
         (λ given. string_bytes given.0 ≡ rows_of_lines word.now (lines_of input.now)) }
     ensures found { IfOk result
         (λ given. given.1.found ≡ length (numbers_from 1 word.now (lines_of input.now))) }
+    ensures counted { IfOk result (λ given. AreCounted zoning.kind zoning.size zoning.length
+        word.now (lines_of input.now) given.1.zones given.1.searched) }
     ensures refused { IfErr result (IsOfLine zoning.kind (lines_of input.now)) }
 {
     let lines = split_lines(alloc, input)?;
