@@ -66,9 +66,7 @@ fn remake(alloc: Global, value: Option<ScalarValue>) -> Answering {
         ScalarValue::Binary(_) => ScalarValue::from(value.into_binary()),
         ScalarValue::Tuple(_) => ScalarValue::Tuple(value.into_list()),
         ScalarValue::Union(_) => ScalarValue::Union(value.into_union()),
-        ScalarValue::Variant(_) => {
-            ScalarValue::Variant(Box::new(alloc, value.into_variant())?)
-        }
+        ScalarValue::Variant(_) => ScalarValue::Variant(Box::new(alloc, value.into_variant())?),
     }))
 }
 
