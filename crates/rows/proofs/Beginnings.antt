@@ -65,7 +65,7 @@ pub record Begins (text word : List ℕ) : Type 0 where
   pub same : (k : ℕ) → k < length word → get_or text k 0 ≡ get_or word k 0
 
 -- a text of several words begins with the first and a space
-begins_with : (text w v : List ℕ) (ws : List (List ℕ)) → words_of text ≡ w ∷ v ∷ ws → Begins text w
+pub begins_with : (text w v : List ℕ) (ws : List (List ℕ)) → words_of text ≡ w ∷ v ∷ ws → Begins text w
 begins_with [] w v ws e = absurd (not_one _ _ _ _ (sym e))
 begins_with (b ∷ bs) w v ws e = by_test (b == 32) refl (some_word bs) (λ (u : List ℕ). begins_with bs u v ws)
   where

@@ -8,6 +8,7 @@ use Rattle.std.specs.Str.{bytes_eq}
 use Rattle.vortex_dtype.specs.PTypes.{ptype_text}
 use Rattle.vortex_dtype.specs.declared.ptype.PType.{PType}
 use Rattle.vortex_dtype.specs.declared.ptype.PType.TheVariants.{U8, U16, U32, U64, I8, I16, I32, I64}
+use Rattle.rows.specs.Fronts.{FirstSays, FirstSaysNone}
 use Rattle.rows.specs.Lines.{words_of}
 use Rattle.rows.specs.Grammar.{all_ptypes, bound_operands, cast_operands, cast_request, ptype_named, number_named, request_in, request_in_words}
 use Rattle.rows.specs.declared.commands.Side.{Side}
@@ -62,10 +63,26 @@ three a b s = by_ptype (ptype_named s) refl
     by_ptype (Some ptype) e = rw (ptype_alone s ptype e) refl
 
 -- what three words ask for, of which the last may be more
-pub three_words : (l a r b s : List ℕ) → words_of l ≡ a ∷ words_of r → words_of r ≡ b ∷ words_of s
-    → cast_request (ptype_named a) (number_named b) (ptype_named s) ≡ cast_operands (words_of l)
-three_words l a r b s e f =
-    three a b s ∙ sym (ap cast_operands (e ∙ ap (λ (ws : List (List ℕ)). a ∷ ws) f))
+pub three_words : (l a r s : List ℕ) (z : ℤ) → words_of l ≡ a ∷ words_of r → FirstSays number_named r z s → cast_request (ptype_named a) (Some z) (ptype_named s) ≡ cast_operands (words_of l)
+three_words l a r s z e says =
+    ap (λ number. cast_request (ptype_named a) number (ptype_named s)) (sym says.says) ∙ three a says.word s
+    ∙ sym (ap cast_operands (e ∙ ap (λ (ws : List (List ℕ)). a ∷ ws) says.first))
+
+-- without a number nothing is asked for
+none_without : (from to : Option PType) → cast_request from None to ≡ None
+none_without None to = refl
+none_without (Some from) to = refl
+
+pub no_number : (l a r : List ℕ) → words_of l ≡ a ∷ words_of r → FirstSaysNone number_named r → None ≡ cast_operands (words_of l)
+no_number l a r e none = sym (ap cast_operands e ∙ by_words (words_of r) refl)
+  where
+    by_words : (ws : List (List ℕ)) → words_of r ≡ ws → cast_operands (a ∷ ws) ≡ None
+    by_words [] q = refl
+    by_words (w ∷ []) q = refl
+    by_words (w ∷ v ∷ []) q = ap (λ number. cast_request (ptype_named a) number (ptype_named v)) (none w v [] q) ∙ none_without _ _
+    by_words (w ∷ v ∷ u ∷ ws) q = refl
+
+pub ruleset casts = (three_words, no_number)
 
 -- more than two words are no operands of `lower` and `upper`
 pub more_than_two : (side : Side) (l a r b s : List ℕ) → words_of l ≡ a ∷ words_of r → words_of r ≡ b ∷ words_of s → None ≡ bound_operands side (words_of l)

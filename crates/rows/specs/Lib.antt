@@ -1,5 +1,6 @@
 pub mod Commands
 pub mod FaultTexts
+pub mod Fronts
 pub mod Grammar
 pub mod Lines
 pub mod Reading

@@ -1,11 +1,11 @@
 //! What a line asks for.
 
-ghost use Rattle.std.specs.Prelude.{◌≡◌};
+ghost use Rattle.std.specs.Prelude.{◌≡◌, Some};
 ghost use Rattle.rows.specs.Commands.{asked_by};
-ghost use Rattle.rows.specs.Grammar.{bound_operands, cast_operands, cast_request, number_named, ptype_named, request_in};
+ghost use Rattle.rows.specs.Grammar.{bound_operands, cast_operands, cast_request, ptype_named, request_in};
 ghost use Rattle.rows.specs.Lines.{words_of};
 
-use crate::numbers::{number_named, ptype_named, size_named};
+use crate::numbers::{cut_number, ptype_named, size_named};
 use crate::words::{after_word, cut_word};
 use vortex_array::{PType, PValue};
 
@@ -70,22 +70,22 @@ fn bound_of(side: Side, operands: &[u8]) -> Option<Command<'_>>
 }
 
 /// The cast that the words after `cast` ask for.
-#[tactic(auto, using(crate::proofs::Operands::three_words))]
+#[tactic(auto, using(crate::proofs::Operands::casts))]
 fn cast_of(operands: &[u8]) -> Option<Command<'_>>
     ensures { asked_by result ≡ cast_operands (words_of operands.now) }
 {
     let (from, others) = cut_word(operands)?;
-    let (number, to) = cut_word(others)?;
+    let (number, to) = cut_number(others)?;
     cast_of_words(from, number, to)
 }
 
-/// The cast that these three ask for. Where `to` is more than one word, it is no kind.
-fn cast_of_words<'a>(from: &[u8], number: &[u8], to: &[u8]) -> Option<Command<'a>>
+/// The cast of the number from kind to kind. Where `to` is more than one word, it is no kind.
+fn cast_of_words<'a>(from: &[u8], number: i128, to: &[u8]) -> Option<Command<'a>>
     ensures { asked_by result
-        ≡ cast_request (ptype_named from.now) (number_named number.now) (ptype_named to.now) }
+        ≡ cast_request (ptype_named from.now) (Some number) (ptype_named to.now) }
 {
     let from = ptype_named(from)?;
     let to = ptype_named(to)?;
-    let number = PValue::from_whole(number_named(number)?, from)?;
+    let number = PValue::from_whole(number, from)?;
     Some(Command::Cast { number, to })
 }

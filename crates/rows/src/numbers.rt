@@ -1,14 +1,15 @@
 //! Kinds, numbers and strings of bytes: what a word says.
 
-ghost use Rattle.std.specs.Prelude.{◌≡◌, IfOk, IfSome, IsOk, ◌<◌, ◌≤◌, ◌^◌, length};
+ghost use Rattle.std.specs.Prelude.{◌≡◌, IfNone, IfOk, IfSome, IsOk, ◌<◌, ◌≤◌, ◌^◌, length};
 ghost use Rattle.rows.specs.Grammar.{hex_named, ptype_named, natural_named, number_named, size_named};
+ghost use Rattle.rows.specs.Fronts.{FirstSays, FirstSaysNone, LeadingDigits};
 
 use hex::{FromHexError, decode, decode_to_slice};
 use std::alloc::{AllocError, Global};
 use vortex_array::{ByteBuffer, INLINE_BYTES, PType};
 
-/// The most digits of a number.
-const DIGITS: usize = 20;
+/// How many digits fit 64 bits, whatever they are. A number has one more at most.
+const SURE_DIGITS: usize = 19;
 
 /// The most digits of a length.
 const SIZE_DIGITS: usize = 18;
@@ -32,50 +33,82 @@ pub fn ptype_named(word: &[u8]) -> Option<PType>
     }
 }
 
-/// The number that 1 to 20 digits represent. All but the last fit 64 bits.
+/// The number that the digits in front represent, and how many they are: at most as many as fit 64
+/// bits.
 #[tactic(auto, using(crate::proofs::Numerals::digits))]
-fn natural_named(digits: &[u8]) -> Option<u128>
-    ensures number { result ≡ natural_named digits.now }
-    ensures small { IfSome result (λ n. n < 10 ^ 20) }
-    ensures short { IfSome result (λ n. n < 10 ^ length digits.now) }
+fn leading_digits(text: &[u8]) -> (u64, usize)
+    ensures { LeadingDigits 19 text.now result.0 result.1 }
 {
-    let (last, others) = digits.split_last()?;
-    if others.len() >= DIGITS {
-        return None;
-    }
+    let front = &text[..text.len().min(SURE_DIGITS)];
     let mut number = 0u64;
-    for digit in others {
+    for (count, digit) in front.iter().enumerate() {
         if !digit.is_ascii_digit() {
-            return None;
+            return (number, count);
         }
         number = number * 10 + u64::from(*digit - b'0');
     }
-    if !last.is_ascii_digit() {
-        return None;
-    }
-    Some(u128::from(number) * 10 + u128::from(*last - b'0'))
+    (number, front.len())
 }
 
 /// The number that 1 to 18 digits represent.
-#[tactic(auto, using(crate::proofs::Numerals::sizes), unfolding(crate::specs::Grammar::size_named))]
+#[tactic(auto, using(crate::proofs::Numerals::some_size))]
 pub fn size_named(word: &[u8]) -> Option<u64>
     ensures { result ≡ size_named word.now }
 {
-    if word.len() > SIZE_DIGITS {
+    let (size, count) = leading_digits(word);
+    if count == 0 || count < word.len() || count > SIZE_DIGITS {
         return None;
     }
-    natural_named(word).map(|size| size as u64)
+    Some(size)
 }
 
-/// The number that the word represents: digits, after an optional minus sign.
+/// The number before the first space, and what follows the space: digits, after an optional minus
+/// sign.
 #[tactic(auto, using(crate::proofs::Numerals::signs))]
-pub fn number_named(word: &[u8]) -> Option<i128>
-    ensures { result ≡ number_named word.now }
+pub fn cut_number(text: &[u8]) -> Option<(i128, &[u8])>
+    ensures some { IfSome result (λ cut. FirstSays number_named text.now cut.0 cut.1.now) }
+    ensures none { IfNone result (FirstSaysNone number_named text.now) }
 {
-    if !word.is_empty() && word[0] == b'-' {
-        return natural_named(&word[1..]).map(|size| -(size as i128));
+    if !text.is_empty() && text[0] == b'-' {
+        let (size, rest) = cut_natural(&text[1..])?;
+        return Some((-(size as i128), rest));
     }
-    natural_named(word).map(|size| size as i128)
+    let (size, rest) = cut_natural(text)?;
+    Some((size as i128, rest))
+}
+
+/// The number that the 1 to 20 digits before the first space represent, and what follows the space.
+#[tactic(auto, using(crate::proofs::Numerals::naturals))]
+fn cut_natural(text: &[u8]) -> Option<(u128, &[u8])>
+    ensures small { IfSome result (λ cut. cut.0 < 10 ^ 20) }
+    ensures some { IfSome result (λ cut. FirstSays natural_named text.now cut.0 cut.1.now) }
+    ensures none { IfNone result (FirstSaysNone natural_named text.now) }
+{
+    let (number, end) = number_digits(text);
+    if end == 0 {
+        return None;
+    }
+    if text.len() <= end {
+        return None;
+    }
+    if text[end] != b' ' {
+        return None;
+    }
+    Some((number, &text[end + 1..]))
+}
+
+/// The same as `leading_digits` of one digit more, for which 64 bits may not do.
+#[tactic(auto, using(crate::proofs::Numerals::one_digit_more))]
+fn number_digits(text: &[u8]) -> (u128, usize)
+    ensures read { LeadingDigits 20 text.now result.0 result.1 }
+    ensures small { result.0 < 10 ^ 20 }
+{
+    let (number, count) = leading_digits(text);
+    let number = u128::from(number);
+    if count < text.len() && text[count].is_ascii_digit() {
+        return (number * 10 + u128::from(text[count] - b'0'), count + 1);
+    }
+    (number, count)
 }
 
 /// The bytes that the digits of the word represent, two a byte; none where it has an odd number of

@@ -180,16 +180,9 @@ impl<'a> Tokens<'a> {
         match made {
             Ok(made) => return Some(made),
             Err(VortexError::OutOfMemory) => self.fail(Fault::NoMemory),
-            Err(refusal) => self.refuse(refusal),
+            Err(refusal) => drop(self.refusal.get_or_insert(refusal)),
         }
         None
-    }
-
-    /// Keeps the refusal of a maker, where it is the first.
-    fn refuse(&mut self, refusal: VortexError) {
-        if self.refusal.is_none() {
-            self.refusal = Some(refusal);
-        }
     }
 }
 

@@ -75,7 +75,8 @@ pub fn within(tokens: &mut Tokens<'_>, room: u32) -> Option<u32>
     left
 }
 
-/// Reads a type in which so many brackets may be open at one time.
+/// Reads a type in which so many brackets may be open at one time; the type of nulls stands for one
+/// that was refused.
 #[cycle(types)]
 pub fn read_type(tokens: &mut Tokens<'_>, room: u32) -> DType {
     match read_head(tokens) {
@@ -88,16 +89,11 @@ pub fn read_type(tokens: &mut Tokens<'_>, room: u32) -> DType {
         head => match within(tokens, room) {
             Some(room) => {
                 let made = read_parts(tokens, head, room);
-                made_type(tokens, made)
+                tokens.made(made).unwrap_or(DType::Null)
             }
             None => DType::Null,
         },
     }
-}
-
-/// The type that was made; for one that was refused, the type of nulls.
-fn made_type(tokens: &mut Tokens<'_>, made: Result<DType, VortexError>) -> DType {
-    tokens.made(made).unwrap_or(DType::Null)
 }
 
 /// Reads the parts of a type.
@@ -217,12 +213,8 @@ fn struct_of(tokens: &mut Tokens<'_>, fields: Fields) -> Result<DType, VortexErr
 /// The union type of these variants, nullable where a question mark follows.
 fn union_of(tokens: &mut Tokens<'_>, fields: Fields) -> Result<DType, VortexError> {
     let nullability = tokens.nullability();
-    let Fields {
-        names,
-        dtypes,
-        type_ids,
-    } = fields;
-    let variants = UnionVariants::try_new(tokens.alloc, names, dtypes, type_ids)?;
+    let variants =
+        UnionVariants::try_new(tokens.alloc, fields.names, fields.dtypes, fields.type_ids)?;
     Ok(DType::Union(variants, nullability))
 }
 
