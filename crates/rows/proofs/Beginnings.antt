@@ -87,7 +87,7 @@ begins_with (b ∷ bs) w v ws e = by_test (b == 32) refl (some_word bs) (λ (u :
         let later : Begins bs more.0 = again more.0 (more.2 ∙ ap (λ (us : List (List ℕ)). more.0 ∷ us) (others_same _ _ _ _ both)) in
         subst (Begins (b ∷ bs)) (first_same _ _ _ _ both) (longer b bs more.0 later)
 
-take_is : (text word : List ℕ) → length word ≤ length text → ((k : ℕ) → k < length word → get_or text k 0 ≡ get_or word k 0) → take (length word) text ≡ word
+pub take_is : (text word : List ℕ) → length word ≤ length text → ((k : ℕ) → k < length word → get_or text k 0 ≡ get_or word k 0) → take (length word) text ≡ word
 take_is [] [] fits same = refl
 take_is (t ∷ text) [] fits same = refl
 take_is [] (w ∷ word) fits same = absurd (omega arith)

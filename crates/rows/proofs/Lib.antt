@@ -2,6 +2,7 @@ pub mod Bounds
 pub mod Castings
 pub mod Cuts
 pub mod KnownReads
+pub mod Names
 pub mod Numerals
 pub mod Operands
 pub mod Places

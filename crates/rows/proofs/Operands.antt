@@ -1,46 +1,16 @@
 -- What the words after a command ask for: the last of those that are cut may be more than one word.
-use Rattle.std.proofs.Common.{◌≡◌, ℕ, ℤ, true, false, Bool, List, [], ◌∷◌, Option, None, Some, refl, sym, ap, ◌∙◌, subst, arith}
-use Rattle.std.proofs.lemmas.Option.{none-some}
+use Rattle.std.proofs.Common.{◌≡◌, ℕ, ℤ, true, false, Bool, List, [], ◌∷◌, Option, None, Some, refl, sym, ap, ◌∙◌}
 use Rattle.std.proofs.lemmas.Slice.Eq.{bytes_eq-Decides}
-use Rattle.std.specs.List.{find}
 use Rattle.std.specs.Prelude.{codes, if◌then◌else◌}
 use Rattle.std.specs.Str.{bytes_eq}
-use Rattle.vortex_dtype.specs.PTypes.{ptype_text}
 use Rattle.vortex_dtype.specs.declared.ptype.PType.{PType}
-use Rattle.vortex_dtype.specs.declared.ptype.PType.TheVariants.{U8, U16, U32, U64, I8, I16, I32, I64}
 use Rattle.rows.specs.Fronts.{FirstSays, FirstSaysNone}
 use Rattle.rows.specs.Lines.{words_of}
-use Rattle.rows.specs.Grammar.{all_ptypes, bound_operands, cast_operands, cast_request, ptype_named, number_named, request_in, request_in_words}
+use Rattle.rows.specs.Grammar.{bound_operands, cast_operands, cast_request, ptype_named, number_named, request_in, request_in_words}
 use Rattle.rows.specs.declared.commands.Side.{Side}
 use Rattle.rows.specs.declared.commands.Side.TheVariants.{Lower, Upper}
 use Rattle.rows.proofs.Beginnings.{lone_word, some_word}
-
--- the text of a kind is one word
-text_alone : (ptype : PType) → words_of (ptype_text ptype) ≡ ptype_text ptype ∷ []
-text_alone U8 = refl
-text_alone U16 = refl
-text_alone U32 = refl
-text_alone U64 = refl
-text_alone I8 = refl
-text_alone I16 = refl
-text_alone I32 = refl
-text_alone I64 = refl
-
--- the kind that is found has the text
-found : (word : List ℕ) (ptypes : List PType) (ptype : PType) → find (λ k. bytes_eq word (ptype_text k)) ptypes ≡ Some ptype → bytes_eq word (ptype_text ptype) ≡ true
-found word [] ptype e = absurd (none-some ptype e)
-found word (k ∷ ptypes) ptype e = by_test (bytes_eq word (ptype_text k)) refl (found word ptypes ptype)
-  where
-    by_test : (t : Bool) → bytes_eq word (ptype_text k) ≡ t → (find (λ j. bytes_eq word (ptype_text j)) ptypes ≡ Some ptype → bytes_eq word (ptype_text ptype) ≡ true) → bytes_eq word (ptype_text ptype) ≡ true
-    by_test true t later = let same : Some k ≡ Some ptype = rw t at e in let is : k ≡ ptype = grind arith in subst (λ (j : PType). bytes_eq word (ptype_text j) ≡ true) is t
-    by_test false t later = later (rw t at e)
-
--- what names a kind is one word
-ptype_alone : (word : List ℕ) (ptype : PType) → ptype_named word ≡ Some ptype → words_of word ≡ word ∷ []
-unfolding ptype_named
-ptype_alone word ptype e =
-    let is : word ≡ ptype_text ptype = (bytes_eq-Decides word (ptype_text ptype)).0 (found word all_ptypes ptype e) in
-    subst (λ (l : List ℕ). words_of l ≡ l ∷ []) (sym is) (text_alone ptype)
+use Rattle.rows.proofs.Names.{ptype_alone}
 
 -- without the kind to cast to, nothing is asked for
 no_ptype : (from : Option PType) (number : Option ℤ) → cast_request from number None ≡ None
@@ -63,26 +33,39 @@ three a b s = by_ptype (ptype_named s) refl
     by_ptype (Some ptype) e = rw (ptype_alone s ptype e) refl
 
 -- what three words ask for, of which the last may be more
-pub three_words : (l a r s : List ℕ) (z : ℤ) → words_of l ≡ a ∷ words_of r → FirstSays number_named r z s → cast_request (ptype_named a) (Some z) (ptype_named s) ≡ cast_operands (words_of l)
-three_words l a r s z e says =
-    ap (λ number. cast_request (ptype_named a) number (ptype_named s)) (sym says.says) ∙ three a says.word s
-    ∙ sym (ap cast_operands (e ∙ ap (λ (ws : List (List ℕ)). a ∷ ws) says.first))
+pub three_words : (l r s : List ℕ) (k : PType) (z : ℤ) → FirstSays ptype_named l k r → FirstSays number_named r z s → cast_request (Some k) (Some z) (ptype_named s) ≡ cast_operands (words_of l)
+three_words l r s k z kind says =
+    ap (λ from. cast_request from (Some z) (ptype_named s)) (sym kind.says)
+    ∙ ap (λ number. cast_request (ptype_named kind.word) number (ptype_named s)) (sym says.says)
+    ∙ three kind.word says.word s
+    ∙ sym (ap cast_operands (kind.first ∙ ap (λ (ws : List (List ℕ)). kind.word ∷ ws) says.first))
+
+-- without a first kind nothing is asked for
+pub no_first : (l : List ℕ) → FirstSaysNone ptype_named l → None ≡ cast_operands (words_of l)
+no_first l none = sym (by_words (words_of l) refl)
+  where
+    by_words : (ws : List (List ℕ)) → words_of l ≡ ws → cast_operands ws ≡ None
+    by_words [] q = refl
+    by_words (w ∷ []) q = refl
+    by_words (w ∷ v ∷ []) q = refl
+    by_words (w ∷ v ∷ u ∷ []) q = ap (λ from. cast_request from (number_named v) (ptype_named u)) (none w v (u ∷ []) q)
+    by_words (w ∷ v ∷ u ∷ t ∷ ws) q = refl
 
 -- without a number nothing is asked for
 none_without : (from to : Option PType) → cast_request from None to ≡ None
 none_without None to = refl
 none_without (Some from) to = refl
 
-pub no_number : (l a r : List ℕ) → words_of l ≡ a ∷ words_of r → FirstSaysNone number_named r → None ≡ cast_operands (words_of l)
-no_number l a r e none = sym (ap cast_operands e ∙ by_words (words_of r) refl)
+pub no_number : (l r : List ℕ) (k : PType) → FirstSays ptype_named l k r → FirstSaysNone number_named r → None ≡ cast_operands (words_of l)
+no_number l r k kind none = sym (ap cast_operands kind.first ∙ by_words (words_of r) refl)
   where
-    by_words : (ws : List (List ℕ)) → words_of r ≡ ws → cast_operands (a ∷ ws) ≡ None
+    by_words : (ws : List (List ℕ)) → words_of r ≡ ws → cast_operands (kind.word ∷ ws) ≡ None
     by_words [] q = refl
     by_words (w ∷ []) q = refl
-    by_words (w ∷ v ∷ []) q = ap (λ number. cast_request (ptype_named a) number (ptype_named v)) (none w v [] q) ∙ none_without _ _
+    by_words (w ∷ v ∷ []) q = ap (λ number. cast_request (ptype_named kind.word) number (ptype_named v)) (none w v [] q) ∙ none_without _ _
     by_words (w ∷ v ∷ u ∷ ws) q = refl
 
-pub ruleset casts = (three_words, no_number)
+pub ruleset casts = (three_words, no_first, no_number)
 
 -- more than two words are no operands of `lower` and `upper`
 pub more_than_two : (side : Side) (l a r b s : List ℕ) → words_of l ≡ a ∷ words_of r → words_of r ≡ b ∷ words_of s → None ≡ bound_operands side (words_of l)

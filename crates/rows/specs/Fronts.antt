@@ -1,5 +1,5 @@
 -- What stands at the front of a text, before its first space.
-use Rattle.std.specs.Prelude.{ℕ, List, ◌∷◌, ◌≡◌, ◌≤◌, ◌<◌, true, false, Option, None, Some, length, slice_index, take}
+use Rattle.std.specs.Prelude.{ℕ, List, ◌∷◌, ◌≡◌, ◌≤◌, ◌<◌, ◌≢◌, ◌⊎◌, true, false, Option, None, Some, length, slice_index, take}
 use Rattle.std.specs.Char.{is_ascii_digit}
 use Rattle.std.specs.Str.Parse.{digits_value}
 use Rattle.rows.specs.Grammar.{all_digits}
@@ -22,3 +22,7 @@ pub record LeadingDigits (most : ℕ) (text : List ℕ) (n k : ℕ) : Type 0 whe
   pub digits : all_digits (take k text) ≡ true
   pub number : n ≡ digits_value 10 (take k text)
   pub ended : k < most → k < length text → is_ascii_digit (slice_index text k) ≡ false
+
+-- a name of two bytes ends at a space, and one of three may end at the next
+abbrev pub IsNameEnd : List ℕ → ℕ → Type 0
+IsNameEnd text end = ((end ≡ 2) × (2 < length text) × (slice_index text 2 ≡ 32)) ⊎ ((end ≡ 3) × (2 < length text → slice_index text 2 ≢ 32))

@@ -5,7 +5,7 @@ ghost use Rattle.rows.specs.Commands.{asked_by};
 ghost use Rattle.rows.specs.Grammar.{bound_operands, cast_operands, cast_request, ptype_named, request_in};
 ghost use Rattle.rows.specs.Lines.{words_of};
 
-use crate::numbers::{cut_number, ptype_named, size_named};
+use crate::numbers::{cut_number, cut_ptype, ptype_named, size_named};
 use crate::words::{after_word, cut_word};
 use vortex_array::{PType, PValue};
 
@@ -74,17 +74,15 @@ fn bound_of(side: Side, operands: &[u8]) -> Option<Command<'_>>
 fn cast_of(operands: &[u8]) -> Option<Command<'_>>
     ensures { asked_by result ≡ cast_operands (words_of operands.now) }
 {
-    let (from, others) = cut_word(operands)?;
+    let (from, others) = cut_ptype(operands)?;
     let (number, to) = cut_number(others)?;
     cast_of_words(from, number, to)
 }
 
 /// The cast of the number from kind to kind. Where `to` is more than one word, it is no kind.
-fn cast_of_words<'a>(from: &[u8], number: i128, to: &[u8]) -> Option<Command<'a>>
-    ensures { asked_by result
-        ≡ cast_request (ptype_named from.now) (Some number) (ptype_named to.now) }
+fn cast_of_words<'a>(from: PType, number: i128, to: &[u8]) -> Option<Command<'a>>
+    ensures { asked_by result ≡ cast_request (Some from) (Some number) (ptype_named to.now) }
 {
-    let from = ptype_named(from)?;
     let to = ptype_named(to)?;
     let number = PValue::from_whole(number, from)?;
     Some(Command::Cast { number, to })

@@ -2,7 +2,7 @@
 
 ghost use Rattle.std.specs.Prelude.{◌≡◌, IfNone, IfOk, IfSome, IsOk, ◌<◌, ◌≤◌, ◌^◌, length};
 ghost use Rattle.rows.specs.Grammar.{hex_named, ptype_named, natural_named, number_named, size_named};
-ghost use Rattle.rows.specs.Fronts.{FirstSays, FirstSaysNone, LeadingDigits};
+ghost use Rattle.rows.specs.Fronts.{FirstSays, FirstSaysNone, IsNameEnd, LeadingDigits};
 
 use hex::{FromHexError, decode, decode_to_slice};
 use std::alloc::{AllocError, Global};
@@ -30,6 +30,34 @@ pub fn ptype_named(word: &[u8]) -> Option<PType>
         b"i32" => Some(PType::I32),
         b"i64" => Some(PType::I64),
         _ => None,
+    }
+}
+
+/// The kind before the first space, and what follows the space.
+#[tactic(auto, using(crate::proofs::Names::cuts))]
+pub fn cut_ptype(text: &[u8]) -> Option<(PType, &[u8])>
+    ensures some { IfSome result (λ cut. FirstSays ptype_named text.now cut.0 cut.1.now) }
+    ensures none { IfNone result (FirstSaysNone ptype_named text.now) }
+{
+    let end = name_end(text);
+    if text.len() <= end {
+        return None;
+    }
+    if text[end] != b' ' {
+        return None;
+    }
+    let ptype = ptype_named(&text[..end])?;
+    Some((ptype, &text[end + 1..]))
+}
+
+/// Where the name of a kind in front ends: it has two bytes, or three.
+fn name_end(text: &[u8]) -> usize
+    ensures { IsNameEnd text.now result }
+{
+    if text.len() > 2 && text[2] == b' ' {
+        2
+    } else {
+        3
     }
 }
 
