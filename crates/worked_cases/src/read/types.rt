@@ -213,8 +213,12 @@ fn struct_of(tokens: &mut Tokens<'_>, fields: Fields) -> Result<DType, VortexErr
 /// The union type of these variants, nullable where a question mark follows.
 fn union_of(tokens: &mut Tokens<'_>, fields: Fields) -> Result<DType, VortexError> {
     let nullability = tokens.nullability();
-    let variants =
-        UnionVariants::try_new(tokens.alloc, fields.names, fields.dtypes, fields.type_ids)?;
+    let variants = UnionVariants::try_new(
+        tokens.alloc,
+        fields.names,
+        fields.dtypes,
+        fields.type_ids,
+    )?;
     Ok(DType::Union(variants, nullability))
 }
 
