@@ -35,12 +35,12 @@ found word (k ∷ ptypes) ptype e = by_test (bytes_eq word (ptype_text k)) refl 
     by_test true t later = let same : Some k ≡ Some ptype = rw t at e in let is : k ≡ ptype = grind arith in subst (λ (j : PType). bytes_eq word (ptype_text j) ≡ true) is t
     by_test false t later = later (rw t at e)
 
--- what names a kind is one word
 -- what names a kind is its text
 text_of : (word : List ℕ) (ptype : PType) → ptype_named word ≡ Some ptype → word ≡ ptype_text ptype
 unfolding ptype_named
 text_of word ptype e = (bytes_eq-Decides word (ptype_text ptype)).0 (found word all_ptypes ptype e)
 
+-- what names a kind is one word
 pub ptype_alone : (word : List ℕ) (ptype : PType) → ptype_named word ≡ Some ptype → words_of word ≡ word ∷ []
 ptype_alone word ptype e = subst (λ (l : List ℕ). words_of l ≡ l ∷ []) (sym (text_of word ptype e)) (text_alone ptype)
 
@@ -85,22 +85,35 @@ two_or_three I16 = inr refl
 two_or_three I32 = inr refl
 two_or_three I64 = inr refl
 
--- a first word that names a kind ends where a name does
-name_at_end : (text w : List ℕ) (end : ℕ) (k : PType) → IsNameEnd text end → Begins text w → ptype_named w ≡ Some k → length w ≡ end
-name_at_end text w end k is begins named =
+-- a first word that names a kind has two bytes and a space after them, or three, of which the last is no space
+name_length : (text w v : List ℕ) (ws : List (List ℕ)) (k : PType) → words_of text ≡ w ∷ v ∷ ws → ptype_named w ≡ Some k
+    → ((length w ≡ 2) × (2 < length text) × (get_or text 2 0 ≡ 32)) ⊎ ((length w ≡ 3) × (get_or text 2 0 ≢ 32))
+name_length text w v ws k e named =
+    let begins = begins_with text w v ws e in
     let same : w ≡ ptype_text k = text_of w k named in
     let plain = no_space_in w (ptype_alone w k named) in
     let fits = begins.fits in
     ⊎_elim
     (λ (two : length (ptype_text k) ≡ 2).
     let count : length w ≡ 2 = ap length same ∙ two in
-    let space : get_or text 2 0 ≡ 32 = subst (λ (j : ℕ). get_or text j 0 ≡ 32) count begins.ends in
-    ⊎_elim (λ short. count ∙ sym short.0) (λ long. absurd (long.1 (omega (arith, fits, count)) space)) is)
+    inl (count, omega (arith, fits, count), subst (λ (j : ℕ). get_or text j 0 ≡ 32) count begins.ends))
     (λ (three : length (ptype_text k) ≡ 3).
     let count : length w ≡ 3 = ap length same ∙ three in
     let inside : 2 < length w = omega (arith, count) in
-    ⊎_elim (λ short. absurd (plain 2 inside (sym (begins.same 2 inside) ∙ short.2))) (λ long. count ∙ sym long.0) is)
+    inr (count, λ space. plain 2 inside (sym (begins.same 2 inside) ∙ space)))
     (two_or_three k)
+
+-- before a space in the third place a name ends there
+pub ends_at_two : (text : List ℕ) → 2 < length text → get_or text 2 0 ≡ 32 → IsNameEnd text 2
+ends_at_two text inside space w v ws k e named =
+    ⊎_elim (λ two. two.0) (λ three. absurd (three.1 space)) (name_length text w v ws k e named)
+
+-- without a space in the third place a name ends after it
+pub ends_at_three : (text : List ℕ) → (2 < length text → get_or text 2 0 ≢ 32) → IsNameEnd text 3
+ends_at_three text other w v ws k e named =
+    ⊎_elim (λ two. absurd (other two.1 two.2)) (λ three. three.0) (name_length text w v ws k e named)
+
+pub ruleset ends = (ends_at_two, ends_at_three)
 
 -- where no kind ends where a name does, the first word names none
 names_none : (text : List ℕ) (end : ℕ) → IsNameEnd text end → ((w : List ℕ) (k : PType) → Begins text w → ptype_named w ≡ Some k → length w ≡ end → ⊥) → FirstSaysNone ptype_named text
@@ -109,8 +122,7 @@ names_none text end is not w v ws e = by_name (ptype_named w) refl
     by_name : (o : Option PType) → ptype_named w ≡ o → ptype_named w ≡ None
     by_name None o = o
     by_name (Some k) o =
-        let begins = begins_with text w v ws e in
-        absurd (not w k begins o (name_at_end text w end k is begins o))
+        absurd (not w k (begins_with text w v ws e) o (is w v ws k e o))
 
 pub cut_none : (text : List ℕ) (end : ℕ) → IsNameEnd text end → ptype_named (take end text) ≡ None → FirstSaysNone ptype_named text
 cut_none text end is none = names_none text end is (λ w k begins named count.

@@ -180,16 +180,6 @@ first_says text k n inside some few space every number =
       says = rw (a, b, every) (ap (λ m. Some m) (sym number));
     }
 
--- no more digits than 19 are below
-small_read : (most : ℕ) (text : List ℕ) (n k : ℕ) → LeadingDigits most text n k → most ≤ 20 → n < 10 ^ 20
-unfolding all_digits
-small_read most text n k read few =
-    let upto = read.few in
-    let count : length (take k text) ≡ k = length-take-le k text read.within in
-    let b : n < 10 ^ length (take k text) = subst (λ (m : ℕ). m < 10 ^ length (take k text)) (sym read.number) (below_power (take k text) read.digits) in
-    let g = ten_grows (length (take k text)) 20 (omega (arith, upto, count)) in
-    omega (arith, b, g)
-
 -- another digit after the 19
 pub last_read : (text : List ℕ) (n k : ℕ) → LeadingDigits 19 text n k → k < length text → is_ascii_digit (get_or text k 0) ≡ true → LeadingDigits 20 text (n * 10 + (get_or text k 0 - 48)) (k + 1)
 unfolding all_digits
@@ -209,9 +199,15 @@ none_read text n k read other =
     let few = read.few in
     record { within = read.within; few = omega (arith, few); digits = read.digits; number = read.number; ended = λ _ inside. other inside }
 
--- what is read has at most 20 digits
+-- 20 digits are a number below the 20th power of ten
 pub small_number : (text : List ℕ) (n k : ℕ) → LeadingDigits 20 text n k → n < 10 ^ 20
-small_number text n k read = small_read 20 text n k read (omega arith)
+unfolding all_digits
+small_number text n k read =
+    let few = read.few in
+    let count : length (take k text) ≡ k = length-take-le k text read.within in
+    let b : n < 10 ^ length (take k text) = subst (λ (m : ℕ). m < 10 ^ length (take k text)) (sym read.number) (below_power (take k text) read.digits) in
+    let g = ten_grows (length (take k text)) 20 (omega (arith, few, count)) in
+    omega (arith, b, g)
 
 pub ruleset one_digit_more = (last_read, none_read, small_number)
 

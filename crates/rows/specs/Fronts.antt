@@ -1,8 +1,9 @@
 -- What stands at the front of a text, before its first space.
-use Rattle.std.specs.Prelude.{ℕ, List, ◌∷◌, ◌≡◌, ◌≤◌, ◌<◌, ◌≢◌, ◌⊎◌, true, false, Option, None, Some, length, slice_index, take}
+use Rattle.std.specs.Prelude.{ℕ, List, ◌∷◌, ◌≡◌, ◌≤◌, ◌<◌, true, false, Option, None, Some, length, slice_index, take}
 use Rattle.std.specs.Char.{is_ascii_digit}
 use Rattle.std.specs.Str.Parse.{digits_value}
-use Rattle.rows.specs.Grammar.{all_digits}
+use Rattle.vortex_dtype.specs.declared.ptype.PType.{PType}
+use Rattle.rows.specs.Grammar.{all_digits, ptype_named}
 use Rattle.rows.specs.Lines.{words_of}
 
 -- the first word of several says x, and the rest follows the space after it
@@ -23,6 +24,6 @@ pub record LeadingDigits (most : ℕ) (text : List ℕ) (n k : ℕ) : Type 0 whe
   pub number : n ≡ digits_value 10 (take k text)
   pub ended : k < most → k < length text → is_ascii_digit (slice_index text k) ≡ false
 
--- a name of two bytes ends at a space, and one of three may end at the next
+-- a kind's name that is the first word of several ends there
 abbrev pub IsNameEnd : List ℕ → ℕ → Type 0
-IsNameEnd text end = ((end ≡ 2) × (2 < length text) × (slice_index text 2 ≡ 32)) ⊎ ((end ≡ 3) × (2 < length text → slice_index text 2 ≢ 32))
+IsNameEnd text end = (w v : List ℕ) (ws : List (List ℕ)) (k : PType) → words_of text ≡ w ∷ v ∷ ws → ptype_named w ≡ Some k → length w ≡ end

@@ -51,6 +51,7 @@ pub fn cut_ptype(text: &[u8]) -> Option<(PType, &[u8])>
 }
 
 /// Where the name of a kind in front ends: it has two bytes, or three.
+#[tactic(auto, using(crate::proofs::Names::ends))]
 fn name_end(text: &[u8]) -> usize
     ensures { IsNameEnd text.now result }
 {
