@@ -3,8 +3,9 @@ use Rattle.std.specs.Prelude.{ℕ, List, [], ◌∷◌, Bool, map as list_map}
 use Rattle.vortex_dtype.specs.TypeTree.{TypeTree, TypeTrees, null_type, bool_type, integer_type, utf8_type, binary_type, list_type, fixed_size_list_type, map_type, struct_type, union_type, variant_type, extension_type, no_types, type_then}
 use Rattle.vortex_dtype.specs.declared.nullability.Nullability.{Nullability}
 use Rattle.vortex_dtype.specs.declared.types.DType.{DType, fold-DType}
-use Rattle.vortex_dtype.specs.declared.types.DType.TheOpen.{DType-F, ExtDType-F, MapDType-F, StructFields-F, UnionVariants-F}
+use Rattle.vortex_dtype.specs.declared.types.DType.TheOpen.{DType-F, ExtDType-F, FieldLists-F, HeldFields-F, MapDType-F, StructFields-F, UnionVariants-F}
 use Rattle.vortex_dtype.specs.declared.types.ExtDType.{ExtDType, fold-ExtDType}
+use Rattle.vortex_dtype.specs.declared.types.FieldLists.{FieldLists, fold-FieldLists}
 use Rattle.vortex_dtype.specs.declared.types.MapDType.{MapDType, fold-MapDType}
 use Rattle.vortex_dtype.specs.declared.types.StructFields.{StructFields, fold-StructFields}
 use Rattle.vortex_dtype.specs.declared.types.UnionVariants.{UnionVariants, fold-UnionVariants}
@@ -54,8 +55,8 @@ abbrev pub extension_type_of : ExtensionParts → TypeTree
 extension_type_of e = extension_type e.id e.metadata e.storage
 
 -- one level of a type, each part of which is already seen as what it holds
-abbrev pub Level : (Type 0 → Type 0 → Type 0 → Type 0 → Type 0 → Type 0) → Type 0
-Level F = F TypeTree ExtensionParts MapParts FieldParts VariantParts
+abbrev pub Level : (Type 0 → Type 0 → Type 0 → Type 0 → Type 0 → Type 0 → Type 0 → Type 0) → Type 0
+Level F = F TypeTree FieldParts ExtensionParts FieldParts MapParts FieldParts VariantParts
 
 -- the tree of one level
 abbrev pub type_step : Level DType-F → TypeTree
@@ -78,31 +79,43 @@ extension_step e = record { id = e.id; metadata = e.metadata; storage = e.storag
 abbrev pub map_step : Level MapDType-F → MapParts
 map_step m = record { key = m.key.value; value = m.value.value; keys_sorted = m.keys_sorted }
 
+abbrev pub lists_step : Level FieldLists-F → FieldParts
+lists_step f = record { names = f.names.items; types = f.dtypes.items }
+
+-- the same, held in either way
+abbrev pub held_step : Level HeldFields-F → FieldParts
+held_step (HeldFields-F.Own f) = f
+held_step (HeldFields-F.Shared f) = f.value
+
 abbrev pub fields_step : Level StructFields-F → FieldParts
-fields_step f = record { names = f.names.items; types = f.dtypes.items }
+fields_step f = f.held
 
 abbrev pub variants_step : Level UnionVariants-F → VariantParts
 variants_step v = record { names = v.names.items; types = v.dtypes.items; type_ids = v.type_ids.items }
 
 -- the tree that a type stands for
 abbrev pub type_of : DType → TypeTree
-type_of = fold-DType TypeTree ExtensionParts MapParts FieldParts VariantParts type_step extension_step map_step fields_step variants_step
+type_of = fold-DType TypeTree FieldParts ExtensionParts FieldParts MapParts FieldParts VariantParts type_step held_step extension_step lists_step map_step fields_step variants_step
 
 -- what an extension type holds
 abbrev pub ext_of : ExtDType → ExtensionParts
-ext_of = fold-ExtDType TypeTree ExtensionParts MapParts FieldParts VariantParts type_step extension_step map_step fields_step variants_step
+ext_of = fold-ExtDType TypeTree FieldParts ExtensionParts FieldParts MapParts FieldParts VariantParts type_step held_step extension_step lists_step map_step fields_step variants_step
 
 -- what a map type holds
 abbrev pub map_of : MapDType → MapParts
-map_of = fold-MapDType TypeTree ExtensionParts MapParts FieldParts VariantParts type_step extension_step map_step fields_step variants_step
+map_of = fold-MapDType TypeTree FieldParts ExtensionParts FieldParts MapParts FieldParts VariantParts type_step held_step extension_step lists_step map_step fields_step variants_step
 
 -- what a struct type holds
 abbrev pub fields_of : StructFields → FieldParts
-fields_of = fold-StructFields TypeTree ExtensionParts MapParts FieldParts VariantParts type_step extension_step map_step fields_step variants_step
+fields_of = fold-StructFields TypeTree FieldParts ExtensionParts FieldParts MapParts FieldParts VariantParts type_step held_step extension_step lists_step map_step fields_step variants_step
+
+-- what a struct type holds, seen at its lists
+abbrev pub lists_of : FieldLists → FieldParts
+lists_of = fold-FieldLists TypeTree FieldParts ExtensionParts FieldParts MapParts FieldParts VariantParts type_step held_step extension_step lists_step map_step fields_step variants_step
 
 -- what a union type holds
 abbrev pub variants_of : UnionVariants → VariantParts
-variants_of = fold-UnionVariants TypeTree ExtensionParts MapParts FieldParts VariantParts type_step extension_step map_step fields_step variants_step
+variants_of = fold-UnionVariants TypeTree FieldParts ExtensionParts FieldParts MapParts FieldParts VariantParts type_step held_step extension_step lists_step map_step fields_step variants_step
 
 -- the trees of several types
 abbrev pub dtype_trees : List DType → TypeTrees

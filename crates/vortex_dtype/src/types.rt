@@ -15,6 +15,7 @@ use crate::nullability::Nullability;
 use crate::ptype::PType;
 use std::alloc::Global;
 use std::hash::Hasher;
+use std::sync::Arc;
 
 mod copies;
 mod equality;
@@ -76,6 +77,21 @@ pub struct MapDType {
 #[cycle(dtype)]
 #[derive(Debug, Drop)]
 pub struct StructFields {
+    held: HeldFields,
+}
+
+/// The two ways to hold fields: alone, or together with the copies.
+#[cycle(dtype)]
+#[derive(Debug, Drop)]
+enum HeldFields {
+    Own(FieldLists),
+    Shared(Arc<FieldLists>),
+}
+
+/// The names and the types of fields.
+#[cycle(dtype)]
+#[derive(Debug, Drop)]
+struct FieldLists {
     names: Vec<FieldName>,
     dtypes: Vec<DType>,
 }

@@ -5,10 +5,10 @@ ghost use Rattle.std.specs.Vec.{vec_capacity, vec_len};
 ghost use Rattle.vortex_dtype.specs.Copies.{Adds};
 ghost use Rattle.vortex_dtype.specs.Memory.{GivesOrNoMemory};
 ghost use Rattle.vortex_dtype.specs.TypeTree.{IsFlat, fixed_size_list_type, integer_type, list_type, utf8_type};
-ghost use Rattle.vortex_dtype.specs.TypeOf.{type_of, fields_of, variants_of, map_of, ext_of, map_type_of, struct_type_of, union_type_of, extension_type_of};
+ghost use Rattle.vortex_dtype.specs.TypeOf.{type_of, fields_of, lists_of, variants_of, map_of, ext_of, map_type_of, struct_type_of, union_type_of, extension_type_of};
 ghost use Rattle.vortex_dtype.specs.declared.error.VortexError.TheVariants.{OutOfMemory};
 
-use super::{DType, ExtDType, MapDType, StructFields, UnionVariants};
+use super::{DType, ExtDType, FieldLists, HeldFields, MapDType, StructFields, UnionVariants};
 use crate::error::VortexError;
 use crate::names::FieldName;
 use crate::nullability::Nullability;
@@ -241,14 +241,31 @@ pub(super) fn copy_map(alloc: Global, map: &MapDType) -> Result<MapDType, Vortex
     })
 }
 
-/// The same fields.
+/// The same fields: shared where these are, and copied where those have as many owners as can be
+/// counted.
 #[cycle(copy)]
 pub(super) fn copy_fields(alloc: Global, fields: &StructFields) -> Result<StructFields, VortexError>
     ensures { GivesOrNoMemory (λ c. fields_of c ≡ fields_of fields.now) result }
 {
-    Ok(StructFields {
-        names: copy_names(alloc, &fields.names)?,
-        dtypes: copy_all(alloc, &fields.dtypes)?,
+    if let HeldFields::Shared(lists) = &fields.held {
+        let shared: Result<_, _> = lists.clone();
+        if let Ok(lists) = shared {
+            let held = HeldFields::Shared(lists);
+            return Ok(StructFields { held });
+        }
+    }
+    let held = HeldFields::Own(copy_lists(alloc, fields.lists())?);
+    Ok(StructFields { held })
+}
+
+/// The same names and types.
+#[cycle(copy)]
+fn copy_lists(alloc: Global, lists: &FieldLists) -> Result<FieldLists, VortexError>
+    ensures { GivesOrNoMemory (λ c. lists_of c ≡ lists_of lists.now) result }
+{
+    Ok(FieldLists {
+        names: copy_names(alloc, &lists.names)?,
+        dtypes: copy_all(alloc, &lists.dtypes)?,
     })
 }
 

@@ -7,9 +7,9 @@ ghost use Rattle.std.proofs.lemmas.Cmp.{on_equiv};
 ghost use Rattle.vortex_dtype.specs.TypeTree.{keep, trim, trim_all};
 ghost use Rattle.vortex_dtype.specs.TypeEquality.{tree_eq, trees_eq, nullability_eq, fields_eq, variants_eq, map_eq, ext_eq};
 ghost use Rattle.vortex_dtype.specs.Lemmas.TypeLaws.{tree_eq-equiv, equiv-from_Decides, map_eq-Decides, fields_eq-Decides, variants_eq-Decides, ext_eq-Decides};
-ghost use Rattle.vortex_dtype.specs.TypeOf.{type_of, dtype_trees, fields_of, variants_of, map_of, ext_of};
+ghost use Rattle.vortex_dtype.specs.TypeOf.{type_of, dtype_trees, fields_of, lists_of, variants_of, map_of, ext_of};
 
-use super::{DType, ExtDType, MapDType, StructFields, UnionVariants};
+use super::{DType, ExtDType, FieldLists, MapDType, StructFields, UnionVariants};
 use crate::nullability::Nullability;
 
 /// Whether two nullabilities agree; they all do where nullability does not count.
@@ -65,6 +65,13 @@ fn maps_equal(exact: bool, a: &MapDType, b: &MapDType) -> bool
 #[cycle(equal)]
 fn fields_equal(exact: bool, a: &StructFields, b: &StructFields) -> bool
     ensures { result ≡ fields_eq exact (fields_of a.now) (fields_of b.now) }
+{
+    lists_equal(exact, a.lists(), b.lists())
+}
+
+#[cycle(equal)]
+fn lists_equal(exact: bool, a: &FieldLists, b: &FieldLists) -> bool
+    ensures { result ≡ fields_eq exact (lists_of a.now) (lists_of b.now) }
 {
     a.names == b.names && all_equal(exact, &a.dtypes, &b.dtypes)
 }

@@ -1,18 +1,21 @@
 //! The fields of structs.
 
-ghost use Rattle.std.specs.Prelude.{◌≡◌, IfOk, IsOkAnd, length, option_map, slice_get, position, map, false};
+ghost use Rattle.std.specs.Prelude.{◌≡◌, ◌<◌, IfOk, IsOkAnd, length, option_map, slice_get, position, map, false};
 ghost use Rattle.std.specs.Str.{bytes_eq};
 ghost use Rattle.vortex_dtype.specs.Memory.{GivesOrNoMemory};
 ghost use Rattle.vortex_dtype.specs.Names.{names_in};
 ghost use Rattle.vortex_dtype.specs.Parts.{IsProjection, field_index, type_named};
 ghost use Rattle.vortex_dtype.specs.Refusals.{RefusesOrNoMemory, misses_a_name, project_cause};
-ghost use Rattle.vortex_dtype.specs.TypeOf.{type_of, fields_of};
+ghost use Rattle.vortex_dtype.specs.TypeOf.{type_of, fields_of, lists_of};
+ghost use Rattle.vortex_dtype.specs.declared.types.FieldLists.{size-FieldLists};
+ghost use Rattle.vortex_dtype.specs.declared.types.StructFields.{size-StructFields};
 
 use super::copies::copy_fields;
-use super::{DType, StructFields};
+use super::{DType, FieldLists, HeldFields, StructFields};
 use crate::error::VortexError;
 use crate::names::{FieldName, FieldNames};
 use std::alloc::Global;
+use std::sync::Arc;
 
 impl StructFields {
     /// The fields with these names and types. The caller knows that they are equally many. Takes no
@@ -28,35 +31,66 @@ impl StructFields {
         ensures { IsOkAnd result (λ fields.
             fields_of fields ≡ record { names = names.items; types = map type_of dtypes.items }) }
     {
-        Ok(StructFields { names, dtypes })
+        Ok(StructFields::own(names, dtypes))
+    }
+
+    /// The fields with these names and types, which copies do not share.
+    fn own(names: Vec<FieldName>, dtypes: Vec<DType>) -> StructFields
+        ensures { fields_of result ≡ record { names = names.items; types = map type_of dtypes.items } }
+    {
+        let held = HeldFields::Own(FieldLists { names, dtypes });
+        StructFields { held }
+    }
+
+    /// The same fields, which copies share from then on: such a copy takes no memory. Of this port
+    /// alone.
+    pub fn into_shared(self, alloc: Global) -> Result<StructFields, VortexError>
+        ensures { GivesOrNoMemory (λ fields. fields_of fields ≡ fields_of self) result }
+    {
+        let held = match self.held {
+            HeldFields::Own(lists) => HeldFields::Shared(Arc::new(alloc, lists)?),
+            shared => shared,
+        };
+        Ok(StructFields { held })
+    }
+
+    /// The names and the types.
+    pub(super) fn lists(&self) -> &FieldLists
+        ensures same { lists_of result.now ≡ fields_of self.now }
+        ensures inside { size-FieldLists result.now < size-StructFields self.now }
+    {
+        match &self.held {
+            HeldFields::Own(lists) => lists,
+            HeldFields::Shared(lists) => lists,
+        }
     }
 
     /// How many fields there are.
     pub fn nfields(&self) -> usize
         ensures { result ≡ length (fields_of self.now).types }
     {
-        self.dtypes.len()
+        self.lists().dtypes.len()
     }
 
     /// The names, in order.
     pub fn names(&self) -> FieldNames<'_>
         ensures { names_in result ≡ (fields_of self.now).names }
     {
-        FieldNames::of(&self.names)
+        FieldNames::of(&self.lists().names)
     }
 
     /// The types, in order. Of this port alone: what a recursion over types goes down.
     pub fn dtypes(&self) -> &[DType]
         ensures trees { map type_of result.now ≡ (fields_of self.now).types }
     {
-        &self.dtypes
+        &self.lists().dtypes
     }
 
     /// The place of the first field with the name, and none exactly where no field has it.
     pub fn find(&self, name: &str) -> Option<usize>
         ensures { result ≡ field_index (fields_of self.now) name.now }
     {
-        find_name(&self.names, name)
+        find_name(&self.lists().names, name)
     }
 
     /// The type of the field at this place, and none exactly past the end.
@@ -66,7 +100,7 @@ impl StructFields {
         ensures tree { option_map (λ dtype. type_of dtype.now) result
             ≡ slice_get (fields_of self.now).types index }
     {
-        dtype_at(&self.dtypes, index)
+        dtype_at(&self.lists().dtypes, index)
     }
 
     /// For each of the names, in their order, that name and the type of the first field that has
@@ -108,10 +142,7 @@ impl StructFields {
             kept.push(name.clone(alloc)?)?;
             dtypes.push(dtype.clone(alloc)?)?;
         }
-        Ok(StructFields {
-            names: kept,
-            dtypes,
-        })
+        Ok(StructFields::own(kept, dtypes))
     }
 
     /// The type of the first field with the name.
@@ -119,10 +150,11 @@ impl StructFields {
         ensures { option_map (λ dtype. type_of dtype.now) result
             ≡ type_named (fields_of self.now) name.now }
     {
-        dtype_at(&self.dtypes, self.find(name)?)
+        dtype_at(&self.lists().dtypes, self.find(name)?)
     }
 
-    /// The same names and types, or `OutOfMemory`.
+    /// The same names and types: shared where `into_shared` made these, and else copied, or where
+    /// those have as many owners as can be counted. Only a copy can answer `OutOfMemory`.
     pub fn clone(&self, alloc: Global) -> Result<StructFields, VortexError>
         ensures { GivesOrNoMemory (λ copy. fields_of copy ≡ fields_of self.now) result }
     {

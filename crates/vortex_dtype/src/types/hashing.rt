@@ -6,9 +6,9 @@ ghost use Rattle.std.specs.Hash as fed;
 ghost use Rattle.vortex_dtype.specs.TypeTree.{keep, trim, trim_all};
 ghost use Rattle.vortex_dtype.specs.Lemmas.TypeLaws.{tree_eq-same, map_eq-Decides, fields_eq-Decides, variants_eq-Decides, ext_eq-Decides};
 ghost use Rattle.vortex_dtype.specs.Feeds.{variant_number, tree_feed, trees_feed, nullability_feed, map_feed, fields_feed, variants_feed, ext_feed};
-ghost use Rattle.vortex_dtype.specs.TypeOf.{type_of, dtype_trees, fields_of, variants_of, map_of, ext_of};
+ghost use Rattle.vortex_dtype.specs.TypeOf.{type_of, dtype_trees, fields_of, lists_of, variants_of, map_of, ext_of};
 
-use super::{DType, ExtDType, MapDType, StructFields, UnionVariants};
+use super::{DType, ExtDType, FieldLists, MapDType, StructFields, UnionVariants};
 use crate::nullability::Nullability;
 use std::hash::{Hash, Hasher};
 
@@ -104,8 +104,15 @@ fn feed_map<H: Hasher>(exact: bool, map: &MapDType, state: &mut H)
 fn feed_fields<H: Hasher>(exact: bool, fields: &StructFields, state: &mut H)
     ensures { state.new ≡ fold H.write state.old (fields_feed exact (fields_of fields.now)) }
 {
-    fields.names.hash(state);
-    feed_all(exact, &fields.dtypes, state);
+    feed_lists(exact, fields.lists(), state);
+}
+
+#[cycle(feed)]
+fn feed_lists<H: Hasher>(exact: bool, lists: &FieldLists, state: &mut H)
+    ensures { state.new ≡ fold H.write state.old (fields_feed exact (lists_of lists.now)) }
+{
+    lists.names.hash(state);
+    feed_all(exact, &lists.dtypes, state);
 }
 
 #[cycle(feed)]

@@ -4,7 +4,7 @@ use crate::answers::{Answer, Answering, buffer_text, bytes};
 use crate::calls::Line;
 use crate::calls::makers::{validate_entries, where_valid};
 use crate::inputs::Variants;
-use crate::read::types::Fields;
+use crate::read::types::struct_fields;
 use crate::same::same_as_lent;
 use std::alloc::{AllocError, Global};
 use std::fmt::{self, Write};
@@ -62,7 +62,13 @@ fn answer_types(line: &mut Line<'_>) -> Result<Option<Answer>, AllocError> {
             line.borrowing(|alloc, dtype: &DType| Ok(Answer::Type(dtype.clone(alloc)?)))
         }
         b"clone_parts" => line.borrowing(clone_parts),
-        b"struct_type" => line.taking(struct_type),
+        b"struct_type" => line.taking(|alloc, fields| struct_type(struct_fields(alloc, fields)?)),
+        b"clone_fields" => {
+            line.taking(|alloc, fields| struct_type(struct_fields(alloc, fields)?.clone(alloc)?))
+        }
+        b"share_fields" => line.taking(|alloc, fields| {
+            struct_type(struct_fields(alloc, fields)?.into_shared(alloc)?)
+        }),
         b"union_type" => line.taking(union_type),
         b"map_parts" => line.taking(map_parts),
         b"map_type" => line.taking(|alloc, (key, value, n): (DType, DType, Nullability)| {
@@ -180,18 +186,11 @@ fn clone_parts(alloc: Global, dtype: &DType) -> Answering {
     }))
 }
 
-fn struct_type(alloc: Global, fields: Fields) -> Answering {
-    if fields.names.len() != fields.dtypes.len() {
-        // Never so of fields that were read.
-        drop(fields);
-        return Err(VortexError::WrongKind);
-    }
-    let fields = StructFields::new(alloc, fields.names, fields.dtypes)?;
+fn struct_type(fields: StructFields) -> Answering {
     Ok(Answer::Type(DType::Struct(fields, Nullability::NonNullable)))
 }
 
-fn union_type(alloc: Global, variants: Variants) -> Answering {
-    let Variants(fields) = variants;
+fn union_type(alloc: Global, Variants(fields): Variants) -> Answering {
     let variants = UnionVariants::try_new(alloc, fields.names, fields.dtypes, fields.type_ids)?;
     Ok(Answer::Type(DType::Union(variants, Nullability::NonNullable)))
 }
@@ -203,16 +202,11 @@ fn map_parts(alloc: Global, (key, value): (DType, DType)) -> Answering {
 
 /// The extension of the id and the metadata of another, over this storage type.
 fn extension_type(alloc: Global, (like, storage): (DType, DType)) -> Answering {
-    match like {
-        DType::Extension(like) => Ok(Answer::Type(extension_like(alloc, &like, storage)?)),
-        _ => Err(VortexError::WrongKind),
-    }
-}
-
-fn extension_like(alloc: Global, like: &ExtDType, storage: DType) -> Result<DType, VortexError> {
+    let like = like.as_extension_opt().ok_or(VortexError::WrongKind)?;
     let id = like.id().clone()?;
     let metadata = like.metadata().clone()?;
-    Ok(DType::Extension(ExtDType::new(alloc, id, metadata, storage)?))
+    let extension = ExtDType::new(alloc, id, metadata, storage)?;
+    Ok(Answer::Type(DType::Extension(extension)))
 }
 
 fn type_of_rust<T: NativeDType>(alloc: Global, _nothing: &()) -> Answering {

@@ -7,6 +7,7 @@ use crate::read::numbers::read_natural;
 use crate::read::texts::{bytes_of_hex, push_name, read_name};
 use crate::tokens::Tokens;
 use rows::ptype_named;
+use std::alloc::Global;
 use vortex_dtype::{
     BufferString, ByteBuffer, DType, ExtDType, FieldName, PType, StructFields, UnionVariants,
     VortexError,
@@ -138,6 +139,15 @@ pub struct Fields {
     pub type_ids: Vec<u8>,
 }
 
+/// The fields of a struct.
+pub fn struct_fields(alloc: Global, fields: Fields) -> Result<StructFields, VortexError> {
+    if fields.names.len() != fields.dtypes.len() {
+        // Only where memory was wanting for one of them.
+        return Err(VortexError::OutOfMemory);
+    }
+    StructFields::new(alloc, fields.names, fields.dtypes)
+}
+
 /// Reads fields, each with an id before it where they are variants.
 #[cycle(types)]
 pub fn read_fields(tokens: &mut Tokens<'_>, has_ids: bool, close: u8, room: u32) -> Fields {
@@ -199,15 +209,11 @@ fn map_of(tokens: &mut Tokens<'_>, key: DType, value: DType) -> Result<DType, Vo
     DType::map(tokens.alloc, key, value, is_sorted, nullability)
 }
 
-/// The struct type of these fields, nullable where a question mark follows.
+/// The struct type of these fields, nullable where a question mark follows. Its copies share them.
 fn struct_of(tokens: &mut Tokens<'_>, fields: Fields) -> Result<DType, VortexError> {
     let nullability = tokens.nullability();
-    if fields.names.len() != fields.dtypes.len() {
-        // Only where memory was wanting for one of them.
-        return Err(VortexError::OutOfMemory);
-    }
-    let fields = StructFields::new(tokens.alloc, fields.names, fields.dtypes)?;
-    Ok(DType::Struct(fields, nullability))
+    let fields = struct_fields(tokens.alloc, fields)?;
+    Ok(DType::Struct(fields.into_shared(tokens.alloc)?, nullability))
 }
 
 /// The union type of these variants, nullable where a question mark follows.
