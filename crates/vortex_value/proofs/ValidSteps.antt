@@ -1,16 +1,19 @@
 -- Steps of the check of validity: what one level of a raw value and of a type is, and loops over parts.
-use Rattle.std.proofs.Common.{◌≡◌, ◌≢◌, ℕ, suc, ◌+◌, ◌<◌, Bool, true, false, List, [], ◌∷◌, ◌++◌, length, Option, Some, None, Global, drop, get_or, drop-cons, add-one, refl, sym, ap, arith, true≢false}
+use Rattle.std.proofs.Common.{◌≡◌, ◌≢◌, ℕ, suc, ◌+◌, ◌<◌, ◌==◌, ◌⊎◌, Bool, true, false, List, [], ◌∷◌, ◌++◌, length, Option, Some, None, Global, drop, get_or, drop-cons, add-one, refl, sym, ap, arith, true≢false, map, ⊎_elim}
+use Rattle.std.proofs.lemmas.Bool.Decides.{nat_tests}
 use Rattle.std.proofs.lemmas.List.{get_or_default}
 use Rattle.std.specs.Option.{is_some}
+use Rattle.vortex_dtype.specs.declared.nullability.Nullability.{Nullability}
+use Rattle.vortex_dtype.specs.declared.types.DType.{DType}
 use Rattle.vortex_dtype.specs.declared.error.Step.{Step}
 use Rattle.vortex_dtype.specs.declared.error.Step.TheVariants.{Element, Entry, Key, Value}
 use Rattle.vortex_dtype.specs.declared.error.Breach.TheVariants.{WrongLength}
-use Rattle.vortex_dtype.specs.TypeOf.{as_type_trees}
+use Rattle.vortex_dtype.specs.TypeOf.{as_type_trees, FieldParts, dtype_trees, struct_type_of, type_of}
 use Rattle.vortex_dtype.specs.TypeTree.{TypeTree, TypeTrees, no_types, type_then, storage}
 use Rattle.vortex_value.specs.Breaches.{Found, HasSteps, count_types, first, here, under, breaches, breaches_at, element_breaches, entry_breaches, breaches_of_entry, field_breaches}
 use Rattle.vortex_value.specs.Steps.Faults.{Checks, HasPath, Shows}
 use Rattle.vortex_value.specs.Values.RawOf.{raw_of, value_trees}
-use Rattle.vortex_value.specs.Values.RawTree.{raw_tuple, no_raws}
+use Rattle.vortex_value.specs.Values.RawTree.{raw_tuple, no_raws, count}
 use Rattle.vortex_value.specs.declared.validate.Fault.{Fault}
 use Rattle.vortex_value.specs.declared.validate.Fault.TheVariants.{NoMemory, NoPath, First}
 use Rattle.vortex_value.specs.declared.validate.Trace.{Trace}
@@ -62,6 +65,22 @@ entries_at k w i vs v h is = rw (add-one, drop-cons vs i v, ← is)
 pub no_values : (i : ℕ) (ts : TypeTrees) → field_breaches i ts no_raws ≡ []
 no_values i no_types = refl
 no_values i (type_then t ts) = refl
+
+-- no breach is left where the values or the fields are at an end
+pub none_left : (i : ℕ) (ds : List DType) (vs : List (Option ScalarValue)) → (length vs ≡ 0) ⊎ (length ds ≡ 0) → field_breaches i (dtype_trees ds) (value_trees vs) ≡ []
+none_left i [] [] h = refl
+none_left i [] (v ∷ vs) h = refl
+none_left i (d ∷ ds) [] h = refl
+none_left i (d ∷ ds) (v ∷ vs) h = ⊎_elim (λ e. absurd (omega (arith, e))) (λ e. absurd (omega (arith, e))) h
+
+-- the breaches of a struct with as many values as fields
+pub struct_breaches : (f : FieldParts) (n : Nullability) (ds : List DType) (vs : List (Option ScalarValue)) → map type_of ds ≡ f.types → length vs ≡ length f.types
+    → breaches_at (struct_type_of f n) (raw_tuple (value_trees vs)) ≡ field_breaches 0 (dtype_trees ds) (value_trees vs)
+struct_breaches f n ds vs types lengths =
+    let values = count-value_trees vs in
+    let fields = count_types-as_type_trees f.types in
+    let test : (count (value_trees vs) == count_types (as_type_trees f.types)) ≡ true = grind (arith, nat_tests) in
+    rw (test, types) refl
 
 -- a list of two is its two places
 pub two_places : {A : Type 0} (xs : List A) (x y : A) → length xs ≡ 2 → x ≡ get_or xs 0 x → y ≡ get_or xs 1 y → xs ≡ x ∷ y ∷ []

@@ -1,10 +1,12 @@
 -- A breach of a part is one of the whole.
-use Rattle.std.proofs.Common.{◌+◌, suc, None, drop, get_or, refl}
-use Rattle.vortex_dtype.specs.TypeOf.{map_of, type_of, dtype_trees}
+use Rattle.std.proofs.Common.{◌≡◌, ◌+◌, ◌∙◌, suc, None, drop, get_or, inl, inr, length, refl, sym, ap, ⊎_elim}
+use Rattle.vortex_dtype.specs.TypeOf.{fields_of, map_of, type_of, dtype_trees}
 use Rattle.vortex_dtype.specs.declared.error.Step.TheVariants.{Element, Entry, Field, Key, Value}
 use Rattle.vortex_value.specs.Breaches.{breaches, breaches_of_entry, element_breaches, entry_breaches, field_breaches, under}
 use Rattle.vortex_value.specs.Values.RawOf.{raw_of, value_trees}
-use Rattle.vortex_value.proofs.ValidSteps.{elements_at, entries_at, entry_of, entry_with, no_entry, passed, refused, Checks-part}
+use Rattle.vortex_value.proofs.ValidSteps.{elements_at, entries_at, entry_of, entry_with, no_entry, none_left, passed, refused, struct_breaches, Checks-part}
+use Rattle.vortex_value.proofs.ValueSteps.{value_tree-Tuple}
+use Rattle.vortex_dtype.specs.Lemmas.TypeLevels.{type_of-Struct}
 use Rattle.vortex_value.proofs.validate.+validity.Goals as goal
 
 pub check_elements-returns-then-not-check : goal.check_elements-returns-then-not-check
@@ -81,3 +83,19 @@ check_pair-returns-else-check t c =
     let value = rw (c.as_ref-2.ensures.value, c.value_dtype.ensures.tree) at c.check-2.ensures in
     let part = refused path _ c.check-2.result c.check-2.new.trace (breaches m.value (raw_of y)) same value c.if-check.false in
     rw (entry_of m.key m.value c.args.parts.now x y c.if-parts-ne2.false c.index-parts-0.is c.index-parts-1.is, none) (c.refuse_part-else-check.ensures path (breaches m.value (raw_of y)) part)
+
+pub check_fields-returns : goal.check_fields-returns
+check_fields-returns t c =
+    let at = c.loop-index.index-iterator in
+    let ended = none_left at.count at.iter.b.rest.now at.iter.a.rest.now in
+    let (last, count) = c.in-None.ensures.steps in
+    (c.loop-index.invariant.path, sym c.loop-index.invariant.left ∙ ⊎_elim (λ a. ended (inl a.1.0)) (λ b. ended (inr b.1.0)) last)
+
+pub check_value-returns-then-len-nfields : goal.check_value-returns-then-len-nfields
+check_value-returns-then-len-nfields t c =
+    let fields = c.in-Struct-Tuple.fields in
+    let items = c.in-Struct-Tuple.items in
+    let inside = c.deref-then-len-nfields.ensures in
+    let lengths : length items.items ≡ length (fields_of fields).types = sym (ap length inside.value) ∙ inside.len ∙ sym c.len-in-Struct-Tuple.ensures ∙ c.if-len-nfields.true ∙ c.nfields.ensures in
+    rw (← c.storage_of.ensures, c.in-Struct-Tuple.is-0, type_of-Struct fields c.in-Struct-Tuple.field-1-0, c.in-Struct-Tuple.is-1, value_tree-Tuple items, struct_breaches (fields_of fields) c.in-Struct-Tuple.field-1-0 c.dtypes.result.now items.items c.dtypes.ensures.trees lengths)
+    (rw inside.value at c.check_fields.ensures)
