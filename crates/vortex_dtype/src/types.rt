@@ -80,12 +80,12 @@ pub struct StructFields {
     held: HeldFields,
 }
 
-/// The two ways to hold fields: alone, or together with the copies.
+/// The two ways to hold fields: together with the copies, or alone where memory was wanting for that.
 #[cycle(dtype)]
 #[derive(Debug, Drop)]
 enum HeldFields {
-    Own(FieldLists),
     Shared(Arc<FieldLists>),
+    Own(FieldLists),
 }
 
 /// The names and the types of fields.

@@ -241,8 +241,7 @@ pub(super) fn copy_map(alloc: Global, map: &MapDType) -> Result<MapDType, Vortex
     })
 }
 
-/// The same fields: shared where these are, and copied where those have as many owners as can be
-/// counted.
+/// The same fields, shared where these are and one more owner can be counted, and else copied.
 #[cycle(copy)]
 pub(super) fn copy_fields(alloc: Global, fields: &StructFields) -> Result<StructFields, VortexError>
     ensures { GivesOrNoMemory (λ c. fields_of c ≡ fields_of fields.now) result }
@@ -254,8 +253,7 @@ pub(super) fn copy_fields(alloc: Global, fields: &StructFields) -> Result<Struct
             return Ok(StructFields { held });
         }
     }
-    let held = HeldFields::Own(copy_lists(alloc, fields.lists())?);
-    Ok(StructFields { held })
+    Ok(StructFields::holding(alloc, copy_lists(alloc, fields.lists())?))
 }
 
 /// The same names and types.

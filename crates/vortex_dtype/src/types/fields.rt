@@ -18,12 +18,12 @@ use std::alloc::Global;
 use std::sync::Arc;
 
 impl StructFields {
-    /// The fields with these names and types. The caller knows that they are equally many. Takes no
-    /// memory.
+    /// The fields with these names and types. The caller knows that they are equally many. Never
+    /// refused: copies share the fields where there is memory for it, and else copy each of them.
     ///
     /// Ports `StructFields::new`, which panics where the lengths differ.
     pub fn new(
-        _alloc: Global,
+        alloc: Global,
         names: Vec<FieldName>,
         dtypes: Vec<DType>,
     ) -> Result<StructFields, VortexError>
@@ -31,27 +31,18 @@ impl StructFields {
         ensures { IsOkAnd result (λ fields.
             fields_of fields ≡ record { names = names.items; types = map type_of dtypes.items }) }
     {
-        Ok(StructFields::own(names, dtypes))
+        Ok(StructFields::holding(alloc, FieldLists { names, dtypes }))
     }
 
-    /// The fields with these names and types, which copies do not share.
-    fn own(names: Vec<FieldName>, dtypes: Vec<DType>) -> StructFields
-        ensures { fields_of result ≡ record { names = names.items; types = map type_of dtypes.items } }
+    /// The fields of these lists, which copies share where there is memory for it.
+    pub(super) fn holding(alloc: Global, lists: FieldLists) -> StructFields
+        ensures { fields_of result ≡ lists_of lists }
     {
-        let held = HeldFields::Own(FieldLists { names, dtypes });
-        StructFields { held }
-    }
-
-    /// The same fields, which copies share from then on: such a copy takes no memory. Of this port
-    /// alone.
-    pub fn into_shared(self, alloc: Global) -> Result<StructFields, VortexError>
-        ensures { GivesOrNoMemory (λ fields. fields_of fields ≡ fields_of self) result }
-    {
-        let held = match self.held {
-            HeldFields::Own(lists) => HeldFields::Shared(Arc::new(alloc, lists)?),
-            shared => shared,
+        let held = match Arc::new(alloc, lists) {
+            Ok(lists) => HeldFields::Shared(lists),
+            Err(refused) => HeldFields::Own(refused.value),
         };
-        Ok(StructFields { held })
+        StructFields { held }
     }
 
     /// The names and the types.
@@ -142,7 +133,13 @@ impl StructFields {
             kept.push(name.clone(alloc)?)?;
             dtypes.push(dtype.clone(alloc)?)?;
         }
-        Ok(StructFields::own(kept, dtypes))
+        Ok(StructFields::holding(
+            alloc,
+            FieldLists {
+                names: kept,
+                dtypes,
+            },
+        ))
     }
 
     /// The type of the first field with the name.
@@ -153,8 +150,8 @@ impl StructFields {
         dtype_at(&self.lists().dtypes, self.find(name)?)
     }
 
-    /// The same names and types: shared where `into_shared` made these, and else copied, or where
-    /// those have as many owners as can be counted. Only a copy can answer `OutOfMemory`.
+    /// The same names and types, shared with these. Only where memory was wanting when these were
+    /// made, or no more owners can be counted, is each copied, which may answer `OutOfMemory`.
     pub fn clone(&self, alloc: Global) -> Result<StructFields, VortexError>
         ensures { GivesOrNoMemory (λ copy. fields_of copy ≡ fields_of self.now) result }
     {

@@ -66,9 +66,6 @@ fn answer_types(line: &mut Line<'_>) -> Result<Option<Answer>, AllocError> {
         b"clone_fields" => {
             line.taking(|alloc, fields| struct_type(struct_fields(alloc, fields)?.clone(alloc)?))
         }
-        b"share_fields" => line.taking(|alloc, fields| {
-            struct_type(struct_fields(alloc, fields)?.into_shared(alloc)?)
-        }),
         b"union_type" => line.taking(union_type),
         b"map_parts" => line.taking(map_parts),
         b"map_type" => line.taking(|alloc, (key, value, n): (DType, DType, Nullability)| {

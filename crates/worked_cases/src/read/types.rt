@@ -209,11 +209,10 @@ fn map_of(tokens: &mut Tokens<'_>, key: DType, value: DType) -> Result<DType, Vo
     DType::map(tokens.alloc, key, value, is_sorted, nullability)
 }
 
-/// The struct type of these fields, nullable where a question mark follows. Its copies share them.
+/// The struct type of these fields, nullable where a question mark follows.
 fn struct_of(tokens: &mut Tokens<'_>, fields: Fields) -> Result<DType, VortexError> {
     let nullability = tokens.nullability();
-    let fields = struct_fields(tokens.alloc, fields)?;
-    Ok(DType::Struct(fields.into_shared(tokens.alloc)?, nullability))
+    Ok(DType::Struct(struct_fields(tokens.alloc, fields)?, nullability))
 }
 
 /// The union type of these variants, nullable where a question mark follows.
