@@ -1,12 +1,11 @@
 // A library that is preloaded into a program and makes its standard streams fail in the middle: the read of standard
 // input whose number FAIL_READ gives, counted from 1, and the write to standard output whose number FAIL_WRITE gives.
-// With SHORT_READ and SHORT_WRITE a read or a write takes at most so many bytes.
+// The file that FAIL_MARK names then holds a byte. With SHORT_READ and SHORT_WRITE a read or a write takes at most so
+// many bytes.
 
 #define _GNU_SOURCE
+#include "mark.h"
 #include <errno.h>
-#include <stdlib.h>
-#include <sys/syscall.h>
-#include <unistd.h>
 
 // The number that the variable of the environment has, or 0.
 static long number(const char *name) {
@@ -24,6 +23,7 @@ ssize_t read(int file, void *bytes, size_t size) {
     static long reads = 0;
     if (file != 0) return syscall(SYS_read, file, bytes, size);
     if (++reads == number("FAIL_READ")) {
+        leave_mark();
         errno = EIO;
         return -1;
     }
@@ -34,6 +34,7 @@ ssize_t write(int file, const void *bytes, size_t size) {
     static long writes = 0;
     if (file != 1) return syscall(SYS_write, file, bytes, size);
     if (++writes == number("FAIL_WRITE")) {
+        leave_mark();
         errno = EIO;
         return -1;
     }

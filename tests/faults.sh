@@ -44,18 +44,21 @@ with_io() {
     attempt env "$@" LD_PRELOAD="$folder/fail_io.so" "$program" < "$folder/input" > "$folder/output"
 }
 
-# each_fails SETTING FAULT SHORT: sees that each read or write that fails ends the run, and that at last none does
+# each_fails SETTING FAULT SHORT: sees that each read or write that fails ends the run, after a write with what was written
+# before, and that at last none does
 each_fails() {
     place=1
     while [ "$place" -le 1000 ]; do
-        with_io "$1=$place" "$3"
-        if [ "$status" -eq 0 ]; then
+        rm -f "$folder/mark"
+        with_io "$1=$place" "$3" FAIL_MARK="$folder/mark"
+        if [ ! -e "$folder/mark" ]; then
             break
         fi
+        cp "$folder/nothing" "$folder/beginning"
         if [ "$1" = FAIL_WRITE ]; then
-            : > "$folder/output"
+            head -c $((200 * (place - 1))) "$folder/rows" > "$folder/beginning"
         fi
-        judge "$1=$place" 1 "$folder/nothing" "$2"
+        judge "$1=$place" 1 "$folder/beginning" "$2"
         place=$((place + 1))
     done
     judge "$1: none of $((place - 1)) fails" 0 "$folder/rows" "$folder/nothing"

@@ -4,11 +4,8 @@
 // time that the program writes the line `called` on standard error until it writes the next line there.
 
 #define _GNU_SOURCE
-#include <fcntl.h>
-#include <stdlib.h>
+#include "mark.h"
 #include <string.h>
-#include <sys/syscall.h>
-#include <unistd.h>
 
 void *__libc_malloc(size_t size);
 void *__libc_calloc(size_t count, size_t size);
@@ -21,15 +18,6 @@ ssize_t write(int file, const void *bytes, size_t size) {
     ssize_t written = syscall(SYS_write, file, bytes, size);
     if (file == 2) is_called = size == 7 && !memcmp(bytes, "called\n", 7);
     return written;
-}
-
-// Leaves the mark that an allocation was refused.
-static void leave_mark(void) {
-    const char *path = getenv("FAIL_MARK");
-    if (!path) return;
-    int mark = open(path, O_CREAT | O_WRONLY, 0600);
-    if (mark < 0 || write(mark, "1", 1) != 1) _exit(99);
-    close(mark);
 }
 
 // Whether this allocation is one to refuse.

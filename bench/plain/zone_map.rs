@@ -21,23 +21,18 @@ fn prefix(text: &str, length: usize) -> &str {
 
 /// The next character that has as many bytes.
 fn next(letter: char) -> Option<char> {
-    let code = if letter == '\u{d7ff}' { 0xe000 } else { letter as u32 + 1 };
-    char::from_u32(code).filter(|it| it.len_utf8() == letter.len_utf8())
+    char::from_u32(letter as u32 + 1).filter(|it| it.len_utf8() == letter.len_utf8())
 }
 
-/// The text of at most so many bytes that is above this one, if there is one.
+/// The text, or one above it of at most so many bytes, where its last character there has a next one.
 fn upper(text: &str, length: usize) -> Option<String> {
     if text.len() <= length {
         return Some(text.to_owned());
     }
     let mut cut = prefix(text, length).to_owned();
-    while let Some(last) = cut.pop() {
-        if let Some(letter) = next(last) {
-            cut.push(letter);
-            return Some(cut);
-        }
-    }
-    None
+    let letter = next(cut.pop()?)?;
+    cut.push(letter);
+    Some(cut)
 }
 
 fn zone<'a>(first: usize, lines: &'a [&'a str], length: usize) -> Zone<'a> {

@@ -199,6 +199,11 @@ class Refused(unittest.TestCase):
         for value in [None, "a", 3, [1]]:
             with self.assertRaises(TypeError):
                 vortex.lower_bound(value, 1)
+        for text in [None, b"a", 3, ["a"]]:
+            with self.assertRaises(TypeError):
+                vortex.lower_bound_text(text, 1)
+        with self.assertRaises(TypeError):
+            ZoneBounds("a", "b").may_contain(b"a")
 
 
 class Taken(unittest.TestCase):
@@ -209,7 +214,7 @@ class Taken(unittest.TestCase):
 
     def test_a_column_of_each_kind(self) -> None:
         for data in [b"abcd", bytearray(b"abcd"), memoryview(b"abcd")]:
-            for offsets in [[1, 2, 4], (1, 2, 4), array("Q", [1, 2, 4]), iter([1, 2, 4])]:
+            for offsets in [[1, 2, 4], (1, 2, 4), array("Q", [1, 2, 4]), iter([1, 2, 4]), bytes([1, 2, 4])]:
                 self.assertEqual(vortex.column_bounds(data, offsets, 1), ZoneBounds(b"b", b"d"))
 
     def test_no_upper_bound(self) -> None:

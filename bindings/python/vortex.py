@@ -148,12 +148,14 @@ def _size(n: int) -> int:
 
 def _frozen(value: bytes | bytearray | memoryview) -> bytes:
     """The bytes, copied unless they can never change: the call runs without the interpreter's lock."""
-    if isinstance(value, str) or not isinstance(value, (bytes, bytearray, memoryview)):
+    if not isinstance(value, (bytes, bytearray, memoryview)):
         raise TypeError(f"bytes are wanted, not {type(value).__name__}")
     return bytes(value)
 
 
 def _encoded(text: str) -> bytes:
+    if not isinstance(text, str):
+        raise TypeError(f"a str is wanted, not {type(text).__name__}")
     try:
         return text.encode()
     except UnicodeEncodeError:
@@ -273,11 +275,14 @@ class ZoneBounds(Generic[T]):
 
 def _offsets(offsets: Iterable[int]) -> ctypes.Array[c_uint64]:
     """The offsets in memory of their own."""
+    # An array takes bytes for its own memory, and not for numbers.
+    numbers = iter(offsets) if isinstance(offsets, (bytes, bytearray)) else offsets
     try:
-        numbers = array("Q", offsets)
+        copied = array("Q", numbers)
     except OverflowError:
         raise BadOffsets("an offset is below 0, or past the end of the bytes") from None
-    return (c_uint64 * len(numbers)).from_buffer_copy(numbers)
+    # The memory of an array without items need not be aligned.
+    return (c_uint64 * len(copied)).from_buffer(copied) if copied else (c_uint64 * 0)()
 
 
 def _column(call: Any, data: bytes, offsets: Iterable[int], n: int) -> tuple[bytes, bytes | None] | None:

@@ -53,12 +53,15 @@ pub fn column_bounds_text(
     Ok(bounds.map(|(lower, upper)| ZoneBounds::from_parts(of_text(lower), upper.map(of_text))))
 }
 
+/// The lower bound, and the upper one where there is one.
+type Bounds = (Vec<u8>, Option<Vec<u8>>);
+
 fn bounds_of(
     call: raw::Column,
     bytes: &[u8],
     offsets: &[u64],
     n: usize,
-) -> Result<Option<(Vec<u8>, Option<Vec<u8>>)>, ColumnError> {
+) -> Result<Option<Bounds>, ColumnError> {
     // So many bytes always suffice.
     let room = n.min(bytes.len());
     let (mut lower, mut upper) = (vec![0; room], vec![0; room]);

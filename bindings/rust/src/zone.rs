@@ -1,6 +1,8 @@
 //! Bounds of a zone of a column.
 
 use crate::{lower_bound, lower_bound_text, raw, upper_bound, upper_bound_text};
+use std::borrow::Borrow;
+use std::fmt;
 
 mod sealed {
     pub trait Bounded: ToOwned {
@@ -105,13 +107,13 @@ impl<T: Value + ?Sized> ZoneBounds<T> {
     /// The lower bound: no value of the zone is below it.
     #[must_use]
     pub fn lower(&self) -> &T {
-        std::borrow::Borrow::borrow(&self.lower)
+        self.lower.borrow()
     }
 
     /// The upper bound: no value of the zone is above it. None where there is none.
     #[must_use]
     pub fn upper(&self) -> Option<&T> {
-        self.upper.as_ref().map(std::borrow::Borrow::borrow)
+        self.upper.as_ref().map(Borrow::borrow)
     }
 
     /// Whether the zone may hold the value.
@@ -120,3 +122,32 @@ impl<T: Value + ?Sized> ZoneBounds<T> {
         value.may_lie(self.lower(), self.upper())
     }
 }
+
+impl<T: Value + fmt::Debug + ?Sized> fmt::Debug for ZoneBounds<T> {
+    fn fmt(&self, f: &mut fmt::Formatter<'_>) -> fmt::Result {
+        f.debug_struct("ZoneBounds")
+            .field("lower", &self.lower())
+            .field("upper", &self.upper())
+            .finish()
+    }
+}
+
+impl<T: Value + ?Sized> Clone for ZoneBounds<T>
+where
+    T::Owned: Clone,
+{
+    fn clone(&self) -> ZoneBounds<T> {
+        ZoneBounds {
+            lower: self.lower.clone(),
+            upper: self.upper.clone(),
+        }
+    }
+}
+
+impl<T: Value + PartialEq + ?Sized> PartialEq for ZoneBounds<T> {
+    fn eq(&self, other: &ZoneBounds<T>) -> bool {
+        self.lower() == other.lower() && self.upper() == other.upper()
+    }
+}
+
+impl<T: Value + Eq + ?Sized> Eq for ZoneBounds<T> {}

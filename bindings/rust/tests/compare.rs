@@ -329,12 +329,10 @@ fn hostile_offsets() {
 
 #[test]
 fn an_offset_within_a_character_is_told() {
-    assert!(matches!(
-        column_bounds_text("ñ", &[0, 1], 8),
-        Err(ColumnError::NotUtf8)
-    ));
-    assert!(matches!(
-        column_bounds_text("ñ", &[0, 1, 2], 8),
-        Err(ColumnError::NotUtf8)
-    ));
+    for offsets in [&[0, 1][..], &[0, 1, 2]] {
+        assert_eq!(
+            column_bounds_text("ñ", offsets, 8),
+            Err(ColumnError::NotUtf8)
+        );
+    }
 }

@@ -20,7 +20,8 @@ pub struct Found {
     pub searched: usize,
 }
 
-/// The lines that equal the word. Only zones that may contain it are searched.
+/// The lines that equal the word. Only zones that may contain it are searched. `AllocError` where no
+/// memory is left.
 pub fn find(
     alloc: Global,
     kind: LineKind,

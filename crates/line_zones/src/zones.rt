@@ -54,7 +54,8 @@ impl<T: Drop> From<AllocFailed<T>> for ZonesError {
 
 /// The zones of so many lines each, with bounds at so many bytes; the last zone may have fewer lines.
 ///
-/// `NotUtf8` exactly where lines are taken for texts and one of them is none.
+/// `NotUtf8` exactly where lines are taken for texts and one of them is none, with the number of the
+/// first; else `Memory` where none is left for the zones.
 pub fn zones_of<'a>(
     alloc: Global,
     kind: LineKind,

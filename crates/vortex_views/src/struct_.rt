@@ -9,6 +9,7 @@ ghost use Rattle.vortex_dtype.specs.Refusals.{RefusesExactly, RefusesOrNoMemory}
 ghost use Rattle.vortex_dtype.specs.TypeOf.{fields_of, type_of};
 ghost use Rattle.vortex_dtype.specs.declared.error.VortexError.TheVariants.{OutOfMemory};
 ghost use Rattle.vortex_leaves.specs.Leaves.{GivesView};
+ghost use Rattle.vortex_value.specs.CastAnswers.{HidesNoLeaf};
 ghost use Rattle.vortex_value.specs.Casts.{CanCast, RefusesCast};
 ghost use Rattle.vortex_value.specs.Values.RawOf.{lent_raw, raw_of};
 ghost use Rattle.vortex_value.specs.Values.RawTree.{is_absent};
@@ -118,7 +119,7 @@ impl<'a> StructScalar<'a> {
     }
 
     /// Scalars of the fields, in order, and none exactly of a null. The copies are made as the items
-    /// are asked for.
+    /// are asked for, and an item is `OutOfMemory` where there is none for it.
     ///
     /// Ports `StructScalar::fields_iter`, whose iterator has no name.
     pub fn fields_iter(&self, alloc: Global) -> Option<Fields<'a>>
@@ -142,7 +143,7 @@ impl<'a> StructScalar<'a> {
     /// `WrongLength` exactly where it has another number of fields. Both come of a null too, and
     /// before any memory is asked for. Then as `Scalar::cast`: `CannotCast` only where the table of
     /// casts does not allow the cast or the target has no value of the content, and else
-    /// `OutOfMemory`.
+    /// `OutOfMemory`, which never comes in its place for a null.
     pub fn cast(&self, alloc: Global, dtype: &DType) -> Result<Scalar, VortexError>
         requires { IsValidRef (struct_ref self.now) }
         ensures refused { MatchOption (struct_cast_cause
@@ -154,6 +155,9 @@ impl<'a> StructScalar<'a> {
             (type_of dtype.now) (ref_content (struct_ref self.now))) }
         ensures one { IfOk result
             (IsTheOne (type_of dtype.now) (ref_content (struct_ref self.now))) }
+        ensures leaf_refused { IfErr result (HidesNoLeaf (struct_view_type self.now)
+            (ref_content (struct_ref self.now)) (CanCast (struct_view_type self.now)
+            (type_of dtype.now) (ref_content (struct_ref self.now)))) }
     {
         let Some(target) = dtype.as_struct_fields_opt() else {
             return Err(VortexError::WrongKind);
