@@ -6,11 +6,12 @@ ghost use Rattle.vortex_array.specs.Strings.{HasNoUpper, IsLower, IsUpper};
 ghost use Rattle.vortex_array.specs.Texts.{HasNoTextUpper, IsTextLower, IsTextUpper};
 ghost use Rattle.vortex_c.specs.Columns.{AreColumnBounds, HasColumnBounds, HasEndNoText, HasValue, IsColumn, IsGreatestAt, IsLeastAt, some_where, value_at};
 
-use crate::bounds::{lower_length, upper_of_bytes, upper_of_text, vortex_lower_bound_bytes};
+use crate::bounds::{
+    lower_length, slice_of, upper_of_bytes, upper_of_text, vortex_lower_bound_bytes,
+};
 use crate::status::{BAD_OFFSETS, GIVEN, NO_MEMORY, NO_ROOM, NONE, NOT_UTF8};
 use std::alloc::Global;
 use std::str;
-use vortex_array::ByteBuffer;
 
 /// How many bytes each bound has, and whether there is an upper one.
 #[derive(Drop)]
@@ -46,6 +47,7 @@ pub extern "C" fn vortex_column_bounds_bytes(
     ensures refused { result ≡ BAD_OFFSETS → ¬ (IsColumn bytes.now offsets.now) }
     ensures column { result ≢ BAD_OFFSETS → IsColumn bytes.now offsets.now }
     ensures inline { max_length ≤ 22 → result ≢ NO_MEMORY }
+    ensures whole { length bytes.now ≤ max_length → result ≢ NO_MEMORY }
     ensures small { result ≡ NO_ROOM → (length lower_room.old < lengths.new.lower)
         ⊎ (length upper_room.old < lengths.new.upper) }
     ensures needed { result ≡ NO_ROOM → HasColumnBounds IsLower IsUpper HasNoUpper
@@ -72,7 +74,7 @@ pub extern "C" fn vortex_column_bounds_bytes(
     let lower = value_of(bytes, offsets, least);
     let lower = &lower[..vortex_lower_bound_bytes(lower, max_length)];
     match upper_of_bytes(alloc, value_of(bytes, offsets, greatest), max_length) {
-        Ok(upper) => give_both(lower, upper.as_ref(), lower_room, upper_room, lengths),
+        Ok(upper) => give_both(lower, slice_of(&upper), lower_room, upper_room, lengths),
         Err(_) => NO_MEMORY,
     }
 }
@@ -103,6 +105,7 @@ pub extern "C" fn vortex_column_bounds_text(
     ensures refused { result ≡ BAD_OFFSETS → ¬ (IsColumn bytes.now offsets.now) }
     ensures column { result ≢ BAD_OFFSETS → IsColumn bytes.now offsets.now }
     ensures inline { max_length ≤ 22 → result ≢ NO_MEMORY }
+    ensures whole { length bytes.now ≤ max_length → result ≢ NO_MEMORY }
     ensures small { result ≡ NO_ROOM → (length lower_room.old < lengths.new.lower)
         ⊎ (length upper_room.old < lengths.new.upper) }
     ensures needed { result ≡ NO_ROOM → HasColumnBounds IsTextLower IsTextUpper HasNoTextUpper
@@ -134,7 +137,7 @@ pub extern "C" fn vortex_column_bounds_text(
     };
     let lower = least[..lower_length(least, max_length)].as_bytes();
     match upper_of_text(alloc, greatest, max_length) {
-        Ok(upper) => give_both(lower, upper.as_ref(), lower_room, upper_room, lengths),
+        Ok(upper) => give_both(lower, slice_of(&upper), lower_room, upper_room, lengths),
         Err(_) => NO_MEMORY,
     }
 }
@@ -193,7 +196,7 @@ fn find_extremes(bytes: &[u8], offsets: &[u64]) -> Extremes
 /// Writes both bounds to their rooms, and their lengths; only the lengths where a room is too small.
 fn give_both(
     lower: &[u8],
-    upper: Option<&ByteBuffer>,
+    upper: Option<&[u8]>,
     lower_room: &mut [u8],
     upper_room: &mut [u8],
     lengths: &mut BoundLengths,
@@ -218,10 +221,7 @@ fn give_both(
     ensures kept { result ≢ GIVEN
         → (lower_room.new ≡ lower_room.old) × (upper_room.new ≡ upper_room.old) }
 {
-    let upper_bytes = match upper {
-        Some(bound) => bound.as_slice(),
-        None => &[],
-    };
+    let upper_bytes = upper.unwrap_or(&[]);
     *lengths = BoundLengths {
         lower: lower.len(),
         upper: upper_bytes.len(),
