@@ -21,9 +21,7 @@ pub extern "C" fn vortex_lower_bound_bytes(value: &[u8], max_length: usize) -> u
     ensures fits { result ≤ max_length }
     ensures bound { IsWholeOrBest IsLower value.now max_length (take result value.now) }
 {
-    bounds_are_computed();
-    items_are_bytes(value);
-    max_length.min(value.len())
+    lower_length_of_bytes(value, max_length)
 }
 
 /// How many of the first bytes of a text are its lower bound. Takes no memory.
@@ -41,7 +39,7 @@ pub extern "C" fn vortex_lower_bound_text(value: &[u8], max_length: usize, count
     let Ok(text) = str::from_utf8(value) else {
         return NOT_UTF8;
     };
-    *count = lower_length(text, max_length);
+    *count = lower_length_of_text(text, max_length);
     GIVEN
 }
 
@@ -140,8 +138,19 @@ pub(crate) fn slice_of<'a>(upper: &'a Option<Upper<'_>>) -> Option<&'a [u8]>
     upper.as_ref().map(|bound| bound.as_slice())
 }
 
+/// How many of the first bytes are the lower bound.
+pub(crate) fn lower_length_of_bytes(value: &[u8], max_length: usize) -> usize
+    ensures within { result ≤ length value.now }
+    ensures fits { result ≤ max_length }
+    ensures bound { IsWholeOrBest IsLower value.now max_length (take result value.now) }
+{
+    bounds_are_computed();
+    items_are_bytes(value);
+    max_length.min(value.len())
+}
+
 /// How many of the first bytes of the text are its lower bound.
-pub(crate) fn lower_length(text: &str, max_length: usize) -> usize
+pub(crate) fn lower_length_of_text(text: &str, max_length: usize) -> usize
     ensures boundary { IsCharBoundary text.now result }
     ensures fits { result ≤ max_length }
     ensures bound { IsWholeOrBest IsTextLower text.now max_length (take result text.now) }

@@ -1,13 +1,13 @@
 //! Bounds of a column: of its least and of its greatest value.
 
-ghost use Rattle.std.specs.Prelude.{◌≡◌, ◌≢◌, ◌+◌, ◌≤◌, ◌<◌, ◌⊎◌, [], IsTrue, IsUtf8, MatchBool, drop, is_some, length, take, unwrap_or};
+ghost use Rattle.std.specs.Prelude.{◌≡◌, ◌≢◌, ◌+◌, ◌≤◌, ◌<◌, ◌⊎◌, [], IfErr, IfOk, IsTrue, IsUtf8, MatchBool, drop, is_some, length, take, unwrap_or};
 ghost use Rattle.std.specs.Option.{option_copied};
 ghost use Rattle.vortex_array.specs.Strings.{HasNoUpper, IsLower, IsUpper};
 ghost use Rattle.vortex_array.specs.Texts.{HasNoTextUpper, IsTextLower, IsTextUpper};
 ghost use Rattle.vortex_c.specs.Columns.{AreColumnBounds, HasColumnBounds, HasEndNoText, HasValue, IsColumn, IsGreatestAt, IsLeastAt, some_where, value_at};
 
 use crate::bounds::{
-    lower_length, slice_of, upper_of_bytes, upper_of_text, vortex_lower_bound_bytes,
+    lower_length_of_bytes, lower_length_of_text, slice_of, upper_of_bytes, upper_of_text,
 };
 use crate::status::{BAD_OFFSETS, GIVEN, NO_MEMORY, NO_ROOM, NONE, NOT_UTF8};
 use std::alloc::Global;
@@ -64,16 +64,14 @@ pub extern "C" fn vortex_column_bounds_bytes(
     ensures kept_upper { result ≢ GIVEN → upper_room.new ≡ upper_room.old }
     ensures kept_lengths { (result ≢ GIVEN) × (result ≢ NO_ROOM) → lengths.new ≡ lengths.old }
 {
-    if !are_of_column(bytes, offsets) {
-        return BAD_OFFSETS;
-    }
-    if offsets.len() < 2 {
-        return NONE;
-    }
-    let Extremes { least, greatest } = find_extremes(bytes, offsets);
-    let lower = value_of(bytes, offsets, least);
-    let lower = &lower[..vortex_lower_bound_bytes(lower, max_length)];
-    match upper_of_bytes(alloc, value_of(bytes, offsets, greatest), max_length) {
+    let places = match extremes_or_status(bytes, offsets) {
+        Ok(places) => places,
+        Err(status) => return status,
+    };
+    let least = value_of(bytes, offsets, places.least);
+    let greatest = value_of(bytes, offsets, places.greatest);
+    let lower = &least[..lower_length_of_bytes(least, max_length)];
+    match upper_of_bytes(alloc, greatest, max_length) {
         Ok(upper) => give_both(lower, slice_of(&upper), lower_room, upper_room, lengths),
         Err(_) => NO_MEMORY,
     }
@@ -122,20 +120,17 @@ pub extern "C" fn vortex_column_bounds_text(
     ensures kept_upper { result ≢ GIVEN → upper_room.new ≡ upper_room.old }
     ensures kept_lengths { (result ≢ GIVEN) × (result ≢ NO_ROOM) → lengths.new ≡ lengths.old }
 {
-    if !are_of_column(bytes, offsets) {
-        return BAD_OFFSETS;
-    }
-    if offsets.len() < 2 {
-        return NONE;
-    }
-    let Extremes { least, greatest } = find_extremes(bytes, offsets);
-    let Ok(least) = str::from_utf8(value_of(bytes, offsets, least)) else {
+    let places = match extremes_or_status(bytes, offsets) {
+        Ok(places) => places,
+        Err(status) => return status,
+    };
+    let Ok(least) = str::from_utf8(value_of(bytes, offsets, places.least)) else {
         return NOT_UTF8;
     };
-    let Ok(greatest) = str::from_utf8(value_of(bytes, offsets, greatest)) else {
+    let Ok(greatest) = str::from_utf8(value_of(bytes, offsets, places.greatest)) else {
         return NOT_UTF8;
     };
-    let lower = least[..lower_length(least, max_length)].as_bytes();
+    let lower = least[..lower_length_of_text(least, max_length)].as_bytes();
     match upper_of_text(alloc, greatest, max_length) {
         Ok(upper) => give_both(lower, slice_of(&upper), lower_room, upper_room, lengths),
         Err(_) => NO_MEMORY,
@@ -147,6 +142,26 @@ pub extern "C" fn vortex_column_bounds_text(
 struct Extremes {
     least: usize,
     greatest: usize,
+}
+
+/// The places of the extremes, or the status that says why there are none.
+fn extremes_or_status(bytes: &[u8], offsets: &[u64]) -> Result<Extremes, u32>
+    ensures column { IfOk result (λ _. IsColumn bytes.now offsets.now) }
+    ensures least { IfOk result (λ places. IsLeastAt bytes.now offsets.now places.least) }
+    ensures greatest { IfOk result (λ places. IsGreatestAt bytes.now offsets.now places.greatest) }
+    ensures statuses { IfErr result (λ status. (status ≡ NONE) ⊎ (status ≡ BAD_OFFSETS)) }
+    ensures none { IfErr result (λ status. status ≡ NONE
+        → IsColumn bytes.now offsets.now × ¬ (HasValue offsets.now 0)) }
+    ensures refused { IfErr result (λ status. status ≡ BAD_OFFSETS
+        → ¬ (IsColumn bytes.now offsets.now)) }
+{
+    if !are_of_column(bytes, offsets) {
+        return Err(BAD_OFFSETS);
+    }
+    if offsets.len() < 2 {
+        return Err(NONE);
+    }
+    Ok(find_extremes(bytes, offsets))
 }
 
 /// Whether the offsets are those of values in the bytes.
@@ -185,8 +200,7 @@ fn find_extremes(bytes: &[u8], offsets: &[u64]) -> Extremes
         let value = value_of(bytes, offsets, k);
         if value.cmp(value_of(bytes, offsets, least)).is_lt() {
             least = k;
-        }
-        if value.cmp(value_of(bytes, offsets, greatest)).is_gt() {
+        } else if value.cmp(value_of(bytes, offsets, greatest)).is_gt() {
             greatest = k;
         }
     }
