@@ -25,6 +25,8 @@ pub extern "C" fn vortex_lower_bound_bytes(value: &[u8], max_length: usize) -> u
 }
 
 /// How many of the first bytes of a text are its lower bound. Takes no memory.
+///
+/// `NOT_UTF8` where the value is no text.
 #[unsafe(no_mangle)]
 pub extern "C" fn vortex_lower_bound_text(value: &[u8], max_length: usize, count: &mut usize) -> u32
     ensures statuses { (result ≡ GIVEN) ⊎ (result ≡ NOT_UTF8) }
@@ -44,6 +46,9 @@ pub extern "C" fn vortex_lower_bound_text(value: &[u8], max_length: usize, count
 }
 
 /// The upper bound of bytes, written to the room.
+///
+/// `NONE` where there is none, `NO_ROOM` where the room is too small (`count` says how many bytes
+/// the bound has), `NO_MEMORY` only where `max_length` is above 22 and the value is longer.
 #[unsafe(no_mangle)]
 pub extern "C" fn vortex_upper_bound_bytes(
     alloc: Global,
@@ -76,6 +81,8 @@ pub extern "C" fn vortex_upper_bound_bytes(
 }
 
 /// The upper bound of a text, written to the room.
+///
+/// The statuses come as with bytes, and `NOT_UTF8` where the value is no text.
 #[unsafe(no_mangle)]
 pub extern "C" fn vortex_upper_bound_text(
     alloc: Global,

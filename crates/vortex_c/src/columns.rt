@@ -17,15 +17,21 @@ use std::str;
 #[derive(Drop)]
 #[repr(C)]
 pub struct BoundLengths {
+    /// How many bytes the lower bound has.
     pub lower: usize,
+    /// How many bytes the upper bound has, 0 where there is none.
     pub upper: usize,
+    /// Whether there is an upper bound.
     pub has_upper: bool,
 }
 
-/// The bounds at n bytes of the least and of the greatest of a column's values, written to the
-/// rooms.
+/// The bounds of the least and of the greatest of a column's values, written to the rooms.
 ///
-/// Value k has the bytes from offset k to offset k + 1, so that n values have n + 1 offsets.
+/// Value k has the bytes from offset k to offset k + 1, so that m values have m + 1 offsets.
+///
+/// `NONE` where there is no value, `NO_ROOM` where a room is too small (`lengths` says how many
+/// bytes each bound has), `BAD_OFFSETS` where an offset is below the one before it or past the end
+/// of the bytes, `NO_MEMORY` only where `max_length` is above 22 and the bytes are more.
 #[unsafe(no_mangle)]
 pub extern "C" fn vortex_column_bounds_bytes(
     alloc: Global,
@@ -77,7 +83,8 @@ pub extern "C" fn vortex_column_bounds_bytes(
     }
 }
 
-/// The same of a column of texts: of its values, the least and the greatest are to be UTF-8.
+/// The same of a column of texts: of its values, the least and the greatest are to be UTF-8, and
+/// `NOT_UTF8` comes where one of these is not.
 #[unsafe(no_mangle)]
 pub extern "C" fn vortex_column_bounds_text(
     alloc: Global,
