@@ -55,7 +55,7 @@ uint32_t vortex_lower_bound_text(const uint8_t *value, size_t value_length, size
  * GIVEN: the bound is in the first *count bytes of the room; those after it are as they were.
  * NONE: the value has more than n bytes, and no string of n bytes is above it (its first n are all 255).
  * NO_ROOM: *count, more than room_length, is how many bytes the bound has.
- * NO_MEMORY: only where n and value_length are above 22. */
+ * NO_MEMORY: only where n is above 22 and value_length above n. */
 uint32_t vortex_upper_bound_bytes(const uint8_t *value, size_t value_length, size_t n, uint8_t *room,
                                   size_t room_length, size_t *count);
 
@@ -91,7 +91,7 @@ struct vortex_bound_lengths {
  * NONE: there is no value (fewer than 2 offsets).
  * NO_ROOM: a room has fewer bytes than its bound needs; `lengths` says how many each has.
  * BAD_OFFSETS: an offset is below the one before it, or past the end of the bytes.
- * NO_MEMORY: only where n is above 22. */
+ * NO_MEMORY: only where n is above 22 and bytes_length above n. */
 uint32_t vortex_column_bounds_bytes(const uint8_t *bytes, size_t bytes_length, const uint64_t *offsets,
                                     size_t offsets_length, size_t n, uint8_t *lower_room, size_t lower_room_length,
                                     uint8_t *upper_room, size_t upper_room_length,

@@ -12,6 +12,7 @@ mod print;
 mod program;
 mod words;
 
+pub use answers::number_in_ptype;
 pub use faults::{RowsError, fault_line};
 pub use input::read_all;
 pub use numbers::ptype_named;

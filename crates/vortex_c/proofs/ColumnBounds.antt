@@ -1,7 +1,10 @@
 -- The bounds of the least and of the greatest value are those of the column.
-use Rattle.std.proofs.Common.{◌≡◌, ℕ, ◌+◌, ◌<◌, ◌≤◌, List, [], length, unwrap_or, Bool, true, false, Option, Some, None, MatchOption, refl, sym, subst, is_some, IfSome, IsTrue, IsUtf8, inl, inr, ◌⊎◌, ◌-◌, drop, slice_index, length-drop, arith}
+use Rattle.std.proofs.Common.{◌≡◌, ℕ, ◌+◌, ◌<◌, ◌≤◌, List, [], length, unwrap_or, Bool, true, false, Option, Some, None, MatchOption, refl, sym, subst, is_some, IfSome, IsTrue, IsUtf8, Bor, inl, inr, ◌⊎◌, ◌-◌, drop, slice_index, length-drop, arith}
 use Rattle.std.proofs.lemmas.List.{length-take}
 use Rattle.vortex_c.specs.Bounds.{HasNone, IsWholeOrBest}
+use Rattle.std.specs.Option.{option_copied, option_map}
+use Rattle.vortex_c.specs.Uppers.{bytes_of}
+use Rattle.vortex_c.specs.declared.bounds.Upper.{Upper}
 use Rattle.vortex_c.specs.Columns.{AreColumnBounds, HasColumnBounds, IsGreatestAt, IsLeastAt, some_where, value_at}
 
 -- the upper bound, and whether there is one
@@ -11,9 +14,27 @@ shown None false e = refl
 shown (Some r) true e = refl
 shown (Some r) false e = cc
 
-pub column_given : (L U : List ℕ → ℕ → List ℕ → Type 0) (H : List ℕ → ℕ → Type 0) (bytes offsets : List ℕ) (n least greatest : ℕ) (x y lower lower' : List ℕ) (upper upper' : Option (List ℕ))
+-- what is said of an upper bound by its bytes is said of these
+said_of_bytes : (o : Option Upper) (N : Type 0) (P : List ℕ → Type 0) → MatchOption o N (λ r. P (bytes_of r)) → MatchOption (option_map bytes_of o) N P
+said_of_bytes None N P h = h
+said_of_bytes (Some r) N P h = h
+
+pub bytes_within : (o : Option Upper) (m : ℕ) → IfSome o (λ r. length (bytes_of r) ≤ m) → length (unwrap_or (option_map bytes_of o) []) ≤ m
+bytes_within None m h = omega arith
+bytes_within (Some r) m h = h
+
+pub bytes_are_text : (o : Option Upper) → IfSome o (λ r. IsUtf8 (bytes_of r)) → IfSome (option_map bytes_of o) (λ v. IsUtf8 v)
+bytes_are_text None h = h
+bytes_are_text (Some r) h = h
+
+-- a slice is there where its bytes are
+pub slice_is_there : (slice : Option (Bor (List ℕ))) → is_some slice ≡ is_some (option_copied slice)
+slice_is_there None = refl
+slice_is_there (Some r) = refl
+
+pub column_given : (L U : List ℕ → ℕ → List ℕ → Type 0) (H : List ℕ → ℕ → Type 0) (bytes offsets : List ℕ) (n least greatest : ℕ) (x y lower lower' : List ℕ) (upper : Option Upper) (upper' : Option (List ℕ))
     → IsLeastAt bytes offsets least → IsGreatestAt bytes offsets greatest → x ≡ value_at bytes offsets least → y ≡ value_at bytes offsets greatest
-    → IsWholeOrBest L x n lower → MatchOption upper (HasNone H y n) (λ r. IsWholeOrBest U y n r) → lower' ≡ lower → upper' ≡ upper
+    → IsWholeOrBest L x n lower → MatchOption upper (HasNone H y n) (λ r. IsWholeOrBest U y n (bytes_of r)) → lower' ≡ lower → upper' ≡ option_map bytes_of upper
     → AreColumnBounds L U H bytes offsets n lower' upper'
 column_given L U H bytes offsets n least greatest x y lower lower' upper upper' is_least is_greatest ex ey is_lower is_upper el eu =
     record {
@@ -23,21 +44,23 @@ column_given L U H bytes offsets n least greatest x y lower lower' upper upper' 
       is_greatest = is_greatest;
       is_lower = subst (λ r. IsWholeOrBest L (value_at bytes offsets least) n r) (sym el) (subst (λ v. IsWholeOrBest L v n lower) ex is_lower);
       is_upper = subst (λ o. MatchOption o (HasNone H (value_at bytes offsets greatest) n) (λ r. IsWholeOrBest U (value_at bytes offsets greatest) n r)) (sym eu)
-          (subst (λ v. MatchOption upper (HasNone H v n) (λ r. IsWholeOrBest U v n r)) ey is_upper);
+          (subst (λ v. MatchOption (option_map bytes_of upper) (HasNone H v n) (λ r. IsWholeOrBest U v n r)) ey
+          (said_of_bytes upper (HasNone H y n) (λ r. IsWholeOrBest U y n r) is_upper));
     }
 
-pub column_needed : (L U : List ℕ → ℕ → List ℕ → Type 0) (H : List ℕ → ℕ → Type 0) (bytes offsets : List ℕ) (n least greatest : ℕ) (x y lower : List ℕ) (upper : Option (List ℕ)) (lower_length upper_length : ℕ) (has_upper : Bool)
+pub column_needed : (L U : List ℕ → ℕ → List ℕ → Type 0) (H : List ℕ → ℕ → Type 0) (bytes offsets : List ℕ) (n least greatest : ℕ) (x y lower : List ℕ) (upper : Option Upper) (lower_length upper_length : ℕ) (has_upper : Bool)
     → IsLeastAt bytes offsets least → IsGreatestAt bytes offsets greatest → x ≡ value_at bytes offsets least → y ≡ value_at bytes offsets greatest
-    → IsWholeOrBest L x n lower → MatchOption upper (HasNone H y n) (λ r. IsWholeOrBest U y n r)
-    → lower_length ≡ length lower → upper_length ≡ length (unwrap_or upper []) → has_upper ≡ is_some upper
+    → IsWholeOrBest L x n lower → MatchOption upper (HasNone H y n) (λ r. IsWholeOrBest U y n (bytes_of r))
+    → lower_length ≡ length lower → upper_length ≡ length (unwrap_or (option_map bytes_of upper) []) → has_upper ≡ is_some (option_map bytes_of upper)
     → HasColumnBounds L U H bytes offsets n lower_length upper_length has_upper
-column_needed L U H bytes offsets n least greatest x y lower upper ll ul hu is_least is_greatest ex ey is_lower is_upper el eu eh = (
-  lower,
-  unwrap_or upper [],
-  column_given L U H bytes offsets n least greatest x y lower lower upper (some_where hu (unwrap_or upper [])) is_least is_greatest ex ey is_lower is_upper refl (shown upper hu eh),
-  sym el,
-  sym eu,
-)
+column_needed L U H bytes offsets n least greatest x y lower upper ll ul hu is_least is_greatest ex ey is_lower is_upper el eu eh =
+    let given = option_map bytes_of upper in (
+      lower,
+      unwrap_or given [],
+      column_given L U H bytes offsets n least greatest x y lower lower upper (some_where hu (unwrap_or given [])) is_least is_greatest ex ey is_lower is_upper refl (shown given hu eh),
+      sym el,
+      sym eu,
+    )
 
 -- rooms that suffice are not too small
 pub not_small : (a b m ll ul : ℕ) → ll ≤ m → ul ≤ m → (m ≤ a) × (m ≤ b) → (a < ll) ⊎ (b < ul) → ⊥

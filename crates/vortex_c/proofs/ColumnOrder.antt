@@ -81,6 +81,15 @@ pub greatest_so_far : (V : ℕ → List ℕ) (k old new : ℕ) (x y : List ℕ) 
 greatest_so_far V k old new x y o b p q e t h c =
     greatest_of_test V k old new b (same_order x y (V k) (V old) o is_gt b p q e t) h c
 
+-- what is below the least is not above the greatest
+pub greatest_kept : (V : ℕ → List ℕ) (k least greatest new : ℕ) (x y : List ℕ) (o : Ordering) (b : Bool) → x ≡ V k → y ≡ V least → o ≡ slice_cmp nat_cmp x y → b ≡ is_lt o
+    → b ≡ true → least < k → ((j : ℕ) → j < k → NotAbove (V j) (V greatest)) → new ≡ greatest → (j : ℕ) → j < k + 1 → NotAbove (V j) (V new)
+greatest_kept V k least greatest new x y o b p q e t c l h n =
+    let f : NotAbove (V k) (V least) =
+    less_is_not_greater (order (V k) (V least)) (sym (same_order x y (V k) (V least) o is_lt b p q e t) ∙ c) in
+    subst (λ i. (j : ℕ) → j < k + 1 → NotAbove (V j) (V i)) (sym n)
+    (below_more _ _ h (goes_on (V k) (V least) (V greatest) f (h least l)))
+
 -- the first value is the least and the greatest of one
 pub only_value : (V : ℕ → List ℕ) (j : ℕ) → j < 1 → NotAbove (V 0) (V j)
 only_value V j l = below_more (λ i. NotAbove (V 0) (V i)) 0 (λ i h. absurd (omega arith)) (itself (V 0)) j l

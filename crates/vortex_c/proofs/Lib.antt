@@ -1,5 +1,4 @@
 mod Beginnings
-mod Castings
 mod ColumnBounds
 mod ColumnOrder
 mod Truncations

@@ -1,5 +1,5 @@
 -- What the calls on a beginning give, said of the whole.
-use Rattle.std.proofs.Common.{◌≡◌, ℕ, ◌<◌, ◌≤◌, List, length, take, slice_range, min, Option, Some, None, Result, Ok, Err, MatchOption, MatchResult, ap, subst, sym, arith, IsCharBoundary}
+use Rattle.std.proofs.Common.{◌≡◌, ℕ, ◌<◌, ◌≤◌, List, length, take, slice_range, min, ap, subst, sym, arith, IsCharBoundary}
 use Rattle.std.proofs.lemmas.List.{take_all}
 use Rattle.vortex_array.specs.Laws.{BoundsAreComputed}
 use Rattle.vortex_array.specs.Strings.{HasNoUpper, IsLower, IsString, IsUpper}
@@ -18,16 +18,16 @@ lower_or_whole b n i computed s e = (
   λ l. subst (λ k. IsLower b n (take k b)) (omega arith) (computed.lower b n s),
 )
 
--- what the upper bound of the first n bytes is to the whole
-pub upper_or_none : {E : Type 0} (b copy : List ℕ) (n : ℕ) (P : E → Type 0) (r : Result (Option (List ℕ)) E) → n < length b → copy ≡ take n b
-    → MatchResult r (λ o. MatchOption o (HasNoUpper copy n) (λ v. IsUpper copy n v)) P
-    → MatchResult r (λ o. MatchOption o (HasNone HasNoUpper b n) (λ v. IsWholeOrBest IsUpper b n v)) P
-upper_or_none b copy n P (Ok None) l e h = (l, no_upper_of_take b n (omega arith) (subst (λ s. HasNoUpper s n) e h))
-upper_or_none b copy n P (Ok (Some r)) l e h = (
+-- the upper bound of the first n bytes is that of the whole
+pub upper_made : (b copy : List ℕ) (n : ℕ) (r : List ℕ) → n < length b → copy ≡ take n b → IsUpper copy n r → IsWholeOrBest IsUpper b n r
+upper_made b copy n r l e h = (
   λ m. absurd (omega arith),
   λ _. upper_of_take b n r (omega arith) (subst (λ s. IsUpper s n r) e h),
 )
-upper_or_none b copy n P (Err x) l e h = h
+
+-- and where those have none, so has the whole
+pub no_upper_made : (b copy : List ℕ) (n : ℕ) → n < length b → copy ≡ take n b → HasNoUpper copy n → HasNone HasNoUpper b n
+no_upper_made b copy n l e h = (l, no_upper_of_take b n (omega arith) (subst (λ s. HasNoUpper s n) e h))
 
 -- the same of a text, cut at the nearest boundary
 pub text_upper_made : (s copy : List ℕ) (n i : ℕ) (r made : List ℕ) → n < length s → copy ≡ take i s → i ≤ n → IsCharBoundary s i → IsNearest s n i

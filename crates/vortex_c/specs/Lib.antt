@@ -1,4 +1,5 @@
 pub mod Bounds
 pub mod Columns
 pub mod Integers
+pub mod Uppers
 pub mod Zones

@@ -1,10 +1,12 @@
 //! Bounds of bytes and of texts.
 
-ghost use Rattle.std.specs.Prelude.{◌≡◌, ◌≢◌, ◌≤◌, ◌<◌, ◌⊎◌, [], IfOk, IfSome, IsCharBoundary, IsOk, IsUtf8, MatchOption, MatchResult, drop, length, take, unwrap_or};
+ghost use Rattle.std.specs.Prelude.{◌≡◌, ◌≢◌, ◌≤◌, ◌<◌, ◌⊎◌, IfOk, IfSome, IsCharBoundary, IsOk, IsUtf8, MatchOption, MatchResult, drop, length, take};
+ghost use Rattle.std.specs.Option.{option_copied, option_map};
 ghost use Rattle.vortex_dtype.specs.declared.error.VortexError.TheVariants.{OutOfMemory};
 ghost use Rattle.vortex_array.specs.Strings.{HasNoUpper, IsLower, IsUpper};
 ghost use Rattle.vortex_array.specs.Texts.{HasNoTextUpper, IsTextLower, IsTextUpper};
 ghost use Rattle.vortex_c.specs.Bounds.{HasNone, IsWholeOrBest, SomeOfLength};
+ghost use Rattle.vortex_c.specs.Uppers.{bytes_of};
 
 use crate::status::{GIVEN, NO_MEMORY, NO_ROOM, NONE, NOT_UTF8};
 use std::alloc::Global;
@@ -19,12 +21,12 @@ pub extern "C" fn vortex_lower_bound_bytes(value: &[u8], max_length: usize) -> u
     ensures fits { result ≤ max_length }
     ensures bound { IsWholeOrBest IsLower value.now max_length (take result value.now) }
 {
-    bounds_are_computed();
-    items_are_bytes(value);
-    max_length.min(value.len())
+    lower_length_of_bytes(value, max_length)
 }
 
 /// How many of the first bytes of a text are its lower bound. Takes no memory.
+///
+/// `NOT_UTF8` where the value is no text.
 #[unsafe(no_mangle)]
 pub extern "C" fn vortex_lower_bound_text(value: &[u8], max_length: usize, count: &mut usize) -> u32
     ensures statuses { (result ≡ GIVEN) ⊎ (result ≡ NOT_UTF8) }
@@ -39,11 +41,14 @@ pub extern "C" fn vortex_lower_bound_text(value: &[u8], max_length: usize, count
     let Ok(text) = str::from_utf8(value) else {
         return NOT_UTF8;
     };
-    *count = lower_length(text, max_length);
+    *count = lower_length_of_text(text, max_length);
     GIVEN
 }
 
 /// The upper bound of bytes, written to the room.
+///
+/// `NONE` where there is none, `NO_ROOM` where the room is too small (`count` says how many bytes
+/// the bound has), `NO_MEMORY` only where `max_length` is above 22 and the value is longer.
 #[unsafe(no_mangle)]
 pub extern "C" fn vortex_upper_bound_bytes(
     alloc: Global,
@@ -59,7 +64,7 @@ pub extern "C" fn vortex_upper_bound_bytes(
         → IsWholeOrBest IsUpper value.now max_length (take count.new room.new) }
     ensures none { result ≡ NONE → HasNone HasNoUpper value.now max_length }
     ensures inline { max_length ≤ 22 → result ≢ NO_MEMORY }
-    ensures inline_value { length value.now ≤ 22 → result ≢ NO_MEMORY }
+    ensures whole { length value.now ≤ max_length → result ≢ NO_MEMORY }
     ensures small { result ≡ NO_ROOM → length room.old < count.new }
     ensures needed { result ≡ NO_ROOM → SomeOfLength IsUpper value.now max_length count.new }
     ensures enough { max_length ≤ length room.old → result ≢ NO_ROOM }
@@ -68,9 +73,6 @@ pub extern "C" fn vortex_upper_bound_bytes(
     ensures kept_room { result ≢ GIVEN → room.new ≡ room.old }
     ensures kept_count { (result ≢ GIVEN) × (result ≢ NO_ROOM) → count.new ≡ count.old }
 {
-    if value.len() <= max_length {
-        return give(value, room, count);
-    }
     match upper_of_bytes(alloc, value, max_length) {
         Ok(Some(bound)) => give(bound.as_slice(), room, count),
         Ok(None) => NONE,
@@ -79,6 +81,8 @@ pub extern "C" fn vortex_upper_bound_bytes(
 }
 
 /// The upper bound of a text, written to the room.
+///
+/// The statuses come as with bytes, and `NOT_UTF8` where the value is no text.
 #[unsafe(no_mangle)]
 pub extern "C" fn vortex_upper_bound_text(
     alloc: Global,
@@ -96,7 +100,7 @@ pub extern "C" fn vortex_upper_bound_text(
     ensures text { result ≢ NOT_UTF8 → IsUtf8 value.now }
     ensures refused { result ≡ NOT_UTF8 → ¬ (IsUtf8 value.now) }
     ensures inline { max_length ≤ 22 → result ≢ NO_MEMORY }
-    ensures inline_value { length value.now ≤ 22 → result ≢ NO_MEMORY }
+    ensures whole { length value.now ≤ max_length → result ≢ NO_MEMORY }
     ensures small { result ≡ NO_ROOM → length room.old < count.new }
     ensures needed { result ≡ NO_ROOM → SomeOfLength IsTextUpper value.now max_length count.new }
     ensures enough { max_length ≤ length room.old → result ≢ NO_ROOM }
@@ -108,9 +112,6 @@ pub extern "C" fn vortex_upper_bound_text(
     let Ok(text) = str::from_utf8(value) else {
         return NOT_UTF8;
     };
-    if value.len() <= max_length {
-        return give(value, room, count);
-    }
     match upper_of_text(alloc, text, max_length) {
         Ok(Some(bound)) => give(bound.as_slice(), room, count),
         Ok(None) => NONE,
@@ -118,8 +119,45 @@ pub extern "C" fn vortex_upper_bound_text(
     }
 }
 
+/// An upper bound: the value itself, or what was made of its beginning.
+#[derive(Drop)]
+pub(crate) enum Upper<'a> {
+    Whole(&'a [u8]),
+    Cut(ByteBuffer),
+}
+
+impl Upper<'_> {
+    /// The bound's bytes.
+    pub(crate) fn as_slice(&self) -> &[u8]
+        ensures { result.now ≡ bytes_of self.now }
+    {
+        match self {
+            Upper::Whole(value) => value,
+            Upper::Cut(bound) => bound.as_slice(),
+        }
+    }
+}
+
+/// The slice of an upper bound, where there is one.
+pub(crate) fn slice_of<'a>(upper: &'a Option<Upper<'_>>) -> Option<&'a [u8]>
+    ensures { option_copied result ≡ option_map bytes_of upper.now }
+{
+    upper.as_ref().map(|bound| bound.as_slice())
+}
+
+/// How many of the first bytes are the lower bound.
+pub(crate) fn lower_length_of_bytes(value: &[u8], max_length: usize) -> usize
+    ensures within { result ≤ length value.now }
+    ensures fits { result ≤ max_length }
+    ensures bound { IsWholeOrBest IsLower value.now max_length (take result value.now) }
+{
+    bounds_are_computed();
+    items_are_bytes(value);
+    max_length.min(value.len())
+}
+
 /// How many of the first bytes of the text are its lower bound.
-pub(crate) fn lower_length(text: &str, max_length: usize) -> usize
+pub(crate) fn lower_length_of_text(text: &str, max_length: usize) -> usize
     ensures boundary { IsCharBoundary text.now result }
     ensures fits { result ≤ max_length }
     ensures bound { IsWholeOrBest IsTextLower text.now max_length (take result text.now) }
@@ -128,50 +166,53 @@ pub(crate) fn lower_length(text: &str, max_length: usize) -> usize
 }
 
 /// The bytes, or the upper bound of more than so many.
-pub(crate) fn upper_of_bytes(
+pub(crate) fn upper_of_bytes<'a>(
     alloc: Global,
-    value: &[u8],
+    value: &'a [u8],
     max_length: usize,
-) -> Result<Option<ByteBuffer>, VortexError>
+) -> Result<Option<Upper<'a>>, VortexError>
     ensures given { MatchResult result
         (λ o. MatchOption o (HasNone HasNoUpper value.now max_length)
-        (λ r. IsWholeOrBest IsUpper value.now max_length r))
+        (λ r. IsWholeOrBest IsUpper value.now max_length (bytes_of r)))
         (λ e. e ≡ OutOfMemory) }
-    ensures fits { IfOk result (λ o. length (unwrap_or o []) ≤ max_length) }
-    ensures within { IfOk result (λ o. length (unwrap_or o []) ≤ length value.now) }
+    ensures fits { IfOk result (λ o. IfSome o (λ r. length (bytes_of r) ≤ max_length)) }
+    ensures within { IfOk result (λ o. IfSome o (λ r. length (bytes_of r) ≤ length value.now)) }
     ensures inline { max_length ≤ 22 → IsOk result }
-    ensures inline_value { length value.now ≤ 22 → IsOk result }
+    ensures whole { length value.now ≤ max_length → IsOk result }
 {
     if value.len() <= max_length {
-        return Ok(Some(ByteBuffer::from_slice(alloc, value)?));
+        return Ok(Some(Upper::Whole(value)));
     }
     let beginning = ByteBuffer::from_slice(alloc, &value[..max_length])?;
-    beginning.upper_bound(alloc, max_length)
+    match beginning.upper_bound(alloc, max_length)? {
+        Some(bound) => Ok(Some(Upper::Cut(bound))),
+        None => Ok(None),
+    }
 }
 
 /// The text, or the upper bound of one of more than so many bytes.
-pub(crate) fn upper_of_text(
+pub(crate) fn upper_of_text<'a>(
     alloc: Global,
-    text: &str,
+    text: &'a str,
     max_length: usize,
-) -> Result<Option<ByteBuffer>, VortexError>
+) -> Result<Option<Upper<'a>>, VortexError>
     ensures given { MatchResult result
         (λ o. MatchOption o (HasNone HasNoTextUpper text.now max_length)
-        (λ r. IsWholeOrBest IsTextUpper text.now max_length r))
+        (λ r. IsWholeOrBest IsTextUpper text.now max_length (bytes_of r)))
         (λ e. e ≡ OutOfMemory) }
-    ensures fits { IfOk result (λ o. length (unwrap_or o []) ≤ max_length) }
-    ensures within { IfOk result (λ o. length (unwrap_or o []) ≤ length text.now) }
-    ensures text { IfOk result (λ o. IfSome o (λ r. IsUtf8 r)) }
+    ensures fits { IfOk result (λ o. IfSome o (λ r. length (bytes_of r) ≤ max_length)) }
+    ensures within { IfOk result (λ o. IfSome o (λ r. length (bytes_of r) ≤ length text.now)) }
+    ensures text { IfOk result (λ o. IfSome o (λ r. IsUtf8 (bytes_of r))) }
     ensures inline { max_length ≤ 22 → IsOk result }
-    ensures inline_value { length text.now ≤ 22 → IsOk result }
+    ensures whole { length text.now ≤ max_length → IsOk result }
 {
     if text.len() <= max_length {
-        return Ok(Some(ByteBuffer::from_slice(alloc, text.as_bytes())?));
+        return Ok(Some(Upper::Whole(text.as_bytes())));
     }
     let end = text.floor_char_boundary(max_length);
     let beginning = BufferString::from_str(alloc, &text[..end])?;
     match beginning.upper_bound(alloc, end)? {
-        Some(bound) => Ok(Some(bound.into_inner())),
+        Some(bound) => Ok(Some(Upper::Cut(bound.into_inner()))),
         None => Ok(None),
     }
 }

@@ -8,6 +8,9 @@ use std::alloc::Global;
 
 /// What the call of a worked case answers, as text, written to the room; to a line that is none
 /// `bad line`.
+///
+/// `NO_ROOM` where the room is too small (`count` says how many bytes the answer has), `NO_MEMORY`
+/// where there is none in which to read the line or to write the answer.
 #[unsafe(no_mangle)]
 pub extern "C" fn vortex_call(alloc: Global, line: &[u8], room: &mut [u8], count: &mut usize) -> u32
     ensures statuses { (result ≡ GIVEN) ⊎ ((result ≡ NO_MEMORY) ⊎ (result ≡ NO_ROOM)) }

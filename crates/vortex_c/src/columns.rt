@@ -1,30 +1,37 @@
 //! Bounds of a column: of its least and of its greatest value.
 
-ghost use Rattle.std.specs.Prelude.{◌≡◌, ◌≢◌, ◌+◌, ◌≤◌, ◌<◌, ◌⊎◌, [], IsTrue, IsUtf8, MatchBool, drop, is_some, length, take, unwrap_or};
+ghost use Rattle.std.specs.Prelude.{◌≡◌, ◌≢◌, ◌+◌, ◌≤◌, ◌<◌, ◌⊎◌, [], IfErr, IfOk, IsTrue, IsUtf8, MatchBool, drop, is_some, length, take, unwrap_or};
 ghost use Rattle.std.specs.Option.{option_copied};
 ghost use Rattle.vortex_array.specs.Strings.{HasNoUpper, IsLower, IsUpper};
 ghost use Rattle.vortex_array.specs.Texts.{HasNoTextUpper, IsTextLower, IsTextUpper};
 ghost use Rattle.vortex_c.specs.Columns.{AreColumnBounds, HasColumnBounds, HasEndNoText, HasValue, IsColumn, IsGreatestAt, IsLeastAt, some_where, value_at};
 
-use crate::bounds::{lower_length, upper_of_bytes, upper_of_text, vortex_lower_bound_bytes};
+use crate::bounds::{
+    lower_length_of_bytes, lower_length_of_text, slice_of, upper_of_bytes, upper_of_text,
+};
 use crate::status::{BAD_OFFSETS, GIVEN, NO_MEMORY, NO_ROOM, NONE, NOT_UTF8};
 use std::alloc::Global;
 use std::str;
-use vortex_array::ByteBuffer;
 
 /// How many bytes each bound has, and whether there is an upper one.
 #[derive(Drop)]
 #[repr(C)]
 pub struct BoundLengths {
+    /// How many bytes the lower bound has.
     pub lower: usize,
+    /// How many bytes the upper bound has, 0 where there is none.
     pub upper: usize,
+    /// Whether there is an upper bound.
     pub has_upper: bool,
 }
 
-/// The bounds at n bytes of the least and of the greatest of a column's values, written to the
-/// rooms.
+/// The bounds of the least and of the greatest of a column's values, written to the rooms.
 ///
-/// Value k has the bytes from offset k to offset k + 1, so that n values have n + 1 offsets.
+/// Value k has the bytes from offset k to offset k + 1, so that m values have m + 1 offsets.
+///
+/// `NONE` where there is no value, `NO_ROOM` where a room is too small (`lengths` says how many
+/// bytes each bound has), `BAD_OFFSETS` where an offset is below the one before it or past the end
+/// of the bytes, `NO_MEMORY` only where `max_length` is above 22 and the bytes are more.
 #[unsafe(no_mangle)]
 pub extern "C" fn vortex_column_bounds_bytes(
     alloc: Global,
@@ -46,6 +53,7 @@ pub extern "C" fn vortex_column_bounds_bytes(
     ensures refused { result ≡ BAD_OFFSETS → ¬ (IsColumn bytes.now offsets.now) }
     ensures column { result ≢ BAD_OFFSETS → IsColumn bytes.now offsets.now }
     ensures inline { max_length ≤ 22 → result ≢ NO_MEMORY }
+    ensures whole { length bytes.now ≤ max_length → result ≢ NO_MEMORY }
     ensures small { result ≡ NO_ROOM → (length lower_room.old < lengths.new.lower)
         ⊎ (length upper_room.old < lengths.new.upper) }
     ensures needed { result ≡ NO_ROOM → HasColumnBounds IsLower IsUpper HasNoUpper
@@ -62,22 +70,21 @@ pub extern "C" fn vortex_column_bounds_bytes(
     ensures kept_upper { result ≢ GIVEN → upper_room.new ≡ upper_room.old }
     ensures kept_lengths { (result ≢ GIVEN) × (result ≢ NO_ROOM) → lengths.new ≡ lengths.old }
 {
-    if !are_of_column(bytes, offsets) {
-        return BAD_OFFSETS;
-    }
-    if offsets.len() < 2 {
-        return NONE;
-    }
-    let Extremes { least, greatest } = find_extremes(bytes, offsets);
-    let lower = value_of(bytes, offsets, least);
-    let lower = &lower[..vortex_lower_bound_bytes(lower, max_length)];
-    match upper_of_bytes(alloc, value_of(bytes, offsets, greatest), max_length) {
-        Ok(upper) => give_both(lower, upper.as_ref(), lower_room, upper_room, lengths),
+    let places = match extremes_or_status(bytes, offsets) {
+        Ok(places) => places,
+        Err(status) => return status,
+    };
+    let least = value_of(bytes, offsets, places.least);
+    let greatest = value_of(bytes, offsets, places.greatest);
+    let lower = &least[..lower_length_of_bytes(least, max_length)];
+    match upper_of_bytes(alloc, greatest, max_length) {
+        Ok(upper) => give_both(lower, slice_of(&upper), lower_room, upper_room, lengths),
         Err(_) => NO_MEMORY,
     }
 }
 
-/// The same of a column of texts: of its values, the least and the greatest are to be UTF-8.
+/// The same of a column of texts: of its values, the least and the greatest are to be UTF-8, and
+/// `NOT_UTF8` comes where one of these is not.
 #[unsafe(no_mangle)]
 pub extern "C" fn vortex_column_bounds_text(
     alloc: Global,
@@ -103,6 +110,7 @@ pub extern "C" fn vortex_column_bounds_text(
     ensures refused { result ≡ BAD_OFFSETS → ¬ (IsColumn bytes.now offsets.now) }
     ensures column { result ≢ BAD_OFFSETS → IsColumn bytes.now offsets.now }
     ensures inline { max_length ≤ 22 → result ≢ NO_MEMORY }
+    ensures whole { length bytes.now ≤ max_length → result ≢ NO_MEMORY }
     ensures small { result ≡ NO_ROOM → (length lower_room.old < lengths.new.lower)
         ⊎ (length upper_room.old < lengths.new.upper) }
     ensures needed { result ≡ NO_ROOM → HasColumnBounds IsTextLower IsTextUpper HasNoTextUpper
@@ -119,22 +127,19 @@ pub extern "C" fn vortex_column_bounds_text(
     ensures kept_upper { result ≢ GIVEN → upper_room.new ≡ upper_room.old }
     ensures kept_lengths { (result ≢ GIVEN) × (result ≢ NO_ROOM) → lengths.new ≡ lengths.old }
 {
-    if !are_of_column(bytes, offsets) {
-        return BAD_OFFSETS;
-    }
-    if offsets.len() < 2 {
-        return NONE;
-    }
-    let Extremes { least, greatest } = find_extremes(bytes, offsets);
-    let Ok(least) = str::from_utf8(value_of(bytes, offsets, least)) else {
+    let places = match extremes_or_status(bytes, offsets) {
+        Ok(places) => places,
+        Err(status) => return status,
+    };
+    let Ok(least) = str::from_utf8(value_of(bytes, offsets, places.least)) else {
         return NOT_UTF8;
     };
-    let Ok(greatest) = str::from_utf8(value_of(bytes, offsets, greatest)) else {
+    let Ok(greatest) = str::from_utf8(value_of(bytes, offsets, places.greatest)) else {
         return NOT_UTF8;
     };
-    let lower = least[..lower_length(least, max_length)].as_bytes();
+    let lower = least[..lower_length_of_text(least, max_length)].as_bytes();
     match upper_of_text(alloc, greatest, max_length) {
-        Ok(upper) => give_both(lower, upper.as_ref(), lower_room, upper_room, lengths),
+        Ok(upper) => give_both(lower, slice_of(&upper), lower_room, upper_room, lengths),
         Err(_) => NO_MEMORY,
     }
 }
@@ -144,6 +149,26 @@ pub extern "C" fn vortex_column_bounds_text(
 struct Extremes {
     least: usize,
     greatest: usize,
+}
+
+/// The places of the extremes, or the status that says why there are none.
+fn extremes_or_status(bytes: &[u8], offsets: &[u64]) -> Result<Extremes, u32>
+    ensures column { IfOk result (λ _. IsColumn bytes.now offsets.now) }
+    ensures least { IfOk result (λ places. IsLeastAt bytes.now offsets.now places.least) }
+    ensures greatest { IfOk result (λ places. IsGreatestAt bytes.now offsets.now places.greatest) }
+    ensures statuses { IfErr result (λ status. (status ≡ NONE) ⊎ (status ≡ BAD_OFFSETS)) }
+    ensures none { IfErr result (λ status. status ≡ NONE
+        → IsColumn bytes.now offsets.now × ¬ (HasValue offsets.now 0)) }
+    ensures refused { IfErr result (λ status. status ≡ BAD_OFFSETS
+        → ¬ (IsColumn bytes.now offsets.now)) }
+{
+    if !are_of_column(bytes, offsets) {
+        return Err(BAD_OFFSETS);
+    }
+    if offsets.len() < 2 {
+        return Err(NONE);
+    }
+    Ok(find_extremes(bytes, offsets))
 }
 
 /// Whether the offsets are those of values in the bytes.
@@ -182,8 +207,7 @@ fn find_extremes(bytes: &[u8], offsets: &[u64]) -> Extremes
         let value = value_of(bytes, offsets, k);
         if value.cmp(value_of(bytes, offsets, least)).is_lt() {
             least = k;
-        }
-        if value.cmp(value_of(bytes, offsets, greatest)).is_gt() {
+        } else if value.cmp(value_of(bytes, offsets, greatest)).is_gt() {
             greatest = k;
         }
     }
@@ -193,7 +217,7 @@ fn find_extremes(bytes: &[u8], offsets: &[u64]) -> Extremes
 /// Writes both bounds to their rooms, and their lengths; only the lengths where a room is too small.
 fn give_both(
     lower: &[u8],
-    upper: Option<&ByteBuffer>,
+    upper: Option<&[u8]>,
     lower_room: &mut [u8],
     upper_room: &mut [u8],
     lengths: &mut BoundLengths,
@@ -218,10 +242,7 @@ fn give_both(
     ensures kept { result ≢ GIVEN
         → (lower_room.new ≡ lower_room.old) × (upper_room.new ≡ upper_room.old) }
 {
-    let upper_bytes = match upper {
-        Some(bound) => bound.as_slice(),
-        None => &[],
-    };
+    let upper_bytes = upper.unwrap_or(&[]);
     *lengths = BoundLengths {
         lower: lower.len(),
         upper: upper_bytes.len(),

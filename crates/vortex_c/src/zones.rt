@@ -29,6 +29,8 @@ pub extern "C" fn vortex_may_contain_bytes(
 
 /// Whether a zone of these bounds may hold the text; without `has_upper` the upper bound is not
 /// read. Takes no memory.
+///
+/// `NOT_UTF8` where the value, the lower bound, or the upper one that is read, is no text.
 #[unsafe(no_mangle)]
 pub extern "C" fn vortex_may_contain_text(
     lower: &[u8],

@@ -1,5 +1,5 @@
 use Rattle.vortex_c.proofs.Beginnings.{text_lower_or_whole}
-use Rattle.vortex_c.proofs.bounds.lower_length.Goals as goal
+use Rattle.vortex_c.proofs.bounds.lower_length_of_text.Goals as goal
 
 pub returns-clause-bound : goal.returns-clause-bound
 returns-clause-bound c =
