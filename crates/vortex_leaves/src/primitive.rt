@@ -18,6 +18,7 @@ ghost use Rattle.vortex_leaves.specs.Numbers.{HoldsNumber, RefusesNumber, in_pty
 
 use std::alloc::Global;
 use vortex_dtype::{DType, PType, VortexError};
+use vortex_pvalue::laws::is_in_range;
 use vortex_pvalue::{NativePType, PValue};
 use vortex_value::{Scalar, ScalarValue};
 
@@ -125,8 +126,7 @@ impl<'a> PrimitiveScalar<'a> {
     {
         match self.pvalue {
             Some(number) => {
-                // The proof reads here that the number is in the kind's range.
-                let _in_range = number.whole();
+                is_in_range(&number);
                 T::from_pvalue(&number)
             }
             None => None,

@@ -1,8 +1,11 @@
 //! The laws of the kinds' numbers, and of equality, order and hash. They do nothing when they run.
 
 ghost use Rattle.vortex_pvalue.specs.PTypeLaws.{TestIsRange, RangeIsInterval, WrappedExists, WrappedIsUnique, ReinterpretsBack, EqualsByNumber, AgreesWithOrder, AgreesWithHash};
+ghost use Rattle.vortex_pvalue.specs.Numbers.{InRange};
+ghost use Rattle.vortex_pvalue.specs.Whole.{ptype_of, whole_of};
 ghost use Rattle.std.specs.Cmp.{IsEquivalence};
 
+use crate::natives::NativePType;
 use crate::pvalues::PValue;
 use std::hash::Hash;
 
@@ -15,6 +18,20 @@ pub fn test_is_range()
 pub fn range_is_interval()
     ensures { RangeIsInterval }
 {}
+
+/// A value's number is one of its kind.
+pub fn is_in_range(value: &PValue)
+    ensures { InRange (ptype_of value.now) (whole_of value.now) }
+{
+    value.whole();
+}
+
+/// An integer's number is one of its type's kind.
+pub fn native_is_in_range<T: NativePType>(number: T)
+    ensures { InRange T.PTYPE (T.value number) }
+{
+    number.into_pvalue();
+}
 
 /// In each kind there is one number that differs from a given one by a multiple of 2 to the power
 /// of the kind's bits.

@@ -13,6 +13,7 @@ ghost use Rattle.vortex_pvalue.specs.PTypeLaws.{other_sign};
 ghost use Rattle.vortex_pvalue.specs.Numbers.{InRange, least_of, greatest_of, wrapped};
 ghost use Rattle.vortex_pvalue.specs.Whole.{whole_of, ptype_of, pvalue_text};
 
+use crate::laws::is_in_range;
 use crate::natives::NativePType;
 use arrayvec::ArrayVec;
 use std::cmp::Ordering;
@@ -108,8 +109,7 @@ impl PValue {
         ensures ptype { result ≡ ptype_of self.now }
         ensures in_range { InRange (ptype_of self.now) (whole_of self.now) }
     {
-        // The proof reads here that the number is in the kind's range.
-        let _number = self.whole();
+        is_in_range(self);
         match self {
             PValue::U8(_) => PType::U8,
             PValue::U16(_) => PType::U16,

@@ -7,6 +7,7 @@ ghost use Rattle.vortex_value.specs.Values.Scalars.{IsMadeOf, IsValid, scalar_ra
 use crate::scalars::Scalar;
 use crate::values::ScalarValue;
 use vortex_dtype::{DType, PType, VortexError};
+use vortex_pvalue::laws::is_in_range;
 
 impl Scalar {
     /// The integer of this kind that has the same bits; a null stays null, and so does the
@@ -33,8 +34,7 @@ impl Scalar {
         let value = match &self.value {
             Some(value) => {
                 let number = value.as_primitive().reinterpret_cast(ptype);
-                // The proof reads here that the number is in the kind's range.
-                let _in_range = number.whole();
+                is_in_range(&number);
                 Some(ScalarValue::Primitive(number))
             }
             None => None,

@@ -19,7 +19,8 @@ use std::sync::Arc;
 
 impl StructFields {
     /// The fields with these names and types. The caller knows that they are equally many. Never
-    /// refused: copies share the fields where there is memory for it, and else copy each of them.
+    /// refused: one allocation is asked for, by which copies share the fields; where there is none
+    /// for that, a copy is made part by part.
     ///
     /// Ports `StructFields::new`, which panics where the lengths differ.
     pub fn new(

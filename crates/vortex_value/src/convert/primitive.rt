@@ -16,6 +16,7 @@ use crate::refs::ScalarRef;
 use crate::scalars::Scalar;
 use crate::values::ScalarValue;
 use vortex_dtype::{DType, Nullability, PType, VortexError};
+use vortex_pvalue::laws::native_is_in_range;
 use vortex_pvalue::{NativePType, PValue};
 
 mod from_integers;
@@ -90,8 +91,7 @@ fn take_number<T: NativePType>(value: &ScalarValue) -> Result<T, VortexError>
     match value {
         ScalarValue::Primitive(number) => match T::from_pvalue(number) {
             Some(native) => {
-                // The proof reads here that the type's numbers are those of its kind.
-                let _number = native.into_pvalue();
+                native_is_in_range(native);
                 Ok(native)
             }
             None => Err(VortexError::OutOfRange),

@@ -9,6 +9,7 @@ use crate::calls::views::of_kind;
 use crate::read::named;
 use std::alloc::{AllocError, Global};
 use vortex_dtype::{PType, VortexError};
+use vortex_pvalue::laws::native_is_in_range;
 use vortex_pvalue::{NativePType, NumericOperator, PValue};
 use vortex_value::{Scalar, ScalarValue};
 use vortex_views::{Downcast, PrimitiveScalar};
@@ -166,8 +167,7 @@ fn as_number<T: NativePType>(conversion: Conversion, view: PrimitiveScalar<'_>) 
 fn as_known<T: NativePType>(view: PrimitiveScalar<'_>) -> Answer {
     match view.as_opt::<T>() {
         Some(Some(number)) => {
-            // The proof reads here that the number is in the type's range.
-            let _in_range = number.into_pvalue();
+            native_is_in_range(number);
             native(view.as_::<T>())
         }
         Some(None) => native(view.as_::<T>()),
