@@ -99,7 +99,7 @@ impl Inputs for Option<ScalarValue> {
     }
 
     fn is_same(&self, copy: &Option<ScalarValue>) -> bool {
-        same_raw(self, copy)
+        same_raw(self.as_ref(), copy.as_ref())
     }
 }
 
