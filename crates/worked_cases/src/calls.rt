@@ -12,7 +12,7 @@ mod views;
 mod wholes;
 
 use crate::answers::{Answer, Answering};
-use crate::inputs::Inputs;
+use crate::inputs::{Borrowed, Inputs};
 use crate::runs::Run;
 use crate::tokens::Tokens;
 use std::alloc::{AllocError, Global};
@@ -83,7 +83,7 @@ impl<'a> Line<'a> {
 
     /// What a call answers that borrows its inputs. Where it is watched, these have to be as they
     /// were.
-    fn borrowing<I: Inputs, F: FnOnce(Global, &I) -> Answering + Copy>(
+    fn borrowing<I: Borrowed, F: FnOnce(Global, &I) -> Answering + Copy>(
         &mut self,
         call: F,
     ) -> Result<Option<Answer>, AllocError>
@@ -100,7 +100,7 @@ impl<'a> Line<'a> {
     }
 
     /// Whether inputs are other than what is read a second time, which shares no memory with them.
-    fn is_changed<I: Inputs>(&self, inputs: &I) -> bool {
+    fn is_changed<I: Borrowed>(&self, inputs: &I) -> bool {
         let mut tokens = Tokens::of(self.run.alloc(), self.text);
         tokens.word();
         let copy = I::read(&mut tokens);

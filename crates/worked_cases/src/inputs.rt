@@ -19,11 +19,20 @@ const ROOM: u32 = 256;
 pub trait Inputs: Drop {
     /// Reads what stands next in a line.
     fn read(tokens: &mut Tokens<'_>) -> Self;
+}
 
-    /// Whether what a call borrowed is the same as a copy. What is no more than a number or a word
-    /// always is.
-    fn is_same(&self, _copy: &Self) -> bool {
-        true
+/// What a call may borrow.
+pub trait Borrowed: Inputs {
+    /// Whether it is the same as a copy.
+    fn is_same(&self, copy: &Self) -> bool;
+}
+
+/// What is equal to nothing but what is exactly the same.
+pub trait Exact: Inputs + PartialEq {}
+
+impl<T: Exact> Borrowed for T {
+    fn is_same(&self, copy: &T) -> bool {
+        self == copy
     }
 }
 
@@ -31,9 +40,6 @@ pub trait Inputs: Drop {
 pub trait Item: Drop {
     /// Reads an item.
     fn read_item(tokens: &mut Tokens<'_>) -> Self;
-
-    /// Whether an item is the same as a copy.
-    fn is_same_item(&self, copy: &Self) -> bool;
 }
 
 impl Inputs for () {
@@ -44,7 +50,9 @@ impl<A: Inputs, B: Inputs> Inputs for (A, B) {
     fn read(tokens: &mut Tokens<'_>) -> (A, B) {
         (A::read(tokens), B::read(tokens))
     }
+}
 
+impl<A: Borrowed, B: Borrowed> Borrowed for (A, B) {
     fn is_same(&self, copy: &(A, B)) -> bool {
         self.0.is_same(&copy.0) && self.1.is_same(&copy.1)
     }
@@ -73,11 +81,9 @@ impl Inputs for DType {
         tokens.spaces();
         read_type(tokens, ROOM)
     }
-
-    fn is_same(&self, copy: &DType) -> bool {
-        self == copy
-    }
 }
+
+impl Exact for DType {}
 
 /// A scalar, which need not be valid.
 impl Inputs for Scalar {
@@ -85,7 +91,9 @@ impl Inputs for Scalar {
         tokens.spaces();
         read_scalar(tokens, ROOM)
     }
+}
 
+impl Borrowed for Scalar {
     fn is_same(&self, copy: &Scalar) -> bool {
         same_scalar(self, copy)
     }
@@ -97,9 +105,11 @@ impl Inputs for Option<ScalarValue> {
         tokens.spaces();
         read_value(tokens, ROOM)
     }
+}
 
+impl Borrowed for Option<ScalarValue> {
     fn is_same(&self, copy: &Option<ScalarValue>) -> bool {
-        same_raw(self, copy)
+        same_raw(self.as_ref(), copy.as_ref())
     }
 }
 
@@ -118,19 +128,13 @@ impl<T: Item> Inputs for Vec<T> {
         }
         items
     }
-
-    fn is_same(&self, copy: &Vec<T>) -> bool {
-        self.len() == copy.len() && self.iter().zip(copy).all(|(x, y)| x.is_same_item(y))
-    }
 }
+
+impl Exact for Vec<FieldName> {}
 
 impl Item for Scalar {
     fn read_item(tokens: &mut Tokens<'_>) -> Scalar {
         read_scalar(tokens, ROOM - 1)
-    }
-
-    fn is_same_item(&self, copy: &Scalar) -> bool {
-        same_scalar(self, copy)
     }
 }
 
@@ -144,19 +148,11 @@ impl Item for (Scalar, Scalar) {
         tokens.expect(b')');
         (key, value)
     }
-
-    fn is_same_item(&self, copy: &(Scalar, Scalar)) -> bool {
-        same_scalar(&self.0, &copy.0) && same_scalar(&self.1, &copy.1)
-    }
 }
 
 impl Item for FieldName {
     fn read_item(tokens: &mut Tokens<'_>) -> FieldName {
         FieldName::new(read_name(tokens))
-    }
-
-    fn is_same_item(&self, copy: &FieldName) -> bool {
-        self == copy
     }
 }
 
@@ -197,6 +193,8 @@ impl Inputs for usize {
     }
 }
 
+impl Exact for usize {}
+
 /// Whether a type takes a null.
 impl Inputs for Nullability {
     fn read(tokens: &mut Tokens<'_>) -> Nullability {
@@ -217,6 +215,8 @@ impl Inputs for PType {
         tokens.or_bad(ptype, PType::U8)
     }
 }
+
+impl Exact for PType {}
 
 /// A truth value.
 impl Inputs for bool {
@@ -244,11 +244,9 @@ impl Inputs for BufferString {
         tokens.spaces();
         read_text(tokens)
     }
-
-    fn is_same(&self, copy: &BufferString) -> bool {
-        self == copy
-    }
 }
+
+impl Exact for BufferString {}
 
 /// Bytes in hexadecimal, after an `x`.
 impl Inputs for ByteBuffer {
@@ -263,3 +261,5 @@ impl Inputs for ByteBuffer {
         }
     }
 }
+
+impl Exact for ByteBuffer {}

@@ -9,12 +9,8 @@ use crate::tokens::Tokens;
 
 /// What the word stands for in the table, if it stands there.
 pub fn named<T: Copy>(table: &[(&str, T)], word: &[u8]) -> Option<T> {
-    for (name, meaning) in table {
-        if name.as_bytes() == word {
-            return Some(*meaning);
-        }
-    }
-    None
+    let (_, meaning) = table.iter().find(|(name, _)| name.as_bytes() == word)?;
+    Some(*meaning)
 }
 
 /// Reads a word of the table. Any other makes the line a bad one.

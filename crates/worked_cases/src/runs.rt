@@ -27,10 +27,12 @@ impl<'a> Run<'a> {
         }
     }
 
+    /// The allocator of all that lines are read into and answered with.
     pub fn alloc(self) -> Global {
         self.alloc
     }
 
+    /// Whether each call is watched.
     pub fn is_watched(self) -> bool {
         self.watcher.is_some()
     }

@@ -18,6 +18,16 @@ fn same_value(a: &ScalarValue, b: &ScalarValue) -> bool {
     }
 }
 
+/// Whether the raw values are the same, or there is none of either.
+#[cycle(same)]
+pub fn same_raw(a: Option<&ScalarValue>, b: Option<&ScalarValue>) -> bool {
+    match (a, b) {
+        (Some(x), Some(y)) => same_value(x, y),
+        (None, None) => true,
+        _ => false,
+    }
+}
+
 /// Whether there are equally many parts, the same place by place.
 #[cycle(same)]
 fn same_parts(a: &[Option<ScalarValue>], b: &[Option<ScalarValue>]) -> bool {
@@ -25,14 +35,8 @@ fn same_parts(a: &[Option<ScalarValue>], b: &[Option<ScalarValue>]) -> bool {
         return false;
     }
     for (x, y) in a.iter().zip(b) {
-        match (x, y) {
-            (Some(x), Some(y)) => {
-                if !same_value(x, y) {
-                    return false;
-                }
-            }
-            (None, None) => {}
-            _ => return false,
+        if !same_raw(x.as_ref(), y.as_ref()) {
+            return false;
         }
     }
     true
@@ -41,40 +45,16 @@ fn same_parts(a: &[Option<ScalarValue>], b: &[Option<ScalarValue>]) -> bool {
 /// Whether the ids and the children are the same.
 #[cycle(same)]
 fn same_union(a: &UnionValue, b: &UnionValue) -> bool {
-    if a.type_id != b.type_id {
-        return false;
-    }
-    match (&a.child, &b.child) {
-        (Some(x), Some(y)) => same_value(x, y),
-        (None, None) => true,
-        _ => false,
-    }
+    a.type_id == b.type_id && same_raw(a.child.as_deref(), b.child.as_deref())
 }
 
 /// Whether the types and the raw values are the same.
 #[cycle(same)]
 pub fn same_scalar(a: &Scalar, b: &Scalar) -> bool {
-    a.dtype == b.dtype && same_raw(&a.value, &b.value)
-}
-
-/// Whether the raw values are the same, or there is none of either.
-#[cycle(same)]
-pub fn same_raw(a: &Option<ScalarValue>, b: &Option<ScalarValue>) -> bool {
-    match (a, b) {
-        (Some(x), Some(y)) => same_value(x, y),
-        (None, None) => true,
-        _ => false,
-    }
+    a.dtype == b.dtype && same_raw(a.value.as_ref(), b.value.as_ref())
 }
 
 /// Whether a scalar is exactly the one that is lent.
 pub fn same_as_lent(scalar: &Scalar, lent: ScalarRef<'_>) -> bool {
-    if scalar.dtype != *lent.dtype() {
-        return false;
-    }
-    match (&scalar.value, lent.value()) {
-        (Some(x), Some(y)) => same_value(x, y),
-        (None, None) => true,
-        _ => false,
-    }
+    scalar.dtype == *lent.dtype() && same_raw(scalar.value.as_ref(), lent.value())
 }

@@ -146,7 +146,9 @@ impl<'a> Tokens<'a> {
 
     /// Takes the letters, digits and `_` that come next, after spaces; there may be none.
     pub fn word(&mut self) -> &'a [u8] {
-        let (word, others) = split_word(after_spaces(self.rest));
+        let (word, others) = split_front(after_spaces(self.rest), |byte| {
+            byte.is_ascii_alphanumeric() || byte == b'_'
+        });
         self.rest = others;
         word
     }
@@ -188,20 +190,15 @@ impl<'a> Tokens<'a> {
 
 /// What follows the spaces in front.
 fn after_spaces(text: &[u8]) -> &[u8] {
-    for (place, byte) in text.iter().enumerate() {
-        if *byte != b' ' {
-            return &text[place..];
-        }
-    }
-    &[]
+    split_front(text, |byte| byte == b' ').1
 }
 
-/// The letters, digits and `_` in front, and what follows them.
-fn split_word(text: &[u8]) -> (&[u8], &[u8]) {
-    for (place, byte) in text.iter().enumerate() {
-        if !byte.is_ascii_alphanumeric() && *byte != b'_' {
-            return (&text[..place], &text[place..]);
-        }
+/// The bytes in front of which this holds, and what follows them.
+pub fn split_front<F: Fn(u8) -> bool>(text: &[u8], holds: F) -> (&[u8], &[u8])
+    requires { F.IsAlwaysCallable holds }
+{
+    match text.iter().position(|byte| !holds(*byte)) {
+        Some(place) => text.split_at(place),
+        None => (text, &[]),
     }
-    (text, &[])
 }

@@ -7,7 +7,7 @@ use crate::answers::{Answer, Answering, buffer_text, bytes, or_none};
 use crate::calls::Line;
 use crate::calls::makers::where_valid;
 use crate::calls::scalars::validate;
-use crate::inputs::Inputs;
+use crate::inputs::{Exact, Inputs};
 use crate::read::read_named;
 use crate::tokens::Tokens;
 use std::alloc::{AllocError, Global};
@@ -86,7 +86,7 @@ fn scalar_of<T: ScalarTruncation>(bound: T, nullability: Nullability) -> Answer 
 }
 
 /// The types of text that can be incremented.
-#[derive(Clone, Copy)]
+#[derive(Clone, Copy, PartialEq)]
 enum TextType {
     String,
     Buffer,
@@ -103,6 +103,8 @@ impl Inputs for TextType {
         read_named(tokens, &TEXT_TYPES, TextType::String)
     }
 }
+
+impl Exact for TextType {}
 
 /// The text incremented, as text of this type; what is handed back is to be the text.
 fn increment(alloc: Global, (text_type, text): &(TextType, BufferString)) -> Answering {

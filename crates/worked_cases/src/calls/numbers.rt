@@ -29,8 +29,8 @@ pub fn answer_line(line: &mut Line<'_>) -> Result<Option<Answer>, AllocError> {
         }
         b"min_value" => line.taking(|_, ptype: PType| Ok(integer(PValue::min_value(ptype)))),
         b"max_value" => line.taking(|_, ptype: PType| Ok(integer(PValue::max_value(ptype)))),
-        b"is_instance_of" => line.borrowing(|_, (number, ptype): &(PValue, PType)| {
-            Ok(Answer::Truth(number.is_instance_of(ptype)))
+        b"is_instance_of" => line.taking(|_, (number, ptype): (PValue, PType)| {
+            Ok(Answer::Truth(number.is_instance_of(&ptype)))
         }),
         name => match named(&OPERATIONS, name) {
             Some(operation) => line.borrowing(move |alloc, numbers: &(Scalar, Scalar)| {

@@ -18,7 +18,7 @@ use vortex_value::{Scalar, ScalarRef, ScalarValue, UnionValue};
 /// What the line's call answers, if it is one of these.
 pub fn answer_line(line: &mut Line<'_>) -> Result<Option<Answer>, AllocError> {
     match line.name {
-        b"empty_bytes" => line.borrowing(|alloc, _: &()| Ok(bytes(ByteBuffer::empty(alloc)?))),
+        b"empty_bytes" => line.taking(|alloc, _: ()| Ok(bytes(ByteBuffer::empty(alloc)?))),
         b"bytes" => line.borrowing(|alloc, text: &BufferString| {
             Ok(bytes(ByteBuffer::from_slice(alloc, text.as_str().as_bytes())?))
         }),
@@ -28,7 +28,7 @@ pub fn answer_line(line: &mut Line<'_>) -> Result<Option<Answer>, AllocError> {
             line.borrowing(|_, value: &ByteBuffer| Ok(bytes(value.clone()?.clone()?)))
         }
         b"empty_text" => {
-            line.borrowing(|alloc, _: &()| Ok(buffer_text(BufferString::empty(alloc)?)))
+            line.taking(|alloc, _: ()| Ok(buffer_text(BufferString::empty(alloc)?)))
         }
         b"buffer_text" => line.borrowing(|alloc, text: &BufferString| {
             Ok(buffer_text(BufferString::from_str(alloc, text.as_str())?))
@@ -72,10 +72,10 @@ fn answer_types(line: &mut Line<'_>) -> Result<Option<Answer>, AllocError> {
             Ok(Answer::Type(DType::map(alloc, key, value, true, n)?))
         }),
         b"extension_type" => line.taking(extension_type),
-        b"list_of_rust" => line.borrowing(type_of_rust::<Vec<Option<i32>>>),
-        b"lists_of_rust" => line.borrowing(type_of_rust::<Vec<Option<Vec<Option<i32>>>>>),
-        b"text_of_rust" => line.borrowing(type_of_rust::<String>),
-        b"null_of_rust" => line.borrowing(|alloc, _: &()| {
+        b"list_of_rust" => line.taking(type_of_rust::<Vec<Option<i32>>>),
+        b"lists_of_rust" => line.taking(type_of_rust::<Vec<Option<Vec<Option<i32>>>>>),
+        b"text_of_rust" => line.taking(type_of_rust::<String>),
+        b"null_of_rust" => line.taking(|alloc, _: ()| {
             Ok(Answer::Scalar(Scalar::null_native::<Vec<Option<i32>>>(alloc)?))
         }),
         _ => Ok(None),
@@ -206,6 +206,6 @@ fn extension_type(alloc: Global, (like, storage): (DType, DType)) -> Answering {
     Ok(Answer::Type(DType::Extension(extension)))
 }
 
-fn type_of_rust<T: NativeDType>(alloc: Global, _nothing: &()) -> Answering {
+fn type_of_rust<T: NativeDType>(alloc: Global, _nothing: ()) -> Answering {
     Ok(Answer::Type(T::dtype(alloc)?))
 }

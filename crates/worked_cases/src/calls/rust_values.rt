@@ -2,7 +2,7 @@
 
 use crate::answers::{Answer, Answering, buffer_text, bytes, write_answer};
 use crate::calls::Line;
-use crate::inputs::Inputs;
+use crate::inputs::{Exact, Inputs};
 use crate::read::named;
 use crate::tokens::Tokens;
 use crate::write::output::Output;
@@ -29,7 +29,7 @@ pub fn answer_line(line: &mut Line<'_>) -> Result<Option<Answer>, AllocError> {
 }
 
 /// The type of a Rust value: so many vectors, one in another, of what may be optional.
-#[derive(Clone, Copy)]
+#[derive(Clone, Copy, PartialEq)]
 struct RustType {
     vectors: u32,
     is_optional: bool,
@@ -40,7 +40,7 @@ struct RustType {
 const MOST_VECTORS: u32 = 3;
 
 /// The Rust types that hold no other.
-#[derive(Clone, Copy)]
+#[derive(Clone, Copy, PartialEq)]
 enum RustLeaf {
     Bool,
     Number(PType),
@@ -79,6 +79,8 @@ impl Inputs for RustType {
         }
     }
 }
+
+impl Exact for RustType {}
 
 /// Takes a word of a Rust type.
 fn rust_word<'a>(tokens: &mut Tokens<'a>) -> &'a [u8] {

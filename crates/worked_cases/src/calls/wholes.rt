@@ -5,7 +5,7 @@ ghost use Rattle.vortex_value.specs.Values.Scalars.{IsValid};
 use crate::answers::{Answer, Answering, or_none, text_of};
 use crate::calls::Line;
 use crate::calls::scalars::validate;
-use crate::inputs::Inputs;
+use crate::inputs::{Exact, Inputs};
 use crate::read::read_named;
 use crate::tokens::Tokens;
 use std::alloc::{AllocError, Global};
@@ -32,7 +32,7 @@ pub fn answer_line(line: &mut Line<'_>) -> Result<Option<Answer>, AllocError> {
 }
 
 /// The views that are made of a scalar, or of a type and a raw value.
-#[derive(Clone, Copy)]
+#[derive(Clone, Copy, PartialEq)]
 enum View {
     Bool,
     Utf8,
@@ -62,6 +62,8 @@ impl Inputs for View {
         read_named(tokens, &VIEWS, View::Bool)
     }
 }
+
+impl Exact for View {}
 
 /// The scalar that a view shows.
 fn viewed(alloc: Global, (view, scalar): &(View, Scalar)) -> Answering {

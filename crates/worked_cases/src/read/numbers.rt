@@ -2,24 +2,14 @@
 
 ghost use Rattle.std.specs.Prelude.{◌≤◌};
 
-use crate::tokens::Tokens;
+use crate::tokens::{Tokens, split_front};
 use rows::ptype_named;
+use std::str;
 use vortex_pvalue::PValue;
 
-/// The number that these digits represent, if they are digits and it is below 2^64.
-pub fn natural(digits: &[u8]) -> Option<u64> {
-    if digits.is_empty() {
-        return None;
-    }
-    let mut number = 0u64;
-    for digit in digits {
-        if !digit.is_ascii_digit() {
-            return None;
-        }
-        let tens = number.checked_mul(10)?;
-        number = tens.checked_add(u64::from(*digit - b'0'))?;
-    }
-    Some(number)
+/// The number that this word is, if it is digits alone and below 2^64.
+pub fn natural(word: &[u8]) -> Option<u64> {
+    str::from_utf8(word).ok()?.parse().ok()
 }
 
 /// Reads a number that is at most this one.
@@ -37,19 +27,9 @@ pub fn read_natural(tokens: &mut Tokens<'_>, most: u64) -> u64
 
 /// The integer that this word is, after its minus sign if it has one: digits and a kind.
 pub fn integer(word: &[u8], is_negative: bool) -> Option<PValue> {
-    let (digits, ptype) = split_digits(word);
+    let (digits, ptype) = split_front(word, |byte| byte.is_ascii_digit());
     let size = i128::from(natural(digits)?);
     PValue::from_whole(if is_negative { -size } else { size }, ptype_named(ptype)?)
-}
-
-/// The digits in front, and what follows them.
-fn split_digits(word: &[u8]) -> (&[u8], &[u8]) {
-    for (place, byte) in word.iter().enumerate() {
-        if !byte.is_ascii_digit() {
-            return (&word[..place], &word[place..]);
-        }
-    }
-    (word, &[])
 }
 
 /// Reads an integer that has a minus sign; no space stands after it.

@@ -4,7 +4,8 @@ use hex::encode_to_slice;
 use itoa::{Buffer, Integer};
 use std::alloc::{AllocError, Global};
 
-/// A text that is written. Where memory is wanting, that is kept, and `into_text` tells.
+/// A text that is written. Where memory is wanting, or a part is left out, that is kept, and
+/// `into_text` tells.
 #[derive(Drop)]
 pub struct Output {
     text: String,
@@ -20,7 +21,7 @@ impl Output {
         }
     }
 
-    /// What was written, or that memory was wanting.
+    /// What was written, or that it is not whole.
     pub fn into_text(self) -> Result<String, AllocError> {
         if self.is_short {
             return Err(AllocError);
@@ -28,17 +29,22 @@ impl Output {
         Ok(self.text)
     }
 
+    /// Marks the text as one that lacks a part.
+    pub fn cut(&mut self) {
+        self.is_short = true;
+    }
+
     /// Adds a character as it is.
     pub fn char(&mut self, character: char) {
         if self.text.push(character).is_err() {
-            self.is_short = true;
+            self.cut();
         }
     }
 
     /// Adds a text as it is.
     pub fn word(&mut self, word: &str) {
         if self.text.push_str(word).is_err() {
-            self.is_short = true;
+            self.cut();
         }
     }
 

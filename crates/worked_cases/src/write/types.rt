@@ -25,11 +25,12 @@ pub fn write_type(out: &mut Output, dtype: &DType) {
     write_within(out, dtype, ROOM);
 }
 
-/// Writes a type in which at most so many types stand in one another.
+/// Writes a type in which at most so many types stand in one another; where there are more, the text
+/// is marked as cut.
 #[cycle(types)]
 fn write_within(out: &mut Output, dtype: &DType, room: u32) {
     if room == 0 {
-        return;
+        return out.cut();
     }
     let room = room - 1;
     match dtype {

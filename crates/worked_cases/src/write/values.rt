@@ -35,15 +35,21 @@ pub fn write_value(out: &mut Output, value: &ScalarValue) {
     }
 }
 
+/// Writes a raw value, or `null`.
+#[cycle(values)]
+fn write_raw(out: &mut Output, value: Option<&ScalarValue>) {
+    match value {
+        Some(value) => write_value(out, value),
+        None => out.word("null"),
+    }
+}
+
 #[cycle(values)]
 fn write_tuple(out: &mut Output, parts: &[Option<ScalarValue>]) {
     out.char('[');
     for (place, part) in parts.iter().enumerate() {
         out.comma(place);
-        match part {
-            Some(value) => write_value(out, value),
-            None => out.word("null"),
-        }
+        write_raw(out, part.as_ref());
     }
     out.char(']');
 }
@@ -52,10 +58,7 @@ fn write_tuple(out: &mut Output, parts: &[Option<ScalarValue>]) {
 fn write_union(out: &mut Output, union: &UnionValue) {
     out.number(union.type_id);
     out.char('(');
-    match &union.child {
-        Some(child) => write_value(out, child),
-        None => out.word("null"),
-    }
+    write_raw(out, union.child.as_deref());
     out.char(')');
 }
 
@@ -66,19 +69,10 @@ fn write_variant(out: &mut Output, scalar: &Scalar) {
     out.char('>');
 }
 
-/// Writes a raw value, or `null`.
-#[cycle(values)]
-fn write_raw(out: &mut Output, value: &Option<ScalarValue>) {
-    match value {
-        Some(value) => write_value(out, value),
-        None => out.word("null"),
-    }
-}
-
 /// Writes a scalar.
 #[cycle(values)]
 pub fn write_scalar(out: &mut Output, scalar: &Scalar) {
     write_type(out, &scalar.dtype);
     out.char(':');
-    write_raw(out, &scalar.value);
+    write_raw(out, scalar.value.as_ref());
 }
