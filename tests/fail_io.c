@@ -4,14 +4,8 @@
 // many bytes.
 
 #define _GNU_SOURCE
-#include "mark.h"
+#include "preloaded.h"
 #include <errno.h>
-
-// The number that the variable of the environment has, or 0.
-static long number(const char *name) {
-    const char *text = getenv(name);
-    return text ? atol(text) : 0;
-}
 
 // The bytes that one call may take: no more than the variable says, where it is set.
 static size_t at_most(size_t size, const char *name) {

@@ -44,8 +44,8 @@ with_io() {
     attempt env "$@" LD_PRELOAD="$folder/fail_io.so" "$program" < "$folder/input" > "$folder/output"
 }
 
-# each_fails SETTING FAULT SHORT: sees that each read or write that fails ends the run, after a write with what was written
-# before, and that at last none does
+# each_fails SETTING FAULT SHORT: sees that each read or write that fails ends the run, with what the writes before it wrote,
+# each as much as SHORT says (all rows go out in one call, again and again with what is left), and that at last none does
 each_fails() {
     place=1
     while [ "$place" -le 1000 ]; do
@@ -56,7 +56,7 @@ each_fails() {
         fi
         cp "$folder/nothing" "$folder/beginning"
         if [ "$1" = FAIL_WRITE ]; then
-            head -c $((200 * (place - 1))) "$folder/rows" > "$folder/beginning"
+            head -c $((${3#*=} * (place - 1))) "$folder/rows" > "$folder/beginning"
         fi
         judge "$1=$place" 1 "$folder/beginning" "$2"
         place=$((place + 1))

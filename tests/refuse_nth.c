@@ -1,10 +1,11 @@
 // A library that is preloaded into a program and refuses one allocation of its memory: the one whose number FAIL_ALLOC
-// gives, counted from 1 over all calls of malloc, calloc and realloc. Where FAIL_REST is set it refuses all later ones
-// too. The file that FAIL_MARK names then holds a byte. Where FAIL_CALL is set it counts, and refuses, only from the
-// time that the program writes the line `called` on standard error until it writes the next line there.
+// gives, counted from 1 over all calls of malloc, calloc and realloc. It refuses the one whose number FAIL_ALSO gives too,
+// and all later ones where FAIL_REST is set. The file that FAIL_MARK names then holds a byte for each. Where FAIL_CALL is
+// set it counts, and refuses, only from the time that the program writes the line `called` on standard error until it
+// writes the next line there.
 
 #define _GNU_SOURCE
-#include "mark.h"
+#include "preloaded.h"
 #include <string.h>
 
 void *__libc_malloc(size_t size);
@@ -22,17 +23,11 @@ ssize_t write(int file, const void *bytes, size_t size) {
 
 // Whether this allocation is one to refuse.
 static int refuse(void) {
-    static long left = -1;
-    if (left < 0) {
-        const char *count = getenv("FAIL_ALLOC");
-        left = count ? atol(count) : 0;
-    }
-    if (left == 0 || (getenv("FAIL_CALL") && !is_called)) return 0;
-    if (left > 1) {
-        left--;
-        return 0;
-    }
-    if (!getenv("FAIL_REST")) left = 0;
+    static long place = 0;
+    long first = number("FAIL_ALLOC");
+    if (first == 0 || (getenv("FAIL_CALL") && !is_called)) return 0;
+    place++;
+    if (place != first && place != number("FAIL_ALSO") && (place < first || !getenv("FAIL_REST"))) return 0;
     leave_mark();
     return 1;
 }

@@ -47,7 +47,7 @@ _MAX_SIZE = 2 ** (8 * ctypes.sizeof(c_size_t)) - 1
 
 
 class VortexError(Exception):
-    """What each error of this module is."""
+    """What each error of this module is, but a TypeError for an argument of another type."""
 
 
 class OutOfMemory(VortexError, MemoryError):
@@ -301,7 +301,7 @@ def _column(call: Any, data: bytes, offsets: Iterable[int], n: int) -> tuple[byt
 def column_bounds(data: bytes | bytearray | memoryview, offsets: Iterable[int], n: int) -> ZoneBounds[bytes] | None:
     """The bounds at n bytes of a column of bytes, from its least value to its greatest one; None of no values.
 
-    Value k is data[offsets[k]:offsets[k + 1]], so that n values have n + 1 offsets. An array("Q") of them is copied
+    Value k is data[offsets[k]:offsets[k + 1]], so that m values have m + 1 offsets. An array("Q") of them is copied
     fastest.
 
     >>> column_bounds(b"pearapplefig", [0, 4, 9, 12], 2)

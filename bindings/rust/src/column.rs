@@ -25,7 +25,7 @@ impl std::error::Error for ColumnError {}
 
 /// The bounds at n bytes of a column of strings of bytes, from its least value to its greatest one; none of no values.
 ///
-/// Value k has the bytes from `offsets[k]` to `offsets[k + 1]`, so that n values have n + 1 offsets.
+/// Value k has the bytes from `offsets[k]` to `offsets[k + 1]`, so that m values have m + 1 offsets.
 ///
 /// ```
 /// let bounds = vortex::column_bounds(b"pearapplefig", &[0, 4, 9, 12], 2)?.expect("three values");

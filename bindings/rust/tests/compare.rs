@@ -336,3 +336,16 @@ fn an_offset_within_a_character_is_told() {
         );
     }
 }
+
+#[test]
+fn bounds_are_compared_by_both() {
+    let bounds = ZoneBounds::<str>::of("apple", "banana", 3);
+    assert_eq!(bounds.clone(), bounds);
+    assert_ne!(bounds, ZoneBounds::of("apple", "banana", 2));
+    assert_ne!(bounds, ZoneBounds::of("apple", "cherry", 3));
+    assert_ne!(bounds, ZoneBounds::from_parts("app".into(), None));
+    assert_eq!(
+        format!("{bounds:?}"),
+        r#"ZoneBounds { lower: "app", upper: Some("bao") }"#
+    );
+}

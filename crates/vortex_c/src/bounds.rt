@@ -48,7 +48,8 @@ pub extern "C" fn vortex_lower_bound_text(value: &[u8], max_length: usize, count
 /// The upper bound of bytes, written to the room.
 ///
 /// `NONE` where there is none, `NO_ROOM` where the room is too small (`count` says how many bytes
-/// the bound has), `NO_MEMORY` only where `max_length` is above 22 and the value is longer.
+/// the bound has), `NO_MEMORY` only where `max_length` is above 22 and the value longer
+/// than that.
 #[unsafe(no_mangle)]
 pub extern "C" fn vortex_upper_bound_bytes(
     alloc: Global,

@@ -31,7 +31,8 @@ pub struct BoundLengths {
 ///
 /// `NONE` where there is no value, `NO_ROOM` where a room is too small (`lengths` says how many
 /// bytes each bound has), `BAD_OFFSETS` where an offset is below the one before it or past the end
-/// of the bytes, `NO_MEMORY` only where `max_length` is above 22 and the bytes are more.
+/// of the bytes, `NO_MEMORY` only where `max_length` is above 22 and there are more
+/// bytes than that.
 #[unsafe(no_mangle)]
 pub extern "C" fn vortex_column_bounds_bytes(
     alloc: Global,

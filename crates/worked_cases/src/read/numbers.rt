@@ -7,7 +7,7 @@ use rows::ptype_named;
 use std::str;
 use vortex_pvalue::PValue;
 
-/// The number that this word is, if it is digits alone and below 2^64.
+/// The number that a word of letters, digits and `_` is, if it is digits alone and below 2^64.
 pub fn natural(word: &[u8]) -> Option<u64> {
     str::from_utf8(word).ok()?.parse().ok()
 }

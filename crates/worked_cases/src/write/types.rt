@@ -17,7 +17,7 @@ fn write_flat(out: &mut Output, name: &str, nullability: Nullability) {
     write_nullability(out, nullability);
 }
 
-/// How many types may stand in one another: more than a line can hold.
+/// How many types may stand in one another: more than a line can hold, so that none is cut.
 const ROOM: u32 = 1024;
 
 /// Writes a type.
