@@ -1,3 +1,5 @@
+// SPDX-License-Identifier: Apache-2.0
+// SPDX-FileCopyrightText: Copyright the Vortex contributors; ported to Rattle and changed
 //! The types of scalars, the buffers that their values are kept in, and why a call is refused.
 //!
 //! A type is seen by contracts as a tree (`specs/TypeTree`), equal and hashed with or without

@@ -1,3 +1,5 @@
+// SPDX-License-Identifier: Apache-2.0
+// SPDX-FileCopyrightText: Copyright the Vortex contributors; ported to Rattle and changed
 //! Integer values: a kind and a whole number in its range.
 //!
 //! A public item ports upstream's of the same name, but where it names another or says that it, or
