@@ -24,6 +24,4 @@ variants_of-types v = search (rules, the_lemmas)
 pub variants_of-type_ids : (v : UnionVariants) → (variants_of v).type_ids ≡ v.type_ids.items
 variants_of-type_ids v = search (rules, the_lemmas)
 
-pub ruleset held = (variants_of-names, variants_of-types, variants_of-type_ids)
-
-pub ruleset shown = (fields_in-Struct, variants_in-Union)
+pub ruleset type_parts = (fields_in-Struct, variants_in-Union, variants_of-names, variants_of-types, variants_of-type_ids)

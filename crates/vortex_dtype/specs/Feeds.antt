@@ -17,11 +17,11 @@ nullability_feed n = fed.u8 (nullability_code n)
 abbrev pub ptype_feed : PType → HashWrites
 ptype_feed k = fed.u8 (ptype_index k)
 
--- a text, an id or metadata feeds its length and its bytes
+-- a string, an id or metadata feeds its length and its bytes
 abbrev pub bytes_feed : List ℕ → HashWrites
 bytes_feed = fed.slice fed.u8
 
--- names feed how many they are, and each name
+-- names feed their number, and then each name
 abbrev pub names_feed : List (List ℕ) → HashWrites
 names_feed = fed.slice bytes_feed
 
@@ -60,18 +60,18 @@ abbrev mutual
   trees_feed no_types = []
   trees_feed (type_then t ts) = tree_feed t ++ trees_feed ts
 
--- what a map type feeds; where `exact` is false, without nullability
+-- what a map type feeds; if `exact` is false, without nullability
 abbrev pub map_feed : Bool → MapParts → HashWrites
 map_feed exact m = tree_feed (trim exact m.key) ++ tree_feed (trim exact m.value) ++ fed.bool m.keys_sorted
 
--- what a struct type feeds; where `exact` is false, without nullability
+-- what a struct type feeds; if `exact` is false, without nullability
 abbrev pub fields_feed : Bool → FieldParts → HashWrites
 fields_feed exact f = names_feed f.names ++ trees_feed (trim_all exact (as_type_trees f.types))
 
--- what a union type feeds; where `exact` is false, without nullability
+-- what a union type feeds; if `exact` is false, without nullability
 abbrev pub variants_feed : Bool → VariantParts → HashWrites
 variants_feed exact v = names_feed v.names ++ trees_feed (trim_all exact (as_type_trees v.types)) ++ bytes_feed v.type_ids
 
--- what an extension type feeds; where `exact` is false, without nullability
+-- what an extension type feeds; if `exact` is false, without nullability
 abbrev pub ext_feed : Bool → ExtensionParts → HashWrites
 ext_feed exact e = bytes_feed e.id ++ bytes_feed e.metadata ++ tree_feed (trim exact e.storage)

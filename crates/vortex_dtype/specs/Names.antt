@@ -1,4 +1,4 @@
--- What borrowed names and ids stand for.
+-- The lists that borrowed names and ids stand for.
 use Rattle.std.specs.Prelude.{ℕ, List}
 use Rattle.std.specs.Slice.Iter.{iter_rest}
 use Rattle.vortex_dtype.specs.declared.names.FieldNames.{FieldNames}
@@ -8,6 +8,6 @@ use Rattle.vortex_dtype.specs.declared.types.variants.TypeIds.{TypeIds}
 abbrev pub names_in : FieldNames → List (List ℕ)
 names_in names = names.names.now
 
--- the ids that are still to come, in order
+-- the ids that the iterator has still to give, in order
 abbrev pub ids_left : TypeIds → List ℕ
 ids_left ids = iter_rest ids.ids

@@ -36,7 +36,7 @@ ptype_text I16 = codes "i16"
 ptype_text I32 = codes "i32"
 ptype_text I64 = codes "i64"
 
--- the place of the kind among the eight
+-- the number of the kind among the eight
 abbrev pub ptype_index : PType → ℕ
 ptype_index U8 = 0
 ptype_index U16 = 1
@@ -47,6 +47,6 @@ ptype_index I16 = 5
 ptype_index I32 = 6
 ptype_index I64 = 7
 
--- whether the kinds are one
+-- whether the kinds are equal
 abbrev pub same_ptype : PType → PType → Bool
 same_ptype k l = ptype_index k == ptype_index l

@@ -14,15 +14,15 @@ abbrev pub nullability_code : Nullability → ℕ
 nullability_code NonNullable = 0
 nullability_code Nullable = 1
 
--- the two say the same of nulls
+-- whether the two nullabilities are equal
 abbrev pub nullability_eq : Nullability → Nullability → Bool
 nullability_eq m n = nullability_code m == nullability_code n
 
--- the two have the same names in the same order
+-- whether the two lists have the same names in the same order
 abbrev pub names_eq : List (List ℕ) → List (List ℕ) → Bool
 names_eq = pointwise bytes_eq
 
--- the two trees are one; nullability counts
+-- whether the two trees are equal, nullability included
 abbrev mutual
   pub tree_eq : TypeTree → TypeTree → Bool
   tree_eq null_type null_type = true
@@ -44,18 +44,18 @@ abbrev mutual
   trees_eq (type_then s ss) (type_then t ts) = tree_eq s t && trees_eq ss ts
   trees_eq _ _ = false
 
--- the two maps hold the same; where `exact` is false, up to nullability
+-- whether the parts of two maps are equal; if `exact` is false, up to nullability
 abbrev pub map_eq : Bool → MapParts → MapParts → Bool
 map_eq exact a b = tree_eq (trim exact a.key) (trim exact b.key) && tree_eq (trim exact a.value) (trim exact b.value) && beq a.keys_sorted b.keys_sorted
 
--- the two structs hold the same; where `exact` is false, up to nullability
+-- whether the parts of two structs are equal; if `exact` is false, up to nullability
 abbrev pub fields_eq : Bool → FieldParts → FieldParts → Bool
 fields_eq exact a b = names_eq a.names b.names && trees_eq (trim_all exact (as_type_trees a.types)) (trim_all exact (as_type_trees b.types))
 
--- the two unions hold the same; where `exact` is false, up to nullability
+-- whether the parts of two unions are equal; if `exact` is false, up to nullability
 abbrev pub variants_eq : Bool → VariantParts → VariantParts → Bool
 variants_eq exact a b = names_eq a.names b.names && trees_eq (trim_all exact (as_type_trees a.types)) (trim_all exact (as_type_trees b.types)) && bytes_eq a.type_ids b.type_ids
 
--- the two extensions hold the same; where `exact` is false, up to nullability
+-- whether the parts of two extensions are equal; if `exact` is false, up to nullability
 abbrev pub ext_eq : Bool → ExtensionParts → ExtensionParts → Bool
 ext_eq exact a b = bytes_eq a.id b.id && bytes_eq a.metadata b.metadata && tree_eq (trim exact a.storage) (trim exact b.storage)

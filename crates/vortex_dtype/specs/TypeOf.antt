@@ -1,4 +1,4 @@
--- The tree of a declared type, and what its parts hold.
+-- The tree that a contract sees of a `DType`, and the parts that it sees of a map, a struct, a union and an extension.
 use Rattle.std.specs.Prelude.{ℕ, List, [], ◌∷◌, Bool, map as list_map}
 use Rattle.vortex_dtype.specs.TypeTree.{TypeTree, TypeTrees, null_type, bool_type, integer_type, utf8_type, binary_type, list_type, fixed_size_list_type, map_type, struct_type, union_type, variant_type, extension_type, no_types, type_then}
 use Rattle.vortex_dtype.specs.declared.nullability.Nullability.{Nullability}
@@ -27,38 +27,38 @@ pub record VariantParts : Type 0 where
   pub types : List TypeTree
   pub type_ids : List ℕ
 
--- an extension's id, its metadata, and the type of what it stores
+-- an extension's id, its metadata, and its storage type
 pub record ExtensionParts : Type 0 where
   pub id : List ℕ
   pub metadata : List ℕ
   pub storage : TypeTree
 
--- a list of trees as the list that a tree holds
+-- a list of trees, in the form that stands inside a tree
 abbrev pub as_type_trees : List TypeTree → TypeTrees
 as_type_trees [] = no_types
 as_type_trees (t ∷ ts) = type_then t (as_type_trees ts)
 
--- the map type that holds this
+-- the map type with these parts
 abbrev pub map_type_of : MapParts → Nullability → TypeTree
 map_type_of m n = map_type m.key m.value m.keys_sorted n
 
--- the struct type that holds this
+-- the struct type with these parts
 abbrev pub struct_type_of : FieldParts → Nullability → TypeTree
 struct_type_of f n = struct_type f.names (as_type_trees f.types) n
 
--- the union type that holds this
+-- the union type with these parts
 abbrev pub union_type_of : VariantParts → Nullability → TypeTree
 union_type_of v n = union_type v.names (as_type_trees v.types) v.type_ids n
 
--- the extension type that holds this
+-- the extension type with these parts
 abbrev pub extension_type_of : ExtensionParts → TypeTree
 extension_type_of e = extension_type e.id e.metadata e.storage
 
--- one level of a type, each part of which is already seen as what it holds
+-- one level of a type, with a tree or parts in place of all below it
 abbrev pub Level : (Type 0 → Type 0 → Type 0 → Type 0 → Type 0 → Type 0 → Type 0 → Type 0) → Type 0
 Level F = F TypeTree FieldParts ExtensionParts FieldParts MapParts FieldParts VariantParts
 
--- the tree of one level
+-- the tree that one level makes
 abbrev pub type_step : Level DType-F → TypeTree
 type_step DType-F.Null = null_type
 type_step (DType-F.Bool n) = bool_type n
@@ -73,47 +73,52 @@ type_step (DType-F.Union v n) = union_type_of v n
 type_step (DType-F.Variant n) = variant_type n
 type_step (DType-F.Extension e) = extension_type_of e
 
+-- the parts that one level of an extension makes
 abbrev pub extension_step : Level ExtDType-F → ExtensionParts
 extension_step e = record { id = e.id; metadata = e.metadata; storage = e.storage.value }
 
+-- the parts that one level of a map makes
 abbrev pub map_step : Level MapDType-F → MapParts
 map_step m = record { key = m.key.value; value = m.value.value; keys_sorted = m.keys_sorted }
 
+-- the parts that one level of field lists makes
 abbrev pub lists_step : Level FieldLists-F → FieldParts
 lists_step f = record { names = f.names.items; types = f.dtypes.items }
 
--- the same, held in either way
+-- the fields, whether they are shared or not
 abbrev pub held_step : Level HeldFields-F → FieldParts
 held_step (HeldFields-F.Own f) = f
 held_step (HeldFields-F.Shared f) = f.value
 
+-- the parts that one level of a struct makes
 abbrev pub fields_step : Level StructFields-F → FieldParts
 fields_step f = f.held
 
+-- the parts that one level of a union makes
 abbrev pub variants_step : Level UnionVariants-F → VariantParts
 variants_step v = record { names = v.names.items; types = v.dtypes.items; type_ids = v.type_ids.items }
 
--- the tree that a type stands for
+-- the tree of a type
 abbrev pub type_of : DType → TypeTree
 type_of = fold-DType TypeTree FieldParts ExtensionParts FieldParts MapParts FieldParts VariantParts type_step held_step extension_step lists_step map_step fields_step variants_step
 
--- what an extension type holds
+-- the parts of an extension
 abbrev pub ext_of : ExtDType → ExtensionParts
 ext_of = fold-ExtDType TypeTree FieldParts ExtensionParts FieldParts MapParts FieldParts VariantParts type_step held_step extension_step lists_step map_step fields_step variants_step
 
--- what a map type holds
+-- the parts of a map
 abbrev pub map_of : MapDType → MapParts
 map_of = fold-MapDType TypeTree FieldParts ExtensionParts FieldParts MapParts FieldParts VariantParts type_step held_step extension_step lists_step map_step fields_step variants_step
 
--- what a struct type holds
+-- the parts of a struct
 abbrev pub fields_of : StructFields → FieldParts
 fields_of = fold-StructFields TypeTree FieldParts ExtensionParts FieldParts MapParts FieldParts VariantParts type_step held_step extension_step lists_step map_step fields_step variants_step
 
--- what a struct type holds, seen at its lists
+-- the parts of a struct, from its lists
 abbrev pub lists_of : FieldLists → FieldParts
 lists_of = fold-FieldLists TypeTree FieldParts ExtensionParts FieldParts MapParts FieldParts VariantParts type_step held_step extension_step lists_step map_step fields_step variants_step
 
--- what a union type holds
+-- the parts of a union
 abbrev pub variants_of : UnionVariants → VariantParts
 variants_of = fold-UnionVariants TypeTree FieldParts ExtensionParts FieldParts MapParts FieldParts VariantParts type_step held_step extension_step lists_step map_step fields_step variants_step
 

@@ -1,4 +1,4 @@
--- Types as plain trees: what they are, which are the same up to nullability, and which take a null.
+-- Types as plain trees: which are equal up to nullability, and which take a null.
 use Rattle.std.specs.Prelude.{◌≡◌, ℕ, List, Bool, true, false}
 use Rattle.vortex_dtype.specs.declared.nullability.Nullability.{Nullability}
 use Rattle.vortex_dtype.specs.declared.nullability.Nullability.TheVariants.{NonNullable, Nullable}
@@ -24,12 +24,12 @@ mutual
     no_types : TypeTrees
     type_then : TypeTree → TypeTrees → TypeTrees
 
--- a nullability where it counts, and the same one for all where it does not
+-- this nullability, or `NonNullable` for each if nullability does not count
 abbrev pub keep : Bool → Nullability → Nullability
 keep true n = n
 keep false n = NonNullable
 
--- the type itself, or, where nullability does not count, the type with every nullability at every depth erased
+-- this type, or, if nullability does not count, the type with every nullability at every depth erased
 abbrev mutual
   pub trim : Bool → TypeTree → TypeTree
   trim exact null_type = null_type
@@ -45,7 +45,7 @@ abbrev mutual
   trim exact (variant_type n) = variant_type (keep exact n)
   trim exact (extension_type id metadata t) = extension_type id metadata (trim exact t)
 
-  -- each of the types, so trimmed
+  -- each of the types, by `trim`
   pub trim_all : Bool → TypeTrees → TypeTrees
   trim_all exact no_types = no_types
   trim_all exact (type_then t ts) = type_then (trim exact t) (trim_all exact ts)
@@ -62,7 +62,7 @@ erase_all = trim_all false
 abbrev pub Same : TypeTree → TypeTree → Type 0
 Same s t = erase s ≡ erase t
 
--- what the type says of nulls; an extension says what its storage says
+-- the outer nullability; an extension has that of its storage
 abbrev pub nullability_of : TypeTree → Nullability
 nullability_of null_type = Nullable
 nullability_of (bool_type n) = n
@@ -90,7 +90,7 @@ says_nullable Nullable = true
 abbrev pub is_nullable : TypeTree → Bool
 is_nullable t = says_nullable (nullability_of t)
 
--- the same type with the outer nullability made nullable, for an extension that of its storage
+-- the type with its outer nullability made `Nullable`; of an extension, its storage is
 abbrev pub as_nullable : TypeTree → TypeTree
 as_nullable null_type = null_type
 as_nullable (bool_type n) = bool_type Nullable
@@ -105,7 +105,7 @@ as_nullable (union_type names ts ids n) = union_type names ts ids Nullable
 as_nullable (variant_type n) = variant_type Nullable
 as_nullable (extension_type id metadata t) = extension_type id metadata (as_nullable t)
 
--- what the type is below its extensions
+-- the type below all its extensions
 abbrev pub storage : TypeTree → TypeTree
 storage null_type = null_type
 storage (bool_type n) = bool_type n

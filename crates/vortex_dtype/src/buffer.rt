@@ -1,14 +1,8 @@
-//! Shared, immutable bytes and texts. A contract sees each as its list of bytes.
+//! Shared, immutable bytes and strings. A contract sees each as its list of bytes.
 
 ghost use Rattle.std.specs.Prelude.{◌≡◌, ◌≤◌, ◌==◌, [], length, slice_range, IsOk, IsUtf8, nat_eq, refl, string_bytes, Some};
-ghost use Rattle.std.specs.Ordering.{nat_cmp};
-ghost use Rattle.std.specs.Str.{IsCharBoundary};
 ghost use Rattle.std.specs.Hash as fed;
-ghost use Rattle.std.specs.Cmp.Lexicographic.{pointwise, slice_cmp, nat_list_eq_equiv, nat_list_cmp_total, texts_ties, texts_po};
-ghost use Rattle.std.specs.Cmp.{partial_equiv_from_equiv};
-ghost use Rattle.std.specs.Cmp.Rules.{hashing};
-ghost use Rattle.std.proofs.Common.{rules};
-ghost use Rattle.vortex_dtype.specs.Memory.{GivesOrNoMemory};
+ghost use Rattle.vortex_dtype.specs.Words.{GivesOrNoMemory, IsCharBoundary, IsTextOf, hashing, nat_cmp, nat_list_cmp_total, nat_list_eq_equiv, partial_equiv_from_equiv, pointwise, rules, slice_cmp, texts_po, texts_ties};
 
 use crate::error::VortexError;
 use arrayvec::ArrayVec;
@@ -20,13 +14,13 @@ use std::marker::Model;
 use std::ops::Range;
 use std::str;
 
-/// How many bytes a buffer holds in itself.
+/// How many bytes a buffer holds inline, without an allocation.
 pub const INLINE_BYTES: usize = 22;
 
-/// Bytes that never change: at most 22 in the buffer itself, more shared by copies and slices.
+/// Immutable bytes. At most 22 are held inline; more are shared by copies and slices.
 ///
-/// Ports `vortex_buffer::ByteBuffer`. It keeps its allocator, so that a copy or a slice asks for
-/// none.
+/// Ports `vortex_buffer::ByteBuffer`. A buffer keeps its allocator, so that `clone` and `slice`
+/// take none.
 #[derive(Debug, Drop)]
 pub struct ByteBuffer {
     held: Held,
@@ -51,7 +45,7 @@ impl Model for ByteBuffer {
 }
 
 impl ByteBuffer {
-    /// The buffer of no bytes. Takes no memory.
+    /// The empty buffer. Takes no memory.
     ///
     /// Ports `ByteBuffer::empty`.
     pub fn empty(alloc: Global) -> Result<ByteBuffer, VortexError>
@@ -61,7 +55,7 @@ impl ByteBuffer {
         ByteBuffer::from_slice(alloc, &[])
     }
 
-    /// A buffer with a copy of these bytes. `OutOfMemory` only of more than 22.
+    /// Copies these bytes into a buffer. `OutOfMemory` only for more than 22.
     ///
     /// Ports `ByteBuffer::copy_from`.
     pub fn from_slice(alloc: Global, bytes: &[u8]) -> Result<ByteBuffer, VortexError>
@@ -75,8 +69,8 @@ impl ByteBuffer {
         Ok(ByteBuffer { held, alloc })
     }
 
-    /// A buffer of these bytes: moved, or copied into the buffer itself where there are at most 22.
-    /// `OutOfMemory` only of more. Of this port alone.
+    /// Moves these bytes into a buffer, or copies them inline if they are at most 22.
+    /// `OutOfMemory` only for more. Of this port alone.
     pub fn from_vec(bytes: Vec<u8>) -> Result<ByteBuffer, VortexError>
         ensures given { GivesOrNoMemory (λ buffer. buffer ≡ bytes.items) result }
         ensures inline { length bytes.items ≤ 22 → IsOk result }
@@ -122,15 +116,14 @@ impl ByteBuffer {
         self.as_slice().is_empty()
     }
 
-    /// The allocator that the buffer was made with, and that its copies and slices take. Of this
-    /// port alone.
+    /// The allocator that the buffer was made with. Its copies and slices use it too. Of this port
+    /// alone.
     pub fn allocator(&self) -> Global {
         self.alloc
     }
 
-    /// The bytes of a range: shared where there are more than 22, and copied where those have as
-    /// many owners as can be counted. Only that copy can answer `OutOfMemory`. The caller knows that
-    /// the range lies within the buffer.
+    /// The bytes of a range, which must lie within the buffer. More than 22 are shared; they are
+    /// copied only if no further owner can be counted. Only that copy can answer `OutOfMemory`.
     ///
     /// Ports `ByteBuffer::slice`, which panics outside the buffer.
     pub fn slice(&self, range: Range<usize>) -> Result<ByteBuffer, VortexError>
@@ -153,8 +146,8 @@ impl ByteBuffer {
         ByteBuffer::from_slice(self.alloc, part)
     }
 
-    /// A buffer of the same bytes: shared where there are more than 22, and copied where those have
-    /// as many owners as can be counted. Only that copy can answer `OutOfMemory`.
+    /// A buffer with the same bytes. More than 22 are shared; they are copied only if no further
+    /// owner can be counted. Only that copy can answer `OutOfMemory`.
     ///
     /// Ports `ByteBuffer::clone`.
     pub fn clone(&self) -> Result<ByteBuffer, VortexError>
@@ -213,7 +206,7 @@ impl Hash for ByteBuffer {
     }
 }
 
-/// A text that never changes: a buffer whose bytes are UTF-8.
+/// An immutable string: a buffer whose bytes are UTF-8.
 ///
 /// Ports `vortex_buffer::BufferString`.
 #[derive(Debug, Drop)]
@@ -232,7 +225,7 @@ impl Model for BufferString {
 }
 
 impl BufferString {
-    /// The empty text. Takes no memory.
+    /// The empty string. Takes no memory.
     ///
     /// Ports `BufferString::empty`.
     pub fn empty(alloc: Global) -> Result<BufferString, VortexError>
@@ -242,7 +235,7 @@ impl BufferString {
         BufferString::from_str(alloc, "")
     }
 
-    /// A copy of this text. `OutOfMemory` only of more than 22 bytes.
+    /// Copies this string into a buffer. `OutOfMemory` only for more than 22 bytes.
     ///
     /// Ports `BufferString::from`, of a `&str`.
     pub fn from_str(alloc: Global, text: &str) -> Result<BufferString, VortexError>
@@ -253,8 +246,8 @@ impl BufferString {
         Ok(BufferString { buffer })
     }
 
-    /// This text: moved, or copied into the buffer itself where it has at most 22 bytes.
-    /// `OutOfMemory` only of more. Of this port alone.
+    /// Moves this string into a buffer, or copies it inline if it has at most 22 bytes.
+    /// `OutOfMemory` only for more. Of this port alone.
     pub fn from_string(text: String) -> Result<BufferString, VortexError>
         ensures given { GivesOrNoMemory (λ string. string ≡ string_bytes text) result }
         ensures inline { length (string_bytes text) ≤ 22 → IsOk result }
@@ -263,7 +256,7 @@ impl BufferString {
         Ok(BufferString { buffer })
     }
 
-    /// The text.
+    /// The string.
     ///
     /// Ports `BufferString::as_str`.
     pub fn as_str(&self) -> &str
@@ -273,25 +266,25 @@ impl BufferString {
         unsafe { str::from_utf8_unchecked(self.buffer.as_slice()) }
     }
 
-    /// How many bytes the text has.
+    /// How many bytes the string has.
     ///
-    /// Ports `str::len`, to which a `BufferString` lends itself.
+    /// Ports `str::len`, which upstream's `BufferString` reaches by `Deref`.
     pub fn len(&self) -> usize
         ensures { result ≡ length self.now }
     {
         self.buffer.len()
     }
 
-    /// Whether the text is empty.
+    /// Whether the string is empty.
     ///
-    /// Ports `str::is_empty`, to which a `BufferString` lends itself.
+    /// Ports `str::is_empty`, which upstream's `BufferString` reaches by `Deref`.
     pub fn is_empty(&self) -> bool
         ensures { result ≡ (length self.now == 0) }
     {
         self.buffer.is_empty()
     }
 
-    /// The buffer of the text's bytes.
+    /// The buffer of the string's bytes.
     ///
     /// Ports `BufferString::inner`.
     pub fn inner(&self) -> &ByteBuffer
@@ -301,7 +294,7 @@ impl BufferString {
         &self.buffer
     }
 
-    /// The buffer of the text's bytes, by value.
+    /// The buffer of the string's bytes, by value.
     ///
     /// Ports `BufferString::into_inner`.
     pub fn into_inner(self) -> ByteBuffer
@@ -312,9 +305,9 @@ impl BufferString {
         buffer
     }
 
-    /// The text of a range: shared where it has more than 22 bytes, and copied where those have as
-    /// many owners as can be counted. Only that copy can answer `OutOfMemory`. The caller knows that
-    /// the range lies within the text and cuts no character. Of this port alone.
+    /// The string in a range of bytes, which must lie within the string and cut no character. More
+    /// than 22 bytes are shared; they are copied only if no further owner can be counted. Only that
+    /// copy can answer `OutOfMemory`. Of this port alone.
     pub fn slice(&self, range: Range<usize>) -> Result<BufferString, VortexError>
         requires ordered { range.start ≤ range.end }
         requires within { range.end ≤ length self.now }
@@ -328,8 +321,8 @@ impl BufferString {
         Ok(BufferString { buffer })
     }
 
-    /// The same text: shared where it has more than 22 bytes, and copied where those have as many
-    /// owners as can be counted. Only that copy can answer `OutOfMemory`.
+    /// A buffer with the same string. More than 22 bytes are shared; they are copied only if no
+    /// further owner can be counted. Only that copy can answer `OutOfMemory`.
     ///
     /// Ports `BufferString::clone`.
     pub fn clone(&self) -> Result<BufferString, VortexError>
@@ -341,13 +334,12 @@ impl BufferString {
     }
 }
 
-/// The text of a buffer, or `NotUtf8` exactly where its bytes are not UTF-8. Takes no memory.
+/// The string that the bytes of a buffer are. `NotUtf8` exactly if they are not UTF-8. Takes no
+/// memory.
 ///
 /// Ports `TryFrom<ByteBuffer> for BufferString`.
 impl TryFrom<ByteBuffer> for BufferString {
     type Error = VortexError;
-
-    ghost use Rattle.vortex_dtype.specs.BytesAsText.{IsTextOf};
 
     ghost try_from_gives = { IsTextOf };
 

@@ -1,7 +1,7 @@
 //! Why a call was refused.
 
 ghost use Rattle.std.specs.Prelude.{◌≡◌};
-ghost use Rattle.vortex_dtype.specs.declared.error.VortexError.TheVariants.{OutOfMemory};
+ghost use Rattle.vortex_dtype.specs.Words.{OutOfMemory, lists_equiv, partial_equiv_from_equiv, pointwise};
 
 use std::alloc::{AllocError, AllocFailed};
 use std::marker::Model;
@@ -9,7 +9,7 @@ use thiserror::Error;
 
 /// One step from a value to a part of it.
 ///
-/// Of this port alone: upstream's refusals are messages.
+/// Of this port alone: upstream's errors are messages.
 #[derive(Clone, Copy, Debug, PartialEq, Eq)]
 pub enum Step {
     /// The element of a list at this place.
@@ -30,14 +30,14 @@ pub enum Step {
 
 /// What is wrong with a raw value at the end of a path.
 ///
-/// Of this port alone: upstream's refusals are messages.
+/// Of this port alone: upstream's errors are messages.
 #[derive(Clone, Copy, Debug, PartialEq, Eq)]
 pub enum Breach {
     /// A null of a type that takes none.
     NullNotAllowed,
-    /// A raw value of another kind than the type's.
+    /// A raw value whose variant does not fit the type, such as an integer of type `Utf8`.
     WrongValue,
-    /// A list of fixed size, a struct or a map's entry with another number of parts.
+    /// A list of fixed size, a struct or a map's entry with a wrong number of parts.
     WrongLength,
     /// A union's value with an id that no variant has.
     UnknownTypeId,
@@ -47,22 +47,22 @@ pub enum Breach {
     VariantNull,
 }
 
-/// Why parts do not make a type.
+/// Why the given parts make no type.
 ///
-/// Of this port alone: upstream's refusals are messages.
+/// Of this port alone: upstream's errors are messages.
 #[derive(Clone, Copy, Debug, PartialEq, Eq)]
 pub enum TypeCause {
     /// The key type of a map takes a null.
     NullableKey,
-    /// Names, types and ids are not equally many.
+    /// The numbers of names, types and ids differ.
     LengthsDiffer,
-    /// Two variants have one id.
+    /// Two variants of a union have the same id.
     RepeatedTypeId,
 }
 
-/// The steps from a value to the part that is meant, the outermost first.
+/// The steps from a value to one of its parts, the outermost first.
 ///
-/// A contract sees it as the list of its steps. Of this port alone: upstream's refusals are
+/// A contract sees it as the list of its steps. Of this port alone: upstream's errors are
 /// messages.
 #[derive(Debug, Drop)]
 pub struct Path {
@@ -79,7 +79,7 @@ impl Model for Path {
 }
 
 impl Path {
-    /// The path of these steps.
+    /// The path that takes these steps.
     pub fn of(steps: Vec<Step>) -> Path
         ensures { result ≡ steps.items }
     {
@@ -95,8 +95,6 @@ impl Path {
 }
 
 impl PartialEq for Path {
-    ghost use Rattle.std.specs.Cmp.Lexicographic.{pointwise, lists_equiv};
-    ghost use Rattle.std.specs.Cmp.{partial_equiv_from_equiv};
     ghost use Rattle.vortex_dtype.specs.contracts.error.StepEq.TheImpl.Laws.{laws-law as step_laws};
 
     ghost eq = { pointwise ⟦<Step as PartialEq>⟧.eq };
@@ -109,68 +107,69 @@ impl PartialEq for Path {
 }
 
 impl Eq for Path {
-    ghost use Rattle.std.specs.Cmp.Lexicographic.{lists_equiv};
     ghost use Rattle.vortex_dtype.specs.contracts.error.StepEq.TheImpl.Laws.{laws-law as step_laws};
 
     ghost laws = { lists_equiv step_laws };
 }
 
-/// Why a call was refused. Texts are for people and are not promised.
+/// Why a call was refused. What `Display` writes is for people and is not promised.
 ///
-/// Stands for `vortex_error::VortexError`, whose refusals are messages.
+/// Stands for `vortex_error::VortexError`, whose errors are messages.
 #[derive(Debug, Drop, PartialEq, Eq, Error)]
 pub enum VortexError {
     /// An allocation was refused.
     #[error("out of memory")]
     OutOfMemory,
-    /// The value is not valid for the type: the first breach in reading order, and the path to it.
+    /// The value is not valid for the type. This names the first breach in reading order, and the
+    /// path to it.
     #[error("the value is not valid: {breach:?} at {path:?}")]
     Invalid { path: Path, breach: Breach },
-    /// A type or a value of another kind than the call takes.
+    /// The type or the value has another variant than the call takes.
     #[error("a type or a value of another kind")]
     WrongKind,
-    /// A child's type is not exactly the expected one.
+    /// The type of the child at this place is not exactly the expected one.
     #[error("child {index} has another type")]
     WrongChild { index: usize },
-    /// Counts differ.
+    /// The number of parts is not the expected one.
     #[error("expected {expected} parts, found {found}")]
     WrongLength { expected: usize, found: usize },
-    /// No variant has the id.
+    /// No variant of the union has the id.
     #[error("no variant has the id {id}")]
     UnknownTypeId { id: u8 },
-    /// The table of casts or the target type refuses.
+    /// The value cannot be cast: the table of casts does not allow it, or no value of the target
+    /// type has the same content.
     #[error("the value cannot be cast to the type")]
     CannotCast,
-    /// The number does not fit.
+    /// The number does not fit the integer type.
     #[error("the number is out of range")]
     OutOfRange,
-    /// Another integer kind than was asked for.
+    /// The value has another integer kind than was asked for.
     #[error("the value has another integer kind")]
     WrongPType,
-    /// A value was needed, and there is a null.
+    /// A value was needed, but it is a null.
     #[error("the value is null")]
     IsNull,
-    /// No field has the name.
+    /// No field of the struct has the name.
     #[error("no field has the name")]
     NoField,
     /// The bytes are not UTF-8.
     #[error("the bytes are not UTF-8")]
     NotUtf8,
-    /// A null of a type other than Null inside a variant.
+    /// A variant was to hold a null of a type other than `Null`.
     #[error("a variant holds no null of another type than Null")]
     VariantNull,
-    /// More children than 32 bits count.
+    /// There are more children than 32 bits can count.
     #[error("too many children")]
     TooMany,
-    /// Reinterpretation between kinds of different widths.
+    /// The two integer kinds have different widths, so that one cannot be read as the other.
     #[error("the widths differ")]
     WidthsDiffer,
-    /// The parts make no type.
+    /// The given parts make no type.
     #[error("the parts make no type: {cause:?}")]
     BadType { cause: TypeCause },
 }
 
-/// Out of memory, whatever was asked for.
+/// Always `OutOfMemory`.
 impl From<AllocError> for VortexError {
     ghost from_gives = { λ _ e. e ≡ OutOfMemory };
 
@@ -179,7 +178,7 @@ impl From<AllocError> for VortexError {
     }
 }
 
-/// Out of memory; what was to be kept is dropped.
+/// Always `OutOfMemory`. The value that could not be stored is dropped.
 impl<T: Drop> From<AllocFailed<T>> for VortexError {
     ghost from_gives = { λ _ e. e ≡ OutOfMemory };
 

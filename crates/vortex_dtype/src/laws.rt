@@ -1,17 +1,17 @@
 //! Laws of types, each the contract of a function that does nothing.
 
 ghost use Rattle.vortex_dtype.specs.Laws.{AgreesWithHash, EqualityDecides, EqualityIsEquivalence, EqualsBy, SameIsEquivalence, NullableIsSame, PlacesAreInverse, SameFeedSame, TreesByVariant};
-ghost use Rattle.vortex_dtype.specs.TypeOf.{ext_of, fields_of, map_of, type_of, variants_of};
+ghost use Rattle.vortex_dtype.specs.Words.{ext_of, fields_of, map_of, type_of, variants_of};
 
 use crate::types::{DType, ExtDType, MapDType, StructFields, UnionVariants};
 use std::hash::Hash;
 
-/// The tree of a type, variant by variant.
+/// The tree that a contract sees of each variant of `DType`.
 pub fn trees_by_variant()
     ensures { TreesByVariant }
 {}
 
-/// The test that `==` of types is proved to be passes exactly where the types are one tree.
+/// `tree_eq`, the test that `==` of types is proved to be, passes exactly if the trees are equal.
 pub fn equality_decides()
     ensures { EqualityDecides }
 {}
@@ -21,8 +21,8 @@ pub fn equality_is_an_equivalence()
     ensures { EqualityIsEquivalence }
 {}
 
-/// Types are equal exactly where their trees are one, nullability counting, and so are the parts of
-/// maps, structs, unions and extensions where they hold the same.
+/// Types are equal exactly if their trees are equal, nullability included. The parts of maps,
+/// structs, unions and extensions are equal exactly if they hold equal trees, names and ids.
 pub fn equality()
     ensures types { EqualsBy type_of ⟦<DType as PartialEq>⟧.eq }
     ensures maps { EqualsBy map_of ⟦<MapDType as PartialEq>⟧.eq }
@@ -31,7 +31,7 @@ pub fn equality()
     ensures extensions { EqualsBy ext_of ⟦<ExtDType as PartialEq>⟧.eq }
 {}
 
-/// Equal types, and equal parts, feed every hasher the same.
+/// Equal types, and equal parts, feed every hasher alike.
 pub fn hash_agrees()
     ensures types { AgreesWithHash ⟦<DType as PartialEq>⟧.eq ⟦<DType as Hash>⟧.hash_input }
     ensures maps { AgreesWithHash ⟦<MapDType as PartialEq>⟧.eq ⟦<MapDType as Hash>⟧.hash_input }
@@ -40,23 +40,23 @@ pub fn hash_agrees()
     ensures extensions { AgreesWithHash ⟦<ExtDType as PartialEq>⟧.eq ⟦<ExtDType as Hash>⟧.hash_input }
 {}
 
-/// To be the same type up to nullability is an equivalence.
+/// Being equal up to nullability is an equivalence on types.
 pub fn same_is_an_equivalence()
     ensures { SameIsEquivalence }
 {}
 
-/// The place of an id and the id at a place are inverse to one another where no id stands twice, as
-/// in the variants that `UnionVariants::try_new` makes: its refusals say so.
+/// If no id stands twice, the place of an id and the id at a place are inverse to one another. No
+/// id stands twice in the variants that `UnionVariants::try_new` makes.
 pub fn places_are_inverse()
     ensures { PlacesAreInverse }
 {}
 
-/// A type made nullable takes a null, and is the same type up to nullability.
+/// A type made nullable takes a null, and is equal to the type up to nullability.
 pub fn nullable_is_the_same()
     ensures { NullableIsSame }
 {}
 
-/// Types that are the same up to nullability feed every hasher the same without nullability.
+/// Types that are equal up to nullability feed every hasher alike if nullability is ignored.
 pub fn same_types_feed_the_same()
     ensures { SameFeedSame }
 {}

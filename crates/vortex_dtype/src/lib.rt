@@ -1,12 +1,12 @@
 // SPDX-License-Identifier: Apache-2.0
 // SPDX-FileCopyrightText: Copyright the Vortex contributors; ported to Rattle and changed
-//! The types of scalars, the buffers that their values are kept in, and why a call is refused.
+//! The types of scalars, the buffers that hold their values, and the reasons for refusing a call.
 //!
-//! A type is seen by contracts as a tree (`specs/TypeTree`), equal and hashed with or without
-//! nullability; a buffer as its list of bytes.
+//! A contract sees a type as a tree (`specs/TypeTree`), and a buffer as its list of bytes. Types
+//! are equal and hashed with or without nullability.
 //!
-//! A public item ports upstream's of the same name, but where it names another or says that it, or
-//! its type, is of this port alone.
+//! A public item ports upstream's item of the same name. If its comment names another item, it
+//! ports that one; if the comment says that it is of this port alone, upstream has none.
 #![tactic(auto)]
 
 mod buffer;
@@ -16,6 +16,7 @@ mod names;
 mod native;
 mod nullability;
 mod ptype;
+#[tactic(auto, using(crate::proofs::HeldParts::type_parts))]
 mod types;
 
 pub use buffer::{BufferString, ByteBuffer, INLINE_BYTES};

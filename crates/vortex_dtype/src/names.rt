@@ -1,8 +1,7 @@
 //! The names of fields and variants.
 
 ghost use Rattle.std.specs.Prelude.{◌≡◌, length, option_map, slice_get};
-ghost use Rattle.std.specs.Slice.Iter.{iter_rest};
-ghost use Rattle.vortex_dtype.specs.Memory.{GivesOrNoMemory};
+ghost use Rattle.vortex_dtype.specs.Words.{GivesOrNoMemory, iter_rest, names_in};
 
 use crate::buffer::BufferString;
 use crate::error::VortexError;
@@ -29,7 +28,7 @@ impl Model for FieldName {
 }
 
 impl FieldName {
-    /// The name with this text.
+    /// The name that this string is.
     ///
     /// Ports `FieldName::from`.
     pub fn new(text: BufferString) -> FieldName
@@ -38,7 +37,7 @@ impl FieldName {
         FieldName { text }
     }
 
-    /// The text of the name.
+    /// The name as a string.
     ///
     /// Ports `FieldName::as_ref`, as a `&str`.
     pub fn as_str(&self) -> &str
@@ -47,8 +46,8 @@ impl FieldName {
         self.text.as_str()
     }
 
-    /// The same name: its text is shared, or copied where it has as many owners as can be counted,
-    /// and only that copy can answer `OutOfMemory`.
+    /// A copy of the name, which shares its string. If that has as many owners as can be counted,
+    /// the string is copied, and only then can the call answer `OutOfMemory`.
     pub fn clone(&self, _alloc: Global) -> Result<FieldName, VortexError>
         ensures { GivesOrNoMemory (λ name. name ≡ self.now) result }
     {
@@ -57,19 +56,16 @@ impl FieldName {
     }
 }
 
-/// The names of the fields or variants of a type, in order. A contract sees them as a list of
-/// names.
+/// The names of the fields or variants of a type, in order. A contract sees them as a list.
 ///
-/// Ports `vortex_array::dtype::FieldNames`, which shares the names where this borrows them.
+/// Ports `vortex_array::dtype::FieldNames`, which shares the names instead of borrowing them.
 #[derive(Clone, Copy, Debug)]
 pub struct FieldNames<'a> {
     names: &'a [FieldName],
 }
 
 impl<'a> FieldNames<'a> {
-    ghost use Rattle.vortex_dtype.specs.Names.{names_in};
-
-    /// These names, borrowed.
+    /// Borrows these names.
     pub(crate) fn of(names: &'a [FieldName]) -> FieldNames<'a>
         ensures { names_in result ≡ names.now }
     {
@@ -83,7 +79,7 @@ impl<'a> FieldNames<'a> {
         self.names.len()
     }
 
-    /// The name at this place, and none exactly past the end.
+    /// The name at this place. `None` exactly past the end.
     pub fn get(&self, index: usize) -> Option<&'a FieldName>
         ensures { option_map (λ name. name.now) result ≡ slice_get (names_in self.now) index }
     {

@@ -1,11 +1,7 @@
-//! The type of the column that values of a Rust type make.
+//! The column types of Rust types.
 
 ghost use Rattle.std.specs.Prelude.{◌≡◌};
-ghost use Rattle.vortex_dtype.specs.Memory.{GivesOrNoMemory};
-ghost use Rattle.vortex_dtype.specs.TypeTree.{TypeTree, as_nullable, bool_type, integer_type, utf8_type, binary_type, list_type};
-ghost use Rattle.vortex_dtype.specs.TypeOf.{type_of};
-ghost use Rattle.vortex_dtype.specs.declared.nullability.Nullability.TheVariants.{NonNullable};
-ghost use Rattle.vortex_dtype.specs.declared.ptype.PType.TheVariants.{U8, U16, U32, U64, I8, I16, I32, I64};
+ghost use Rattle.vortex_dtype.specs.Words.{GivesOrNoMemory, I16, I32, I64, I8, NonNullable, TypeTree, U16, U32, U64, U8, as_nullable, binary_type, bool_type, integer_type, list_type, type_of, utf8_type};
 
 use crate::buffer::{BufferString, ByteBuffer};
 use crate::error::VortexError;
@@ -14,18 +10,18 @@ use crate::ptype::PType;
 use crate::types::DType;
 use std::alloc::Global;
 
-/// A Rust type whose values make a column of one type.
+/// A Rust type that has a column type: the type of the scalars that its values become.
 ///
 /// Ports `vortex_array::dtype::NativeDType`.
 pub trait NativeDType {
     ghost native_type: { TypeTree };
 
-    /// The column type, or `OutOfMemory`.
+    /// The column type. `OutOfMemory` if there is no memory for it.
     fn dtype(alloc: Global) -> Result<DType, VortexError>
         ensures { GivesOrNoMemory (λ dtype. type_of dtype ≡ native_type) result };
 }
 
-/// Truth values, without nulls.
+/// `Bool`, without nulls.
 impl NativeDType for bool {
     ghost native_type = { bool_type NonNullable };
 
@@ -34,7 +30,7 @@ impl NativeDType for bool {
     }
 }
 
-/// Integers of this kind, without nulls.
+/// Unsigned integers of 1 byte, without nulls.
 impl NativeDType for u8 {
     ghost native_type = { integer_type U8 NonNullable };
 
@@ -43,7 +39,7 @@ impl NativeDType for u8 {
     }
 }
 
-/// Integers of this kind, without nulls.
+/// Unsigned integers of 2 bytes, without nulls.
 impl NativeDType for u16 {
     ghost native_type = { integer_type U16 NonNullable };
 
@@ -52,7 +48,7 @@ impl NativeDType for u16 {
     }
 }
 
-/// Integers of this kind, without nulls.
+/// Unsigned integers of 4 bytes, without nulls.
 impl NativeDType for u32 {
     ghost native_type = { integer_type U32 NonNullable };
 
@@ -61,7 +57,7 @@ impl NativeDType for u32 {
     }
 }
 
-/// Integers of this kind, without nulls.
+/// Unsigned integers of 8 bytes, without nulls.
 impl NativeDType for u64 {
     ghost native_type = { integer_type U64 NonNullable };
 
@@ -70,7 +66,7 @@ impl NativeDType for u64 {
     }
 }
 
-/// Integers of this kind, without nulls.
+/// Signed integers of 1 byte, without nulls.
 impl NativeDType for i8 {
     ghost native_type = { integer_type I8 NonNullable };
 
@@ -79,7 +75,7 @@ impl NativeDType for i8 {
     }
 }
 
-/// Integers of this kind, without nulls.
+/// Signed integers of 2 bytes, without nulls.
 impl NativeDType for i16 {
     ghost native_type = { integer_type I16 NonNullable };
 
@@ -88,7 +84,7 @@ impl NativeDType for i16 {
     }
 }
 
-/// Integers of this kind, without nulls.
+/// Signed integers of 4 bytes, without nulls.
 impl NativeDType for i32 {
     ghost native_type = { integer_type I32 NonNullable };
 
@@ -97,7 +93,7 @@ impl NativeDType for i32 {
     }
 }
 
-/// Integers of this kind, without nulls.
+/// Signed integers of 8 bytes, without nulls.
 impl NativeDType for i64 {
     ghost native_type = { integer_type I64 NonNullable };
 
@@ -106,7 +102,7 @@ impl NativeDType for i64 {
     }
 }
 
-/// Integers of 64 bits, without nulls.
+/// Unsigned integers of 8 bytes, without nulls.
 impl NativeDType for usize {
     ghost native_type = { integer_type U64 NonNullable };
 
@@ -115,7 +111,7 @@ impl NativeDType for usize {
     }
 }
 
-/// Texts, without nulls.
+/// `Utf8`, without nulls.
 impl NativeDType for String {
     ghost native_type = { utf8_type NonNullable };
 
@@ -124,7 +120,7 @@ impl NativeDType for String {
     }
 }
 
-/// Texts, without nulls.
+/// `Utf8`, without nulls.
 impl NativeDType for &str {
     ghost native_type = { utf8_type NonNullable };
 
@@ -135,7 +131,7 @@ impl NativeDType for &str {
     }
 }
 
-/// Texts, without nulls.
+/// `Utf8`, without nulls.
 impl NativeDType for BufferString {
     ghost native_type = { utf8_type NonNullable };
 
@@ -144,7 +140,7 @@ impl NativeDType for BufferString {
     }
 }
 
-/// Strings of bytes, without nulls.
+/// `Binary`, without nulls.
 impl NativeDType for ByteBuffer {
     ghost native_type = { binary_type NonNullable };
 
@@ -153,7 +149,7 @@ impl NativeDType for ByteBuffer {
     }
 }
 
-/// Strings of bytes, without nulls.
+/// `Binary`, without nulls.
 impl NativeDType for &[u8] {
     ghost native_type = { binary_type NonNullable };
 
@@ -164,7 +160,7 @@ impl NativeDType for &[u8] {
     }
 }
 
-/// The type of what is held, made nullable.
+/// The column type of `T`, made nullable.
 impl<T: NativeDType> NativeDType for Option<T> {
     ghost native_type = { as_nullable T.native_type };
 
@@ -173,7 +169,7 @@ impl<T: NativeDType> NativeDType for Option<T> {
     }
 }
 
-/// Lists of the elements' type, without nulls.
+/// Lists whose elements have the column type of `T`, without nulls.
 impl<T: NativeDType> NativeDType for Vec<T> {
     ghost native_type = { list_type T.native_type NonNullable };
 

@@ -5,8 +5,8 @@
 /// Ports `vortex_array::dtype::Nullability`.
 #[derive(Clone, Copy, Debug, PartialEq, Eq, Hash)]
 pub enum Nullability {
-    /// It does not.
+    /// The type takes no null.
     NonNullable,
-    /// It does.
+    /// The type takes a null.
     Nullable,
 }

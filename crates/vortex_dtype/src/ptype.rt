@@ -1,7 +1,7 @@
 //! The integer kinds.
 
 ghost use Rattle.std.specs.Prelude.{◌≡◌};
-ghost use Rattle.vortex_dtype.specs.PTypes.{byte_width_of, is_signed_ptype, ptype_text};
+ghost use Rattle.vortex_dtype.specs.Words.{byte_width_of, is_signed_ptype, ptype_text};
 
 /// An integer kind: signed or unsigned, of 1, 2, 4 or 8 bytes.
 ///
@@ -51,8 +51,7 @@ impl PType {
         }
     }
 
-    /// The kind's name, as `u8`. Of this port alone, for what upstream's `Display` of a kind
-    /// prints.
+    /// The kind's name, such as `u8`. Of this port alone: upstream prints it by `Display`.
     pub fn name(&self) -> &'static str
         ensures { result.now ≡ ptype_text self.now }
     {

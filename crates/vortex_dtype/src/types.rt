@@ -1,12 +1,7 @@
 //! The type of a scalar, and the parts that types are made of.
 
 ghost use Rattle.std.specs.Prelude.{◌≡◌, ◌↔◌, IfOk, IsTrue, MatchResult, option_map, fold};
-ghost use Rattle.vortex_dtype.specs.TypeTree.{Same, erase, is_nullable, as_nullable, nullability_of, map_type, IsFlat};
-ghost use Rattle.vortex_dtype.specs.TypeOf.{type_of, map_of, fields_of, variants_of, ext_of};
-ghost use Rattle.vortex_dtype.specs.Parts.{is_utf8_type, is_binary_type, is_map_type, is_union_type, is_extension_type, element_in, map_in, fields_in, variants_in, extension_in};
-ghost use Rattle.vortex_dtype.specs.Feeds.{tree_feed};
-ghost use Rattle.vortex_dtype.specs.Refusals.{RefusesOrNoMemory, key_cause};
-ghost use Rattle.vortex_dtype.specs.declared.error.VortexError.TheVariants.{OutOfMemory};
+ghost use Rattle.vortex_dtype.specs.Words.{IsFlat, OutOfMemory, RefusesOrNoMemory, Same, as_nullable, element_in, erase, ext_of, extension_in, fields_in, fields_of, is_binary_type, is_extension_type, is_map_type, is_nullable, is_union_type, is_utf8_type, key_cause, map_in, map_of, map_type, nullability_of, tree_feed, type_of, variants_in, variants_of};
 
 use crate::buffer::{BufferString, ByteBuffer};
 use crate::error::VortexError;
@@ -27,9 +22,7 @@ pub mod variants;
 
 /// The type of a scalar. A contract sees it as a tree.
 ///
-/// Neither it nor a part below carries a fact of its own: `List` leads back to `DType` by a bare
-/// box, through no struct, and in such a cycle no part can have a model with an invariant. So what
-/// always holds of a part, its maker's contract says. Ports `vortex_array::dtype::DType`.
+/// Ports `vortex_array::dtype::DType`.
 #[cycle(dtype)]
 #[derive(Debug, Drop)]
 pub enum DType {
@@ -37,15 +30,15 @@ pub enum DType {
     Null,
     /// Truth values.
     Bool(Nullability),
-    /// Integers of a kind.
+    /// Integers of one kind.
     Primitive(PType, Nullability),
-    /// Texts.
+    /// Strings, as UTF-8.
     Utf8(Nullability),
-    /// Strings of bytes.
+    /// Bytes.
     Binary(Nullability),
     /// Lists of any length.
     List(Box<DType>, Nullability),
-    /// Lists of one length.
+    /// Lists of one fixed length.
     FixedSizeList(Box<DType>, u32, Nullability),
     /// Maps from keys to values.
     Map(MapDType, Nullability),
@@ -53,13 +46,13 @@ pub enum DType {
     Struct(StructFields, Nullability),
     /// A value of one of several types.
     Union(UnionVariants, Nullability),
-    /// A value of any type, which it brings along.
+    /// A value of any type, held together with that type.
     Variant(Nullability),
-    /// A type of another name over a storage type.
+    /// A type with a name of its own, over a storage type.
     Extension(ExtDType),
 }
 
-/// A map's key and value types. The key takes no null: the maker `try_new` sees to it.
+/// The key and the value type of a map. The key takes no null: `try_new` refuses one that does.
 ///
 /// Ports `vortex_array::dtype::MapDType`.
 #[cycle(dtype)]
@@ -70,8 +63,7 @@ pub struct MapDType {
     keys_sorted: bool,
 }
 
-/// The names of a struct's fields and as many types, in order. Names may repeat. The maker `new`
-/// asks for equal lengths.
+/// The names of a struct's fields and as many types, in order. Names may repeat.
 ///
 /// Ports `vortex_array::dtype::StructFields`.
 #[cycle(dtype)]
@@ -80,7 +72,7 @@ pub struct StructFields {
     held: HeldFields,
 }
 
-/// The two ways to hold fields: together with the copies, or alone where memory was wanting for that.
+/// The two ways to hold fields: shared with the copies, or alone if there was no memory for that.
 #[cycle(dtype)]
 #[derive(Debug, Drop)]
 enum HeldFields {
@@ -96,8 +88,8 @@ struct FieldLists {
     dtypes: Vec<DType>,
 }
 
-/// The names of a union's variants, as many types and as many ids, in order. Ids are distinct,
-/// names may repeat: the maker `try_new` sees to it.
+/// The names of a union's variants, as many types and as many ids, in order. Names may repeat. Ids
+/// are distinct: `try_new` refuses others.
 ///
 /// Ports `vortex_array::dtype::UnionVariants`.
 #[cycle(dtype)]
@@ -108,7 +100,7 @@ pub struct UnionVariants {
     type_ids: Vec<u8>,
 }
 
-/// An extension's id, its metadata and the type of what it stores.
+/// The id of an extension, its metadata and its storage type.
 ///
 /// Ports `vortex_array::dtype::extension::ExtDTypeRef`.
 #[cycle(dtype)]
@@ -120,8 +112,8 @@ pub struct ExtDType {
 }
 
 impl DType {
-    /// The map type of these parts. `BadType` with `NullableKey` exactly where the key takes a
-    /// null, and this before any memory is asked for; else `OutOfMemory` where there is none.
+    /// The map type with these parts. `BadType` with `NullableKey` exactly if the key takes a null,
+    /// tested before any allocation. Otherwise `OutOfMemory` if there is no memory.
     pub fn map(
         alloc: Global,
         key: DType,
@@ -137,16 +129,23 @@ impl DType {
         Ok(DType::Map(map, nullability))
     }
 
-    /// Whether the type takes a null: what it says, for an extension what its storage says, and for
-    /// the type of nulls always.
+    /// The outer nullability. An extension has that of its storage, and the type of nulls is
+    /// `Nullable`.
     pub fn nullability(&self) -> Nullability
         ensures { result ≡ nullability_of (type_of self.now) }
     {
         match self {
             DType::Null => Nullability::Nullable,
-            DType::Bool(n) | DType::Primitive(_, n) | DType::Utf8(n) | DType::Binary(n) => *n,
-            DType::List(_, n) | DType::FixedSizeList(_, _, n) => *n,
-            DType::Map(_, n) | DType::Struct(_, n) | DType::Union(_, n) | DType::Variant(n) => *n,
+            DType::Bool(nullability)
+            | DType::Primitive(_, nullability)
+            | DType::Utf8(nullability)
+            | DType::Binary(nullability)
+            | DType::List(_, nullability)
+            | DType::FixedSizeList(_, _, nullability)
+            | DType::Map(_, nullability)
+            | DType::Struct(_, nullability)
+            | DType::Union(_, nullability)
+            | DType::Variant(nullability) => *nullability,
             DType::Extension(extension) => extension.storage.nullability(),
         }
     }
@@ -161,7 +160,8 @@ impl DType {
         }
     }
 
-    /// The same type with the outer nullability `Nullable`; for an extension, that of its storage.
+    /// This type with the outer nullability `Nullable`. Of an extension, the storage becomes
+    /// nullable.
     #[cycle(as_nullable)]
     pub fn as_nullable(self) -> DType
         ensures { type_of result ≡ as_nullable (type_of self) }
@@ -184,42 +184,42 @@ impl DType {
         }
     }
 
-    /// Whether the types are equal once every nullability at every depth is erased.
+    /// Whether the types are equal if nullability is ignored at every depth.
     pub fn eq_ignore_nullability(&self, other: &DType) -> bool
         ensures { IsTrue result ↔ Same (type_of self.now) (type_of other.now) }
     {
         equality::equal(false, self, other)
     }
 
-    /// Feeds what the type says once every nullability at every depth is erased.
+    /// Feeds the hasher, ignoring nullability at every depth.
     pub fn hash_ignore_nullability<H: Hasher>(&self, state: &mut H)
         ensures { state.new ≡ fold H.write state.old (tree_feed (erase (type_of self.now))) }
     {
         hashing::feed(false, self, state);
     }
 
-    /// Whether the type is one of texts; an extension over one is not.
+    /// Whether the type is `Utf8`. An extension over `Utf8` is not.
     pub fn is_utf8(&self) -> bool
         ensures { result ≡ is_utf8_type (type_of self.now) }
     {
         matches!(self, DType::Utf8(_))
     }
 
-    /// Whether the type is one of strings of bytes; an extension over one is not.
+    /// Whether the type is `Binary`. An extension over `Binary` is not.
     pub fn is_binary(&self) -> bool
         ensures { result ≡ is_binary_type (type_of self.now) }
     {
         matches!(self, DType::Binary(_))
     }
 
-    /// Whether the type is a map; an extension over one is not.
+    /// Whether the type is a map. An extension over one is not.
     pub fn is_map(&self) -> bool
         ensures { result ≡ is_map_type (type_of self.now) }
     {
         matches!(self, DType::Map(_, _))
     }
 
-    /// Whether the type is a union; an extension over one is not.
+    /// Whether the type is a union. An extension over one is not.
     pub fn is_union(&self) -> bool
         ensures { result ≡ is_union_type (type_of self.now) }
     {
@@ -233,7 +233,7 @@ impl DType {
         matches!(self, DType::Extension(_))
     }
 
-    /// What a map type holds, and none exactly for another type.
+    /// The key and value types of a map type. `None` exactly for another type.
     pub fn as_map_opt(&self) -> Option<&MapDType>
         ensures { option_map (λ map. map_of map.now) result ≡ map_in (type_of self.now) }
     {
@@ -243,8 +243,7 @@ impl DType {
         }
     }
 
-    /// What a struct type holds, and none exactly for another type.
-    #[tactic(auto, using(crate::proofs::HeldParts::shown))]
+    /// The fields of a struct type. `None` exactly for another type.
     pub fn as_struct_fields_opt(&self) -> Option<&StructFields>
         ensures { option_map (λ fields. fields_of fields.now) result
             ≡ fields_in (type_of self.now) }
@@ -255,8 +254,7 @@ impl DType {
         }
     }
 
-    /// What a union type holds, and none exactly for another type.
-    #[tactic(auto, using(crate::proofs::HeldParts::shown))]
+    /// The variants of a union type. `None` exactly for another type.
     pub fn as_union_variants_opt(&self) -> Option<&UnionVariants>
         ensures { option_map (λ variants. variants_of variants.now) result
             ≡ variants_in (type_of self.now) }
@@ -267,7 +265,7 @@ impl DType {
         }
     }
 
-    /// What an extension type holds, and none exactly for another type.
+    /// The parts of an extension type. `None` exactly for another type.
     pub fn as_extension_opt(&self) -> Option<&ExtDType>
         ensures { option_map (λ extension. ext_of extension.now) result
             ≡ extension_in (type_of self.now) }
@@ -278,7 +276,7 @@ impl DType {
         }
     }
 
-    /// The element type of a list, of fixed size or not, and none exactly for another type.
+    /// The element type of a list, of fixed size or not. `None` exactly for another type.
     pub fn as_any_size_list_element_opt(&self) -> Option<&DType>
         ensures { option_map (λ element. type_of element.now) result
             ≡ element_in (type_of self.now) }
@@ -290,8 +288,8 @@ impl DType {
         }
     }
 
-    /// The same type, every nullability included, or `OutOfMemory`, which the type of nulls, truth
-    /// values and integers never answer.
+    /// A copy of the type, with every nullability. `OutOfMemory` if there is no memory, which never
+    /// happens for the type of nulls, `Bool` and integers.
     #[inline(always)]
     pub fn clone(&self, alloc: Global) -> Result<DType, VortexError>
         ensures { MatchResult result

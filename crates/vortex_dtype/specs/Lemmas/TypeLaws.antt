@@ -1,5 +1,5 @@
--- The tests of equality decide equality of trees, and with nullability nothing is erased. Lemmas, which implementations of traits
--- and crates above cite.
+-- The tests of equality decide equality of trees, and nothing is erased if nullability counts. Implementations of traits and the
+-- crates above cite these lemmas.
 use Rattle.std.proofs.Common.{◌≡◌, ℕ, List, [], ◌∷◌, Bool, true, true≢false, Option, Some, refl, sym, ap, ◌∙◌, subst}
 use Rattle.std.specs.Bool.{Decides}
 use Rattle.std.specs.Cmp.{IsEquivalence, first_so, second_so, booleans_Decides, unsigned_Decides}
@@ -55,7 +55,7 @@ names_eq-Decides xs ys = slice_eq-Decides bytes_eq-Decides xs ys (names_eq xs ys
 names_eq-refl : (xs : List (List ℕ)) → names_eq xs xs ≡ true
 names_eq-refl xs = (names_eq-Decides xs xs).1 refl
 
--- trees that pass the test are one
+-- trees that pass the test are equal
 mutual
   pub tree_eq-same : (s t : TypeTree) → tree_eq s t ≡ true → s ≡ t
   tree_eq-same null_type null_type e = refl
@@ -130,7 +130,7 @@ mutual
 pub tree_eq-Decides : (s t : TypeTree) → Decides (tree_eq s t) (s ≡ t)
 tree_eq-Decides s t = (tree_eq-same s t, λ e. subst (λ u. tree_eq s u ≡ true) e (tree_eq-refl s))
 
--- where nullability counts, nothing is erased
+-- if nullability counts, nothing is erased
 mutual
   pub trim-exact : (t : TypeTree) → trim true t ≡ t
   trim-exact null_type = refl
@@ -150,12 +150,12 @@ mutual
   trim_all-exact no_types = refl
   trim_all-exact (type_then t ts) = let a = trim-exact t in let b = trim_all-exact ts in cc
 
--- below its extensions a type takes a null where it does itself
+-- a type takes a null exactly if it does so below its extensions
 pub is_nullable-storage : (t : TypeTree) → is_nullable (storage t) ≡ is_nullable t
 is_nullable-storage (extension_type id metadata t) = is_nullable-storage t
 is_nullable-storage _ = refl
 
--- a test that decides `≡` is an equivalence
+-- a test that decides equality is an equivalence
 pub equiv-from_Decides : {K : Type 0} (E : K → K → Bool) → ((x y : K) → Decides (E x y) (x ≡ y)) → IsEquivalence E
 equiv-from_Decides E d = record {
   refl = λ x. (d x x).1 refl;
@@ -166,19 +166,19 @@ equiv-from_Decides E d = record {
 pub tree_eq-equiv : IsEquivalence tree_eq
 tree_eq-equiv = equiv-from_Decides tree_eq tree_eq-Decides
 
--- the list that a tree holds is the list that it was made of
+-- the list inside a tree is the list that it was made of
 pub listed_types-as_type_trees : (ts : List TypeTree) → listed_types (as_type_trees ts) ≡ ts
 listed_types-as_type_trees [] = refl
 listed_types-as_type_trees (t ∷ ts) = ap (λ us. t ∷ us) (listed_types-as_type_trees ts)
 
--- a struct or a union type holds what it was made of
+-- a struct or a union type has the parts that it was made of
 pub fields_in-struct_type_of : (f : FieldParts) (n : Nullability) → fields_in (struct_type_of f n) ≡ Some f
 fields_in-struct_type_of f n = ap (λ ts. Some (record { names = f.names; types = ts })) (listed_types-as_type_trees f.types)
 
 pub variants_in-union_type_of : (v : VariantParts) (n : Nullability) → variants_in (union_type_of v n) ≡ Some v
 variants_in-union_type_of v n = ap (λ ts. Some (record { names = v.names; types = ts; type_ids = v.type_ids })) (listed_types-as_type_trees v.types)
 
--- parts that a type holds pass a test exactly where they are one, if it is the test of the types that they make
+-- parts pass a test exactly if they are equal, provided that it is the test of the types that they make
 parts_Decides : {P : Type 0} (made : P → TypeTree) (held : TypeTree → Option P) (test : P → P → Bool)
     → ((p : P) → held (made p) ≡ Some p)
     → ((p q : P) → test p q ≡ tree_eq (trim true (made p)) (trim true (made q)))

@@ -1,4 +1,4 @@
--- The tree of a declared type, variant by variant. Lemmas, which crates above cite.
+-- The tree of each variant of `DType`. The crates above cite these lemmas.
 use Rattle.std.proofs.Common.{◌≡◌, ℕ, Box, Global, rules}
 use Rattle.vortex_dtype.specs.declared.nullability.Nullability.{Nullability}
 use Rattle.vortex_dtype.specs.declared.ptype.PType.{PType}

@@ -1,12 +1,7 @@
 //! Copies of types and of their parts.
 
 ghost use Rattle.std.specs.Prelude.{◌≡◌, ◌<◌, IfOk, MatchResult, map};
-ghost use Rattle.std.specs.Vec.{vec_capacity, vec_len};
-ghost use Rattle.vortex_dtype.specs.Copies.{Adds};
-ghost use Rattle.vortex_dtype.specs.Memory.{GivesOrNoMemory};
-ghost use Rattle.vortex_dtype.specs.TypeTree.{IsFlat, fixed_size_list_type, integer_type, list_type, utf8_type};
-ghost use Rattle.vortex_dtype.specs.TypeOf.{type_of, fields_of, lists_of, variants_of, map_of, ext_of, map_type_of, struct_type_of, union_type_of, extension_type_of};
-ghost use Rattle.vortex_dtype.specs.declared.error.VortexError.TheVariants.{OutOfMemory};
+ghost use Rattle.vortex_dtype.specs.Words.{Adds, GivesOrNoMemory, IsFlat, OutOfMemory, ext_of, extension_type_of, fields_of, fixed_size_list_type, integer_type, list_type, lists_of, map_of, map_type_of, struct_type_of, type_of, union_type_of, utf8_type, variants_of, vec_capacity, vec_len};
 
 use super::{DType, ExtDType, FieldLists, HeldFields, MapDType, StructFields, UnionVariants};
 use crate::error::VortexError;
@@ -15,73 +10,62 @@ use crate::nullability::Nullability;
 use crate::ptype::PType;
 use std::alloc::{AllocError, Global};
 
-/// The same names.
+/// Copies names.
 fn copy_names(alloc: Global, names: &[FieldName]) -> Result<Vec<FieldName>, AllocError>
     ensures { IfOk result (λ copies. copies.items ≡ names.now) }
 {
     let mut copies = Vec::with_capacity(alloc, names.len())?;
     for name in names {
-        match name.clone(alloc) {
-            Ok(name) => copies.push_reserved(name),
-            Err(_) => return Err(AllocError),
-        }
+        copies.push_reserved(name.clone(alloc).map_err(|_| AllocError)?);
     }
     Ok(copies)
 }
 
-/// The type in a box.
-#[inline(always)]
-fn boxed(alloc: Global, dtype: DType) -> Result<Box<DType>, AllocError>
-    ensures { IfOk result (λ made. made.value ≡ dtype) }
-{
-    match Box::new(alloc, dtype) {
-        Ok(made) => Ok(made),
-        Err(_) => Err(AllocError),
-    }
-}
-
-/// The same type, in a box of its own. The kinds that most parts have are made where they stand.
+/// Copies a type into a box. Integers and strings, which most parts are, have functions of their
+/// own.
 #[cycle(copy)]
 #[inline(always)]
 fn copy_box(alloc: Global, dtype: &DType) -> Result<Box<DType>, AllocError>
     ensures { IfOk result (λ c. type_of c.value ≡ type_of dtype.now) }
 {
     match dtype {
-        DType::Primitive(ptype, n) => box_primitive(alloc, *ptype, *n),
-        DType::Utf8(n) => box_utf8(alloc, *n),
+        DType::Primitive(ptype, nullability) => box_primitive(alloc, *ptype, *nullability),
+        DType::Utf8(nullability) => box_utf8(alloc, *nullability),
         _ => box_whole(alloc, dtype),
     }
 }
 
-/// A type of integers in a box.
+/// Makes a type of integers in a box.
 #[inline(never)]
-fn box_primitive(alloc: Global, ptype: PType, n: Nullability) -> Result<Box<DType>, AllocError>
-    ensures { IfOk result (λ made. type_of made.value ≡ integer_type ptype n) }
+fn box_primitive(
+    alloc: Global,
+    ptype: PType,
+    nullability: Nullability,
+) -> Result<Box<DType>, AllocError>
+    ensures { IfOk result (λ made. type_of made.value ≡ integer_type ptype nullability) }
 {
-    boxed(alloc, DType::Primitive(ptype, n))
+    Ok(Box::new(alloc, DType::Primitive(ptype, nullability))?)
 }
 
-/// The type of texts in a box.
+/// Makes a type of strings in a box.
 #[inline(never)]
-fn box_utf8(alloc: Global, n: Nullability) -> Result<Box<DType>, AllocError>
-    ensures { IfOk result (λ made. type_of made.value ≡ utf8_type n) }
+fn box_utf8(alloc: Global, nullability: Nullability) -> Result<Box<DType>, AllocError>
+    ensures { IfOk result (λ made. type_of made.value ≡ utf8_type nullability) }
 {
-    boxed(alloc, DType::Utf8(n))
+    Ok(Box::new(alloc, DType::Utf8(nullability))?)
 }
 
-/// A copy of any type in a box.
+/// Copies any type into a box.
 #[cycle(copy)]
 #[inline(never)]
 fn box_whole(alloc: Global, dtype: &DType) -> Result<Box<DType>, AllocError>
     ensures { IfOk result (λ c. type_of c.value ≡ type_of dtype.now) }
 {
-    match copy(alloc, dtype) {
-        Ok(dtype) => boxed(alloc, dtype),
-        Err(_) => Err(AllocError),
-    }
+    let dtype = copy(alloc, dtype).map_err(|_| AllocError)?;
+    Ok(Box::new(alloc, dtype)?)
 }
 
-/// The same types.
+/// Copies types.
 #[cycle(copy)]
 fn copy_all(alloc: Global, dtypes: &[DType]) -> Result<Vec<DType>, AllocError>
     ensures { IfOk result (λ copies. map type_of copies.items ≡ map type_of dtypes.now) }
@@ -93,7 +77,7 @@ fn copy_all(alloc: Global, dtypes: &[DType]) -> Result<Vec<DType>, AllocError>
     Ok(copies)
 }
 
-/// Appends the same type, as `copy_box` makes it.
+/// Appends a copy of a type, by the cases of `copy_box`.
 #[cycle(copy)]
 #[inline(always)]
 fn push_copy(alloc: Global, dtype: &DType, copies: &mut Vec<DType>) -> Result<(), AllocError>
@@ -101,29 +85,33 @@ fn push_copy(alloc: Global, dtype: &DType, copies: &mut Vec<DType>) -> Result<()
     ensures { IfOk result (λ _. Adds copies.old copies.new (type_of dtype.now)) }
 {
     match dtype {
-        DType::Primitive(ptype, n) => push_primitive(*ptype, *n, copies),
-        DType::Utf8(n) => push_utf8(*n, copies),
+        DType::Primitive(ptype, nullability) => push_primitive(*ptype, *nullability, copies),
+        DType::Utf8(nullability) => push_utf8(*nullability, copies),
         _ => push_whole(alloc, dtype, copies),
     }
 }
 
 /// Appends a type of integers.
 #[inline(never)]
-fn push_primitive(ptype: PType, n: Nullability, copies: &mut Vec<DType>) -> Result<(), AllocError>
+fn push_primitive(
+    ptype: PType,
+    nullability: Nullability,
+    copies: &mut Vec<DType>,
+) -> Result<(), AllocError>
     requires { vec_len copies.old < vec_capacity copies.old }
-    ensures { IfOk result (λ _. Adds copies.old copies.new (integer_type ptype n)) }
+    ensures { IfOk result (λ _. Adds copies.old copies.new (integer_type ptype nullability)) }
 {
-    copies.push_reserved(DType::Primitive(ptype, n));
+    copies.push_reserved(DType::Primitive(ptype, nullability));
     Ok(())
 }
 
-/// Appends the type of texts.
+/// Appends a type of strings.
 #[inline(never)]
-fn push_utf8(n: Nullability, copies: &mut Vec<DType>) -> Result<(), AllocError>
+fn push_utf8(nullability: Nullability, copies: &mut Vec<DType>) -> Result<(), AllocError>
     requires { vec_len copies.old < vec_capacity copies.old }
-    ensures { IfOk result (λ _. Adds copies.old copies.new (utf8_type n)) }
+    ensures { IfOk result (λ _. Adds copies.old copies.new (utf8_type nullability)) }
 {
-    copies.push_reserved(DType::Utf8(n));
+    copies.push_reserved(DType::Utf8(nullability));
     Ok(())
 }
 
@@ -134,19 +122,14 @@ fn push_whole(alloc: Global, dtype: &DType, copies: &mut Vec<DType>) -> Result<(
     requires { vec_len copies.old < vec_capacity copies.old }
     ensures { IfOk result (λ _. Adds copies.old copies.new (type_of dtype.now)) }
 {
-    match copy(alloc, dtype) {
-        Ok(dtype) => {
-            copies.push_reserved(dtype);
-            Ok(())
-        }
-        Err(_) => Err(AllocError),
-    }
+    copies.push_reserved(copy(alloc, dtype).map_err(|_| AllocError)?);
+    Ok(())
 }
 
-/// The same type. Types whose values take no memory take none either.
+/// Copies a type. Never `OutOfMemory` for a flat type.
 ///
-/// A type without parts is copied where the call stands. Each that has parts goes to a function of
-/// its own, which alone pays for what it holds.
+/// A type without parts is copied inline at the call. A type with parts goes to a function of its
+/// own, so that only its copies pay for the locals.
 #[cycle(copy)]
 #[inline(always)]
 pub(super) fn copy(alloc: Global, dtype: &DType) -> Result<DType, VortexError>
@@ -156,71 +139,88 @@ pub(super) fn copy(alloc: Global, dtype: &DType) -> Result<DType, VortexError>
 {
     match dtype {
         DType::Null => Ok(DType::Null),
-        DType::Bool(n) => Ok(DType::Bool(*n)),
-        DType::Primitive(ptype, n) => Ok(DType::Primitive(*ptype, *n)),
-        DType::Utf8(n) => Ok(DType::Utf8(*n)),
-        DType::Binary(n) => Ok(DType::Binary(*n)),
-        DType::List(element, n) => copy_list(alloc, element, *n),
-        DType::FixedSizeList(element, size, n) => copy_sized(alloc, element, *size, *n),
-        DType::Map(map, n) => copy_map_type(alloc, map, *n),
-        DType::Struct(fields, n) => copy_struct(alloc, fields, *n),
-        DType::Union(variants, n) => copy_union(alloc, variants, *n),
-        DType::Variant(n) => Ok(DType::Variant(*n)),
+        DType::Bool(nullability) => Ok(DType::Bool(*nullability)),
+        DType::Primitive(ptype, nullability) => Ok(DType::Primitive(*ptype, *nullability)),
+        DType::Utf8(nullability) => Ok(DType::Utf8(*nullability)),
+        DType::Binary(nullability) => Ok(DType::Binary(*nullability)),
+        DType::List(element, nullability) => copy_list(alloc, element, *nullability),
+        DType::FixedSizeList(element, size, nullability) => copy_sized(
+            alloc,
+            element,
+            *size,
+            *nullability,
+        ),
+        DType::Map(map, nullability) => copy_map_type(alloc, map, *nullability),
+        DType::Struct(fields, nullability) => copy_struct(alloc, fields, *nullability),
+        DType::Union(variants, nullability) => copy_union(alloc, variants, *nullability),
+        DType::Variant(nullability) => Ok(DType::Variant(*nullability)),
         DType::Extension(extension) => copy_over(alloc, extension),
     }
 }
 
-/// The type of lists of the same elements.
+/// Copies a type of lists.
 #[cycle(copy)]
 #[inline(never)]
-fn copy_list(alloc: Global, element: &DType, n: Nullability) -> Result<DType, VortexError>
-    ensures { GivesOrNoMemory (λ c. type_of c ≡ list_type (type_of element.now) n) result }
+fn copy_list(alloc: Global, element: &DType, nullability: Nullability) -> Result<DType, VortexError>
+    ensures { GivesOrNoMemory (λ c. type_of c ≡ list_type (type_of element.now) nullability) result }
 {
-    Ok(DType::List(copy_box(alloc, element)?, n))
+    Ok(DType::List(copy_box(alloc, element)?, nullability))
 }
 
-/// The type of lists of so many of the same elements.
+/// Copies a type of lists of this length.
 #[cycle(copy)]
 #[inline(never)]
 fn copy_sized(
     alloc: Global,
     element: &DType,
     size: u32,
-    n: Nullability,
+    nullability: Nullability,
 ) -> Result<DType, VortexError>
-    ensures { GivesOrNoMemory (λ c. type_of c ≡ fixed_size_list_type (type_of element.now) size n) result }
+    ensures { GivesOrNoMemory (λ c. type_of c ≡ fixed_size_list_type (type_of element.now) size nullability) result }
 {
-    Ok(DType::FixedSizeList(copy_box(alloc, element)?, size, n))
+    Ok(DType::FixedSizeList(copy_box(alloc, element)?, size, nullability))
 }
 
-/// The type of the same maps.
+/// Copies a type of maps.
 #[cycle(copy)]
 #[inline(never)]
-fn copy_map_type(alloc: Global, map: &MapDType, n: Nullability) -> Result<DType, VortexError>
-    ensures { GivesOrNoMemory (λ c. type_of c ≡ map_type_of (map_of map.now) n) result }
+fn copy_map_type(
+    alloc: Global,
+    map: &MapDType,
+    nullability: Nullability,
+) -> Result<DType, VortexError>
+    ensures { GivesOrNoMemory (λ c. type_of c ≡ map_type_of (map_of map.now) nullability) result }
 {
-    Ok(DType::Map(copy_map(alloc, map)?, n))
+    Ok(DType::Map(copy_map(alloc, map)?, nullability))
 }
 
-/// The type of structs of the same fields.
+/// Copies a type of structs.
 #[cycle(copy)]
 #[inline(never)]
-fn copy_struct(alloc: Global, fields: &StructFields, n: Nullability) -> Result<DType, VortexError>
-    ensures { GivesOrNoMemory (λ c. type_of c ≡ struct_type_of (fields_of fields.now) n) result }
+fn copy_struct(
+    alloc: Global,
+    fields: &StructFields,
+    nullability: Nullability,
+) -> Result<DType, VortexError>
+    ensures { GivesOrNoMemory (λ c. type_of c ≡ struct_type_of (fields_of fields.now) nullability) result }
 {
-    Ok(DType::Struct(copy_fields(alloc, fields)?, n))
+    Ok(DType::Struct(copy_fields(alloc, fields)?, nullability))
 }
 
-/// The type of unions of the same variants.
+/// Copies a type of unions.
 #[cycle(copy)]
 #[inline(never)]
-fn copy_union(alloc: Global, variants: &UnionVariants, n: Nullability) -> Result<DType, VortexError>
-    ensures { GivesOrNoMemory (λ c. type_of c ≡ union_type_of (variants_of variants.now) n) result }
+fn copy_union(
+    alloc: Global,
+    variants: &UnionVariants,
+    nullability: Nullability,
+) -> Result<DType, VortexError>
+    ensures { GivesOrNoMemory (λ c. type_of c ≡ union_type_of (variants_of variants.now) nullability) result }
 {
-    Ok(DType::Union(copy_variants(alloc, variants)?, n))
+    Ok(DType::Union(copy_variants(alloc, variants)?, nullability))
 }
 
-/// The same extension type.
+/// Copies an extension type.
 #[cycle(copy)]
 #[inline(never)]
 fn copy_over(alloc: Global, extension: &ExtDType) -> Result<DType, VortexError>
@@ -229,7 +229,7 @@ fn copy_over(alloc: Global, extension: &ExtDType) -> Result<DType, VortexError>
     Ok(DType::Extension(copy_extension(alloc, extension)?))
 }
 
-/// The same map parts.
+/// Copies the parts of a map type.
 #[cycle(copy)]
 pub(super) fn copy_map(alloc: Global, map: &MapDType) -> Result<MapDType, VortexError>
     ensures { GivesOrNoMemory (λ c. map_of c ≡ map_of map.now) result }
@@ -241,7 +241,8 @@ pub(super) fn copy_map(alloc: Global, map: &MapDType) -> Result<MapDType, Vortex
     })
 }
 
-/// The same fields, shared where these are and one more owner can be counted, and else copied.
+/// Copies fields: shares them if they are shared and one more owner can be counted, and otherwise
+/// copies each.
 #[cycle(copy)]
 pub(super) fn copy_fields(alloc: Global, fields: &StructFields) -> Result<StructFields, VortexError>
     ensures { GivesOrNoMemory (λ c. fields_of c ≡ fields_of fields.now) result }
@@ -253,10 +254,10 @@ pub(super) fn copy_fields(alloc: Global, fields: &StructFields) -> Result<Struct
             return Ok(StructFields { held });
         }
     }
-    Ok(StructFields::holding(alloc, copy_lists(alloc, fields.lists())?))
+    Ok(StructFields::from_lists(alloc, copy_lists(alloc, fields.lists())?))
 }
 
-/// The same names and types.
+/// Copies the names and types of fields.
 #[cycle(copy)]
 fn copy_lists(alloc: Global, lists: &FieldLists) -> Result<FieldLists, VortexError>
     ensures { GivesOrNoMemory (λ c. lists_of c ≡ lists_of lists.now) result }
@@ -267,7 +268,7 @@ fn copy_lists(alloc: Global, lists: &FieldLists) -> Result<FieldLists, VortexErr
     })
 }
 
-/// The same variants.
+/// Copies the variants of a union type.
 #[cycle(copy)]
 pub(super) fn copy_variants(
     alloc: Global,
@@ -282,7 +283,7 @@ pub(super) fn copy_variants(
     })
 }
 
-/// The same extension.
+/// Copies the parts of an extension type.
 #[cycle(copy)]
 pub(super) fn copy_extension(alloc: Global, extension: &ExtDType) -> Result<ExtDType, VortexError>
     ensures { GivesOrNoMemory (λ c. ext_of c ≡ ext_of extension.now) result }

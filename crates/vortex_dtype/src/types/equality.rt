@@ -1,25 +1,20 @@
 //! Equality of types and of their parts, with and without nullability: one recursion for both.
 
 ghost use Rattle.std.specs.Prelude.{◌≡◌, true};
-ghost use Rattle.std.specs.Cmp.{partial_equiv_from_equiv};
-ghost use Rattle.std.specs.Ordering.{on};
-ghost use Rattle.std.proofs.lemmas.Cmp.{on_equiv};
-ghost use Rattle.vortex_dtype.specs.TypeTree.{keep, trim, trim_all};
-ghost use Rattle.vortex_dtype.specs.TypeEquality.{tree_eq, trees_eq, nullability_eq, fields_eq, variants_eq, map_eq, ext_eq};
 ghost use Rattle.vortex_dtype.specs.Lemmas.TypeLaws.{tree_eq-equiv, equiv-from_Decides, map_eq-Decides, fields_eq-Decides, variants_eq-Decides, ext_eq-Decides};
-ghost use Rattle.vortex_dtype.specs.TypeOf.{type_of, dtype_trees, fields_of, lists_of, variants_of, map_of, ext_of};
+ghost use Rattle.vortex_dtype.specs.Words.{dtype_trees, ext_eq, ext_of, fields_eq, fields_of, keep, lists_of, map_eq, map_of, nullability_eq, on, on_equiv, partial_equiv_from_equiv, tree_eq, trees_eq, trim, trim_all, type_of, variants_eq, variants_of};
 
 use super::{DType, ExtDType, FieldLists, MapDType, StructFields, UnionVariants};
 use crate::nullability::Nullability;
 
-/// Whether two nullabilities agree; they all do where nullability does not count.
+/// Whether two nullabilities are equal; if `exact` is false, all are.
 fn nullabilities_agree(exact: bool, a: Nullability, b: Nullability) -> bool
     ensures { result ≡ nullability_eq (keep exact a) (keep exact b) }
 {
     !exact || a == b
 }
 
-/// Whether two types are equal; where `exact` is false, up to nullability.
+/// Whether two types are equal; if `exact` is false, up to nullability.
 #[cycle(equal)]
 pub(super) fn equal(exact: bool, a: &DType, b: &DType) -> bool
     ensures { result ≡ tree_eq (trim exact (type_of a.now)) (trim exact (type_of b.now)) }
@@ -77,7 +72,6 @@ fn lists_equal(exact: bool, a: &FieldLists, b: &FieldLists) -> bool
 }
 
 #[cycle(equal)]
-#[tactic(auto, using(crate::proofs::HeldParts::held))]
 fn variants_equal(exact: bool, a: &UnionVariants, b: &UnionVariants) -> bool
     ensures { result ≡ variants_eq exact (variants_of a.now) (variants_of b.now) }
 {

@@ -1,9 +1,7 @@
 //! Extension types: a name and metadata over a storage type.
 
 ghost use Rattle.std.specs.Prelude.{◌≡◌};
-ghost use Rattle.vortex_dtype.specs.Memory.{GivesOrNoMemory};
-ghost use Rattle.vortex_dtype.specs.Parts.{nullable_extension};
-ghost use Rattle.vortex_dtype.specs.TypeOf.{type_of, ext_of};
+ghost use Rattle.vortex_dtype.specs.Words.{GivesOrNoMemory, ext_of, nullable_extension, type_of};
 
 use super::copies::copy_extension;
 use super::{DType, ExtDType};
@@ -13,7 +11,8 @@ use std::alloc::Global;
 use std::mem;
 
 impl ExtDType {
-    /// The extension of this id and metadata over this storage type, or `OutOfMemory`.
+    /// The extension with this id and metadata over this storage type. `OutOfMemory` if there is no
+    /// memory for it.
     ///
     /// Ports `ExtDType::try_new`, which also asks the extension whether it takes the storage.
     pub fn new(
@@ -46,21 +45,21 @@ impl ExtDType {
         &self.metadata
     }
 
-    /// The type of what the extension stores.
+    /// The storage type.
     pub fn storage_dtype(&self) -> &DType
         ensures tree { type_of result.now ≡ (ext_of self.now).storage }
     {
         &self.storage
     }
 
-    /// The same parts, or `OutOfMemory`.
+    /// A copy. `OutOfMemory` if there is no memory for it.
     pub fn clone(&self, alloc: Global) -> Result<ExtDType, VortexError>
         ensures { GivesOrNoMemory (λ copy. ext_of copy ≡ ext_of self.now) result }
     {
         copy_extension(alloc, self)
     }
 
-    /// The same extension over its storage made nullable, in the box that it has.
+    /// This extension, with its storage type made nullable in its box.
     #[cycle(as_nullable)]
     pub(super) fn as_nullable(self) -> ExtDType
         ensures { ext_of result ≡ nullable_extension (ext_of self) }

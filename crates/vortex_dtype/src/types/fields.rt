@@ -1,14 +1,7 @@
 //! The fields of structs.
 
 ghost use Rattle.std.specs.Prelude.{◌≡◌, ◌<◌, IfOk, IsOkAnd, length, option_map, slice_get, position, map, false};
-ghost use Rattle.std.specs.Str.{bytes_eq};
-ghost use Rattle.vortex_dtype.specs.Memory.{GivesOrNoMemory};
-ghost use Rattle.vortex_dtype.specs.Names.{names_in};
-ghost use Rattle.vortex_dtype.specs.Parts.{IsProjection, field_index, type_named};
-ghost use Rattle.vortex_dtype.specs.Refusals.{RefusesOrNoMemory, misses_a_name, project_cause};
-ghost use Rattle.vortex_dtype.specs.TypeOf.{type_of, fields_of, lists_of};
-ghost use Rattle.vortex_dtype.specs.declared.types.FieldLists.{size-FieldLists};
-ghost use Rattle.vortex_dtype.specs.declared.types.StructFields.{size-StructFields};
+ghost use Rattle.vortex_dtype.specs.Words.{GivesOrNoMemory, IsProjection, RefusesOrNoMemory, bytes_eq, field_index, fields_of, lists_of, misses_a_name, names_in, project_cause, size-FieldLists, size-StructFields, type_named, type_of};
 
 use super::copies::copy_fields;
 use super::{DType, FieldLists, HeldFields, StructFields};
@@ -18,11 +11,11 @@ use std::alloc::Global;
 use std::sync::Arc;
 
 impl StructFields {
-    /// The fields with these names and types. The caller knows that they are equally many. Never
-    /// refused: one allocation is asked for, by which copies share the fields; where there is none
-    /// for that, a copy is made part by part.
+    /// The fields with these names and types, which must be equally many. Never refused: one
+    /// allocation is tried, so that copies can share the fields. Without it, `clone` copies them one
+    /// by one.
     ///
-    /// Ports `StructFields::new`, which panics where the lengths differ.
+    /// Ports `StructFields::new`, which panics if the lengths differ.
     pub fn new(
         alloc: Global,
         names: Vec<FieldName>,
@@ -32,11 +25,11 @@ impl StructFields {
         ensures { IsOkAnd result (λ fields.
             fields_of fields ≡ record { names = names.items; types = map type_of dtypes.items }) }
     {
-        Ok(StructFields::holding(alloc, FieldLists { names, dtypes }))
+        Ok(StructFields::from_lists(alloc, FieldLists { names, dtypes }))
     }
 
-    /// The fields of these lists, which copies share where there is memory for it.
-    pub(super) fn holding(alloc: Global, lists: FieldLists) -> StructFields
+    /// The fields in these lists, which copies share if there is memory for that.
+    pub(super) fn from_lists(alloc: Global, lists: FieldLists) -> StructFields
         ensures { fields_of result ≡ lists_of lists }
     {
         let held = match Arc::new(alloc, lists) {
@@ -71,23 +64,23 @@ impl StructFields {
         FieldNames::of(&self.lists().names)
     }
 
-    /// The types, in order. Of this port alone: what a recursion over types goes down.
+    /// The types, in order. Of this port alone, for recursions over types.
     pub fn dtypes(&self) -> &[DType]
         ensures trees { map type_of result.now ≡ (fields_of self.now).types }
     {
         &self.lists().dtypes
     }
 
-    /// The place of the first field with the name, and none exactly where no field has it.
+    /// The place of the first field with the name. `None` exactly if no field has it.
     pub fn find(&self, name: &str) -> Option<usize>
         ensures { result ≡ field_index (fields_of self.now) name.now }
     {
         find_name(&self.lists().names, name)
     }
 
-    /// The type of the field at this place, and none exactly past the end.
+    /// The type of the field at this place. `None` exactly past the end.
     ///
-    /// Ports `StructFields::field_by_index`, which borrows nothing.
+    /// Ports `StructFields::field_by_index`, which gives an owned type.
     pub fn field_by_index(&self, index: usize) -> Option<&DType>
         ensures tree { option_map (λ dtype. type_of dtype.now) result
             ≡ slice_get (fields_of self.now).types index }
@@ -95,9 +88,9 @@ impl StructFields {
         dtype_at(&self.lists().dtypes, index)
     }
 
-    /// For each of the names, in their order, that name and the type of the first field that has
-    /// it. `NoField` exactly where some name is the name of no field, and this before any memory is
-    /// asked for; else `OutOfMemory` where there is none.
+    /// For each of the names, in order, that name and the type of the first field that has it.
+    /// `NoField` exactly if some name belongs to no field, tested before any allocation. Otherwise
+    /// `OutOfMemory` if there is no memory.
     pub fn project(&self, alloc: Global, names: &[FieldName]) -> Result<StructFields, VortexError>
         ensures refused { RefusesOrNoMemory (project_cause (fields_of self.now) names.now) result }
         ensures made { IfOk result (λ fields.
@@ -109,7 +102,7 @@ impl StructFields {
         self.project_found(alloc, names)
     }
 
-    /// Whether some name is the name of no field.
+    /// Whether some name belongs to no field.
     fn misses_a_name(&self, names: &[FieldName]) -> bool
         ensures { result ≡ misses_a_name (fields_of self.now) names.now }
     {
@@ -121,7 +114,7 @@ impl StructFields {
         false
     }
 
-    /// The fields of these names, of which each is known to be a field's.
+    /// The fields with these names. There must be a field for each.
     fn project_found(&self, alloc: Global, names: &[FieldName]) -> Result<StructFields, VortexError>
         requires { misses_a_name (fields_of self.now) names.now ≡ false }
         ensures { GivesOrNoMemory
@@ -134,7 +127,7 @@ impl StructFields {
             kept.push(name.clone(alloc)?)?;
             dtypes.push(dtype.clone(alloc)?)?;
         }
-        Ok(StructFields::holding(
+        Ok(StructFields::from_lists(
             alloc,
             FieldLists {
                 names: kept,
@@ -151,8 +144,8 @@ impl StructFields {
         dtype_at(&self.lists().dtypes, self.find(name)?)
     }
 
-    /// The same names and types, shared with these. Only where memory was wanting when these were
-    /// made, or no more owners can be counted, is each copied, which may answer `OutOfMemory`.
+    /// A copy, which shares the names and types. They are copied one by one, which may answer
+    /// `OutOfMemory`, only if they could not be made shared, or if no further owner can be counted.
     pub fn clone(&self, alloc: Global) -> Result<StructFields, VortexError>
         ensures { GivesOrNoMemory (λ copy. fields_of copy ≡ fields_of self.now) result }
     {
@@ -160,10 +153,10 @@ impl StructFields {
     }
 }
 
-// Functions of one line over a list alone: what the methods above say of the fold of a type, the
-// prover finds from their contracts, and not from the line itself.
+// These functions are one line each, over a list alone. The methods above speak of the fold of a
+// type, and the prover proves them from these contracts, but not from the lines themselves.
 
-/// The place of the first of the names that is this text.
+/// The place of the first of the names that is this string.
 fn find_name(names: &[FieldName], name: &str) -> Option<usize>
     ensures { result ≡ position (λ n. bytes_eq n name.now) names.now }
 {

@@ -1,22 +1,18 @@
 //! What types and their parts feed a hasher, with and without nullability: one recursion for both.
 
 ghost use Rattle.std.specs.Prelude.{◌≡◌, fold, true};
-ghost use Rattle.std.proofs.Common.{ap};
-ghost use Rattle.std.specs.Hash as fed;
-ghost use Rattle.vortex_dtype.specs.TypeTree.{keep, trim, trim_all};
 ghost use Rattle.vortex_dtype.specs.Lemmas.TypeLaws.{tree_eq-same, map_eq-Decides, fields_eq-Decides, variants_eq-Decides, ext_eq-Decides};
-ghost use Rattle.vortex_dtype.specs.Feeds.{variant_number, tree_feed, trees_feed, nullability_feed, map_feed, fields_feed, variants_feed, ext_feed};
-ghost use Rattle.vortex_dtype.specs.TypeOf.{type_of, dtype_trees, fields_of, lists_of, variants_of, map_of, ext_of};
+ghost use Rattle.vortex_dtype.specs.Words.{ap, dtype_trees, ext_feed, ext_of, fields_feed, fields_of, keep, lists_of, map_feed, map_of, nullability_feed, tree_feed, trees_feed, trim, trim_all, type_of, variant_number, variants_feed, variants_of};
 
 use super::{DType, ExtDType, FieldLists, MapDType, StructFields, UnionVariants};
 use crate::nullability::Nullability;
 use std::hash::{Hash, Hasher};
 
-/// Feeds a nullability; all feed the same where nullability does not count.
-fn feed_nullability<H: Hasher>(exact: bool, n: Nullability, state: &mut H)
-    ensures { state.new ≡ fold H.write state.old (nullability_feed (keep exact n)) }
+/// Feeds a nullability; if `exact` is false, all feed alike.
+fn feed_nullability<H: Hasher>(exact: bool, nullability: Nullability, state: &mut H)
+    ensures { state.new ≡ fold H.write state.old (nullability_feed (keep exact nullability)) }
 {
-    match n {
+    match nullability {
         Nullability::Nullable if exact => state.write_u8(1),
         _ => state.write_u8(0),
     }
@@ -42,43 +38,46 @@ fn variant_number(dtype: &DType) -> u8
     }
 }
 
-/// Feeds a type; where `exact` is false, without nullability.
+/// Feeds a type; if `exact` is false, without nullability.
 #[cycle(feed)]
 pub(super) fn feed<H: Hasher>(exact: bool, dtype: &DType, state: &mut H)
     ensures { state.new ≡ fold H.write state.old (tree_feed (trim exact (type_of dtype.now))) }
 {
     state.write_u8(variant_number(dtype));
-    let n = match dtype {
+    let nullability = match dtype {
         DType::Null => return,
-        DType::Bool(n) | DType::Utf8(n) | DType::Binary(n) | DType::Variant(n) => *n,
-        DType::Primitive(ptype, n) => {
+        DType::Bool(nullability)
+        | DType::Utf8(nullability)
+        | DType::Binary(nullability)
+        | DType::Variant(nullability) => *nullability,
+        DType::Primitive(ptype, nullability) => {
             state.write_u8(*ptype as u8);
-            *n
+            *nullability
         }
-        DType::List(element, n) => {
+        DType::List(element, nullability) => {
             feed(exact, element, state);
-            *n
+            *nullability
         }
-        DType::FixedSizeList(element, size, n) => {
+        DType::FixedSizeList(element, size, nullability) => {
             feed(exact, element, state);
             state.write_u32(*size);
-            *n
+            *nullability
         }
-        DType::Map(map, n) => {
+        DType::Map(map, nullability) => {
             feed_map(exact, map, state);
-            *n
+            *nullability
         }
-        DType::Struct(fields, n) => {
+        DType::Struct(fields, nullability) => {
             feed_fields(exact, fields, state);
-            *n
+            *nullability
         }
-        DType::Union(variants, n) => {
+        DType::Union(variants, nullability) => {
             feed_variants(exact, variants, state);
-            *n
+            *nullability
         }
         DType::Extension(extension) => return feed_extension(exact, extension, state),
     };
-    feed_nullability(exact, n, state);
+    feed_nullability(exact, nullability, state);
 }
 
 #[cycle(feed)]

@@ -1,9 +1,7 @@
 //! The key and value types of maps.
 
 ghost use Rattle.std.specs.Prelude.{◌≡◌, IfOk};
-ghost use Rattle.vortex_dtype.specs.Memory.{GivesOrNoMemory};
-ghost use Rattle.vortex_dtype.specs.Refusals.{RefusesOrNoMemory, key_cause};
-ghost use Rattle.vortex_dtype.specs.TypeOf.{type_of, map_of};
+ghost use Rattle.vortex_dtype.specs.Words.{GivesOrNoMemory, RefusesOrNoMemory, key_cause, map_of, type_of};
 
 use super::copies::copy_map;
 use super::{DType, MapDType};
@@ -11,8 +9,8 @@ use crate::error::{TypeCause, VortexError};
 use std::alloc::Global;
 
 impl MapDType {
-    /// The parts of a map type. `BadType` with `NullableKey` exactly where the key takes a null,
-    /// and this before any memory is asked for; else `OutOfMemory` where there is none.
+    /// The map with these key and value types. `BadType` with `NullableKey` exactly if the key takes
+    /// a null, tested before any allocation. Otherwise `OutOfMemory` if there is no memory.
     pub fn try_new(
         alloc: Global,
         key: DType,
@@ -35,7 +33,7 @@ impl MapDType {
         })
     }
 
-    /// The key type. It takes no null, as `try_new` saw to.
+    /// The key type. It takes no null, since `try_new` refuses one that does.
     pub fn key_dtype(&self) -> &DType
         ensures tree { type_of result.now ≡ (map_of self.now).key }
     {
@@ -49,14 +47,14 @@ impl MapDType {
         &self.value
     }
 
-    /// Whether the keys of the type's values are sorted.
+    /// Whether the keys of each map value are sorted.
     pub fn keys_sorted(&self) -> bool
         ensures { result ≡ (map_of self.now).keys_sorted }
     {
         self.keys_sorted
     }
 
-    /// The same parts, or `OutOfMemory`.
+    /// A copy. `OutOfMemory` if there is no memory for it.
     pub fn clone(&self, alloc: Global) -> Result<MapDType, VortexError>
         ensures { GivesOrNoMemory (λ copy. map_of copy ≡ map_of self.now) result }
     {

@@ -1,10 +1,7 @@
 //! The variants of unions, and their ids.
 
 ghost use Rattle.std.specs.Prelude.{◌≡◌, ◌==◌, ◌<◌, IfOk, Some, length, option_map, position, slice_get, map};
-ghost use Rattle.vortex_dtype.specs.Memory.{GivesOrNoMemory};
-ghost use Rattle.vortex_dtype.specs.Names.{names_in};
-ghost use Rattle.vortex_dtype.specs.Refusals.{RefusesExactly, repeats, variants_cause};
-ghost use Rattle.vortex_dtype.specs.TypeOf.{type_of, variants_of};
+ghost use Rattle.vortex_dtype.specs.Words.{GivesOrNoMemory, RefusesExactly, YieldsFirst, ids_left, item_count, names_in, repeats, type_of, variants_cause, variants_of};
 
 use super::copies::copy_variants;
 use super::fields::dtype_at;
@@ -15,8 +12,9 @@ use std::alloc::Global;
 use std::slice;
 
 impl UnionVariants {
-    /// The variants with these names, types and ids. `BadType` with `LengthsDiffer` where they are
-    /// not equally many, and else with `RepeatedTypeId` where two ids are equal. Takes no memory.
+    /// The variants with these names, types and ids. `BadType` with `LengthsDiffer` exactly if they
+    /// are not equally many. Otherwise `BadType` with `RepeatedTypeId` exactly if two ids are equal.
+    /// Takes no memory.
     pub fn try_new(
         _alloc: Global,
         names: Vec<FieldName>,
@@ -56,14 +54,14 @@ impl UnionVariants {
         self.type_ids.len()
     }
 
-    /// The place of the variant with the id, and none exactly where no variant has it.
+    /// The place of the variant with the id. `None` exactly if no variant has it.
     pub fn tag_to_child_index(&self, tag: u8) -> Option<usize>
         ensures { result ≡ position (λ id. id == tag) (variants_of self.now).type_ids }
     {
         find_id(&self.type_ids, tag)
     }
 
-    /// The id of the variant at this place, which the caller knows to be below `len`.
+    /// The id of the variant at this place, which must be below `len`.
     ///
     /// Ports `UnionVariants::child_index_to_tag`, which panics past the end.
     pub fn child_index_to_tag(&self, index: usize) -> u8
@@ -73,9 +71,9 @@ impl UnionVariants {
         id_at(&self.type_ids, index)
     }
 
-    /// The type of the variant at this place, and none exactly past the end.
+    /// The type of the variant at this place. `None` exactly past the end.
     ///
-    /// Ports `UnionVariants::variant_by_index`, which borrows nothing.
+    /// Ports `UnionVariants::variant_by_index`, which gives an owned type.
     pub fn variant_by_index(&self, index: usize) -> Option<&DType>
         ensures tree { option_map (λ dtype. type_of dtype.now) result
             ≡ slice_get (variants_of self.now).types index }
@@ -90,7 +88,7 @@ impl UnionVariants {
         FieldNames::of(&self.names)
     }
 
-    /// The same variants, or `OutOfMemory`.
+    /// A copy. `OutOfMemory` if there is no memory for it.
     pub fn clone(&self, alloc: Global) -> Result<UnionVariants, VortexError>
         ensures { GivesOrNoMemory (λ copy. variants_of copy ≡ variants_of self.now) result }
     {
@@ -102,7 +100,7 @@ impl UnionVariants {
 fn repeats(ids: &[u8]) -> bool
     ensures { result ≡ repeats ids.now }
 {
-    // Ids are bytes, so of 257 two are equal: there are at most 257 turns.
+    // Two of 257 bytes are equal, so the loop ends within 257 turns.
     for i in 0..ids.len() {
         if ids[i + 1..].contains(&ids[i]) {
             return true;
@@ -111,8 +109,8 @@ fn repeats(ids: &[u8]) -> bool
     false
 }
 
-// Functions of one line over a list alone: what the methods above say of the fold of a type, the
-// prover finds from their contracts, and not from the line itself.
+// These functions are one line each, over a list alone. The methods above speak of the fold of a
+// type, and the prover proves them from these contracts, but not from the lines themselves.
 
 /// The place of the first of the ids that is this one.
 fn find_id(ids: &[u8], tag: u8) -> Option<usize>
@@ -140,23 +138,18 @@ pub struct TypeIds<'a> {
 impl<'a> Iterator for TypeIds<'a> {
     type Item = u8;
 
-    ghost use Rattle.std.specs.Iterator.{YieldsFirst, item_count};
-    ghost use Rattle.vortex_dtype.specs.Names.{ids_left};
-
     ghost next_gives = { YieldsFirst ids_left };
 
     ghost remaining = { item_count ids_left };
 
-    /// The next id, and none after the last.
+    /// The next id. `None` after the last.
     fn next(&mut self) -> Option<u8> {
         self.ids.next().copied()
     }
 }
 
 impl UnionVariants {
-    ghost use Rattle.vortex_dtype.specs.Names.{ids_left};
-
-    /// The ids, in order, each once.
+    /// The ids, in order.
     pub fn type_ids(&self) -> TypeIds<'_>
         ensures { ids_left result ≡ (variants_of self.now).type_ids }
     {

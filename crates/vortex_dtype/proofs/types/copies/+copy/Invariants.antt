@@ -5,7 +5,7 @@ use Rattle.vortex_dtype.proofs.types.copies.+copy.Given as goal
 
 abbrev pub invariant-copy_all-loop-dtype : goal.invariant-copy_all-loop-dtype
 invariant-copy_all-loop-dtype l = record {
-  copied : map type_of l.copies.items ≡ map type_of (take l.dtype-index l.dtypes);
+  types : map type_of l.copies.items ≡ map type_of (take l.dtype-index l.dtypes);
   count : vec_len l.copies ≡ l.dtype-index;
   room : vec_capacity l.copies ≡ length l.dtypes;
 }
