@@ -15,6 +15,6 @@ width_of I16 = w16
 width_of I32 = w32
 width_of I64 = w64
 
--- the bytes of the number in two's complement, as many as the kind is wide, the lowest first
+-- the bytes of the number in two's complement, the lowest first, as many as the kind is wide
 abbrev pub bytes_of : PType → ℤ → List ℕ
 bytes_of k z = to_le_bytes (width_of k) (cast_unsigned (width_of k) z)

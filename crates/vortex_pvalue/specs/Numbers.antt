@@ -46,7 +46,7 @@ pub record IsWrapped (k : PType) (z r : ℤ) : Type 0 where
   pub in_range : InRange k r
   pub differs : (q : ℤ) × (z ≡ (r +ℤ (q *ℤ pos (2 ^ bits_of k))))
 
--- that number
+-- the number of the kind that differs from z by a multiple of 2 to the power of the kind's bits, computed
 abbrev pub wrapped : PType → ℤ → ℤ
 wrapped U8 z = int_rem_euclid z (pos (2 ^ 8))
 wrapped U16 z = int_rem_euclid z (pos (2 ^ 16))

@@ -1,4 +1,4 @@
--- The laws of the kinds' numbers and of equality, order and hash of integer values.
+-- The laws of the numbers of each integer kind, and of equality, order and hash of integer values.
 use Rattle.std.specs.Prelude.{◌≡◌, ◌↔◌, ◌≤ℤ◌, ℤ, Bool, true, Option, Some, IsTrue}
 use Rattle.std.specs.declared.cmp.Ordering.{Ordering}
 use Rattle.std.specs.declared.cmp.Ordering.TheVariants.{Equal}
@@ -20,34 +20,34 @@ other_sign I16 = U16
 other_sign I32 = U32
 other_sign I64 = U64
 
--- the test of a range is true exactly where the range has the number
+-- the test of a range is true exactly if the kind has the number
 abbrev pub TestIsRange : Type 0
 TestIsRange = (k : PType) (z : ℤ) → (in_range k z ≡ true) ↔ InRange k z
 
--- a kind has the numbers from its least to its greatest, and no others
+-- a kind has exactly the numbers from its least to its greatest
 abbrev pub RangeIsInterval : Type 0
 RangeIsInterval = (k : PType) (z : ℤ) → InRange k z ↔ ((least_of k ≤ℤ z) × (z ≤ℤ greatest_of k))
 
--- each number has a wrapped number in each kind, and `wrapped` names it
+-- each number has a wrapped number in each kind, and `wrapped` computes one
 abbrev pub WrappedExists : Type 0
 WrappedExists = (k : PType) (z : ℤ) → IsWrapped k z (wrapped k z)
 
--- and it has only that one
+-- each wrapped number is the one that `wrapped` computes
 abbrev pub WrappedIsUnique : Type 0
 WrappedIsUnique = (k : PType) (z r : ℤ) → IsWrapped k z r → r ≡ wrapped k z
 
--- a number of a kind, reinterpreted in a kind of the same width and back, is itself
+-- a number that is reinterpreted in a kind of the same width, and then back, is itself again
 abbrev pub ReinterpretsBack : Type 0
 ReinterpretsBack = (k l : PType) (z : ℤ) → byte_width_of k ≡ byte_width_of l → InRange k z → wrapped k (wrapped l z) ≡ z
 
--- values are equal exactly where their numbers are, whatever their kinds
+-- values are equal exactly if their numbers are, whatever their kinds
 abbrev pub EqualsByNumber : (PValue → PValue → Bool) → Type 0
 EqualsByNumber eq = (v w : PValue) → IsTrue (eq v w) ↔ (whole_of v ≡ whole_of w)
 
--- an order says Equal exactly where values are equal
+-- an order says `Equal` exactly if the values are equal
 abbrev pub AgreesWithOrder : (PValue → PValue → Bool) → (PValue → PValue → Option Ordering) → Type 0
 AgreesWithOrder eq cmp = (v w : PValue) → (cmp v w ≡ Some Equal) ↔ IsTrue (eq v w)
 
--- equal values feed a hasher the same
+-- equal values feed a hasher alike
 abbrev pub AgreesWithHash : {F : Type 0} → (PValue → PValue → Bool) → (PValue → F) → Type 0
 AgreesWithHash eq fed = (v w : PValue) → IsTrue (eq v w) → fed v ≡ fed w

@@ -1,4 +1,4 @@
--- The test of a kind's range is the range. Upper crates cite these lemmas.
+-- The test of a kind's range is true exactly in the range. The crates above cite these lemmas.
 use Rattle.std.proofs.Common.{◌≡◌, ◌↔◌, ◌^◌, ℕ, ℤ, true, false, pos, negsuc, FitsSigned}
 use Rattle.std.specs.Int.{Width, w8, w16, w32, w64, FitsUnsignedBits}
 use Rattle.std.proofs.lemmas.Bool.{false_from_ne_true}
@@ -23,7 +23,7 @@ signed_test w (negsuc n) =
     let d = Decides-ltb n (2 ^ hbits w) in
     ((λ e. record { sfits = d.0 e }), (λ f. d.1 f.sfits))
 
--- the test passes exactly the numbers of the kind
+-- the test is true exactly for the numbers of the kind
 pub in_range_exactly : TestIsRange
 in_range_exactly U8 z = unsigned_test 8 z
 in_range_exactly U16 z = unsigned_test 16 z

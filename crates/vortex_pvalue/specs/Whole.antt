@@ -1,4 +1,4 @@
--- What an integer value stands for: a kind, a whole number and a text.
+-- What an integer value stands for: its kind, its whole number and its printed form.
 use Rattle.std.specs.Prelude.{ℕ, ℤ, pos, List, ◌++◌}
 use Rattle.std.specs.Fmt.{signed_decimal}
 use Rattle.vortex_dtype.specs.declared.ptype.PType.{PType}
@@ -29,10 +29,10 @@ ptype_of (I16 z) = kinds.I16
 ptype_of (I32 z) = kinds.I32
 ptype_of (I64 z) = kinds.I64
 
--- the text of a number of a kind: the number in decimal, then the kind's name
+-- the printed form of a number of a kind: the number in decimal, then the kind's name
 abbrev pub number_text : PType → ℤ → List ℕ
 number_text k z = signed_decimal z ++ ptype_text k
 
--- the text of the value
+-- the printed form of the value
 abbrev pub pvalue_text : PValue → List ℕ
 pvalue_text v = number_text (ptype_of v) (whole_of v)

@@ -1,13 +1,12 @@
 //! Conversions between integer values and Rust integers.
 
 ghost use Rattle.std.specs.Prelude.{pos};
-ghost use Rattle.vortex_dtype.specs.declared.ptype.PType.{PType};
-ghost use Rattle.vortex_pvalue.specs.Conversions.{IsNumber, Converts};
+ghost use Rattle.vortex_pvalue.specs.Words.{Converts, IsNumber, PType};
 
 use crate::pvalues::PValue;
 use vortex_dtype::VortexError;
 
-/// The number in its own kind.
+/// The `u8` as a value of kind `U8`.
 impl From<u8> for PValue {
     ghost from_gives = { λ n v. IsNumber PType.U8 (pos n) v };
 
@@ -16,7 +15,7 @@ impl From<u8> for PValue {
     }
 }
 
-/// The number in its own kind.
+/// The `u16` as a value of kind `U16`.
 impl From<u16> for PValue {
     ghost from_gives = { λ n v. IsNumber PType.U16 (pos n) v };
 
@@ -25,7 +24,7 @@ impl From<u16> for PValue {
     }
 }
 
-/// The number in its own kind.
+/// The `u32` as a value of kind `U32`.
 impl From<u32> for PValue {
     ghost from_gives = { λ n v. IsNumber PType.U32 (pos n) v };
 
@@ -34,7 +33,7 @@ impl From<u32> for PValue {
     }
 }
 
-/// The number in its own kind.
+/// The `u64` as a value of kind `U64`.
 impl From<u64> for PValue {
     ghost from_gives = { λ n v. IsNumber PType.U64 (pos n) v };
 
@@ -43,7 +42,7 @@ impl From<u64> for PValue {
     }
 }
 
-/// The number in its own kind.
+/// The `i8` as a value of kind `I8`.
 impl From<i8> for PValue {
     ghost from_gives = { λ n v. IsNumber PType.I8 n v };
 
@@ -52,7 +51,7 @@ impl From<i8> for PValue {
     }
 }
 
-/// The number in its own kind.
+/// The `i16` as a value of kind `I16`.
 impl From<i16> for PValue {
     ghost from_gives = { λ n v. IsNumber PType.I16 n v };
 
@@ -61,7 +60,7 @@ impl From<i16> for PValue {
     }
 }
 
-/// The number in its own kind.
+/// The `i32` as a value of kind `I32`.
 impl From<i32> for PValue {
     ghost from_gives = { λ n v. IsNumber PType.I32 n v };
 
@@ -70,7 +69,7 @@ impl From<i32> for PValue {
     }
 }
 
-/// The number in its own kind.
+/// The `i64` as a value of kind `I64`.
 impl From<i64> for PValue {
     ghost from_gives = { λ n v. IsNumber PType.I64 n v };
 
@@ -79,7 +78,7 @@ impl From<i64> for PValue {
     }
 }
 
-/// The number in the kind of `u64`.
+/// The `usize` as a value of kind `U64`.
 impl From<usize> for PValue {
     ghost from_gives = { λ n v. IsNumber PType.U64 (pos n) v };
 
@@ -88,7 +87,7 @@ impl From<usize> for PValue {
     }
 }
 
-/// The same number, or `OutOfRange` where `u8` does not have it.
+/// The number as `u8`. `OutOfRange` exactly if `u8` does not have it.
 impl TryFrom<PValue> for u8 {
     type Error = VortexError;
 
@@ -99,7 +98,7 @@ impl TryFrom<PValue> for u8 {
     }
 }
 
-/// The same number, or `OutOfRange` where `u16` does not have it.
+/// The number as `u16`. `OutOfRange` exactly if `u16` does not have it.
 impl TryFrom<PValue> for u16 {
     type Error = VortexError;
 
@@ -110,7 +109,7 @@ impl TryFrom<PValue> for u16 {
     }
 }
 
-/// The same number, or `OutOfRange` where `u32` does not have it.
+/// The number as `u32`. `OutOfRange` exactly if `u32` does not have it.
 impl TryFrom<PValue> for u32 {
     type Error = VortexError;
 
@@ -121,7 +120,7 @@ impl TryFrom<PValue> for u32 {
     }
 }
 
-/// The same number, or `OutOfRange` where `u64` does not have it.
+/// The number as `u64`. `OutOfRange` exactly if `u64` does not have it.
 impl TryFrom<PValue> for u64 {
     type Error = VortexError;
 
@@ -132,7 +131,7 @@ impl TryFrom<PValue> for u64 {
     }
 }
 
-/// The same number, or `OutOfRange` where `i8` does not have it.
+/// The number as `i8`. `OutOfRange` exactly if `i8` does not have it.
 impl TryFrom<PValue> for i8 {
     type Error = VortexError;
 
@@ -143,7 +142,7 @@ impl TryFrom<PValue> for i8 {
     }
 }
 
-/// The same number, or `OutOfRange` where `i16` does not have it.
+/// The number as `i16`. `OutOfRange` exactly if `i16` does not have it.
 impl TryFrom<PValue> for i16 {
     type Error = VortexError;
 
@@ -154,7 +153,7 @@ impl TryFrom<PValue> for i16 {
     }
 }
 
-/// The same number, or `OutOfRange` where `i32` does not have it.
+/// The number as `i32`. `OutOfRange` exactly if `i32` does not have it.
 impl TryFrom<PValue> for i32 {
     type Error = VortexError;
 
@@ -165,7 +164,7 @@ impl TryFrom<PValue> for i32 {
     }
 }
 
-/// The same number, or `OutOfRange` where `i64` does not have it.
+/// The number as `i64`. `OutOfRange` exactly if `i64` does not have it.
 impl TryFrom<PValue> for i64 {
     type Error = VortexError;
 
@@ -176,7 +175,7 @@ impl TryFrom<PValue> for i64 {
     }
 }
 
-/// The same number, or `OutOfRange` where 64 bits do not hold it.
+/// The number as `usize`. `OutOfRange` exactly if `U64` does not have it.
 impl TryFrom<PValue> for usize {
     type Error = VortexError;
 

@@ -1,9 +1,9 @@
 // SPDX-License-Identifier: Apache-2.0
 // SPDX-FileCopyrightText: Copyright the Vortex contributors; ported to Rattle and changed
-//! Integer values: a kind and a whole number in its range.
+//! Integer values: an integer kind and a whole number in its range.
 //!
-//! A public item ports upstream's of the same name, but where it names another or says that it, or
-//! its type, is of this port alone.
+//! A public item ports upstream's item of the same name. If its comment names another item, it
+//! ports that one; if the comment says that it is of this port alone, upstream has none.
 #![tactic(auto)]
 
 mod conversions;

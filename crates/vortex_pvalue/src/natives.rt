@@ -1,32 +1,30 @@
-//! The Rust integers that stand for the eight kinds.
+//! The Rust integer types of the eight integer kinds.
 
 ghost use Rattle.std.specs.Prelude.{◌≡◌, ◌↔◌, ℤ, IfSome, IfNone};
-ghost use Rattle.vortex_dtype.specs.declared.ptype.PType.{PType};
-ghost use Rattle.vortex_pvalue.specs.Numbers.{InRange};
-ghost use Rattle.vortex_pvalue.specs.Whole.{whole_of, ptype_of};
+ghost use Rattle.vortex_pvalue.specs.Words.{InRange, PType, ptype_of, whole_of};
 
 use crate::pvalues::PValue;
 use num_traits::PrimInt;
 use vortex_dtype::PType;
 
-/// A Rust integer type with a kind of its own: the eight integers, and not `usize`.
+/// A Rust integer type that has an integer kind of its own: `u8` to `u64` and `i8` to `i64`.
 ///
-/// Ports `vortex_array::dtype::NativePType` as far as it speaks of integers.
+/// Ports `vortex_array::dtype::NativePType`, for integers.
 pub trait NativePType: PrimInt {
     ghost PTYPE: { PType };
 
-    /// The kind.
+    /// The integer kind of the type.
     const PTYPE: PType;
 
-    /// The integer as a value of its own kind.
+    /// The integer as a value of its type's kind.
     fn into_pvalue(self) -> PValue
         ensures whole { whole_of result ≡ Self.value self }
         ensures ptype { ptype_of result ≡ PTYPE }
         ensures in_range { InRange PTYPE (whole_of result) };
 
-    /// The same number as this type, if it has it.
+    /// The number of the value, as this type. `None` exactly if the type does not have it.
     ///
-    /// Ports the conversions of `PValue` in `pvalue.rs`.
+    /// Ports the conversions in upstream's `pvalue.rs`.
     fn from_pvalue(value: &PValue) -> Option<Self>
         ensures some { IfSome result (λ n. Self.value n ≡ whole_of value.now) }
         ensures none { IfNone result (¬ (InRange PTYPE (whole_of value.now))) }
@@ -34,7 +32,7 @@ pub trait NativePType: PrimInt {
         num_traits::cast::<i128, Self>(value.whole())
     }
 
-    // The type has just the kind's numbers.
+    // The type has exactly the numbers of its kind.
     ghost ptype_law: { (z : ℤ) → Self.fits z ↔ InRange PTYPE z };
 }
 

@@ -1,13 +1,13 @@
-//! The operations of checked arithmetic.
+//! The operators of checked arithmetic.
 
-/// An operation on two numbers.
+/// An operator on two numbers.
 ///
 /// Ports `vortex_array::scalar::NumericOperator`.
 #[derive(Clone, Copy, Debug, PartialEq, Eq)]
 pub enum NumericOperator {
     /// The sum.
     Add,
-    /// The first less the second.
+    /// The first number minus the second.
     Sub,
     /// The product.
     Mul,

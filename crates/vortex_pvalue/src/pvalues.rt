@@ -1,17 +1,8 @@
-//! Integer values of any kind.
+//! Integer values of any of the eight kinds.
 
 ghost use Rattle.std.specs.Prelude.{◌≡◌, ◌↔◌, IsTrue, MatchOption, MatchResult, Some, pos, length, ◌≤◌};
-ghost use Rattle.std.proofs.Common.{rules};
-ghost use Rattle.std.specs.Cmp.Rules.{comparing, hashing};
 ghost use Rattle.std.specs.Hash as fed;
-ghost use Rattle.std.specs.Ordering.{int_cmp, int_eq, on, as_partial_cmp};
-ghost use Rattle.arrayvec.specs.ArrayVec.{array_vec_len};
-ghost use Rattle.vortex_dtype.specs.PTypes.{byte_width_of};
-ghost use Rattle.vortex_pvalue.specs.Bytes.{bytes_of};
-ghost use Rattle.vortex_pvalue.specs.Conversions.{IsNumber};
-ghost use Rattle.vortex_pvalue.specs.PTypeLaws.{other_sign};
-ghost use Rattle.vortex_pvalue.specs.Numbers.{InRange, least_of, greatest_of, wrapped};
-ghost use Rattle.vortex_pvalue.specs.Whole.{whole_of, ptype_of, pvalue_text};
+ghost use Rattle.vortex_pvalue.specs.Words.{InRange, IsNumber, array_vec_len, as_partial_cmp, byte_width_of, bytes_of, comparing, greatest_of, hashing, int_cmp, int_eq, least_of, on, other_sign, ptype_of, pvalue_text, rules, whole_of, wrapped};
 
 use crate::laws::is_in_range;
 use crate::natives::NativePType;
@@ -80,7 +71,7 @@ impl PValue {
         }
     }
 
-    /// The kind's zero.
+    /// The zero of the kind.
     pub fn zero(ptype: &PType) -> PValue
         ensures ptype { ptype_of result ≡ ptype.now }
         ensures zero { whole_of result ≡ pos 0 }
@@ -129,9 +120,7 @@ impl PValue {
         self.ptype() == *ptype
     }
 
-    /// The value as a whole number.
-    ///
-    /// An item of our own.
+    /// The value as a whole number. Of this port alone.
     pub fn whole(&self) -> i128
         ensures whole { result ≡ whole_of self.now }
         ensures in_range { InRange (ptype_of self.now) result }
@@ -148,9 +137,8 @@ impl PValue {
         }
     }
 
-    /// The value of this kind that is this whole number, or `None` where the kind does not have it.
-    ///
-    /// An item of our own.
+    /// The value of this kind with this whole number. `None` exactly if the kind does not have it.
+    /// Of this port alone.
     pub fn from_whole(number: i128, ptype: PType) -> Option<PValue>
         ensures { MatchOption result (¬ (InRange ptype number)) (IsNumber ptype number) }
     {
@@ -166,9 +154,7 @@ impl PValue {
         }
     }
 
-    /// The same number as a Rust integer.
-    ///
-    /// `OutOfRange` where the type does not have the number.
+    /// The number as a Rust integer. `OutOfRange` exactly if the type does not have it.
     pub fn cast<T: NativePType>(&self) -> Result<T, VortexError>
         ensures { MatchResult result
             (λ n. T.value n ≡ whole_of self.now)
@@ -177,7 +163,7 @@ impl PValue {
         T::from_pvalue(self).ok_or(VortexError::OutOfRange)
     }
 
-    /// The same number as an `i8`, or `None` where `i8` does not have it.
+    /// The number as `i8`. `None` exactly if `i8` does not have it.
     pub fn as_i8(self) -> Option<i8>
         ensures { MatchOption result
             (¬ (InRange PType.I8 (whole_of self)))
@@ -186,7 +172,7 @@ impl PValue {
         i8::from_pvalue(&self)
     }
 
-    /// The same number as an `i16`, or `None` where `i16` does not have it.
+    /// The number as `i16`. `None` exactly if `i16` does not have it.
     pub fn as_i16(self) -> Option<i16>
         ensures { MatchOption result
             (¬ (InRange PType.I16 (whole_of self)))
@@ -195,7 +181,7 @@ impl PValue {
         i16::from_pvalue(&self)
     }
 
-    /// The same number as an `i32`, or `None` where `i32` does not have it.
+    /// The number as `i32`. `None` exactly if `i32` does not have it.
     pub fn as_i32(self) -> Option<i32>
         ensures { MatchOption result
             (¬ (InRange PType.I32 (whole_of self)))
@@ -204,7 +190,7 @@ impl PValue {
         i32::from_pvalue(&self)
     }
 
-    /// The same number as an `i64`, or `None` where `i64` does not have it.
+    /// The number as `i64`. `None` exactly if `i64` does not have it.
     pub fn as_i64(self) -> Option<i64>
         ensures { MatchOption result
             (¬ (InRange PType.I64 (whole_of self)))
@@ -213,7 +199,7 @@ impl PValue {
         i64::from_pvalue(&self)
     }
 
-    /// The same number as a `u8`, or `None` where `u8` does not have it.
+    /// The number as `u8`. `None` exactly if `u8` does not have it.
     pub fn as_u8(self) -> Option<u8>
         ensures { MatchOption result
             (¬ (InRange PType.U8 (whole_of self)))
@@ -222,7 +208,7 @@ impl PValue {
         u8::from_pvalue(&self)
     }
 
-    /// The same number as a `u16`, or `None` where `u16` does not have it.
+    /// The number as `u16`. `None` exactly if `u16` does not have it.
     pub fn as_u16(self) -> Option<u16>
         ensures { MatchOption result
             (¬ (InRange PType.U16 (whole_of self)))
@@ -231,7 +217,7 @@ impl PValue {
         u16::from_pvalue(&self)
     }
 
-    /// The same number as a `u32`, or `None` where `u32` does not have it.
+    /// The number as `u32`. `None` exactly if `u32` does not have it.
     pub fn as_u32(self) -> Option<u32>
         ensures { MatchOption result
             (¬ (InRange PType.U32 (whole_of self)))
@@ -240,7 +226,7 @@ impl PValue {
         u32::from_pvalue(&self)
     }
 
-    /// The same number as a `u64`, or `None` where `u64` does not have it.
+    /// The number as `u64`. `None` exactly if `u64` does not have it.
     pub fn as_u64(self) -> Option<u64>
         ensures { MatchOption result
             (¬ (InRange PType.U64 (whole_of self)))
@@ -249,9 +235,7 @@ impl PValue {
         u64::from_pvalue(&self)
     }
 
-    /// The value of this kind that has the same bits.
-    ///
-    /// Asks a kind of the same width.
+    /// The value of this kind with the same bits. The kind must have the width of the value's own.
     pub fn reinterpret_cast(&self, ptype: PType) -> PValue
         requires { byte_width_of ptype ≡ byte_width_of (ptype_of self.now) }
         ensures ptype { ptype_of result ≡ ptype }
@@ -264,7 +248,7 @@ impl PValue {
         }
     }
 
-    /// The value of the same width and the other sign that has the same bits.
+    /// The value with the same bits, of the kind with the same width and the other sign.
     fn with_other_sign(&self) -> PValue
         ensures ptype { ptype_of result ≡ other_sign (ptype_of self.now) }
         ensures wrapped { whole_of result ≡ wrapped (other_sign (ptype_of self.now)) (whole_of self.now) }
@@ -281,7 +265,8 @@ impl PValue {
         }
     }
 
-    /// The bytes of the number in two's complement, the lowest first: as many as the kind is wide.
+    /// The bytes of the number in two's complement, the lowest first. There are as many as the kind
+    /// is wide.
     ///
     /// Ports `PValue`'s `ToBytes::to_le_bytes`.
     pub fn to_le_bytes(&self) -> ArrayVec<u8, 8>
@@ -289,19 +274,19 @@ impl PValue {
         ensures width { array_vec_len result ≡ byte_width_of (ptype_of self.now) }
     {
         match self {
-            PValue::U8(n) => inline(&n.to_le_bytes()),
-            PValue::U16(n) => inline(&n.to_le_bytes()),
-            PValue::U32(n) => inline(&n.to_le_bytes()),
-            PValue::U64(n) => inline(&n.to_le_bytes()),
-            PValue::I8(n) => inline(&n.to_le_bytes()),
-            PValue::I16(n) => inline(&n.to_le_bytes()),
-            PValue::I32(n) => inline(&n.to_le_bytes()),
-            PValue::I64(n) => inline(&n.to_le_bytes()),
+            PValue::U8(n) => array_of(&n.to_le_bytes()),
+            PValue::U16(n) => array_of(&n.to_le_bytes()),
+            PValue::U32(n) => array_of(&n.to_le_bytes()),
+            PValue::U64(n) => array_of(&n.to_le_bytes()),
+            PValue::I8(n) => array_of(&n.to_le_bytes()),
+            PValue::I16(n) => array_of(&n.to_le_bytes()),
+            PValue::I32(n) => array_of(&n.to_le_bytes()),
+            PValue::I64(n) => array_of(&n.to_le_bytes()),
         }
     }
 }
 
-/// The whole number as a value of this type's kind, or `None` where the type does not have it.
+/// The whole number as a value of this type's kind. `None` exactly if the type does not have it.
 fn native<T: NativePType>(number: i128) -> Option<PValue>
     ensures { MatchOption result (¬ (InRange T.PTYPE number)) (IsNumber T.PTYPE number) }
 {
@@ -309,16 +294,16 @@ fn native<T: NativePType>(number: i128) -> Option<PValue>
     Some(native.into_pvalue())
 }
 
-/// These bytes, held in the value itself.
-fn inline(bytes: &[u8]) -> ArrayVec<u8, 8>
+/// Copies these bytes into an array.
+fn array_of(bytes: &[u8]) -> ArrayVec<u8, 8>
     requires { length bytes.now ≤ 8 }
     ensures { result.items ≡ bytes.now }
 {
-    let mut held = ArrayVec::new();
+    let mut array = ArrayVec::new();
     for byte in bytes {
-        held.push(*byte);
+        array.push(*byte);
     }
-    held
+    array
 }
 
 impl PartialEq for PValue {
