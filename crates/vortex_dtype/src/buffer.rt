@@ -19,8 +19,8 @@ pub const INLINE_BYTES: usize = 22;
 
 /// Immutable bytes. At most 22 are held inline; more are shared by copies and slices.
 ///
-/// Ports `vortex_buffer::ByteBuffer`. A buffer keeps its allocator, so that `clone` and `slice`
-/// take none.
+/// Ports `vortex_buffer::ByteBuffer`. A buffer keeps its allocator, so `clone` and `slice` need
+/// no argument for it.
 #[derive(Debug, Drop)]
 pub struct ByteBuffer {
     held: Held,

@@ -33,7 +33,7 @@ pub enum Step {
 /// Of this port alone: upstream's errors are messages.
 #[derive(Clone, Copy, Debug, PartialEq, Eq)]
 pub enum Breach {
-    /// A null of a type that takes none.
+    /// A null, though its type takes no null.
     NullNotAllowed,
     /// A raw value whose variant does not fit the type, such as an integer of type `Utf8`.
     WrongValue,

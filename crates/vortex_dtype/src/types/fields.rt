@@ -12,8 +12,7 @@ use std::sync::Arc;
 
 impl StructFields {
     /// The fields with these names and types, which must be equally many. Never refused: one
-    /// allocation is tried, so that copies can share the fields. Without it, `clone` copies them one
-    /// by one.
+    /// allocation is tried, so that copies can share the fields. Without it, `clone` copies each.
     ///
     /// Ports `StructFields::new`, which panics if the lengths differ.
     pub fn new(
@@ -144,8 +143,8 @@ impl StructFields {
         dtype_at(&self.lists().dtypes, self.find(name)?)
     }
 
-    /// A copy, which shares the names and types. They are copied one by one, which may answer
-    /// `OutOfMemory`, only if they could not be made shared, or if no further owner can be counted.
+    /// A copy that shares the names and types. Each is copied only if there was no memory to share
+    /// them, or if no further owner can be counted. Only that can answer `OutOfMemory`.
     pub fn clone(&self, alloc: Global) -> Result<StructFields, VortexError>
         ensures { GivesOrNoMemory (λ copy. fields_of copy ≡ fields_of self.now) result }
     {

@@ -9,8 +9,8 @@ use crate::error::{TypeCause, VortexError};
 use std::alloc::Global;
 
 impl MapDType {
-    /// The map with these key and value types. `BadType` with `NullableKey` exactly if the key takes
-    /// a null, tested before any allocation. Otherwise `OutOfMemory` if there is no memory.
+    /// The map with these key and value types. `BadType` with `NullableKey` exactly if the key
+    /// takes a null, tested before any allocation. Otherwise `OutOfMemory` if there is no memory.
     pub fn try_new(
         alloc: Global,
         key: DType,

@@ -13,8 +13,8 @@ use std::slice;
 
 impl UnionVariants {
     /// The variants with these names, types and ids. `BadType` with `LengthsDiffer` exactly if they
-    /// are not equally many. Otherwise `BadType` with `RepeatedTypeId` exactly if two ids are equal.
-    /// Takes no memory.
+    /// are not equally many. Otherwise `BadType` with `RepeatedTypeId` exactly if two ids are
+    /// equal. Takes no memory.
     pub fn try_new(
         _alloc: Global,
         names: Vec<FieldName>,
