@@ -88,6 +88,13 @@ impl UnionVariants {
         FieldNames::of(&self.names)
     }
 
+    /// The types, in order. Of this port alone, for recursions over types.
+    pub fn dtypes(&self) -> &[DType]
+        ensures { map type_of result.now ≡ (variants_of self.now).types }
+    {
+        &self.dtypes
+    }
+
     /// A copy. `OutOfMemory` if there is no memory for it.
     pub fn clone(&self, alloc: Global) -> Result<UnionVariants, VortexError>
         ensures { GivesOrNoMemory (λ copy. variants_of copy ≡ variants_of self.now) result }
