@@ -29,7 +29,7 @@ least_by_minus_one = refl
 by_zero : arithmetic Div U64 (Some (pos 7)) (Some (pos 0)) ≡ None
 by_zero = refl
 
--- a null makes a null, whatever stands beside it
+-- a null gives a null, whatever the other side is
 null_by_zero : arithmetic Div I32 None (Some (pos 0)) ≡ Some None
 null_by_zero = refl
 

@@ -1,4 +1,4 @@
--- The laws of the order of views of truth values. They stand here because trait implementations cite them.
+-- The laws of the order of views of booleans. They stand here because trait implementations cite them.
 use Rattle.std.proofs.Common.{◌≡◌, Bool, true, false, Option, Some, None, refl}
 use Rattle.std.specs.Cmp.{bool_cmp_total}
 use Rattle.std.specs.Option.{option_cmp}

@@ -1,4 +1,4 @@
--- What contracts say of views of truth values: a type and an optional raw value.
+-- What contracts say of views of booleans: a type and an optional raw value.
 use Rattle.std.specs.Option.{option_cmp}
 use Rattle.std.specs.Ordering.{bool_cmp, on}
 use Rattle.std.specs.declared.cmp.Ordering.{Ordering}
@@ -30,6 +30,6 @@ IsValidBoolView x = Valid (bool_view_type x) (bool_view_raw x)
 abbrev pub IsBoolViewOf : TypeTree → RawTree → BoolScalar → Type 0
 IsBoolViewOf = Lends bool_view_type bool_view_raw
 
--- a null is below all others, and false below true
+-- a null is below all others, and false is below true
 abbrev pub bool_view_cmp : BoolScalar → BoolScalar → Ordering
 bool_view_cmp = on (λ x. x.value) (option_cmp bool_cmp)

@@ -13,29 +13,27 @@ use Rattle.vortex_value.specs.Equality.{equal, same_type}
 use Rattle.vortex_value.specs.Order.{order, typed_order}
 use Rattle.vortex_value.specs.Values.Content.{Content}
 
--- things of one type up to nullability, which hold an optional part, and are ordered and equal as these parts are
-pub record HoldsPart {X A : Type 0} (type_at : X → TypeTree) (said : X → Content) (part : X → Option A) (cmp : A → A → Ordering) : Type 0 where
+-- things of one type up to nullability that each hold an optional part, and whose order and equality are those of the parts
+pub record HoldsPart {X A : Type 0} (type_at : X → TypeTree) (content_at : X → Content) (part : X → Option A) (cmp : A → A → Ordering) : Type 0 where
   pub total : IsTotalOrder cmp
   pub one_type : (x y : X) → same_type (type_at x) (type_at y) ≡ true
-  pub ordered : (x y : X) → order (said x) (said y) ≡ Some (option_cmp cmp (part x) (part y))
-  pub tied : (x y : X) → equal (said x) (said y) ≡ is_eq (option_cmp cmp (part x) (part y))
+  pub ordered : (x y : X) → order (content_at x) (content_at y) ≡ Some (option_cmp cmp (part x) (part y))
+  pub tied : (x y : X) → equal (content_at x) (content_at y) ≡ is_eq (option_cmp cmp (part x) (part y))
 
--- the laws of the order of such things, and that it is the one of their types and contents
-pub record IsPartOrder {X A : Type 0} (type_at : X → TypeTree) (said : X → Content) (part : X → Option A) (cmp : A → A → Ordering) : Type 0 where
+-- the laws of the order of such things, and that it is the order of their types and contents
+pub record IsPartOrder {X A : Type 0} (type_at : X → TypeTree) (content_at : X → Content) (part : X → Option A) (cmp : A → A → Ordering) : Type 0 where
   pub total : IsTotalOrder (on part (option_cmp cmp))
-  pub agrees : Agrees (λ (x y : X). typed_order (type_at x) (said x) (type_at y) (said y)) (on part (option_cmp cmp))
-  pub ties : (x y : X) → (same_type (type_at x) (type_at y) && equal (said x) (said y)) ≡ eq_by_cmp (on part (option_cmp cmp)) x y
-  pub partial : IsPartialOrder (λ (x y : X). same_type (type_at x) (type_at y) && equal (said x) (said y)) (λ (x y : X). typed_order (type_at x) (said x) (type_at y) (said y))
+  pub agrees : Agrees (λ (x y : X). typed_order (type_at x) (content_at x) (type_at y) (content_at y)) (on part (option_cmp cmp))
+  pub ties : (x y : X) → (same_type (type_at x) (type_at y) && equal (content_at x) (content_at y)) ≡ eq_by_cmp (on part (option_cmp cmp)) x y
+  pub partial : IsPartialOrder (λ (x y : X). same_type (type_at x) (type_at y) && equal (content_at x) (content_at y)) (λ (x y : X). typed_order (type_at x) (content_at x) (type_at y) (content_at y))
 
-pub part_order : {X A : Type 0} {type_at : X → TypeTree} {said : X → Content} {part : X → Option A} {cmp : A → A → Ordering}
-    → HoldsPart type_at said part cmp → IsPartOrder type_at said part cmp
-part_order {X} {A} {type_at} {said} {part} {cmp} h =
+pub part_order : {X A : Type 0} {type_at : X → TypeTree} {content_at : X → Content} {part : X → Option A} {cmp : A → A → Ordering}
+    → HoldsPart type_at content_at part cmp → IsPartOrder type_at content_at part cmp
+part_order {X} {A} {type_at} {content_at} {part} {cmp} h =
     let whole : IsTotalOrder (on part (option_cmp cmp)) = on_total part (options_total h.total) in
-    let agrees : Agrees (λ (x y : X). typed_order (type_at x) (said x) (type_at y) (said y)) (on part (option_cmp cmp)) = λ x y. rw (h.one_type x y, h.ordered x y) in
-    let ties : (x y : X) → (same_type (type_at x) (type_at y) && equal (said x) (said y)) ≡ eq_by_cmp (on part (option_cmp cmp)) x y = λ x y. rw (h.one_type x y, h.tied x y) in
+    let agrees : Agrees (λ (x y : X). typed_order (type_at x) (content_at x) (type_at y) (content_at y)) (on part (option_cmp cmp)) = λ x y. rw (h.one_type x y, h.ordered x y) in
+    let ties : (x y : X) → (same_type (type_at x) (type_at y) && equal (content_at x) (content_at y)) ≡ eq_by_cmp (on part (option_cmp cmp)) x y = λ x y. rw (h.one_type x y, h.tied x y) in
     record { total = whole; agrees = agrees; ties = ties; partial = partial_order_from_agreeing_total (on part (option_cmp cmp)) whole agrees ties }
-
--- the order of things of one sort by this order, and none of others; E says which are of one sort
 
 turned : (b : Bool) (o p : Ordering) → o ≡ ordering_reverse p → (if b then Some o else None) ≡ option_map ordering_reverse (if b then Some p else None)
 turned true o p h = ap Some h
@@ -49,7 +47,7 @@ both_or_none : (b : Bool) (o : Ordering) → Decides (b && is_eq o) ((if b then 
 both_or_none true o = (λ h. ap Some ((Equal-is o).0 h), λ h. (Equal-is o).1 (cc))
 both_or_none false o = ((λ h. cc), (λ h. cc))
 
--- things of one sort are ordered by R, and others have no order
+-- things of one sort, as E says, are ordered by R, and others have no order
 pub sorts_order : {X : Type 0} {E : X → X → Bool} {R : X → X → Ordering} → IsEquivalence E → IsTotalOrder R
     → IsPartialOrder (λ (x y : X). E x y && is_eq (R x y)) (λ (x y : X). if E x y then Some (R x y) else None)
 sorts_order {X} {E} {R} e r = record {
@@ -66,7 +64,7 @@ sorts_order {X} {E} {R} e r = record {
       rw (e.congr x y z one, r.congr x y z tied);
 }
 
--- tests and orders that agree have the laws of one another
+-- a test and an order with the values of others have the laws of those
 pub partial_order_alike : {X : Type 0} {E F : X → X → Bool} {C D : X → X → Option Ordering} → ((x y : X) → F x y ≡ E x y) → ((x y : X) → D x y ≡ C x y)
     → IsPartialOrder E C → IsPartialOrder F D
 partial_order_alike {X} {E} {F} {C} {D} f d o =

@@ -37,7 +37,7 @@ tied (Some a) (Some b) = ties signed_po (λ x y. refl) (whole_of a) (whole_of b)
 same_type-equiv : IsEquivalence same_type
 same_type-equiv = on_equiv erase tree_eq-equiv
 
--- the types and contents of views say the same as their types and integers
+-- the order and equality of views, by types and contents, are those of their types and integers
 pub number_order : IsPartialOrder (λ (x y : PrimitiveScalar). same_type (number_view_type x) (number_view_type y) && equal (number_view_content x) (number_view_content y))
     (λ (x y : PrimitiveScalar). typed_order (number_view_type x) (number_view_content x) (number_view_type y) (number_view_content y))
 number_order = partial_order_alike

@@ -1,4 +1,4 @@
--- Integer types and raw values, and what makes no view of them.
+-- Integer types and raw values, and what cannot be viewed as an integer.
 use Rattle.std.specs.Prelude.{◌≡◌, ℤ, Option, Some, None}
 use Rattle.vortex_dtype.specs.TypeTree.{TypeTree, integer_type}
 use Rattle.vortex_dtype.specs.declared.error.VortexError.{VortexError}
@@ -19,19 +19,19 @@ abbrev pub raw_number : Option PValue → RawTree
 raw_number None = absent
 raw_number (Some p) = raw_integer (ptype_of p) (whole_of p)
 
--- the same raw value, an integer at an integer type in the type's kind
+-- the raw value, but an integer at an integer type as one of the type's PType
 abbrev pub in_ptype_of : TypeTree → RawTree → RawTree
 in_ptype_of (integer_type k n) (raw_integer l z) = raw_integer k z
 in_ptype_of t v = v
 
--- an integer type, and null or an integer of any kind whose number the type's kind has
+-- an integer type, and null or an integer whose number is in the range of the type's PType
 abbrev pub HoldsNumber : TypeTree → RawTree → Type 0
 HoldsNumber (integer_type k n) absent = Unit {0}
 HoldsNumber (integer_type k n) (raw_integer l z) = InRange k z
 HoldsNumber _ _ = ⊥
 
--- why a type and a raw value make no view of a number: the type is of another kind; the type's kind does not have the
--- number; and else the first breach
+-- why a type and a raw value are not viewed as an integer: the type is of another kind; the number is out of range for the
+-- type's PType; or else the first breach
 abbrev pub RefusesNumber : TypeTree → RawTree → VortexError → Type 0
 RefusesNumber (integer_type k n) (raw_integer l z) e = e ≡ OutOfRange
 RefusesNumber (integer_type k n) v e = Refuses e (breaches (integer_type k n) v)

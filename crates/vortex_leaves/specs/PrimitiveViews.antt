@@ -16,7 +16,7 @@ use Rattle.vortex_leaves.specs.declared.primitive.PrimitiveScalar.{PrimitiveScal
 abbrev pub number_view_type : PrimitiveScalar → TypeTree
 number_view_type x = type_of x.dtype.now
 
--- the kind of a view's type
+-- the PType of a view's type
 abbrev pub number_view_ptype : PrimitiveScalar → PType
 number_view_ptype x = x.ptype
 
@@ -40,7 +40,7 @@ IsValidNumberView x = Valid (number_view_type x) (number_view_raw x)
 abbrev pub IsNumberViewOf : TypeTree → RawTree → PrimitiveScalar → Type 0
 IsNumberViewOf = Lends number_view_type number_view_raw
 
--- what the operation gives of the numbers of two views
+-- what the operation gives for the numbers of two views
 abbrev pub view_arithmetic : NumericOperator → PrimitiveScalar → PrimitiveScalar → Option (Option ℤ)
 view_arithmetic op x y = arithmetic op (number_view_ptype x) (view_number x) (view_number y)
 
@@ -48,7 +48,7 @@ view_arithmetic op x y = arithmetic op (number_view_ptype x) (view_number x) (vi
 abbrev pub AreOfOneType : PrimitiveScalar → PrimitiveScalar → Type 0
 AreOfOneType x y = Same (number_view_type x) (number_view_type y)
 
--- z is the null or the number that the operation gives, of the type that comes out
+-- z is the null or the number that the operation gives, and has the type of the result
 pub record IsOutcome (op : NumericOperator) (x y z : PrimitiveScalar) : Type 0 where
   pub typed : number_view_type z ≡ numeric_type (number_view_type x) (number_view_type y)
   pub number : view_arithmetic op x y ≡ Some (view_number z)

@@ -1,36 +1,36 @@
--- What contracts say of views of texts: a type and an optional raw value.
-use Rattle.std.specs.Cmp.Lexicographic.{slice_cmp}
-use Rattle.std.specs.Option.{option_cmp}
-use Rattle.std.specs.Ordering.{nat_cmp, on}
-use Rattle.std.specs.declared.cmp.Ordering.{Ordering}
+-- What contracts say of views of strings and of bytes. They differ only in the kind of scalar that they hold.
 use Rattle.vortex_dtype.specs.TypeTree.{TypeTree}
-use Rattle.vortex_value.specs.Validity.{Valid}
-use Rattle.vortex_value.specs.Values.Content.{Content, content}
+use Rattle.vortex_value.specs.Values.Content.{Content}
 use Rattle.vortex_value.specs.Values.RawTree.{RawTree}
-use Rattle.vortex_value.specs.Values.Refs.{ref_raw, ref_type}
-use Rattle.vortex_leaves.specs.Leaves.{Lends, bytes_in}
+use Rattle.vortex_value.specs.Values.Refs.{ref_content, ref_raw, ref_type}
+use Rattle.vortex_value.specs.declared.refs.ScalarRef.{ScalarRef}
+use Rattle.vortex_leaves.specs.declared.binary.BinaryScalar.{BinaryScalar}
 use Rattle.vortex_leaves.specs.declared.utf8.Utf8Scalar.{Utf8Scalar}
 
--- the type of a view
+-- the borrowed scalar that is viewed as a string
+abbrev pub text_ref : Utf8Scalar → ScalarRef
+text_ref x = x.scalar
+
+-- its type, its raw value and its content
 abbrev pub text_view_type : Utf8Scalar → TypeTree
-text_view_type x = ref_type x.scalar
+text_view_type x = ref_type (text_ref x)
 
--- the raw value of a view
 abbrev pub text_view_raw : Utf8Scalar → RawTree
-text_view_raw x = ref_raw x.scalar
+text_view_raw x = ref_raw (text_ref x)
 
--- the content of a view
 abbrev pub text_view_content : Utf8Scalar → Content
-text_view_content x = content (text_view_raw x)
+text_view_content x = ref_content (text_ref x)
 
--- the value is valid for the type
-abbrev pub IsValidTextView : Utf8Scalar → Type 0
-IsValidTextView x = Valid (text_view_type x) (text_view_raw x)
+-- the borrowed scalar that is viewed as bytes
+abbrev pub bytes_ref : BinaryScalar → ScalarRef
+bytes_ref x = x.scalar
 
--- the view has this type and this raw value
-abbrev pub IsTextViewOf : TypeTree → RawTree → Utf8Scalar → Type 0
-IsTextViewOf = Lends text_view_type text_view_raw
+-- its type, its raw value and its content
+abbrev pub bytes_view_type : BinaryScalar → TypeTree
+bytes_view_type x = ref_type (bytes_ref x)
 
--- a null is below all others, and texts go by bytes, a proper beginning below
-abbrev pub text_view_cmp : Utf8Scalar → Utf8Scalar → Ordering
-text_view_cmp = on (λ x. bytes_in (text_view_raw x)) (option_cmp (slice_cmp nat_cmp))
+abbrev pub bytes_view_raw : BinaryScalar → RawTree
+bytes_view_raw x = ref_raw (bytes_ref x)
+
+abbrev pub bytes_view_content : BinaryScalar → Content
+bytes_view_content x = ref_content (bytes_ref x)

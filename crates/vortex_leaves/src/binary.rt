@@ -1,29 +1,15 @@
-//! Views of strings of bytes.
+//! Views of bytes.
 
-ghost use Rattle.std.specs.Prelude.{◌≡◌, ◌≢◌, ◌↔◌, ◌==◌, ◌&&◌, Err, IfErr, IfOk, IsOk, IsTrue, MatchOption, Some, length, option_map};
-ghost use Rattle.std.specs.Cmp.{partial_equiv_from_equiv};
-ghost use Rattle.vortex_dtype.specs.Parts.{is_binary_type};
-ghost use Rattle.vortex_dtype.specs.TypeOf.{type_of};
-ghost use Rattle.vortex_value.specs.Equality.{equal, same_type};
-ghost use Rattle.vortex_value.specs.Hashing.{typed_feed};
-ghost use Rattle.vortex_value.specs.Order.{typed_order};
-ghost use Rattle.vortex_value.specs.Texts.{text_of};
-ghost use Rattle.vortex_value.specs.Validity.{Valid};
-ghost use Rattle.vortex_value.specs.Values.RawOf.{lent_raw};
-ghost use Rattle.vortex_value.specs.Values.RawTree.{absent, raw_bytes};
-ghost use Rattle.vortex_value.specs.Values.Refs.{ref_raw, ref_type};
-ghost use Rattle.vortex_value.specs.Values.Scalars.{scalar_raw, scalar_type};
-ghost use Rattle.vortex_leaves.specs.Leaves.{GivesView, RefusesView, bytes_in, may_be_bytes};
-ghost use Rattle.vortex_leaves.specs.ViewLaws.{view_alike, view_equiv};
+ghost use Rattle.std.specs.Prelude.{◌≡◌, ◌≢◌, ◌↔◌, ◌==◌, Err, IfErr, IfOk, IsOk, IsTrue, MatchOption, Some, length, option_map};
+ghost use Rattle.vortex_leaves.specs.Words.{GivesView, IsRefOf, IsValidRef, RefusesView, Valid, absent, is_binary_type, lent_raw, may_be_bytes, raw_bytes, ref_bytes, ref_raw, ref_type, scalar_raw, scalar_type, type_of};
 
 use std::alloc::Global;
-use std::cmp::Ordering;
-use std::fmt::{self, Display, Formatter, Write};
-use std::hash::{Hash, Hasher};
 use vortex_dtype::{ByteBuffer, DType, VortexError};
 use vortex_value::{Scalar, ScalarRef, ScalarValue};
 
-/// A string of bytes of a scalar, or its null, and the scalar's type. Ports
+mod comparisons;
+
+/// Bytes of a scalar, or its null, and the scalar's type. Ports
 /// `vortex_array::scalar::BinaryScalar`.
 #[derive(Clone, Copy, Debug)]
 pub struct BinaryScalar<'a> {
@@ -33,12 +19,12 @@ pub struct BinaryScalar<'a> {
 }
 
 impl<'a> BinaryScalar<'a> {
-    ghost use Rattle.vortex_leaves.specs.BytesViews.{IsBytesViewOf, IsValidBytesView, bytes_view_raw, bytes_view_type};
+    ghost use Rattle.vortex_leaves.specs.ViewWords.{bytes_ref, bytes_view_raw, bytes_view_type};
 
-    /// The view of a type and a raw value, or its absence.
+    /// The view of a type and a raw value. `None` is the null.
     ///
-    /// `WrongKind` where the type is not one of strings of bytes (an extension over one is not), else `Invalid`
-    /// where the value is not valid for the type.
+    /// `WrongKind` if the type is not a type of bytes; an extension over one is not. Else `Invalid`
+    /// if the value is not valid for the type.
     pub fn try_new(
         alloc: Global,
         dtype: &'a DType,
@@ -46,8 +32,9 @@ impl<'a> BinaryScalar<'a> {
     ) -> Result<BinaryScalar<'a>, VortexError>
         ensures ok { IsOk result ↔ (IsTrue (is_binary_type (type_of dtype.now))
             × Valid (type_of dtype.now) (lent_raw value.entry)) }
-        ensures made { IfOk result (IsBytesViewOf (type_of dtype.now) (lent_raw value.entry)) }
-        ensures valid { IfOk result IsValidBytesView }
+        ensures made { IfOk result (λ view.
+            IsRefOf (type_of dtype.now) (lent_raw value.entry) (bytes_ref view)) }
+        ensures valid { IfOk result (λ view. IsValidRef (bytes_ref view)) }
         ensures refused { IfErr result (RefusesView (is_binary_type (type_of dtype.now))
             (type_of dtype.now) (lent_raw value.entry)) }
         ensures memory { result ≢ Err VortexError.OutOfMemory }
@@ -66,7 +53,7 @@ impl<'a> BinaryScalar<'a> {
         self.scalar.dtype()
     }
 
-    /// The bytes; none for a null.
+    /// The bytes; `None` for a null.
     pub fn value(&self) -> Option<&'a ByteBuffer>
         ensures { MatchOption result
             (bytes_view_raw self.now ≡ absent)
@@ -75,32 +62,32 @@ impl<'a> BinaryScalar<'a> {
         Some(self.scalar.value()?.as_binary())
     }
 
-    /// How many bytes there are; none for a null.
+    /// How many bytes there are; `None` for a null.
     pub fn len(&self) -> Option<usize>
-        ensures { result ≡ option_map length (bytes_in (bytes_view_raw self.now)) }
+        ensures { result ≡ option_map length (ref_bytes (bytes_ref self.now)) }
     {
         self.value().map(|bytes| bytes.len())
     }
 
-    /// Whether there are no bytes; none for a null.
+    /// Whether there are no bytes; `None` for a null.
     pub fn is_empty(&self) -> Option<bool>
         ensures { result
-            ≡ option_map (λ bytes. length bytes == 0) (bytes_in (bytes_view_raw self.now)) }
+            ≡ option_map (λ bytes. length bytes == 0) (ref_bytes (bytes_ref self.now)) }
     {
         self.value().map(|bytes| bytes.is_empty())
     }
 }
 
-/// The view of a scalar's type and value, valid where the scalar is.
+/// The view of a scalar's type and value. It is valid if the scalar is.
 ///
-/// `WrongKind` exactly where the type is not one of strings of bytes, or the raw value of another kind.
+/// `WrongKind` exactly if the type is not a type of bytes, or the raw value of another kind.
 impl<'a> TryFrom<&'a Scalar> for BinaryScalar<'a> {
-    ghost use Rattle.vortex_leaves.specs.BytesViews.{IsBytesViewOf};
+    ghost use Rattle.vortex_leaves.specs.ViewWords.{bytes_ref};
 
     type Error = VortexError;
 
     ghost try_from_gives = { λ scalar. GivesView
-        (IsBytesViewOf (scalar_type scalar.now) (scalar_raw scalar.now))
+        (λ view. IsRefOf (scalar_type scalar.now) (scalar_raw scalar.now) (bytes_ref view))
         (IsTrue (is_binary_type (scalar_type scalar.now))
         × IsTrue (may_be_bytes (scalar_raw scalar.now))) };
 
@@ -111,79 +98,5 @@ impl<'a> TryFrom<&'a Scalar> for BinaryScalar<'a> {
             }),
             _ => Err(VortexError::WrongKind),
         }
-    }
-}
-
-impl PartialEq for BinaryScalar<'_> {
-    ghost use Rattle.vortex_leaves.specs.BytesViews.{bytes_view_content, bytes_view_type};
-
-    ghost eq = { λ a b. same_type (bytes_view_type a) (bytes_view_type b)
-        && equal (bytes_view_content a) (bytes_view_content b) };
-
-    ghost laws = { partial_equiv_from_equiv (view_equiv bytes_view_type bytes_view_content) };
-
-    fn eq(&self, other: &BinaryScalar<'_>) -> bool {
-        self.scalar == other.scalar
-    }
-}
-
-impl Eq for BinaryScalar<'_> {
-    ghost use Rattle.vortex_leaves.specs.BytesViews.{bytes_view_content, bytes_view_type};
-
-    ghost laws = { view_equiv bytes_view_type bytes_view_content };
-}
-
-impl PartialOrd for BinaryScalar<'_> {
-    ghost use Rattle.vortex_leaves.specs.BytesLaws.{bytes_order};
-    ghost use Rattle.vortex_leaves.specs.BytesViews.{bytes_view_content, bytes_view_type};
-
-    ghost partial_cmp = { λ a b. typed_order
-        (bytes_view_type a) (bytes_view_content a) (bytes_view_type b) (bytes_view_content b) };
-
-    ghost laws = { bytes_order.partial };
-
-    fn partial_cmp(&self, other: &BinaryScalar<'_>) -> Option<Ordering> {
-        Some(self.cmp(other))
-    }
-}
-
-/// A null is below the others, and strings go by their bytes, a proper beginning below.
-impl Ord for BinaryScalar<'_> {
-    ghost use Rattle.vortex_leaves.specs.BytesLaws.{bytes_order};
-    ghost use Rattle.vortex_leaves.specs.BytesViews.{bytes_view_cmp};
-
-    ghost cmp = { bytes_view_cmp };
-
-    ghost total = { bytes_order.total };
-
-    ghost matches_partial_cmp = { bytes_order.agrees };
-
-    ghost matches_eq = { bytes_order.ties };
-
-    fn cmp(&self, other: &BinaryScalar<'_>) -> Ordering {
-        self.value().cmp(&other.value())
-    }
-}
-
-impl Hash for BinaryScalar<'_> {
-    ghost use Rattle.vortex_leaves.specs.BytesViews.{bytes_view_content, bytes_view_type};
-
-    ghost hash_input = { λ x. typed_feed (bytes_view_type x) (bytes_view_content x) };
-
-    ghost respects_eq = { (view_alike bytes_view_type bytes_view_content).fed };
-
-    fn hash<H: Hasher>(&self, state: &mut H) {
-        self.scalar.hash(state);
-    }
-}
-
-/// Writes `null`, or in quotes each byte in hexadecimal, with spaces between.
-impl Display for BinaryScalar<'_> {
-    ghost use Rattle.vortex_leaves.specs.BytesViews.{bytes_view_raw, bytes_view_type};
-
-    ghost output = { λ x. Some (text_of (bytes_view_type x) (bytes_view_raw x)) };
-
-    fn fmt<W: Write>(&self, f: &mut Formatter<W>) -> fmt::Result {
-        self.scalar.fmt(f)
     }
 }

@@ -1,27 +1,15 @@
-//! Views of truth values.
+//! Views of booleans.
 
-ghost use Rattle.std.specs.Prelude.{◌≡◌, ◌≢◌, ◌↔◌, ◌&&◌, Err, IfErr, IfOk, IsOk, IsTrue, MatchOption, Some};
-ghost use Rattle.vortex_dtype.specs.TypeOf.{type_of};
-ghost use Rattle.std.specs.Cmp.{partial_equiv_from_equiv};
-ghost use Rattle.vortex_value.specs.Equality.{equal, same_type};
-ghost use Rattle.vortex_value.specs.Hashing.{typed_feed};
-ghost use Rattle.vortex_value.specs.Order.{typed_order};
-ghost use Rattle.vortex_value.specs.Texts.{text_of};
-ghost use Rattle.vortex_value.specs.Validity.{Valid};
-ghost use Rattle.vortex_value.specs.Values.RawOf.{lent_raw};
-ghost use Rattle.vortex_value.specs.Values.RawTree.{absent, raw_bool};
-ghost use Rattle.vortex_value.specs.Values.Scalars.{IsMadeOf, IsValid, scalar_raw, scalar_type};
-ghost use Rattle.vortex_leaves.specs.Leaves.{GivesView, RefusesView, inverted, is_bool_type, may_be_truth};
-ghost use Rattle.vortex_leaves.specs.ViewLaws.{view_alike, view_equiv};
+ghost use Rattle.std.specs.Prelude.{◌≡◌, ◌≢◌, ◌↔◌, Err, IfErr, IfOk, IsOk, IsTrue, MatchOption};
+ghost use Rattle.vortex_leaves.specs.Words.{GivesView, IsMadeOf, IsValid, RefusesView, Valid, absent, is_bool_type, lent_raw, may_be_truth, opposite, raw_bool, scalar_raw, scalar_type, type_of};
 
 use std::alloc::Global;
-use std::cmp::Ordering;
-use std::fmt::{self, Display, Formatter, Write};
-use std::hash::{Hash, Hasher};
 use vortex_dtype::{DType, VortexError};
-use vortex_value::{Scalar, ScalarRef, ScalarValue};
+use vortex_value::{Scalar, ScalarValue};
 
-/// A truth value of a scalar, or its null, and the scalar's type. Ports
+mod comparisons;
+
+/// A boolean of a scalar, or its null, and the scalar's type. Ports
 /// `vortex_array::scalar::BoolScalar`.
 #[derive(Clone, Copy, Debug)]
 pub struct BoolScalar<'a> {
@@ -31,12 +19,12 @@ pub struct BoolScalar<'a> {
 }
 
 impl<'a> BoolScalar<'a> {
-    ghost use Rattle.vortex_leaves.specs.BoolViews.{IsBoolViewOf, IsValidBoolView, bool_view_raw, bool_view_type};
+    ghost use Rattle.vortex_leaves.specs.ViewWords.{IsBoolViewOf, IsValidBoolView, bool_view_raw, bool_view_type};
 
-    /// The view of a type and a raw value, or its absence.
+    /// The view of a type and a raw value. `None` is the null.
     ///
-    /// `WrongKind` where the type is not one of truth values (an extension over one is not), else
-    /// `Invalid` where the value is not valid for the type.
+    /// `WrongKind` if the type is not a type of booleans; an extension over one is not. Else
+    /// `Invalid` if the value is not valid for the type.
     pub fn try_new(
         alloc: Global,
         dtype: &'a DType,
@@ -54,10 +42,7 @@ impl<'a> BoolScalar<'a> {
             return Err(VortexError::WrongKind);
         };
         Scalar::validate(alloc, dtype, value)?;
-        let value = match value {
-            Some(value) => Some(value.as_bool()),
-            None => None,
-        };
+        let value = value.map(|value| value.as_bool());
         Ok(BoolScalar { dtype, value })
     }
 
@@ -68,7 +53,7 @@ impl<'a> BoolScalar<'a> {
         self.dtype
     }
 
-    /// The truth value; none for a null.
+    /// The boolean; `None` for a null.
     pub fn value(&self) -> Option<bool>
         ensures { MatchOption result
             (bool_view_raw self.now ≡ absent)
@@ -77,10 +62,10 @@ impl<'a> BoolScalar<'a> {
         self.value
     }
 
-    /// The view of the other truth value, of the same type; a null stays null.
+    /// The view of the other boolean, of the same type; a null stays null.
     pub fn invert(self) -> BoolScalar<'a>
         ensures made { IsBoolViewOf
-            (bool_view_type self.entry) (inverted (bool_view_raw self.entry)) result }
+            (bool_view_type self.entry) (opposite (bool_view_raw self.entry)) result }
         ensures valid { IsValidBoolView self.entry → IsValidBoolView result }
     {
         BoolScalar {
@@ -89,7 +74,7 @@ impl<'a> BoolScalar<'a> {
         }
     }
 
-    /// The scalar of the exact type and the value.
+    /// The scalar of the same type and value.
     pub fn into_scalar(self) -> Scalar
         ensures made { IsMadeOf (bool_view_type self.entry) (bool_view_raw self.entry) result }
         ensures valid { IsValidBoolView self.entry → IsValid result }
@@ -102,11 +87,11 @@ impl<'a> BoolScalar<'a> {
     }
 }
 
-/// The view of a scalar's type and value, valid where the scalar is.
+/// The view of a scalar's type and value. It is valid if the scalar is.
 ///
-/// `WrongKind` exactly where the type is not one of truth values, or the raw value of another kind.
+/// `WrongKind` exactly if the type is not a type of booleans, or the raw value of another kind.
 impl<'a> TryFrom<&'a Scalar> for BoolScalar<'a> {
-    ghost use Rattle.vortex_leaves.specs.BoolViews.{IsBoolViewOf};
+    ghost use Rattle.vortex_leaves.specs.ViewWords.{IsBoolViewOf};
 
     type Error = VortexError;
 
@@ -128,84 +113,5 @@ impl<'a> TryFrom<&'a Scalar> for BoolScalar<'a> {
             dtype: scalar.dtype(),
             value,
         })
-    }
-}
-
-impl PartialEq for BoolScalar<'_> {
-    ghost use Rattle.vortex_leaves.specs.BoolViews.{bool_view_content, bool_view_type};
-
-    ghost eq = { λ a b. same_type (bool_view_type a) (bool_view_type b)
-        && equal (bool_view_content a) (bool_view_content b) };
-
-    ghost laws = { partial_equiv_from_equiv (view_equiv bool_view_type bool_view_content) };
-
-    fn eq(&self, other: &BoolScalar<'_>) -> bool {
-        self.dtype.eq_ignore_nullability(other.dtype) && self.value == other.value
-    }
-}
-
-impl Eq for BoolScalar<'_> {
-    ghost use Rattle.vortex_leaves.specs.BoolViews.{bool_view_content, bool_view_type};
-
-    ghost laws = { view_equiv bool_view_type bool_view_content };
-}
-
-impl PartialOrd for BoolScalar<'_> {
-    ghost use Rattle.vortex_leaves.specs.BoolLaws.{bool_order};
-    ghost use Rattle.vortex_leaves.specs.BoolViews.{bool_view_content, bool_view_type};
-
-    ghost partial_cmp = { λ a b. typed_order
-        (bool_view_type a) (bool_view_content a) (bool_view_type b) (bool_view_content b) };
-
-    ghost laws = { bool_order.partial };
-
-    fn partial_cmp(&self, other: &BoolScalar<'_>) -> Option<Ordering> {
-        Some(self.cmp(other))
-    }
-}
-
-/// A null is below the others, and false below true.
-impl Ord for BoolScalar<'_> {
-    ghost use Rattle.vortex_leaves.specs.BoolLaws.{bool_order};
-    ghost use Rattle.vortex_leaves.specs.BoolViews.{bool_view_cmp};
-
-    ghost cmp = { bool_view_cmp };
-
-    ghost total = { bool_order.total };
-
-    ghost matches_partial_cmp = { bool_order.agrees };
-
-    ghost matches_eq = { bool_order.ties };
-
-    fn cmp(&self, other: &BoolScalar<'_>) -> Ordering {
-        self.value.cmp(&other.value)
-    }
-}
-
-impl Hash for BoolScalar<'_> {
-    ghost use Rattle.vortex_leaves.specs.BoolViews.{bool_view_content, bool_view_type};
-
-    ghost hash_input = { λ x. typed_feed (bool_view_type x) (bool_view_content x) };
-
-    ghost respects_eq = { (view_alike bool_view_type bool_view_content).fed };
-
-    fn hash<H: Hasher>(&self, state: &mut H) {
-        let value = self.value.map(ScalarValue::Bool);
-        ScalarRef::from_parts(self.dtype, value.as_ref()).hash(state);
-        drop(value);
-    }
-}
-
-/// Writes `true`, `false` or `null`.
-impl Display for BoolScalar<'_> {
-    ghost use Rattle.vortex_leaves.specs.BoolViews.{bool_view_raw, bool_view_type};
-
-    ghost output = { λ x. Some (text_of (bool_view_type x) (bool_view_raw x)) };
-
-    fn fmt<W: Write>(&self, f: &mut Formatter<W>) -> fmt::Result {
-        let value = self.value.map(ScalarValue::Bool);
-        let written = ScalarRef::from_parts(self.dtype, value.as_ref()).fmt(f);
-        drop(value);
-        written
     }
 }

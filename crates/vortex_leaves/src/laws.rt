@@ -1,15 +1,10 @@
-//! The laws of views without parts: what holds of every one, whatever calls gave it.
+//! The laws of views without parts, which hold whatever calls gave a view.
 //!
 //! These functions do nothing when they run. The contract of each is a law over the definitions in
 //! `specs/`, and its proof is the law's proof.
 
-ghost use Rattle.vortex_dtype.specs.Laws.{AgreesWithHash};
-ghost use Rattle.vortex_leaves.specs.BoolViews.{bool_view_content, bool_view_type};
-ghost use Rattle.vortex_leaves.specs.BytesViews.{bytes_view_content, bytes_view_type};
-ghost use Rattle.vortex_leaves.specs.Laws.{OrderAgrees};
-ghost use Rattle.vortex_leaves.specs.PrimitiveViews.{number_view_content, number_view_type};
-ghost use Rattle.vortex_leaves.specs.TextViews.{text_view_content, text_view_type};
-ghost use Rattle.vortex_value.specs.Equality.{EqualsByTypeAndContent};
+ghost use Rattle.vortex_leaves.specs.Words.{AgreesWithHash, EqualsByTypeAndContent, OrderAgrees};
+ghost use Rattle.vortex_leaves.specs.ViewWords.{bool_view_content, bool_view_type, bytes_view_content, bytes_view_type, number_view_content, number_view_type, text_view_content, text_view_type};
 
 use crate::binary::BinaryScalar;
 use crate::bool::BoolScalar;
@@ -17,8 +12,7 @@ use crate::primitive::PrimitiveScalar;
 use crate::utf8::Utf8Scalar;
 use std::hash::Hash;
 
-/// Views are equal exactly where their types are the same up to nullability and their contents
-/// equal.
+/// Views are equal exactly if their types are the same up to nullability and their contents equal.
 pub fn equality()
     ensures truths { EqualsByTypeAndContent
         bool_view_type bool_view_content ⟦<BoolScalar<'static> as PartialEq>⟧.eq }
@@ -42,7 +36,7 @@ pub fn hash_agrees()
         ⟦<PrimitiveScalar<'static> as Hash>⟧.hash_input }
 {}
 
-/// `partial_cmp` says Equal exactly where the two views are equal.
+/// `partial_cmp` says `Equal` exactly if the two views are equal.
 pub fn order_agrees_with_equality()
     ensures truths { OrderAgrees ⟦<BoolScalar<'static> as PartialOrd>⟧.partial_cmp
         ⟦<BoolScalar<'static> as PartialEq>⟧.eq }

@@ -1,7 +1,10 @@
-//! Views of scalars without parts: truth values, texts, strings of bytes and integers.
+// SPDX-License-Identifier: Apache-2.0
+// SPDX-FileCopyrightText: Copyright the Vortex contributors; ported to Rattle and changed
+
+//! Views of scalars without parts: booleans, integers, strings and bytes.
 //!
-//! A public item ports upstream's of the same name, but where it names another or says that it, or
-//! its type, is of this port alone.
+//! A public item ports upstream's item of the same name. Its comment says so if the name differs,
+//! or if upstream has no such item.
 #![tactic(auto)]
 
 mod binary;

@@ -1,20 +1,8 @@
 //! Views of integers.
 
-ghost use Rattle.std.specs.Prelude.{◌≡◌, ◌≢◌, ◌↔◌, ◌&&◌, Err, IfErr, IfOk, IsOk, IsSome, IsSomeAnd, MatchOption, MatchResult, Some, IfSome, option_map};
+ghost use Rattle.std.specs.Prelude.{◌≡◌, ◌≢◌, ◌↔◌, Err, IfErr, IfOk, IsOk, IsSome, IsSomeAnd, MatchOption, MatchResult, Some, IfSome, option_map};
 ghost use Rattle.std.proofs.Props.{props};
-ghost use Rattle.vortex_dtype.specs.TypeOf.{type_of};
-ghost use Rattle.vortex_dtype.specs.TypeTree.{integer_type, nullability_of};
-ghost use Rattle.vortex_pvalue.specs.Numbers.{InRange};
-ghost use Rattle.vortex_pvalue.specs.Whole.{ptype_of, whole_of};
-ghost use Rattle.vortex_value.specs.Reinterpretations.{ptype_in};
-ghost use Rattle.vortex_value.specs.Validity.{Valid};
-ghost use Rattle.vortex_value.specs.Values.Content.{content};
-ghost use Rattle.vortex_value.specs.Values.RawOf.{lent_raw};
-ghost use Rattle.vortex_value.specs.Values.RawTree.{absent, raw_integer};
-ghost use Rattle.vortex_value.specs.Values.Scalars.{IsMadeOf, IsValid, scalar_raw, scalar_type};
-ghost use Rattle.vortex_value.specs.Zero.{is_zero_of};
-ghost use Rattle.vortex_leaves.specs.Leaves.{GivesView};
-ghost use Rattle.vortex_leaves.specs.Numbers.{HoldsNumber, RefusesNumber, in_ptype_of};
+ghost use Rattle.vortex_leaves.specs.Words.{GivesView, HoldsNumber, InRange, IsMadeOf, IsValid, RefusesNumber, Valid, absent, content, in_ptype_of, integer_type, is_zero_of, lent_raw, nullability_of, ptype_in, ptype_of, raw_integer, scalar_raw, scalar_type, type_of, whole_of};
 
 use std::alloc::Global;
 use vortex_dtype::{DType, PType, VortexError};
@@ -25,7 +13,7 @@ use vortex_value::{Scalar, ScalarValue};
 mod arithmetic;
 mod comparisons;
 
-/// An integer of a scalar, or its null, and the scalar's type. The integer is of the type's kind.
+/// An integer of a scalar, or its null, and the scalar's type. The integer has the type's `PType`.
 ///
 /// Ports `vortex_array::scalar::PrimitiveScalar`.
 #[derive(Clone, Copy, Debug)]
@@ -38,14 +26,14 @@ pub struct PrimitiveScalar<'a> {
 }
 
 impl<'a> PrimitiveScalar<'a> {
-    ghost use Rattle.vortex_leaves.specs.PrimitiveViews.{IsNumberViewOf, IsValidNumberView, number_view_ptype, number_view_raw, number_view_type, view_number};
+    ghost use Rattle.vortex_leaves.specs.ViewWords.{IsNumberViewOf, IsValidNumberView, number_view_ptype, number_view_raw, number_view_type, view_number};
 
-    /// The view of a type and a raw value, or its absence. An integer of another kind is taken as
-    /// the same number of the type's kind.
+    /// The view of a type and a raw value. `None` is the null. An integer of another `PType` is
+    /// taken as the same number of the type's `PType`.
     ///
-    /// `WrongKind` where the type is not one of integers (an extension over one is not), else
-    /// `Invalid` for a null of a type that takes none and for a value that is no integer, else
-    /// `OutOfRange` where the type's kind does not have the number.
+    /// `WrongKind` if the type is not a type of integers; an extension over one is not. Else
+    /// `Invalid` for a null of a type that takes none, and for a value that is no integer. Else
+    /// `OutOfRange` if the number is not in the range of the type's `PType`.
     pub fn try_new(
         alloc: Global,
         dtype: &'a DType,
@@ -77,7 +65,7 @@ impl<'a> PrimitiveScalar<'a> {
         })
     }
 
-    /// The view of a number of the type's kind.
+    /// The view of a number of the type's `PType`.
     fn of(dtype: &'a DType, ptype: PType, number: PValue) -> PrimitiveScalar<'a>
         requires ptype { ptype_in (type_of dtype.now) ≡ Some ptype }
         requires number_ptype { ptype_of number ≡ ptype }
@@ -97,7 +85,7 @@ impl<'a> PrimitiveScalar<'a> {
         self.dtype
     }
 
-    /// The type's kind, also of a null.
+    /// The `PType` of the type, also of a null.
     pub fn ptype(&self) -> PType
         ensures ptype { result ≡ number_view_ptype self.now }
         ensures typed { number_view_type self.now
@@ -106,7 +94,7 @@ impl<'a> PrimitiveScalar<'a> {
         self.ptype
     }
 
-    /// The integer, of the type's kind; none for a null.
+    /// The integer, of the type's `PType`; `None` for a null.
     pub fn pvalue(&self) -> Option<PValue>
         ensures { MatchOption result
             (number_view_raw self.now ≡ absent)
@@ -117,9 +105,10 @@ impl<'a> PrimitiveScalar<'a> {
         self.pvalue
     }
 
-    /// The number as a Rust integer of the type's kind, which the caller knows; none for a null.
+    /// The number as the Rust integer of the type's `PType`, which the caller knows; `None` for a
+    /// null.
     ///
-    /// Ports `PrimitiveScalar::typed_value`, which panics at another kind.
+    /// Ports `PrimitiveScalar::typed_value`, which panics at another `PType`.
     pub fn typed_value<T: NativePType>(&self) -> Option<T>
         requires { ptype_in (number_view_type self.now) ≡ Some T.PTYPE }
         ensures { option_map T.value result ≡ view_number self.now }
@@ -133,9 +122,9 @@ impl<'a> PrimitiveScalar<'a> {
         }
     }
 
-    /// The number as a Rust integer of the type's kind; none for a null.
+    /// The number as the Rust integer of the type's `PType`; `None` for a null.
     ///
-    /// `WrongPType` exactly where the type is of another kind, also of a null.
+    /// `WrongPType` exactly if the type has another `PType`, also for a null.
     pub fn try_typed_value<T: NativePType>(&self) -> Result<Option<T>, VortexError>
         ensures { MatchResult result
             (λ number. (number_view_ptype self.now ≡ T.PTYPE)
@@ -149,7 +138,7 @@ impl<'a> PrimitiveScalar<'a> {
         }
     }
 
-    /// Whether the number is zero; none for a null.
+    /// Whether the number is zero; `None` for a null.
     pub fn is_zero(&self) -> Option<bool>
         ensures { result
             ≡ is_zero_of (number_view_type self.now) (content (number_view_raw self.now)) }
@@ -157,9 +146,10 @@ impl<'a> PrimitiveScalar<'a> {
         self.pvalue.map(|number| number.is_zero())
     }
 
-    /// The same number as a Rust integer, which the caller knows to have it; none for a null.
+    /// The number as any Rust integer type with the number in its range, as the caller knows;
+    /// `None` for a null.
     ///
-    /// Ports `PrimitiveScalar::as_`, which panics where the integer does not have the number.
+    /// Ports `PrimitiveScalar::as_`, which panics if the number is out of range.
     pub fn as_<T: NativePType>(&self) -> Option<T>
         requires { IfSome (view_number self.now) (InRange T.PTYPE) }
         ensures { option_map T.value result ≡ view_number self.now }
@@ -167,7 +157,7 @@ impl<'a> PrimitiveScalar<'a> {
         self.as_opt::<T>().unwrap()
     }
 
-    /// The same number as a Rust integer: `None` where that does not have it, `Some(None)` for a null.
+    /// The number as any Rust integer type: `None` if it is out of range, `Some(None)` for a null.
     pub fn as_opt<T: NativePType>(&self) -> Option<Option<T>>
         ensures { MatchOption result
             (IsSomeAnd (view_number self.now) (λ number. ¬ (InRange T.PTYPE number)))
@@ -180,13 +170,13 @@ impl<'a> PrimitiveScalar<'a> {
     }
 }
 
-/// The view of a scalar's type and number, valid where the scalar is. An integer of another kind is
-/// taken as the same number of the type's kind.
+/// The view of a scalar's type and number. It is valid if the scalar is. An integer of another
+/// `PType` is taken as the same number of the type's `PType`.
 ///
-/// `WrongKind` exactly where the type is not one of integers, or the raw value is none, or the
-/// type's kind does not have the number.
+/// `WrongKind` exactly if the type is not a type of integers, the raw value is no integer, or the
+/// number is not in the range of the type's `PType`.
 impl<'a> TryFrom<&'a Scalar> for PrimitiveScalar<'a> {
-    ghost use Rattle.vortex_leaves.specs.PrimitiveViews.{IsNumberViewOf};
+    ghost use Rattle.vortex_leaves.specs.ViewWords.{IsNumberViewOf};
 
     type Error = VortexError;
 
@@ -218,9 +208,9 @@ impl<'a> TryFrom<&'a Scalar> for PrimitiveScalar<'a> {
     }
 }
 
-/// The scalar of the exact type and the number, valid where the view is.
+/// The scalar of the same type and number. It is valid if the view is.
 impl From<PrimitiveScalar<'_>> for Scalar {
-    ghost use Rattle.vortex_leaves.specs.PrimitiveViews.{number_view_raw, number_view_type};
+    ghost use Rattle.vortex_leaves.specs.ViewWords.{number_view_raw, number_view_type};
 
     ghost from_gives = { λ x y. IsMadeOf (number_view_type x) (number_view_raw x) y };
 

@@ -23,7 +23,7 @@ use Rattle.vortex_value.specs.declared.scalars.Scalar.{Scalar}
 use Rattle.vortex_value.specs.declared.values.ScalarValue.{ScalarValue, Tuple, the_lemmas}
 use Rattle.vortex_views.proofs.PartSteps.{lent-valid, parts_of-Tuple}
 use Rattle.vortex_views.specs.Parts.{IsValidPart, Part, listed_raws, parts_of, ref_part}
-use Rattle.vortex_views.specs.StructParts.{IsProjectedType, IsProjectedValue, fields_within, value_named}
+use Rattle.vortex_views.specs.StructParts.{IsProjectedType, IsProjectedValue, field_named, fields_within, value_named}
 
 -- at a place of pairs
 pub zip-past : {A B : Type 0} (xs : List A) (ys : List B) (i : ℕ) → slice_get xs i ≡ None → slice_get (zip xs ys) i ≡ None
@@ -39,8 +39,19 @@ zip-at (w ∷ xs) (y ∷ ys) zero x e = rw (same_Some w x e) refl
 zip-at (w ∷ xs) (y ∷ ys) (suc i) x e = zip-at xs ys i x e
 
 -- the fields of a struct's value, by what its type and its value hold
-pub within : (f : FieldParts) (t : TypeTree) (v : RawTree) (raws : List RawTree) → Some f ≡ fields_in t → raws ≡ parts_of v → zip f.types raws ≡ fields_within t v
+pub within : (f : FieldParts) (t : TypeTree) (v : RawTree) (raws : List RawTree) → Some f ≡ fields_in t → raws ≡ parts_of v → zip f.types raws ≡ fields_within (t, v)
 within f t v raws k r = rw (← k, r) refl
+
+-- the field with the name, by its place
+pub at_named_place : (f : FieldParts) (t : TypeTree) (v : RawTree) (name : List ℕ) (i : ℕ) → Some f ≡ fields_in t → field_index f name ≡ Some i
+    → slice_get (fields_within (t, v)) i ≡ field_named (t, v) name
+at_named_place f t v name i held found =
+    sym (ap (option_and_then (slice_get (fields_within (t, v)))) (subst (λ o. option_and_then (λ g. field_index g name) o ≡ Some i) held found))
+
+pub no_such_name : (f : FieldParts) (t : TypeTree) (v : RawTree) (name : List ℕ) → Some f ≡ fields_in t → field_index f name ≡ None
+    → None ≡ field_named (t, v) name
+no_such_name f t v name held missing =
+    sym (ap (option_and_then (slice_get (fields_within (t, v)))) (subst (λ o. option_and_then (λ g. field_index g name) o ≡ None) held missing))
 
 -- as many fields are left as there are both types and values
 pub fields_left-count : (ts : List DType) (vs : List (Option ScalarValue)) → length (zip (map type_of ts) (map raw_of vs)) ≡ min (length ts) (length vs)
@@ -68,17 +79,17 @@ zip-nothing (x ∷ xs) = refl
 
 -- p holds of the fields of a struct's value where it holds of those of a tuple, and of none
 by-tuple : (p : List Part → Type 0) (ns : List (List ℕ)) (ts : TypeTrees) (n : Nullability) (v : RawTree) → p []
-    → ((vs : RawTrees) → FieldsValid ts vs → p (zip (listed_types ts) (listed_raws vs))) → Valid (struct_type ns ts n) v → p (fields_within (struct_type ns ts n) v)
+    → ((vs : RawTrees) → FieldsValid ts vs → p (zip (listed_types ts) (listed_raws vs))) → Valid (struct_type ns ts n) v → p (fields_within (struct_type ns ts n, v))
 by-tuple p ns ts n (raw_tuple vs) none some h = some vs h
 by-tuple p ns ts n absent none some h = subst p (sym (zip-nothing (listed_types ts))) none
 by-tuple p ns ts n _ none some h = absurd h
 
 by-struct : (p : List Part → Type 0) (t : TypeTree) (v : RawTree) → p []
-    → ((ts : TypeTrees) (vs : RawTrees) → FieldsValid ts vs → p (zip (listed_types ts) (listed_raws vs))) → Valid t v → p (fields_within t v)
+    → ((ts : TypeTrees) (vs : RawTrees) → FieldsValid ts vs → p (zip (listed_types ts) (listed_raws vs))) → Valid t v → p (fields_within (t, v))
 by-struct p (struct_type ns ts n) v none some h = by-tuple p ns ts n v none (some ts) h
 by-struct p _ v none some h = none
 
-pub fields-valid : (t : TypeTree) (v : RawTree) → Valid t v → All IsValidPart (fields_within t v)
+pub fields-valid : (t : TypeTree) (v : RawTree) → Valid t v → All IsValidPart (fields_within (t, v))
 fields-valid t v h = by-struct (All IsValidPart) t v (All-nil IsValidPart) all-valid h
 
 -- the fields that are left of a valid struct are valid
@@ -90,7 +101,7 @@ left-valid left types f t v raws l s r k h = subst (All IsValidPart) (sym (l ∙
 pub lent_field-valid : (lent : Option ScalarRef) (f : FieldParts) (t : TypeTree) (v : RawTree) (raws : List RawTree) (i : ℕ)
     → option_map ref_part lent ≡ slice_get (zip f.types raws) i → raws ≡ parts_of v → Some f ≡ fields_in t → Valid t v → IfSome lent IsValidRef
 lent_field-valid lent f t v raws i l r k h =
-    lent-valid lent (slice_get (fields_within t v) i) (l ∙ ap (λ ps. slice_get ps i) (within f t v raws k r))
+    lent-valid lent (slice_get (fields_within (t, v)) i) (l ∙ ap (λ ps. slice_get ps i) (within f t v raws k r))
     (by-struct (λ ps. IfSome (slice_get ps i) IsValidPart) t v tt (λ ts vs k. each-valid ts vs i k) h)
 
 value_tree-Tuple : (vs : Vec (Option ScalarValue) Global) → value_tree (Tuple vs) ≡ raw_tuple (value_trees vs.items)

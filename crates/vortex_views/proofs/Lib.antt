@@ -1,3 +1,4 @@
+pub mod CopySteps
 pub mod FieldSteps
 pub mod IteratorSteps
 pub mod KindSteps

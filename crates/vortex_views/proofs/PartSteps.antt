@@ -59,7 +59,7 @@ nothing-valid : {X : Type 0} (part : X → RawTree → Part) (x : X) (v : RawTre
 nothing-valid part x v place e = rw e tt
 
 -- each element of a valid list is valid
-pub element-valid : (e t : TypeTree) (v : RawTree) (place : ℕ) → Some e ≡ element_in t → Valid t v → IfSome (slice_get (elements_of t v) place) IsValidPart
+pub element-valid : (e t : TypeTree) (v : RawTree) (place : ℕ) → Some e ≡ element_in t → Valid t v → IfSome (slice_get (elements_of (t, v)) place) IsValidPart
 element-valid e (list_type f n) v place k h = elim (no_parts_or_tuple v) [
   | inl none ↦ nothing-valid (λ e w. (e, w)) f v place none
   | inr tuple ↦ rw tuple.1 (each-valid f tuple.0 place (subst (Valid (list_type f n)) tuple.1 h))
@@ -74,7 +74,7 @@ element-valid e _ v place k h = cc
 pub lent_element-valid : (lent : Option ScalarRef) (e t : TypeTree) (v : RawTree) (raws : List RawTree) (place : ℕ)
     → option_map ref_part lent ≡ option_map (λ w. (e, w)) (slice_get raws place) → raws ≡ parts_of v → Some e ≡ element_in t → Valid t v → IfSome lent IsValidRef
 lent_element-valid lent e t v raws place l r k h =
-    lent-valid lent (slice_get (elements_of t v) place)
+    lent-valid lent (slice_get (elements_of (t, v)) place)
     (l ∙ ap (λ ws. option_map (λ w. (e, w)) (slice_get ws place)) r ∙ sym (parts_by-at (λ f w. (f, w)) e (element_in t) v place k))
     (element-valid e t v place k h)
 
@@ -88,7 +88,7 @@ pub copied_elements-valid : (xs : List Scalar) (e t : TypeTree) (v : RawTree) (r
     → map scalar_part xs ≡ map (λ w. (e, w)) raws → raws ≡ parts_of v → Some e ≡ element_in t → Valid t v → All IsValid xs
 copied_elements-valid xs e t v raws l r k h = copies-valid xs (λ place. subst (λ ps. IfSome (slice_get ps place) IsValidPart) (sym same) (element-valid e t v place k h))
   where
-    same : map scalar_part xs ≡ elements_of t v
+    same : map scalar_part xs ≡ elements_of (t, v)
     same = l ∙ ap (map (λ w. (e, w))) r ∙ subst (λ held. map {B = Part} (λ w. (e, w)) (parts_of v) ≡ parts_by (λ f w. (f, w)) held v) k refl
 
 each_entry-valid : (m : MapParts) (vs : RawTrees) (place : ℕ) → EntriesValid m.key m.value vs → IfSome (slice_get (map (entry_of m) (listed_raws vs)) place) AreValidParts
@@ -98,7 +98,7 @@ each_entry-valid m (raw_then (raw_tuple (raw_then x (raw_then y no_raws))) vs) (
 each_entry-valid m _ place h = absurd h
 
 -- each entry of a valid map is valid
-pub entry-valid : (m : MapParts) (t : TypeTree) (v : RawTree) (place : ℕ) → Some m ≡ map_in t → Valid t v → IfSome (slice_get (entries_of t v) place) AreValidParts
+pub entry-valid : (m : MapParts) (t : TypeTree) (v : RawTree) (place : ℕ) → Some m ≡ map_in t → Valid t v → IfSome (slice_get (entries_of (t, v)) place) AreValidParts
 entry-valid m (map_type k w sorted n) v place e h = elim (no_parts_or_tuple v) [
   | inl none ↦ rw none tt
   | inr tuple ↦ rw tuple.1 (each_entry-valid (record { key = k; value = w; keys_sorted = sorted }) tuple.0 place (subst (Valid (map_type k w sorted n)) tuple.1 h))
@@ -115,7 +115,7 @@ lent_both-valid (Some x) entry e h = let P : Option (Part × Part) → Type 0 = 
 pub lent_entry-valid : (lent : Option (ScalarRef × ScalarRef)) (m : MapParts) (t : TypeTree) (v : RawTree) (raws : List RawTree) (place : ℕ)
     → option_map ref_entry lent ≡ option_map (entry_of m) (slice_get raws place) → raws ≡ parts_of v → Some m ≡ map_in t → Valid t v → IfSome lent (λ e. IsValidRef e.0 × IsValidRef e.1)
 lent_entry-valid lent m t v raws place l r k h =
-    lent_both-valid lent (slice_get (entries_of t v) place)
+    lent_both-valid lent (slice_get (entries_of (t, v)) place)
     (l ∙ ap (λ ws. option_map (entry_of m) (slice_get ws place)) r ∙ sym (parts_by-at entry_of m (map_in t) v place k))
     (entry-valid m t v place k h)
 
@@ -126,9 +126,9 @@ all_placed P (x ∷ xs) h = All-cons P x xs (h 0) (all_placed P xs (λ place. h 
 -- all entries of a valid map are valid
 pub entries-valid : (m : MapParts) (t : TypeTree) (v : RawTree) (raws : List RawTree) (left : List (Part × Part))
     → left ≡ map (entry_of m) raws → raws ≡ parts_of v → Some m ≡ map_in t → Valid t v → All AreValidParts left
-entries-valid m t v raws left l r k h = rw same (all_placed AreValidParts (entries_of t v) (λ place. entry-valid m t v place k h))
+entries-valid m t v raws left l r k h = rw same (all_placed AreValidParts (entries_of (t, v)) (λ place. entry-valid m t v place k h))
   where
-    same : left ≡ entries_of t v
+    same : left ≡ entries_of (t, v)
     same = l ∙ ap (map (entry_of m)) r ∙ subst (λ held. map (entry_of m) (parts_of v) ≡ parts_by entry_of held v) k refl
 
 -- all keys, and all values, of valid entries are valid

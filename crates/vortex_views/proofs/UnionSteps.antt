@@ -114,10 +114,4 @@ child_of_type t v w id u is h = subst (λ x. chosen_type t x ≡ Some u → chil
     at (union_type names ts ids n) h = ap (option_map (λ t. (t, w))) h
     at t h = cc
 
-pub ruleset shown = (valid_is_union)
-
-pub ruleset chosen = (type_at_place, name_at_place, name_there)
-
-pub ruleset lent_child = (child_valid, child_of_type)
-
-pub ruleset copied_child = (child_valid, some_before)
+pub ruleset steps = (valid_is_union, type_at_place, name_at_place, name_there, child_valid, child_of_type, some_before)

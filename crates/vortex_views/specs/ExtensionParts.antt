@@ -1,4 +1,4 @@
--- Which raw values are of a type's kind.
+-- The raw values that are of a type's kind.
 use Rattle.std.specs.Prelude.{Bool, true, false}
 use Rattle.vortex_dtype.specs.Parts.{is_binary_type, is_union_type, is_utf8_type}
 use Rattle.vortex_dtype.specs.TypeTree.{TypeTree, integer_type, list_type, fixed_size_list_type, map_type, struct_type}
@@ -6,7 +6,7 @@ use Rattle.vortex_value.specs.Values.RawTree.{RawTree, absent, raw_bool, raw_int
 use Rattle.vortex_leaves.specs.Leaves.{is_bool_type}
 use Rattle.vortex_views.specs.ViewKinds.{is_variant_type}
 
--- whether the type is one of integers; an extension over one is not
+-- whether the type is a type of integers; an extension over one is not
 abbrev pub is_integer_type : TypeTree → Bool
 is_integer_type (integer_type k n) = true
 is_integer_type _ = false
@@ -19,7 +19,8 @@ is_nested (map_type k w sorted n) = true
 is_nested (struct_type names ts n) = true
 is_nested _ = false
 
--- whether a raw value is null, or of the kind of raw value that a type has which is no extension; whatever kind of integer
+-- whether a raw value is null, or of the kind that values of the type have. The type is no extension. An integer may have any
+-- PType.
 abbrev pub is_of_kind : TypeTree → RawTree → Bool
 is_of_kind t absent = true
 is_of_kind t (raw_bool b) = is_bool_type t

@@ -1,27 +1,26 @@
 -- What the iterators over the parts of a view give.
-use Rattle.std.specs.Prelude.{◌≡◌, List, [], ◌∷◌, map, Option, MatchOption, MatchResult}
+use Rattle.std.specs.Prelude.{◌≡◌, List, [], ◌∷◌, map, Option, IsOk, MatchOption}
 use Rattle.std.specs.declared.result.Result.{Result}
 use Rattle.std.specs.Iterator.{Drains}
 use Rattle.std.specs.List.{AllZip, zip}
 use Rattle.vortex_dtype.specs.TypeOf.{map_of, type_of}
 use Rattle.vortex_dtype.specs.declared.error.VortexError.{VortexError}
-use Rattle.vortex_dtype.specs.declared.error.VortexError.TheVariants.{OutOfMemory}
 use Rattle.vortex_value.specs.Values.RawOf.{raw_of}
+use Rattle.vortex_views.specs.Copies.{GivesCopy}
 use Rattle.vortex_views.specs.Parts.{Part, entry_of}
 use Rattle.vortex_views.specs.declared.iterators.Entries.{Entries}
 use Rattle.vortex_views.specs.declared.iterators.Fields.{Fields}
 use Rattle.vortex_views.specs.declared.iterators.Keys.{Keys}
 use Rattle.vortex_views.specs.declared.iterators.Values.{Values}
 
--- an item is a copy of the part, or there was no memory for it
-abbrev pub GivesCopy : {A B : Type 0} → (A → B) → B → Result A VortexError → Type 0
-GivesCopy view part item = MatchResult item (λ x. view x ≡ part) (λ e. e ≡ OutOfMemory)
+-- A call from s gave the first of the parts that were left, as `GivesCopy` says, and left the others. It gave None if no part
+-- was left. A part whose copy takes no memory is not refused.
+abbrev pub YieldsCopies : {S A B : Type 0} → (A → B) → (B → Type 0) → (S → List B) → S → Option (Result A VortexError) → S → Type 0
+YieldsCopies {B = B} view TakesNone left s r t =
+    MatchOption r ((left s ≡ []) × (left t ≡ [])) (λ item. (part : B) × (left s ≡ part ∷ left t) × GivesCopy view part item × (TakesNone part → IsOk item))
 
--- a call from s gave the first of the parts that were left, as `GivesCopy` says, and left the others; it gave none where no part was left
-abbrev pub YieldsCopies : {S A B : Type 0} → (A → B) → (S → List B) → S → Option (Result A VortexError) → S → Type 0
-YieldsCopies {B = B} view left s r t = MatchOption r ((left s ≡ []) × (left t ≡ [])) (λ item. (part : B) × (left s ≡ part ∷ left t) × GivesCopy view part item)
-
--- All calls up to the first that gives none give the parts that were left, in order, an item for each, one for which there was no memory included.
+-- The calls up to the first that gives None give an item for each part that was left, in order: a copy, or that there was no
+-- memory for it.
 abbrev pub GivesEachPart : {S A B : Type 0} → (A → B) → (S → List B) → (S → Option (Result A VortexError) → S → Type 0) → Type 0
 GivesEachPart {S} {A} view left steps = (s : S) (items : List (Result A VortexError)) → Drains steps s items → AllZip (GivesCopy view) (left s) items
 

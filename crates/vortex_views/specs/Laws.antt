@@ -6,10 +6,10 @@ use Rattle.vortex_value.specs.TypesWithin.{HasNoVariant}
 use Rattle.vortex_value.specs.Values.Refs.{IsValidRef, ref_content, ref_order, ref_type}
 use Rattle.vortex_value.specs.declared.refs.ScalarRef.{ScalarRef}
 
--- views are equal exactly where their types are the same up to nullability and their contents equal
+-- views are equal exactly if their types are the same up to nullability and their contents equal
 abbrev pub EqualsAsViewed : {X : Type 0} → (X → ScalarRef) → (X → X → Bool) → Type 0
 EqualsAsViewed viewed eq = EqualsByTypeAndContent (λ x. ref_type (viewed x)) (λ x. ref_content (viewed x)) eq
 
--- of a valid view whose type has no variant at any depth, the order with another says Equal exactly where the two are equal
+-- if a view is valid and its type has no variant at any depth, its order with another says Equal exactly if they are equal
 abbrev pub OrderAgreesAsViewed : {X : Type 0} → (X → ScalarRef) → (X → X → Bool) → Type 0
 OrderAgreesAsViewed viewed eq = AgreesWhere (λ x. HasNoVariant (ref_type (viewed x)) × IsValidRef (viewed x)) (λ x y. ref_order (viewed x) (viewed y)) eq

@@ -1,3 +1,4 @@
+pub mod Copies
 pub mod ExtensionParts
 pub mod Extensions
 pub mod Iterators
@@ -13,4 +14,5 @@ pub mod UnionExamples
 pub mod Unions
 pub mod Variants
 pub mod ViewKinds
-pub mod ViewLaws
+pub mod ViewWords
+pub mod Words

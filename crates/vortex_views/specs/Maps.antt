@@ -3,6 +3,7 @@ use Rattle.vortex_dtype.specs.TypeTree.{TypeTree}
 use Rattle.vortex_value.specs.Values.RawTree.{RawTree}
 use Rattle.vortex_value.specs.Values.Refs.{ref_raw, ref_type}
 use Rattle.vortex_value.specs.declared.refs.ScalarRef.{ScalarRef}
+use Rattle.vortex_views.specs.Parts.{Part, ref_part}
 use Rattle.vortex_views.specs.declared.map.MapScalar.{MapScalar}
 
 -- the borrowed scalar that is viewed as a map
@@ -15,3 +16,7 @@ map_view_type x = ref_type (map_ref x)
 
 abbrev pub map_view_raw : MapScalar → RawTree
 map_view_raw x = ref_raw (map_ref x)
+
+-- both, as one
+abbrev pub viewed_map : MapScalar → Part
+viewed_map x = ref_part (map_ref x)

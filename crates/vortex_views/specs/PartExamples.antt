@@ -30,30 +30,30 @@ numbers = list_type i32 NonNullable
 abbrev names : TypeTree
 names = map_type i32 text false NonNullable
 
--- the elements of [10, 20] at list(i32), each of type i32; at a list of two the same
-pub elements_of_a_list : elements_of numbers (both ten twenty) ≡ (i32, ten) ∷ (i32, twenty) ∷ []
+-- the elements of [10, 20] at list(i32), each of type i32, and at a fixed-size list of two
+pub elements_of_a_list : elements_of (numbers, both ten twenty) ≡ (i32, ten) ∷ (i32, twenty) ∷ []
 elements_of_a_list = refl
 
-pub elements_of_a_fixed_size_list : elements_of (fixed_size_list_type i32 2 NonNullable) (both ten twenty) ≡ (i32, ten) ∷ (i32, twenty) ∷ []
+pub elements_of_a_fixed_size_list : elements_of (fixed_size_list_type i32 2 NonNullable, both ten twenty) ≡ (i32, ten) ∷ (i32, twenty) ∷ []
 elements_of_a_fixed_size_list = refl
 
--- its second element, and none past the end
-pub second_element : slice_get (elements_of numbers (both ten twenty)) 1 ≡ Some (i32, twenty)
+-- its second element, and None past the end
+pub second_element : slice_get (elements_of (numbers, both ten twenty)) 1 ≡ Some (i32, twenty)
 second_element = refl
 
-pub past_the_end : slice_get (elements_of numbers (both ten twenty)) 2 ≡ None
+pub past_the_end : slice_get (elements_of (numbers, both ten twenty)) 2 ≡ None
 past_the_end = refl
 
 -- a null has no elements, and is no empty list
-pub null_has_no_elements : elements_of (list_type i32 Nullable) absent ≡ []
+pub null_has_no_elements : elements_of (list_type i32 Nullable, absent) ≡ []
 null_has_no_elements = refl
 
-pub elements_of_null : unless_null absent (elements_of numbers absent) ≡ None
+pub elements_of_null : unless_null absent (elements_of (numbers, absent)) ≡ None
 elements_of_null = refl
 
-pub elements_of_an_empty_list : unless_null (raw_tuple no_raws) (elements_of numbers (raw_tuple no_raws)) ≡ Some []
+pub elements_of_an_empty_list : unless_null (raw_tuple no_raws) (elements_of (numbers, raw_tuple no_raws)) ≡ Some []
 elements_of_an_empty_list = refl
 
 -- the entries of {10: "one", 20: null} at map(i32, utf8?): keys of type i32, values of type utf8?
-pub entries_of_a_map : entries_of names (both (both ten one) (both twenty absent)) ≡ ((i32, ten), (text, one)) ∷ ((i32, twenty), (text, absent)) ∷ []
+pub entries_of_a_map : entries_of (names, both (both ten one) (both twenty absent)) ≡ ((i32, ten), (text, one)) ∷ ((i32, twenty), (text, absent)) ∷ []
 entries_of_a_map = refl

@@ -42,27 +42,27 @@ value = raw_tuple (raw_then one (raw_then letter no_raws))
 abbrev half : RawTree
 half = raw_tuple (raw_then one (raw_then absent no_raws))
 
--- the fields in order, each of its own type; a null is a field too, and of the null struct there are none
-pub fields_of_a_struct : fields_within pair value ≡ (i32, one) ∷ (text, letter) ∷ []
+-- the fields in order, each of its own type; a null is a field too, and the null struct has no fields
+pub fields_of_a_struct : fields_within (pair, value) ≡ (i32, one) ∷ (text, letter) ∷ []
 fields_of_a_struct = refl
 
-pub null_field : slice_get (fields_within pair half) 1 ≡ Some (text, absent)
+pub null_field : slice_get (fields_within (pair, half)) 1 ≡ Some (text, absent)
 null_field = refl
 
-pub past_the_end : slice_get (fields_within pair value) 2 ≡ None
+pub past_the_end : slice_get (fields_within (pair, value)) 2 ≡ None
 past_the_end = refl
 
-pub fields_of_null : fields_within pair absent ≡ []
+pub fields_of_null : fields_within (pair, absent) ≡ []
 fields_of_null = refl
 
--- a name that stands twice is the first field's
-pub by_name : field_named pair value b ≡ Some (text, letter)
+-- a repeated name finds the first field
+pub by_name : field_named (pair, value) b ≡ Some (text, letter)
 by_name = refl
 
-pub by_repeated_name : field_named repeated value a ≡ Some (i32, one)
+pub by_repeated_name : field_named (repeated, value) a ≡ Some (i32, one)
 by_repeated_name = refl
 
-pub by_unknown_name : field_named pair value (codes "c") ≡ None
+pub by_unknown_name : field_named (pair, value) (codes "c") ≡ None
 by_unknown_name = refl
 
 abbrev single : Option FieldParts
@@ -88,7 +88,7 @@ of_null = refl
 pub unknown_name : selection_cause (fields_in pair) (a ∷ codes "c" ∷ []) ≡ Some NoField
 unknown_name = refl
 
--- an integer of any kind is of an integer type's kind, also below two extensions; Null has no value but the null
+-- an integer of any PType is of the kind of an integer type, also below two extensions; Null has no value but the null
 pub other_integer : is_of_kind (storage (extension_type (codes "f") [] (extension_type (codes "e") [] (integer_type I64 NonNullable)))) one ≡ true
 other_integer = refl
 

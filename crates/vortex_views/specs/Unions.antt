@@ -6,7 +6,7 @@ use Rattle.vortex_value.specs.Validity.{type_with}
 use Rattle.vortex_value.specs.Values.RawTree.{RawTree, raw_union}
 use Rattle.vortex_value.specs.Values.Refs.{ref_raw, ref_type}
 use Rattle.vortex_value.specs.declared.refs.ScalarRef.{ScalarRef}
-use Rattle.vortex_views.specs.Parts.{Part}
+use Rattle.vortex_views.specs.Parts.{Part, ref_part}
 use Rattle.vortex_views.specs.declared.union.UnionScalar.{UnionScalar}
 
 -- the borrowed scalar that is viewed as a union
@@ -20,6 +20,10 @@ union_view_type x = ref_type (union_ref x)
 abbrev pub union_view_raw : UnionScalar → RawTree
 union_view_raw x = ref_raw (union_ref x)
 
+-- both, as one
+abbrev pub viewed_union : UnionScalar → Part
+viewed_union x = ref_part (union_ref x)
+
 -- the id that a union's value has; a null has none
 abbrev pub id_of : RawTree → Option ℕ
 id_of (raw_union id v) = Some id
@@ -30,17 +34,17 @@ abbrev pub chosen_place : TypeTree → RawTree → Option ℕ
 chosen_place (union_type names ts ids n) (raw_union id v) = position (λ i. i == id) ids
 chosen_place _ _ = None
 
--- its name
+-- the name of the variant with that id
 abbrev pub chosen_name : TypeTree → RawTree → Option (List ℕ)
 chosen_name (union_type names ts ids n) (raw_union id v) = name_with id ids names
 chosen_name _ _ = None
 
--- its type
+-- the type of the variant with that id
 abbrev pub chosen_type : TypeTree → RawTree → Option TypeTree
 chosen_type (union_type names ts ids n) (raw_union id v) = type_with id ids ts
 chosen_type _ _ = None
 
--- the child, of that type
+-- the child, with that type
 abbrev pub child_of : TypeTree → RawTree → Option Part
 child_of (union_type names ts ids n) (raw_union id v) = option_map (λ t. (t, v)) (type_with id ids ts)
 child_of _ _ = None

@@ -18,12 +18,12 @@ variant_view_type x = ref_type (variant_ref x)
 abbrev pub variant_view_raw : VariantScalar → RawTree
 variant_view_raw x = ref_raw (variant_ref x)
 
--- the scalar that a variant's value holds, with the type that it brings along; a null holds none
+-- the scalar that a variant holds, with the type that it brings along; a null holds none
 abbrev pub inner_of : RawTree → Option Part
 inner_of (raw_variant t v) = Some (t, v)
 inner_of _ = None
 
--- whether that scalar is null, as the variant-null is; of a null none
+-- whether that scalar is null, as in the variant-null; None for a null
 abbrev pub is_inner_null : RawTree → Option Bool
 is_inner_null (raw_variant t v) = Some (is_absent v)
 is_inner_null _ = None

@@ -1,25 +1,8 @@
 //! Scalars viewed as what their types say.
 
-ghost use Rattle.std.specs.Prelude.{◌≡◌, true, is_some, IfSome, IsTrue};
-ghost use Rattle.vortex_dtype.specs.Parts.{element_in, fields_in, is_binary_type, is_extension_type, is_map_type, is_union_type, is_utf8_type};
-ghost use Rattle.vortex_dtype.specs.TypeTree.{TypeTree};
-ghost use Rattle.vortex_leaves.specs.BoolViews.{IsBoolViewOf};
-ghost use Rattle.vortex_leaves.specs.BytesViews.{IsBytesViewOf};
-ghost use Rattle.vortex_leaves.specs.Leaves.{is_bool_type};
-ghost use Rattle.vortex_value.specs.Reinterpretations.{ptype_in};
-ghost use Rattle.vortex_leaves.specs.PrimitiveViews.{IsNumberViewOf};
-ghost use Rattle.vortex_leaves.specs.TextViews.{IsTextViewOf};
-ghost use Rattle.vortex_value.specs.Validity.{Valid};
-ghost use Rattle.vortex_value.specs.Values.RawTree.{RawTree};
-ghost use Rattle.vortex_value.specs.Values.Refs.{IsRefOf};
-ghost use Rattle.vortex_value.specs.Values.Scalars.{scalar_raw, scalar_type};
-ghost use Rattle.vortex_views.specs.Lists.{list_ref};
-ghost use Rattle.vortex_views.specs.Maps.{map_ref};
-ghost use Rattle.vortex_views.specs.Structs.{struct_ref};
-ghost use Rattle.vortex_views.specs.Extensions.{ext_ref};
-ghost use Rattle.vortex_views.specs.Unions.{union_ref};
-ghost use Rattle.vortex_views.specs.Variants.{variant_ref};
-ghost use Rattle.vortex_views.specs.ViewKinds.{is_variant_type};
+ghost use Rattle.std.specs.Prelude.{◌≡◌, true, is_some, IfSome};
+ghost use Rattle.vortex_views.specs.Words.{IsRefOf, RawTree, TypeTree, Valid, element_in, fields_in, is_binary_type, is_bool_type, is_extension_type, is_map_type, is_union_type, is_utf8_type, is_variant_type, ptype_in, scalar_raw, scalar_type};
+ghost use Rattle.vortex_views.specs.ViewWords.{IsBoolViewOf, IsNumberViewOf, bytes_ref, ext_ref, list_ref, map_ref, struct_ref, text_ref, union_ref, variant_ref};
 
 use crate::extension::ExtScalar;
 use crate::list::ListScalar;
@@ -31,11 +14,11 @@ use vortex_dtype::DType;
 use vortex_leaves::{BinaryScalar, BoolScalar, PrimitiveScalar, Utf8Scalar};
 use vortex_value::{Scalar, ScalarRef};
 
-/// A valid scalar, viewed as what its type says.
+/// The views of a valid scalar, by the kind of its type.
 ///
-/// Each call gives a view of exactly the scalar's type and raw value, which is therefore valid, also
-/// of a null. An extension is viewed as an extension alone, whatever it stores. The calls take no
-/// memory. Of this port alone: upstream has them as calls of `Scalar`.
+/// Each call gives a view of the scalar's type and raw value, also for a null. The view is valid,
+/// since the scalar is. An extension is viewed only as an extension, whatever it stores. The calls
+/// take no memory. Upstream has them as calls of `Scalar`, and no such trait.
 pub trait Downcast {
     /// The type.
     ghost type_at: { Self → TypeTree };
@@ -43,7 +26,7 @@ pub trait Downcast {
     /// The raw value.
     ghost raw_at: { Self → RawTree };
 
-    /// The view as a truth value. The caller knows the kind of the type.
+    /// The view as a boolean. The caller knows the kind of the type.
     ///
     /// Ports `Scalar::as_bool`, which panics at another kind of type.
     fn as_bool(&self) -> BoolScalar<'_>
@@ -54,7 +37,7 @@ pub trait Downcast {
         self.as_bool_opt().unwrap()
     }
 
-    /// The view as a truth value, and none exactly for another kind of type.
+    /// The view as a boolean; `None` exactly for another kind of type.
     fn as_bool_opt(&self) -> Option<BoolScalar<'_>>
         requires { Valid (type_at self.now) (raw_at self.now) }
         ensures kind { is_some result ≡ is_bool_type (type_at self.now) }
@@ -71,45 +54,47 @@ pub trait Downcast {
         self.as_primitive_opt().unwrap()
     }
 
-    /// The view as an integer, and none exactly for another kind of type.
+    /// The view as an integer; `None` exactly for another kind of type.
     fn as_primitive_opt(&self) -> Option<PrimitiveScalar<'_>>
         requires { Valid (type_at self.now) (raw_at self.now) }
         ensures kind { is_some result ≡ is_some (ptype_in (type_at self.now)) }
         ensures view { IfSome result (IsNumberViewOf (type_at self.now) (raw_at self.now)) };
 
-    /// The view as a text. The caller knows the kind of the type.
+    /// The view as a string. The caller knows the kind of the type.
     ///
     /// Ports `Scalar::as_utf8`, which panics at another kind of type.
     fn as_utf8(&self) -> Utf8Scalar<'_>
         requires valid { Valid (type_at self.now) (raw_at self.now) }
         requires kind { is_utf8_type (type_at self.now) ≡ true }
-        ensures { IsTextViewOf (type_at self.now) (raw_at self.now) result }
+        ensures { IsRefOf (type_at self.now) (raw_at self.now) (text_ref result) }
     {
         self.as_utf8_opt().unwrap()
     }
 
-    /// The view as a text, and none exactly for another kind of type.
+    /// The view as a string; `None` exactly for another kind of type.
     fn as_utf8_opt(&self) -> Option<Utf8Scalar<'_>>
         requires { Valid (type_at self.now) (raw_at self.now) }
         ensures kind { is_some result ≡ is_utf8_type (type_at self.now) }
-        ensures view { IfSome result (IsTextViewOf (type_at self.now) (raw_at self.now)) };
+        ensures view { IfSome result
+            (λ view. IsRefOf (type_at self.now) (raw_at self.now) (text_ref view)) };
 
-    /// The view as a string of bytes. The caller knows the kind of the type.
+    /// The view as bytes. The caller knows the kind of the type.
     ///
     /// Ports `Scalar::as_binary`, which panics at another kind of type.
     fn as_binary(&self) -> BinaryScalar<'_>
         requires valid { Valid (type_at self.now) (raw_at self.now) }
         requires kind { is_binary_type (type_at self.now) ≡ true }
-        ensures { IsBytesViewOf (type_at self.now) (raw_at self.now) result }
+        ensures { IsRefOf (type_at self.now) (raw_at self.now) (bytes_ref result) }
     {
         self.as_binary_opt().unwrap()
     }
 
-    /// The view as a string of bytes, and none exactly for another kind of type.
+    /// The view as bytes; `None` exactly for another kind of type.
     fn as_binary_opt(&self) -> Option<BinaryScalar<'_>>
         requires { Valid (type_at self.now) (raw_at self.now) }
         ensures kind { is_some result ≡ is_binary_type (type_at self.now) }
-        ensures view { IfSome result (IsBytesViewOf (type_at self.now) (raw_at self.now)) };
+        ensures view { IfSome result
+            (λ view. IsRefOf (type_at self.now) (raw_at self.now) (bytes_ref view)) };
 
     /// The view as a list, of fixed size or not. The caller knows the kind of the type.
     ///
@@ -122,7 +107,7 @@ pub trait Downcast {
         self.as_list_opt().unwrap()
     }
 
-    /// The view as a list, of fixed size or not, and none exactly for another kind of type.
+    /// The view as a list, of fixed size or not; `None` exactly for another kind of type.
     fn as_list_opt(&self) -> Option<ListScalar<'_>>
         requires { Valid (type_at self.now) (raw_at self.now) }
         ensures kind { is_some result ≡ is_some (element_in (type_at self.now)) }
@@ -140,7 +125,7 @@ pub trait Downcast {
         self.as_struct_opt().unwrap()
     }
 
-    /// The view as a struct, and none exactly for another kind of type.
+    /// The view as a struct; `None` exactly for another kind of type.
     fn as_struct_opt(&self) -> Option<StructScalar<'_>>
         requires { Valid (type_at self.now) (raw_at self.now) }
         ensures kind { is_some result ≡ is_some (fields_in (type_at self.now)) }
@@ -158,7 +143,7 @@ pub trait Downcast {
         self.as_map_opt().unwrap()
     }
 
-    /// The view as a map, and none exactly for another kind of type.
+    /// The view as a map; `None` exactly for another kind of type.
     fn as_map_opt(&self) -> Option<MapScalar<'_>>
         requires { Valid (type_at self.now) (raw_at self.now) }
         ensures kind { is_some result ≡ is_map_type (type_at self.now) }
@@ -176,7 +161,7 @@ pub trait Downcast {
         self.as_extension_opt().unwrap()
     }
 
-    /// The view as an extension, and none exactly for another kind of type.
+    /// The view as an extension; `None` exactly for another kind of type.
     fn as_extension_opt(&self) -> Option<ExtScalar<'_>>
         requires { Valid (type_at self.now) (raw_at self.now) }
         ensures kind { is_some result ≡ is_extension_type (type_at self.now) }
@@ -194,7 +179,7 @@ pub trait Downcast {
         self.as_union_opt().unwrap()
     }
 
-    /// The view as a union, and none exactly for another kind of type.
+    /// The view as a union; `None` exactly for another kind of type.
     fn as_union_opt(&self) -> Option<UnionScalar<'_>>
         requires { Valid (type_at self.now) (raw_at self.now) }
         ensures kind { is_some result ≡ is_union_type (type_at self.now) }
@@ -212,7 +197,7 @@ pub trait Downcast {
         self.as_variant_opt().unwrap()
     }
 
-    /// The view as a variant, and none exactly for another kind of type.
+    /// The view as a variant; `None` exactly for another kind of type.
     fn as_variant_opt(&self) -> Option<VariantScalar<'_>>
         requires { Valid (type_at self.now) (raw_at self.now) }
         ensures kind { is_some result ≡ is_variant_type (type_at self.now) }

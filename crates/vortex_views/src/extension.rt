@@ -1,27 +1,16 @@
 //! Views of extensions.
 
 ghost use Rattle.std.specs.Prelude.{◌≡◌, Some, is_some, true, IfErr, IfOk, IfSome, IsOk, IsTrue};
-ghost use Rattle.std.specs.Cmp.{partial_equiv_from_equiv};
-ghost use Rattle.vortex_dtype.specs.Parts.{extension_in};
-ghost use Rattle.vortex_dtype.specs.TypeOf.{ext_of, type_of};
-ghost use Rattle.vortex_dtype.specs.TypeTree.{IsFlat, storage};
-ghost use Rattle.vortex_dtype.specs.declared.error.VortexError.TheVariants.{OutOfMemory};
-ghost use Rattle.vortex_leaves.specs.Leaves.{GivesView};
-ghost use Rattle.vortex_value.specs.Values.RawOf.{lent_raw, value_tree};
-ghost use Rattle.vortex_value.specs.Values.Refs.{IsRefOf, IsValidRef, ref_order, ref_type};
-ghost use Rattle.vortex_value.specs.Values.Scalars.{IsMadeOf, IsValid, scalar_raw, scalar_type};
-ghost use Rattle.vortex_views.specs.ExtensionParts.{is_nested, is_of_kind};
-ghost use Rattle.vortex_views.specs.Parts.{ref_equal, ref_feed, ref_text};
-ghost use Rattle.vortex_views.specs.ViewLaws.{ref_alike, ref_equiv};
+ghost use Rattle.vortex_views.specs.Words.{GivesView, IsFlat, IsMadeOf, IsRefOf, IsValid, IsValidRef, OutOfMemory, ext_of, extension_in, is_nested, is_of_kind, lent_raw, ref_order, ref_type, scalar_raw, scalar_type, storage, type_of, value_tree};
 
 use std::alloc::Global;
 use std::cmp::Ordering;
-use std::fmt::{self, Display, Formatter, Write};
-use std::hash::{Hash, Hasher};
 use vortex_dtype::{DType, ExtDType, VortexError};
 use vortex_value::{Scalar, ScalarRef, ScalarValue, storage_of};
 
-/// A view of a scalar whose type is an extension: a raw value of its storage, or a null.
+mod comparisons;
+
+/// A view of a scalar of an extension type: a raw value of its storage, or a null.
 #[derive(Clone, Copy, Debug)]
 pub struct ExtScalar<'a> {
     scalar: ScalarRef<'a>,
@@ -29,7 +18,7 @@ pub struct ExtScalar<'a> {
 }
 
 impl<'a> ExtScalar<'a> {
-    ghost use Rattle.vortex_views.specs.Extensions.{ext_ref, ext_view_raw, ext_view_type};
+    ghost use Rattle.vortex_views.specs.ViewWords.{ext_ref, ext_view_raw, ext_view_type};
 
     /// The type.
     pub fn dtype(&self) -> &'a DType
@@ -45,10 +34,10 @@ impl<'a> ExtScalar<'a> {
         self.scalar.dtype().as_extension_opt().unwrap()
     }
 
-    /// The same raw value as a scalar of the storage type, which may be an extension too.
+    /// A copy of the raw value as a scalar of the storage type, which may be an extension too.
     ///
-    /// `OutOfMemory` is its only refusal, and not of a valid one whose storage is of a type whose
-    /// values take no memory.
+    /// `OutOfMemory` if there is none for the copy. A valid extension over a type whose values take
+    /// no memory never gives it.
     pub fn to_storage_scalar(&self, alloc: Global) -> Result<Scalar, VortexError>
         ensures stored { IfOk result (λ made. IfSome (extension_in (ext_view_type self.now))
             (λ extension. IsMadeOf extension.storage (ext_view_raw self.now) made)) }
@@ -62,15 +51,15 @@ impl<'a> ExtScalar<'a> {
         ScalarRef::from_parts(storage, self.scalar.value()).to_scalar(alloc)
     }
 
-    /// The raw value; none for a null.
+    /// The raw value; `None` for a null.
     pub fn value(&self) -> Option<&'a ScalarValue>
         ensures { lent_raw result ≡ ext_view_raw self.now }
     {
         self.scalar.value()
     }
 
-    /// The order of the contents, where the types are the same up to nullability, id and metadata
-    /// included, and else none. A null is below all others.
+    /// The order of the contents, if the types are the same up to nullability, id and metadata
+    /// included, and else `None`. A null is below all others.
     ///
     /// Ports the `PartialOrd` of `ExtScalar`.
     pub fn partial_cmp(&self, other: &ExtScalar<'_>) -> Option<Ordering>
@@ -80,7 +69,7 @@ impl<'a> ExtScalar<'a> {
     }
 }
 
-/// Whether there is no value, or one of the kind of raw value that this type has, which is no
+/// Whether a raw value is a null, or of the kind that values of this type have. The type is no
 /// extension.
 fn is_of_kind(dtype: &DType, value: Option<&ScalarValue>) -> bool
     ensures { result ≡ is_of_kind (type_of dtype.now) (lent_raw value.entry) }
@@ -91,7 +80,7 @@ fn is_of_kind(dtype: &DType, value: Option<&ScalarValue>) -> bool
     }
 }
 
-/// The same of a value that is present.
+/// Whether a raw value is of the kind that values of this type have. The type is no extension.
 #[tactic(auto, using(crate::proofs::KindSteps::shown))]
 fn is_value_of_kind(dtype: &DType, value: &ScalarValue) -> bool
     ensures { result ≡ is_of_kind (type_of dtype.now) (value_tree value.now) }
@@ -107,7 +96,7 @@ fn is_value_of_kind(dtype: &DType, value: &ScalarValue) -> bool
     }
 }
 
-/// Whether the type's values are tuples.
+/// Whether the values of the type are tuples.
 fn is_nested(dtype: &DType) -> bool
     ensures { result ≡ is_nested (type_of dtype.now) }
 {
@@ -118,16 +107,17 @@ fn is_nested(dtype: &DType) -> bool
     }
 }
 
-/// The view of a scalar: of its type and its raw value, whether or not the value is valid for the
-/// type; of a valid scalar it is valid.
+/// The view of a scalar's type and raw value, even if the value is not valid for the type. It is
+/// valid if the scalar is.
 ///
-/// `WrongKind` exactly where the type is no extension, or the raw value is neither absent nor of the
-/// kind that the storage has below all extensions. Integers of all kinds are of one kind, and of the
-/// type of nulls there is no value. Of this port alone: upstream makes the view of a valid scalar.
+/// `WrongKind` exactly if the type is no extension, or the raw value is neither a null nor of the
+/// kind that values of the storage have, below all extensions. Integers of all `PType`s are of one
+/// kind, and the Null type has no value but the null. Upstream has no such conversion: it views
+/// only valid scalars.
 impl<'a> TryFrom<&'a Scalar> for ExtScalar<'a> {
     type Error = VortexError;
 
-    ghost use Rattle.vortex_views.specs.Extensions.{ext_ref};
+    ghost use Rattle.vortex_views.specs.ViewWords.{ext_ref};
 
     ghost try_from_gives = { λ scalar. GivesView
         (λ view. IsRefOf (scalar_type scalar.now) (scalar_raw scalar.now) (ext_ref view))
@@ -144,48 +134,5 @@ impl<'a> TryFrom<&'a Scalar> for ExtScalar<'a> {
         Ok(ExtScalar {
             scalar: ScalarRef::of(scalar),
         })
-    }
-}
-
-impl PartialEq for ExtScalar<'_> {
-    ghost use Rattle.vortex_views.specs.Extensions.{ext_ref};
-
-    ghost eq = { λ a b. ref_equal (ext_ref a) (ext_ref b) };
-
-    ghost laws = { partial_equiv_from_equiv (ref_equiv ext_ref) };
-
-    fn eq(&self, other: &ExtScalar<'_>) -> bool {
-        self.scalar == other.scalar
-    }
-}
-
-impl Eq for ExtScalar<'_> {
-    ghost use Rattle.vortex_views.specs.Extensions.{ext_ref};
-
-    ghost laws = { ref_equiv ext_ref };
-}
-
-impl Hash for ExtScalar<'_> {
-    ghost use Rattle.vortex_views.specs.Extensions.{ext_ref};
-
-    ghost hash_input = { λ x. ref_feed (ext_ref x) };
-
-    ghost respects_eq = { (ref_alike ext_ref).fed };
-
-    fn hash<H: Hasher>(&self, state: &mut H) {
-        self.scalar.hash(state);
-    }
-}
-
-/// Writes what the scalar's own `Display` writes: the text of the storage.
-///
-/// Ports the `Display` of `ExtScalar`.
-impl Display for ExtScalar<'_> {
-    ghost use Rattle.vortex_views.specs.Extensions.{ext_ref};
-
-    ghost output = { λ x. Some (ref_text (ext_ref x)) };
-
-    fn fmt<W: Write>(&self, f: &mut Formatter<W>) -> fmt::Result {
-        self.scalar.fmt(f)
     }
 }

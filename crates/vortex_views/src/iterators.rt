@@ -1,22 +1,18 @@
-//! Iterators over the parts of views. Each gives a copy of the next part, or `OutOfMemory` where
-//! there is none for it, and passes the part over either way.
+//! Iterators over the parts of views. Each gives a copy of the next part, or `OutOfMemory` if there
+//! is none for it, and goes on to the part after it either way.
 
 ghost use Rattle.std.specs.Prelude.{◌≡◌, length, map};
-ghost use Rattle.std.specs.Iterator.{YieldsFirstBy, item_count};
-ghost use Rattle.std.specs.List.{zip};
-ghost use Rattle.vortex_dtype.specs.TypeOf.{map_of, type_of};
-ghost use Rattle.vortex_value.specs.Values.RawOf.{raw_of};
-ghost use Rattle.vortex_views.specs.Iterators.{YieldsCopies, entries_left, fields_left, keys_left, values_left};
-ghost use Rattle.vortex_views.specs.Parts.{entry_of, ref_entry, ref_part, scalar_entry, scalar_part};
+ghost use Rattle.vortex_views.specs.Words.{NeedNoMemory, NeedsNoMemory, YieldsFirstBy, entry_of, item_count, map_of, raw_of, ref_entry, ref_part, scalar_entry, scalar_part, type_of, zip};
+ghost use Rattle.vortex_views.specs.ViewWords.{YieldsCopies, entries_left, fields_left, keys_left, values_left};
 
-use crate::parts::{copied_entry, copied_part, lent_entry};
+use crate::parts::{copy_entry, copy_part, lent_entry};
 use std::alloc::Global;
 use vortex_dtype::{DType, MapDType, VortexError};
 use vortex_value::{Scalar, ScalarRef, ScalarValue};
 
-/// The entries of a map, in order, each as a scalar of its key and one of its value.
+/// An iterator over copies of the entries of a map, each a key and a value, in order.
 ///
-/// Ports what `MapScalar::entries` answers.
+/// Ports the iterator that `MapScalar::entries` returns.
 #[derive(Drop)]
 pub struct Entries<'a> {
     map_dtype: &'a MapDType,
@@ -41,7 +37,7 @@ impl<'a> Entries<'a> {
         }
     }
 
-    /// The next key and value, lent; the entry is passed over.
+    /// The next key and value, borrowed. The iterator goes on to the entry after them.
     fn lend_next(&mut self) -> Option<(ScalarRef<'a>, ScalarRef<'a>)>
         ensures { YieldsFirstBy ref_entry entries_left self.old result self.new }
     {
@@ -54,19 +50,19 @@ impl<'a> Entries<'a> {
 impl Iterator for Entries<'_> {
     type Item = Result<(Scalar, Scalar), VortexError>;
 
-    ghost next_gives = { YieldsCopies scalar_entry entries_left };
+    ghost next_gives = { YieldsCopies scalar_entry NeedNoMemory entries_left };
 
     ghost remaining = { item_count entries_left };
 
     fn next(&mut self) -> Option<Result<(Scalar, Scalar), VortexError>> {
         let entry = self.lend_next()?;
-        Some(copied_entry(self.alloc, entry))
+        Some(copy_entry(self.alloc, entry))
     }
 }
 
-/// The keys of a map, in order, each as a scalar.
+/// An iterator over copies of the keys of a map, in order.
 ///
-/// Ports what `MapScalar::keys` answers.
+/// Ports the iterator that `MapScalar::keys` returns.
 #[derive(Drop)]
 pub struct Keys<'a> {
     entries: Entries<'a>,
@@ -84,19 +80,19 @@ impl<'a> Keys<'a> {
 impl Iterator for Keys<'_> {
     type Item = Result<Scalar, VortexError>;
 
-    ghost next_gives = { YieldsCopies scalar_part keys_left };
+    ghost next_gives = { YieldsCopies scalar_part NeedsNoMemory keys_left };
 
     ghost remaining = { item_count keys_left };
 
     fn next(&mut self) -> Option<Result<Scalar, VortexError>> {
         let (key, _) = self.entries.lend_next()?;
-        Some(copied_part(self.entries.alloc, key))
+        Some(copy_part(self.entries.alloc, key))
     }
 }
 
-/// The values of a map, in order, each as a scalar.
+/// An iterator over copies of the values of a map, in order.
 ///
-/// Ports what `MapScalar::values` answers.
+/// Ports the iterator that `MapScalar::values` returns.
 #[derive(Drop)]
 pub struct Values<'a> {
     entries: Entries<'a>,
@@ -114,19 +110,19 @@ impl<'a> Values<'a> {
 impl Iterator for Values<'_> {
     type Item = Result<Scalar, VortexError>;
 
-    ghost next_gives = { YieldsCopies scalar_part values_left };
+    ghost next_gives = { YieldsCopies scalar_part NeedsNoMemory values_left };
 
     ghost remaining = { item_count values_left };
 
     fn next(&mut self) -> Option<Result<Scalar, VortexError>> {
         let (_, value) = self.entries.lend_next()?;
-        Some(copied_part(self.entries.alloc, value))
+        Some(copy_part(self.entries.alloc, value))
     }
 }
 
-/// The fields of a struct, in order, each as a scalar.
+/// An iterator over copies of the fields of a struct, in order.
 ///
-/// Ports what `StructScalar::fields_iter` answers.
+/// Ports the iterator that `StructScalar::fields_iter` returns.
 #[derive(Drop)]
 pub struct Fields<'a> {
     dtypes: &'a [DType],
@@ -151,9 +147,9 @@ impl<'a> Fields<'a> {
         }
     }
 
-    /// How many fields are still to come; those that found no memory are gone.
+    /// How many fields are still to come, without those whose item was `OutOfMemory`.
     ///
-    /// Ports the `len` of what `StructScalar::fields_iter` answers.
+    /// Ports the `len` of the iterator that `StructScalar::fields_iter` returns.
     #[tactic(auto, using(crate::proofs::FieldSteps::counted))]
     pub fn len(&self) -> usize
         ensures { result ≡ length (fields_left self.now) }
@@ -161,7 +157,7 @@ impl<'a> Fields<'a> {
         self.dtypes.len().min(self.values.len())
     }
 
-    /// The next field, lent; it is passed over.
+    /// The next field, borrowed. The iterator goes on to the field after it.
     fn lend_next(&mut self) -> Option<ScalarRef<'a>>
         ensures { YieldsFirstBy ref_part fields_left self.old result self.new }
     {
@@ -176,12 +172,12 @@ impl<'a> Fields<'a> {
 impl Iterator for Fields<'_> {
     type Item = Result<Scalar, VortexError>;
 
-    ghost next_gives = { YieldsCopies scalar_part fields_left };
+    ghost next_gives = { YieldsCopies scalar_part NeedsNoMemory fields_left };
 
     ghost remaining = { item_count fields_left };
 
     fn next(&mut self) -> Option<Result<Scalar, VortexError>> {
         let field = self.lend_next()?;
-        Some(copied_part(self.alloc, field))
+        Some(copy_part(self.alloc, field))
     }
 }

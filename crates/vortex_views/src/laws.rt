@@ -1,17 +1,10 @@
-//! The laws of views: what holds of every one, whatever calls gave it.
+//! The laws of views, which hold whatever calls gave a view.
 //!
 //! These functions do nothing when they run. The contract of each is a law over the definitions in
 //! `specs/`, and its proof is the law's proof.
 
-ghost use Rattle.vortex_dtype.specs.Laws.{AgreesWithHash};
-ghost use Rattle.vortex_views.specs.Extensions.{ext_ref};
-ghost use Rattle.vortex_views.specs.Iterators.{GivesEachPart, entries_left, fields_left, keys_left, values_left};
-ghost use Rattle.vortex_views.specs.Laws.{EqualsAsViewed, OrderAgreesAsViewed};
-ghost use Rattle.vortex_views.specs.Lists.{list_ref};
-ghost use Rattle.vortex_views.specs.Maps.{map_ref};
-ghost use Rattle.vortex_views.specs.Parts.{scalar_entry, scalar_part};
-ghost use Rattle.vortex_views.specs.Structs.{struct_ref};
-ghost use Rattle.vortex_views.specs.Unions.{union_ref};
+ghost use Rattle.vortex_views.specs.Words.{AgreesWithHash, EqualsAsViewed, OrderAgreesAsViewed, scalar_entry, scalar_part};
+ghost use Rattle.vortex_views.specs.ViewWords.{GivesEachPart, entries_left, ext_ref, fields_left, keys_left, list_ref, map_ref, struct_ref, union_ref, values_left};
 
 use crate::extension::ExtScalar;
 use crate::iterators::{Entries, Fields, Keys, Values};
@@ -21,8 +14,8 @@ use crate::struct_::StructScalar;
 use crate::union::UnionScalar;
 use std::hash::Hash;
 
-/// An iterator over parts gives an item for each part that was left, in order, and then none: a copy
-/// of the part, or `OutOfMemory` where there was none for it.
+/// An iterator over parts gives an item for each part that was left, in order, and then `None`. An
+/// item is a copy of the part, or `OutOfMemory` if there was none for it.
 pub fn iterators_give_each_part()
     ensures entries { GivesEachPart
         scalar_entry entries_left ⟦<Entries<'static> as Iterator>⟧.next_gives }
@@ -34,8 +27,7 @@ pub fn iterators_give_each_part()
         scalar_part fields_left ⟦<Fields<'static> as Iterator>⟧.next_gives }
 {}
 
-/// Views are equal exactly where their types are the same up to nullability and their contents
-/// equal.
+/// Views are equal exactly if their types are the same up to nullability and their contents equal.
 pub fn equality()
     ensures lists { EqualsAsViewed list_ref ⟦<ListScalar<'static> as PartialEq>⟧.eq }
     ensures maps { EqualsAsViewed map_ref ⟦<MapScalar<'static> as PartialEq>⟧.eq }
@@ -60,8 +52,8 @@ pub fn hash_agrees()
     vortex_value::laws::hash_agrees();
 }
 
-/// Where the type of a valid view has no variant at any depth, `partial_cmp` with another says Equal
-/// exactly where the two are equal.
+/// If a view is valid and its type has no variant at any depth, `partial_cmp` with another view
+/// says `Equal` exactly if the two are equal.
 pub fn order_agrees_with_equality()
     ensures lists { OrderAgreesAsViewed list_ref ⟦<ListScalar<'static> as PartialEq>⟧.eq }
     ensures structs { OrderAgreesAsViewed struct_ref ⟦<StructScalar<'static> as PartialEq>⟧.eq }

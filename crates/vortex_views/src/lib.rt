@@ -1,8 +1,11 @@
-//! Views of scalars: a list, a map, a struct, a union, a variant or an extension, whose parts are
-//! lent or copied.
+// SPDX-License-Identifier: Apache-2.0
+// SPDX-FileCopyrightText: Copyright the Vortex contributors; ported to Rattle and changed
+
+//! Views of scalars with parts: lists, maps, structs, unions, variants and extensions. A call lends
+//! a part or copies it.
 //!
-//! A public item ports upstream's of the same name, but where it names another or says that it, or
-//! its type, is of this port alone.
+//! A public item ports upstream's item of the same name. Its comment says so if the name differs,
+//! or if upstream has no such item.
 #![tactic(auto)]
 
 mod downcast;

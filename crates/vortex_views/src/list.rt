@@ -1,28 +1,17 @@
 //! Views of lists, of fixed size or not.
 
-ghost use Rattle.std.specs.Prelude.{◌≡◌, ◌↔◌, ◌==◌, ◌<◌, Some, true, false, length, map, option_map, slice_get, is_some, IfErr, IfOk, IfSome, IsOk, IsTrue, MatchResult};
-ghost use Rattle.std.specs.Cmp.{partial_equiv_from_equiv};
-ghost use Rattle.std.specs.List.{All};
-ghost use Rattle.vortex_dtype.specs.Parts.{element_in};
-ghost use Rattle.vortex_dtype.specs.TypeOf.{type_of};
-ghost use Rattle.vortex_leaves.specs.Leaves.{GivesView, RefusesView};
-ghost use Rattle.vortex_value.specs.Values.RawOf.{lent_raw, raw_of};
-ghost use Rattle.vortex_value.specs.Values.RawTree.{is_absent};
-ghost use Rattle.vortex_value.specs.Values.Refs.{IsRefOf, IsValidRef, ref_order, ref_type};
-ghost use Rattle.vortex_value.specs.Values.Scalars.{IsValid, scalar_raw, scalar_type};
-ghost use Rattle.vortex_value.specs.Validity.{Valid};
-ghost use Rattle.vortex_views.specs.Parts.{IsFlatPart, elements_of, is_null_or_tuple, parts_of, ref_equal, ref_feed, ref_part, ref_text, scalar_part, unless_null};
-ghost use Rattle.vortex_views.specs.ViewLaws.{ref_alike, ref_equiv};
+ghost use Rattle.std.specs.Prelude.{◌≡◌, ◌↔◌, ◌==◌, ◌<◌, Some, true, length, map, option_map, slice_get, is_some, All, IfErr, IfOk, IfSome, IsOk, IsTrue, MatchResult};
+ghost use Rattle.vortex_views.specs.Words.{CopiesPartOf, GivesView, IsRefOf, IsValid, IsValidRef, OutOfMemory, RefusesView, Valid, element_in, elements_of, is_absent, is_null_or_tuple, lent_raw, parts_of, raw_of, ref_order, ref_part, ref_type, scalar_part, scalar_raw, scalar_type, type_of, unless_null};
 
-use crate::parts::{copied, is_null_or_tuple, items_of, part_at};
+use crate::parts::{copy_part_if_any, is_null_or_tuple, items_of, part_at};
 use std::alloc::Global;
 use std::cmp::Ordering;
-use std::fmt::{self, Display, Formatter, Write};
-use std::hash::{Hash, Hasher};
 use vortex_dtype::{DType, VortexError};
 use vortex_value::{Scalar, ScalarRef, ScalarValue};
 
-/// A view of a scalar whose type is a list, of fixed size or not: a null, or elements of one type.
+mod comparisons;
+
+/// A view of a scalar of a list type, of fixed size or not: a null, or elements of one type.
 #[derive(Clone, Copy, Debug)]
 pub struct ListScalar<'a> {
     scalar: ScalarRef<'a>,
@@ -30,15 +19,15 @@ pub struct ListScalar<'a> {
 }
 
 impl<'a> ListScalar<'a> {
-    ghost use Rattle.vortex_views.specs.Lists.{list_ref, list_view_raw, list_view_type};
+    ghost use Rattle.vortex_views.specs.ViewWords.{list_ref, list_view_raw, list_view_type, viewed_list};
 
-    /// The type and the raw value, or its absence, viewed as a list.
+    /// The view of a type and a raw value as a list. `None` is the null.
     ///
-    /// `WrongKind` exactly where the type is no list, an extension over one included; else `Invalid`
-    /// where the raw value is not valid for the type, with the first breach in reading order and the
-    /// path to it, and `OutOfMemory` in its place where the path has steps and there is no memory for
-    /// them. A valid value takes none. Ports `ListScalar::try_new`, which panics at another kind of
-    /// value and tests no part.
+    /// `WrongKind` exactly if the type is no list; an extension over one is not. Else `Invalid` if
+    /// the raw value is not valid for the type, with the first breach in reading order and the path
+    /// to it. `OutOfMemory` comes in its place if the path has steps and there is no memory for
+    /// them. A valid value takes no memory. Ports `ListScalar::try_new`, which panics at another
+    /// kind of value and tests no part.
     pub fn try_new(
         alloc: Global,
         dtype: &'a DType,
@@ -73,7 +62,7 @@ impl<'a> ListScalar<'a> {
         self.items().len()
     }
 
-    /// Whether there is no element, as of a null.
+    /// Whether there are no elements; a null has none.
     pub fn is_empty(&self) -> bool
         ensures { result ≡ (length (parts_of (list_view_raw self.now)) == 0) }
     {
@@ -94,54 +83,47 @@ impl<'a> ListScalar<'a> {
         self.scalar.dtype().as_any_size_list_element_opt().unwrap()
     }
 
-    /// The element at this place, borrowed, and none exactly past the end, as anywhere of a null.
-    /// Of this port alone.
+    /// The element at this place, borrowed; `None` exactly past the end. A null has no elements.
+    /// Upstream has no such call.
     pub fn element_ref(&self, index: usize) -> Option<ScalarRef<'a>>
         ensures lent { option_map ref_part result
-            ≡ slice_get (elements_of (list_view_type self.now) (list_view_raw self.now)) index }
+            ≡ slice_get (elements_of (viewed_list self.now)) index }
         ensures valid { IsValidRef (list_ref self.now) → IfSome result IsValidRef }
     {
         part_at(self.element_dtype(), self.items(), index)
     }
 
-    /// A scalar of the element at this place, and none exactly past the end, as anywhere of a null.
+    /// A copy of the element at this place; `None` exactly past the end. A null has no elements.
     ///
-    /// `OutOfMemory` where there is none for the copy, and not for a valid element of a type whose
-    /// values take none.
+    /// `OutOfMemory` if there is none for the copy. A valid list of a type whose values take no
+    /// memory never gives it.
     pub fn element(&self, alloc: Global, index: usize) -> Result<Option<Scalar>, VortexError>
-        ensures copied { IfOk result (λ copy. option_map scalar_part copy
-            ≡ slice_get (elements_of (list_view_type self.now) (list_view_raw self.now)) index) }
-        ensures valid { IsValidRef (list_ref self.now) → IfOk result (λ copy. IfSome copy IsValid) }
-        ensures refused { IfErr result (λ e. (e ≡ VortexError.OutOfMemory)
-            × (index < length (parts_of (list_view_raw self.now)))) }
-        ensures flat { IsValidRef (list_ref self.now) → IfSome
-            (slice_get (elements_of (list_view_type self.now) (list_view_raw self.now)) index)
-            IsFlatPart → IsOk result }
+        ensures { CopiesPartOf
+            (viewed_list self.now) (λ part. slice_get (elements_of part) index) result }
     {
-        copied(alloc, self.element_ref(index))
+        copy_part_if_any(alloc, self.element_ref(index))
     }
 
-    /// Scalars of all elements, in order, and none exactly for a null.
+    /// Copies of all elements, in order; `None` exactly for a null.
     ///
-    /// `OutOfMemory` where there is none for the copies.
+    /// `OutOfMemory` if there is none for the copies, and never for a null or an empty list.
     pub fn elements(&self, alloc: Global) -> Result<Option<Vec<Scalar>>, VortexError>
-        ensures copied { IfOk result (λ copies. option_map (λ xs. map scalar_part xs.items) copies
-            ≡ unless_null (list_view_raw self.now)
-            (elements_of (list_view_type self.now) (list_view_raw self.now))) }
+        ensures copies { IfOk result (λ copies. option_map (λ xs. map scalar_part xs.items) copies
+            ≡ unless_null (list_view_raw self.now) (elements_of (viewed_list self.now))) }
         ensures valid { IsValidRef (list_ref self.now)
             → IfOk result (λ copies. IfSome copies (λ xs. All IsValid xs.items)) }
-        ensures refused { IfErr result (λ e. (e ≡ VortexError.OutOfMemory)
-            × (is_absent (list_view_raw self.now) ≡ false)) }
+        ensures refused { IfErr result (λ e. (e ≡ OutOfMemory)
+            × (0 < length (parts_of (list_view_raw self.now)))) }
     {
         if self.is_null() {
             return Ok(None);
         }
-        let copies = copied_all(alloc, self.element_dtype(), self.items())?;
+        let copies = copy_elements(alloc, self.element_dtype(), self.items())?;
         Ok(Some(copies))
     }
 
-    /// The order of the contents, where the types are the same up to nullability, and else none: a
-    /// list and one of fixed size have no order. A null is below all others.
+    /// The order of the contents, if the types are the same up to nullability, and else `None`. A
+    /// list and a list of fixed size have no order. A null is below all others.
     ///
     /// Ports the `PartialOrd` of `ListScalar`, which compares element types alone.
     pub fn partial_cmp(&self, other: &ListScalar<'_>) -> Option<Ordering>
@@ -158,8 +140,8 @@ impl<'a> ListScalar<'a> {
     }
 }
 
-/// Scalars of these values, each of this type, or `OutOfMemory`.
-fn copied_all(
+/// Copies of these values, each of this type, or `OutOfMemory`, but never if there are no values.
+fn copy_elements(
     alloc: Global,
     dtype: &DType,
     items: &[Option<ScalarValue>],
@@ -167,7 +149,7 @@ fn copied_all(
     ensures { MatchResult result
         (λ copies. map scalar_part copies.items
         ≡ map (λ v. (type_of dtype.now, v)) (map raw_of items.now))
-        (λ e. e ≡ VortexError.OutOfMemory) }
+        (λ e. (e ≡ OutOfMemory) × (0 < length items.now)) }
 {
     let mut copies = Vec::with_capacity(alloc, items.len())?;
     for item in items {
@@ -177,15 +159,15 @@ fn copied_all(
     Ok(copies)
 }
 
-/// The view of a scalar: of its type and its raw value, whether or not the value is valid for the
-/// type; of a valid scalar it is valid.
+/// The view of a scalar's type and raw value, even if the value is not valid for the type. It is
+/// valid if the scalar is.
 ///
-/// `WrongKind` exactly where the type is no list, or the raw value is neither absent nor a tuple.
+/// `WrongKind` exactly if the type is no list, or the raw value is neither a null nor a tuple.
 /// Ports `TryFrom<&Scalar> for ListScalar`.
 impl<'a> TryFrom<&'a Scalar> for ListScalar<'a> {
     type Error = VortexError;
 
-    ghost use Rattle.vortex_views.specs.Lists.{list_ref};
+    ghost use Rattle.vortex_views.specs.ViewWords.{list_ref};
 
     ghost try_from_gives = { λ scalar. GivesView
         (λ view. IsRefOf (scalar_type scalar.now) (scalar_raw scalar.now) (list_ref view))
@@ -202,48 +184,5 @@ impl<'a> TryFrom<&'a Scalar> for ListScalar<'a> {
         Ok(ListScalar {
             scalar: ScalarRef::of(scalar),
         })
-    }
-}
-
-impl PartialEq for ListScalar<'_> {
-    ghost use Rattle.vortex_views.specs.Lists.{list_ref};
-
-    ghost eq = { λ a b. ref_equal (list_ref a) (list_ref b) };
-
-    ghost laws = { partial_equiv_from_equiv (ref_equiv list_ref) };
-
-    fn eq(&self, other: &ListScalar<'_>) -> bool {
-        self.scalar == other.scalar
-    }
-}
-
-impl Eq for ListScalar<'_> {
-    ghost use Rattle.vortex_views.specs.Lists.{list_ref};
-
-    ghost laws = { ref_equiv list_ref };
-}
-
-impl Hash for ListScalar<'_> {
-    ghost use Rattle.vortex_views.specs.Lists.{list_ref};
-
-    ghost hash_input = { λ x. ref_feed (list_ref x) };
-
-    ghost respects_eq = { (ref_alike list_ref).fed };
-
-    fn hash<H: Hasher>(&self, state: &mut H) {
-        self.scalar.hash(state);
-    }
-}
-
-/// Writes what the scalar's own `Display` writes.
-///
-/// Ports the `Display` of `ListScalar`.
-impl Display for ListScalar<'_> {
-    ghost use Rattle.vortex_views.specs.Lists.{list_ref};
-
-    ghost output = { λ x. Some (ref_text (list_ref x)) };
-
-    fn fmt<W: Write>(&self, f: &mut Formatter<W>) -> fmt::Result {
-        self.scalar.fmt(f)
     }
 }

@@ -1,30 +1,18 @@
 //! Views of maps.
 
-ghost use Rattle.std.specs.Prelude.{◌≡◌, ◌↔◌, ◌==◌, ◌<◌, Some, true, length, map, option_map, slice_get, is_some, IfErr, IfOk, IfSome, IsOk, IsTrue};
-ghost use Rattle.std.specs.Cmp.{partial_equiv_from_equiv};
-ghost use Rattle.std.specs.List.{All};
-ghost use Rattle.vortex_dtype.specs.Parts.{map_in};
-ghost use Rattle.vortex_dtype.specs.TypeOf.{map_of, type_of};
-ghost use Rattle.vortex_leaves.specs.Leaves.{GivesView, RefusesView};
-ghost use Rattle.vortex_value.specs.Values.RawOf.{lent_raw, raw_of};
-ghost use Rattle.vortex_value.specs.Values.RawTree.{is_absent};
-ghost use Rattle.vortex_value.specs.Values.Refs.{IsRefOf, IsValidRef, ref_type};
-ghost use Rattle.vortex_value.specs.Values.Scalars.{IsValid, scalar_raw, scalar_type};
-ghost use Rattle.vortex_value.specs.Validity.{Valid};
-ghost use Rattle.vortex_views.specs.Iterators.{entries_left, keys_left, values_left};
-ghost use Rattle.vortex_views.specs.Parts.{AreFlatParts, AreValidParts, IsValidPart, entries_of, is_null_or_tuple, parts_of, ref_entry, ref_equal, ref_feed, ref_text, scalar_entry};
-ghost use Rattle.vortex_views.specs.ViewLaws.{ref_alike, ref_equiv};
+ghost use Rattle.std.specs.Prelude.{◌≡◌, ◌↔◌, ◌==◌, Some, true, length, map, option_map, slice_get, is_some, All, IfErr, IfOk, IfSome, IsOk, IsTrue};
+ghost use Rattle.vortex_views.specs.Words.{AreValidParts, CopiesEntryOf, GivesView, IsRefOf, IsValidPart, IsValidRef, RefusesView, Valid, entries_of, is_absent, is_null_or_tuple, lent_raw, map_in, map_of, parts_of, raw_of, ref_entry, ref_type, scalar_raw, scalar_type, type_of};
 
 use crate::iterators::{Entries, Keys, Values};
-use crate::parts::{copied_entry, entry_at, is_null_or_tuple, items_of};
+use crate::parts::{copy_entry_if_any, entry_at, is_null_or_tuple, items_of};
 use std::alloc::Global;
-use std::fmt::{self, Display, Formatter, Write};
-use std::hash::{Hash, Hasher};
 use vortex_dtype::{DType, MapDType, VortexError};
 use vortex_value::{Scalar, ScalarRef, ScalarValue};
 
-/// A view of a scalar whose type is a map: a null, or entries in order, each a key and a value. Keys
-/// may repeat.
+mod comparisons;
+
+/// A view of a scalar of a map type: a null, or entries in order, each a key and a value. Keys may
+/// repeat.
 #[derive(Clone, Copy, Debug)]
 pub struct MapScalar<'a> {
     scalar: ScalarRef<'a>,
@@ -32,15 +20,15 @@ pub struct MapScalar<'a> {
 }
 
 impl<'a> MapScalar<'a> {
-    ghost use Rattle.vortex_views.specs.Maps.{map_ref, map_view_raw, map_view_type};
+    ghost use Rattle.vortex_views.specs.ViewWords.{entries_left, keys_left, map_ref, map_view_raw, map_view_type, values_left, viewed_map};
 
-    /// The type and the raw value, or its absence, viewed as a map.
+    /// The view of a type and a raw value as a map. `None` is the null.
     ///
-    /// `WrongKind` exactly where the type is no map, an extension over one included; else `Invalid`
-    /// where the raw value is not valid for the type, with the first breach in reading order and the
-    /// path to it, and `OutOfMemory` in its place where the path has steps and there is no memory for
-    /// them. A valid value takes none. Ports `MapScalar::try_new`, which panics at another kind of
-    /// value and tests no part.
+    /// `WrongKind` exactly if the type is no map; an extension over one is not. Else `Invalid` if
+    /// the raw value is not valid for the type, with the first breach in reading order and the path
+    /// to it. `OutOfMemory` comes in its place if the path has steps and there is no memory for
+    /// them. A valid value takes no memory. Ports `MapScalar::try_new`, which panics at another
+    /// kind of value and tests no part.
     pub fn try_new(
         alloc: Global,
         dtype: &'a DType,
@@ -82,7 +70,7 @@ impl<'a> MapScalar<'a> {
         self.items().len()
     }
 
-    /// Whether there is no entry, as of a null.
+    /// Whether there are no entries; a null has none.
     pub fn is_empty(&self) -> bool
         ensures { result ≡ (length (parts_of (map_view_raw self.now)) == 0) }
     {
@@ -96,68 +84,60 @@ impl<'a> MapScalar<'a> {
         self.scalar.is_null()
     }
 
-    /// The key and the value of the entry at this place, borrowed, and none exactly past the end, as
-    /// anywhere of a null. Of this port alone.
+    /// The key and the value of the entry at this place, borrowed; `None` exactly past the end. A
+    /// null has no entries. Upstream has no such call.
     pub fn entry_ref(&self, index: usize) -> Option<(ScalarRef<'a>, ScalarRef<'a>)>
         ensures lent { option_map ref_entry result
-            ≡ slice_get (entries_of (map_view_type self.now) (map_view_raw self.now)) index }
+            ≡ slice_get (entries_of (viewed_map self.now)) index }
         ensures valid { IsValidRef (map_ref self.now)
             → IfSome result (λ entry. IsValidRef entry.0 × IsValidRef entry.1) }
     {
         entry_at(self.map_dtype(), self.items(), index)
     }
 
-    /// Scalars of the key and the value of the entry at this place, and none exactly past the end, as
-    /// anywhere of a null.
+    /// Copies of the key and the value of the entry at this place; `None` exactly past the end. A
+    /// null has no entries.
     ///
-    /// `OutOfMemory` where there is none for the copies, and not for a valid entry of types whose
-    /// values take none.
+    /// `OutOfMemory` if there is none for the copies. A valid map of types whose values take no
+    /// memory never gives it.
     pub fn entry(
         &self,
         alloc: Global,
         index: usize,
     ) -> Result<Option<(Scalar, Scalar)>, VortexError>
-        ensures copied { IfOk result (λ copy. option_map scalar_entry copy
-            ≡ slice_get (entries_of (map_view_type self.now) (map_view_raw self.now)) index) }
-        ensures valid { IsValidRef (map_ref self.now)
-            → IfOk result (λ copy. IfSome copy (λ entry. IsValid entry.0 × IsValid entry.1)) }
-        ensures refused { IfErr result (λ e. (e ≡ VortexError.OutOfMemory)
-            × (index < length (parts_of (map_view_raw self.now)))) }
-        ensures flat { IsValidRef (map_ref self.now) → IfSome
-            (slice_get (entries_of (map_view_type self.now) (map_view_raw self.now)) index)
-            AreFlatParts → IsOk result }
+        ensures { CopiesEntryOf
+            (viewed_map self.now) (λ part. slice_get (entries_of part) index) result }
     {
-        match self.entry_ref(index) {
-            Some(entry) => Ok(Some(copied_entry(alloc, entry)?)),
-            None => Ok(None),
-        }
+        copy_entry_if_any(alloc, self.entry_ref(index))
     }
 
-    /// The entries, in order, each as a scalar of its key and one of its value, or `OutOfMemory`; of
-    /// a null none. It takes no memory itself.
+    /// An iterator over copies of the entries, each a key and a value, in order. A null has no
+    /// entries.
+    ///
+    /// An item is `OutOfMemory` if there is none for the copies. The call itself takes no memory.
     pub fn entries(&self, alloc: Global) -> Entries<'a>
-        ensures all { entries_left result
-            ≡ entries_of (map_view_type self.now) (map_view_raw self.now) }
+        ensures all { entries_left result ≡ entries_of (viewed_map self.now) }
         ensures valid { IsValidRef (map_ref self.now) → All AreValidParts (entries_left result) }
     {
         Entries::new(self.map_dtype(), self.items(), alloc)
     }
 
-    /// The keys, in order, each as a scalar, or `OutOfMemory`; of a null none. It takes no memory
-    /// itself.
+    /// An iterator over copies of the keys, in order. A null has no keys.
+    ///
+    /// An item is `OutOfMemory` if there is none for the copy. The call itself takes no memory.
     pub fn keys(&self, alloc: Global) -> Keys<'a>
-        ensures all { keys_left result ≡ map (λ entry. entry.0)
-            (entries_of (map_view_type self.now) (map_view_raw self.now)) }
+        ensures all { keys_left result ≡ map (λ entry. entry.0) (entries_of (viewed_map self.now)) }
         ensures valid { IsValidRef (map_ref self.now) → All IsValidPart (keys_left result) }
     {
         Keys::of(self.entries(alloc))
     }
 
-    /// The values, in order, each as a scalar, or `OutOfMemory`; of a null none. It takes no memory
-    /// itself.
+    /// An iterator over copies of the values, in order. A null has no values.
+    ///
+    /// An item is `OutOfMemory` if there is none for the copy. The call itself takes no memory.
     pub fn values(&self, alloc: Global) -> Values<'a>
-        ensures all { values_left result ≡ map (λ entry. entry.1)
-            (entries_of (map_view_type self.now) (map_view_raw self.now)) }
+        ensures all { values_left result
+            ≡ map (λ entry. entry.1) (entries_of (viewed_map self.now)) }
         ensures valid { IsValidRef (map_ref self.now) → All IsValidPart (values_left result) }
     {
         Values::of(self.entries(alloc))
@@ -171,15 +151,15 @@ impl<'a> MapScalar<'a> {
     }
 }
 
-/// The view of a scalar: of its type and its raw value, whether or not the value is valid for the
-/// type; of a valid scalar it is valid.
+/// The view of a scalar's type and raw value, even if the value is not valid for the type. It is
+/// valid if the scalar is.
 ///
-/// `WrongKind` exactly where the type is no map, or the raw value is neither absent nor a tuple.
-/// Ports `TryFrom<&Scalar> for MapScalar`.
+/// `WrongKind` exactly if the type is no map, or the raw value is neither a null nor a tuple. Ports
+/// `TryFrom<&Scalar> for MapScalar`.
 impl<'a> TryFrom<&'a Scalar> for MapScalar<'a> {
     type Error = VortexError;
 
-    ghost use Rattle.vortex_views.specs.Maps.{map_ref};
+    ghost use Rattle.vortex_views.specs.ViewWords.{map_ref};
 
     ghost try_from_gives = { λ scalar. GivesView
         (λ view. IsRefOf (scalar_type scalar.now) (scalar_raw scalar.now) (map_ref view))
@@ -196,50 +176,5 @@ impl<'a> TryFrom<&'a Scalar> for MapScalar<'a> {
         Ok(MapScalar {
             scalar: ScalarRef::of(scalar),
         })
-    }
-}
-
-/// Equality of entries in order, with types that are the same up to nullability: the order of keys
-/// and repeats count.
-impl PartialEq for MapScalar<'_> {
-    ghost use Rattle.vortex_views.specs.Maps.{map_ref};
-
-    ghost eq = { λ a b. ref_equal (map_ref a) (map_ref b) };
-
-    ghost laws = { partial_equiv_from_equiv (ref_equiv map_ref) };
-
-    fn eq(&self, other: &MapScalar<'_>) -> bool {
-        self.scalar == other.scalar
-    }
-}
-
-impl Eq for MapScalar<'_> {
-    ghost use Rattle.vortex_views.specs.Maps.{map_ref};
-
-    ghost laws = { ref_equiv map_ref };
-}
-
-impl Hash for MapScalar<'_> {
-    ghost use Rattle.vortex_views.specs.Maps.{map_ref};
-
-    ghost hash_input = { λ x. ref_feed (map_ref x) };
-
-    ghost respects_eq = { (ref_alike map_ref).fed };
-
-    fn hash<H: Hasher>(&self, state: &mut H) {
-        self.scalar.hash(state);
-    }
-}
-
-/// Writes what the scalar's own `Display` writes.
-///
-/// Ports the `Display` of `MapScalar`.
-impl Display for MapScalar<'_> {
-    ghost use Rattle.vortex_views.specs.Maps.{map_ref};
-
-    ghost output = { λ x. Some (ref_text (map_ref x)) };
-
-    fn fmt<W: Write>(&self, f: &mut Formatter<W>) -> fmt::Result {
-        self.scalar.fmt(f)
     }
 }

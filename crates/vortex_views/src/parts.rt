@@ -1,16 +1,13 @@
-//! The parts of values: how views find them, lend them and copy them.
+//! The parts of values: how views find, lend and copy them.
 
-ghost use Rattle.std.specs.Prelude.{◌≡◌, IfErr, IfOk, IfSome, IsOk, IsSome, MatchResult, map, option_map, slice_get};
-ghost use Rattle.vortex_dtype.specs.TypeOf.{map_of, type_of};
-ghost use Rattle.vortex_value.specs.Values.RawOf.{lent_raw, raw_of};
-ghost use Rattle.vortex_value.specs.Values.Refs.{IsValidRef};
-ghost use Rattle.vortex_views.specs.Parts.{AreFlatParts, IsFlatPart, entry_of, is_null_or_tuple, part_or_null, parts_of, ref_entry, ref_part, scalar_entry, scalar_part};
+ghost use Rattle.std.specs.Prelude.{◌≡◌, IfSome, IsOk, map, option_map, slice_get};
+ghost use Rattle.vortex_views.specs.Words.{CopiesEntry, CopiesPart, GivesCopy, IsValidRef, NeedNoMemory, NeedsNoMemory, entry_of, is_null_or_tuple, lent_raw, map_of, part_or_null, parts_of, raw_of, ref_entry, ref_part, scalar_entry, scalar_part, type_of};
 
 use std::alloc::Global;
 use vortex_dtype::{DType, MapDType, VortexError};
 use vortex_value::{Scalar, ScalarRef, ScalarValue};
 
-/// The values of a list, a struct, a map or an entry, in order; nothing else has any.
+/// The values of a list, a struct, a map or an entry, in order; other raw values have none.
 #[tactic(auto, using(crate::proofs::PartSteps::shown))]
 pub(crate) fn items_of<'a>(value: Option<&'a ScalarValue>) -> &'a [Option<ScalarValue>]
     ensures { map raw_of result.now ≡ parts_of (lent_raw value.entry) }
@@ -21,7 +18,7 @@ pub(crate) fn items_of<'a>(value: Option<&'a ScalarValue>) -> &'a [Option<Scalar
     }
 }
 
-/// The value at a place as one of this type, and none past the end.
+/// The value at a place, as one of this type; `None` past the end.
 pub(crate) fn part_at<'a>(
     dtype: &'a DType,
     items: &'a [Option<ScalarValue>],
@@ -34,7 +31,7 @@ pub(crate) fn part_at<'a>(
     Some(ScalarRef::from_parts(dtype, item.as_ref()))
 }
 
-/// The value at a place, and a null past the end.
+/// The value at a place; a null past the end.
 pub(crate) fn item_or_null<'a>(
     value: Option<&'a ScalarValue>,
     place: usize,
@@ -57,7 +54,7 @@ pub(crate) fn lent_entry<'a>(
     )
 }
 
-/// The key and the value of the entry at a place of a map of this type, and none past the end.
+/// The key and the value of the entry at a place of a map of this type; `None` past the end.
 pub(crate) fn entry_at<'a>(
     map_dtype: &'a MapDType,
     items: &'a [Option<ScalarValue>],
@@ -70,29 +67,24 @@ pub(crate) fn entry_at<'a>(
     Some(lent_entry(map_dtype, entry.as_ref()))
 }
 
-/// A scalar of its own of a part that is lent, or `OutOfMemory`.
-pub(crate) fn copied_part(alloc: Global, part: ScalarRef<'_>) -> Result<Scalar, VortexError>
-    ensures given { MatchResult result
-        (λ copy. scalar_part copy ≡ ref_part part.entry)
-        (λ e. e ≡ VortexError.OutOfMemory) }
-    ensures flat { IsFlatPart (ref_part part.entry) → IsValidRef part.entry → IsOk result }
+/// A copy of a part that is lent, or `OutOfMemory`.
+pub(crate) fn copy_part(alloc: Global, part: ScalarRef<'_>) -> Result<Scalar, VortexError>
+    ensures given { GivesCopy scalar_part (ref_part part.entry) result }
+    ensures flat { NeedsNoMemory (ref_part part.entry) → IsOk result }
 {
     part.to_scalar(alloc)
 }
 
-/// Scalars of their own of a key and a value that are lent, or `OutOfMemory`.
-pub(crate) fn copied_entry(
+/// Copies of a key and a value that are lent, or `OutOfMemory`.
+pub(crate) fn copy_entry(
     alloc: Global,
     entry: (ScalarRef<'_>, ScalarRef<'_>),
 ) -> Result<(Scalar, Scalar), VortexError>
-    ensures given { MatchResult result
-        (λ copy. scalar_entry copy ≡ ref_entry entry.entry)
-        (λ e. e ≡ VortexError.OutOfMemory) }
-    ensures flat { AreFlatParts (ref_entry entry.entry)
-        → IsValidRef entry.entry.0 → IsValidRef entry.entry.1 → IsOk result }
+    ensures given { GivesCopy scalar_entry (ref_entry entry.entry) result }
+    ensures flat { NeedNoMemory (ref_entry entry.entry) → IsOk result }
 {
-    let key = copied_part(alloc, entry.0)?;
-    match copied_part(alloc, entry.1) {
+    let key = copy_part(alloc, entry.0)?;
+    match copy_part(alloc, entry.1) {
         Ok(value) => Ok((key, value)),
         Err(refusal) => {
             drop(key);
@@ -101,24 +93,34 @@ pub(crate) fn copied_entry(
     }
 }
 
-/// A scalar of its own of a part that is lent, or `OutOfMemory`.
-pub(crate) fn copied(
+/// A copy of a part that is lent, if there is one, or `OutOfMemory`.
+pub(crate) fn copy_part_if_any(
     alloc: Global,
     part: Option<ScalarRef<'_>>,
 ) -> Result<Option<Scalar>, VortexError>
-    ensures copied { IfOk result (λ copy.
-        option_map scalar_part copy ≡ option_map ref_part part.entry) }
-    ensures refused { IfErr result (λ e. (e ≡ VortexError.OutOfMemory) × IsSome part.entry) }
-    ensures flat { IfSome (option_map ref_part part.entry) IsFlatPart
-        → IfSome part.entry IsValidRef → IsOk result }
+    ensures { CopiesPart (IfSome part.entry IsValidRef) (option_map ref_part part.entry) result }
 {
     match part {
-        Some(part) => Ok(Some(copied_part(alloc, part)?)),
+        Some(part) => Ok(Some(copy_part(alloc, part)?)),
         None => Ok(None),
     }
 }
 
-/// Whether there is no value, or one of a list, a struct or a map.
+/// Copies of a key and a value that are lent, if there are any, or `OutOfMemory`.
+pub(crate) fn copy_entry_if_any(
+    alloc: Global,
+    entry: Option<(ScalarRef<'_>, ScalarRef<'_>)>,
+) -> Result<Option<(Scalar, Scalar)>, VortexError>
+    ensures { CopiesEntry (IfSome entry.entry (λ lent. IsValidRef lent.0 × IsValidRef lent.1))
+        (option_map ref_entry entry.entry) result }
+{
+    match entry {
+        Some(entry) => Ok(Some(copy_entry(alloc, entry)?)),
+        None => Ok(None),
+    }
+}
+
+/// Whether the raw value is a null, or the value of a list, a struct or a map.
 pub(crate) fn is_null_or_tuple(value: Option<&ScalarValue>) -> bool
     ensures { result ≡ is_null_or_tuple (lent_raw value.entry) }
 {

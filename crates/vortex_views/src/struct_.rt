@@ -1,34 +1,18 @@
 //! Views of structs.
 
-ghost use Rattle.std.specs.Prelude.{◌≡◌, Err, Ok, Some, true, is_none, is_some, map, option_map, slice_get, All, IfErr, IfOk, IfSome, IsErrAnd, IsOk, IsSome, IsTrue, MatchOption, MatchResult};
-ghost use Rattle.std.specs.Cmp.{partial_equiv_from_equiv};
-ghost use Rattle.std.specs.List.{zip};
-ghost use Rattle.vortex_dtype.specs.Names.{names_in};
-ghost use Rattle.vortex_dtype.specs.Parts.{fields_in};
-ghost use Rattle.vortex_dtype.specs.Refusals.{RefusesExactly, RefusesOrNoMemory};
-ghost use Rattle.vortex_dtype.specs.TypeOf.{fields_of, type_of};
-ghost use Rattle.vortex_dtype.specs.declared.error.VortexError.TheVariants.{OutOfMemory};
-ghost use Rattle.vortex_leaves.specs.Leaves.{GivesView};
-ghost use Rattle.vortex_value.specs.CastAnswers.{HidesNoLeaf};
-ghost use Rattle.vortex_value.specs.Casts.{CanCast, RefusesCast};
-ghost use Rattle.vortex_value.specs.Values.RawOf.{lent_raw, raw_of};
-ghost use Rattle.vortex_value.specs.Values.RawTree.{is_absent};
-ghost use Rattle.vortex_value.specs.Values.Refs.{IsRefOf, IsValidRef, ref_content, ref_order, ref_type};
-ghost use Rattle.vortex_value.specs.Values.Scalars.{IsTheOne, IsValid, scalar_raw, scalar_type};
-ghost use Rattle.vortex_views.specs.Parts.{IsFlatPart, IsValidPart, is_null_or_tuple, parts_of, ref_equal, ref_feed, ref_part, ref_text, scalar_part};
-ghost use Rattle.vortex_views.specs.StructParts.{IsProjectedType, IsProjectedValue, counts_cause, field_named, fields_within, selection_cause, struct_cast_cause, value_named};
-ghost use Rattle.vortex_views.specs.ViewLaws.{ref_alike, ref_equiv};
+ghost use Rattle.std.specs.Prelude.{◌≡◌, Ok, Some, true, is_none, is_some, map, option_map, slice_get, All, IfErr, IfOk, IfSome, IsErrAnd, IsTrue, MatchOption, MatchResult};
+ghost use Rattle.vortex_views.specs.Words.{CanCast, CopiesPartOf, GivesView, HidesNoLeaf, IsProjectedType, IsProjectedValue, IsRefOf, IsTheOne, IsValid, IsValidPart, IsValidRef, OutOfMemory, RefusesCast, RefusesExactly, RefusesOrNoMemory, counts_cause, field_named, fields_in, fields_of, fields_within, is_absent, is_null_or_tuple, lent_raw, names_in, parts_of, raw_of, ref_content, ref_order, ref_part, ref_type, scalar_raw, scalar_type, selection_cause, struct_cast_cause, type_of, value_named, zip};
 
 use crate::iterators::Fields;
-use crate::parts::{copied, is_null_or_tuple, item_or_null, items_of, part_at};
+use crate::parts::{copy_part_if_any, is_null_or_tuple, item_or_null, items_of, part_at};
 use std::alloc::Global;
 use std::cmp::Ordering;
-use std::fmt::{self, Display, Formatter, Write};
-use std::hash::{Hash, Hasher};
 use vortex_dtype::{DType, FieldName, FieldNames, StructFields, VortexError};
 use vortex_value::{Scalar, ScalarRef, ScalarValue};
 
-/// A view of a scalar whose type is a struct: a null, or a value for each field.
+mod comparisons;
+
+/// A view of a scalar of a struct type: a null, or a value for each field.
 #[derive(Clone, Copy, Debug)]
 pub struct StructScalar<'a> {
     scalar: ScalarRef<'a>,
@@ -36,8 +20,7 @@ pub struct StructScalar<'a> {
 }
 
 impl<'a> StructScalar<'a> {
-    ghost use Rattle.vortex_views.specs.Iterators.{fields_left};
-    ghost use Rattle.vortex_views.specs.Structs.{struct_ref, struct_view_raw, struct_view_type};
+    ghost use Rattle.vortex_views.specs.ViewWords.{fields_left, struct_ref, struct_view_raw, struct_view_type, viewed_struct};
 
     /// The type.
     pub fn dtype(&self) -> &'a DType
@@ -68,21 +51,13 @@ impl<'a> StructScalar<'a> {
         self.scalar.is_null()
     }
 
-    /// A scalar of the first field with the name, and none exactly where no field has it, as anywhere
-    /// of a null.
+    /// A copy of the first field with the name; `None` exactly if no field has it. A null has no
+    /// fields.
     ///
-    /// `OutOfMemory` where there is none for the copy, and not for a valid field of a type whose
-    /// values take none. Ports `StructScalar::field`, which panics at a null.
+    /// `OutOfMemory` if there is none for the copy. Of a valid struct, a field of a type whose
+    /// values take no memory never gives it. Ports `StructScalar::field`, which panics at a null.
     pub fn field(&self, alloc: Global, name: &str) -> Result<Option<Scalar>, VortexError>
-        ensures copied { IfOk result (λ copy. option_map scalar_part copy ≡ field_named
-            (struct_view_type self.now) (struct_view_raw self.now) name.now) }
-        ensures valid { IsValidRef (struct_ref self.now)
-            → IfOk result (λ copy. IfSome copy IsValid) }
-        ensures refused { IfErr result (λ e. (e ≡ OutOfMemory) × IsSome (field_named
-            (struct_view_type self.now) (struct_view_raw self.now) name.now)) }
-        ensures flat { IsValidRef (struct_ref self.now) → IfSome (field_named
-            (struct_view_type self.now) (struct_view_raw self.now) name.now) IsFlatPart
-            → IsOk result }
+        ensures { CopiesPartOf (viewed_struct self.now) (λ part. field_named part name.now) result }
     {
         match self.struct_fields().find(name) {
             Some(index) => self.field_by_idx(alloc, index),
@@ -90,42 +65,36 @@ impl<'a> StructScalar<'a> {
         }
     }
 
-    /// A scalar of the field at this place, and none exactly past the end, as anywhere of a null.
+    /// A copy of the field at this place; `None` exactly past the end. A null has no fields.
     ///
-    /// `OutOfMemory` where there is none for the copy, and not for a valid field of a type whose
-    /// values take none. Ports `StructScalar::field_by_idx`, which panics at a null.
+    /// `OutOfMemory` if there is none for the copy. Of a valid struct, a field of a type whose
+    /// values take no memory never gives it. Ports `StructScalar::field_by_idx`, which panics at a
+    /// null.
     pub fn field_by_idx(&self, alloc: Global, index: usize) -> Result<Option<Scalar>, VortexError>
-        ensures copied { IfOk result (λ copy. option_map scalar_part copy ≡ slice_get (fields_within
-            (struct_view_type self.now) (struct_view_raw self.now)) index) }
-        ensures valid { IsValidRef (struct_ref self.now)
-            → IfOk result (λ copy. IfSome copy IsValid) }
-        ensures refused { IfErr result (λ e. (e ≡ OutOfMemory) × IsSome (slice_get (fields_within
-            (struct_view_type self.now) (struct_view_raw self.now)) index)) }
-        ensures flat { IsValidRef (struct_ref self.now) → IfSome (slice_get (fields_within
-            (struct_view_type self.now) (struct_view_raw self.now)) index) IsFlatPart
-            → IsOk result }
+        ensures { CopiesPartOf
+            (viewed_struct self.now) (λ part. slice_get (fields_within part) index) result }
     {
-        copied(alloc, self.field_ref_by_idx(index))
+        copy_part_if_any(alloc, self.field_ref_by_idx(index))
     }
 
-    /// The field at this place, borrowed, and none exactly past the end, as anywhere of a null. Of
-    /// this port alone.
+    /// The field at this place, borrowed; `None` exactly past the end. A null has no fields.
+    /// Upstream has no such call.
     pub fn field_ref_by_idx(&self, index: usize) -> Option<ScalarRef<'a>>
-        ensures lent { option_map ref_part result ≡ slice_get (fields_within
-            (struct_view_type self.now) (struct_view_raw self.now)) index }
+        ensures lent { option_map ref_part result
+            ≡ slice_get (fields_within (viewed_struct self.now)) index }
         ensures valid { IsValidRef (struct_ref self.now) → IfSome result IsValidRef }
     {
         field_at(self.struct_fields(), self.items(), index)
     }
 
-    /// Scalars of the fields, in order, and none exactly of a null. The copies are made as the items
-    /// are asked for, and an item is `OutOfMemory` where there is none for it.
+    /// An iterator over copies of the fields, in order; `None` exactly for a null. Each copy is
+    /// made when its item is asked for, and the item is `OutOfMemory` if there is none for it.
     ///
     /// Ports `StructScalar::fields_iter`, whose iterator has no name.
     pub fn fields_iter(&self, alloc: Global) -> Option<Fields<'a>>
         ensures null { is_none result ≡ is_absent (struct_view_raw self.now) }
-        ensures fields { IfSome result (λ fields. fields_left fields ≡ fields_within
-            (struct_view_type self.now) (struct_view_raw self.now)) }
+        ensures fields { IfSome result (λ fields.
+            fields_left fields ≡ fields_within (viewed_struct self.now)) }
         ensures valid { IsValidRef (struct_ref self.now)
             → IfSome result (λ fields. All IsValidPart (fields_left fields)) }
     {
@@ -136,14 +105,14 @@ impl<'a> StructScalar<'a> {
         }
     }
 
-    /// The one scalar of the struct type with this struct's content, field by field in their order:
-    /// the names are the target's.
+    /// The one scalar of the target type with this struct's content. Fields are cast in their
+    /// order, whatever their names; the names of the result are the target's.
     ///
-    /// `WrongKind` exactly where the target is no struct, an extension over one included; else
-    /// `WrongLength` exactly where it has another number of fields. Both come of a null too, and
-    /// before any memory is asked for. Then as `Scalar::cast`: `CannotCast` only where the table of
-    /// casts does not allow the cast or the target has no value of the content, and else
-    /// `OutOfMemory`, which never comes in its place for a null.
+    /// `WrongKind` exactly if the target is no struct; an extension over one is not. Else
+    /// `WrongLength` exactly if it has another number of fields. Both come for a null too, and
+    /// before any memory is asked for. Else the refusals are those of `Scalar::cast`. `CannotCast`
+    /// comes only if the table of casts does not allow the cast or the target has no value of the
+    /// content. `OutOfMemory` never comes in its place for a null.
     pub fn cast(&self, alloc: Global, dtype: &DType) -> Result<Scalar, VortexError>
         requires { IsValidRef (struct_ref self.now) }
         ensures refused { MatchOption (struct_cast_cause
@@ -166,11 +135,11 @@ impl<'a> StructScalar<'a> {
         self.scalar.cast(alloc, dtype)
     }
 
-    /// The struct of the fields that the names select, in the order of the names, of which one may
-    /// stand twice, with this struct's nullability. Of a null it is the null of that type.
+    /// The struct of the fields that the names select, in the order of the names, with this
+    /// struct's nullability. A name may be repeated. For a null it is the null of that type.
     ///
-    /// `NoField` exactly where some name is the name of no field, of a null too, and this before any
-    /// memory is asked for; else `OutOfMemory` where there is none.
+    /// `NoField` exactly if one of the names is the name of no field, also for a null, and before
+    /// any memory is asked for. Else `OutOfMemory` if there is none.
     pub fn project(&self, alloc: Global, projection: &[FieldName]) -> Result<Scalar, VortexError>
         ensures refused { RefusesOrNoMemory
             (selection_cause (fields_in (struct_view_type self.now)) projection.now) result }
@@ -205,7 +174,7 @@ impl<'a> StructScalar<'a> {
         Ok(Some(ScalarValue::Tuple(values)))
     }
 
-    /// The order of the contents, where the types are the same up to nullability, and else none. A
+    /// The order of the contents, if the types are the same up to nullability, and else `None`. A
     /// null is below all others.
     ///
     /// Ports the `PartialOrd` of `StructScalar`.
@@ -223,7 +192,7 @@ impl<'a> StructScalar<'a> {
     }
 }
 
-/// Sees that there are as many fields as the target has.
+/// `WrongLength` exactly if the target has another number of fields.
 fn check_counts(own: &StructFields, target: &StructFields) -> Result<(), VortexError>
     ensures { RefusesExactly (counts_cause (fields_of own.now) (fields_of target.now)) result }
 {
@@ -235,7 +204,7 @@ fn check_counts(own: &StructFields, target: &StructFields) -> Result<(), VortexE
     }
 }
 
-/// The field at this place, borrowed, and none past the end of the fields or of their values.
+/// The field at this place, borrowed; `None` past the end of the fields or of their values.
 fn field_at<'a>(
     fields: &'a StructFields,
     values: &'a [Option<ScalarValue>],
@@ -244,13 +213,11 @@ fn field_at<'a>(
     ensures { option_map ref_part result
         ≡ slice_get (zip (fields_of fields.now).types (map raw_of values.now)) place }
 {
-    match fields.field_by_index(place) {
-        Some(dtype) => part_at(dtype, values, place),
-        None => None,
-    }
+    let dtype = fields.field_by_index(place)?;
+    part_at(dtype, values, place)
 }
 
-/// Copies of the values of the first fields with these names, and a null where no field has one.
+/// Copies of the values of the first fields with these names; a null for a name that no field has.
 fn named_values(
     alloc: Global,
     fields: &StructFields,
@@ -270,7 +237,7 @@ fn named_values(
     Ok(made)
 }
 
-/// The value of the first field with the name, and a null where no field has it.
+/// The value of the first field with the name; a null if no field has it.
 fn value_named<'a>(
     fields: &StructFields,
     value: Option<&'a ScalarValue>,
@@ -282,7 +249,7 @@ fn value_named<'a>(
     item_or_null(value, place)
 }
 
-/// The same raw value, or its absence, or `OutOfMemory`.
+/// A copy of a raw value, or `OutOfMemory`. `None` is the null.
 fn copy_of(alloc: Global, value: Option<&ScalarValue>) -> Result<Option<ScalarValue>, VortexError>
     ensures { MatchResult result
         (λ copy. raw_of copy ≡ lent_raw value.entry)
@@ -294,15 +261,15 @@ fn copy_of(alloc: Global, value: Option<&ScalarValue>) -> Result<Option<ScalarVa
     }
 }
 
-/// The view of a scalar: of its type and its raw value, whether or not the value is valid for the
-/// type; of a valid scalar it is valid.
+/// The view of a scalar's type and raw value, even if the value is not valid for the type. It is
+/// valid if the scalar is.
 ///
-/// `WrongKind` exactly where the type is no struct, or the raw value is neither absent nor a tuple.
+/// `WrongKind` exactly if the type is no struct, or the raw value is neither a null nor a tuple.
 /// Ports `TryFrom<&Scalar> for StructScalar`.
 impl<'a> TryFrom<&'a Scalar> for StructScalar<'a> {
     type Error = VortexError;
 
-    ghost use Rattle.vortex_views.specs.Structs.{struct_ref};
+    ghost use Rattle.vortex_views.specs.ViewWords.{struct_ref};
 
     ghost try_from_gives = { λ scalar. GivesView
         (λ view. IsRefOf (scalar_type scalar.now) (scalar_raw scalar.now) (struct_ref view))
@@ -319,48 +286,5 @@ impl<'a> TryFrom<&'a Scalar> for StructScalar<'a> {
         Ok(StructScalar {
             scalar: ScalarRef::of(scalar),
         })
-    }
-}
-
-impl PartialEq for StructScalar<'_> {
-    ghost use Rattle.vortex_views.specs.Structs.{struct_ref};
-
-    ghost eq = { λ a b. ref_equal (struct_ref a) (struct_ref b) };
-
-    ghost laws = { partial_equiv_from_equiv (ref_equiv struct_ref) };
-
-    fn eq(&self, other: &StructScalar<'_>) -> bool {
-        self.scalar == other.scalar
-    }
-}
-
-impl Eq for StructScalar<'_> {
-    ghost use Rattle.vortex_views.specs.Structs.{struct_ref};
-
-    ghost laws = { ref_equiv struct_ref };
-}
-
-impl Hash for StructScalar<'_> {
-    ghost use Rattle.vortex_views.specs.Structs.{struct_ref};
-
-    ghost hash_input = { λ x. ref_feed (struct_ref x) };
-
-    ghost respects_eq = { (ref_alike struct_ref).fed };
-
-    fn hash<H: Hasher>(&self, state: &mut H) {
-        self.scalar.hash(state);
-    }
-}
-
-/// Writes what the scalar's own `Display` writes.
-///
-/// Ports the `Display` of `StructScalar`.
-impl Display for StructScalar<'_> {
-    ghost use Rattle.vortex_views.specs.Structs.{struct_ref};
-
-    ghost output = { λ x. Some (ref_text (struct_ref x)) };
-
-    fn fmt<W: Write>(&self, f: &mut Formatter<W>) -> fmt::Result {
-        self.scalar.fmt(f)
     }
 }

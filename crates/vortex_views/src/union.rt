@@ -1,29 +1,18 @@
 //! Views of unions.
 
-ghost use Rattle.std.specs.Prelude.{◌≡◌, ◌↔◌, true, option_map, IfErr, IfNone, IfOk, IfSome, IsOk, IsTrue, MatchOption, Some, false};
-ghost use Rattle.std.specs.Cmp.{partial_equiv_from_equiv};
-ghost use Rattle.vortex_dtype.specs.Parts.{is_union_type};
-ghost use Rattle.vortex_dtype.specs.TypeOf.{type_of, union_type_of, variants_of};
-ghost use Rattle.vortex_dtype.specs.TypeTree.{nullability_of};
-ghost use Rattle.vortex_leaves.specs.Leaves.{RefusesView};
-ghost use Rattle.vortex_value.specs.Validity.{Valid};
-ghost use Rattle.vortex_value.specs.Values.RawOf.{lent_raw, union_tree};
-ghost use Rattle.vortex_value.specs.Values.RawTree.{absent, is_absent};
-ghost use Rattle.vortex_value.specs.Values.Refs.{IsRefOf, IsValidRef, ref_raw, ref_type};
-ghost use Rattle.vortex_value.specs.Values.Scalars.{IsValid};
-ghost use Rattle.vortex_views.specs.Parts.{IsFlatPart, ref_equal, ref_part, ref_text, scalar_part};
-ghost use Rattle.vortex_views.specs.ViewKinds.{is_of_union};
-ghost use Rattle.vortex_views.specs.ViewLaws.{ref_equiv};
+ghost use Rattle.std.specs.Prelude.{◌≡◌, ◌↔◌, true, option_map, IfErr, IfNone, IfOk, IfSome, IsOk, IsTrue, MatchOption};
+ghost use Rattle.vortex_views.specs.Words.{CopiesPartOf, IsRefOf, IsValidRef, RefusesView, Valid, absent, is_absent, is_of_union, is_union_type, lent_raw, nullability_of, ref_part, ref_raw, ref_type, type_of, union_tree, union_type_of, variants_of};
 
-use crate::parts::copied;
+use crate::parts::copy_part_if_any;
 use std::alloc::Global;
-use std::fmt::{self, Display, Formatter, Write};
 use vortex_dtype::{DType, FieldName, Nullability, UnionVariants, VortexError};
 use vortex_value::{Scalar, ScalarRef, ScalarValue, UnionValue};
 
-/// A view of a scalar whose type is a union: a null, or a value of one of the variants.
+mod comparisons;
+
+/// A view of a scalar of a union type: a null, or a value of one of the variants.
 ///
-/// A union whose child is null, an inner null, is itself not null: it has an id, and its child is a
+/// A union with a null child (an inner null) is itself not null: it has an id, and its child is a
 /// null scalar.
 #[derive(Clone, Copy, Debug)]
 pub struct UnionScalar<'a> {
@@ -31,16 +20,16 @@ pub struct UnionScalar<'a> {
     ghost kind: { is_of_union (ref_type scalar) (ref_raw scalar) ≡ true },
 }
 
+#[tactic(auto, using(crate::proofs::UnionSteps::steps))]
 impl<'a> UnionScalar<'a> {
-    ghost use Rattle.vortex_views.specs.Unions.{IsNamedUnion, child_of, chosen_name, chosen_place, chosen_type, id_of, union_ref, union_view_raw, union_view_type};
+    ghost use Rattle.vortex_views.specs.ViewWords.{IsNamedUnion, child_of, chosen_name, chosen_place, chosen_type, id_of, union_ref, union_view_raw, union_view_type, viewed_union};
 
-    /// The type and the raw value, or its absence, viewed as a union.
+    /// The view of a type and a raw value as a union. `None` is the null.
     ///
-    /// `WrongKind` exactly where the type is no union, an extension over one included; else `Invalid`
-    /// where the raw value is not valid for the type, with the first breach in reading order and the
-    /// path to it, and `OutOfMemory` in its place where the path has steps and there is no memory for
-    /// them. A valid value takes none.
-    #[tactic(auto, using(crate::proofs::UnionSteps::shown))]
+    /// `WrongKind` exactly if the type is no union; an extension over one is not. Else `Invalid` if
+    /// the raw value is not valid for the type, with the first breach in reading order and the path
+    /// to it. `OutOfMemory` comes in its place if the path has steps and there is no memory for
+    /// them. A valid value takes no memory.
     pub fn try_new(
         alloc: Global,
         dtype: &'a DType,
@@ -78,7 +67,7 @@ impl<'a> UnionScalar<'a> {
         self.scalar.dtype()
     }
 
-    /// The variants of the type, also where the union is null.
+    /// The variants of the type, also for a null.
     pub fn variants(&self) -> &'a UnionVariants
         ensures { union_type_of (variants_of result.now) (nullability_of (union_view_type self.now))
             ≡ union_view_type self.now }
@@ -103,15 +92,15 @@ impl<'a> UnionScalar<'a> {
         self.scalar.is_null()
     }
 
-    /// The id of the chosen variant, and none exactly of a null.
+    /// The id of the chosen variant; `None` exactly for a null.
     pub fn type_id(&self) -> Option<u8>
         ensures id { result ≡ id_of (union_view_raw self.now) }
         ensures present { IfNone result (union_view_raw self.now ≡ absent) }
     {
-        self.chosen().map(|union| union.type_id())
+        self.union_value().map(|union| union.type_id())
     }
 
-    /// The place of the chosen variant among the variants, and none exactly of a null.
+    /// The place of the chosen variant among the variants; `None` exactly for a null.
     pub fn child_index(&self) -> Option<usize>
         requires { IsValidRef (union_ref self.now) }
         ensures place { result ≡ chosen_place (union_view_type self.now) (union_view_raw self.now) }
@@ -121,9 +110,8 @@ impl<'a> UnionScalar<'a> {
         self.variants().tag_to_child_index(id)
     }
 
-    /// The name of the chosen variant, and none exactly of a null. A type that has fewer names than
-    /// ids, which no maker of types gives, has none for some variants.
-    #[tactic(auto, using(crate::proofs::UnionSteps::chosen))]
+    /// The name of the chosen variant; `None` exactly for a null. A type with fewer names than ids,
+    /// which no maker of types gives, has no name for some variants.
     pub fn variant_name(&self) -> Option<&'a FieldName>
         requires { IsValidRef (union_ref self.now) }
         ensures name { option_map (λ name. name.now) result
@@ -135,10 +123,9 @@ impl<'a> UnionScalar<'a> {
         self.variants().names().get(index)
     }
 
-    /// The type of the chosen variant, and none exactly of a null.
+    /// The type of the chosen variant; `None` exactly for a null.
     ///
     /// Ports `UnionScalar::variant_dtype`, which copies it.
-    #[tactic(auto, using(crate::proofs::UnionSteps::chosen))]
     pub fn variant_dtype(&self) -> Option<&'a DType>
         requires { IsValidRef (union_ref self.now) }
         ensures tree { option_map (λ dtype. type_of dtype.now) result
@@ -149,28 +136,21 @@ impl<'a> UnionScalar<'a> {
         self.variants().variant_by_index(index)
     }
 
-    /// A scalar of its own of the child, of the chosen variant's type, and none exactly of a null. An
-    /// inner null is a scalar that is null.
+    /// A copy of the child, with the type of the chosen variant; `None` exactly for a null. The
+    /// copy of an inner null is a null scalar.
     ///
-    /// `OutOfMemory` is its only refusal, and never of a null or of a child of a type whose values
-    /// take no memory.
-    #[tactic(auto, using(crate::proofs::UnionSteps::copied_child))]
+    /// `OutOfMemory` if there is none for the copy. A null, and a child of a type whose values take
+    /// no memory, never give it.
     pub fn child(&self, alloc: Global) -> Result<Option<Scalar>, VortexError>
         requires { IsValidRef (union_ref self.now) }
-        ensures copied { IfOk result (λ child. option_map scalar_part child
-            ≡ child_of (union_view_type self.now) (union_view_raw self.now)) }
+        ensures copies { CopiesPartOf
+            (viewed_union self.now) (λ part. child_of part.0 part.1) result }
         ensures present { IfOk result (λ child. IfNone child (union_view_raw self.now ≡ absent)) }
-        ensures valid { IfOk result (λ child. IfSome child IsValid) }
-        ensures refused { IfErr result (λ e. (e ≡ VortexError.OutOfMemory)
-            × (is_absent (union_view_raw self.now) ≡ false)) }
-        ensures flat { IfSome (child_of (union_view_type self.now) (union_view_raw self.now))
-            IsFlatPart → IsOk result }
     {
-        copied(alloc, self.child_ref())
+        copy_part_if_any(alloc, self.child_ref())
     }
 
-    /// The child, borrowed.
-    #[tactic(auto, using(crate::proofs::UnionSteps::lent_child))]
+    /// The child, borrowed; `None` exactly for a null.
     fn child_ref(&self) -> Option<ScalarRef<'a>>
         requires { IsValidRef (union_ref self.now) }
         ensures lent { option_map ref_part result
@@ -178,13 +158,13 @@ impl<'a> UnionScalar<'a> {
         ensures present { IfNone result (union_view_raw self.now ≡ absent) }
         ensures valid { IfSome result IsValidRef }
     {
-        let union = self.chosen()?;
+        let union = self.union_value()?;
         let dtype = self.variant_dtype()?;
         Some(ScalarRef::from_parts(dtype, union.child_value()))
     }
 
-    /// The id and the child.
-    fn chosen(&self) -> Option<&'a UnionValue>
+    /// The id and the child; `None` exactly for a null.
+    fn union_value(&self) -> Option<&'a UnionValue>
         ensures { MatchOption result (union_view_raw self.now ≡ absent)
             (λ union. union_view_raw self.now ≡ union_tree union.now) }
     {
@@ -193,37 +173,5 @@ impl<'a> UnionScalar<'a> {
             Some(_) => unreachable!(),
             None => None,
         }
-    }
-}
-
-impl PartialEq for UnionScalar<'_> {
-    ghost use Rattle.vortex_views.specs.Unions.{union_ref};
-
-    ghost eq = { λ a b. ref_equal (union_ref a) (union_ref b) };
-
-    ghost laws = { partial_equiv_from_equiv (ref_equiv union_ref) };
-
-    fn eq(&self, other: &UnionScalar<'_>) -> bool {
-        self.scalar == other.scalar
-    }
-}
-
-impl Eq for UnionScalar<'_> {
-    ghost use Rattle.vortex_views.specs.Unions.{union_ref};
-
-    ghost laws = { ref_equiv union_ref };
-}
-
-/// Writes `null`, or the name of the chosen variant and the child's text in parentheses, as
-/// `int(42i32)`.
-///
-/// Ports the `Display` of `UnionScalar`.
-impl Display for UnionScalar<'_> {
-    ghost use Rattle.vortex_views.specs.Unions.{union_ref};
-
-    ghost output = { λ x. Some (ref_text (union_ref x)) };
-
-    fn fmt<W: Write>(&self, f: &mut Formatter<W>) -> fmt::Result {
-        self.scalar.fmt(f)
     }
 }

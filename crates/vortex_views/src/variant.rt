@@ -1,21 +1,15 @@
 //! Views of variants.
 
 ghost use Rattle.std.specs.Prelude.{◌≡◌, true, option_map, IfNone, IfSome, Some};
-ghost use Rattle.vortex_dtype.specs.TypeOf.{type_of};
-ghost use Rattle.vortex_value.specs.Values.RawTree.{absent, is_absent};
-ghost use Rattle.vortex_value.specs.Values.Refs.{IsRefOf, IsValidRef, ref_content, ref_raw, ref_type};
-ghost use Rattle.vortex_value.specs.Values.Scalars.{IsValid};
-ghost use Rattle.vortex_value.specs.Zero.{is_zero_of};
-ghost use Rattle.vortex_views.specs.Parts.{ref_text, scalar_part};
-ghost use Rattle.vortex_views.specs.ViewKinds.{is_of_variant};
+ghost use Rattle.vortex_views.specs.Words.{IsRefOf, IsValid, IsValidRef, absent, is_absent, is_of_variant, is_zero_of, ref_content, ref_raw, ref_text, ref_type, scalar_part, type_of};
 
 use std::fmt::{self, Display, Formatter, Write};
 use vortex_dtype::DType;
 use vortex_value::{Scalar, ScalarRef, ScalarValue};
 
-/// A view of a scalar whose type is a variant: a null, or a scalar that brings its type along.
+/// A view of a scalar of a variant type: a null, or a scalar that brings its type along.
 ///
-/// The variant-null, which holds the null of the type of nulls, is itself not null.
+/// The variant-null, which holds the null of the Null type, is itself not null.
 #[derive(Clone, Copy, Debug)]
 pub struct VariantScalar<'a> {
     scalar: ScalarRef<'a>,
@@ -23,7 +17,7 @@ pub struct VariantScalar<'a> {
 }
 
 impl<'a> VariantScalar<'a> {
-    ghost use Rattle.vortex_views.specs.Variants.{inner_of, is_inner_null, variant_ref, variant_view_raw, variant_view_type};
+    ghost use Rattle.vortex_views.specs.ViewWords.{inner_of, is_inner_null, variant_ref, variant_view_raw, variant_view_type};
 
     /// A borrowed scalar, viewed as a variant. The caller knows that it is one.
     ///
@@ -49,7 +43,7 @@ impl<'a> VariantScalar<'a> {
         self.scalar.is_null()
     }
 
-    /// The scalar that the variant holds, and none exactly of a null.
+    /// The scalar that the variant holds; `None` exactly for a null.
     pub fn value(&self) -> Option<&'a Scalar>
         ensures inner { option_map (λ inner. scalar_part inner.now) result
             ≡ inner_of (variant_view_raw self.now) }
@@ -64,8 +58,8 @@ impl<'a> VariantScalar<'a> {
         }
     }
 
-    /// Whether the scalar that the variant holds is null, as the variant-null is; none exactly of a
-    /// null.
+    /// Whether the scalar that the variant holds is null, as in the variant-null; `None` exactly
+    /// for a null.
     pub fn is_variant_null(&self) -> Option<bool>
         ensures null { result ≡ is_inner_null (variant_view_raw self.now) }
         ensures present { IfNone result (variant_view_raw self.now ≡ absent) }
@@ -73,8 +67,8 @@ impl<'a> VariantScalar<'a> {
         self.value().map(|inner| inner.is_null())
     }
 
-    /// Whether the variant is zero: the variant-null is, and else what the scalar that it holds says,
-    /// which says nothing at a union whose child is null. None of a null.
+    /// Whether the variant is zero. The variant-null is; any other is if the scalar that it holds
+    /// is. `None` for a null, and if the variant holds a union with a null child.
     pub fn is_zero(&self) -> Option<bool>
         requires { IsValidRef (variant_ref self.now) }
         ensures { result
@@ -92,7 +86,7 @@ impl<'a> VariantScalar<'a> {
 ///
 /// Ports the `Display` of `VariantScalar`.
 impl Display for VariantScalar<'_> {
-    ghost use Rattle.vortex_views.specs.Variants.{variant_ref};
+    ghost use Rattle.vortex_views.specs.ViewWords.{variant_ref};
 
     ghost output = { λ x. Some (ref_text (variant_ref x)) };
 

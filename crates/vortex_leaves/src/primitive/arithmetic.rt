@@ -1,20 +1,15 @@
 //! Checked arithmetic on views of integers.
 
 ghost use Rattle.std.specs.Prelude.{◌≡◌, ◌≢◌, MatchOption, None, Some};
-ghost use Rattle.vortex_dtype.specs.TypeOf.{type_of};
-ghost use Rattle.vortex_dtype.specs.declared.ptype.PType.{PType};
-ghost use Rattle.vortex_pvalue.specs.Conversions.{IsNumber};
-ghost use Rattle.vortex_pvalue.specs.Whole.{whole_of};
-ghost use Rattle.vortex_pvalue.specs.declared.operators.NumericOperator.TheVariants.{Add, Sub};
-ghost use Rattle.vortex_value.specs.Reinterpretations.{ptype_in};
-ghost use Rattle.vortex_leaves.specs.Arithmetic.{numeric_type, outcome, within};
+ghost use Rattle.vortex_leaves.specs.Words.{Add, IsNumber, PType, Sub, numeric_type, outcome, ptype_in, type_of, whole_of, within};
+ghost use Rattle.vortex_leaves.specs.ViewWords.{AreOfOneType, IsOutcome, number_view_ptype, number_view_type, view_arithmetic};
 
 use super::PrimitiveScalar;
 use std::ops::{Add, Sub};
 use vortex_dtype::{DType, PType};
 use vortex_pvalue::{NumericOperator, PValue};
 
-/// What the operation gives, where 128 bits hold it; else no kind of integer does.
+/// What the operation gives, if 128 bits hold it; else no `PType` does.
 fn compute(op: NumericOperator, left: i128, right: i128) -> Option<i128>
     ensures { MatchOption result
         ((ptype : PType) → within ptype (outcome op left right) ≡ None)
@@ -28,7 +23,7 @@ fn compute(op: NumericOperator, left: i128, right: i128) -> Option<i128>
     }
 }
 
-/// What the operation gives, as an integer of the kind; none where the kind does not have it.
+/// What the operation gives, as an integer of the `PType`; `None` if that is out of its range.
 fn compute_in(op: NumericOperator, ptype: PType, left: i128, right: i128) -> Option<PValue>
     ensures { MatchOption result
         (within ptype (outcome op left right) ≡ None)
@@ -39,16 +34,15 @@ fn compute_in(op: NumericOperator, ptype: PType, left: i128, right: i128) -> Opt
     PValue::from_whole(number, ptype)
 }
 
+#[tactic(auto, using(crate::proofs::NumberLaws::arithmetic))]
 impl<'a> PrimitiveScalar<'a> {
-    ghost use Rattle.vortex_leaves.specs.PrimitiveViews.{AreOfOneType, IsOutcome, number_view_ptype, number_view_type, view_arithmetic};
-
-    /// What the operation gives of two integers of one kind, quotients cut toward zero; of a null,
-    /// the null. The type is the left one where it is nullable, and else the right one.
+    /// The sum, difference, product or quotient of two integers; null if one of them is null. A
+    /// quotient is cut toward zero. The result has the left type if that is nullable, and else the
+    /// right type.
     ///
-    /// None exactly where the kind does not have the number, and where an integer is divided by 0.
-    /// The types are the same up to nullability, which the caller knows. Ports
+    /// `None` exactly if the number is out of range for the `PType`, or an integer is divided by 0.
+    /// The caller knows that the types are the same up to nullability. Ports
     /// `PrimitiveScalar::checked_binary_numeric`, which panics at other types.
-    #[tactic(auto, using(crate::proofs::NumberLaws::number_valid))]
     pub fn checked_binary_numeric(
         &self,
         other: &PrimitiveScalar<'a>,
@@ -72,8 +66,7 @@ impl<'a> PrimitiveScalar<'a> {
         Some(PrimitiveScalar::of(dtype, ptype, number))
     }
 
-    /// The type of what comes out: the left one where it is nullable, and else the right one.
-    #[tactic(auto, using(crate::proofs::NumberLaws::one_ptype))]
+    /// The type of the result: the left type if that is nullable, and else the right type.
     fn outcome_dtype(&self, other: &PrimitiveScalar<'a>) -> &'a DType
         requires { AreOfOneType self.now other.now }
         ensures typed { type_of result.now
@@ -87,9 +80,10 @@ impl<'a> PrimitiveScalar<'a> {
         }
     }
 
-    /// The sum of two integers of one kind; of a null, the null.
+    /// The sum of two integers; null if one of them is null. The caller knows that the types are
+    /// the same up to nullability.
     ///
-    /// None exactly where the kind does not have the sum.
+    /// `None` exactly if the sum is out of range for the `PType`.
     pub fn checked_add(&self, other: &PrimitiveScalar<'a>) -> Option<PrimitiveScalar<'a>>
         requires { AreOfOneType self.now other.now }
         ensures { MatchOption result
@@ -99,9 +93,10 @@ impl<'a> PrimitiveScalar<'a> {
         self.checked_binary_numeric(other, NumericOperator::Add)
     }
 
-    /// The first of two integers of one kind less the second; of a null, the null.
+    /// The first of two integers less the second; null if one of them is null. The caller knows
+    /// that the types are the same up to nullability.
     ///
-    /// None exactly where the kind does not have the difference.
+    /// `None` exactly if the difference is out of range for the `PType`.
     pub fn checked_sub(&self, other: &PrimitiveScalar<'a>) -> Option<PrimitiveScalar<'a>>
         requires { AreOfOneType self.now other.now }
         ensures { MatchOption result
@@ -112,13 +107,11 @@ impl<'a> PrimitiveScalar<'a> {
     }
 }
 
-/// The sum, for types that are the same up to nullability whose kind has it. A null side never
-/// overflows.
+/// The sum, or null if one side is null. The caller knows that the types are the same up to
+/// nullability and that the sum is in range for the `PType`.
 ///
 /// Ports the `Add` of `PrimitiveScalar`, which panics elsewhere.
 impl<'a> Add for PrimitiveScalar<'a> {
-    ghost use Rattle.vortex_leaves.specs.PrimitiveViews.{AreOfOneType, IsOutcome, view_arithmetic};
-
     type Output = PrimitiveScalar<'a>;
 
     ghost can_add = { λ a b. AreOfOneType a b × (view_arithmetic Add a b ≢ None) };
@@ -130,13 +123,11 @@ impl<'a> Add for PrimitiveScalar<'a> {
     }
 }
 
-/// The difference, for types that are the same up to nullability whose kind has it. A null side
-/// never overflows.
+/// The difference, or null if one side is null. The caller knows that the types are the same up to
+/// nullability and that the difference is in range for the `PType`.
 ///
 /// Ports the `Sub` of `PrimitiveScalar`, which panics elsewhere.
 impl<'a> Sub for PrimitiveScalar<'a> {
-    ghost use Rattle.vortex_leaves.specs.PrimitiveViews.{AreOfOneType, IsOutcome, view_arithmetic};
-
     type Output = PrimitiveScalar<'a>;
 
     ghost can_sub = { λ a b. AreOfOneType a b × (view_arithmetic Sub a b ≢ None) };

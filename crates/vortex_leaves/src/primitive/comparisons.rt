@@ -1,14 +1,8 @@
 //! Equality, order, hash and text of views of integers.
 
 ghost use Rattle.std.specs.Prelude.{◌&&◌, Some};
-ghost use Rattle.std.specs.Cmp.{partial_equiv_from_equiv};
-ghost use Rattle.vortex_value.specs.Equality.{equal, same_type};
-ghost use Rattle.vortex_value.specs.Hashing.{typed_feed};
-ghost use Rattle.vortex_value.specs.Order.{typed_order};
-ghost use Rattle.vortex_value.specs.Texts.{text_of};
-ghost use Rattle.vortex_leaves.specs.NumberLaws.{number_order};
-ghost use Rattle.vortex_leaves.specs.PrimitiveViews.{number_view_content, number_view_raw, number_view_type};
-ghost use Rattle.vortex_leaves.specs.ViewLaws.{view_alike, view_equiv};
+ghost use Rattle.vortex_leaves.specs.Words.{equal, partial_equiv_from_equiv, same_type, text_of, typed_feed, typed_order, view_alike, view_equiv};
+ghost use Rattle.vortex_leaves.specs.ViewWords.{number_order, number_view_content, number_view_raw, number_view_type};
 
 use super::PrimitiveScalar;
 use std::cmp::Ordering;
@@ -31,7 +25,7 @@ impl Eq for PrimitiveScalar<'_> {
     ghost laws = { view_equiv number_view_type number_view_content };
 }
 
-/// None exactly where the kinds differ; else a null is below the others, and numbers go by size.
+/// `None` exactly if the `PType`s differ. Else a null is below the others, and numbers go by size.
 impl PartialOrd for PrimitiveScalar<'_> {
     ghost partial_cmp = { λ a b. typed_order
         (number_view_type a) (number_view_content a) (number_view_type b) (number_view_content b) };
@@ -59,7 +53,7 @@ impl Hash for PrimitiveScalar<'_> {
     }
 }
 
-/// Writes `null`, or the number in decimal and then its kind.
+/// Writes `null`, or the number in decimal and then its `PType`.
 impl Display for PrimitiveScalar<'_> {
     ghost output = { λ x. Some (text_of (number_view_type x) (number_view_raw x)) };
 

@@ -1,8 +1,5 @@
 use Rattle.vortex_value.specs.Lemmas.EqualityLaws.{typed_equal-Decides}
-use Rattle.vortex_leaves.specs.BoolViews.{bool_view_content, bool_view_type}
-use Rattle.vortex_leaves.specs.BytesViews.{bytes_view_content, bytes_view_type}
-use Rattle.vortex_leaves.specs.PrimitiveViews.{number_view_content, number_view_type}
-use Rattle.vortex_leaves.specs.TextViews.{text_view_content, text_view_type}
+use Rattle.vortex_leaves.specs.ViewWords.{bool_view_content, bool_view_type, bytes_view_content, bytes_view_type, number_view_content, number_view_type, text_view_content, text_view_type}
 use Rattle.vortex_leaves.proofs.laws.equality.Goals as goal
 
 pub returns-clause-truths : goal.returns-clause-truths

@@ -1,7 +1,4 @@
-use Rattle.vortex_leaves.specs.BoolLaws.{bool_order}
-use Rattle.vortex_leaves.specs.BytesLaws.{bytes_order}
-use Rattle.vortex_leaves.specs.NumberLaws.{number_order}
-use Rattle.vortex_leaves.specs.TextLaws.{text_order}
+use Rattle.vortex_leaves.specs.ViewWords.{bool_order, bytes_order, number_order, text_order}
 use Rattle.vortex_leaves.proofs.laws.order_agrees_with_equality.Goals as goal
 
 pub returns-clause-truths : goal.returns-clause-truths

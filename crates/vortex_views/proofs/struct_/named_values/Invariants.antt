@@ -1,4 +1,4 @@
--- What is copied so far.
+-- What has been copied.
 use Rattle.std.proofs.Common.{◌≡◌, map, take}
 use Rattle.vortex_dtype.specs.TypeOf.{fields_of}
 use Rattle.vortex_value.specs.Values.RawOf.{lent_raw, raw_of}
