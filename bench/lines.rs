@@ -1,3 +1,4 @@
+// SPDX-License-Identifier: Apache-2.0
 //! Writes the benchmark's lines: as many as the first word on the command line says, casts alone, or
 //! with `all` after it a third of each command.
 

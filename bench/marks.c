@@ -1,3 +1,4 @@
+// SPDX-License-Identifier: Apache-2.0
 // A library that is preloaded into a program under callgrind, which is to be started with --instr-atstart=no: it counts
 // from the time that the program writes the line `called` on standard error until it writes `answered` there.
 

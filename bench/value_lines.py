@@ -1,3 +1,4 @@
+# SPDX-License-Identifier: Apache-2.0
 """Lines of calls on values of each kind. A raw value is made as its text with the number of its nodes, which are its leaves,
 nulls, tuples, unions and variants. A kind gives the same values at each run.
 """

@@ -1,3 +1,4 @@
+// SPDX-License-Identifier: Apache-2.0
 // A library that is preloaded into a program and makes its standard streams fail in the middle: the read of standard
 // input whose number FAIL_READ gives, counted from 1, and the write to standard output whose number FAIL_WRITE gives.
 // The file that FAIL_MARK names then holds a byte. With SHORT_READ and SHORT_WRITE a read or a write takes at most so

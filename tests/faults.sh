@@ -1,4 +1,5 @@
 #!/bin/sh
+# SPDX-License-Identifier: Apache-2.0
 # Runs the built program `scalar_rows` under real faults: a folder as its input, a full device as its output, each
 # allocation of memory refused in turn, and each read and each write failing in turn, also an input that does not end. The
 # last line is 'N passed, M failed'; the status is 1 if any failed.

@@ -1,3 +1,4 @@
+// SPDX-License-Identifier: Apache-2.0
 // What the preloaded libraries share.
 
 #include <fcntl.h>

@@ -1,3 +1,4 @@
+// SPDX-License-Identifier: Apache-2.0
 // A library that is preloaded into a program and refuses one allocation of its memory: the one whose number FAIL_ALLOC
 // gives, counted from 1 over all calls of malloc, calloc and realloc. It refuses the one whose number FAIL_ALSO gives too,
 // and all later ones where FAIL_REST is set. The file that FAIL_MARK names then holds a byte for each. Where FAIL_CALL is

@@ -1,3 +1,4 @@
+# SPDX-License-Identifier: Apache-2.0
 """The must-fail edits: how one is read, and what it makes of a crate. For tests/edits and tools/gate_times."""
 
 

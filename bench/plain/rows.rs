@@ -1,3 +1,4 @@
+// SPDX-License-Identifier: Apache-2.0
 //! The plain Rust program that a user would write in place of `scalar_rows`.
 
 use std::fmt::{self, Write as _};

@@ -1,3 +1,4 @@
+// SPDX-License-Identifier: Apache-2.0
 //! The plain Rust program that a user would write in place of `zone_map --lines N --bytes N --find WORD`, on texts.
 
 use std::env;

@@ -1,3 +1,4 @@
+// SPDX-License-Identifier: Apache-2.0
 //! The plain Rust that a user would write in place of the library, by std alone: types and raw values of upstream's shape,
 //! and nine calls over them. It reads lines of calls as `scalar_cases` does, and writes each with its answer. Given the
 //! word `--memory` it says on standard error when a call is made and when it has answered.
