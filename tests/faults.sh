@@ -1,8 +1,8 @@
 #!/bin/sh
 # SPDX-License-Identifier: Apache-2.0
-# Runs the built program `scalar_rows` under real faults: a folder as its input, a full device as its output, each
-# allocation of memory refused in turn, and each read and each write failing in turn, also an input that does not end. The
-# last line is 'N passed, M failed'; the status is 1 if any failed.
+# Runs the built program `scalar_rows` under real faults: a folder as its input, a full device as its output, an input that does
+# not end, and each allocation, each read and each write refused in turn. The last line is 'N passed, M failed'; the status is 1
+# if any failed.
 set -eu
 top=$(CDPATH='' cd -- "$(dirname -- "$0")/.." && pwd)
 program=$top/crates/scalar_rows/out/scalar_rows
@@ -11,7 +11,7 @@ trap 'rm -rf "$folder"' EXIT
 passed=0
 failed=0
 
-# judge NAME: whether `status`, "$folder/output" and "$folder/errors" are as wanted
+# judge NAME STATUS OUTPUT ERRORS: whether `status`, "$folder/output" and "$folder/errors" are as wanted
 judge() {
     name=$1 wanted_status=$2 wanted_output=$3 wanted_errors=$4
     if [ "$status" = "$wanted_status" ] && cmp -s "$folder/output" "$wanted_output" && cmp -s "$folder/errors" "$wanted_errors"; then
@@ -24,7 +24,7 @@ judge() {
     fi
 }
 
-# attempt COMMAND..: runs it, with its words on standard error kept
+# attempt COMMAND..: runs it, and keeps its status and what it says on standard error
 attempt() {
     status=0
     "$@" 2> "$folder/errors" || status=$?
@@ -40,13 +40,13 @@ build_refusals() {
     cc -shared -fPIC -O1 -o "$folder/fail_io.so" "$top/tests/fail_io.c"
 }
 
-# with_io SETTING..: runs it on "$folder/input" with streams that fail or give little, as tests/fail_io.c says
+# with_io SETTING..: runs the program on "$folder/input" with streams that fail or give little, as tests/fail_io.c says
 with_io() {
     attempt env "$@" LD_PRELOAD="$folder/fail_io.so" "$program" < "$folder/input" > "$folder/output"
 }
 
-# each_fails SETTING FAULT SHORT: sees that each read or write that fails ends the run, with what the writes before it wrote,
-# each as much as SHORT says (all rows go out in one call, again and again with what is left), and that at last none does
+# each_fails SETTING FAULT SHORT: makes the first read or write fail, then the second, and so on until the run has no more. A
+# run must end with the fault, and with what the earlier writes wrote, each as much as SHORT says.
 each_fails() {
     place=1
     while [ "$place" -le 1000 ]; do
