@@ -1,23 +1,7 @@
 //! The README's file, run.
 
-use crate::tour::{list_as_i8s, steps_to_breach, thousand_as};
-use vortex_array::{Breach, Nullability, PType, Scalar, Step, VortexError};
-
-/// Whether the refusal shows the first element as a wrong value.
-fn blames_the_first_element(made: &Result<Scalar, VortexError>) -> bool {
-    match made {
-        Err(refusal) => {
-            matches!(
-                refusal,
-                VortexError::Invalid {
-                    breach: Breach::WrongValue,
-                    ..
-                }
-            ) && steps_to_breach(refusal) == [Step::Element(0)].as_slice()
-        }
-        Ok(_) => false,
-    }
-}
+use crate::tour::{may_contain, thousand_as};
+use vortex_array::{Nullability, PType, Scalar, VortexError};
 
 #[test]
 fn a_number_is_cast_or_refused(rt: HostRuntime) {
@@ -31,8 +15,15 @@ fn a_number_is_cast_or_refused(rt: HostRuntime) {
 }
 
 #[test]
-fn a_list_of_another_kind_is_refused(rt: HostRuntime) {
-    let wrong = list_as_i8s(rt.alloc());
-    assert!(rt; blames_the_first_element(&wrong));
-    drop(wrong);
+fn a_word_outside_of_the_bounds_is_ruled_out(rt: HostRuntime) {
+    let least = "apple";
+    let greatest = "cherry pie with cream";
+    let inside = may_contain(rt.alloc(), greatest, least, "cherry").expect(&rt, "bounds");
+    let above = may_contain(rt.alloc(), greatest, least, "zucchini").expect(&rt, "bounds");
+    let below = may_contain(rt.alloc(), least, greatest, "ant").expect(&rt, "bounds");
+    let bound = may_contain(rt.alloc(), least, greatest, "cherry pie with!").expect(&rt, "bounds");
+    assert!(rt; inside);
+    assert!(rt; !above);
+    assert!(rt; !below);
+    assert!(rt; bound);
 }

@@ -1,32 +1,24 @@
-//! A number cast to another kind, and a raw value that is not valid for a type.
+//! A number that is cast to other types, and a zone of a column that a search may skip.
 #![tactic(auto)]
 
 use std::alloc::Global;
-use vortex_array::{DType, Nullability, PType, Scalar, Step, VortexError};
+use std::cmp::Ordering;
+use vortex_array::{DType, IntoScalar, Nullability, PType, Scalar, VortexError};
+use vortex_zone::ZoneBounds;
 
-/// 1000, an i32, as an integer of another kind: Ok for I16; Err(CannotCast) for I8, which has no 1000.
+/// 1000i32 cast to another integer type: 1000i16 for I16, Err(CannotCast) for I8, which has no 1000.
 pub fn thousand_as(alloc: Global, ptype: PType) -> Result<Scalar, VortexError> {
-    let thousand = Scalar::primitive(1000i32, Nullability::NonNullable);
-    let target = DType::Primitive(ptype, Nullability::NonNullable);
-    thousand.cast(alloc, &target)
+    let thousand = 1000i32.try_into_scalar(alloc)?;
+    thousand.cast(alloc, &DType::Primitive(ptype, Nullability::NonNullable))
 }
 
-/// The raw value of a list of i32, taken for a list of i8: Err(Invalid), Element(0) is a WrongValue.
-pub fn list_as_i8s(alloc: Global) -> Result<Scalar, VortexError> {
-    let thousand = Scalar::primitive(1000i32, Nullability::NonNullable);
-    let children = vec![in alloc; thousand]?;
-    let i32s = DType::Primitive(PType::I32, Nullability::NonNullable);
-    let list = Scalar::list(alloc, i32s, children, Nullability::NonNullable)?;
-    let value = list.into_value();
-    let i8s = DType::Primitive(PType::I8, Nullability::NonNullable);
-    let of_i8 = DType::List(Box::new(alloc, i8s)?, Nullability::NonNullable);
-    Scalar::try_new(alloc, of_i8, value)
-}
-
-/// The steps to the first breach, the outermost first; none for another refusal.
-pub fn steps_to_breach(refusal: &VortexError) -> &[Step] {
-    match refusal {
-        VortexError::Invalid { path, .. } => path.steps(),
-        _ => &[],
-    }
+/// Whether a zone whose values lie between two strings, given in either order, may contain a word.
+pub fn may_contain(alloc: Global, one: &str, other: &str, word: &str) -> Result<bool, VortexError> {
+    let one = one.try_into_scalar(alloc)?;
+    let other = other.try_into_scalar(alloc)?;
+    let zone = match one.partial_cmp(&other) {
+        Some(Ordering::Greater) => ZoneBounds::of(alloc, other, one, 16)?,
+        _ => ZoneBounds::of(alloc, one, other, 16)?,
+    };
+    Ok(zone.may_contain(&word.try_into_scalar(alloc)?))
 }
