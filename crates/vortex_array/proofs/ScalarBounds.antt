@@ -1,5 +1,5 @@
 -- From the bounds of bytes to those of scalars.
-use Rattle.std.proofs.Common.{◌≡◌, ℕ, ◌<◌, ◌≤◌, inl, inr, List, [], ◌∷◌, length, take, slice_range, true, false, true≢false, Option, Some, None, IfSome, MatchOption, MatchResult, Result, Ok, Err, if◌then◌else◌, refl, sym, ap, ap₂, subst, ◌∙◌, arith, Ordering, Less, Equal, Greater, ◌≢◌}
+use Rattle.std.proofs.Common.{◌≡◌, ℕ, ◌<◌, ◌≤◌, inl, inr, List, [], ◌∷◌, length, take, slice_range, true, false, true≢false, Option, Some, None, IfNone, IfSome, MatchOption, MatchResult, Result, Ok, Err, if◌then◌else◌, refl, sym, ap, ap₂, subst, ◌∙◌, arith, Ordering, Less, Equal, Greater, ◌≢◌}
 use Rattle.std.specs.Cmp.Lexicographic.{slice_cmp}
 use Rattle.std.specs.Ordering.{nat_cmp}
 use Rattle.vortex_dtype.specs.Memory.{GivesOrNoMemory}
@@ -118,6 +118,9 @@ upper_cut Best raw t b r n y law upper_law m v l k = record {
 
 pub of_value : {V : Type 0} (o : Option V) (v : V) (P : V → Type 0) → o ≡ Some v → P v → IfSome o P
 of_value o v P e h = rw e h
+
+pub not_none : {V : Type 0} (o : Option V) (v : V) (P : Type 0) → o ≡ Some v → IfNone o P
+not_none o v P e = rw e tt
 
 -- ---- the bounds of a buffer
 pub lower_slice : (b : List ℕ) (n : ℕ) (r : List ℕ) → IsString b → r ≡ slice_range b 0 n → IsLower b n r

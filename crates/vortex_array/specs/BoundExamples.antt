@@ -5,7 +5,7 @@ use Rattle.std.specs.Prelude.{◌≡◌, ℕ, ◌≤◌, List, [], ◌∷◌, So
 use Rattle.vortex_array.specs.Strings.{lower_of, upper_of}
 use Rattle.vortex_array.specs.Texts.{IsLast, IsStuck, IsSuccessor, IsSuccessorOfLength, IsTextPrefix}
 
--- Strings: the first bytes, and these plus one with carry.
+-- Bytes: the first ones, and these plus one.
 
 pub lower_at_two : lower_of (0 ∷ 5 ∷ 47 ∷ 33 ∷ 129 ∷ []) 2 ≡ 0 ∷ 5 ∷ []
 lower_at_two = refl
@@ -31,7 +31,7 @@ no_upper_of_full_bytes = refl
 pub no_upper_at_no_bytes : upper_of (1 ∷ 2 ∷ []) 0 ≡ None
 no_upper_at_no_bytes = refl
 
--- Texts. The text of these characters is UTF-8.
+-- Strings of characters.
 
 abbrev characters : List ℕ → List ℕ
 characters cs = encode_utf8_all cs

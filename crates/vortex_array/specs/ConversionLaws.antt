@@ -1,4 +1,4 @@
--- Values are taken back from what they give. Trait implementations cite these lemmas.
+-- Values are converted back from their raw values. The implementations of `RoundTrip` cite these lemmas.
 use Rattle.std.specs.Prelude.{◌≡◌, ℕ, ℤ, pos, List, [], ◌∷◌, Some, None, Ok}
 use Rattle.std.proofs.Common.{refl, ap, ◌∙◌}
 use Rattle.vortex_dtype.specs.Lemmas.TypeLaws.{same_ptype-Decides}
@@ -20,14 +20,14 @@ pub option_bool_back : (n : Nullability) → TakesBack (given_option raw_bool) t
 option_bool_back n None valid = refl
 option_bool_back n (Some b) valid = refl
 
--- an integer, at the column type of its kind
+-- an integer, at the column type of its PType
 number_back : {T : Type 0} (k : PType) (n : Nullability) (number : T → ℤ) → TakesBack (given_number k number) (taken_number k) (integer_type k n)
 number_back k n number x valid = rw (in_range_true k (number x) valid.1) refl
 
 pub integer_back : {T : Type 0} (k : PType) (t : TypeTree) (number : T → ℤ) → t ≡ integer_type k NonNullable → TakesBack (given_number k number) (taken_number k) t
 integer_back k t number e = rw e (number_back k NonNullable number)
 
--- an optional one, at the nullable column type
+-- an optional integer, at the nullable column type
 option_number_back : {T : Type 0} (k : PType) (n : Nullability) (number : T → ℤ) → TakesBack (given_option (given_number k number)) (taken_option_number k) (integer_type k n)
 option_number_back k n number None valid = rw ((same_ptype-Decides k k).1 refl) refl
 option_number_back k n number (Some x) valid = rw ((same_ptype-Decides k k).1 refl, in_range_true k (number x) valid.1) refl
@@ -43,7 +43,7 @@ pub option_usize_back : (n : Nullability) → TakesBack (given_option given_usiz
 option_usize_back n None valid = refl
 option_usize_back n (Some x) valid = rw (in_range_true U64 (pos x) valid.1) refl
 
--- a text, of any Rust type
+-- a string, of any Rust type
 pub text_back : {T : Type 0} (n : Nullability) (bytes : T → List ℕ) → TakesBack (λ x. raw_text (bytes x)) taken_text (utf8_type n)
 text_back n bytes x valid = refl
 
@@ -58,7 +58,7 @@ pub option_bytes_back : (n : Nullability) → TakesBack (given_option raw_bytes)
 option_bytes_back n None valid = refl
 option_bytes_back n (Some x) valid = refl
 
--- the elements of a Vec, each of which is taken back
+-- the elements of a Vec, if each is converted back
 each_back : {T : Type 0} (given : T → RawTree) (taken : TypeTree → RawTree → Taken) (t : TypeTree) → TakesBack given taken t → (xs : List T)
     → EachValid t (given_each given xs) → each_taken (taken t) (given_each given xs) ≡ Ok (given_each given xs)
 each_back given taken t back [] valid = refl

@@ -6,3 +6,4 @@ pub mod Laws
 pub mod Strings
 pub mod Texts
 pub mod Truncation
+pub mod Words

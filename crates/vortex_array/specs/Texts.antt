@@ -1,22 +1,22 @@
--- Texts, the strings that are UTF-8, and the bounds of a text at n bytes.
+-- Strings, the lists of bytes that are UTF-8, and their bounds at a length of n bytes.
 use Rattle.std.specs.Prelude.{◌≡◌, ℕ, ◌+◌, ◌≤◌, ◌⊎◌, List, ◌++◌, length, take, IsUtf8, encode_utf8, IsCharBoundary}
 use Rattle.std.specs.Char.{IsScalar}
 use Rattle.vortex_array.specs.Strings.{Below, NotAbove}
 
--- p is the longest beginning of the text s that ends where a character ends and has at most n bytes
+-- p is the longest beginning of the string s that ends where a character ends and has at most n bytes
 pub record IsTextPrefix (s : List ℕ) (n : ℕ) (p : List ℕ) : Type 0 where
   pub fits : length p ≤ n
   pub beginning : p ≡ take (length p) s
   pub boundary : IsCharBoundary s (length p)
   pub longest : (i : ℕ) → i ≤ n → IsCharBoundary s i → i ≤ length p
 
--- p is the text front and then the character c
+-- p is the string front and then the character c
 pub record EndsWith (p front : List ℕ) (c : ℕ) : Type 0 where
   pub text : IsUtf8 front
   pub scalar : IsScalar c
   pub split : p ≡ front ++ encode_utf8 c
 
--- p is empty, or its last character is one of those of which this holds
+-- p is empty, or P holds of its last character
 abbrev pub IsEmptyOrEndsIn : (ℕ → Type 0) → List ℕ → Type 0
 IsEmptyOrEndsIn P p = (length p ≡ 0) ⊎ ((front : List ℕ) × (c : ℕ) × EndsWith p front c × P c)
 
@@ -36,26 +36,27 @@ IsStuck = IsEmptyOrEndsIn HasNoNextOfWidth
 abbrev pub IsLast : List ℕ → Type 0
 IsLast = IsEmptyOrEndsIn HasNoNext
 
--- r is the text p with its last character replaced by the next code point
+-- r is the string p with its last character replaced by the next code point
 pub record IsSuccessor (p r : List ℕ) : Type 0 where
   pub front : List ℕ
   pub last : ℕ
   pub before : EndsWith p front last
   pub after : EndsWith r front (last + 1)
 
--- the same, in as many bytes
+-- r is the string p with its last character replaced by the next code point, and has as many bytes
 abbrev pub IsSuccessorOfLength : List ℕ → List ℕ → Type 0
 IsSuccessorOfLength p r = IsSuccessor p r × (length r ≡ length p)
 
--- r is the longest beginning of s of whole characters and at most n bytes: of the texts of at most as many bytes as r,
--- the greatest that is not above s
+-- r is the longest beginning of s of whole characters and at most n bytes. No string that has at most as many bytes as r,
+-- and is not above s, is above r
 pub record IsTextLower (s : List ℕ) (n : ℕ) (r : List ℕ) : Type 0 where
   pub is_prefix : IsTextPrefix s n r
   pub text : IsUtf8 r
   pub not_above : NotAbove r s
   pub greatest : (t : List ℕ) → IsUtf8 t → length t ≤ length r → NotAbove t s → NotAbove t r
 
--- where that beginning is not stuck: of the texts of exactly as many bytes as it, r is the least that is above s
+-- the longest beginning of s of whole characters and at most n bytes is not stuck, and r is the least string of its length
+-- that is above s
 pub record IsTextUpper (s : List ℕ) (n : ℕ) (r : List ℕ) : Type 0 where
   pub beginning : List ℕ
   pub is_prefix : IsTextPrefix s n beginning
@@ -65,6 +66,6 @@ pub record IsTextUpper (s : List ℕ) (n : ℕ) (r : List ℕ) : Type 0 where
   pub above : Below s r
   pub least : (t : List ℕ) → IsUtf8 t → length t ≡ length beginning → Below s t → NotAbove r t
 
--- that beginning is stuck
+-- the longest beginning of s of whole characters and at most n bytes is stuck
 abbrev pub HasNoTextUpper : List ℕ → ℕ → Type 0
 HasNoTextUpper s n = (p : List ℕ) × IsTextPrefix s n p × IsStuck p

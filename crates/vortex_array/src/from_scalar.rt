@@ -1,13 +1,8 @@
 //! Conversions of scalars into Rust values.
+#![tactic(auto, using(crate::proofs::GivenEach::tuple_tree, crate::proofs::TakenEach::has_parts))]
 
 ghost use Rattle.std.specs.Prelude.{◌≡◌, Err, string_bytes};
-ghost use Rattle.vortex_dtype.specs.TypeOf.{type_of};
-ghost use Rattle.vortex_dtype.specs.TypeTree.{TypeTree};
-ghost use Rattle.vortex_value.specs.Conversions.{SparesShort, Taken, Takes, TakesCopy, as_tuple, each_taken, elements_in, given_number, given_option, given_usize, taken_bool, taken_bytes, taken_number, taken_option_bool, taken_option_bytes, taken_option_number, taken_option_text, taken_option_usize, taken_text, taken_usize, taken_vec, unless_null};
-ghost use Rattle.vortex_value.specs.Values.RawOf.{lent_raw, raw_of, value_trees};
-ghost use Rattle.vortex_value.specs.Values.RawTree.{RawTree, raw_bool, raw_text, raw_bytes, raw_tuple};
-ghost use Rattle.vortex_value.specs.Values.Refs.{ref_raw, ref_type};
-ghost use Rattle.vortex_array.specs.Conversions.{Copies, HasParts, TakesOrNoMemory, given_vec, taken_from};
+ghost use Rattle.vortex_array.specs.Words.{Copies, HasParts, RawTree, SparesShort, Taken, Takes, TakesCopy, TakesOrNoMemory, TypeTree, as_tuple, each_taken, elements_in, given_number, given_option, given_usize, given_vec, lent_raw, raw_bool, raw_bytes, raw_of, raw_text, raw_tuple, ref_raw, ref_type, taken_bool, taken_bytes, taken_from, taken_number, taken_option_bool, taken_option_bytes, taken_option_number, taken_option_text, taken_option_usize, taken_text, taken_usize, taken_vec, type_of, unless_null, value_trees};
 
 use crate::integers::Integer;
 use std::alloc::Global;
@@ -16,20 +11,21 @@ use vortex_value::{ScalarRef, ScalarValue};
 
 /// A Rust type whose values are taken from scalars.
 ///
-/// Of this port alone: upstream has `TryFrom<&Scalar>`, which takes no allocator. Serves the types
-/// that `TryFrom<ScalarRef<'_>>` serves, with its answers, and texts and vectors, which take memory.
+/// Upstream has `TryFrom<&Scalar>` instead, which takes no allocator. The types are those of
+/// `TryFrom<ScalarRef<'_>>`, with the same answers, and `String` and `Vec`, which take memory.
 pub trait FromScalar {
-    /// The raw value that a value gives. What is taken is named by it.
+    /// The raw value of a Rust value. Contracts name a Rust value by it.
     ghost given: { Self → RawTree };
 
-    /// What is taken from a type and a raw value, or the refusal.
+    /// What a scalar of this type and raw value converts into, or the refusal.
     ghost taken: { TypeTree → RawTree → Taken };
 
-    /// The value that the scalar holds, also where the scalar is not valid.
+    /// The value that the scalar holds, even if the scalar is not valid.
     ///
-    /// The refusals and their order are the implementation's. `OutOfMemory` comes in place of what is
-    /// copied, or of an element's refusal where there is none for the elements before it; never in
-    /// place of a refusal of the type, of a null or of another kind of raw value.
+    /// The refusals are those of `TryFrom<ScalarRef<'_>>`, or stated at the implementation.
+    /// `OutOfMemory` comes only if memory is asked for: to
+    /// copy a string or bytes, or for the elements of a list that is not empty. It never hides a
+    /// wrong type, a null, or a raw value of another kind.
     fn try_from_scalar(alloc: Global, scalar: ScalarRef<'_>) -> Result<Self, VortexError>
         ensures value { TakesOrNoMemory given (taken_from taken scalar.entry) result }
         ensures memory { result ≡ Err VortexError.OutOfMemory
@@ -60,7 +56,10 @@ impl FromScalar for Option<bool> {
     }
 }
 
-/// The eight integers.
+/// For the eight integers, whatever the scalar's type: only its raw value counts.
+///
+/// `IsNull` if the scalar is null, then `WrongKind` if its raw value is not an integer, then
+/// `OutOfRange` if `T` does not have the number.
 impl<T: Integer> FromScalar for T {
     ghost given = { given_number T.PTYPE T.value };
 
@@ -74,7 +73,11 @@ impl<T: Integer> FromScalar for T {
     }
 }
 
-/// The eight integers, of their exact kind.
+/// For the eight integers; `None` is the null.
+///
+/// `WrongKind` if the type is not an integer, then `WrongPType` if it is not the integer `T`, even
+/// for a null. Then `WrongKind` if the raw value is not an integer, then `OutOfRange` if `T` does not
+/// have the number.
 impl<T: Integer> FromScalar for Option<T> {
     ghost given = { given_option (given_number T.PTYPE T.value) };
 
@@ -173,7 +176,8 @@ impl FromScalar for Option<BufferString> {
     }
 }
 
-/// As `BufferString`. Ports `TryFrom<&Scalar> for String`.
+/// Copies the string. `WrongKind` if the type is not Utf8, then `IsNull` if the scalar is null, then
+/// `WrongKind` if its raw value is not a string. Ports `TryFrom<&Scalar> for String`.
 impl FromScalar for String {
     ghost given = { λ text. raw_text (string_bytes text) };
 
@@ -193,9 +197,9 @@ impl FromScalar for String {
     }
 }
 
-/// `WrongKind` of a type that is no list, of any size or of one; `IsNull` of a null, `WrongKind` of
-/// another kind of raw value; else the refusal of the first element that refuses, read with the
-/// element type. An empty list gives an empty vector whatever its element type.
+/// `WrongKind` if the type is neither a list nor a fixed-size list, then `IsNull` if the scalar is
+/// null, then `WrongKind` if its raw value is not a tuple. Else the refusal of the first element that
+/// refuses. An empty list gives an empty vector, whatever its element type.
 ///
 /// Ports `TryFrom<&Scalar> for Vec<T>`.
 impl<T: FromScalar + Drop> FromScalar for Vec<T> {
@@ -212,8 +216,7 @@ impl<T: FromScalar + Drop> FromScalar for Vec<T> {
     }
 }
 
-/// The list of a raw value, or of its absence, read with the element type.
-#[tactic(auto, using(crate::proofs::GivenEach::tuple_tree))]
+/// The elements of a list's raw value; `None` is the null.
 fn take_list<T: FromScalar + Drop>(
     alloc: Global,
     element: &DType,
@@ -230,8 +233,7 @@ fn take_list<T: FromScalar + Drop>(
     }
 }
 
-/// The elements of a list, read with the element type.
-#[tactic(auto, using(crate::proofs::TakenEach::has_parts))]
+/// Each element of a list, read with the element type.
 fn take_elements<T: FromScalar + Drop>(
     alloc: Global,
     element: &DType,

@@ -1,16 +1,17 @@
-//! The eight integers as one, so that each conversion stands once for them all.
+//! The eight integers as one trait, so that each conversion is written once.
 
 ghost use Rattle.std.specs.Prelude.{◌≡◌, refl};
-ghost use Rattle.vortex_dtype.specs.TypeTree.{integer_type};
-ghost use Rattle.vortex_dtype.specs.declared.nullability.Nullability.TheVariants.{NonNullable};
+ghost use Rattle.vortex_array.specs.Words.{NonNullable, integer_type};
 
 use vortex_dtype::NativeDType;
 use vortex_pvalue::NativePType;
 
-/// One of the eight integers. A trait of this crate, since only so an impl for them all may stand
-/// beside those for other types.
+/// One of the eight integers.
+///
+/// A trait of this crate: an impl for all types of another crate's trait would clash with the impls
+/// for `bool` and others.
 pub trait Integer: NativePType + NativeDType {
-    // The column type is the one of the kind.
+    // The column type is the non-nullable integer type of this `PType`.
     ghost column: { Self.native_type ≡ integer_type Self.PTYPE NonNullable };
 }
 

@@ -1,33 +1,25 @@
 //! Conversions of Rust values into scalars.
+#![tactic(auto, using(crate::proofs::GivenEach::tuple_tree, crate::proofs::GivenEach::list_valid, crate::proofs::GivenEach::trees_given, crate::proofs::GivenEach::each_valid))]
 
 ghost use Rattle.std.specs.Prelude.{◌≡◌, ◌≤◌, length, IsOk, IsOkAnd, MatchResult, string_bytes};
-ghost use Rattle.vortex_dtype.specs.TypeTree.{bool_type, integer_type, utf8_type, binary_type};
-ghost use Rattle.vortex_dtype.specs.declared.error.VortexError.TheVariants.{OutOfMemory};
-ghost use Rattle.vortex_dtype.specs.declared.nullability.Nullability.TheVariants.{NonNullable};
-ghost use Rattle.vortex_dtype.specs.declared.ptype.PType.TheVariants.{U64};
-ghost use Rattle.vortex_value.specs.Conversions.{IsMadeValid, given_number, given_option, given_usize};
-ghost use Rattle.vortex_value.specs.Values.RawOf.{raw_of, value_trees};
-ghost use Rattle.vortex_value.specs.Values.RawTree.{RawTree, raw_bool, raw_text, raw_bytes};
-ghost use Rattle.vortex_value.specs.Validity.{EachValid, Valid};
-ghost use Rattle.vortex_array.specs.Conversions.{given_each, given_vec};
+ghost use Rattle.vortex_array.specs.Words.{EachValid, IsMadeValid, NonNullable, OutOfMemory, RawTree, U64, Valid, binary_type, bool_type, given_each, given_number, given_option, given_usize, given_vec, integer_type, raw_bool, raw_bytes, raw_of, raw_text, utf8_type, value_trees};
 
 use crate::integers::Integer;
 use std::alloc::Global;
 use vortex_dtype::{BufferString, ByteBuffer, NativeDType, Nullability, VortexError};
 use vortex_value::{Scalar, ScalarValue};
 
-/// A Rust type whose values make scalars of its column type.
+/// A Rust type whose values convert into scalars of its column type.
 ///
-/// Of this port alone: upstream has `From` for `Scalar`, which cannot refuse where there is no
-/// memory.
+/// Upstream has `From` for `Scalar` instead, which cannot refuse if no memory is left.
 pub trait IntoScalar: NativeDType {
-    /// The raw value that a value gives.
+    /// The raw value of a Rust value.
     ghost given: { Self → RawTree };
 
-    /// The scalar of the value, of exactly the column type of the Rust type.
+    /// The scalar of the value. Its type is the column type of `Self`, `NativeDType::dtype`.
     ///
-    /// `OutOfMemory` is its only refusal: texts and bytes that are no buffers are made into buffers,
-    /// and a vector takes room for its elements and for its type.
+    /// `OutOfMemory` is the only refusal: a string or bytes become a buffer, and a vector needs room
+    /// for its elements and its type.
     fn try_into_scalar(self, alloc: Global) -> Result<Scalar, VortexError>
         ensures { MatchResult result
             (IsMadeValid Self.native_type (given self))
@@ -45,7 +37,7 @@ impl IntoScalar for bool {
     }
 }
 
-/// The eight integers. Takes no memory. Gives what `From` for `Scalar` does.
+/// For the eight integers. Takes no memory. Gives what `From` for `Scalar` does.
 impl<T: Integer> IntoScalar for T {
     ghost given = { given_number T.PTYPE T.value };
 
@@ -79,7 +71,7 @@ impl IntoScalar for BufferString {
     }
 }
 
-/// The text is copied: at most 22 bytes take no memory. Ports `From<&str> for Scalar`.
+/// Copies the string. At most 22 bytes take no memory. Ports `From<&str> for Scalar`.
 impl IntoScalar for &str {
     ghost given = { λ text. raw_text text.now };
 
@@ -94,7 +86,7 @@ impl IntoScalar for &str {
     }
 }
 
-/// The text is moved: at most 22 bytes take no memory. Ports `From<String> for Scalar`.
+/// Moves the string. At most 22 bytes take no memory. Ports `From<String> for Scalar`.
 impl IntoScalar for String {
     ghost given = { λ text. raw_text (string_bytes text) };
 
@@ -120,7 +112,7 @@ impl IntoScalar for ByteBuffer {
     }
 }
 
-/// The bytes are copied: at most 22 take no memory. Ports `From<&[u8]> for Scalar`.
+/// Copies the bytes. At most 22 bytes take no memory. Ports `From<&[u8]> for Scalar`.
 impl IntoScalar for &[u8] {
     ghost given = { λ bytes. raw_bytes bytes.now };
 
@@ -135,9 +127,9 @@ impl IntoScalar for &[u8] {
     }
 }
 
-/// A none is the null, and so is each none inside.
+/// `None` gives the null, at any depth of options. The type is nullable.
 ///
-/// Ports `From<Option<T>> for Scalar` of texts, bytes and vectors.
+/// Ports `From<Option<T>> for Scalar` of strings, bytes and vectors.
 impl<T: IntoScalar> IntoScalar for Option<T> {
     ghost given = { given_option T.given };
 
@@ -149,11 +141,10 @@ impl<T: IntoScalar> IntoScalar for Option<T> {
     }
 }
 
-/// A list, of any length. Ports `From<Vec<T>> for Scalar`.
+/// Gives a list. Ports `From<Vec<T>> for Scalar`.
 impl<T: IntoScalar + Drop> IntoScalar for Vec<T> {
     ghost given = { given_vec T.given };
 
-    #[tactic(auto, using(crate::proofs::GivenEach::tuple_tree, crate::proofs::GivenEach::list_valid))]
     fn try_into_scalar(self, alloc: Global) -> Result<Scalar, VortexError> {
         let elements = raw_elements(alloc, self)?;
         let dtype = <Vec<T> as NativeDType>::dtype(alloc)?;
@@ -164,8 +155,7 @@ impl<T: IntoScalar + Drop> IntoScalar for Vec<T> {
     }
 }
 
-/// The raw values of these elements.
-#[tactic(auto, using(crate::proofs::GivenEach::trees_given, crate::proofs::GivenEach::each_valid))]
+/// The raw value of each element.
 fn raw_elements<T: IntoScalar + Drop>(
     alloc: Global,
     elements: Vec<T>,
@@ -182,7 +172,7 @@ fn raw_elements<T: IntoScalar + Drop>(
     Ok(values)
 }
 
-/// The raw value of this element.
+/// The raw value of one element.
 fn raw_element<T: IntoScalar>(alloc: Global, element: T) -> Result<Option<ScalarValue>, VortexError>
     ensures { MatchResult result
         (λ value. (raw_of value ≡ T.given element) × Valid T.native_type (raw_of value))

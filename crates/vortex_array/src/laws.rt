@@ -1,31 +1,28 @@
-//! The laws of bounds and of conversions: what holds of every string and text, and of every value
-//! that a scalar is made of.
+//! The laws of bounds and of conversions.
 //!
-//! These functions do nothing when they run. The contract of each is a law over the definitions in
-//! `specs/`, and its proof is the law's proof.
+//! These functions do nothing when they run. A caller gets the law that the contract states.
 
-ghost use Rattle.vortex_array.specs.Conversions.{NamesAsGiven, TakesBack};
-ghost use Rattle.vortex_array.specs.Laws.{BoundsAreComputed, BoundsAreUnique};
-ghost use Rattle.vortex_array.specs.Strings.{IsString};
+ghost use Rattle.vortex_array.specs.Words.{BoundsAreComputed, BoundsAreUnique, IsString, NamesAsGiven, TakesBack};
 
 use crate::round_trip::RoundTrip;
 
-/// The items of a slice of bytes are a string, each below 256.
+/// Each item of a slice of bytes is below 256.
 pub fn items_are_bytes(_bytes: &[u8])
     ensures { IsString _bytes.now }
 {}
 
-/// The bounds of a string are its first bytes, and these plus one with carry.
+/// The lower bound of some bytes is their first ones. The upper bound is these plus one, as one
+/// number with its first byte the highest.
 pub fn bounds_are_computed()
     ensures { BoundsAreComputed }
 {}
 
-/// A string, and a text, has one lower and one upper bound at most at so many bytes.
+/// Bytes have at most one lower and one upper bound of each length, and so have strings.
 pub fn bounds_are_unique()
     ensures { BoundsAreUnique }
 {}
 
-/// A value that made a scalar is the value that is taken of it.
+/// A value that is converted into a scalar and back is the value that it was.
 pub fn values_are_taken_back<T: RoundTrip>()
     ensures named { NamesAsGiven T.IntoScalar.given T.FromScalar.given }
     ensures taken { TakesBack T.IntoScalar.given T.taken T.native_type }

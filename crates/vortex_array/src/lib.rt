@@ -1,9 +1,11 @@
-//! Scalars, whole: what the crates below give, conversions between Rust values and scalars, and
-//! truncation to bounds.
+// SPDX-License-Identifier: Apache-2.0
+// SPDX-FileCopyrightText: Copyright the Vortex contributors; ported to Rattle and changed
+//! Scalars for callers: the types of the crates below, conversions between Rust values and scalars,
+//! and truncation to bounds.
 #![tactic(auto)]
 
-mod carry;
 mod from_scalar;
+mod increment_bytes;
 mod integers;
 mod into_scalar;
 pub mod laws;

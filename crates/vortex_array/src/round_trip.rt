@@ -1,24 +1,23 @@
-//! Values that are taken back from the scalars that they make.
+//! Conversions into a scalar and back.
 
 ghost use Rattle.std.specs.Prelude.{refl, string_bytes};
-ghost use Rattle.vortex_dtype.specs.declared.nullability.Nullability.TheVariants.{NonNullable, Nullable};
 ghost use Rattle.vortex_array.specs.ConversionLaws.{bool_back, bytes_back, integer_back, option_bool_back, option_bytes_back, option_integer_back, option_text_back, option_usize_back, text_back, usize_back, vec_back, vec_named};
-ghost use Rattle.vortex_array.specs.Conversions.{NamesAsGiven, TakesBack};
+ghost use Rattle.vortex_array.specs.Words.{NamesAsGiven, NonNullable, Nullable, TakesBack};
 
 use crate::from_scalar::FromScalar;
 use crate::integers::Integer;
 use crate::into_scalar::IntoScalar;
 use vortex_dtype::{BufferString, ByteBuffer};
 
-/// A Rust type whose values are taken back from the scalars that they make.
+/// A Rust type whose values survive the conversion into a scalar and back.
 ///
-/// It has laws and no functions: a caller that makes a scalar of a value and takes a value of the
-/// scalar has the value that it had. Of this port alone.
+/// The trait has laws and no functions. By them a value that went through `try_into_scalar` and then
+/// `try_from_scalar` is the value that it was. Upstream has no such trait.
 pub trait RoundTrip: IntoScalar + FromScalar {
-    /// Both traits name a value by the same raw value.
+    /// Both traits give a value the same raw value.
     ghost named: { NamesAsGiven Self.IntoScalar.given Self.FromScalar.given };
 
-    /// What is taken, at the column type, of the valid raw value that a value gives, is the value.
+    /// A valid raw value of the column type that a value gives converts back into that value.
     ghost taken_back: { TakesBack Self.IntoScalar.given Self.taken Self.native_type };
 }
 
@@ -34,14 +33,14 @@ impl RoundTrip for Option<bool> {
     ghost taken_back = { option_bool_back Nullable };
 }
 
-/// The eight integers.
+/// For the eight integers.
 impl<T: Integer> RoundTrip for T {
     ghost named = { λ x. refl };
 
     ghost taken_back = { integer_back T.PTYPE T.native_type T.value T.column };
 }
 
-/// The eight integers, optional.
+/// For the eight integers, at the nullable column type.
 impl<T: Integer> RoundTrip for Option<T> {
     ghost named = { λ x. refl };
 
@@ -90,7 +89,7 @@ impl RoundTrip for String {
     ghost taken_back = { text_back NonNullable string_bytes };
 }
 
-/// Rests on the laws of its elements alone.
+/// Follows from the laws of the element type.
 impl<T: RoundTrip + Drop> RoundTrip for Vec<T> {
     ghost named = { vec_named T.IntoScalar.given T.FromScalar.given T.named };
 

@@ -1,19 +1,17 @@
-//! Texts that can be incremented.
+//! Strings that can be incremented.
 
 ghost use Rattle.std.specs.Prelude.{◌≡◌, ◌+◌, ◌≤◌, ◌++◌, List, ℕ, length, encode_utf8, IfErr, IfOk, IsOk, MatchOption, MatchResult, string_bytes};
-ghost use Rattle.std.specs.Char.{IsScalar, len_utf8};
-ghost use Rattle.vortex_array.specs.Increments.{HandsBack, IsOfNoNext};
-ghost use Rattle.vortex_array.specs.Texts.{EndsWith, HasNoNext, HasNoNextOfWidth, IsLast, IsSuccessor, IsSuccessorOfLength, IsStuck};
+ghost use Rattle.vortex_array.specs.Words.{EndsWith, HandsBack, HasNoNext, HasNoNextOfWidth, IsLast, IsOfNoNext, IsScalar, IsStuck, IsSuccessor, IsSuccessorOfLength, len_utf8};
 
 use arrayvec::ArrayString;
 use std::alloc::Global;
 use vortex_dtype::{BufferString, INLINE_BYTES, VortexError};
 
-/// Why a text was not incremented. The text is handed back as it was.
+/// Why a string was not incremented. Hands the string back as it was.
 #[derive(Debug, Drop)]
 pub enum IncrementError<S> {
-    /// It is empty, or no character follows its last one; of a `BufferString` also where the next one
-    /// has more bytes.
+    /// The string is empty, or no character follows its last one. Of a `BufferString` also if the
+    /// next character has more bytes.
     Last(S),
     /// No memory was left.
     Memory(S),
@@ -27,31 +25,30 @@ mod sealed {
     impl Sealed for vortex_dtype::BufferString {}
 }
 
-/// A text whose last character can be replaced by the next one. For `String` and `BufferString`
-/// alone.
+/// A string whose last character can be replaced by the next one: `String` and `BufferString`.
 ///
 /// Ports `StringLike`.
 pub trait StringLike: sealed::Sealed {
-    /// The text's bytes.
+    /// The bytes of the string.
     ghost bytes: { Self → List ℕ };
 
-    /// The second is what the first is incremented to.
+    /// The first bytes are incremented to the second.
     ghost follows: { List ℕ → List ℕ → Type 0 };
 
-    /// The text has no increment.
+    /// These bytes have no increment.
     ghost stops: { List ℕ → Type 0 };
 
-    /// The text with its last character replaced by the next code point.
+    /// The string with its last character replaced by the next code point.
     ///
-    /// `Last` where there is none, whatever memory there is; else `Memory` where none is left. Both
-    /// hand the text back.
+    /// `Last` if there is no such string, even if no memory is left. Else `Memory` if no memory is
+    /// left.
     fn increment(self) -> Result<Self, IncrementError<Self>>
         ensures { MatchResult result
             (λ next. follows (bytes self) (bytes next) × ¬ (stops (bytes self)))
             (λ e. HandsBack bytes stops (bytes self) e) };
 }
 
-/// Stops at the last character before the surrogates, and at the last of all.
+/// `Last` at the last character before the surrogates, U+D7FF, and at the last of all, U+10FFFF.
 impl StringLike for String {
     ghost bytes = { string_bytes };
 
@@ -67,7 +64,7 @@ impl StringLike for String {
         let Some(next) = next_char(last) else {
             return Err(IncrementError::Last(self));
         };
-        // The room is made first, so that the text can still be handed back.
+        // The room is made first, so that the string can still be handed back.
         if self
             .reserve(next.len_utf8().saturating_sub(last.len_utf8()))
             .is_err()
@@ -82,8 +79,8 @@ impl StringLike for String {
     }
 }
 
-/// Stops also where the next character has more bytes, so that the length stays. A text of at most
-/// 22 bytes takes no memory.
+/// `Last` also if the next character has more bytes: the length in bytes never changes. A string of
+/// at most 22 bytes takes no memory.
 impl StringLike for BufferString {
     ghost bytes = { λ text. text };
 
@@ -107,7 +104,7 @@ impl StringLike for BufferString {
     }
 }
 
-/// The text without its last character, and that character; none of the empty text.
+/// The string without its last character, and that character; `None` if it is empty.
 fn split_last(text: &str) -> Option<(&str, char)>
     ensures { MatchOption result (length text.now ≡ 0) (λ x. EndsWith text.now x.0.now x.1) }
 {
@@ -116,7 +113,7 @@ fn split_last(text: &str) -> Option<(&str, char)>
     Some((chars.as_str(), last))
 }
 
-/// The next code point, where it is a character.
+/// The next code point, if it is a character.
 fn next_char(c: char) -> Option<char>
     ensures { MatchOption result (HasNoNext c) (λ d. (d ≡ c + 1) × IsScalar d) }
 {
@@ -126,7 +123,7 @@ fn next_char(c: char) -> Option<char>
     }
 }
 
-/// The next code point, where it is a character of as many bytes.
+/// The next code point, if it is a character of as many bytes.
 fn next_char_of_width(c: char) -> Option<char>
     ensures { MatchOption result (HasNoNextOfWidth c)
         (λ d. (d ≡ c + 1) × IsScalar d × (len_utf8 d ≡ len_utf8 c)) }
@@ -137,8 +134,7 @@ fn next_char_of_width(c: char) -> Option<char>
     }
 }
 
-/// The parts of the text whose last character is the next code point of as many bytes: what stays,
-/// and that character. None where there is none.
+/// The increment of the same length, in two parts: all but its last character, and that character.
 fn next_of_length(text: &str) -> Option<(&str, char)>
     ensures { MatchOption result (IsStuck text.now) (λ x. ¬ (IsStuck text.now)
         × IsSuccessorOfLength text.now (x.0.now ++ encode_utf8 x.1)) }
@@ -148,7 +144,7 @@ fn next_of_length(text: &str) -> Option<(&str, char)>
     Some((front, next))
 }
 
-/// The text of these characters and one more. At most 22 bytes take no memory.
+/// The string `front` with one more character. At most 22 bytes take no memory.
 fn with_last(alloc: Global, front: &str, last: char) -> Result<BufferString, VortexError>
     ensures given { IfOk result (λ text. text ≡ front.now ++ encode_utf8 last) }
     ensures inline { length (front.now ++ encode_utf8 last) ≤ 22 → IsOk result }

@@ -1,21 +1,9 @@
 //! Lower and upper bounds of scalars by truncation.
 
-ghost use Rattle.std.specs.Prelude.{◌≡◌, ◌<◌, ◌≤◌, ℕ, List, Some, length, IfErr, IfNone, IfOk, IfSome, IsNone, IsOk, IsOkAnd, IsSomeAnd, MatchOption, MatchResult, refl};
-ghost use Rattle.std.specs.Cmp.Lexicographic.{slice_cmp};
-ghost use Rattle.std.specs.Ordering.{nat_cmp};
-ghost use Rattle.vortex_dtype.specs.Memory.{GivesOrNoMemory};
-ghost use Rattle.vortex_dtype.specs.TypeTree.{TypeTree, binary_type, nullability_of, utf8_type};
-ghost use Rattle.vortex_dtype.specs.declared.error.VortexError.TheVariants.{OutOfMemory, WrongKind};
-ghost use Rattle.vortex_dtype.specs.declared.nullability.Nullability.{Nullability};
-ghost use Rattle.vortex_value.specs.Values.Content.{content};
-ghost use Rattle.vortex_value.specs.Order.{order};
-ghost use Rattle.vortex_value.specs.Values.RawTree.{RawTree, absent, raw_bytes, raw_text};
-ghost use Rattle.vortex_value.specs.Values.Scalars.{IsMadeOf, IsValid, scalar_raw, scalar_type};
-ghost use Rattle.vortex_array.specs.Strings.{Below, NotAbove, HasNoUpper, IsLower, IsUpper, next_string};
-ghost use Rattle.vortex_array.specs.Texts.{HasNoTextUpper, IsTextLower, IsTextUpper};
-ghost use Rattle.vortex_array.specs.Truncation.{IsLowerOf, IsTypeOfKind, IsUpperOf, MayHold};
+ghost use Rattle.std.specs.Prelude.{◌≡◌, ◌≤◌, ℕ, List, Some, length, IfErr, IfOk, IsOk, MatchOption, MatchResult, refl};
+ghost use Rattle.vortex_array.specs.Words.{Below, GivesOrNoMemory, HasNoTextUpper, HasNoUpper, IsLower, IsLowerAnswer, IsMadeOf, IsTextLower, IsTextUpper, IsTypeOfKind, IsUpper, IsUpperAnswer, IsValid, MayHold, NotAbove, Nullability, OutOfMemory, RawTree, TypeTree, WrongKind, absent, binary_type, content, nat_cmp, next_string, nullability_of, order, raw_bytes, raw_text, scalar_raw, scalar_type, slice_cmp, utf8_type};
 
-use crate::carry::carry;
+use crate::increment_bytes::increment_bytes;
 use crate::laws::items_are_bytes;
 use crate::string_like::{IncrementError, StringLike};
 use arrayvec::ArrayVec;
@@ -23,7 +11,7 @@ use std::alloc::Global;
 use vortex_dtype::{BufferString, ByteBuffer, INLINE_BYTES, Nullability, VortexError};
 use vortex_value::Scalar;
 
-/// A value that can be truncated to a length in bytes. Such values are ordered as their bytes.
+/// A value that can be truncated to a length in bytes. Its values are ordered as their bytes.
 ///
 /// Ports `ScalarTruncation`.
 pub trait ScalarTruncation: Drop {
@@ -36,19 +24,19 @@ pub trait ScalarTruncation: Drop {
     /// The raw value of its scalar, by its bytes.
     ghost raw_at: { List ℕ → RawTree };
 
-    /// Of a string, at so many bytes, this is the best string that is not above it.
+    /// For the bytes of a value and a length: these bytes are the best lower bound.
     ghost IsBestLower: { List ℕ → ℕ → List ℕ → Type 0 };
 
-    /// Of a string, at so many bytes, this is the best string that is above it.
+    /// For the bytes of a value and a length: these bytes are the best upper bound.
     ghost IsBestUpper: { List ℕ → ℕ → List ℕ → Type 0 };
 
-    /// A string has no such upper bound at so many bytes.
+    /// For the bytes of a value and a length: there is no upper bound.
     ghost HasNoBestUpper: { List ℕ → ℕ → Type 0 };
 
-    /// The scalar's value, moved, or none of a null. Takes no memory.
+    /// Moves the value out of the scalar; `None` if the scalar is null. Takes no memory.
     ///
-    /// `WrongKind` exactly where the type, or a raw value that is not null, is of another kind. An
-    /// extension is of another kind too.
+    /// `WrongKind` exactly if the type, or a raw value that is not null, does not fit `Self`. An
+    /// extension type never fits.
     fn from_scalar(scalar: Scalar) -> Result<Option<Self>, VortexError>
         ensures typed { IfOk result (λ _. IsTypeOfKind type_at (scalar_type scalar)) }
         ensures value { IfOk result (λ o. MatchOption o (scalar_raw scalar ≡ absent)
@@ -56,25 +44,27 @@ pub trait ScalarTruncation: Drop {
         ensures refused { IfErr result (λ e. (e ≡ WrongKind)
             × ¬ (IsTypeOfKind type_at (scalar_type scalar) × MayHold raw_at (scalar_raw scalar))) };
 
-    /// How many bytes the value has.
+    /// The length of the value in bytes.
     fn len(&self) -> usize
         ensures { result ≡ length (bytes self.now) };
 
-    /// The scalar of the value, of this nullability. Takes no memory.
+    /// The scalar of the value, with this nullability. Takes no memory.
     fn into_scalar(self, nullability: Nullability) -> Scalar
         ensures made { IsMadeOf (type_at nullability) (raw_at (bytes self)) result }
         ensures valid { IsValid result };
 
-    /// The best value of at most so many bytes that is not above this one. `OutOfMemory` only at
-    /// more than 22.
+    /// The best lower bound of at most `max_length` bytes: not above this value.
+    ///
+    /// `OutOfMemory` only if `max_length` is above 22.
     fn lower_bound(self, alloc: Global, max_length: usize) -> Result<Self, VortexError>
         requires { max_length ≤ length (bytes self) }
         ensures given { GivesOrNoMemory
             (λ bound. IsBestLower (bytes self) max_length (bytes bound)) result }
         ensures inline { max_length ≤ 22 → IsOk result };
 
-    /// The best value at so many bytes that is above this one, none where there is none.
-    /// `OutOfMemory` only at more than 22.
+    /// The best upper bound at `max_length` bytes: above this value. `None` if there is none.
+    ///
+    /// `OutOfMemory` only if `max_length` is above 22.
     fn upper_bound(self, alloc: Global, max_length: usize) -> Result<Option<Self>, VortexError>
         requires { max_length ≤ length (bytes self) }
         ensures given { MatchResult result
@@ -97,24 +87,19 @@ pub trait ScalarTruncation: Drop {
     ghost upper_law: { (b : List ℕ) (n : ℕ) (r : List ℕ) → IsBestUpper b n r → Below b r };
 }
 
-/// The scalar of the value, or of its lower bound where it is longer than so many bytes, and
-/// whether it is longer; none of none.
+/// The value if it has at most `max_length` bytes, else its lower bound: as a scalar, with `true`
+/// if the value was cut. `None` of `None`.
 ///
-/// `OutOfMemory` only where the value is longer, at more than 22 bytes. Ports `lower_bound`.
+/// `OutOfMemory` only if the value is longer and `max_length` is above 22 bytes. Ports
+/// `lower_bound`.
 pub fn lower_bound<T: ScalarTruncation>(
     alloc: Global,
     value: Option<T>,
     max_length: usize,
     nullability: Nullability,
 ) -> Result<Option<(Scalar, bool)>, VortexError>
-    ensures none { IfNone value (IsOkAnd result IsNone) }
-    ensures bound { IfSome value (λ v. IfOk result (λ given. IsSomeAnd given (λ x. IsLowerOf
-        T.IsBestLower T.raw_at (T.type_at nullability) (T.bytes v) max_length x.0 x.1))) }
-    ensures refused { IfErr result (λ e. (e ≡ OutOfMemory)
-        × IsSomeAnd value (λ v. max_length < length (T.bytes v))) }
-    ensures nullability { IfOk result (λ given. IfSome given
-        (λ x. nullability_of (scalar_type x.0) ≡ nullability)) }
-    ensures inline { max_length ≤ 22 → IsOk result }
+    ensures { IsLowerAnswer T.IsBestLower T.raw_at T.type_at T.bytes
+        value max_length nullability result }
 {
     let Some(value) = value else {
         return Ok(None);
@@ -126,26 +111,19 @@ pub fn lower_bound<T: ScalarTruncation>(
     Ok(Some((bound.into_scalar(nullability), true)))
 }
 
-/// The scalar of the value, or of its upper bound where it is longer than so many bytes, and
-/// whether it is longer; none of none, and where a longer value has no upper bound.
+/// The value if it has at most `max_length` bytes, else its upper bound: as a scalar, with `true`
+/// if the value was cut. `None` of `None`, and if a longer value has no upper bound.
 ///
-/// `OutOfMemory` only where the value is longer, at more than 22 bytes. Ports `upper_bound`.
+/// `OutOfMemory` only if the value is longer and `max_length` is above 22 bytes. Ports
+/// `upper_bound`.
 pub fn upper_bound<T: ScalarTruncation>(
     alloc: Global,
     value: Option<T>,
     max_length: usize,
     nullability: Nullability,
 ) -> Result<Option<(Scalar, bool)>, VortexError>
-    ensures none { IfNone value (IsOkAnd result IsNone) }
-    ensures bound { IfSome value (λ v. IfOk result (λ given. MatchOption given
-        ((max_length < length (T.bytes v)) × T.HasNoBestUpper (T.bytes v) max_length)
-        (λ x. IsUpperOf
-        T.IsBestUpper T.raw_at (T.type_at nullability) (T.bytes v) max_length x.0 x.1))) }
-    ensures refused { IfErr result (λ e. (e ≡ OutOfMemory)
-        × IsSomeAnd value (λ v. max_length < length (T.bytes v))) }
-    ensures nullability { IfOk result (λ given. IfSome given
-        (λ x. nullability_of (scalar_type x.0) ≡ nullability)) }
-    ensures inline { max_length ≤ 22 → IsOk result }
+    ensures { IsUpperAnswer T.IsBestUpper T.HasNoBestUpper T.raw_at T.type_at T.bytes
+        value max_length nullability result }
 {
     let Some(value) = value else {
         return Ok(None);
@@ -159,7 +137,8 @@ pub fn upper_bound<T: ScalarTruncation>(
     Ok(Some((bound.into_scalar(nullability), true)))
 }
 
-/// Bounds among all strings of bytes: the first bytes, and these plus one with carry.
+/// The bounds among all bytes. The lower one is the first bytes; the upper one is these plus one, as
+/// one number with its first byte the highest.
 impl ScalarTruncation for ByteBuffer {
     ghost bytes = { λ buffer. buffer };
 
@@ -209,8 +188,8 @@ impl ScalarTruncation for ByteBuffer {
     ghost upper_law = { λ b n r h. h.above };
 }
 
-/// Bounds among texts: the longest beginning of whole characters, and this with its last character
-/// replaced by the next one of as many bytes.
+/// The bounds among strings. The lower one is the longest beginning of whole characters; the upper
+/// one is that with its last character replaced by the next one of as many bytes.
 impl ScalarTruncation for BufferString {
     ghost bytes = { λ text. text };
 
@@ -261,28 +240,28 @@ impl ScalarTruncation for BufferString {
     ghost upper_law = { λ b n r h. h.above };
 }
 
-/// The next string of as many bytes, none where there is none. At most 22 bytes take no memory.
+/// The next bytes of the same length; `None` if each byte is 255. At most 22 bytes take no memory.
 fn next_bytes(alloc: Global, bytes: &[u8]) -> Result<Option<ByteBuffer>, VortexError>
     ensures given { GivesOrNoMemory (λ next. next ≡ next_string bytes.now) result }
     ensures inline { length bytes.now ≤ 22 → IsOk result }
 {
     if let Ok(mut short) = ArrayVec::<u8, INLINE_BYTES>::try_from(bytes) {
-        return if carry(short.as_mut_slice()) {
+        return if increment_bytes(short.as_mut_slice()) {
             Ok(Some(ByteBuffer::from_slice(alloc, short.as_slice())?))
         } else {
             Ok(None)
         };
     }
     let mut long = Vec::from_slice(alloc, bytes)?;
-    if carry(long.as_mut_slice()) {
+    if increment_bytes(long.as_mut_slice()) {
         Ok(Some(ByteBuffer::from_vec(long)?))
     } else {
         Ok(None)
     }
 }
 
-/// The longest beginning of whole characters that has at most so many bytes. At most 22 take no
-/// memory.
+/// The longest beginning of whole characters that has at most `max_length` bytes. Takes no memory
+/// if that is at most 22.
 fn text_prefix(text: BufferString, max_length: usize) -> Result<BufferString, VortexError>
     ensures given { GivesOrNoMemory (λ r. IsTextLower text max_length r) result }
     ensures inline { max_length ≤ 22 → IsOk result }

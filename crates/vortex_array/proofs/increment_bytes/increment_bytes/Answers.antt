@@ -1,7 +1,7 @@
 use Rattle.std.proofs.Common.{◌-◌, arith}
 use Rattle.std.proofs.lemmas.Grind.{common_steps}
 use Rattle.vortex_array.proofs.NextString.{next_string_full, next_string_raised}
-use Rattle.vortex_array.proofs.carry.carry.Goals as goal
+use Rattle.vortex_array.proofs.increment_bytes.increment_bytes.Goals as goal
 
 pub returns-then-bytes-i-lt255 : goal.returns-then-bytes-i-lt255
 returns-then-bytes-i-lt255 c = next_string_raised _ _ (c.loop-i.i - 1) (record {

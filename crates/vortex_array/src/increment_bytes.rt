@@ -1,10 +1,11 @@
-//! The bounds of a string of bytes.
+//! The next bytes of as many.
 
 ghost use Rattle.std.specs.Prelude.{◌≡◌, MatchBool, Some, None};
-ghost use Rattle.vortex_array.specs.Strings.{next_string};
+ghost use Rattle.vortex_array.specs.Words.{next_string};
 
-/// Adds one with carry, from the last byte on; false where each byte was 255.
-pub(crate) fn carry(bytes: &mut [u8]) -> bool
+/// Adds one to the bytes, read as one number with its first byte the highest. False if each byte
+/// was 255.
+pub(crate) fn increment_bytes(bytes: &mut [u8]) -> bool
     ensures { MatchBool result
         (next_string bytes.old ≡ Some bytes.new)
         (next_string bytes.old ≡ None) }
