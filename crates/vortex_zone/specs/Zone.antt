@@ -15,7 +15,7 @@ use Rattle.vortex_array.specs.Strings.{HasNoUpper, IsLower, IsUpper}
 use Rattle.vortex_array.specs.Texts.{HasNoTextUpper, IsTextLower, IsTextUpper}
 use Rattle.vortex_array.specs.Truncation.{IsLowerOf, IsSource, IsTypeOfKind, IsUpperOf, MayHold}
 
--- what contracts see of a zone's bounds: the lower one, and the upper one where there is one
+-- what contracts see of a zone's bounds
 pub record Bounds : Type 0 where
   pub lower : Scalar
   pub upper : Option Scalar
@@ -30,7 +30,7 @@ AreValidBounds lower upper = IsValid lower × IfSome upper (λ u. IsValid u × (
 abbrev pub is_below : Scalar → Scalar → Bool
 is_below v lower = partial_lt scalar_order v lower
 
--- whether the value is above the bound, where there is one
+-- whether the value is above the bound, if there is one
 abbrev pub is_above : Scalar → Option Scalar → Bool
 is_above v None = false
 is_above v (Some upper) = partial_gt scalar_order v upper
@@ -49,7 +49,7 @@ LosesNothing least greatest z = (v : Scalar) → IsWithin least greatest v → I
 
 -- ---- what the bounds are
 
--- lower is the lower bound of the least value at n bytes, and upper the upper bound of the greatest one, none where there is none
+-- lower is the lower bound of the least value at n bytes, and upper the upper bound of the greatest one, if there is one
 pub record AreBoundsOfKind (BestLower BestUpper : List ℕ → ℕ → List ℕ → Type 0) (HasNone : List ℕ → ℕ → Type 0) (raw : List ℕ → RawTree) (t : TypeTree) (least greatest : Scalar) (n : ℕ) (z : Bounds) : Type 0 where
   pub least_bytes : List ℕ
   pub greatest_bytes : List ℕ
@@ -60,7 +60,7 @@ pub record AreBoundsOfKind (BestLower BestUpper : List ℕ → ℕ → List ℕ 
       ((n < length greatest_bytes) × HasNone greatest_bytes n)
       (λ u. (cut : Bool) × IsUpperOf BestUpper raw t greatest_bytes n u cut)
 
--- the same of two texts, or of two strings of bytes
+-- z are the bounds at n bytes of two strings, or of two values of bytes
 abbrev pub AreBoundsOf : Scalar → Scalar → ℕ → Bounds → Type 0
 AreBoundsOf least greatest n z =
     AreBoundsOfKind IsTextLower IsTextUpper HasNoTextUpper raw_text (utf8_type NonNullable) least greatest n z
@@ -79,7 +79,7 @@ refusal least greatest =
     then (if is_absent (scalar_raw least) || is_absent (scalar_raw greatest) then Some IsNull else None)
     else Some WrongKind
 
--- how many bytes a text or a string has
+-- how many bytes a string or a value of bytes has
 abbrev pub byte_length : RawTree → ℕ
 byte_length (raw_text bs) = length bs
 byte_length (raw_bytes bs) = length bs
@@ -89,13 +89,13 @@ byte_length _ = 0
 abbrev pub IsLongerThan : ℕ → Scalar → Scalar → Type 0
 IsLongerThan n least greatest = (n < byte_length (scalar_raw least)) ⊎ (n < byte_length (scalar_raw greatest))
 
--- x is null or a value of this kind, and its type is one of this kind
+-- x is null or has a raw value of this form, and its type is one of these at some nullability
 pub record IsOfKind (type_at : Nullability → TypeTree) (raw : List ℕ → RawTree) (x : Scalar) : Type 0 where
   pub typed : IsTypeOfKind type_at (scalar_type x)
   pub same : Same (scalar_type x) (type_at NonNullable)
   pub value : MayHold raw (scalar_raw x)
 
--- two scalars of one kind have values, of which one is longer than n bytes
+-- neither scalar is null, and one is longer than n bytes
 pub record AreTooLong (raw : List ℕ → RawTree) (least greatest : Scalar) (n : ℕ) : Type 0 where
   pub least_bytes : List ℕ
   pub greatest_bytes : List ℕ
@@ -103,7 +103,7 @@ pub record AreTooLong (raw : List ℕ → RawTree) (least greatest : Scalar) (n 
   pub of_greatest : scalar_raw greatest ≡ raw greatest_bytes
   pub longer : (n < length least_bytes) ⊎ (n < length greatest_bytes)
 
--- why two scalars of one kind have no bounds: one is null, or there is no memory
+-- why two scalars that are both strings, or both bytes, have no bounds: one is null, or there is no memory
 abbrev pub Stops : (List ℕ → RawTree) → Scalar → Scalar → ℕ → VortexError → Type 0
 Stops raw least greatest n e =
     ((e ≡ IsNull) × ((scalar_raw least ≡ absent) ⊎ (scalar_raw greatest ≡ absent)))

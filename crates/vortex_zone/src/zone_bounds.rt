@@ -1,12 +1,7 @@
 //! The bounds of a zone.
 
 ghost use Rattle.std.specs.Prelude.{◌≡◌, ◌≢◌, ◌≤◌, List, IfErr, IfNone, IfOk, IfSome, Err};
-ghost use Rattle.std.specs.Option.{option_copied};
-ghost use Rattle.vortex_dtype.specs.TypeTree.{Same, binary_type, utf8_type};
-ghost use Rattle.vortex_dtype.specs.declared.error.VortexError.TheVariants.{OutOfMemory};
-ghost use Rattle.vortex_dtype.specs.declared.nullability.Nullability.TheVariants.{NonNullable};
-ghost use Rattle.vortex_value.specs.Values.Scalars.{IsValid, scalar_type};
-ghost use Rattle.vortex_zone.specs.Zone.{AreBoundsOf, AreBoundsOfKind, IsLongerThan, IsOfKind, LosesNothing, Stops, may_hold, refusal};
+ghost use Rattle.vortex_zone.specs.Words.{AreBoundsOf, AreBoundsOfKind, IsLongerThan, IsOfKind, IsValid, LosesNothing, NonNullable, OutOfMemory, Same, Stops, may_hold, option_copied, refusal, scalar_type};
 
 use std::alloc::Global;
 use std::cmp::Ordering;
@@ -17,10 +12,10 @@ use vortex_array::{
 };
 use vortex_value::laws::{order_is_reversed, order_is_transitive};
 
-/// The bounds of a zone, whose values lie from a least to a greatest one: both cut to a length in
-/// bytes. A value outside of them is not in the zone.
+/// The bounds of a zone: its least and its greatest value, both cut to a length in bytes. A value
+/// outside of the bounds is not in the zone.
 ///
-/// There is no upper bound where no string, or text, of that length is above the greatest value.
+/// There is no upper bound if no string, or no bytes, of that length are above the greatest value.
 #[derive(Debug, Drop)]
 pub struct ZoneBounds {
     lower: Scalar,
@@ -42,12 +37,12 @@ impl Model for ZoneBounds {
 }
 
 impl ZoneBounds {
-    /// The bounds at n bytes of a zone whose values lie from `least` to `greatest`, two texts or two
-    /// strings of bytes. These are not compared.
+    /// The bounds, cut to n bytes, of a zone whose values lie from `least` to `greatest`. Both are
+    /// strings or both are bytes; they are not compared.
     ///
-    /// `WrongKind` unless both types are Utf8 or both Binary (an extension is neither); then
-    /// `IsNull` where one is null; then `OutOfMemory`, only where one is longer than n, at more than
-    /// 22 bytes.
+    /// `WrongKind` unless both types are Utf8 or both are Binary (an extension is neither); then
+    /// `IsNull` if one is null. Then `OutOfMemory`, only if one is longer than n bytes and n is above
+    /// 22.
     pub fn of(
         alloc: Global,
         least: Scalar,
@@ -76,7 +71,7 @@ impl ZoneBounds {
         Err(VortexError::WrongKind)
     }
 
-    /// The lower bound, of non-nullable type: no value of the zone is below it.
+    /// The lower bound: no value of the zone is below it. Its type is non-nullable.
     pub fn lower(&self) -> &Scalar
         ensures lent { result.now ≡ self.now.lower }
         ensures valid { IsValid result.now }
@@ -84,7 +79,8 @@ impl ZoneBounds {
         &self.lower
     }
 
-    /// The upper bound, of the same type, none where there is none: no value of the zone is above it.
+    /// The upper bound, if there is one: no value of the zone is above it. Its type is that of the
+    /// lower bound.
     pub fn upper(&self) -> Option<&Scalar>
         ensures lent { option_copied result ≡ self.now.upper }
         ensures valid { IfSome self.now.upper
@@ -93,8 +89,8 @@ impl ZoneBounds {
         self.upper.as_ref()
     }
 
-    /// Whether the zone may hold the value: false exactly for one that is no null and lies below the
-    /// lower bound, or above the upper one where there is one. Takes no memory.
+    /// Whether the zone may hold the value. False exactly if the value is not null and is below the
+    /// lower bound or above the upper one. Takes no memory.
     pub fn may_contain(&self, value: &Scalar) -> bool
         requires valid { IsValid value.now }
         requires typed { Same (scalar_type value.now) (scalar_type self.now.lower) }
@@ -113,7 +109,7 @@ impl ZoneBounds {
     }
 }
 
-/// The bounds of a zone of texts, or of one of strings of bytes.
+/// The bounds of a zone of strings, or of bytes.
 fn of_kind<T: ScalarTruncation>(
     alloc: Global,
     least: Scalar,
