@@ -1,4 +1,4 @@
--- The values of lines: texts, or strings of bytes.
+-- The values of lines: strings, or bytes.
 use Rattle.std.specs.Prelude.{◌<◌, ℕ, List, [], length, map, slice_index_or, IsUtf8, Some}
 use Rattle.std.specs.Borrow.{Bor}
 use Rattle.vortex_dtype.specs.TypeTree.{TypeTree, binary_type, utf8_type}
@@ -11,7 +11,7 @@ use Rattle.vortex_value.specs.declared.values.ScalarValue.TheVariants.{Utf8 as T
 use Rattle.line_zones.specs.declared.values.LineKind.{LineKind}
 use Rattle.line_zones.specs.declared.values.LineKind.TheVariants.{Text, Binary}
 
--- lines that are lent, as lists of bytes
+-- borrowed lines, as lists of bytes
 abbrev pub lines_at : List (Bor (List ℕ)) → List (List ℕ)
 lines_at lines = map (λ line. line.now) lines
 
@@ -25,7 +25,7 @@ abbrev pub line_raw : LineKind → List ℕ → RawTree
 line_raw Text line = raw_text line
 line_raw Binary line = raw_bytes line
 
--- a text is UTF-8, a string of bytes any line
+-- a line has a value as a string if it is UTF-8, and always as bytes
 abbrev pub HasValue : LineKind → List ℕ → Type 0
 HasValue Text line = IsUtf8 line
 HasValue Binary line = Unit {0}

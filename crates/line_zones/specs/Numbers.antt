@@ -2,7 +2,7 @@
 use Rattle.std.specs.Prelude.{ℕ, ◌+◌, List, [], ◌∷◌, if◌then◌else◌}
 use Rattle.std.specs.Str.{bytes_eq}
 
--- where the first line has number n
+-- the numbers of the lines that equal the word, if the first line has number n
 abbrev pub numbers_from : ℕ → List ℕ → List (List ℕ) → List ℕ
 numbers_from n word [] = []
 numbers_from n word (line ∷ lines) =

@@ -18,7 +18,7 @@ zone_lines z = lines_at z.lines.now
 abbrev pub lines_in : List Zone → List (List ℕ)
 lines_in zones = flat_map zone_lines zones
 
--- no zone is empty or has more than so many lines, and none but the last has fewer
+-- each zone has size lines, but for the last, which has at least one and at most size
 pub record AreOfSize (size : ℕ) (zones : List Zone) : Type 0 where
   pub some : All (λ z. 0 < length z.lines.now) zones
   pub most : All (λ z. length z.lines.now ≤ size) zones
@@ -38,14 +38,14 @@ pub record AreBoundsOfLines (kind : LineKind) (n : ℕ) (lines : List (List ℕ)
   pub typed : Same (scalar_type z.lower) (line_type kind)
   pub loses_nothing : LosesNothing least greatest z
 
--- z is a zone after so many lines, and its bounds rule none of its lines out
+-- z comes after this many lines, and its bounds rule out none of its own lines
 pub record HoldsItsLines (kind : LineKind) (before : ℕ) (z : Zone) : Type 0 where
   pub first : z.first ≡ before + 1
   pub fits : z.first + length z.lines.now ≤ 2 ^ 64
   pub typed : Same (scalar_type z.bounds.lower) (line_type kind)
   pub holds : All (λ line. IsTrue (may_hold z.bounds (line_value kind line))) (zone_lines z)
 
--- each zone comes after the lines of those before it, and rules none of its own lines out
+-- each zone comes after the lines of the zones before it, and its bounds rule out none of its own lines
 abbrev pub HoldTheirLines : LineKind → List Zone → Type 0
 HoldTheirLines kind zones =
     (k : ℕ) (d : Zone) → k < length zones → HoldsItsLines kind (length (lines_in (take k zones))) (slice_index_or zones k d)

@@ -1,4 +1,6 @@
-//! Zones of lines: bounds of every so many lines, by which a word is looked for in few of them.
+// SPDX-License-Identifier: Apache-2.0
+// SPDX-FileCopyrightText: Copyright the Vortex contributors; ported to Rattle and changed
+//! Zones of lines: the bounds of every so many lines, to look for a word in few of them.
 #![tactic(auto)]
 
 mod search;

@@ -1,10 +1,7 @@
 //! The search for a word in zones of lines.
 
 ghost use Rattle.std.specs.Prelude.{◌≡◌, ◌≤◌, ◌+◌, ◌++◌, ◌^◌, count_by, length, IfOk, OnOk};
-ghost use Rattle.vortex_zone.specs.Zone.{may_hold};
-ghost use Rattle.line_zones.specs.LineValues.{HasValue, IsValueOf, line_value, lines_at};
-ghost use Rattle.line_zones.specs.Numbers.{numbers_from};
-ghost use Rattle.line_zones.specs.Zones.{HoldTheirLines, lines_in};
+ghost use Rattle.line_zones.specs.Words.{HasValue, HoldTheirLines, IsValueOf, line_value, lines_at, lines_in, may_hold, numbers_from};
 
 use crate::values::{LineKind, value_of};
 use crate::zones::Zone;
@@ -20,8 +17,11 @@ pub struct Found {
     pub searched: usize,
 }
 
-/// The lines that equal the word. Only zones that may contain it are searched. `AllocError` where no
-/// memory is left.
+/// The numbers of the lines that equal the word. Searches only zones that may contain the word.
+///
+/// Asks that the zones are as `zones_of` makes them: they number their lines one after another from
+/// 1, and no zone's bounds rule out one of its own lines. Asks too that the word is UTF-8 if the lines
+/// are strings. `AllocError` if no memory is left.
 pub fn find(
     alloc: Global,
     kind: LineKind,
@@ -43,7 +43,7 @@ pub fn find(
     found
 }
 
-/// The same, where the word's value is made.
+/// The lines that equal the word, by the value of the word.
 fn search(
     alloc: Global,
     kind: LineKind,
@@ -69,7 +69,7 @@ fn search(
     Ok(Found { numbers, searched })
 }
 
-/// Adds the numbers of the lines that equal the word, where the first line has this number.
+/// Adds the numbers of the lines that equal the word; `first` is the number of the first line.
 fn push_numbers(
     numbers: &mut Vec<usize>,
     first: usize,

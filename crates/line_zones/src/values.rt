@@ -1,24 +1,22 @@
 //! The values of lines.
 
 ghost use Rattle.std.specs.Prelude.{IfOk, MatchOption};
-ghost use Rattle.std.specs.List.{All};
-ghost use Rattle.line_zones.specs.LineValues.{HasValue, IsFirstOther, IsValueOf, lines_at};
-ghost use Rattle.line_zones.specs.declared.values.LineKind.TheVariants.{Text};
+ghost use Rattle.line_zones.specs.Words.{All, HasValue, IsFirstOther, IsValueOf, Text, lines_at};
 
 use std::alloc::{AllocError, Global};
 use std::str;
 use vortex_array::{BufferString, ByteBuffer, Nullability, Scalar};
 
-/// What lines are taken for.
+/// What type of values lines have.
 #[derive(Clone, Copy, Debug)]
 pub enum LineKind {
-    /// Texts: a line that is not UTF-8 is none.
+    /// Strings: a line that is not UTF-8 has no value.
     Text,
-    /// Strings of bytes, which all lines are.
+    /// Bytes: every line has a value.
     Binary,
 }
 
-/// The value of a line.
+/// The value of a line that has one.
 pub(crate) fn value_of(alloc: Global, kind: LineKind, line: &[u8]) -> Result<Scalar, AllocError>
     requires { HasValue kind line.now }
     ensures { IfOk result (IsValueOf kind line.now) }

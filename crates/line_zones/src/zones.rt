@@ -1,14 +1,7 @@
 //! Zones of lines.
 
 ghost use Rattle.std.specs.Prelude.{◌≡◌, ◌<◌, length, IfErr, IfOk};
-ghost use Rattle.std.specs.Cmp.Lexicographic.{slice_cmp};
-ghost use Rattle.std.specs.List.{All};
-ghost use Rattle.std.specs.Ordering.{nat_cmp, ord_max, ord_min};
-ghost use Rattle.line_zones.specs.LineValues.{HasValue, lines_at};
-ghost use Rattle.line_zones.specs.Extremes.{IsGreatestLine, IsLeastLine};
-ghost use Rattle.line_zones.specs.Zones.{AreBoundsOfLines, AreOfSize, HoldTheirLines, lines_in, zone_lines};
-ghost use Rattle.line_zones.specs.Refusals.{RefusesLines};
-ghost use Rattle.line_zones.specs.declared.zones.ZonesError.TheVariants.{Memory};
+ghost use Rattle.line_zones.specs.Words.{All, AreBoundsOfLines, AreOfSize, HasValue, HoldTheirLines, IsGreatestLine, IsLeastLine, Memory, RefusesLines, lines_at, lines_in, nat_cmp, ord_max, ord_min, slice_cmp, zone_lines};
 
 use crate::values::{LineKind, first_other, value_of};
 use std::alloc::{AllocError, AllocFailed, Global};
@@ -28,7 +21,7 @@ pub struct Zone<'a> {
 /// Why there are no zones.
 #[derive(Debug, Drop)]
 pub enum ZonesError {
-    /// The line with this number, counted from 1, is the first that is no UTF-8.
+    /// The line with this number, counted from 1, is the first that is not UTF-8.
     NotUtf8 { number: usize },
     /// No memory was left.
     Memory,
@@ -43,7 +36,7 @@ impl From<AllocError> for ZonesError {
     }
 }
 
-/// Out of memory for a zone, which is dropped.
+/// Out of memory for a value that was to be stored, and is dropped.
 impl<T: Drop> From<AllocFailed<T>> for ZonesError {
     ghost from_gives = { λ _ error. error ≡ Memory };
 
@@ -52,10 +45,11 @@ impl<T: Drop> From<AllocFailed<T>> for ZonesError {
     }
 }
 
-/// The zones of so many lines each, with bounds at so many bytes; the last zone may have fewer lines.
+/// The zones of `size` lines each, with bounds cut to `bytes` bytes. The last zone may have fewer
+/// lines.
 ///
-/// `NotUtf8` exactly where lines are taken for texts and one of them is none, with the number of the
-/// first; else `Memory` where none is left for the zones.
+/// `NotUtf8` exactly if the lines are strings and one of them is not UTF-8, with the number of the
+/// first such line. Else `Memory` if no memory is left for the zones.
 pub fn zones_of<'a>(
     alloc: Global,
     kind: LineKind,
@@ -72,6 +66,8 @@ pub fn zones_of<'a>(
         (λ zones. All (λ z. AreBoundsOfLines kind bytes (zone_lines z) z.bounds) zones.items) }
     // What `find` asks: no line is ruled out by the bounds of its zone.
     ensures held { IfOk result (λ zones. HoldTheirLines kind zones.items) }
+    // Zones come only if each line has a value.
+    ensures valued { IfOk result (λ _. All (HasValue kind) (lines_at lines.now)) }
     ensures refused { IfErr result (RefusesLines kind (lines_at lines.now)) }
 {
     if let Some(place) = first_other(kind, lines) {
@@ -91,7 +87,7 @@ pub fn zones_of<'a>(
     Ok(zones)
 }
 
-/// The bounds at so many bytes of the least and the greatest of the lines.
+/// The bounds of the least and the greatest of the lines, cut to `bytes` bytes.
 fn bounds_of(
     alloc: Global,
     kind: LineKind,
