@@ -3,7 +3,7 @@ use Rattle.std.proofs.Common.{◌≡◌, ◌≢◌, ℕ, ◌==◌, ◌<◌, ◌�
 use Rattle.std.proofs.lemmas.Bool.{eqb-true, false≢true}
 pub use Rattle.std.proofs.lemmas.List.{take_rest}
 use Rattle.rows.specs.Lines.{words_of}
-use Rattle.rows.proofs.Cuts.{first_of_words}
+use Rattle.rows.proofs.Cuts.{first_of_lines, first_of_words, only_line, only_word}
 
 abbrev pub HasWord : List ℕ → Type 0
 HasWord line = (w : List ℕ) × (ws : List (List ℕ)) × (words_of line ≡ w ∷ ws)
@@ -116,4 +116,5 @@ not_ended text word other = only_or_other text word (λ h. other h.ends)
 pub not_same : (text word : List ℕ) (k : ℕ) → k < length word → get_or text k 0 ≢ get_or word k 0 → (ws : List (List ℕ)) → words_of text ≡ word ∷ ws → ws ≡ []
 not_same text word k below other = only_or_other text word (λ h. other (h.same k below))
 
-pub ruleset beginnings = (begun, too_short, not_ended, not_same, take_rest)
+-- what the cuts of lines and words need
+pub ruleset texts = (first_of_lines, only_line, first_of_words, only_word, begun, too_short, not_ended, not_same, take_rest)

@@ -2,7 +2,6 @@
 use Rattle.std.proofs.Common.{◌≡◌, ◌≢◌, ℕ, ◌==◌, ◌<◌, ◌+◌, suc, zero, List, [], ◌∷◌, length, get_or, take, drop, refl, sym, ◌∙◌, subst, arith, add-one}
 use Rattle.std.proofs.lemmas.Bool.{eq-eqb, ne_eqb}
 use Rattle.std.proofs.lemmas.Grind.{get_or_default_zero}
-pub use Rattle.std.proofs.lemmas.List.{take_rest}
 use Rattle.std.proofs.lemmas.List.Splits.{slice_split_first, slice_split_none}
 use Rattle.std.proofs.lemmas.List.Sums.{position_or_len_is}
 use Rattle.std.specs.List.{position_or_len}
@@ -37,7 +36,3 @@ first_of_words bs i inside here before =
 pub only_word : (bs : List ℕ) → ((k : ℕ) → k < length bs → get_or bs k 0 ≢ 32) → words_of bs ≡ bs ∷ []
 only_word bs others =
     slice_split_none (λ b. b == 32) bs (λ k d inside. ne_eqb _ _ (λ is. others k inside (sym (get_or_default_zero bs k d inside) ∙ is)))
-
-pub ruleset lines = (first_of_lines, only_line, take_rest)
-
-pub ruleset words = (first_of_words, only_word, take_rest)

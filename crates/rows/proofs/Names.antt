@@ -136,4 +136,4 @@ cut_short text end is short = names_none text end is (λ w k begins named count.
 pub cut_other : (text : List ℕ) (end : ℕ) → IsNameEnd text end → get_or text end 0 ≢ 32 → FirstSaysNone ptype_named text
 cut_other text end is other = names_none text end is (λ w k begins named count. other (subst (λ (j : ℕ). get_or text j 0 ≡ 32) count begins.ends))
 
-pub ruleset cuts = (cut_says, cut_none, cut_other, take_rest)
+pub ruleset cuts = (cut_says, cut_none, cut_short, cut_other, take_rest)

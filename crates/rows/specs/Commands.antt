@@ -1,4 +1,4 @@
--- What a parsed command asks for.
+-- The request that a parsed command makes.
 use Rattle.std.specs.Prelude.{Option, None, Some}
 use Rattle.vortex_pvalue.specs.Whole.{ptype_of, whole_of}
 use Rattle.rows.specs.Grammar.{Request, cast, bound_request, hex_named}
@@ -10,7 +10,7 @@ abbrev pub request_of : Command → Option Request
 request_of (Cast number to) = Some (cast (ptype_of number) (whole_of number) to)
 request_of (Bound side length digits) = bound_request side (Some length) (hex_named digits.now)
 
--- what is asked for by such a command, or by none
+-- the request of the command, if there is one
 abbrev pub asked_by : Option Command → Option Request
 asked_by None = None
 asked_by (Some command) = request_of command

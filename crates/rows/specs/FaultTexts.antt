@@ -1,4 +1,4 @@
--- What the program says of a fault.
+-- What the program writes after a fault.
 use Rattle.std.specs.Prelude.{ℕ, List, codes}
 use Rattle.rows.specs.declared.faults.RowsError.{RowsError}
 use Rattle.rows.specs.declared.faults.RowsError.TheVariants.{Read, Write, Memory}

@@ -1,4 +1,4 @@
--- What stands at the front of a text, before its first space.
+-- The front of a text, before its first space.
 use Rattle.std.specs.Prelude.{ℕ, List, ◌∷◌, ◌≡◌, ◌≤◌, ◌<◌, true, false, Option, None, Some, length, slice_index, take}
 use Rattle.std.specs.Char.{is_ascii_digit}
 use Rattle.std.specs.Str.Parse.{digits_value}
@@ -6,17 +6,17 @@ use Rattle.vortex_dtype.specs.declared.ptype.PType.{PType}
 use Rattle.rows.specs.Grammar.{all_digits, ptype_named}
 use Rattle.rows.specs.Lines.{words_of}
 
--- the first word of several says x, and the rest follows the space after it
+-- the text has several words; the first names x, and rest is what follows the space after it
 pub record FirstSays {A : Type 0} (named : List ℕ → Option A) (text : List ℕ) (x : A) (rest : List ℕ) : Type 0 where
   pub word : List ℕ
   pub first : words_of text ≡ word ∷ words_of rest
   pub says : named word ≡ Some x
 
--- the first word of several says nothing, or there is one word alone
+-- the text has one word, or its first word names nothing
 abbrev pub FirstSaysNone : {A : Type 0} → (List ℕ → Option A) → List ℕ → Type 0
 FirstSaysNone named text = (w v : List ℕ) (ws : List (List ℕ)) → words_of text ≡ w ∷ v ∷ ws → named w ≡ None
 
--- n is the number of the first k bytes, which are digits; another follows only where k is the most that are read
+-- the first k bytes are digits and represent n; another digit follows only if k is the most that are read
 pub record LeadingDigits (most : ℕ) (text : List ℕ) (n k : ℕ) : Type 0 where
   pub within : k ≤ length text
   pub few : k ≤ most
@@ -24,6 +24,6 @@ pub record LeadingDigits (most : ℕ) (text : List ℕ) (n k : ℕ) : Type 0 whe
   pub number : n ≡ digits_value 10 (take k text)
   pub ended : k < most → k < length text → is_ascii_digit (slice_index text k) ≡ false
 
--- a kind's name that is the first word of several ends there
+-- if the text has several words and the first names a PType, that word ends at this place
 abbrev pub IsNameEnd : List ℕ → ℕ → Type 0
 IsNameEnd text end = (w v : List ℕ) (ws : List (List ℕ)) (k : PType) → words_of text ≡ w ∷ v ∷ ws → ptype_named w ≡ Some k → length w ≡ end

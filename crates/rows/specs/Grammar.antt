@@ -1,4 +1,4 @@
--- What a line asks for: the grammar of the program.
+-- The grammar of the program: the request of a line.
 use Rattle.std.specs.Prelude.{ℕ, ℤ, List, [], ◌∷◌, ◌==◌, ◌&&◌, Bool, Option, None, Some, pos, neg_ℤ, if◌then◌else◌, length, nat_lt, nat_le, codes, find}
 use Rattle.std.specs.Char.{is_ascii_digit}
 use Rattle.std.specs.List.{list_all}
@@ -18,11 +18,11 @@ use Rattle.rows.specs.declared.commands.Side.TheVariants.{Lower, Upper}
 abbrev pub all_ptypes : List PType
 all_ptypes = U8 ∷ U16 ∷ U32 ∷ U64 ∷ I8 ∷ I16 ∷ I32 ∷ I64 ∷ []
 
--- KIND: the kind with this name
+-- KIND: the PType with this name
 unfoldable pub ptype_named : List ℕ → Option PType
 ptype_named word = find (λ ptype. bytes_eq word (ptype_text ptype)) all_ptypes
 
--- digits alone
+-- each byte is a digit
 unfoldable pub all_digits : List ℕ → Bool
 all_digits digits = list_all is_ascii_digit digits
 
@@ -34,11 +34,11 @@ is_natural digits = nat_lt 0 (length digits) && (nat_le (length digits) 20 && al
 unfoldable pub natural_named : List ℕ → Option ℕ
 natural_named digits = if is_natural digits then Some (digits_value 10 digits) else None
 
--- the number that they represent after a minus sign
+-- the negative number that 1 to 20 digits represent after a minus sign
 unfoldable pub negative_named : List ℕ → Option ℤ
 negative_named digits = option_map (λ n. neg_ℤ (pos n)) (natural_named digits)
 
--- NUMBER: an optional minus sign and digits
+-- NUMBER: a minus sign or none, and 1 to 20 digits
 unfoldable pub number_named : List ℕ → Option ℤ
 number_named [] = None
 number_named (b ∷ bs) = if b == 45 then negative_named bs else option_map (λ n. pos n) (natural_named (b ∷ bs))
@@ -51,14 +51,14 @@ size_named digits = if nat_le (length digits) 18 then natural_named digits else 
 abbrev pub hex_named : List ℕ → Option (List ℕ)
 hex_named word = result_ok (decode_of word)
 
--- what a line asks for
+-- what a line can ask for
 pub data Request : Type 0 where
-  -- a number of the first kind, in the second kind
+  -- a number of the first PType, as the second
   cast : PType → ℤ → PType → Request
-  -- the lower or the upper bound of a string at so many bytes
+  -- the lower or the upper bound of some bytes, at a length
   bound : Side → ℕ → List ℕ → Request
 
--- a cast asks for a number that the first kind has
+-- a cast is of a number that the first PType has
 abbrev pub cast_request : Option PType → Option ℤ → Option PType → Option Request
 cast_request (Some from) (Some z) (Some to) = if in_range from z then Some (cast from z to) else None
 cast_request (Some from) (Some z) None = None
@@ -70,7 +70,7 @@ abbrev pub cast_operands : List (List ℕ) → Option Request
 cast_operands (from ∷ number ∷ to ∷ []) = cast_request (ptype_named from) (number_named number) (ptype_named to)
 cast_operands _ = None
 
--- a bound asks for a length and a string
+-- a bound has a length and bytes
 abbrev pub bound_request : Side → Option ℕ → Option (List ℕ) → Option Request
 bound_request side (Some n) (Some bytes) = Some (bound side n bytes)
 bound_request side (Some n) None = None
@@ -81,7 +81,7 @@ abbrev pub bound_operands : Side → List (List ℕ) → Option Request
 bound_operands side (size ∷ hex ∷ []) = bound_request side (size_named size) (hex_named hex)
 bound_operands side _ = None
 
--- the table of commands: what the words of a line ask for
+-- the table of commands: the request of the words of a line
 abbrev pub request_in_words : List (List ℕ) → Option Request
 request_in_words [] = None
 request_in_words (command ∷ operands) =
@@ -90,6 +90,6 @@ request_in_words (command ∷ operands) =
     else if bytes_eq command (codes "upper") then bound_operands Upper operands
     else None
 
--- what a line asks for, if it is one of the grammar
+-- the request of a line, if it is one of the grammar
 abbrev pub request_in : List ℕ → Option Request
 request_in line = request_in_words (words_of line)

@@ -5,3 +5,4 @@ pub mod Grammar
 pub mod Lines
 pub mod Reading
 pub mod Rows
+pub mod Words

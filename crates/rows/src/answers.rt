@@ -1,19 +1,7 @@
-//! What a command gives.
+//! The answers of commands.
 
 ghost use Rattle.std.specs.Prelude.{◌≡◌, ◌≤◌, IfOk, IsOk, MatchOption};
-ghost use Rattle.vortex_dtype.specs.TypeTree.{integer_type};
-ghost use Rattle.vortex_dtype.specs.declared.nullability.Nullability.TheVariants.{NonNullable};
-ghost use Rattle.vortex_pvalue.specs.Conversions.{IsNumber};
-ghost use Rattle.vortex_pvalue.specs.Numbers.{InRange};
-ghost use Rattle.vortex_pvalue.specs.Whole.{ptype_of, whole_of};
-ghost use Rattle.vortex_value.specs.Casts.{IsInteger};
-ghost use Rattle.vortex_value.specs.Values.Content.{whole};
-ghost use Rattle.vortex_value.specs.Values.RawKinds.{IsBytesValue, IsIntegerValue};
-ghost use Rattle.vortex_value.specs.Values.RawTree.{raw_bytes, raw_integer};
-ghost use Rattle.vortex_value.specs.Values.Scalars.{IsValid, scalar_content, scalar_raw, scalar_type};
-ghost use Rattle.rows.specs.Grammar.{bound};
-ghost use Rattle.rows.specs.Rows.{bound_text, request_text};
-ghost use Rattle.rows.specs.declared.commands.Side.TheVariants.{Lower, Upper};
+ghost use Rattle.rows.specs.Words.{InRange, IsBytesValue, IsInteger, IsIntegerValue, IsNumber, IsValid, Lower, NonNullable, Upper, bound, bound_text, integer_type, ptype_of, raw_bytes, raw_integer, request_text, scalar_content, scalar_raw, scalar_type, whole, whole_of};
 
 use crate::commands::Side;
 use std::alloc::{AllocError, Global};
@@ -22,7 +10,7 @@ use vortex_array::{
     ByteBuffer, DType, Nullability, PType, PValue, Scalar, ScalarValue, lower_bound, upper_bound,
 };
 
-/// The number in another kind, where that has it.
+/// The number as this `PType`, if that has it: by a cast of its scalar.
 pub fn number_in_ptype(alloc: Global, number: PValue, ptype: PType) -> Option<PValue>
     ensures { MatchOption result
         (¬ (InRange ptype (whole_of number)))
@@ -32,11 +20,11 @@ pub fn number_in_ptype(alloc: Global, number: PValue, ptype: PType) -> Option<PV
     let source = scalar_of(number);
     match source.cast(alloc, &target) {
         Ok(made) => {
-            let_go(source);
+            drop_number(source);
             Some(number_of(&made))
         }
         Err(_) => {
-            let_go(source);
+            drop_number(source);
             None
         }
     }
@@ -54,8 +42,8 @@ fn scalar_of(number: PValue) -> Scalar
     }
 }
 
-/// The number of a scalar that has one. The type is looked at too, so that it is known that the
-/// scalar holds nothing to let go.
+/// The number of a scalar that has one. The match on the type tells the compiler that the scalar
+/// owns no memory.
 fn number_of(scalar: &Scalar) -> PValue
     requires typed { IsInteger (scalar_type scalar.now) }
     requires present { IsIntegerValue (scalar_raw scalar.now) }
@@ -67,15 +55,17 @@ fn number_of(scalar: &Scalar) -> PValue
     }
 }
 
-/// Drops the scalar of a number, which holds nothing to let go.
-fn let_go(scalar: Scalar)
+/// Drops the scalar of a number. The look at the number lets the compiler leave out the freeing of
+/// memory, as such a scalar owns none.
+fn drop_number(scalar: Scalar)
     requires typed { IsInteger (scalar_type scalar) }
     requires present { IsIntegerValue (scalar_raw scalar) }
 {
     let _number = number_of(&scalar);
 }
 
-/// The string, or its bound on this side, if there is one. No more than 22 bytes take no memory.
+/// The bytes if there are at most `length`, else their bound on this side, if there is one. Takes no
+/// memory if `length` is at most 22.
 pub fn bound_at(
     alloc: Global,
     side: Side,
@@ -91,7 +81,7 @@ pub fn bound_at(
     }
 }
 
-/// The string, or its lower bound.
+/// The bytes if there are at most `length`, else their lower bound.
 fn lower_at(alloc: Global, length: u64, value: ByteBuffer) -> Result<Option<ByteBuffer>, AllocError>
     ensures text { IfOk result (λ given. bound_text given ≡ request_text (bound Lower length value)) }
     ensures inline { length ≤ 22 → IsOk result }
@@ -109,7 +99,7 @@ fn lower_at(alloc: Global, length: u64, value: ByteBuffer) -> Result<Option<Byte
     }
 }
 
-/// The string, or its upper bound.
+/// The bytes if there are at most `length`, else their upper bound, if there is one.
 fn upper_at(alloc: Global, length: u64, value: ByteBuffer) -> Result<Option<ByteBuffer>, AllocError>
     ensures text { IfOk result (λ given. bound_text given ≡ request_text (bound Upper length value)) }
     ensures inline { length ≤ 22 → IsOk result }
@@ -127,7 +117,7 @@ fn upper_at(alloc: Global, length: u64, value: ByteBuffer) -> Result<Option<Byte
     }
 }
 
-/// The bytes of a scalar that has some.
+/// The bytes of a scalar that is not null.
 fn bytes_of(scalar: Scalar) -> ByteBuffer
     requires { IsBytesValue (scalar_raw scalar) }
     ensures { scalar_raw scalar ≡ raw_bytes result }

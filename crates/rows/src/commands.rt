@@ -1,23 +1,22 @@
-//! What a line asks for.
+//! The command on a line.
+#![tactic(auto, using(crate::proofs::Operands::no_command, crate::proofs::Operands::more_than_two, crate::proofs::Operands::casts))]
 
 ghost use Rattle.std.specs.Prelude.{◌≡◌, Some};
-ghost use Rattle.rows.specs.Commands.{asked_by};
-ghost use Rattle.rows.specs.Grammar.{bound_operands, cast_operands, cast_request, ptype_named, request_in};
-ghost use Rattle.rows.specs.Lines.{words_of};
+ghost use Rattle.rows.specs.Words.{asked_by, bound_operands, cast_operands, cast_request, ptype_named, request_in, words_of};
 
 use crate::numbers::{cut_number, cut_ptype, ptype_named, size_named};
 use crate::words::{after_word, cut_word};
 use vortex_array::{PType, PValue};
 
-/// What a line asks for. A string still stands in its digits, which may represent none.
+/// What a line asks for. The bytes of a bound are still hexadecimal digits, which may be wrong.
 #[derive(Clone, Copy, Debug)]
 pub enum Command<'a> {
-    /// The cast of a number to a kind.
+    /// The cast of a number to a `PType`.
     Cast {
         number: PValue,
         to: PType,
     },
-    /// The bound of a string at so many bytes.
+    /// The bound of the bytes at this length.
     Bound {
         side: Side,
         length: u64,
@@ -25,18 +24,16 @@ pub enum Command<'a> {
     },
 }
 
-/// Which bound.
+/// Which bound a command asks for.
 #[derive(Clone, Copy, Debug)]
 pub enum Side {
-    /// One that is not above.
+    /// The one that is not above the bytes.
     Lower,
-    /// One that is above.
+    /// The one that is above the bytes.
     Upper,
 }
 
-/// The command that the line is, if it is one; whether its digits represent a string is not looked
-/// at.
-#[tactic(auto, using(crate::proofs::Operands::no_command))]
+/// The command on the line, if there is one. It does not look at the hexadecimal digits.
 pub fn command_in(line: &[u8]) -> Option<Command<'_>>
     ensures { asked_by result ≡ request_in line.now }
 {
@@ -52,8 +49,7 @@ pub fn command_in(line: &[u8]) -> Option<Command<'_>>
     None
 }
 
-/// The bound that the words after `lower` or `upper` ask for.
-#[tactic(auto, using(crate::proofs::Operands::more_than_two))]
+/// The command of the words after `lower` or `upper`.
 fn bound_of(side: Side, operands: &[u8]) -> Option<Command<'_>>
     ensures { asked_by result ≡ bound_operands side (words_of operands.now) }
 {
@@ -69,8 +65,7 @@ fn bound_of(side: Side, operands: &[u8]) -> Option<Command<'_>>
     })
 }
 
-/// The cast that the words after `cast` ask for.
-#[tactic(auto, using(crate::proofs::Operands::casts))]
+/// The command of the words after `cast`.
 fn cast_of(operands: &[u8]) -> Option<Command<'_>>
     ensures { asked_by result ≡ cast_operands (words_of operands.now) }
 {
@@ -79,7 +74,7 @@ fn cast_of(operands: &[u8]) -> Option<Command<'_>>
     cast_of_words(from, number, to)
 }
 
-/// The cast of the number from kind to kind. Where `to` is more than one word, it is no kind.
+/// The cast of the number, if `from` has it and `to` names a `PType`. More than one word names none.
 fn cast_of_words<'a>(from: PType, number: i128, to: &[u8]) -> Option<Command<'a>>
     ensures { asked_by result ≡ cast_request (Some from) (Some number) (ptype_named to.now) }
 {

@@ -1,15 +1,14 @@
-//! Why a program stops.
+//! The faults that stop a program.
 
 ghost use Rattle.std.specs.Prelude.{◌≡◌};
-ghost use Rattle.rows.specs.FaultTexts.{fault_text};
-ghost use Rattle.rows.specs.declared.faults.RowsError.TheVariants.{Memory};
+ghost use Rattle.rows.specs.Words.{Memory, fault_text};
 
 use std::alloc::AllocError;
 
 /// Why the program stopped.
 #[derive(Debug, Drop)]
 pub enum RowsError {
-    /// A read failed, or the input did not end within the reads that are made.
+    /// A read failed, or the input did not end within 1,048,576 reads.
     Read,
     /// A write, or the flush after it, failed.
     Write,
@@ -26,7 +25,7 @@ impl From<AllocError> for RowsError {
     }
 }
 
-/// What the program says of a fault.
+/// What the program writes on standard error after this fault.
 pub fn fault_line(fault: &RowsError) -> &'static str
     ensures { result.now ≡ fault_text fault.now }
 {

@@ -1,8 +1,7 @@
-//! All that a reader has left.
+//! The input.
 
 ghost use Rattle.std.specs.Prelude.{◌≡◌, ◌≢◌, IfErr, IfOk, IfSome, OnOk};
-ghost use Rattle.std.specs.Io.KnownBytes.{IsAtEnd};
-ghost use Rattle.rows.specs.Reading.{GaveSome};
+ghost use Rattle.rows.specs.Words.{GaveSome, IsAtEnd};
 
 use crate::faults::RowsError;
 use std::alloc::Global;
@@ -11,13 +10,13 @@ use std::io::Read;
 /// How many bytes one read asks for.
 const PIECE: usize = 4096;
 
-/// How many reads are made, the one that meets the end counted.
+/// How many reads are made at most, with the one that meets the end.
 const READS: u32 = 1_048_576;
 
-/// Reads to the end, in pieces.
+/// Reads to the end, in pieces of 4,096 bytes at most.
 ///
-/// `Read` for every error of the reader, and where the input has not ended within the reads that
-/// are made; `Memory` where no memory is left for what was read.
+/// `Read` for every error of the reader, and if the input has not ended within 1,048,576 reads.
+/// `Memory` if no memory is left for what was read.
 #[tactic(auto, using(crate::proofs::KnownReads::reads))]
 pub fn read_all<R: Read>(alloc: Global, reader: &mut R) -> Result<Vec<u8>, RowsError>
     ensures bytes { IfOk result

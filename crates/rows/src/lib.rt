@@ -1,5 +1,7 @@
-//! All that the program `scalar_rows` does but its `main`: lines such as `cast i32 1000 i16` are
-//! read, and what each gives, as `1000i16`, is written.
+// SPDX-License-Identifier: Apache-2.0
+// SPDX-FileCopyrightText: Copyright the Vortex contributors; ported to Rattle and changed
+//! The program `scalar_rows` without its `main`: reads lines such as `cast i32 1000 i16`, and writes
+//! what each gives, such as `1000i16`.
 #![tactic(auto)]
 
 mod answers;

@@ -1,20 +1,20 @@
-//! Kinds, numbers and strings of bytes: what a word says.
+//! The words of a command: a `PType`, a number, or bytes as hexadecimal digits.
+#![tactic(auto, using(crate::proofs::Names::ends, crate::proofs::Names::cuts, crate::proofs::Numerals::digits, crate::proofs::Numerals::some_size, crate::proofs::Numerals::signs, crate::proofs::Numerals::naturals, crate::proofs::Numerals::one_digit_more, crate::proofs::HexWords::sized))]
 
 ghost use Rattle.std.specs.Prelude.{◌≡◌, IfNone, IfOk, IfSome, IsOk, ◌<◌, ◌≤◌, ◌^◌, length};
-ghost use Rattle.rows.specs.Grammar.{hex_named, ptype_named, natural_named, number_named, size_named};
-ghost use Rattle.rows.specs.Fronts.{FirstSays, FirstSaysNone, IsNameEnd, LeadingDigits};
+ghost use Rattle.rows.specs.Words.{FirstSays, FirstSaysNone, IsNameEnd, LeadingDigits, hex_named, natural_named, number_named, ptype_named, size_named};
 
 use hex::{FromHexError, decode, decode_to_slice};
 use std::alloc::{AllocError, Global};
 use vortex_array::{ByteBuffer, INLINE_BYTES, PType};
 
-/// How many digits fit 64 bits, whatever they are. A number has one more at most.
+/// How many digits always fit 64 bits. A number has at most one more.
 const SURE_DIGITS: usize = 19;
 
 /// The most digits of a length.
 const SIZE_DIGITS: usize = 18;
 
-/// The kind with this name.
+/// The `PType` with this name, such as `i32`.
 #[inline(always)]
 #[tactic(auto, unfolding(crate::specs::Grammar::ptype_named))]
 pub fn ptype_named(word: &[u8]) -> Option<PType>
@@ -33,25 +33,20 @@ pub fn ptype_named(word: &[u8]) -> Option<PType>
     }
 }
 
-/// The kind before the first space, and what follows the space.
-#[tactic(auto, using(crate::proofs::Names::cuts))]
+/// The `PType` before the first space, and what follows the space.
 pub fn cut_ptype(text: &[u8]) -> Option<(PType, &[u8])>
     ensures some { IfSome result (λ cut. FirstSays ptype_named text.now cut.0 cut.1.now) }
     ensures none { IfNone result (FirstSaysNone ptype_named text.now) }
 {
     let end = name_end(text);
-    if text.len() <= end {
+    let Some(b' ') = text.get(end) else {
         return None;
-    }
-    if text[end] != b' ' {
-        return None;
-    }
+    };
     let ptype = ptype_named(&text[..end])?;
     Some((ptype, &text[end + 1..]))
 }
 
-/// Where the name of a kind in front ends: it has two bytes, or three.
-#[tactic(auto, using(crate::proofs::Names::ends))]
+/// The place at which the name of a `PType` in front ends: it has two bytes, or three.
 fn name_end(text: &[u8]) -> usize
     ensures { IsNameEnd text.now result }
 {
@@ -62,9 +57,7 @@ fn name_end(text: &[u8]) -> usize
     }
 }
 
-/// The number that the digits in front represent, and how many they are: at most as many as fit 64
-/// bits.
-#[tactic(auto, using(crate::proofs::Numerals::digits))]
+/// The number that the digits in front represent, and how many digits: 19 at most.
 fn leading_digits(text: &[u8]) -> (u64, usize)
     ensures { LeadingDigits 19 text.now result.0 result.1 }
 {
@@ -80,7 +73,6 @@ fn leading_digits(text: &[u8]) -> (u64, usize)
 }
 
 /// The number that 1 to 18 digits represent.
-#[tactic(auto, using(crate::proofs::Numerals::some_size))]
 pub fn size_named(word: &[u8]) -> Option<u64>
     ensures { result ≡ size_named word.now }
 {
@@ -91,9 +83,7 @@ pub fn size_named(word: &[u8]) -> Option<u64>
     Some(size)
 }
 
-/// The number before the first space, and what follows the space: digits, after an optional minus
-/// sign.
-#[tactic(auto, using(crate::proofs::Numerals::signs))]
+/// The number before the first space, and what follows the space. It may have a minus sign.
 pub fn cut_number(text: &[u8]) -> Option<(i128, &[u8])>
     ensures some { IfSome result (λ cut. FirstSays number_named text.now cut.0 cut.1.now) }
     ensures none { IfNone result (FirstSaysNone number_named text.now) }
@@ -107,7 +97,6 @@ pub fn cut_number(text: &[u8]) -> Option<(i128, &[u8])>
 }
 
 /// The number that the 1 to 20 digits before the first space represent, and what follows the space.
-#[tactic(auto, using(crate::proofs::Numerals::naturals))]
 fn cut_natural(text: &[u8]) -> Option<(u128, &[u8])>
     ensures small { IfSome result (λ cut. cut.0 < 10 ^ 20) }
     ensures some { IfSome result (λ cut. FirstSays natural_named text.now cut.0 cut.1.now) }
@@ -117,17 +106,14 @@ fn cut_natural(text: &[u8]) -> Option<(u128, &[u8])>
     if end == 0 {
         return None;
     }
-    if text.len() <= end {
+    let Some(b' ') = text.get(end) else {
         return None;
-    }
-    if text[end] != b' ' {
-        return None;
-    }
+    };
     Some((number, &text[end + 1..]))
 }
 
-/// The same as `leading_digits` of one digit more, for which 64 bits may not do.
-#[tactic(auto, using(crate::proofs::Numerals::one_digit_more))]
+/// The number that the digits in front represent, and how many digits: 20 at most, for which 64 bits
+/// may not do.
 fn number_digits(text: &[u8]) -> (u128, usize)
     ensures read { LeadingDigits 20 text.now result.0 result.1 }
     ensures small { result.0 < 10 ^ 20 }
@@ -140,8 +126,8 @@ fn number_digits(text: &[u8]) -> (u128, usize)
     (number, count)
 }
 
-/// The bytes that the digits of the word represent, two a byte; none where it has an odd number of
-/// characters, or one that is no digit. At most 44 digits take no memory.
+/// The bytes that the hexadecimal digits represent, two a byte. `None` if their number is odd, or
+/// one is not a digit. At most 44 digits take no memory.
 pub fn hex_named(alloc: Global, word: &[u8]) -> Result<Option<ByteBuffer>, AllocError>
     ensures bytes { IfOk result (λ bytes. bytes ≡ hex_named word.now) }
     ensures short { length word.now ≤ 44 → IsOk result }
@@ -153,8 +139,7 @@ pub fn hex_named(alloc: Global, word: &[u8]) -> Result<Option<ByteBuffer>, Alloc
     }
 }
 
-/// The same of a word whose bytes a buffer holds in itself.
-#[tactic(auto, using(crate::proofs::HexWords::sized))]
+/// The bytes that at most 44 digits represent. Takes no memory.
 fn short_hex(alloc: Global, word: &[u8]) -> Option<ByteBuffer>
     requires { length word.now ≤ 44 }
     ensures { result ≡ hex_named word.now }
@@ -168,7 +153,7 @@ fn short_hex(alloc: Global, word: &[u8]) -> Option<ByteBuffer>
     }
 }
 
-/// The same of any word, by way of a vector.
+/// The bytes that the digits represent, by way of a vector.
 fn long_hex(alloc: Global, word: &[u8]) -> Result<Option<ByteBuffer>, AllocError>
     ensures { IfOk result (λ bytes. bytes ≡ hex_named word.now) }
 {

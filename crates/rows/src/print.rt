@@ -1,18 +1,14 @@
-//! How an answer is written.
+//! The rows of answers.
 
 ghost use Rattle.std.specs.Prelude.{◌≡◌, ◌++◌, ◌∷◌, [], OnOk, codes};
-ghost use Rattle.std.specs.Fmt.{signed_decimal};
-ghost use Rattle.hex.specs.Hex.{encode_lower};
-ghost use Rattle.vortex_dtype.specs.PTypes.{ptype_text};
-ghost use Rattle.vortex_pvalue.specs.Whole.{pvalue_text, whole_of};
-ghost use Rattle.rows.specs.Rows.{bound_text, cast_text};
+ghost use Rattle.rows.specs.Words.{bound_text, cast_text, encode_lower, ptype_text, pvalue_text, signed_decimal, whole_of};
 
 use hex::encode_to_slice;
 use itoa::Buffer;
 use std::alloc::AllocError;
 use vortex_array::{ByteBuffer, PType, PValue};
 
-/// Writes what a cast gives: the number, or that it was refused.
+/// Appends the row of a cast: the number, or `refused`.
 pub fn push_number(output: &mut Vec<u8>, number: Option<PValue>) -> Result<(), AllocError>
     ensures { OnOk result (output.new.items ≡ output.old.items ++ (cast_text number ++ 10 ∷ [])) }
 {
@@ -22,7 +18,7 @@ pub fn push_number(output: &mut Vec<u8>, number: Option<PValue>) -> Result<(), A
     }
 }
 
-/// Writes what a bound gives: the string, or that there is none.
+/// Appends the row of a bound: the bytes, or `none`.
 pub fn push_string(output: &mut Vec<u8>, bytes: Option<ByteBuffer>) -> Result<(), AllocError>
     ensures { OnOk result (output.new.items ≡ output.old.items ++ (bound_text bytes ++ 10 ∷ [])) }
 {
@@ -35,14 +31,14 @@ pub fn push_string(output: &mut Vec<u8>, bytes: Option<ByteBuffer>) -> Result<()
     }
 }
 
-/// Writes that the line asks for nothing.
+/// Appends the row of a line that is not a command.
 pub fn push_bad_line(output: &mut Vec<u8>) -> Result<(), AllocError>
     ensures { OnOk result (output.new.items ≡ output.old.items ++ (codes "bad line" ++ 10 ∷ [])) }
 {
     output.extend_from_slice(b"bad line\n")
 }
 
-/// Writes the value's text and a line feed.
+/// Appends the number with its `PType`, such as `1000i16`, and a line feed.
 fn push_value(output: &mut Vec<u8>, value: PValue) -> Result<(), AllocError>
     ensures { OnOk result (output.new.items ≡ output.old.items ++ (pvalue_text value ++ 10 ∷ [])) }
 {
@@ -50,7 +46,7 @@ fn push_value(output: &mut Vec<u8>, value: PValue) -> Result<(), AllocError>
     push_ptype(output, value.ptype())
 }
 
-/// Writes the value's number: one of 64 bits, signed where it is negative.
+/// Appends the number. It fits 64 bits, signed if it is negative.
 fn push_whole(output: &mut Vec<u8>, value: PValue) -> Result<(), AllocError>
     ensures { OnOk result (output.new.items ≡ output.old.items ++ signed_decimal (whole_of value)) }
 {
@@ -63,7 +59,7 @@ fn push_whole(output: &mut Vec<u8>, value: PValue) -> Result<(), AllocError>
     }
 }
 
-/// Writes the kind's name and a line feed. Each is a literal, so that it is stored at once.
+/// Appends the name of the `PType` and a line feed. Each is one literal, which is stored at once.
 fn push_ptype(output: &mut Vec<u8>, ptype: PType) -> Result<(), AllocError>
     ensures { OnOk result (output.new.items ≡ output.old.items ++ (ptype_text ptype ++ 10 ∷ [])) }
 {
@@ -79,7 +75,7 @@ fn push_ptype(output: &mut Vec<u8>, ptype: PType) -> Result<(), AllocError>
     }
 }
 
-/// Writes the bytes in lower case, two digits each.
+/// Appends the bytes in lower case, two hexadecimal digits each.
 fn push_hex(output: &mut Vec<u8>, bytes: &[u8]) -> Result<(), AllocError>
     ensures { OnOk result (output.new.items ≡ output.old.items ++ encode_lower bytes.now) }
 {

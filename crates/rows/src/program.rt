@@ -1,10 +1,7 @@
-//! The whole program: from all lines to all answers.
+//! The whole program: from the input to the rows that are written.
 
 ghost use Rattle.std.specs.Prelude.{◌≡◌, ◌≢◌, ◌++◌, ◌∷◌, [], Some, IfErr, IfOk, IfSome, OnOk};
-ghost use Rattle.std.specs.Io.KnownBytes.{Appends, IsAtEnd};
-ghost use Rattle.vortex_pvalue.specs.Whole.{ptype_of, whole_of};
-ghost use Rattle.rows.specs.Grammar.{bound_request, cast, hex_named, request_in};
-ghost use Rattle.rows.specs.Rows.{request_text, row_text, rows_of};
+ghost use Rattle.rows.specs.Words.{Appends, IsAtEnd, bound_request, cast, hex_named, ptype_of, request_in, request_text, row_text, rows_of, whole_of};
 
 use crate::answers::{bound_at, number_in_ptype};
 use crate::commands::{Command, Side, command_in};
@@ -18,17 +15,17 @@ use std::alloc::{AllocError, Global};
 use std::io::{Read, Write};
 use vortex_array::{PType, PValue};
 
-/// Reads all there is, and writes what its lines give and nothing else.
+/// Reads the whole input, and writes one row for each of its lines.
 ///
-/// `Read` for every error of the reader, and where the input has not ended within 1,048,576 reads;
-/// `Memory` where no memory is left; after both nothing was written. `Write` for an error of the
-/// writer: how much went out is not known.
+/// `Read` for every error of the reader, and if the input has not ended within 1,048,576 reads.
+/// `Memory` if no memory is left. After both nothing was written. `Write` for every error of the
+/// writer: how much was written is then not known.
 pub fn run<R: Read, W: Write>(
     alloc: Global,
     reader: &mut R,
     writer: &mut W,
 ) -> Result<(), RowsError>
-    // What was written is the rows of all bytes that there were.
+    // The output is the rows of the whole input.
     ensures rows { OnOk result (IfSome (R.remaining reader.old) (λ input.
         Appends (W.contents writer.old) (W.contents writer.new) (rows_of input))) }
     ensures end { OnOk result (IsAtEnd (R.remaining reader.new)) }
@@ -40,7 +37,7 @@ pub fn run<R: Read, W: Write>(
     write_out(writer, &output)
 }
 
-/// What all lines give.
+/// The rows of all lines.
 fn rows(alloc: Global, input: &[u8]) -> Result<Vec<u8>, AllocError>
     ensures { IfOk result (λ output. output.items ≡ rows_of input.now) }
 {
@@ -54,7 +51,7 @@ fn rows(alloc: Global, input: &[u8]) -> Result<Vec<u8>, AllocError>
     Ok(output)
 }
 
-/// Writes what a line gives and a line feed.
+/// Appends the row of a line.
 #[inline(always)]
 fn push_row(alloc: Global, output: &mut Vec<u8>, line: &[u8]) -> Result<(), AllocError>
     ensures { OnOk result (output.new.items ≡
@@ -73,7 +70,7 @@ fn push_row(alloc: Global, output: &mut Vec<u8>, line: &[u8]) -> Result<(), Allo
     }
 }
 
-/// Writes what a cast gives and a line feed.
+/// Appends the row of a cast.
 fn push_cast(
     alloc: Global,
     output: &mut Vec<u8>,
@@ -86,7 +83,7 @@ fn push_cast(
     push_number(output, number_in_ptype(alloc, number, to))
 }
 
-/// Writes what a bound gives and a line feed. Apart, so that a cast pays for none of it.
+/// Appends the row of a bound. A function of its own, so that a cast does not pay for its locals.
 #[inline(never)]
 fn push_bound(
     alloc: Global,
