@@ -10,7 +10,7 @@ use Rattle.vortex_array.specs.Strings.{Below, NotAbove, IsUpper, HasNoUpper}
 use Rattle.vortex_array.specs.Texts.{HasNoTextUpper, IsStuck, IsTextLower, IsTextPrefix, IsTextUpper}
 use Rattle.vortex_c.specs.Bounds.{IsWholeOrBest}
 
--- what follows does not make a string less, where the first numbers decide alike
+-- what follows does not make a list less, if the first numbers decide alike
 then_less : (o q r : Ordering) → (q ≡ Less → r ≡ Less) → ordering_then o q ≡ Less → ordering_then o r ≡ Less
 then_less Less q r f h = refl
 then_less Equal q r f h = f h
@@ -57,7 +57,7 @@ above_beginning (x ∷ p) rest [] l h = absurd (omega arith)
 above_beginning (x ∷ p) rest (y ∷ t) l h =
     then_less (nat_cmp x y) (slice_cmp nat_cmp (p ++ rest) t) (slice_cmp nat_cmp p t) (above_beginning p rest t (omega arith)) h
 
--- the same of the first n bytes
+-- what is above the first n bytes, with as many bytes, is above the whole
 pub above_of_take : (b : List ℕ) (n : ℕ) (r : List ℕ) → length r ≡ length (take n b) → Below (take n b) r → Below b r
 above_of_take b n r l h =
     subst (λ s. Below s r) (take-append-drop n b) (above_whole (take n b) (drop n b) r l h)
@@ -77,13 +77,13 @@ upper_of_take b n r l h =
       least = λ t s e k. h.least t s e (take_of_above b n t (e ∙ sym w) k);
     }
 
--- and where those have none, so has the whole
+-- if those have no upper bound, the whole has none
 pub no_upper_of_take : (b : List ℕ) (n : ℕ) → n ≤ length b → HasNoUpper (take n b) n → HasNoUpper b n
 no_upper_of_take b n l h =
     let w : length (take n b) ≡ n = length-take-le n b l in
     λ t s e k. h t s e (take_of_above b n t (e ∙ sym w) k)
 
--- ---- texts, cut at the nearest boundary i that is not past n
+-- ---- strings, cut at the nearest boundary i that is not past n
 abbrev pub IsNearest : List ℕ → ℕ → ℕ → Type 0
 IsNearest s n i = (k : ℕ) → i < k → k ≤ n → ¬ (IsCharBoundary s k)
 
@@ -106,7 +106,7 @@ text_lower s n i u l b near = record {
   greatest = λ t v m k. not_above_take i t s (subst (λ j. length t ≤ j) (length-take-le i s b.0) m) k;
 }
 
--- and a text of at most n bytes ends there
+-- a string of at most n bytes ends there
 text_whole : (s : List ℕ) (n i : ℕ) → IsNearest s n i → length s ≤ n → take i s ≡ s
 text_whole s n i near l =
     take_all i s (⊎_elim (λ v. absurd (near (length s) v l (IsCharBoundary-end s))) (λ v. v) (order i (length s)))
@@ -114,7 +114,7 @@ text_whole s n i near l =
 pub text_lower_or_whole : (s : List ℕ) (n i : ℕ) → IsUtf8 s → i ≤ n → IsCharBoundary s i → IsNearest s n i → IsWholeOrBest IsTextLower s n (take i s)
 text_lower_or_whole s n i u l b near = (text_whole s n i near, λ _. text_lower s n i u l b near)
 
--- the longest beginning of a text of length i that has at most i bytes is all of it
+-- the longest beginning, of at most i bytes, of a string of length i is all of it
 prefix_is_all : (p q : List ℕ) (i : ℕ) → length p ≡ i → IsTextPrefix p i q → q ≡ p
 prefix_is_all p q i w h =
     let m : i ≤ length q = h.longest i (omega arith) (subst (λ k. IsCharBoundary p k) w (IsCharBoundary-end p)) in
@@ -136,7 +136,7 @@ text_upper_of_take s n i r l b near h =
       least = λ t u m k. h.least t u (m ∙ ap length (sym e)) (take_of_above s i t m k);
     }
 
--- and where it has none, so has the whole
+-- if it has no upper bound, the whole has none
 pub no_text_upper_of_take : (s : List ℕ) (n i : ℕ) → i ≤ n → IsCharBoundary s i → IsNearest s n i → HasNoTextUpper (take i s) i → HasNoTextUpper s n
 no_text_upper_of_take s n i l b near (q, h, stuck) =
     let e : q ≡ take i s = prefix_is_all (take i s) q i (length-take-le i s b.0) h in

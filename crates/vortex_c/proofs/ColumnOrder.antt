@@ -1,4 +1,4 @@
--- One more value, and which of the values so far is the least or the greatest.
+-- The least and the greatest of the values so far, with one value more.
 use Rattle.std.proofs.Common.{◌≡◌, ◌≢◌, ℕ, ◌+◌, ◌<◌, ◌⊎◌, inl, inr, Bool, true, false, List, refl, sym, subst, ◌∙◌, ap, nat_cmp, Ordering, Less, Equal, Greater, below_more, arith}
 use Rattle.std.specs.Cmp.Lexicographic.{slice_cmp}
 use Rattle.std.specs.Ordering.{is_lt, is_gt, ordering_reverse}
@@ -43,7 +43,7 @@ goes_on x y z h k = is_not_greater (order x z) (upto nat_list_cmp_total x y z (n
 back : (x y : List ℕ) → ordering_reverse (order y x) ≢ Greater → NotAbove x y
 back x y h = subst (λ o. o ≢ Greater) (sym (nat_list_cmp_total.antisymm x y)) h
 
--- the new place is k where the test of value k holds, and else the old one
+-- the new place is k if the test of value k holds, and else the old one
 abbrev pub IsChosen : Bool → ℕ → ℕ → ℕ → Type 0
 IsChosen b k old new = ((b ≡ true) × (new ≡ k)) ⊎ ((b ≡ false) × (new ≡ old))
 
@@ -67,7 +67,7 @@ greatest_of_test V k old new b e h (inr (t, n)) =
     subst (λ i. (j : ℕ) → j < k + 1 → NotAbove (V j) (V i)) (sym n)
     (below_more _ _ h (is_not_greater (order (V k) (V old)) (sym e ∙ t)))
 
--- the same where the test reads copies of the two values
+-- a test of copies of two values is a test of the values
 same_order : (x y v w : List ℕ) (o : Ordering) (f : Ordering → Bool) (b : Bool) → x ≡ v → y ≡ w → o ≡ order x y → b ≡ f o → b ≡ f (order v w)
 same_order x y v w o f b p q e t = t ∙ ap f (e ∙ ap (λ u. order u y) p ∙ ap (λ u. order v u) q)
 

@@ -1,5 +1,6 @@
 mod Beginnings
 mod ColumnBounds
+mod ColumnEnds
 mod ColumnOrder
 mod Truncations
 mod ZoneAnswers

@@ -25,11 +25,11 @@ upper_made b copy n r l e h = (
   λ _. upper_of_take b n r (omega arith) (subst (λ s. IsUpper s n r) e h),
 )
 
--- and where those have none, so has the whole
+-- if the first n bytes have no upper bound, the whole has none
 pub no_upper_made : (b copy : List ℕ) (n : ℕ) → n < length b → copy ≡ take n b → HasNoUpper copy n → HasNone HasNoUpper b n
 no_upper_made b copy n l e h = (l, no_upper_of_take b n (omega arith) (subst (λ s. HasNoUpper s n) e h))
 
--- the same of a text, cut at the nearest boundary
+-- the upper bound of the beginning, up to the nearest boundary, is that of the whole string
 pub text_upper_made : (s copy : List ℕ) (n i : ℕ) (r made : List ℕ) → n < length s → copy ≡ take i s → i ≤ n → IsCharBoundary s i → IsNearest s n i
     → IsTextUpper copy i r → made ≡ r → IsWholeOrBest IsTextUpper s n made
 text_upper_made s copy n i r made l e m b near h same = (

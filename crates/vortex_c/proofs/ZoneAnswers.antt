@@ -15,7 +15,7 @@ use Rattle.vortex_array.specs.Truncation.{IsSource}
 use Rattle.vortex_zone.specs.Zone.{is_above}
 use Rattle.vortex_c.specs.Zones.{IsAnswerOfZones, may_hold_bytes}
 
--- a kind of raw values that are no nulls, and are ordered as their bytes
+-- raw values made of bytes: no nulls, and ordered as their bytes
 record IsOfBytes (raw : List ℕ → RawTree) : Type 0 where
   present : (b : List ℕ) → is_absent (raw b) ≡ false
   ordered : (b c : List ℕ) → order (content (raw b)) (content (raw c)) ≡ Some (slice_cmp nat_cmp b c)
@@ -56,7 +56,7 @@ of_bytes = record { present = λ b. refl; ordered = λ b c. refl }
 of_texts : IsOfBytes raw_text
 of_texts = record { present = λ b. refl; ordered = λ b c. refl }
 
--- what is computed of the bytes is the answer of zones of strings, and of texts
+-- what is computed from the bytes is the answer of zones of bytes, and of strings
 pub answers_of_bytes : (lower : List ℕ) (upper : Option (List ℕ)) (value : List ℕ) (answer : Bool) → answer ≡ may_hold_bytes lower upper value
     → IsAnswerOfZones (binary_type NonNullable) raw_bytes lower upper value answer
 answers_of_bytes lower upper value answer e =

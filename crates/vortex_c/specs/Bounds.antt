@@ -1,7 +1,7 @@
--- What the bounds of a value are, of any kind of value that has bytes.
+-- The bounds of a value that has bytes, whether it is a string or not.
 use Rattle.std.specs.Prelude.{◌≡◌, ℕ, ◌<◌, ◌≤◌, List, length}
 
--- r is b itself where that has at most n bytes, and else a best bound of it at n bytes
+-- r is b itself if it has at most n bytes, and else a best bound of b at n bytes
 abbrev pub IsWholeOrBest : (List ℕ → ℕ → List ℕ → Type 0) → List ℕ → ℕ → List ℕ → Type 0
 IsWholeOrBest Best b n r = (length b ≤ n → r ≡ b) × (n < length b → Best b n r)
 

@@ -16,21 +16,25 @@ abbrev pub IsColumn : List ℕ → List ℕ → Type 0
 IsColumn bytes offsets = (k : ℕ) → HasValue offsets k
     → (slice_index offsets k ≤ slice_index offsets (k + 1)) × (slice_index offsets (k + 1) ≤ length bytes)
 
--- value k is above none
+-- no value is below value k
 abbrev pub IsLeastAt : List ℕ → List ℕ → ℕ → Type 0
 IsLeastAt bytes offsets k = HasValue offsets k
     × ((j : ℕ) → HasValue offsets j → NotAbove (value_at bytes offsets k) (value_at bytes offsets j))
 
--- value k is below none
+-- no value is above value k
 abbrev pub IsGreatestAt : List ℕ → List ℕ → ℕ → Type 0
 IsGreatestAt bytes offsets k = HasValue offsets k
     × ((j : ℕ) → HasValue offsets j → NotAbove (value_at bytes offsets j) (value_at bytes offsets k))
 
--- a least or a greatest value is no text
+-- each least and each greatest value is UTF-8, whole
+abbrev pub AreEndsText : List ℕ → List ℕ → Type 0
+AreEndsText bytes offsets = (k : ℕ) → IsLeastAt bytes offsets k ⊎ IsGreatestAt bytes offsets k → IsUtf8 (value_at bytes offsets k)
+
+-- a least or a greatest value is not UTF-8
 abbrev pub HasEndNoText : List ℕ → List ℕ → Type 0
 HasEndNoText bytes offsets = (k : ℕ) × (IsLeastAt bytes offsets k ⊎ IsGreatestAt bytes offsets k) × ¬ (IsUtf8 (value_at bytes offsets k))
 
--- a least and a greatest value, and their bounds at n bytes: there is no upper one where the greatest has none
+-- a least and a greatest value, and their bounds at n bytes: no upper one if the greatest value has none
 pub record AreColumnBounds (BestLower BestUpper : List ℕ → ℕ → List ℕ → Type 0) (HasNoUpper : List ℕ → ℕ → Type 0) (bytes offsets : List ℕ) (n : ℕ) (lower : List ℕ) (upper : Option (List ℕ)) : Type 0 where
   pub least : ℕ
   pub greatest : ℕ
@@ -39,7 +43,7 @@ pub record AreColumnBounds (BestLower BestUpper : List ℕ → ℕ → List ℕ 
   pub is_lower : IsWholeOrBest BestLower (value_at bytes offsets least) n lower
   pub is_upper : MatchOption upper (HasNone HasNoUpper (value_at bytes offsets greatest) n) (IsWholeOrBest BestUpper (value_at bytes offsets greatest) n)
 
--- the bytes where there are some
+-- the bytes, if there are some
 abbrev pub some_where : Bool → List ℕ → Option (List ℕ)
 some_where there bytes = if there then Some bytes else None
 

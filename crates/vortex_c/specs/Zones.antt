@@ -1,4 +1,4 @@
--- Which values the bounds of a zone hold possible, over bytes.
+-- Whether a zone with these bounds may hold a value, told by bytes.
 use Rattle.std.specs.Prelude.{◌≡◌, ℕ, ◌||◌, List, Bool, false, not, Option, Some, None}
 use Rattle.std.specs.Cmp.Lexicographic.{slice_cmp}
 use Rattle.std.specs.Ordering.{is_lt, is_gt, nat_cmp}
@@ -8,7 +8,7 @@ use Rattle.vortex_value.specs.declared.scalars.Scalar.{Scalar}
 use Rattle.vortex_array.specs.Truncation.{IsSource}
 use Rattle.vortex_zone.specs.Zone.{Bounds, may_hold}
 
--- whether the bytes are above the bound, where there is one
+-- whether the bytes are above the bound, if there is one
 abbrev pub is_above_bytes : List ℕ → Option (List ℕ) → Bool
 is_above_bytes v None = false
 is_above_bytes v (Some upper) = is_gt (slice_cmp nat_cmp v upper)

@@ -1,12 +1,7 @@
-//! Bounds of bytes and of texts.
+//! Bounds of bytes and of strings.
 
 ghost use Rattle.std.specs.Prelude.{◌≡◌, ◌≢◌, ◌≤◌, ◌<◌, ◌⊎◌, IfOk, IfSome, IsCharBoundary, IsOk, IsUtf8, MatchOption, MatchResult, drop, length, take};
-ghost use Rattle.std.specs.Option.{option_copied, option_map};
-ghost use Rattle.vortex_dtype.specs.declared.error.VortexError.TheVariants.{OutOfMemory};
-ghost use Rattle.vortex_array.specs.Strings.{HasNoUpper, IsLower, IsUpper};
-ghost use Rattle.vortex_array.specs.Texts.{HasNoTextUpper, IsTextLower, IsTextUpper};
-ghost use Rattle.vortex_c.specs.Bounds.{HasNone, IsWholeOrBest, SomeOfLength};
-ghost use Rattle.vortex_c.specs.Uppers.{bytes_of};
+ghost use Rattle.vortex_c.specs.Words.{HasNoTextUpper, HasNoUpper, HasNone, IsLower, IsTextLower, IsTextUpper, IsUpper, IsWholeOrBest, OutOfMemory, SomeOfLength, bytes_of, option_copied, option_map};
 
 use crate::status::{GIVEN, NO_MEMORY, NO_ROOM, NONE, NOT_UTF8};
 use std::alloc::Global;
@@ -14,9 +9,10 @@ use std::str;
 use vortex_array::laws::{bounds_are_computed, items_are_bytes};
 use vortex_array::{BufferString, ByteBuffer, ScalarTruncation, VortexError};
 
-/// How many of the first bytes are the lower bound. Takes no memory.
+/// The lower bound of bytes at `max_length` bytes, as how many of the first bytes it has. Takes no
+/// memory.
 #[unsafe(no_mangle)]
-pub extern "C" fn vortex_lower_bound_bytes(value: &[u8], max_length: usize) -> usize
+pub extern "C" fn doqallin_lower_bound_bytes(value: &[u8], max_length: usize) -> usize
     ensures within { result ≤ length value.now }
     ensures fits { result ≤ max_length }
     ensures bound { IsWholeOrBest IsLower value.now max_length (take result value.now) }
@@ -24,11 +20,16 @@ pub extern "C" fn vortex_lower_bound_bytes(value: &[u8], max_length: usize) -> u
     lower_length_of_bytes(value, max_length)
 }
 
-/// How many of the first bytes of a text are its lower bound. Takes no memory.
+/// The lower bound of a string at `max_length` bytes, as how many of the first bytes it has: the
+/// longest beginning of whole characters. Takes no memory.
 ///
-/// `NOT_UTF8` where the value is no text.
+/// - `NOT_UTF8`: the value is not UTF-8.
 #[unsafe(no_mangle)]
-pub extern "C" fn vortex_lower_bound_text(value: &[u8], max_length: usize, count: &mut usize) -> u32
+pub extern "C" fn doqallin_lower_bound_text(
+    value: &[u8],
+    max_length: usize,
+    count: &mut usize,
+) -> u32
     ensures statuses { (result ≡ GIVEN) ⊎ (result ≡ NOT_UTF8) }
     ensures within { result ≡ GIVEN → count.new ≤ length value.now }
     ensures fits { result ≡ GIVEN → count.new ≤ max_length }
@@ -45,13 +46,13 @@ pub extern "C" fn vortex_lower_bound_text(value: &[u8], max_length: usize, count
     GIVEN
 }
 
-/// The upper bound of bytes, written to the room.
+/// The upper bound of bytes at `max_length` bytes, written to the room.
 ///
-/// `NONE` where there is none, `NO_ROOM` where the room is too small (`count` says how many bytes
-/// the bound has), `NO_MEMORY` only where `max_length` is above 22 and the value longer
-/// than that.
+/// - `NONE`: the value has more than `max_length` bytes, and no bytes of that length are above it.
+/// - `NO_ROOM`: the room is too small. `count` says how many bytes the bound has.
+/// - `NO_MEMORY`: only if `max_length` is above 22 and the value longer than that.
 #[unsafe(no_mangle)]
-pub extern "C" fn vortex_upper_bound_bytes(
+pub extern "C" fn doqallin_upper_bound_bytes(
     alloc: Global,
     value: &[u8],
     max_length: usize,
@@ -64,12 +65,18 @@ pub extern "C" fn vortex_upper_bound_bytes(
     ensures given { result ≡ GIVEN
         → IsWholeOrBest IsUpper value.now max_length (take count.new room.new) }
     ensures none { result ≡ NONE → HasNone HasNoUpper value.now max_length }
+
+    // Memory is asked only for a longer value, at more than 22 bytes.
     ensures inline { max_length ≤ 22 → result ≢ NO_MEMORY }
     ensures whole { length value.now ≤ max_length → result ≢ NO_MEMORY }
+
+    // The bound has as many bytes as is told, which is more than the room has.
     ensures small { result ≡ NO_ROOM → length room.old < count.new }
     ensures needed { result ≡ NO_ROOM → SomeOfLength IsUpper value.now max_length count.new }
     ensures enough { max_length ≤ length room.old → result ≢ NO_ROOM }
     ensures enough_of_value { length value.now ≤ length room.old → result ≢ NO_ROOM }
+
+    // What is not said to be written stays.
     ensures rest { result ≡ GIVEN → drop count.new room.new ≡ drop count.new room.old }
     ensures kept_room { result ≢ GIVEN → room.new ≡ room.old }
     ensures kept_count { (result ≢ GIVEN) × (result ≢ NO_ROOM) → count.new ≡ count.old }
@@ -81,11 +88,11 @@ pub extern "C" fn vortex_upper_bound_bytes(
     }
 }
 
-/// The upper bound of a text, written to the room.
+/// The upper bound of a string at `max_length` bytes, by whole characters, written to the room.
 ///
-/// The statuses come as with bytes, and `NOT_UTF8` where the value is no text.
+/// The statuses come as from `doqallin_upper_bound_bytes`, and `NOT_UTF8` if the value is not UTF-8.
 #[unsafe(no_mangle)]
-pub extern "C" fn vortex_upper_bound_text(
+pub extern "C" fn doqallin_upper_bound_text(
     alloc: Global,
     value: &[u8],
     max_length: usize,
@@ -98,14 +105,22 @@ pub extern "C" fn vortex_upper_bound_text(
     ensures given { result ≡ GIVEN
         → IsWholeOrBest IsTextUpper value.now max_length (take count.new room.new) }
     ensures none { result ≡ NONE → HasNone HasNoTextUpper value.now max_length }
+
+    // The value is tested, whole.
     ensures text { result ≢ NOT_UTF8 → IsUtf8 value.now }
     ensures refused { result ≡ NOT_UTF8 → ¬ (IsUtf8 value.now) }
+
+    // Memory is asked only for a longer value, at more than 22 bytes.
     ensures inline { max_length ≤ 22 → result ≢ NO_MEMORY }
     ensures whole { length value.now ≤ max_length → result ≢ NO_MEMORY }
+
+    // The bound has as many bytes as is told, which is more than the room has.
     ensures small { result ≡ NO_ROOM → length room.old < count.new }
     ensures needed { result ≡ NO_ROOM → SomeOfLength IsTextUpper value.now max_length count.new }
     ensures enough { max_length ≤ length room.old → result ≢ NO_ROOM }
     ensures enough_of_value { length value.now ≤ length room.old → result ≢ NO_ROOM }
+
+    // What is not said to be written stays.
     ensures rest { result ≡ GIVEN → drop count.new room.new ≡ drop count.new room.old }
     ensures kept_room { result ≢ GIVEN → room.new ≡ room.old }
     ensures kept_count { (result ≢ GIVEN) × (result ≢ NO_ROOM) → count.new ≡ count.old }
@@ -139,7 +154,7 @@ impl Upper<'_> {
     }
 }
 
-/// The slice of an upper bound, where there is one.
+/// The slice of an upper bound, if there is one.
 pub(crate) fn slice_of<'a>(upper: &'a Option<Upper<'_>>) -> Option<&'a [u8]>
     ensures { option_copied result ≡ option_map bytes_of upper.now }
 {
@@ -157,7 +172,7 @@ pub(crate) fn lower_length_of_bytes(value: &[u8], max_length: usize) -> usize
     max_length.min(value.len())
 }
 
-/// How many of the first bytes of the text are its lower bound.
+/// How many of the first bytes of the string are its lower bound.
 pub(crate) fn lower_length_of_text(text: &str, max_length: usize) -> usize
     ensures boundary { IsCharBoundary text.now result }
     ensures fits { result ≤ max_length }
@@ -166,7 +181,7 @@ pub(crate) fn lower_length_of_text(text: &str, max_length: usize) -> usize
     text.floor_char_boundary(max_length)
 }
 
-/// The bytes, or the upper bound of more than so many.
+/// The upper bound of the bytes: themselves, if they are no more than `max_length`.
 pub(crate) fn upper_of_bytes<'a>(
     alloc: Global,
     value: &'a [u8],
@@ -191,7 +206,7 @@ pub(crate) fn upper_of_bytes<'a>(
     }
 }
 
-/// The text, or the upper bound of one of more than so many bytes.
+/// The upper bound of the string: itself, if it has no more than `max_length` bytes.
 pub(crate) fn upper_of_text<'a>(
     alloc: Global,
     text: &'a str,
@@ -218,7 +233,7 @@ pub(crate) fn upper_of_text<'a>(
     }
 }
 
-/// Writes the bound to the room, and its length; only the length where the room is too small.
+/// Writes the bound to the room, and its length; only the length if the room is too small.
 pub(crate) fn give(bound: &[u8], room: &mut [u8], count: &mut usize) -> u32
     ensures statuses { (result ≡ GIVEN) ⊎ (result ≡ NO_ROOM) }
     ensures count { count.new ≡ length bound.now }

@@ -1,11 +1,13 @@
-//! Casts, bounds, pruning, and any other call by its line, for callers from C.
+// SPDX-License-Identifier: Apache-2.0
+// SPDX-FileCopyrightText: Copyright the Vortex contributors; ported to Rattle and changed
+//! Casts, bounds and pruning for callers from C: the static library `libdoqallin`.
 //!
-//! Of a call that answers a status, the clauses say what each status means and what was written.
+//! Most calls answer a status. Their clauses say what each status means, and what was written.
 #![tactic(auto)]
 
 mod bounds;
-mod calls;
 mod columns;
 mod integers;
 mod status;
+mod version;
 mod zones;

@@ -1,19 +1,15 @@
 //! Whether a zone may hold a value.
 
 ghost use Rattle.std.specs.Prelude.{◌≡◌, ◌≢◌, ◌⊎◌, IsTrue, IsUtf8, MatchBool};
-ghost use Rattle.vortex_dtype.specs.TypeTree.{binary_type, utf8_type};
-ghost use Rattle.vortex_dtype.specs.declared.nullability.Nullability.TheVariants.{NonNullable};
-ghost use Rattle.vortex_value.specs.Values.RawTree.{raw_bytes, raw_text};
-ghost use Rattle.vortex_c.specs.Columns.{some_where};
-ghost use Rattle.vortex_c.specs.Zones.{IsAnswerOfZones, may_hold_bytes};
+ghost use Rattle.vortex_c.specs.Words.{IsAnswerOfZones, NonNullable, binary_type, may_hold_bytes, raw_bytes, raw_text, some_where, utf8_type};
 
 use crate::status::{GIVEN, NOT_UTF8};
 use std::str;
 
-/// Whether a zone of these bounds may hold the bytes; without `has_upper` the upper bound is not
-/// read. Takes no memory.
+/// Whether a zone with these bounds may hold the bytes: `false` exactly if they are below the lower
+/// bound or above the upper one. Without `has_upper` the upper bound is not read. Takes no memory.
 #[unsafe(no_mangle)]
-pub extern "C" fn vortex_may_contain_bytes(
+pub extern "C" fn doqallin_may_contain_bytes(
     lower: &[u8],
     upper: &[u8],
     has_upper: bool,
@@ -27,12 +23,12 @@ pub extern "C" fn vortex_may_contain_bytes(
     may_contain(lower, upper, has_upper, value)
 }
 
-/// Whether a zone of these bounds may hold the text; without `has_upper` the upper bound is not
-/// read. Takes no memory.
+/// Whether a zone with these bounds may hold the string: `false` exactly if it is below the lower
+/// bound or above the upper one. Without `has_upper` the upper bound is not read. Takes no memory.
 ///
-/// `NOT_UTF8` where the value, the lower bound, or the upper one that is read, is no text.
+/// - `NOT_UTF8`: the value, the lower bound or, with `has_upper`, the upper bound is not UTF-8.
 #[unsafe(no_mangle)]
-pub extern "C" fn vortex_may_contain_text(
+pub extern "C" fn doqallin_may_contain_text(
     lower: &[u8],
     upper: &[u8],
     has_upper: bool,
@@ -64,7 +60,7 @@ fn is_text(bytes: &[u8]) -> bool
     str::from_utf8(bytes).is_ok()
 }
 
-/// Whether the bytes are neither below the lower bound nor above the upper one, where there is one.
+/// Whether the bytes are neither below the lower bound nor above the upper one, if there is one.
 fn may_contain(lower: &[u8], upper: &[u8], has_upper: bool, value: &[u8]) -> bool
     ensures { result ≡ may_hold_bytes lower.now (some_where has_upper upper.now) value.now }
 {

@@ -1,6 +1,6 @@
 use Rattle.vortex_c.specs.Columns.{some_where}
 use Rattle.vortex_c.proofs.ZoneAnswers.{answers_of_bytes}
-use Rattle.vortex_c.proofs.zones.vortex_may_contain_bytes.Goals as goal
+use Rattle.vortex_c.proofs.zones.doqallin_may_contain_bytes.Goals as goal
 
 pub returns-clause-zones : goal.returns-clause-zones
 returns-clause-zones c =

@@ -1,6 +1,6 @@
 use Rattle.vortex_c.specs.Columns.{some_where}
 use Rattle.vortex_c.proofs.ZoneAnswers.{answers_of_texts}
-use Rattle.vortex_c.proofs.zones.vortex_may_contain_text.Goals as goal
+use Rattle.vortex_c.proofs.zones.doqallin_may_contain_text.Goals as goal
 
 pub returns-clause-zones : goal.returns-clause-zones
 returns-clause-zones c =

@@ -1,0 +1,73 @@
+// SPDX-License-Identifier: Apache-2.0
+// SPDX-FileCopyrightText: Copyright the Vortex contributors; ported to Rattle and changed
+//! Any call of the library, by a line of text, for callers from C: the static library
+//! `libdoqallin_call`.
+//!
+//! It stands beside `vortex_c`, since it holds the whole language of the worked cases.
+#![tactic(auto)]
+
+ghost use Rattle.std.specs.Prelude.{◌≡◌, ◌≢◌, ◌≤◌, ◌<◌, ◌⊎◌, IsUtf8, drop, length, take};
+
+use std::alloc::Global;
+
+/// The answer is written.
+pub const GIVEN: u32 = 0;
+
+/// An allocation was refused.
+pub const NO_MEMORY: u32 = 2;
+
+/// The room is too small: the length that is needed is written, and nothing else.
+pub const NO_ROOM: u32 = 3;
+
+/// The answer to a line, as UTF-8, written to the room.
+///
+/// A line names a call and what it is given, as the worked cases in crates/scalar_cases do. A
+/// refusal is an answer, as `CannotCast`, and so is `bad line`, to bytes that are no line. No clause
+/// says which answer comes: the stored cases are run.
+///
+/// - `NO_ROOM`: the room is too small. `count` is above its length. That a room of `count` bytes
+///   suffices is tested alone.
+/// - `NO_MEMORY`: there was no memory to read the line or to write the answer.
+#[unsafe(no_mangle)]
+pub extern "C" fn doqallin_call(
+    alloc: Global,
+    line: &[u8],
+    room: &mut [u8],
+    count: &mut usize,
+) -> u32
+    ensures statuses { (result ≡ GIVEN) ⊎ ((result ≡ NO_MEMORY) ⊎ (result ≡ NO_ROOM)) }
+    ensures within { result ≡ GIVEN → count.new ≤ length room.new }
+    ensures text { result ≡ GIVEN → IsUtf8 (take count.new room.new) }
+    ensures small { result ≡ NO_ROOM → length room.old < count.new }
+
+    // What is not said to be written stays.
+    ensures rest { result ≡ GIVEN → drop count.new room.new ≡ drop count.new room.old }
+    ensures kept_room { result ≢ GIVEN → room.new ≡ room.old }
+    ensures kept_count { result ≡ NO_MEMORY → count.new ≡ count.old }
+{
+    match worked_cases::call(alloc, line) {
+        Ok(answer) => give(answer.as_str().as_bytes(), room, count),
+        Err(_) => NO_MEMORY,
+    }
+}
+
+/// Writes the answer to the room, and its length; only the length if the room is too small.
+fn give(answer: &[u8], room: &mut [u8], count: &mut usize) -> u32
+    ensures statuses { (result ≡ GIVEN) ⊎ (result ≡ NO_ROOM) }
+    ensures count { count.new ≡ length answer.now }
+    ensures within { result ≡ GIVEN → length answer.now ≤ length room.old }
+    ensures given { result ≡ GIVEN → take (length answer.now) room.new ≡ answer.now }
+    ensures rest { result ≡ GIVEN
+        → drop (length answer.now) room.new ≡ drop (length answer.now) room.old }
+    ensures small { result ≡ NO_ROOM → length room.old < length answer.now }
+    ensures kept { result ≢ GIVEN → room.new ≡ room.old }
+{
+    let needed = answer.len();
+    *count = needed;
+    if needed <= room.len() {
+        room[..needed].copy_from_slice(answer);
+        GIVEN
+    } else {
+        NO_ROOM
+    }
+}
