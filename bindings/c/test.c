@@ -1,7 +1,8 @@
+// SPDX-License-Identifier: Apache-2.0
 // Tests of the C interface: what each status says, and that it alone is written. `test` runs them, and says how many
 // passed; `test memory N` makes the Nth call that takes memory once, between the lines `called` and `answered` on
 // standard error, for tests/bindings, which refuses its allocations.
-#include "vortex.h"
+#include "doqallin.h"
 #include <malloc.h>
 #include <stdio.h>
 #include <stdlib.h>
@@ -26,13 +27,13 @@ static void check(int holds, int line) {
 // A room and a count as they are before each call, and what a call may not have written.
 static uint8_t room[ROOM], other[ROOM];
 static size_t count;
-static struct vortex_bound_lengths lengths;
+static struct doqallin_bound_lengths lengths;
 
 static void fresh(void) {
     memset(room, 'q', ROOM);
     memset(other, 'q', ROOM);
     count = 77;
-    lengths = (struct vortex_bound_lengths){77, 78, true};
+    lengths = (struct doqallin_bound_lengths){77, 78, true};
 }
 
 static int is_kept(const uint8_t *from, size_t after) {
@@ -49,63 +50,63 @@ static int lengths_kept(void) { return lengths.lower == 77 && lengths.upper == 7
 
 static void casts(void) {
     uint64_t out = 7;
-    CHECK(vortex_cast_integer(VORTEX_I8, (uint64_t)-5, VORTEX_I64, &out) == VORTEX_GIVEN && out == (uint64_t)-5);
-    CHECK(vortex_cast_integer(VORTEX_U64, UINT64_MAX, VORTEX_U64, &out) == VORTEX_GIVEN && out == UINT64_MAX);
+    CHECK(doqallin_cast_integer(DOQALLIN_I8, (uint64_t)-5, DOQALLIN_I64, &out) == DOQALLIN_GIVEN && out == (uint64_t)-5);
+    CHECK(doqallin_cast_integer(DOQALLIN_U64, UINT64_MAX, DOQALLIN_U64, &out) == DOQALLIN_GIVEN && out == UINT64_MAX);
     out = 7;
-    CHECK(vortex_cast_integer(VORTEX_I8, (uint64_t)-5, VORTEX_U64, &out) == VORTEX_NONE && out == 7);
-    CHECK(vortex_cast_integer(VORTEX_I8, 251, VORTEX_I64, &out) == VORTEX_NOT_A_NUMBER && out == 7);
-    CHECK(vortex_cast_integer(VORTEX_U8, 256, VORTEX_I64, &out) == VORTEX_NOT_A_NUMBER && out == 7);
-    CHECK(vortex_cast_integer(8, 0, VORTEX_I64, &out) == VORTEX_NOT_A_NUMBER && out == 7);
-    CHECK(vortex_cast_integer(VORTEX_I64, 0, 255, &out) == VORTEX_NOT_A_NUMBER && out == 7);
+    CHECK(doqallin_cast_integer(DOQALLIN_I8, (uint64_t)-5, DOQALLIN_U64, &out) == DOQALLIN_NONE && out == 7);
+    CHECK(doqallin_cast_integer(DOQALLIN_I8, 251, DOQALLIN_I64, &out) == DOQALLIN_NOT_A_NUMBER && out == 7);
+    CHECK(doqallin_cast_integer(DOQALLIN_U8, 256, DOQALLIN_I64, &out) == DOQALLIN_NOT_A_NUMBER && out == 7);
+    CHECK(doqallin_cast_integer(8, 0, DOQALLIN_I64, &out) == DOQALLIN_NOT_A_NUMBER && out == 7);
+    CHECK(doqallin_cast_integer(DOQALLIN_I64, 0, 255, &out) == DOQALLIN_NOT_A_NUMBER && out == 7);
 }
 
 static void lower_bounds(void) {
-    CHECK(vortex_lower_bound_bytes(BYTES(""), 4) == 0);
-    CHECK(vortex_lower_bound_bytes(BYTES("apple"), 3) == 3);
-    CHECK(vortex_lower_bound_bytes(BYTES("apple"), SIZE_MAX) == 5);
+    CHECK(doqallin_lower_bound_bytes(BYTES(""), 4) == 0);
+    CHECK(doqallin_lower_bound_bytes(BYTES("apple"), 3) == 3);
+    CHECK(doqallin_lower_bound_bytes(BYTES("apple"), SIZE_MAX) == 5);
     fresh();
-    CHECK(vortex_lower_bound_text(BYTES("a\xc3\xb1"), 2, &count) == VORTEX_GIVEN && count == 1);
-    CHECK(vortex_lower_bound_text(BYTES("a\xc3\xb1"), 3, &count) == VORTEX_GIVEN && count == 3);
+    CHECK(doqallin_lower_bound_text(BYTES("a\xc3\xb1"), 2, &count) == DOQALLIN_GIVEN && count == 1);
+    CHECK(doqallin_lower_bound_text(BYTES("a\xc3\xb1"), 3, &count) == DOQALLIN_GIVEN && count == 3);
     fresh();
-    CHECK(vortex_lower_bound_text(BYTES("a\xc3"), 1, &count) == VORTEX_NOT_UTF8 && count == 77);
+    CHECK(doqallin_lower_bound_text(BYTES("a\xc3"), 1, &count) == DOQALLIN_NOT_UTF8 && count == 77);
 }
 
 static void upper_bounds(void) {
     fresh();
-    CHECK(vortex_upper_bound_bytes(BYTES("a\xff\xffz"), 3, room, ROOM, &count) == VORTEX_GIVEN);
+    CHECK(doqallin_upper_bound_bytes(BYTES("a\xff\xffz"), 3, room, ROOM, &count) == DOQALLIN_GIVEN);
     CHECK(count == 3 && !memcmp(room, "b\0\0", 3) && is_kept(room, 3));
     fresh();
-    CHECK(vortex_upper_bound_bytes(BYTES("apple"), 5, room, 5, &count) == VORTEX_GIVEN && holds(room, count, "apple"));
+    CHECK(doqallin_upper_bound_bytes(BYTES("apple"), 5, room, 5, &count) == DOQALLIN_GIVEN && holds(room, count, "apple"));
     fresh();
-    CHECK(vortex_upper_bound_bytes(BYTES("\xff\xffz"), 2, room, ROOM, &count) == VORTEX_NONE && count == 77 && is_kept(room, 0));
-    CHECK(vortex_upper_bound_bytes(BYTES("apple"), 3, room, 2, &count) == VORTEX_NO_ROOM && count == 3 && is_kept(room, 0));
-    CHECK(vortex_upper_bound_bytes(BYTES(""), 0, room, 0, &count) == VORTEX_GIVEN && count == 0 && is_kept(room, 0));
+    CHECK(doqallin_upper_bound_bytes(BYTES("\xff\xffz"), 2, room, ROOM, &count) == DOQALLIN_NONE && count == 77 && is_kept(room, 0));
+    CHECK(doqallin_upper_bound_bytes(BYTES("apple"), 3, room, 2, &count) == DOQALLIN_NO_ROOM && count == 3 && is_kept(room, 0));
+    CHECK(doqallin_upper_bound_bytes(BYTES(""), 0, room, 0, &count) == DOQALLIN_GIVEN && count == 0 && is_kept(room, 0));
     fresh();
-    CHECK(vortex_upper_bound_text(BYTES("a\xc3\xb1z"), 3, room, 3, &count) == VORTEX_GIVEN && holds(room, count, "a\xc3\xb2"));
+    CHECK(doqallin_upper_bound_text(BYTES("a\xc3\xb1z"), 3, room, 3, &count) == DOQALLIN_GIVEN && holds(room, count, "a\xc3\xb2"));
     fresh();
-    CHECK(vortex_upper_bound_text(BYTES("\x7fz"), 1, room, ROOM, &count) == VORTEX_NONE && count == 77 && is_kept(room, 0));
-    CHECK(vortex_upper_bound_text(BYTES("a\xff"), 1, room, ROOM, &count) == VORTEX_NOT_UTF8 && count == 77 && is_kept(room, 0));
-    CHECK(vortex_upper_bound_text(BYTES("apple"), 3, room, 2, &count) == VORTEX_NO_ROOM && count == 3 && is_kept(room, 0));
+    CHECK(doqallin_upper_bound_text(BYTES("\x7fz"), 1, room, ROOM, &count) == DOQALLIN_NONE && count == 77 && is_kept(room, 0));
+    CHECK(doqallin_upper_bound_text(BYTES("a\xff"), 1, room, ROOM, &count) == DOQALLIN_NOT_UTF8 && count == 77 && is_kept(room, 0));
+    CHECK(doqallin_upper_bound_text(BYTES("apple"), 3, room, 2, &count) == DOQALLIN_NO_ROOM && count == 3 && is_kept(room, 0));
 }
 
 static void zones(void) {
-    CHECK(vortex_may_contain_bytes(BYTES("app"), BYTES("bao"), true, BYTES("banana")));
-    CHECK(vortex_may_contain_bytes(BYTES("app"), BYTES("bao"), true, BYTES("app")));
-    CHECK(!vortex_may_contain_bytes(BYTES("app"), BYTES("bao"), true, BYTES("ap")));
-    CHECK(!vortex_may_contain_bytes(BYTES("app"), BYTES("bao"), true, BYTES("bap")));
-    CHECK(vortex_may_contain_bytes(BYTES("app"), BYTES(""), false, BYTES("bap")));
+    CHECK(doqallin_may_contain_bytes(BYTES("app"), BYTES("bao"), true, BYTES("banana")));
+    CHECK(doqallin_may_contain_bytes(BYTES("app"), BYTES("bao"), true, BYTES("app")));
+    CHECK(!doqallin_may_contain_bytes(BYTES("app"), BYTES("bao"), true, BYTES("ap")));
+    CHECK(!doqallin_may_contain_bytes(BYTES("app"), BYTES("bao"), true, BYTES("bap")));
+    CHECK(doqallin_may_contain_bytes(BYTES("app"), BYTES(""), false, BYTES("bap")));
     bool answer = true;
-    CHECK(vortex_may_contain_text(BYTES("app"), BYTES("bao"), true, BYTES("bap"), &answer) == VORTEX_GIVEN && !answer);
-    CHECK(vortex_may_contain_text(BYTES("app"), BYTES("bao"), true, BYTES("b"), &answer) == VORTEX_GIVEN && answer);
-    CHECK(vortex_may_contain_text(BYTES("app"), BYTES("\xff"), false, BYTES("b"), &answer) == VORTEX_GIVEN && answer);
+    CHECK(doqallin_may_contain_text(BYTES("app"), BYTES("bao"), true, BYTES("bap"), &answer) == DOQALLIN_GIVEN && !answer);
+    CHECK(doqallin_may_contain_text(BYTES("app"), BYTES("bao"), true, BYTES("b"), &answer) == DOQALLIN_GIVEN && answer);
+    CHECK(doqallin_may_contain_text(BYTES("app"), BYTES("\xff"), false, BYTES("b"), &answer) == DOQALLIN_GIVEN && answer);
     answer = true;
-    CHECK(vortex_may_contain_text(BYTES("app"), BYTES("\xff"), true, BYTES("a"), &answer) == VORTEX_NOT_UTF8 && answer);
-    CHECK(vortex_may_contain_text(BYTES("\xff"), BYTES("b"), true, BYTES("a"), &answer) == VORTEX_NOT_UTF8 && answer);
-    CHECK(vortex_may_contain_text(BYTES("app"), BYTES("b"), true, BYTES("\xc3"), &answer) == VORTEX_NOT_UTF8 && answer);
+    CHECK(doqallin_may_contain_text(BYTES("app"), BYTES("\xff"), true, BYTES("a"), &answer) == DOQALLIN_NOT_UTF8 && answer);
+    CHECK(doqallin_may_contain_text(BYTES("\xff"), BYTES("b"), true, BYTES("a"), &answer) == DOQALLIN_NOT_UTF8 && answer);
+    CHECK(doqallin_may_contain_text(BYTES("app"), BYTES("b"), true, BYTES("\xc3"), &answer) == DOQALLIN_NOT_UTF8 && answer);
 }
 
 typedef uint32_t column_call(const uint8_t *, size_t, const uint64_t *, size_t, size_t, uint8_t *, size_t, uint8_t *, size_t,
-                             struct vortex_bound_lengths *);
+                             struct doqallin_bound_lengths *);
 
 static int nothing_written(void) { return lengths_kept() && is_kept(room, 0) && is_kept(other, 0); }
 
@@ -113,51 +114,63 @@ static void columns_of(column_call *call) {
     static const uint64_t offsets[] = {0, 4, 9, 12}, down[] = {0, 4, 3, 12}, past[] = {0, 4, 9, 13}, huge[] = {0, UINT64_MAX};
     const uint8_t *bytes = (const uint8_t *)"pearapplefig";
     fresh();
-    CHECK(call(bytes, 12, offsets, 4, 2, room, 2, other, 2, &lengths) == VORTEX_GIVEN && lengths.has_upper);
+    CHECK(call(bytes, 12, offsets, 4, 2, room, 2, other, 2, &lengths) == DOQALLIN_GIVEN && lengths.has_upper);
     CHECK(holds(room, lengths.lower, "ap") && holds(other, lengths.upper, "pf"));
     fresh();
-    CHECK(call(bytes, 12, offsets + 1, 3, 22, room, ROOM, other, ROOM, &lengths) == VORTEX_GIVEN && lengths.has_upper);
+    CHECK(call(bytes, 12, offsets + 1, 3, 22, room, ROOM, other, ROOM, &lengths) == DOQALLIN_GIVEN && lengths.has_upper);
     CHECK(holds(room, lengths.lower, "apple") && holds(other, lengths.upper, "fig"));
     fresh();
-    CHECK(call(bytes, 12, offsets, 1, 2, room, ROOM, other, ROOM, &lengths) == VORTEX_NONE && nothing_written());
-    CHECK(call(bytes, 12, offsets, 0, 2, room, ROOM, other, ROOM, &lengths) == VORTEX_NONE && nothing_written());
-    CHECK(call(bytes, 12, down, 4, 2, room, ROOM, other, ROOM, &lengths) == VORTEX_BAD_OFFSETS && nothing_written());
-    CHECK(call(bytes, 12, past, 4, 2, room, ROOM, other, ROOM, &lengths) == VORTEX_BAD_OFFSETS && nothing_written());
-    CHECK(call(bytes, 12, huge, 2, 2, room, ROOM, other, ROOM, &lengths) == VORTEX_BAD_OFFSETS && nothing_written());
-    CHECK(call(bytes, 12, offsets, 4, 2, room, 1, other, 2, &lengths) == VORTEX_NO_ROOM && is_kept(room, 0) && is_kept(other, 0));
+    CHECK(call(bytes, 12, offsets, 1, 2, room, ROOM, other, ROOM, &lengths) == DOQALLIN_NONE && nothing_written());
+    CHECK(call(bytes, 12, offsets, 0, 2, room, ROOM, other, ROOM, &lengths) == DOQALLIN_NONE && nothing_written());
+    CHECK(call(bytes, 12, down, 4, 2, room, ROOM, other, ROOM, &lengths) == DOQALLIN_BAD_OFFSETS && nothing_written());
+    CHECK(call(bytes, 12, past, 4, 2, room, ROOM, other, ROOM, &lengths) == DOQALLIN_BAD_OFFSETS && nothing_written());
+    CHECK(call(bytes, 12, huge, 2, 2, room, ROOM, other, ROOM, &lengths) == DOQALLIN_BAD_OFFSETS && nothing_written());
+    CHECK(call(bytes, 12, offsets, 4, 2, room, 1, other, 2, &lengths) == DOQALLIN_NO_ROOM && is_kept(room, 0) && is_kept(other, 0));
     CHECK(lengths.lower == 2 && lengths.upper == 2 && lengths.has_upper);
     fresh();
-    CHECK(call(bytes, 12, offsets, 4, 3, room, 3, other, 2, &lengths) == VORTEX_NO_ROOM && is_kept(room, 0) && is_kept(other, 0));
+    CHECK(call(bytes, 12, offsets, 4, 3, room, 3, other, 2, &lengths) == DOQALLIN_NO_ROOM && is_kept(room, 0) && is_kept(other, 0));
     CHECK(lengths.lower == 3 && lengths.upper == 3 && lengths.has_upper);
 }
 
 static void columns(void) {
     static const uint64_t offsets[] = {0, 2, 5};
-    columns_of(vortex_column_bounds_bytes);
-    columns_of(vortex_column_bounds_text);
+    columns_of(doqallin_column_bounds_bytes);
+    columns_of(doqallin_column_bounds_text);
     fresh();
-    CHECK(vortex_column_bounds_bytes(BYTES("ab\xff\xff\xff"), offsets, 3, 2, room, ROOM, other, ROOM, &lengths) == VORTEX_GIVEN);
+    CHECK(doqallin_column_bounds_bytes(BYTES("ab\xff\xff\xff"), offsets, 3, 2, room, ROOM, other, ROOM, &lengths) == DOQALLIN_GIVEN);
     CHECK(holds(room, lengths.lower, "ab") && !lengths.has_upper && lengths.upper == 0 && is_kept(other, 0));
     fresh();
-    CHECK(vortex_column_bounds_text(BYTES("ab\xff\xff\xff"), offsets, 3, 2, room, ROOM, other, ROOM, &lengths) == VORTEX_NOT_UTF8);
+    CHECK(doqallin_column_bounds_text(BYTES("ab\xff\xff\xff"), offsets, 3, 2, room, ROOM, other, ROOM, &lengths) == DOQALLIN_NOT_UTF8);
     CHECK(nothing_written());
-    CHECK(vortex_column_bounds_text(BYTES("ab\x7f\x7f\x7f"), offsets, 3, 2, room, ROOM, other, ROOM, &lengths) == VORTEX_GIVEN);
+    CHECK(doqallin_column_bounds_text(BYTES("ab\x7f\x7f\x7f"), offsets, 3, 2, room, ROOM, other, ROOM, &lengths) == DOQALLIN_GIVEN);
     CHECK(holds(room, lengths.lower, "ab") && !lengths.has_upper && lengths.upper == 0 && is_kept(other, 0));
+    fresh();
+    CHECK(doqallin_column_bounds_bytes(BYTES("ab\xff\xff\xff"), offsets, 3, 2, room, 1, other, ROOM, &lengths) == DOQALLIN_NO_ROOM);
+    CHECK(lengths.lower == 2 && !lengths.has_upper && lengths.upper == 0 && is_kept(room, 0) && is_kept(other, 0));
+    // A value is tested whole, and not as far as its bound.
+    static const uint64_t all[] = {0, 3}, least[] = {0, 3, 4};
+    fresh();
+    CHECK(doqallin_column_bounds_text(BYTES("ab\xff"), all, 2, 2, room, ROOM, other, ROOM, &lengths) == DOQALLIN_NOT_UTF8);
+    CHECK(doqallin_column_bounds_text(BYTES("ab\xff" "b"), least, 3, 2, room, ROOM, other, ROOM, &lengths) == DOQALLIN_NOT_UTF8);
+    CHECK(nothing_written());
+    // One offset is no value, wherever it is.
+    static const uint64_t alone[] = {99};
+    CHECK(doqallin_column_bounds_bytes(BYTES("ab"), alone, 1, 2, room, ROOM, other, ROOM, &lengths) == DOQALLIN_NONE && nothing_written());
 }
 
 static void calls(void) {
     fresh();
-    CHECK(vortex_call(BYTES("cast i32:1000i32 i16"), room, ROOM, &count) == VORTEX_GIVEN && holds(room, count, "i16:1000i16"));
+    CHECK(doqallin_call(BYTES("cast i32:1000i32 i16"), room, ROOM, &count) == DOQALLIN_GIVEN && holds(room, count, "i16:1000i16"));
     fresh();
-    CHECK(vortex_call(BYTES("cast i32:1000i32 i8"), room, 10, &count) == VORTEX_GIVEN && holds(room, count, "CannotCast"));
+    CHECK(doqallin_call(BYTES("cast i32:1000i32 i8"), room, 10, &count) == DOQALLIN_GIVEN && holds(room, count, "CannotCast"));
     fresh();
-    CHECK(vortex_call(BYTES("cast i32:1000i32 i8"), room, 9, &count) == VORTEX_NO_ROOM && count == 10 && is_kept(room, 0));
-    CHECK(vortex_call(BYTES("cast i32:1000i32 i8"), room, 0, &count) == VORTEX_NO_ROOM && count == 10 && is_kept(room, 0));
-    CHECK(vortex_call(BYTES("cast i32:1i32 i8 => 7"), room, ROOM, &count) == VORTEX_GIVEN && holds(room, count, "i8:1i8"));
+    CHECK(doqallin_call(BYTES("cast i32:1000i32 i8"), room, 9, &count) == DOQALLIN_NO_ROOM && count == 10 && is_kept(room, 0));
+    CHECK(doqallin_call(BYTES("cast i32:1000i32 i8"), room, 0, &count) == DOQALLIN_NO_ROOM && count == 10 && is_kept(room, 0));
+    CHECK(doqallin_call(BYTES("cast i32:1i32 i8 => 7"), room, ROOM, &count) == DOQALLIN_GIVEN && holds(room, count, "i8:1i8"));
     fresh();
-    CHECK(vortex_call(BYTES(""), room, ROOM, &count) == VORTEX_GIVEN && holds(room, count, "bad line"));
+    CHECK(doqallin_call(BYTES(""), room, ROOM, &count) == DOQALLIN_GIVEN && holds(room, count, "bad line"));
     fresh();
-    CHECK(vortex_call(BYTES("clone utf8:\"\xff\""), room, ROOM, &count) == VORTEX_GIVEN && holds(room, count, "bad line"));
+    CHECK(doqallin_call(BYTES("clone utf8:\"\xff\""), room, ROOM, &count) == DOQALLIN_GIVEN && holds(room, count, "bad line"));
 }
 
 #define LONG "0123456789012345678901234567"
@@ -166,11 +179,11 @@ static void calls(void) {
 static uint32_t take_memory(int which) {
     static const uint64_t offsets[] = {0, 28};
     switch (which) {
-    case 0: return vortex_upper_bound_bytes(BYTES(LONG), 24, room, ROOM, &count);
-    case 1: return vortex_upper_bound_text(BYTES(LONG), 24, room, ROOM, &count);
-    case 2: return vortex_column_bounds_bytes(BYTES(LONG), offsets, 2, 24, room, ROOM, other, ROOM, &lengths);
-    case 3: return vortex_column_bounds_text(BYTES(LONG), offsets, 2, 24, room, ROOM, other, ROOM, &lengths);
-    case 4: return vortex_call(BYTES("cast list(i32):[1i32, 2i32] list(i64)"), room, ROOM, &count);
+    case 0: return doqallin_upper_bound_bytes(BYTES(LONG), 24, room, ROOM, &count);
+    case 1: return doqallin_upper_bound_text(BYTES(LONG), 24, room, ROOM, &count);
+    case 2: return doqallin_column_bounds_bytes(BYTES(LONG), offsets, 2, 24, room, ROOM, other, ROOM, &lengths);
+    case 3: return doqallin_column_bounds_text(BYTES(LONG), offsets, 2, 24, room, ROOM, other, ROOM, &lengths);
+    case 4: return doqallin_call(BYTES("cast list(i32):[1i32, 2i32] list(i64)"), room, ROOM, &count);
     default: exit(2);
     }
 }
@@ -197,12 +210,13 @@ static int memory(int which) {
     uint32_t status = take_memory(which);
     say("answered\n");
     if (mallinfo2().uordblks != before) return 1;
-    if (status == VORTEX_NO_MEMORY) return count == 77 && nothing_written() ? 3 : 1;
-    return status == VORTEX_GIVEN ? given(which) : 1;
+    if (status == DOQALLIN_NO_MEMORY) return count == 77 && nothing_written() ? 3 : 1;
+    return status == DOQALLIN_GIVEN ? given(which) : 1;
 }
 
 int main(int argc, char **argv) {
     if (argc == 3) return memory(atoi(argv[2]));
+    CHECK(doqallin_version() == DOQALLIN_VERSION);
     casts();
     lower_bounds();
     upper_bounds();

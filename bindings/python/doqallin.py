@@ -1,8 +1,11 @@
-"""Casts that never change a value, bounds that never exclude one, pruning that loses none, and the calls of worked cases by a line.
+# SPDX-License-Identifier: Apache-2.0
+# SPDX-FileCopyrightText: Copyright the Vortex contributors; ported to Rattle and changed
+"""Casts that never change a value, bounds that never exclude one, and pruning that loses none.
 
 The work is done by functions that are proved against their contracts, in Rattle. This module is their face: it is plain
-Python, and not proved. It loads `libvortex.so`, which `tools/build_bindings` puts into bindings/out, or into the folder
-that `VORTEX_LIB` names.
+Python, and not proved. It loads `libdoqallin.so`, which `tools/build_bindings` puts into bindings/out, or into the folder
+that `DOQALLIN_LIB` names. `call` loads a second library when it is first used, `libdoqallin_call.so`, which
+`tools/build_bindings --call` makes.
 
 >>> bounds = ZoneBounds.of("apple", "banana", 3)
 >>> bounds.lower, bounds.upper
@@ -15,6 +18,7 @@ from __future__ import annotations
 
 import ctypes
 import enum
+import functools
 import os
 from array import array
 from collections.abc import Iterable
@@ -25,61 +29,69 @@ from typing import Any, Generic, TypeVar
 
 __all__ = [
     "BadOffsets",
+    "DoqallinError",
     "Kind",
+    "LibraryMissing",
     "NegativeLength",
     "NotANumber",
     "NotUtf8",
     "OutOfMemory",
-    "VortexError",
     "ZoneBounds",
     "call",
     "cast",
     "column_bounds",
     "column_bounds_text",
+    "library_version",
     "lower_bound",
     "lower_bound_text",
     "upper_bound",
     "upper_bound_text",
 ]
 
+__version__ = "0.1.0"
+
 _GIVEN, _NONE, _NO_MEMORY, _NO_ROOM, _NOT_UTF8, _NOT_A_NUMBER, _BAD_OFFSETS = range(7)
 _MAX_SIZE = 2 ** (8 * ctypes.sizeof(c_size_t)) - 1
 
 
-class VortexError(Exception):
-    """What each error of this module is, but a TypeError for an argument of another type."""
+class DoqallinError(Exception):
+    """The base of this module's errors. An argument of another type is a TypeError, which is none of them."""
 
 
-class OutOfMemory(VortexError, MemoryError):
+class OutOfMemory(DoqallinError, MemoryError):
     """An allocation was refused."""
 
 
-class NotUtf8(VortexError, ValueError):
-    """Bytes that are to be a text are not UTF-8."""
+class NotUtf8(DoqallinError, ValueError):
+    """Bytes that are to be a string are not UTF-8."""
 
 
-class NotANumber(VortexError, ValueError):
-    """A kind does not have the number that is said to be of it."""
+class NotANumber(DoqallinError, ValueError):
+    """An integer kind does not have the number that is said to be of it."""
 
 
-class BadOffsets(VortexError, ValueError):
+class BadOffsets(DoqallinError, ValueError):
     """An offset of a column is below the one before it, or past the end of the bytes."""
 
 
-class NegativeLength(VortexError, ValueError):
+class NegativeLength(DoqallinError, ValueError):
     """A length in bytes is below 0."""
 
 
-_ERRORS: dict[int, tuple[type[VortexError], str]] = {
+class LibraryMissing(DoqallinError, ImportError):
+    """A library is not in the folder where it is looked for. The message says which, and what makes it."""
+
+
+_ERRORS: dict[int, tuple[type[DoqallinError], str]] = {
     _NO_MEMORY: (OutOfMemory, "an allocation was refused"),
-    _NOT_UTF8: (NotUtf8, "the bytes are no text"),
+    _NOT_UTF8: (NotUtf8, "the bytes are not UTF-8"),
     _NOT_A_NUMBER: (NotANumber, "the kind does not have the number"),
     _BAD_OFFSETS: (BadOffsets, "an offset goes down, or past the end of the bytes"),
 }
 
 
 class Kind(enum.IntEnum):
-    """The kinds of integers."""
+    """The integer kinds."""
 
     U8 = 0
     U16 = 1
@@ -100,27 +112,32 @@ class _BoundLengths(ctypes.Structure):
     _fields_ = [("lower", c_size_t), ("upper", c_size_t), ("has_upper", c_bool)]
 
 
-# The exports of crates/vortex_c as C sees them, written by hand: nothing compares them with that crate. A slice crosses
-# as a pointer and then a length, and a `bytes` lends its pointer, which is never null.
+# The exports of crates/vortex_c and crates/vortex_call as C sees them, written by hand: nothing compares them with those
+# crates. A slice crosses as a pointer and then a length, and a `bytes` lends its pointer, which is never null.
 _BYTES = (c_char_p, c_size_t)
 _ROOM = (POINTER(c_uint8), c_size_t)
 _COLUMN = (*_BYTES, POINTER(c_uint64), c_size_t, c_size_t, *_ROOM, *_ROOM, POINTER(_BoundLengths))
 
 
-def _load() -> ctypes.CDLL:
-    folder = os.environ.get("VORTEX_LIB") or Path(__file__).resolve().parent.parent / "out"
-    return ctypes.CDLL(str(Path(folder) / "libvortex.so"))
+def _load(name: str, made_by: str) -> ctypes.CDLL:
+    folder = os.environ.get("DOQALLIN_LIB") or Path(__file__).resolve().parent.parent / "out"
+    path = Path(folder) / name
+    if not path.is_file():
+        raise LibraryMissing(f"{path} is not there: run {made_by}")
+    return ctypes.CDLL(str(path))
 
 
-_lib = _load()
+_lib = _load("libdoqallin.so", "tools/build_bindings")
 
 
-def _declare(name: str, result: Any, *arguments: Any) -> Any:
-    function = getattr(_lib, f"vortex_{name}")
+def _declare(name: str, result: Any, *arguments: Any, of: ctypes.CDLL = _lib) -> Any:
+    function = getattr(of, f"doqallin_{name}")
     function.argtypes = arguments
     function.restype = result
     return function
 
+
+_version = _declare("version", c_uint32)
 
 _cast_integer = _declare("cast_integer", c_uint32, c_uint8, c_uint64, c_uint8, POINTER(c_uint64))
 _lower_bytes = _declare("lower_bound_bytes", c_size_t, *_BYTES, c_size_t)
@@ -131,12 +148,24 @@ _may_contain_bytes = _declare("may_contain_bytes", c_bool, *_BYTES, *_BYTES, c_b
 _may_contain_text = _declare("may_contain_text", c_uint32, *_BYTES, *_BYTES, c_bool, *_BYTES, POINTER(c_bool))
 _column_bytes = _declare("column_bounds_bytes", c_uint32, *_COLUMN)
 _column_text = _declare("column_bounds_text", c_uint32, *_COLUMN)
-_call = _declare("call", c_uint32, *_BYTES, *_ROOM, POINTER(c_size_t))
+
+
+@functools.cache
+def _call() -> Any:
+    """The call by a line, in a library of its own."""
+    library = _load("libdoqallin_call.so", "tools/build_bindings --call")
+    return _declare("call", c_uint32, *_BYTES, *_ROOM, POINTER(c_size_t), of=library)
+
+
+def library_version() -> str:
+    """The version of the library that is loaded, as `0.1.0`."""
+    major, minor, patch = _version().to_bytes(4, "big")[1:]
+    return f"{major}.{minor}.{patch}"
 
 
 def _check(status: int) -> None:
     if status != _GIVEN:
-        error, words = _ERRORS.get(status, (VortexError, f"status {status}"))
+        error, words = _ERRORS.get(status, (DoqallinError, f"status {status}"))
         raise error(words)
 
 
@@ -153,13 +182,13 @@ def _frozen(value: bytes | bytearray | memoryview) -> bytes:
     return bytes(value)
 
 
-def _encoded(text: str) -> bytes:
-    if not isinstance(text, str):
-        raise TypeError(f"a str is wanted, not {type(text).__name__}")
+def _encoded(string: str) -> bytes:
+    if not isinstance(string, str):
+        raise TypeError(f"a str is wanted, not {type(string).__name__}")
     try:
-        return text.encode()
+        return string.encode()
     except UnicodeEncodeError:
-        raise NotUtf8("the text has half of a surrogate pair") from None
+        raise NotUtf8("the string has half of a surrogate pair") from None
 
 
 def _room(length: int) -> ctypes.Array[c_uint8]:
@@ -167,9 +196,9 @@ def _room(length: int) -> ctypes.Array[c_uint8]:
 
 
 def cast(number: int, source: Kind, target: Kind) -> int | None:
-    """The number, or None where the target kind does not have it.
+    """The number, or None if the target kind does not have it.
 
-    Raises NotANumber where the source kind does not have it.
+    Raises NotANumber if the source kind does not have it.
 
     >>> cast(200, Kind.I64, Kind.U8), cast(-1, Kind.I64, Kind.U8)
     (200, None)
@@ -221,7 +250,7 @@ def _upper(call: Any, value: bytes, n: int) -> bytes | None:
 
 
 def upper_bound(value: bytes | bytearray | memoryview, n: int) -> bytes | None:
-    """The value, where it has at most n bytes, and else the least n bytes above it; None where its first n are all 255.
+    """The value if it has at most n bytes, and else the least n bytes above it; None if its first n are all 255.
 
     >>> upper_bound(b"apple", 3)
     b'apq'
@@ -230,8 +259,9 @@ def upper_bound(value: bytes | bytearray | memoryview, n: int) -> bytes | None:
 
 
 def upper_bound_text(value: str, n: int) -> str | None:
-    """The value, where it has at most n bytes in UTF-8, and else the least text above it of as many bytes as its lower
-    bound; None where the code point after that one's last character is no character of as many bytes.
+    """The value if it has at most n bytes in UTF-8, and else the least string above it of as many bytes as its lower bound.
+
+    None if the lower bound is empty, or if the code point after its last character is no character of as many bytes.
 
     >>> upper_bound_text("añb", 3)
     'aò'
@@ -245,9 +275,9 @@ T = TypeVar("T", bytes, str)
 
 @dataclass(frozen=True)
 class ZoneBounds(Generic[T]):
-    """The bounds of a zone of texts or of bytes: a value below the lower or above the upper one is not in the zone.
+    """The bounds of a zone of strings or of bytes: a value below the lower or above the upper one is not in the zone.
 
-    The upper one is None where there is none.
+    `upper` is None if there is no upper bound.
     """
 
     lower: T
@@ -299,7 +329,7 @@ def _column(call: Any, data: bytes, offsets: Iterable[int], n: int) -> tuple[byt
 
 
 def column_bounds(data: bytes | bytearray | memoryview, offsets: Iterable[int], n: int) -> ZoneBounds[bytes] | None:
-    """The bounds at n bytes of a column of bytes, from its least value to its greatest one; None of no values.
+    """The bounds at n bytes of a column of bytes, from its least value to its greatest one; None if it has no values.
 
     Value k is data[offsets[k]:offsets[k + 1]], so that m values have m + 1 offsets. An array("Q") of them is copied
     fastest.
@@ -312,9 +342,9 @@ def column_bounds(data: bytes | bytearray | memoryview, offsets: Iterable[int], 
 
 
 def column_bounds_text(data: str | bytes | bytearray | memoryview, offsets: Iterable[int], n: int) -> ZoneBounds[str] | None:
-    """The same of a column of texts, by their bytes in UTF-8, which the offsets count.
+    """The bounds at n bytes of a column of strings, by whole characters; None if it has no values. Offsets count bytes.
 
-    Raises NotUtf8 where the least or the greatest value is no text.
+    Raises NotUtf8 if the least or the greatest value is not UTF-8.
     """
     encoded = _encoded(data) if isinstance(data, str) else _frozen(data)
     bounds = _column(_column_text, encoded, offsets, n)
@@ -325,21 +355,22 @@ def column_bounds_text(data: str | bytes | bytearray | memoryview, offsets: Iter
 
 
 def call(line: str) -> str:
-    """What a call answers that is a line of text: its name and what it is given, as the worked cases in
-    crates/scalar_cases/stdin have them.
+    """The answer to a line: the name of a call and what it is given, as in the worked cases of crates/scalar_cases/stdin.
 
-    A refusal is an answer as well, OutOfMemory among them, and so is `bad line`, to a line that is none. An arrow at the
-    line's end, and what follows it, is passed over. Raises OutOfMemory where there is no memory for the line or the answer.
+    A refusal is an answer, OutOfMemory among them, and so is `bad line`, to a string that is no line. An arrow, ` => `, and
+    what follows it is passed over. Raises OutOfMemory if there is no memory for the line or for the answer, and
+    LibraryMissing if libdoqallin_call.so was not made.
 
     >>> call("cast i32:1000i32 i16"), call("cast i32:1000i32 i8")
     ('i16:1000i16', 'CannotCast')
     """
+    answer = _call()
     encoded = _encoded(line)
     count = c_size_t(256)
     status = _NO_ROOM
     while status == _NO_ROOM:
         length = count.value
         room = _room(length)
-        status = _call(encoded, len(encoded), room, length, byref(count))
+        status = answer(encoded, len(encoded), room, length, byref(count))
     _check(status)
     return ctypes.string_at(room, count.value).decode()

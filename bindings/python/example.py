@@ -1,12 +1,16 @@
-"""The bounds of a column of texts at 16 bytes, and what they rule out."""
+# SPDX-License-Identifier: Apache-2.0
+"""Two casts, and the bounds of a column of strings at 16 bytes with what they rule out."""
 
 from itertools import accumulate
 
-import vortex
+import doqallin
+from doqallin import Kind
+
+print(doqallin.cast(1000, Kind.I32, Kind.I16), doqallin.cast(1000, Kind.I32, Kind.I8))
 
 values = ["banana", "apple", "cherry pie with cream"]
 offsets = accumulate((len(value.encode()) for value in values), initial=0)
-bounds = vortex.column_bounds_text("".join(values), offsets, 16)
+bounds = doqallin.column_bounds_text("".join(values), offsets, 16)
 print(bounds.lower, "to", bounds.upper)
 for literal in ["cherry", "zucchini"]:
     print(f"{literal}:", "maybe" if bounds.may_contain(literal) else "no")

@@ -1,11 +1,12 @@
+# SPDX-License-Identifier: Apache-2.0
 """Calls a second through the boundary, beside plain Python."""
 
 import timeit
 from array import array
 from itertools import accumulate
 
-import vortex
-from vortex import Kind, ZoneBounds
+import doqallin
+from doqallin import Kind, ZoneBounds
 
 
 def seconds(call, calls: int) -> float:
@@ -33,14 +34,14 @@ def plain_column(data: bytes, offsets: array, n: int) -> tuple[bytes, bytes | No
 def main() -> None:
     value = bytes(range(200))
     zone = ZoneBounds.of("apple pie", "banana split", 16)
-    compare("cast", lambda: vortex.cast(1000, Kind.I64, Kind.I16), lambda: 1000 if -32768 <= 1000 < 32768 else None)
-    compare("lower bound of 200 bytes at 16", lambda: vortex.lower_bound(value, 16), lambda: value[:16])
-    compare("upper bound of 200 bytes at 16", lambda: vortex.upper_bound(value, 16), lambda: plain_upper(value, 16))
+    compare("cast", lambda: doqallin.cast(1000, Kind.I64, Kind.I16), lambda: 1000 if -32768 <= 1000 < 32768 else None)
+    compare("lower bound of 200 bytes at 16", lambda: doqallin.lower_bound(value, 16), lambda: value[:16])
+    compare("upper bound of 200 bytes at 16", lambda: doqallin.upper_bound(value, 16), lambda: plain_upper(value, 16))
     compare("a literal and a zone", lambda: zone.may_contain("cherry"), lambda: zone.lower <= "cherry" <= zone.upper)
     values = [str(number * 2_654_435_761 % 10**12).encode() for number in range(1_000_000)]
     data = b"".join(values)
     offsets = array("Q", accumulate(map(len, values), initial=0))
-    compare("a column of a million values", lambda: vortex.column_bounds(data, offsets, 16), lambda: plain_column(data, offsets, 16), 1)
+    compare("a column of a million values", lambda: doqallin.column_bounds(data, offsets, 16), lambda: plain_column(data, offsets, 16), 1)
 
 
 if __name__ == "__main__":

@@ -1,3 +1,4 @@
+# SPDX-License-Identifier: Apache-2.0
 """100,000 random values of each call, compared with plain Python, the stored cases, and what each error comes of.
 
 python3 -m unittest runs it, in this folder.
@@ -6,17 +7,22 @@ python3 -m unittest runs it, in this folder.
 from __future__ import annotations
 
 import doctest
+import os
 import random
+import subprocess
+import sys
+import tempfile
 import unittest
 from array import array
 from itertools import accumulate, pairwise
 from pathlib import Path
 
-import vortex
-from vortex import Kind, ZoneBounds
+import doqallin
+from doqallin import Kind, ZoneBounds
 
 COUNT = 100_000
-CASES = Path(__file__).resolve().parents[2] / "crates/scalar_cases"
+TOP = Path(__file__).resolve().parents[2]
+CASES = TOP / "crates/scalar_cases"
 RANGES = {
     kind: range(-(2 ** (int(kind.name[1:]) - 1)), 2 ** (int(kind.name[1:]) - 1))
     if kind.is_signed
@@ -84,23 +90,23 @@ class Compared(unittest.TestCase):
             for to in kinds:
                 for _ in range(COUNT // 64 + 1):
                     number = some_number(source, of)
-                    self.assertEqual(vortex.cast(number, of, to), number if number in RANGES[to] else None)
+                    self.assertEqual(doqallin.cast(number, of, to), number if number in RANGES[to] else None)
 
     def test_bounds_of_bytes(self) -> None:
         source = random.Random(2)
         for _ in range(COUNT):
             value = some_bytes(source)
             n = some_length(source, len(value))
-            self.assertEqual(vortex.lower_bound(value, n), value[:n])
-            self.assertEqual(vortex.upper_bound(value, n), plain_upper(value, n))
+            self.assertEqual(doqallin.lower_bound(value, n), value[:n])
+            self.assertEqual(doqallin.upper_bound(value, n), plain_upper(value, n))
 
     def test_bounds_of_texts(self) -> None:
         source = random.Random(3)
         for _ in range(COUNT):
             value = some_text(source)
             n = some_length(source, len(value.encode()))
-            self.assertEqual(vortex.lower_bound_text(value, n), plain_lower_text(value, n))
-            self.assertEqual(vortex.upper_bound_text(value, n), plain_upper_text(value, n))
+            self.assertEqual(doqallin.lower_bound_text(value, n), plain_lower_text(value, n))
+            self.assertEqual(doqallin.upper_bound_text(value, n), plain_upper_text(value, n))
 
     def test_zones(self) -> None:
         source = random.Random(4)
@@ -118,8 +124,8 @@ class Compared(unittest.TestCase):
     def test_columns(self) -> None:
         source = random.Random(5)
         for some, lower_of, upper_of, call in [
-            (some_bytes, lambda v, n: v[:n], plain_upper, vortex.column_bounds),
-            (some_text, plain_lower_text, plain_upper_text, vortex.column_bounds_text),
+            (some_bytes, lambda v, n: v[:n], plain_upper, doqallin.column_bounds),
+            (some_text, plain_lower_text, plain_upper_text, doqallin.column_bounds_text),
         ]:
             key = (lambda value: value.encode()) if some is some_text else bytes
             for _ in range(COUNT):
@@ -140,16 +146,16 @@ class Compared(unittest.TestCase):
             offsets = [some_offset(source, len(data)) for _ in range(source.randrange(5))]
             is_number = all(0 <= offset < 2**64 for offset in offsets)
             if is_number and all(a <= b <= len(data) for a, b in pairwise(offsets)):
-                self.assertEqual(vortex.column_bounds(data, offsets, 8) is not None, len(offsets) > 1)
+                self.assertEqual(doqallin.column_bounds(data, offsets, 8) is not None, len(offsets) > 1)
             else:
-                with self.assertRaises(vortex.BadOffsets):
-                    vortex.column_bounds(data, offsets, 8)
+                with self.assertRaises(doqallin.BadOffsets):
+                    doqallin.column_bounds(data, offsets, 8)
 
 
 def is_right(line: str) -> bool:
-    """Whether the call before an arrow of the line answers what follows it. A text in a line may have an arrow too."""
+    """Whether the call before an arrow of the line answers what follows it. A string in a line may have an arrow too."""
     parts = line.split(" => ")
-    return any(vortex.call(" => ".join(parts[:place])) == " => ".join(parts[place:]) for place in range(1, len(parts)))
+    return any(doqallin.call(" => ".join(parts[:place])) == " => ".join(parts[place:]) for place in range(1, len(parts)))
 
 
 class Cases(unittest.TestCase):
@@ -162,46 +168,51 @@ class Cases(unittest.TestCase):
     def test_an_answer_of_any_length(self) -> None:
         for length in [0, 100, 248, 249, 250, 100_000]:
             text = 'utf8:"' + "a" * length + '"'
-            self.assertEqual(vortex.call(f"clone {text}"), text)
+            self.assertEqual(doqallin.call(f"clone {text}"), text)
 
     def test_what_is_no_line(self) -> None:
         for line in ["", "cast", "cast i32:1i32", "# cast i32:1i32 i8", "cast i32:1i32 i8\n", "\0"]:
-            self.assertEqual(vortex.call(line), "bad line")
-        self.assertEqual(vortex.call("cast i32:1i32 i8 => 7"), "i8:1i8")
+            self.assertEqual(doqallin.call(line), "bad line")
+        self.assertEqual(doqallin.call("cast i32:1i32 i8 => 7"), "i8:1i8")
 
 
 class Refused(unittest.TestCase):
     def test_numbers_of_no_kind(self) -> None:
         for number, kind in [(256, Kind.U8), (-1, Kind.U64), (128, Kind.I8), (2**64, Kind.U64), (2**63, Kind.I64), (-(2**63) - 1, Kind.I64)]:
-            with self.assertRaises(vortex.NotANumber):
-                vortex.cast(number, kind, Kind.U64)
+            with self.assertRaises(doqallin.NotANumber):
+                doqallin.cast(number, kind, Kind.U64)
         with self.assertRaises(ValueError):
-            vortex.cast(1, 8, Kind.U64)
+            doqallin.cast(1, 8, Kind.U64)
 
-    def test_texts_that_are_none(self) -> None:
-        for call in [vortex.lower_bound_text, vortex.upper_bound_text]:
-            with self.assertRaises(vortex.NotUtf8):
+    def test_strings_that_are_none(self) -> None:
+        for call in [doqallin.lower_bound_text, doqallin.upper_bound_text]:
+            with self.assertRaises(doqallin.NotUtf8):
                 call("a\ud800", 1)
-        with self.assertRaises(vortex.NotUtf8):
+        with self.assertRaises(doqallin.NotUtf8):
             ZoneBounds("a", "b").may_contain("\ud800")
-        with self.assertRaises(vortex.NotUtf8):
-            vortex.call('clone utf8:"\ud800"')
-        with self.assertRaises(vortex.NotUtf8):
-            vortex.column_bounds_text("ñ", [0, 1], 8)
+        with self.assertRaises(doqallin.NotUtf8):
+            doqallin.call('clone utf8:"\ud800"')
+        with self.assertRaises(doqallin.NotUtf8):
+            doqallin.column_bounds_text("ñ", [0, 1], 8)
+
+    def test_a_byte_past_the_bound(self) -> None:
+        for offsets in [[0, 2], [0, 2, 3]]:
+            with self.assertRaises(doqallin.NotUtf8):
+                doqallin.column_bounds_text("añb", offsets, 1)
 
     def test_one_family(self) -> None:
-        for error in [vortex.BadOffsets, vortex.NegativeLength, vortex.NotANumber, vortex.NotUtf8, vortex.OutOfMemory]:
-            self.assertTrue(issubclass(error, vortex.VortexError))
-        with self.assertRaises(vortex.NegativeLength):
-            vortex.lower_bound(b"a", -1)
+        for error in [doqallin.BadOffsets, doqallin.LibraryMissing, doqallin.NegativeLength, doqallin.NotANumber, doqallin.NotUtf8, doqallin.OutOfMemory]:
+            self.assertTrue(issubclass(error, doqallin.DoqallinError))
+        with self.assertRaises(doqallin.NegativeLength):
+            doqallin.lower_bound(b"a", -1)
 
     def test_values_of_other_types(self) -> None:
         for value in [None, "a", 3, [1]]:
             with self.assertRaises(TypeError):
-                vortex.lower_bound(value, 1)
+                doqallin.lower_bound(value, 1)
         for text in [None, b"a", 3, ["a"]]:
             with self.assertRaises(TypeError):
-                vortex.lower_bound_text(text, 1)
+                doqallin.lower_bound_text(text, 1)
         with self.assertRaises(TypeError):
             ZoneBounds("a", "b").may_contain(b"a")
 
@@ -209,24 +220,44 @@ class Refused(unittest.TestCase):
 class Taken(unittest.TestCase):
     def test_bytes_of_each_kind(self) -> None:
         for value in [b"a\0bc", bytearray(b"a\0bc"), memoryview(b"a\0bc"), memoryview(b"a.\0.b.c.")[::2]]:
-            self.assertEqual(vortex.lower_bound(value, 3), b"a\0b")
-            self.assertEqual(vortex.upper_bound(value, 3), b"a\0c")
+            self.assertEqual(doqallin.lower_bound(value, 3), b"a\0b")
+            self.assertEqual(doqallin.upper_bound(value, 3), b"a\0c")
 
     def test_a_column_of_each_kind(self) -> None:
         for data in [b"abcd", bytearray(b"abcd"), memoryview(b"abcd")]:
             for offsets in [[1, 2, 4], (1, 2, 4), array("Q", [1, 2, 4]), iter([1, 2, 4]), bytes([1, 2, 4])]:
-                self.assertEqual(vortex.column_bounds(data, offsets, 1), ZoneBounds(b"b", b"d"))
+                self.assertEqual(doqallin.column_bounds(data, offsets, 1), ZoneBounds(b"b", b"d"))
 
     def test_no_upper_bound(self) -> None:
-        bounds = vortex.column_bounds(b"a\xff\xff", [0, 1, 3], 1)
+        bounds = doqallin.column_bounds(b"a\xff\xff", [0, 1, 3], 1)
         self.assertEqual(bounds, ZoneBounds(b"a", None))
         self.assertTrue(bounds.may_contain(b"\xff\xff\xff"))
         self.assertFalse(bounds.may_contain(b""))
 
 
+class Found(unittest.TestCase):
+    def test_versions_agree(self) -> None:
+        self.assertEqual(doqallin.__version__, (TOP / "VERSION").read_text().strip())
+        self.assertEqual(doqallin.library_version(), doqallin.__version__)
+
+    def test_a_library_that_is_not_there(self) -> None:
+        with tempfile.TemporaryDirectory() as folder:
+            self.assertEqual(told("import doqallin", folder), f"doqallin.LibraryMissing: {folder}/libdoqallin.so is not there: run tools/build_bindings")
+            os.symlink(doqallin._lib._name, f"{folder}/libdoqallin.so")
+            self.assertEqual(told("import doqallin; doqallin.lower_bound(b'a', 1)", folder), "")
+            said = f"doqallin.LibraryMissing: {folder}/libdoqallin_call.so is not there: run tools/build_bindings --call"
+            self.assertEqual(told("import doqallin; doqallin.call('')", folder), said)
+
+
+def told(code: str, folder: str) -> str:
+    """The last line on standard error of a program that looks for the libraries in this folder."""
+    ran = subprocess.run([sys.executable, "-c", code], cwd=Path(__file__).parent, env={**os.environ, "DOQALLIN_LIB": folder}, capture_output=True, text=True)
+    return ran.stderr.strip().rpartition("\n")[2]
+
+
 def load_tests(loader: unittest.TestLoader, tests: unittest.TestSuite, pattern: str | None) -> unittest.TestSuite:
-    tests.addTests(doctest.DocTestSuite(vortex))
-    tests.addTests(doctest.DocFileSuite("../README.md", globs={"vortex": vortex}, encoding="utf-8"))
+    tests.addTests(doctest.DocTestSuite(doqallin))
+    tests.addTests(doctest.DocFileSuite("../README.md", globs={"doqallin": doqallin}, encoding="utf-8"))
     return tests
 
 

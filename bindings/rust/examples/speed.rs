@@ -1,9 +1,11 @@
-//! Calls a second through the boundary, beside plain Rust; or one of the two on a column of a million texts, `column ours`
+// SPDX-License-Identifier: Apache-2.0
+// SPDX-FileCopyrightText: Copyright the Vortex contributors; ported to Rattle and changed
+//! Calls a second through the boundary, beside plain Rust; or one of the two on a column of a million strings, `column ours`
 //! or `column plain`, whose instructions bench/bindings counts.
 
+use doqallin::*;
 use std::hint::black_box;
 use std::time::Instant;
-use vortex::*;
 
 /// The seconds of one call: the best of five rounds.
 fn seconds(mut call: impl FnMut()) -> f64 {
@@ -72,12 +74,12 @@ fn calls() {
         || _ = black_box(plain_upper(black_box(&bytes), 16)),
     );
     compare(
-        "lower bound of a text of 200 bytes at 16",
+        "lower bound of a string of 200 bytes at 16",
         || _ = black_box(lower_bound_text(black_box(&text), 16)),
         || _ = black_box(plain_lower_text(black_box(&text), 16)),
     );
     compare(
-        "upper bound of a text of 200 bytes at 16",
+        "upper bound of a string of 200 bytes at 16",
         || _ = black_box(upper_bound_text(black_box(&text), 16)),
         || _ = black_box(plain_upper_text(black_box(&text), 16)),
     );
@@ -93,8 +95,8 @@ fn calls() {
     );
 }
 
-/// A million texts of 4 to 28 letters each, after the same beginning.
-fn texts(beginning: &str) -> (String, Vec<u64>) {
+/// A million strings of 4 to 28 letters each, after the same beginning.
+fn strings(beginning: &str) -> (String, Vec<u64>) {
     let mut state = 88_172_645_463_325_252u64;
     let mut next = || {
         state ^= state << 13;
@@ -114,7 +116,7 @@ fn texts(beginning: &str) -> (String, Vec<u64>) {
 }
 
 fn column(of: &str, beginning: &str) {
-    let (all, offsets) = texts(beginning);
+    let (all, offsets) = strings(beginning);
     let found = match of {
         "ours" => column_bounds_text(&all, &offsets, 16).unwrap(),
         "plain" => {

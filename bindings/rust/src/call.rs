@@ -1,16 +1,19 @@
-//! Any call of the library, by a line of text.
+// SPDX-License-Identifier: Apache-2.0
+// SPDX-FileCopyrightText: Copyright the Vortex contributors; ported to Rattle and changed
+//! Nearly any call of the library, by a line of text.
 
 use crate::{out_of_memory, raw};
 
-/// What a call answers that is a line of text: its name and what it is given, as the worked cases in
-/// crates/scalar_cases/stdin have them.
+/// The answer to a line: the name of a call and what it is given, as in the worked cases of crates/scalar_cases/stdin.
 ///
-/// A refusal is an answer as well, `OutOfMemory` among them, and so is `bad line`, to a line that is none. An arrow at the
-/// line's end, and what follows it, is passed over.
+/// A refusal is an answer, `OutOfMemory` among them, and so is `bad line`, to a string that is no line. An arrow, ` => `, and
+/// what follows it is passed over. Without memory for the line or for the answer the process ends, as at a `Vec`.
+///
+/// Needs the feature `call`.
 ///
 /// ```
-/// assert_eq!(vortex::call("cast i32:1000i32 i16"), "i16:1000i16");
-/// assert_eq!(vortex::call("cast i32:1000i32 i8"), "CannotCast");
+/// assert_eq!(doqallin::call("cast i32:1000i32 i16"), "i16:1000i16");
+/// assert_eq!(doqallin::call("cast i32:1000i32 i8"), "CannotCast");
 /// ```
 #[must_use]
 pub fn call(line: &str) -> String {
@@ -19,7 +22,7 @@ pub fn call(line: &str) -> String {
         let mut count = 0;
         // SAFETY: each pointer and length are of one slice, and the room and `count` are places of their own.
         let status = unsafe {
-            raw::vortex_call(
+            raw::doqallin_call(
                 line.as_ptr(),
                 line.len(),
                 room.as_mut_ptr(),
@@ -30,7 +33,7 @@ pub fn call(line: &str) -> String {
         match status {
             raw::GIVEN => {
                 room.truncate(count);
-                return String::from_utf8(room).expect("an answer is a text");
+                return String::from_utf8(room).expect("an answer is UTF-8");
             }
             raw::NO_ROOM => room.resize(count, 0),
             raw::NO_MEMORY => out_of_memory(line.len()),

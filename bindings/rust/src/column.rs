@@ -1,3 +1,5 @@
+// SPDX-License-Identifier: Apache-2.0
+// SPDX-FileCopyrightText: Copyright the Vortex contributors; ported to Rattle and changed
 //! Bounds of a whole column, in one call.
 
 use crate::{ZoneBounds, out_of_memory, raw};
@@ -8,7 +10,7 @@ use std::fmt;
 pub enum ColumnError {
     /// An offset is below the one before it, or past the end of the bytes.
     BadOffsets,
-    /// The least or the greatest value does not begin and end where a character does.
+    /// The least or the greatest value is not UTF-8: it does not begin or end where a character does.
     NotUtf8,
 }
 
@@ -16,44 +18,51 @@ impl fmt::Display for ColumnError {
     fn fmt(&self, f: &mut fmt::Formatter<'_>) -> fmt::Result {
         f.write_str(match self {
             ColumnError::BadOffsets => "an offset goes down, or past the end of the bytes",
-            ColumnError::NotUtf8 => "the least or the greatest value is no text",
+            ColumnError::NotUtf8 => "the least or the greatest value is not UTF-8",
         })
     }
 }
 
 impl std::error::Error for ColumnError {}
 
-/// The bounds at n bytes of a column of strings of bytes, from its least value to its greatest one; none of no values.
+/// The bounds at n bytes of a column of bytes, from its least value to its greatest one; `None` if it has no values.
 ///
-/// Value k has the bytes from `offsets[k]` to `offsets[k + 1]`, so that m values have m + 1 offsets.
+/// Value k is the bytes from `offsets[k]` to `offsets[k + 1]`, so that m values have m + 1 offsets.
 ///
 /// ```
-/// let bounds = vortex::column_bounds(b"pearapplefig", &[0, 4, 9, 12], 2)?.expect("three values");
+/// let bounds = doqallin::column_bounds(b"pearapplefig", &[0, 4, 9, 12], 2)?.expect("three values");
 /// assert_eq!(bounds.lower(), b"ap");
 /// assert_eq!(bounds.upper(), Some(&b"pf"[..]));
-/// # Ok::<(), vortex::ColumnError>(())
+/// # Ok::<(), doqallin::ColumnError>(())
 /// ```
 pub fn column_bounds(
     bytes: &[u8],
     offsets: &[u64],
     n: usize,
 ) -> Result<Option<ZoneBounds<[u8]>>, ColumnError> {
-    let bounds = bounds_of(raw::vortex_column_bounds_bytes, bytes, offsets, n)?;
+    let bounds = bounds_of(raw::doqallin_column_bounds_bytes, bytes, offsets, n)?;
     Ok(bounds.map(|(lower, upper)| ZoneBounds::from_parts(lower, upper)))
 }
 
-/// The same of a column of texts.
+/// The bounds at n bytes of a column of strings, by whole characters; `None` if it has no values.
+///
+/// The offsets count bytes. `NotUtf8` comes if the least or the greatest value does not begin or end where a character does.
 pub fn column_bounds_text(
     text: &str,
     offsets: &[u64],
     n: usize,
 ) -> Result<Option<ZoneBounds<str>>, ColumnError> {
-    let bounds = bounds_of(raw::vortex_column_bounds_text, text.as_bytes(), offsets, n)?;
-    let of_text = |bytes| String::from_utf8(bytes).expect("the bound of a text is a text");
-    Ok(bounds.map(|(lower, upper)| ZoneBounds::from_parts(of_text(lower), upper.map(of_text))))
+    let bounds = bounds_of(
+        raw::doqallin_column_bounds_text,
+        text.as_bytes(),
+        offsets,
+        n,
+    )?;
+    let of_string = |bytes| String::from_utf8(bytes).expect("the bound of a string is one");
+    Ok(bounds.map(|(lower, upper)| ZoneBounds::from_parts(of_string(lower), upper.map(of_string))))
 }
 
-/// The lower bound, and the upper one where there is one.
+/// The lower bound, and the upper one if there is one.
 type Bounds = (Vec<u8>, Option<Vec<u8>>);
 
 fn bounds_of(

@@ -1,3 +1,5 @@
+// SPDX-License-Identifier: Apache-2.0
+// SPDX-FileCopyrightText: Copyright the Vortex contributors; ported to Rattle and changed
 //! Casts of integers.
 
 use crate::raw;
@@ -42,18 +44,18 @@ integers! {
     7: i64, i64;
 }
 
-/// The same number as another type, or none where that type does not have it.
+/// The same number as another type, or `None` if that type does not have it.
 ///
 /// ```
-/// assert_eq!(vortex::cast::<i64, u8>(200), Some(200));
-/// assert_eq!(vortex::cast::<i64, u8>(-1), None);
+/// assert_eq!(doqallin::cast::<i64, u8>(200), Some(200));
+/// assert_eq!(doqallin::cast::<i64, u8>(-1), None);
 /// ```
 #[must_use]
 pub fn cast<From: Integer, To: Integer>(number: From) -> Option<To> {
     let mut bits = 0;
     // SAFETY: `bits` is a place of its own, and the call asks nothing of the numbers.
     let status =
-        unsafe { raw::vortex_cast_integer(From::KIND, number.to_bits(), To::KIND, &mut bits) };
+        unsafe { raw::doqallin_cast_integer(From::KIND, number.to_bits(), To::KIND, &mut bits) };
     match status {
         raw::GIVEN => Some(To::from_bits(bits)),
         raw::NONE => None,

@@ -1,5 +1,7 @@
-//! Casts that never change a value, bounds that never exclude one, pruning that loses none, and any other call of the
-//! library by a line of text.
+// SPDX-License-Identifier: Apache-2.0
+// SPDX-FileCopyrightText: Copyright the Vortex contributors; ported to Rattle and changed
+//! Casts that never change a value, bounds that never exclude one, and pruning that loses none. With the feature `call`,
+//! nearly any other call of the library by a line of text.
 //!
 //! The work is done by functions that are proved against their contracts, in Rattle. This crate is their safe face: it
 //! is plain Rust, and not proved.
@@ -12,14 +14,15 @@
 //!     *end += value.len() as u64;
 //!     Some(*end)
 //! }));
-//! let bounds = vortex::column_bounds_text(&bytes, &offsets, 16)?.expect("the column has values");
+//! let bounds = doqallin::column_bounds_text(&bytes, &offsets, 16)?.expect("the column has values");
 //! assert_eq!(bounds.lower(), "apple");
 //! assert_eq!(bounds.upper(), Some("cherry pie with!"));
 //! assert!(bounds.may_contain("cherry"));
 //! assert!(!bounds.may_contain("zucchini"));
-//! # Ok::<(), vortex::ColumnError>(())
+//! # Ok::<(), doqallin::ColumnError>(())
 //! ```
 
+#[cfg(feature = "call")]
 mod call;
 mod column;
 mod integer;
@@ -27,11 +30,23 @@ mod raw;
 mod truncation;
 mod zone;
 
+#[cfg(feature = "call")]
 pub use call::call;
 pub use column::{ColumnError, column_bounds, column_bounds_text};
 pub use integer::{Integer, cast};
 pub use truncation::{lower_bound, lower_bound_text, upper_bound, upper_bound_text};
 pub use zone::{Value, ZoneBounds};
+
+/// The version of this crate, as `0.1.0`.
+pub const VERSION: &str = env!("CARGO_PKG_VERSION");
+
+/// The version of the library that is linked, as `0.1.0`.
+#[must_use]
+pub fn library_version() -> String {
+    // SAFETY: the call takes nothing.
+    let [_, major, minor, patch] = unsafe { raw::doqallin_version() }.to_be_bytes();
+    format!("{major}.{minor}.{patch}")
+}
 
 /// Ends the process as a `Vec` does that finds no memory for so many bytes.
 fn out_of_memory(bytes: usize) -> ! {

@@ -1,11 +1,15 @@
-//! The exports of crates/vortex_c as C sees them, written by hand: nothing compares them with that crate.
+// SPDX-License-Identifier: Apache-2.0
+// SPDX-FileCopyrightText: Copyright the Vortex contributors; ported to Rattle and changed
+//! The exports of crates/vortex_c and crates/vortex_call as C sees them, written by hand: nothing compares them with those
+//! crates.
 //!
-//! A slice crosses as a pointer and then a length. None of them keeps a pointer, and none asks more than the header
-//! bindings/c/vortex.h lists.
+//! A slice crosses as a pointer and then a length. No call keeps a pointer, and none asks more than the header
+//! bindings/c/doqallin.h lists.
 
 pub const GIVEN: u32 = 0;
 pub const NONE: u32 = 1;
 pub const NO_MEMORY: u32 = 2;
+#[cfg(feature = "call")]
 pub const NO_ROOM: u32 = 3;
 pub const NOT_UTF8: u32 = 4;
 pub const BAD_OFFSETS: u32 = 6;
@@ -36,23 +40,16 @@ pub type Column = unsafe extern "C" fn(
 ) -> u32;
 
 unsafe extern "C" {
-    pub fn vortex_cast_integer(from: u8, bits: u64, to: u8, out: &mut u64) -> u32;
-    pub fn vortex_lower_bound_bytes(value: *const u8, length: usize, n: usize) -> usize;
-    pub fn vortex_lower_bound_text(
+    pub fn doqallin_version() -> u32;
+    pub fn doqallin_cast_integer(from: u8, bits: u64, to: u8, out: &mut u64) -> u32;
+    pub fn doqallin_lower_bound_bytes(value: *const u8, length: usize, n: usize) -> usize;
+    pub fn doqallin_lower_bound_text(
         value: *const u8,
         length: usize,
         n: usize,
         count: &mut usize,
     ) -> u32;
-    pub fn vortex_upper_bound_bytes(
-        value: *const u8,
-        length: usize,
-        n: usize,
-        room: *mut u8,
-        room_length: usize,
-        count: &mut usize,
-    ) -> u32;
-    pub fn vortex_upper_bound_text(
+    pub fn doqallin_upper_bound_bytes(
         value: *const u8,
         length: usize,
         n: usize,
@@ -60,7 +57,15 @@ unsafe extern "C" {
         room_length: usize,
         count: &mut usize,
     ) -> u32;
-    pub fn vortex_may_contain_bytes(
+    pub fn doqallin_upper_bound_text(
+        value: *const u8,
+        length: usize,
+        n: usize,
+        room: *mut u8,
+        room_length: usize,
+        count: &mut usize,
+    ) -> u32;
+    pub fn doqallin_may_contain_bytes(
         lower: *const u8,
         lower_length: usize,
         upper: *const u8,
@@ -69,7 +74,7 @@ unsafe extern "C" {
         value: *const u8,
         value_length: usize,
     ) -> bool;
-    pub fn vortex_may_contain_text(
+    pub fn doqallin_may_contain_text(
         lower: *const u8,
         lower_length: usize,
         upper: *const u8,
@@ -79,7 +84,7 @@ unsafe extern "C" {
         value_length: usize,
         answer: &mut bool,
     ) -> u32;
-    pub fn vortex_column_bounds_bytes(
+    pub fn doqallin_column_bounds_bytes(
         bytes: *const u8,
         bytes_length: usize,
         offsets: *const u64,
@@ -91,7 +96,7 @@ unsafe extern "C" {
         upper_room_length: usize,
         lengths: &mut BoundLengths,
     ) -> u32;
-    pub fn vortex_column_bounds_text(
+    pub fn doqallin_column_bounds_text(
         bytes: *const u8,
         bytes_length: usize,
         offsets: *const u64,
@@ -103,7 +108,11 @@ unsafe extern "C" {
         upper_room_length: usize,
         lengths: &mut BoundLengths,
     ) -> u32;
-    pub fn vortex_call(
+}
+
+#[cfg(feature = "call")]
+unsafe extern "C" {
+    pub fn doqallin_call(
         line: *const u8,
         line_length: usize,
         room: *mut u8,

@@ -1,3 +1,5 @@
+// SPDX-License-Identifier: Apache-2.0
+// SPDX-FileCopyrightText: Copyright the Vortex contributors; ported to Rattle and changed
 //! Bounds of a zone of a column.
 
 use crate::{lower_bound, lower_bound_text, raw, upper_bound, upper_bound_text};
@@ -12,7 +14,7 @@ mod sealed {
     }
 }
 
-/// What a zone holds: strings of bytes, `[u8]`, or texts, `str`.
+/// What a zone holds: bytes, `[u8]`, or strings, `str`.
 pub trait Value: sealed::Bounded {}
 
 impl sealed::Bounded for [u8] {
@@ -29,7 +31,7 @@ impl sealed::Bounded for [u8] {
         let upper = upper.unwrap_or_default();
         // SAFETY: each pointer and length are of one slice, which lives until the call returns.
         unsafe {
-            raw::vortex_may_contain_bytes(
+            raw::doqallin_may_contain_bytes(
                 lower.as_ptr(),
                 lower.len(),
                 upper.as_ptr(),
@@ -55,9 +57,9 @@ impl sealed::Bounded for str {
         let has_upper = upper.is_some();
         let upper = upper.unwrap_or_default();
         let mut answer = false;
-        // SAFETY: each pointer and length are of one text, and `answer` is a place of its own.
+        // SAFETY: each pointer and length are of one string, and `answer` is a place of its own.
         let status = unsafe {
-            raw::vortex_may_contain_text(
+            raw::doqallin_may_contain_text(
                 lower.as_ptr(),
                 lower.len(),
                 upper.as_ptr(),
@@ -68,7 +70,7 @@ impl sealed::Bounded for str {
                 &mut answer,
             )
         };
-        assert_eq!(status, raw::GIVEN, "all three are texts");
+        assert_eq!(status, raw::GIVEN, "all three are strings");
         answer
     }
 }
@@ -76,10 +78,10 @@ impl sealed::Bounded for str {
 impl Value for [u8] {}
 impl Value for str {}
 
-/// The bounds of a zone: a lower one, and an upper one where there is one. A value outside of them is not in the zone.
+/// The bounds of a zone: a lower one, and an upper one if there is one. A value outside of them is not in the zone.
 ///
 /// ```
-/// let bounds = vortex::ZoneBounds::of("apple", "banana", 3);
+/// let bounds = doqallin::ZoneBounds::of("apple", "banana", 3);
 /// assert!(bounds.may_contain("banana"));
 /// assert!(!bounds.may_contain("ap"));
 /// ```
@@ -110,7 +112,7 @@ impl<T: Value + ?Sized> ZoneBounds<T> {
         self.lower.borrow()
     }
 
-    /// The upper bound: no value of the zone is above it. None where there is none.
+    /// The upper bound: no value of the zone is above it. `None` if there is none.
     #[must_use]
     pub fn upper(&self) -> Option<&T> {
         self.upper.as_ref().map(Borrow::borrow)

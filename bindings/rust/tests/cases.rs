@@ -1,11 +1,13 @@
+// SPDX-License-Identifier: Apache-2.0
+// SPDX-FileCopyrightText: Copyright the Vortex contributors; ported to Rattle and changed
 //! The stored worked cases, by `call`.
 
+use doqallin::call;
 use std::fs::read_to_string;
-use vortex::call;
 
 const CASES: &str = concat!(env!("CARGO_MANIFEST_DIR"), "/../../crates/scalar_cases");
 
-/// Whether the call before an arrow of the line answers what follows it. A text in a line may have an arrow too.
+/// Whether the call before an arrow of the line answers what follows it. A string in a line may have an arrow too.
 fn is_right(line: &str) -> bool {
     line.match_indices(" => ")
         .any(|(at, arrow)| call(&line[..at]) == line[at + arrow.len()..])

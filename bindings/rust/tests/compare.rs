@@ -1,6 +1,8 @@
+// SPDX-License-Identifier: Apache-2.0
+// SPDX-FileCopyrightText: Copyright the Vortex contributors; ported to Rattle and changed
 //! 100,000 random values of each call, compared with plain Rust.
 
-use vortex::*;
+use doqallin::*;
 
 /// A xorshift generator.
 struct Random(u64);
@@ -348,4 +350,23 @@ fn bounds_are_compared_by_both() {
         format!("{bounds:?}"),
         r#"ZoneBounds { lower: "app", upper: Some("bao") }"#
     );
+}
+
+#[test]
+fn versions_agree() {
+    let told =
+        std::fs::read_to_string(concat!(env!("CARGO_MANIFEST_DIR"), "/../../VERSION")).unwrap();
+    assert_eq!(told.trim_end(), VERSION);
+    assert_eq!(library_version(), VERSION);
+}
+
+/// A value is tested whole, and not as far as its bound.
+#[test]
+fn a_byte_past_the_bound_is_told() {
+    for offsets in [&[0, 2][..], &[0, 2, 3]] {
+        assert_eq!(
+            column_bounds_text("añb", offsets, 1),
+            Err(ColumnError::NotUtf8)
+        );
+    }
 }
