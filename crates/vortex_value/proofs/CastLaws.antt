@@ -7,7 +7,7 @@ use Rattle.vortex_dtype.specs.TypeTree.{TypeTree, null_type, extension_type, IsF
 use Rattle.vortex_dtype.specs.declared.types.DType.{DType}
 use Rattle.vortex_dtype.specs.declared.error.VortexError.{VortexError}
 use Rattle.vortex_dtype.specs.declared.error.VortexError.TheVariants.{CannotCast, OutOfMemory}
-use Rattle.vortex_value.specs.CastAnswers.{AnswersCast, GivesCast, HidesNoLeaf}
+use Rattle.vortex_value.specs.CastAnswers.{AnswersCast, GivesCast}
 use Rattle.vortex_value.specs.Casts.{same_type, a_null, Allows, CanCast, IsCast, RefusesCast, Sorts}
 use Rattle.vortex_value.specs.Laws.CastLaws.{CallsAreChains, CastsKeepScalars, ChainsAgree, ChainsKeepValues, IntoNullableAndBack, NullableCastsBack, ThereAndBack}
 use Rattle.vortex_value.specs.Chains.{last_of, Steps}
@@ -124,13 +124,14 @@ copy_answers s t v r e p made refused flat = subst (λ u. AnswersCast s u v r) e
           succeeds_only = possible s s v v (kept s s v refl p);
           one = record { typed = made.typed; valid = rw made.typed there; same = same; only = λ w q d. one_value s s w (scalar_raw x) refl q there (d ∙ sym same) };
           refuses_only = tt;
+          leaf_refused = tt;
         }
-    answers (Err f) made refused flat = record { succeeds_only = tt; one = tt; refuses_only = rw refused (λ h. not_ok f (flat h p)) }
-
--- which is possible
-pub copy_hides : (s t : TypeTree) (v : RawTree) (r : Result Scalar VortexError) → s ≡ t → Valid s v → IfErr r (HidesNoLeaf s (content v) (CanCast s t (content v)))
-copy_hides s t v (Ok x) e p = tt
-copy_hides s t v (Err f) e p = λ whole memory. subst (λ u. CanCast s u (content v)) e (possible s s v v (kept s s v refl p))
+    answers (Err f) made refused flat = record {
+      succeeds_only = tt;
+      one = tt;
+      refuses_only = rw refused (λ h. not_ok f (flat h p));
+      leaf_refused = λ whole memory. possible s s v v (kept s s v refl p);
+    }
 
 pub into_nullable_and_back : IntoNullableAndBack
 into_nullable_and_back s v p = (kept s (as_nullable s) v (nullable_same s) (nullable_valid s v p), kept (as_nullable s) s v (sym (nullable_same s)) p)

@@ -24,11 +24,14 @@ IsTakenWhole s c = IsExtension s ⊎ IsLeaf c
 abbrev pub HidesNoLeaf : TypeTree → Content → Type 0 → VortexError → Type 0
 HidesNoLeaf s c p e = IsTakenWhole s c → e ≡ OutOfMemory → p
 
--- r is an answer to a cast of the value v of type s to t, by the contract of casts
+-- r answers a cast of the value v of type s to t: the contract of every call that casts. It succeeds only if the table
+-- allows the cast and t has the content, and gives the one scalar of t and the content. It is refused because the cast is
+-- impossible, or out of memory, and of what is taken whole in that order.
 pub record AnswersCast (s t : TypeTree) (v : RawTree) (r : Result Scalar VortexError) : Type 0 where
   pub succeeds_only : IfOk r (λ _. CanCast s t (content v))
   pub one : IfOk r (IsTheOne t (content v))
   pub refuses_only : IfErr r (RefusesCast t (CanCast s t (content v)))
+  pub leaf_refused : IfErr r (HidesNoLeaf s (content v) (CanCast s t (content v)))
 
 -- r is the scalar of type t and value w, or out of memory, which flat types never answer
 abbrev pub GivesCast : TypeTree → RawTree → Result Scalar VortexError → Type 0

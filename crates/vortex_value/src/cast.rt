@@ -15,13 +15,11 @@
 //!
 //! Parts are appended where they are to stand, by `push_cast`, with a function for each kind too.
 
-ghost use Rattle.std.specs.Prelude.{IfErr, IfOk};
 ghost use Rattle.vortex_dtype.specs.TypeOf.{type_of};
 ghost use Rattle.vortex_dtype.specs.TypeTree.{as_nullable};
-ghost use Rattle.vortex_value.specs.CastAnswers.{HidesNoLeaf};
-ghost use Rattle.vortex_value.specs.Casts.{CanCast, RefusesCast};
-ghost use Rattle.vortex_value.specs.Values.Refs.{IsValidRef, ref_content, ref_type};
-ghost use Rattle.vortex_value.specs.Values.Scalars.{IsMadeOf, IsTheOne, IsValid, scalar_content, scalar_raw, scalar_type};
+ghost use Rattle.vortex_value.specs.CastAnswers.{AnswersCast};
+ghost use Rattle.vortex_value.specs.Values.Refs.{IsValidRef, ref_raw, ref_type};
+ghost use Rattle.vortex_value.specs.Values.Scalars.{IsMadeOf, IsValid, scalar_raw, scalar_type};
 
 use crate::refs::ScalarRef;
 use crate::scalars::{Scalar, with_type};
@@ -42,14 +40,7 @@ impl Scalar {
     /// no other refusal. Ports `Scalar::cast`.
     pub fn cast(&self, alloc: Global, target: &DType) -> Result<Scalar, VortexError>
         requires { IsValid self.now }
-        ensures succeeds_only { IfOk result
-            (λ _. CanCast (scalar_type self.now) (type_of target.now) (scalar_content self.now)) }
-        ensures one { IfOk result (IsTheOne (type_of target.now) (scalar_content self.now)) }
-        ensures refuses_only { IfErr result (RefusesCast (type_of target.now)
-            (CanCast (scalar_type self.now) (type_of target.now) (scalar_content self.now))) }
-        ensures leaf_refused { IfErr result
-            (HidesNoLeaf (scalar_type self.now) (scalar_content self.now)
-            (CanCast (scalar_type self.now) (type_of target.now) (scalar_content self.now))) }
+        ensures { AnswersCast (scalar_type self.now) (type_of target.now) (scalar_raw self.now) result }
     {
         ScalarRef::of(self).cast(alloc, target)
     }
@@ -76,14 +67,7 @@ impl ScalarRef<'_> {
     /// without a copy.
     pub fn cast(&self, alloc: Global, target: &DType) -> Result<Scalar, VortexError>
         requires { IsValidRef self.now }
-        ensures succeeds_only { IfOk result
-            (λ _. CanCast (ref_type self.now) (type_of target.now) (ref_content self.now)) }
-        ensures one { IfOk result (IsTheOne (type_of target.now) (ref_content self.now)) }
-        ensures refuses_only { IfErr result (RefusesCast (type_of target.now)
-            (CanCast (ref_type self.now) (type_of target.now) (ref_content self.now))) }
-        ensures leaf_refused { IfErr result
-            (HidesNoLeaf (ref_type self.now) (ref_content self.now)
-            (CanCast (ref_type self.now) (type_of target.now) (ref_content self.now))) }
+        ensures { AnswersCast (ref_type self.now) (type_of target.now) (ref_raw self.now) result }
     {
         let source = self.dtype();
         if source == target {

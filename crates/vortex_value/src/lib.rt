@@ -1,3 +1,5 @@
+// SPDX-License-Identifier: Apache-2.0
+// SPDX-FileCopyrightText: Copyright the Vortex contributors; ported to Rattle and changed
 //! Raw values and scalars: a valid scalar is one type and one content.
 //!
 //! A public item ports upstream's of the same name, but where it names another or says that it, or
