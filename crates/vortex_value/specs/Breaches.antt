@@ -16,7 +16,7 @@ use Rattle.vortex_value.specs.Validity.{type_with, Valid}
 abbrev pub Found : Type 0
 Found = List Step × Breach
 
--- a breach of the node itself, which then lists none below it
+-- a breach of the node itself, which then lists no breach below it
 abbrev pub here : Breach → List Found
 here breach = ([], breach) ∷ []
 
@@ -108,10 +108,10 @@ Refuses (Invalid path breach) fs = first fs ≡ Some (path, breach)
 Refuses OutOfMemory fs = HasSteps (first fs)
 Refuses _ fs = ⊥
 
--- A raw value is valid exactly where it has no breach.
+-- A raw value is valid exactly if it has no breach.
 abbrev pub ValidExactlyWithoutBreach : Type 0
 ValidExactlyWithoutBreach = (t : TypeTree) (v : RawTree) → Valid t v ↔ (breaches t v ≡ [])
 
--- The test of validity passes exactly where the raw value is valid.
+-- The test of validity passes exactly if the raw value is valid.
 abbrev pub ValidityIsDecided : Type 0
 ValidityIsDecided = (t : TypeTree) (v : RawTree) → IsTrue (is_valid t v) ↔ Valid t v

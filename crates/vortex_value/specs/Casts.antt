@@ -59,7 +59,7 @@ abbrev pub ByField : (TypeTrees → Contents → Type 0) → TypeTree → Conten
 ByField p (struct_type names ts n) (sequence cs) = p ts cs
 ByField p _ _ = ⊥
 
--- p where the id is found, and else q
+-- p if the id is found, and else q
 abbrev pub ForId : Bool → Type 0 → Type 0 → Type 0
 ForId true p q = p
 ForId false p q = q
@@ -131,7 +131,7 @@ pub record IsCast (s t : TypeTree) (v w : RawTree) : Type 0 where
   pub valid : Valid t w
   pub same : content w ≡ content v
 
--- a cast to t, possible where p holds, is refused: because it is impossible, or as out of memory, which flat types never
+-- a cast to t, possible if p holds, is refused: because it is impossible, or as out of memory, which flat types never
 -- answer; for nothing else
 abbrev pub RefusesCast : TypeTree → Type 0 → VortexError → Type 0
 RefusesCast t p CannotCast = ¬ p

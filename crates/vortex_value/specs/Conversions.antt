@@ -12,9 +12,9 @@ use Rattle.vortex_value.specs.Values.RawTree.{RawTree, absent, raw_bool, raw_int
 use Rattle.vortex_value.specs.Values.Scalars.{IsMadeOf, IsValid}
 use Rattle.vortex_value.specs.declared.scalars.Scalar.{Scalar}
 
--- What is given. A bool gives `raw_bool`, a text `raw_text`, a string of bytes `raw_bytes`.
+-- What is given. A bool gives `raw_bool`, a string `raw_text`, bytes `raw_bytes`.
 
--- an integer gives its number, in the kind of its type
+-- an integer gives its number, with the `PType` of its Rust type
 abbrev pub given_number : {T : Type 0} → PType → (T → ℤ) → T → RawTree
 given_number k number n = raw_integer k (number n)
 
@@ -22,7 +22,7 @@ given_number k number n = raw_integer k (number n)
 abbrev pub given_usize : ℕ → RawTree
 given_usize = given_number U64 pos
 
--- a none gives the null, and so does each none inside
+-- `None` gives the null, and so does each `None` inside
 abbrev pub given_option : {T : Type 0} → (T → RawTree) → Option T → RawTree
 given_option given None = absent
 given_option given (Some x) = given x
@@ -40,17 +40,17 @@ abbrev pub truth_in : RawTree → Taken
 truth_in (raw_bool b) = Ok (raw_bool b)
 truth_in _ = Err WrongKind
 
--- the number of any kind, as one of this kind where it has it
+-- the number of any integer, as one of this `PType` if that has it
 abbrev pub number_in : PType → RawTree → Taken
 number_in k (raw_integer l z) = if in_range k z then Ok (raw_integer k z) else Err OutOfRange
 number_in k _ = Err WrongKind
 
--- the text
+-- the string
 abbrev pub text_in : RawTree → Taken
 text_in (raw_text bs) = Ok (raw_text bs)
 text_in _ = Err WrongKind
 
--- the string of bytes
+-- the bytes
 abbrev pub bytes_in : RawTree → Taken
 bytes_in (raw_bytes bs) = Ok (raw_bytes bs)
 bytes_in _ = Err WrongKind
@@ -60,24 +60,24 @@ abbrev pub unless_null : (RawTree → Taken) → RawTree → Taken
 unless_null read absent = Err IsNull
 unless_null read v = read v
 
--- a null is a none, and any other value read so
+-- a null gives `None`, and another value what is read of it
 abbrev pub or_none : (RawTree → Taken) → RawTree → Taken
 or_none read absent = Ok absent
 or_none read v = read v
 
 -- The table: what each Rust type takes from a type and a raw value.
 
--- bool: another type, a null, another kind of raw value
+-- bool: another type, a null, another variant of raw value
 abbrev pub taken_bool : TypeTree → RawTree → Taken
 taken_bool (bool_type n) v = unless_null truth_in v
 taken_bool _ v = Err WrongKind
 
--- Option<bool>: another type; a null is none; another kind of raw value
+-- Option<bool>: another type; a null gives `None`; another variant of raw value
 abbrev pub taken_option_bool : TypeTree → RawTree → Taken
 taken_option_bool (bool_type n) v = or_none truth_in v
 taken_option_bool _ v = Err WrongKind
 
--- an integer of a kind, from any type: a null, another kind of raw value, a number that does not fit
+-- an integer of a `PType`, from any type: a null, another variant of raw value, a number that does not fit
 abbrev pub taken_number : PType → TypeTree → RawTree → Taken
 taken_number k t v = unless_null (number_in k) v
 
@@ -87,37 +87,37 @@ abbrev pub taken_option_number : PType → TypeTree → RawTree → Taken
 taken_option_number k (integer_type l n) v = if same_ptype l k then or_none (number_in k) v else Err WrongPType
 taken_option_number k _ v = Err WrongKind
 
--- usize: another type, a null, another kind of raw value, a number that does not fit
+-- usize: another type, a null, another variant of raw value, a number that does not fit
 abbrev pub taken_usize : TypeTree → RawTree → Taken
 taken_usize (integer_type l n) v = unless_null (number_in U64) v
 taken_usize _ v = Err WrongKind
 
--- Option<usize>: another type; a null is none; another kind of raw value, a number that does not fit
+-- Option<usize>: another type; a null gives `None`; another variant of raw value, a number that does not fit
 abbrev pub taken_option_usize : TypeTree → RawTree → Taken
 taken_option_usize (integer_type l n) v = or_none (number_in U64) v
 taken_option_usize _ v = Err WrongKind
 
--- a text: another type, a null, another kind of raw value
+-- a string: another type, a null, another variant of raw value
 abbrev pub taken_text : TypeTree → RawTree → Taken
 taken_text (utf8_type n) v = unless_null text_in v
 taken_text _ v = Err WrongKind
 
--- an optional text: another type; a null is none; another kind of raw value
+-- an optional string: another type; a null gives `None`; another variant of raw value
 abbrev pub taken_option_text : TypeTree → RawTree → Taken
 taken_option_text (utf8_type n) v = or_none text_in v
 taken_option_text _ v = Err WrongKind
 
--- a string of bytes: another type, a null, another kind of raw value
+-- bytes: another type, a null, another variant of raw value
 abbrev pub taken_bytes : TypeTree → RawTree → Taken
 taken_bytes (binary_type n) v = unless_null bytes_in v
 taken_bytes _ v = Err WrongKind
 
--- an optional string of bytes: another type; a null is none; another kind of raw value
+-- optional bytes: another type; a null gives `None`; another variant of raw value
 abbrev pub taken_option_bytes : TypeTree → RawTree → Taken
 taken_option_bytes (binary_type n) v = or_none bytes_in v
 taken_option_bytes _ v = Err WrongKind
 
--- the first, and then the rest, where both are taken; else the first refusal
+-- the first and then the rest, if both are taken; else the first refusal
 abbrev pub both_taken : Taken → Result RawTrees VortexError → Result RawTrees VortexError
 both_taken (Ok v) (Ok vs) = Ok (raw_then v vs)
 both_taken (Ok v) (Err e) = Err e
@@ -152,19 +152,19 @@ abbrev pub Takes : {T : Type 0} → (T → RawTree) → Taken → Result T Vorte
 Takes given (Ok v) r = IsOkAnd r (λ x. given x ≡ v)
 Takes given (Err e) r = IsErrAnd r (λ f. f ≡ e)
 
--- the same of a copy, for which there may be no memory, where it is not null
+-- r answers a copy of what is taken; there may be no memory for one that is not null
 abbrev pub TakesCopy : {T : Type 0} → (T → RawTree) → Taken → Result T VortexError → Type 0
 TakesCopy given (Ok absent) r = IsOkAnd r (λ x. given x ≡ absent)
 TakesCopy given (Ok v) r = MatchResult r (λ x. given x ≡ v) (λ e. e ≡ OutOfMemory)
 TakesCopy given (Err e) r = IsErrAnd r (λ f. f ≡ e)
 
--- a text or a string of at most 22 bytes
+-- a string, or bytes, of at most 22 bytes
 abbrev pub IsShort : RawTree → Type 0
 IsShort (raw_text bs) = length bs ≤ 22
 IsShort (raw_bytes bs) = length bs ≤ 22
 IsShort _ = ⊥
 
--- whatever the memory, what is taken is answered where it is short
+-- what is taken is answered whatever the memory, if it is short
 abbrev pub SparesShort : {T : Type 0} → Taken → Result T VortexError → Type 0
 SparesShort (Ok v) r = IsShort v → IsOk r
 SparesShort (Err e) r = ⊤

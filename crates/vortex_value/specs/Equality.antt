@@ -6,7 +6,7 @@ use Rattle.vortex_dtype.specs.TypeEquality.{tree_eq}
 use Rattle.vortex_dtype.specs.TypeTree.{TypeTree, Same, erase}
 use Rattle.vortex_value.specs.Values.Content.{Content, null, truth, whole, text, string, sequence, tagged, typed, Contents, no_contents, content_then}
 
--- equal, where typed children need types that are the same up to nullability and equal contents
+-- equal; typed children need types that are the same up to nullability, and equal contents
 abbrev mutual
   pub EqualContents : Content → Content → Type 0
   EqualContents null null = Unit {0}
@@ -74,19 +74,19 @@ pub record EqualityIsAnEquivalence : Type 0 where
   pub symmetric : (c d : Content) → EqualContents c d → EqualContents d c
   pub transitive : (c d e : Content) → EqualContents c d → EqualContents d e → EqualContents c e
 
--- Where no typed child stands, equal contents are one.
+-- Without typed children, equal contents are one.
 abbrev pub EqualityAgreesWithoutTyped : Type 0
 EqualityAgreesWithoutTyped = (c d : Content) → HasNoTyped c → EqualContents c d ↔ (c ≡ d)
 
--- The test passes exactly where contents are equal.
+-- The test passes exactly if contents are equal.
 abbrev pub EqualityIsDecided : Type 0
 EqualityIsDecided = (c d : Content) → IsTrue (equal c d) ↔ EqualContents c d
 
--- the test of things that say a content passes exactly where what they say is equal
+-- the test of things that say a content passes exactly if what they say is equal
 abbrev pub EqualsByContent : {A : Type 0} → (A → Content) → (A → A → Bool) → Type 0
 EqualsByContent {A} said eq = (x y : A) → IsTrue (eq x y) ↔ EqualContents (said x) (said y)
 
--- the test of things of a type and a content passes exactly where the types are the same up to nullability and the
+-- the test of things of a type and a content passes exactly if the types are the same up to nullability and the
 -- contents equal
 abbrev pub EqualsByTypeAndContent : {A : Type 0} → (A → TypeTree) → (A → Content) → (A → A → Bool) → Type 0
 EqualsByTypeAndContent {A} type_at said eq = (x y : A) → IsTrue (eq x y) ↔ (Same (type_at x) (type_at y) × EqualContents (said x) (said y))

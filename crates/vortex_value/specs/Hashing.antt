@@ -37,7 +37,7 @@ counted_feed cs = fed.usize (place_count cs) ++ contents_feed cs
 abbrev pub typed_feed : TypeTree → Content → HashWrites
 typed_feed t c = tree_feed (erase t) ++ content_feed c
 
--- Equal contents feed every hasher the same, and with types that are the same up to nullability too.
+-- Equal contents feed a hasher alike, also with types that are the same up to nullability.
 pub record EqualFeedSame : Type 0 where
   pub contents : (c d : Content) → EqualContents c d → content_feed c ≡ content_feed d
   pub typed : (t u : TypeTree) (c d : Content) → Same t u → EqualContents c d → typed_feed t c ≡ typed_feed u d

@@ -6,7 +6,7 @@ use Rattle.std.specs.List.{All}
 use Rattle.vortex_dtype.specs.declared.error.VortexError.{VortexError}
 use Rattle.vortex_dtype.specs.declared.error.VortexError.TheVariants.{OutOfMemory}
 
--- each iterator that the iterable becomes may be called, ends, and gives only items of which P holds
+-- each iterator that the iterable becomes may be called, ends, and gives only items that meet P
 abbrev pub GivesOnly : {U S A : Type 0} → (U → S → Type 0) → (S → Type 0) → (S → Option A → S → Type 0) → (S → Count) → U → (A → Type 0) → Type 0
 GivesOnly {S = S} gives can steps left iterable P = (it : S) → gives iterable it → can it × IsFinite (left it) × EachRunFrom steps it (λ run. All P run.items)
 
@@ -22,7 +22,7 @@ MadeOfItems gives steps iterable cause made result = IfOk result (λ x. GivesAll
 abbrev pub RefusesItems : {U S A T : Type 0} → (U → S → Type 0) → (S → Option A → S → Type 0) → U → (List A → Option VortexError) → Result T VortexError → Type 0
 RefusesItems gives steps iterable cause result = IfErr result (λ e. (e ≡ OutOfMemory) ⊎ GivesAll gives steps iterable (λ items. cause items ≡ Some e))
 
--- the items before the last one taken give no cause to refuse; with it e is their cause, or out of memory where they give none
+-- the items before the last one taken give no cause to refuse; with it e is their cause, or out of memory if they give none
 pub record IsRefusedAtLast {A : Type 0} (cause : List A → Option VortexError) (e : VortexError) (taken : List A) : Type 0 where
   pub before : List A
   pub last : A

@@ -1,4 +1,4 @@
--- What holds of all casts, which contents a type has, and the zero and the default of each kind of type.
+-- What holds of all casts, which contents a type has, and the zero and the default of each type.
 pub mod CastLaws
 pub mod HasContent
 pub mod ZeroCases

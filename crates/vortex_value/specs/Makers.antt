@@ -66,7 +66,7 @@ abbrev pub fields_cause : List TypeTree → List Scalar → Option VortexError
 fields_cause types children =
     if length types == length children then option_map WrongChild (wrong_field types children) else Some (WrongLength (length types) (length children))
 
--- why children make no struct: the type is none, and else what its fields say
+-- why children make no struct: the type is no struct type, and else what its fields say
 abbrev pub struct_cause : Option FieldParts → List Scalar → Option VortexError
 struct_cause None children = Some WrongKind
 struct_cause (Some fields) children = fields_cause fields.types children
@@ -99,7 +99,7 @@ entry_cause parts index entry = if is_entry_of parts entry then None else Some (
 abbrev pub entries_cause : MapParts → List (Scalar × Scalar) → Option VortexError
 entries_cause parts entries = option_map WrongChild (wrong_entry parts entries)
 
--- why entries make no map: the type is none, and else what its key and value types say
+-- why entries make no map: the type is no map type, and else what its key and value types say
 abbrev pub map_cause : Option MapParts → List (Scalar × Scalar) → Option VortexError
 map_cause None entries = Some WrongKind
 map_cause (Some parts) entries = entries_cause parts entries

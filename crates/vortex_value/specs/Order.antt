@@ -15,8 +15,8 @@ truth_cmp true false = Greater
 truth_cmp _ _ = Equal
 
 abbrev mutual
-  -- a null is below all others, numbers go by size, texts and strings by bytes, tagged children with one id by
-  -- their contents; tagged children with different ids, typed children and contents of two kinds have no order
+  -- a null is below all others, numbers go by size, strings and bytes byte by byte, tagged children with one id by
+  -- their contents; tagged children with different ids, typed children and contents of two cases have no order
   pub order : Content → Content → Option Ordering
   order null null = Some Equal
   order null d = Some Less
@@ -41,7 +41,7 @@ abbrev pub reversed : Option Ordering → Option Ordering
 reversed None = None
 reversed (Some o) = Some (ordering_reverse o)
 
--- the order of two contents whose types are the same up to nullability; of others, none
+-- the order of two contents if their types are the same up to nullability; else `None`
 abbrev pub typed_order : TypeTree → Content → TypeTree → Content → Option Ordering
 typed_order s c t d = if same_type s t then order c d else None
 
@@ -49,11 +49,11 @@ typed_order s c t d = if same_type s t then order c d else None
 abbrev pub IsReversed : {A : Type 0} → (A → A → Option Ordering) → Type 0
 IsReversed {A} cmp = (x y : A) → cmp x y ≡ reversed (cmp y x)
 
--- if x against y and y against z are each Less or Equal, so is x against z, and Less where one of them was
+-- if x against y and y against z are each Less or Equal, so is x against z, and it is Less if one of them was
 abbrev pub IsTransitive : {A : Type 0} → (A → A → Option Ordering) → Type 0
 IsTransitive {A} cmp = (x y z : A) (a b : Ordering) → cmp x y ≡ Some a → cmp y z ≡ Some b
     → is_gt a ≡ false → is_gt b ≡ false → cmp x z ≡ Some (ordering_then a b)
 
--- where p holds of the first side, the order says Equal exactly where the two are equal
+-- if p holds of the first side, the order says Equal exactly if the two are equal
 abbrev pub AgreesWhere : {A : Type 0} → (A → Type 0) → (A → A → Option Ordering) → (A → A → Bool) → Type 0
 AgreesWhere {A} p cmp eq = (x y : A) → p x → (cmp x y ≡ Some Equal) ↔ IsTrue (eq x y)

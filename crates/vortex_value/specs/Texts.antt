@@ -1,4 +1,4 @@
--- The texts of raw values and of scalars, as bytes.
+-- What `Display` writes of raw values and of scalars, as bytes.
 use Rattle.std.specs.Prelude.{ℕ, ◌-◌, ◌/◌, ◌%◌, ◌==◌, ◌||◌, nat_lt, Bool, false, List, [], ◌∷◌, ◌++◌, length, map, take, drop, Option, Some, position, slice_get, option_and_then, if◌then◌else◌, codes, encode_utf8}
 use Rattle.std.specs.Fmt.{decimal, digits, digit_glyph}
 use Rattle.std.specs.List.{flat_map, join_by}
@@ -17,11 +17,11 @@ null_text = codes "null"
 abbrev pub truth_text : Bool → List ℕ
 truth_text b = if b then codes "true" else codes "false"
 
--- a text with one before it and another after it
+-- a string with one before it and another after it
 abbrev pub between : List ℕ → List ℕ → List ℕ → List ℕ
 between before after text = before ++ (text ++ after)
 
--- a text in double quotes, in brackets, in braces, and in parentheses
+-- a string in double quotes, in brackets, in braces, and in parentheses
 abbrev pub in_quotes : List ℕ → List ℕ
 in_quotes = between (codes "\"") (codes "\"")
 
@@ -34,7 +34,7 @@ in_braces = between (codes "{") (codes "}")
 abbrev pub in_parentheses : List ℕ → List ℕ
 in_parentheses = between (codes "(") (codes ")")
 
--- texts in order, with the separator between each two
+-- strings in order, with the separator between each two
 abbrev pub joined : List ℕ → List (List ℕ) → List ℕ
 joined separator = join_by (λ text. text) separator
 
@@ -62,7 +62,7 @@ escaped_char c =
     else if nat_lt c 0x20 || c == 0x7F then between (codes "\\u{") (codes "}") (hexadecimal c)
     else encode_utf8 c
 
--- a text in quotes, each character by the escape table
+-- a string in quotes, each character by the escape table
 abbrev pub escaped : List ℕ → List ℕ
 escaped bs = in_quotes (flat_map escaped_char (chars bs))
 
@@ -70,12 +70,12 @@ escaped bs = in_quotes (flat_map escaped_char (chars bs))
 abbrev pub name_with : ℕ → List ℕ → List (List ℕ) → Option (List ℕ)
 name_with id ids names = option_and_then (slice_get names) (position (λ i. i == id) ids)
 
--- a variant's name, and in parentheses the text that its type gives
+-- a variant's name, and in parentheses what its type writes
 abbrev pub child_text : Option (List ℕ) → Option TypeTree → (TypeTree → List ℕ) → List ℕ
 child_text (Some name) (Some t) text = name ++ in_parentheses (text t)
 child_text _ _ text = []
 
--- of a valid value at a type that is no extension: leaves whatever their type, and nothing of parts that no value of
+-- of a valid value at a type that is no extension; leaves whatever their type, and nothing of parts that no value of
 -- the type has
 abbrev mutual
   pub text_at : TypeTree → RawTree → List ℕ
@@ -113,12 +113,12 @@ abbrev mutual
   field_texts (name ∷ names) (type_then t ts) (raw_then v vs) = (name ++ (codes ": " ++ text_at (storage t) v)) ∷ field_texts names ts vs
   field_texts _ _ _ = []
 
--- the text of a value that is valid for the type, and another text where it is not
+-- what is written of a value that is valid for the type, and something else if it is not
 abbrev pub valid_text_or : TypeTree → RawTree → List ℕ → List ℕ
 valid_text_or t v other = if is_valid t v then text_at (storage t) v else other
 
 abbrev mutual
-  -- the text of an optional raw value, whatever its type
+  -- what is written of an optional raw value, whatever its type
   pub raw_text_of : RawTree → List ℕ
   raw_text_of absent = null_text
   raw_text_of (raw_bool b) = truth_text b
@@ -134,6 +134,6 @@ abbrev mutual
   raw_texts no_raws = []
   raw_texts (raw_then v vs) = raw_text_of v ∷ raw_texts vs
 
--- the text of an optional raw value of the type: the raw text where it is not valid
+-- what is written of an optional raw value of the type: as a raw value if it is not valid
 abbrev pub text_of : TypeTree → RawTree → List ℕ
 text_of t v = valid_text_or t v (raw_text_of v)

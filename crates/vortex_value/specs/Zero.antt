@@ -12,7 +12,7 @@ use Rattle.vortex_value.specs.TypesWithin.{HasNoVariant, UnionsHaveVariants}
 use Rattle.vortex_value.specs.Validity.{Valid}
 use Rattle.vortex_value.specs.declared.scalars.Scalar.{Scalar}
 
--- where nulls are taken, the null for a type that takes one; else the other
+-- if nulls are taken, the null for a type that takes one; else the other
 abbrev pub null_or : Bool → Nullability → Option Content → Option Content
 null_or true Nullable other = Some null
 null_or _ _ other = other
@@ -22,18 +22,18 @@ abbrev pub repeated : ℕ → Content → Contents
 repeated zero c = no_contents
 repeated (suc n) c = content_then c (repeated n c)
 
--- so many places of the content; without a content there are none but no places
+-- so many places of the content; without a content only no places can be filled
 abbrev pub places_of : ℕ → Option Content → Option Content
 places_of size (Some c) = Some (sequence (repeated size c))
 places_of zero None = Some (sequence no_contents)
 places_of (suc n) None = None
 
--- a content and the rest, where there are both
+-- a content and the rest, if there are both
 abbrev pub and_rest : Option Content → Option Contents → Option Contents
 and_rest (Some c) (Some cs) = Some (content_then c cs)
 and_rest _ _ = None
 
--- what fills a type, where something does: false, 0 and what is empty, and in parts what fills them; where nulls are
+-- what fills a type, if something does: false, 0 and what is empty, and in parts what fills them; if nulls are
 -- taken, a null wherever the type takes one
 abbrev mutual
   pub filling : Bool → TypeTree → Option Content
@@ -51,7 +51,7 @@ abbrev mutual
   filling nulls (variant_type n) = null_or nulls n (Some (typed null_type null))
   filling nulls (extension_type id metadata t) = filling nulls t
 
-  -- what fills each of the types, where something fills them all
+  -- what fills each of the types, if something fills them all
   pub fillings : Bool → TypeTrees → Option Contents
   fillings nulls no_types = Some no_contents
   fillings nulls (type_then t ts) = and_rest (filling nulls t) (fillings nulls ts)
@@ -79,7 +79,7 @@ abbrev pub of_inner : TypeTree → Content → Option Bool → Option Bool
 of_inner null_type null says = Some true
 of_inner t c says = says
 
--- whether the content is zero at a type that is no extension: of a null, and of what no value of the type has, none
+-- whether the content is zero at a type that is no extension; `None` of a null, and of what no value of the type has
 abbrev mutual
   pub is_zero_at : TypeTree → Content → Option Bool
   is_zero_at t null = None
@@ -95,12 +95,12 @@ abbrev mutual
   is_zero_at (variant_type n) (typed t c) = of_inner t c (is_zero_at (storage t) c)
   is_zero_at _ _ = None
 
-  -- each is zero for the type, and none leaves it open
+  -- each is zero for the type; one that is neither zero nor not is not
   pub each_zero : TypeTree → Contents → Bool
   each_zero e no_contents = true
   each_zero e (content_then c cs) = unwrap_or (is_zero_at (storage e) c) false && each_zero e cs
 
-  -- as many as fields, each zero for its field, and none leaves it open
+  -- as many as fields, and each zero for its field
   pub fields_zero : TypeTrees → Contents → Bool
   fields_zero no_types no_contents = true
   fields_zero (type_then t ts) (content_then c cs) = unwrap_or (is_zero_at (storage t) c) false && fields_zero ts cs
@@ -110,13 +110,13 @@ abbrev mutual
 abbrev pub is_zero_of : TypeTree → Content → Option Bool
 is_zero_of t c = is_zero_at (storage t) c
 
--- the optional scalar is the one of type t with the content, where there is a content
+-- the optional scalar is the one of type t with the content, if there is a content
 abbrev pub IsTheOneOf : TypeTree → Option Content → Option Scalar → Type 0
 IsTheOneOf t None None = Unit {0}
 IsTheOneOf t (Some c) (Some y) = IsTheOne t c y
 IsTheOneOf t _ _ = ⊥
 
--- A zero is the content of a valid value of the type, no null, and zero; where the type has no variant at any depth,
+-- A zero is the content of a valid value of the type, no null, and zero; if the type has no variant at any depth,
 -- no other valid value is zero.
 pub record ZeroIsZero : Type 0 where
   pub valid : (t : TypeTree) (c : Content) → zero_of t ≡ Some c → Has t c
@@ -125,7 +125,7 @@ pub record ZeroIsZero : Type 0 where
   pub only : (t : TypeTree) (v : RawTree) → HasNoVariant t → Valid t v → is_zero_of t (content v) ≡ Some true → zero_of t ≡ Some (content v)
 
 -- A type whose unions have variants at every depth has a default; a default is the content of a valid value of the
--- type, and null exactly where the type takes a null.
+-- type, and null exactly if the type takes a null.
 pub record DefaultExists : Type 0 where
   pub exists : (t : TypeTree) → UnionsHaveVariants t → IsSome (default_of t)
   pub valid : (t : TypeTree) (c : Content) → default_of t ≡ Some c → Has t c

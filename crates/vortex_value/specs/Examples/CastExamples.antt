@@ -17,7 +17,7 @@ use Rattle.vortex_value.specs.Validity.{EachValid, HasType, Valid, type_with}
 use Rattle.vortex_value.specs.Examples.ValueExamples.{i8, i16, i32, i64, u8, u32, u64, boolean, utf8, binary, variant, or_null, list_of, fixed_list_of, map_of, struct_of, union_of, extension_a, extension_b, a_and_b, int_or_string, unsorted_map, sorted_map, tuple, entry, int, parts, number, nested_list, nested_tuple, nested_parts, tell_apart, no_null, is_integer_of, is_sorted_map, i32_valid}
 
 -- What the proofs use. A content that a type has is known by cases: a null asks for a nullable type, a number for one
--- in the kind's range, a sequence for parts that the element type has, and for as many as the size says.
+-- in the type's range, a sequence for parts that the element type has, and for as many as the size says.
 
 abbrev is_null : Content → Bool
 is_null null = true
@@ -105,7 +105,7 @@ fixed_list_needs_size e size n cs h = at h.value h.valid h.same
     at (raw_tuple vs) a q = ap (λ c. count_parts (parts_in c)) (sym q) ∙ (as_many_contents vs ∙ a.0)
     at _ a q = absurd a
 
--- a union has the content of a variant where the type that the id gives has the child
+-- a union has the content of a variant if the type that the id gives has the child
 child_needs_type : (names : List (List ℕ)) (ts : TypeTrees) (ids : List ℕ) (n : Nullability) (id : ℕ) (c : Content)
     → Has (union_type names ts ids n) (tagged id c) → HasType (type_with id ids ts) (λ t. Has t c)
 child_needs_type names ts ids n id c h = at h.value h.valid h.same
@@ -131,7 +131,7 @@ child_needs_type names ts ids n id c h = at h.value h.valid h.same
     at (raw_union i v) a e = inside (type_with id ids ts) v (subst (λ j. HasType (type_with j ids ts) (λ t. Valid t v)) (ap id_in e) a) (ap child_in e)
     at _ a e = absurd a
 
--- no row applies where none of the nine does
+-- no row applies if none of the nine does
 no_row : {s t : TypeTree} {c : Content} {wrapped elements entries fields children : Type 0} → ¬ (Same s t) → (IsNull c → Sorts s t) → ¬ wrapped
     → (IsInteger s → ¬ (IsInteger t)) → ¬ elements → ¬ entries → ¬ fields → ¬ children → (Wraps s t → IsExtension t)
     → ¬ (Row s t c wrapped elements entries fields children)
@@ -148,7 +148,7 @@ no_row a b w i e m f u x (from_extension h n) = n (x h)
 no : ⊥ → ⊥
 no h = h
 
--- integers: the number stays, where the target has it
+-- integers: the number is kept, if the target has it
 
 pub thousand_of_i32_to_i16 : CanCast i32 i16 (number 1000)
 thousand_of_i32_to_i16 = (integers tt tt, record { value = raw_integer I16 (pos 1000); valid = (refl, record { sfits = leb_yes tt }); same = refl })
@@ -340,7 +340,7 @@ pub true_into_extensions_at_any_depth : CanCast boolean (extension_a (extension_
 true_into_extensions_at_any_depth =
     (into_extension (no, into_extension (no, same_type refl)), record { value = raw_bool true; valid = tt; same = refl })
 
--- texts and variants: to their own type, and extensions over it
+-- strings and variants: to their own type, and extensions over it
 
 pub text_to_binary_is_refused : ¬ (Allows utf8 binary (text (codes "a")))
 text_to_binary_is_refused = no_row (λ h. tell_apart is_utf8 h tt) absurd no (λ a b. a) no no no no absurd
@@ -368,9 +368,9 @@ sorted_map_to_the_unsorted_one = (
   },
 )
 
--- unions of the same ids: the selected child, between the two types of its id
+-- unions with equal ids: the selected child, between the two types of its id
 
--- the same ids, with other names and types
+-- equal ids, with other names and types
 abbrev n_or_s : TypeTree → TypeTree → TypeTree
 n_or_s s t = union_of (codes "n" ∷ codes "s" ∷ []) (5 ∷ 9 ∷ []) (s ∷ t ∷ [])
 

@@ -22,7 +22,7 @@ null_of_a_map_by_way_of_booleans = record {
   );
 }
 
--- leaves: nulls, texts, variants of all kinds, and unions that hold one
+-- leaves: nulls, strings, variants that hold anything, and unions that hold a leaf
 pub leaves : IsLeaf null × IsLeaf (text (codes "a")) × IsLeaf (typed u32 (parts [])) × IsLeaf (tagged 5 (tagged 9 (number 1)))
 leaves = (tt, tt, tt, tt)
 

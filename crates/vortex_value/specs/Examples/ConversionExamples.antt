@@ -55,7 +55,7 @@ i8_of_a_truth_value = refl
 pub i8_of_a_null_of_any_type : taken_number I8 (or_null utf8) absent ≡ Err IsNull
 i8_of_a_null_of_any_type = refl
 
--- Optional integers ask for their own kind.
+-- Optional integers ask for their own `PType`.
 
 pub option_i32_of_an_i64 : taken_option_number I32 i64 (raw_integer I64 (pos 5)) ≡ Err WrongPType
 option_i32_of_an_i64 = refl
@@ -98,7 +98,7 @@ option_usize_of_a_null = refl
 pub option_usize_of_another_kind : taken_option_usize i32 (int 7) ≡ Ok (raw_integer U64 (pos 7))
 option_usize_of_another_kind = refl
 
--- Texts and strings of bytes.
+-- Strings and bytes.
 
 pub bytes_of_an_integer : taken_bytes i32 (int 42) ≡ Err WrongKind
 bytes_of_an_integer = refl

@@ -1,4 +1,4 @@
--- Worked cases of texts, each a theorem. Types and values are written in the words of Examples.
+-- Worked cases of what `Display` writes, each a theorem. Types and values are written in the words of Examples.
 use Rattle.std.specs.Prelude.{◌≡◌, ⊤, pos, negsuc, true, false, [], ◌∷◌, ◌++◌, refl, codes}
 use Rattle.std.specs.Char.{encode_utf8}
 use Rattle.std.specs.Fmt.{digits}
@@ -60,7 +60,7 @@ pub raw_texts_of_unions : (raw_text_of (raw_union 5 (int 42)) ≡ codes "union@5
 unfolding on_literals
 raw_texts_of_unions = (refl, refl)
 
--- a variant shows the text of its scalar, and the raw text of one that is not valid
+-- a variant shows its scalar, and one that is not valid as a raw value
 pub raw_texts_of_variants :
     (raw_text_of (raw_variant u32 (raw_integer U32 (pos 42))) ≡ codes "42u32")
     × (raw_text_of (raw_variant (list_of utf8) (tuple (raw_text (codes "a\"b") ∷ []))) ≡ codes "[\"a\\\"b\"]")
@@ -86,7 +86,7 @@ pub escapes : (escaped_char 0x5C ≡ codes "\\\\") × (escaped_char 0x0D ≡ cod
 unfolding on_literals
 escapes = (refl, refl, refl, refl, refl, refl)
 
--- a text is never shortened
+-- a string is never shortened
 pub text_of_eleven_characters : text_of utf8 (raw_text (codes "hello world")) ≡ codes "\"hello world\""
 unfolding on_literals
 text_of_eleven_characters = refl
@@ -129,7 +129,7 @@ pub text_of_an_extension : text_of (extension_a (list_of (extension_a i32))) (tu
 unfolding on_literals
 text_of_an_extension = refl
 
--- Values that are not valid: their raw text.
+-- Values that are not valid, written as raw values.
 
 pub texts_of_no_values :
     (text_of (list_of i32) (tuple (raw_bool true ∷ [])) ≡ codes "[true]") × (text_of i64 (int 1) ≡ codes "1i32") × (text_of i32 absent ≡ codes "null")

@@ -1,5 +1,5 @@
 -- Worked cases of the definitions, each a theorem: what is valid, which breach stands where, how contents are ordered
--- and equal, and what an integer kind holds. Those of casts stand in CastExamples.
+-- and equal, and what an integer type holds. Those of casts stand in CastExamples.
 use Rattle.std.proofs.Common.{subst}
 use Rattle.std.proofs.Math.Facts.{leb_yes, yes_leb}
 use Rattle.std.specs.Prelude.{◌≡◌, ◌^◌, ◌==◌, ℕ, zero, suc, pos, negsuc, Bool, true, false, not, T, leb, List, [], ◌∷◌, replicate, Some, None, refl, codes}
@@ -55,7 +55,7 @@ binary = binary_type NonNullable
 abbrev pub variant : TypeTree
 variant = variant_type NonNullable
 
--- the same type, nullable
+-- a type and its nullable one are the same up to nullability
 abbrev pub or_null : TypeTree → TypeTree
 or_null = as_nullable
 
@@ -68,7 +68,7 @@ fixed_list_of e size = fixed_size_list_type e size NonNullable
 abbrev pub map_of : TypeTree → TypeTree → TypeTree
 map_of k w = map_type k w false NonNullable
 
--- a map whose keys are said to be sorted
+-- a map with keys that claim to be sorted
 abbrev pub sorted_map_of : TypeTree → TypeTree → TypeTree
 sorted_map_of k w = map_type k w true NonNullable
 
@@ -99,7 +99,7 @@ a_and_b s t = struct_of (codes "a" ∷ codes "b" ∷ []) (s ∷ t ∷ [])
 abbrev pub int_or_string : TypeTree
 int_or_string = or_null (union_of (codes "int" ∷ codes "string" ∷ []) (5 ∷ 9 ∷ []) (or_null i32 ∷ utf8 ∷ []))
 
--- nullable maps of i32 and nullable texts, not said to be sorted, and said so
+-- nullable maps of i32 and nullable strings, without and with the claim to be sorted
 abbrev pub unsorted_map : TypeTree
 unsorted_map = or_null (map_of i32 (or_null utf8))
 
@@ -152,7 +152,7 @@ abbrev pub nested_parts : ℕ → Content → Content
 nested_parts zero c = c
 nested_parts (suc n) c = parts (nested_parts n c ∷ [])
 
--- two things differ where a test tells them apart
+-- two things differ if a test tells them apart
 pub tell_apart : {A : Type 0} (test : A → Bool) {x y : A} → x ≡ y → T (test x) → T (test y)
 tell_apart test p = subst (λ z. T (test z)) p
 
@@ -272,7 +272,7 @@ union_takes_a_variant_by_its_id = i32_valid 1 tt
 pub union_takes_no_other_id : ¬ (Valid only_int (raw_union 4 (int 1)))
 union_takes_no_other_id h = h
 
--- two variants with the id 3, of which the first counts
+-- two variants with the id 3: the first counts
 abbrev pub int_twice : TypeTree
 int_twice = union_of (codes "int" ∷ codes "string" ∷ []) (3 ∷ 3 ∷ []) (i32 ∷ utf8 ∷ [])
 
@@ -483,7 +483,7 @@ extension_over_a_nullable_storage_is_the_same_type = refl
 pub sorted_map_is_another_type : ¬ (Same sorted_map unsorted_map)
 sorted_map_is_another_type h = tell_apart is_sorted_map h tt
 
--- Integer kinds: what each holds, and what stays of a number outside.
+-- Integer types: what each holds, and what is kept of a number outside.
 
 pub u8_holds_0_to_255 : (in_range U8 (negsuc 0) ≡ false) × (in_range U8 (pos 0) ≡ true) × (in_range U8 (pos 255) ≡ true) × (in_range U8 (pos 256) ≡ false)
 u8_holds_0_to_255 = (refl, refl, refl, refl)

@@ -113,7 +113,7 @@ numbers_that_are_zero = (refl, refl)
 pub texts_that_are_zero : (is_zero_of utf8 (text []) ≡ Some true) × (is_zero_of utf8 (text (codes "a")) ≡ Some false)
 texts_that_are_zero = (refl, refl)
 
--- a list is zero where it is empty, whatever zeros it holds
+-- a list is zero if it is empty, whatever zeros it holds
 pub lists_that_are_zero : (is_zero_of (list_of i32) (parts []) ≡ Some true) × (is_zero_of (list_of i32) (parts (number 0 ∷ [])) ≡ Some false)
 lists_that_are_zero = (refl, refl)
 
@@ -130,7 +130,7 @@ pub structs_that_are_zero :
     × (is_zero_of (a_and_b (or_null i32) (or_null i32)) (parts (number 0 ∷ null ∷ [])) ≡ Some false)
 structs_that_are_zero = (refl, refl, refl)
 
--- only the first variant can be zero, and its inner null leaves it open
+-- only the first variant can be zero, and an inner null gives `None`
 pub unions_that_are_zero :
     (is_zero_of int_or_string (tagged 9 (text [])) ≡ Some false)
     × (is_zero_of int_or_string (tagged 5 null) ≡ None)
@@ -159,7 +159,7 @@ size_of_a_list = refl
 pub size_of_a_map : size_of unsorted_map (tuple (entry (int 1) (raw_text (codes "one")) ∷ entry (int 2) absent ∷ [])) ≡ 11
 size_of_a_map = refl
 
--- a null of 4 bytes, a text of 3, and a union of 1 and 4
+-- a null of 4 bytes, a string of 3, and a union of 1 and 4
 pub size_of_a_struct : size_of (struct_of (codes "a" ∷ codes "b" ∷ codes "c" ∷ []) (or_null i32 ∷ utf8 ∷ int_or_string ∷ []))
     (tuple (absent ∷ raw_text (codes "abc") ∷ raw_union 5 (int 42) ∷ [])) ≡ 12
 size_of_a_struct = refl
@@ -173,7 +173,7 @@ size_of_a_variant = (refl, refl)
 pub size_of_an_extension : size_of (extension_a (or_null i64)) absent ≡ 8
 size_of_an_extension = refl
 
--- Order, where types count.
+-- Order, when types count.
 
 pub null_of_a_nullable_type_against_zero : typed_order (or_null i32) null i32 (number 0) ≡ Some Less
 null_of_a_nullable_type_against_zero = refl
@@ -189,6 +189,6 @@ nullable_and_other_feed_the_same = refl
 pub variants_of_nullable_and_other_feed_the_same : content_feed (typed (or_null u32) (number 42)) ≡ content_feed (typed u32 (number 42))
 variants_of_nullable_and_other_feed_the_same = refl
 
--- a present 0 feeds a kind that a null does not
+-- a present 0 feeds a number that a null does not
 pub null_feeds_one_byte : content_feed null ≡ (0 ∷ []) ∷ []
 null_feeds_one_byte = refl

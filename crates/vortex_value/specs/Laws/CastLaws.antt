@@ -15,7 +15,7 @@ use Rattle.vortex_value.specs.TypesWithin.{HasNoExtension, HasNoMap}
 use Rattle.vortex_value.specs.Validity.{Valid}
 use Rattle.vortex_value.specs.declared.scalars.Scalar.{Scalar}
 
--- Two chains from one value give one value where their last types are the same up to nullability, whatever types they go
+-- Two chains from one value give one value if their last types are the same up to nullability, whatever types they go
 -- through.
 abbrev pub ChainsAgree : Type 0
 ChainsAgree = (s : TypeTree) (v : RawTree) (t u : TypeTree) (ts us : List TypeTree) (w x : RawTree)

@@ -1,4 +1,4 @@
--- Which contents each kind of type has.
+-- Which contents each type has.
 use Rattle.std.specs.Prelude.{◌≡◌, ◌↔◌, ℕ, suc}
 use Rattle.vortex_dtype.specs.TypeTree.{TypeTree, null_type, bool_type, integer_type, utf8_type, binary_type, list_type, fixed_size_list_type, map_type, struct_type, union_type, variant_type, TypeTrees, no_types, type_then, IsNullable, storage}
 use Rattle.vortex_pvalue.specs.Numbers.{InRange}
@@ -16,7 +16,7 @@ abbrev pub MayStandInside : TypeTree → Content → Type 0
 MayStandInside t null = t ≡ null_type
 MayStandInside t _ = Unit {0}
 
--- for a type that is no extension: a null where the type takes one, and else a content of the type's kind
+-- for a type that is no extension: a null if the type takes one, and else a content of the type's values
 abbrev mutual
   pub HasAt : TypeTree → Content → Type 0
   HasAt t null = IsNullable t
@@ -53,6 +53,6 @@ abbrev mutual
 abbrev pub HasContent : TypeTree → Content → Type 0
 HasContent t c = HasAt (storage t) c
 
--- A type has a content, by some valid raw value, exactly where the cases say so.
+-- Some valid raw value of a type has a content exactly if the cases say so.
 abbrev pub HasByCases : Type 0
 HasByCases = (t : TypeTree) (c : Content) → Has t c ↔ HasContent t c

@@ -1,4 +1,4 @@
--- The zero and the default of each kind of type.
+-- The zero and the default of each type, case by case.
 use Rattle.std.specs.Prelude.{◌≡◌, ℕ, pos, Bool, false, List, [], ◌∷◌, map, replicate, Option, Some, None, option_map}
 use Rattle.vortex_dtype.specs.TypeOf.{as_type_trees}
 use Rattle.vortex_dtype.specs.TypeTree.{TypeTree, null_type, bool_type, integer_type, utf8_type, binary_type, list_type, fixed_size_list_type, map_type, struct_type, union_type, variant_type, extension_type, TypeTrees, no_types, type_then, IsNullable}
@@ -8,12 +8,12 @@ use Rattle.vortex_dtype.specs.declared.ptype.PType.{PType}
 use Rattle.vortex_value.specs.Values.Content.{Content, null, truth, whole, text, string, sequence, tagged, typed, Contents, no_contents}
 use Rattle.vortex_value.specs.Zero.{and_rest, default_of, zero_of}
 
--- the contents, where there is each
+-- the contents, if there is each
 abbrev pub each_of : List (Option Content) → Option Contents
 each_of [] = Some no_contents
 each_of (c ∷ cs) = and_rest c (each_of cs)
 
--- The zero of each kind of type, whatever its nullability.
+-- The zero of each type, whatever its nullability.
 pub record ZeroByCases : Type 0 where
   pub nulls : zero_of null_type ≡ None
   pub booleans : (n : Nullability) → zero_of (bool_type n) ≡ Some (truth false)
@@ -32,7 +32,7 @@ pub record ZeroByCases : Type 0 where
   pub variants : (n : Nullability) → zero_of (variant_type n) ≡ Some (typed null_type null)
   pub extensions : (id metadata : List ℕ) (t : TypeTree) → zero_of (extension_type id metadata t) ≡ zero_of t
 
--- The default: the null of a type that takes one, and of each other kind of type.
+-- The default: the null of a type that takes one, and of each other type.
 pub record DefaultByCases : Type 0 where
   pub nullable : (t : TypeTree) → IsNullable t → default_of t ≡ Some null
   pub booleans : default_of (bool_type NonNullable) ≡ Some (truth false)

@@ -1,4 +1,4 @@
--- Laws of equality: it is an equivalence, plain equality where no typed child stands, and what its test decides.
+-- Laws of equality: it is an equivalence, plain equality without typed children, and what its test decides.
 -- It stands here because trait implementations and crates above cite it.
 use Rattle.std.proofs.Common.{◌≡◌, ◌&&◌, Bool, true, false, true≢false, refl, sym, ap, ◌∙◌, Decides}
 use Rattle.std.specs.Cmp.{IsEquivalence, first_so, second_so}
@@ -139,7 +139,7 @@ equal-Decides c d = (contents-from_equal c d, equal-from_contents c d)
 pub equality_is_decided : EqualityIsDecided
 equality_is_decided c d = equal-Decides c d
 
--- the test of typed contents passes exactly where the types are the same and the contents equal
+-- the test of typed contents passes exactly if the types are the same and the contents equal
 pub typed_equal-Decides : (t u : TypeTree) (c d : Content) → Decides (same_type t u && equal c d) (Same t u × EqualContents c d)
 typed_equal-Decides t u c d = (
   λ h. ((same_type-Decides t u).0 (first_so _ _ h), contents-from_equal c d (second_so _ _ h)),

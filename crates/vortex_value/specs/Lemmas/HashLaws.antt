@@ -1,4 +1,4 @@
--- Laws for the hashes of values: equal contents feed the same. It stands here because trait implementations cite it.
+-- Laws for the hashes of values: equal contents feed alike. They stand here because trait implementations cite them.
 use Rattle.std.proofs.Common.{◌≡◌, ◌++◌, suc, refl, ap}
 use Rattle.std.specs.Hash.{Alike}
 use Rattle.vortex_dtype.specs.Feeds.{tree_feed}

@@ -25,7 +25,7 @@ use Rattle.vortex_value.specs.declared.values.ScalarValue.{ScalarValue}
 abbrev pub accepts : TypeTree → RawTree → Bool
 accepts t v = length (breaches t v) == 0
 
--- whether keys that are not said to be sorted would be said so
+-- whether keys that do not claim to be sorted would come to claim it
 abbrev pub sorts : Bool → Bool → Bool
 sorts from to = not from && to
 
@@ -34,12 +34,12 @@ abbrev pub takes_null : TypeTree → TypeTree → Bool
 takes_null (map_type k v from n) (map_type l w to m) = not (sorts from to) && is_nullable (map_type l w to m)
 takes_null s t = is_nullable t
 
--- whether a value that is present may leave the extension s, which stores u, for t
+-- whether a value that is present may be cast from the extension s, which stores u, to t as it is
 abbrev pub leaves : TypeTree → TypeTree → TypeTree → Bool
 leaves s u (extension_type id metadata t) = same_type s (extension_type id metadata t) || leaves s u t
 leaves s u t = same_type u t
 
--- whether a value without parts stays what it is: it and the two types are of one kind
+-- whether a value without parts is kept as it is: the two types are its own, up to nullability
 abbrev pub stays : RawTree → TypeTree → TypeTree → Bool
 stays (raw_bool b) (bool_type n) (bool_type m) = true
 stays (raw_text bs) (utf8_type n) (utf8_type m) = true
@@ -55,11 +55,11 @@ leaf_to v s t = if stays v s t then Some v else None
 abbrev pub kept : Bool → TypeTree → RawTree → Option RawTree
 kept allowed t v = if allowed && accepts t v then Some v else None
 
--- the value itself, if it may leave the extension s, which stores u, for t
+-- the value itself, if it may be cast from the extension s, which stores u, to t as it is
 abbrev pub left_to : RawTree → TypeTree → TypeTree → TypeTree → Option RawTree
 left_to v s u t = kept (leaves s u t) t v
 
--- the number in the kind of the target
+-- the number as a raw value of the target, if that is an integer type and has it
 abbrev pub number_to : ℤ → TypeTree → Option RawTree
 number_to z (integer_type k n) = if in_range k z then Some (raw_integer k z) else None
 number_to z t = None
@@ -70,20 +70,20 @@ whole_to bare absent s t = if takes_null s t then Some absent else None
 whole_to bare v (extension_type id metadata u) t = left_to v (extension_type id metadata u) u t
 whole_to bare v s t = bare s (storage t)
 
--- where there is a type, it is what t stores, and s is no extension
+-- if there is a type, it is what t stores, and s is no extension
 abbrev pub IsBareTarget : TypeTree → TypeTree → Option DType → Type 0
 IsBareTarget s t None = Unit {0}
 IsBareTarget s t (Some stored) = ¬ (IsExtension s) × (type_of stored ≡ storage t)
 
--- what the parts become, where there are so many as the size says
+-- what the parts become, if their number is the size
 abbrev pub sized : ℕ → ℕ → Option RawTrees → Option RawTrees
 sized number size made = if number == size then made else None
 
--- what the entries of a map become, whose keys may not come to be said sorted
+-- what the entries of a map become, unless its keys would come to claim that they are sorted
 abbrev pub map_to : (MapParts → MapParts → Option RawTrees) → MapParts → MapParts → Option RawTrees
 map_to entries s t = if sorts s.keys_sorted t.keys_sorted then None else entries s t
 
--- what so many parts become between two types, whose parts are elements, entries or fields
+-- what so many parts become between two types, as elements, entries or fields
 abbrev pub tuple_to : ℕ → (TypeTree → TypeTree → Option RawTrees) → (MapParts → MapParts → Option RawTrees)
     → (TypeTrees → TypeTrees → Option RawTrees) → TypeTree → TypeTree → Option RawTrees
 tuple_to number each entries fields (list_type e n) (list_type f m) = each e f
@@ -100,7 +100,7 @@ abbrev pub two_types : Option TypeTree → Option TypeTree → Option (TypeTree 
 two_types (Some s) (Some t) = Some (s, t)
 two_types _ _ = None
 
--- the types that the id gives in two unions of the same ids in order
+-- the types that the id gives in two unions with equal ids in order
 abbrev pub types_with : ℕ → TypeTree → TypeTree → Option (TypeTree × TypeTree)
 types_with id (union_type names ss is n) (union_type others ts js m) = if bytes_eq is js then two_types (type_with id is ss) (type_with id js ts) else None
 types_with id _ _ = None
@@ -132,7 +132,7 @@ abbrev mutual
   bare_to (raw_union id v) s t = option_map (raw_union id) (child_to (λ a b. whole_to (λ x y. bare_to v x y) v a b) (types_with id s t))
   bare_to v s t = leaf_to v s t
 
-  -- each between the same two types
+  -- what each becomes between two types
   pub each_to : RawTrees → TypeTree → TypeTree → Option RawTrees
   each_to no_raws s t = Some no_raws
   each_to (raw_then v vs) s t = both (whole_to (λ a b. bare_to v a b) v s t) (each_to vs s t)
@@ -147,7 +147,7 @@ abbrev mutual
       pair_to (whole_to (λ a b. bare_to x a b) x s.key t.key) (whole_to (λ a b. bare_to y a b) y s.value t.value)
   entry_to _ s t = None
 
-  -- each between the two types at its place, of which there are equally many
+  -- what each becomes between the two types at its place, if there are equally many
   pub fields_to : RawTrees → TypeTrees → TypeTrees → Option RawTrees
   fields_to no_raws no_types no_types = Some no_raws
   fields_to (raw_then v vs) (type_then s ss) (type_then t ts) = both (whole_to (λ a b. bare_to v a b) v s t) (fields_to vs ss ts)
@@ -174,7 +174,7 @@ Refused made e = (e ≡ NoMemory) ⊎ ((e ≡ Impossible) × (made ≡ None))
 abbrev pub Makes : {A B : Type 0} → (A → B) → Option B → Result A Refusal → Type 0
 Makes tree made r = MatchResult r (λ x. made ≡ Some (tree x)) (λ e. Refused made e)
 
--- the same for parts
+-- an answer of a step that makes these parts, if there are such
 abbrev pub MakesParts : Option RawTrees → Result (Vec (Option ScalarValue) Global) Refusal → Type 0
 MakesParts = Makes (λ vs. value_trees vs.items)
 
@@ -183,18 +183,18 @@ abbrev pub Appends : List (Option ScalarValue) → List (Option ScalarValue) →
 Appends before now made r =
     MatchResult r (λ _. (v : Option ScalarValue) × (now ≡ before ++ v ∷ []) × (made ≡ Some (raw_of v))) (λ e. Refused made e)
 
--- no memory is wanted for a type whose values take none
+-- out of memory never comes for a type whose values take no memory
 abbrev pub SparesMemory : {A : Type 0} → TypeTree → Result A Refusal → Type 0
 SparesMemory t r = IsFlat t → IfErr r (λ e. e ≢ NoMemory)
 
--- memory is wanted only for what there is to make
+-- out of memory comes only if there is something to make
 abbrev pub RefusesSome : {A B : Type 0} → Option B → Result A Refusal → Type 0
 RefusesSome made r = IfErr r (λ e. e ≡ NoMemory → IsSome made)
 
--- a cast of v from s to t that takes v whole wants memory only for what there is to make
+-- a cast of v from s to t that takes v whole is out of memory only if it is possible
 abbrev pub SparesWhole : {A : Type 0} → RawTree → TypeTree → TypeTree → Result A Refusal → Type 0
 SparesWhole v s t r = IsTakenWhole s (content v) → RefusesSome (cast_to v s t) r
 
--- the same between types that are no extensions
+-- a cast of a leaf between types that are no extensions is out of memory only if it is possible
 abbrev pub SparesLeaf : {A : Type 0} → RawTree → TypeTree → TypeTree → Result A Refusal → Type 0
 SparesLeaf v s t r = IsLeaf (content v) → RefusesSome (bare_to v s t) r

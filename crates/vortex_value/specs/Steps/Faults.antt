@@ -17,7 +17,7 @@ Shows kept NoMemory fs = HasSteps (first fs)
 Shows kept NoPath fs = (kept ≡ false) × (fs ≢ [])
 Shows kept (First steps breach) fs = first fs ≡ Some (reverse steps.items, breach)
 
--- a check with this memory for the path, or without a path, passes where there is no breach, and else leaves the first
+-- a check with this memory for the path, or without a path, passes if there is no breach, and else leaves the first
 abbrev pub Checks : Option Global → Bool → Trace → List Found → Type 0
 Checks path true trace fs = (trace.path ≡ path) × (fs ≡ [])
 Checks path false trace fs = Shows (is_some path) trace.fault fs

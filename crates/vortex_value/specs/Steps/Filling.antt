@@ -27,7 +27,7 @@ abbrev pub first_of : List ℕ → List TypeTree → Option (ℕ × TypeTree)
 first_of (id ∷ ids) (t ∷ ts) = Some (id, t)
 first_of _ _ = None
 
--- what fills a union: its first variant's child, where something fills that
+-- what fills a union: its first variant's child, if something fills that
 abbrev pub child_filling : (TypeTree → Option Content) → Option (ℕ × TypeTree) → Option Content
 child_filling fill None = None
 child_filling fill (Some first) = option_map (tagged first.0) (fill first.1)

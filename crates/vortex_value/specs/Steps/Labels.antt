@@ -8,7 +8,7 @@ use Rattle.vortex_value.specs.Values.RawTree.{RawTree}
 abbrev pub before_at : ℕ → List ℕ → List ℕ
 before_at i separator = if i == 0 then [] else separator
 
--- of the field at this place: its name and its value, after what stands before it; nothing where there is no name or no type
+-- of the field at this place: what stands before it, its name and its value; nothing if there is no name or no type
 abbrev pub field_at : ℕ → Option (List ℕ) → Option TypeTree → RawTree → List ℕ
 field_at i (Some name) (Some t) v = before_at i (codes ", ") ++ (name ++ (codes ": " ++ text_at (storage t) v))
 field_at i _ _ v = []

@@ -3,7 +3,7 @@ use Rattle.std.specs.Prelude.{ℕ, ℤ, Bool, List}
 use Rattle.vortex_dtype.specs.TypeTree.{TypeTree}
 use Rattle.vortex_value.specs.Values.RawTree.{RawTree, absent, raw_bool, raw_integer, raw_text, raw_bytes, raw_tuple, raw_union, raw_variant, RawTrees, no_raws, raw_then}
 
--- a content: null, a truth value, a whole number, a text, a string, a sequence, a tagged child or a typed child
+-- a content: null, a truth value, a whole number, a string, bytes, a sequence, a tagged child or a typed child
 mutual
   pub data Content : Type 0 where
     null : Content
@@ -19,7 +19,7 @@ mutual
     no_contents : Contents
     content_then : Content → Contents → Contents
 
--- the content of an optional raw value: integer kinds, names and extensions are forgotten, but in the types of typed children
+-- the content of an optional raw value: integer types, names and extensions are forgotten, but in the types of typed children
 abbrev mutual
   pub content : RawTree → Content
   content absent = null

@@ -1,4 +1,4 @@
--- Which kind of raw value a tree is, and which values take no memory.
+-- Which variant of raw value a tree is, and which values take no memory.
 use Rattle.vortex_value.specs.Values.RawTree.{RawTree, absent, raw_bool, raw_integer, raw_text, raw_bytes, raw_tuple, raw_union, raw_variant}
 
 -- a truth value
@@ -11,12 +11,12 @@ abbrev pub IsIntegerValue : RawTree → Type 0
 IsIntegerValue (raw_integer k z) = Unit {0}
 IsIntegerValue _ = ⊥
 
--- a text
+-- a string
 abbrev pub IsTextValue : RawTree → Type 0
 IsTextValue (raw_text bs) = Unit {0}
 IsTextValue _ = ⊥
 
--- a string of bytes
+-- bytes
 abbrev pub IsBytesValue : RawTree → Type 0
 IsBytesValue (raw_bytes bs) = Unit {0}
 IsBytesValue _ = ⊥

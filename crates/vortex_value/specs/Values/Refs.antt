@@ -26,7 +26,7 @@ ref_content x = content (ref_raw x)
 abbrev pub IsValidRef : ScalarRef → Type 0
 IsValidRef x = Valid (ref_type x) (ref_raw x)
 
--- the order of two borrowed scalars: of their contents, where their types are the same up to nullability
+-- the order of two borrowed scalars: of their contents, if their types are the same up to nullability
 abbrev pub ref_order : ScalarRef → ScalarRef → Option Ordering
 ref_order x y = typed_order (ref_type x) (ref_content x) (ref_type y) (ref_content y)
 

@@ -26,7 +26,7 @@ scalar_content x = content (scalar_raw x)
 abbrev pub IsValid : Scalar → Type 0
 IsValid x = Valid (scalar_type x) (scalar_raw x)
 
--- the order of two scalars: of their contents, where their types are the same up to nullability
+-- the order of two scalars: of their contents, if their types are the same up to nullability
 abbrev pub scalar_order : Scalar → Scalar → Option Ordering
 scalar_order x y = typed_order (scalar_type x) (scalar_content x) (scalar_type y) (scalar_content y)
 
