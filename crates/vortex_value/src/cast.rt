@@ -1,5 +1,5 @@
-//! Casts of scalars to another type. A cast is made where some row of the table allows it (`Row`,
-//! in specs/Casts) and the target type has a value of the content. `cast_value` goes down the value:
+//! Casts of scalars to another type. A cast is made if some row of the table allows it (`Row`, in
+//! specs/Casts) and the target type has a value of the content. `cast_value` goes down the value:
 //!
 //! | Row | Allows | Function |
 //! |---|---|---|
@@ -10,16 +10,14 @@
 //! | `lists` | each element, between lists, of a fixed size or not | `cast_elements`, `cast_sized` |
 //! | `maps` | each key and value, but from an unsorted to a sorted map | `cast_map`, `cast_entries` |
 //! | `structs` | each field by its place, between equally many | `cast_fields` |
-//! | `unions` | the child, between the variants with its id of unions of the same ids | `cast_union` |
+//! | `unions` | the child, between the variants with its id, if both unions have the same ids in order | `cast_union` |
 //! | `from_extension` | a value, to the storage type up to nullability | `leave_extension` |
 //!
-//! Parts are appended where they are to stand, by `push_cast`, with a function for each kind too.
+//! Parts of lists, maps and structs are appended to their list by functions of their own: struct
+//! fields by `push_cast`, the others by `push_stored`, which is told once what the target stores.
+#![tactic(auto, using(crate::proofs::CastCode::shown))]
 
-ghost use Rattle.vortex_dtype.specs.TypeOf.{type_of};
-ghost use Rattle.vortex_dtype.specs.TypeTree.{as_nullable};
-ghost use Rattle.vortex_value.specs.CastAnswers.{AnswersCast};
-ghost use Rattle.vortex_value.specs.Values.Refs.{IsValidRef, ref_raw, ref_type};
-ghost use Rattle.vortex_value.specs.Values.Scalars.{IsMadeOf, IsValid, scalar_raw, scalar_type};
+ghost use Rattle.vortex_value.specs.Words.{AnswersCast, IsMadeOf, IsValid, IsValidRef, as_nullable, ref_raw, ref_type, scalar_raw, scalar_type, type_of};
 
 use crate::refs::ScalarRef;
 use crate::scalars::{Scalar, with_type};
@@ -34,10 +32,10 @@ mod values;
 impl Scalar {
     /// The one scalar of the target type with this scalar's content.
     ///
-    /// `CannotCast` only where the table of casts does not allow the cast or the target type has no
-    /// value of the content; `OutOfMemory` only for a target other than Null, truth values and
-    /// integers, and of an extension and of what holds no sequence only where the cast is possible;
-    /// no other refusal. Ports `Scalar::cast`.
+    /// `CannotCast` only if the table of casts does not allow the cast or the target type has no
+    /// value of the content. `OutOfMemory` never for a target of nulls, truth values or integers.
+    /// From an extension it comes only if the cast is possible, and so for a value that is no list,
+    /// map or struct and no union of one. There is no other refusal. Ports `Scalar::cast`.
     pub fn cast(&self, alloc: Global, target: &DType) -> Result<Scalar, VortexError>
         requires { IsValid self.now }
         ensures { AnswersCast (scalar_type self.now) (type_of target.now) (scalar_raw self.now) result }
@@ -45,7 +43,7 @@ impl Scalar {
         ScalarRef::of(self).cast(alloc, target)
     }
 
-    /// The same raw value, of the type made nullable. Takes no memory.
+    /// The raw value as it is, of the type made nullable. Takes no memory.
     ///
     /// Ports `Scalar::into_nullable`.
     #[tactic(auto, using(crate::proofs::CastLaws::nullable_valid))]
@@ -62,9 +60,8 @@ impl Scalar {
 }
 
 impl ScalarRef<'_> {
-    /// The one scalar of the target type with this one's content, as the `cast` of a scalar of its
-    /// own gives it, with the same refusals. Of this port alone: a view casts what it lends by it,
-    /// without a copy.
+    /// The one scalar of the target type with this one's content. It answers and refuses as
+    /// `Scalar::cast` does. Of this port alone: a view casts what it lends by it, without a copy.
     pub fn cast(&self, alloc: Global, target: &DType) -> Result<Scalar, VortexError>
         requires { IsValidRef self.now }
         ensures { AnswersCast (ref_type self.now) (type_of target.now) (ref_raw self.now) result }

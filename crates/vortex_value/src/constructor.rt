@@ -1,18 +1,7 @@
 //! Makers of scalars: each answers a valid scalar of the stated type, or refuses by name.
 
 ghost use Rattle.std.specs.Prelude.{◌≡◌, ◌≢◌, ◌↔◌, None, Err, IsOk, IfOk, IfErr, IsUtf8, MatchResult, Some, false, true};
-ghost use Rattle.vortex_dtype.specs.Refusals.{RefusesExactly, RefusesOrNoMemory};
-ghost use Rattle.vortex_dtype.specs.TypeOf.{type_of, ext_of, variants_of};
-ghost use Rattle.vortex_dtype.specs.TypeTree.{IsFlat, IsNullable, as_nullable, bool_type, integer_type, utf8_type, binary_type, variant_type};
-ghost use Rattle.vortex_dtype.specs.declared.error.VortexError.TheVariants.{OutOfMemory};
-ghost use Rattle.vortex_dtype.specs.declared.nullability.Nullability.TheVariants.{NonNullable};
-ghost use Rattle.vortex_pvalue.specs.Whole.{ptype_of, whole_of};
-ghost use Rattle.vortex_value.specs.Breaches.{Refuses, breaches};
-ghost use Rattle.vortex_value.specs.Makers.{child_cause, union_cause, inside_cause, union_of, extension_over};
-ghost use Rattle.vortex_value.specs.Values.RawOf.{raw_of};
-ghost use Rattle.vortex_value.specs.Values.RawTree.{absent, raw_bool, raw_integer, raw_text, raw_bytes, raw_union, raw_variant, is_absent};
-ghost use Rattle.vortex_value.specs.Values.Scalars.{IsMadeOf, IsValid, scalar_raw, scalar_type};
-ghost use Rattle.vortex_value.specs.Validity.{Valid};
+ghost use Rattle.vortex_value.specs.Words.{IsFlat, IsMadeOf, IsNullable, IsValid, NonNullable, OutOfMemory, Refuses, RefusesExactly, RefusesOrNoMemory, Valid, absent, as_nullable, binary_type, bool_type, breaches, child_cause, ext_of, extension_over, inside_cause, integer_type, is_absent, ptype_of, raw_bool, raw_bytes, raw_integer, raw_of, raw_text, raw_union, raw_variant, scalar_raw, scalar_type, type_of, union_cause, union_of, utf8_type, variant_type, variants_of, whole_of};
 
 use crate::scalars::Scalar;
 use crate::storage::variant_with;
@@ -30,11 +19,11 @@ mod maps;
 mod structs;
 
 impl Scalar {
-    /// The scalar of a type and a raw value, or of its absence.
+    /// The scalar of a type and a raw value, or `None` for the null.
     ///
-    /// `Invalid` where the raw value is not valid for the type, with the first breach in reading
-    /// order and the path to it; `OutOfMemory` comes in its place where the path has steps and there
-    /// is no memory for them. A valid value takes none, nor does any value of a type whose values
+    /// `Invalid` if the raw value is not valid for the type: it has the first breach in reading
+    /// order and the path to it. `OutOfMemory` comes in its place if there is no memory for the
+    /// steps of the path. A valid value takes no memory, nor does any value of a type whose values
     /// take none.
     pub fn try_new(
         alloc: Global,
@@ -68,7 +57,7 @@ impl Scalar {
 
     /// The null of the column type of a Rust type, made nullable.
     ///
-    /// `OutOfMemory` where the type finds none.
+    /// `OutOfMemory` if there is no memory for the type.
     #[tactic(auto, using(crate::proofs::MakerLaws::takes_null))]
     pub fn null_native<T: NativeDType>(alloc: Global) -> Result<Scalar, VortexError>
         ensures made { IfOk result (IsMadeOf (as_nullable T.native_type) absent) }
@@ -89,7 +78,7 @@ impl Scalar {
         }
     }
 
-    /// The scalar of an integer, of its own kind.
+    /// The scalar of an integer, with the `PType` of its Rust type.
     pub fn primitive<T: NativePType>(value: T, nullability: Nullability) -> Scalar
         ensures made { IsMadeOf
             (integer_type T.PTYPE nullability) (raw_integer T.PTYPE (T.value value)) result }
@@ -101,10 +90,10 @@ impl Scalar {
         }
     }
 
-    /// The scalar of an integer value that is of the kind asked for.
+    /// The scalar of an integer value of this `PType`.
     ///
-    /// `WrongPType` exactly where it is of another kind. Ports `Scalar::primitive_value`, which panics
-    /// there.
+    /// `WrongPType` exactly if the value has another `PType`. Ports `Scalar::primitive_value`,
+    /// which panics then.
     pub fn primitive_value(
         value: PValue,
         ptype: PType,
@@ -125,7 +114,7 @@ impl Scalar {
         })
     }
 
-    /// The scalar of a text.
+    /// The scalar of a string.
     pub fn utf8(text: BufferString, nullability: Nullability) -> Scalar
         ensures made { IsMadeOf (utf8_type nullability) (raw_text text) result }
         ensures valid { IsValid result }
@@ -136,9 +125,9 @@ impl Scalar {
         }
     }
 
-    /// The scalar of the text that these bytes are.
+    /// The scalar of the string with these bytes.
     ///
-    /// `NotUtf8` exactly where they are not UTF-8.
+    /// `NotUtf8` exactly if they are not UTF-8.
     pub fn try_utf8(buffer: ByteBuffer, nullability: Nullability) -> Result<Scalar, VortexError>
         ensures ok { IsOk result ↔ IsUtf8 buffer }
         ensures made { IfOk result (IsMadeOf (utf8_type nullability) (raw_text buffer)) }
@@ -149,7 +138,7 @@ impl Scalar {
         Ok(Scalar::utf8(text, nullability))
     }
 
-    /// The scalar of a string of bytes.
+    /// The scalar of bytes.
     pub fn binary(buffer: ByteBuffer, nullability: Nullability) -> Scalar
         ensures made { IsMadeOf (binary_type nullability) (raw_bytes buffer) result }
         ensures valid { IsValid result }
@@ -162,8 +151,8 @@ impl Scalar {
 
     /// The scalar of an extension type whose storage is this scalar.
     ///
-    /// `WrongChild` with 0 exactly where the storage's type is not exactly the extension's storage
-    /// type, nullability included. Ports `Scalar::extension_ref`, which panics there.
+    /// `WrongChild` with 0 exactly if the storage's type is not exactly the extension's storage
+    /// type, nullability included. Ports `Scalar::extension_ref`, which panics then.
     pub fn extension_ref(ext_dtype: ExtDType, storage: Scalar) -> Result<Scalar, VortexError>
         requires { IsValid storage }
         ensures refused { RefusesExactly
@@ -182,12 +171,12 @@ impl Scalar {
         })
     }
 
-    /// The scalar of a union with this child under this id. A null child makes an inner null, and the
-    /// union itself is not null.
+    /// The scalar of a union with this child under this id. A null child makes an inner null, and
+    /// the union itself is not null.
     ///
-    /// `UnknownTypeId` where no variant has the id, else `WrongChild` with the variant's place where
-    /// the child's type is not exactly the variant's; both before any memory is asked for. Else
-    /// `OutOfMemory` where there is none for the child; a null child takes none.
+    /// `UnknownTypeId` if no variant has the id; else `WrongChild` with the variant's place if the
+    /// child's type is not exactly the variant's. Both come before any memory is asked for. Else
+    /// `OutOfMemory` if there is no memory for the child; a null child takes none.
     pub fn union(
         alloc: Global,
         variants: UnionVariants,
@@ -215,8 +204,8 @@ impl Scalar {
 
     /// The scalar of a variant that holds this scalar, its exact type included.
     ///
-    /// `VariantNull` exactly where the value is a null of a type other than Null, and this before any
-    /// memory is asked for; else `OutOfMemory` where there is none.
+    /// `VariantNull` exactly if the value is a null of a type other than `Null`, before any memory
+    /// is asked for. Else `OutOfMemory` if there is no memory for the value.
     pub fn variant(alloc: Global, value: Scalar) -> Result<Scalar, VortexError>
         requires { IsValid value }
         ensures refused { RefusesOrNoMemory
@@ -253,7 +242,7 @@ fn union_value(
     Ok(Some(ScalarValue::Union(union)))
 }
 
-/// Sees that a child's type is exactly the expected one.
+/// Tests that a child's type is exactly the expected one.
 fn check_child(index: usize, expected: &DType, found: &DType) -> Result<(), VortexError>
     ensures { MatchResult result
         (λ _. child_cause index (type_of expected.now) (type_of found.now) ≡ None)
@@ -266,7 +255,7 @@ fn check_child(index: usize, expected: &DType, found: &DType) -> Result<(), Vort
     }
 }
 
-/// Sees that a child of this type fits the variant with this id.
+/// Tests that a child of this type fits the variant with this id.
 fn check_variant(variants: &UnionVariants, type_id: u8, found: &DType) -> Result<(), VortexError>
     ensures { MatchResult result
         (λ _. union_cause (variants_of variants.now) type_id (type_of found.now) ≡ None)

@@ -1,16 +1,8 @@
-//! Copies of raw values and of scalars: the same tree, in memory of its own.
+//! Copies of raw values and of scalars, in memory of their own.
+#![tactic(auto, using(crate::proofs::ValueSteps::shown))]
 
 ghost use Rattle.std.specs.Prelude.{◌≡◌, ◌<◌, IfOk, MatchResult, None, Some, false, map, option_map};
-ghost use Rattle.std.specs.Option.{is_none, option_copied};
-ghost use Rattle.std.specs.Vec.{vec_capacity, vec_len};
-ghost use Rattle.vortex_dtype.specs.TypeOf.{type_of};
-ghost use Rattle.vortex_dtype.specs.TypeTree.{IsFlat, binary_type, bool_type, integer_type, null_type, utf8_type};
-ghost use Rattle.vortex_dtype.specs.declared.error.VortexError.TheVariants.{OutOfMemory};
-ghost use Rattle.vortex_pvalue.specs.Whole.{ptype_of, whole_of};
-ghost use Rattle.vortex_value.specs.Steps.Copies.{Adds};
-ghost use Rattle.vortex_value.specs.Values.RawKinds.{TakesNoMemory};
-ghost use Rattle.vortex_value.specs.Values.RawOf.{value_tree, value_trees, variant_tree, union_tree, raw_of, lent_raw};
-ghost use Rattle.vortex_value.specs.Values.RawTree.{absent, raw_bool, raw_integer, raw_text, raw_bytes, raw_tuple, raw_variant};
+ghost use Rattle.vortex_value.specs.Words.{Adds, IsFlat, OutOfMemory, TakesNoMemory, absent, binary_type, bool_type, integer_type, is_none, lent_raw, null_type, option_copied, ptype_of, raw_bool, raw_bytes, raw_integer, raw_of, raw_text, raw_tuple, raw_variant, type_of, union_tree, utf8_type, value_tree, value_trees, variant_tree, vec_capacity, vec_len, whole_of};
 
 use crate::scalars::{Scalar, with_type};
 use crate::unions::UnionValue;
@@ -19,9 +11,8 @@ use std::alloc::{AllocError, Global};
 use vortex_dtype::{BufferString, ByteBuffer, DType, Nullability, PType, VortexError};
 use vortex_pvalue::PValue;
 
-/// The same raw value. Truth values and integers take no memory.
+/// A copy of the raw value. Truth values and integers take no memory.
 #[cycle(copies)]
-#[tactic(auto, using(crate::proofs::ValueSteps::shown))]
 pub(crate) fn copy_value(alloc: Global, value: &ScalarValue) -> Result<ScalarValue, VortexError>
     ensures { MatchResult result
         (λ copy. value_tree copy ≡ value_tree value.now)
@@ -38,9 +29,8 @@ pub(crate) fn copy_value(alloc: Global, value: &ScalarValue) -> Result<ScalarVal
     }
 }
 
-/// The same raw value, or its absence, which takes no memory.
+/// A copy of the raw value, or `None`, which takes no memory.
 #[cycle(copies)]
-#[tactic(auto, using(crate::proofs::ValueSteps::shown))]
 pub(crate) fn copy_optional(
     alloc: Global,
     value: Option<&ScalarValue>,
@@ -55,9 +45,8 @@ pub(crate) fn copy_optional(
     }
 }
 
-/// The same raw values, in order.
+/// Copies of the raw values, in order.
 #[cycle(copies)]
-#[tactic(auto, using(crate::proofs::ValueSteps::shown))]
 fn copy_tuple(
     alloc: Global,
     values: &[Option<ScalarValue>],
@@ -74,11 +63,10 @@ fn copy_tuple(
     Ok(copies)
 }
 
-/// Appends a copy of the value, or of its absence. Each kind has a function of its own, which pays
-/// for its own locals alone.
+/// Appends a copy of the value, or `None`. Each variant of a value has a function of its own, which
+/// pays for its own locals alone.
 #[cycle(copies)]
 #[inline(always)]
-#[tactic(auto, using(crate::proofs::ValueSteps::shown))]
 fn push_copy(
     alloc: Global,
     value: Option<&ScalarValue>,
@@ -100,7 +88,6 @@ fn push_copy(
     }
 }
 
-/// Appends a null.
 #[inline(never)]
 fn push_null(copies: &mut Vec<Option<ScalarValue>>) -> Result<(), AllocError>
     requires { vec_len copies.old < vec_capacity copies.old }
@@ -110,7 +97,6 @@ fn push_null(copies: &mut Vec<Option<ScalarValue>>) -> Result<(), AllocError>
     Ok(())
 }
 
-/// Appends a truth value.
 #[inline(never)]
 fn push_bool(truth: bool, copies: &mut Vec<Option<ScalarValue>>) -> Result<(), AllocError>
     requires { vec_len copies.old < vec_capacity copies.old }
@@ -120,7 +106,6 @@ fn push_bool(truth: bool, copies: &mut Vec<Option<ScalarValue>>) -> Result<(), A
     Ok(())
 }
 
-/// Appends an integer.
 #[inline(always)]
 fn push_number(number: &PValue, copies: &mut Vec<Option<ScalarValue>>) -> Result<(), AllocError>
     requires { vec_len copies.old < vec_capacity copies.old }
@@ -131,7 +116,6 @@ fn push_number(number: &PValue, copies: &mut Vec<Option<ScalarValue>>) -> Result
     Ok(())
 }
 
-/// Appends a copy of a text.
 #[inline(never)]
 fn push_text(text: &BufferString, copies: &mut Vec<Option<ScalarValue>>) -> Result<(), AllocError>
     requires { vec_len copies.old < vec_capacity copies.old }
@@ -146,7 +130,6 @@ fn push_text(text: &BufferString, copies: &mut Vec<Option<ScalarValue>>) -> Resu
     }
 }
 
-/// Appends a copy of a string of bytes.
 #[inline(never)]
 fn push_bytes(bytes: &ByteBuffer, copies: &mut Vec<Option<ScalarValue>>) -> Result<(), AllocError>
     requires { vec_len copies.old < vec_capacity copies.old }
@@ -161,10 +144,8 @@ fn push_bytes(bytes: &ByteBuffer, copies: &mut Vec<Option<ScalarValue>>) -> Resu
     }
 }
 
-/// Appends a copy of the parts.
 #[cycle(copies)]
 #[inline(never)]
-#[tactic(auto, using(crate::proofs::ValueSteps::shown))]
 fn push_tuple(
     alloc: Global,
     values: &[Option<ScalarValue>],
@@ -179,10 +160,8 @@ fn push_tuple(
     Ok(())
 }
 
-/// Appends a copy of a union's value.
 #[cycle(copies)]
 #[inline(never)]
-#[tactic(auto, using(crate::proofs::ValueSteps::shown))]
 fn push_union(
     alloc: Global,
     union: &UnionValue,
@@ -197,10 +176,8 @@ fn push_union(
     Ok(())
 }
 
-/// Appends a copy of a variant's scalar.
 #[cycle(copies)]
 #[inline(never)]
-#[tactic(auto, using(crate::proofs::ValueSteps::shown))]
 fn push_variant(
     alloc: Global,
     scalar: &Scalar,
@@ -214,9 +191,8 @@ fn push_variant(
     Ok(())
 }
 
-/// The same id and child.
+/// A copy of the id and the child. Without a child it takes no memory.
 #[cycle(copies)]
-#[tactic(auto, using(crate::proofs::ValueSteps::shown))]
 pub(crate) fn copy_union(alloc: Global, union: &UnionValue) -> Result<UnionValue, VortexError>
     ensures { MatchResult result
         (λ copy. union_tree copy ≡ union_tree union.now)
@@ -232,7 +208,6 @@ pub(crate) fn copy_union(alloc: Global, union: &UnionValue) -> Result<UnionValue
 /// The child of a union in a box of its own. Without one it takes no memory.
 #[cycle(copies)]
 #[inline(always)]
-#[tactic(auto, using(crate::proofs::ValueSteps::shown))]
 fn copy_child(
     alloc: Global,
     child: Option<&ScalarValue>,
@@ -247,10 +222,9 @@ fn copy_child(
     }
 }
 
-/// A copy of the value in a box, as by `push_copy` with a function for each kind.
+/// A copy of the value in a box, with a function for each variant of a value, as in `push_copy`.
 #[cycle(copies)]
 #[inline(always)]
-#[tactic(auto, using(crate::proofs::ValueSteps::shown))]
 fn box_copy(alloc: Global, value: &ScalarValue) -> Result<Box<ScalarValue>, AllocError>
     ensures { IfOk result (λ copy. value_tree copy.value ≡ value_tree value.now) }
 {
@@ -276,7 +250,6 @@ fn boxed<T: Drop>(alloc: Global, value: T) -> Result<Box<T>, AllocError>
     }
 }
 
-/// A truth value in a box.
 #[inline(never)]
 fn box_bool(alloc: Global, truth: bool) -> Result<Box<ScalarValue>, AllocError>
     ensures { IfOk result (λ made. value_tree made.value ≡ raw_bool truth) }
@@ -284,7 +257,6 @@ fn box_bool(alloc: Global, truth: bool) -> Result<Box<ScalarValue>, AllocError>
     boxed(alloc, ScalarValue::Bool(truth))
 }
 
-/// An integer in a box.
 #[inline(never)]
 fn box_number(alloc: Global, number: &PValue) -> Result<Box<ScalarValue>, AllocError>
     ensures { IfOk result (λ made. value_tree made.value ≡
@@ -293,7 +265,6 @@ fn box_number(alloc: Global, number: &PValue) -> Result<Box<ScalarValue>, AllocE
     boxed(alloc, ScalarValue::Primitive(*number))
 }
 
-/// A copy of a text in a box.
 #[inline(never)]
 fn box_text(alloc: Global, text: &BufferString) -> Result<Box<ScalarValue>, AllocError>
     ensures { IfOk result (λ made. value_tree made.value ≡ raw_text text.now) }
@@ -304,7 +275,6 @@ fn box_text(alloc: Global, text: &BufferString) -> Result<Box<ScalarValue>, Allo
     }
 }
 
-/// A copy of a string of bytes in a box.
 #[inline(never)]
 fn box_bytes(alloc: Global, bytes: &ByteBuffer) -> Result<Box<ScalarValue>, AllocError>
     ensures { IfOk result (λ made. value_tree made.value ≡ raw_bytes bytes.now) }
@@ -315,20 +285,16 @@ fn box_bytes(alloc: Global, bytes: &ByteBuffer) -> Result<Box<ScalarValue>, Allo
     }
 }
 
-/// A copy of the parts in a box.
 #[cycle(copies)]
 #[inline(never)]
-#[tactic(auto, using(crate::proofs::ValueSteps::shown))]
 fn box_tuple(alloc: Global, values: &[Option<ScalarValue>]) -> Result<Box<ScalarValue>, AllocError>
     ensures { IfOk result (λ made. value_tree made.value ≡ raw_tuple (value_trees values.now)) }
 {
     boxed(alloc, ScalarValue::Tuple(copy_tuple(alloc, values)?))
 }
 
-/// A copy of a union's value in a box.
 #[cycle(copies)]
 #[inline(never)]
-#[tactic(auto, using(crate::proofs::ValueSteps::shown))]
 fn box_union(alloc: Global, union: &UnionValue) -> Result<Box<ScalarValue>, AllocError>
     ensures { IfOk result (λ made. value_tree made.value ≡ union_tree union.now) }
 {
@@ -338,21 +304,18 @@ fn box_union(alloc: Global, union: &UnionValue) -> Result<Box<ScalarValue>, Allo
     }
 }
 
-/// A copy of a variant's scalar in a box.
 #[cycle(copies)]
 #[inline(never)]
-#[tactic(auto, using(crate::proofs::ValueSteps::shown))]
 fn box_variant(alloc: Global, scalar: &Scalar) -> Result<Box<ScalarValue>, AllocError>
     ensures { IfOk result (λ made. value_tree made.value ≡ variant_tree scalar.now) }
 {
     boxed(alloc, ScalarValue::Variant(copy_boxed(alloc, scalar)?))
 }
 
-/// The same scalar, in a box of its own. A leaf of just its type costs no recursion; each kind has a
-/// function of its own, as by `push_copy`.
+/// A copy of the scalar in a box. A value without parts that is of just its type costs no
+/// recursion. Each variant has a function of its own, as in `push_copy`.
 #[cycle(copies)]
 #[inline(always)]
-#[tactic(auto, using(crate::proofs::ValueSteps::shown))]
 pub(crate) fn copy_boxed(alloc: Global, scalar: &Scalar) -> Result<Box<Scalar>, AllocError>
     ensures { IfOk result (λ copy. variant_tree copy.value ≡ variant_tree scalar.now) }
 {
@@ -369,7 +332,7 @@ pub(crate) fn copy_boxed(alloc: Global, scalar: &Scalar) -> Result<Box<Scalar>, 
     }
 }
 
-/// The null of the type of nulls in a box.
+/// The null of the type `Null` in a box.
 #[inline(never)]
 fn hold_null(alloc: Global) -> Result<Box<Scalar>, AllocError>
     ensures { IfOk result (λ made. variant_tree made.value ≡ raw_variant null_type absent) }
@@ -405,7 +368,7 @@ fn hold_number(
     boxed(alloc, Scalar { dtype, value })
 }
 
-/// A copy of a text with its type in a box.
+/// A copy of a string with its type in a box.
 #[inline(never)]
 fn hold_text(alloc: Global, n: Nullability, text: &BufferString) -> Result<Box<Scalar>, AllocError>
     ensures { IfOk result (λ made. variant_tree made.value
@@ -421,7 +384,7 @@ fn hold_text(alloc: Global, n: Nullability, text: &BufferString) -> Result<Box<S
     }
 }
 
-/// A copy of a string of bytes with its type in a box.
+/// A copy of bytes with their type in a box.
 #[inline(never)]
 fn hold_bytes(alloc: Global, n: Nullability, bytes: &ByteBuffer) -> Result<Box<Scalar>, AllocError>
     ensures { IfOk result (λ made. variant_tree made.value
@@ -440,7 +403,6 @@ fn hold_bytes(alloc: Global, n: Nullability, bytes: &ByteBuffer) -> Result<Box<S
 /// A copy of the parts with their type in a box.
 #[cycle(copies)]
 #[inline(never)]
-#[tactic(auto, using(crate::proofs::ValueSteps::shown))]
 fn hold_tuple(
     alloc: Global,
     values: &[Option<ScalarValue>],
@@ -452,9 +414,9 @@ fn hold_tuple(
     hold_parts(alloc, dtype, copy_tuple(alloc, values)?)
 }
 
-/// The parts with a copy of their type in a box.
+/// The parts with a copy of their type in a box. A `?` would write the drop of the parts out,
+/// variant by variant.
 #[inline(always)]
-#[tactic(auto, using(crate::proofs::ValueSteps::shown))]
 fn hold_parts(
     alloc: Global,
     dtype: &DType,
@@ -478,7 +440,6 @@ fn hold_parts(
 /// A copy of any scalar in a box.
 #[cycle(copies)]
 #[inline(never)]
-#[tactic(auto, using(crate::proofs::ValueSteps::shown))]
 fn hold_whole(alloc: Global, scalar: &Scalar) -> Result<Box<Scalar>, AllocError>
     ensures { IfOk result (λ copy. variant_tree copy.value ≡ variant_tree scalar.now) }
 {
@@ -488,9 +449,9 @@ fn hold_whole(alloc: Global, scalar: &Scalar) -> Result<Box<Scalar>, AllocError>
     }
 }
 
-/// The same type and raw value. A flat type with a value that takes no memory takes none.
+/// A copy of the type and the raw value. A flat type takes no memory, nor does a truth value, an
+/// integer or a null.
 #[cycle(copies)]
-#[tactic(auto, using(crate::proofs::ValueSteps::shown))]
 pub(crate) fn copy_scalar(alloc: Global, scalar: &Scalar) -> Result<Scalar, VortexError>
     ensures { MatchResult result
         (λ copy. (type_of copy.dtype ≡ type_of scalar.now.dtype)

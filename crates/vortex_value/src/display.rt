@@ -1,16 +1,7 @@
-//! The texts of raw values and of scalars, written from borrowed parts.
+//! How raw values and scalars are printed.
 
 ghost use Rattle.std.specs.Prelude.{◌≡◌, ◌++◌, ◌⊎◌, [], IfNone, IfSome, IsTrue, None, Some, codes, false, slice_get};
-ghost use Rattle.std.specs.Fmt.{WritesOnOk};
-ghost use Rattle.vortex_dtype.specs.TypeOf.{fields_of, map_of, type_of, as_type_trees};
-ghost use Rattle.vortex_dtype.specs.TypeTree.{storage};
-ghost use Rattle.vortex_value.specs.Breaches.{is_valid};
-ghost use Rattle.vortex_value.specs.Values.RawOf.{value_trees, variant_tree, union_tree, value_tree, lent_raw};
-ghost use Rattle.vortex_value.specs.Values.RawTree.{RawTree, raw_tuple, raw_union};
-ghost use Rattle.vortex_value.specs.Values.Refs.{ref_raw, ref_type};
-ghost use Rattle.vortex_value.specs.Values.Scalars.{scalar_raw, scalar_type};
-ghost use Rattle.vortex_value.specs.Steps.Labels.{field_at};
-ghost use Rattle.vortex_value.specs.Texts.{between, element_texts, entry_text, entry_texts, field_texts, in_braces, in_brackets, in_parentheses, joined, raw_text_of, raw_texts, text_at, text_of};
+ghost use Rattle.vortex_value.specs.Words.{RawTree, WritesOnOk, as_type_trees, between, element_texts, entry_text, entry_texts, field_at, field_texts, fields_of, in_braces, in_brackets, in_parentheses, is_valid, joined, lent_raw, map_of, raw_text_of, raw_texts, raw_tuple, raw_union, ref_raw, ref_type, scalar_raw, scalar_type, storage, text_at, text_of, type_of, union_tree, value_tree, value_trees, variant_tree};
 
 use crate::refs::ScalarRef;
 use crate::scalars::Scalar;
@@ -22,7 +13,7 @@ use vortex_dtype::{DType, FieldName, MapDType, StructFields, UnionVariants};
 
 mod leaves;
 
-/// The text of a valid value of the type, or of its absence.
+/// Writes a valid value of the type, or `null`.
 #[cycle(text)]
 fn write_part<W: Write>(
     value: Option<&ScalarValue>,
@@ -38,7 +29,7 @@ fn write_part<W: Write>(
     }
 }
 
-/// The text of a valid value that is present.
+/// Writes a valid value that is present.
 #[cycle(text)]
 #[tactic(auto, using(crate::proofs::TextSteps::shown))]
 fn write_value<W: Write>(value: &ScalarValue, dtype: &DType, f: &mut Formatter<W>) -> fmt::Result
@@ -56,7 +47,7 @@ fn write_value<W: Write>(value: &ScalarValue, dtype: &DType, f: &mut Formatter<W
     }
 }
 
-/// The text of the parts of a valid list, map or struct. Of another type it writes nothing.
+/// Writes the parts of a valid list, map or struct, and nothing of another type.
 #[cycle(text)]
 #[tactic(auto, using(crate::proofs::TextSteps::shown))]
 fn write_tuple<W: Write>(
@@ -79,7 +70,7 @@ fn write_tuple<W: Write>(
     }
 }
 
-/// The elements of a list, in brackets.
+/// Writes the elements of a list, in brackets.
 #[cycle(text)]
 fn write_elements<W: Write>(
     items: &[Option<ScalarValue>],
@@ -97,7 +88,7 @@ fn write_elements<W: Write>(
     f.write_str("]")
 }
 
-/// The entries of a map, in braces.
+/// Writes the entries of a map, in braces.
 #[cycle(text)]
 fn write_entries<W: Write>(
     items: &[Option<ScalarValue>],
@@ -116,7 +107,7 @@ fn write_entries<W: Write>(
     f.write_str("}")
 }
 
-/// One entry: the key, and after a colon the value.
+/// Writes one entry: the key, and after a colon the value.
 #[cycle(text)]
 #[tactic(auto, using(crate::proofs::TextSteps::shown))]
 fn write_entry<W: Write>(
@@ -134,7 +125,7 @@ fn write_entry<W: Write>(
     }
 }
 
-/// The two parts of an entry.
+/// Writes the two parts of an entry, with a colon between them.
 #[cycle(text)]
 #[tactic(auto, using(crate::proofs::TextSteps::shown))]
 fn write_pair<W: Write>(
@@ -154,7 +145,7 @@ fn write_pair<W: Write>(
     write_part(parts[1].as_ref(), map.value_dtype(), f)
 }
 
-/// The fields of a struct, in braces: each one's name, and after a colon its value.
+/// Writes the fields of a struct, in braces: each one's name, and after a colon its value.
 #[cycle(text)]
 fn write_fields<W: Write>(
     items: &[Option<ScalarValue>],
@@ -172,8 +163,8 @@ fn write_fields<W: Write>(
     f.write_str("}")
 }
 
-/// One field: its name, and after a colon its value, with what stands before it. Past the fields it
-/// writes nothing.
+/// Writes one field: what stands before it, its name, and after a colon its value. Past the fields
+/// it writes nothing.
 #[cycle(text)]
 fn write_field<W: Write>(
     index: usize,
@@ -203,8 +194,8 @@ fn named_field(fields: &StructFields, index: usize) -> Option<(&FieldName, &DTyp
     Some((fields.names().get(index)?, fields.field_by_index(index)?))
 }
 
-/// The name of the variant that the id gives, and in parentheses the child. Of another type it
-/// writes nothing.
+/// Writes the name of the id's variant, and in parentheses the child. Of a type that is no union
+/// with such a variant it writes nothing.
 #[cycle(text)]
 #[tactic(auto, using(crate::proofs::TextSteps::shown))]
 fn write_union<W: Write>(union: &UnionValue, dtype: &DType, f: &mut Formatter<W>) -> fmt::Result
@@ -233,7 +224,7 @@ fn named_variant(dtype: &DType, id: u8) -> Option<(&FieldName, &DType)>
     Some((variants.names().get(place)?, variant))
 }
 
-/// The scalar in a variant, in parentheses.
+/// Writes the scalar in a variant, in parentheses.
 #[cycle(text)]
 fn write_inner<W: Write>(scalar: &Scalar, f: &mut Formatter<W>) -> fmt::Result
     ensures { WritesOnOk W.write_str_gives f.old result
@@ -245,7 +236,7 @@ fn write_inner<W: Write>(scalar: &Scalar, f: &mut Formatter<W>) -> fmt::Result
     f.write_str(")")
 }
 
-/// The text of an optional raw value, whatever its type.
+/// Writes a raw value, or `null`, whatever its type.
 #[cycle(raw_text)]
 fn write_raw_part<W: Write>(value: Option<&ScalarValue>, f: &mut Formatter<W>) -> fmt::Result
     ensures { WritesOnOk W.write_str_gives f.old result
@@ -257,7 +248,7 @@ fn write_raw_part<W: Write>(value: Option<&ScalarValue>, f: &mut Formatter<W>) -
     }
 }
 
-/// The text of a raw value, whatever its type.
+/// Writes a raw value, whatever its type.
 #[cycle(raw_text)]
 #[tactic(auto, using(crate::proofs::TextSteps::shown))]
 fn write_raw<W: Write>(value: &ScalarValue, f: &mut Formatter<W>) -> fmt::Result
@@ -274,7 +265,7 @@ fn write_raw<W: Write>(value: &ScalarValue, f: &mut Formatter<W>) -> fmt::Result
     }
 }
 
-/// The parts of a list, a struct or a map, in brackets.
+/// Writes the parts of a list, a struct or a map, in brackets.
 #[cycle(raw_text)]
 fn write_raw_items<W: Write>(items: &[Option<ScalarValue>], f: &mut Formatter<W>) -> fmt::Result
     ensures { WritesOnOk W.write_str_gives f.old result
@@ -288,7 +279,7 @@ fn write_raw_items<W: Write>(items: &[Option<ScalarValue>], f: &mut Formatter<W>
     f.write_str("]")
 }
 
-/// The id of a union's value, and in parentheses the child.
+/// Writes the id of a union's value, and in parentheses the child.
 #[cycle(raw_text)]
 #[tactic(auto, using(crate::proofs::TextSteps::shown))]
 fn write_raw_union<W: Write>(union: &UnionValue, f: &mut Formatter<W>) -> fmt::Result
@@ -299,7 +290,7 @@ fn write_raw_union<W: Write>(union: &UnionValue, f: &mut Formatter<W>) -> fmt::R
     f.write_str(")")
 }
 
-/// The text of a scalar: of a valid one by its type, of another its raw text.
+/// Writes a scalar: a valid one by its type, another as a raw value.
 #[cycle(raw_text)]
 fn write_scalar<W: Write>(scalar: &Scalar, f: &mut Formatter<W>) -> fmt::Result
     ensures { WritesOnOk W.write_str_gives f.old result
@@ -308,8 +299,8 @@ fn write_scalar<W: Write>(scalar: &Scalar, f: &mut Formatter<W>) -> fmt::Result
     write_text(scalar.value.as_ref(), &scalar.dtype, f)
 }
 
-/// The text of an optional raw value of the type. Validity is looked at once, here, and no more in
-/// its parts.
+/// Writes a raw value of the type, or `null`. Validity is looked at once, here, and no more in its
+/// parts.
 #[cycle(raw_text)]
 fn write_text<W: Write>(
     value: Option<&ScalarValue>,
@@ -326,8 +317,8 @@ fn write_text<W: Write>(
     }
 }
 
-/// The raw text of a value that is not valid for the type. Of variants in one another validity is
-/// not looked at again.
+/// Writes a value that is not valid for the type as a raw value. Validity is not looked at again
+/// for variants inside one another.
 #[cycle(raw_text)]
 #[tactic(auto, using(crate::proofs::Inner::inner))]
 fn write_invalid<W: Write>(
@@ -347,7 +338,7 @@ fn write_invalid<W: Write>(
     }
 }
 
-/// Whether a variant of this scalar is valid for the type where the scalar is, and only there.
+/// Whether a variant of this scalar is valid for the type exactly if the scalar is valid.
 #[tactic(auto, using(crate::proofs::Inner::inner))]
 fn is_decided_inside(scalar: &Scalar, dtype: &DType) -> bool
     ensures { IsTrue result → is_valid (type_of dtype.now) (variant_tree scalar.now)
@@ -359,10 +350,10 @@ fn is_decided_inside(scalar: &Scalar, dtype: &DType) -> bool
     }
 }
 
-/// Writes the raw text, which is the same whatever the type.
+/// Writes the raw value, which reads alike whatever the type is.
 ///
-/// A text of more than ten characters shows its first five and its last five, a string of bytes
-/// likewise, and nothing is escaped. A variant shows the text of its scalar.
+/// A string of more than ten characters shows its first five and its last five, and so do more than
+/// ten bytes. Nothing is escaped. A variant shows its scalar.
 ///
 /// Ports the `Display` of `ScalarValue`.
 impl Display for ScalarValue {
@@ -373,8 +364,8 @@ impl Display for ScalarValue {
     }
 }
 
-/// Writes `null` for a null, the text by its type for another valid scalar, and the raw text for one
-/// that is not valid.
+/// Writes `null` for a null, another valid scalar by its type, and one that is not valid as a raw
+/// value.
 ///
 /// Ports the `Display` of `Scalar`, which panics at some scalars that are not valid.
 impl Display for Scalar {

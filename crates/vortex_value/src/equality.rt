@@ -1,22 +1,18 @@
 //! Equality of raw values and of scalars: integers as whole numbers, types up to nullability.
+#![tactic(auto, using(crate::proofs::ValueSteps::shown))]
 
 ghost use Rattle.std.specs.Prelude.{◌≡◌, ◌&&◌};
-ghost use Rattle.std.specs.Cmp.{partial_equiv_from_equiv};
 ghost use Rattle.std.proofs.lemmas.Cmp.{on_equiv};
-ghost use Rattle.vortex_dtype.specs.TypeOf.{type_of};
-ghost use Rattle.vortex_value.specs.Values.Content.{content, contents, typed};
-ghost use Rattle.vortex_value.specs.Equality.{equal, all_equal, same_type};
+ghost use Rattle.vortex_value.specs.Words.{all_equal, content, contents, equal, lent_raw, partial_equiv_from_equiv, same_type, scalar_content, scalar_type, type_of, typed, union_tree, value_tree, value_trees, variant_tree};
 ghost use Rattle.vortex_value.specs.Lemmas.EqualityLaws.{equal-equiv};
-ghost use Rattle.vortex_value.specs.Values.RawOf.{value_trees, variant_tree, union_tree, value_tree, lent_raw};
-ghost use Rattle.vortex_value.specs.Values.Scalars.{scalar_type, scalar_content};
 
 use crate::scalars::Scalar;
 use crate::unions::UnionValue;
 use crate::values::ScalarValue;
 use vortex_dtype::DType;
 
-/// Whether two types are the same up to nullability, told by the test that the equality of values
-/// is written in: the recursions below take it from this contract.
+/// Whether two types are the same up to nullability. The contract says it by the test that the
+/// definition of equality uses, and the recursions below take it from here.
 pub(crate) fn same_types(a: &DType, b: &DType) -> bool
     ensures { result ≡ same_type (type_of a.now) (type_of b.now) }
 {
@@ -25,7 +21,6 @@ pub(crate) fn same_types(a: &DType, b: &DType) -> bool
 
 /// Whether the contents of two raw values are equal.
 #[cycle(equality)]
-#[tactic(auto, using(crate::proofs::ValueSteps::shown))]
 fn equal_values(a: &ScalarValue, b: &ScalarValue) -> bool
     ensures { result ≡ equal (content (value_tree a.now)) (content (value_tree b.now)) }
 {
@@ -43,7 +38,6 @@ fn equal_values(a: &ScalarValue, b: &ScalarValue) -> bool
 
 /// Whether the contents of two optional raw values are equal: a null equals a null alone.
 #[cycle(equality)]
-#[tactic(auto, using(crate::proofs::ValueSteps::shown))]
 pub(crate) fn equal_optional(a: Option<&ScalarValue>, b: Option<&ScalarValue>) -> bool
     ensures { result ≡ equal
         (content (lent_raw a.entry)) (content (lent_raw b.entry)) }
@@ -57,7 +51,6 @@ pub(crate) fn equal_optional(a: Option<&ScalarValue>, b: Option<&ScalarValue>) -
 
 /// Whether there are equally many parts, equal place by place.
 #[cycle(equality)]
-#[tactic(auto, using(crate::proofs::ValueSteps::shown))]
 fn equal_tuples(a: &[Option<ScalarValue>], b: &[Option<ScalarValue>]) -> bool
     ensures { result ≡ all_equal (contents (value_trees a.now)) (contents (value_trees b.now)) }
 {
@@ -72,9 +65,8 @@ fn equal_tuples(a: &[Option<ScalarValue>], b: &[Option<ScalarValue>]) -> bool
     true
 }
 
-/// Whether the ids are one and the children equal.
+/// Whether the ids and the children are equal.
 #[cycle(equality)]
-#[tactic(auto, using(crate::proofs::ValueSteps::shown))]
 fn equal_unions(a: &UnionValue, b: &UnionValue) -> bool
     ensures { result ≡ equal (content (union_tree a.now)) (content (union_tree b.now)) }
 {
@@ -86,7 +78,6 @@ fn equal_unions(a: &UnionValue, b: &UnionValue) -> bool
 
 /// Whether the types are the same up to nullability and the contents equal.
 #[cycle(equality)]
-#[tactic(auto, using(crate::proofs::ValueSteps::shown))]
 fn equal_scalars(a: &Scalar, b: &Scalar) -> bool
     ensures { result ≡ equal (content (variant_tree a.now)) (content (variant_tree b.now)) }
 {
@@ -124,7 +115,6 @@ impl Eq for UnionValue {
     ghost laws = { on_equiv (λ u. content (union_tree u)) equal-equiv };
 }
 
-#[tactic(auto, using(crate::proofs::ValueSteps::shown))]
 impl PartialEq for Scalar {
     ghost eq = { λ a b.
         same_type (scalar_type a) (scalar_type b) && equal (scalar_content a) (scalar_content b) };

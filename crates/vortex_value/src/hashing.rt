@@ -1,12 +1,9 @@
-//! What raw values and scalars feed a hasher: their contents, and types without nullability.
+//! What raw values and scalars feed a hasher: their contents, and types without their nullability.
+#![tactic(auto, using(crate::proofs::HashSteps::shown))]
 
 ghost use Rattle.std.specs.Prelude.{◌≡◌, fold};
-ghost use Rattle.std.specs.Hash.{and-Alike, on_Alike};
-ghost use Rattle.vortex_value.specs.Values.Content.{content, contents};
+ghost use Rattle.vortex_value.specs.Words.{and-Alike, content, content_feed, contents, counted_feed, lent_raw, on_Alike, scalar_content, scalar_type, typed_feed, union_tree, value_tree, value_trees};
 ghost use Rattle.vortex_value.specs.Lemmas.HashLaws.{content_feed-Alike, type_feed-Alike};
-ghost use Rattle.vortex_value.specs.Hashing.{content_feed, counted_feed, typed_feed};
-ghost use Rattle.vortex_value.specs.Values.RawOf.{value_trees, union_tree, value_tree, lent_raw};
-ghost use Rattle.vortex_value.specs.Values.Scalars.{scalar_content, scalar_type};
 
 use crate::scalars::Scalar;
 use crate::unions::UnionValue;
@@ -15,7 +12,6 @@ use std::hash::{Hash, Hasher};
 
 /// Feeds an optional raw value.
 #[cycle(feed)]
-#[tactic(auto, using(crate::proofs::HashSteps::shown))]
 pub(crate) fn feed<H: Hasher>(value: Option<&ScalarValue>, state: &mut H)
     ensures { state.new ≡ fold H.write state.old
         (content_feed (content (lent_raw value.entry))) }
@@ -26,9 +22,8 @@ pub(crate) fn feed<H: Hasher>(value: Option<&ScalarValue>, state: &mut H)
     }
 }
 
-/// Feeds the number of the kind, and then the parts.
+/// Feeds the number of the variant, and then what it holds.
 #[cycle(feed)]
-#[tactic(auto, using(crate::proofs::HashSteps::shown))]
 fn feed_value<H: Hasher>(value: &ScalarValue, state: &mut H)
     ensures { state.new ≡ fold H.write state.old (content_feed (content (value_tree value.now))) }
 {
@@ -63,7 +58,6 @@ fn feed_value<H: Hasher>(value: &ScalarValue, state: &mut H)
 
 /// Feeds how many parts there are, and each.
 #[cycle(feed)]
-#[tactic(auto, using(crate::proofs::HashSteps::shown))]
 fn feed_tuple<H: Hasher>(items: &[Option<ScalarValue>], state: &mut H)
     ensures { state.new ≡ fold H.write state.old (counted_feed (contents (value_trees items.now))) }
 {
@@ -75,7 +69,6 @@ fn feed_tuple<H: Hasher>(items: &[Option<ScalarValue>], state: &mut H)
 
 /// Feeds the number of unions, the id and the child.
 #[cycle(feed)]
-#[tactic(auto, using(crate::proofs::HashSteps::shown))]
 fn feed_union<H: Hasher>(union: &UnionValue, state: &mut H)
     ensures { state.new ≡ fold H.write state.old (content_feed (content (union_tree union.now))) }
 {
@@ -86,7 +79,6 @@ fn feed_union<H: Hasher>(union: &UnionValue, state: &mut H)
 
 /// Feeds the type without nullability, and the value.
 #[cycle(feed)]
-#[tactic(auto, using(crate::proofs::HashSteps::shown))]
 fn feed_scalar<H: Hasher>(scalar: &Scalar, state: &mut H)
     ensures { state.new ≡ fold H.write state.old
         (typed_feed (scalar_type scalar.now) (scalar_content scalar.now)) }

@@ -3,24 +3,10 @@
 //! These functions do nothing when they run. The contract of each is a law over the definitions in
 //! `specs/`, and its proof is the law's proof.
 
-ghost use Rattle.std.specs.Cmp.{IsEquivalence};
-ghost use Rattle.vortex_dtype.specs.Laws.{AgreesWithHash};
-ghost use Rattle.vortex_value.specs.Breaches.{ValidExactlyWithoutBreach, ValidityIsDecided};
+ghost use Rattle.vortex_value.specs.Words.{AgreesWhere, AgreesWithHash, DefaultExists, EqualFeedSame, EqualityAgreesWithoutTyped, EqualityIsAnEquivalence, EqualityIsDecided, EqualsByContent, EqualsByTypeAndContent, HasNoVariant, IsEquivalence, IsReversed, IsTransitive, IsValid, IsValidRef, OneValue, ScalarsReinterpretBack, SizeIsSum, ValidExactlyWithoutBreach, ValidityIsDecided, ZeroIsZero, content, order, ref_content, ref_order, ref_type, scalar_content, scalar_order, scalar_type, union_tree, value_tree};
 ghost use Rattle.vortex_value.specs.Laws.CastLaws.{CallsAreChains, CastsKeepScalars, ChainsAgree, ChainsKeepValues, IntoNullableAndBack, NoCallFurther, NoWayRound, NullableCastsBack, ThereAndBack};
-ghost use Rattle.vortex_value.specs.Casts.{OneValue};
-ghost use Rattle.vortex_value.specs.Values.Content.{content};
-ghost use Rattle.vortex_value.specs.Equality.{EqualityAgreesWithoutTyped, EqualityIsAnEquivalence, EqualityIsDecided, EqualsByContent, EqualsByTypeAndContent};
 ghost use Rattle.vortex_value.specs.Laws.HasContent.{HasByCases};
 ghost use Rattle.vortex_value.specs.Laws.ZeroCases.{DefaultByCases, ZeroByCases};
-ghost use Rattle.vortex_value.specs.Hashing.{EqualFeedSame};
-ghost use Rattle.vortex_value.specs.Order.{AgreesWhere, IsReversed, IsTransitive, order};
-ghost use Rattle.vortex_value.specs.Reinterpretations.{ScalarsReinterpretBack};
-ghost use Rattle.vortex_value.specs.Values.RawOf.{union_tree, value_tree};
-ghost use Rattle.vortex_value.specs.Values.Refs.{IsValidRef, ref_content, ref_order, ref_type};
-ghost use Rattle.vortex_value.specs.Values.Scalars.{IsValid, scalar_content, scalar_order, scalar_type};
-ghost use Rattle.vortex_value.specs.Size.{SizeIsSum};
-ghost use Rattle.vortex_value.specs.TypesWithin.{HasNoVariant};
-ghost use Rattle.vortex_value.specs.Zero.{DefaultExists, ZeroIsZero};
 
 use crate::refs::ScalarRef;
 use crate::scalars::Scalar;
@@ -28,13 +14,13 @@ use crate::unions::UnionValue;
 use crate::values::ScalarValue;
 use std::hash::Hash;
 
-/// A raw value is valid for a type exactly where the list of its breaches is empty, so a check that
+/// A raw value is valid for a type exactly if the list of its breaches is empty. So a check that
 /// reports the first breach passes all valid values and no others.
 pub fn valid_exactly_without_breach()
     ensures { ValidExactlyWithoutBreach }
 {}
 
-/// The test of validity, by which a text is chosen, passes exactly where the value is valid.
+/// The test of validity in the definition of `Display` passes exactly if the value is valid.
 pub fn validity_is_decided()
     ensures { ValidityIsDecided }
 {}
@@ -45,8 +31,9 @@ pub fn one_value()
     ensures { OneValue }
 {}
 
-/// Raw values, and those of unions, are equal exactly where their contents are; scalars, owned and
-/// borrowed, exactly where their types are the same up to nullability and their contents equal.
+/// Raw values, and those of unions, are equal exactly if their contents are. Scalars, owned and
+/// borrowed, are equal exactly if their types are the same up to nullability and their contents
+/// equal.
 pub fn equality()
     ensures values { EqualsByContent
         (λ v. content (value_tree v)) ⟦<ScalarValue as PartialEq>⟧.eq }
@@ -67,13 +54,12 @@ pub fn equality_is_an_equivalence()
     ensures borrowed { IsEquivalence ⟦<ScalarRef<'static> as PartialEq>⟧.eq }
 {}
 
-/// Where no variant's child stands in a content, only the content itself equals it.
+/// If a content has no variant's child at any depth, only the content itself equals it.
 pub fn equality_agrees_without_typed()
     ensures { EqualityAgreesWithoutTyped }
 {}
 
-/// The test of equality, at which `==` of values and scalars is proved, passes exactly where the
-/// contents are equal.
+/// The test of equality in the contract of `==` passes exactly if the contents are equal.
 pub fn equality_is_decided()
     ensures { EqualityIsDecided }
 {}
@@ -86,15 +72,15 @@ pub fn order_is_reversed()
 {}
 
 /// If the first is not above the second, and the second not above the third, then the first is not
-/// above the third, and below it where one of the two steps was.
+/// above the third. It is below the third if one of the two steps was below.
 pub fn order_is_transitive()
     ensures contents { IsTransitive order }
     ensures scalars { IsTransitive scalar_order }
     ensures borrowed { IsTransitive ref_order }
 {}
 
-/// Where the type of a valid scalar has no variant at any depth, `partial_cmp` with another says
-/// Equal exactly where the two are equal.
+/// If the type of a valid scalar has no variant at any depth, `partial_cmp` with another scalar
+/// says Equal exactly if the two are equal.
 pub fn order_agrees_with_equality()
     ensures scalars { AgreesWhere (λ x. HasNoVariant (scalar_type x) × IsValid x)
         scalar_order ⟦<Scalar as PartialEq>⟧.eq }
@@ -102,7 +88,7 @@ pub fn order_agrees_with_equality()
         ref_order ⟦<ScalarRef<'static> as PartialEq>⟧.eq }
 {}
 
-/// Equal raw values, and equal scalars, feed every hasher the same.
+/// Equal raw values, and equal scalars, feed a hasher alike.
 pub fn hash_agrees()
     ensures values { AgreesWithHash
         ⟦<ScalarValue as PartialEq>⟧.eq ⟦<ScalarValue as Hash>⟧.hash_input }
@@ -113,32 +99,32 @@ pub fn hash_agrees()
         ⟦<ScalarRef<'static> as PartialEq>⟧.eq ⟦<ScalarRef<'static> as Hash>⟧.hash_input }
 {}
 
-/// Equal contents feed every hasher the same, and so do equal contents of types that are the same up
-/// to nullability, which is not fed.
+/// Equal contents feed a hasher alike, and so do equal contents with types that are the same up to
+/// nullability, which is not fed.
 pub fn equal_contents_feed_the_same()
     ensures { EqualFeedSame }
 {}
 
-/// The zero of a type is the content of a valid value, not null, and zero; and where the type has no
+/// The zero of a type is the content of a valid value, not null, and zero. If the type has no
 /// variant at any depth, no other valid value is zero.
 pub fn zero_is_zero()
     ensures { ZeroIsZero }
 {}
 
-/// The zero of each kind of type: none of Null and of a union without variants, and of a type with
-/// parts what the zeros of its parts make.
+/// The zero of each type, case by case: `Null` and a union without variants have no zero, and the
+/// zero of a type with parts is made of the zeros of its parts.
 pub fn zero_by_cases()
     ensures { ZeroByCases }
 {}
 
-/// The default of each kind of type: the null of one that takes it, and else what its kind has, made of
+/// The default of each type, case by case: the null if the type takes it, and else a value made of
 /// the defaults of its parts.
 pub fn default_by_cases()
     ensures { DefaultByCases }
 {}
 
-/// A type whose unions have variants at every depth has a default. A default is the content of a
-/// valid value, and null exactly where the type takes a null.
+/// A type has a default if each union in it has variants. A default is the content of a valid
+/// value, and null exactly if the type takes a null.
 pub fn default_exists()
     ensures { DefaultExists }
 {}
@@ -149,15 +135,15 @@ pub fn size_is_sum()
     ensures { SizeIsSum }
 {}
 
-/// What the contract of a cast says of a value, owned or lent, and the scalar that it gave is a cast,
-/// and so a chain of one, from which further ones go on. Back from a chain, its first cast is possible,
-/// and what a call answers is the value that the cast gives, unless there is no memory.
+/// What the contract of a cast says of a value, owned or lent, and of the scalar that it gave, is a
+/// cast: a chain of one, and further casts go on from there. Back from a chain, its first cast is
+/// possible. A call then answers the value that the cast gives, unless there is no memory.
 pub fn calls_are_chains()
     ensures { CallsAreChains }
 {}
 
-/// Two chains of casts from one value, whose last types are one up to nullability, give one value,
-/// whatever types they go through.
+/// Two chains of casts from one value give one value if their last types are the same up to
+/// nullability, whatever types they go through.
 pub fn chains_agree()
     ensures { ChainsAgree }
 {}
@@ -167,36 +153,36 @@ pub fn there_and_back()
     ensures { ThereAndBack }
 {}
 
-/// What chains to one type gave, from types that are the same up to nullability, is equal exactly where
-/// what was cast is, and ordered as it is.
+/// Two values that were cast by chains to one type, from types that are the same up to nullability,
+/// are equal exactly if they were equal before, and are ordered as before.
 pub fn equality_and_order_are_kept()
     ensures values { ChainsKeepValues }
     ensures scalars { CastsKeepScalars ⟦<Scalar as PartialEq>⟧.eq scalar_order }
 {}
 
-/// Between two types without extensions one cast gives what a chain of casts gives, where no map
-/// stands in the two types or no null in the content: no way round leads further. So the direct cast
+/// Between two types without extensions one cast gives what a chain of casts gives, if the two
+/// types have no map or the content has no null: no way round leads further. So the direct cast
 /// answers what the chain gave, unless there is no memory.
 pub fn no_way_round()
     ensures values { NoWayRound }
     ensures calls { NoCallFurther }
 {}
 
-/// `into_nullable`, then `cast` to the type before: the value stays, so the scalar comes back, unless
-/// there is no memory.
+/// After `into_nullable`, a `cast` to the type before gives the scalar back, unless there is no
+/// memory.
 pub fn into_nullable_and_back()
     ensures values { IntoNullableAndBack }
     ensures calls { NullableCastsBack }
 {}
 
-/// A type has a content, by some valid raw value, exactly where the cases over kinds of types say
-/// so: nobody has to look for a value to know whether there is one.
+/// Some valid raw value of a type has a content exactly if the cases over types say so. Nobody has
+/// to look for a value to know whether there is one.
 pub fn has_by_cases()
     ensures { HasByCases }
 {}
 
-/// What is valid for an integer type, reinterpreted in a kind of the same width and back, is what it
-/// was.
+/// A valid value of an integer type, reinterpreted as another integer type of its width and back,
+/// is what it was.
 pub fn scalars_reinterpret_back()
     ensures { ScalarsReinterpretBack }
 {

@@ -1,11 +1,8 @@
-//! The order of raw values and of scalars: nulls first, contents by kind, variants never.
+//! The order of raw values and of scalars: nulls first, and variants have none.
+#![tactic(auto, using(crate::proofs::OrderSteps::shown))]
 
 ghost use Rattle.std.specs.Prelude.{◌≡◌, Some, length};
-ghost use Rattle.std.specs.Ordering.{nat_cmp};
-ghost use Rattle.vortex_value.specs.Values.Content.{content, contents};
-ghost use Rattle.vortex_value.specs.Order.{order, orders};
-ghost use Rattle.vortex_value.specs.Values.RawOf.{value_trees, union_tree, value_tree, lent_raw};
-ghost use Rattle.vortex_value.specs.Values.Scalars.{scalar_order};
+ghost use Rattle.vortex_value.specs.Words.{content, contents, lent_raw, nat_cmp, order, orders, scalar_order, union_tree, value_tree, value_trees};
 
 use crate::refs::ScalarRef;
 use crate::scalars::Scalar;
@@ -16,7 +13,6 @@ use std::cmp::Ordering;
 /// The order of two optional raw values: a null is below all others.
 #[cycle(order)]
 #[inline(always)]
-#[tactic(auto, using(crate::proofs::OrderSteps::shown))]
 pub(crate) fn compare(a: Option<&ScalarValue>, b: Option<&ScalarValue>) -> Option<Ordering>
     ensures { result ≡ order
         (content (lent_raw a.entry)) (content (lent_raw b.entry)) }
@@ -29,10 +25,10 @@ pub(crate) fn compare(a: Option<&ScalarValue>, b: Option<&ScalarValue>) -> Optio
     }
 }
 
-/// The order of two raw values; there is none of variants, and none of two kinds.
+/// The order of two raw values; `None` for two variants, and for values of different variants of
+/// the enum.
 #[cycle(order)]
 #[inline(always)]
-#[tactic(auto, using(crate::proofs::OrderSteps::shown))]
 fn compare_values(a: &ScalarValue, b: &ScalarValue) -> Option<Ordering>
     ensures { result ≡ order (content (value_tree a.now)) (content (value_tree b.now)) }
 {
@@ -49,7 +45,6 @@ fn compare_values(a: &ScalarValue, b: &ScalarValue) -> Option<Ordering>
 
 /// The order at the first place that is not equal on both sides, and else of the lengths.
 #[cycle(order)]
-#[tactic(auto, using(crate::proofs::OrderSteps::shown))]
 fn compare_tuples(a: &[Option<ScalarValue>], b: &[Option<ScalarValue>]) -> Option<Ordering>
     ensures { result ≡ orders (contents (value_trees a.now)) (contents (value_trees b.now)) }
 {
@@ -62,16 +57,15 @@ fn compare_tuples(a: &[Option<ScalarValue>], b: &[Option<ScalarValue>]) -> Optio
     compare_lengths(a, b)
 }
 
-/// The order of the lengths, which decides where no place of the shorter side does.
+/// The order of the lengths, which decides if no place of the shorter side does.
 fn compare_lengths(a: &[Option<ScalarValue>], b: &[Option<ScalarValue>]) -> Option<Ordering>
     ensures { result ≡ Some (nat_cmp (length a.now) (length b.now)) }
 {
     Some(a.len().cmp(&b.len()))
 }
 
-/// The order of the children, where the ids are one.
+/// The order of the children if the ids are equal, else `None`.
 #[cycle(order)]
-#[tactic(auto, using(crate::proofs::OrderSteps::shown))]
 fn compare_unions(a: &UnionValue, b: &UnionValue) -> Option<Ordering>
     ensures { result ≡ order (content (union_tree a.now)) (content (union_tree b.now)) }
 {
@@ -83,11 +77,11 @@ fn compare_unions(a: &UnionValue, b: &UnionValue) -> Option<Ordering>
 }
 
 impl Scalar {
-    /// The order of the contents, where the types are the same up to nullability, and else none. A
-    /// null is below all others, and two variants have no order.
+    /// The order of the contents if the types are the same up to nullability, else `None`. A null
+    /// is below all others, and two variants have no order.
     ///
-    /// Ports the `PartialOrd` of `Scalar`. A plain call, since a variant equals itself and has no
-    /// order with itself.
+    /// Ports the `PartialOrd` of `Scalar`. It is a plain call, since a variant equals itself and
+    /// has no order with itself.
     pub fn partial_cmp(&self, other: &Scalar) -> Option<Ordering>
         ensures { result ≡ scalar_order self.now other.now }
     {

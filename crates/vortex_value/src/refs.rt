@@ -1,22 +1,10 @@
 //! Borrowed scalars: a type and an optional raw value, both lent by what holds them.
 
 ghost use Rattle.std.specs.Prelude.{◌≡◌, ◌≢◌, ◌↔◌, ◌&&◌, Err, IfErr, IfOk, IsOk};
-ghost use Rattle.std.specs.Cmp.{partial_equiv_from_equiv};
-ghost use Rattle.std.specs.Hash.{and-Alike, on_Alike};
 ghost use Rattle.std.proofs.lemmas.Cmp.{on_equiv};
-ghost use Rattle.vortex_dtype.specs.TypeOf.{type_of};
-ghost use Rattle.vortex_dtype.specs.TypeTree.{IsFlat};
-ghost use Rattle.vortex_value.specs.Breaches.{Refuses, breaches};
-ghost use Rattle.vortex_value.specs.Values.Content.{typed};
-ghost use Rattle.vortex_value.specs.Equality.{equal, same_type};
+ghost use Rattle.vortex_value.specs.Words.{IsFlat, IsMadeOf, IsRefOf, IsValid, IsValidRef, Refuses, Valid, and-Alike, breaches, equal, is_absent, lent_raw, on_Alike, partial_equiv_from_equiv, ref_content, ref_order, ref_raw, ref_type, same_type, scalar_raw, scalar_type, type_of, typed, typed_feed};
 ghost use Rattle.vortex_value.specs.Lemmas.EqualityLaws.{equal-equiv};
 ghost use Rattle.vortex_value.specs.Lemmas.HashLaws.{content_feed-Alike, type_feed-Alike};
-ghost use Rattle.vortex_value.specs.Hashing.{typed_feed};
-ghost use Rattle.vortex_value.specs.Values.RawOf.{lent_raw};
-ghost use Rattle.vortex_value.specs.Values.RawTree.{is_absent};
-ghost use Rattle.vortex_value.specs.Values.Refs.{IsRefOf, IsValidRef, ref_content, ref_order, ref_raw, ref_type};
-ghost use Rattle.vortex_value.specs.Values.Scalars.{IsMadeOf, IsValid, scalar_raw, scalar_type};
-ghost use Rattle.vortex_value.specs.Validity.{Valid};
 
 use crate::copies::copy_optional;
 use crate::equality::{equal_optional, same_types};
@@ -29,8 +17,8 @@ use std::cmp::Ordering;
 use std::hash::{Hash, Hasher};
 use vortex_dtype::{DType, VortexError};
 
-/// A type and an optional raw value, both borrowed: none is the null. Of this port alone: where
-/// upstream clones a part of a scalar, it is lent as one.
+/// A type and an optional raw value, both borrowed; `None` is the null. Of this port alone:
+/// upstream clones a part of a scalar, and this port lends it as one of these.
 #[derive(Clone, Copy, Debug)]
 pub struct ScalarRef<'a> {
     dtype: &'a DType,
@@ -49,7 +37,7 @@ impl<'a> ScalarRef<'a> {
         }
     }
 
-    /// The type and the raw value, or its absence, borrowed, also where the value is not valid for
+    /// The type and the raw value, borrowed, or `None` for a null. The value need not be valid for
     /// the type. Of this port alone: views lend their parts by it.
     pub fn from_parts(dtype: &'a DType, value: Option<&'a ScalarValue>) -> ScalarRef<'a>
         ensures made { IsRefOf (type_of dtype.now) (lent_raw value.entry) result }
@@ -59,11 +47,11 @@ impl<'a> ScalarRef<'a> {
         ScalarRef { dtype, value }
     }
 
-    /// The type and the raw value, or its absence, borrowed as a scalar.
+    /// The type and the raw value, borrowed as a scalar; `None` is the null.
     ///
-    /// `Invalid` where the raw value is not valid for the type, with the first breach in reading
-    /// order and the path to it; `OutOfMemory` comes in its place where the path has steps and there
-    /// is no memory for them. A valid value takes none, nor does any value of a type whose values
+    /// `Invalid` if the raw value is not valid for the type: it has the first breach in reading
+    /// order and the path to it. `OutOfMemory` comes in its place if there is no memory for the
+    /// steps of the path. A valid value takes no memory, nor does any value of a type whose values
     /// take none.
     pub fn try_new(
         alloc: Global,
@@ -89,7 +77,7 @@ impl<'a> ScalarRef<'a> {
         self.dtype
     }
 
-    /// The raw value; none for a null.
+    /// The raw value; `None` for a null.
     pub fn value(&self) -> Option<&'a ScalarValue>
         ensures { lent_raw result ≡ ref_raw self.now }
     {
@@ -103,8 +91,8 @@ impl<'a> ScalarRef<'a> {
         self.value.is_none()
     }
 
-    /// The order of the contents, where the types are the same up to nullability, and else none. A
-    /// null is below all others, and two variants have no order.
+    /// The order of the contents if the types are the same up to nullability, else `None`. A null
+    /// is below all others, and two variants have no order.
     pub fn partial_cmp(&self, other: &ScalarRef<'_>) -> Option<Ordering>
         ensures { result ≡ ref_order self.now other.now }
     {
@@ -115,10 +103,10 @@ impl<'a> ScalarRef<'a> {
         }
     }
 
-    /// A scalar of its own: the exact type and the raw value, integer kinds included.
+    /// A copy with memory of its own: the exact type and the exact raw value.
     ///
-    /// `OutOfMemory` is its only refusal, and not for a valid one of a type whose values take no
-    /// memory.
+    /// `OutOfMemory` is its only refusal. A valid scalar of a type whose values take no memory is
+    /// never refused.
     pub fn to_scalar(&self, alloc: Global) -> Result<Scalar, VortexError>
         ensures copied { IfOk result (IsMadeOf (ref_type self.now) (ref_raw self.now)) }
         ensures refused { IfErr result (λ e. e ≡ VortexError.OutOfMemory) }

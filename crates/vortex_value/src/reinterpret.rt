@@ -1,8 +1,7 @@
-//! Integer scalars in another kind of the same width.
+//! Integer scalars as another integer type of the same width.
 
 ghost use Rattle.std.specs.Prelude.{◌≡◌, ◌↔◌, IfErr, IfOk, IsOk, IsSome};
-ghost use Rattle.vortex_value.specs.Reinterpretations.{IsAsWide, in_ptype, ptype_in, reinterpreted};
-ghost use Rattle.vortex_value.specs.Values.Scalars.{IsMadeOf, IsValid, scalar_raw, scalar_type};
+ghost use Rattle.vortex_value.specs.Words.{IsAsWide, IsMadeOf, IsValid, in_ptype, ptype_in, reinterpreted, scalar_raw, scalar_type};
 
 use crate::scalars::Scalar;
 use crate::values::ScalarValue;
@@ -10,11 +9,11 @@ use vortex_dtype::{DType, PType, VortexError};
 use vortex_pvalue::laws::is_in_range;
 
 impl Scalar {
-    /// The integer of this kind that has the same bits; a null stays null, and so does the
-    /// nullability.
+    /// The integer of this `PType` that has the same bits. A null stays null, and the nullability
+    /// of the type stays.
     ///
-    /// `WidthsDiffer` exactly where the kind has another width than the type's. The type is one of
-    /// integers, which the caller knows; an extension over one is not. Ports
+    /// `WidthsDiffer` exactly if the `PType` has another width than the type's. The caller knows
+    /// that the type is an integer type, and no extension over one. Ports
     /// `Scalar::primitive_reinterpret_cast`, which panics at another type.
     pub fn primitive_reinterpret_cast(&self, ptype: PType) -> Result<Scalar, VortexError>
         requires valid { IsValid self.now }

@@ -1,31 +1,27 @@
 //! Scalars: a type and an optional raw value.
 
 ghost use Rattle.std.specs.Prelude.{◌≡◌, ◌↔◌, not, IsOk, IsTrue, Ok, Err, IfOk, IfErr, MatchResult};
-ghost use Rattle.std.specs.Option.{option_copied};
-ghost use Rattle.vortex_dtype.specs.TypeTree.{IsFlat, Same};
-ghost use Rattle.vortex_value.specs.Equality.{EqualContents};
-ghost use Rattle.vortex_value.specs.Values.RawTree.{is_absent};
 
 use crate::copies;
 use crate::values::ScalarValue;
 use std::alloc::Global;
 use vortex_dtype::{DType, VortexError};
 
-/// A type and an optional raw value: none is the null.
+/// A type and an optional raw value; `None` is the null.
 ///
-/// A literal of the public fields can be invalid; `validate` tests it. Ports
+/// A literal of the public fields need not be valid; `Scalar::validate` tests it. Ports
 /// `vortex_array::scalar::Scalar`.
 #[cycle(value)]
 #[derive(Debug, Drop)]
 pub struct Scalar {
     /// The type.
     pub dtype: DType,
-    /// The raw value; none for a null.
+    /// The raw value; `None` for a null.
     pub value: Option<ScalarValue>,
 }
 
 impl Scalar {
-    ghost use Rattle.vortex_value.specs.Values.Scalars.{IsMadeOf, IsValid, scalar_content, scalar_type, scalar_raw};
+    ghost use Rattle.vortex_value.specs.Words.{EqualContents, IsFlat, IsMadeOf, IsValid, Same, is_absent, option_copied, scalar_content, scalar_raw, scalar_type};
 
     /// The type.
     pub fn dtype(&self) -> &DType
@@ -34,14 +30,14 @@ impl Scalar {
         &self.dtype
     }
 
-    /// The raw value; none for a null.
+    /// The raw value; `None` for a null.
     pub fn value(&self) -> Option<&ScalarValue>
         ensures { option_copied result ≡ self.now.value }
     {
         self.value.as_ref()
     }
 
-    /// The raw value, by value; none for a null.
+    /// The raw value, by value; `None` for a null.
     pub fn into_value(self) -> Option<ScalarValue>
         ensures { result ≡ self.value }
     {
@@ -72,7 +68,8 @@ impl Scalar {
         self.value.is_none()
     }
 
-    /// Whether the types are the same up to nullability and the contents equal: what `==` says.
+    /// Whether the types are the same up to nullability and the contents are equal. `==` says the
+    /// same.
     pub fn eq_ignore_nullability(&self, other: &Scalar) -> bool
         ensures { IsTrue result ↔ (Same (scalar_type self.now) (scalar_type other.now)
             × EqualContents (scalar_content self.now) (scalar_content other.now)) }
@@ -80,10 +77,10 @@ impl Scalar {
         self == other
     }
 
-    /// A copy: the exact type and the raw value, integer kinds included.
+    /// A copy of the exact type and the exact raw value.
     ///
-    /// `OutOfMemory` is its only refusal, and not for a valid scalar of a type whose values take no
-    /// memory. Ports the `Clone` of `Scalar`.
+    /// `OutOfMemory` is its only refusal. A valid scalar of a type whose values take no memory is
+    /// never refused. Ports the `Clone` of `Scalar`.
     pub fn clone(&self, alloc: Global) -> Result<Scalar, VortexError>
         ensures copied { IfOk result (IsMadeOf (scalar_type self.now) (scalar_raw self.now)) }
         ensures refused { IfErr result (λ e. e ≡ VortexError.OutOfMemory) }
@@ -92,8 +89,9 @@ impl Scalar {
         copies::copy_scalar(alloc, self)
     }
 
-    /// The scalar of this type and of the value that was made for it, or why none was made. The type
-    /// is then dropped as a whole, by a call. Of this port alone: makers here and above go by it.
+    /// The scalar of this type and of the value that was made for it, or the error that the value
+    /// came with. It does not look at validity. Of this port alone: makers here and above end with
+    /// it.
     pub fn with_value(
         dtype: DType,
         value: Result<Option<ScalarValue>, VortexError>,
@@ -112,8 +110,9 @@ impl Scalar {
     }
 }
 
-/// The scalar of this value and of the type that was made for it, or why none was made. The value is
-/// then dropped as a whole, by a call: at an exit its drop is written out, variant by variant.
+/// The scalar of this value and of the type that was made for it, or the error that the type came
+/// with. The value is then dropped by a call: at an exit its drop is written out, variant by
+/// variant.
 pub(crate) fn with_type(
     dtype: Result<DType, VortexError>,
     value: Option<ScalarValue>,

@@ -1,12 +1,8 @@
 //! The size of scalars in bytes: the sum of the sizes of their parts, as far as a `usize` counts.
+#![tactic(auto, using(crate::proofs::SizeSteps::shown))]
 
 ghost use Rattle.std.specs.Prelude.{◌≡◌, option_map};
-ghost use Rattle.vortex_dtype.specs.TypeOf.{map_of, type_of, as_type_trees, dtype_trees, variants_of};
-ghost use Rattle.vortex_value.specs.Values.RawOf.{lent_raw, raw_of, value_trees};
-ghost use Rattle.vortex_value.specs.Values.RawTree.{raw_tuple};
-ghost use Rattle.vortex_value.specs.Values.Scalars.{scalar_raw, scalar_type};
-ghost use Rattle.vortex_value.specs.Size.{capped, child_size, elements_size, entries_size, entry_size, fields_size, size_of};
-ghost use Rattle.vortex_value.specs.Validity.{type_with};
+ghost use Rattle.vortex_value.specs.Words.{as_type_trees, capped, child_size, dtype_trees, elements_size, entries_size, entry_size, fields_size, lent_raw, map_of, raw_of, raw_tuple, scalar_raw, scalar_type, size_of, type_of, type_with, value_trees, variants_of};
 
 use crate::scalars::Scalar;
 use crate::storage::{storage_of, variant_with};
@@ -17,7 +13,6 @@ use vortex_dtype::{DType, MapDType, UnionVariants};
 /// The size of an optional raw value of the type.
 #[cycle(size)]
 #[inline(always)]
-#[tactic(auto, using(crate::proofs::SizeSteps::shown))]
 fn size(value: Option<&ScalarValue>, dtype: &DType) -> usize
     ensures { result ≡ capped (size_of (type_of dtype.now) (lent_raw value.entry)) }
 {
@@ -46,7 +41,6 @@ fn size(value: Option<&ScalarValue>, dtype: &DType) -> usize
 
 /// The sizes of the elements of a list, together.
 #[cycle(size)]
-#[tactic(auto, using(crate::proofs::SizeSteps::shown))]
 fn size_of_elements(items: &[Option<ScalarValue>], element: &DType) -> usize
     ensures { result ≡ capped (elements_size (type_of element.now) (value_trees items.now)) }
 {
@@ -59,7 +53,6 @@ fn size_of_elements(items: &[Option<ScalarValue>], element: &DType) -> usize
 
 /// The sizes of the keys and values of a map, together.
 #[cycle(size)]
-#[tactic(auto, using(crate::proofs::SizeSteps::shown))]
 fn size_of_entries(items: &[Option<ScalarValue>], map: &MapDType) -> usize
     ensures { result ≡
         capped (entries_size (map_of map.now).key (map_of map.now).value (value_trees items.now)) }
@@ -73,7 +66,6 @@ fn size_of_entries(items: &[Option<ScalarValue>], map: &MapDType) -> usize
 
 /// The size of an entry: of a tuple of two, those of the key and the value together.
 #[cycle(size)]
-#[tactic(auto, using(crate::proofs::SizeSteps::shown))]
 fn size_of_entry(entry: Option<&ScalarValue>, map: &MapDType) -> usize
     ensures { result ≡ capped (entry_size (map_of map.now).key (map_of map.now).value
         (lent_raw entry.entry)) }
@@ -86,7 +78,6 @@ fn size_of_entry(entry: Option<&ScalarValue>, map: &MapDType) -> usize
 
 /// The sizes of a key and a value, together.
 #[cycle(size)]
-#[tactic(auto, using(crate::proofs::SizeSteps::shown))]
 fn size_of_pair(parts: &[Option<ScalarValue>], map: &MapDType) -> usize
     ensures { result ≡ capped (entry_size (map_of map.now).key (map_of map.now).value
         (raw_tuple (value_trees parts.now))) }
@@ -102,7 +93,6 @@ fn size_of_pair(parts: &[Option<ScalarValue>], map: &MapDType) -> usize
 
 /// The sizes of the fields of a struct, together.
 #[cycle(size)]
-#[tactic(auto, using(crate::proofs::SizeSteps::shown))]
 fn size_of_fields(items: &[Option<ScalarValue>], fields: &[DType]) -> usize
     ensures { result ≡ capped (fields_size (dtype_trees fields.now) (value_trees items.now)) }
 {
@@ -115,7 +105,6 @@ fn size_of_fields(items: &[Option<ScalarValue>], fields: &[DType]) -> usize
 
 /// The size of a union's child.
 #[cycle(size)]
-#[tactic(auto, using(crate::proofs::SizeSteps::shown))]
 fn size_of_child(union: &UnionValue, variants: &UnionVariants) -> usize
     ensures { result ≡ capped (child_size (type_with union.now.type_id
         (variants_of variants.now).type_ids (as_type_trees (variants_of variants.now).types))
@@ -127,9 +116,9 @@ fn size_of_child(union: &UnionValue, variants: &UnionVariants) -> usize
     }
 }
 
-/// The size of a variant's scalar: a function of its own, since one that calls itself is not inlined.
+/// The size of a variant's scalar. It is a function of its own, since one that calls itself is not
+/// inlined.
 #[cycle(size)]
-#[tactic(auto, using(crate::proofs::SizeSteps::shown))]
 fn size_of_inner(scalar: &Scalar) -> usize
     ensures { result ≡ capped (size_of (scalar_type scalar.now) (scalar_raw scalar.now)) }
 {
@@ -137,8 +126,9 @@ fn size_of_inner(scalar: &Scalar) -> usize
 }
 
 impl Scalar {
-    /// The size in bytes: of parts, texts and strings together, a byte more for each union and truth
-    /// value, and the width of each integer, which a null has too. It stops at the greatest `usize`.
+    /// The size in bytes: the strings and bytes of all parts together, a byte more for each union
+    /// and truth value, and the width of each integer. A null of truth values or integers counts as
+    /// a value. The sum stops at the greatest `usize`.
     pub fn approx_nbytes(&self) -> usize
         ensures { result ≡ capped (size_of (scalar_type self.now) (scalar_raw self.now)) }
     {

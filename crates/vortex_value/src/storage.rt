@@ -1,15 +1,12 @@
-//! What a type is below its extensions, and which type a union's id gives.
+//! The type below all extensions, and the variants of unions by id and by place.
 
 ghost use Rattle.std.specs.Prelude.{◌≡◌, ◌==◌, IfSome, Some, option_map, position};
-ghost use Rattle.vortex_dtype.specs.TypeOf.{ext_of, type_of, as_type_trees, variants_of};
-ghost use Rattle.vortex_dtype.specs.TypeTree.{storage};
-ghost use Rattle.vortex_value.specs.Steps.Filling.{first_of};
-ghost use Rattle.vortex_value.specs.Validity.{type_with};
+ghost use Rattle.vortex_value.specs.Words.{as_type_trees, ext_of, first_of, storage, type_of, type_with, variants_of};
 
 use vortex_dtype::{DType, ExtDType, UnionVariants};
 
-/// The type below all extensions. A type that is none costs no call. Of this port alone: views look at
-/// what a type stores by it.
+/// The type below all extensions. A type that is no extension costs no call. Of this port alone:
+/// views look at what a type stores by it.
 #[cycle(storage_of)]
 #[inline(always)]
 pub fn storage_of(dtype: &DType) -> &DType

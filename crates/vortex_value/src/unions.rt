@@ -1,16 +1,13 @@
 //! The raw values of unions.
 
 ghost use Rattle.std.specs.Prelude.{◌≡◌, MatchResult, false};
-ghost use Rattle.std.specs.Option.{is_none};
-ghost use Rattle.vortex_dtype.specs.declared.error.VortexError.TheVariants.{OutOfMemory};
-ghost use Rattle.vortex_value.specs.Values.RawTree.{raw_union, is_absent};
 
 use crate::copies;
 use crate::values::ScalarValue;
 use std::alloc::Global;
 use vortex_dtype::VortexError;
 
-/// The id of the chosen variant and its value; no child is an inner null.
+/// The id of the chosen variant and its value. Without a child it is an inner null.
 ///
 /// Ports `vortex_array::scalar::UnionValue`.
 #[cycle(value)]
@@ -18,16 +15,17 @@ use vortex_dtype::VortexError;
 pub struct UnionValue {
     /// The id of the chosen variant.
     pub type_id: u8,
-    /// Its value; none for an inner null.
+    /// Its value; `None` for an inner null.
     pub child: Option<Box<ScalarValue>>,
 }
 
 #[tactic(auto, using(crate::proofs::ValueSteps::shown))]
 impl UnionValue {
-    ghost use Rattle.vortex_value.specs.Values.RawOf.{union_tree, raw_of, lent_raw};
+    ghost use Rattle.vortex_value.specs.Words.{OutOfMemory, is_absent, is_none, lent_raw, raw_of, raw_union, union_tree};
 
-    /// The value of the variant with this id. `OutOfMemory` is its only refusal, and never without a
-    /// child.
+    /// The value of the variant with this id.
+    ///
+    /// `OutOfMemory` is its only refusal, and never comes without a child.
     ///
     /// Ports `UnionValue::new`, which is private there and takes memory silently.
     pub fn new(
@@ -53,16 +51,17 @@ impl UnionValue {
         self.type_id
     }
 
-    /// The child; none exactly for an inner null.
+    /// The child; `None` exactly for an inner null.
     pub fn child_value(&self) -> Option<&ScalarValue>
         ensures { union_tree self.now ≡ raw_union self.now.type_id (lent_raw result) }
     {
         self.child.as_deref()
     }
 
-    /// A copy: the same id and child.
+    /// A copy of the id and the child.
     ///
-    /// `OutOfMemory` is its only refusal, and never without a child. Ports the `Clone` of `UnionValue`.
+    /// `OutOfMemory` is its only refusal, and never comes without a child. Ports the `Clone` of
+    /// `UnionValue`.
     pub fn clone(&self, alloc: Global) -> Result<UnionValue, VortexError>
         ensures { MatchResult result
             (λ copy. union_tree copy ≡ union_tree self.now)

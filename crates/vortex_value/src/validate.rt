@@ -1,16 +1,8 @@
-//! Which raw values are valid for a type, and the path to the first breach where one is not.
+//! Which raw values are valid for a type, and the path to the first breach of one that is not.
+#![tactic(auto, using(crate::proofs::ValidSteps::shown))]
 
 ghost use Rattle.std.specs.Prelude.{◌≡◌, ◌≢◌, ◌↔◌, Bool, Err, List, Option, IfErr, IsOk, IsTrue, false, option_map, true};
-ghost use Rattle.std.specs.Global.{Global};
-ghost use Rattle.std.specs.Option.{is_some};
-ghost use Rattle.vortex_dtype.specs.TypeOf.{map_of, type_of, as_type_trees, dtype_trees, variants_of};
-ghost use Rattle.vortex_dtype.specs.TypeTree.{IsFlat, variant_type};
-ghost use Rattle.vortex_dtype.specs.declared.nullability.Nullability.TheVariants.{NonNullable};
-ghost use Rattle.vortex_value.specs.Breaches.{Found, Refuses, breaches, breaches_at, breaches_of_entry, child_breaches, element_breaches, entry_breaches, field_breaches, here, under};
-ghost use Rattle.vortex_value.specs.Steps.Faults.{Checks, HasPath, Shows, is_leaf};
-ghost use Rattle.vortex_value.specs.Values.RawOf.{raw_of, value_trees, variant_tree, value_tree, lent_raw};
-ghost use Rattle.vortex_value.specs.Values.RawTree.{raw_tuple};
-ghost use Rattle.vortex_value.specs.Validity.{Valid, type_with};
+ghost use Rattle.vortex_value.specs.Words.{Checks, Found, Global, HasPath, IsFlat, NonNullable, Refuses, Shows, Valid, as_type_trees, breaches, breaches_at, breaches_of_entry, child_breaches, dtype_trees, element_breaches, entry_breaches, field_breaches, here, is_leaf, is_some, lent_raw, map_of, raw_of, raw_tuple, type_of, type_with, under, value_tree, value_trees, variant_tree, variant_type, variants_of};
 
 use crate::scalars::Scalar;
 use crate::storage::{storage_of, variant_with};
@@ -31,7 +23,7 @@ enum Fault {
     First { steps: Vec<Step>, breach: Breach },
 }
 
-/// A breach of the value itself, with a path where there is an allocator to keep one by.
+/// A breach of the value itself, with an empty path if there is memory for the steps to come.
 fn breach_here(path: Option<Global>, breach: Breach) -> Fault
     ensures { Shows (is_some path) result (here breach) }
 {
@@ -44,7 +36,7 @@ fn breach_here(path: Option<Global>, breach: Breach) -> Fault
     }
 }
 
-/// The same breach, seen from one level up.
+/// The breach as it is seen from one level up: the path has one step more.
 fn within(fault: Fault, step: Step) -> Fault
     ensures { (kept : Bool) (fs : List Found)
         → Shows kept fault fs → Shows kept result (under step fs) }
@@ -59,17 +51,17 @@ fn within(fault: Fault, step: Step) -> Fault
     }
 }
 
-/// What a check leaves behind where it does not pass.
+/// What a check leaves behind if it does not pass.
 #[derive(Drop)]
 struct Trace {
-    /// The memory for the steps of the path; none where no path is kept.
+    /// The memory for the steps of the path; `None` if no path is kept.
     path: Option<Global>,
     /// Why the value is not valid, once that is known.
     fault: Fault,
 }
 
 impl Trace {
-    /// Of a check that is to come.
+    /// The trace of a check that is to come.
     fn new(path: Option<Global>) -> Trace
         ensures { result.path ≡ path }
     {
@@ -88,7 +80,7 @@ impl Trace {
         false
     }
 
-    /// Leaves the breach of a part, seen from one level up, and answers that the whole is not valid.
+    /// Adds a step to the breach that a part has left, and answers that the whole is not valid.
     #[cold]
     fn refuse_part(&mut self, step: Step) -> bool
         ensures { (path : Option Global) (fs : List Found)
@@ -119,8 +111,8 @@ fn refusal(trace: Trace) -> VortexError
     }
 }
 
-/// Whether the raw value has no parts and is of just this type. Asked first, it saves most calls of
-/// the recursion.
+/// Whether the raw value has no parts and is of just this type. It is asked first, and saves most
+/// calls of the recursion.
 #[inline(always)]
 fn is_leaf_of(value: &ScalarValue, dtype: &DType) -> bool
     ensures { result ≡ is_leaf (type_of dtype.now) (value_tree value.now) }
@@ -134,11 +126,10 @@ fn is_leaf_of(value: &ScalarValue, dtype: &DType) -> bool
     }
 }
 
-/// Whether a raw value, or its absence, is valid for the type. Where it is not, the trace has the
-/// first breach.
+/// Whether a raw value, or a null, is valid for the type. If it is not, the trace has the first
+/// breach.
 #[cycle(validity)]
 #[inline(always)]
-#[tactic(auto, using(crate::proofs::ValidSteps::shown))]
 fn check(value: Option<&ScalarValue>, dtype: &DType, trace: &mut Trace) -> bool
     ensures { Checks trace.old.path result trace.new
         (breaches (type_of dtype.now) (lent_raw value.entry)) }
@@ -149,10 +140,9 @@ fn check(value: Option<&ScalarValue>, dtype: &DType, trace: &mut Trace) -> bool
     }
 }
 
-/// The same for a raw value that is present.
+/// Whether a raw value that is present is valid for the type.
 #[cycle(validity)]
 #[inline(always)]
-#[tactic(auto, using(crate::proofs::ValidSteps::shown))]
 fn check_present(value: &ScalarValue, dtype: &DType, trace: &mut Trace) -> bool
     ensures { Checks trace.old.path result trace.new
         (breaches (type_of dtype.now) (value_tree value.now)) }
@@ -160,9 +150,8 @@ fn check_present(value: &ScalarValue, dtype: &DType, trace: &mut Trace) -> bool
     is_leaf_of(value, dtype) || check_value(value, dtype, trace)
 }
 
-/// The same, of an extension by its storage.
+/// Whether a raw value is valid for the type: for an extension its storage decides.
 #[cycle(validity)]
-#[tactic(auto, using(crate::proofs::ValidSteps::shown))]
 fn check_value(value: &ScalarValue, dtype: &DType, trace: &mut Trace) -> bool
     ensures { Checks trace.old.path result trace.new
         (breaches (type_of dtype.now) (value_tree value.now)) }
@@ -196,7 +185,6 @@ fn check_value(value: &ScalarValue, dtype: &DType, trace: &mut Trace) -> bool
 
 /// Whether the elements of a list are valid, in order.
 #[cycle(validity)]
-#[tactic(auto, using(crate::proofs::ValidSteps::shown))]
 fn check_elements(items: &[Option<ScalarValue>], element: &DType, trace: &mut Trace) -> bool
     ensures { Checks trace.old.path result trace.new
         (element_breaches (type_of element.now) 0 (value_trees items.now)) }
@@ -211,7 +199,6 @@ fn check_elements(items: &[Option<ScalarValue>], element: &DType, trace: &mut Tr
 
 /// Whether the entries of a map are valid, in order.
 #[cycle(validity)]
-#[tactic(auto, using(crate::proofs::ValidSteps::shown))]
 fn check_entries(items: &[Option<ScalarValue>], map: &MapDType, trace: &mut Trace) -> bool
     ensures { Checks trace.old.path result trace.new
         (entry_breaches (map_of map.now).key (map_of map.now).value 0 (value_trees items.now)) }
@@ -226,7 +213,6 @@ fn check_entries(items: &[Option<ScalarValue>], map: &MapDType, trace: &mut Trac
 
 /// Whether one entry of a map is valid: it is a tuple, and no null.
 #[cycle(validity)]
-#[tactic(auto, using(crate::proofs::ValidSteps::shown))]
 fn check_entry(entry: Option<&ScalarValue>, map: &MapDType, trace: &mut Trace) -> bool
     ensures { Checks trace.old.path result trace.new
         (breaches_of_entry (map_of map.now).key (map_of map.now).value
@@ -241,7 +227,6 @@ fn check_entry(entry: Option<&ScalarValue>, map: &MapDType, trace: &mut Trace) -
 
 /// Whether the parts of an entry are valid: a key, and then a value.
 #[cycle(validity)]
-#[tactic(auto, using(crate::proofs::ValidSteps::shown))]
 fn check_pair(parts: &[Option<ScalarValue>], map: &MapDType, trace: &mut Trace) -> bool
     ensures { Checks trace.old.path result trace.new
         (breaches_of_entry (map_of map.now).key (map_of map.now).value
@@ -258,7 +243,6 @@ fn check_pair(parts: &[Option<ScalarValue>], map: &MapDType, trace: &mut Trace) 
 
 /// Whether the fields of a struct are valid, in order.
 #[cycle(validity)]
-#[tactic(auto, using(crate::proofs::ValidSteps::shown))]
 fn check_fields(items: &[Option<ScalarValue>], fields: &[DType], trace: &mut Trace) -> bool
     ensures { Checks trace.old.path result trace.new
         (field_breaches 0 (dtype_trees fields.now) (value_trees items.now)) }
@@ -273,7 +257,6 @@ fn check_fields(items: &[Option<ScalarValue>], fields: &[DType], trace: &mut Tra
 
 /// Whether a union is valid: its id has a variant, and its child fits that.
 #[cycle(validity)]
-#[tactic(auto, using(crate::proofs::ValidSteps::shown))]
 fn check_child(union: &UnionValue, variants: &UnionVariants, trace: &mut Trace) -> bool
     ensures { Checks trace.old.path result trace.new (child_breaches
         (type_with union.now.type_id (variants_of variants.now).type_ids
@@ -290,7 +273,6 @@ fn check_child(union: &UnionValue, variants: &UnionVariants, trace: &mut Trace) 
 
 /// Whether the scalar in a variant is valid: a null is of type Null alone.
 #[cycle(validity)]
-#[tactic(auto, using(crate::proofs::ValidSteps::shown))]
 fn check_variant(scalar: &Scalar, trace: &mut Trace) -> bool
     ensures { Checks trace.old.path result trace.new
         (breaches_at (variant_type NonNullable) (variant_tree scalar.now)) }
@@ -307,11 +289,11 @@ fn check_variant(scalar: &Scalar, trace: &mut Trace) -> bool
 }
 
 impl Scalar {
-    /// Tests that the raw value, or its absence, is valid for the type.
+    /// Tests that the raw value, or `None` for a null, is valid for the type.
     ///
-    /// `Invalid` has the first breach in reading order and the path to it; `OutOfMemory` comes in its
-    /// place where the path has steps and there is no memory for them. A valid value takes none, nor
-    /// does any value of a type whose values take none.
+    /// `Invalid` has the first breach in reading order and the path to it. `OutOfMemory` comes in
+    /// its place if there is no memory for the steps of the path. A valid value takes no memory,
+    /// nor does any value of a type whose values take none.
     pub fn validate(
         alloc: Global,
         dtype: &DType,
@@ -330,7 +312,7 @@ impl Scalar {
         }
     }
 
-    /// Whether the raw value, or its absence, is valid for the type.
+    /// Whether the raw value, or `None` for a null, is valid for the type.
     pub fn is_compatible(dtype: &DType, value: Option<&ScalarValue>) -> bool
         ensures { IsTrue result ↔ Valid (type_of dtype.now) (lent_raw value.entry) }
     {

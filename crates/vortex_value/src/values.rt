@@ -1,10 +1,6 @@
 //! Raw values.
 
 ghost use Rattle.std.specs.Prelude.{◌≡◌, MatchResult};
-ghost use Rattle.vortex_dtype.specs.declared.error.VortexError.TheVariants.{OutOfMemory};
-ghost use Rattle.vortex_pvalue.specs.Whole.{ptype_of, whole_of};
-ghost use Rattle.vortex_value.specs.Values.RawKinds.{IsBoolValue, IsIntegerValue, IsTextValue, IsBytesValue, IsTupleValue, IsUnionValue, IsVariantValue, TakesNoMemory};
-ghost use Rattle.vortex_value.specs.Values.RawTree.{raw_bool, raw_integer, raw_text, raw_bytes, raw_tuple};
 
 use crate::copies;
 use crate::scalars::Scalar;
@@ -13,7 +9,7 @@ use std::alloc::Global;
 use vortex_dtype::{BufferString, ByteBuffer, VortexError};
 use vortex_pvalue::PValue;
 
-/// A raw value, whose type stands elsewhere. A contract sees it as a tree.
+/// A raw value. Its type stands elsewhere. A contract sees it as a tree.
 ///
 /// Ports `vortex_array::scalar::ScalarValue`.
 #[cycle(value)]
@@ -21,13 +17,13 @@ use vortex_pvalue::PValue;
 pub enum ScalarValue {
     /// A truth value.
     Bool(bool),
-    /// An integer of a kind.
+    /// An integer with its `PType`.
     Primitive(PValue),
-    /// A text.
+    /// A string.
     Utf8(BufferString),
-    /// A string of bytes.
+    /// Bytes.
     Binary(ByteBuffer),
-    /// The parts of a list, a struct or a map, of which each entry is a tuple of two.
+    /// The parts of a list, a struct or a map. Each entry of a map is a tuple of two.
     Tuple(Vec<Option<ScalarValue>>),
     /// A union's id and child.
     Union(UnionValue),
@@ -35,13 +31,13 @@ pub enum ScalarValue {
     Variant(Box<Scalar>),
 }
 
+/// The calls `as_*` and `into_*` give what the value holds. The caller knows which variant it is:
+/// here it is a `requires`, and upstream's calls of the same names panic at another variant.
 #[tactic(auto, using(crate::proofs::ValueSteps::shown))]
 impl ScalarValue {
-    ghost use Rattle.vortex_value.specs.Values.RawOf.{value_tree, variant_tree, union_tree, value_trees};
+    ghost use Rattle.vortex_value.specs.Words.{IsBoolValue, IsBytesValue, IsIntegerValue, IsTextValue, IsTupleValue, IsUnionValue, IsVariantValue, OutOfMemory, TakesNoMemory, ptype_of, raw_bool, raw_bytes, raw_integer, raw_text, raw_tuple, union_tree, value_tree, value_trees, variant_tree, whole_of};
 
     /// The truth value. The caller knows that it is one.
-    ///
-    /// Ports `ScalarValue::as_bool`, which panics at another kind of value.
     pub fn as_bool(&self) -> bool
         requires { IsBoolValue (value_tree self.now) }
         ensures { value_tree self.now ≡ raw_bool result }
@@ -52,9 +48,7 @@ impl ScalarValue {
         }
     }
 
-    /// The integer, its kind included. The caller knows that it is one.
-    ///
-    /// Ports `ScalarValue::as_primitive`, which panics at another kind of value.
+    /// The integer with its `PType`. The caller knows that it is one.
     pub fn as_primitive(&self) -> &PValue
         requires { IsIntegerValue (value_tree self.now) }
         ensures { value_tree self.now ≡ raw_integer (ptype_of result.now) (whole_of result.now) }
@@ -65,9 +59,7 @@ impl ScalarValue {
         }
     }
 
-    /// The text. The caller knows that it is one.
-    ///
-    /// Ports `ScalarValue::as_utf8`, which panics at another kind of value.
+    /// The string. The caller knows that it is one.
     pub fn as_utf8(&self) -> &BufferString
         requires { IsTextValue (value_tree self.now) }
         ensures { value_tree self.now ≡ raw_text result.now }
@@ -78,9 +70,7 @@ impl ScalarValue {
         }
     }
 
-    /// The bytes. The caller knows that it is a string of bytes.
-    ///
-    /// Ports `ScalarValue::as_binary`, which panics at another kind of value.
+    /// The bytes. The caller knows that they are bytes.
     pub fn as_binary(&self) -> &ByteBuffer
         requires { IsBytesValue (value_tree self.now) }
         ensures { value_tree self.now ≡ raw_bytes result.now }
@@ -92,8 +82,6 @@ impl ScalarValue {
     }
 
     /// The parts, in order. The caller knows that it is a list, a struct or a map.
-    ///
-    /// Ports `ScalarValue::as_list`, which panics at another kind of value.
     pub fn as_list(&self) -> &[Option<ScalarValue>]
         requires { IsTupleValue (value_tree self.now) }
         ensures { value_tree self.now ≡ raw_tuple (value_trees result.now) }
@@ -105,8 +93,6 @@ impl ScalarValue {
     }
 
     /// The union's id and child. The caller knows that it is a union's value.
-    ///
-    /// Ports `ScalarValue::as_union`, which panics at another kind of value.
     pub fn as_union(&self) -> &UnionValue
         requires { IsUnionValue (value_tree self.now) }
         ensures { value_tree self.now ≡ union_tree result.now }
@@ -119,8 +105,6 @@ impl ScalarValue {
 
     /// The scalar that a variant holds. The caller knows that it is a variant's value; whether the
     /// scalar is valid, `validate` says.
-    ///
-    /// Ports `ScalarValue::as_variant`, which panics at another kind of value.
     pub fn as_variant(&self) -> &Scalar
         requires { IsVariantValue (value_tree self.now) }
         ensures { value_tree self.now ≡ variant_tree result.now }
@@ -132,8 +116,6 @@ impl ScalarValue {
     }
 
     /// The truth value, by value. The caller knows that it is one.
-    ///
-    /// Ports `ScalarValue::into_bool`, which panics at another kind of value.
     pub fn into_bool(self) -> bool
         requires { IsBoolValue (value_tree self) }
         ensures { value_tree self ≡ raw_bool result }
@@ -144,9 +126,7 @@ impl ScalarValue {
         }
     }
 
-    /// The integer, its kind included, by value. The caller knows that it is one.
-    ///
-    /// Ports `ScalarValue::into_primitive`, which panics at another kind of value.
+    /// The integer with its `PType`, by value. The caller knows that it is one.
     pub fn into_primitive(self) -> PValue
         requires { IsIntegerValue (value_tree self) }
         ensures { value_tree self ≡ raw_integer (ptype_of result) (whole_of result) }
@@ -157,9 +137,7 @@ impl ScalarValue {
         }
     }
 
-    /// The text, by value. The caller knows that it is one.
-    ///
-    /// Ports `ScalarValue::into_utf8`, which panics at another kind of value.
+    /// The string, by value. The caller knows that it is one.
     pub fn into_utf8(self) -> BufferString
         requires { IsTextValue (value_tree self) }
         ensures { value_tree self ≡ raw_text result }
@@ -170,9 +148,7 @@ impl ScalarValue {
         }
     }
 
-    /// The bytes, by value. The caller knows that it is a string of bytes.
-    ///
-    /// Ports `ScalarValue::into_binary`, which panics at another kind of value.
+    /// The bytes, by value. The caller knows that they are bytes.
     pub fn into_binary(self) -> ByteBuffer
         requires { IsBytesValue (value_tree self) }
         ensures { value_tree self ≡ raw_bytes result }
@@ -184,8 +160,6 @@ impl ScalarValue {
     }
 
     /// The parts, in order, by value. The caller knows that it is a list, a struct or a map.
-    ///
-    /// Ports `ScalarValue::into_list`, which panics at another kind of value.
     pub fn into_list(self) -> Vec<Option<ScalarValue>>
         requires { IsTupleValue (value_tree self) }
         ensures { value_tree self ≡ raw_tuple (value_trees result.items) }
@@ -197,8 +171,6 @@ impl ScalarValue {
     }
 
     /// The union's id and child, by value. The caller knows that it is a union's value.
-    ///
-    /// Ports `ScalarValue::into_union`, which panics at another kind of value.
     pub fn into_union(self) -> UnionValue
         requires { IsUnionValue (value_tree self) }
         ensures { value_tree self ≡ union_tree result }
@@ -211,8 +183,6 @@ impl ScalarValue {
 
     /// The scalar that a variant holds, by value. The caller knows that it is a variant's value;
     /// whether the scalar is valid, `validate` says.
-    ///
-    /// Ports `ScalarValue::into_variant`, which panics at another kind of value.
     pub fn into_variant(self) -> Scalar
         requires { IsVariantValue (value_tree self) }
         ensures { value_tree self ≡ variant_tree result }
@@ -223,10 +193,10 @@ impl ScalarValue {
         }
     }
 
-    /// A copy: the same raw value, integer kinds and the types inside variants included.
+    /// A copy of the exact raw value: integers keep their `PType`, and variants the types inside.
     ///
-    /// `OutOfMemory` is its only refusal, and a truth value or an integer is never refused. Ports the
-    /// `Clone` of `ScalarValue`.
+    /// `OutOfMemory` is its only refusal, and a truth value or an integer is never refused. Ports
+    /// the `Clone` of `ScalarValue`.
     pub fn clone(&self, alloc: Global) -> Result<ScalarValue, VortexError>
         ensures { MatchResult result
             (λ copy. value_tree copy ≡ value_tree self.now)

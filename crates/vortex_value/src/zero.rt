@@ -1,18 +1,8 @@
 //! The zero and the default of a type, and whether a scalar is zero.
+#![tactic(auto, using(crate::proofs::ZeroSteps::shown))]
 
 ghost use Rattle.std.specs.Prelude.{◌≡◌, ◌&&◌, [], IfErr, IfOk, IsOk, IsSome, MatchResult, length, option_map, pos};
-ghost use Rattle.std.specs.Option.{is_some};
-ghost use Rattle.std.specs.Ordering.{int_eq};
-ghost use Rattle.vortex_dtype.specs.TypeOf.{type_of, as_type_trees, dtype_trees, variants_of};
-ghost use Rattle.vortex_dtype.specs.TypeTree.{IsFlat, is_nullable};
-ghost use Rattle.vortex_dtype.specs.declared.error.VortexError.TheVariants.{OutOfMemory};
-ghost use Rattle.vortex_pvalue.specs.Whole.{whole_of};
-ghost use Rattle.vortex_value.specs.Values.Content.{content, contents};
-ghost use Rattle.vortex_value.specs.Values.RawOf.{raw_of, value_trees, union_tree, lent_raw};
-ghost use Rattle.vortex_value.specs.Values.RawTree.{raw_union};
-ghost use Rattle.vortex_value.specs.Values.Scalars.{scalar_content, scalar_type};
-ghost use Rattle.vortex_value.specs.Steps.Filling.{EachFills, FillFields, Fills, FillsFirst, child_filling, first_of};
-ghost use Rattle.vortex_value.specs.Zero.{IsTheOneOf, default_of, each_zero, fields_zero, filling, fillings, is_zero_of, of_first, of_inner, places_of, zero_of};
+ghost use Rattle.vortex_value.specs.Words.{EachFills, FillFields, Fills, FillsFirst, IsFlat, IsTheOneOf, OutOfMemory, as_type_trees, child_filling, content, contents, default_of, dtype_trees, each_zero, fields_zero, filling, fillings, first_of, int_eq, is_nullable, is_some, is_zero_of, lent_raw, of_first, of_inner, places_of, raw_of, raw_union, scalar_content, scalar_type, type_of, union_tree, value_trees, variants_of, whole_of, zero_of};
 
 use crate::scalars::{Scalar, with_type};
 use crate::storage::{first_variant, storage_of};
@@ -22,14 +12,14 @@ use std::alloc::{AllocError, Global};
 use vortex_dtype::{BufferString, ByteBuffer, DType, UnionVariants, VortexError};
 use vortex_pvalue::PValue;
 
-/// Whether a null fills the type: nulls are taken, and the type takes one.
+/// Whether the default of the type is the null: nulls are taken, and the type takes one.
 fn is_null_filled(dtype: &DType, nulls: bool) -> bool
     ensures { result ≡ (nulls && is_nullable (type_of dtype.now)) }
 {
     nulls && dtype.is_nullable()
 }
 
-/// Whether something fills the type: a zero, or where nulls are taken a default.
+/// Whether the type has a zero, or a default if nulls are taken.
 #[cycle(fills)]
 #[tactic(auto, using(crate::proofs::FillingSteps::shown))]
 fn is_filled(dtype: &DType, nulls: bool) -> bool
@@ -46,7 +36,7 @@ fn is_filled(dtype: &DType, nulls: bool) -> bool
     }
 }
 
-/// Whether something fills so many places of the type: no places always.
+/// Whether so many places of the type have a zero or default: no places always have.
 #[cycle(fills)]
 #[tactic(auto, using(crate::proofs::FillingSteps::shown))]
 fn are_places_filled(element: &DType, size: u32, nulls: bool) -> bool
@@ -55,7 +45,7 @@ fn are_places_filled(element: &DType, size: u32, nulls: bool) -> bool
     size == 0 || is_filled(element, nulls)
 }
 
-/// Whether there is a first variant that something fills.
+/// Whether there is a first variant whose type has a zero or default.
 #[cycle(fills)]
 #[tactic(auto, using(crate::proofs::FillingSteps::shown))]
 fn is_first_filled(variants: &UnionVariants, nulls: bool) -> bool
@@ -68,7 +58,7 @@ fn is_first_filled(variants: &UnionVariants, nulls: bool) -> bool
     }
 }
 
-/// Whether something fills each of the types.
+/// Whether each of the types has a zero or default.
 #[cycle(fills)]
 #[tactic(auto, using(crate::proofs::FillingSteps::shown))]
 fn are_filled(dtypes: &[DType], nulls: bool) -> bool
@@ -82,9 +72,9 @@ fn are_filled(dtypes: &[DType], nulls: bool) -> bool
     true
 }
 
-/// Puts what fills the type, of which it is known that something does, where it is to stand: none is
-/// the null. A refusal is a byte, where an error has several words, since each level of a type answers
-/// with it.
+/// Writes the zero of the type to the place, or its default if nulls are taken: `None` is the null.
+/// The caller knows that there is one. `AllocError` is a byte and `VortexError` has several words,
+/// and each level of a type answers with it.
 #[cycle(fill)]
 #[tactic(auto, using(crate::proofs::FillingSteps::filled))]
 fn fill(
@@ -133,7 +123,7 @@ fn fill(
     Ok(())
 }
 
-/// The empty text.
+/// The empty string.
 fn empty_text(alloc: Global) -> Result<BufferString, AllocError>
     ensures { IfOk result (λ text. text ≡ []) }
 {
@@ -143,7 +133,7 @@ fn empty_text(alloc: Global) -> Result<BufferString, AllocError>
     }
 }
 
-/// The buffer of no bytes.
+/// No bytes.
 fn empty_bytes(alloc: Global) -> Result<ByteBuffer, AllocError>
     ensures { IfOk result (λ bytes. bytes ≡ []) }
 {
@@ -167,7 +157,7 @@ fn union_of(
     }
 }
 
-/// What fills so many places of the type.
+/// The zero or default of the type, so many times.
 #[cycle(fill)]
 #[tactic(auto, using(crate::proofs::FillingSteps::filled))]
 fn fill_places(
@@ -190,7 +180,7 @@ fn fill_places(
     Ok(items)
 }
 
-/// What fills each of the types, in order.
+/// The zero or default of each of the types, in order.
 #[cycle(fill)]
 #[tactic(auto, using(crate::proofs::FillingSteps::filled))]
 fn fill_fields(
@@ -211,7 +201,7 @@ fn fill_fields(
     Ok(items)
 }
 
-/// The first variant's id, and what fills its type.
+/// The first variant's id, with the zero or default of its type.
 #[cycle(fill)]
 #[tactic(auto, using(crate::proofs::FillingSteps::filled))]
 fn fill_first(
@@ -236,7 +226,8 @@ fn fill_first(
     }
 }
 
-/// The scalar that fills the type, where something does. That is found out before anything is made.
+/// The zero of the type, or its default if nulls are taken, if there is one. That is found out
+/// before anything is made.
 fn filled(alloc: Global, dtype: &DType, nulls: bool) -> Result<Option<Scalar>, VortexError>
     ensures { MatchResult result
         (IsTheOneOf (type_of dtype.now) (filling nulls (type_of dtype.now)))
@@ -259,10 +250,9 @@ fn is_zero_number(number: &PValue) -> bool
     number.is_zero()
 }
 
-/// Whether an optional raw value of the type is zero; none for a null.
+/// Whether an optional raw value of the type is zero; `None` for a null.
 #[cycle(is_zero)]
 #[inline(always)]
-#[tactic(auto, using(crate::proofs::ZeroSteps::shown))]
 fn is_zero(value: Option<&ScalarValue>, dtype: &DType) -> Option<bool>
     ensures { result ≡
         is_zero_of (type_of dtype.now) (content (lent_raw value.entry)) }
@@ -290,9 +280,8 @@ fn is_zero(value: Option<&ScalarValue>, dtype: &DType) -> Option<bool>
     }
 }
 
-/// Whether each element is zero, and none leaves it open.
+/// Whether each element is zero. An element for which `is_zero` says `None` is not.
 #[cycle(is_zero)]
-#[tactic(auto, using(crate::proofs::ZeroSteps::shown))]
 fn are_elements_zero(items: &[Option<ScalarValue>], element: &DType) -> bool
     ensures { result ≡ each_zero (type_of element.now) (contents (value_trees items.now)) }
 {
@@ -304,9 +293,9 @@ fn are_elements_zero(items: &[Option<ScalarValue>], element: &DType) -> bool
     true
 }
 
-/// Whether there are as many values as fields, each is zero, and none leaves it open.
+/// Whether there are as many values as fields and each is zero. One for which `is_zero` says `None`
+/// is not.
 #[cycle(is_zero)]
-#[tactic(auto, using(crate::proofs::ZeroSteps::shown))]
 fn are_fields_zero(items: &[Option<ScalarValue>], fields: &[DType]) -> bool
     ensures { result ≡ fields_zero (dtype_trees fields.now) (contents (value_trees items.now)) }
 {
@@ -323,7 +312,6 @@ fn are_fields_zero(items: &[Option<ScalarValue>], fields: &[DType]) -> bool
 
 /// Whether a union's child is zero, if its id is that of the first variant; another is not.
 #[cycle(is_zero)]
-#[tactic(auto, using(crate::proofs::ZeroSteps::shown))]
 fn is_child_zero(union: &UnionValue, variants: &UnionVariants) -> Option<bool>
     ensures { result ≡ of_first (variants_of variants.now).type_ids
         (as_type_trees (variants_of variants.now).types) union.now.type_id
@@ -337,7 +325,6 @@ fn is_child_zero(union: &UnionValue, variants: &UnionVariants) -> Option<bool>
 
 /// Whether a variant's scalar is zero: the null of Null is.
 #[cycle(is_zero)]
-#[tactic(auto, using(crate::proofs::ZeroSteps::shown))]
 fn is_inner_zero(scalar: &Scalar) -> Option<bool>
     ensures { result ≡ of_inner (scalar_type scalar.now) (scalar_content scalar.now)
         (is_zero_of (scalar_type scalar.now) (scalar_content scalar.now)) }
@@ -349,13 +336,14 @@ fn is_inner_zero(scalar: &Scalar) -> Option<bool>
 }
 
 impl Scalar {
-    /// The zero of the type, which is never null: false, 0, what is empty, a list and a map whatever
-    /// their parts, and zeros in the fields of a struct, the elements of a list of a fixed size and a
-    /// union's first variant; of an extension that of its storage. None exactly for Null, for a union
-    /// without variants, and where one of those fields, elements, variants or storages has none.
+    /// The zero of the type, which is never null: false, 0, an empty string, no bytes, an empty
+    /// list or map. A struct, a list of a fixed size and the first variant of a union have zeros in
+    /// their parts. An extension has the zero of its storage, and a variant holds the null of
+    /// `Null`. `None` exactly for `Null`, for a union without variants, and if one of those parts
+    /// or storages has no zero.
     ///
-    /// `OutOfMemory` is its only refusal, and not where there is no zero, nor for a type whose values
-    /// take no memory. Ports `Scalar::zero_value`, which panics where there is no zero.
+    /// `OutOfMemory` is its only refusal. It comes only if there is a zero, and never for a type
+    /// whose values take no memory. Ports `Scalar::zero_value`, which panics if there is no zero.
     pub fn zero_value(alloc: Global, dtype: &DType) -> Result<Option<Scalar>, VortexError>
         ensures one { IfOk result (IsTheOneOf (type_of dtype.now) (zero_of (type_of dtype.now))) }
         ensures refused { IfErr result
@@ -365,13 +353,14 @@ impl Scalar {
         filled(alloc, dtype, false)
     }
 
-    /// The default of the type: the null of a type that takes one, and else as its zero, with
-    /// defaults in the parts. None exactly for a type that takes no null and is a union without
-    /// variants, or has a field, an element of its fixed size, a first variant or a storage without a
-    /// default.
+    /// The default of the type: the null if the type takes one, else made as its zero, with
+    /// defaults in the parts. `None` exactly for a type that takes no null and is a union without
+    /// variants, or has a field, an element of its fixed size, a first variant or a storage without
+    /// a default.
     ///
-    /// `OutOfMemory` is its only refusal, and not where there is no default, nor for a type whose
-    /// values take no memory. Ports `Scalar::default_value`, which panics where there is no default.
+    /// `OutOfMemory` is its only refusal. It comes only if there is a default, and never for a type
+    /// whose values take no memory. Ports `Scalar::default_value`, which panics if there is no
+    /// default.
     pub fn default_value(alloc: Global, dtype: &DType) -> Result<Option<Scalar>, VortexError>
         ensures one { IfOk result
             (IsTheOneOf (type_of dtype.now) (default_of (type_of dtype.now))) }
@@ -382,9 +371,9 @@ impl Scalar {
         filled(alloc, dtype, true)
     }
 
-    /// Whether the value is zero: of a list of a fixed size and a struct each part, of a union the
-    /// child of its first variant; none for a null, and for an inner null of a union's first
-    /// variant.
+    /// Whether the value is zero. A struct and a list of a fixed size are if each part is, and a
+    /// union is if it has a zero under the id of its first variant. `None` for a null, and for an
+    /// inner null of a union's first variant.
     pub fn is_zero(&self) -> Option<bool>
         ensures { result ≡ is_zero_of (scalar_type self.now) (scalar_content self.now) }
     {

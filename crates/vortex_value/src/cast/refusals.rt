@@ -7,8 +7,8 @@ ghost use Rattle.vortex_value.specs.declared.cast.refusals.Refusal.TheVariants.{
 use std::alloc::AllocError;
 use vortex_dtype::VortexError;
 
-/// Why a step of a cast makes nothing: in a byte, where an error has several words, since each level
-/// of a value answers with it.
+/// Why a step of a cast makes nothing. It is a byte and `VortexError` has several words, and each
+/// level of a value answers with it.
 #[derive(Clone, Copy, Debug)]
 pub(crate) enum Refusal {
     /// The table does not allow the cast, or the target has no value of the content.

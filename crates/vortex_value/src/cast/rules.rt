@@ -1,12 +1,7 @@
-//! What the cast table asks of two types, and of a value that stays what it is.
+//! What the cast table asks of two types, and of a value that is kept as it is.
 
 ghost use Rattle.std.specs.Prelude.{◌≡◌, ◌==◌, option_map};
-ghost use Rattle.std.specs.Option.{option_copied};
-ghost use Rattle.std.specs.Str.{bytes_eq};
-ghost use Rattle.vortex_dtype.specs.TypeOf.{map_of, type_of, variants_of};
-ghost use Rattle.vortex_value.specs.Steps.CastSteps.{IsBareTarget, accepts, leaves, sorts, stays, takes_null, types_with};
-ghost use Rattle.vortex_value.specs.Values.RawOf.{value_tree, value_trees};
-ghost use Rattle.vortex_value.specs.Values.RawTree.{count};
+ghost use Rattle.vortex_value.specs.Words.{IsBareTarget, accepts, bytes_eq, count, leaves, map_of, option_copied, sorts, stays, takes_null, type_of, types_with, value_tree, value_trees, variants_of};
 
 use crate::equality::same_types;
 use crate::scalars::Scalar;
@@ -14,15 +9,14 @@ use crate::storage::{storage_of, variant_with};
 use crate::values::ScalarValue;
 use vortex_dtype::{DType, MapDType, UnionVariants};
 
-/// Whether keys that are not said to be sorted would be said so.
+/// Whether a map whose type does not claim sorted keys would come to claim them.
 pub(super) fn would_claim_sorted(source: &MapDType, target: &MapDType) -> bool
     ensures { result ≡ sorts (map_of source.now).keys_sorted (map_of target.now).keys_sorted }
 {
     !source.keys_sorted() && target.keys_sorted()
 }
 
-/// Whether there are so many parts as the size says.
-#[tactic(auto, using(crate::proofs::CastCode::shown))]
+/// Whether the number of parts is the size.
 pub(super) fn are_as_many(parts: &[Option<ScalarValue>], size: u32) -> bool
     ensures { result ≡ (count (value_trees parts.now) == size) }
 {
@@ -30,7 +24,6 @@ pub(super) fn are_as_many(parts: &[Option<ScalarValue>], size: u32) -> bool
 }
 
 /// Whether a null of the source type may be a null of the target type.
-#[tactic(auto, using(crate::proofs::CastCode::shown))]
 pub(super) fn takes_null(source: &DType, target: &DType) -> bool
     ensures { result ≡ takes_null (type_of source.now) (type_of target.now) }
 {
@@ -40,10 +33,9 @@ pub(super) fn takes_null(source: &DType, target: &DType) -> bool
     }
 }
 
-/// What the target stores, if the source is no extension: the type to which a value that is present
-/// is cast by its kind.
+/// What the target stores, if the source is no extension. A value that is present is then cast to
+/// this type.
 #[inline(always)]
-#[tactic(auto, using(crate::proofs::CastCode::shown))]
 pub(super) fn bare_target<'a>(source: &DType, target: &'a DType) -> Option<&'a DType>
     ensures { IsBareTarget (type_of source.now) (type_of target.now) (option_copied result) }
 {
@@ -53,8 +45,8 @@ pub(super) fn bare_target<'a>(source: &DType, target: &'a DType) -> Option<&'a D
     }
 }
 
-/// Whether a value that is present may leave an extension over the stored type for the target.
-#[tactic(auto, using(crate::proofs::CastCode::shown))]
+/// Whether a value that is present may be cast from an extension over the stored type to the
+/// target.
 pub(super) fn may_leave_extension(source: &DType, stored: &DType, target: &DType) -> bool
     ensures { result ≡ leaves (type_of source.now) (type_of stored.now) (type_of target.now) }
 {
@@ -67,15 +59,14 @@ pub(super) fn may_leave_extension(source: &DType, stored: &DType, target: &DType
     }
 }
 
-/// Whether two unions have the same ids in order.
+/// Whether two unions have equal ids in equal order.
 fn same_ids(a: &UnionVariants, b: &UnionVariants) -> bool
     ensures { result ≡ bytes_eq (variants_of a.now).type_ids (variants_of b.now).type_ids }
 {
     a.type_ids().eq(b.type_ids())
 }
 
-/// The types of the variants with this id, in two unions of the same ids in order.
-#[tactic(auto, using(crate::proofs::CastCode::shown))]
+/// The types of the two variants with this id, if both types are unions with equal ids in order.
 pub(super) fn types_with<'a>(
     source: &'a DType,
     target: &'a DType,
@@ -101,8 +92,7 @@ pub(super) fn accepts(dtype: &DType, value: &ScalarValue) -> bool
     Scalar::is_compatible(dtype, Some(value))
 }
 
-/// Whether a value without parts stays what it is: it and the two types are of one kind.
-#[tactic(auto, using(crate::proofs::CastCode::shown))]
+/// Whether a value without parts is kept as it is: the two types are its own, up to nullability.
 pub(super) fn stays(value: &ScalarValue, source: &DType, target: &DType) -> bool
     ensures { result ≡ stays (value_tree value.now) (type_of source.now) (type_of target.now) }
 {

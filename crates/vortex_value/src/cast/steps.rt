@@ -1,13 +1,7 @@
 //! The steps of a cast that go no further down than the value.
 
 ghost use Rattle.std.specs.Prelude.{◌≡◌, ◌++◌, [], ◌∷◌, IfErr, MatchResult, option_map};
-ghost use Rattle.vortex_dtype.specs.TypeOf.{type_of};
-ghost use Rattle.vortex_pvalue.specs.Whole.{ptype_of, whole_of};
-ghost use Rattle.vortex_value.specs.Steps.CastSteps.{Appends, Makes, RefusesSome, SparesMemory, leaf_to, left_to, number_to};
-ghost use Rattle.vortex_value.specs.Values.RawKinds.{TakesNoMemory};
-ghost use Rattle.vortex_value.specs.Values.RawOf.{raw_of, union_tree, value_tree, variant_tree};
-ghost use Rattle.vortex_value.specs.Values.RawTree.{raw_integer, raw_text, raw_union};
-ghost use Rattle.vortex_value.specs.declared.cast.refusals.Refusal.TheVariants.{Impossible, NoMemory};
+ghost use Rattle.vortex_value.specs.Words.{Appends, Impossible, Makes, NoMemory, RefusesSome, SparesMemory, TakesNoMemory, leaf_to, left_to, number_to, ptype_of, raw_integer, raw_of, raw_text, raw_union, type_of, union_tree, value_tree, variant_tree, whole_of};
 
 use super::refusals::Refusal;
 use super::rules::{accepts, may_leave_extension, stays};
@@ -31,9 +25,9 @@ fn copied(alloc: Global, value: &ScalarValue) -> Result<ScalarValue, Refusal>
     }
 }
 
-/// The same value, where it may leave the extension for the target, and the target accepts it.
+/// A copy of an extension's value, if it may be cast to the target as it is and the target accepts
+/// it.
 #[inline(never)]
-#[tactic(auto, using(crate::proofs::CastCode::shown))]
 pub(super) fn leave_extension(
     alloc: Global,
     value: &ScalarValue,
@@ -54,9 +48,8 @@ pub(super) fn leave_extension(
     }
 }
 
-/// The same value, one without parts, where it stays what it is.
+/// A copy of a value without parts, if the cast keeps it as it is.
 #[inline(never)]
-#[tactic(auto, using(crate::proofs::CastCode::shown))]
 pub(super) fn cast_leaf(
     alloc: Global,
     value: &ScalarValue,
@@ -92,7 +85,7 @@ pub(super) fn union_of(
     }
 }
 
-/// The number in the kind of the target, if that is a type of integers and has it.
+/// The number as the target's `PType`, if the target is an integer type that has it.
 #[inline(always)]
 fn number_in(number: &PValue, target: &DType) -> Option<PValue>
     ensures { option_map (λ n. raw_integer (ptype_of n) (whole_of n)) result
@@ -104,7 +97,7 @@ fn number_in(number: &PValue, target: &DType) -> Option<PValue>
     }
 }
 
-/// The same number in the kind of the target.
+/// The number as a raw value of the target.
 pub(super) fn cast_number(number: &PValue, target: &DType) -> Result<ScalarValue, Refusal>
     ensures made { Makes value_tree (number_to (whole_of number.now) (type_of target.now)) result }
     ensures flat { IfErr result (λ e. e ≡ Impossible) }
@@ -115,7 +108,7 @@ pub(super) fn cast_number(number: &PValue, target: &DType) -> Result<ScalarValue
     }
 }
 
-/// Appends a part, or drops it where there is no memory. Mostly there is room for it.
+/// Appends a part, or drops it if there is no memory. Mostly there is room for it.
 #[inline(always)]
 pub(super) fn push(
     part: Option<ScalarValue>,
@@ -133,7 +126,7 @@ pub(super) fn push(
     }
 }
 
-/// The same where there may be no room.
+/// Appends a part to a list that may have no room for it.
 #[inline(never)]
 fn push_more(part: Option<ScalarValue>, made: &mut Vec<Option<ScalarValue>>) -> Result<(), Refusal>
     ensures { MatchResult result
@@ -146,7 +139,7 @@ fn push_more(part: Option<ScalarValue>, made: &mut Vec<Option<ScalarValue>>) -> 
     }
 }
 
-/// Appends the same number in the kind of the target.
+/// Appends the number as a raw value of the target.
 #[inline(always)]
 pub(super) fn push_number(
     number: &PValue,
@@ -162,7 +155,7 @@ pub(super) fn push_number(
     }
 }
 
-/// Appends the same value, one without parts, where it stays what it is.
+/// Appends a copy of a value without parts, if the cast keeps it as it is.
 #[inline(always)]
 #[tactic(auto, using(crate::proofs::ValueSteps::shown))]
 pub(super) fn push_leaf(
@@ -200,7 +193,7 @@ fn push_copied(
     }
 }
 
-/// Appends a copy of a text.
+/// Appends a copy of a string.
 #[inline(never)]
 fn push_text(text: &BufferString, made: &mut Vec<Option<ScalarValue>>) -> Result<(), Refusal>
     ensures { Appends made.old.items made.new.items (Some (raw_text text.now)) result }

@@ -1,11 +1,8 @@
-//! The recursion of a cast, down the value. Each kind of value has a function of its own, which pays
-//! for its own locals alone; parts are appended where they are to stand.
+//! The recursion of a cast, down the value. Each variant of a value has a function of its own,
+//! which pays for its own locals alone. Parts of tuples are appended to their list by the `push_*`
+//! functions, which ask in the same order as the `cast_*` functions.
 
-ghost use Rattle.std.specs.Option.{option_copied};
-ghost use Rattle.vortex_dtype.specs.TypeOf.{map_of, type_of, dtype_trees};
-ghost use Rattle.vortex_value.specs.Steps.CastSteps.{Appends, IsBareTarget, Makes, MakesParts, SparesLeaf, SparesMemory, SparesWhole, bare_to, cast_to, each_to, entries_to, entry_to, fields_to, map_to, parts_to, sized};
-ghost use Rattle.vortex_value.specs.Values.RawOf.{raw_of, union_tree, value_trees, value_tree, lent_raw};
-ghost use Rattle.vortex_value.specs.Values.RawTree.{count, raw_tuple};
+ghost use Rattle.vortex_value.specs.Words.{Appends, IsBareTarget, Makes, MakesParts, SparesLeaf, SparesMemory, SparesWhole, bare_to, cast_to, count, dtype_trees, each_to, entries_to, entry_to, fields_to, lent_raw, map_of, map_to, option_copied, parts_to, raw_of, raw_tuple, sized, type_of, union_tree, value_tree, value_trees};
 
 use super::refusals::Refusal;
 use super::rules::{are_as_many, bare_target, takes_null, types_with, would_claim_sorted};
@@ -20,7 +17,6 @@ use vortex_dtype::{DType, MapDType};
 
 /// The raw value that the target type has for the content of a value of the source type.
 #[cycle(cast)]
-#[tactic(auto, using(crate::proofs::CastCode::shown))]
 pub(super) fn cast_value(
     alloc: Global,
     value: Option<&ScalarValue>,
@@ -40,9 +36,8 @@ pub(super) fn cast_value(
     }
 }
 
-/// The same for a value that is present.
+/// The raw value that the target type has for a value that is present.
 #[cycle(cast)]
-#[tactic(auto, using(crate::proofs::CastCode::shown))]
 fn cast_present(
     alloc: Global,
     value: &ScalarValue,
@@ -63,9 +58,8 @@ fn cast_present(
     }
 }
 
-/// The same between types that are no extensions.
+/// What a value becomes between types that are no extensions.
 #[cycle(cast)]
-#[tactic(auto, using(crate::proofs::CastCode::shown))]
 fn cast_bare(
     alloc: Global,
     value: &ScalarValue,
@@ -93,7 +87,6 @@ fn cast_bare(
 /// Appends what a value becomes.
 #[cycle(cast)]
 #[inline(always)]
-#[tactic(auto, using(crate::proofs::CastCode::shown))]
 fn push_cast(
     alloc: Global,
     value: Option<&ScalarValue>,
@@ -114,10 +107,9 @@ fn push_cast(
     )
 }
 
-/// The same, where the caller asked once for many values what the target stores.
+/// Appends what a value becomes. The caller has asked once for many values what the target stores.
 #[cycle(cast)]
 #[inline(always)]
-#[tactic(auto, using(crate::proofs::CastCode::shown))]
 fn push_stored(
     alloc: Global,
     value: Option<&ScalarValue>,
@@ -139,7 +131,6 @@ fn push_stored(
 /// Appends what a null becomes, or a value of an extension.
 #[cycle(cast)]
 #[inline(never)]
-#[tactic(auto, using(crate::proofs::CastCode::shown))]
 fn push_whole(
     alloc: Global,
     value: Option<&ScalarValue>,
@@ -157,7 +148,6 @@ fn push_whole(
 /// Appends what a value becomes between types that are no extensions.
 #[cycle(cast)]
 #[inline(always)]
-#[tactic(auto, using(crate::proofs::CastCode::shown))]
 fn push_bare(
     alloc: Global,
     value: &ScalarValue,
@@ -179,7 +169,6 @@ fn push_bare(
 /// Appends what a tuple of these parts becomes.
 #[cycle(cast)]
 #[inline(never)]
-#[tactic(auto, using(crate::proofs::CastCode::shown))]
 fn push_tuple(
     alloc: Global,
     parts: &[Option<ScalarValue>],
@@ -197,7 +186,6 @@ fn push_tuple(
 /// Appends what a union's value becomes.
 #[cycle(cast)]
 #[inline(never)]
-#[tactic(auto, using(crate::proofs::CastCode::shown))]
 fn push_union(
     alloc: Global,
     union: &UnionValue,
@@ -214,7 +202,6 @@ fn push_union(
 
 /// The child of a union, cast between the two variants with its id.
 #[cycle(cast)]
-#[tactic(auto, using(crate::proofs::CastCode::shown))]
 fn cast_union(
     alloc: Global,
     union: &UnionValue,
@@ -238,7 +225,6 @@ fn cast_union(
 
 /// The parts of a tuple, cast as elements, entries or fields.
 #[cycle(cast)]
-#[tactic(auto, using(crate::proofs::CastCode::shown))]
 fn cast_parts(
     alloc: Global,
     parts: &[Option<ScalarValue>],
@@ -265,9 +251,8 @@ fn cast_parts(
     }
 }
 
-/// The elements, where there are so many as the size says.
+/// The elements, cast if their number is the size.
 #[cycle(cast)]
-#[tactic(auto, using(crate::proofs::CastCode::shown))]
 fn cast_sized(
     alloc: Global,
     elements: &[Option<ScalarValue>],
@@ -287,7 +272,6 @@ fn cast_sized(
 
 /// Each element, cast to the element type of the target.
 #[cycle(cast)]
-#[tactic(auto, using(crate::proofs::CastCode::shown))]
 fn cast_elements(
     alloc: Global,
     elements: &[Option<ScalarValue>],
@@ -305,7 +289,7 @@ fn cast_elements(
     Ok(made)
 }
 
-/// The entries, where keys that are not said to be sorted do not come to be said so.
+/// The entries, cast unless the keys would come to claim that they are sorted.
 #[cycle(cast)]
 fn cast_map(
     alloc: Global,
@@ -343,11 +327,10 @@ fn cast_entries(
     Ok(made)
 }
 
-/// Appends what an entry becomes, where it is a pair. The caller asked once what the key and value
-/// types of the target store.
+/// Appends what an entry becomes, if it is a tuple. The caller has asked once what the key and
+/// value types of the target store.
 #[cycle(cast)]
 #[inline(always)]
-#[tactic(auto, using(crate::proofs::CastCode::shown))]
 fn push_entry(
     alloc: Global,
     entry: Option<&ScalarValue>,
@@ -372,7 +355,6 @@ fn push_entry(
 /// Appends the pair of what a key and a value become.
 #[cycle(cast)]
 #[inline(never)]
-#[tactic(auto, using(crate::proofs::CastCode::shown))]
 fn push_pair(
     alloc: Global,
     parts: &[Option<ScalarValue>],
@@ -412,9 +394,8 @@ fn push_pair(
     push(Some(ScalarValue::Tuple(pair)), made)
 }
 
-/// Each field, cast to the type at its place, where there are equally many.
+/// Each field, cast to the type at its place, if there are equally many.
 #[cycle(cast)]
-#[tactic(auto, using(crate::proofs::CastCode::shown))]
 fn cast_fields(
     alloc: Global,
     fields: &[Option<ScalarValue>],

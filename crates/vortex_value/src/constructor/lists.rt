@@ -1,16 +1,7 @@
-//! Makers of lists, of any length and of one length.
+//! Makers of lists and of lists of a fixed size.
 
 ghost use Rattle.std.specs.Prelude.{◌≡◌, None, Some, length, map, IfOk, IfErr, MatchResult};
-ghost use Rattle.std.specs.List.{All};
-ghost use Rattle.vortex_dtype.specs.Memory.{GivesOrNoMemory};
-ghost use Rattle.vortex_dtype.specs.Refusals.{RefusesOrNoMemory};
-ghost use Rattle.vortex_dtype.specs.TypeOf.{type_of};
-ghost use Rattle.vortex_dtype.specs.TypeTree.{list_type, fixed_size_list_type};
-ghost use Rattle.vortex_dtype.specs.declared.error.VortexError.TheVariants.{OutOfMemory};
-ghost use Rattle.vortex_value.specs.Makers.{count_cause, list_cause, child_trees, wrong_place};
-ghost use Rattle.vortex_value.specs.Values.RawOf.{raw_of};
-ghost use Rattle.vortex_value.specs.Values.RawTree.{raw_tuple, no_raws};
-ghost use Rattle.vortex_value.specs.Values.Scalars.{IsMadeOf, IsValid};
+ghost use Rattle.vortex_value.specs.Words.{All, GivesOrNoMemory, IsMadeOf, IsValid, OutOfMemory, RefusesOrNoMemory, child_trees, count_cause, fixed_size_list_type, list_cause, list_type, no_raws, raw_of, raw_tuple, type_of, wrong_place};
 
 use crate::scalars::Scalar;
 use crate::values::ScalarValue;
@@ -20,9 +11,10 @@ use vortex_dtype::{DType, Nullability, VortexError};
 impl Scalar {
     /// The list of these children.
     ///
-    /// `WrongChild` with the first child whose type is not exactly the element type, nullability
-    /// included; else `TooMany` where there are more than `u32::MAX`; both before any memory is asked
-    /// for. Else `OutOfMemory` where there is none. Ports `Scalar::list`, which panics there.
+    /// `WrongChild` with the place of the first child whose type is not exactly the element type,
+    /// nullability included; else `TooMany` if there are more than `u32::MAX`. Both come before any
+    /// memory is asked for. Else `OutOfMemory` if there is no memory. Ports `Scalar::list`, which
+    /// panics instead.
     pub fn list(
         alloc: Global,
         element_dtype: DType,
@@ -44,9 +36,9 @@ impl Scalar {
         })
     }
 
-    /// The list of fixed size of these children, whose size is their number.
+    /// The list of these children, of a fixed size, which is their number.
     ///
-    /// Refuses as `list` does. Ports `Scalar::fixed_size_list`, which panics there.
+    /// It refuses as `list` does. Ports `Scalar::fixed_size_list`, which panics instead.
     pub fn fixed_size_list(
         alloc: Global,
         element_dtype: DType,
@@ -69,9 +61,9 @@ impl Scalar {
         })
     }
 
-    /// The list of no children.
+    /// The empty list.
     ///
-    /// `OutOfMemory` where there is none.
+    /// `OutOfMemory` if there is no memory for the type.
     pub fn list_empty(
         alloc: Global,
         element_dtype: DType,
@@ -125,7 +117,7 @@ fn list_parts(
     }
 }
 
-/// How many children a list of this element type has, or why they make none.
+/// The size of the list of these children, or why they make no list of this element type.
 fn list_size(element: &DType, children: &[Scalar]) -> Result<u32, VortexError>
     ensures { MatchResult result
         (λ size. (size ≡ length children.now)
@@ -157,7 +149,7 @@ fn as_size(count: usize) -> Result<u32, VortexError>
     Ok(count as u32)
 }
 
-/// The raw value of which these children are the parts.
+/// The raw value with these children as its parts.
 pub(super) fn tuple_of(
     alloc: Global,
     children: Vec<Scalar>,

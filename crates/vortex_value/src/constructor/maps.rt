@@ -1,17 +1,7 @@
 //! Makers of maps.
 
 ghost use Rattle.std.specs.Prelude.{◌≡◌, IfOk, IfErr, IsErrAnd, MatchOption};
-ghost use Rattle.std.specs.Iterator.{IsFinite};
-ghost use Rattle.std.specs.Iterator.Runs.{SomeRun, WholeRun};
-ghost use Rattle.vortex_dtype.specs.Parts.{map_in};
-ghost use Rattle.vortex_dtype.specs.Refusals.{RefusesOrNoMemory};
-ghost use Rattle.vortex_dtype.specs.TypeOf.{type_of, map_of};
-ghost use Rattle.vortex_dtype.specs.declared.error.VortexError.TheVariants.{WrongKind};
-ghost use Rattle.vortex_value.specs.Items.{GivesOnly, IsRefusedAtLast, MadeOfItems, RefusesAtLast};
-ghost use Rattle.vortex_value.specs.Makers.{IsValidEntry, entries_cause, entry_cause, is_entry_of, map_cause, raw_entries, raw_entry};
-ghost use Rattle.vortex_value.specs.Values.RawOf.{raw_of};
-ghost use Rattle.vortex_value.specs.Values.RawTree.{raw_tuple};
-ghost use Rattle.vortex_value.specs.Values.Scalars.{IsMadeOf, IsValid};
+ghost use Rattle.vortex_value.specs.Words.{GivesOnly, IsFinite, IsMadeOf, IsRefusedAtLast, IsValid, IsValidEntry, MadeOfItems, RefusesAtLast, RefusesOrNoMemory, SomeRun, WholeRun, WrongKind, entries_cause, entry_cause, is_entry_of, map_cause, map_in, map_of, raw_entries, raw_entry, raw_of, raw_tuple, type_of};
 
 use crate::scalars::Scalar;
 use crate::values::ScalarValue;
@@ -19,13 +9,14 @@ use std::alloc::Global;
 use vortex_dtype::{DType, MapDType, VortexError};
 
 impl Scalar {
-    /// The map of these entries, in order. Neither their order nor repeated keys are looked at, also
-    /// where the type says that keys are sorted.
+    /// The map of these entries, in order. Neither their order nor repeated keys are looked at,
+    /// even if the type says that keys are sorted.
     ///
-    /// `WrongKind` exactly where the type is no map, before any entry is taken. Else each entry is
-    /// looked at as it comes: `WrongChild` with the first whose key or value is not exactly of the
-    /// map's type, nullability included, or `OutOfMemory` where there is none for it, and no later
-    /// entry is taken. Ports `Scalar::map`, which panics there.
+    /// `WrongKind` exactly if the type is no map, before any entry is taken. Else each entry is
+    /// looked at as it comes. `WrongChild` has the place of the first whose key or value is not
+    /// exactly of the map's type, nullability included. `OutOfMemory` comes at the first that finds
+    /// no memory. After a refusal no later entry is taken. Ports `Scalar::map`, which panics
+    /// instead.
     pub fn map<I: IntoIterator<Item = (Scalar, Scalar)>>(
         alloc: Global,
         dtype: DType,
@@ -46,7 +37,8 @@ impl Scalar {
         Scalar::with_value(dtype, value)
     }
 
-    /// The map of these entries, or why they make none: the same answers as `map`.
+    /// The map of these entries, as `map` makes it, with the same refusals. Ports
+    /// `Scalar::try_map`.
     pub fn try_map<I: IntoIterator<Item = (Scalar, Scalar)>>(
         alloc: Global,
         dtype: DType,

@@ -1,19 +1,7 @@
 //! The maker of structs.
 
 ghost use Rattle.std.specs.Prelude.{◌≡◌, ◌⊎◌, not, position, IfOk, IfErr, IsErrAnd, MatchOption};
-ghost use Rattle.std.specs.Iterator.{IsFinite};
-ghost use Rattle.std.specs.Iterator.Runs.{WholeRun};
-ghost use Rattle.std.specs.List.{zip};
-ghost use Rattle.vortex_dtype.specs.Parts.{fields_in};
-ghost use Rattle.vortex_dtype.specs.Refusals.{RefusesExactly, RefusesOrNoMemory};
-ghost use Rattle.vortex_dtype.specs.TypeEquality.{tree_eq};
-ghost use Rattle.vortex_dtype.specs.TypeOf.{type_of, fields_of};
-ghost use Rattle.vortex_dtype.specs.declared.error.VortexError.TheVariants.{OutOfMemory, WrongKind};
-ghost use Rattle.vortex_value.specs.Items.{GivesOnly, MadeOfItems, RefusesItems};
-ghost use Rattle.vortex_value.specs.Makers.{fields_cause, child_trees, struct_cause};
-ghost use Rattle.vortex_value.specs.Values.RawOf.{raw_of};
-ghost use Rattle.vortex_value.specs.Values.RawTree.{raw_tuple};
-ghost use Rattle.vortex_value.specs.Values.Scalars.{IsMadeOf, IsValid, scalar_type};
+ghost use Rattle.vortex_value.specs.Words.{GivesOnly, IsFinite, IsMadeOf, IsValid, MadeOfItems, OutOfMemory, RefusesExactly, RefusesItems, RefusesOrNoMemory, WholeRun, WrongKind, child_trees, fields_cause, fields_in, fields_of, raw_of, raw_tuple, scalar_type, struct_cause, tree_eq, type_of, zip};
 
 use super::lists::tuple_of;
 use crate::scalars::Scalar;
@@ -24,10 +12,11 @@ use vortex_dtype::{DType, StructFields, VortexError};
 impl Scalar {
     /// The struct of these children, in the order of its fields.
     ///
-    /// `WrongKind` exactly where the type is no struct, before any child is taken. Then the children
-    /// are kept, which may find no memory; then `WrongLength` where they are not as many as the fields;
-    /// then `WrongChild` with the first whose type is not exactly its field's, nullability included.
-    /// Else `OutOfMemory` where there is none. Ports `Scalar::struct_`, which panics there.
+    /// `WrongKind` exactly if the type is no struct, before any child is taken. Then the children
+    /// are kept, which may find no memory. Then `WrongLength` if they are not as many as the
+    /// fields, and `WrongChild` with the first child whose type is not exactly its field's,
+    /// nullability included. Else `OutOfMemory` if there is no memory. Ports `Scalar::struct_`,
+    /// which panics instead.
     pub fn struct_<I: IntoIterator<Item = Scalar>>(
         alloc: Global,
         dtype: DType,
@@ -49,7 +38,7 @@ impl Scalar {
     }
 }
 
-/// The raw value of the struct of these children, or why they make none.
+/// The raw value of the struct of these children, or why there is none.
 fn struct_value<I: Iterator<Item = Scalar>>(
     alloc: Global,
     dtype: &DType,
@@ -72,7 +61,7 @@ fn struct_value<I: Iterator<Item = Scalar>>(
     fields_value(alloc, fields, children)
 }
 
-/// The raw value of which these children are the fields.
+/// The raw value with these children as its fields.
 fn fields_value(
     alloc: Global,
     fields: &StructFields,
@@ -86,7 +75,7 @@ fn fields_value(
     tuple_of(alloc, children)
 }
 
-/// Sees that these children fit these fields.
+/// Tests that these children fit these fields.
 fn check_fields(fields: &StructFields, children: &[Scalar]) -> Result<(), VortexError>
     ensures { RefusesExactly (fields_cause (fields_of fields.now).types children.now) result }
 {

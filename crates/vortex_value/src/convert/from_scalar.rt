@@ -1,18 +1,15 @@
-//! Truth values, texts and strings of bytes out of scalars, valid or not. The impls for `ScalarRef`
-//! are of this port alone.
+//! Truth values, strings and bytes out of scalars, valid or not. The impls for `ScalarRef` are of
+//! this port alone.
 
-ghost use Rattle.vortex_value.specs.Conversions.{SparesShort, Takes, TakesCopy, bytes_in, given_option, or_none, taken_bool, taken_bytes, taken_option_bool, taken_option_bytes, taken_option_text, taken_text, text_in};
-ghost use Rattle.vortex_value.specs.Values.RawOf.{raw_of};
-ghost use Rattle.vortex_value.specs.Values.RawTree.{raw_bool, raw_bytes, raw_text};
-ghost use Rattle.vortex_value.specs.Values.Refs.{ref_raw, ref_type};
-ghost use Rattle.vortex_value.specs.Values.Scalars.{scalar_raw, scalar_type};
+ghost use Rattle.vortex_value.specs.Words.{SparesShort, Takes, TakesCopy, bytes_in, given_option, or_none, raw_bool, raw_bytes, raw_of, raw_text, ref_raw, ref_type, scalar_raw, scalar_type, taken_bool, taken_bytes, taken_option_bool, taken_option_bytes, taken_option_text, taken_text, text_in};
 
 use crate::refs::ScalarRef;
 use crate::scalars::Scalar;
 use crate::values::ScalarValue;
 use vortex_dtype::{BufferString, ByteBuffer, DType, VortexError};
 
-/// As the optional one, and `IsNull` of a null.
+/// The truth value. `WrongKind` if the type is not Bool; then `IsNull` of a null; then `WrongKind`
+/// if the raw value is not a truth value.
 impl TryFrom<ScalarRef<'_>> for bool {
     type Error = VortexError;
 
@@ -23,8 +20,8 @@ impl TryFrom<ScalarRef<'_>> for bool {
     }
 }
 
-/// `WrongKind` where the type is not Bool; a null is none; then `WrongKind` of another kind of raw
-/// value.
+/// The truth value, or `None` of a null. `WrongKind` if the type is not Bool or the raw value is
+/// neither null nor a truth value.
 impl TryFrom<ScalarRef<'_>> for Option<bool> {
     type Error = VortexError;
 
@@ -40,7 +37,8 @@ impl TryFrom<ScalarRef<'_>> for Option<bool> {
     }
 }
 
-/// As of a borrowed scalar.
+/// The truth value. `WrongKind` if the type is not Bool; then `IsNull` of a null; then `WrongKind`
+/// if the raw value is not a truth value.
 impl TryFrom<&Scalar> for bool {
     type Error = VortexError;
 
@@ -52,7 +50,8 @@ impl TryFrom<&Scalar> for bool {
     }
 }
 
-/// As of a borrowed scalar.
+/// The truth value, or `None` of a null. `WrongKind` if the type is not Bool or the raw value is
+/// neither null nor a truth value.
 impl TryFrom<&Scalar> for Option<bool> {
     type Error = VortexError;
 
@@ -64,7 +63,8 @@ impl TryFrom<&Scalar> for Option<bool> {
     }
 }
 
-/// As of a borrowed scalar.
+/// The truth value. `WrongKind` if the type is not Bool; then `IsNull` of a null; then `WrongKind`
+/// if the raw value is not a truth value.
 impl TryFrom<Scalar> for bool {
     type Error = VortexError;
 
@@ -77,7 +77,8 @@ impl TryFrom<Scalar> for bool {
     }
 }
 
-/// As of a borrowed scalar.
+/// The truth value, or `None` of a null. `WrongKind` if the type is not Bool or the raw value is
+/// neither null nor a truth value.
 impl TryFrom<Scalar> for Option<bool> {
     type Error = VortexError;
 
@@ -91,7 +92,8 @@ impl TryFrom<Scalar> for Option<bool> {
     }
 }
 
-/// As the optional one, and `IsNull` of a null.
+/// A copy of the bytes. `WrongKind` if the type is not Binary; then `IsNull` of a null; then
+/// `WrongKind` if the raw value is not bytes. `OutOfMemory` only for a copy of more than 22 bytes.
 impl TryFrom<ScalarRef<'_>> for ByteBuffer {
     type Error = VortexError;
 
@@ -103,9 +105,8 @@ impl TryFrom<ScalarRef<'_>> for ByteBuffer {
     }
 }
 
-/// A copy of the bytes: `WrongKind` where the type is not Binary; a null is none, without memory; then
-/// `WrongKind` of another kind of raw value; else `OutOfMemory` where there is none for the copy
-/// of more than 22 bytes.
+/// A copy of the bytes, or `None` of a null. `WrongKind` if the type is not Binary or the raw value
+/// is neither null nor bytes. `OutOfMemory` only for a copy of more than 22 bytes.
 impl TryFrom<ScalarRef<'_>> for Option<ByteBuffer> {
     type Error = VortexError;
 
@@ -122,7 +123,8 @@ impl TryFrom<ScalarRef<'_>> for Option<ByteBuffer> {
     }
 }
 
-/// As of a borrowed scalar.
+/// A copy of the bytes. `WrongKind` if the type is not Binary; then `IsNull` of a null; then
+/// `WrongKind` if the raw value is not bytes. `OutOfMemory` only for a copy of more than 22 bytes.
 impl TryFrom<&Scalar> for ByteBuffer {
     type Error = VortexError;
 
@@ -135,7 +137,8 @@ impl TryFrom<&Scalar> for ByteBuffer {
     }
 }
 
-/// As of a borrowed scalar.
+/// A copy of the bytes, or `None` of a null. `WrongKind` if the type is not Binary or the raw value
+/// is neither null nor bytes. `OutOfMemory` only for a copy of more than 22 bytes.
 impl TryFrom<&Scalar> for Option<ByteBuffer> {
     type Error = VortexError;
 
@@ -148,7 +151,8 @@ impl TryFrom<&Scalar> for Option<ByteBuffer> {
     }
 }
 
-/// As the optional one, and `IsNull` of a null.
+/// The bytes, moved. `WrongKind` if the type is not Binary; then `IsNull` of a null; then
+/// `WrongKind` if the raw value is not bytes.
 impl TryFrom<Scalar> for ByteBuffer {
     type Error = VortexError;
 
@@ -159,8 +163,8 @@ impl TryFrom<Scalar> for ByteBuffer {
     }
 }
 
-/// The bytes, moved: `WrongKind` where the type is not Binary; a null is none; then `WrongKind` of
-/// another kind of raw value.
+/// The bytes, moved, or `None` of a null. `WrongKind` if the type is not Binary or the raw value is
+/// neither null nor bytes.
 impl TryFrom<Scalar> for Option<ByteBuffer> {
     type Error = VortexError;
 
@@ -177,7 +181,7 @@ impl TryFrom<Scalar> for Option<ByteBuffer> {
     }
 }
 
-/// The bytes of a raw value, moved, and none of a null.
+/// The bytes of a raw value, moved, or `None` of a null.
 fn into_bytes(value: Option<ScalarValue>) -> Result<Option<ByteBuffer>, VortexError>
     ensures { Takes (given_option raw_bytes) (or_none bytes_in (raw_of value)) result }
 {
@@ -188,7 +192,9 @@ fn into_bytes(value: Option<ScalarValue>) -> Result<Option<ByteBuffer>, VortexEr
     }
 }
 
-/// As the optional one, and `IsNull` of a null.
+/// A copy of the string. `WrongKind` if the type is not Utf8; then `IsNull` of a null; then
+/// `WrongKind` if the raw value is not a string. `OutOfMemory` only for a copy of more than 22
+/// bytes.
 impl TryFrom<ScalarRef<'_>> for BufferString {
     type Error = VortexError;
 
@@ -200,9 +206,8 @@ impl TryFrom<ScalarRef<'_>> for BufferString {
     }
 }
 
-/// A copy of the text: `WrongKind` where the type is not Utf8; a null is none, without memory; then
-/// `WrongKind` of another kind of raw value; else `OutOfMemory` where there is none for the copy
-/// of more than 22 bytes.
+/// A copy of the string, or `None` of a null. `WrongKind` if the type is not Utf8 or the raw value
+/// is neither null nor a string. `OutOfMemory` only for a copy of more than 22 bytes.
 impl TryFrom<ScalarRef<'_>> for Option<BufferString> {
     type Error = VortexError;
 
@@ -219,7 +224,9 @@ impl TryFrom<ScalarRef<'_>> for Option<BufferString> {
     }
 }
 
-/// As of a borrowed scalar.
+/// A copy of the string. `WrongKind` if the type is not Utf8; then `IsNull` of a null; then
+/// `WrongKind` if the raw value is not a string. `OutOfMemory` only for a copy of more than 22
+/// bytes.
 impl TryFrom<&Scalar> for BufferString {
     type Error = VortexError;
 
@@ -232,7 +239,8 @@ impl TryFrom<&Scalar> for BufferString {
     }
 }
 
-/// As of a borrowed scalar.
+/// A copy of the string, or `None` of a null. `WrongKind` if the type is not Utf8 or the raw value
+/// is neither null nor a string. `OutOfMemory` only for a copy of more than 22 bytes.
 impl TryFrom<&Scalar> for Option<BufferString> {
     type Error = VortexError;
 
@@ -245,7 +253,8 @@ impl TryFrom<&Scalar> for Option<BufferString> {
     }
 }
 
-/// As the optional one, and `IsNull` of a null.
+/// The string, moved. `WrongKind` if the type is not Utf8; then `IsNull` of a null; then
+/// `WrongKind` if the raw value is not a string.
 impl TryFrom<Scalar> for BufferString {
     type Error = VortexError;
 
@@ -256,8 +265,8 @@ impl TryFrom<Scalar> for BufferString {
     }
 }
 
-/// The text, moved: `WrongKind` where the type is not Utf8; a null is none; then `WrongKind` of
-/// another kind of raw value.
+/// The string, moved, or `None` of a null. `WrongKind` if the type is not Utf8 or the raw value is
+/// neither null nor a string.
 impl TryFrom<Scalar> for Option<BufferString> {
     type Error = VortexError;
 
@@ -274,7 +283,7 @@ impl TryFrom<Scalar> for Option<BufferString> {
     }
 }
 
-/// The text of a raw value, moved, and none of a null.
+/// The string of a raw value, moved, or `None` of a null.
 fn into_text(value: Option<ScalarValue>) -> Result<Option<BufferString>, VortexError>
     ensures { Takes (given_option raw_text) (or_none text_in (raw_of value)) result }
 {

@@ -1,11 +1,7 @@
-//! Raw values and scalars of truth values, texts and strings of bytes.
+//! Raw values and scalars of truth values, strings and bytes.
 
 ghost use Rattle.std.specs.Prelude.{◌≡◌};
-ghost use Rattle.vortex_dtype.specs.TypeTree.{bool_type, utf8_type, binary_type};
-ghost use Rattle.vortex_dtype.specs.declared.nullability.Nullability.TheVariants.{NonNullable, Nullable};
-ghost use Rattle.vortex_value.specs.Conversions.{IsMadeValid, given_option};
-ghost use Rattle.vortex_value.specs.Values.RawOf.{value_tree};
-ghost use Rattle.vortex_value.specs.Values.RawTree.{raw_bool, raw_text, raw_bytes};
+ghost use Rattle.vortex_value.specs.Words.{IsMadeValid, NonNullable, Nullable, binary_type, bool_type, given_option, raw_bool, raw_bytes, raw_text, utf8_type, value_tree};
 
 use crate::scalars::Scalar;
 use crate::values::ScalarValue;
@@ -20,7 +16,7 @@ impl From<bool> for ScalarValue {
     }
 }
 
-/// Of the type that takes no null.
+/// The truth value, of the type Bool that takes no null.
 impl From<bool> for Scalar {
     ghost from_gives = { λ b y. IsMadeValid (bool_type NonNullable) (raw_bool b) y };
 
@@ -29,7 +25,7 @@ impl From<bool> for Scalar {
     }
 }
 
-/// Of the nullable type; none is the null.
+/// The truth value, of the nullable type Bool; `None` is the null.
 impl From<Option<bool>> for Scalar {
     ghost from_gives = { λ o y. IsMadeValid (bool_type Nullable) (given_option raw_bool o) y };
 
@@ -41,7 +37,7 @@ impl From<Option<bool>> for Scalar {
     }
 }
 
-/// The text, moved.
+/// The string, moved.
 impl From<BufferString> for ScalarValue {
     ghost from_gives = { λ t v. value_tree v ≡ raw_text t };
 
@@ -50,7 +46,7 @@ impl From<BufferString> for ScalarValue {
     }
 }
 
-/// Of the type that takes no null, with the text moved.
+/// The string, moved, of the type Utf8 that takes no null.
 impl From<BufferString> for Scalar {
     ghost from_gives = { λ t y. IsMadeValid (utf8_type NonNullable) (raw_text t) y };
 
@@ -59,7 +55,7 @@ impl From<BufferString> for Scalar {
     }
 }
 
-/// Of the nullable type, with the text moved; none is the null.
+/// The string, moved, of the nullable type Utf8; `None` is the null.
 impl From<Option<BufferString>> for Scalar {
     ghost from_gives = { λ o y. IsMadeValid (utf8_type Nullable) (given_option raw_text o) y };
 
@@ -80,7 +76,7 @@ impl From<ByteBuffer> for ScalarValue {
     }
 }
 
-/// Of the type that takes no null, with the bytes moved.
+/// The bytes, moved, of the type Binary that takes no null.
 impl From<ByteBuffer> for Scalar {
     ghost from_gives = { λ b y. IsMadeValid (binary_type NonNullable) (raw_bytes b) y };
 
@@ -89,7 +85,7 @@ impl From<ByteBuffer> for Scalar {
     }
 }
 
-/// Of the nullable type, with the bytes moved; none is the null.
+/// The bytes, moved, of the nullable type Binary; `None` is the null.
 impl From<Option<ByteBuffer>> for Scalar {
     ghost from_gives = { λ o y. IsMadeValid (binary_type Nullable) (given_option raw_bytes o) y };
 

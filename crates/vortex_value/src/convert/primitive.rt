@@ -1,16 +1,8 @@
-//! Conversions between scalars and integers: the rules, for all integer types, and `PValue` and
-//! `usize`. What is taken as one of the eight stands in `from_integers`, impl by impl.
+//! Conversions between scalars and integers: what holds for all eight integer types, for `PValue`
+//! and for `usize`. The impls for each of the eight stand in `from_integers`.
 
 ghost use Rattle.std.specs.Prelude.{◌≡◌};
-ghost use Rattle.vortex_dtype.specs.TypeTree.{integer_type};
-ghost use Rattle.vortex_dtype.specs.declared.nullability.Nullability.TheVariants.{NonNullable, Nullable};
-ghost use Rattle.vortex_dtype.specs.declared.ptype.PType.TheVariants.{U64};
-ghost use Rattle.vortex_pvalue.specs.Whole.{ptype_of, whole_of};
-ghost use Rattle.vortex_value.specs.Conversions.{IsMadeValid, Takes, given_number, given_option, given_usize, number_in, or_none, taken_number, taken_option_number, taken_option_usize, taken_usize};
-ghost use Rattle.vortex_value.specs.Values.RawOf.{lent_raw, value_tree};
-ghost use Rattle.vortex_value.specs.Values.RawTree.{raw_integer};
-ghost use Rattle.vortex_value.specs.Values.Refs.{ref_raw, ref_type};
-ghost use Rattle.vortex_value.specs.Values.Scalars.{scalar_raw, scalar_type};
+ghost use Rattle.vortex_value.specs.Words.{IsMadeValid, NonNullable, Nullable, Takes, U64, given_number, given_option, given_usize, integer_type, lent_raw, number_in, or_none, ptype_of, raw_integer, ref_raw, ref_type, scalar_raw, scalar_type, taken_number, taken_option_number, taken_option_usize, taken_usize, value_tree, whole_of};
 
 use crate::refs::ScalarRef;
 use crate::scalars::Scalar;
@@ -50,7 +42,7 @@ impl From<PValue> for ScalarValue {
     }
 }
 
-/// The number in its own kind.
+/// The number, with the `PType` of its Rust type.
 impl<T: Integer> From<T> for ScalarValue {
     ghost from_gives = { λ n v. value_tree v ≡ given_number T.PTYPE T.value n };
 
@@ -59,7 +51,7 @@ impl<T: Integer> From<T> for ScalarValue {
     }
 }
 
-/// Of the type that takes no null.
+/// The number, of the integer type of its Rust type that takes no null.
 impl<T: Integer> From<T> for Scalar {
     ghost from_gives = { λ n y. IsMadeValid
         (integer_type T.PTYPE NonNullable) (given_number T.PTYPE T.value n) y };
@@ -69,7 +61,7 @@ impl<T: Integer> From<T> for Scalar {
     }
 }
 
-/// Of the nullable type; none is the null.
+/// The number, of the nullable integer type of its Rust type; `None` is the null.
 impl<T: Integer> From<Option<T>> for Scalar {
     ghost from_gives = { λ o y. IsMadeValid
         (integer_type T.PTYPE Nullable) (given_option (given_number T.PTYPE T.value) o) y };
@@ -82,8 +74,8 @@ impl<T: Integer> From<Option<T>> for Scalar {
     }
 }
 
-/// The number of a raw value as one of this type: `WrongKind` where it is no integer, `OutOfRange`
-/// where the type does not have it.
+/// The number of a raw value as this Rust type. `WrongKind` if the value is no integer,
+/// `OutOfRange` if the type does not have the number.
 fn take_number<T: NativePType>(value: &ScalarValue) -> Result<T, VortexError>
     ensures { Takes (given_number T.PTYPE T.value)
         (number_in T.PTYPE (value_tree value.now)) result }
@@ -100,7 +92,7 @@ fn take_number<T: NativePType>(value: &ScalarValue) -> Result<T, VortexError>
     }
 }
 
-/// The number of a raw value, or none of a null.
+/// The number of a raw value, or `None` of a null.
 fn take_or_none<T: NativePType>(value: Option<&ScalarValue>) -> Result<Option<T>, VortexError>
     ensures { Takes (given_option (given_number T.PTYPE T.value))
         (or_none (number_in T.PTYPE) (lent_raw value.entry)) result }
@@ -112,9 +104,10 @@ fn take_or_none<T: NativePType>(value: Option<&ScalarValue>) -> Result<Option<T>
 }
 
 impl ScalarRef<'_> {
-    /// The number as this integer type, whatever the scalar's type, valid or not. Of this port alone.
+    /// The number as this integer type, whatever the scalar's type, valid or not. Of this port
+    /// alone.
     ///
-    /// `IsNull` of a null, then `WrongKind` where the raw value is no integer, then `OutOfRange` where
+    /// `IsNull` of a null, then `WrongKind` if the raw value is no integer, then `OutOfRange` if
     /// the integer type does not have the number.
     pub fn number<T: NativePType>(&self) -> Result<T, VortexError>
         ensures { Takes (given_number T.PTYPE T.value)
@@ -126,10 +119,11 @@ impl ScalarRef<'_> {
         }
     }
 
-    /// The number of an integer of exactly this kind, and none of a null. Of this port alone.
+    /// The number, if the scalar's type is exactly this integer type; `None` of a null. Of this
+    /// port alone.
     ///
-    /// `WrongKind` where the type is no integer, then `WrongPType` where it is of another kind, of a
-    /// null too; then `WrongKind` where the raw value is no integer, and `OutOfRange` where the integer
+    /// `WrongKind` if the type is no integer type, then `WrongPType` if it is another one, of a
+    /// null too. Then `WrongKind` if the raw value is no integer, and `OutOfRange` if the integer
     /// type does not have the number.
     pub fn optional_number<T: NativePType>(&self) -> Result<Option<T>, VortexError>
         ensures { Takes (given_option (given_number T.PTYPE T.value))
@@ -143,7 +137,7 @@ impl ScalarRef<'_> {
     }
 }
 
-/// Of exactly this kind. Of this port alone.
+/// The number as `optional_number` gives it, with the same refusals. Of this port alone.
 impl<T: Integer> TryFrom<ScalarRef<'_>> for Option<T> {
     type Error = VortexError;
 
@@ -155,7 +149,7 @@ impl<T: Integer> TryFrom<ScalarRef<'_>> for Option<T> {
     }
 }
 
-/// As of a borrowed scalar.
+/// The number as `ScalarRef::optional_number` gives it, with the same refusals.
 impl<T: Integer> TryFrom<&Scalar> for Option<T> {
     type Error = VortexError;
 
@@ -167,7 +161,7 @@ impl<T: Integer> TryFrom<&Scalar> for Option<T> {
     }
 }
 
-/// The number, as a `u64`.
+/// The number as a `u64`.
 impl From<usize> for ScalarValue {
     ghost from_gives = { λ n v. value_tree v ≡ given_usize n };
 
@@ -176,7 +170,7 @@ impl From<usize> for ScalarValue {
     }
 }
 
-/// Of the type of `u64` that takes no null.
+/// The number as a `u64`, of the type that takes no null.
 impl From<usize> for Scalar {
     ghost from_gives = { λ n y. IsMadeValid (integer_type U64 NonNullable) (given_usize n) y };
 
@@ -185,7 +179,7 @@ impl From<usize> for Scalar {
     }
 }
 
-/// Of the nullable type of `u64`; none is the null.
+/// The number as a `u64`, of the nullable type; `None` is the null.
 impl From<Option<usize>> for Scalar {
     ghost from_gives = { λ o y. IsMadeValid
         (integer_type U64 Nullable) (given_option given_usize o) y };
@@ -198,8 +192,9 @@ impl From<Option<usize>> for Scalar {
     }
 }
 
-/// `WrongKind` where the value is no integer, then `OutOfRange` where 64 bits do not hold it. Ports
-/// `impl TryFrom<&ScalarValue> for usize`, which panics at another kind of value.
+/// The number. `WrongKind` if the value is no integer, then `OutOfRange` if it is not between 0 and
+/// `u64::MAX`. Ports `impl TryFrom<&ScalarValue> for usize`, which panics if the value is no
+/// integer.
 impl TryFrom<&ScalarValue> for usize {
     type Error = VortexError;
 
@@ -210,9 +205,9 @@ impl TryFrom<&ScalarValue> for usize {
     }
 }
 
-/// `WrongKind` where the type is no integer, also of an extension over one, then `IsNull` of a null,
-/// then `WrongKind` of another kind of raw value, and `OutOfRange` where 64 bits do not hold the
-/// number.
+/// The number. `WrongKind` if the type is no integer type, as an extension over one; then `IsNull`
+/// of a null; then `WrongKind` if the raw value is no integer, and `OutOfRange` if it is not
+/// between 0 and `u64::MAX`.
 impl TryFrom<ScalarRef<'_>> for usize {
     type Error = VortexError;
 
@@ -226,7 +221,9 @@ impl TryFrom<ScalarRef<'_>> for usize {
     }
 }
 
-/// As of a borrowed scalar.
+/// The number. `WrongKind` if the type is no integer type, as an extension over one; then `IsNull`
+/// of a null; then `WrongKind` if the raw value is no integer, and `OutOfRange` if it is not
+/// between 0 and `u64::MAX`.
 impl TryFrom<&Scalar> for usize {
     type Error = VortexError;
 
@@ -238,8 +235,8 @@ impl TryFrom<&Scalar> for usize {
     }
 }
 
-/// `WrongKind` where the type is no integer; a null is none; then `WrongKind` of another kind of raw
-/// value, and `OutOfRange` where 64 bits do not hold the number.
+/// The number, or `None` of a null. `WrongKind` if the type is no integer type or the raw value is
+/// neither null nor an integer, and `OutOfRange` if it is not between 0 and `u64::MAX`.
 impl TryFrom<ScalarRef<'_>> for Option<usize> {
     type Error = VortexError;
 
@@ -255,7 +252,8 @@ impl TryFrom<ScalarRef<'_>> for Option<usize> {
     }
 }
 
-/// As of a borrowed scalar.
+/// The number, or `None` of a null. `WrongKind` if the type is no integer type or the raw value is
+/// neither null nor an integer, and `OutOfRange` if it is not between 0 and `u64::MAX`.
 impl TryFrom<&Scalar> for Option<usize> {
     type Error = VortexError;
 

@@ -1,11 +1,7 @@
-//! The texts of truth values, texts and strings of bytes.
+//! How truth values, strings and bytes are printed, and what stands between parts.
 
 ghost use Rattle.std.specs.Prelude.{◌≡◌, ◌++◌, codes, drop, length, map, take};
-ghost use Rattle.std.specs.Fmt.{WritesOnOk};
-ghost use Rattle.std.specs.List.{flat_map};
-ghost use Rattle.std.specs.Str.{chars, encode_utf8_all};
-ghost use Rattle.vortex_value.specs.Steps.Labels.{before_at};
-ghost use Rattle.vortex_value.specs.Texts.{escaped, escaped_char, hexadecimal, in_quotes, joined, null_text, shortened, truth_text, two_digits};
+ghost use Rattle.vortex_value.specs.Words.{WritesOnOk, before_at, chars, encode_utf8_all, escaped, escaped_char, flat_map, hexadecimal, in_quotes, joined, null_text, shortened, truth_text, two_digits};
 
 use std::fmt::{self, Formatter, Write};
 use vortex_dtype::FieldName;
@@ -14,21 +10,21 @@ use vortex_dtype::FieldName;
 /// whole.
 const SHOWN: usize = 5;
 
-/// The text of a null.
+/// Writes `null`.
 pub(super) fn write_null<W: Write>(f: &mut Formatter<W>) -> fmt::Result
     ensures { WritesOnOk W.write_str_gives f.old result null_text f.new }
 {
     f.write_str("null")
 }
 
-/// The name of a field or of a variant, as it is.
+/// Writes the name of a field or of a variant, as it is.
 pub(super) fn write_name<W: Write>(name: &FieldName, f: &mut Formatter<W>) -> fmt::Result
     ensures { WritesOnOk W.write_str_gives f.old result name.now f.new }
 {
     f.write_str(name.as_str())
 }
 
-/// The name of a field, and the colon after it, with what stands before it.
+/// Writes what stands before a field, its name, and the colon after it.
 pub(super) fn write_label<W: Write>(
     index: usize,
     name: &FieldName,
@@ -42,7 +38,7 @@ pub(super) fn write_label<W: Write>(
     f.write_str(": ")
 }
 
-/// The name of a variant, and the parenthesis after it.
+/// Writes the name of a variant, and the parenthesis after it.
 pub(super) fn write_opening<W: Write>(name: &FieldName, f: &mut Formatter<W>) -> fmt::Result
     ensures { WritesOnOk W.write_str_gives f.old result (name.now ++ codes "(") f.new }
 {
@@ -56,14 +52,14 @@ pub(super) fn truth(truth: bool) -> &'static str
     if truth { "true" } else { "false" }
 }
 
-/// What stands before the part at this place: the separator, but nothing before the first.
+/// What stands before the part at this place: the separator, or nothing before the first.
 fn before(index: usize, separator: &'static str) -> &'static str
     ensures { result.now ≡ before_at index separator.now }
 {
     if index == 0 { "" } else { separator }
 }
 
-/// The separator before the part at this place, but nothing before the first.
+/// Writes the separator before the part at this place, but nothing before the first.
 pub(super) fn write_separator<W: Write>(
     index: usize,
     separator: &'static str,
@@ -75,14 +71,14 @@ pub(super) fn write_separator<W: Write>(
     f.write_str(before(index, separator))
 }
 
-/// How many characters the text has.
+/// How many characters the string has.
 fn count_characters(text: &str) -> usize
     ensures { result ≡ length (chars text.now) }
 {
     text.chars().count()
 }
 
-/// The characters from this place on, as many as are shown at an end.
+/// Writes the characters from this place on, as many as are shown at an end.
 fn write_shown<W: Write>(text: &str, from: usize, f: &mut Formatter<W>) -> fmt::Result
     ensures { WritesOnOk W.write_str_gives f.old result
         (encode_utf8_all (take 5 (drop from (chars text.now)))) f.new }
@@ -93,7 +89,7 @@ fn write_shown<W: Write>(text: &str, from: usize, f: &mut Formatter<W>) -> fmt::
     Ok(())
 }
 
-/// The characters, of many only those at both ends.
+/// Writes the characters, of many only those at both ends.
 fn write_shortened<W: Write>(text: &str, f: &mut Formatter<W>) -> fmt::Result
     ensures { WritesOnOk W.write_str_gives f.old result
         (shortened encode_utf8_all (chars text.now)) f.new }
@@ -107,7 +103,7 @@ fn write_shortened<W: Write>(text: &str, f: &mut Formatter<W>) -> fmt::Result
     write_shown(text, count - SHOWN, f)
 }
 
-/// The characters in quotes, of many only those at both ends, none escaped.
+/// Writes the characters in quotes, of many only those at both ends, without escapes.
 pub(super) fn write_quoted<W: Write>(text: &str, f: &mut Formatter<W>) -> fmt::Result
     ensures { WritesOnOk W.write_str_gives f.old result
         (in_quotes (shortened encode_utf8_all (chars text.now))) f.new }
@@ -117,7 +113,7 @@ pub(super) fn write_quoted<W: Write>(text: &str, f: &mut Formatter<W>) -> fmt::R
     f.write_str("\"")
 }
 
-/// What stands in quotes for a character, by the escape table.
+/// Writes what stands in quotes for a character, by the escape table.
 #[tactic(auto, unfolding(crate::specs::Texts::escaped_char))]
 fn write_escaped_character<W: Write>(character: char, f: &mut Formatter<W>) -> fmt::Result
     ensures { WritesOnOk W.write_str_gives f.old result (escaped_char character) f.new }
@@ -133,7 +129,7 @@ fn write_escaped_character<W: Write>(character: char, f: &mut Formatter<W>) -> f
     }
 }
 
-/// The characters, each by the escape table.
+/// Writes the characters, each by the escape table.
 fn write_characters<W: Write>(text: &str, f: &mut Formatter<W>) -> fmt::Result
     ensures { WritesOnOk W.write_str_gives f.old result
         (flat_map escaped_char (chars text.now)) f.new }
@@ -144,7 +140,7 @@ fn write_characters<W: Write>(text: &str, f: &mut Formatter<W>) -> fmt::Result
     Ok(())
 }
 
-/// The characters in quotes, each by the escape table.
+/// Writes the characters in quotes, each by the escape table.
 pub(super) fn write_escaped<W: Write>(text: &str, f: &mut Formatter<W>) -> fmt::Result
     ensures { WritesOnOk W.write_str_gives f.old result (escaped text.now) f.new }
 {
@@ -153,7 +149,7 @@ pub(super) fn write_escaped<W: Write>(text: &str, f: &mut Formatter<W>) -> fmt::
     f.write_str("\"")
 }
 
-/// A byte as two digits.
+/// Writes a byte as two digits.
 #[tactic(auto, using(crate::proofs::TextSteps::digits_of_byte))]
 fn write_two_digits<W: Write>(byte: u8, f: &mut Formatter<W>) -> fmt::Result
     ensures { WritesOnOk W.write_str_gives f.old result (two_digits byte) f.new }
@@ -161,7 +157,7 @@ fn write_two_digits<W: Write>(byte: u8, f: &mut Formatter<W>) -> fmt::Result
     write!(f, "{byte:02x}")
 }
 
-/// Each byte as two digits.
+/// Writes each byte as two digits.
 fn write_digits<W: Write>(bytes: &[u8], f: &mut Formatter<W>) -> fmt::Result
     ensures { WritesOnOk W.write_str_gives f.old result (flat_map two_digits bytes.now) f.new }
 {
@@ -171,7 +167,7 @@ fn write_digits<W: Write>(bytes: &[u8], f: &mut Formatter<W>) -> fmt::Result
     Ok(())
 }
 
-/// The bytes as two digits each, of many only those at both ends.
+/// Writes the bytes as two digits each, of many only those at both ends.
 pub(super) fn write_shortened_bytes<W: Write>(bytes: &[u8], f: &mut Formatter<W>) -> fmt::Result
     ensures { WritesOnOk W.write_str_gives f.old result
         (shortened (flat_map two_digits) bytes.now) f.new }
@@ -184,14 +180,14 @@ pub(super) fn write_shortened_bytes<W: Write>(bytes: &[u8], f: &mut Formatter<W>
     write_digits(&bytes[bytes.len() - SHOWN..], f)
 }
 
-/// A byte in as many digits as it needs.
+/// Writes a byte in as many digits as it needs.
 fn write_hexadecimal<W: Write>(byte: u8, f: &mut Formatter<W>) -> fmt::Result
     ensures { WritesOnOk W.write_str_gives f.old result (hexadecimal byte) f.new }
 {
     write!(f, "{byte:x}")
 }
 
-/// The bytes in hexadecimal, a space between each two.
+/// Writes the bytes in hexadecimal, a space between each two.
 fn write_spaced<W: Write>(bytes: &[u8], f: &mut Formatter<W>) -> fmt::Result
     ensures { WritesOnOk W.write_str_gives f.old result
         (joined (codes " ") (map hexadecimal bytes.now)) f.new }
@@ -203,7 +199,7 @@ fn write_spaced<W: Write>(bytes: &[u8], f: &mut Formatter<W>) -> fmt::Result
     Ok(())
 }
 
-/// The bytes in quotes, in hexadecimal, a space between each two.
+/// Writes the bytes in quotes, in hexadecimal, a space between each two.
 pub(super) fn write_bytes<W: Write>(bytes: &[u8], f: &mut Formatter<W>) -> fmt::Result
     ensures { WritesOnOk W.write_str_gives f.old result
         (in_quotes (joined (codes " ") (map hexadecimal bytes.now))) f.new }
