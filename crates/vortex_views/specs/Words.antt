@@ -9,14 +9,13 @@ pub use Rattle.vortex_dtype.specs.Refusals.{RefusesExactly, RefusesOrNoMemory}
 pub use Rattle.vortex_dtype.specs.TypeOf.{ext_of, fields_of, map_of, type_of, union_type_of, variants_of}
 pub use Rattle.vortex_dtype.specs.TypeTree.{IsFlat, TypeTree, nullability_of, storage}
 pub use Rattle.vortex_dtype.specs.declared.error.VortexError.TheVariants.{OutOfMemory}
-pub use Rattle.vortex_value.specs.CastAnswers.{HidesNoLeaf}
-pub use Rattle.vortex_value.specs.Casts.{CanCast, RefusesCast}
+pub use Rattle.vortex_value.specs.CastAnswers.{AnswersCast}
 pub use Rattle.vortex_value.specs.Reinterpretations.{ptype_in}
 pub use Rattle.vortex_value.specs.Validity.{Valid}
 pub use Rattle.vortex_value.specs.Values.RawOf.{lent_raw, raw_of, union_tree, value_tree}
 pub use Rattle.vortex_value.specs.Values.RawTree.{RawTree, absent, is_absent}
 pub use Rattle.vortex_value.specs.Values.Refs.{IsRefOf, IsValidRef, ref_content, ref_order, ref_raw, ref_type}
-pub use Rattle.vortex_value.specs.Values.Scalars.{IsMadeOf, IsTheOne, IsValid, scalar_raw, scalar_type}
+pub use Rattle.vortex_value.specs.Values.Scalars.{IsMadeOf, IsValid, scalar_raw, scalar_type}
 pub use Rattle.vortex_value.specs.Zero.{is_zero_of}
 pub use Rattle.vortex_leaves.specs.Leaves.{GivesView, RefusesView, is_bool_type}
 pub use Rattle.vortex_leaves.specs.RefViews.{ref_equal, ref_feed, ref_text}

@@ -1,7 +1,7 @@
 //! Views of structs.
 
 ghost use Rattle.std.specs.Prelude.{◌≡◌, Ok, Some, true, is_none, is_some, map, option_map, slice_get, All, IfErr, IfOk, IfSome, IsErrAnd, IsTrue, MatchOption, MatchResult};
-ghost use Rattle.vortex_views.specs.Words.{CanCast, CopiesPartOf, GivesView, HidesNoLeaf, IsProjectedType, IsProjectedValue, IsRefOf, IsTheOne, IsValid, IsValidPart, IsValidRef, OutOfMemory, RefusesCast, RefusesExactly, RefusesOrNoMemory, counts_cause, field_named, fields_in, fields_of, fields_within, is_absent, is_null_or_tuple, lent_raw, names_in, parts_of, raw_of, ref_content, ref_order, ref_part, ref_type, scalar_raw, scalar_type, selection_cause, struct_cast_cause, type_of, value_named, zip};
+ghost use Rattle.vortex_views.specs.Words.{AnswersCast, CopiesPartOf, GivesView, IsProjectedType, IsProjectedValue, IsRefOf, IsValid, IsValidPart, IsValidRef, OutOfMemory, RefusesExactly, RefusesOrNoMemory, counts_cause, field_named, fields_in, fields_of, fields_within, is_absent, is_null_or_tuple, lent_raw, names_in, parts_of, raw_of, ref_order, ref_part, ref_type, scalar_raw, scalar_type, selection_cause, struct_cast_cause, type_of, value_named, zip};
 
 use crate::iterators::Fields;
 use crate::parts::{copy_part_if_any, is_null_or_tuple, item_or_null, items_of, part_at};
@@ -115,18 +115,11 @@ impl<'a> StructScalar<'a> {
     /// content. `OutOfMemory` never comes in its place for a null.
     pub fn cast(&self, alloc: Global, dtype: &DType) -> Result<Scalar, VortexError>
         requires { IsValidRef (struct_ref self.now) }
-        ensures refused { MatchOption (struct_cast_cause
+        ensures { MatchOption (struct_cast_cause
             (fields_in (struct_view_type self.now)) (fields_in (type_of dtype.now)))
-            (IfErr result (RefusesCast (type_of dtype.now) (CanCast (struct_view_type self.now)
-            (type_of dtype.now) (ref_content (struct_ref self.now)))))
+            (AnswersCast (struct_view_type self.now) (type_of dtype.now)
+            (struct_view_raw self.now) result)
             (λ cause. IsErrAnd result (λ e. e ≡ cause)) }
-        ensures succeeds_only { IfOk result (λ _. CanCast (struct_view_type self.now)
-            (type_of dtype.now) (ref_content (struct_ref self.now))) }
-        ensures one { IfOk result
-            (IsTheOne (type_of dtype.now) (ref_content (struct_ref self.now))) }
-        ensures leaf_refused { IfErr result (HidesNoLeaf (struct_view_type self.now)
-            (ref_content (struct_ref self.now)) (CanCast (struct_view_type self.now)
-            (type_of dtype.now) (ref_content (struct_ref self.now)))) }
     {
         let Some(target) = dtype.as_struct_fields_opt() else {
             return Err(VortexError::WrongKind);
