@@ -1,8 +1,7 @@
 //! Why the program stops.
 
 ghost use Rattle.std.specs.Prelude.{◌≡◌};
-ghost use Rattle.zone_map.specs.declared.faults.Fault.TheVariants.{NotUtf8, Stream};
-ghost use Rattle.zone_map.specs.Faults.{fault_of};
+ghost use Rattle.zone_map.specs.Words.{Memory, NotUtf8, Stream, fault_of};
 
 use line_zones::ZonesError;
 use rows::{RowsError, fault_line};
@@ -14,11 +13,11 @@ use std::fmt::{self, Display, Formatter, Write};
 pub enum Fault {
     /// A read or a write failed, or no memory was left.
     Stream(RowsError),
-    /// The line with this number, counted from 1, is the first that is no UTF-8.
+    /// The line with this number, counted from 1, is the first that is not UTF-8.
     NotUtf8 { number: usize },
 }
 
-/// Of a stream.
+/// A stream failed, or no memory was left.
 impl From<RowsError> for Fault {
     ghost from_gives = { λ error fault. fault ≡ Stream error };
 
@@ -29,8 +28,6 @@ impl From<RowsError> for Fault {
 
 /// Out of memory.
 impl From<AllocError> for Fault {
-    ghost use Rattle.rows.specs.declared.faults.RowsError.TheVariants.{Memory};
-
     ghost from_gives = { λ _ fault. fault ≡ Stream Memory };
 
     fn from(_error: AllocError) -> Fault {
@@ -38,7 +35,7 @@ impl From<AllocError> for Fault {
     }
 }
 
-/// Out of memory, or of a line.
+/// A line is not UTF-8, or no memory was left.
 impl From<ZonesError> for Fault {
     ghost from_gives = { λ error fault. fault ≡ fault_of error };
 

@@ -1,4 +1,6 @@
-//! Looks for a word among the lines of standard input, and searches only zones that may contain it.
+// SPDX-License-Identifier: Apache-2.0
+// SPDX-FileCopyrightText: Copyright the Vortex contributors; ported to Rattle and changed
+//! Finds the lines of standard input that equal a word, and searches only zones that may contain it.
 #![tactic(auto)]
 
 ghost use Rattle.std.specs.Prelude.{◌<◌};
@@ -15,13 +17,13 @@ pub use program::{Tally, Zoning, find_word, show_zones};
 use std::process::ExitCode;
 use std::{env, io};
 
-/// The status where no line was found.
+/// The status if no line was found.
 const NONE_FOUND: u8 = 1;
 
-/// The status after a fault, whose words stand on standard error.
+/// The status after a fault, which is told on standard error.
 const FAILED: u8 = 2;
 
-/// Runs over standard input and standard output, as the words of the command line say.
+/// Runs over standard input and standard output, as the command line asks.
 fn main(rt: HostRuntime) -> ExitCode {
     let words = match words_given(&rt) {
         Ok(words) => words,
@@ -43,12 +45,12 @@ fn main(rt: HostRuntime) -> ExitCode {
     }
 }
 
-/// The words of the command line, of which the first is the program's name.
+/// The words of the command line. The first is the name of the program.
 fn words_given(rt: &HostRuntime) -> io::Result<Vec<String>> {
     Ok(env::args(rt)?.collect(rt.alloc())?)
 }
 
-/// Does what is asked; on standard error stands how many zones were searched, or why not.
+/// Does what is asked. A fault is told on standard error.
 fn answer(rt: &HostRuntime, options: &Options<'_>) -> ExitCode
     requires { 0 < options.now.zoning.size }
 {
@@ -65,7 +67,7 @@ fn answer(rt: &HostRuntime, options: &Options<'_>) -> ExitCode
     }
 }
 
-/// Writes the lines that equal the word, and tells how many zones were searched.
+/// Writes the lines that equal the word. On standard error it tells how many zones were searched.
 fn find_lines(rt: &HostRuntime, zoning: Zoning, word: &str) -> Result<ExitCode, Fault>
     requires { 0 < zoning.size }
 {

@@ -20,13 +20,13 @@ pub struct Options<'a> {
 /// What is to be done with the zones.
 #[derive(Clone, Copy, Debug)]
 pub enum Asked<'a> {
-    /// To find the lines that equal the word.
+    /// Find the lines that equal the word.
     Find(&'a str),
-    /// To show them.
+    /// Show the zones.
     Show,
 }
 
-/// What the words ask for, or why they ask for nothing. The first is the program's name.
+/// What the words ask for, or what is wrong with them. The first word is the name of the program.
 pub fn options_in<'a>(alloc: Global, words: &'a [String]) -> Result<Options<'a>, Error>
     ensures { IfOk result (λ options. 0 < options.zoning.size) }
 {
@@ -47,7 +47,7 @@ pub fn options_in<'a>(alloc: Global, words: &'a [String]) -> Result<Options<'a>,
     }
 }
 
-/// Whether lines are taken for texts or for strings of bytes.
+/// Whether lines are strings or bytes.
 fn kind_in(matches: &ArgMatches<'_>) -> LineKind {
     if matches.get_flag("binary") {
         LineKind::Binary
@@ -56,7 +56,7 @@ fn kind_in(matches: &ArgMatches<'_>) -> LineKind {
     }
 }
 
-/// Without a word the zones are shown.
+/// To find the word, or to show the zones if there is no word.
 fn asked_in<'a>(matches: &ArgMatches<'a>) -> Asked<'a> {
     match matches.get_str("find") {
         Some(word) => Asked::Find(word),
@@ -71,30 +71,34 @@ fn command<'a>(alloc: Global) -> Result<Command<'a>, AllocError> {
         .value_name("N")
         .value_parser(value_parser!(usize).range(1..))
         .required(true)
-        .help("How many lines a zone has");
+        .help("The number of lines in each zone; the last zone may have fewer");
     let bytes = Arg::new(alloc, "bytes")
         .long("bytes")
         .value_name("N")
         .value_parser(value_parser!(usize))
         .required(true)
-        .help("How many bytes a bound has");
+        .help("The length in bytes to which the bounds of a zone are cut");
     let find = Arg::new(alloc, "find")
         .long("find")
         .value_name("WORD")
         .allow_hyphen_values(true)
         .required_unless_present("show")?
-        .help("Writes the lines that equal the word, as NUMBER:LINE");
+        .help("Write each line that equals WORD, as NUMBER:LINE; the status is 1 if there is none");
     let show = Arg::new(alloc, "show")
         .long("show")
         .action(ArgAction::SetTrue)
         .conflicts_with("find")?
-        .help("Writes the zones: number, first line, lower and upper bound");
+        .help(
+            "Write each zone: its number, the number of its first line, its lower and upper bound",
+        );
     let binary = Arg::new(alloc, "binary")
         .long("binary")
         .action(ArgAction::SetTrue)
-        .help("Takes lines that are not UTF-8 too");
+        .help("Take lines as bytes; without it a line that is not UTF-8 is an error");
     Command::new(alloc, "zone_map")
-        .about("Finds the lines of standard input that equal a word, by zones that may contain it")
+        .about(
+            "Finds the lines of standard input that equal a word, and searches only zones that may contain it",
+        )
         .arg(lines)?
         .arg(bytes)?
         .arg(find)?

@@ -1,13 +1,13 @@
-//! How lines that were found, and zones, are written.
+//! The rows of found lines and of zones.
 
 ghost use Rattle.std.specs.Prelude.{◌≡◌, ◌++◌, IfOk, OnOk, string_bytes};
-ghost use Rattle.zone_map.specs.Rows.{found_rows, found_row, zone_row, zone_rows};
+ghost use Rattle.zone_map.specs.Words.{found_row, found_rows, zone_row, zone_rows};
 
 use line_zones::Zone;
 use std::alloc::{AllocError, Global};
 use std::fmt::Write;
 
-/// The rows of the lines with these numbers that equal the word.
+/// One row for each of these line numbers, NUMBER:WORD.
 pub fn rows_of_found(alloc: Global, numbers: &[usize], word: &str) -> Result<String, AllocError>
     ensures { IfOk result (λ text. string_bytes text ≡ found_rows word.now numbers.now) }
 {
@@ -18,7 +18,7 @@ pub fn rows_of_found(alloc: Global, numbers: &[usize], word: &str) -> Result<Str
     Ok(text)
 }
 
-/// Writes the row of a line with this number that equals the word.
+/// Appends the row NUMBER:WORD.
 fn push_found(text: &mut String, number: usize, word: &str) -> Result<(), AllocError>
     ensures { OnOk result (string_bytes text.new ≡
         string_bytes text.old ++ found_row word.now number) }
@@ -26,7 +26,7 @@ fn push_found(text: &mut String, number: usize, word: &str) -> Result<(), AllocE
     writeln!(text, "{number}:{word}")
 }
 
-/// The rows of the zones.
+/// One row for each zone: its number, the number of its first line, its lower and upper bound.
 pub fn rows_of_zones(alloc: Global, zones: &[Zone<'_>]) -> Result<String, AllocError>
     ensures { IfOk result (λ text. string_bytes text ≡ zone_rows 1 zones.now) }
 {
@@ -37,7 +37,7 @@ pub fn rows_of_zones(alloc: Global, zones: &[Zone<'_>]) -> Result<String, AllocE
     Ok(text)
 }
 
-/// Writes the row of the zone with this number.
+/// Appends the row of the zone with this number.
 fn push_zone(text: &mut String, number: usize, zone: &Zone<'_>) -> Result<(), AllocError>
     ensures { OnOk result (string_bytes text.new ≡
         string_bytes text.old ++ zone_row number zone.now) }

@@ -1,14 +1,7 @@
-//! The whole program but its words: from all lines to the rows of what is asked.
+//! The whole program but its command line: from the input to the rows that are written.
 
 ghost use Rattle.std.specs.Prelude.{◌≡◌, ◌≢◌, ◌<◌, List, ℕ, IfErr, IfOk, IfSome, OnOk, length, string_bytes};
-ghost use Rattle.std.specs.Io.KnownBytes.{Appends, IsAtEnd};
-ghost use Rattle.rows.specs.Lines.{lines_of};
-ghost use Rattle.rows.specs.declared.faults.RowsError.TheVariants.{Write};
-ghost use Rattle.line_zones.specs.Numbers.{numbers_from};
-ghost use Rattle.zone_map.specs.Faults.{IsOfLine};
-ghost use Rattle.zone_map.specs.Rows.{rows_of_lines};
-ghost use Rattle.zone_map.specs.ZoneBytes.{AreCounted, ShowsZones};
-ghost use Rattle.zone_map.specs.declared.faults.Fault.TheVariants.{Stream};
+ghost use Rattle.zone_map.specs.Words.{All, Appends, AreCounted, HasValue, IsAtEnd, IsOfLine, ShowsZones, Stream, Write, lines_of, numbers_from, rows_of_lines};
 
 use crate::faults::Fault;
 use crate::print::{rows_of_found, rows_of_zones};
@@ -21,15 +14,15 @@ use std::io::{Read, Write};
 /// How lines are split into zones.
 #[derive(Clone, Copy, Debug)]
 pub struct Zoning {
-    /// What lines are taken for.
+    /// Whether lines are strings or bytes.
     pub kind: LineKind,
     /// How many lines a zone has.
     pub size: usize,
-    /// How many bytes a bound has.
+    /// The length in bytes to which bounds are cut.
     pub length: usize,
 }
 
-/// How a search went.
+/// What a search did.
 #[derive(Debug, Drop)]
 pub struct Tally {
     /// How many lines equal the word.
@@ -40,7 +33,10 @@ pub struct Tally {
     pub searched: usize,
 }
 
-/// Reads all there is, and writes the rows of the lines that equal the word.
+/// Reads the whole input, and writes the rows of the lines that equal the word.
+///
+/// `NotUtf8` only if the lines are strings and one of them is not UTF-8: the number is that of the
+/// first. `Stream` if a read or a write failed, or no memory was left.
 pub fn find_word<R: Read, W: Write>(
     alloc: Global,
     zoning: Zoning,
@@ -49,18 +45,21 @@ pub fn find_word<R: Read, W: Write>(
     writer: &mut W,
 ) -> Result<Tally, Fault>
     requires { 0 < zoning.size }
-    // What was written is the rows of the lines of all that there was.
+    // The output is the rows of the lines of the whole input.
     ensures rows { OnOk result (IfSome (R.remaining reader.old) (λ input.
         Appends (W.contents writer.old) (W.contents writer.new) (rows_of_lines word.now (lines_of input)))) }
     ensures end { OnOk result (IsAtEnd (R.remaining reader.new)) }
     ensures found { IfOk result (λ tally. IfSome (R.remaining reader.old) (λ input.
         tally.found ≡ length (numbers_from 1 word.now (lines_of input)))) }
-    // As many zones as there are, and as many searched as may hold the word by their bounds.
+    // The tally counts all zones, and those whose bounds may hold the word.
     ensures counted { IfOk result (λ tally. IfSome (R.remaining reader.old)
         (λ input. AreCounted zoning.kind zoning.size zoning.length
         word.now (lines_of input) tally.zones tally.searched)) }
+    // A line without a value is refused by its number, and nothing is written then.
     ensures refused { IfErr result (λ fault. IfSome (R.remaining reader.old)
         (λ input. IsOfLine zoning.kind (lines_of input) fault)) }
+    ensures valued { IfOk result (λ _. IfSome (R.remaining reader.old)
+        (λ input. All (HasValue zoning.kind) (lines_of input))) }
     // After a fault other than one of the writer, nothing was written.
     ensures untouched { IfErr result (λ fault. fault ≢ Stream Write → writer.new ≡ writer.old) }
 {
@@ -70,7 +69,7 @@ pub fn find_word<R: Read, W: Write>(
     Ok(tally)
 }
 
-/// The rows of the lines that equal the word.
+/// The rows of the lines that equal the word, and the tally.
 fn found_in(
     alloc: Global,
     zoning: Zoning,
@@ -85,6 +84,7 @@ fn found_in(
     ensures counted { IfOk result (λ given. AreCounted zoning.kind zoning.size zoning.length
         word.now (lines_of input.now) given.1.zones given.1.searched) }
     ensures refused { IfErr result (IsOfLine zoning.kind (lines_of input.now)) }
+    ensures valued { IfOk result (λ _. All (HasValue zoning.kind) (lines_of input.now)) }
 {
     let lines = split_lines(alloc, input)?;
     let zones = zones_of(alloc, zoning.kind, &lines, zoning.size, zoning.length)?;
@@ -98,7 +98,10 @@ fn found_in(
     Ok((rows, tally))
 }
 
-/// Reads all there is, and writes the rows of the zones.
+/// Reads the whole input, and writes the rows of the zones.
+///
+/// `NotUtf8` only if the lines are strings and one of them is not UTF-8: the number is that of the
+/// first. `Stream` if a read or a write failed, or no memory was left.
 pub fn show_zones<R: Read, W: Write>(
     alloc: Global,
     zoning: Zoning,
@@ -106,13 +109,16 @@ pub fn show_zones<R: Read, W: Write>(
     writer: &mut W,
 ) -> Result<(), Fault>
     requires { 0 < zoning.size }
-    // What was written is the rows of the zones of all that there was.
+    // The output is the rows of the zones of the whole input.
     ensures rows { OnOk result (IfSome (R.remaining reader.old) (λ input. (text : List ℕ)
         × ShowsZones zoning.kind zoning.size zoning.length (lines_of input) text
         × Appends (W.contents writer.old) (W.contents writer.new) text)) }
     ensures end { OnOk result (IsAtEnd (R.remaining reader.new)) }
+    // A line without a value is refused by its number, and nothing is written then.
     ensures refused { IfErr result (λ fault. IfSome (R.remaining reader.old)
         (λ input. IsOfLine zoning.kind (lines_of input) fault)) }
+    ensures valued { IfOk result (λ _. IfSome (R.remaining reader.old)
+        (λ input. All (HasValue zoning.kind) (lines_of input))) }
     // After a fault other than one of the writer, nothing was written.
     ensures untouched { IfErr result (λ fault. fault ≢ Stream Write → writer.new ≡ writer.old) }
 {
@@ -128,6 +134,7 @@ fn shown_in(alloc: Global, zoning: Zoning, input: &[u8]) -> Result<String, Fault
     ensures rows { IfOk result (λ text. ShowsZones zoning.kind zoning.size zoning.length
         (lines_of input.now) (string_bytes text)) }
     ensures refused { IfErr result (IsOfLine zoning.kind (lines_of input.now)) }
+    ensures valued { IfOk result (λ _. All (HasValue zoning.kind) (lines_of input.now)) }
 {
     let lines = split_lines(alloc, input)?;
     let zones = zones_of(alloc, zoning.kind, &lines, zoning.size, zoning.length)?;
