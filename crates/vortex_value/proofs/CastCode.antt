@@ -11,7 +11,7 @@ use Rattle.vortex_dtype.specs.declared.types.DType.{DType}
 use Rattle.vortex_value.specs.Breaches.{breaches}
 use Rattle.vortex_value.specs.CastAnswers.{IsLeaf, IsTakenWhole}
 use Rattle.vortex_value.specs.Casts.{IsExtension}
-use Rattle.vortex_value.specs.Steps.CastSteps.{Appends, Makes, Refused, RefusesSome, accepts, bare_to, both, cast_to, entry_to, fields_to, pair_to, stays, types_with, whole_to}
+use Rattle.vortex_value.specs.Steps.CastSteps.{Appends, Makes, Refused, OutOfMemoryOnlyIfMakeable, accepts, bare_to, both, cast_to, entry_to, fields_to, pair_to, keeps_its_kind, types_with, whole_to}
 use Rattle.vortex_value.specs.Values.Content.{Content, content}
 use Rattle.vortex_value.specs.Values.RawKinds.{TakesNoMemory}
 use Rattle.vortex_value.specs.Values.RawTree.{RawTree, absent, raw_bool, raw_integer, raw_text, raw_bytes, raw_tuple, raw_union, raw_variant, RawTrees, no_raws, is_absent}
@@ -45,14 +45,14 @@ pub flat_accepts : (t : TypeTree) (v : RawTree) → IsFlat t → accepts t v ≡
 flat_accepts t v h p = flat_takes t v h ((accepts-Decides t v).0 p)
 
 -- what stays and is of a flat type takes no memory
-pub flat_stays : (v : RawTree) (s t : TypeTree) → IsFlat t → stays v s t ≡ true → TakesNoMemory v
-flat_stays (raw_bool b) s t h e = tt
-flat_stays (raw_integer k z) s t h e = tt
-flat_stays absent s t h e = tt
-flat_stays (raw_text bs) (utf8_type n) (utf8_type m) h e = absurd h
-flat_stays (raw_bytes bs) (binary_type n) (binary_type m) h e = absurd h
-flat_stays (raw_variant u v) (variant_type n) (variant_type m) h e = absurd h
-flat_stays _ s t h e = cc
+pub flat_keeps_its_kind : (v : RawTree) (s t : TypeTree) → IsFlat t → keeps_its_kind v s t ≡ true → TakesNoMemory v
+flat_keeps_its_kind (raw_bool b) s t h e = tt
+flat_keeps_its_kind (raw_integer k z) s t h e = tt
+flat_keeps_its_kind absent s t h e = tt
+flat_keeps_its_kind (raw_text bs) (utf8_type n) (utf8_type m) h e = absurd h
+flat_keeps_its_kind (raw_bytes bs) (binary_type n) (binary_type m) h e = absurd h
+flat_keeps_its_kind (raw_variant u v) (variant_type n) (variant_type m) h e = absurd h
+flat_keeps_its_kind _ s t h e = cc
 
 pub flat_storage : (t : TypeTree) → IsFlat t → IsFlat (storage t)
 flat_storage (extension_type id metadata t) h = absurd h
@@ -189,7 +189,7 @@ pub leaf_of : (s : TypeTree) (c : Content) → ¬ (IsExtension s) → IsTakenWho
 leaf_of s c plain (inl extension) = absurd (plain extension)
 leaf_of s c plain (inr leaf) = leaf
 
-pub ruleset shown = (type_of-List, type_of-FixedSizeList, type_of-Map, type_of-Struct, type_of-Extension, value_tree-Tuple, count-value_trees, flat_accepts, flat_stays, flat_storage, after-none, after-all, after-append)
+pub ruleset shown = (type_of-List, type_of-FixedSizeList, type_of-Map, type_of-Struct, type_of-Extension, value_tree-Tuple, count-value_trees, flat_accepts, flat_keeps_its_kind, flat_storage, after-none, after-all, after-append)
 
 -- the child of a leaf is one
 pub leaf_child : (u : UnionValue) → IsLeaf (content (union_tree u)) → IsLeaf (content (raw_of (option_map (λ c. c.value) u.child)))
@@ -203,7 +203,7 @@ some_mapped f None some = some
 pub some_union : (id : ℕ) (all child : Option RawTree) → all ≡ option_map (raw_union id) child → IsSome child → IsSome all
 some_union id all child same some = subst IsSome (sym same) (some_mapped (raw_union id) child some)
 
-pub spares_some : (all : Option RawTree) (w : RawTree) (r : Result UnionValue Refusal) → all ≡ Some w → RefusesSome all r
+pub spares_some : (all : Option RawTree) (w : RawTree) (r : Result UnionValue Refusal) → all ≡ Some w → OutOfMemoryOnlyIfMakeable all r
 spares_some all w (Ok x) is = tt
 spares_some all w (Err e) is = λ memory. subst IsSome (sym is) refl
 

@@ -14,7 +14,7 @@ use Rattle.vortex_dtype.specs.declared.nullability.Nullability.{Nullability}
 use Rattle.vortex_dtype.specs.declared.ptype.PType.{PType}
 use Rattle.vortex_pvalue.specs.Numbers.{in_range}
 use Rattle.vortex_pvalue.specs.RangeLaws.{in_range_exactly}
-use Rattle.vortex_value.specs.Steps.CastSteps.{pair, Refused, accepts, bare_to, both, cast_to, child_to, each_to, entries_to, error_of, fields_to, kept, leaf_to, leaves, map_to, number_to, pair_to, sorts, stays, takes_null, tuple_to, two_types, types_with, whole_to}
+use Rattle.vortex_value.specs.Steps.CastSteps.{pair, Refused, accepts, bare_to, both, cast_to, child_to, each_to, entries_to, error_of, fields_to, kept, leaf_to, may_unwrap, map_to, number_to, pair_to, sorts, keeps_its_kind, takes_null, tuple_to, two_types, types_with, whole_to}
 use Rattle.vortex_value.specs.Casts.{Allows, AllowsChild, AllowsFields, CanCast, EachEntry, EachPlace, ForId, IsCast, IsExtension, IsInteger, IsNull, RefusesCast, Row, Sorts, Wraps, same_type, a_null, into_extension, integers, lists, maps, structs, unions, from_extension}
 use Rattle.vortex_value.specs.Values.Content.{Content, null, sequence, tagged, Contents, no_contents, content_then, content, contents}
 use Rattle.vortex_value.specs.Lemmas.EqualityLaws.{same_type-Decides}
@@ -125,7 +125,7 @@ abbrev Leaves : TypeTree → TypeTree → TypeTree → Type 0
 Leaves s u (extension_type id metadata t) = Same s (extension_type id metadata t) ⊎ Leaves s u t
 Leaves s u t = Same u t
 
-leaves_Decides : (s u t : TypeTree) → Decides (leaves s u t) (Leaves s u t)
+leaves_Decides : (s u t : TypeTree) → Decides (may_unwrap s u t) (Leaves s u t)
 leaves_Decides s u (extension_type id metadata t) = Decides-or _ _ (same_type-Decides s (extension_type id metadata t)) (leaves_Decides s u t)
 leaves_Decides s u null_type = same_type-Decides u null_type
 leaves_Decides s u t = same_type-Decides u t
@@ -172,11 +172,11 @@ leaves_stored id metadata u null_type h = same_storage u null_type h
 leaves_stored id metadata u t h = same_storage u t h
 
 left_decided : (id metadata : List ℕ) (u t : TypeTree) (v : RawTree) → ¬ (IsNull (content v)) → Valid u v
-    → Decided (extension_type id metadata u) t v (kept (leaves (extension_type id metadata u) u t) t v)
+    → Decided (extension_type id metadata u) t v (kept (may_unwrap (extension_type id metadata u) u t) t v)
 left_decided id metadata u t v there valid =
     let s = extension_type id metadata u in
     let test = leaves_Decides s u t in
-    kept_decided (leaves s u t) s t v valid (λ found. leaves_allows id metadata u t (content v) there (test.0 found))
+    kept_decided (may_unwrap s u t) s t v valid (λ found. leaves_allows id metadata u t (content v) there (test.0 found))
     (λ a has. let h = allows_leaves id metadata u t (content v) there a in (test.1 h, leaves_stored id metadata u t h))
 
 -- into extensions
@@ -221,14 +221,14 @@ bare t plain = refl
 
 -- values without parts
 
-stays_same : (v : RawTree) (s t : TypeTree) → stays v s t ≡ true → Same s t
+stays_same : (v : RawTree) (s t : TypeTree) → keeps_its_kind v s t ≡ true → Same s t
 stays_same (raw_bool b) (bool_type n) (bool_type m) e = refl
 stays_same (raw_text bs) (utf8_type n) (utf8_type m) e = refl
 stays_same (raw_bytes bs) (binary_type n) (binary_type m) e = refl
 stays_same (raw_variant u v) (variant_type n) (variant_type m) e = refl
 stays_same _ s t e = cc
 
-stays_valid : (v : RawTree) (s t : TypeTree) → stays v s t ≡ true → ValidAt s v → Valid t v
+stays_valid : (v : RawTree) (s t : TypeTree) → keeps_its_kind v s t ≡ true → ValidAt s v → Valid t v
 stays_valid (raw_bool b) (bool_type n) (bool_type m) e p = p
 stays_valid (raw_text bs) (utf8_type n) (utf8_type m) e p = p
 stays_valid (raw_bytes bs) (binary_type n) (binary_type m) e p = p
@@ -236,7 +236,7 @@ stays_valid (raw_variant u v) (variant_type n) (variant_type m) e p = p
 stays_valid _ s t e p = cc
 
 -- values of the kinds without parts stay between types that are alike
-stays_alike : (v : RawTree) (s t : TypeTree) → IsPlain v → ValidAt s v → AlikeAt s t (content v) → stays v s t ≡ true
+stays_alike : (v : RawTree) (s t : TypeTree) → IsPlain v → ValidAt s v → AlikeAt s t (content v) → keeps_its_kind v s t ≡ true
 stays_alike (raw_bool b) (bool_type n) (bool_type m) plain p h = refl
 stays_alike (raw_bool b) (bool_type n) _ plain p h = absurd h.1
 stays_alike (raw_bool b) _ t plain p h = absurd h.0
@@ -254,7 +254,7 @@ stays_alike _ s t plain p h = absurd plain
 leaf_decided : (v : RawTree) (s t : TypeTree) → IsPlain v → ¬ (IsExtension s) → ¬ (IsExtension t) → ValidAt s v → Decided s t v (leaf_to v s t)
 leaf_decided v s t plain x y p =
     let valid : Valid s v = rw (bare s x) p in
-    decided_by (stays v s t) s t v v
+    decided_by (keeps_its_kind v s t) s t v v
     (λ found. (allows_same s t (content v) (stays_same v s t found), stays_valid v s t found p, refl))
     (λ missed q. let there = stays_alike v s t plain p (rw (bare s x, bare t y) at (step_alike t s v valid q.0)) in cc)
 

@@ -111,7 +111,7 @@ Shows-some kept NoPath fs h = h.1
 Shows-some kept (First steps breach) fs h = some-first fs _ h
 
 -- what a check of a part leaves where it passed, and where it did not
-pub passed : (path before : Option Global) (r : Bool) (trace : Trace) (fs : List Found) → before ≡ path → Checks before r trace fs → r ≡ true → (trace.path ≡ path) × (fs ≡ [])
+pub passed : (path before : Option Global) (r : Bool) (trace : Trace) (fs : List Found) → before ≡ path → Checks before r trace fs → r ≡ true → (trace.alloc ≡ path) × (fs ≡ [])
 passed path before true trace fs same h e = rw (← same) h
 passed path before false trace fs same h e = absurd (true≢false (sym e))
 

@@ -21,8 +21,8 @@ IsTakenWhole s c = IsExtension s ⊎ IsLeaf c
 
 -- e refuses a cast from s of the content c, which is possible if p holds: if c is taken whole, out of memory never comes
 -- in place of an impossible cast
-abbrev pub HidesNoLeaf : TypeTree → Content → Type 0 → VortexError → Type 0
-HidesNoLeaf s c p e = IsTakenWhole s c → e ≡ OutOfMemory → p
+abbrev pub OutOfMemoryOnlyIfPossible : TypeTree → Content → Type 0 → VortexError → Type 0
+OutOfMemoryOnlyIfPossible s c p e = IsTakenWhole s c → e ≡ OutOfMemory → p
 
 -- r answers a cast of the value v of type s to t: the contract of every call that casts. It succeeds only if the table
 -- allows the cast and t has the content, and gives the one scalar of t and the content. It is refused because the cast is
@@ -31,7 +31,7 @@ pub record AnswersCast (s t : TypeTree) (v : RawTree) (r : Result Scalar VortexE
   pub succeeds_only : IfOk r (λ _. CanCast s t (content v))
   pub one : IfOk r (IsTheOne t (content v))
   pub refuses_only : IfErr r (RefusesCast t (CanCast s t (content v)))
-  pub leaf_refused : IfErr r (HidesNoLeaf s (content v) (CanCast s t (content v)))
+  pub leaf_refused : IfErr r (OutOfMemoryOnlyIfPossible s (content v) (CanCast s t (content v)))
 
 -- r is the scalar of type t and value w, or out of memory, which flat types never answer
 abbrev pub GivesCast : TypeTree → RawTree → Result Scalar VortexError → Type 0

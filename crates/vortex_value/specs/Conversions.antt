@@ -165,6 +165,6 @@ IsShort (raw_bytes bs) = length bs ≤ 22
 IsShort _ = ⊥
 
 -- what is taken is answered whatever the memory, if it is short
-abbrev pub SparesShort : {T : Type 0} → Taken → Result T VortexError → Type 0
-SparesShort (Ok v) r = IsShort v → IsOk r
-SparesShort (Err e) r = ⊤
+abbrev pub ShortNeverOutOfMemory : {T : Type 0} → Taken → Result T VortexError → Type 0
+ShortNeverOutOfMemory (Ok v) r = IsShort v → IsOk r
+ShortNeverOutOfMemory (Err e) r = ⊤

@@ -24,7 +24,7 @@ pub use Rattle.vortex_pvalue.specs.Whole.{ptype_of, whole_of}
 pub use Rattle.vortex_value.specs.Breaches.{Found, Refuses, ValidExactlyWithoutBreach, ValidityIsDecided, breaches, breaches_at, breaches_of_entry, child_breaches, element_breaches, entry_breaches, field_breaches, here, is_valid, under}
 pub use Rattle.vortex_value.specs.CastAnswers.{AnswersCast}
 pub use Rattle.vortex_value.specs.Casts.{OneValue}
-pub use Rattle.vortex_value.specs.Conversions.{IsMadeValid, SparesShort, Takes, TakesCopy, bytes_in, given_number, given_option, given_usize, number_in, or_none, taken_bool, taken_bytes, taken_number, taken_option_bool, taken_option_bytes, taken_option_number, taken_option_text, taken_option_usize, taken_text, taken_usize, text_in}
+pub use Rattle.vortex_value.specs.Conversions.{IsMadeValid, ShortNeverOutOfMemory, Takes, TakesCopy, bytes_in, given_number, given_option, given_usize, number_in, or_none, taken_bool, taken_bytes, taken_number, taken_option_bool, taken_option_bytes, taken_option_number, taken_option_text, taken_option_usize, taken_text, taken_usize, text_in}
 pub use Rattle.vortex_value.specs.Equality.{EqualContents, EqualityAgreesWithoutTyped, EqualityIsAnEquivalence, EqualityIsDecided, EqualsByContent, EqualsByTypeAndContent, all_equal, equal, same_type}
 pub use Rattle.vortex_value.specs.Hashing.{EqualFeedSame, content_feed, counted_feed, typed_feed}
 pub use Rattle.vortex_value.specs.Items.{GivesOnly, IsRefusedAtLast, MadeOfItems, RefusesAtLast, RefusesItems}
@@ -32,7 +32,7 @@ pub use Rattle.vortex_value.specs.Makers.{IsValidEntry, child_cause, child_trees
 pub use Rattle.vortex_value.specs.Order.{AgreesWhere, IsReversed, IsTransitive, order, orders}
 pub use Rattle.vortex_value.specs.Reinterpretations.{IsAsWide, ScalarsReinterpretBack, in_ptype, ptype_in, reinterpreted}
 pub use Rattle.vortex_value.specs.Size.{SizeIsSum, capped, child_size, elements_size, entries_size, entry_size, fields_size, size_of}
-pub use Rattle.vortex_value.specs.Steps.CastSteps.{Appends, IsBareTarget, Makes, MakesParts, RefusesSome, SparesLeaf, SparesMemory, SparesWhole, accepts, bare_to, cast_to, each_to, entries_to, entry_to, fields_to, leaf_to, leaves, left_to, map_to, number_to, parts_to, sized, sorts, stays, takes_null, types_with}
+pub use Rattle.vortex_value.specs.Steps.CastSteps.{Appends, FlatNeverOutOfMemory, IsBareTarget, LeafOutOfMemoryOnlyIfMakeable, Makes, MakesParts, OutOfMemoryOnlyIfMakeable, WholeOutOfMemoryOnlyIfMakeable, accepts, bare_to, cast_to, each_to, entries_to, entry_to, fields_to, keeps_its_kind, leaf_to, map_to, may_unwrap, number_to, parts_to, sized, sorts, takes_null, types_with, unwrapped}
 pub use Rattle.vortex_value.specs.Steps.Copies.{Adds}
 pub use Rattle.vortex_value.specs.Steps.Faults.{Checks, HasPath, Shows, is_leaf}
 pub use Rattle.vortex_value.specs.Steps.Filling.{EachFills, FillFields, Fills, FillsFirst, child_filling, first_of}

@@ -5,16 +5,16 @@
 //! |---|---|---|
 //! | `same_type` | a type that is the same up to nullability | those below; values without parts `cast_leaf` |
 //! | `a_null` | a null, but from an unsorted to a sorted map | `cast_value`, `takes_null` |
-//! | `into_extension` | no null, to an extension whose storage takes it | `cast_present`, `leave_extension` |
+//! | `into_extension` | no null, to an extension whose storage takes it | `cast_present`, `unwrap_extension` |
 //! | `integers` | a number, to an integer type | `cast_number` |
 //! | `lists` | each element, between lists, of a fixed size or not | `cast_elements`, `cast_sized` |
 //! | `maps` | each key and value, but from an unsorted to a sorted map | `cast_map`, `cast_entries` |
 //! | `structs` | each field by its place, between equally many | `cast_fields` |
 //! | `unions` | the child, between the variants with its id, if both unions have the same ids in order | `cast_union` |
-//! | `from_extension` | a value, to the storage type up to nullability | `leave_extension` |
+//! | `from_extension` | a value, to the storage type up to nullability | `unwrap_extension` |
 //!
 //! Parts of lists, maps and structs are appended to their list by functions of their own: struct
-//! fields by `push_cast`, the others by `push_stored`, which is told once what the target stores.
+//! fields by `push_part`, the others by `push_to_storage`, which is told once what the target stores.
 #![tactic(auto, using(crate::proofs::CastCode::shown))]
 
 ghost use Rattle.vortex_value.specs.Words.{AnswersCast, IsMadeOf, IsValid, IsValidRef, as_nullable, ref_raw, ref_type, scalar_raw, scalar_type, type_of};

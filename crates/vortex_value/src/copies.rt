@@ -241,7 +241,7 @@ fn box_copy(alloc: Global, value: &ScalarValue) -> Result<Box<ScalarValue>, Allo
 
 /// The value in a box.
 #[inline(always)]
-fn boxed<T: Drop>(alloc: Global, value: T) -> Result<Box<T>, AllocError>
+fn new_box<T: Drop>(alloc: Global, value: T) -> Result<Box<T>, AllocError>
     ensures { IfOk result (λ made. made.value ≡ value) }
 {
     match Box::new(alloc, value) {
@@ -254,7 +254,7 @@ fn boxed<T: Drop>(alloc: Global, value: T) -> Result<Box<T>, AllocError>
 fn box_bool(alloc: Global, truth: bool) -> Result<Box<ScalarValue>, AllocError>
     ensures { IfOk result (λ made. value_tree made.value ≡ raw_bool truth) }
 {
-    boxed(alloc, ScalarValue::Bool(truth))
+    new_box(alloc, ScalarValue::Bool(truth))
 }
 
 #[inline(never)]
@@ -262,7 +262,7 @@ fn box_number(alloc: Global, number: &PValue) -> Result<Box<ScalarValue>, AllocE
     ensures { IfOk result (λ made. value_tree made.value ≡
         raw_integer (ptype_of number.now) (whole_of number.now)) }
 {
-    boxed(alloc, ScalarValue::Primitive(*number))
+    new_box(alloc, ScalarValue::Primitive(*number))
 }
 
 #[inline(never)]
@@ -270,7 +270,7 @@ fn box_text(alloc: Global, text: &BufferString) -> Result<Box<ScalarValue>, Allo
     ensures { IfOk result (λ made. value_tree made.value ≡ raw_text text.now) }
 {
     match text.clone() {
-        Ok(text) => boxed(alloc, ScalarValue::Utf8(text)),
+        Ok(text) => new_box(alloc, ScalarValue::Utf8(text)),
         Err(_) => Err(AllocError),
     }
 }
@@ -280,7 +280,7 @@ fn box_bytes(alloc: Global, bytes: &ByteBuffer) -> Result<Box<ScalarValue>, Allo
     ensures { IfOk result (λ made. value_tree made.value ≡ raw_bytes bytes.now) }
 {
     match bytes.clone() {
-        Ok(bytes) => boxed(alloc, ScalarValue::Binary(bytes)),
+        Ok(bytes) => new_box(alloc, ScalarValue::Binary(bytes)),
         Err(_) => Err(AllocError),
     }
 }
@@ -290,7 +290,7 @@ fn box_bytes(alloc: Global, bytes: &ByteBuffer) -> Result<Box<ScalarValue>, Allo
 fn box_tuple(alloc: Global, values: &[Option<ScalarValue>]) -> Result<Box<ScalarValue>, AllocError>
     ensures { IfOk result (λ made. value_tree made.value ≡ raw_tuple (value_trees values.now)) }
 {
-    boxed(alloc, ScalarValue::Tuple(copy_tuple(alloc, values)?))
+    new_box(alloc, ScalarValue::Tuple(copy_tuple(alloc, values)?))
 }
 
 #[cycle(copies)]
@@ -299,7 +299,7 @@ fn box_union(alloc: Global, union: &UnionValue) -> Result<Box<ScalarValue>, Allo
     ensures { IfOk result (λ made. value_tree made.value ≡ union_tree union.now) }
 {
     match copy_union(alloc, union) {
-        Ok(union) => boxed(alloc, ScalarValue::Union(union)),
+        Ok(union) => new_box(alloc, ScalarValue::Union(union)),
         Err(_) => Err(AllocError),
     }
 }
@@ -309,7 +309,7 @@ fn box_union(alloc: Global, union: &UnionValue) -> Result<Box<ScalarValue>, Allo
 fn box_variant(alloc: Global, scalar: &Scalar) -> Result<Box<ScalarValue>, AllocError>
     ensures { IfOk result (λ made. value_tree made.value ≡ variant_tree scalar.now) }
 {
-    boxed(alloc, ScalarValue::Variant(copy_boxed(alloc, scalar)?))
+    new_box(alloc, ScalarValue::Variant(copy_boxed(alloc, scalar)?))
 }
 
 /// A copy of the scalar in a box. A value without parts that is of just its type costs no
@@ -320,65 +320,85 @@ pub(crate) fn copy_boxed(alloc: Global, scalar: &Scalar) -> Result<Box<Scalar>, 
     ensures { IfOk result (λ copy. variant_tree copy.value ≡ variant_tree scalar.now) }
 {
     match (&scalar.dtype, &scalar.value) {
-        (DType::Null, None) => hold_null(alloc),
-        (DType::Bool(n), Some(ScalarValue::Bool(truth))) => hold_bool(alloc, *n, *truth),
-        (DType::Primitive(ptype, n), Some(ScalarValue::Primitive(number))) => {
-            hold_number(alloc, *ptype, *n, number)
+        (DType::Null, None) => boxed_null(alloc),
+        (DType::Bool(nullability), Some(ScalarValue::Bool(truth))) => boxed_bool(
+            alloc,
+            *nullability,
+            *truth,
+        ),
+        (DType::Primitive(ptype, nullability), Some(ScalarValue::Primitive(number))) => {
+            boxed_number(alloc, *ptype, *nullability, number)
         }
-        (DType::Utf8(n), Some(ScalarValue::Utf8(text))) => hold_text(alloc, *n, text),
-        (DType::Binary(n), Some(ScalarValue::Binary(bytes))) => hold_bytes(alloc, *n, bytes),
-        (dtype, Some(ScalarValue::Tuple(values))) => hold_tuple(alloc, values, dtype),
-        _ => hold_whole(alloc, scalar),
+        (DType::Utf8(nullability), Some(ScalarValue::Utf8(text))) => boxed_text(
+            alloc,
+            *nullability,
+            text,
+        ),
+        (DType::Binary(nullability), Some(ScalarValue::Binary(bytes))) => boxed_bytes(
+            alloc,
+            *nullability,
+            bytes,
+        ),
+        (dtype, Some(ScalarValue::Tuple(values))) => boxed_tuple(alloc, values, dtype),
+        _ => boxed_scalar(alloc, scalar),
     }
 }
 
 /// The null of the type `Null` in a box.
 #[inline(never)]
-fn hold_null(alloc: Global) -> Result<Box<Scalar>, AllocError>
+fn boxed_null(alloc: Global) -> Result<Box<Scalar>, AllocError>
     ensures { IfOk result (λ made. variant_tree made.value ≡ raw_variant null_type absent) }
 {
     let dtype = DType::Null;
-    boxed(alloc, Scalar { dtype, value: None })
+    new_box(alloc, Scalar { dtype, value: None })
 }
 
 /// A truth value with its type in a box.
 #[inline(never)]
-fn hold_bool(alloc: Global, n: Nullability, truth: bool) -> Result<Box<Scalar>, AllocError>
+fn boxed_bool(
+    alloc: Global,
+    nullability: Nullability,
+    truth: bool,
+) -> Result<Box<Scalar>, AllocError>
     ensures { IfOk result (λ made. variant_tree made.value
-        ≡ raw_variant (bool_type n) (raw_bool truth)) }
+        ≡ raw_variant (bool_type nullability) (raw_bool truth)) }
 {
     let value = Some(ScalarValue::Bool(truth));
-    let dtype = DType::Bool(n);
-    boxed(alloc, Scalar { dtype, value })
+    let dtype = DType::Bool(nullability);
+    new_box(alloc, Scalar { dtype, value })
 }
 
 /// An integer with its type in a box.
 #[inline(never)]
-fn hold_number(
+fn boxed_number(
     alloc: Global,
     ptype: PType,
-    n: Nullability,
+    nullability: Nullability,
     number: &PValue,
 ) -> Result<Box<Scalar>, AllocError>
-    ensures { IfOk result (λ made. variant_tree made.value ≡ raw_variant (integer_type ptype n)
+    ensures { IfOk result (λ made. variant_tree made.value ≡ raw_variant (integer_type ptype nullability)
         (raw_integer (ptype_of number.now) (whole_of number.now))) }
 {
     let value = Some(ScalarValue::Primitive(*number));
-    let dtype = DType::Primitive(ptype, n);
-    boxed(alloc, Scalar { dtype, value })
+    let dtype = DType::Primitive(ptype, nullability);
+    new_box(alloc, Scalar { dtype, value })
 }
 
 /// A copy of a string with its type in a box.
 #[inline(never)]
-fn hold_text(alloc: Global, n: Nullability, text: &BufferString) -> Result<Box<Scalar>, AllocError>
+fn boxed_text(
+    alloc: Global,
+    nullability: Nullability,
+    text: &BufferString,
+) -> Result<Box<Scalar>, AllocError>
     ensures { IfOk result (λ made. variant_tree made.value
-        ≡ raw_variant (utf8_type n) (raw_text text.now)) }
+        ≡ raw_variant (utf8_type nullability) (raw_text text.now)) }
 {
     match text.clone() {
         Ok(text) => {
             let value = Some(ScalarValue::Utf8(text));
-            let dtype = DType::Utf8(n);
-            boxed(alloc, Scalar { dtype, value })
+            let dtype = DType::Utf8(nullability);
+            new_box(alloc, Scalar { dtype, value })
         }
         Err(_) => Err(AllocError),
     }
@@ -386,15 +406,19 @@ fn hold_text(alloc: Global, n: Nullability, text: &BufferString) -> Result<Box<S
 
 /// A copy of bytes with their type in a box.
 #[inline(never)]
-fn hold_bytes(alloc: Global, n: Nullability, bytes: &ByteBuffer) -> Result<Box<Scalar>, AllocError>
+fn boxed_bytes(
+    alloc: Global,
+    nullability: Nullability,
+    bytes: &ByteBuffer,
+) -> Result<Box<Scalar>, AllocError>
     ensures { IfOk result (λ made. variant_tree made.value
-        ≡ raw_variant (binary_type n) (raw_bytes bytes.now)) }
+        ≡ raw_variant (binary_type nullability) (raw_bytes bytes.now)) }
 {
     match bytes.clone() {
         Ok(bytes) => {
             let value = Some(ScalarValue::Binary(bytes));
-            let dtype = DType::Binary(n);
-            boxed(alloc, Scalar { dtype, value })
+            let dtype = DType::Binary(nullability);
+            new_box(alloc, Scalar { dtype, value })
         }
         Err(_) => Err(AllocError),
     }
@@ -403,7 +427,7 @@ fn hold_bytes(alloc: Global, n: Nullability, bytes: &ByteBuffer) -> Result<Box<S
 /// A copy of the parts with their type in a box.
 #[cycle(copies)]
 #[inline(never)]
-fn hold_tuple(
+fn boxed_tuple(
     alloc: Global,
     values: &[Option<ScalarValue>],
     dtype: &DType,
@@ -411,13 +435,13 @@ fn hold_tuple(
     ensures { IfOk result (λ made. variant_tree made.value
         ≡ raw_variant (type_of dtype.now) (raw_tuple (value_trees values.now))) }
 {
-    hold_parts(alloc, dtype, copy_tuple(alloc, values)?)
+    boxed_parts(alloc, dtype, copy_tuple(alloc, values)?)
 }
 
 /// The parts with a copy of their type in a box. A `?` would write the drop of the parts out,
 /// variant by variant.
 #[inline(always)]
-fn hold_parts(
+fn boxed_parts(
     alloc: Global,
     dtype: &DType,
     parts: Vec<Option<ScalarValue>>,
@@ -428,7 +452,7 @@ fn hold_parts(
     match dtype.clone(alloc) {
         Ok(dtype) => {
             let value = Some(ScalarValue::Tuple(parts));
-            boxed(alloc, Scalar { dtype, value })
+            new_box(alloc, Scalar { dtype, value })
         }
         Err(_) => {
             drop(parts);
@@ -440,11 +464,11 @@ fn hold_parts(
 /// A copy of any scalar in a box.
 #[cycle(copies)]
 #[inline(never)]
-fn hold_whole(alloc: Global, scalar: &Scalar) -> Result<Box<Scalar>, AllocError>
+fn boxed_scalar(alloc: Global, scalar: &Scalar) -> Result<Box<Scalar>, AllocError>
     ensures { IfOk result (λ copy. variant_tree copy.value ≡ variant_tree scalar.now) }
 {
     match copy_scalar(alloc, scalar) {
-        Ok(scalar) => boxed(alloc, scalar),
+        Ok(scalar) => new_box(alloc, scalar),
         Err(_) => Err(AllocError),
     }
 }

@@ -24,10 +24,10 @@ enum Fault {
 }
 
 /// A breach of the value itself, with an empty path if there is memory for the steps to come.
-fn breach_here(path: Option<Global>, breach: Breach) -> Fault
-    ensures { Shows (is_some path) result (here breach) }
+fn breach_here(alloc: Option<Global>, breach: Breach) -> Fault
+    ensures { Shows (is_some alloc) result (here breach) }
 {
-    match path {
+    match alloc {
         Some(alloc) => Fault::First {
             steps: Vec::new(alloc),
             breach,
@@ -37,7 +37,7 @@ fn breach_here(path: Option<Global>, breach: Breach) -> Fault
 }
 
 /// The breach as it is seen from one level up: the path has one step more.
-fn within(fault: Fault, step: Step) -> Fault
+fn add_step(fault: Fault, step: Step) -> Fault
     ensures { (kept : Bool) (fs : List Found)
         → Shows kept fault fs → Shows kept result (under step fs) }
 {
@@ -55,18 +55,18 @@ fn within(fault: Fault, step: Step) -> Fault
 #[derive(Drop)]
 struct Trace {
     /// The memory for the steps of the path; `None` if no path is kept.
-    path: Option<Global>,
+    alloc: Option<Global>,
     /// Why the value is not valid, once that is known.
     fault: Fault,
 }
 
 impl Trace {
     /// The trace of a check that is to come.
-    fn new(path: Option<Global>) -> Trace
-        ensures { result.path ≡ path }
+    fn new(alloc: Option<Global>) -> Trace
+        ensures { result.alloc ≡ alloc }
     {
         Trace {
-            path,
+            alloc,
             fault: Fault::NoPath,
         }
     }
@@ -74,20 +74,20 @@ impl Trace {
     /// Leaves a breach of the value itself, and answers that it is not valid.
     #[cold]
     fn refuse(&mut self, breach: Breach) -> bool
-        ensures { Checks self.old.path result self.new (here breach) }
+        ensures { Checks self.old.alloc result self.new (here breach) }
     {
-        self.fault = breach_here(self.path, breach);
+        self.fault = breach_here(self.alloc, breach);
         false
     }
 
     /// Adds a step to the breach that a part has left, and answers that the whole is not valid.
     #[cold]
-    fn refuse_part(&mut self, step: Step) -> bool
-        ensures { (path : Option Global) (fs : List Found)
-            → Checks path false self.old fs → Checks path result self.new (under step fs) }
+    fn refuse_in_part(&mut self, step: Step) -> bool
+        ensures { (alloc : Option Global) (fs : List Found)
+            → Checks alloc false self.old fs → Checks alloc result self.new (under step fs) }
     {
         let fault = mem::replace(&mut self.fault, Fault::NoMemory);
-        self.fault = within(fault, step);
+        self.fault = add_step(fault, step);
         false
     }
 }
@@ -97,7 +97,7 @@ fn refusal(trace: Trace) -> VortexError
     requires { HasPath trace.fault }
     ensures { (fs : List Found) → Shows true trace.fault fs → Refuses result fs }
 {
-    let Trace { path: _, fault } = trace;
+    let Trace { alloc: _, fault } = trace;
     match fault {
         Fault::NoMemory => VortexError::OutOfMemory,
         Fault::NoPath => unreachable!(),
@@ -131,7 +131,7 @@ fn is_leaf_of(value: &ScalarValue, dtype: &DType) -> bool
 #[cycle(validity)]
 #[inline(always)]
 fn check(value: Option<&ScalarValue>, dtype: &DType, trace: &mut Trace) -> bool
-    ensures { Checks trace.old.path result trace.new
+    ensures { Checks trace.old.alloc result trace.new
         (breaches (type_of dtype.now) (lent_raw value.entry)) }
 {
     match value {
@@ -144,7 +144,7 @@ fn check(value: Option<&ScalarValue>, dtype: &DType, trace: &mut Trace) -> bool
 #[cycle(validity)]
 #[inline(always)]
 fn check_present(value: &ScalarValue, dtype: &DType, trace: &mut Trace) -> bool
-    ensures { Checks trace.old.path result trace.new
+    ensures { Checks trace.old.alloc result trace.new
         (breaches (type_of dtype.now) (value_tree value.now)) }
 {
     is_leaf_of(value, dtype) || check_value(value, dtype, trace)
@@ -153,7 +153,7 @@ fn check_present(value: &ScalarValue, dtype: &DType, trace: &mut Trace) -> bool
 /// Whether a raw value is valid for the type: for an extension its storage decides.
 #[cycle(validity)]
 fn check_value(value: &ScalarValue, dtype: &DType, trace: &mut Trace) -> bool
-    ensures { Checks trace.old.path result trace.new
+    ensures { Checks trace.old.alloc result trace.new
         (breaches (type_of dtype.now) (value_tree value.now)) }
 {
     match (storage_of(dtype), value) {
@@ -186,12 +186,12 @@ fn check_value(value: &ScalarValue, dtype: &DType, trace: &mut Trace) -> bool
 /// Whether the elements of a list are valid, in order.
 #[cycle(validity)]
 fn check_elements(items: &[Option<ScalarValue>], element: &DType, trace: &mut Trace) -> bool
-    ensures { Checks trace.old.path result trace.new
+    ensures { Checks trace.old.alloc result trace.new
         (element_breaches (type_of element.now) 0 (value_trees items.now)) }
 {
     for (index, item) in items.iter().enumerate() {
         if !check(item.as_ref(), element, trace) {
-            return trace.refuse_part(Step::Element(index));
+            return trace.refuse_in_part(Step::Element(index));
         }
     }
     true
@@ -200,12 +200,12 @@ fn check_elements(items: &[Option<ScalarValue>], element: &DType, trace: &mut Tr
 /// Whether the entries of a map are valid, in order.
 #[cycle(validity)]
 fn check_entries(items: &[Option<ScalarValue>], map: &MapDType, trace: &mut Trace) -> bool
-    ensures { Checks trace.old.path result trace.new
+    ensures { Checks trace.old.alloc result trace.new
         (entry_breaches (map_of map.now).key (map_of map.now).value 0 (value_trees items.now)) }
 {
     for (index, item) in items.iter().enumerate() {
         if !check_entry(item.as_ref(), map, trace) {
-            return trace.refuse_part(Step::Entry(index));
+            return trace.refuse_in_part(Step::Entry(index));
         }
     }
     true
@@ -214,7 +214,7 @@ fn check_entries(items: &[Option<ScalarValue>], map: &MapDType, trace: &mut Trac
 /// Whether one entry of a map is valid: it is a tuple, and no null.
 #[cycle(validity)]
 fn check_entry(entry: Option<&ScalarValue>, map: &MapDType, trace: &mut Trace) -> bool
-    ensures { Checks trace.old.path result trace.new
+    ensures { Checks trace.old.alloc result trace.new
         (breaches_of_entry (map_of map.now).key (map_of map.now).value
         (lent_raw entry.entry)) }
 {
@@ -228,7 +228,7 @@ fn check_entry(entry: Option<&ScalarValue>, map: &MapDType, trace: &mut Trace) -
 /// Whether the parts of an entry are valid: a key, and then a value.
 #[cycle(validity)]
 fn check_pair(parts: &[Option<ScalarValue>], map: &MapDType, trace: &mut Trace) -> bool
-    ensures { Checks trace.old.path result trace.new
+    ensures { Checks trace.old.alloc result trace.new
         (breaches_of_entry (map_of map.now).key (map_of map.now).value
         (raw_tuple (value_trees parts.now))) }
 {
@@ -236,20 +236,20 @@ fn check_pair(parts: &[Option<ScalarValue>], map: &MapDType, trace: &mut Trace) 
         return trace.refuse(Breach::WrongLength);
     }
     if !check(parts[0].as_ref(), map.key_dtype(), trace) {
-        return trace.refuse_part(Step::Key);
+        return trace.refuse_in_part(Step::Key);
     }
-    check(parts[1].as_ref(), map.value_dtype(), trace) || trace.refuse_part(Step::Value)
+    check(parts[1].as_ref(), map.value_dtype(), trace) || trace.refuse_in_part(Step::Value)
 }
 
 /// Whether the fields of a struct are valid, in order.
 #[cycle(validity)]
 fn check_fields(items: &[Option<ScalarValue>], fields: &[DType], trace: &mut Trace) -> bool
-    ensures { Checks trace.old.path result trace.new
+    ensures { Checks trace.old.alloc result trace.new
         (field_breaches 0 (dtype_trees fields.now) (value_trees items.now)) }
 {
     for (index, (item, field)) in items.iter().zip(fields).enumerate() {
         if !check(item.as_ref(), field, trace) {
-            return trace.refuse_part(Step::Field(index));
+            return trace.refuse_in_part(Step::Field(index));
         }
     }
     true
@@ -258,14 +258,14 @@ fn check_fields(items: &[Option<ScalarValue>], fields: &[DType], trace: &mut Tra
 /// Whether a union is valid: its id has a variant, and its child fits that.
 #[cycle(validity)]
 fn check_child(union: &UnionValue, variants: &UnionVariants, trace: &mut Trace) -> bool
-    ensures { Checks trace.old.path result trace.new (child_breaches
+    ensures { Checks trace.old.alloc result trace.new (child_breaches
         (type_with union.now.type_id (variants_of variants.now).type_ids
         (as_type_trees (variants_of variants.now).types))
         (λ t. breaches t (raw_of (option_map (λ b. b.value) union.now.child)))) }
 {
     match variant_with(variants, union.type_id) {
         Some((_, variant)) => {
-            check(union.child.as_deref(), variant, trace) || trace.refuse_part(Step::Child)
+            check(union.child.as_deref(), variant, trace) || trace.refuse_in_part(Step::Child)
         }
         None => trace.refuse(Breach::UnknownTypeId),
     }
@@ -274,12 +274,12 @@ fn check_child(union: &UnionValue, variants: &UnionVariants, trace: &mut Trace) 
 /// Whether the scalar in a variant is valid: a null is of type Null alone.
 #[cycle(validity)]
 fn check_variant(scalar: &Scalar, trace: &mut Trace) -> bool
-    ensures { Checks trace.old.path result trace.new
+    ensures { Checks trace.old.alloc result trace.new
         (breaches_at (variant_type NonNullable) (variant_tree scalar.now)) }
 {
     match &scalar.value {
         Some(value) => {
-            check_present(value, &scalar.dtype, trace) || trace.refuse_part(Step::Inner)
+            check_present(value, &scalar.dtype, trace) || trace.refuse_in_part(Step::Inner)
         }
         None => match &scalar.dtype {
             DType::Null => true,

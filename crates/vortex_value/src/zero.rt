@@ -13,7 +13,7 @@ use vortex_dtype::{BufferString, ByteBuffer, DType, UnionVariants, VortexError};
 use vortex_pvalue::PValue;
 
 /// Whether the default of the type is the null: nulls are taken, and the type takes one.
-fn is_null_filled(dtype: &DType, nulls: bool) -> bool
+fn is_null_default(dtype: &DType, nulls: bool) -> bool
     ensures { result ≡ (nulls && is_nullable (type_of dtype.now)) }
 {
     nulls && dtype.is_nullable()
@@ -22,16 +22,18 @@ fn is_null_filled(dtype: &DType, nulls: bool) -> bool
 /// Whether the type has a zero, or a default if nulls are taken.
 #[cycle(fills)]
 #[tactic(auto, using(crate::proofs::FillingSteps::shown))]
-fn is_filled(dtype: &DType, nulls: bool) -> bool
+fn has_zero_or_default(dtype: &DType, nulls: bool) -> bool
     ensures { result ≡ is_some (filling nulls (type_of dtype.now)) }
 {
     match dtype {
-        DType::Extension(extension) => is_filled(extension.storage_dtype(), nulls),
-        _ if is_null_filled(dtype, nulls) => true,
+        DType::Extension(extension) => has_zero_or_default(extension.storage_dtype(), nulls),
+        _ if is_null_default(dtype, nulls) => true,
         DType::Null => false,
-        DType::FixedSizeList(element, size, _) => are_places_filled(element, *size, nulls),
-        DType::Struct(fields, _) => are_filled(fields.dtypes(), nulls),
-        DType::Union(variants, _) => is_first_filled(variants, nulls),
+        DType::FixedSizeList(element, size, _) => have_places_zero_or_default(
+            element, *size, nulls,
+        ),
+        DType::Struct(fields, _) => have_all_zero_or_default(fields.dtypes(), nulls),
+        DType::Union(variants, _) => has_first_zero_or_default(variants, nulls),
         _ => true,
     }
 }
@@ -39,21 +41,21 @@ fn is_filled(dtype: &DType, nulls: bool) -> bool
 /// Whether so many places of the type have a zero or default: no places always have.
 #[cycle(fills)]
 #[tactic(auto, using(crate::proofs::FillingSteps::shown))]
-fn are_places_filled(element: &DType, size: u32, nulls: bool) -> bool
+fn have_places_zero_or_default(element: &DType, size: u32, nulls: bool) -> bool
     ensures { result ≡ is_some (places_of size (filling nulls (type_of element.now))) }
 {
-    size == 0 || is_filled(element, nulls)
+    size == 0 || has_zero_or_default(element, nulls)
 }
 
 /// Whether there is a first variant whose type has a zero or default.
 #[cycle(fills)]
 #[tactic(auto, using(crate::proofs::FillingSteps::shown))]
-fn is_first_filled(variants: &UnionVariants, nulls: bool) -> bool
+fn has_first_zero_or_default(variants: &UnionVariants, nulls: bool) -> bool
     ensures { result ≡ is_some (child_filling (filling nulls)
         (first_of (variants_of variants.now).type_ids (variants_of variants.now).types)) }
 {
     match first_variant(variants) {
-        Some((_, variant)) => is_filled(variant, nulls),
+        Some((_, variant)) => has_zero_or_default(variant, nulls),
         None => false,
     }
 }
@@ -61,11 +63,11 @@ fn is_first_filled(variants: &UnionVariants, nulls: bool) -> bool
 /// Whether each of the types has a zero or default.
 #[cycle(fills)]
 #[tactic(auto, using(crate::proofs::FillingSteps::shown))]
-fn are_filled(dtypes: &[DType], nulls: bool) -> bool
+fn have_all_zero_or_default(dtypes: &[DType], nulls: bool) -> bool
     ensures { result ≡ is_some (fillings nulls (dtype_trees dtypes.now)) }
 {
     for dtype in dtypes {
-        if !is_filled(dtype, nulls) {
+        if !has_zero_or_default(dtype, nulls) {
             return false;
         }
     }
@@ -77,7 +79,7 @@ fn are_filled(dtypes: &[DType], nulls: bool) -> bool
 /// and each level of a type answers with it.
 #[cycle(fill)]
 #[tactic(auto, using(crate::proofs::FillingSteps::filled))]
-fn fill(
+fn write_zero_or_default(
     alloc: Global,
     dtype: &DType,
     nulls: bool,
@@ -89,9 +91,9 @@ fn fill(
         (λ _. ¬ (IsFlat (type_of dtype.now))) }
 {
     if let DType::Extension(extension) = dtype {
-        return fill(alloc, extension.storage_dtype(), nulls, place);
+        return write_zero_or_default(alloc, extension.storage_dtype(), nulls, place);
     }
-    if is_null_filled(dtype, nulls) {
+    if is_null_default(dtype, nulls) {
         *place = None;
         return Ok(());
     }
@@ -102,16 +104,16 @@ fn fill(
         DType::Binary(_) => *place = Some(ScalarValue::Binary(empty_bytes(alloc)?)),
         DType::List(_, _) => *place = Some(ScalarValue::Tuple(Vec::new(alloc))),
         DType::FixedSizeList(element, size, _) => {
-            let items = fill_places(alloc, element, *size, nulls)?;
+            let items = zero_or_default_places(alloc, element, *size, nulls)?;
             *place = Some(ScalarValue::Tuple(items));
         }
         DType::Map(_, _) => *place = Some(ScalarValue::Tuple(Vec::new(alloc))),
         DType::Struct(fields, _) => {
-            let items = fill_fields(alloc, fields.dtypes(), nulls)?;
+            let items = zero_or_default_fields(alloc, fields.dtypes(), nulls)?;
             *place = Some(ScalarValue::Tuple(items));
         }
         DType::Union(variants, _) => {
-            let union = fill_first(alloc, variants, nulls)?;
+            let union = zero_or_default_first(alloc, variants, nulls)?;
             *place = Some(ScalarValue::Union(union));
         }
         DType::Variant(_) => {
@@ -160,7 +162,7 @@ fn union_of(
 /// The zero or default of the type, so many times.
 #[cycle(fill)]
 #[tactic(auto, using(crate::proofs::FillingSteps::filled))]
-fn fill_places(
+fn zero_or_default_places(
     alloc: Global,
     element: &DType,
     size: u32,
@@ -174,7 +176,7 @@ fn fill_places(
     let mut items = Vec::with_capacity(alloc, size as usize)?;
     for _ in 0..size {
         let mut item = None;
-        fill(alloc, element, nulls, &mut item)?;
+        write_zero_or_default(alloc, element, nulls, &mut item)?;
         items.push(item)?;
     }
     Ok(items)
@@ -183,7 +185,7 @@ fn fill_places(
 /// The zero or default of each of the types, in order.
 #[cycle(fill)]
 #[tactic(auto, using(crate::proofs::FillingSteps::filled))]
-fn fill_fields(
+fn zero_or_default_fields(
     alloc: Global,
     dtypes: &[DType],
     nulls: bool,
@@ -195,7 +197,7 @@ fn fill_fields(
     let mut items = Vec::with_capacity(alloc, dtypes.len())?;
     for dtype in dtypes {
         let mut item = None;
-        fill(alloc, dtype, nulls, &mut item)?;
+        write_zero_or_default(alloc, dtype, nulls, &mut item)?;
         items.push(item)?;
     }
     Ok(items)
@@ -204,7 +206,7 @@ fn fill_fields(
 /// The first variant's id, with the zero or default of its type.
 #[cycle(fill)]
 #[tactic(auto, using(crate::proofs::FillingSteps::filled))]
-fn fill_first(
+fn zero_or_default_first(
     alloc: Global,
     variants: &UnionVariants,
     nulls: bool,
@@ -219,7 +221,7 @@ fn fill_first(
     match first_variant(variants) {
         Some((id, variant)) => {
             let mut child = None;
-            fill(alloc, variant, nulls, &mut child)?;
+            write_zero_or_default(alloc, variant, nulls, &mut child)?;
             union_of(alloc, id, child)
         }
         None => unreachable!(),
@@ -228,17 +230,17 @@ fn fill_first(
 
 /// The zero of the type, or its default if nulls are taken, if there is one. That is found out
 /// before anything is made.
-fn filled(alloc: Global, dtype: &DType, nulls: bool) -> Result<Option<Scalar>, VortexError>
+fn zero_or_default(alloc: Global, dtype: &DType, nulls: bool) -> Result<Option<Scalar>, VortexError>
     ensures { MatchResult result
         (IsTheOneOf (type_of dtype.now) (filling nulls (type_of dtype.now)))
         (λ e. (e ≡ OutOfMemory) × IsSome (filling nulls (type_of dtype.now))
         × ¬ (IsFlat (type_of dtype.now))) }
 {
-    if !is_filled(dtype, nulls) {
+    if !has_zero_or_default(dtype, nulls) {
         return Ok(None);
     }
     let mut value = None;
-    fill(alloc, dtype, nulls, &mut value)?;
+    write_zero_or_default(alloc, dtype, nulls, &mut value)?;
     Ok(Some(with_type(dtype.clone(alloc), value)?))
 }
 
@@ -350,7 +352,7 @@ impl Scalar {
             (λ e. (e ≡ OutOfMemory) × IsSome (zero_of (type_of dtype.now))) }
         ensures flat { IsFlat (type_of dtype.now) → IsOk result }
     {
-        filled(alloc, dtype, false)
+        zero_or_default(alloc, dtype, false)
     }
 
     /// The default of the type: the null if the type takes one, else made as its zero, with
@@ -368,7 +370,7 @@ impl Scalar {
             (λ e. (e ≡ OutOfMemory) × IsSome (default_of (type_of dtype.now))) }
         ensures flat { IsFlat (type_of dtype.now) → IsOk result }
     {
-        filled(alloc, dtype, true)
+        zero_or_default(alloc, dtype, true)
     }
 
     /// Whether the value is zero. A struct and a list of a fixed size are if each part is, and a

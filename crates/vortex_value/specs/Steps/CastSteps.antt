@@ -35,29 +35,29 @@ takes_null (map_type k v from n) (map_type l w to m) = not (sorts from to) && is
 takes_null s t = is_nullable t
 
 -- whether a value that is present may be cast from the extension s, which stores u, to t as it is
-abbrev pub leaves : TypeTree → TypeTree → TypeTree → Bool
-leaves s u (extension_type id metadata t) = same_type s (extension_type id metadata t) || leaves s u t
-leaves s u t = same_type u t
+abbrev pub may_unwrap : TypeTree → TypeTree → TypeTree → Bool
+may_unwrap s u (extension_type id metadata t) = same_type s (extension_type id metadata t) || may_unwrap s u t
+may_unwrap s u t = same_type u t
 
 -- whether a value without parts is kept as it is: the two types are its own, up to nullability
-abbrev pub stays : RawTree → TypeTree → TypeTree → Bool
-stays (raw_bool b) (bool_type n) (bool_type m) = true
-stays (raw_text bs) (utf8_type n) (utf8_type m) = true
-stays (raw_bytes bs) (binary_type n) (binary_type m) = true
-stays (raw_variant u v) (variant_type n) (variant_type m) = true
-stays _ _ _ = false
+abbrev pub keeps_its_kind : RawTree → TypeTree → TypeTree → Bool
+keeps_its_kind (raw_bool b) (bool_type n) (bool_type m) = true
+keeps_its_kind (raw_text bs) (utf8_type n) (utf8_type m) = true
+keeps_its_kind (raw_bytes bs) (binary_type n) (binary_type m) = true
+keeps_its_kind (raw_variant u v) (variant_type n) (variant_type m) = true
+keeps_its_kind _ _ _ = false
 
 -- what a value without parts becomes between types that are no extensions
 abbrev pub leaf_to : RawTree → TypeTree → TypeTree → Option RawTree
-leaf_to v s t = if stays v s t then Some v else None
+leaf_to v s t = if keeps_its_kind v s t then Some v else None
 
 -- the value itself, if the types allow it and the target accepts it
 abbrev pub kept : Bool → TypeTree → RawTree → Option RawTree
 kept allowed t v = if allowed && accepts t v then Some v else None
 
 -- the value itself, if it may be cast from the extension s, which stores u, to t as it is
-abbrev pub left_to : RawTree → TypeTree → TypeTree → TypeTree → Option RawTree
-left_to v s u t = kept (leaves s u t) t v
+abbrev pub unwrapped : RawTree → TypeTree → TypeTree → TypeTree → Option RawTree
+unwrapped v s u t = kept (may_unwrap s u t) t v
 
 -- the number as a raw value of the target, if that is an integer type and has it
 abbrev pub number_to : ℤ → TypeTree → Option RawTree
@@ -67,7 +67,7 @@ number_to z t = None
 -- a value from one type to another: `bare` says what becomes of it between types that are no extensions
 abbrev pub whole_to : (TypeTree → TypeTree → Option RawTree) → RawTree → TypeTree → TypeTree → Option RawTree
 whole_to bare absent s t = if takes_null s t then Some absent else None
-whole_to bare v (extension_type id metadata u) t = left_to v (extension_type id metadata u) u t
+whole_to bare v (extension_type id metadata u) t = unwrapped v (extension_type id metadata u) u t
 whole_to bare v s t = bare s (storage t)
 
 -- if there is a type, it is what t stores, and s is no extension
@@ -184,17 +184,17 @@ Appends before now made r =
     MatchResult r (λ _. (v : Option ScalarValue) × (now ≡ before ++ v ∷ []) × (made ≡ Some (raw_of v))) (λ e. Refused made e)
 
 -- out of memory never comes for a type whose values take no memory
-abbrev pub SparesMemory : {A : Type 0} → TypeTree → Result A Refusal → Type 0
-SparesMemory t r = IsFlat t → IfErr r (λ e. e ≢ NoMemory)
+abbrev pub FlatNeverOutOfMemory : {A : Type 0} → TypeTree → Result A Refusal → Type 0
+FlatNeverOutOfMemory t r = IsFlat t → IfErr r (λ e. e ≢ NoMemory)
 
 -- out of memory comes only if there is something to make
-abbrev pub RefusesSome : {A B : Type 0} → Option B → Result A Refusal → Type 0
-RefusesSome made r = IfErr r (λ e. e ≡ NoMemory → IsSome made)
+abbrev pub OutOfMemoryOnlyIfMakeable : {A B : Type 0} → Option B → Result A Refusal → Type 0
+OutOfMemoryOnlyIfMakeable made r = IfErr r (λ e. e ≡ NoMemory → IsSome made)
 
 -- a cast of v from s to t that takes v whole is out of memory only if it is possible
-abbrev pub SparesWhole : {A : Type 0} → RawTree → TypeTree → TypeTree → Result A Refusal → Type 0
-SparesWhole v s t r = IsTakenWhole s (content v) → RefusesSome (cast_to v s t) r
+abbrev pub WholeOutOfMemoryOnlyIfMakeable : {A : Type 0} → RawTree → TypeTree → TypeTree → Result A Refusal → Type 0
+WholeOutOfMemoryOnlyIfMakeable v s t r = IsTakenWhole s (content v) → OutOfMemoryOnlyIfMakeable (cast_to v s t) r
 
 -- a cast of a leaf between types that are no extensions is out of memory only if it is possible
-abbrev pub SparesLeaf : {A : Type 0} → RawTree → TypeTree → TypeTree → Result A Refusal → Type 0
-SparesLeaf v s t r = IsLeaf (content v) → RefusesSome (bare_to v s t) r
+abbrev pub LeafOutOfMemoryOnlyIfMakeable : {A : Type 0} → RawTree → TypeTree → TypeTree → Result A Refusal → Type 0
+LeafOutOfMemoryOnlyIfMakeable v s t r = IsLeaf (content v) → OutOfMemoryOnlyIfMakeable (bare_to v s t) r

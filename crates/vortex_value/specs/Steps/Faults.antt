@@ -19,8 +19,8 @@ Shows kept (First steps breach) fs = first fs ≡ Some (reverse steps.items, bre
 
 -- a check with this memory for the path, or without a path, passes if there is no breach, and else leaves the first
 abbrev pub Checks : Option Global → Bool → Trace → List Found → Type 0
-Checks path true trace fs = (trace.path ≡ path) × (fs ≡ [])
-Checks path false trace fs = Shows (is_some path) trace.fault fs
+Checks alloc true trace fs = (trace.alloc ≡ alloc) × (fs ≡ [])
+Checks alloc false trace fs = Shows (is_some alloc) trace.fault fs
 
 -- the fault is not that no path is kept
 abbrev pub HasPath : Fault → Type 0

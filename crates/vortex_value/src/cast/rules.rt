@@ -1,7 +1,7 @@
 //! What the cast table asks of two types, and of a value that is kept as it is.
 
 ghost use Rattle.std.specs.Prelude.{◌≡◌, ◌==◌, option_map};
-ghost use Rattle.vortex_value.specs.Words.{IsBareTarget, accepts, bytes_eq, count, leaves, map_of, option_copied, sorts, stays, takes_null, type_of, types_with, value_tree, value_trees, variants_of};
+ghost use Rattle.vortex_value.specs.Words.{IsBareTarget, accepts, bytes_eq, count, may_unwrap, map_of, option_copied, sorts, keeps_its_kind, takes_null, type_of, types_with, value_tree, value_trees, variants_of};
 
 use crate::equality::same_types;
 use crate::scalars::Scalar;
@@ -47,13 +47,12 @@ pub(super) fn bare_target<'a>(source: &DType, target: &'a DType) -> Option<&'a D
 
 /// Whether a value that is present may be cast from an extension over the stored type to the
 /// target.
-pub(super) fn may_leave_extension(source: &DType, stored: &DType, target: &DType) -> bool
-    ensures { result ≡ leaves (type_of source.now) (type_of stored.now) (type_of target.now) }
+pub(super) fn may_unwrap(source: &DType, stored: &DType, target: &DType) -> bool
+    ensures { result ≡ may_unwrap (type_of source.now) (type_of stored.now) (type_of target.now) }
 {
     match target {
         DType::Extension(extension) => {
-            same_types(source, target)
-                || may_leave_extension(source, stored, extension.storage_dtype())
+            same_types(source, target) || may_unwrap(source, stored, extension.storage_dtype())
         }
         _ => same_types(stored, target),
     }
@@ -93,8 +92,8 @@ pub(super) fn accepts(dtype: &DType, value: &ScalarValue) -> bool
 }
 
 /// Whether a value without parts is kept as it is: the two types are its own, up to nullability.
-pub(super) fn stays(value: &ScalarValue, source: &DType, target: &DType) -> bool
-    ensures { result ≡ stays (value_tree value.now) (type_of source.now) (type_of target.now) }
+pub(super) fn keeps_its_kind(value: &ScalarValue, source: &DType, target: &DType) -> bool
+    ensures { result ≡ keeps_its_kind (value_tree value.now) (type_of source.now) (type_of target.now) }
 {
     match (value, target) {
         (ScalarValue::Bool(_), DType::Bool(_)) => matches!(source, DType::Bool(_)),

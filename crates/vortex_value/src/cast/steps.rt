@@ -1,10 +1,10 @@
 //! The steps of a cast that go no further down than the value.
 
 ghost use Rattle.std.specs.Prelude.{◌≡◌, ◌++◌, [], ◌∷◌, IfErr, MatchResult, option_map};
-ghost use Rattle.vortex_value.specs.Words.{Appends, Impossible, Makes, NoMemory, RefusesSome, SparesMemory, TakesNoMemory, leaf_to, left_to, number_to, ptype_of, raw_integer, raw_of, raw_text, raw_union, type_of, union_tree, value_tree, variant_tree, whole_of};
+ghost use Rattle.vortex_value.specs.Words.{Appends, Impossible, Makes, NoMemory, OutOfMemoryOnlyIfMakeable, FlatNeverOutOfMemory, TakesNoMemory, leaf_to, unwrapped, number_to, ptype_of, raw_integer, raw_of, raw_text, raw_union, type_of, union_tree, value_tree, variant_tree, whole_of};
 
 use super::refusals::Refusal;
-use super::rules::{accepts, may_leave_extension, stays};
+use super::rules::{accepts, keeps_its_kind, may_unwrap};
 use crate::copies;
 use crate::scalars::Scalar;
 use crate::unions::UnionValue;
@@ -14,7 +14,7 @@ use vortex_dtype::{BufferString, DType};
 use vortex_pvalue::PValue;
 
 /// A copy of the value. Truth values and integers take no memory.
-fn copied(alloc: Global, value: &ScalarValue) -> Result<ScalarValue, Refusal>
+fn copy_of(alloc: Global, value: &ScalarValue) -> Result<ScalarValue, Refusal>
     ensures { MatchResult result
         (λ copy. value_tree copy ≡ value_tree value.now)
         (λ e. (e ≡ NoMemory) × ¬ (TakesNoMemory (value_tree value.now))) }
@@ -28,21 +28,21 @@ fn copied(alloc: Global, value: &ScalarValue) -> Result<ScalarValue, Refusal>
 /// A copy of an extension's value, if it may be cast to the target as it is and the target accepts
 /// it.
 #[inline(never)]
-pub(super) fn leave_extension(
+pub(super) fn unwrap_extension(
     alloc: Global,
     value: &ScalarValue,
     source: &DType,
     stored: &DType,
     target: &DType,
 ) -> Result<ScalarValue, Refusal>
-    ensures made { Makes value_tree (left_to (value_tree value.now)
+    ensures made { Makes value_tree (unwrapped (value_tree value.now)
         (type_of source.now) (type_of stored.now) (type_of target.now)) result }
-    ensures flat { SparesMemory (type_of target.now) result }
-    ensures whole { RefusesSome (left_to (value_tree value.now)
+    ensures flat { FlatNeverOutOfMemory (type_of target.now) result }
+    ensures whole { OutOfMemoryOnlyIfMakeable (unwrapped (value_tree value.now)
         (type_of source.now) (type_of stored.now) (type_of target.now)) result }
 {
-    if may_leave_extension(source, stored, target) && accepts(target, value) {
-        copied(alloc, value)
+    if may_unwrap(source, stored, target) && accepts(target, value) {
+        copy_of(alloc, value)
     } else {
         Err(Refusal::Impossible)
     }
@@ -58,12 +58,12 @@ pub(super) fn cast_leaf(
 ) -> Result<ScalarValue, Refusal>
     ensures made { Makes value_tree (leaf_to (value_tree value.now)
         (type_of source.now) (type_of target.now)) result }
-    ensures flat { SparesMemory (type_of target.now) result }
-    ensures whole { RefusesSome (leaf_to (value_tree value.now)
+    ensures flat { FlatNeverOutOfMemory (type_of target.now) result }
+    ensures whole { OutOfMemoryOnlyIfMakeable (leaf_to (value_tree value.now)
         (type_of source.now) (type_of target.now)) result }
 {
-    if stays(value, source, target) {
-        copied(alloc, value)
+    if keeps_its_kind(value, source, target) {
+        copy_of(alloc, value)
     } else {
         Err(Refusal::Impossible)
     }
@@ -168,19 +168,19 @@ pub(super) fn push_leaf(
     ensures { Appends made.old.items made.new.items (leaf_to (value_tree value.now)
         (type_of source.now) (type_of target.now)) result }
 {
-    if !stays(value, source, target) {
+    if !keeps_its_kind(value, source, target) {
         return Err(Refusal::Impossible);
     }
     match value {
         ScalarValue::Utf8(text) => push_text(text, made),
         ScalarValue::Variant(scalar) => push_variant(alloc, scalar, made),
-        _ => push_copied(alloc, value, made),
+        _ => push_copy(alloc, value, made),
     }
 }
 
 /// Appends a copy of the value.
 #[inline(never)]
-fn push_copied(
+fn push_copy(
     alloc: Global,
     value: &ScalarValue,
     made: &mut Vec<Option<ScalarValue>>,

@@ -2,12 +2,12 @@
 //! which pays for its own locals alone. Parts of tuples are appended to their list by the `push_*`
 //! functions, which ask in the same order as the `cast_*` functions.
 
-ghost use Rattle.vortex_value.specs.Words.{Appends, IsBareTarget, Makes, MakesParts, SparesLeaf, SparesMemory, SparesWhole, bare_to, cast_to, count, dtype_trees, each_to, entries_to, entry_to, fields_to, lent_raw, map_of, map_to, option_copied, parts_to, raw_of, raw_tuple, sized, type_of, union_tree, value_tree, value_trees};
+ghost use Rattle.vortex_value.specs.Words.{Appends, IsBareTarget, Makes, MakesParts, LeafOutOfMemoryOnlyIfMakeable, FlatNeverOutOfMemory, WholeOutOfMemoryOnlyIfMakeable, bare_to, cast_to, count, dtype_trees, each_to, entries_to, entry_to, fields_to, lent_raw, map_of, map_to, option_copied, parts_to, raw_of, raw_tuple, sized, type_of, union_tree, value_tree, value_trees};
 
 use super::refusals::Refusal;
 use super::rules::{are_as_many, bare_target, takes_null, types_with, would_claim_sorted};
 use super::steps::{
-    cast_leaf, cast_number, leave_extension, push, push_leaf, push_number, union_of,
+    cast_leaf, cast_number, push, push_leaf, push_number, union_of, unwrap_extension,
 };
 use crate::storage::storage_of;
 use crate::unions::UnionValue;
@@ -25,8 +25,8 @@ pub(super) fn cast_value(
 ) -> Result<Option<ScalarValue>, Refusal>
     ensures made { Makes raw_of (cast_to (lent_raw value.entry)
         (type_of source.now) (type_of target.now)) result }
-    ensures flat { SparesMemory (type_of target.now) result }
-    ensures whole { SparesWhole (lent_raw value.entry)
+    ensures flat { FlatNeverOutOfMemory (type_of target.now) result }
+    ensures whole { WholeOutOfMemoryOnlyIfMakeable (lent_raw value.entry)
         (type_of source.now) (type_of target.now) result }
 {
     match value {
@@ -46,21 +46,21 @@ fn cast_present(
 ) -> Result<ScalarValue, Refusal>
     ensures made { Makes value_tree (cast_to (value_tree value.now)
         (type_of source.now) (type_of target.now)) result }
-    ensures flat { SparesMemory (type_of target.now) result }
-    ensures whole { SparesWhole (value_tree value.now)
+    ensures flat { FlatNeverOutOfMemory (type_of target.now) result }
+    ensures whole { WholeOutOfMemoryOnlyIfMakeable (value_tree value.now)
         (type_of source.now) (type_of target.now) result }
 {
     match source {
         DType::Extension(extension) => {
-            leave_extension(alloc, value, source, extension.storage_dtype(), target)
+            unwrap_extension(alloc, value, source, extension.storage_dtype(), target)
         }
-        _ => cast_bare(alloc, value, source, storage_of(target)),
+        _ => cast_by_kind(alloc, value, source, storage_of(target)),
     }
 }
 
 /// What a value becomes between types that are no extensions.
 #[cycle(cast)]
-fn cast_bare(
+fn cast_by_kind(
     alloc: Global,
     value: &ScalarValue,
     source: &DType,
@@ -68,8 +68,8 @@ fn cast_bare(
 ) -> Result<ScalarValue, Refusal>
     ensures made { Makes value_tree (bare_to (value_tree value.now)
         (type_of source.now) (type_of target.now)) result }
-    ensures flat { SparesMemory (type_of target.now) result }
-    ensures whole { SparesLeaf (value_tree value.now)
+    ensures flat { FlatNeverOutOfMemory (type_of target.now) result }
+    ensures whole { LeafOutOfMemoryOnlyIfMakeable (value_tree value.now)
         (type_of source.now) (type_of target.now) result }
 {
     match value {
@@ -87,7 +87,7 @@ fn cast_bare(
 /// Appends what a value becomes.
 #[cycle(cast)]
 #[inline(always)]
-fn push_cast(
+fn push_part(
     alloc: Global,
     value: Option<&ScalarValue>,
     source: &DType,
@@ -97,7 +97,7 @@ fn push_cast(
     ensures { Appends made.old.items made.new.items (cast_to (lent_raw value.entry)
         (type_of source.now) (type_of target.now)) result }
 {
-    push_stored(
+    push_to_storage(
         alloc,
         value,
         source,
@@ -110,7 +110,7 @@ fn push_cast(
 /// Appends what a value becomes. The caller has asked once for many values what the target stores.
 #[cycle(cast)]
 #[inline(always)]
-fn push_stored(
+fn push_to_storage(
     alloc: Global,
     value: Option<&ScalarValue>,
     source: &DType,
@@ -123,15 +123,15 @@ fn push_stored(
         (type_of source.now) (type_of target.now)) result }
 {
     match (value, stored) {
-        (Some(value), Some(stored)) => push_bare(alloc, value, source, stored, made),
-        _ => push_whole(alloc, value, source, target, made),
+        (Some(value), Some(stored)) => push_by_kind(alloc, value, source, stored, made),
+        _ => push_null_or_extension(alloc, value, source, target, made),
     }
 }
 
 /// Appends what a null becomes, or a value of an extension.
 #[cycle(cast)]
 #[inline(never)]
-fn push_whole(
+fn push_null_or_extension(
     alloc: Global,
     value: Option<&ScalarValue>,
     source: &DType,
@@ -148,7 +148,7 @@ fn push_whole(
 /// Appends what a value becomes between types that are no extensions.
 #[cycle(cast)]
 #[inline(always)]
-fn push_bare(
+fn push_by_kind(
     alloc: Global,
     value: &ScalarValue,
     source: &DType,
@@ -210,8 +210,8 @@ fn cast_union(
 ) -> Result<UnionValue, Refusal>
     ensures made { Makes union_tree (bare_to (union_tree union.now)
         (type_of source.now) (type_of target.now)) result }
-    ensures flat { SparesMemory (type_of target.now) result }
-    ensures whole { SparesLeaf (union_tree union.now)
+    ensures flat { FlatNeverOutOfMemory (type_of target.now) result }
+    ensures whole { LeafOutOfMemoryOnlyIfMakeable (union_tree union.now)
         (type_of source.now) (type_of target.now) result }
 {
     match types_with(source, target, union.type_id) {
@@ -233,7 +233,7 @@ fn cast_parts(
 ) -> Result<Vec<Option<ScalarValue>>, Refusal>
     ensures made { MakesParts (parts_to (value_trees parts.now)
         (type_of source.now) (type_of target.now)) result }
-    ensures flat { SparesMemory (type_of target.now) result }
+    ensures flat { FlatNeverOutOfMemory (type_of target.now) result }
 {
     match (source, target) {
         (DType::List(from, _) | DType::FixedSizeList(from, _, _), DType::List(to, _)) => {
@@ -284,7 +284,7 @@ fn cast_elements(
     let stored = bare_target(from, to);
     let mut made = Vec::with_capacity(alloc, elements.len())?;
     for element in elements {
-        push_stored(alloc, element.as_ref(), from, to, stored, &mut made)?;
+        push_to_storage(alloc, element.as_ref(), from, to, stored, &mut made)?;
     }
     Ok(made)
 }
@@ -375,7 +375,7 @@ fn push_pair(
     }
     let (key, value) = (parts[0].as_ref(), parts[1].as_ref());
     let mut pair = Vec::with_capacity(alloc, 2)?;
-    push_stored(
+    push_to_storage(
         alloc,
         key,
         from.key_dtype(),
@@ -383,7 +383,7 @@ fn push_pair(
         keys,
         &mut pair,
     )?;
-    push_stored(
+    push_to_storage(
         alloc,
         value,
         from.value_dtype(),
@@ -413,7 +413,7 @@ fn cast_fields(
     }
     let mut made = Vec::with_capacity(alloc, fields.len())?;
     for (field, (source, target)) in fields.iter().zip(sources.iter().zip(targets)) {
-        push_cast(alloc, field.as_ref(), source, target, &mut made)?;
+        push_part(alloc, field.as_ref(), source, target, &mut made)?;
     }
     Ok(made)
 }

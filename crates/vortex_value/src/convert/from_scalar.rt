@@ -1,7 +1,7 @@
 //! Truth values, strings and bytes out of scalars, valid or not. The impls for `ScalarRef` are of
 //! this port alone.
 
-ghost use Rattle.vortex_value.specs.Words.{SparesShort, Takes, TakesCopy, bytes_in, given_option, or_none, raw_bool, raw_bytes, raw_of, raw_text, ref_raw, ref_type, scalar_raw, scalar_type, taken_bool, taken_bytes, taken_option_bool, taken_option_bytes, taken_option_text, taken_text, text_in};
+ghost use Rattle.vortex_value.specs.Words.{ShortNeverOutOfMemory, Takes, TakesCopy, bytes_in, given_option, or_none, raw_bool, raw_bytes, raw_of, raw_text, ref_raw, ref_type, scalar_raw, scalar_type, taken_bool, taken_bytes, taken_option_bool, taken_option_bytes, taken_option_text, taken_text, text_in};
 
 use crate::refs::ScalarRef;
 use crate::scalars::Scalar;
@@ -98,7 +98,7 @@ impl TryFrom<ScalarRef<'_>> for ByteBuffer {
     type Error = VortexError;
 
     ghost try_from_gives = { λ x r. TakesCopy raw_bytes (taken_bytes (ref_type x) (ref_raw x)) r
-        × SparesShort (taken_bytes (ref_type x) (ref_raw x)) r };
+        × ShortNeverOutOfMemory (taken_bytes (ref_type x) (ref_raw x)) r };
 
     fn try_from(scalar: ScalarRef<'_>) -> Result<ByteBuffer, VortexError> {
         Option::<ByteBuffer>::try_from(scalar)?.ok_or(VortexError::IsNull)
@@ -112,7 +112,7 @@ impl TryFrom<ScalarRef<'_>> for Option<ByteBuffer> {
 
     ghost try_from_gives = { λ x r. TakesCopy (given_option raw_bytes)
         (taken_option_bytes (ref_type x) (ref_raw x)) r
-        × SparesShort (taken_option_bytes (ref_type x) (ref_raw x)) r };
+        × ShortNeverOutOfMemory (taken_option_bytes (ref_type x) (ref_raw x)) r };
 
     fn try_from(scalar: ScalarRef<'_>) -> Result<Option<ByteBuffer>, VortexError> {
         match (scalar.dtype(), scalar.value()) {
@@ -130,7 +130,7 @@ impl TryFrom<&Scalar> for ByteBuffer {
 
     ghost try_from_gives = { λ x r. TakesCopy raw_bytes
         (taken_bytes (scalar_type x.now) (scalar_raw x.now)) r
-        × SparesShort (taken_bytes (scalar_type x.now) (scalar_raw x.now)) r };
+        × ShortNeverOutOfMemory (taken_bytes (scalar_type x.now) (scalar_raw x.now)) r };
 
     fn try_from(scalar: &Scalar) -> Result<ByteBuffer, VortexError> {
         ByteBuffer::try_from(ScalarRef::of(scalar))
@@ -144,7 +144,7 @@ impl TryFrom<&Scalar> for Option<ByteBuffer> {
 
     ghost try_from_gives = { λ x r. TakesCopy (given_option raw_bytes)
         (taken_option_bytes (scalar_type x.now) (scalar_raw x.now)) r
-        × SparesShort (taken_option_bytes (scalar_type x.now) (scalar_raw x.now)) r };
+        × ShortNeverOutOfMemory (taken_option_bytes (scalar_type x.now) (scalar_raw x.now)) r };
 
     fn try_from(scalar: &Scalar) -> Result<Option<ByteBuffer>, VortexError> {
         Option::<ByteBuffer>::try_from(ScalarRef::of(scalar))
@@ -199,7 +199,7 @@ impl TryFrom<ScalarRef<'_>> for BufferString {
     type Error = VortexError;
 
     ghost try_from_gives = { λ x r. TakesCopy raw_text (taken_text (ref_type x) (ref_raw x)) r
-        × SparesShort (taken_text (ref_type x) (ref_raw x)) r };
+        × ShortNeverOutOfMemory (taken_text (ref_type x) (ref_raw x)) r };
 
     fn try_from(scalar: ScalarRef<'_>) -> Result<BufferString, VortexError> {
         Option::<BufferString>::try_from(scalar)?.ok_or(VortexError::IsNull)
@@ -213,7 +213,7 @@ impl TryFrom<ScalarRef<'_>> for Option<BufferString> {
 
     ghost try_from_gives = { λ x r. TakesCopy (given_option raw_text)
         (taken_option_text (ref_type x) (ref_raw x)) r
-        × SparesShort (taken_option_text (ref_type x) (ref_raw x)) r };
+        × ShortNeverOutOfMemory (taken_option_text (ref_type x) (ref_raw x)) r };
 
     fn try_from(scalar: ScalarRef<'_>) -> Result<Option<BufferString>, VortexError> {
         match (scalar.dtype(), scalar.value()) {
@@ -232,7 +232,7 @@ impl TryFrom<&Scalar> for BufferString {
 
     ghost try_from_gives = { λ x r. TakesCopy raw_text
         (taken_text (scalar_type x.now) (scalar_raw x.now)) r
-        × SparesShort (taken_text (scalar_type x.now) (scalar_raw x.now)) r };
+        × ShortNeverOutOfMemory (taken_text (scalar_type x.now) (scalar_raw x.now)) r };
 
     fn try_from(scalar: &Scalar) -> Result<BufferString, VortexError> {
         BufferString::try_from(ScalarRef::of(scalar))
@@ -246,7 +246,7 @@ impl TryFrom<&Scalar> for Option<BufferString> {
 
     ghost try_from_gives = { λ x r. TakesCopy (given_option raw_text)
         (taken_option_text (scalar_type x.now) (scalar_raw x.now)) r
-        × SparesShort (taken_option_text (scalar_type x.now) (scalar_raw x.now)) r };
+        × ShortNeverOutOfMemory (taken_option_text (scalar_type x.now) (scalar_raw x.now)) r };
 
     fn try_from(scalar: &Scalar) -> Result<Option<BufferString>, VortexError> {
         Option::<BufferString>::try_from(ScalarRef::of(scalar))

@@ -54,11 +54,11 @@ decreases-box_variant l = 5 * goal.size-box_variant l + 3
 abbrev pub decreases-copy_boxed : goal.decreases-copy_boxed
 decreases-copy_boxed l = 5 * goal.size-copy_boxed l + 2
 
-abbrev pub decreases-hold_tuple : goal.decreases-hold_tuple
-decreases-hold_tuple l = 5 * goal.size-hold_tuple l + 3
+abbrev pub decreases-boxed_tuple : goal.decreases-boxed_tuple
+decreases-boxed_tuple l = 5 * goal.size-boxed_tuple l + 3
 
-abbrev pub decreases-hold_whole : goal.decreases-hold_whole
-decreases-hold_whole l = 5 * goal.size-hold_whole l + 1
+abbrev pub decreases-boxed_scalar : goal.decreases-boxed_scalar
+decreases-boxed_scalar l = 5 * goal.size-boxed_scalar l + 1
 
 abbrev pub decreases-copy_scalar : goal.decreases-copy_scalar
 decreases-copy_scalar l = 5 * goal.size-copy_scalar l

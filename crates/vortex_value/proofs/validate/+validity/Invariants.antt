@@ -8,19 +8,19 @@ use Rattle.vortex_value.proofs.validate.+validity.Given as goal
 
 abbrev pub invariant-check_elements-loop-index : goal.invariant-check_elements-loop-index
 invariant-check_elements-loop-index l = record {
-  path : l.trace.path ≡ l.fn.trace.path;
+  alloc : l.trace.alloc ≡ l.fn.trace.alloc;
   left : element_breaches (type_of l.element) 0 (value_trees l.items) ≡ element_breaches (type_of l.element) l.index (value_trees (drop l.index l.items));
 }
 
 abbrev pub invariant-check_entries-loop-index : goal.invariant-check_entries-loop-index
 invariant-check_entries-loop-index l = record {
-  path : l.trace.path ≡ l.fn.trace.path;
+  alloc : l.trace.alloc ≡ l.fn.trace.alloc;
   left : entry_breaches (map_of l.map).key (map_of l.map).value 0 (value_trees l.items) ≡ entry_breaches (map_of l.map).key (map_of l.map).value l.index (value_trees (drop l.index l.items));
 }
 
 abbrev pub invariant-check_fields-loop-index : goal.invariant-check_fields-loop-index
 invariant-check_fields-loop-index l = record {
-  path : l.trace.path ≡ l.fn.trace.path;
+  alloc : l.trace.alloc ≡ l.fn.trace.alloc;
   left : field_breaches l.index-iterator.count (dtype_trees l.index-iterator.iter.b.rest.now) (value_trees l.index-iterator.iter.a.rest.now) ≡ field_breaches 0 (dtype_trees l.fields) (value_trees l.items);
 }
 

@@ -16,20 +16,20 @@ use Rattle.vortex_value.proofs.cast.values.+cast.Goals as goal
 
 -- elements
 
-pub cast_elements-returns-in_err-push_stored : goal.cast_elements-returns-in_err-push_stored
-cast_elements-returns-in_err-push_stored t c =
+pub cast_elements-returns-in_err-push_to_storage : goal.cast_elements-returns-in_err-push_to_storage
+cast_elements-returns-in_err-push_to_storage t c =
     let l = c.loop-element in
     let lent : option_copied c.as_ref.result ≡ c.element-item.result = search rules in
-    let is : c.from_residual-in_err-push_stored.result ≡ Err c.in_err-push_stored.field-0.0 = search rules in
+    let is : c.from_residual-in_err-push_to_storage.result ≡ Err c.in_err-push_to_storage.field-0.0 = search rules in
     let here = ap (λ vs. each_to (value_trees vs) (type_of c.args.from.now) (type_of c.args.to.now)) (parts_at c.args.elements.now l.element-index c.element-item.result c.loop-element-test.true c.element-item.is) in
-    passed_on _ _ _ _ _ is (rw lent at c.in_err-push_stored.ensures) (λ none. none_more l.made.items _ _ _ _ l.invariant here none)
+    passed_on _ _ _ _ _ is (rw lent at c.in_err-push_to_storage.ensures) (λ none. none_more l.made.items _ _ _ _ l.invariant here none)
 
 pub cast_elements-loop-element-preserved : goal.cast_elements-loop-element-preserved
 cast_elements-loop-element-preserved t c =
     let l = c.loop-element in
     let lent : option_copied c.as_ref.result ≡ c.element-item.result = search rules in
     let here = ap (λ vs. each_to (value_trees vs) (type_of c.args.from.now) (type_of c.args.to.now)) (parts_at c.args.elements.now l.element-index c.element-item.result c.loop-element-test.true c.element-item.is) in
-    rw add-one (one_added l.made.items c.push_stored.new.made.items _ _ _ _ l.invariant here (rw lent at c.in_ok-push_stored.ensures))
+    rw add-one (one_added l.made.items c.push_to_storage.new.made.items _ _ _ _ l.invariant here (rw lent at c.in_ok-push_to_storage.ensures))
 
 pub cast_elements-returns : goal.cast_elements-returns
 cast_elements-returns t c =
@@ -61,26 +61,26 @@ cast_entries-returns t c =
 pub push_pair-returns-then-parts-ne2 : goal.push_pair-returns-then-parts-ne2
 push_pair-returns-then-parts-ne2 t c = inr (refl, no_entry c.args.parts.now _ _ c.if-parts-ne2.true)
 
-pub push_pair-returns-in_err-push_stored : goal.push_pair-returns-in_err-push_stored
-push_pair-returns-in_err-push_stored t c =
+pub push_pair-returns-in_err-push_to_storage : goal.push_pair-returns-in_err-push_to_storage
+push_pair-returns-in_err-push_to_storage t c =
     let xs = c.args.parts.now in
     let x = c.index-parts-0.result in
     let y = c.index-parts-1.result in
     let lent : option_copied c.as_ref-key.result ≡ c.index-parts-0.result = search rules in
-    let is : c.from_residual-in_err-push_stored.result ≡ Err c.in_err-push_stored.field-0.0 = search rules in
+    let is : c.from_residual-in_err-push_to_storage.result ≡ Err c.in_err-push_to_storage.field-0.0 = search rules in
     let at = entry_at xs x y (map_of c.args.from.now) (map_of c.args.to.now) c.if-parts-ne2.false c.index-parts-0.is c.index-parts-1.is in
-    let refused = rw (lent, c.key_dtype.ensures.tree, c.key_dtype-2.ensures.tree) at c.in_err-push_stored.ensures in
+    let refused = rw (lent, c.key_dtype.ensures.tree, c.key_dtype-2.ensures.tree) at c.in_err-push_to_storage.ensures in
     passed_up _ _ _ _ _ _ is refused (λ none. rw none at at)
 
-pub push_pair-returns-in_err-push_stored-2 : goal.push_pair-returns-in_err-push_stored-2
-push_pair-returns-in_err-push_stored-2 t c =
+pub push_pair-returns-in_err-push_to_storage-2 : goal.push_pair-returns-in_err-push_to_storage-2
+push_pair-returns-in_err-push_to_storage-2 t c =
     let xs = c.args.parts.now in
     let x = c.index-parts-0.result in
     let y = c.index-parts-1.result in
     let lent : option_copied c.as_ref-value.result ≡ c.index-parts-1.result = search rules in
-    let is : c.from_residual-in_err-push_stored-2.result ≡ Err c.in_err-push_stored-2.field-0.0 = search rules in
+    let is : c.from_residual-in_err-push_to_storage-2.result ≡ Err c.in_err-push_to_storage-2.field-0.0 = search rules in
     let at = entry_at xs x y (map_of c.args.from.now) (map_of c.args.to.now) c.if-parts-ne2.false c.index-parts-0.is c.index-parts-1.is in
-    let refused = rw (lent, c.value_dtype.ensures.tree, c.value_dtype-2.ensures.tree) at c.in_err-push_stored-2.ensures in
+    let refused = rw (lent, c.value_dtype.ensures.tree, c.value_dtype-2.ensures.tree) at c.in_err-push_to_storage-2.ensures in
     passed_up _ _ _ _ _ _ is refused (λ none. (rw none at at) ∙ no_value _)
 
 pub push_pair-returns : goal.push_pair-returns
@@ -88,13 +88,13 @@ push_pair-returns t c =
     let xs = c.args.parts.now in
     let x = c.index-parts-0.result in
     let y = c.index-parts-1.result in
-    let pair = c.push_stored-2.new.made in
+    let pair = c.push_to_storage-2.new.made in
     let lent : option_copied c.as_ref-key.result ≡ x = search rules in
     let lent_value : option_copied c.as_ref-value.result ≡ y = search rules in
     let at = entry_at xs x y (map_of c.args.from.now) (map_of c.args.to.now) c.if-parts-ne2.false c.index-parts-0.is c.index-parts-1.is in
-    let key = rw (lent, c.key_dtype.ensures.tree, c.key_dtype-2.ensures.tree) at c.in_ok-push_stored.ensures in
-    let value = rw (lent_value, c.value_dtype.ensures.tree, c.value_dtype-2.ensures.tree) at c.in_ok-push_stored-2.ensures in
-    let made = pair_added _ _ c.in_ok-pair.pair.items c.push_stored.new.made.items pair.items _ c.in_ok-pair.ensures.items key value at in
+    let key = rw (lent, c.key_dtype.ensures.tree, c.key_dtype-2.ensures.tree) at c.in_ok-push_to_storage.ensures in
+    let value = rw (lent_value, c.value_dtype.ensures.tree, c.value_dtype-2.ensures.tree) at c.in_ok-push_to_storage-2.ensures in
+    let made = pair_added _ _ c.in_ok-pair.pair.items c.push_to_storage.new.made.items pair.items _ c.in_ok-pair.ensures.items key value at in
     appended _ _ (Some (Tuple pair)) _ c.push.result c.push.ensures (made ∙ ap Some (sym (value_tree-Tuple pair)))
 
 -- structs
@@ -105,20 +105,20 @@ cast_fields-returns-then-fields-sources t c = inr (refl, no_fields _ _ _ (λ h. 
 pub cast_fields-returns-then-sources-targets : goal.cast_fields-returns-then-sources-targets
 cast_fields-returns-then-sources-targets t c = inr (refl, no_fields _ _ _ (λ h. c.if-sources-targets.true h.1))
 
-pub cast_fields-returns-in_err-push_cast : goal.cast_fields-returns-in_err-push_cast
-cast_fields-returns-in_err-push_cast t c =
+pub cast_fields-returns-in_err-push_part : goal.cast_fields-returns-in_err-push_part
+cast_fields-returns-in_err-push_part t c =
     let steps = c.in-Some.ensures.steps in
     let lent : option_copied c.as_ref.result ≡ c.in-Some.field.now = search rules in
-    let is : c.from_residual-in_err-push_cast.result ≡ Err c.in_err-push_cast.field-0.0 = search rules in
+    let is : c.from_residual-in_err-push_part.result ≡ Err c.in_err-push_part.field-0.0 = search rules in
     let here = fields_at _ _ _ _ _ _ c.in-Some.field.now c.in-Some.source.now c.in-Some.target.now steps.0 steps.1.0 steps.1.1 in
-    passed_on _ _ _ _ _ is (rw lent at c.in_err-push_cast.ensures) (λ none. none_more c.loop-field.made.items _ _ _ _ c.loop-field.invariant.0 here none)
+    passed_on _ _ _ _ _ is (rw lent at c.in_err-push_part.ensures) (λ none. none_more c.loop-field.made.items _ _ _ _ c.loop-field.invariant.0 here none)
 
 pub cast_fields-loop-field-preserved : goal.cast_fields-loop-field-preserved
 cast_fields-loop-field-preserved t c =
     let steps = c.in-Some.ensures.steps in
     let lent : option_copied c.as_ref.result ≡ c.in-Some.field.now = search rules in
     let here = fields_at _ _ _ _ _ _ c.in-Some.field.now c.in-Some.source.now c.in-Some.target.now steps.0 steps.1.0 steps.1.1 in
-    let more = one_added c.loop-field.made.items c.push_cast.new.made.items _ _ _ _ c.loop-field.invariant.0 here (rw lent at c.in_ok-push_cast.ensures) in
+    let more = one_added c.loop-field.made.items c.push_part.new.made.items _ _ _ _ c.loop-field.invariant.0 here (rw lent at c.in_ok-push_part.ensures) in
     (more, omega (arith, ap length steps.0, ap length steps.1.0), omega (arith, ap length steps.1.0, ap length steps.1.1))
 
 pub cast_fields-returns : goal.cast_fields-returns
@@ -181,18 +181,18 @@ pub cast_present-returns-in_default : goal.cast_present-returns-in_default
 cast_present-returns-in_default t c =
     let plain : ¬ (IsExtension (type_of c.args.source.now)) = search (rules, the_lemmas) in
     record {
-      made = rw (cast_below c.args.value.now (type_of c.args.source.now) (type_of c.args.target.now) plain, ← c.storage_of.ensures) c.cast_bare.ensures.made;
-      flat = λ flat. c.cast_bare.ensures.flat (rw c.storage_of.ensures (flat_storage (type_of c.args.target.now) flat));
+      made = rw (cast_below c.args.value.now (type_of c.args.source.now) (type_of c.args.target.now) plain, ← c.storage_of.ensures) c.cast_by_kind.ensures.made;
+      flat = λ flat. c.cast_by_kind.ensures.flat (rw c.storage_of.ensures (flat_storage (type_of c.args.target.now) flat));
       whole = λ taken.
           let leaf = leaf_of (type_of c.args.source.now) (content (value_tree c.args.value.now)) plain taken in
-          rw (cast_below c.args.value.now (type_of c.args.source.now) (type_of c.args.target.now) plain, ← c.storage_of.ensures) (c.cast_bare.ensures.whole leaf);
+          rw (cast_below c.args.value.now (type_of c.args.source.now) (type_of c.args.target.now) plain, ← c.storage_of.ensures) (c.cast_by_kind.ensures.whole leaf);
     }
 
 -- once the target's storage is known
 
-pub push_stored-returns-in-Some-Some : goal.push_stored-returns-in-Some-Some
-push_stored-returns-in-Some-Some t c =
+pub push_to_storage-returns-in-Some-Some : goal.push_to_storage-returns-in-Some-Some
+push_to_storage-returns-in-Some-Some t c =
     let s = type_of c.args.source.now in
     let u = type_of c.args.target.now in
     let bare : IsBareTarget s u (Some c.in-Some-Some.stored.now) = rw c.in-Some-Some.is-1 at c.requires in
-    rw (c.in-Some-Some.is-0, cast_below c.in-Some-Some.value.now s u bare.0, ← bare.1) c.push_bare.ensures
+    rw (c.in-Some-Some.is-0, cast_below c.in-Some-Some.value.now s u bare.0, ← bare.1) c.push_by_kind.ensures

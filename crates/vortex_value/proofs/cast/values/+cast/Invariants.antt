@@ -29,20 +29,20 @@ decreases-cast_value l = 16 * lent_size l.value + 3
 abbrev pub decreases-cast_present : goal.decreases-cast_present
 decreases-cast_present l = 16 * goal.size-cast_present l + 2
 
-abbrev pub decreases-cast_bare : goal.decreases-cast_bare
-decreases-cast_bare l = 16 * goal.size-cast_bare l + 1
+abbrev pub decreases-cast_by_kind : goal.decreases-cast_by_kind
+decreases-cast_by_kind l = 16 * goal.size-cast_by_kind l + 1
 
-abbrev pub decreases-push_cast : goal.decreases-push_cast
-decreases-push_cast l = 16 * lent_size l.value + 6
+abbrev pub decreases-push_part : goal.decreases-push_part
+decreases-push_part l = 16 * lent_size l.value + 6
 
-abbrev pub decreases-push_stored : goal.decreases-push_stored
-decreases-push_stored l = 16 * lent_size l.value + 5
+abbrev pub decreases-push_to_storage : goal.decreases-push_to_storage
+decreases-push_to_storage l = 16 * lent_size l.value + 5
 
-abbrev pub decreases-push_whole : goal.decreases-push_whole
-decreases-push_whole l = 16 * lent_size l.value + 4
+abbrev pub decreases-push_null_or_extension : goal.decreases-push_null_or_extension
+decreases-push_null_or_extension l = 16 * lent_size l.value + 4
 
-abbrev pub decreases-push_bare : goal.decreases-push_bare
-decreases-push_bare l = 16 * goal.size-push_bare l + 1
+abbrev pub decreases-push_by_kind : goal.decreases-push_by_kind
+decreases-push_by_kind l = 16 * goal.size-push_by_kind l + 1
 
 abbrev pub decreases-push_tuple : goal.decreases-push_tuple
 decreases-push_tuple l = 16 * goal.size-push_tuple l + 10

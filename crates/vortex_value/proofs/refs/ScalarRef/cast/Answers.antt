@@ -1,7 +1,7 @@
 -- What the steps make is the one value that the table says.
 use Rattle.std.proofs.Common.{◌≡◌, Err, sym, ◌∙◌, refl, rules}
 use Rattle.vortex_dtype.specs.TypeOf.{type_of}
-use Rattle.vortex_value.specs.CastAnswers.{HidesNoLeaf}
+use Rattle.vortex_value.specs.CastAnswers.{OutOfMemoryOnlyIfPossible}
 use Rattle.vortex_value.specs.Casts.{CanCast, RefusesCast}
 use Rattle.vortex_value.specs.Steps.CastSteps.{error_of}
 use Rattle.vortex_value.specs.Values.RawOf.{raw_of}
@@ -31,7 +31,7 @@ returns c =
           });
       refuses_only = untyped_with _ _ c.clone.result c.in_ok-value.value c.with_type.result (RefusesCast t can) c.with_type.ensures c.clone.ensures
           (λ e none. rw none.0 none.1);
-      leaf_refused = untyped_with _ _ c.clone.result c.in_ok-value.value c.with_type.result (HidesNoLeaf (ref_type x) (ref_content x) can) c.with_type.ensures c.clone.ensures
+      leaf_refused = untyped_with _ _ c.clone.result c.in_ok-value.value c.with_type.result (OutOfMemoryOnlyIfPossible (ref_type x) (ref_content x) can) c.with_type.ensures c.clone.ensures
           (λ e none whole memory. (made.allowed, record { value = raw_of c.in_ok-value.value; valid = made.valid; same = made.same }));
     }
 

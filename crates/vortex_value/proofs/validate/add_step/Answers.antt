@@ -2,7 +2,7 @@
 use Rattle.std.proofs.Common.{subst}
 use Rattle.vortex_value.specs.Steps.Faults.{Shows}
 use Rattle.vortex_value.proofs.ValidSteps.{under-steps, some-steps}
-use Rattle.vortex_value.proofs.validate.within.Goals as goal
+use Rattle.vortex_value.proofs.validate.add_step.Goals as goal
 
 pub returns-in-NoMemory : goal.returns-in-NoMemory
 returns-in-NoMemory c = λ kept fs h. under-steps c.args.step fs (some-steps fs (subst (λ f. Shows kept f fs) c.in-NoMemory.is h))

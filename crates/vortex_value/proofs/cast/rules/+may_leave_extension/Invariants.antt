@@ -1,7 +1,0 @@
--- Each call goes from an extension's tree to that of its storage.
-use Rattle.vortex_dtype.specs.TypeOf.{type_of}
-use Rattle.vortex_dtype.specs.Lemmas.TypeSize.{type_size}
-use Rattle.vortex_value.proofs.cast.rules.+may_leave_extension.Given as goal
-
-abbrev pub decreases-may_leave_extension : goal.decreases-may_leave_extension
-decreases-may_leave_extension l = type_size (type_of l.target.now)

@@ -1,6 +1,0 @@
--- The box holds the copied type and the parts.
-use Rattle.vortex_value.proofs.CopySteps.{given_as, held_tuple}
-use Rattle.vortex_value.proofs.copies.hold_parts.Goals as goal
-
-pub returns-in-Ok : goal.returns-in-Ok
-returns-in-Ok c = given_as c.boxed.result (λ made h. held_tuple made.value c.in-Ok.dtype _ c.args.parts h c.in-Ok.ensures) c.boxed.ensures
