@@ -81,8 +81,8 @@ taken_option_bool _ v = Err WrongKind
 abbrev pub taken_number : PType → TypeTree → RawTree → Taken
 taken_number k t v = unless_null (number_in k) v
 
--- an optional one: another type, another integer kind, of a null too; a null is none; another kind of raw value, a
--- number that does not fit
+-- an optional one: another type, another integer type, of a null too; a null gives `None`; another variant of raw value,
+-- a number that does not fit
 abbrev pub taken_option_number : PType → TypeTree → RawTree → Taken
 taken_option_number k (integer_type l n) v = if same_ptype l k then or_none (number_in k) v else Err WrongPType
 taken_option_number k _ v = Err WrongKind
@@ -138,7 +138,7 @@ abbrev pub elements_in : (RawTree → Taken) → RawTree → Taken
 elements_in read (raw_tuple vs) = as_tuple (each_taken read vs)
 elements_in read _ = Err WrongKind
 
--- a Vec, by what its elements take: a type that is no list, a null, another kind of raw value, the first element's
+-- a Vec, by what its elements take: a type that is no list, a null, another variant of raw value, the first element's
 -- refusal
 abbrev pub taken_vec : (TypeTree → RawTree → Taken) → TypeTree → RawTree → Taken
 taken_vec element (list_type e n) v = unless_null (elements_in (element e)) v

@@ -2,8 +2,8 @@
 // SPDX-FileCopyrightText: Copyright the Vortex contributors; ported to Rattle and changed
 //! Raw values and scalars: a valid scalar is one type and one content.
 //!
-//! A public item ports upstream's of the same name, but where it names another or says that it, or
-//! its type, is of this port alone.
+//! A public item ports upstream's of the same name, unless it names another or says that it, or its
+//! type, is of this port alone.
 #![tactic(auto)]
 
 mod cast;

@@ -1,9 +1,9 @@
 //! The eight integers out of raw values and scalars, valid or not.
 //!
-//! Of a raw value `WrongKind` where it is no integer, then `OutOfRange` where the integer type does
-//! not have it. Of a scalar the raw value alone is looked at, so `IsNull` of a null comes before
-//! these. Ports the impls of `TryFrom<&ScalarValue>` and `TryFrom<&Scalar>`, which panic at another
-//! kind of value; those for `ScalarRef` are of this port alone.
+//! Of a raw value `WrongKind` if it is no integer, then `OutOfRange` if the integer type does not have
+//! it. Of a scalar the raw value alone is looked at, so `IsNull` of a null comes before these. Ports
+//! the impls of `TryFrom<&ScalarValue>` and `TryFrom<&Scalar>`, which panic if there is no integer;
+//! those for `ScalarRef` are of this port alone.
 
 ghost use Rattle.std.specs.Prelude.{pos};
 ghost use Rattle.vortex_value.specs.Words.{I16, I32, I64, I8, Takes, U16, U32, U64, U8, given_number, number_in, ref_raw, ref_type, scalar_raw, scalar_type, taken_number, value_tree};
