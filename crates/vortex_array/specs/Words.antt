@@ -9,7 +9,7 @@ pub use Rattle.vortex_dtype.specs.declared.error.VortexError.TheVariants.{OutOfM
 pub use Rattle.vortex_dtype.specs.declared.nullability.Nullability.{Nullability}
 pub use Rattle.vortex_dtype.specs.declared.nullability.Nullability.TheVariants.{NonNullable, Nullable}
 pub use Rattle.vortex_dtype.specs.declared.ptype.PType.TheVariants.{U64}
-pub use Rattle.vortex_value.specs.Conversions.{IsMadeValid, SparesShort, Taken, Takes, TakesCopy, as_tuple, each_taken, elements_in, given_number, given_option, given_usize, taken_bool, taken_bytes, taken_number, taken_option_bool, taken_option_bytes, taken_option_number, taken_option_text, taken_option_usize, taken_text, taken_usize, taken_vec, unless_null}
+pub use Rattle.vortex_value.specs.Conversions.{IsMadeValid, ShortNeverOutOfMemory, Taken, Takes, TakesCopy, as_tuple, each_taken, elements_in, given_number, given_option, given_usize, taken_bool, taken_bytes, taken_number, taken_option_bool, taken_option_bytes, taken_option_number, taken_option_text, taken_option_usize, taken_text, taken_usize, taken_vec, unless_null}
 pub use Rattle.vortex_value.specs.Order.{order}
 pub use Rattle.vortex_value.specs.Validity.{EachValid, Valid}
 pub use Rattle.vortex_value.specs.Values.Content.{content}

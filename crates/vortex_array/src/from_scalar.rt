@@ -2,7 +2,7 @@
 #![tactic(auto, using(crate::proofs::GivenEach::tuple_tree, crate::proofs::TakenEach::has_parts))]
 
 ghost use Rattle.std.specs.Prelude.{◌≡◌, Err, string_bytes};
-ghost use Rattle.vortex_array.specs.Words.{Copies, HasParts, RawTree, SparesShort, Taken, Takes, TakesCopy, TakesOrNoMemory, TypeTree, as_tuple, each_taken, elements_in, given_number, given_option, given_usize, given_vec, lent_raw, raw_bool, raw_bytes, raw_of, raw_text, raw_tuple, ref_raw, ref_type, taken_bool, taken_bytes, taken_from, taken_number, taken_option_bool, taken_option_bytes, taken_option_number, taken_option_text, taken_option_usize, taken_text, taken_usize, taken_vec, type_of, unless_null, value_trees};
+ghost use Rattle.vortex_array.specs.Words.{Copies, HasParts, RawTree, ShortNeverOutOfMemory, Taken, Takes, TakesCopy, TakesOrNoMemory, TypeTree, as_tuple, each_taken, elements_in, given_number, given_option, given_usize, given_vec, lent_raw, raw_bool, raw_bytes, raw_of, raw_text, raw_tuple, ref_raw, ref_type, taken_bool, taken_bytes, taken_from, taken_number, taken_option_bool, taken_option_bytes, taken_option_number, taken_option_text, taken_option_usize, taken_text, taken_usize, taken_vec, type_of, unless_null, value_trees};
 
 use crate::integers::Integer;
 use std::alloc::Global;
@@ -123,7 +123,7 @@ impl FromScalar for ByteBuffer {
 
     fn try_from_scalar(_alloc: Global, scalar: ScalarRef<'_>) -> Result<ByteBuffer, VortexError>
         ensures copy { TakesCopy raw_bytes (taken_from taken_bytes scalar.entry) result }
-        ensures inline { SparesShort (taken_from taken_bytes scalar.entry) result }
+        ensures inline { ShortNeverOutOfMemory (taken_from taken_bytes scalar.entry) result }
     {
         ByteBuffer::try_from(scalar)
     }
@@ -140,7 +140,7 @@ impl FromScalar for Option<ByteBuffer> {
     ) -> Result<Option<ByteBuffer>, VortexError>
         ensures copy { TakesCopy (given_option raw_bytes)
             (taken_from taken_option_bytes scalar.entry) result }
-        ensures inline { SparesShort (taken_from taken_option_bytes scalar.entry) result }
+        ensures inline { ShortNeverOutOfMemory (taken_from taken_option_bytes scalar.entry) result }
     {
         Option::<ByteBuffer>::try_from(scalar)
     }
@@ -153,7 +153,7 @@ impl FromScalar for BufferString {
 
     fn try_from_scalar(_alloc: Global, scalar: ScalarRef<'_>) -> Result<BufferString, VortexError>
         ensures copy { TakesCopy raw_text (taken_from taken_text scalar.entry) result }
-        ensures inline { SparesShort (taken_from taken_text scalar.entry) result }
+        ensures inline { ShortNeverOutOfMemory (taken_from taken_text scalar.entry) result }
     {
         BufferString::try_from(scalar)
     }
@@ -170,7 +170,7 @@ impl FromScalar for Option<BufferString> {
     ) -> Result<Option<BufferString>, VortexError>
         ensures copy { TakesCopy (given_option raw_text)
             (taken_from taken_option_text scalar.entry) result }
-        ensures inline { SparesShort (taken_from taken_option_text scalar.entry) result }
+        ensures inline { ShortNeverOutOfMemory (taken_from taken_option_text scalar.entry) result }
     {
         Option::<BufferString>::try_from(scalar)
     }

@@ -6,4 +6,4 @@ pub returns : goal.returns
 returns c =
     c.no_way_round.ensures.calls _ _ _ (_ ∷ []) _ c.cast.result c.requires.chain c.requires.source.0 c.requires.last.0
     (inl (c.requires.source.1, c.requires.last.1))
-    (record { succeeds_only = c.cast.ensures.succeeds_only; one = c.cast.ensures.one; refuses_only = c.cast.ensures.refuses_only })
+    c.cast.ensures

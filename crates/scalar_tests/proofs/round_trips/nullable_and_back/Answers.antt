@@ -6,4 +6,4 @@ pub returns : goal.returns
 returns c =
     comes_back c.into_nullable_and_back.ensures.calls c.args.scalar _ _ c.cast-back.result c.requires.typed c.requires.valid
     c.into_nullable-nullable.ensures.made
-    (record { succeeds_only = c.cast-back.ensures.succeeds_only; one = c.cast-back.ensures.one; refuses_only = c.cast-back.ensures.refuses_only })
+    c.cast-back.ensures
