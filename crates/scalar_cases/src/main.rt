@@ -1,3 +1,5 @@
+// SPDX-License-Identifier: Apache-2.0
+// SPDX-FileCopyrightText: Copyright the Vortex contributors; ported to Rattle and changed
 //! Reads worked cases, one a line, and says which of them do not come out as written. Given the
 //! word `--memory` it watches each call, as `Run` says.
 #![tactic(auto)]

@@ -1,4 +1,4 @@
-//! What calls answer.
+//! The answers of calls, and how each is written.
 
 use crate::write::output::Output;
 use crate::write::refusals::write_refusal;
@@ -15,90 +15,79 @@ use vortex_value::{Scalar, ScalarValue};
 /// What a call answers.
 #[derive(Drop)]
 pub enum Answer {
-    /// The line is none of the language.
+    /// The line is not in the language.
     BadLine,
     /// The scalar is valid.
     Valid,
-    /// There is none.
+    /// The call answered `None`.
     None,
-    /// A null.
+    /// The value is a null.
     Null,
-    /// The call asks for what is not so: it is not made.
+    /// The call was not made: what it requires does not hold.
     Unmet,
-    /// What the call borrowed or handed back is not what it was given.
+    /// The call changed what it borrowed, or handed back something else than it was given.
     Changed,
-    /// No text follows.
+    /// The string has no successor.
     Last,
-    /// An iterator gave other items than the ones that are lent.
+    /// An iterator gave other items than the ones that the view lends.
     WrongItems,
-    /// An iterator had no memory for several items.
+    /// An iterator answered `OutOfMemory` for several items.
     NoMemoryForItems,
-    /// A truth value.
     Truth(bool),
-    /// Whether a hasher is fed the same.
+    /// Whether two values feed a hasher the same.
     SameFeed(bool),
-    /// An order.
     Order(Ordering),
-    /// A number.
     Number(usize),
-    /// An integer without its kind.
+    /// An integer, written without its `PType`.
     Integer(PValue),
-    /// A text.
     Text(String),
-    /// A type.
     Type(DType),
-    /// A raw value.
     Raw(ScalarValue),
-    /// A scalar.
     Scalar(Scalar),
-    /// A bound, and whether the value is longer.
+    /// A bound, and whether the value is longer than it.
     Bound((Scalar, bool)),
-    /// Parts, in order.
     Parts(Vec<Scalar>),
-    /// An entry of a map.
+    /// A key and its value.
     Entry((Scalar, Scalar)),
-    /// Entries of a map, in order.
     Entries(Vec<(Scalar, Scalar)>),
-    /// What is written already.
+    /// An answer that is written already.
     Written(String),
-    /// A refusal.
     Refused(VortexError),
 }
 
-/// What a call answers, or its refusal.
-pub type Answering = Result<Answer, VortexError>;
+/// An answer, or the call's refusal.
+pub type CallResult = Result<Answer, VortexError>;
 
-/// What is answered, or that there is none.
+/// The answer for an `Option`.
 pub fn or_none(answer: Option<Answer>) -> Answer {
     answer.unwrap_or(Answer::None)
 }
 
-/// The text of what is shown. For nothing but memory is it refused.
-pub fn text_of<T: Display>(alloc: Global, shown: &T) -> Answering {
+/// The `Display` of a value. `OutOfMemory` is its only refusal.
+pub fn text_of<T: Display>(alloc: Global, shown: &T) -> CallResult {
     match format!(in alloc; "{shown}") {
         Ok(text) => Ok(Answer::Text(text)),
         Err(_) => Err(VortexError::OutOfMemory),
     }
 }
 
-/// A string of bytes.
+/// Bytes, as a raw value.
 pub fn bytes(bytes: ByteBuffer) -> Answer {
     Answer::Raw(ScalarValue::Binary(bytes))
 }
 
-/// A text of a raw value.
+/// A string, as a raw value.
 pub fn buffer_text(text: BufferString) -> Answer {
     Answer::Raw(ScalarValue::Utf8(text))
 }
 
-/// An answer in its one form.
+/// An answer as it stands in a line. `AllocError` if there is no memory to write it.
 pub fn answer_text(alloc: Global, answer: &Answer) -> Result<String, AllocError> {
     let mut out = Output::new(alloc);
     write_answer(&mut out, answer);
     out.into_text()
 }
 
-/// Writes an answer in its one form.
 pub fn write_answer(out: &mut Output, answer: &Answer) {
     match answer {
         Answer::BadLine => out.word("bad line"),
@@ -128,7 +117,6 @@ pub fn write_answer(out: &mut Output, answer: &Answer) {
     }
 }
 
-/// The word for a truth value.
 pub fn truth_word(is_true: bool) -> &'static str {
     if is_true { "true" } else { "false" }
 }
@@ -141,7 +129,6 @@ fn order_word(order: Ordering) -> &'static str {
     }
 }
 
-/// Writes a bound and whether the value is longer, in brackets.
 fn write_bound(out: &mut Output, bound: &(Scalar, bool)) {
     out.char('[');
     write_scalar(out, &bound.0);
@@ -150,7 +137,6 @@ fn write_bound(out: &mut Output, bound: &(Scalar, bool)) {
     out.char(']');
 }
 
-/// Writes scalars in brackets.
 fn write_parts(out: &mut Output, parts: &[Scalar]) {
     out.char('[');
     for (place, part) in parts.iter().enumerate() {
@@ -160,7 +146,6 @@ fn write_parts(out: &mut Output, parts: &[Scalar]) {
     out.char(']');
 }
 
-/// Writes a key and its value, in brackets.
 fn write_entry(out: &mut Output, entry: &(Scalar, Scalar)) {
     out.char('[');
     write_scalar(out, &entry.0);
@@ -169,7 +154,6 @@ fn write_entry(out: &mut Output, entry: &(Scalar, Scalar)) {
     out.char(']');
 }
 
-/// Writes entries in brackets.
 fn write_entries(out: &mut Output, entries: &[(Scalar, Scalar)]) {
     out.char('[');
     for (place, entry) in entries.iter().enumerate() {

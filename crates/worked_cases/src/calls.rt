@@ -1,24 +1,25 @@
-//! Calls: each file has those of a family by name, and what each of them answers.
+//! Calls. Each file has a family of them: their names, and what each answers.
 
 mod bounds;
+mod buffers;
 mod makers;
+mod makers_of_parts;
 mod numbers;
-mod parts;
 mod recorder;
 mod rust_values;
 mod scalars;
 mod types;
-mod views;
-mod wholes;
+mod view_parts;
+mod whole_views;
 
-use crate::answers::{Answer, Answering};
+use crate::answers::{Answer, CallResult};
 use crate::inputs::{Borrowed, Inputs};
 use crate::runs::Run;
 use crate::tokens::Tokens;
 use std::alloc::{AllocError, Global};
 use std::str;
 
-/// A line, of which the name of the call is read.
+/// A line whose call is named; its inputs are not read yet.
 #[derive(Drop)]
 pub struct Line<'a> {
     run: Run<'a>,
@@ -28,7 +29,7 @@ pub struct Line<'a> {
 }
 
 impl<'a> Line<'a> {
-    /// A line, which is to be text.
+    /// Reads the name of a line's call.
     pub fn new(run: Run<'a>, text: &'a [u8]) -> Line<'a> {
         let mut tokens = Tokens::of(run.alloc(), text);
         Line {
@@ -39,67 +40,38 @@ impl<'a> Line<'a> {
         }
     }
 
-    /// The answer that stands in the line after its arrow, if there is one.
+    /// The expected answer of the line, if it has one and `answer` has read it.
     pub fn expected(&self) -> Option<&'a [u8]> {
         self.tokens.expected()
     }
 
-    /// What the line's call answers; `BadLine` where it is none of the language.
+    /// The answer of the line's call, or `BadLine` if the line is not in the language.
     pub fn answer(&mut self) -> Result<Answer, AllocError> {
         if str::from_utf8(self.text).is_err() {
             return Ok(Answer::BadLine);
         }
-        Ok(self.answered()?.unwrap_or(Answer::BadLine))
+        types::answer_line(self)
     }
 
-    /// What the call answers, if the line names one.
-    fn answered(&mut self) -> Result<Option<Answer>, AllocError> {
-        if let Some(answer) = types::answer_line(self)? {
-            return Ok(Some(answer));
-        }
-        if let Some(answer) = scalars::answer_line(self)? {
-            return Ok(Some(answer));
-        }
-        if let Some(answer) = makers::answer_line(self)? {
-            return Ok(Some(answer));
-        }
-        if let Some(answer) = views::answer_line(self)? {
-            return Ok(Some(answer));
-        }
-        if let Some(answer) = wholes::answer_line(self)? {
-            return Ok(Some(answer));
-        }
-        if let Some(answer) = numbers::answer_line(self)? {
-            return Ok(Some(answer));
-        }
-        if let Some(answer) = bounds::answer_line(self)? {
-            return Ok(Some(answer));
-        }
-        if let Some(answer) = rust_values::answer_line(self)? {
-            return Ok(Some(answer));
-        }
-        parts::answer_line(self)
-    }
-
-    /// What a call answers that borrows its inputs. Where it is watched, these have to be as they
-    /// were.
-    fn borrowing<I: Borrowed, F: FnOnce(Global, &I) -> Answering + Copy>(
+    /// The answer of a call that borrows its inputs. A watched run answers `Changed` if they are not
+    /// as they were.
+    fn borrowing<I: Borrowed, F: FnOnce(Global, &I) -> CallResult + Copy>(
         &mut self,
         call: F,
-    ) -> Result<Option<Answer>, AllocError>
+    ) -> Result<Answer, AllocError>
         requires { F.IsAlwaysCallable call }
     {
         let inputs = I::read(&mut self.tokens);
         if let Some(answer) = self.tokens.end()? {
-            return Ok(Some(answer));
+            return Ok(answer);
         }
-        self.run.says("called");
-        let answer = call(self.run.alloc(), &inputs);
-        self.run.says("answered");
-        Ok(Some(told(answer, self.run.is_watched() && self.is_changed(&inputs))))
+        self.run.report("called");
+        let outcome = call(self.run.alloc(), &inputs);
+        self.run.report("answered");
+        Ok(answer_of(outcome, self.run.is_watched() && self.is_changed(&inputs)))
     }
 
-    /// Whether inputs are other than what is read a second time, which shares no memory with them.
+    /// Whether inputs differ from a second reading of the line, which shares no memory with them.
     fn is_changed<I: Borrowed>(&self, inputs: &I) -> bool {
         let mut tokens = Tokens::of(self.run.alloc(), self.text);
         tokens.word();
@@ -107,27 +79,27 @@ impl<'a> Line<'a> {
         !inputs.is_same(&copy)
     }
 
-    /// What a call answers that takes its inputs.
-    fn taking<I: Inputs, F: FnOnce(Global, I) -> Answering + Copy>(
+    /// The answer of a call that takes its inputs.
+    fn taking<I: Inputs, F: FnOnce(Global, I) -> CallResult + Copy>(
         &mut self,
         call: F,
-    ) -> Result<Option<Answer>, AllocError>
+    ) -> Result<Answer, AllocError>
         requires { F.IsAlwaysCallable call }
     {
         let inputs = I::read(&mut self.tokens);
         if let Some(answer) = self.tokens.end()? {
-            return Ok(Some(answer));
+            return Ok(answer);
         }
-        self.run.says("called");
-        let answer = call(self.run.alloc(), inputs);
-        self.run.says("answered");
-        Ok(Some(told(answer, false)))
+        self.run.report("called");
+        let outcome = call(self.run.alloc(), inputs);
+        self.run.report("answered");
+        Ok(answer_of(outcome, false))
     }
 }
 
-/// What a call answered: a refusal is an answer too.
-fn told(answer: Answering, is_changed: bool) -> Answer {
-    match answer {
+/// The answer of a call: a refusal is an answer too.
+fn answer_of(outcome: CallResult, is_changed: bool) -> Answer {
+    match outcome {
         _ if is_changed => Answer::Changed,
         Ok(answer) => answer,
         Err(refusal) => Answer::Refused(refusal),

@@ -1,4 +1,4 @@
-//! One line: a case, and what comes of it.
+//! One line: its call's answer, compared with the answer that stands in it.
 
 use crate::answers::{Answer, answer_text};
 use crate::calls::Line;
@@ -6,48 +6,54 @@ use crate::lines::push_number;
 use crate::runs::Run;
 use std::alloc::{AllocError, Global};
 
-/// What is answered to a line, as text, and the answer that stands in it, if there is one.
+/// The written answer to a line, and the answer that stands in the line, if there is one.
 #[derive(Drop)]
-struct Answered<'a> {
+struct AnsweredLine<'a> {
     text: String,
     is_bad: bool,
     expected: Option<&'a [u8]>,
 }
 
-/// Answers a line, which need not be text.
-fn answer_line<'a>(run: Run<'a>, line: &'a [u8]) -> Result<Answered<'a>, AllocError> {
+/// Answers a line, which need not be UTF-8.
+fn answer_line<'a>(run: Run<'a>, line: &'a [u8]) -> Result<AnsweredLine<'a>, AllocError> {
     let mut line = Line::new(run, line);
-    let answer = line.answer()?;
-    let is_bad = matches!(answer, Answer::BadLine);
-    let text = answer_text(run.alloc(), &answer);
-    drop(answer);
+    let answer = line.answer();
     let expected = line.expected();
     drop(line);
-    Ok(Answered {
-        text: text?,
+    let (text, is_bad) = written(run.alloc(), answer?)?;
+    Ok(AnsweredLine {
+        text,
         is_bad,
         expected,
     })
 }
 
-/// What the call of a line answers, as text; to a line that is none of the language `bad line`.
+/// An answer as it is written, and whether it is `BadLine`.
+fn written(alloc: Global, answer: Answer) -> Result<(String, bool), AllocError> {
+    let is_bad = matches!(answer, Answer::BadLine);
+    let text = answer_text(alloc, &answer);
+    drop(answer);
+    Ok((text?, is_bad))
+}
+
+/// The written answer of a line's call, or `bad line` if the line is not in the language.
 pub fn call(alloc: Global, line: &[u8]) -> Result<String, AllocError> {
     Ok(answer_line(Run::alone(alloc), line)?.text)
 }
 
-/// What a line comes to.
+/// How a line comes out.
 #[derive(Clone, Copy)]
 pub enum Outcome {
-    /// It asks nothing, or has no answer to compare.
+    /// It is empty, a remark, or has no answer to compare.
     Passed,
-    /// Its answer is the one that comes.
+    /// The call answers what stands in the line.
     Right,
-    /// Another answer comes, or it is no line of the language.
+    /// The call answers otherwise, or the line is not in the language.
     Wrong,
 }
 
-/// Runs a line, and writes what there is to say of it: of a case without an answer the one that
-/// comes after the line, of a wrong one that alone.
+/// Runs a line. A case without an answer is written to `out` with its answer after it, and a wrong
+/// case as its line number and the answer that came.
 pub fn run_line<'a>(
     run: Run<'a>,
     out: &mut Vec<u8>,
@@ -57,14 +63,14 @@ pub fn run_line<'a>(
     if asks_nothing(line) {
         return Ok(Outcome::Passed);
     }
-    let Answered {
+    let AnsweredLine {
         text,
         is_bad,
         expected,
     } = answer_line(run, line)?;
     match expected {
         None if !is_bad => {
-            push_answered(out, line, &text)?;
+            push_with_answer(out, line, &text)?;
             Ok(Outcome::Passed)
         }
         Some(expected) if expected == text.as_bytes() => Ok(Outcome::Right),
@@ -75,7 +81,7 @@ pub fn run_line<'a>(
     }
 }
 
-/// Whether the line is empty or a remark, also after spaces.
+/// Whether the line is empty or a remark; spaces may come first.
 fn asks_nothing(line: &[u8]) -> bool {
     match line.iter().find(|byte| **byte != b' ') {
         Some(byte) => *byte == b'#',
@@ -83,7 +89,7 @@ fn asks_nothing(line: &[u8]) -> bool {
     }
 }
 
-fn push_answered(out: &mut Vec<u8>, line: &[u8], answer: &str) -> Result<(), AllocError> {
+fn push_with_answer(out: &mut Vec<u8>, line: &[u8], answer: &str) -> Result<(), AllocError> {
     out.extend_from_slice(line)?;
     out.extend_from_slice(b" => ")?;
     out.extend_from_slice(answer.as_bytes())?;

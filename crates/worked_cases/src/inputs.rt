@@ -1,4 +1,4 @@
-//! What calls are given: each argument stands after spaces.
+//! The inputs of calls: how each is read, after spaces, and compared with a copy.
 
 use crate::read::numbers::{integer, read_natural, read_negative};
 use crate::read::read_named;
@@ -8,26 +8,26 @@ use crate::read::values::{read_scalar, read_value};
 use crate::same::{same_raw, same_scalar};
 use crate::tokens::Tokens;
 use rows::ptype_named;
-use vortex_dtype::{BufferString, ByteBuffer, DType, FieldName, Nullability, PType};
+use vortex_dtype::{BufferString, ByteBuffer, DType, FieldName, Nullability, PType, VortexError};
 use vortex_pvalue::PValue;
 use vortex_value::{Scalar, ScalarValue};
 
-/// How many brackets may be open at one time.
+/// How many brackets may be open at a time.
 const ROOM: u32 = 256;
 
-/// What a call is given.
+/// What a call may be given.
 pub trait Inputs: Drop {
-    /// Reads what stands next in a line.
+    /// Reads the next argument, or arguments, of a line.
     fn read(tokens: &mut Tokens<'_>) -> Self;
 }
 
 /// What a call may borrow.
 pub trait Borrowed: Inputs {
-    /// Whether it is the same as a copy.
+    /// Whether the inputs are exactly the same as a copy.
     fn is_same(&self, copy: &Self) -> bool;
 }
 
-/// What is equal to nothing but what is exactly the same.
+/// Inputs whose `==` holds only if both sides are exactly the same.
 pub trait Exact: Inputs + PartialEq {}
 
 impl<T: Exact> Borrowed for T {
@@ -38,7 +38,6 @@ impl<T: Exact> Borrowed for T {
 
 /// What may stand in a list.
 pub trait Item: Drop {
-    /// Reads an item.
     fn read_item(tokens: &mut Tokens<'_>) -> Self;
 }
 
@@ -75,7 +74,6 @@ impl<A: Inputs, B: Inputs, C: Inputs, D: Inputs> Inputs for (A, B, C, D) {
     }
 }
 
-/// A type.
 impl Inputs for DType {
     fn read(tokens: &mut Tokens<'_>) -> DType {
         tokens.spaces();
@@ -85,7 +83,7 @@ impl Inputs for DType {
 
 impl Exact for DType {}
 
-/// A scalar, which need not be valid.
+/// A scalar. It need not be valid.
 impl Inputs for Scalar {
     fn read(tokens: &mut Tokens<'_>) -> Scalar {
         tokens.spaces();
@@ -99,7 +97,7 @@ impl Borrowed for Scalar {
     }
 }
 
-/// A raw value, or `null` for its absence.
+/// A raw value; `null` is `None`.
 impl Inputs for Option<ScalarValue> {
     fn read(tokens: &mut Tokens<'_>) -> Option<ScalarValue> {
         tokens.spaces();
@@ -113,7 +111,7 @@ impl Borrowed for Option<ScalarValue> {
     }
 }
 
-/// Items in brackets.
+/// A list in brackets.
 impl<T: Item> Inputs for Vec<T> {
     fn read(tokens: &mut Tokens<'_>) -> Vec<T> {
         let mut items = Vec::new(tokens.alloc);
@@ -150,13 +148,26 @@ impl Item for (Scalar, Scalar) {
     }
 }
 
+impl Item for DType {
+    fn read_item(tokens: &mut Tokens<'_>) -> DType {
+        read_type(tokens, ROOM - 1)
+    }
+}
+
+/// A byte in decimal.
+impl Item for u8 {
+    fn read_item(tokens: &mut Tokens<'_>) -> u8 {
+        read_id(tokens)
+    }
+}
+
 impl Item for FieldName {
     fn read_item(tokens: &mut Tokens<'_>) -> FieldName {
         FieldName::new(read_name(tokens))
     }
 }
 
-/// The fields of a struct type.
+/// The fields of a struct type, in braces.
 impl Inputs for Fields {
     fn read(tokens: &mut Tokens<'_>) -> Fields {
         tokens.spaces();
@@ -165,7 +176,7 @@ impl Inputs for Fields {
     }
 }
 
-/// The variants of a union type.
+/// The variants of a union type, in parentheses.
 #[derive(Drop)]
 pub struct Variants(pub Fields);
 
@@ -177,7 +188,7 @@ impl Inputs for Variants {
     }
 }
 
-/// The id of a union's variant.
+/// The id of a variant.
 impl Inputs for u8 {
     fn read(tokens: &mut Tokens<'_>) -> u8 {
         tokens.spaces();
@@ -185,7 +196,7 @@ impl Inputs for u8 {
     }
 }
 
-/// A length in bytes, or a place.
+/// A length in bytes, or an index.
 impl Inputs for usize {
     fn read(tokens: &mut Tokens<'_>) -> usize {
         tokens.spaces();
@@ -195,7 +206,7 @@ impl Inputs for usize {
 
 impl Exact for usize {}
 
-/// Whether a type takes a null.
+/// `nullable` or `non_nullable`.
 impl Inputs for Nullability {
     fn read(tokens: &mut Tokens<'_>) -> Nullability {
         const WORDS: [(&str, Nullability); 2] = [
@@ -207,7 +218,7 @@ impl Inputs for Nullability {
     }
 }
 
-/// A kind of integer.
+/// The name of an integer type.
 impl Inputs for PType {
     fn read(tokens: &mut Tokens<'_>) -> PType {
         tokens.spaces();
@@ -218,7 +229,7 @@ impl Inputs for PType {
 
 impl Exact for PType {}
 
-/// A truth value.
+/// `true` or `false`.
 impl Inputs for bool {
     fn read(tokens: &mut Tokens<'_>) -> bool {
         tokens.spaces();
@@ -226,7 +237,7 @@ impl Inputs for bool {
     }
 }
 
-/// An integer and its kind.
+/// An integer and its `PType`.
 impl Inputs for PValue {
     fn read(tokens: &mut Tokens<'_>) -> PValue {
         tokens.spaces();
@@ -238,7 +249,7 @@ impl Inputs for PValue {
     }
 }
 
-/// A text in quotes.
+/// A string in quotes.
 impl Inputs for BufferString {
     fn read(tokens: &mut Tokens<'_>) -> BufferString {
         tokens.spaces();
@@ -247,6 +258,17 @@ impl Inputs for BufferString {
 }
 
 impl Exact for BufferString {}
+
+/// A string in quotes, in memory of its own.
+impl Inputs for String {
+    fn read(tokens: &mut Tokens<'_>) -> String {
+        tokens.spaces();
+        let text = read_text(tokens);
+        let copy = String::from_str(tokens.alloc, text.as_str());
+        let made = tokens.made(copy.map_err(VortexError::from));
+        made.unwrap_or(String::new(tokens.alloc))
+    }
+}
 
 /// Bytes in hexadecimal, after an `x`.
 impl Inputs for ByteBuffer {

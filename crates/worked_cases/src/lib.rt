@@ -1,5 +1,7 @@
-//! All that the program `scalar_cases` does but its `main`: worked cases, a line each, are read,
-//! answered by the call that each names, and compared.
+// SPDX-License-Identifier: Apache-2.0
+// SPDX-FileCopyrightText: Copyright the Vortex contributors; ported to Rattle and changed
+//! The program `scalar_cases` without its `main`: it reads worked cases, one a line, answers each by
+//! the call that it names, and compares the answer with the one that stands in the line.
 #![tactic(auto)]
 
 mod answers;

@@ -1,6 +1,4 @@
-//! All lines, and how many of them are wrong.
-
-ghost use Rattle.std.specs.Prelude.{length};
+//! Runs all lines of an input, and counts the wrong ones.
 
 use crate::cases::{Outcome, run_line};
 use crate::runs::Run;
@@ -8,24 +6,26 @@ use itoa::Buffer;
 use rows::first_line;
 use std::alloc::AllocError;
 
-/// What there is to say of all lines.
+/// The outcome of all lines.
 #[derive(Drop)]
 pub struct Report {
-    /// A line for each wrong case and each one without an answer, and how many there were.
+    /// What the program prints: a line for each wrong case and each case without an answer, and then
+    /// the totals.
     pub text: Vec<u8>,
     /// Whether no case is wrong.
     pub is_right: bool,
 }
 
-/// How many cases there were, and how many of them were wrong.
 #[derive(Clone, Copy)]
 struct Totals {
+    /// How many lines had an answer to compare, or were bad.
     cases: u64,
+    /// How many of these were wrong.
     wrong: u64,
 }
 
 impl Totals {
-    /// The same with one line more.
+    /// The totals with one more line.
     fn with(self, outcome: Outcome) -> Totals {
         let Totals { cases, wrong } = self;
         match outcome {
@@ -42,7 +42,8 @@ impl Totals {
     }
 }
 
-/// Runs all lines.
+/// Runs all lines of an input. `AllocError` if there is no memory to read a line, to answer it or to
+/// write the report; not if a call answers `OutOfMemory`.
 pub fn run_lines<'a>(run: Run<'a>, input: &'a [u8]) -> Result<Report, AllocError> {
     let mut text = Vec::new(run.alloc());
     let mut totals = Totals { cases: 0, wrong: 0 };
@@ -61,7 +62,7 @@ pub fn run_lines<'a>(run: Run<'a>, input: &'a [u8]) -> Result<Report, AllocError
     })
 }
 
-/// Writes the last line, where there was a case.
+/// Writes the totals, unless there was no case.
 fn push_totals(text: &mut Vec<u8>, totals: Totals) -> Result<(), AllocError> {
     if totals.cases == 0 {
         return Ok(());
@@ -72,7 +73,6 @@ fn push_totals(text: &mut Vec<u8>, totals: Totals) -> Result<(), AllocError> {
     text.extend_from_slice(b" wrong\n")
 }
 
-/// Writes a number.
 pub fn push_number(text: &mut Vec<u8>, number: u64) -> Result<(), AllocError> {
     let mut buffer = Buffer::new();
     text.extend_from_slice(buffer.format(number).as_bytes())

@@ -1,4 +1,4 @@
-//! What the words of a line stand for.
+//! Reads what stands in a line.
 
 pub mod numbers;
 pub mod texts;
@@ -7,13 +7,13 @@ pub mod values;
 
 use crate::tokens::Tokens;
 
-/// What the word stands for in the table, if it stands there.
+/// The meaning of a word in a table, if it stands there.
 pub fn named<T: Copy>(table: &[(&str, T)], word: &[u8]) -> Option<T> {
     let (_, meaning) = table.iter().find(|(name, _)| name.as_bytes() == word)?;
     Some(*meaning)
 }
 
-/// Reads a word of the table. Any other makes the line a bad one.
+/// Reads a word of a table. Any other word makes the line bad, and `otherwise` stands for it.
 pub fn read_named<T: Copy>(tokens: &mut Tokens<'_>, table: &[(&str, T)], otherwise: T) -> T {
     let meaning = named(table, tokens.word());
     tokens.or_bad(meaning, otherwise)

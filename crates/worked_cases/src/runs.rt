@@ -1,9 +1,9 @@
-//! How lines are run.
+//! Runs: with an allocator alone, or watched from outside.
 
 use std::alloc::Global;
 
-/// How lines are run: alone, or watched. A watched run says on standard error when a call is made
-/// and when it has answered, and sees that what the call borrows is as it was.
+/// How lines are run. A watched run reports on standard error when a call is made and when it has
+/// answered, and checks that the call left what it borrowed unchanged.
 #[derive(Clone, Copy)]
 pub struct Run<'a> {
     alloc: Global,
@@ -11,7 +11,7 @@ pub struct Run<'a> {
 }
 
 impl<'a> Run<'a> {
-    /// Lines are run alone.
+    /// A run that is not watched.
     pub fn alone(alloc: Global) -> Run<'a> {
         Run {
             alloc,
@@ -19,7 +19,7 @@ impl<'a> Run<'a> {
         }
     }
 
-    /// Each call is watched.
+    /// A run that reports each call on standard error.
     pub fn watched(rt: &'a HostRuntime) -> Run<'a> {
         Run {
             alloc: rt.alloc(),
@@ -27,18 +27,18 @@ impl<'a> Run<'a> {
         }
     }
 
-    /// The allocator of all that lines are read into and answered with.
+    /// The allocator that lines are read and answered with.
     pub fn alloc(self) -> Global {
         self.alloc
     }
 
-    /// Whether each call is watched.
+    /// Whether this is a watched run.
     pub fn is_watched(self) -> bool {
         self.watcher.is_some()
     }
 
-    /// Says how far it is, where it is watched.
-    pub fn says(self, word: &str) {
+    /// Writes a word on standard error if the run is watched.
+    pub fn report(self, word: &str) {
         if let Some(rt) = self.watcher {
             let _ = rt.eprintln(word);
         }

@@ -1,9 +1,9 @@
-//! Whether what a call borrows is exactly the same as a copy: integer kinds and nullability count,
-//! which the `==` of raw values and scalars passes over.
+//! Exact sameness, to see whether a call changed what it borrowed. Unlike `==` of raw values and
+//! scalars it tells integer kinds and nullability apart.
 
 use vortex_value::{Scalar, ScalarRef, ScalarValue, UnionValue};
 
-/// Whether the raw values are the same, integer kinds and the types inside variants included.
+/// Whether two raw values are exactly the same, integer kinds and variants' types included.
 #[cycle(same)]
 fn same_value(a: &ScalarValue, b: &ScalarValue) -> bool {
     match (a, b) {
@@ -18,7 +18,7 @@ fn same_value(a: &ScalarValue, b: &ScalarValue) -> bool {
     }
 }
 
-/// Whether the raw values are the same, or there is none of either.
+/// Whether two raw values are exactly the same, or both absent.
 #[cycle(same)]
 pub fn same_raw(a: Option<&ScalarValue>, b: Option<&ScalarValue>) -> bool {
     match (a, b) {
@@ -28,7 +28,7 @@ pub fn same_raw(a: Option<&ScalarValue>, b: Option<&ScalarValue>) -> bool {
     }
 }
 
-/// Whether there are equally many parts, the same place by place.
+/// Whether two tuples have the same number of parts, exactly the same at each place.
 #[cycle(same)]
 fn same_parts(a: &[Option<ScalarValue>], b: &[Option<ScalarValue>]) -> bool {
     if a.len() != b.len() {
@@ -42,19 +42,19 @@ fn same_parts(a: &[Option<ScalarValue>], b: &[Option<ScalarValue>]) -> bool {
     true
 }
 
-/// Whether the ids and the children are the same.
+/// Whether two unions have the same id, and exactly the same child.
 #[cycle(same)]
 fn same_union(a: &UnionValue, b: &UnionValue) -> bool {
     a.type_id == b.type_id && same_raw(a.child.as_deref(), b.child.as_deref())
 }
 
-/// Whether the types and the raw values are the same.
+/// Whether two scalars have equal types, and exactly the same raw value.
 #[cycle(same)]
 pub fn same_scalar(a: &Scalar, b: &Scalar) -> bool {
     a.dtype == b.dtype && same_raw(a.value.as_ref(), b.value.as_ref())
 }
 
-/// Whether a scalar is exactly the one that is lent.
+/// Whether a scalar is exactly the lent one.
 pub fn same_as_lent(scalar: &Scalar, lent: ScalarRef<'_>) -> bool {
     scalar.dtype == *lent.dtype() && same_raw(scalar.value.as_ref(), lent.value())
 }

@@ -4,23 +4,23 @@ use crate::answers::Answer;
 use std::alloc::{AllocError, Global};
 use vortex_dtype::{Nullability, VortexError};
 
-/// Why a line is not read to its end.
+/// Why reading a line stopped before its end.
 #[derive(Clone, Copy)]
 enum Fault {
-    /// It is no line of the language.
+    /// The line is not in the language.
     BadLine,
     /// There is no memory for what it holds.
     NoMemory,
 }
 
-/// What is left of a line.
+/// What is left to read of a line.
 ///
-/// Where a line is none of the language, or memory is wanting, the first such fault is kept and
-/// nothing more is left; what is read from then on stands for nothing. So is the first refusal of a
-/// maker of types kept, but the line is read on.
+/// If the line is not in the language, or memory runs out, that fault is kept and nothing is left to
+/// read; what is read from then on means nothing. The first refusal of a maker of types is kept too,
+/// but the line is read on.
 #[derive(Drop)]
 pub struct Tokens<'a> {
-    /// The allocator of all that is read.
+    /// The allocator that the line is read with.
     pub alloc: Global,
     rest: &'a [u8],
     fault: Option<Fault>,
@@ -29,7 +29,7 @@ pub struct Tokens<'a> {
 }
 
 impl<'a> Tokens<'a> {
-    /// All of a line.
+    /// A line that is not read yet.
     pub fn of(alloc: Global, line: &'a [u8]) -> Tokens<'a> {
         Tokens {
             alloc,
@@ -40,17 +40,17 @@ impl<'a> Tokens<'a> {
         }
     }
 
-    /// How many bytes are left: at most so many more things can be read.
+    /// How many bytes are left. No more items than that can follow.
     pub fn left(&self) -> usize {
         self.rest.len()
     }
 
-    /// All bytes that are left.
+    /// The bytes that are left.
     pub fn rest(&self) -> &'a [u8] {
         self.rest
     }
 
-    /// Keeps a fault, where it is the first, and leaves nothing to read.
+    /// Keeps the fault if it is the first, and leaves nothing to read.
     fn fail(&mut self, fault: Fault) {
         if self.fault.is_none() {
             self.fault = Some(fault);
@@ -58,14 +58,14 @@ impl<'a> Tokens<'a> {
         self.rest = &[];
     }
 
-    /// The line is none of the language.
+    /// Marks the line as not in the language.
     pub fn bad_line(&mut self) {
         self.fail(Fault::BadLine);
     }
 
-    /// Reads the arrow, if there is one, and the answer, which is all that follows its space. Gives
-    /// what is answered in the call's place, if anything: that the line is a bad one, or the first
-    /// refusal of a maker of types.
+    /// Reads the arrow and the expected answer, if there are any. Returns the answer that stands in
+    /// for the call's own, if any: `BadLine`, or the first refusal of a maker of types. `AllocError`
+    /// if there was no memory to read the line.
     pub fn end(&mut self) -> Result<Option<Answer>, AllocError> {
         self.read_expected();
         match self.fault {
@@ -87,7 +87,7 @@ impl<'a> Tokens<'a> {
         }
     }
 
-    /// The answer that stands in the line after its arrow, if one was read.
+    /// The expected answer, once it is read: all that follows the arrow and a space.
     pub fn expected(&self) -> Option<&'a [u8]> {
         self.expected
     }
@@ -99,13 +99,13 @@ impl<'a> Tokens<'a> {
         Some(*first)
     }
 
-    /// Takes spaces, and looks at the byte after them.
+    /// Takes spaces, and returns the byte after them without taking it.
     pub fn peek(&mut self) -> Option<u8> {
         self.rest = after_spaces(self.rest);
         self.rest.first().copied()
     }
 
-    /// Takes this byte and the spaces before it, where it comes next; else takes nothing.
+    /// Takes this byte and the spaces before it, if it comes next; else takes nothing.
     pub fn takes(&mut self, byte: u8) -> bool {
         match after_spaces(self.rest).split_first() {
             Some((first, others)) if *first == byte => {
@@ -116,15 +116,15 @@ impl<'a> Tokens<'a> {
         }
     }
 
-    /// Takes this byte and the spaces before it.
+    /// Takes this byte and the spaces before it. Any other byte makes the line bad.
     pub fn expect(&mut self, byte: u8) {
         if !self.takes(byte) {
             self.bad_line();
         }
     }
 
-    /// Whether an item of a list comes next, of which so many stand before it: the first unless the
-    /// list is closed at once, and another after a comma; else takes the bracket that closes it.
+    /// Whether another item of a list comes next, after `before` items. Takes the comma before it; if
+    /// there is no other item, takes the bracket that closes the list.
     pub fn has_item(&mut self, before: usize, close: u8) -> bool {
         if before == 0 {
             return !self.takes(close);
@@ -136,7 +136,7 @@ impl<'a> Tokens<'a> {
         false
     }
 
-    /// Takes the spaces before an argument, of which there is one at least.
+    /// Takes the spaces before an argument, at least one.
     pub fn spaces(&mut self) {
         match self.rest.first() {
             Some(b' ') => self.rest = after_spaces(self.rest),
@@ -144,7 +144,7 @@ impl<'a> Tokens<'a> {
         }
     }
 
-    /// Takes the letters, digits and `_` that come next, after spaces; there may be none.
+    /// Takes spaces, and then the letters, digits and `_` that come next; there may be none.
     pub fn word(&mut self) -> &'a [u8] {
         let (word, others) = split_front(after_spaces(self.rest), |byte| {
             byte.is_ascii_alphanumeric() || byte == b'_'
@@ -153,7 +153,7 @@ impl<'a> Tokens<'a> {
         word
     }
 
-    /// Takes the question mark of a type that takes a null, if there is one.
+    /// Takes the question mark of a nullable type, if there is one.
     pub fn nullability(&mut self) -> Nullability {
         if self.takes(b'?') {
             Nullability::Nullable
@@ -162,7 +162,7 @@ impl<'a> Tokens<'a> {
         }
     }
 
-    /// What was read; where that is nothing the line is a bad one, and the other stands for it.
+    /// What was read. If that is nothing, the line is bad, and `otherwise` stands for it.
     pub fn or_bad<T: Copy>(&mut self, read: Option<T>, otherwise: T) -> T {
         if read.is_none() {
             self.bad_line();
@@ -170,14 +170,14 @@ impl<'a> Tokens<'a> {
         read.unwrap_or(otherwise)
     }
 
-    /// Adds what was read to the others.
+    /// Adds an item to the ones before it.
     pub fn push<T: Drop>(&mut self, items: &mut Vec<T>, item: T) {
         if items.push(item).is_err() {
             self.fail(Fault::NoMemory);
         }
     }
 
-    /// What a maker made; where it refused, the first refusal is kept.
+    /// What a maker made. If it refused, the refusal is kept, unless there was one before.
     pub fn made<T>(&mut self, made: Result<T, VortexError>) -> Option<T> {
         match made {
             Ok(made) => return Some(made),
@@ -188,12 +188,12 @@ impl<'a> Tokens<'a> {
     }
 }
 
-/// What follows the spaces in front.
+/// The bytes after any spaces in front.
 fn after_spaces(text: &[u8]) -> &[u8] {
     split_front(text, |byte| byte == b' ').1
 }
 
-/// The bytes in front of which this holds, and what follows them.
+/// Splits the longest prefix whose bytes all pass the test from the rest.
 pub fn split_front<F: Fn(u8) -> bool>(text: &[u8], holds: F) -> (&[u8], &[u8])
     requires { F.IsAlwaysCallable holds }
 {

@@ -1,4 +1,4 @@
-//! The one form in which each thing is written.
+//! Writes answers, each in one form.
 
 pub mod output;
 pub mod refusals;

@@ -1,14 +1,13 @@
-//! Calls of bounds by truncation, of zones, and of increments of texts.
+//! Calls of bounds by truncation, of zones, and of increments of strings.
 
-ghost use Rattle.std.specs.Prelude.{OnOk};
-ghost use Rattle.vortex_value.specs.Values.Scalars.{IsValid};
+ghost use Rattle.worked_cases.specs.Words.{IsValid, OnOk};
 
-use crate::answers::{Answer, Answering, buffer_text, bytes, or_none};
-use crate::calls::Line;
+use crate::answers::{Answer, CallResult, buffer_text, bytes, or_none};
 use crate::calls::makers::where_valid;
 use crate::calls::scalars::validate;
+use crate::calls::{Line, rust_values};
 use crate::inputs::{Exact, Inputs};
-use crate::read::read_named;
+use crate::read::{named, read_named};
 use crate::tokens::Tokens;
 use std::alloc::{AllocError, Global};
 use vortex_array::{IncrementError, ScalarTruncation, StringLike, lower_bound, upper_bound};
@@ -16,29 +15,50 @@ use vortex_dtype::{BufferString, ByteBuffer, Nullability, VortexError};
 use vortex_value::Scalar;
 use vortex_zone::ZoneBounds;
 
-/// What the line's call answers, if it is one of these.
-pub fn answer_line(line: &mut Line<'_>) -> Result<Option<Answer>, AllocError> {
-    match line.name {
-        b"lower" => line.taking(|alloc, x: Truncated| bound(alloc, Side::Lower, x)),
-        b"upper" => line.taking(|alloc, x: Truncated| bound(alloc, Side::Upper, x)),
-        b"own_lower" => line.taking(|alloc, x: Truncated| bound(alloc, Side::OwnLower, x)),
-        b"own_upper" => line.taking(|alloc, x: Truncated| bound(alloc, Side::OwnUpper, x)),
-        b"truncated_bytes" => line.taking(|_, scalar: Scalar| {
-            Ok(or_none(ByteBuffer::from_scalar(scalar)?.map(bytes)))
-        }),
-        b"truncated_text" => line.taking(|_, scalar: Scalar| {
-            Ok(or_none(BufferString::from_scalar(scalar)?.map(buffer_text)))
-        }),
-        b"increment" => line.borrowing(increment),
-        b"may_contain" => line.taking(may_contain),
-        _ => Ok(None),
+#[derive(Clone, Copy)]
+enum Call {
+    Lower,
+    Upper,
+    OwnLower,
+    OwnUpper,
+    TruncatedBytes,
+    TruncatedText,
+    Increment,
+    MayContain,
+}
+
+const CALLS: [(&str, Call); 8] = [
+    ("lower", Call::Lower),
+    ("upper", Call::Upper),
+    ("own_lower", Call::OwnLower),
+    ("own_upper", Call::OwnUpper),
+    ("truncated_bytes", Call::TruncatedBytes),
+    ("truncated_text", Call::TruncatedText),
+    ("increment", Call::Increment),
+    ("may_contain", Call::MayContain),
+];
+
+/// The answer of the line's call, if it is one of these; other calls are in `rust_values`.
+pub fn answer_line(line: &mut Line<'_>) -> Result<Answer, AllocError> {
+    let Some(call) = named(&CALLS, line.name) else {
+        return rust_values::answer_line(line);
+    };
+    match call {
+        Call::Lower => line.taking(lower),
+        Call::Upper => line.taking(upper),
+        Call::OwnLower => line.taking(own_lower),
+        Call::OwnUpper => line.taking(own_upper),
+        Call::TruncatedBytes => line.taking(truncated_bytes),
+        Call::TruncatedText => line.taking(truncated_text),
+        Call::Increment => line.borrowing(increment),
+        Call::MayContain => line.taking(may_contain),
     }
 }
 
-/// A scalar, the length of a bound in bytes, and the bound's nullability.
+/// A scalar, the greatest length of its bound in bytes, and the bound's nullability.
 type Truncated = (Scalar, usize, Nullability);
 
-/// The two bounds, each by its function and by the trait's own call.
+/// Which bound, and by which call: the function, or the trait's own method.
 #[derive(Clone, Copy)]
 enum Side {
     Lower,
@@ -47,8 +67,24 @@ enum Side {
     OwnUpper,
 }
 
-/// A bound of a scalar's bytes, or of its text.
-fn bound(alloc: Global, side: Side, inputs: Truncated) -> Answering {
+fn lower(alloc: Global, inputs: Truncated) -> CallResult {
+    bound(alloc, Side::Lower, inputs)
+}
+
+fn upper(alloc: Global, inputs: Truncated) -> CallResult {
+    bound(alloc, Side::Upper, inputs)
+}
+
+fn own_lower(alloc: Global, inputs: Truncated) -> CallResult {
+    bound(alloc, Side::OwnLower, inputs)
+}
+
+fn own_upper(alloc: Global, inputs: Truncated) -> CallResult {
+    bound(alloc, Side::OwnUpper, inputs)
+}
+
+/// A bound of a scalar's bytes or string.
+fn bound(alloc: Global, side: Side, inputs: Truncated) -> CallResult {
     let (scalar, length, n) = inputs;
     if scalar.dtype().is_binary() {
         bound_of(alloc, side, ByteBuffer::from_scalar(scalar)?, length, n)
@@ -57,35 +93,58 @@ fn bound(alloc: Global, side: Side, inputs: Truncated) -> Answering {
     }
 }
 
-/// The trait's own call is made at no more than the value's length.
+/// A bound of a value, by the function or by the trait's own method.
 fn bound_of<T: ScalarTruncation>(
     alloc: Global,
     side: Side,
     value: Option<T>,
     length: usize,
     n: Nullability,
-) -> Answering {
-    let bound = match (side, value) {
-        (Side::Lower, value) => lower_bound(alloc, value, length, n)?.map(Answer::Bound),
-        (Side::Upper, value) => upper_bound(alloc, value, length, n)?.map(Answer::Bound),
-        (Side::OwnLower, Some(value)) if length <= value.len() => {
-            Some(scalar_of(value.lower_bound(alloc, length)?, n))
-        }
-        (Side::OwnUpper, Some(value)) if length <= value.len() => {
-            value
-                .upper_bound(alloc, length)?
-                .map(|bound| scalar_of(bound, n))
-        }
-        _ => return Ok(Answer::Unmet),
-    };
-    Ok(or_none(bound))
+) -> CallResult {
+    match side {
+        Side::Lower => Ok(or_none(lower_bound(alloc, value, length, n)?.map(Answer::Bound))),
+        Side::Upper => Ok(or_none(upper_bound(alloc, value, length, n)?.map(Answer::Bound))),
+        Side::OwnLower | Side::OwnUpper => match value {
+            Some(value) => own_bound(alloc, side, value, length, n),
+            None => Ok(Answer::Unmet),
+        },
+    }
+}
+
+/// A bound by the trait's own method, which requires that `length` is within the value.
+fn own_bound<T: ScalarTruncation>(
+    alloc: Global,
+    side: Side,
+    value: T,
+    length: usize,
+    n: Nullability,
+) -> CallResult {
+    if value.len() < length {
+        drop(value);
+        return Ok(Answer::Unmet);
+    }
+    match side {
+        Side::OwnLower => Ok(scalar_of(value.lower_bound(alloc, length)?, n)),
+        _ => match value.upper_bound(alloc, length)? {
+            Some(bound) => Ok(scalar_of(bound, n)),
+            None => Ok(Answer::None),
+        },
+    }
 }
 
 fn scalar_of<T: ScalarTruncation>(bound: T, nullability: Nullability) -> Answer {
     Answer::Scalar(bound.into_scalar(nullability))
 }
 
-/// The types of text that can be incremented.
+fn truncated_bytes(_alloc: Global, scalar: Scalar) -> CallResult {
+    Ok(or_none(ByteBuffer::from_scalar(scalar)?.map(bytes)))
+}
+
+fn truncated_text(_alloc: Global, scalar: Scalar) -> CallResult {
+    Ok(or_none(BufferString::from_scalar(scalar)?.map(buffer_text)))
+}
+
+/// The types of strings that can be incremented.
 #[derive(Clone, Copy, PartialEq)]
 enum TextType {
     String,
@@ -106,23 +165,31 @@ impl Inputs for TextType {
 
 impl Exact for TextType {}
 
-/// The text incremented, as text of this type; what is handed back is to be the text.
-fn increment(alloc: Global, (text_type, text): &(TextType, BufferString)) -> Answering {
+/// The successor of a string. If there is none, the call must hand the string back as it was.
+fn increment(alloc: Global, (text_type, text): &(TextType, BufferString)) -> CallResult {
     match text_type {
-        TextType::String => match String::from_str(alloc, text.as_str())?.increment() {
-            Ok(next) => Ok(Answer::Text(next)),
-            Err(IncrementError::Last(same)) => Ok(if_same(same.as_str() == text.as_str())),
-            Err(IncrementError::Memory(same)) => no_memory(same.as_str() == text.as_str()),
-        },
-        TextType::Buffer => match text.clone()?.increment() {
-            Ok(next) => Ok(buffer_text(next)),
-            Err(IncrementError::Last(same)) => Ok(if_same(same == *text)),
-            Err(IncrementError::Memory(same)) => no_memory(same == *text),
-        },
+        TextType::String => string_incremented(String::from_str(alloc, text.as_str())?, text),
+        TextType::Buffer => buffer_incremented(text.clone()?, text),
     }
 }
 
-/// The answer where there is no next text.
+fn string_incremented(string: String, text: &BufferString) -> CallResult {
+    match string.increment() {
+        Ok(next) => Ok(Answer::Text(next)),
+        Err(IncrementError::Last(same)) => Ok(if_same(same.as_str() == text.as_str())),
+        Err(IncrementError::Memory(same)) => no_memory(same.as_str() == text.as_str()),
+    }
+}
+
+fn buffer_incremented(buffer: BufferString, text: &BufferString) -> CallResult {
+    match buffer.increment() {
+        Ok(next) => Ok(buffer_text(next)),
+        Err(IncrementError::Last(same)) => Ok(if_same(same == *text)),
+        Err(IncrementError::Memory(same)) => no_memory(same == *text),
+    }
+}
+
+/// The answer if the string has no successor.
 fn if_same(is_same: bool) -> Answer {
     if is_same {
         Answer::Last
@@ -131,8 +198,8 @@ fn if_same(is_same: bool) -> Answer {
     }
 }
 
-/// The answer where there was no memory.
-fn no_memory(is_same: bool) -> Answering {
+/// The answer if there was no memory for the successor.
+fn no_memory(is_same: bool) -> CallResult {
     if is_same {
         Err(VortexError::OutOfMemory)
     } else {
@@ -140,23 +207,20 @@ fn no_memory(is_same: bool) -> Answering {
     }
 }
 
-/// Whether the bounds of a zone from the first to the second scalar, at so many bytes, hold the
-/// third possible.
+/// Whether a zone may contain `value`, by bounds of `length` bytes of its least and greatest value.
 fn may_contain(
     alloc: Global,
     (least, greatest, length, value): (Scalar, Scalar, usize, Scalar),
-) -> Answering {
+) -> CallResult {
     let validity = validate_three(alloc, &least, &greatest, &value);
     let (least, greatest, value) = where_valid((least, greatest, value), validity)?;
-    let answer = match ZoneBounds::of(alloc, least, greatest, length) {
-        Ok(bounds) => Ok(held_possible(&bounds, &value)),
-        Err(refusal) => Err(refusal),
-    };
+    let bounds = ZoneBounds::of(alloc, least, greatest, length);
+    let answer = zone_answer(bounds, &value);
     drop(value);
     answer
 }
 
-/// The refusal of the first that is not valid.
+/// Refuses the first scalar that is not valid.
 fn validate_three(
     alloc: Global,
     least: &Scalar,
@@ -172,12 +236,14 @@ fn validate_three(
     validate(alloc, value)
 }
 
-fn held_possible(bounds: &ZoneBounds, value: &Scalar) -> Answer
+/// Whether the zone of these bounds may contain the value, if they were not refused.
+fn zone_answer(bounds: Result<ZoneBounds, VortexError>, value: &Scalar) -> CallResult
     requires { IsValid value.now }
 {
+    let bounds = bounds?;
     if value.dtype().eq_ignore_nullability(bounds.lower().dtype()) {
-        Answer::Truth(bounds.may_contain(value))
+        Ok(Answer::Truth(bounds.may_contain(value)))
     } else {
-        Answer::Unmet
+        Ok(Answer::Unmet)
     }
 }

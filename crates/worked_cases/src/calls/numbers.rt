@@ -1,11 +1,11 @@
-//! Calls of numbers by their views: arithmetic, and other kinds.
+//! Calls of numbers: arithmetic, and conversions to other integer types.
 
-ghost use Rattle.vortex_leaves.specs.PrimitiveViews.{AreOfOneType};
+ghost use Rattle.worked_cases.specs.Words.{AreOfOneType};
 
-use crate::answers::{Answer, Answering, or_none};
-use crate::calls::Line;
+use crate::answers::{Answer, CallResult, or_none};
 use crate::calls::scalars::validate;
-use crate::calls::views::of_kind;
+use crate::calls::view_parts::of_kind;
+use crate::calls::{Line, bounds};
 use crate::read::named;
 use std::alloc::{AllocError, Global};
 use vortex_dtype::{PType, VortexError};
@@ -14,58 +14,119 @@ use vortex_pvalue::{NativePType, NumericOperator, PValue};
 use vortex_value::{Scalar, ScalarValue};
 use vortex_views::{Downcast, PrimitiveScalar};
 
-/// What the line's call answers, if it is one of these.
-pub fn answer_line(line: &mut Line<'_>) -> Result<Option<Answer>, AllocError> {
-    match line.name {
-        b"invert" => line.borrowing(invert),
-        b"reinterpret" => line.borrowing(reinterpret),
-        b"as" => line.borrowing(|alloc, x: &(Scalar, PType)| in_ptype(alloc, Conversion::Opt, x)),
-        b"as_" => line.borrowing(|alloc, x: &(Scalar, PType)| in_ptype(alloc, Conversion::As, x)),
-        b"typed_value" => {
-            line.borrowing(|alloc, x: &(Scalar, PType)| in_ptype(alloc, Conversion::Typed, x))
-        }
-        b"try_typed_value" => {
-            line.borrowing(|alloc, x: &(Scalar, PType)| in_ptype(alloc, Conversion::TryTyped, x))
-        }
-        b"min_value" => line.taking(|_, ptype: PType| Ok(integer(PValue::min_value(ptype)))),
-        b"max_value" => line.taking(|_, ptype: PType| Ok(integer(PValue::max_value(ptype)))),
-        b"is_instance_of" => line.taking(|_, (number, ptype): (PValue, PType)| {
-            Ok(Answer::Truth(number.is_instance_of(&ptype)))
-        }),
-        name => match named(&OPERATIONS, name) {
-            Some(operation) => line.borrowing(move |alloc, numbers: &(Scalar, Scalar)| {
-                arithmetic(alloc, operation, numbers)
-            }),
-            None => Ok(None),
-        },
+#[derive(Clone, Copy)]
+enum Call {
+    Invert,
+    Reinterpret,
+    AsOpt,
+    As,
+    TypedValue,
+    TryTypedValue,
+    MinValue,
+    MaxValue,
+    IsInstanceOf,
+}
+
+const CALLS: [(&str, Call); 9] = [
+    ("invert", Call::Invert),
+    ("reinterpret", Call::Reinterpret),
+    ("as", Call::AsOpt),
+    ("as_", Call::As),
+    ("typed_value", Call::TypedValue),
+    ("try_typed_value", Call::TryTypedValue),
+    ("min_value", Call::MinValue),
+    ("max_value", Call::MaxValue),
+    ("is_instance_of", Call::IsInstanceOf),
+];
+
+/// The answer of the line's call, if it is one of these or arithmetic; other calls are in `bounds`.
+pub fn answer_line(line: &mut Line<'_>) -> Result<Answer, AllocError> {
+    let Some(call) = named(&CALLS, line.name) else {
+        return answer_arithmetic(line);
+    };
+    match call {
+        Call::Invert => line.borrowing(invert),
+        Call::Reinterpret => line.borrowing(reinterpret),
+        Call::AsOpt => line.borrowing(as_opt),
+        Call::As => line.borrowing(as_if_it_fits),
+        Call::TypedValue => line.borrowing(typed_value),
+        Call::TryTypedValue => line.borrowing(try_typed_value),
+        Call::MinValue => line.taking(min_value),
+        Call::MaxValue => line.taking(max_value),
+        Call::IsInstanceOf => line.taking(is_instance_of),
     }
 }
 
-/// An integer with its kind.
+/// The answer of the line's call, if it is arithmetic; other calls are in `bounds`.
+fn answer_arithmetic(line: &mut Line<'_>) -> Result<Answer, AllocError> {
+    let Some(operation) = named(&OPERATIONS, line.name) else {
+        return bounds::answer_line(line);
+    };
+    match operation {
+        Operation::Add => line.borrowing(add),
+        Operation::Sub => line.borrowing(sub),
+        Operation::Mul => line.borrowing(mul),
+        Operation::Div => line.borrowing(div),
+        Operation::NumericAdd => line.borrowing(numeric_add),
+        Operation::NumericSub => line.borrowing(numeric_sub),
+        Operation::Plus => line.borrowing(plus),
+        Operation::Minus => line.borrowing(minus),
+    }
+}
+
 fn integer(number: PValue) -> Answer {
     Answer::Raw(ScalarValue::Primitive(number))
 }
 
-fn invert(alloc: Global, scalar: &Scalar) -> Answering {
+fn as_opt(alloc: Global, inputs: &(Scalar, PType)) -> CallResult {
+    in_ptype(alloc, Conversion::Opt, inputs)
+}
+
+fn as_if_it_fits(alloc: Global, inputs: &(Scalar, PType)) -> CallResult {
+    in_ptype(alloc, Conversion::As, inputs)
+}
+
+fn typed_value(alloc: Global, inputs: &(Scalar, PType)) -> CallResult {
+    in_ptype(alloc, Conversion::Typed, inputs)
+}
+
+fn try_typed_value(alloc: Global, inputs: &(Scalar, PType)) -> CallResult {
+    in_ptype(alloc, Conversion::TryTyped, inputs)
+}
+
+fn min_value(_alloc: Global, ptype: PType) -> CallResult {
+    Ok(integer(PValue::min_value(ptype)))
+}
+
+fn max_value(_alloc: Global, ptype: PType) -> CallResult {
+    Ok(integer(PValue::max_value(ptype)))
+}
+
+fn is_instance_of(_alloc: Global, (number, ptype): (PValue, PType)) -> CallResult {
+    Ok(Answer::Truth(number.is_instance_of(&ptype)))
+}
+
+fn invert(alloc: Global, scalar: &Scalar) -> CallResult {
     validate(alloc, scalar)?;
     let view = of_kind(scalar.as_bool_opt())?;
     Ok(Answer::Scalar(view.invert().into_scalar()))
 }
 
-/// How two valid numbers are computed with.
+/// The arithmetic of two numbers, each call of it.
 #[derive(Clone, Copy)]
 enum Operation {
-    /// By the call that answers none where the number does not fit, as the next three.
+    /// `checked_add`, which answers `None` on overflow.
     Add,
+    /// `checked_sub`.
     Sub,
+    /// `checked_binary_numeric`, as the next three.
     Mul,
     Div,
-    /// By the call that is given the operator, as the next one.
     NumericAdd,
     NumericSub,
-    /// By `+` itself.
+    /// The operator `+`, which requires that the sum fits.
     Plus,
-    /// By `-` itself.
+    /// The operator `-`, which requires that the difference fits.
     Minus,
 }
 
@@ -80,24 +141,56 @@ const OPERATIONS: [(&str, Operation); 8] = [
     ("minus", Operation::Minus),
 ];
 
+fn add(alloc: Global, numbers: &(Scalar, Scalar)) -> CallResult {
+    arithmetic(alloc, Operation::Add, numbers)
+}
+
+fn sub(alloc: Global, numbers: &(Scalar, Scalar)) -> CallResult {
+    arithmetic(alloc, Operation::Sub, numbers)
+}
+
+fn mul(alloc: Global, numbers: &(Scalar, Scalar)) -> CallResult {
+    arithmetic(alloc, Operation::Mul, numbers)
+}
+
+fn div(alloc: Global, numbers: &(Scalar, Scalar)) -> CallResult {
+    arithmetic(alloc, Operation::Div, numbers)
+}
+
+fn numeric_add(alloc: Global, numbers: &(Scalar, Scalar)) -> CallResult {
+    arithmetic(alloc, Operation::NumericAdd, numbers)
+}
+
+fn numeric_sub(alloc: Global, numbers: &(Scalar, Scalar)) -> CallResult {
+    arithmetic(alloc, Operation::NumericSub, numbers)
+}
+
+fn plus(alloc: Global, numbers: &(Scalar, Scalar)) -> CallResult {
+    arithmetic(alloc, Operation::Plus, numbers)
+}
+
+fn minus(alloc: Global, numbers: &(Scalar, Scalar)) -> CallResult {
+    arithmetic(alloc, Operation::Minus, numbers)
+}
+
 fn arithmetic(
     alloc: Global,
     operation: Operation,
     (first, second): &(Scalar, Scalar),
-) -> Answering {
+) -> CallResult {
     validate(alloc, first)?;
     validate(alloc, second)?;
     match (first.as_primitive_opt(), second.as_primitive_opt()) {
         (Some(x), Some(y)) if first.dtype().eq_ignore_nullability(second.dtype()) => {
-            Ok(computed(operation, x, y))
+            Ok(operation_answer(operation, x, y))
         }
         (Some(_), Some(_)) => Ok(Answer::Unmet),
         _ => Err(VortexError::WrongKind),
     }
 }
 
-/// A number that does not fit is none by the checked calls, and not asked for by `+` and `-`.
-fn computed(operation: Operation, x: PrimitiveScalar<'_>, y: PrimitiveScalar<'_>) -> Answer
+/// The number that an operation gives. The operators `+` and `-` are not called if it does not fit.
+fn operation_answer(operation: Operation, x: PrimitiveScalar<'_>, y: PrimitiveScalar<'_>) -> Answer
     requires { AreOfOneType x y }
 {
     let number = match operation {
@@ -114,32 +207,36 @@ fn computed(operation: Operation, x: PrimitiveScalar<'_>, y: PrimitiveScalar<'_>
     or_none(number.map(Scalar::from).map(Answer::Scalar))
 }
 
-fn reinterpret(alloc: Global, (scalar, ptype): &(Scalar, PType)) -> Answering {
+fn reinterpret(alloc: Global, (scalar, ptype): &(Scalar, PType)) -> CallResult {
     validate(alloc, scalar)?;
     of_kind(scalar.as_primitive_opt())?;
     Ok(Answer::Scalar(scalar.primitive_reinterpret_cast(*ptype)?))
 }
 
-/// How a number is taken as a Rust type.
+/// By which call a number is converted to a Rust type.
 #[derive(Clone, Copy)]
 enum Conversion {
-    /// By `as_opt`.
+    /// `as_opt`.
     Opt,
-    /// By `as_`, where the type has the number.
+    /// `as_`, which requires that the type has the number.
     As,
-    /// By `typed_value`, where the number is of the type.
+    /// `typed_value`, which requires that the view is of the type.
     Typed,
-    /// By the call that refuses another type.
+    /// `try_typed_value`, which refuses another type.
     TryTyped,
 }
 
-fn in_ptype(alloc: Global, conversion: Conversion, (scalar, ptype): &(Scalar, PType)) -> Answering {
+fn in_ptype(
+    alloc: Global,
+    conversion: Conversion,
+    (scalar, ptype): &(Scalar, PType),
+) -> CallResult {
     validate(alloc, scalar)?;
     let view = of_kind(scalar.as_primitive_opt())?;
     as_ptype(conversion, view, *ptype)
 }
 
-fn as_ptype(conversion: Conversion, view: PrimitiveScalar<'_>, ptype: PType) -> Answering {
+fn as_ptype(conversion: Conversion, view: PrimitiveScalar<'_>, ptype: PType) -> CallResult {
     match ptype {
         PType::U8 => as_number::<u8>(conversion, view),
         PType::U16 => as_number::<u16>(conversion, view),
@@ -152,8 +249,7 @@ fn as_ptype(conversion: Conversion, view: PrimitiveScalar<'_>, ptype: PType) -> 
     }
 }
 
-/// The number as a Rust type.
-fn as_number<T: NativePType>(conversion: Conversion, view: PrimitiveScalar<'_>) -> Answering {
+fn as_number<T: NativePType>(conversion: Conversion, view: PrimitiveScalar<'_>) -> CallResult {
     Ok(match conversion {
         Conversion::Typed if view.ptype() == T::PTYPE => native(view.typed_value::<T>()),
         Conversion::Typed => Answer::Unmet,
@@ -163,7 +259,7 @@ fn as_number<T: NativePType>(conversion: Conversion, view: PrimitiveScalar<'_>) 
     })
 }
 
-/// The number as a Rust type, where that has it.
+/// The number by `as_`, if the type has it.
 fn as_known<T: NativePType>(view: PrimitiveScalar<'_>) -> Answer {
     match view.as_opt::<T>() {
         Some(Some(number)) => {

@@ -1,11 +1,11 @@
 //! A hasher that records what it is fed.
 
-ghost use Rattle.std.specs.Prelude.{◌*◌, ◌%◌, ◌^◌, bit_xor, fold};
+ghost use Rattle.worked_cases.specs.Words.{◌%◌, ◌*◌, ◌^◌, bit_xor, fold};
 
 use std::hash::{Hash, Hasher};
 
-/// A hasher that keeps a digest of all bytes in their order: where two digests differ, so do the
-/// feeds.
+/// A hasher that keeps a digest (FNV-1a) of all bytes in order. Two digests that differ show that
+/// different bytes were fed.
 #[derive(Drop)]
 struct Recorder(u64);
 
@@ -25,7 +25,7 @@ impl Hasher for Recorder {
     }
 }
 
-/// What a value feeds.
+/// The digest of the bytes that a value feeds.
 pub fn fed<T: Hash>(value: &T) -> u64 {
     let mut recorder = Recorder(14695981039346656037);
     value.hash(&mut recorder);

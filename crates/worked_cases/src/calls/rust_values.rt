@@ -1,7 +1,7 @@
-//! Rust values of scalars, and scalars of Rust values.
+//! Calls that convert scalars to Rust values, and Rust values to scalars.
 
-use crate::answers::{Answer, Answering, buffer_text, bytes, write_answer};
-use crate::calls::Line;
+use crate::answers::{Answer, CallResult, buffer_text, bytes, write_answer};
+use crate::calls::{Line, buffers};
 use crate::inputs::{Exact, Inputs};
 use crate::read::named;
 use crate::tokens::Tokens;
@@ -9,26 +9,39 @@ use crate::write::output::Output;
 use rows::ptype_named;
 use std::alloc::{AllocError, Global};
 use vortex_array::{FromScalar, IntoScalar};
-use vortex_dtype::{BufferString, ByteBuffer, PType};
+use vortex_dtype::{BufferString, ByteBuffer, PType, VortexError};
 use vortex_pvalue::NativePType;
 use vortex_value::{Scalar, ScalarRef};
 
-/// What the line's call answers, if it is one of these.
-pub fn answer_line(line: &mut Line<'_>) -> Result<Option<Answer>, AllocError> {
-    match line.name {
-        b"take" => line.borrowing(|alloc, (rust, scalar): &(RustType, Scalar)| {
-            through_traits(alloc, false, *rust, scalar)
-        }),
-        b"give" => line.borrowing(|alloc, (rust, scalar): &(RustType, Scalar)| {
-            through_traits(alloc, true, *rust, scalar)
-        }),
-        b"try_from" => line.borrowing(try_from),
-        b"try_from_owned" => line.taking(try_from_owned),
-        _ => Ok(None),
+#[derive(Clone, Copy)]
+enum Call {
+    Take,
+    Give,
+    TryFrom,
+    TryFromOwned,
+}
+
+const CALLS: [(&str, Call); 4] = [
+    ("take", Call::Take),
+    ("give", Call::Give),
+    ("try_from", Call::TryFrom),
+    ("try_from_owned", Call::TryFromOwned),
+];
+
+/// The answer of the line's call, if it is one of these; other calls are in `buffers`.
+pub fn answer_line(line: &mut Line<'_>) -> Result<Answer, AllocError> {
+    let Some(call) = named(&CALLS, line.name) else {
+        return buffers::answer_line(line);
+    };
+    match call {
+        Call::Take => line.borrowing(take),
+        Call::Give => line.borrowing(give),
+        Call::TryFrom => line.borrowing(try_from),
+        Call::TryFromOwned => line.taking(try_from_owned),
     }
 }
 
-/// The type of a Rust value: so many vectors, one in another, of what may be optional.
+/// A Rust type: a leaf, which may be an `Option`, inside so many vectors.
 #[derive(Clone, Copy, PartialEq)]
 struct RustType {
     vectors: u32,
@@ -36,10 +49,10 @@ struct RustType {
     leaf: RustLeaf,
 }
 
-/// How many vectors may stand one in another.
+/// How deep vectors may nest.
 const MOST_VECTORS: u32 = 3;
 
-/// The Rust types that hold no other.
+/// The Rust types that contain no other.
 #[derive(Clone, Copy, PartialEq)]
 enum RustLeaf {
     Bool,
@@ -95,15 +108,24 @@ fn leaf_named(word: &[u8]) -> Option<RustLeaf> {
     }
 }
 
-/// Whether a scalar is made again, and how many vectors of the Rust type stand one in another.
 #[derive(Clone, Copy)]
 struct Asked {
+    /// Whether the Rust value is made a scalar again.
     gives: bool,
+    /// How deep the vectors of the Rust type nest.
     vectors: u32,
 }
 
-/// What `FromScalar` answers, and where it `gives` the scalar that `IntoScalar` makes of that.
-fn through_traits(alloc: Global, gives: bool, rust: RustType, scalar: &Scalar) -> Answering {
+fn take(alloc: Global, (rust, scalar): &(RustType, Scalar)) -> CallResult {
+    through_traits(alloc, false, *rust, scalar)
+}
+
+fn give(alloc: Global, (rust, scalar): &(RustType, Scalar)) -> CallResult {
+    through_traits(alloc, true, *rust, scalar)
+}
+
+/// What `FromScalar` answers, or if it `gives`, the scalar that `IntoScalar` makes of that.
+fn through_traits(alloc: Global, gives: bool, rust: RustType, scalar: &Scalar) -> CallResult {
     let asked = Asked {
         gives,
         vectors: rust.vectors,
@@ -125,7 +147,7 @@ fn through_traits(alloc: Global, gives: bool, rust: RustType, scalar: &Scalar) -
     }
 }
 
-fn number(alloc: Global, asked: Asked, scalar: &Scalar, ptype: PType) -> Answering {
+fn number(alloc: Global, asked: Asked, scalar: &Scalar, ptype: PType) -> CallResult {
     match ptype {
         PType::U8 => nested::<u8>(alloc, asked, scalar),
         PType::U16 => nested::<u16>(alloc, asked, scalar),
@@ -138,7 +160,7 @@ fn number(alloc: Global, asked: Asked, scalar: &Scalar, ptype: PType) -> Answeri
     }
 }
 
-fn optional_number(alloc: Global, asked: Asked, scalar: &Scalar, ptype: PType) -> Answering {
+fn optional_number(alloc: Global, asked: Asked, scalar: &Scalar, ptype: PType) -> CallResult {
     match ptype {
         PType::U8 => nested::<Option<u8>>(alloc, asked, scalar),
         PType::U16 => nested::<Option<u16>>(alloc, asked, scalar),
@@ -151,12 +173,12 @@ fn optional_number(alloc: Global, asked: Asked, scalar: &Scalar, ptype: PType) -
     }
 }
 
-/// What the call answers of the scalar as so many vectors, at most `MOST_VECTORS`, one in another.
+/// The call's answer at as many vectors around `T` as are asked for, at most `MOST_VECTORS`.
 fn nested<T: FromScalar + IntoScalar + Answers + Drop>(
     alloc: Global,
     asked: Asked,
     scalar: &Scalar,
-) -> Answering {
+) -> CallResult {
     let gives = asked.gives;
     match asked.vectors {
         0 => taken::<T>(alloc, gives, scalar),
@@ -170,7 +192,7 @@ fn taken<T: FromScalar + IntoScalar + Answers + Drop>(
     alloc: Global,
     gives: bool,
     scalar: &Scalar,
-) -> Answering {
+) -> CallResult {
     let value = T::try_from_scalar(alloc, ScalarRef::of(scalar))?;
     if gives {
         Ok(Answer::Scalar(value.try_into_scalar(alloc)?))
@@ -179,58 +201,63 @@ fn taken<T: FromScalar + IntoScalar + Answers + Drop>(
     }
 }
 
-/// What `TryFrom<&Scalar>` answers; a text is one of a buffer.
-fn try_from(alloc: Global, (rust, scalar): &(RustType, Scalar)) -> Answering {
+/// The answer of a conversion.
+fn converted<T: Answers>(alloc: Global, outcome: Result<T, VortexError>) -> CallResult {
+    outcome?.answer(alloc)
+}
+
+/// What `TryFrom<&Scalar>` answers. It has no `String` and no vectors.
+fn try_from(alloc: Global, (rust, scalar): &(RustType, Scalar)) -> CallResult {
     match (rust.vectors, rust.leaf, rust.is_optional) {
-        (0, RustLeaf::Bool, false) => bool::try_from(scalar)?.answer(alloc),
-        (0, RustLeaf::Bool, true) => Option::<bool>::try_from(scalar)?.answer(alloc),
+        (0, RustLeaf::Bool, false) => converted(alloc, bool::try_from(scalar)),
+        (0, RustLeaf::Bool, true) => converted(alloc, Option::<bool>::try_from(scalar)),
         (0, RustLeaf::Number(ptype), false) => try_number(alloc, scalar, ptype),
         (0, RustLeaf::Number(ptype), true) => try_optional_number(alloc, scalar, ptype),
-        (0, RustLeaf::Usize, false) => usize::try_from(scalar)?.answer(alloc),
-        (0, RustLeaf::Usize, true) => Option::<usize>::try_from(scalar)?.answer(alloc),
-        (0, RustLeaf::Buffer, false) => BufferString::try_from(scalar)?.answer(alloc),
-        (0, RustLeaf::Buffer, true) => Option::<BufferString>::try_from(scalar)?.answer(alloc),
-        (0, RustLeaf::Bytes, false) => ByteBuffer::try_from(scalar)?.answer(alloc),
-        (0, RustLeaf::Bytes, true) => Option::<ByteBuffer>::try_from(scalar)?.answer(alloc),
+        (0, RustLeaf::Usize, false) => converted(alloc, usize::try_from(scalar)),
+        (0, RustLeaf::Usize, true) => converted(alloc, Option::<usize>::try_from(scalar)),
+        (0, RustLeaf::Buffer, false) => converted(alloc, BufferString::try_from(scalar)),
+        (0, RustLeaf::Buffer, true) => converted(alloc, Option::<BufferString>::try_from(scalar)),
+        (0, RustLeaf::Bytes, false) => converted(alloc, ByteBuffer::try_from(scalar)),
+        (0, RustLeaf::Bytes, true) => converted(alloc, Option::<ByteBuffer>::try_from(scalar)),
         _ => Ok(Answer::Unmet),
     }
 }
 
-fn try_number(alloc: Global, scalar: &Scalar, ptype: PType) -> Answering {
+fn try_number(alloc: Global, scalar: &Scalar, ptype: PType) -> CallResult {
     match ptype {
-        PType::U8 => u8::try_from(scalar)?.answer(alloc),
-        PType::U16 => u16::try_from(scalar)?.answer(alloc),
-        PType::U32 => u32::try_from(scalar)?.answer(alloc),
-        PType::U64 => u64::try_from(scalar)?.answer(alloc),
-        PType::I8 => i8::try_from(scalar)?.answer(alloc),
-        PType::I16 => i16::try_from(scalar)?.answer(alloc),
-        PType::I32 => i32::try_from(scalar)?.answer(alloc),
-        PType::I64 => i64::try_from(scalar)?.answer(alloc),
+        PType::U8 => converted(alloc, u8::try_from(scalar)),
+        PType::U16 => converted(alloc, u16::try_from(scalar)),
+        PType::U32 => converted(alloc, u32::try_from(scalar)),
+        PType::U64 => converted(alloc, u64::try_from(scalar)),
+        PType::I8 => converted(alloc, i8::try_from(scalar)),
+        PType::I16 => converted(alloc, i16::try_from(scalar)),
+        PType::I32 => converted(alloc, i32::try_from(scalar)),
+        PType::I64 => converted(alloc, i64::try_from(scalar)),
     }
 }
 
-fn try_optional_number(alloc: Global, scalar: &Scalar, ptype: PType) -> Answering {
+fn try_optional_number(alloc: Global, scalar: &Scalar, ptype: PType) -> CallResult {
     match ptype {
-        PType::U8 => Option::<u8>::try_from(scalar)?.answer(alloc),
-        PType::U16 => Option::<u16>::try_from(scalar)?.answer(alloc),
-        PType::U32 => Option::<u32>::try_from(scalar)?.answer(alloc),
-        PType::U64 => Option::<u64>::try_from(scalar)?.answer(alloc),
-        PType::I8 => Option::<i8>::try_from(scalar)?.answer(alloc),
-        PType::I16 => Option::<i16>::try_from(scalar)?.answer(alloc),
-        PType::I32 => Option::<i32>::try_from(scalar)?.answer(alloc),
-        PType::I64 => Option::<i64>::try_from(scalar)?.answer(alloc),
+        PType::U8 => converted(alloc, Option::<u8>::try_from(scalar)),
+        PType::U16 => converted(alloc, Option::<u16>::try_from(scalar)),
+        PType::U32 => converted(alloc, Option::<u32>::try_from(scalar)),
+        PType::U64 => converted(alloc, Option::<u64>::try_from(scalar)),
+        PType::I8 => converted(alloc, Option::<i8>::try_from(scalar)),
+        PType::I16 => converted(alloc, Option::<i16>::try_from(scalar)),
+        PType::I32 => converted(alloc, Option::<i32>::try_from(scalar)),
+        PType::I64 => converted(alloc, Option::<i64>::try_from(scalar)),
     }
 }
 
-/// What `TryFrom<Scalar>` answers.
-fn try_from_owned(alloc: Global, (rust, scalar): (RustType, Scalar)) -> Answering {
+/// What `TryFrom<Scalar>` answers. It has booleans and buffers alone.
+fn try_from_owned(alloc: Global, (rust, scalar): (RustType, Scalar)) -> CallResult {
     match (rust.vectors, rust.leaf, rust.is_optional) {
-        (0, RustLeaf::Bool, false) => bool::try_from(scalar)?.answer(alloc),
-        (0, RustLeaf::Bool, true) => Option::<bool>::try_from(scalar)?.answer(alloc),
-        (0, RustLeaf::Buffer, false) => BufferString::try_from(scalar)?.answer(alloc),
-        (0, RustLeaf::Buffer, true) => Option::<BufferString>::try_from(scalar)?.answer(alloc),
-        (0, RustLeaf::Bytes, false) => ByteBuffer::try_from(scalar)?.answer(alloc),
-        (0, RustLeaf::Bytes, true) => Option::<ByteBuffer>::try_from(scalar)?.answer(alloc),
+        (0, RustLeaf::Bool, false) => converted(alloc, bool::try_from(scalar)),
+        (0, RustLeaf::Bool, true) => converted(alloc, Option::<bool>::try_from(scalar)),
+        (0, RustLeaf::Buffer, false) => converted(alloc, BufferString::try_from(scalar)),
+        (0, RustLeaf::Buffer, true) => converted(alloc, Option::<BufferString>::try_from(scalar)),
+        (0, RustLeaf::Bytes, false) => converted(alloc, ByteBuffer::try_from(scalar)),
+        (0, RustLeaf::Bytes, true) => converted(alloc, Option::<ByteBuffer>::try_from(scalar)),
         _ => {
             drop(scalar);
             Ok(Answer::Unmet)
@@ -238,20 +265,20 @@ fn try_from_owned(alloc: Global, (rust, scalar): (RustType, Scalar)) -> Answerin
     }
 }
 
-/// A Rust value that can be answered.
+/// A Rust value that can be an answer.
 trait Answers {
-    /// The value itself: of a number the kind is left out, and an absent one is `none`.
-    fn answer(self, alloc: Global) -> Answering;
+    /// The value, without a number's `PType`; `None` is `none`.
+    fn answer(self, alloc: Global) -> CallResult;
 }
 
 impl Answers for bool {
-    fn answer(self, _alloc: Global) -> Answering {
+    fn answer(self, _alloc: Global) -> CallResult {
         Ok(Answer::Truth(self))
     }
 }
 
-/// The eight integers. A trait of this crate, so that one impl for them all stands beside those for
-/// other types.
+/// The eight integers. An impl for all of another crate's `NativePType` would clash with the one for
+/// `bool`.
 trait Whole: NativePType {}
 
 impl Whole for u8 {}
@@ -271,37 +298,37 @@ impl Whole for i32 {}
 impl Whole for i64 {}
 
 impl<T: Whole> Answers for T {
-    fn answer(self, _alloc: Global) -> Answering {
+    fn answer(self, _alloc: Global) -> CallResult {
         Ok(Answer::Integer(self.into_pvalue()))
     }
 }
 
 impl Answers for usize {
-    fn answer(self, _alloc: Global) -> Answering {
+    fn answer(self, _alloc: Global) -> CallResult {
         Ok(Answer::Number(self))
     }
 }
 
 impl Answers for String {
-    fn answer(self, _alloc: Global) -> Answering {
+    fn answer(self, _alloc: Global) -> CallResult {
         Ok(Answer::Text(self))
     }
 }
 
 impl Answers for BufferString {
-    fn answer(self, _alloc: Global) -> Answering {
+    fn answer(self, _alloc: Global) -> CallResult {
         Ok(buffer_text(self))
     }
 }
 
 impl Answers for ByteBuffer {
-    fn answer(self, _alloc: Global) -> Answering {
+    fn answer(self, _alloc: Global) -> CallResult {
         Ok(bytes(self))
     }
 }
 
 impl<T: Answers> Answers for Option<T> {
-    fn answer(self, alloc: Global) -> Answering {
+    fn answer(self, alloc: Global) -> CallResult {
         match self {
             Some(value) => value.answer(alloc),
             None => Ok(Answer::None),
@@ -309,9 +336,9 @@ impl<T: Answers> Answers for Option<T> {
     }
 }
 
-/// Takes memory for the answer, which is written here.
+/// Writes the answer at once, which takes memory.
 impl<T: Answers + Drop> Answers for Vec<T> {
-    fn answer(self, alloc: Global) -> Answering {
+    fn answer(self, alloc: Global) -> CallResult {
         let mut out = Output::new(alloc);
         out.char('[');
         for (place, value) in self.into_iter().enumerate() {

@@ -1,61 +1,115 @@
 //! Calls of whole scalars.
 
-ghost use Rattle.std.specs.Prelude.{OnOk};
-ghost use Rattle.vortex_value.specs.Values.Scalars.{IsValid};
+ghost use Rattle.worked_cases.specs.Words.{IsValid, OnOk};
 
-use crate::answers::{Answer, Answering, or_none, text_of};
-use crate::calls::Line;
+use crate::answers::{Answer, CallResult, or_none, text_of};
 use crate::calls::makers::where_valid;
 use crate::calls::recorder::fed;
+use crate::calls::{Line, makers};
+use crate::read::named;
 use std::alloc::{AllocError, Global};
 use vortex_dtype::{DType, VortexError};
 use vortex_value::{Scalar, ScalarRef, ScalarValue};
 
-/// What the line's call answers, if it is one of these.
-pub fn answer_line(line: &mut Line<'_>) -> Result<Option<Answer>, AllocError> {
-    match line.name {
-        b"validate" => line.borrowing(|alloc, scalar: &Scalar| {
-            validate(alloc, scalar)?;
-            Ok(Answer::Valid)
-        }),
-        b"compatible" => line.borrowing(|_, scalar: &Scalar| {
-            Ok(Answer::Truth(Scalar::is_compatible(scalar.dtype(), scalar.value())))
-        }),
-        b"try_new" => line.taking(try_new),
-        b"clone" => line.borrowing(clone),
-        b"equal" => line.borrowing(|_, (x, y): &(Scalar, Scalar)| Ok(Answer::Truth(x == y))),
-        b"hash" => line.borrowing(|_, (x, y): &(Scalar, Scalar)| {
-            Ok(Answer::SameFeed(fed(x) == fed(y)))
-        }),
-        b"hash_lent" => line.borrowing(|_, (x, y): &(Scalar, Scalar)| {
-            Ok(Answer::SameFeed(fed(&ScalarRef::of(x)) == fed(y)))
-        }),
-        b"hash_raw" => {
-            line.borrowing(|_, (x, y): &(Option<ScalarValue>, Option<ScalarValue>)| {
-                Ok(Answer::SameFeed(fed(x) == fed(y)))
-            })
-        }
-        b"remake" => line.taking(remake),
-        b"order" => line.borrowing(order),
-        b"is_zero" => line.borrowing(is_zero),
-        b"size" => line.borrowing(size),
-        b"cast" => line.borrowing(cast),
-        b"into_nullable" => line.taking(into_nullable),
-        b"text" => line.borrowing(text_of::<Scalar>),
-        b"raw_text" => line.borrowing(raw_text),
-        _ => Ok(None),
+#[derive(Clone, Copy)]
+enum Call {
+    Validate,
+    Compatible,
+    TryNew,
+    Clone,
+    Equal,
+    Hash,
+    HashLent,
+    HashRaw,
+    Remake,
+    Order,
+    IsZero,
+    Size,
+    Cast,
+    IntoNullable,
+    Text,
+    RawText,
+}
+
+const CALLS: [(&str, Call); 16] = [
+    ("validate", Call::Validate),
+    ("compatible", Call::Compatible),
+    ("try_new", Call::TryNew),
+    ("clone", Call::Clone),
+    ("equal", Call::Equal),
+    ("hash", Call::Hash),
+    ("hash_lent", Call::HashLent),
+    ("hash_raw", Call::HashRaw),
+    ("remake", Call::Remake),
+    ("order", Call::Order),
+    ("is_zero", Call::IsZero),
+    ("size", Call::Size),
+    ("cast", Call::Cast),
+    ("into_nullable", Call::IntoNullable),
+    ("text", Call::Text),
+    ("raw_text", Call::RawText),
+];
+
+/// The answer of the line's call, if it is one of these; other calls are in `makers`.
+pub fn answer_line(line: &mut Line<'_>) -> Result<Answer, AllocError> {
+    let Some(call) = named(&CALLS, line.name) else {
+        return makers::answer_line(line);
+    };
+    match call {
+        Call::Validate => line.borrowing(validate_scalar),
+        Call::Compatible => line.borrowing(compatible),
+        Call::TryNew => line.taking(try_new),
+        Call::Clone => line.borrowing(clone),
+        Call::Equal => line.borrowing(equal),
+        Call::Hash => line.borrowing(hash),
+        Call::HashLent => line.borrowing(hash_lent),
+        Call::HashRaw => line.borrowing(hash_raw),
+        Call::Remake => line.taking(remake),
+        Call::Order => line.borrowing(order),
+        Call::IsZero => line.borrowing(is_zero),
+        Call::Size => line.borrowing(size),
+        Call::Cast => line.borrowing(cast),
+        Call::IntoNullable => line.taking(into_nullable),
+        Call::Text => line.borrowing(text_of::<Scalar>),
+        Call::RawText => line.borrowing(raw_text),
     }
 }
 
-/// The refusal of a scalar that is not valid.
+/// Refuses a scalar that is not valid.
 pub fn validate(alloc: Global, scalar: &Scalar) -> Result<(), VortexError>
     ensures { OnOk result (IsValid scalar.now) }
 {
     Scalar::validate(alloc, scalar.dtype(), scalar.value())
 }
 
-/// The raw value again, made of what it is taken apart into.
-fn remake(alloc: Global, value: Option<ScalarValue>) -> Answering {
+fn validate_scalar(alloc: Global, scalar: &Scalar) -> CallResult {
+    validate(alloc, scalar)?;
+    Ok(Answer::Valid)
+}
+
+fn compatible(_alloc: Global, scalar: &Scalar) -> CallResult {
+    Ok(Answer::Truth(Scalar::is_compatible(scalar.dtype(), scalar.value())))
+}
+
+fn equal(_alloc: Global, (x, y): &(Scalar, Scalar)) -> CallResult {
+    Ok(Answer::Truth(x == y))
+}
+
+fn hash(_alloc: Global, (x, y): &(Scalar, Scalar)) -> CallResult {
+    Ok(Answer::SameFeed(fed(x) == fed(y)))
+}
+
+/// Whether a borrowed scalar feeds a hasher what an owned one feeds.
+fn hash_lent(_alloc: Global, (x, y): &(Scalar, Scalar)) -> CallResult {
+    Ok(Answer::SameFeed(fed(&ScalarRef::of(x)) == fed(y)))
+}
+
+fn hash_raw(_alloc: Global, (x, y): &(Option<ScalarValue>, Option<ScalarValue>)) -> CallResult {
+    Ok(Answer::SameFeed(fed(x) == fed(y)))
+}
+
+/// A raw value taken apart by `into_..`, and made again of its part.
+fn remake(alloc: Global, value: Option<ScalarValue>) -> CallResult {
     let Some(value) = value else {
         return Ok(Answer::Null);
     };
@@ -70,43 +124,43 @@ fn remake(alloc: Global, value: Option<ScalarValue>) -> Answering {
     }))
 }
 
-fn try_new(alloc: Global, scalar: Scalar) -> Answering {
+fn try_new(alloc: Global, scalar: Scalar) -> CallResult {
     let Scalar { dtype, value } = scalar;
     Ok(Answer::Scalar(Scalar::try_new(alloc, dtype, value)?))
 }
 
-fn clone(alloc: Global, scalar: &Scalar) -> Answering {
+fn clone(alloc: Global, scalar: &Scalar) -> CallResult {
     Ok(Answer::Scalar(scalar.clone(alloc)?))
 }
 
-fn order(alloc: Global, (first, second): &(Scalar, Scalar)) -> Answering {
+fn order(alloc: Global, (first, second): &(Scalar, Scalar)) -> CallResult {
     validate(alloc, first)?;
     validate(alloc, second)?;
     Ok(or_none(first.partial_cmp(second).map(Answer::Order)))
 }
 
-fn is_zero(alloc: Global, scalar: &Scalar) -> Answering {
+fn is_zero(alloc: Global, scalar: &Scalar) -> CallResult {
     validate(alloc, scalar)?;
     Ok(or_none(scalar.is_zero().map(Answer::Truth)))
 }
 
-fn size(alloc: Global, scalar: &Scalar) -> Answering {
+fn size(alloc: Global, scalar: &Scalar) -> CallResult {
     validate(alloc, scalar)?;
     Ok(Answer::Number(scalar.approx_nbytes()))
 }
 
-fn cast(alloc: Global, (scalar, target): &(Scalar, DType)) -> Answering {
+fn cast(alloc: Global, (scalar, target): &(Scalar, DType)) -> CallResult {
     validate(alloc, scalar)?;
     Ok(Answer::Scalar(scalar.cast(alloc, target)?))
 }
 
-fn into_nullable(alloc: Global, scalar: Scalar) -> Answering {
+fn into_nullable(alloc: Global, scalar: Scalar) -> CallResult {
     let validity = validate(alloc, &scalar);
     let scalar = where_valid(scalar, validity)?;
     Ok(Answer::Scalar(scalar.into_nullable()))
 }
 
-fn raw_text(alloc: Global, value: &Option<ScalarValue>) -> Answering {
+fn raw_text(alloc: Global, value: &Option<ScalarValue>) -> CallResult {
     match value {
         Some(value) => text_of(alloc, value),
         None => Ok(Answer::Text(String::from_str(alloc, "null")?)),

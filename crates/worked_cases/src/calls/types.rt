@@ -1,32 +1,70 @@
 //! Calls of types.
 
-use crate::answers::{Answer, Answering, or_none};
-use crate::calls::Line;
+use crate::answers::{Answer, CallResult, or_none};
 use crate::calls::recorder::fed;
+use crate::calls::{Line, scalars};
+use crate::read::named;
 use std::alloc::{AllocError, Global};
 use vortex_dtype::{BufferString, DType, FieldName, VortexError};
 use vortex_value::Scalar;
 
-/// What the line's call answers, if it is one of these.
-pub fn answer_line(line: &mut Line<'_>) -> Result<Option<Answer>, AllocError> {
-    match line.name {
-        b"same" => line.borrowing(|_, (x, y): &(DType, DType)| {
-            Ok(Answer::Truth(x.eq_ignore_nullability(y)))
-        }),
-        b"equal_types" => line.borrowing(|_, (x, y): &(DType, DType)| Ok(Answer::Truth(x == y))),
-        b"hash_types" => line.borrowing(|_, (x, y): &(DType, DType)| {
-            Ok(Answer::SameFeed(fed(x) == fed(y)))
-        }),
-        b"as_nullable" => line.taking(|_, dtype: DType| Ok(Answer::Type(dtype.as_nullable()))),
-        b"project" => line.borrowing(project),
-        b"find" => line.borrowing(find),
-        b"zero" => line.borrowing(zero),
-        b"default" => line.borrowing(default),
-        _ => Ok(None),
+#[derive(Clone, Copy)]
+enum Call {
+    Same,
+    EqualTypes,
+    HashTypes,
+    AsNullable,
+    Project,
+    Find,
+    Zero,
+    Default,
+}
+
+const CALLS: [(&str, Call); 8] = [
+    ("same", Call::Same),
+    ("equal_types", Call::EqualTypes),
+    ("hash_types", Call::HashTypes),
+    ("as_nullable", Call::AsNullable),
+    ("project", Call::Project),
+    ("find", Call::Find),
+    ("zero", Call::Zero),
+    ("default", Call::Default),
+];
+
+/// The answer of the line's call, if it is one of these; other calls are in `scalars`.
+pub fn answer_line(line: &mut Line<'_>) -> Result<Answer, AllocError> {
+    let Some(call) = named(&CALLS, line.name) else {
+        return scalars::answer_line(line);
+    };
+    match call {
+        Call::Same => line.borrowing(same),
+        Call::EqualTypes => line.borrowing(equal_types),
+        Call::HashTypes => line.borrowing(hash_types),
+        Call::AsNullable => line.taking(as_nullable),
+        Call::Project => line.borrowing(project),
+        Call::Find => line.borrowing(find),
+        Call::Zero => line.borrowing(zero),
+        Call::Default => line.borrowing(default),
     }
 }
 
-fn project(alloc: Global, (dtype, names): &(DType, Vec<FieldName>)) -> Answering {
+fn same(_alloc: Global, (x, y): &(DType, DType)) -> CallResult {
+    Ok(Answer::Truth(x.eq_ignore_nullability(y)))
+}
+
+fn equal_types(_alloc: Global, (x, y): &(DType, DType)) -> CallResult {
+    Ok(Answer::Truth(x == y))
+}
+
+fn hash_types(_alloc: Global, (x, y): &(DType, DType)) -> CallResult {
+    Ok(Answer::SameFeed(fed(x) == fed(y)))
+}
+
+fn as_nullable(_alloc: Global, dtype: DType) -> CallResult {
+    Ok(Answer::Type(dtype.as_nullable()))
+}
+
+fn project(alloc: Global, (dtype, names): &(DType, Vec<FieldName>)) -> CallResult {
     match dtype {
         DType::Struct(fields, n) => {
             Ok(Answer::Type(DType::Struct(fields.project(alloc, names)?, *n)))
@@ -35,17 +73,17 @@ fn project(alloc: Global, (dtype, names): &(DType, Vec<FieldName>)) -> Answering
     }
 }
 
-fn find(_alloc: Global, (dtype, name): &(DType, BufferString)) -> Answering {
+fn find(_alloc: Global, (dtype, name): &(DType, BufferString)) -> CallResult {
     match dtype {
         DType::Struct(fields, _) => Ok(or_none(fields.find(name.as_str()).map(Answer::Number))),
         _ => Err(VortexError::WrongKind),
     }
 }
 
-fn zero(alloc: Global, dtype: &DType) -> Answering {
+fn zero(alloc: Global, dtype: &DType) -> CallResult {
     Ok(or_none(Scalar::zero_value(alloc, dtype)?.map(Answer::Scalar)))
 }
 
-fn default(alloc: Global, dtype: &DType) -> Answering {
+fn default(alloc: Global, dtype: &DType) -> CallResult {
     Ok(or_none(Scalar::default_value(alloc, dtype)?.map(Answer::Scalar)))
 }

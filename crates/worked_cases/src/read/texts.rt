@@ -1,14 +1,14 @@
-//! Texts in quotes, names, and bytes in hexadecimal.
+//! Reads strings in quotes, names, and bytes in hexadecimal.
 
 use crate::tokens::Tokens;
 use hex::{FromHexError, decode};
 use std::alloc::Global;
 use vortex_dtype::{BufferString, ByteBuffer, FieldName, VortexError};
 
-/// The most digits of a character's number.
+/// The most digits in a character's escape.
 const DIGITS: u32 = 6;
 
-/// Reads a text in quotes.
+/// Reads a string in quotes.
 pub fn read_text(tokens: &mut Tokens<'_>) -> BufferString {
     let mut text = Vec::new(tokens.alloc);
     tokens.expect(b'"');
@@ -28,7 +28,7 @@ fn text_of(bytes: Result<ByteBuffer, VortexError>) -> Result<BufferString, Vorte
     BufferString::try_from(bytes?)
 }
 
-/// The text of bytes that were made; where there was no memory for them, no text.
+/// The string of these bytes, or an empty one if there was no memory for them.
 fn made_text(tokens: &mut Tokens<'_>, bytes: Result<ByteBuffer, VortexError>) -> BufferString {
     match tokens.made(text_of(bytes)) {
         Some(text) => text,
@@ -36,7 +36,7 @@ fn made_text(tokens: &mut Tokens<'_>, bytes: Result<ByteBuffer, VortexError>) ->
     }
 }
 
-/// What stands for a text that could not be read.
+/// The empty string, which stands for one that could not be read.
 fn no_text(alloc: Global) -> BufferString {
     match BufferString::empty(alloc) {
         Ok(text) => text,
@@ -44,7 +44,7 @@ fn no_text(alloc: Global) -> BufferString {
     }
 }
 
-/// Reads what follows a backslash, and adds the character that it stands for.
+/// Reads what follows a backslash, and adds the escaped character.
 fn read_escape(tokens: &mut Tokens<'_>, text: &mut Vec<u8>) {
     match tokens.byte() {
         Some(b'\\') => tokens.push(text, b'\\'),
@@ -60,7 +60,7 @@ fn read_escape(tokens: &mut Tokens<'_>, text: &mut Vec<u8>) {
     }
 }
 
-/// Reads a character's number, 1 to 6 digits in braces.
+/// Reads a character's number: 1 to 6 hexadecimal digits in braces.
 fn read_character(tokens: &mut Tokens<'_>) -> Option<char> {
     if tokens.byte()? != b'{' {
         return None;
@@ -76,7 +76,7 @@ fn read_character(tokens: &mut Tokens<'_>) -> Option<char> {
     None
 }
 
-/// Adds the bytes of a character.
+/// Adds the UTF-8 bytes of a character.
 fn push_character(tokens: &mut Tokens<'_>, text: &mut Vec<u8>, character: char) {
     let mut bytes = [0; 4];
     for byte in character.encode_utf8(&mut bytes).as_bytes() {
@@ -84,7 +84,7 @@ fn push_character(tokens: &mut Tokens<'_>, text: &mut Vec<u8>, character: char) 
     }
 }
 
-/// Reads a name: a word that begins with no digit, or a text in quotes.
+/// Reads a name: a word that begins with no digit, or a string in quotes.
 pub fn read_name(tokens: &mut Tokens<'_>) -> BufferString {
     if tokens.peek() == Some(b'"') {
         return read_text(tokens);
@@ -102,13 +102,13 @@ pub fn read_name(tokens: &mut Tokens<'_>) -> BufferString {
     }
 }
 
-/// Reads a name, and adds it to the others.
+/// Reads a name, and adds it to `names`.
 pub fn push_name(tokens: &mut Tokens<'_>, names: &mut Vec<FieldName>) {
     let name = FieldName::new(read_name(tokens));
     tokens.push(names, name);
 }
 
-/// The bytes that these digits in hexadecimal represent, two each, of which there may be none.
+/// The bytes that these hexadecimal digits stand for, two digits each; there may be none.
 pub fn bytes_of_hex(tokens: &mut Tokens<'_>, digits: &[u8]) -> ByteBuffer {
     let made = match decode(tokens.alloc, digits) {
         Ok(bytes) => ByteBuffer::from_vec(bytes),

@@ -1,6 +1,6 @@
-//! Types.
+//! Reads types.
 
-ghost use Rattle.std.specs.Prelude.{◌≡◌, ◌+◌, IfSome};
+ghost use Rattle.worked_cases.specs.Words.{◌+◌, ◌≡◌, IfSome};
 
 use crate::read::named;
 use crate::read::numbers::read_natural;
@@ -13,7 +13,7 @@ use vortex_dtype::{
     VortexError,
 };
 
-/// What a type begins with.
+/// The beginning of a type.
 #[derive(Clone, Copy)]
 enum Head {
     Null,
@@ -43,7 +43,7 @@ const HEADS: [(&str, Head); 10] = [
     ("ext", Head::Extension),
 ];
 
-/// Reads what a type begins with, and the bracket of its parts.
+/// Reads the beginning of a type, with the bracket that opens its parts.
 fn read_head(tokens: &mut Tokens<'_>) -> Head {
     if tokens.takes(b'{') {
         return Head::Struct;
@@ -65,7 +65,7 @@ fn head_named(word: &[u8]) -> Option<Head> {
     }
 }
 
-/// How many more brackets may be open within one.
+/// How many brackets may open inside one more bracket. Without room for that one the line is bad.
 pub fn within(tokens: &mut Tokens<'_>, room: u32) -> Option<u32>
     ensures { IfSome result (λ left. left + 1 ≡ room) }
 {
@@ -76,8 +76,8 @@ pub fn within(tokens: &mut Tokens<'_>, room: u32) -> Option<u32>
     left
 }
 
-/// Reads a type in which so many brackets may be open at one time; the type of nulls stands for one
-/// that was refused.
+/// Reads a type with at most `room` brackets open at a time. `Null` stands for a type that was
+/// refused.
 #[cycle(types)]
 pub fn read_type(tokens: &mut Tokens<'_>, room: u32) -> DType {
     match read_head(tokens) {
@@ -97,7 +97,7 @@ pub fn read_type(tokens: &mut Tokens<'_>, room: u32) -> DType {
     }
 }
 
-/// Reads the parts of a type.
+/// Reads the parts of a type, and what closes them.
 #[cycle(types)]
 fn read_parts(tokens: &mut Tokens<'_>, head: Head, room: u32) -> Result<DType, VortexError> {
     match head {
@@ -131,7 +131,7 @@ fn read_parts(tokens: &mut Tokens<'_>, head: Head, room: u32) -> Result<DType, V
     }
 }
 
-/// The names, types and ids of fields or variants.
+/// The names and types of fields or variants, and the variants' ids.
 #[derive(Drop)]
 pub struct Fields {
     pub names: Vec<FieldName>,
@@ -139,16 +139,16 @@ pub struct Fields {
     pub type_ids: Vec<u8>,
 }
 
-/// The fields of a struct.
+/// The fields of a struct type.
 pub fn struct_fields(alloc: Global, fields: Fields) -> Result<StructFields, VortexError> {
     if fields.names.len() != fields.dtypes.len() {
-        // Only where memory was wanting for one of them.
+        // Only if there was no memory for one of them.
         return Err(VortexError::OutOfMemory);
     }
     StructFields::new(alloc, fields.names, fields.dtypes)
 }
 
-/// Reads fields, each with an id before it where they are variants.
+/// Reads fields, or variants, which have an id before each name.
 #[cycle(types)]
 pub fn read_fields(tokens: &mut Tokens<'_>, has_ids: bool, close: u8, room: u32) -> Fields {
     let mut fields = Fields {
@@ -167,7 +167,7 @@ pub fn read_fields(tokens: &mut Tokens<'_>, has_ids: bool, close: u8, room: u32)
     fields
 }
 
-/// Reads the id of a variant, and the name of it or of a field.
+/// Reads what stands before a field's or variant's type: its id, if it has one, and its name.
 fn read_field_head(tokens: &mut Tokens<'_>, has_ids: bool, fields: &mut Fields) {
     if has_ids {
         let id = read_id(tokens);
@@ -177,19 +177,19 @@ fn read_field_head(tokens: &mut Tokens<'_>, has_ids: bool, fields: &mut Fields) 
     tokens.expect(b':');
 }
 
-/// Reads an id of a union's variant.
+/// Reads the id of a variant.
 pub fn read_id(tokens: &mut Tokens<'_>) -> u8 {
     read_natural(tokens, u64::from(u8::MAX)) as u8
 }
 
-/// The list type over this element type, of which the end is read.
+/// Reads the end of a list type, after its element type.
 fn list_of(tokens: &mut Tokens<'_>, element: DType) -> Result<DType, VortexError> {
     tokens.expect(b')');
     let nullability = tokens.nullability();
     Ok(DType::List(Box::new(tokens.alloc, element)?, nullability))
 }
 
-/// The type of lists of the size that is read.
+/// Reads the end of a type of lists of one size, after its element type.
 fn fixed_size_list_of(tokens: &mut Tokens<'_>, element: DType) -> Result<DType, VortexError> {
     tokens.expect(b',');
     let size = read_natural(tokens, u64::from(u32::MAX)) as u32;
@@ -198,7 +198,7 @@ fn fixed_size_list_of(tokens: &mut Tokens<'_>, element: DType) -> Result<DType, 
     Ok(DType::FixedSizeList(Box::new(tokens.alloc, element)?, size, nullability))
 }
 
-/// The map type of this key and value type, of which the end is read.
+/// Reads the end of a map type, after its key and value type.
 fn map_of(tokens: &mut Tokens<'_>, key: DType, value: DType) -> Result<DType, VortexError> {
     let is_sorted = tokens.takes(b',');
     if is_sorted && tokens.word() != b"sorted".as_slice() {
@@ -209,13 +209,13 @@ fn map_of(tokens: &mut Tokens<'_>, key: DType, value: DType) -> Result<DType, Vo
     DType::map(tokens.alloc, key, value, is_sorted, nullability)
 }
 
-/// The struct type of these fields, nullable where a question mark follows.
+/// Reads the end of a struct type, after its fields.
 fn struct_of(tokens: &mut Tokens<'_>, fields: Fields) -> Result<DType, VortexError> {
     let nullability = tokens.nullability();
     Ok(DType::Struct(struct_fields(tokens.alloc, fields)?, nullability))
 }
 
-/// The union type of these variants, nullable where a question mark follows.
+/// Reads the end of a union type, after its variants.
 fn union_of(tokens: &mut Tokens<'_>, fields: Fields) -> Result<DType, VortexError> {
     let nullability = tokens.nullability();
     let variants = UnionVariants::try_new(
@@ -227,7 +227,7 @@ fn union_of(tokens: &mut Tokens<'_>, fields: Fields) -> Result<DType, VortexErro
     Ok(DType::Union(variants, nullability))
 }
 
-/// Reads the id and the metadata of an extension.
+/// Reads the id and the metadata of an extension type.
 fn read_extension_head(tokens: &mut Tokens<'_>) -> (BufferString, ByteBuffer) {
     let id = read_name(tokens);
     tokens.expect(b',');
@@ -237,7 +237,7 @@ fn read_extension_head(tokens: &mut Tokens<'_>) -> (BufferString, ByteBuffer) {
     (id, metadata)
 }
 
-/// The extension type over this storage type, of which the end is read.
+/// Reads the end of an extension type, after its storage type.
 fn extension_of(
     tokens: &mut Tokens<'_>,
     id: BufferString,

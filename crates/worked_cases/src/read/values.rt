@@ -1,4 +1,4 @@
-//! Raw values and scalars.
+//! Reads raw values and scalars.
 
 use crate::read::numbers::{integer, natural, read_negative};
 use crate::read::texts::{bytes_of_hex, read_text};
@@ -9,7 +9,7 @@ use vortex_dtype::{DType, VortexError};
 use vortex_pvalue::PValue;
 use vortex_value::{Scalar, ScalarValue, UnionValue};
 
-/// What a raw value begins with.
+/// The beginning of a raw value, or the whole of one that has no parts.
 #[derive(Drop)]
 enum Head {
     Whole(Option<ScalarValue>),
@@ -18,7 +18,7 @@ enum Head {
     Variant,
 }
 
-/// Reads what a raw value begins with, and the bracket of its parts.
+/// Reads the beginning of a raw value, with the bracket that opens its parts.
 fn read_head(tokens: &mut Tokens<'_>) -> Head {
     match tokens.peek() {
         Some(b'"') => Head::Whole(Some(ScalarValue::Utf8(read_text(tokens)))),
@@ -38,7 +38,7 @@ fn read_head(tokens: &mut Tokens<'_>) -> Head {
     }
 }
 
-/// Reads a null, a truth value, a string of bytes, an integer or a union's id.
+/// Reads `null`, a boolean, bytes, an integer, or a union's id.
 fn read_word(tokens: &mut Tokens<'_>) -> Head {
     match tokens.word() {
         b"null" => Head::Whole(None),
@@ -54,7 +54,7 @@ fn read_word(tokens: &mut Tokens<'_>) -> Head {
     }
 }
 
-/// An integer; where there is none, the line is a bad one.
+/// An integer. If there is none, the line is bad.
 fn integer_head(tokens: &mut Tokens<'_>, number: Option<PValue>) -> Head {
     if number.is_none() {
         tokens.bad_line();
@@ -62,7 +62,7 @@ fn integer_head(tokens: &mut Tokens<'_>, number: Option<PValue>) -> Head {
     Head::Whole(number.map(ScalarValue::Primitive))
 }
 
-/// Reads the bracket that follows a union's id.
+/// Reads the bracket after a union's id.
 fn read_union_head(tokens: &mut Tokens<'_>, id: u64) -> Head {
     tokens.expect(b'(');
     if id < 256 {
@@ -72,7 +72,7 @@ fn read_union_head(tokens: &mut Tokens<'_>, id: u64) -> Head {
     Head::Whole(None)
 }
 
-/// Reads a raw value in which so many brackets may be open at one time; none is a null.
+/// Reads a raw value with at most `room` brackets open at a time; `None` is a null.
 #[cycle(values)]
 pub fn read_value(tokens: &mut Tokens<'_>, room: u32) -> Option<ScalarValue> {
     match read_head(tokens) {
@@ -84,7 +84,7 @@ pub fn read_value(tokens: &mut Tokens<'_>, room: u32) -> Option<ScalarValue> {
     }
 }
 
-/// Reads the parts of a raw value.
+/// Reads the parts of a raw value, and what closes them.
 #[cycle(values)]
 fn read_parts(tokens: &mut Tokens<'_>, head: Head, room: u32) -> Option<ScalarValue> {
     match head {
@@ -126,7 +126,7 @@ fn variant_of(alloc: Global, scalar: Scalar) -> Result<ScalarValue, VortexError>
     Ok(ScalarValue::Variant(Box::new(alloc, scalar)?))
 }
 
-/// Reads a scalar, which need not be valid.
+/// Reads a scalar. It need not be valid.
 #[cycle(values)]
 pub fn read_scalar(tokens: &mut Tokens<'_>, room: u32) -> Scalar {
     let dtype = read_type(tokens, room);

@@ -1,11 +1,11 @@
-//! A text that is written.
+//! A string that is written piece by piece.
 
 use hex::encode_to_slice;
 use itoa::{Buffer, Integer};
 use std::alloc::{AllocError, Global};
 
-/// A text that is written. Where memory is wanting, or a part is left out, that is kept, and
-/// `into_text` tells.
+/// A string that is written piece by piece. If memory runs out, or a piece is left out, that is
+/// remembered, and `into_text` refuses.
 #[derive(Drop)]
 pub struct Output {
     text: String,
@@ -13,7 +13,7 @@ pub struct Output {
 }
 
 impl Output {
-    /// No text.
+    /// An empty string.
     pub fn new(alloc: Global) -> Output {
         Output {
             text: String::new(alloc),
@@ -21,7 +21,7 @@ impl Output {
         }
     }
 
-    /// What was written, or that it is not whole.
+    /// What was written. `AllocError` if a piece is missing.
     pub fn into_text(self) -> Result<String, AllocError> {
         if self.is_short {
             return Err(AllocError);
@@ -29,32 +29,31 @@ impl Output {
         Ok(self.text)
     }
 
-    /// Marks the text as one that lacks a part.
+    /// Remembers that a piece is missing.
     pub fn cut(&mut self) {
         self.is_short = true;
     }
 
-    /// Adds a character as it is.
+    /// Adds a character unescaped.
     pub fn char(&mut self, character: char) {
         if self.text.push(character).is_err() {
             self.cut();
         }
     }
 
-    /// Adds a text as it is.
+    /// Adds a string unescaped.
     pub fn word(&mut self, word: &str) {
         if self.text.push_str(word).is_err() {
             self.cut();
         }
     }
 
-    /// Adds a number.
     pub fn number<N: Integer>(&mut self, number: N) {
         let mut buffer = Buffer::new();
         self.word(buffer.format(number));
     }
 
-    /// Adds two digits in hexadecimal for each of these bytes.
+    /// Adds two hexadecimal digits for each byte.
     pub fn hex(&mut self, bytes: &[u8]) {
         for byte in bytes {
             for digit in digits_of(*byte) {
@@ -63,7 +62,7 @@ impl Output {
         }
     }
 
-    /// Adds what stands between this part and the one before it.
+    /// Adds the comma before the part at this place; the first has none.
     pub fn comma(&mut self, place: usize) {
         if place > 0 {
             self.word(", ");
@@ -71,7 +70,7 @@ impl Output {
     }
 }
 
-/// The two digits of a byte in hexadecimal.
+/// The two hexadecimal digits of a byte.
 pub fn digits_of(byte: u8) -> [u8; 2] {
     let mut digits = [0; 2];
     let Ok(()) = encode_to_slice([byte], &mut digits) else {

@@ -1,9 +1,9 @@
-//! Refusals.
+//! Writes refusals.
 
 use crate::write::output::Output;
 use vortex_dtype::{Breach, Step, TypeCause, VortexError};
 
-/// Writes a refusal: its name, and its parts.
+/// Writes the name of a refusal, and then its fields.
 pub fn write_refusal(out: &mut Output, refusal: &VortexError) {
     out.word(refusal_name(refusal));
     match refusal {
@@ -22,7 +22,6 @@ pub fn write_refusal(out: &mut Output, refusal: &VortexError) {
     }
 }
 
-/// The name of a refusal.
 fn refusal_name(refusal: &VortexError) -> &'static str {
     match refusal {
         VortexError::OutOfMemory => "OutOfMemory",
@@ -52,13 +51,13 @@ fn cause_name(cause: TypeCause) -> &'static str {
     }
 }
 
-/// Writes a space and a number.
+/// Writes a number after a space.
 fn write_count(out: &mut Output, number: usize) {
     out.char(' ');
     out.number(number);
 }
 
-/// Writes the path to a breach, and the breach.
+/// Writes the path to a breach, `.` if it has no step, and the breach.
 fn write_invalid(out: &mut Output, steps: &[Step], breach: Breach) {
     out.char(' ');
     if steps.is_empty() {

@@ -1,8 +1,8 @@
-//! Texts and names.
+//! Writes strings and names.
 
 use crate::write::output::{Output, digits_of};
 
-/// Writes a text in quotes, escaped.
+/// Writes a string in quotes, escaped.
 pub fn write_text(out: &mut Output, text: &str) {
     out.char('"');
     for character in text.chars() {
@@ -11,7 +11,7 @@ pub fn write_text(out: &mut Output, text: &str) {
     out.char('"');
 }
 
-/// Writes a character, escaped where it does not stand for itself.
+/// Writes a character, escaped if it is a quote, a backslash or a control character.
 fn write_character(out: &mut Output, character: char) {
     match character {
         '\\' => out.word("\\\\"),
@@ -24,7 +24,7 @@ fn write_character(out: &mut Output, character: char) {
     }
 }
 
-/// Writes the number of a character in braces.
+/// Writes the escape of a control character, as `\u{7f}`.
 fn write_code(out: &mut Output, code: u8) {
     let [first, second] = digits_of(code);
     out.word("\\u{");
@@ -35,7 +35,7 @@ fn write_code(out: &mut Output, code: u8) {
     out.char('}');
 }
 
-/// Writes a name, bare where it is a word that begins with no digit, else in quotes.
+/// Writes a name: bare if it is a word that begins with no digit, else in quotes.
 pub fn write_name(out: &mut Output, name: &str) {
     if is_word(name.as_bytes()) {
         out.word(name);

@@ -1,32 +1,30 @@
-//! Types.
+//! Writes types.
 
 use crate::write::output::Output;
 use crate::write::texts::write_name;
 use vortex_dtype::{DType, ExtDType, MapDType, Nullability, StructFields, UnionVariants};
 
-/// Writes the question mark of a type that takes a null.
+/// Writes the question mark of a nullable type.
 fn write_nullability(out: &mut Output, nullability: Nullability) {
     if nullability == Nullability::Nullable {
         out.char('?');
     }
 }
 
-/// Writes the name of a type without parts.
+/// Writes the name of a type, and whether it is nullable.
 fn write_flat(out: &mut Output, name: &str, nullability: Nullability) {
     out.word(name);
     write_nullability(out, nullability);
 }
 
-/// How many types may stand in one another: more than a line can hold, so that none is cut.
+/// How deep types may nest: deeper than a line can hold, so that no type is cut.
 const ROOM: u32 = 1024;
 
-/// Writes a type.
 pub fn write_type(out: &mut Output, dtype: &DType) {
     write_within(out, dtype, ROOM);
 }
 
-/// Writes a type in which at most so many types stand in one another; where there are more, the text
-/// is marked as cut.
+/// Writes a type that nests at most `room` deep. A deeper one is cut, and the output remembers it.
 #[cycle(types)]
 fn write_within(out: &mut Output, dtype: &DType, room: u32) {
     if room == 0 {
@@ -91,7 +89,7 @@ fn write_fields(out: &mut Output, fields: &StructFields, room: u32) {
     out.char('}');
 }
 
-/// Writes the name of the field at this place.
+/// Writes the comma and the name before a field's type.
 fn write_field_head(out: &mut Output, fields: &StructFields, place: usize) {
     out.comma(place);
     if let Some(name) = fields.names().get(place) {
@@ -112,7 +110,7 @@ fn write_variants(out: &mut Output, variants: &UnionVariants, room: u32) {
     out.char(')');
 }
 
-/// Writes the id and the name of the variant at this place.
+/// Writes the comma, the id and the name before a variant's type.
 fn write_variant_head(out: &mut Output, variants: &UnionVariants, place: usize) {
     out.comma(place);
     if place < variants.len() {
@@ -125,7 +123,7 @@ fn write_variant_head(out: &mut Output, variants: &UnionVariants, place: usize) 
     out.word(": ");
 }
 
-/// Writes the id and the metadata of an extension.
+/// Writes the id and the metadata before an extension's storage type.
 fn write_extension_head(out: &mut Output, extension: &ExtDType) {
     out.word("ext(");
     write_name(out, extension.id().as_str());

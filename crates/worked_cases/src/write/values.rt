@@ -1,4 +1,4 @@
-//! Raw values and scalars.
+//! Writes raw values and scalars.
 
 use crate::answers::truth_word;
 use crate::write::output::Output;
@@ -7,18 +7,17 @@ use crate::write::types::write_type;
 use vortex_pvalue::PValue;
 use vortex_value::{Scalar, ScalarValue, UnionValue};
 
-/// Writes an integer without its kind.
+/// Writes an integer without its `PType`.
 pub fn write_number(out: &mut Output, number: PValue) {
     out.number(number.whole());
 }
 
-/// Writes an integer and its kind.
+/// Writes an integer and its `PType`.
 fn write_integer(out: &mut Output, number: PValue) {
     write_number(out, number);
     out.word(number.ptype().name());
 }
 
-/// Writes a raw value.
 #[cycle(values)]
 pub fn write_value(out: &mut Output, value: &ScalarValue) {
     match value {
@@ -35,7 +34,7 @@ pub fn write_value(out: &mut Output, value: &ScalarValue) {
     }
 }
 
-/// Writes a raw value, or `null`.
+/// Writes a raw value, or `null` if it is absent.
 #[cycle(values)]
 fn write_raw(out: &mut Output, value: Option<&ScalarValue>) {
     match value {
@@ -69,7 +68,7 @@ fn write_variant(out: &mut Output, scalar: &Scalar) {
     out.char('>');
 }
 
-/// Writes a scalar.
+/// Writes a scalar: its type, a colon and its raw value.
 #[cycle(values)]
 pub fn write_scalar(out: &mut Output, scalar: &Scalar) {
     write_type(out, &scalar.dtype);

@@ -1,5 +1,5 @@
 use Rattle.std.proofs.Common.{◌+◌, ◌*◌}
-use Rattle.vortex_value.proofs.Lent.{lent_size}
+use Rattle.worked_cases.proofs.Lent.{lent_size}
 use Rattle.worked_cases.proofs.same.+same.Given as goal
 
 abbrev pub decreases-same_value : goal.decreases-same_value

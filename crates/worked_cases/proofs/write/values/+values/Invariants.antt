@@ -1,5 +1,5 @@
 use Rattle.std.proofs.Common.{◌+◌, ◌*◌}
-use Rattle.vortex_value.proofs.Lent.{lent_size}
+use Rattle.worked_cases.proofs.Lent.{lent_size}
 use Rattle.worked_cases.proofs.write.values.+values.Given as goal
 
 abbrev pub decreases-write_value : goal.decreases-write_value

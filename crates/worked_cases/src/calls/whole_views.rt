@@ -1,12 +1,12 @@
-//! Calls of views of whole scalars: which there are, their texts, lengths and order.
+//! Calls of whole views: how they are made and printed, their length and order.
 
-ghost use Rattle.vortex_value.specs.Values.Scalars.{IsValid};
+ghost use Rattle.worked_cases.specs.Words.{IsValid};
 
-use crate::answers::{Answer, Answering, or_none, text_of};
-use crate::calls::Line;
+use crate::answers::{Answer, CallResult, or_none, text_of};
 use crate::calls::scalars::validate;
+use crate::calls::{Line, numbers};
 use crate::inputs::{Exact, Inputs};
-use crate::read::read_named;
+use crate::read::{named, read_named};
 use crate::tokens::Tokens;
 use std::alloc::{AllocError, Global};
 use std::cmp::Ordering;
@@ -17,21 +17,44 @@ use vortex_views::{
     StructScalar, UnionScalar, Utf8Scalar,
 };
 
-/// What the line's call answers, if it is one of these.
-pub fn answer_line(line: &mut Line<'_>) -> Result<Option<Answer>, AllocError> {
-    match line.name {
-        b"view" => line.borrowing(viewed),
-        b"try_view" => line.borrowing(try_view),
-        b"view_text" => line.borrowing(text),
-        b"len" => line.borrowing(length),
-        b"is_empty" => line.borrowing(is_empty),
-        b"is_null" => line.borrowing(is_null),
-        b"view_order" => line.borrowing(view_order),
-        _ => Ok(None),
+#[derive(Clone, Copy)]
+enum Call {
+    View,
+    TryView,
+    ViewText,
+    Len,
+    IsEmpty,
+    IsNull,
+    ViewOrder,
+}
+
+const CALLS: [(&str, Call); 7] = [
+    ("view", Call::View),
+    ("try_view", Call::TryView),
+    ("view_text", Call::ViewText),
+    ("len", Call::Len),
+    ("is_empty", Call::IsEmpty),
+    ("is_null", Call::IsNull),
+    ("view_order", Call::ViewOrder),
+];
+
+/// The answer of the line's call, if it is one of these; other calls are in `numbers`.
+pub fn answer_line(line: &mut Line<'_>) -> Result<Answer, AllocError> {
+    let Some(call) = named(&CALLS, line.name) else {
+        return numbers::answer_line(line);
+    };
+    match call {
+        Call::View => line.borrowing(scalar_of_view),
+        Call::TryView => line.borrowing(try_view),
+        Call::ViewText => line.borrowing(text),
+        Call::Len => line.borrowing(length),
+        Call::IsEmpty => line.borrowing(is_empty),
+        Call::IsNull => line.borrowing(is_null),
+        Call::ViewOrder => line.borrowing(view_order),
     }
 }
 
-/// The views that are made of a scalar, or of a type and a raw value.
+/// The views that a line can name.
 #[derive(Clone, Copy, PartialEq)]
 enum View {
     Bool,
@@ -65,8 +88,8 @@ impl Inputs for View {
 
 impl Exact for View {}
 
-/// The scalar that a view shows.
-fn viewed(alloc: Global, (view, scalar): &(View, Scalar)) -> Answering {
+/// The scalar that a view was made of, by `try_new`.
+fn scalar_of_view(alloc: Global, (view, scalar): &(View, Scalar)) -> CallResult {
     let dtype = scalar.dtype();
     let value = scalar.value();
     Ok(Answer::Scalar(match view {
@@ -74,18 +97,14 @@ fn viewed(alloc: Global, (view, scalar): &(View, Scalar)) -> Answering {
         View::Primitive => Scalar::from(PrimitiveScalar::try_new(alloc, dtype, value)?),
         View::Struct | View::Extension => return Ok(Answer::Unmet),
         view => {
-            let dtype = viewed_type(alloc, *view, scalar)?;
+            let dtype = view_type(alloc, *view, scalar)?;
             ScalarRef::from_parts(dtype, value).to_scalar(alloc)?
         }
     }))
 }
 
-/// The type of the view that lends the scalar's value.
-fn viewed_type<'a>(
-    alloc: Global,
-    view: View,
-    scalar: &'a Scalar,
-) -> Result<&'a DType, VortexError> {
+/// The type of a view that lends its value.
+fn view_type<'a>(alloc: Global, view: View, scalar: &'a Scalar) -> Result<&'a DType, VortexError> {
     let dtype = scalar.dtype();
     let value = scalar.value();
     Ok(match view {
@@ -98,8 +117,8 @@ fn viewed_type<'a>(
     })
 }
 
-/// The text of the view that the conversion of a borrowed scalar gives.
-fn try_view(alloc: Global, (view, scalar): &(View, Scalar)) -> Answering {
+/// The `Display` of the view that `TryFrom<&Scalar>` gives.
+fn try_view(alloc: Global, (view, scalar): &(View, Scalar)) -> CallResult {
     match view {
         View::Bool => text_of(alloc, &BoolScalar::try_from(scalar)?),
         View::Utf8 => text_of(alloc, &Utf8Scalar::try_from(scalar)?),
@@ -113,8 +132,8 @@ fn try_view(alloc: Global, (view, scalar): &(View, Scalar)) -> Answering {
     }
 }
 
-/// The text of the view.
-fn text(alloc: Global, scalar: &Scalar) -> Answering {
+/// The `Display` of the view that `Downcast` gives.
+fn text(alloc: Global, scalar: &Scalar) -> CallResult {
     validate(alloc, scalar)?;
     match scalar.dtype() {
         DType::Bool(_) => text_of(alloc, &scalar.as_bool()),
@@ -125,8 +144,8 @@ fn text(alloc: Global, scalar: &Scalar) -> Answering {
     }
 }
 
-/// The text of the view of a scalar with parts.
-fn text_with_parts(alloc: Global, scalar: &Scalar) -> Answering
+/// The `Display` of the view of a scalar with parts.
+fn text_with_parts(alloc: Global, scalar: &Scalar) -> CallResult
     requires { IsValid scalar.now }
 {
     match scalar.dtype() {
@@ -140,8 +159,8 @@ fn text_with_parts(alloc: Global, scalar: &Scalar) -> Answering
     }
 }
 
-/// How many bytes, elements or entries there are.
-fn length(alloc: Global, scalar: &Scalar) -> Answering {
+/// The number of bytes, elements or entries.
+fn length(alloc: Global, scalar: &Scalar) -> CallResult {
     validate(alloc, scalar)?;
     let length = match scalar.dtype() {
         DType::Utf8(_) => scalar.as_utf8().len(),
@@ -153,8 +172,7 @@ fn length(alloc: Global, scalar: &Scalar) -> Answering {
     Ok(or_none(length.map(Answer::Number)))
 }
 
-/// Whether there is no byte, element or entry.
-fn is_empty(alloc: Global, scalar: &Scalar) -> Answering {
+fn is_empty(alloc: Global, scalar: &Scalar) -> CallResult {
     validate(alloc, scalar)?;
     let is_empty = match scalar.dtype() {
         DType::Utf8(_) => scalar.as_utf8().is_empty(),
@@ -166,8 +184,7 @@ fn is_empty(alloc: Global, scalar: &Scalar) -> Answering {
     Ok(or_none(is_empty.map(Answer::Truth)))
 }
 
-/// Whether the view is of a null.
-fn is_null(alloc: Global, scalar: &Scalar) -> Answering {
+fn is_null(alloc: Global, scalar: &Scalar) -> CallResult {
     validate(alloc, scalar)?;
     Ok(Answer::Truth(match scalar.dtype() {
         DType::List(_, _) | DType::FixedSizeList(_, _, _) => scalar.as_list().is_null(),
@@ -179,13 +196,13 @@ fn is_null(alloc: Global, scalar: &Scalar) -> Answering {
     }))
 }
 
-fn view_order(alloc: Global, (first, second): &(Scalar, Scalar)) -> Answering {
+fn view_order(alloc: Global, (first, second): &(Scalar, Scalar)) -> CallResult {
     validate(alloc, first)?;
     validate(alloc, second)?;
     Ok(or_none(order_of_views(first, second)?.map(Answer::Order)))
 }
 
-/// The order of two views of one kind.
+/// The order of two views. `WrongKind` if they are not of one kind that has an order.
 fn order_of_views(first: &Scalar, second: &Scalar) -> Result<Option<Ordering>, VortexError>
     requires first { IsValid first.now }
     requires second { IsValid second.now }

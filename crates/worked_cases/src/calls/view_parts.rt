@@ -1,70 +1,116 @@
-//! Calls of the parts of scalars, by their views.
+//! Calls of views that give parts: elements, entries, fields, children, storage.
 
-ghost use Rattle.std.specs.Prelude.{◌≡◌, IfOk};
-ghost use Rattle.vortex_value.specs.Values.Refs.{IsValidRef};
-ghost use Rattle.vortex_views.specs.Structs.{struct_ref};
-ghost use Rattle.vortex_views.specs.Unions.{union_ref};
+ghost use Rattle.worked_cases.specs.Words.{◌≡◌, IfOk, IsValidRef, struct_ref, union_ref};
 
-use crate::answers::{Answer, Answering, or_none};
-use crate::calls::Line;
+use crate::answers::{Answer, CallResult, or_none};
 use crate::calls::scalars::validate;
+use crate::calls::{Line, whole_views};
+use crate::read::named;
 use crate::same::same_as_lent;
 use std::alloc::{AllocError, Global};
 use vortex_dtype::{BufferString, DType, FieldName, VortexError};
 use vortex_value::{Scalar, ScalarRef};
 use vortex_views::{Downcast, MapScalar, StructScalar, UnionScalar};
 
-/// What the line's call answers, if it is one of these.
-pub fn answer_line(line: &mut Line<'_>) -> Result<Option<Answer>, AllocError> {
-    match line.name {
-        b"element" => line.borrowing(element),
-        b"elements" => line.borrowing(elements),
-        b"entry" => line.borrowing(entry),
-        b"entries" => line.borrowing(entries),
-        b"keys" => line.borrowing(keys),
-        b"values" => line.borrowing(values),
-        b"field_at" => line.borrowing(field_at),
-        b"field" => line.borrowing(field),
-        b"fields" => line.borrowing(fields),
-        b"project_struct" => line.borrowing(project_struct),
-        b"cast_struct" => line.borrowing(cast_struct),
-        b"child" => line.borrowing(child),
-        b"child_index" => line.borrowing(child_index),
-        b"type_id" => line.borrowing(type_id),
-        b"variant_name" => line.borrowing(variant_name),
-        b"inner" => line.borrowing(inner),
-        b"is_variant_null" => line.borrowing(is_variant_null),
-        b"storage" => line.borrowing(storage),
-        _ => Ok(None),
+#[derive(Clone, Copy)]
+enum Call {
+    Element,
+    Elements,
+    Entry,
+    Entries,
+    Keys,
+    Values,
+    FieldAt,
+    Field,
+    Fields,
+    ProjectStruct,
+    CastStruct,
+    Child,
+    ChildIndex,
+    TypeId,
+    VariantName,
+    Inner,
+    IsVariantNull,
+    Storage,
+}
+
+const CALLS: [(&str, Call); 18] = [
+    ("element", Call::Element),
+    ("elements", Call::Elements),
+    ("entry", Call::Entry),
+    ("entries", Call::Entries),
+    ("keys", Call::Keys),
+    ("values", Call::Values),
+    ("field_at", Call::FieldAt),
+    ("field", Call::Field),
+    ("fields", Call::Fields),
+    ("project_struct", Call::ProjectStruct),
+    ("cast_struct", Call::CastStruct),
+    ("child", Call::Child),
+    ("child_index", Call::ChildIndex),
+    ("type_id", Call::TypeId),
+    ("variant_name", Call::VariantName),
+    ("inner", Call::Inner),
+    ("is_variant_null", Call::IsVariantNull),
+    ("storage", Call::Storage),
+];
+
+/// The answer of the line's call, if it is one of these; other calls are in `whole_views`.
+pub fn answer_line(line: &mut Line<'_>) -> Result<Answer, AllocError> {
+    let Some(call) = named(&CALLS, line.name) else {
+        return whole_views::answer_line(line);
+    };
+    match call {
+        Call::Element => line.borrowing(element),
+        Call::Elements => line.borrowing(elements),
+        Call::Entry => line.borrowing(entry),
+        Call::Entries => line.borrowing(entries),
+        Call::Keys => line.borrowing(keys),
+        Call::Values => line.borrowing(values),
+        Call::FieldAt => line.borrowing(field_at),
+        Call::Field => line.borrowing(field),
+        Call::Fields => line.borrowing(fields),
+        Call::ProjectStruct => line.borrowing(project_struct),
+        Call::CastStruct => line.borrowing(cast_struct),
+        Call::Child => line.borrowing(child),
+        Call::ChildIndex => line.borrowing(child_index),
+        Call::TypeId => line.borrowing(type_id),
+        Call::VariantName => line.borrowing(variant_name),
+        Call::Inner => line.borrowing(inner),
+        Call::IsVariantNull => line.borrowing(is_variant_null),
+        Call::Storage => line.borrowing(storage),
     }
 }
 
-/// The view of a scalar, where its type is of the kind.
+/// The view of a scalar, if the scalar's type has that view.
 pub fn of_kind<T>(view: Option<T>) -> Result<T, VortexError>
     ensures { IfOk result (λ given. view ≡ Some given) }
 {
     view.ok_or(VortexError::WrongKind)
 }
 
-fn element(alloc: Global, (scalar, place): &(Scalar, usize)) -> Answering {
+fn element(alloc: Global, (scalar, place): &(Scalar, usize)) -> CallResult {
     validate(alloc, scalar)?;
     let list = of_kind(scalar.as_list_opt())?;
     Ok(or_none(list.element(alloc, *place)?.map(Answer::Scalar)))
 }
 
-fn elements(alloc: Global, scalar: &Scalar) -> Answering {
+fn elements(alloc: Global, scalar: &Scalar) -> CallResult {
     validate(alloc, scalar)?;
     let list = of_kind(scalar.as_list_opt())?;
     Ok(or_none(list.elements(alloc)?.map(Answer::Parts)))
 }
 
-/// The items that an iterator gave, how many there were and how many were refused, and whether one
-/// was wrong. Their room is made first, so that what is refused later is an item.
+/// The items that an iterator gave. Their room is allocated first, so that a later refusal is an
+/// item's.
 #[derive(Drop)]
 struct Items<T> {
     items: Vec<T>,
+    /// How many items came, refused ones among them.
     seen: usize,
+    /// How many of them were refused.
     refused: usize,
+    /// Whether one was not what the view lends at its place.
     is_wrong: bool,
 }
 
@@ -78,12 +124,12 @@ impl<T: Drop> Items<T> {
         })
     }
 
-    /// Keeps an item, which is to be what is lent at its place.
+    /// Keeps an item. `is_lent` says whether it is what the view lends at its place.
     fn add(&mut self, item: Result<T, VortexError>, is_lent: bool) {
         self.seen = self.seen.saturating_add(1);
         self.is_wrong = self.is_wrong || !is_lent;
         match item {
-            // Never out of memory, since the room was made.
+            // Never out of memory: the room was allocated.
             Ok(item) => drop(self.items.push(item)),
             Err(refusal) => {
                 self.refused = self.refused.saturating_add(1);
@@ -92,7 +138,7 @@ impl<T: Drop> Items<T> {
         }
     }
 
-    /// What is wrong, where there were to be so many items.
+    /// What went wrong, if `count` items were due.
     fn fault(&self, count: usize) -> Option<Answer> {
         if self.is_wrong || self.seen != count {
             return Some(Answer::WrongItems);
@@ -105,7 +151,7 @@ impl<T: Drop> Items<T> {
     }
 }
 
-/// All of so many parts, or what is wrong with them.
+/// The parts, or what went wrong, if `count` parts were due.
 fn all_parts(parts: Items<Scalar>, count: usize) -> Answer {
     match parts.fault(count) {
         Some(fault) => fault,
@@ -113,7 +159,7 @@ fn all_parts(parts: Items<Scalar>, count: usize) -> Answer {
     }
 }
 
-/// Whether an item is what is lent at its place; for nothing but memory is one refused.
+/// Whether an item is what the view lends at its place. `OutOfMemory` is its only refusal.
 fn is_lent(item: &Result<Scalar, VortexError>, lent: Option<ScalarRef<'_>>) -> bool {
     match (item, lent) {
         (Ok(part), Some(lent)) => same_as_lent(part, lent),
@@ -122,7 +168,7 @@ fn is_lent(item: &Result<Scalar, VortexError>, lent: Option<ScalarRef<'_>>) -> b
     }
 }
 
-/// Whether an entry is what is lent at its place; for nothing but memory is one refused.
+/// Whether an entry is what the view lends at its place. `OutOfMemory` is its only refusal.
 fn is_lent_entry(
     item: &Result<(Scalar, Scalar), VortexError>,
     lent: Option<(ScalarRef<'_>, ScalarRef<'_>)>,
@@ -136,18 +182,18 @@ fn is_lent_entry(
     }
 }
 
-/// The view of a valid map.
+/// The view of a map. `Invalid` if the scalar is not valid, and then `WrongKind`.
 fn valid_map(alloc: Global, scalar: &Scalar) -> Result<MapScalar<'_>, VortexError> {
     validate(alloc, scalar)?;
     of_kind(scalar.as_map_opt())
 }
 
-fn entry(alloc: Global, (scalar, place): &(Scalar, usize)) -> Answering {
+fn entry(alloc: Global, (scalar, place): &(Scalar, usize)) -> CallResult {
     let map = valid_map(alloc, scalar)?;
     Ok(or_none(map.entry(alloc, *place)?.map(Answer::Entry)))
 }
 
-fn keys(alloc: Global, scalar: &Scalar) -> Answering {
+fn keys(alloc: Global, scalar: &Scalar) -> CallResult {
     let map = valid_map(alloc, scalar)?;
     let mut parts = Items::new(alloc, map.len())?;
     for key in map.keys(alloc) {
@@ -158,7 +204,7 @@ fn keys(alloc: Global, scalar: &Scalar) -> Answering {
     Ok(all_parts(parts, map.len()))
 }
 
-fn values(alloc: Global, scalar: &Scalar) -> Answering {
+fn values(alloc: Global, scalar: &Scalar) -> CallResult {
     let map = valid_map(alloc, scalar)?;
     let mut parts = Items::new(alloc, map.len())?;
     for value in map.values(alloc) {
@@ -169,7 +215,7 @@ fn values(alloc: Global, scalar: &Scalar) -> Answering {
     Ok(all_parts(parts, map.len()))
 }
 
-fn entries(alloc: Global, scalar: &Scalar) -> Answering {
+fn entries(alloc: Global, scalar: &Scalar) -> CallResult {
     let map = valid_map(alloc, scalar)?;
     let mut entries = Items::new(alloc, map.len())?;
     for entry in map.entries(alloc) {
@@ -182,7 +228,7 @@ fn entries(alloc: Global, scalar: &Scalar) -> Answering {
     })
 }
 
-/// The view of a valid struct.
+/// The view of a struct. `Invalid` if the scalar is not valid, and then `WrongKind`.
 fn valid_struct(alloc: Global, scalar: &Scalar) -> Result<StructScalar<'_>, VortexError>
     ensures { IfOk result (λ view. IsValidRef (struct_ref view)) }
 {
@@ -190,7 +236,7 @@ fn valid_struct(alloc: Global, scalar: &Scalar) -> Result<StructScalar<'_>, Vort
     of_kind(scalar.as_struct_opt())
 }
 
-fn field_at(alloc: Global, (scalar, place): &(Scalar, usize)) -> Answering {
+fn field_at(alloc: Global, (scalar, place): &(Scalar, usize)) -> CallResult {
     let view = valid_struct(alloc, scalar)?;
     if view.is_null() {
         return Ok(Answer::Unmet);
@@ -198,7 +244,7 @@ fn field_at(alloc: Global, (scalar, place): &(Scalar, usize)) -> Answering {
     Ok(or_none(view.field_by_idx(alloc, *place)?.map(Answer::Scalar)))
 }
 
-fn field(alloc: Global, (scalar, name): &(Scalar, BufferString)) -> Answering {
+fn field(alloc: Global, (scalar, name): &(Scalar, BufferString)) -> CallResult {
     let view = valid_struct(alloc, scalar)?;
     if view.is_null() {
         return Ok(Answer::Unmet);
@@ -206,7 +252,7 @@ fn field(alloc: Global, (scalar, name): &(Scalar, BufferString)) -> Answering {
     Ok(or_none(view.field(alloc, name.as_str())?.map(Answer::Scalar)))
 }
 
-fn fields(alloc: Global, scalar: &Scalar) -> Answering {
+fn fields(alloc: Global, scalar: &Scalar) -> CallResult {
     let view = valid_struct(alloc, scalar)?;
     let Some(fields) = view.fields_iter(alloc) else {
         return Ok(Answer::None);
@@ -219,17 +265,17 @@ fn fields(alloc: Global, scalar: &Scalar) -> Answering {
     Ok(all_parts(parts, view.names().len()))
 }
 
-fn project_struct(alloc: Global, (scalar, names): &(Scalar, Vec<FieldName>)) -> Answering {
+fn project_struct(alloc: Global, (scalar, names): &(Scalar, Vec<FieldName>)) -> CallResult {
     let view = valid_struct(alloc, scalar)?;
     Ok(Answer::Scalar(view.project(alloc, names)?))
 }
 
-fn cast_struct(alloc: Global, (scalar, target): &(Scalar, DType)) -> Answering {
+fn cast_struct(alloc: Global, (scalar, target): &(Scalar, DType)) -> CallResult {
     let view = valid_struct(alloc, scalar)?;
     Ok(Answer::Scalar(view.cast(alloc, target)?))
 }
 
-/// The view of a valid union.
+/// The view of a union. `Invalid` if the scalar is not valid, and then `WrongKind`.
 fn valid_union(alloc: Global, scalar: &Scalar) -> Result<UnionScalar<'_>, VortexError>
     ensures { IfOk result (λ view. IsValidRef (union_ref view)) }
 {
@@ -237,22 +283,22 @@ fn valid_union(alloc: Global, scalar: &Scalar) -> Result<UnionScalar<'_>, Vortex
     of_kind(scalar.as_union_opt())
 }
 
-fn child(alloc: Global, scalar: &Scalar) -> Answering {
+fn child(alloc: Global, scalar: &Scalar) -> CallResult {
     let union = valid_union(alloc, scalar)?;
     Ok(or_none(union.child(alloc)?.map(Answer::Scalar)))
 }
 
-fn child_index(alloc: Global, scalar: &Scalar) -> Answering {
+fn child_index(alloc: Global, scalar: &Scalar) -> CallResult {
     let union = valid_union(alloc, scalar)?;
     Ok(or_none(union.child_index().map(Answer::Number)))
 }
 
-fn type_id(alloc: Global, scalar: &Scalar) -> Answering {
+fn type_id(alloc: Global, scalar: &Scalar) -> CallResult {
     let union = valid_union(alloc, scalar)?;
     Ok(or_none(union.type_id().map(|id| Answer::Number(usize::from(id)))))
 }
 
-fn variant_name(alloc: Global, scalar: &Scalar) -> Answering {
+fn variant_name(alloc: Global, scalar: &Scalar) -> CallResult {
     let union = valid_union(alloc, scalar)?;
     match union.variant_name() {
         Some(name) => Ok(Answer::Text(String::from_str(alloc, name.as_str())?)),
@@ -260,8 +306,8 @@ fn variant_name(alloc: Global, scalar: &Scalar) -> Answering {
     }
 }
 
-/// A copy of the scalar that a variant holds.
-fn inner(alloc: Global, scalar: &Scalar) -> Answering {
+/// A copy of the scalar in a variant.
+fn inner(alloc: Global, scalar: &Scalar) -> CallResult {
     validate(alloc, scalar)?;
     match of_kind(scalar.as_variant_opt())?.value() {
         Some(held) => Ok(Answer::Scalar(held.clone(alloc)?)),
@@ -269,13 +315,13 @@ fn inner(alloc: Global, scalar: &Scalar) -> Answering {
     }
 }
 
-fn is_variant_null(alloc: Global, scalar: &Scalar) -> Answering {
+fn is_variant_null(alloc: Global, scalar: &Scalar) -> CallResult {
     validate(alloc, scalar)?;
     let variant = of_kind(scalar.as_variant_opt())?;
     Ok(or_none(variant.is_variant_null().map(Answer::Truth)))
 }
 
-fn storage(alloc: Global, scalar: &Scalar) -> Answering {
+fn storage(alloc: Global, scalar: &Scalar) -> CallResult {
     validate(alloc, scalar)?;
     let extension = of_kind(scalar.as_extension_opt())?;
     Ok(Answer::Scalar(extension.to_storage_scalar(alloc)?))
