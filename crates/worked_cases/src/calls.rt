@@ -68,7 +68,11 @@ impl<'a> Line<'a> {
         self.run.report("called");
         let outcome = call(self.run.alloc(), &inputs);
         self.run.report("answered");
-        Ok(answer_of(outcome, self.run.is_watched() && self.is_changed(&inputs)))
+        if self.run.is_watched() && self.is_changed(&inputs) {
+            drop(outcome);
+            return Ok(Answer::Changed);
+        }
+        Ok(answer_of(outcome))
     }
 
     /// Whether inputs differ from a second reading of the line, which shares no memory with them.
@@ -93,15 +97,11 @@ impl<'a> Line<'a> {
         self.run.report("called");
         let outcome = call(self.run.alloc(), inputs);
         self.run.report("answered");
-        Ok(answer_of(outcome, false))
+        Ok(answer_of(outcome))
     }
 }
 
 /// The answer of a call: a refusal is an answer too.
-fn answer_of(outcome: CallResult, is_changed: bool) -> Answer {
-    match outcome {
-        _ if is_changed => Answer::Changed,
-        Ok(answer) => answer,
-        Err(refusal) => Answer::Refused(refusal),
-    }
+fn answer_of(outcome: CallResult) -> Answer {
+    outcome.unwrap_or_else(Answer::Refused)
 }

@@ -214,8 +214,10 @@ fn may_contain(
 ) -> CallResult {
     let validity = validate_three(alloc, &least, &greatest, &value);
     let (least, greatest, value) = where_valid((least, greatest, value), validity)?;
-    let bounds = ZoneBounds::of(alloc, least, greatest, length);
-    let answer = zone_answer(bounds, &value);
+    let answer = match ZoneBounds::of(alloc, least, greatest, length) {
+        Ok(bounds) => Ok(zone_answer(bounds, &value)),
+        Err(refusal) => Err(refusal),
+    };
     drop(value);
     answer
 }
@@ -236,14 +238,22 @@ fn validate_three(
     validate(alloc, value)
 }
 
-/// Whether the zone of these bounds may contain the value, if they were not refused.
-fn zone_answer(bounds: Result<ZoneBounds, VortexError>, value: &Scalar) -> CallResult
+/// Whether a zone of these bounds may contain the value.
+fn zone_answer(bounds: ZoneBounds, value: &Scalar) -> Answer
     requires { IsValid value.now }
 {
-    let bounds = bounds?;
+    let may_contain = may_contain_typed(&bounds, value);
+    drop(bounds);
+    may_contain.map_or(Answer::Unmet, Answer::Truth)
+}
+
+/// Whether a zone of these bounds may contain the value, if it is of their type.
+fn may_contain_typed(bounds: &ZoneBounds, value: &Scalar) -> Option<bool>
+    requires { IsValid value.now }
+{
     if value.dtype().eq_ignore_nullability(bounds.lower().dtype()) {
-        Ok(Answer::Truth(bounds.may_contain(value)))
+        Some(bounds.may_contain(value))
     } else {
-        Ok(Answer::Unmet)
+        None
     }
 }

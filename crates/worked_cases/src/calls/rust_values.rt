@@ -343,9 +343,18 @@ impl<T: Answers + Drop> Answers for Vec<T> {
         out.char('[');
         for (place, value) in self.into_iter().enumerate() {
             out.comma(place);
-            write_answer(&mut out, &value.answer(alloc)?);
+            push_answer(&mut out, value.answer(alloc));
         }
         out.char(']');
         Ok(Answer::Written(out.into_text()?))
     }
+}
+
+/// Writes the answer of an item. `OutOfMemory` is its only refusal, and the output remembers that.
+fn push_answer(out: &mut Output, outcome: CallResult) {
+    match &outcome {
+        Ok(answer) => write_answer(out, answer),
+        Err(_) => out.cut(),
+    }
+    drop(outcome);
 }
