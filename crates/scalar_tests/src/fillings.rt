@@ -1,12 +1,6 @@
-//! What a caller derives of zeros and defaults, from the contracts and the laws alone.
+//! What a caller derives about zeros and defaults, from the contracts and the laws alone.
 
-ghost use Rattle.std.specs.Prelude.{◌≡◌, Some, true, IfErr, IfOk, IfSome};
-ghost use Rattle.vortex_dtype.specs.TypeOf.{type_of};
-ghost use Rattle.vortex_dtype.specs.TypeTree.{IsNullable};
-ghost use Rattle.vortex_value.specs.TypesWithin.{UnionsHaveVariants};
-ghost use Rattle.vortex_value.specs.Values.Content.{null};
-ghost use Rattle.vortex_value.specs.Values.Scalars.{scalar_content, scalar_type};
-ghost use Rattle.vortex_value.specs.Zero.{is_zero_of};
+ghost use Rattle.scalar_tests.specs.Words.{◌≡◌, IfErr, IfOk, IfSome, IsNullable, Some, UnionsHaveVariants, is_zero_of, null, scalar_content, scalar_type, true, type_of};
 
 use crate::fixtures::I32;
 use std::alloc::Global;
@@ -14,7 +8,7 @@ use vortex_dtype::{DType, Nullability, VortexError};
 use vortex_value::Scalar;
 use vortex_value::laws::{default_by_cases, default_exists, zero_is_zero};
 
-/// The zero of a type, none where there is none: one that is zero.
+/// The zero of a type, if there is one: it is zero.
 fn zero_of(alloc: Global, dtype: &DType) -> Result<Option<Scalar>, VortexError>
     ensures { IfOk result (λ made. IfSome made
         (λ zero. is_zero_of (scalar_type zero) (scalar_content zero) ≡ Some true)) }
@@ -23,7 +17,7 @@ fn zero_of(alloc: Global, dtype: &DType) -> Result<Option<Scalar>, VortexError>
     Scalar::zero_value(alloc, dtype)
 }
 
-/// The default of a type whose unions have variants: there is one.
+/// The default of a type whose unions have variants: there always is one.
 ///
 /// `OutOfMemory` is its only refusal.
 fn default_of(alloc: Global, dtype: &DType) -> Result<Scalar, VortexError>
@@ -37,7 +31,7 @@ fn default_of(alloc: Global, dtype: &DType) -> Result<Scalar, VortexError>
     }
 }
 
-/// The default of a nullable type: its null.
+/// The default of a nullable type: a null.
 ///
 /// `OutOfMemory` is its only refusal.
 fn default_of_nullable(alloc: Global, dtype: &DType) -> Result<Scalar, VortexError>

@@ -1,6 +1,6 @@
-//! Types and raw values that tests are about.
+//! Types and raw values for tests.
 
-ghost use Rattle.std.specs.Prelude.{◌≡◌, length};
+ghost use Rattle.scalar_tests.specs.Words.{◌≡◌, length};
 
 use std::process::Abort;
 use vortex_dtype::Nullability::{NonNullable, Nullable};
@@ -10,37 +10,35 @@ use vortex_dtype::{
 use vortex_pvalue::PValue;
 use vortex_value::{Scalar, ScalarValue, UnionValue};
 
-/// A raw value or its absence.
+/// A raw value; `None` is a null.
 pub type Raw = Option<ScalarValue>;
 
-/// Integers of 32 bits.
+/// The type of 32-bit integers.
 pub const I32: DType = DType::Primitive(PType::I32, NonNullable);
 
-/// A raw integer of 32 bits.
+/// A raw 32-bit integer.
 pub fn integer(number: i32) -> Raw {
     Some(ScalarValue::Primitive(PValue::I32(number)))
 }
 
-/// A text.
 pub fn text_buffer(rt: &(impl AllocGlobal + Abort), text: &str) -> BufferString
     ensures { result ≡ text.now }
 {
     BufferString::from_str(rt.alloc(), text).expect(rt, "a text")
 }
 
-/// A string of bytes.
 pub fn byte_buffer(rt: &(impl AllocGlobal + Abort), bytes: &[u8]) -> ByteBuffer
     ensures { result ≡ bytes.now }
 {
     ByteBuffer::from_slice(rt.alloc(), bytes).expect(rt, "bytes")
 }
 
-/// A raw text.
+/// A raw string.
 pub fn text(rt: &(impl AllocGlobal + Abort), text: &str) -> Raw {
     Some(ScalarValue::Utf8(text_buffer(rt, text)))
 }
 
-/// A raw string of bytes.
+/// Raw bytes.
 pub fn bytes(rt: &(impl AllocGlobal + Abort), bytes: &[u8]) -> Raw {
     Some(ScalarValue::Binary(byte_buffer(rt, bytes)))
 }
@@ -57,7 +55,7 @@ pub fn union(rt: &(impl AllocGlobal + Abort), id: u8, child: Raw) -> Raw {
     Some(ScalarValue::Union(value))
 }
 
-/// A variant's raw value, whatever the scalar.
+/// A variant's raw value. The scalar inside need not be valid.
 pub fn variant(rt: &(impl AllocGlobal + Abort), dtype: DType, value: Raw) -> Raw {
     let scalar = Box::new(rt.alloc(), Scalar { dtype, value }).expect(rt, "a variant");
     Some(ScalarValue::Variant(scalar))
@@ -75,19 +73,16 @@ pub fn map(rt: &(impl AllocGlobal + Abort), value: DType) -> DType {
     made.expect(rt, "a map")
 }
 
-/// A name.
 fn name(rt: &(impl AllocGlobal + Abort), text: &str) -> FieldName {
     FieldName::new(text_buffer(rt, text))
 }
 
-/// Two names.
 fn two_names(rt: &(impl AllocGlobal + Abort), first: &str, second: &str) -> Vec<FieldName>
     ensures { length result.items ≡ 2 }
 {
     vec![in rt.alloc(); name(rt, first), name(rt, second)].expect(rt, "names")
 }
 
-/// Two types.
 fn two_types(rt: &(impl AllocGlobal + Abort), first: DType, second: DType) -> Vec<DType>
     ensures { length result.items ≡ 2 }
 {
@@ -102,7 +97,7 @@ pub fn struct_of_two(rt: &(impl AllocGlobal + Abort), first: DType, second: DTyp
     DType::Struct(fields, NonNullable)
 }
 
-/// The nullable union type of `int` (id 5, integers and nulls) and `string` (id 9, texts).
+/// The nullable union type of `int` (id 5, nullable integers) and `string` (id 9).
 pub fn union_of_two(rt: &(impl AllocGlobal + Abort)) -> DType {
     let names = two_names(rt, "int", "string");
     let int = DType::Primitive(PType::I32, Nullable);

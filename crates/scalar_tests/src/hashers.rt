@@ -1,6 +1,6 @@
-//! Hashers that tests feed: one that adds up and one that hears nothing; and scalars, fed to both.
+//! Two unusual hashers, one that adds bytes up and one that ignores them, and scalars fed to both.
 
-ghost use Rattle.std.specs.Prelude.{◌+◌, ◌%◌, ◌^◌, fold};
+ghost use Rattle.scalar_tests.specs.Words.{◌%◌, ◌+◌, ◌^◌, fold};
 
 use crate::fixtures::{integer, variant};
 use std::hash::{Hash, Hasher};
@@ -8,9 +8,9 @@ use std::process::Abort;
 use vortex_dtype::{DType, Nullability, PType};
 use vortex_value::Scalar;
 
-/// A hasher that adds all bytes up, so that their order is lost.
+/// A hasher that adds all bytes up, whatever their order.
 #[derive(Drop)]
-struct Adder(u64);
+pub struct Adder(pub u64);
 
 impl Hasher for Adder {
     ghost write = { λ s bytes. record { 0 = fold (λ h b. (h + b) % 2 ^ 64) s.0 bytes } };
@@ -28,7 +28,7 @@ impl Hasher for Adder {
     }
 }
 
-/// A hasher that hears nothing.
+/// A hasher that ignores all bytes.
 #[derive(Drop)]
 struct Deaf;
 
@@ -51,15 +51,15 @@ pub fn fed<T: Hash>(value: &T) -> u64 {
     hasher.finish()
 }
 
-/// What a hasher that hears nothing says of a value.
+/// The digest of a value by the hasher that ignores it.
 fn unheard<T: Hash>(value: &T) -> u64 {
     let mut hasher = Deaf;
     value.hash(&mut hasher);
     hasher.finish()
 }
 
-/// Sees that the first two are equal and feed each hasher the same, and that a third is another and
-/// feeds another sum.
+/// Asserts that two values are equal and feed each hasher the same, and that a third value is not
+/// equal to them and has another sum.
 pub fn hashes<T: Hash + PartialEq>(rt: &impl Abort, one: &T, same: &T, other: &T) {
     assert!(rt; *one == *same && *one != *other);
     assert!(rt; fed(one) == fed(same));

@@ -1,10 +1,7 @@
-//! Makers over iterators: they ask for no item where the type is of another kind, and those of maps
-//! for none past the first wrong one.
+//! Makers over iterators: they ask for no item if the type is of the wrong kind, and the makers of
+//! maps stop at the first wrong entry.
 
-ghost use Rattle.std.specs.Prelude.{IfSome};
-ghost use Rattle.std.specs.Iterator.{at_most};
-ghost use Rattle.vortex_value.specs.Makers.{IsValidEntry};
-ghost use Rattle.vortex_value.specs.Values.Scalars.{IsValid};
+ghost use Rattle.scalar_tests.specs.Words.{IfSome, IsValid, IsValidEntry, at_most};
 
 use crate::fixtures::{I32, map, struct_of_two};
 use std::cell::Cell;
@@ -20,7 +17,7 @@ fn seven() -> Scalar
     Scalar::primitive(7i32, NonNullable)
 }
 
-/// Gives so many integers, and counts how often it is asked.
+/// Gives `left` integers, and counts how often it is asked.
 #[derive(Drop)]
 struct Children<'a> {
     left: u32,
@@ -41,7 +38,7 @@ impl<'a> Iterator for Children<'a> {
     }
 }
 
-/// Gives so many entries of integers, and counts how often it is asked.
+/// Gives `left` entries of integers, and counts how often it is asked.
 #[derive(Drop)]
 struct Entries<'a> {
     left: u32,
@@ -66,7 +63,7 @@ fn count(asked: &Cell<u32>) {
     asked.set(asked.get().saturating_add(1));
 }
 
-/// What a maker answers.
+/// The outcome of a maker.
 #[derive(Clone, Copy, PartialEq)]
 enum Answer {
     Made,
@@ -86,7 +83,7 @@ fn answer_of(made: Result<Scalar, VortexError>) -> Answer {
     answer
 }
 
-/// What the maker of structs answers of two integers, and how often it asks for one.
+/// The outcome of `struct_` with two integers, and how often it asks for one.
 fn struct_from_two(rt: &impl AllocGlobal, dtype: DType) -> (Answer, u32) {
     let asked = Cell::new(0);
     let children = Children {
@@ -97,7 +94,7 @@ fn struct_from_two(rt: &impl AllocGlobal, dtype: DType) -> (Answer, u32) {
     (answer_of(made), asked.get())
 }
 
-/// What the maker of maps answers of two entries, and how often it asks for one.
+/// The outcome of `map` with two entries, and how often it asks for one.
 fn map_from_two(rt: &impl AllocGlobal, dtype: DType) -> (Answer, u32) {
     let asked = Cell::new(0);
     let entries = Entries {
@@ -108,7 +105,7 @@ fn map_from_two(rt: &impl AllocGlobal, dtype: DType) -> (Answer, u32) {
     (answer_of(made), asked.get())
 }
 
-/// The same of `try_map`.
+/// The outcome of `try_map` with two entries, and how often it asks for one.
 fn try_map_from_two(rt: &impl AllocGlobal, dtype: DType) -> (Answer, u32) {
     let asked = Cell::new(0);
     let entries = Entries {
@@ -119,19 +116,19 @@ fn try_map_from_two(rt: &impl AllocGlobal, dtype: DType) -> (Answer, u32) {
     (answer_of(made), asked.get())
 }
 
-/// Sees that the type is refused before an item is asked for.
+/// Asserts that the type is refused before an item is asked for.
 fn asks_nothing(rt: &impl Abort, (answer, asked): (Answer, u32)) {
     assert!(rt; answer == Answer::WrongKind);
     assert_eq!(rt; asked, 0);
 }
 
-/// Sees that both items are taken: it is asked once more, and gives none.
+/// Asserts that both items are taken; the third time the iterator answers `None`.
 fn takes_both(rt: &impl Abort, (answer, asked): (Answer, u32)) {
     assert!(rt; answer == Answer::Made);
     assert_eq!(rt; asked, 3);
 }
 
-/// Sees that the first item is refused before a second is asked for.
+/// Asserts that the first item is refused before a second is asked for.
 fn stops_at_first(rt: &impl Abort, (answer, asked): (Answer, u32)) {
     assert!(rt; answer == Answer::WrongFirst);
     assert_eq!(rt; asked, 1);

@@ -1,6 +1,7 @@
-//! What no worked case says of types, raw values and scalars: hashers, iterators, readers and
-//! writers of other kinds, and callers of laws. A crate of its own, so that the crates below are
-//! proved once.
+// SPDX-License-Identifier: Apache-2.0
+// SPDX-FileCopyrightText: Copyright the Vortex contributors; ported to Rattle and changed
+//! Tests that no worked case can be: unusual hashers, iterators, readers and writers, and callers of
+//! the laws. They have a crate of their own, so that the crates below are proved once.
 #![tactic(auto)]
 
 #[cfg(test)]
@@ -13,6 +14,8 @@ mod hashers;
 mod items;
 #[cfg(test)]
 mod leaf_views;
+#[cfg(test)]
+mod number_laws;
 #[cfg(test)]
 mod numbers;
 #[cfg(test)]
@@ -35,6 +38,10 @@ mod struct_views;
 mod texts;
 #[cfg(test)]
 mod tour;
+#[cfg(test)]
+mod type_laws;
+#[cfg(test)]
+mod value_laws;
 #[cfg(test)]
 mod view_laws;
 #[cfg(test)]

@@ -1,14 +1,13 @@
-//! What a caller derives of the order of scalars, from the laws alone.
+//! What a caller derives about the order of scalars, from the laws alone.
 
-ghost use Rattle.std.specs.Prelude.{◌≡◌, Some, IfSome};
-ghost use Rattle.vortex_value.specs.Values.Scalars.{scalar_order};
+ghost use Rattle.scalar_tests.specs.Words.{◌≡◌, IfSome, Some, scalar_order};
 
 use std::cmp::Ordering;
 use vortex_dtype::Nullability::NonNullable;
 use vortex_value::Scalar;
 use vortex_value::laws::{order_is_reversed, order_is_transitive};
 
-/// The order of two scalars, seen from the other side.
+/// The order of two scalars, from the comparison the other way round.
 fn order_from_behind(first: &Scalar, second: &Scalar) -> Option<Ordering>
     ensures { result ≡ scalar_order first.now second.now }
 {
@@ -19,7 +18,7 @@ fn order_from_behind(first: &Scalar, second: &Scalar) -> Option<Ordering>
     }
 }
 
-/// The order of the first and the third, where it is known by the second, without a look at both.
+/// The order of the first and the third scalar, if comparisons with the second give it.
 fn order_through(first: &Scalar, second: &Scalar, third: &Scalar) -> Option<Ordering>
     ensures { IfSome result (λ order. scalar_order first.now third.now ≡ Some order) }
 {

@@ -1,13 +1,11 @@
-//! A law whose condition a caller knows from a maker: ids are distinct in variants that were made.
+//! A law whose condition a caller knows from a maker: the ids of variants are distinct.
 
-ghost use Rattle.std.specs.Prelude.{◌≡◌, ◌<◌, Some, length, false};
-ghost use Rattle.vortex_dtype.specs.Refusals.{repeats};
-ghost use Rattle.vortex_dtype.specs.TypeOf.{variants_of};
+ghost use Rattle.scalar_tests.specs.Words.{◌<◌, ◌≡◌, Some, false, length, repeats, variants_of};
 
 use vortex_dtype::laws::places_are_inverse;
 use vortex_dtype::{BufferString, DType, FieldName, Nullability, UnionVariants};
 
-/// The place at which the id at this place is found: this place.
+/// The place that the id at this place is found at: the same place.
 fn place_of_id_at(variants: &UnionVariants, index: usize) -> Option<usize>
     requires distinct { repeats (variants_of variants.now).type_ids ≡ false }
     requires within { index < length (variants_of variants.now).type_ids }

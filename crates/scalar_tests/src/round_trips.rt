@@ -1,12 +1,6 @@
-//! What a caller derives of several casts, from the contract of `cast` and the laws alone.
+//! What a caller derives about several casts, from the contract of `cast` and the laws alone.
 
-ghost use Rattle.std.specs.Prelude.{◌≡◌, [], ◌∷◌, IfErr, IfOk};
-ghost use Rattle.vortex_dtype.specs.TypeOf.{type_of};
-ghost use Rattle.vortex_dtype.specs.TypeTree.{Same, integer_type, list_type};
-ghost use Rattle.vortex_value.specs.CastAnswers.{GivesCast};
-ghost use Rattle.vortex_value.specs.Chains.{Runs};
-ghost use Rattle.vortex_value.specs.TypesWithin.{HasNoExtension, HasNoMap};
-ghost use Rattle.vortex_value.specs.Values.Scalars.{IsMadeOf, IsValid, scalar_order, scalar_raw, scalar_type};
+ghost use Rattle.scalar_tests.specs.Words.{[], ◌∷◌, ◌≡◌, GivesCast, HasNoExtension, HasNoMap, IfErr, IfOk, IsMadeOf, IsTheOne, IsValid, Runs, Same, integer_type, list_type, scalar_content, scalar_order, scalar_raw, scalar_type, type_of};
 
 use crate::fixtures::{integer, tuple};
 use std::alloc::Global;
@@ -19,7 +13,7 @@ use vortex_value::laws::{
     into_nullable_and_back, no_way_round, there_and_back,
 };
 
-/// The type of lists of integers of a kind.
+/// The type of lists of these integers.
 fn list_of(alloc: Global, ptype: PType) -> Result<DType, VortexError>
     ensures made { IfOk result (λ made. type_of made ≡
         list_type (integer_type ptype Nullability.NonNullable) Nullability.NonNullable) }
@@ -30,7 +24,7 @@ fn list_of(alloc: Global, ptype: PType) -> Result<DType, VortexError>
     Ok(DType::List(element, Nullability::NonNullable))
 }
 
-/// A list of 32-bit integers, cast to 64 bits and back: the list that it was.
+/// A list of 32-bit integers, cast to 64 bits and back: the same list.
 ///
 /// `OutOfMemory` is its only refusal.
 fn widened_and_back(alloc: Global, list: &Scalar) -> Result<Scalar, VortexError>
@@ -48,7 +42,8 @@ fn widened_and_back(alloc: Global, list: &Scalar) -> Result<Scalar, VortexError>
     widened.cast(alloc, &list.dtype)
 }
 
-/// A scalar cast by way of a type between, and cast at once: where both succeed, one raw value.
+/// A scalar cast by way of a type between, and cast at once: if both succeed, they give one raw
+/// value.
 fn two_ways(
     alloc: Global,
     scalar: &Scalar,
@@ -82,8 +77,8 @@ fn by_way_of(
     step.cast(alloc, target)
 }
 
-/// A scalar cast at once, of which `chained` is the cast by way of the type between: its value, or
-/// out of memory.
+/// A scalar cast at once, after `chained` was cast by way of a type between: it has the value of
+/// `chained`, or there is no memory.
 fn at_once(
     alloc: Global,
     scalar: &Scalar,
@@ -102,7 +97,7 @@ fn at_once(
     scalar.cast(alloc, target)
 }
 
-/// A scalar made nullable and cast back to its type: what it was, or out of memory.
+/// A scalar made nullable and cast back to its type: the same scalar, or there is no memory.
 fn nullable_and_back(alloc: Global, scalar: Scalar, dtype: &DType) -> Result<Scalar, VortexError>
     requires valid { IsValid scalar }
     requires typed { type_of dtype.now ≡ scalar_type scalar }
@@ -115,7 +110,7 @@ fn nullable_and_back(alloc: Global, scalar: Scalar, dtype: &DType) -> Result<Sca
     back
 }
 
-/// Two scalars of one type, cast to another: they are ordered as they were, and equal where they
+/// Two scalars of one type, cast to another: they are ordered as before, and equal exactly if they
 /// were.
 fn cast_both(
     alloc: Global,
@@ -134,6 +129,44 @@ fn cast_both(
     let one = first.cast(alloc, target)?;
     let other = second.cast(alloc, target)?;
     Ok((one, other))
+}
+
+/// Two scalars of one type, each cast by way of a type between: they are ordered as before, and
+/// equal exactly if they were.
+fn cast_both_by_way_of(
+    alloc: Global,
+    first: &Scalar,
+    second: &Scalar,
+    between: &DType,
+    target: &DType,
+) -> Result<(Scalar, Scalar), VortexError>
+    requires valid { IsValid first.now × IsValid second.now }
+    requires typed { Same (scalar_type first.now) (scalar_type second.now) }
+    ensures ordered { IfOk result
+        (λ made. scalar_order made.0 made.1 ≡ scalar_order first.now second.now) }
+    ensures equal { IfOk result (λ made. ⟦<Scalar as PartialEq>⟧.eq made.0 made.1
+        ≡ ⟦<Scalar as PartialEq>⟧.eq first.now second.now) }
+{
+    equality_and_order_are_kept();
+    let one = cast_through(alloc, first, between, target)?;
+    let other = cast_through(alloc, second, between, target)?;
+    Ok((one, other))
+}
+
+/// A scalar cast by way of a type between: the one scalar of the target with its content.
+fn cast_through(
+    alloc: Global,
+    scalar: &Scalar,
+    between: &DType,
+    target: &DType,
+) -> Result<Scalar, VortexError>
+    requires { IsValid scalar.now }
+    ensures { IfOk result (IsTheOne (type_of target.now) (scalar_content scalar.now)) }
+{
+    let step = scalar.cast(alloc, between)?;
+    let made = step.cast(alloc, target);
+    drop(step);
+    made
 }
 
 /// The list of these two numbers.
@@ -207,4 +240,17 @@ fn casts_keep_equality_and_order(rt: HostRuntime) {
     assert!(rt; made.0 != made.1);
     drop(made);
     drop(longs);
+}
+
+#[test]
+fn chains_keep_equality_and_order(rt: HostRuntime) {
+    let lists = [pair(&rt, 1, 2), pair(&rt, 1, 3)];
+    let types = [
+        list_of(rt.alloc(), PType::I64).expect(&rt, "a type"),
+        list_of(rt.alloc(), PType::U8).expect(&rt, "a type"),
+    ];
+    let made = cast_both_by_way_of(rt.alloc(), &lists[0], &lists[1], &types[0], &types[1]);
+    let made = made.expect(&rt, "casts");
+    assert!(rt; made.0.partial_cmp(&made.1) == Some(Ordering::Less));
+    drop(made);
 }

@@ -1,6 +1,6 @@
-//! What a caller derives of Rust values made scalars and taken back, from the law alone.
+//! What a caller derives about Rust values made scalars and taken back, from the law alone.
 
-ghost use Rattle.std.specs.Prelude.{◌≡◌, IfErr, IfOk};
+ghost use Rattle.scalar_tests.specs.Words.{◌≡◌, IfErr, IfOk};
 
 use std::alloc::Global;
 use std::process::Abort;
@@ -9,7 +9,7 @@ use vortex_array::{FromScalar, IntoScalar, RoundTrip};
 use vortex_dtype::VortexError;
 use vortex_value::ScalarRef;
 
-/// A value, made a scalar and taken back: the value that it was.
+/// A value made a scalar and taken back: the same value.
 ///
 /// `OutOfMemory` is its only refusal.
 fn there_and_back<T: RoundTrip>(alloc: Global, value: T) -> Result<T, VortexError>
@@ -21,7 +21,7 @@ fn there_and_back<T: RoundTrip>(alloc: Global, value: T) -> Result<T, VortexErro
     T::try_from_scalar(alloc, ScalarRef::of(&scalar))
 }
 
-/// Sees that a value comes back from its scalar.
+/// Asserts that a value comes back from its scalar.
 fn comes_back<T: RoundTrip + PartialEq + Drop>(rt: &(impl AllocGlobal + Abort), value: T, same: T) {
     let back = there_and_back(rt.alloc(), value).expect(rt, "the value");
     assert!(rt; back == same);

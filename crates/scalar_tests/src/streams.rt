@@ -1,11 +1,10 @@
-//! A program's input and output where readers give little at a time and where reads and writes
-//! fail in the middle.
+//! Readers that give little at a time, and reads and writes that fail in the middle.
 
 use rows::{RowsError, fault_line, read_all, write_out};
 use std::io::{self, Read, Write};
 use std::process::Abort;
 
-/// Gives so many bytes a read for so many reads, and then ends or fails; it remembers the longest
+/// Gives up to `most` bytes a read, `left` times, and then ends or fails. It remembers the longest
 /// piece that it was asked for.
 #[derive(Drop)]
 struct Pieces {
@@ -30,7 +29,6 @@ impl Read for Pieces {
     }
 }
 
-/// A reader of so many reads.
 fn reader_of(most: usize, left: u32, fails: bool) -> Pieces {
     Pieces {
         most,
@@ -40,7 +38,7 @@ fn reader_of(most: usize, left: u32, fails: bool) -> Pieces {
     }
 }
 
-/// How many bytes are read, or none where a read failed.
+/// How many bytes are read, or `None` if a read failed.
 fn count_read(rt: &impl AllocGlobal, reader: &mut Pieces) -> Option<usize> {
     match read_all(rt.alloc(), reader) {
         Ok(input) => Some(input.len()),
@@ -55,7 +53,7 @@ fn all_pieces_are_read(rt: HostRuntime) {
     assert!(rt; count_read(&rt, &mut reader_of(4096, 3, false)) == Some(12288));
 }
 
-/// Sees that a read fails after so many, and that no more than 4,096 bytes are asked for.
+/// Asserts that reading stops after `left` reads, and never asks for more than 4,096 bytes.
 fn stops(rt: &(impl AllocGlobal + Abort), most: usize, left: u32) {
     let mut reader = reader_of(most, left, true);
     assert!(rt; matches!(read_all(rt.alloc(), &mut reader), Err(RowsError::Read)));
@@ -76,7 +74,7 @@ fn reading_gives_up_on_an_endless_input(rt: HostRuntime) {
     assert!(rt; count_read(&rt, &mut reader_of(1, 1_048_575, false)) == Some(1_048_575));
 }
 
-/// Takes up to four bytes a write for so many writes, and then fails; its flush may fail too.
+/// Takes up to four bytes a write, `left` times, and then fails. Its flush may fail too.
 #[derive(Drop)]
 struct Filling {
     left: u32,
@@ -101,7 +99,7 @@ impl Write for Filling {
     }
 }
 
-/// Whether 18 bytes are written whole; else the fault is that of a write.
+/// Whether 18 bytes are written whole. If not, asserts that the fault is that of a write.
 fn is_written(rt: &impl Abort, left: u32, flushes: bool) -> bool {
     let mut writer = Filling { left, flushes };
     match write_out(&mut writer, b"bad line\nbad line\n") {

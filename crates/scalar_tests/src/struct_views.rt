@@ -7,14 +7,14 @@ use vortex_dtype::{DType, ExtDType, Nullability, PType};
 use vortex_value::Scalar;
 use vortex_views::{ExtScalar, StructScalar};
 
-/// The extension of integers of 32 bits.
+/// An extension of 32-bit integers.
 fn extension(rt: &(impl AllocGlobal + Abort)) -> DType {
     let id = text_buffer(rt, "id");
     let extension = ExtDType::new(rt.alloc(), id, byte_buffer(rt, &[]), I32);
     DType::Extension(extension.expect(rt, "an extension"))
 }
 
-/// The struct of 1 and of a second field of this type and raw value.
+/// A struct of the integer 1 and of a second field.
 fn one_and(rt: &(impl AllocGlobal + Abort), dtype: DType, second: Raw) -> Scalar {
     Scalar {
         dtype: struct_of_two(rt, I32, dtype),
@@ -45,7 +45,7 @@ fn extension_view<'a>(rt: &impl Abort, scalar: &'a Scalar) -> ExtScalar<'a> {
     ExtScalar::try_from(scalar).expect(rt, "an extension")
 }
 
-/// The extension's value of a number.
+/// A number as a value of the extension.
 fn extended(rt: &(impl AllocGlobal + Abort), number: i32) -> Scalar {
     Scalar {
         dtype: extension(rt),

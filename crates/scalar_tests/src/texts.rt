@@ -1,4 +1,4 @@
-//! Texts written to a writer that fails.
+//! Scalars displayed to a writer that fails.
 
 use crate::fixtures::{
     I32, Raw, bytes, integer, list, struct_of_two, text, tuple, union, union_of_two, variant,
@@ -9,7 +9,7 @@ use vortex_dtype::DType;
 use vortex_dtype::Nullability::NonNullable;
 use vortex_value::Scalar;
 
-/// A writer that takes so many writes and fails at the next.
+/// A writer that takes `writes_left` more writes, and then fails.
 #[derive(Drop)]
 struct Failing {
     writes_left: usize,
@@ -25,7 +25,7 @@ impl Write for Failing {
     }
 }
 
-/// Whether the text is written whole in so many writes, and how many of these are left.
+/// Whether a scalar is displayed whole in `writes` writes, and how many of these are left.
 fn attempt(scalar: &Scalar, writes: usize) -> (bool, usize) {
     let mut writer = Failing {
         writes_left: writes,
@@ -34,7 +34,7 @@ fn attempt(scalar: &Scalar, writes: usize) -> (bool, usize) {
     (is_whole, writer.writes_left)
 }
 
-/// Sees that the text is an error at each write that fails, and none where none does.
+/// Asserts that `Display` answers an error exactly if a write fails, whichever write that is.
 fn fails_at_each_write(rt: &impl Abort, scalar: &Scalar) {
     let (is_whole, left) = attempt(scalar, 1000);
     assert!(rt; is_whole && left < 1000);
@@ -43,7 +43,7 @@ fn fails_at_each_write(rt: &impl Abort, scalar: &Scalar) {
     }
 }
 
-/// A text that is escaped, a string of bytes, and a union, each in a variant.
+/// A string to escape, bytes, a union and a null, each in a variant.
 fn variants(rt: &(impl AllocGlobal + Abort)) -> Raw {
     let escaped = variant(rt, DType::Utf8(NonNullable), text(rt, "a\n\"\u{7}é"));
     let string = variant(rt, DType::Binary(NonNullable), bytes(rt, &[1, 255, 0]));
@@ -75,7 +75,7 @@ fn a_text_fails_where_a_write_does(rt: HostRuntime) {
     fails_at_each_write(&rt, &all[1]);
 }
 
-/// An integer's type with raw values of another kind.
+/// An integer type with a raw value that does not fit.
 fn no_integer(rt: &(impl AllocGlobal + Abort)) -> Scalar {
     let long = bytes(rt, b"hello world");
     let parts = [text(rt, "hello world"), long, None, union(rt, 5, None)];

@@ -1,15 +1,7 @@
-//! What a caller derives of the order of two views, from the contract of `partial_cmp` and the laws
-//! of views alone: where it says Equal, hashers are fed the same.
+//! What a caller derives about two views that are ordered `Equal`, from the contract of `partial_cmp`
+//! and the laws of views alone: they feed hashers the same.
 
-ghost use Rattle.std.specs.Prelude.{◌≡◌, IsTrue};
-ghost use Rattle.vortex_dtype.specs.TypeTree.{Same};
-ghost use Rattle.vortex_leaves.specs.TextViews.{text_view_content, text_view_type};
-ghost use Rattle.vortex_value.specs.Equality.{EqualContents};
-ghost use Rattle.vortex_value.specs.Hashing.{typed_feed};
-ghost use Rattle.vortex_value.specs.TypesWithin.{HasNoVariant};
-ghost use Rattle.vortex_value.specs.Values.Refs.{IsValidRef, ref_content};
-ghost use Rattle.vortex_views.specs.Lists.{list_ref, list_view_type};
-ghost use Rattle.vortex_views.specs.Parts.{ref_feed};
+ghost use Rattle.scalar_tests.specs.Words.{◌≡◌, EqualContents, HasNoVariant, IsTrue, IsValidRef, Same, list_ref, list_view_type, ref_content, ref_feed, text_view_content, text_view_type, typed_feed};
 
 use crate::fixtures::text_buffer;
 use crate::leaf_views::text_view;
@@ -20,7 +12,7 @@ use vortex_leaves::Utf8Scalar;
 use vortex_value::Scalar;
 use vortex_views::ListScalar;
 
-/// Whether the order says Equal of two texts.
+/// Whether the order says `Equal` of two strings.
 fn are_tied_texts(first: &Utf8Scalar<'_>, second: &Utf8Scalar<'_>) -> bool
     ensures types { IsTrue result → Same (text_view_type first.now) (text_view_type second.now) }
     ensures contents { IsTrue result
@@ -35,7 +27,7 @@ fn are_tied_texts(first: &Utf8Scalar<'_>, second: &Utf8Scalar<'_>) -> bool
     matches!(first.partial_cmp(second), Some(Ordering::Equal))
 }
 
-/// Whether the order says Equal of two lists.
+/// Whether the order says `Equal` of two lists.
 fn are_tied_lists(first: &ListScalar<'_>, second: &ListScalar<'_>) -> bool
     requires valid { IsValidRef (list_ref first.now) }
     requires typed { HasNoVariant (list_view_type first.now) }

@@ -1,8 +1,6 @@
 //! Views of lists and maps: hashers for them, a set of maps, and a caller of a law.
 
-ghost use Rattle.std.specs.Prelude.{◌≡◌, length};
-ghost use Rattle.vortex_views.specs.Maps.{map_view_raw};
-ghost use Rattle.vortex_views.specs.Parts.{parts_of};
+ghost use Rattle.scalar_tests.specs.Words.{◌≡◌, length, map_view_raw, parts_of};
 
 use crate::fixtures::{I32, integer, list, map, text, tuple};
 use crate::hashers::{fed, hashes};
@@ -73,7 +71,7 @@ fn map_view<'a>(rt: &impl Abort, scalar: &'a Scalar) -> MapScalar<'a> {
     MapScalar::try_from(scalar).expect(rt, "a map")
 }
 
-/// The map {1: "one"}, its values of a nullable type or not.
+/// The map {1: "one"}, with nullable values or not.
 fn one_entry(rt: &(impl AllocGlobal + Abort), nullability: Nullability) -> Scalar {
     let dtype = map(rt, DType::Utf8(nullability));
     let entry = tuple(rt, [integer(1), text(rt, "one")]);

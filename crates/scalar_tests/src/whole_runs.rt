@@ -6,10 +6,10 @@ use std::io::{self, Read, Write};
 /// Lines for the program, the last without a line feed.
 const LINES: &[u8] = b"cast i32 1000 i16\nupper 1 aBCd\nno line";
 
-/// What they give.
+/// The rows of these lines.
 const ROWS: &[u8] = b"1000i16\nac\nbad line\n";
 
-/// Gives up to ten bytes a read for so many reads, and then fails.
+/// Gives up to ten bytes a read, so many times, and then fails.
 #[derive(Drop)]
 struct Input<'t> {
     rest: &'t [u8],
@@ -27,7 +27,7 @@ impl Read for Input<'_> {
     }
 }
 
-/// Takes up to four bytes a write for so many writes, and then fails.
+/// Takes up to four bytes a write, so many times, and then fails.
 #[derive(Drop)]
 struct Output {
     written: Vec<u8>,
@@ -92,7 +92,7 @@ fn a_failed_write_ends_the_run(rt: HostRuntime) {
     }
 }
 
-/// Gives one byte a read and does not end.
+/// Gives one byte a read, and never ends.
 #[derive(Drop)]
 struct Endless;
 

@@ -1,10 +1,6 @@
 //! Pruning: what a caller derives from the bounds of a zone alone.
 
-ghost use Rattle.std.specs.Prelude.{◌≡◌, IfOk, IsTrue};
-ghost use Rattle.vortex_dtype.specs.TypeTree.{Same};
-ghost use Rattle.vortex_value.specs.Values.RawTree.{absent};
-ghost use Rattle.vortex_value.specs.Values.Scalars.{IsValid, scalar_raw, scalar_type};
-ghost use Rattle.vortex_zone.specs.Zone.{IsWithin};
+ghost use Rattle.scalar_tests.specs.Words.{◌≡◌, IfOk, IsTrue, IsValid, IsWithin, Same, absent, scalar_raw, scalar_type};
 
 use crate::fixtures::{byte_buffer, text_buffer};
 use std::alloc::Global;
@@ -12,8 +8,8 @@ use vortex_dtype::{DType, Nullability, VortexError};
 use vortex_value::Scalar;
 use vortex_zone::ZoneBounds;
 
-/// Whether the zone from the least to the greatest value is read for a value: where that lies
-/// between them, it is.
+/// Whether a zone must be read for a value. It must if the value lies between the zone's least and
+/// greatest.
 fn is_read(
     alloc: Global,
     least: Scalar,
@@ -33,7 +29,7 @@ fn is_read(
     Ok(read)
 }
 
-/// Whether a zone is read for a null: always.
+/// Whether a zone must be read for a null: always.
 fn is_read_for_null(bounds: &ZoneBounds, null: &Scalar) -> bool
     requires null { scalar_raw null.now ≡ absent }
     requires value { IsValid null.now }
