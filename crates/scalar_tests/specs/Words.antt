@@ -1,6 +1,5 @@
 -- The words that clauses cite, passed on from one place.
 pub use Rattle.std.specs.Iterator.{at_most}
-pub use Rattle.std.specs.Prelude.{[], ◌%◌, ◌+◌, ◌<◌, ◌^◌, ◌↔◌, ◌∷◌, ◌≡◌, ◌≤ℤ◌, IfErr, IfOk, IfSome, IsTrue, Some, false, fold, length, true, ℤ}
 pub use Rattle.vortex_dtype.specs.Feeds.{tree_feed}
 pub use Rattle.vortex_dtype.specs.PTypes.{byte_width_of}
 pub use Rattle.vortex_dtype.specs.Refusals.{repeats}

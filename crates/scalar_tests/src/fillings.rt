@@ -1,6 +1,7 @@
 //! What a caller derives about zeros and defaults, from the contracts and the laws alone.
 
-ghost use Rattle.scalar_tests.specs.Words.{◌≡◌, IfErr, IfOk, IfSome, IsNullable, Some, UnionsHaveVariants, is_zero_of, null, scalar_content, scalar_type, true, type_of};
+ghost use Rattle.std.specs.Prelude.{◌≡◌, IfErr, IfOk, IfSome, Some, true};
+ghost use Rattle.scalar_tests.specs.Words.{IsNullable, UnionsHaveVariants, is_zero_of, null, scalar_content, scalar_type, type_of};
 
 use crate::fixtures::I32;
 use std::alloc::Global;

@@ -1,6 +1,6 @@
 //! Types and raw values for tests.
 
-ghost use Rattle.scalar_tests.specs.Words.{◌≡◌, length};
+ghost use Rattle.std.specs.Prelude.{◌≡◌, length};
 
 use std::process::Abort;
 use vortex_dtype::Nullability::{NonNullable, Nullable};

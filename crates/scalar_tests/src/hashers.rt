@@ -1,6 +1,6 @@
 //! Two unusual hashers, one that adds bytes up and one that ignores them, and scalars fed to both.
 
-ghost use Rattle.scalar_tests.specs.Words.{◌%◌, ◌+◌, ◌^◌, fold};
+ghost use Rattle.std.specs.Prelude.{◌%◌, ◌+◌, ◌^◌, fold};
 
 use crate::fixtures::{integer, variant};
 use std::hash::{Hash, Hasher};

@@ -1,7 +1,8 @@
 //! Makers over iterators: they ask for no item if the type is of the wrong kind, and the makers of
 //! maps stop at the first wrong entry.
 
-ghost use Rattle.scalar_tests.specs.Words.{IfSome, IsValid, IsValidEntry, at_most};
+ghost use Rattle.std.specs.Prelude.{IfSome};
+ghost use Rattle.scalar_tests.specs.Words.{IsValid, IsValidEntry, at_most};
 
 use crate::fixtures::{I32, map, struct_of_two};
 use std::cell::Cell;

@@ -1,6 +1,7 @@
 //! What a caller derives about integer values, from the contracts of their calls and the laws alone.
 
-ghost use Rattle.scalar_tests.specs.Words.{◌↔◌, ◌≡◌, ◌≤ℤ◌, IsNumber, IsTrue, IsWrapped, byte_width_of, fold, greatest_of, in_range, least_of, ptype_of, whole_of, ℤ};
+ghost use Rattle.std.specs.Prelude.{◌↔◌, ◌≡◌, ◌≤ℤ◌, IsTrue, fold, ℤ};
+ghost use Rattle.scalar_tests.specs.Words.{IsNumber, IsWrapped, byte_width_of, greatest_of, in_range, least_of, ptype_of, whole_of};
 
 use crate::hashers::Adder;
 use std::cmp::Ordering;

@@ -1,6 +1,7 @@
 //! What a caller derives about the order of scalars, from the laws alone.
 
-ghost use Rattle.scalar_tests.specs.Words.{◌≡◌, IfSome, Some, scalar_order};
+ghost use Rattle.std.specs.Prelude.{◌≡◌, IfSome, Some};
+ghost use Rattle.scalar_tests.specs.Words.{scalar_order};
 
 use std::cmp::Ordering;
 use vortex_dtype::Nullability::NonNullable;

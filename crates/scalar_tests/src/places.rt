@@ -1,6 +1,7 @@
 //! A law whose condition a caller knows from a maker: the ids of variants are distinct.
 
-ghost use Rattle.scalar_tests.specs.Words.{◌<◌, ◌≡◌, Some, false, length, repeats, variants_of};
+ghost use Rattle.std.specs.Prelude.{◌<◌, ◌≡◌, Some, false, length};
+ghost use Rattle.scalar_tests.specs.Words.{repeats, variants_of};
 
 use vortex_dtype::laws::places_are_inverse;
 use vortex_dtype::{BufferString, DType, FieldName, Nullability, UnionVariants};

@@ -1,6 +1,7 @@
 //! What a caller derives about several casts, from the contract of `cast` and the laws alone.
 
-ghost use Rattle.scalar_tests.specs.Words.{[], ◌∷◌, ◌≡◌, GivesCast, HasNoExtension, HasNoMap, IfErr, IfOk, IsMadeOf, IsTheOne, IsValid, Runs, Same, integer_type, list_type, scalar_content, scalar_order, scalar_raw, scalar_type, type_of};
+ghost use Rattle.std.specs.Prelude.{[], ◌∷◌, ◌≡◌, IfErr, IfOk};
+ghost use Rattle.scalar_tests.specs.Words.{GivesCast, HasNoExtension, HasNoMap, IsMadeOf, IsTheOne, IsValid, Runs, Same, integer_type, list_type, scalar_content, scalar_order, scalar_raw, scalar_type, type_of};
 
 use crate::fixtures::{integer, tuple};
 use std::alloc::Global;

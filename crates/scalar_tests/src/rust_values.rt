@@ -1,6 +1,6 @@
 //! What a caller derives about Rust values made scalars and taken back, from the law alone.
 
-ghost use Rattle.scalar_tests.specs.Words.{◌≡◌, IfErr, IfOk};
+ghost use Rattle.std.specs.Prelude.{◌≡◌, IfErr, IfOk};
 
 use std::alloc::Global;
 use std::process::Abort;

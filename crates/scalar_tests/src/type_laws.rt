@@ -1,6 +1,7 @@
 //! What a caller derives about types, from the contracts of their calls and the laws alone.
 
-ghost use Rattle.scalar_tests.specs.Words.{◌↔◌, ◌≡◌, IsNullable, IsTrue, Same, erase, fold, map_of, map_type_of, tree_feed, type_of};
+ghost use Rattle.std.specs.Prelude.{◌↔◌, ◌≡◌, IsTrue, fold};
+ghost use Rattle.scalar_tests.specs.Words.{IsNullable, Same, erase, map_of, map_type_of, tree_feed, type_of};
 
 use crate::fixtures::map;
 use crate::hashers::Adder;

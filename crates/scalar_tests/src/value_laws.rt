@@ -1,7 +1,8 @@
 //! What a caller derives about raw values and scalars, from the contracts of their calls and the laws
 //! alone.
 
-ghost use Rattle.scalar_tests.specs.Words.{[], ◌↔◌, ◌≡◌, EqualContents, HasNoTyped, IfOk, IsMadeOf, IsTrue, IsValid, Same, Some, breaches, capped, content, fold, is_valid, no_contents, ptype_in, scalar_content, scalar_raw, scalar_type, sequence, size_of, type_of, typed_feed, value_tree};
+ghost use Rattle.std.specs.Prelude.{[], ◌↔◌, ◌≡◌, IfOk, IsTrue, Some, fold};
+ghost use Rattle.scalar_tests.specs.Words.{EqualContents, HasNoTyped, IsMadeOf, IsValid, Same, breaches, capped, content, is_valid, no_contents, ptype_in, scalar_content, scalar_raw, scalar_type, sequence, size_of, type_of, typed_feed, value_tree};
 
 use crate::fixtures::{I32, integer};
 use crate::hashers::Adder;

@@ -1,7 +1,8 @@
 //! What a caller derives about two views that are ordered `Equal`, from the contract of `partial_cmp`
 //! and the laws of views alone: they feed hashers the same.
 
-ghost use Rattle.scalar_tests.specs.Words.{◌≡◌, EqualContents, HasNoVariant, IsTrue, IsValidRef, Same, list_ref, list_view_type, ref_content, ref_feed, text_view_content, text_view_type, typed_feed};
+ghost use Rattle.std.specs.Prelude.{◌≡◌, IsTrue};
+ghost use Rattle.scalar_tests.specs.Words.{EqualContents, HasNoVariant, IsValidRef, Same, list_ref, list_view_type, ref_content, ref_feed, text_view_content, text_view_type, typed_feed};
 
 use crate::fixtures::text_buffer;
 use crate::leaf_views::text_view;

@@ -1,6 +1,7 @@
 //! Views of lists and maps: hashers for them, a set of maps, and a caller of a law.
 
-ghost use Rattle.scalar_tests.specs.Words.{◌≡◌, length, map_view_raw, parts_of};
+ghost use Rattle.std.specs.Prelude.{◌≡◌, length};
+ghost use Rattle.scalar_tests.specs.Words.{map_view_raw, parts_of};
 
 use crate::fixtures::{I32, integer, list, map, text, tuple};
 use crate::hashers::{fed, hashes};

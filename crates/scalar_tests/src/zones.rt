@@ -1,6 +1,7 @@
 //! Pruning: what a caller derives from the bounds of a zone alone.
 
-ghost use Rattle.scalar_tests.specs.Words.{◌≡◌, IfOk, IsTrue, IsValid, IsWithin, Same, absent, scalar_raw, scalar_type};
+ghost use Rattle.std.specs.Prelude.{◌≡◌, IfOk, IsTrue};
+ghost use Rattle.scalar_tests.specs.Words.{IsValid, IsWithin, Same, absent, scalar_raw, scalar_type};
 
 use crate::fixtures::{byte_buffer, text_buffer};
 use std::alloc::Global;

@@ -1,6 +1,5 @@
 -- The words that clauses cite, passed on from one place.
 pub use Rattle.std.specs.List.{All}
-pub use Rattle.std.specs.Prelude.{◌%◌, ◌*◌, ◌+◌, ◌^◌, ◌≡◌, ◌≤◌, IfOk, IfSome, IsOk, OnOk, bit_xor, fold}
 pub use Rattle.vortex_leaves.specs.PrimitiveViews.{AreOfOneType}
 pub use Rattle.vortex_value.specs.Makers.{IsValidEntry}
 pub use Rattle.vortex_value.specs.Values.Refs.{IsValidRef}

@@ -1,6 +1,7 @@
 //! Calls of bounds by truncation, of zones, and of increments of strings.
 
-ghost use Rattle.worked_cases.specs.Words.{IsValid, OnOk};
+ghost use Rattle.std.specs.Prelude.{OnOk};
+ghost use Rattle.worked_cases.specs.Words.{IsValid};
 
 use crate::answers::{Answer, CallResult, buffer_text, bytes, or_none};
 use crate::calls::makers::where_valid;

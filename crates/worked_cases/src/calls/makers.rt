@@ -1,6 +1,7 @@
 //! Calls that make scalars.
 
-ghost use Rattle.worked_cases.specs.Words.{◌≡◌, All, IfOk, IsOk, IsValid, IsValidEntry, OnOk};
+ghost use Rattle.std.specs.Prelude.{◌≡◌, IfOk, IsOk, OnOk};
+ghost use Rattle.worked_cases.specs.Words.{All, IsValid, IsValidEntry};
 
 use crate::answers::{Answer, CallResult};
 use crate::calls::scalars::validate;

@@ -1,6 +1,6 @@
 //! A hasher that records what it is fed.
 
-ghost use Rattle.worked_cases.specs.Words.{◌%◌, ◌*◌, ◌^◌, bit_xor, fold};
+ghost use Rattle.std.specs.Prelude.{◌%◌, ◌*◌, ◌^◌, bit_xor, fold};
 
 use std::hash::{Hash, Hasher};
 

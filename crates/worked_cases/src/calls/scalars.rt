@@ -1,6 +1,7 @@
 //! Calls of whole scalars.
 
-ghost use Rattle.worked_cases.specs.Words.{IsValid, OnOk};
+ghost use Rattle.std.specs.Prelude.{OnOk};
+ghost use Rattle.worked_cases.specs.Words.{IsValid};
 
 use crate::answers::{Answer, CallResult, or_none, text_of};
 use crate::calls::makers::where_valid;

@@ -1,6 +1,7 @@
 //! Calls of views that give parts: elements, entries, fields, children, storage.
 
-ghost use Rattle.worked_cases.specs.Words.{◌≡◌, IfOk, IsValidRef, struct_ref, union_ref};
+ghost use Rattle.std.specs.Prelude.{◌≡◌, IfOk};
+ghost use Rattle.worked_cases.specs.Words.{IsValidRef, struct_ref, union_ref};
 
 use crate::answers::{Answer, CallResult, or_none};
 use crate::calls::scalars::validate;

@@ -1,6 +1,6 @@
 //! Reads numbers.
 
-ghost use Rattle.worked_cases.specs.Words.{◌≤◌};
+ghost use Rattle.std.specs.Prelude.{◌≤◌};
 
 use crate::tokens::{Tokens, split_front};
 use rows::ptype_named;

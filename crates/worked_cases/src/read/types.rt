@@ -1,6 +1,6 @@
 //! Reads types.
 
-ghost use Rattle.worked_cases.specs.Words.{◌+◌, ◌≡◌, IfSome};
+ghost use Rattle.std.specs.Prelude.{◌+◌, ◌≡◌, IfSome};
 
 use crate::read::named;
 use crate::read::numbers::read_natural;
