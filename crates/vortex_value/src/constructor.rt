@@ -261,8 +261,7 @@ fn check_variant(variants: &UnionVariants, type_id: u8, found: &DType) -> Result
         (λ _. union_cause (variants_of variants.now) type_id (type_of found.now) ≡ None)
         (λ e. union_cause (variants_of variants.now) type_id (type_of found.now) ≡ Some e) }
 {
-    match variant_with(variants, type_id) {
-        Some((index, expected)) => check_child(index, expected, found),
-        None => Err(VortexError::UnknownTypeId { id: type_id }),
-    }
+    let unknown = VortexError::UnknownTypeId { id: type_id };
+    let (index, expected) = variant_with(variants, type_id).ok_or(unknown)?;
+    check_child(index, expected, found)
 }

@@ -13,20 +13,36 @@ use vortex_pvalue::PValue;
 
 /// A copy of the raw value. Truth values and integers take no memory.
 #[cycle(copies)]
-pub(crate) fn copy_value(alloc: Global, value: &ScalarValue) -> Result<ScalarValue, VortexError>
+pub(crate) fn copy_value(alloc: Global, value: &ScalarValue) -> Result<ScalarValue, AllocError>
     ensures { MatchResult result
         (λ copy. value_tree copy ≡ value_tree value.now)
-        (λ e. (e ≡ OutOfMemory) × ¬ (TakesNoMemory (value_tree value.now))) }
+        (λ _. ¬ (TakesNoMemory (value_tree value.now))) }
 {
     match value {
         ScalarValue::Bool(truth) => Ok(ScalarValue::Bool(*truth)),
         ScalarValue::Primitive(number) => Ok(ScalarValue::Primitive(*number)),
-        ScalarValue::Utf8(text) => Ok(ScalarValue::Utf8(text.clone()?)),
-        ScalarValue::Binary(bytes) => Ok(ScalarValue::Binary(bytes.clone()?)),
+        ScalarValue::Utf8(text) => Ok(ScalarValue::Utf8(copy_text(text)?)),
+        ScalarValue::Binary(bytes) => Ok(ScalarValue::Binary(copy_bytes(bytes)?)),
         ScalarValue::Tuple(values) => Ok(ScalarValue::Tuple(copy_tuple(alloc, values)?)),
         ScalarValue::Union(union) => Ok(ScalarValue::Union(copy_union(alloc, union)?)),
         ScalarValue::Variant(scalar) => Ok(ScalarValue::Variant(copy_boxed(alloc, scalar)?)),
     }
+}
+
+/// A copy of the string.
+#[inline(always)]
+pub(crate) fn copy_text(text: &BufferString) -> Result<BufferString, AllocError>
+    ensures { IfOk result (λ copy. copy ≡ text.now) }
+{
+    text.clone().map_err(|_| AllocError)
+}
+
+/// A copy of the bytes.
+#[inline(always)]
+fn copy_bytes(bytes: &ByteBuffer) -> Result<ByteBuffer, AllocError>
+    ensures { IfOk result (λ copy. copy ≡ bytes.now) }
+{
+    bytes.clone().map_err(|_| AllocError)
 }
 
 /// A copy of the raw value, or `None`, which takes no memory.
@@ -34,10 +50,10 @@ pub(crate) fn copy_value(alloc: Global, value: &ScalarValue) -> Result<ScalarVal
 pub(crate) fn copy_optional(
     alloc: Global,
     value: Option<&ScalarValue>,
-) -> Result<Option<ScalarValue>, VortexError>
+) -> Result<Option<ScalarValue>, AllocError>
     ensures { MatchResult result
         (λ copy. option_map value_tree copy ≡ option_map value_tree (option_copied value.entry))
-        (λ e. (e ≡ OutOfMemory) × ¬ (TakesNoMemory (lent_raw value.entry))) }
+        (λ _. ¬ (TakesNoMemory (lent_raw value.entry))) }
 {
     match value {
         Some(value) => Ok(Some(copy_value(alloc, value)?)),
@@ -121,13 +137,9 @@ fn push_text(text: &BufferString, copies: &mut Vec<Option<ScalarValue>>) -> Resu
     requires { vec_len copies.old < vec_capacity copies.old }
     ensures { IfOk result (λ _. Adds copies.old copies.new (Some (raw_text text.now))) }
 {
-    match text.clone() {
-        Ok(text) => {
-            copies.push_reserved(Some(ScalarValue::Utf8(text)));
-            Ok(())
-        }
-        Err(_) => Err(AllocError),
-    }
+    let text = copy_text(text)?;
+    copies.push_reserved(Some(ScalarValue::Utf8(text)));
+    Ok(())
 }
 
 #[inline(never)]
@@ -135,13 +147,9 @@ fn push_bytes(bytes: &ByteBuffer, copies: &mut Vec<Option<ScalarValue>>) -> Resu
     requires { vec_len copies.old < vec_capacity copies.old }
     ensures { IfOk result (λ _. Adds copies.old copies.new (Some (raw_bytes bytes.now))) }
 {
-    match bytes.clone() {
-        Ok(bytes) => {
-            copies.push_reserved(Some(ScalarValue::Binary(bytes)));
-            Ok(())
-        }
-        Err(_) => Err(AllocError),
-    }
+    let bytes = copy_bytes(bytes)?;
+    copies.push_reserved(Some(ScalarValue::Binary(bytes)));
+    Ok(())
 }
 
 #[cycle(copies)]
@@ -193,10 +201,10 @@ fn push_variant(
 
 /// A copy of the id and the child. Without a child it takes no memory.
 #[cycle(copies)]
-pub(crate) fn copy_union(alloc: Global, union: &UnionValue) -> Result<UnionValue, VortexError>
+pub(crate) fn copy_union(alloc: Global, union: &UnionValue) -> Result<UnionValue, AllocError>
     ensures { MatchResult result
         (λ copy. union_tree copy ≡ union_tree union.now)
-        (λ e. (e ≡ OutOfMemory) × (is_none union.now.child ≡ false)) }
+        (λ _. is_none union.now.child ≡ false) }
 {
     let child = copy_child(alloc, union.child.as_deref())?;
     Ok(UnionValue {
@@ -244,10 +252,7 @@ fn box_copy(alloc: Global, value: &ScalarValue) -> Result<Box<ScalarValue>, Allo
 fn new_box<T: Drop>(alloc: Global, value: T) -> Result<Box<T>, AllocError>
     ensures { IfOk result (λ made. made.value ≡ value) }
 {
-    match Box::new(alloc, value) {
-        Ok(made) => Ok(made),
-        Err(_) => Err(AllocError),
-    }
+    Ok(Box::new(alloc, value)?)
 }
 
 #[inline(never)]
@@ -269,20 +274,14 @@ fn box_number(alloc: Global, number: &PValue) -> Result<Box<ScalarValue>, AllocE
 fn box_text(alloc: Global, text: &BufferString) -> Result<Box<ScalarValue>, AllocError>
     ensures { IfOk result (λ made. value_tree made.value ≡ raw_text text.now) }
 {
-    match text.clone() {
-        Ok(text) => new_box(alloc, ScalarValue::Utf8(text)),
-        Err(_) => Err(AllocError),
-    }
+    new_box(alloc, ScalarValue::Utf8(copy_text(text)?))
 }
 
 #[inline(never)]
 fn box_bytes(alloc: Global, bytes: &ByteBuffer) -> Result<Box<ScalarValue>, AllocError>
     ensures { IfOk result (λ made. value_tree made.value ≡ raw_bytes bytes.now) }
 {
-    match bytes.clone() {
-        Ok(bytes) => new_box(alloc, ScalarValue::Binary(bytes)),
-        Err(_) => Err(AllocError),
-    }
+    new_box(alloc, ScalarValue::Binary(copy_bytes(bytes)?))
 }
 
 #[cycle(copies)]
@@ -298,10 +297,7 @@ fn box_tuple(alloc: Global, values: &[Option<ScalarValue>]) -> Result<Box<Scalar
 fn box_union(alloc: Global, union: &UnionValue) -> Result<Box<ScalarValue>, AllocError>
     ensures { IfOk result (λ made. value_tree made.value ≡ union_tree union.now) }
 {
-    match copy_union(alloc, union) {
-        Ok(union) => new_box(alloc, ScalarValue::Union(union)),
-        Err(_) => Err(AllocError),
-    }
+    new_box(alloc, ScalarValue::Union(copy_union(alloc, union)?))
 }
 
 #[cycle(copies)]
@@ -394,14 +390,9 @@ fn boxed_text(
     ensures { IfOk result (λ made. variant_tree made.value
         ≡ raw_variant (utf8_type nullability) (raw_text text.now)) }
 {
-    match text.clone() {
-        Ok(text) => {
-            let value = Some(ScalarValue::Utf8(text));
-            let dtype = DType::Utf8(nullability);
-            new_box(alloc, Scalar { dtype, value })
-        }
-        Err(_) => Err(AllocError),
-    }
+    let value = Some(ScalarValue::Utf8(copy_text(text)?));
+    let dtype = DType::Utf8(nullability);
+    new_box(alloc, Scalar { dtype, value })
 }
 
 /// A copy of bytes with their type in a box.
@@ -414,14 +405,9 @@ fn boxed_bytes(
     ensures { IfOk result (λ made. variant_tree made.value
         ≡ raw_variant (binary_type nullability) (raw_bytes bytes.now)) }
 {
-    match bytes.clone() {
-        Ok(bytes) => {
-            let value = Some(ScalarValue::Binary(bytes));
-            let dtype = DType::Binary(nullability);
-            new_box(alloc, Scalar { dtype, value })
-        }
-        Err(_) => Err(AllocError),
-    }
+    let value = Some(ScalarValue::Binary(copy_bytes(bytes)?));
+    let dtype = DType::Binary(nullability);
+    new_box(alloc, Scalar { dtype, value })
 }
 
 /// A copy of the parts with their type in a box.
@@ -467,10 +453,8 @@ fn boxed_parts(
 fn boxed_scalar(alloc: Global, scalar: &Scalar) -> Result<Box<Scalar>, AllocError>
     ensures { IfOk result (λ copy. variant_tree copy.value ≡ variant_tree scalar.now) }
 {
-    match copy_scalar(alloc, scalar) {
-        Ok(scalar) => new_box(alloc, scalar),
-        Err(_) => Err(AllocError),
-    }
+    let scalar = copy_scalar(alloc, scalar).map_err(|_| AllocError)?;
+    new_box(alloc, scalar)
 }
 
 /// A copy of the type and the raw value. A flat type takes no memory, nor does a truth value, an

@@ -67,6 +67,6 @@ impl UnionValue {
             (λ copy. union_tree copy ≡ union_tree self.now)
             (λ e. (e ≡ OutOfMemory) × (is_none self.now.child ≡ false)) }
     {
-        copies::copy_union(alloc, self)
+        Ok(copies::copy_union(alloc, self)?)
     }
 }

@@ -202,6 +202,6 @@ impl ScalarValue {
             (λ copy. value_tree copy ≡ value_tree self.now)
             (λ e. (e ≡ OutOfMemory) × ¬ (TakesNoMemory (value_tree self.now))) }
     {
-        copies::copy_value(alloc, self)
+        Ok(copies::copy_value(alloc, self)?)
     }
 }

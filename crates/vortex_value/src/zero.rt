@@ -129,20 +129,14 @@ fn write_zero_or_default(
 fn empty_text(alloc: Global) -> Result<BufferString, AllocError>
     ensures { IfOk result (λ text. text ≡ []) }
 {
-    match BufferString::empty(alloc) {
-        Ok(text) => Ok(text),
-        Err(_) => Err(AllocError),
-    }
+    BufferString::empty(alloc).map_err(|_| AllocError)
 }
 
 /// No bytes.
 fn empty_bytes(alloc: Global) -> Result<ByteBuffer, AllocError>
     ensures { IfOk result (λ bytes. bytes ≡ []) }
 {
-    match ByteBuffer::empty(alloc) {
-        Ok(bytes) => Ok(bytes),
-        Err(_) => Err(AllocError),
-    }
+    ByteBuffer::empty(alloc).map_err(|_| AllocError)
 }
 
 /// The value of a union with this id and child.

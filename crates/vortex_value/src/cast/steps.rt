@@ -9,21 +9,9 @@ use crate::copies;
 use crate::scalars::Scalar;
 use crate::unions::UnionValue;
 use crate::values::ScalarValue;
-use std::alloc::Global;
+use std::alloc::{AllocError, Global};
 use vortex_dtype::{BufferString, DType};
 use vortex_pvalue::PValue;
-
-/// A copy of the value. Truth values and integers take no memory.
-fn copy_of(alloc: Global, value: &ScalarValue) -> Result<ScalarValue, Refusal>
-    ensures { MatchResult result
-        (λ copy. value_tree copy ≡ value_tree value.now)
-        (λ e. (e ≡ NoMemory) × ¬ (TakesNoMemory (value_tree value.now))) }
-{
-    match copies::copy_value(alloc, value) {
-        Ok(copy) => Ok(copy),
-        Err(_) => Err(Refusal::NoMemory),
-    }
-}
 
 /// A copy of an extension's value, if it may be cast to the target as it is and the target accepts
 /// it.
@@ -42,7 +30,7 @@ pub(super) fn unwrap_extension(
         (type_of source.now) (type_of stored.now) (type_of target.now)) result }
 {
     if may_unwrap(source, stored, target) && accepts(target, value) {
-        copy_of(alloc, value)
+        Ok(copies::copy_value(alloc, value)?)
     } else {
         Err(Refusal::Impossible)
     }
@@ -63,7 +51,7 @@ pub(super) fn cast_leaf(
         (type_of source.now) (type_of target.now)) result }
 {
     if keeps_its_kind(value, source, target) {
-        copy_of(alloc, value)
+        Ok(copies::copy_value(alloc, value)?)
     } else {
         Err(Refusal::Impossible)
     }
@@ -102,10 +90,8 @@ pub(super) fn cast_number(number: &PValue, target: &DType) -> Result<ScalarValue
     ensures made { Makes value_tree (number_to (whole_of number.now) (type_of target.now)) result }
     ensures flat { IfErr result (λ e. e ≡ Impossible) }
 {
-    match number_in(number, target) {
-        Some(number) => Ok(ScalarValue::Primitive(number)),
-        None => Err(Refusal::Impossible),
-    }
+    let number = number_in(number, target).ok_or(Refusal::Impossible)?;
+    Ok(ScalarValue::Primitive(number))
 }
 
 /// Appends a part, or drops it if there is no memory. Mostly there is room for it.
@@ -133,10 +119,7 @@ fn push_more(part: Option<ScalarValue>, made: &mut Vec<Option<ScalarValue>>) -> 
         (λ _. made.new.items ≡ made.old.items ++ part ∷ [])
         (λ e. e ≡ NoMemory) }
 {
-    match made.push(part) {
-        Ok(()) => Ok(()),
-        Err(_) => Err(Refusal::NoMemory),
-    }
+    Ok(made.push(part).map_err(AllocError::from)?)
 }
 
 /// Appends the number as a raw value of the target.
@@ -149,10 +132,8 @@ pub(super) fn push_number(
     ensures { Appends made.old.items made.new.items
         (number_to (whole_of number.now) (type_of target.now)) result }
 {
-    match number_in(number, target) {
-        Some(number) => push(Some(ScalarValue::Primitive(number)), made),
-        None => Err(Refusal::Impossible),
-    }
+    let number = number_in(number, target).ok_or(Refusal::Impossible)?;
+    push(Some(ScalarValue::Primitive(number)), made)
 }
 
 /// Appends a copy of a value without parts, if the cast keeps it as it is.
@@ -187,10 +168,7 @@ fn push_copy(
 ) -> Result<(), Refusal>
     ensures { Appends made.old.items made.new.items (Some (value_tree value.now)) result }
 {
-    match copies::copy_value(alloc, value) {
-        Ok(copy) => push(Some(copy), made),
-        Err(_) => Err(Refusal::NoMemory),
-    }
+    push(Some(copies::copy_value(alloc, value)?), made)
 }
 
 /// Appends a copy of a string.
@@ -198,10 +176,8 @@ fn push_copy(
 fn push_text(text: &BufferString, made: &mut Vec<Option<ScalarValue>>) -> Result<(), Refusal>
     ensures { Appends made.old.items made.new.items (Some (raw_text text.now)) result }
 {
-    match text.clone() {
-        Ok(text) => push(Some(ScalarValue::Utf8(text)), made),
-        Err(_) => Err(Refusal::NoMemory),
-    }
+    let text = copies::copy_text(text)?;
+    push(Some(ScalarValue::Utf8(text)), made)
 }
 
 /// Appends a copy of a variant's scalar.
@@ -214,8 +190,6 @@ fn push_variant(
 ) -> Result<(), Refusal>
     ensures { Appends made.old.items made.new.items (Some (variant_tree scalar.now)) result }
 {
-    match copies::copy_boxed(alloc, scalar) {
-        Ok(copy) => push(Some(ScalarValue::Variant(copy)), made),
-        Err(_) => Err(Refusal::NoMemory),
-    }
+    let scalar = copies::copy_boxed(alloc, scalar)?;
+    push(Some(ScalarValue::Variant(scalar)), made)
 }

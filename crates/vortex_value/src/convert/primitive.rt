@@ -80,16 +80,12 @@ fn take_number<T: NativePType>(value: &ScalarValue) -> Result<T, VortexError>
     ensures { Takes (given_number T.PTYPE T.value)
         (number_in T.PTYPE (value_tree value.now)) result }
 {
-    match value {
-        ScalarValue::Primitive(number) => match T::from_pvalue(number) {
-            Some(native) => {
-                native_is_in_range(native);
-                Ok(native)
-            }
-            None => Err(VortexError::OutOfRange),
-        },
-        _ => Err(VortexError::WrongKind),
-    }
+    let ScalarValue::Primitive(number) = value else {
+        return Err(VortexError::WrongKind);
+    };
+    let native = T::from_pvalue(number).ok_or(VortexError::OutOfRange)?;
+    native_is_in_range(native);
+    Ok(native)
 }
 
 /// The number of a raw value, or `None` of a null.
@@ -113,10 +109,7 @@ impl ScalarRef<'_> {
         ensures { Takes (given_number T.PTYPE T.value)
             (taken_number T.PTYPE (ref_type self.now) (ref_raw self.now)) result }
     {
-        match self.value() {
-            Some(value) => take_number(value),
-            None => Err(VortexError::IsNull),
-        }
+        take_number(self.value().ok_or(VortexError::IsNull)?)
     }
 
     /// The number, if the scalar's type is exactly this integer type; `None` of a null. Of this
