@@ -19,9 +19,9 @@ use Rattle.vortex_value.specs.declared.unions.UnionValue.{UnionValue}
 use Rattle.vortex_value.specs.declared.values.ScalarValue.{ScalarValue, Tuple, Union as union_value}
 use Rattle.vortex_value.specs.Steps.Filling.{EachFills, FillFields, Fills, FillsFirst, child_filling, first_of}
 use Rattle.vortex_value.specs.Zero.{and_rest, filling, fillings, null_or, places_of}
-use Rattle.vortex_value.proofs.FillingLaws.{IsFilledInside, null_or-other, null_fills, false_fills, zero_fills, text_fills, bytes_fill, no_elements_fill, no_entries_fill, variant_fills, elements_fill, fields_fill, child_fills}
-use Rattle.vortex_dtype.specs.Lemmas.TypeLevels.{type_of-List, type_of-FixedSizeList, type_of-Map, type_of-Struct, type_of-Union, type_of-Extension}
-use Rattle.vortex_value.proofs.ValueSteps.{value_tree-Tuple, value_tree-Union, value_tree-Variant, variant_tree-parts, union_tree-parts, count-value_trees}
+use Rattle.vortex_value.proofs.FillingLaws.{IsFilledInside, null_or-other, elements_fill, fields_fill, child_fills}
+use Rattle.vortex_dtype.specs.Lemmas.TypeLevels.{type_of-FixedSizeList, type_of-Struct, type_of-Union}
+use Rattle.vortex_value.proofs.ValueSteps.{value_tree-Tuple, value_tree-Union, count-value_trees}
 
 -- something fills a type that takes no null where something else does, and one that takes it always
 pub is_some-null_or : (nulls : Bool) (n : Nullability) (other : Option Content) → is_some (null_or nulls n other) ≡ (nulls && says_nullable n) || is_some other
@@ -72,8 +72,6 @@ union_filling nulls names [] [] n = refl
 union_filling nulls names [] (i ∷ is) n = refl
 union_filling nulls names (t ∷ ts) [] n = refl
 union_filling nulls names (t ∷ ts) (i ∷ is) n = refl
-
-pub ruleset shown = (type_size_item, is_some-null_or, is_some-places_of, is_some-and_rest, is_some-option_map, fillings_at, union_filling, type_of-List, type_of-FixedSizeList, type_of-Map, type_of-Struct, type_of-Union, type_of-Extension)
 
 -- Steps of the recursion that fills types.
 
@@ -172,5 +170,3 @@ union_fills nulls d v n u is free f =
 pub fields_push_at : (nulls : Bool) (ts : List DType) (i : ℕ) (t : DType) (vs : List (Option ScalarValue)) (v : Option ScalarValue) → i < length ts → t ≡ get_or ts i t
     → FillFields nulls (dtype_trees (take i ts)) (value_trees vs) → Fills nulls (type_of t) (raw_of v) → FillFields nulls (dtype_trees (take (i + 1) ts)) (value_trees (vs ++ v ∷ []))
 fields_push_at nulls ts i t vs v h is so_far f = rw (take_more ts i t h, ← is) (fields-push nulls (take i ts) t vs v so_far f)
-
-pub ruleset filled = (place_filled, field_filled, places-push, false_fills, zero_fills, text_fills, bytes_fill, no_elements_fill, no_entries_fill, variant_fills, null_fills, type_of-List, type_of-Map, type_of-Struct, type_of-Union, type_of-Extension, value_tree-Tuple, value_tree-Union, value_tree-Variant, variant_tree-parts, union_tree-parts)

@@ -7,7 +7,6 @@ use Rattle.vortex_value.specs.Breaches.{Found, breaches, is_empty, is_valid, und
 use Rattle.vortex_value.specs.Values.RawOf.{value_tree}
 use Rattle.vortex_value.specs.Values.RawTree.{raw_variant, is_absent}
 use Rattle.vortex_value.specs.declared.values.ScalarValue.{ScalarValue, the_lemmas}
-use Rattle.vortex_value.proofs.ValueSteps.{value_tree-Variant, variant_tree-parts}
 
 -- a variant of a value that is present is valid exactly where the value is
 pub inner_decides : (t u : TypeTree) (n : Nullability) (v : ScalarValue) → storage t ≡ variant_type n → is_valid t (raw_variant u (value_tree v)) ≡ is_valid u (value_tree v)
@@ -19,5 +18,3 @@ inner_decides t u n v e = rw (e, not_absent v) (empty_under (breaches u (value_t
     empty_under : (fs : List Found) → is_empty (under Inner fs) ≡ is_empty fs
     empty_under [] = refl
     empty_under (f ∷ fs) = refl
-
-pub ruleset inner = (inner_decides, value_tree-Variant, variant_tree-parts)

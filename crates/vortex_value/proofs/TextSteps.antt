@@ -15,6 +15,7 @@ use Rattle.vortex_value.specs.Values.RawOf.{raw_of, value_trees}
 use Rattle.vortex_value.specs.Values.RawTree.{RawTree, raw_tuple, RawTrees, no_raws, raw_then}
 use Rattle.vortex_value.specs.Texts.{entry_text, field_texts, shortened, text_at}
 use Rattle.vortex_value.specs.declared.values.ScalarValue.{ScalarValue}
+use Rattle.vortex_value.proofs.Inner.{inner_decides}
 use Rattle.vortex_value.proofs.ValidSteps.{two_places}
 use Rattle.vortex_value.proofs.ValueSteps.{value_tree-Tuple, value_tree-Union, value_tree-Variant, variant_tree-parts, union_tree-parts}
 use Rattle.vortex_value.proofs.Writes.{HasLeft, rest_from, has_written_none, left_empty, left_next}
@@ -109,5 +110,5 @@ child_behind None o none = rw none refl
 child_behind (Some b) None some = absurd some
 child_behind (Some b) (Some y) same = ap Some same
 
--- one level of a value and of a type, and what is written of nothing
-pub ruleset shown = (value_tree-Tuple, value_tree-Union, value_tree-Variant, variant_tree-parts, union_tree-parts, type_of-List, type_of-FixedSizeList, type_of-Map, type_of-Struct, type_of-Union, has_written_none)
+-- one level of a value and of a type, what is written of nothing, and when a variant is valid
+pub ruleset shown = (value_tree-Tuple, value_tree-Union, value_tree-Variant, variant_tree-parts, union_tree-parts, type_of-List, type_of-FixedSizeList, type_of-Map, type_of-Struct, type_of-Union, has_written_none, inner_decides)

@@ -11,7 +11,9 @@ use Rattle.vortex_value.specs.Steps.Filling.{Fills}
 use Rattle.vortex_value.specs.Zero.{IsTheOneOf, each_zero, fields_zero, filling, has_no_places, is_zero_of}
 use Rattle.vortex_value.specs.declared.scalars.Scalar.{Scalar}
 use Rattle.vortex_value.specs.declared.values.ScalarValue.{ScalarValue}
-use Rattle.vortex_dtype.specs.Lemmas.TypeLevels.{type_of-List, type_of-FixedSizeList, type_of-Map, type_of-Struct, type_of-Union}
+use Rattle.vortex_dtype.specs.Lemmas.TypeLevels.{type_of-List, type_of-FixedSizeList, type_of-Map, type_of-Struct, type_of-Union, type_of-Extension}
+use Rattle.vortex_value.proofs.FillingLaws.{bytes_fill, false_fills, no_elements_fill, no_entries_fill, null_fills, text_fills, variant_fills, zero_fills}
+use Rattle.vortex_value.proofs.FillingSteps.{field_filled, fillings_at, is_some-and_rest, is_some-null_or, is_some-option_map, is_some-places_of, place_filled, places-push, type_size_item, union_filling}
 use Rattle.vortex_value.proofs.Uniqueness.{one_value}
 use Rattle.vortex_value.proofs.ValueSteps.{value_tree-Tuple, value_tree-Union, value_tree-Variant, variant_tree-parts, union_tree-parts}
 
@@ -37,7 +39,8 @@ fields_zero-lengths [] (v ∷ vs) h = refl
 fields_zero-lengths (t ∷ ts) [] h = refl
 fields_zero-lengths (t ∷ ts) (v ∷ vs) h = and_right _ _ (fields_zero-lengths ts vs (λ e. h (ap suc e)))
 
-pub ruleset shown = (has_no_places-value_trees, each_zero_at, not_zero, fields_zero-lengths, value_tree-Tuple, value_tree-Union, value_tree-Variant, variant_tree-parts, union_tree-parts, type_of-List, type_of-FixedSizeList, type_of-Map, type_of-Struct, type_of-Union)
+-- one level of a value and of a type, what fills a type, and what is zero
+pub ruleset shown = (has_no_places-value_trees, each_zero_at, not_zero, fields_zero-lengths, type_size_item, is_some-null_or, is_some-places_of, is_some-and_rest, is_some-option_map, fillings_at, union_filling, place_filled, field_filled, places-push, false_fills, zero_fills, text_fills, bytes_fill, no_elements_fill, no_entries_fill, variant_fills, null_fills, value_tree-Tuple, value_tree-Union, value_tree-Variant, variant_tree-parts, union_tree-parts, type_of-List, type_of-FixedSizeList, type_of-Map, type_of-Struct, type_of-Union, type_of-Extension)
 
 -- what fills a type makes the one scalar of it
 pub the_filling : (nulls : Bool) (t : TypeTree) (y : Scalar) → scalar_type y ≡ t → Fills nulls t (scalar_raw y) → IsTheOneOf t (filling nulls t) (Some y)

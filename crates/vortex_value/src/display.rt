@@ -1,4 +1,5 @@
 //! How raw values and scalars are printed.
+#![tactic(auto, using(crate::proofs::TextSteps::shown))]
 
 ghost use Rattle.std.specs.Prelude.{◌≡◌, ◌++◌, ◌⊎◌, [], IfNone, IfSome, IsTrue, None, Some, codes, false, slice_get};
 ghost use Rattle.vortex_value.specs.Words.{RawTree, WritesOnOk, as_type_trees, between, element_texts, entry_text, entry_texts, field_at, field_texts, fields_of, in_braces, in_brackets, in_parentheses, is_valid, joined, lent_raw, map_of, raw_text_of, raw_texts, raw_tuple, raw_union, ref_raw, ref_type, scalar_raw, scalar_type, storage, text_at, text_of, type_of, union_tree, value_tree, value_trees, variant_tree};
@@ -31,7 +32,6 @@ fn write_part<W: Write>(
 
 /// Writes a valid value that is present.
 #[cycle(text)]
-#[tactic(auto, using(crate::proofs::TextSteps::shown))]
 fn write_value<W: Write>(value: &ScalarValue, dtype: &DType, f: &mut Formatter<W>) -> fmt::Result
     ensures { WritesOnOk W.write_str_gives f.old result
         (text_at (storage (type_of dtype.now)) (value_tree value.now)) f.new }
@@ -49,7 +49,6 @@ fn write_value<W: Write>(value: &ScalarValue, dtype: &DType, f: &mut Formatter<W
 
 /// Writes the parts of a valid list, map or struct, and nothing of another type.
 #[cycle(text)]
-#[tactic(auto, using(crate::proofs::TextSteps::shown))]
 fn write_tuple<W: Write>(
     items: &[Option<ScalarValue>],
     dtype: &DType,
@@ -109,7 +108,6 @@ fn write_entries<W: Write>(
 
 /// Writes one entry: the key, and after a colon the value.
 #[cycle(text)]
-#[tactic(auto, using(crate::proofs::TextSteps::shown))]
 fn write_entry<W: Write>(
     entry: Option<&ScalarValue>,
     map: &MapDType,
@@ -127,7 +125,6 @@ fn write_entry<W: Write>(
 
 /// Writes the two parts of an entry, with a colon between them.
 #[cycle(text)]
-#[tactic(auto, using(crate::proofs::TextSteps::shown))]
 fn write_pair<W: Write>(
     parts: &[Option<ScalarValue>],
     map: &MapDType,
@@ -197,7 +194,6 @@ fn named_field(fields: &StructFields, index: usize) -> Option<(&FieldName, &DTyp
 /// Writes the name of the id's variant, and in parentheses the child. Of a type that is no union
 /// with such a variant it writes nothing.
 #[cycle(text)]
-#[tactic(auto, using(crate::proofs::TextSteps::shown))]
 fn write_union<W: Write>(union: &UnionValue, dtype: &DType, f: &mut Formatter<W>) -> fmt::Result
     ensures { WritesOnOk W.write_str_gives f.old result
         (text_at (type_of dtype.now) (union_tree union.now)) f.new }
@@ -211,7 +207,6 @@ fn write_union<W: Write>(union: &UnionValue, dtype: &DType, f: &mut Formatter<W>
 }
 
 /// The name and the type of the variant with this id, if the type is a union that has one.
-#[tactic(auto, using(crate::proofs::TextSteps::shown))]
 fn named_variant(dtype: &DType, id: u8) -> Option<(&FieldName, &DType)>
     ensures some { IfSome result (λ v. (raw : RawTree) → text_at (type_of dtype.now) (raw_union id raw)
         ≡ v.0.now ++ in_parentheses (text_at (storage (type_of v.1.now)) raw)) }
@@ -250,7 +245,6 @@ fn write_raw_part<W: Write>(value: Option<&ScalarValue>, f: &mut Formatter<W>) -
 
 /// Writes a raw value, whatever its type.
 #[cycle(raw_text)]
-#[tactic(auto, using(crate::proofs::TextSteps::shown))]
 fn write_raw<W: Write>(value: &ScalarValue, f: &mut Formatter<W>) -> fmt::Result
     ensures { WritesOnOk W.write_str_gives f.old result (raw_text_of (value_tree value.now)) f.new }
 {
@@ -281,7 +275,6 @@ fn write_raw_items<W: Write>(items: &[Option<ScalarValue>], f: &mut Formatter<W>
 
 /// Writes the id of a union's value, and in parentheses the child.
 #[cycle(raw_text)]
-#[tactic(auto, using(crate::proofs::TextSteps::shown))]
 fn write_raw_union<W: Write>(union: &UnionValue, f: &mut Formatter<W>) -> fmt::Result
     ensures { WritesOnOk W.write_str_gives f.old result (raw_text_of (union_tree union.now)) f.new }
 {
@@ -320,7 +313,6 @@ fn write_text<W: Write>(
 /// Writes a value that is not valid for the type as a raw value. Validity is not looked at again
 /// for variants inside one another.
 #[cycle(raw_text)]
-#[tactic(auto, using(crate::proofs::Inner::inner))]
 fn write_invalid<W: Write>(
     value: Option<&ScalarValue>,
     dtype: &DType,
@@ -339,7 +331,6 @@ fn write_invalid<W: Write>(
 }
 
 /// Whether a variant of this scalar is valid for the type exactly if the scalar is valid.
-#[tactic(auto, using(crate::proofs::Inner::inner))]
 fn is_decided_inside(scalar: &Scalar, dtype: &DType) -> bool
     ensures { IsTrue result → is_valid (type_of dtype.now) (variant_tree scalar.now)
         ≡ is_valid (scalar_type scalar.now) (scalar_raw scalar.now) }

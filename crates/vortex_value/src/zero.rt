@@ -2,7 +2,7 @@
 #![tactic(auto, using(crate::proofs::ZeroSteps::shown))]
 
 ghost use Rattle.std.specs.Prelude.{◌≡◌, ◌&&◌, [], IfErr, IfOk, IsOk, IsSome, MatchResult, length, option_map, pos};
-ghost use Rattle.vortex_value.specs.Words.{EachFills, FillFields, Fills, FillsFirst, IsFlat, IsTheOneOf, OutOfMemory, as_type_trees, child_filling, content, contents, default_of, dtype_trees, each_zero, fields_zero, filling, fillings, first_of, int_eq, is_nullable, is_some, is_zero_of, lent_raw, of_first, of_inner, places_of, raw_of, raw_union, scalar_content, scalar_type, type_of, union_tree, value_trees, variants_of, whole_of, zero_of};
+ghost use Rattle.vortex_value.specs.Words.{EachFills, FillFields, Fills, FillsFirst, IsFlat, IsTheOneOf, OutOfMemory, as_type_trees, child_filling, content, contents, default_of, dtype_trees, each_zero, fields_zero, filling, fillings, first_of, int_eq, is_nullable, is_some, is_zero_of, lent_raw, of_first, of_inner, places_of, raw_of, scalar_content, scalar_type, type_of, union_tree, value_trees, variants_of, whole_of, zero_of};
 
 use crate::scalars::{Scalar, with_type};
 use crate::storage::{first_variant, storage_of};
@@ -21,7 +21,6 @@ fn is_null_default(dtype: &DType, nulls: bool) -> bool
 
 /// Whether the type has a zero, or a default if nulls are taken.
 #[cycle(fills)]
-#[tactic(auto, using(crate::proofs::FillingSteps::shown))]
 fn has_zero_or_default(dtype: &DType, nulls: bool) -> bool
     ensures { result ≡ is_some (filling nulls (type_of dtype.now)) }
 {
@@ -40,7 +39,6 @@ fn has_zero_or_default(dtype: &DType, nulls: bool) -> bool
 
 /// Whether so many places of the type have a zero or default: no places always have.
 #[cycle(fills)]
-#[tactic(auto, using(crate::proofs::FillingSteps::shown))]
 fn have_places_zero_or_default(element: &DType, size: u32, nulls: bool) -> bool
     ensures { result ≡ is_some (places_of size (filling nulls (type_of element.now))) }
 {
@@ -49,7 +47,6 @@ fn have_places_zero_or_default(element: &DType, size: u32, nulls: bool) -> bool
 
 /// Whether there is a first variant whose type has a zero or default.
 #[cycle(fills)]
-#[tactic(auto, using(crate::proofs::FillingSteps::shown))]
 fn has_first_zero_or_default(variants: &UnionVariants, nulls: bool) -> bool
     ensures { result ≡ is_some (child_filling (filling nulls)
         (first_of (variants_of variants.now).type_ids (variants_of variants.now).types)) }
@@ -62,7 +59,6 @@ fn has_first_zero_or_default(variants: &UnionVariants, nulls: bool) -> bool
 
 /// Whether each of the types has a zero or default.
 #[cycle(fills)]
-#[tactic(auto, using(crate::proofs::FillingSteps::shown))]
 fn have_all_zero_or_default(dtypes: &[DType], nulls: bool) -> bool
     ensures { result ≡ is_some (fillings nulls (dtype_trees dtypes.now)) }
 {
@@ -78,7 +74,6 @@ fn have_all_zero_or_default(dtypes: &[DType], nulls: bool) -> bool
 /// The caller knows that there is one. `AllocError` is a byte and `VortexError` has several words,
 /// and each level of a type answers with it.
 #[cycle(fill)]
-#[tactic(auto, using(crate::proofs::FillingSteps::filled))]
 fn write_zero_or_default(
     alloc: Global,
     dtype: &DType,
@@ -139,23 +134,8 @@ fn empty_bytes(alloc: Global) -> Result<ByteBuffer, AllocError>
     ByteBuffer::empty(alloc).map_err(|_| AllocError)
 }
 
-/// The value of a union with this id and child.
-fn union_of(
-    alloc: Global,
-    type_id: u8,
-    child: Option<ScalarValue>,
-) -> Result<UnionValue, AllocError>
-    ensures { IfOk result (λ made. union_tree made ≡ raw_union type_id (raw_of child)) }
-{
-    match UnionValue::new(alloc, type_id, child) {
-        Ok(made) => Ok(made),
-        Err(_) => Err(AllocError),
-    }
-}
-
 /// The zero or default of the type, so many times.
 #[cycle(fill)]
-#[tactic(auto, using(crate::proofs::FillingSteps::filled))]
 fn zero_or_default_places(
     alloc: Global,
     element: &DType,
@@ -178,7 +158,6 @@ fn zero_or_default_places(
 
 /// The zero or default of each of the types, in order.
 #[cycle(fill)]
-#[tactic(auto, using(crate::proofs::FillingSteps::filled))]
 fn zero_or_default_fields(
     alloc: Global,
     dtypes: &[DType],
@@ -199,7 +178,6 @@ fn zero_or_default_fields(
 
 /// The first variant's id, with the zero or default of its type.
 #[cycle(fill)]
-#[tactic(auto, using(crate::proofs::FillingSteps::filled))]
 fn zero_or_default_first(
     alloc: Global,
     variants: &UnionVariants,
@@ -216,7 +194,7 @@ fn zero_or_default_first(
         Some((id, variant)) => {
             let mut child = None;
             write_zero_or_default(alloc, variant, nulls, &mut child)?;
-            union_of(alloc, id, child)
+            UnionValue::new(alloc, id, child).map_err(|_| AllocError)
         }
         None => unreachable!(),
     }

@@ -1,7 +1,7 @@
 //! The steps of a cast that go no further down than the value.
 
 ghost use Rattle.std.specs.Prelude.{◌≡◌, ◌++◌, [], ◌∷◌, IfErr, MatchResult, option_map};
-ghost use Rattle.vortex_value.specs.Words.{Appends, Impossible, Makes, NoMemory, OutOfMemoryOnlyIfMakeable, FlatNeverOutOfMemory, TakesNoMemory, leaf_to, unwrapped, number_to, ptype_of, raw_integer, raw_of, raw_text, raw_union, type_of, union_tree, value_tree, variant_tree, whole_of};
+ghost use Rattle.vortex_value.specs.Words.{Appends, Impossible, Makes, NoMemory, OutOfMemoryOnlyIfMakeable, FlatNeverOutOfMemory, leaf_to, unwrapped, number_to, ptype_of, raw_integer, raw_of, raw_text, raw_union, type_of, union_tree, value_tree, variant_tree, whole_of};
 
 use super::refusals::Refusal;
 use super::rules::{accepts, keeps_its_kind, may_unwrap};
@@ -67,10 +67,7 @@ pub(super) fn union_of(
         (λ made. union_tree made ≡ raw_union type_id (raw_of child))
         (λ e. e ≡ NoMemory) }
 {
-    match UnionValue::new(alloc, type_id, child) {
-        Ok(made) => Ok(made),
-        Err(_) => Err(Refusal::NoMemory),
-    }
+    UnionValue::new(alloc, type_id, child).map_err(|_| Refusal::NoMemory)
 }
 
 /// The number as the target's `PType`, if the target is an integer type that has it.

@@ -1,6 +1,6 @@
 //! Makers of lists and of lists of a fixed size.
 
-ghost use Rattle.std.specs.Prelude.{◌≡◌, None, Some, length, map, IfOk, IfErr, MatchResult};
+ghost use Rattle.std.specs.Prelude.{◌≡◌, None, Some, length, IfOk, IfErr, MatchResult};
 ghost use Rattle.vortex_value.specs.Words.{All, GivesOrNoMemory, IsMadeOf, IsValid, OutOfMemory, RefusesOrNoMemory, child_trees, count_cause, fixed_size_list_type, list_cause, list_type, no_raws, raw_of, raw_tuple, type_of, wrong_place};
 
 use crate::scalars::Scalar;
