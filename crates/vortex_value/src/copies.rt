@@ -1,4 +1,14 @@
 //! Copies of raw values and of scalars, in memory of their own.
+//!
+//! Parts are appended by the `push_*` functions. Children of unions are boxed by the `box_*`
+//! functions, and scalars of variants, with their types, by the `boxed_*` functions.
+//!
+//! One family would be slower, by `bench/values`. If `copy_value` and `copy_scalar` made each value
+//! and it were then moved, a copy of integers would take 7.1 times the instructions. Nested lists
+//! would take 2.7 times as many, structs and variants 2.2, unions 1.9 and maps 1.8. If parts were
+//! written to a place that the caller lends, it would be 1.2 times for integers, and 1.1 for lists,
+//! structs and maps. If only unions, variants and boxes were made first and then moved, it would be
+//! 1.5 times for unions and 1.9 for variants.
 #![tactic(auto, using(crate::proofs::ValueSteps::shown))]
 
 ghost use Rattle.std.specs.Prelude.{◌≡◌, ◌<◌, IfOk, MatchResult, None, Some, false, map, option_map};

@@ -1,6 +1,11 @@
 //! The recursion of a cast, down the value. Each variant of a value has a function of its own,
 //! which pays for its own locals alone. Parts of tuples are appended to their list by the `push_*`
 //! functions, which ask in the same order as the `cast_*` functions.
+//!
+//! One family would be slower, by `bench/values`. If each part were made by `cast_value` and then
+//! appended, a cast of integers would take 3.0 times the instructions. Nested lists would take 1.9
+//! times as many, structs 1.7, maps and unions 1.4. If each value were written to a place that the
+//! caller lends, it would be 1.8, 1.3, 1.3, 1.2 and 1.06 times.
 
 ghost use Rattle.vortex_value.specs.Words.{Appends, IsBareTarget, Makes, MakesParts, LeafOutOfMemoryOnlyIfMakeable, FlatNeverOutOfMemory, WholeOutOfMemoryOnlyIfMakeable, bare_to, cast_to, count, dtype_trees, each_to, entries_to, entry_to, fields_to, lent_raw, map_of, map_to, option_copied, parts_to, raw_of, raw_tuple, sized, type_of, union_tree, value_tree, value_trees};
 
