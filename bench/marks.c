@@ -1,5 +1,5 @@
 // SPDX-License-Identifier: Apache-2.0
-// A library that is preloaded into a program under callgrind, which is to be started with --instr-atstart=no: it counts
+// A library that is preloaded into a program under callgrind, which is to be started with --instr-atstart=no. It counts
 // from the time that the program writes the line `called` on standard error until it writes `answered` there.
 
 #define _GNU_SOURCE

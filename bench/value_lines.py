@@ -1,14 +1,14 @@
 # SPDX-License-Identifier: Apache-2.0
-"""Lines of calls on values of each kind. A raw value is made as its text with the number of its nodes, which are its leaves,
-nulls, tuples, unions and variants. A kind gives the same values at each run.
+"""Lines of calls on values of each kind. A raw value is made as its text with the number of its nodes: its leaves, nulls,
+tuples, unions and variants. A kind gives the same values at each run.
 """
 import random
 from collections import namedtuple
 
 DEPTH = 6
 
-# What makes a value of so many nodes; its type, another that differs in nullability alone, and the target of a cast; the
-# parts of which zeros are made, and their type.
+# A kind of value: what makes a value of so many nodes; its type, another that differs in nullability alone, and the
+# target of a cast; the parts of which zeros are made, and their type.
 Kind = namedtuple("Kind", "make dtype loose target zeros zero_type")
 # A call: what is shown, its line, the scalars that are validated before it, and the nodes that it goes through.
 Call = namedtuple("Call", "name line validated nodes")
@@ -151,7 +151,7 @@ KINDS = {
 
 
 def zero_of(kind, nodes):
-    """Returns a zero, as a scalar, with its nodes: lists of a fixed size, since other lists are zero where they are empty."""
+    """Returns a zero, as a scalar, with its nodes: lists of a fixed size, since other lists are zero if they are empty."""
     if not kind.zeros:
         text, made = "0i32", 1
         for _ in range(DEPTH):
@@ -163,7 +163,7 @@ def zero_of(kind, nodes):
 
 
 def calls_of(name, nodes):
-    """Returns the calls on values of the kind of this name: one of about so many nodes, one that is equal to it but for
+    """Returns the calls on values of the kind of this name. There are one of about so many nodes, one that is equal to it but for
     nullability, and one that differs at the last place too."""
     kind = KINDS[name]
     text, made = kind.make(Values(), nodes, 1)

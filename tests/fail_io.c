@@ -1,14 +1,14 @@
 // SPDX-License-Identifier: Apache-2.0
-// A library that is preloaded into a program and makes its standard streams fail in the middle: the read of standard
-// input whose number FAIL_READ gives, counted from 1, and the write to standard output whose number FAIL_WRITE gives.
-// The file that FAIL_MARK names then holds a byte. With SHORT_READ and SHORT_WRITE a read or a write takes at most so
-// many bytes.
+// A library that is preloaded into a program and makes its standard streams fail in the middle. It fails the read of
+// standard input whose number FAIL_READ gives, and the write to standard output whose number FAIL_WRITE gives; both count
+// from 1. The file that FAIL_MARK names then holds a byte. With SHORT_READ and SHORT_WRITE a read or a write takes at most
+// so many bytes.
 
 #define _GNU_SOURCE
 #include "preloaded.h"
 #include <errno.h>
 
-// The bytes that one call may take: no more than the variable says, where it is set.
+// The bytes that one call may take: no more than the variable says, if it is set.
 static size_t at_most(size_t size, const char *name) {
     long most = number(name);
     return most > 0 && (size_t)most < size ? (size_t)most : size;

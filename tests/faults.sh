@@ -1,8 +1,8 @@
 #!/bin/sh
 # SPDX-License-Identifier: Apache-2.0
 # Runs the built program `scalar_rows` under real faults: a folder as its input, a full device as its output, an input that does
-# not end, and each allocation, each read and each write refused in turn. The last line is 'N passed, M failed'; the status is 1
-# if any failed.
+# not end. It also refuses each allocation, each read and each write in turn. The last line is 'N passed, M failed'; the status
+# is 1 if any failed.
 set -eu
 top=$(CDPATH='' cd -- "$(dirname -- "$0")/.." && pwd)
 program=$top/crates/scalar_rows/out/scalar_rows

@@ -1,9 +1,9 @@
 // SPDX-License-Identifier: Apache-2.0
 // A library that is preloaded into a program and refuses one allocation of its memory: the one whose number FAIL_ALLOC
-// gives, counted from 1 over all calls of malloc, calloc and realloc. It refuses the one whose number FAIL_ALSO gives too,
-// and all later ones where FAIL_REST is set. The file that FAIL_MARK names then holds a byte for each. Where FAIL_CALL is
-// set it counts, and refuses, only from the time that the program writes the line `called` on standard error until it
-// writes the next line there.
+// gives. It counts all calls of malloc, calloc and realloc, from 1. It refuses the one whose number FAIL_ALSO gives too, and
+// all later ones if FAIL_REST is set. The file that FAIL_MARK names then holds a byte for each. If FAIL_CALL is set, it
+// counts, and refuses, only from the time that the program writes the line `called` on standard error. It stops when the
+// program writes the next line there.
 
 #define _GNU_SOURCE
 #include "preloaded.h"

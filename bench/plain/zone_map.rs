@@ -25,7 +25,7 @@ fn next(letter: char) -> Option<char> {
     char::from_u32(letter as u32 + 1).filter(|it| it.len_utf8() == letter.len_utf8())
 }
 
-/// The text, or one above it of at most so many bytes, where its last character there has a next one.
+/// The string, or one above it of at most so many bytes, if its last character there has a next one.
 fn upper(text: &str, length: usize) -> Option<String> {
     if text.len() <= length {
         return Some(text.to_owned());

@@ -193,14 +193,13 @@ static void say(const char *line) {
     if (write(2, line, strlen(line)) < 0) exit(2);
 }
 
-// Of what was given: 0 where it is the bound, or the cast list; 3 where it is that the cast found no memory; 1 otherwise.
+// Of what was given: 0 if it is the bound, or the cast list; 3 if it says that the cast found no memory; 1 otherwise.
 static int given(int which) {
     if (which == 4) return holds(room, count, "list(i64):[1i64, 2i64]") ? 0 : holds(room, count, "OutOfMemory") ? 3 : 1;
     return memcmp(which < 2 ? room : other, "012345678901234567890124", 24) ? 1 : 0;
 }
 
-// 0 where the call gives what it is to give, 3 where it finds no memory and writes nothing else, 1 where it does neither, or
-// leaks.
+// 0 if the call gives what it is to give, 3 if it finds no memory and writes nothing else, 1 if it does neither, or leaks.
 static int memory(int which) {
     // What the allocator takes for itself counts as in use: so a first call has it take that.
     take_memory(which);

@@ -1,3 +1,4 @@
+// SPDX-License-Identifier: Apache-2.0
 //! A line: a call, what it is given, and what it answers.
 
 use std::cmp::Ordering;
@@ -20,7 +21,7 @@ pub struct Run {
 }
 
 impl Run {
-    /// Says how far it is, where it is watched.
+    /// Says how far it is, if it is watched.
     fn says(self, word: &str) {
         if self.is_watched {
             std::io::stderr()

@@ -1,3 +1,4 @@
+// SPDX-License-Identifier: Apache-2.0
 //! Casts: the value of another type with the same content.
 
 use crate::error::{VortexError, VortexResult};
@@ -116,7 +117,7 @@ fn cast_present(
     }
 }
 
-/// The same value, where the target accepts it.
+/// The same value, if the target accepts it.
 fn keep(value: Option<&ScalarValue>, target: &DType) -> VortexResult<Option<ScalarValue>> {
     if Scalar::is_compatible(target, value) {
         Ok(value.cloned())

@@ -1,3 +1,4 @@
+// SPDX-License-Identifier: Apache-2.0
 //! Texts of scalars: of valid ones by their types, of others the raw text.
 
 use std::cmp::Ordering;

@@ -1,3 +1,4 @@
+// SPDX-License-Identifier: Apache-2.0
 //! Equality of scalars: the types up to nullability, and the raw values.
 
 use crate::values::Scalar;

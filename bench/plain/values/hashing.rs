@@ -1,3 +1,4 @@
+// SPDX-License-Identifier: Apache-2.0
 //! Hashes of scalars: by their types up to nullability, and their raw values.
 
 use std::hash::{Hash, Hasher};

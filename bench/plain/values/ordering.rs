@@ -1,4 +1,5 @@
-//! The order of scalars, which is none where their types differ up to nullability.
+// SPDX-License-Identifier: Apache-2.0
+//! The order of scalars, which is `None` if their types differ up to nullability.
 
 use std::cmp::Ordering;
 

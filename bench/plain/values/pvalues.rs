@@ -1,3 +1,4 @@
+// SPDX-License-Identifier: Apache-2.0
 //! Integer values: a kind and a whole number.
 
 use std::cmp::Ordering;
@@ -59,7 +60,7 @@ impl PValue {
         match_each_pvalue!(self, |number| i128::from(number))
     }
 
-    /// The same number in another kind, where it fits.
+    /// The same number in another integer type, if it fits.
     #[inline]
     pub fn cast(self, ptype: PType) -> Option<Self> {
         match ptype {
@@ -86,7 +87,7 @@ impl PValue {
         }
     }
 
-    /// The whole number in a kind, where it fits.
+    /// The whole number in an integer type, if it fits.
     pub fn from_whole(number: i128, ptype: PType) -> Option<Self> {
         Some(match ptype {
             PType::U8 => Self::U8(number.try_into().ok()?),

@@ -1,3 +1,4 @@
+// SPDX-License-Identifier: Apache-2.0
 //! Lines as they are read.
 
 use std::sync::Arc;
@@ -67,7 +68,7 @@ impl<'a> Reader<'a> {
         }
     }
 
-    /// Takes the token, where it comes next.
+    /// Takes the token, if it comes next.
     fn take(&mut self, token: u8) -> bool {
         self.spaces();
         let is_next = self.peek() == Some(token);

@@ -1,3 +1,4 @@
+// SPDX-License-Identifier: Apache-2.0
 //! How many bytes a value takes.
 
 use crate::types::DType;

@@ -1,4 +1,5 @@
-//! Validity: whether a value is one of its type, and the first breach where it is not.
+// SPDX-License-Identifier: Apache-2.0
+//! Validity: whether a value is one of its type, and the first breach if it is not.
 
 use crate::error::{Breach, Step, VortexError, VortexResult};
 use crate::types::{DType, MapDType};

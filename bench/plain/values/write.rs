@@ -1,3 +1,4 @@
+// SPDX-License-Identifier: Apache-2.0
 //! Types, scalars and refusals as they stand in lines.
 
 use std::fmt::Write;

@@ -1,3 +1,4 @@
+// SPDX-License-Identifier: Apache-2.0
 //! Whether a value is the zero of its type.
 
 use crate::types::DType;
