@@ -26,8 +26,8 @@
 extern "C" {
 #endif
 
-/* The version of this header: as text, and as one number, 65536 times the major version, 256 times the minor one, and the
- * patch. doqallin_version() is that number for the library that runs. */
+/* The version of this header, as a string and as one number. The number is 65536 times the major version, plus 256 times the
+ * minor one, plus the patch. doqallin_version() is that number for the library that runs. */
 #define DOQALLIN_VERSION_TEXT "0.1.0"
 #define DOQALLIN_VERSION 0x000100
 uint32_t doqallin_version(void);
@@ -39,17 +39,17 @@ enum {
     DOQALLIN_NO_MEMORY = 2,    /* an allocation was refused */
     DOQALLIN_NO_ROOM = 3,      /* a room is too small: the lengths that are needed are written, and nothing else */
     DOQALLIN_NOT_UTF8 = 4,     /* bytes that are to be a string are not UTF-8 */
-    DOQALLIN_NOT_A_NUMBER = 5, /* a code names no integer kind, or the bits stand for no number of the kind */
+    DOQALLIN_NOT_A_NUMBER = 5, /* a code names no integer type, or the bits stand for no number of the type */
     DOQALLIN_BAD_OFFSETS = 6   /* offsets go down, or past the end of the bytes */
 };
 
-/* The integer kinds. The 64 bits of a number of a signed kind are in two's complement: (uint64_t)(int64_t)-5. */
+/* The integer types. The 64 bits of a number of a signed type are in two's complement: (uint64_t)(int64_t)-5. */
 enum { DOQALLIN_U8, DOQALLIN_U16, DOQALLIN_U32, DOQALLIN_U64, DOQALLIN_I8, DOQALLIN_I16, DOQALLIN_I32, DOQALLIN_I64 };
 
-/* Casts a number of the kind `from` to the kind `to`.
- * GIVEN: *out has the bits of the same number in that kind.
- * NONE: that kind does not have the number.
- * NOT_A_NUMBER: a code is not below 8, or `bits` are of no number of the kind `from` (256 is no u8). */
+/* Casts a number of the type `from` to the type `to`.
+ * GIVEN: *out has the bits of the same number in that type.
+ * NONE: that type does not have the number.
+ * NOT_A_NUMBER: a code is not below 8, or `bits` are of no number of the type `from` (256 is no u8). */
 uint32_t doqallin_cast_integer(uint8_t from, uint64_t bits, uint8_t to, uint64_t *out);
 
 /* The lower bound of bytes at n bytes: a value of at most n bytes whole, and else its first n bytes. These are the greatest
@@ -71,10 +71,10 @@ uint32_t doqallin_lower_bound_text(const uint8_t *value, size_t value_length, si
 uint32_t doqallin_upper_bound_bytes(const uint8_t *value, size_t value_length, size_t n, uint8_t *room,
                                     size_t room_length, size_t *count);
 
-/* The upper bound of a string at n bytes: one of at most n bytes whole, and else the least string above it that has as many
- * bytes as its lower bound. The statuses are those of doqallin_upper_bound_bytes, but for these:
- * NONE: the value has more than n bytes, and its lower bound is empty, or the code point after the lower bound's last
- * character is no character of as many bytes.
+/* The upper bound of a string at n bytes. A string of at most n bytes is its own bound. Else the bound is the least string
+ * above it that has as many bytes as its lower bound. The statuses are those of doqallin_upper_bound_bytes, but for these.
+ * NONE: the value has more than n bytes. Its lower bound is empty, or the code point after the lower bound's last character
+ * is no character of as many bytes.
  * NOT_UTF8: the value is not UTF-8. */
 uint32_t doqallin_upper_bound_text(const uint8_t *value, size_t value_length, size_t n, uint8_t *room,
                                    size_t room_length, size_t *count);

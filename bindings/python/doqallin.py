@@ -67,7 +67,7 @@ class NotUtf8(DoqallinError, ValueError):
 
 
 class NotANumber(DoqallinError, ValueError):
-    """An integer kind does not have the number that is said to be of it."""
+    """An integer type does not have the number that is said to be of it."""
 
 
 class BadOffsets(DoqallinError, ValueError):
@@ -91,7 +91,7 @@ _ERRORS: dict[int, tuple[type[DoqallinError], str]] = {
 
 
 class Kind(enum.IntEnum):
-    """The integer kinds."""
+    """The integer types."""
 
     U8 = 0
     U16 = 1
@@ -104,7 +104,7 @@ class Kind(enum.IntEnum):
 
     @property
     def is_signed(self) -> bool:
-        """Whether the kind has negative numbers."""
+        """Whether the type has negative numbers."""
         return self >= Kind.I8
 
 
@@ -196,7 +196,7 @@ def _room(length: int) -> ctypes.Array[c_uint8]:
 
 
 def cast(number: int, source: Kind, target: Kind) -> int | None:
-    """The number, or None if the target kind does not have it.
+    """The number, or None if the target type does not have it.
 
     Raises NotANumber if the source kind does not have it.
 

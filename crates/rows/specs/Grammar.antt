@@ -15,7 +15,7 @@ use Rattle.rows.specs.Lines.{words_of}
 use Rattle.rows.specs.declared.commands.Side.{Side}
 use Rattle.rows.specs.declared.commands.Side.TheVariants.{Lower, Upper}
 
--- the eight integer kinds
+-- the eight integer types
 abbrev pub all_ptypes : List PType
 all_ptypes = U8 ∷ U16 ∷ U32 ∷ U64 ∷ I8 ∷ I16 ∷ I32 ∷ I64 ∷ []
 

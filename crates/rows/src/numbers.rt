@@ -46,7 +46,7 @@ pub fn cut_ptype(text: &[u8]) -> Option<(PType, &[u8])>
     Some((ptype, &text[end + 1..]))
 }
 
-/// The place at which the name of a `PType` in front ends: it has two bytes, or three.
+/// Where the name of a `PType` in front ends: it has two bytes, or three.
 fn name_end(text: &[u8]) -> usize
     ensures { IsNameEnd text.now result }
 {
@@ -112,8 +112,8 @@ fn cut_natural(text: &[u8]) -> Option<(u128, &[u8])>
     Some((number, &text[end + 1..]))
 }
 
-/// The number that the digits in front represent, and how many digits: 20 at most, for which 64 bits
-/// may not do.
+/// The number that the digits in front represent, and how many digits: 20 at most; 64 bits may not
+/// do.
 fn number_digits(text: &[u8]) -> (u128, usize)
     ensures read { LeadingDigits 20 text.now result.0 result.1 }
     ensures small { result.0 < 10 ^ 20 }

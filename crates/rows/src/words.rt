@@ -50,7 +50,7 @@ fn word_end(text: &[u8]) -> Option<usize>
     text.iter().position(|byte| *byte == b' ')
 }
 
-/// What follows the word and a space, if the text begins with both.
+/// What follows the word and a space, if the line begins with both.
 ///
 /// `strip_prefix`, once for each, would take 1.4 % more instructions on lines of all commands.
 #[inline(always)]

@@ -9,7 +9,7 @@ use std::process::ExitCode;
 use std::rt::Env;
 use worked_cases::{Run, run_lines};
 
-/// Runs the lines of standard input. The status is 0 where no case is wrong, else 1.
+/// Runs the lines of standard input. The status is 0 if no case is wrong, else 1.
 fn main(rt: HostRuntime) -> ExitCode {
     match run_input(&rt) {
         Ok(true) => ExitCode::SUCCESS,

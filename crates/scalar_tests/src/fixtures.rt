@@ -24,7 +24,7 @@ pub fn integer(number: i32) -> Raw {
 pub fn text_buffer(rt: &(impl AllocGlobal + Abort), text: &str) -> BufferString
     ensures { result ≡ text.now }
 {
-    BufferString::from_str(rt.alloc(), text).expect(rt, "a text")
+    BufferString::from_str(rt.alloc(), text).expect(rt, "a string")
 }
 
 pub fn byte_buffer(rt: &(impl AllocGlobal + Abort), bytes: &[u8]) -> ByteBuffer

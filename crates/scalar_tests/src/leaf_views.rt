@@ -34,7 +34,7 @@ fn bool_view<'a>(rt: &impl Abort, scalar: &'a Scalar) -> BoolScalar<'a> {
 }
 
 pub fn text_view<'a>(rt: &impl Abort, scalar: &'a Scalar) -> Utf8Scalar<'a> {
-    Utf8Scalar::try_from(scalar).expect(rt, "a text")
+    Utf8Scalar::try_from(scalar).expect(rt, "a string")
 }
 
 fn number_view<'a>(rt: &impl Abort, scalar: &'a Scalar) -> PrimitiveScalar<'a> {

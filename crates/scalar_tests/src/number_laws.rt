@@ -33,9 +33,9 @@ fn value_between(number: i128, ptype: PType) -> PValue
     }
 }
 
-/// An integer reinterpreted in another type of its width: the only number of that type that differs
-/// from it by a multiple of 2 to the power of the width in bits.
-fn reinterpreted(value: &PValue, ptype: PType) -> PValue
+/// An integer reinterpreted in another type of its width. The result is the only number of that type
+/// that differs from it by a multiple of 2 to the power of the width in bits.
+fn reinterpret(value: &PValue, ptype: PType) -> PValue
     requires { byte_width_of ptype ≡ byte_width_of (ptype_of value.now) }
     ensures wrapped { IsWrapped ptype (whole_of value.now) (whole_of result) }
     ensures only { (r : ℤ) → IsWrapped ptype (whole_of value.now) r → r ≡ whole_of result }
@@ -73,7 +73,7 @@ fn feed_equal<H: Hasher>(_first: &PValue, second: &PValue, state: &mut H)
 fn numbers_are_told_apart(rt: HostRuntime) {
     assert!(rt; has_number(PType::I8, 127) && !has_number(PType::I8, 128));
     assert!(rt; value_between(-128, PType::I8) == PValue::I8(-128));
-    assert!(rt; reinterpreted(&PValue::I8(-1), PType::U8) == PValue::U8(255));
+    assert!(rt; reinterpret(&PValue::I8(-1), PType::U8) == PValue::U8(255));
     assert!(rt; are_equal(&PValue::I8(7), &PValue::U64(7)));
     assert!(rt; are_tied(&PValue::I8(7), &PValue::U64(7)));
     assert!(rt; !are_tied(&PValue::I8(7), &PValue::I8(8)));

@@ -19,8 +19,8 @@ fn place_of_id_at(variants: &UnionVariants, index: usize) -> Option<usize>
 #[test]
 fn an_id_is_found_at_its_place(rt: HostRuntime) {
     let alloc = rt.alloc();
-    let first = BufferString::from_str(alloc, "int").expect(&rt, "a text");
-    let second = BufferString::from_str(alloc, "string").expect(&rt, "a text");
+    let first = BufferString::from_str(alloc, "int").expect(&rt, "a string");
+    let second = BufferString::from_str(alloc, "string").expect(&rt, "a string");
     let names = vec![in alloc; FieldName::new(first), FieldName::new(second)].expect(&rt, "names");
     let utf8 = DType::Utf8(Nullability::NonNullable);
     let dtypes = vec![in alloc; DType::Null, utf8].expect(&rt, "types");

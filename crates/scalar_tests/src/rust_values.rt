@@ -38,8 +38,8 @@ fn rows(rt: &(impl AllocGlobal + Abort)) -> Vec<Vec<i32>> {
 fn values_come_back(rt: HostRuntime) {
     comes_back(&rt, i64::MIN, i64::MIN);
     comes_back(&rt, Some(5usize), Some(5usize));
-    let hello = String::from_str(rt.alloc(), "hello").expect(&rt, "a text");
-    let same = String::from_str(rt.alloc(), "hello").expect(&rt, "a text");
+    let hello = String::from_str(rt.alloc(), "hello").expect(&rt, "a string");
+    let same = String::from_str(rt.alloc(), "hello").expect(&rt, "a string");
     comes_back(&rt, hello, same);
     comes_back(&rt, rows(&rt), rows(&rt));
 }

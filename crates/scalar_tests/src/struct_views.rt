@@ -46,7 +46,7 @@ fn extension_view<'a>(rt: &impl Abort, scalar: &'a Scalar) -> ExtScalar<'a> {
 }
 
 /// A number as a value of the extension.
-fn extended(rt: &(impl AllocGlobal + Abort), number: i32) -> Scalar {
+fn extension_scalar(rt: &(impl AllocGlobal + Abort), number: i32) -> Scalar {
     Scalar {
         dtype: extension(rt),
         value: integer(number),
@@ -55,7 +55,7 @@ fn extended(rt: &(impl AllocGlobal + Abort), number: i32) -> Scalar {
 
 #[test]
 fn views_of_extensions_hash(rt: HostRuntime) {
-    let all = [extended(&rt, 7), extended(&rt, 7), extended(&rt, 8)];
+    let all = [extension_scalar(&rt, 7), extension_scalar(&rt, 7), extension_scalar(&rt, 8)];
     let view = extension_view(&rt, &all[0]);
     hashes(
         &rt,

@@ -33,8 +33,8 @@ abbrev pub HasParts : RawTree → Type 0
 HasParts (raw_tuple (raw_then v vs)) = ⊤
 HasParts _ = ⊥
 
--- the conversion copies: it takes a string or bytes, or a tuple of one part or more, of a type of which it takes the empty tuple.
--- A refusal of the type, of a null and of another kind of raw value needs no copy; a refusal of a part may come after copies
+-- the conversion copies: it takes a string or bytes, or a tuple of one part or more, if it takes the type's empty tuple.
+-- A refusal of the type, of a null and of another case of raw value needs no copy; a refusal of a part may come after copies
 abbrev pub Copies : (TypeTree → RawTree → Taken) → TypeTree → RawTree → Type 0
 Copies taken t (raw_text bs) = IsOk (taken t (raw_text bs))
 Copies taken t (raw_bytes bs) = IsOk (taken t (raw_bytes bs))

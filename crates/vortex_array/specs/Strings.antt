@@ -8,7 +8,7 @@ use Rattle.std.specs.declared.cmp.Ordering.TheVariants.{Less, Greater}
 abbrev pub IsString : List ℕ → Type 0
 IsString s = (k : ℕ) → slice_index s k < 256
 
--- s is below t: it has the lesser byte at the first place at which they differ, or is a proper beginning of t
+-- s is below t: at the first place that differs s has the lesser byte, or s is a proper beginning of t
 abbrev pub Below : List ℕ → List ℕ → Type 0
 Below s t = slice_cmp nat_cmp s t ≡ Less
 

@@ -25,7 +25,7 @@ pub trait FromScalar {
     /// The refusals are those of `TryFrom<ScalarRef<'_>>`, or stated at the implementation.
     /// `OutOfMemory` comes only if memory is asked for: to
     /// copy a string or bytes, or for the elements of a list that is not empty. It never hides a
-    /// wrong type, a null, or a raw value of another kind.
+    /// wrong type, a null, or another variant of `ScalarValue`.
     fn try_from_scalar(alloc: Global, scalar: ScalarRef<'_>) -> Result<Self, VortexError>
         ensures value { TakesOrNoMemory given (taken_from taken scalar.entry) result }
         ensures memory { result ≡ Err VortexError.OutOfMemory

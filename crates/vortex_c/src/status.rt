@@ -15,7 +15,7 @@ pub const NO_ROOM: u32 = 3;
 /// Bytes that are to be a string are not UTF-8.
 pub const NOT_UTF8: u32 = 4;
 
-/// A code names no integer kind, or the bits stand for no number of the kind.
+/// A code names no integer type, or the bits stand for no number of the type.
 pub const NOT_A_NUMBER: u32 = 5;
 
 /// Offsets go down, or past the end of the bytes.

@@ -13,7 +13,7 @@ use Rattle.vortex_dtype.specs.declared.ptype.PType.{PType}
 abbrev pub nullability_feed : Nullability → HashWrites
 nullability_feed n = fed.u8 (nullability_code n)
 
--- an integer kind feeds its number
+-- a PType feeds its number
 abbrev pub ptype_feed : PType → HashWrites
 ptype_feed k = fed.u8 (ptype_index k)
 

@@ -143,7 +143,7 @@ pub enum VortexError {
     /// The number does not fit the integer type.
     #[error("the number is out of range")]
     OutOfRange,
-    /// The value has another integer kind than was asked for.
+    /// The value has another `PType` than was asked for.
     #[error("the value has another integer kind")]
     WrongPType,
     /// A value was needed, but it is a null.
@@ -161,7 +161,7 @@ pub enum VortexError {
     /// There are more children than 32 bits can count.
     #[error("too many children")]
     TooMany,
-    /// The two integer kinds have different widths, so that one cannot be read as the other.
+    /// The two `PType`s have different widths, so that one cannot be read as the other.
     #[error("the widths differ")]
     WidthsDiffer,
     /// The given parts make no type.

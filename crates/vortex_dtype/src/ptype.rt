@@ -1,9 +1,9 @@
-//! The integer kinds.
+//! The integer types.
 
 ghost use Rattle.std.specs.Prelude.{◌≡◌};
 ghost use Rattle.vortex_dtype.specs.Words.{byte_width_of, is_signed_ptype, ptype_text};
 
-/// An integer kind: signed or unsigned, of 1, 2, 4 or 8 bytes.
+/// An integer type: signed or unsigned, of 1, 2, 4 or 8 bytes.
 ///
 /// Ports the integer variants of `vortex_array::dtype::PType`.
 #[derive(Clone, Copy, Debug, PartialEq, Eq, Hash)]
@@ -27,7 +27,7 @@ pub enum PType {
 }
 
 impl PType {
-    /// How many bytes a number of the kind takes.
+    /// How many bytes a number of the type takes.
     pub fn byte_width(&self) -> usize
         ensures { result ≡ byte_width_of self.now }
     {
@@ -39,7 +39,7 @@ impl PType {
         }
     }
 
-    /// Whether the kind has negative numbers.
+    /// Whether the type has negative numbers.
     ///
     /// Ports `PType::is_signed_int`.
     pub fn is_signed(&self) -> bool
@@ -51,7 +51,7 @@ impl PType {
         }
     }
 
-    /// The kind's name, such as `u8`. Of this port alone: upstream prints it by `Display`.
+    /// The type's name, such as `u8`. Of this port alone: upstream prints it by `Display`.
     pub fn name(&self) -> &'static str
         ensures { result.now ≡ ptype_text self.now }
     {

@@ -30,7 +30,7 @@ pub enum DType {
     Null,
     /// Truth values.
     Bool(Nullability),
-    /// Integers of one kind.
+    /// Integers of one `PType`.
     Primitive(PType, Nullability),
     /// Strings, as UTF-8.
     Utf8(Nullability),

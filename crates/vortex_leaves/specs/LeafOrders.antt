@@ -35,9 +35,9 @@ part_order {X} {A} {type_at} {content_at} {part} {cmp} h =
     let ties : (x y : X) → (same_type (type_at x) (type_at y) && equal (content_at x) (content_at y)) ≡ eq_by_cmp (on part (option_cmp cmp)) x y = λ x y. rw (h.one_type x y, h.tied x y) in
     record { total = whole; agrees = agrees; ties = ties; partial = partial_order_from_agreeing_total (on part (option_cmp cmp)) whole agrees ties }
 
-turned : (b : Bool) (o p : Ordering) → o ≡ ordering_reverse p → (if b then Some o else None) ≡ option_map ordering_reverse (if b then Some p else None)
-turned true o p h = ap Some h
-turned false o p h = refl
+reversed_if_alike : (b : Bool) (o p : Ordering) → o ≡ ordering_reverse p → (if b then Some o else None) ≡ option_map ordering_reverse (if b then Some p else None)
+reversed_if_alike true o p h = ap Some h
+reversed_if_alike false o p h = refl
 
 is_below : (b : Bool) (o : Ordering) → (if b then Some o else None) ≡ Some Less → (b ≡ true) × (o ≡ Less)
 is_below true o h = (refl, cc)
@@ -51,7 +51,7 @@ both_or_none false o = ((λ h. cc), (λ h. cc))
 pub sorts_order : {X : Type 0} {E : X → X → Bool} {R : X → X → Ordering} → IsEquivalence E → IsTotalOrder R
     → IsPartialOrder (λ (x y : X). E x y && is_eq (R x y)) (λ (x y : X). if E x y then Some (R x y) else None)
 sorts_order {X} {E} {R} e r = record {
-  antisymm = λ x y. rw (e.symm x y) (turned (E y x) (R x y) (R y x) (r.antisymm x y));
+  antisymm = λ x y. rw (e.symm x y) (reversed_if_alike (E y x) (R x y) (R y x) (r.antisymm x y));
   trans = λ x y z g h.
       let a = is_below (E x y) (R x y) g in
       let b = is_below (E y z) (R y z) h in

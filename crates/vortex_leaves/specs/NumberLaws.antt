@@ -22,17 +22,17 @@ use Rattle.vortex_leaves.specs.declared.primitive.PrimitiveScalar.{PrimitiveScal
 abbrev number_cmp : Option PValue → Option PValue → Ordering
 number_cmp = option_cmp (on whole_of int_cmp)
 
-ordered : (a b : Option PValue) → order (content (raw_number a)) (content (raw_number b)) ≡ Some (number_cmp a b)
-ordered None None = refl
-ordered None (Some b) = refl
-ordered (Some a) None = refl
-ordered (Some a) (Some b) = refl
+order_of_contents : (a b : Option PValue) → order (content (raw_number a)) (content (raw_number b)) ≡ Some (number_cmp a b)
+order_of_contents None None = refl
+order_of_contents None (Some b) = refl
+order_of_contents (Some a) None = refl
+order_of_contents (Some a) (Some b) = refl
 
-tied : (a b : Option PValue) → equal (content (raw_number a)) (content (raw_number b)) ≡ is_eq (number_cmp a b)
-tied None None = refl
-tied None (Some b) = refl
-tied (Some a) None = refl
-tied (Some a) (Some b) = ties signed_po (λ x y. refl) (whole_of a) (whole_of b)
+equality_of_contents : (a b : Option PValue) → equal (content (raw_number a)) (content (raw_number b)) ≡ is_eq (number_cmp a b)
+equality_of_contents None None = refl
+equality_of_contents None (Some b) = refl
+equality_of_contents (Some a) None = refl
+equality_of_contents (Some a) (Some b) = ties signed_po (λ x y. refl) (whole_of a) (whole_of b)
 
 same_type-equiv : IsEquivalence same_type
 same_type-equiv = on_equiv erase tree_eq-equiv
@@ -41,6 +41,6 @@ same_type-equiv = on_equiv erase tree_eq-equiv
 pub number_order : IsPartialOrder (λ (x y : PrimitiveScalar). same_type (number_view_type x) (number_view_type y) && equal (number_view_content x) (number_view_content y))
     (λ (x y : PrimitiveScalar). typed_order (number_view_type x) (number_view_content x) (number_view_type y) (number_view_content y))
 number_order = partial_order_alike
-    (λ x y. rw (tied x.pvalue y.pvalue))
-    (λ x y. rw (ordered x.pvalue y.pvalue))
+    (λ x y. rw (equality_of_contents x.pvalue y.pvalue))
+    (λ x y. rw (order_of_contents x.pvalue y.pvalue))
     (sorts_order (on_equiv number_view_type same_type-equiv) (on_total (λ (x : PrimitiveScalar). x.pvalue) (options_total (on_total whole_of int_cmp_total))))

@@ -30,8 +30,8 @@ HoldsNumber (integer_type k n) absent = Unit {0}
 HoldsNumber (integer_type k n) (raw_integer l z) = InRange k z
 HoldsNumber _ _ = ⊥
 
--- why a type and a raw value are not viewed as an integer: the type is of another kind; the number is out of range for the
--- type's PType; or else the first breach
+-- why a type and a raw value are not viewed as an integer. The type is of another kind, or the number is out of range for
+-- the type's PType, or it is the first breach.
 abbrev pub RefusesNumber : TypeTree → RawTree → VortexError → Type 0
 RefusesNumber (integer_type k n) (raw_integer l z) e = e ≡ OutOfRange
 RefusesNumber (integer_type k n) v e = Refuses e (breaches (integer_type k n) v)

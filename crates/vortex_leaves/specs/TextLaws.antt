@@ -34,25 +34,25 @@ strings_alike v w g h = rw (g, h)
 bytes_alike : (v w : RawTree) → may_be_bytes v ≡ true → may_be_bytes w ≡ true → are_alike v w ≡ true
 bytes_alike v w g h = rw (g, h) (or_true (may_be_text v && may_be_text w))
 
-ordered : (v w : RawTree) → are_alike v w ≡ true → order (content v) (content w) ≡ Some (option_cmp (slice_cmp nat_cmp) (bytes_in v) (bytes_in w))
-ordered absent absent h = refl
-ordered absent (raw_text c) h = refl
-ordered absent (raw_bytes c) h = refl
-ordered (raw_text b) absent h = refl
-ordered (raw_text b) (raw_text c) h = refl
-ordered (raw_bytes b) absent h = refl
-ordered (raw_bytes b) (raw_bytes c) h = refl
-ordered _ _ h = cc
+order_of_contents : (v w : RawTree) → are_alike v w ≡ true → order (content v) (content w) ≡ Some (option_cmp (slice_cmp nat_cmp) (bytes_in v) (bytes_in w))
+order_of_contents absent absent h = refl
+order_of_contents absent (raw_text c) h = refl
+order_of_contents absent (raw_bytes c) h = refl
+order_of_contents (raw_text b) absent h = refl
+order_of_contents (raw_text b) (raw_text c) h = refl
+order_of_contents (raw_bytes b) absent h = refl
+order_of_contents (raw_bytes b) (raw_bytes c) h = refl
+order_of_contents _ _ h = cc
 
-tied : (v w : RawTree) → are_alike v w ≡ true → equal (content v) (content w) ≡ is_eq (option_cmp (slice_cmp nat_cmp) (bytes_in v) (bytes_in w))
-tied absent absent h = refl
-tied absent (raw_text c) h = refl
-tied absent (raw_bytes c) h = refl
-tied (raw_text b) absent h = refl
-tied (raw_text b) (raw_text c) h = texts_ties b c
-tied (raw_bytes b) absent h = refl
-tied (raw_bytes b) (raw_bytes c) h = texts_ties b c
-tied _ _ h = cc
+equality_of_contents : (v w : RawTree) → are_alike v w ≡ true → equal (content v) (content w) ≡ is_eq (option_cmp (slice_cmp nat_cmp) (bytes_in v) (bytes_in w))
+equality_of_contents absent absent h = refl
+equality_of_contents absent (raw_text c) h = refl
+equality_of_contents absent (raw_bytes c) h = refl
+equality_of_contents (raw_text b) absent h = refl
+equality_of_contents (raw_text b) (raw_text c) h = texts_ties b c
+equality_of_contents (raw_bytes b) absent h = refl
+equality_of_contents (raw_bytes b) (raw_bytes c) h = texts_ties b c
+equality_of_contents _ _ h = cc
 
 -- views that hold borrowed scalars of one type up to nullability, whose raw values are alike, are ordered as their bytes are
 by_bytes : {X : Type 0} (viewed : X → ScalarRef)
@@ -61,8 +61,8 @@ by_bytes : {X : Type 0} (viewed : X → ScalarRef)
 by_bytes viewed one_type alike = part_order (record {
   total = nat_list_cmp_total;
   one_type = one_type;
-  ordered = λ x y. ordered (ref_raw (viewed x)) (ref_raw (viewed y)) (alike x y);
-  tied = λ x y. tied (ref_raw (viewed x)) (ref_raw (viewed y)) (alike x y);
+  ordered = λ x y. order_of_contents (ref_raw (viewed x)) (ref_raw (viewed y)) (alike x y);
+  tied = λ x y. equality_of_contents (ref_raw (viewed x)) (ref_raw (viewed y)) (alike x y);
 })
 
 -- types of strings, and types of bytes, are the same up to nullability

@@ -80,7 +80,7 @@ impl<'a> BinaryScalar<'a> {
 
 /// The view of a scalar's type and value. It is valid if the scalar is.
 ///
-/// `WrongKind` exactly if the type is not a type of bytes, or the raw value of another kind.
+/// `WrongKind` exactly if the type is not a type of bytes, or the raw value of another variant.
 impl<'a> TryFrom<&'a Scalar> for BinaryScalar<'a> {
     ghost use Rattle.vortex_leaves.specs.ViewWords.{bytes_ref};
 

@@ -89,7 +89,7 @@ impl<'a> BoolScalar<'a> {
 
 /// The view of a scalar's type and value. It is valid if the scalar is.
 ///
-/// `WrongKind` exactly if the type is not a type of booleans, or the raw value of another kind.
+/// `WrongKind` exactly if the type is not a type of booleans, or the raw value of another variant.
 impl<'a> TryFrom<&'a Scalar> for BoolScalar<'a> {
     ghost use Rattle.vortex_leaves.specs.ViewWords.{IsBoolViewOf};
 

@@ -1,4 +1,4 @@
--- The laws of the numbers of each integer kind, and of equality, order and hash of integer values.
+-- The laws of the numbers of each PType, and of equality, order and hash of integer values.
 use Rattle.std.specs.Prelude.{◌≡◌, ◌↔◌, ◌≤ℤ◌, ℤ, Bool, true, Option, Some, IsTrue}
 use Rattle.std.specs.declared.cmp.Ordering.{Ordering}
 use Rattle.std.specs.declared.cmp.Ordering.TheVariants.{Equal}
@@ -9,7 +9,7 @@ use Rattle.vortex_pvalue.specs.Numbers.{InRange, in_range, IsWrapped, wrapped, l
 use Rattle.vortex_pvalue.specs.Whole.{whole_of}
 use Rattle.vortex_pvalue.specs.declared.pvalues.PValue.{PValue}
 
--- the kind of the same width and the other sign
+-- the PType of the same width and the other sign
 abbrev pub other_sign : PType → PType
 other_sign U8 = I8
 other_sign U16 = I16
@@ -20,15 +20,15 @@ other_sign I16 = U16
 other_sign I32 = U32
 other_sign I64 = U64
 
--- the test of a range is true exactly if the kind has the number
+-- the test of a range is true exactly if the PType has the number
 abbrev pub TestIsRange : Type 0
 TestIsRange = (k : PType) (z : ℤ) → (in_range k z ≡ true) ↔ InRange k z
 
--- a kind has exactly the numbers from its least to its greatest
+-- an integer type has exactly the numbers from its least to its greatest
 abbrev pub RangeIsInterval : Type 0
 RangeIsInterval = (k : PType) (z : ℤ) → InRange k z ↔ ((least_of k ≤ℤ z) × (z ≤ℤ greatest_of k))
 
--- each number has a wrapped number in each kind, and `wrapped` computes one
+-- each number has a wrapped number in each PType, and `wrapped` computes one
 abbrev pub WrappedExists : Type 0
 WrappedExists = (k : PType) (z : ℤ) → IsWrapped k z (wrapped k z)
 
@@ -36,11 +36,11 @@ WrappedExists = (k : PType) (z : ℤ) → IsWrapped k z (wrapped k z)
 abbrev pub WrappedIsUnique : Type 0
 WrappedIsUnique = (k : PType) (z r : ℤ) → IsWrapped k z r → r ≡ wrapped k z
 
--- a number that is reinterpreted in a kind of the same width, and then back, is itself again
+-- a number that is reinterpreted in a PType of the same width, and then back, is itself again
 abbrev pub ReinterpretsBack : Type 0
 ReinterpretsBack = (k l : PType) (z : ℤ) → byte_width_of k ≡ byte_width_of l → InRange k z → wrapped k (wrapped l z) ≡ z
 
--- values are equal exactly if their numbers are, whatever their kinds
+-- values are equal exactly if their numbers are, whatever their PTypes
 abbrev pub EqualsByNumber : (PValue → PValue → Bool) → Type 0
 EqualsByNumber eq = (v w : PValue) → IsTrue (eq v w) ↔ (whole_of v ≡ whole_of w)
 

@@ -1,4 +1,4 @@
--- What an integer value stands for: its kind, its whole number and its printed form.
+-- What an integer value stands for: its PType, its whole number and its printed form.
 use Rattle.std.specs.Prelude.{ℕ, ℤ, pos, List, ◌++◌}
 use Rattle.std.specs.Fmt.{signed_decimal}
 use Rattle.vortex_dtype.specs.declared.ptype.PType.{PType}
@@ -18,7 +18,7 @@ whole_of (I16 z) = z
 whole_of (I32 z) = z
 whole_of (I64 z) = z
 
--- the kind
+-- the PType
 abbrev pub ptype_of : PValue → PType
 ptype_of (U8 n) = kinds.U8
 ptype_of (U16 n) = kinds.U16
@@ -29,7 +29,7 @@ ptype_of (I16 z) = kinds.I16
 ptype_of (I32 z) = kinds.I32
 ptype_of (I64 z) = kinds.I64
 
--- the printed form of a number of a kind: the number in decimal, then the kind's name
+-- the printed form of a number of a PType: the number in decimal, then the PType's name
 abbrev pub number_text : PType → ℤ → List ℕ
 number_text k z = signed_decimal z ++ ptype_text k
 

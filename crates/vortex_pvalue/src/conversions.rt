@@ -6,7 +6,7 @@ ghost use Rattle.vortex_pvalue.specs.Words.{Converts, IsNumber, PType};
 use crate::pvalues::PValue;
 use vortex_dtype::VortexError;
 
-/// The `u8` as a value of kind `U8`.
+/// The `u8` as a `PValue::U8`.
 impl From<u8> for PValue {
     ghost from_gives = { λ n v. IsNumber PType.U8 (pos n) v };
 
@@ -15,7 +15,7 @@ impl From<u8> for PValue {
     }
 }
 
-/// The `u16` as a value of kind `U16`.
+/// The `u16` as a `PValue::U16`.
 impl From<u16> for PValue {
     ghost from_gives = { λ n v. IsNumber PType.U16 (pos n) v };
 
@@ -24,7 +24,7 @@ impl From<u16> for PValue {
     }
 }
 
-/// The `u32` as a value of kind `U32`.
+/// The `u32` as a `PValue::U32`.
 impl From<u32> for PValue {
     ghost from_gives = { λ n v. IsNumber PType.U32 (pos n) v };
 
@@ -33,7 +33,7 @@ impl From<u32> for PValue {
     }
 }
 
-/// The `u64` as a value of kind `U64`.
+/// The `u64` as a `PValue::U64`.
 impl From<u64> for PValue {
     ghost from_gives = { λ n v. IsNumber PType.U64 (pos n) v };
 
@@ -42,7 +42,7 @@ impl From<u64> for PValue {
     }
 }
 
-/// The `i8` as a value of kind `I8`.
+/// The `i8` as a `PValue::I8`.
 impl From<i8> for PValue {
     ghost from_gives = { λ n v. IsNumber PType.I8 n v };
 
@@ -51,7 +51,7 @@ impl From<i8> for PValue {
     }
 }
 
-/// The `i16` as a value of kind `I16`.
+/// The `i16` as a `PValue::I16`.
 impl From<i16> for PValue {
     ghost from_gives = { λ n v. IsNumber PType.I16 n v };
 
@@ -60,7 +60,7 @@ impl From<i16> for PValue {
     }
 }
 
-/// The `i32` as a value of kind `I32`.
+/// The `i32` as a `PValue::I32`.
 impl From<i32> for PValue {
     ghost from_gives = { λ n v. IsNumber PType.I32 n v };
 
@@ -69,7 +69,7 @@ impl From<i32> for PValue {
     }
 }
 
-/// The `i64` as a value of kind `I64`.
+/// The `i64` as a `PValue::I64`.
 impl From<i64> for PValue {
     ghost from_gives = { λ n v. IsNumber PType.I64 n v };
 
@@ -78,7 +78,7 @@ impl From<i64> for PValue {
     }
 }
 
-/// The `usize` as a value of kind `U64`.
+/// The `usize` as a `PValue::U64`.
 impl From<usize> for PValue {
     ghost from_gives = { λ n v. IsNumber PType.U64 (pos n) v };
 

@@ -1,4 +1,4 @@
-//! The laws of the numbers of each integer kind, and of equality, order and hash. A law does
+//! The laws of the numbers of each `PType`, and of equality, order and hash. A law does
 //! nothing when it runs.
 
 ghost use Rattle.vortex_pvalue.specs.Words.{AgreesWithHash, AgreesWithOrder, EqualsByNumber, InRange, IsEquivalence, RangeIsInterval, ReinterpretsBack, TestIsRange, WrappedExists, WrappedIsUnique, ptype_of, whole_of};
@@ -7,43 +7,44 @@ use crate::natives::NativePType;
 use crate::pvalues::PValue;
 use std::hash::Hash;
 
-/// `in_range`, the test of a range, is true exactly if the kind has the number.
+/// `in_range`, the test of a range, is true exactly if the `PType` has the number.
 pub fn test_is_range()
     ensures { TestIsRange }
 {}
 
-/// A kind has the numbers from its least to its greatest, and no others.
+/// An integer type has the numbers from its least to its greatest, and no others.
 pub fn range_is_interval()
     ensures { RangeIsInterval }
 {}
 
-/// The number of a value lies in the range of its kind.
+/// The number of a value lies in the range of its `PType`.
 pub fn is_in_range(value: &PValue)
     ensures { InRange (ptype_of value.now) (whole_of value.now) }
 {
     value.whole();
 }
 
-/// The number of a Rust integer lies in the range of its type's kind.
+/// The number of a Rust integer lies in the range of its `PType`.
 pub fn native_is_in_range<T: NativePType>(number: T)
     ensures { InRange T.PTYPE (T.value number) }
 {
     number.into_pvalue();
 }
 
-/// Each kind has exactly one number that differs from a given one by a multiple of 2 to the power
-/// of the kind's bits.
+/// Each `PType` has exactly one number that differs from a given one by a multiple of 2 to the
+/// power of the `PType`'s bits.
 pub fn one_wrapped_number()
     ensures exists { WrappedExists }
     ensures unique { WrappedIsUnique }
 {}
 
-/// A number that is reinterpreted in a kind of the same width, and then back, is itself again.
+/// A number that is reinterpreted in a `PType` of the same width, and then back, is itself again.
 pub fn reinterprets_back()
     ensures { ReinterpretsBack }
 {}
 
-/// Values are equal exactly if their numbers are, whatever their kinds. Equality is an equivalence.
+/// Values are equal exactly if their numbers are, whatever their `PType`s. Equality is an
+/// equivalence.
 pub fn equality()
     ensures by_number { EqualsByNumber ⟦<PValue as PartialEq>⟧.eq }
     ensures equivalence { IsEquivalence ⟦<PValue as PartialEq>⟧.eq }

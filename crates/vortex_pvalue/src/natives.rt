@@ -1,4 +1,4 @@
-//! The Rust integer types of the eight integer kinds.
+//! The Rust integer types, each with its `PType`.
 
 ghost use Rattle.std.specs.Prelude.{◌≡◌, ◌↔◌, ℤ, IfSome, IfNone};
 ghost use Rattle.vortex_pvalue.specs.Words.{InRange, PType, ptype_of, whole_of};
@@ -7,16 +7,16 @@ use crate::pvalues::PValue;
 use num_traits::PrimInt;
 use vortex_dtype::PType;
 
-/// A Rust integer type that has an integer kind of its own: `u8` to `u64` and `i8` to `i64`.
+/// A Rust integer type that has a `PType` of its own: `u8` to `u64` and `i8` to `i64`.
 ///
 /// Ports `vortex_array::dtype::NativePType`, for integers.
 pub trait NativePType: PrimInt {
     ghost PTYPE: { PType };
 
-    /// The integer kind of the type.
+    /// The `PType` of the type.
     const PTYPE: PType;
 
-    /// The integer as a value of its type's kind.
+    /// The integer as a value of its type's `PType`.
     fn into_pvalue(self) -> PValue
         ensures whole { whole_of result ≡ Self.value self }
         ensures ptype { ptype_of result ≡ PTYPE }
@@ -32,7 +32,7 @@ pub trait NativePType: PrimInt {
         num_traits::cast::<i128, Self>(value.whole())
     }
 
-    // The type has exactly the numbers of its kind.
+    // The type has exactly the numbers of its `PType`.
     ghost ptype_law: { (z : ℤ) → Self.fits z ↔ InRange PTYPE z };
 }
 

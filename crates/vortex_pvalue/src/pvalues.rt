@@ -1,4 +1,4 @@
-//! Integer values of any of the eight kinds.
+//! Integer values of any of the eight `PType`s.
 
 ghost use Rattle.std.specs.Prelude.{◌≡◌, ◌↔◌, IsTrue, MatchOption, MatchResult, Some, pos, length, ◌≤◌};
 ghost use Rattle.std.specs.Hash as fed;
@@ -12,10 +12,10 @@ use std::fmt;
 use std::hash::{Hash, Hasher};
 use vortex_dtype::{PType, VortexError};
 
-/// An integer of one of the eight kinds.
+/// An integer of one of the eight `PType`s.
 ///
-/// Values are equal, ordered and hashed as whole numbers, whatever their kinds. Ports the integer
-/// variants of `vortex_array::scalar::PValue`.
+/// Values are equal, ordered and hashed as whole numbers, whatever their `PType`s. Ports the
+/// integer variants of `vortex_array::scalar::PValue`.
 #[derive(Clone, Copy, Debug)]
 pub enum PValue {
     /// Unsigned of 1 byte.
@@ -37,7 +37,7 @@ pub enum PValue {
 }
 
 impl PValue {
-    /// The least value of the kind.
+    /// The least value of the `PType`.
     pub fn min_value(ptype: PType) -> PValue
         ensures ptype { ptype_of result ≡ ptype }
         ensures least { whole_of result ≡ least_of ptype }
@@ -54,7 +54,7 @@ impl PValue {
         }
     }
 
-    /// The greatest value of the kind.
+    /// The greatest value of the `PType`.
     pub fn max_value(ptype: PType) -> PValue
         ensures ptype { ptype_of result ≡ ptype }
         ensures greatest { whole_of result ≡ greatest_of ptype }
@@ -71,7 +71,7 @@ impl PValue {
         }
     }
 
-    /// The zero of the kind.
+    /// The zero of the `PType`.
     pub fn zero(ptype: &PType) -> PValue
         ensures ptype { ptype_of result ≡ ptype.now }
         ensures zero { whole_of result ≡ pos 0 }
@@ -95,7 +95,7 @@ impl PValue {
         self.whole() == 0
     }
 
-    /// The value's kind.
+    /// The value's `PType`.
     pub fn ptype(&self) -> PType
         ensures ptype { result ≡ ptype_of self.now }
         ensures in_range { InRange (ptype_of self.now) (whole_of self.now) }
@@ -113,7 +113,7 @@ impl PValue {
         }
     }
 
-    /// Whether the value's kind is this one.
+    /// Whether the value's `PType` is this one.
     pub fn is_instance_of(&self, ptype: &PType) -> bool
         ensures { IsTrue result ↔ (ptype_of self.now ≡ ptype.now) }
     {
@@ -137,8 +137,8 @@ impl PValue {
         }
     }
 
-    /// The value of this kind with this whole number. `None` exactly if the kind does not have it.
-    /// Of this port alone.
+    /// The value of this `PType` with this whole number. `None` exactly if the `PType` does not have
+    /// it. Of this port alone.
     pub fn from_whole(number: i128, ptype: PType) -> Option<PValue>
         ensures { MatchOption result (¬ (InRange ptype number)) (IsNumber ptype number) }
     {
@@ -235,7 +235,7 @@ impl PValue {
         u64::from_pvalue(&self)
     }
 
-    /// The value of this kind with the same bits. The kind must have the width of the value's own.
+    /// The value of this `PType` with the same bits. The `PType` must be as wide as the value's own.
     pub fn reinterpret_cast(&self, ptype: PType) -> PValue
         requires { byte_width_of ptype ≡ byte_width_of (ptype_of self.now) }
         ensures ptype { ptype_of result ≡ ptype }
@@ -248,7 +248,7 @@ impl PValue {
         }
     }
 
-    /// The value with the same bits, of the kind with the same width and the other sign.
+    /// The value with the same bits, of the `PType` with the same width and the other sign.
     fn with_other_sign(&self) -> PValue
         ensures ptype { ptype_of result ≡ other_sign (ptype_of self.now) }
         ensures wrapped { whole_of result ≡ wrapped (other_sign (ptype_of self.now)) (whole_of self.now) }
@@ -265,8 +265,8 @@ impl PValue {
         }
     }
 
-    /// The bytes of the number in two's complement, the lowest first. There are as many as the kind
-    /// is wide.
+    /// The bytes of the number in two's complement, the lowest first. There are as many as the
+    /// `PType` is wide.
     ///
     /// Ports `PValue`'s `ToBytes::to_le_bytes`.
     pub fn to_le_bytes(&self) -> ArrayVec<u8, 8>
@@ -286,7 +286,7 @@ impl PValue {
     }
 }
 
-/// The whole number as a value of this type's kind. `None` exactly if the type does not have it.
+/// The whole number as a value of this type's `PType`. `None` exactly if the type does not have it.
 fn native<T: NativePType>(number: i128) -> Option<PValue>
     ensures { MatchOption result (¬ (InRange T.PTYPE number)) (IsNumber T.PTYPE number) }
 {

@@ -19,8 +19,8 @@ IsLeaf _ = Unit {0}
 abbrev pub IsTakenWhole : TypeTree → Content → Type 0
 IsTakenWhole s c = IsExtension s ⊎ IsLeaf c
 
--- e refuses a cast from s of the content c, which is possible if p holds: if c is taken whole, out of memory never comes
--- in place of an impossible cast
+-- e refuses a cast from s of the content c, which is possible if p holds. If c is taken whole, out of memory never comes
+-- in place of an impossible cast.
 abbrev pub OutOfMemoryOnlyIfPossible : TypeTree → Content → Type 0 → VortexError → Type 0
 OutOfMemoryOnlyIfPossible s c p e = IsTakenWhole s c → e ≡ OutOfMemory → p
 

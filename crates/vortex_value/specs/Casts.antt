@@ -70,8 +70,8 @@ ByChild p (union_type names ss is n) js (tagged id c) = (is ≡ js) × p id ss c
 ByChild p _ js _ = ⊥
 
 -- The rows of the cast table, from a type s and a content c to a type t. The last five parts say what the parts of t
--- allow: the storage of an extension, the elements of a list, the entries of a map, the fields of a struct, the variant
--- of a union that the content's id gives.
+-- allow. These are the storage of an extension, a list's elements, a map's entries, a struct's fields, and the variant of
+-- a union that the content's id gives.
 pub data Row (s t : TypeTree) (c : Content) (wrapped elements entries fields children : Type 0) : Type 0 where
   same_type : Same s t → Row s t c wrapped elements entries fields children
   a_null : IsNull c → ¬ (Sorts s t) → Row s t c wrapped elements entries fields children

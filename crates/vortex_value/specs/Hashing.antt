@@ -12,8 +12,8 @@ abbrev pub place_count : Contents → ℕ
 place_count no_contents = 0
 place_count (content_then c cs) = suc (place_count cs)
 
--- a content feeds the number of its kind, and then its parts in order: a number as one of 128 bits whatever its kind,
--- a sequence how many places it has and each of them, a typed child its type without nullability
+-- A content feeds the number of its case, and then its parts in order. A number is fed as one of 128 bits whatever its
+-- PType. A sequence feeds how many places it has and each of them. A typed child feeds its type too, without nullability.
 abbrev mutual
   pub content_feed : Content → HashWrites
   content_feed null = fed.u8 0

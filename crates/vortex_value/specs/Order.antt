@@ -15,8 +15,8 @@ truth_cmp true false = Greater
 truth_cmp _ _ = Equal
 
 abbrev mutual
-  -- a null is below all others, numbers go by size, strings and bytes byte by byte, tagged children with one id by
-  -- their contents; tagged children with different ids, typed children and contents of two cases have no order
+  -- A null is below all others, numbers go by size, strings and bytes byte by byte, tagged children with one id by
+  -- their contents. Tagged children with different ids, typed children and contents of two cases have no order.
   pub order : Content → Content → Option Ordering
   order null null = Some Equal
   order null d = Some Less

@@ -13,8 +13,8 @@ abbrev pub child_size : Option TypeTree → (TypeTree → ℕ) → ℕ
 child_size None size = 0
 child_size (Some t) size = size t
 
--- the size at a type that is no extension: that of its parts, of a truth value and an integer also for a null; of
--- another null, and of what is no value of the type, 0
+-- The size at a type that is no extension: that of its parts. A truth value and an integer have their size also for a
+-- null. Another null, and what is no value of the type, have the size 0.
 abbrev mutual
   pub size_at : TypeTree → RawTree → ℕ
   size_at (bool_type n) v = 1

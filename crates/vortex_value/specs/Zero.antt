@@ -116,7 +116,7 @@ IsTheOneOf t None None = Unit {0}
 IsTheOneOf t (Some c) (Some y) = IsTheOne t c y
 IsTheOneOf t _ _ = ⊥
 
--- A zero is the content of a valid value of the type, no null, and zero; if the type has no variant at any depth,
+-- A zero is the content of a valid value of the type, no null, and zero. If the type has no variant at any depth,
 -- no other valid value is zero.
 pub record ZeroIsZero : Type 0 where
   pub valid : (t : TypeTree) (c : Content) → zero_of t ≡ Some c → Has t c
@@ -124,7 +124,7 @@ pub record ZeroIsZero : Type 0 where
   pub is_zero : (t : TypeTree) (c : Content) → zero_of t ≡ Some c → is_zero_of t c ≡ Some true
   pub only : (t : TypeTree) (v : RawTree) → HasNoVariant t → Valid t v → is_zero_of t (content v) ≡ Some true → zero_of t ≡ Some (content v)
 
--- A type whose unions have variants at every depth has a default; a default is the content of a valid value of the
+-- A type whose unions have variants at every depth has a default. A default is the content of a valid value of the
 -- type, and null exactly if the type takes a null.
 pub record DefaultExists : Type 0 where
   pub exists : (t : TypeTree) → UnionsHaveVariants t → IsSome (default_of t)

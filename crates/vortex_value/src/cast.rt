@@ -13,8 +13,9 @@
 //! | `unions` | the child, between the variants with its id, if both unions have the same ids in order | `cast_union` |
 //! | `from_extension` | a value, to the storage type up to nullability | `unwrap_extension` |
 //!
-//! Parts of lists, maps and structs are appended to their list by functions of their own: struct
-//! fields by `push_part`, the others by `push_to_storage`, which is told once what the target stores.
+//! Parts of lists, maps and structs are appended to their list by functions of their own. Struct
+//! fields go by `push_part`, the others by `push_to_storage`, which is told once what the target
+//! stores.
 #![tactic(auto, using(crate::proofs::CastCode::shown))]
 
 ghost use Rattle.vortex_value.specs.Words.{AnswersCast, IsMadeOf, IsValid, IsValidRef, as_nullable, ref_raw, ref_type, scalar_raw, scalar_type, type_of};

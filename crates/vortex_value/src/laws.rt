@@ -111,8 +111,8 @@ pub fn zero_is_zero()
     ensures { ZeroIsZero }
 {}
 
-/// The zero of each type, case by case: `Null` and a union without variants have no zero, and the
-/// zero of a type with parts is made of the zeros of its parts.
+/// The zero of each type, case by case. `Null` and a union without variants have no zero. The zero of
+/// a type with parts is made of the zeros of its parts.
 pub fn zero_by_cases()
     ensures { ZeroByCases }
 {}
@@ -129,15 +129,15 @@ pub fn default_exists()
     ensures { DefaultExists }
 {}
 
-/// The size of a list, a map or a struct is the sum of the sizes of its parts, that of a union one
-/// more than its child's, and a variant and an extension have the size of what they hold.
+/// The size of a list, map or struct is the sum of its parts' sizes. A union's is one more than its
+/// child's. A variant and an extension have the size of what they hold.
 pub fn size_is_sum()
     ensures { SizeIsSum }
 {}
 
 /// What the contract of a cast says of a value, owned or lent, and of the scalar that it gave, is a
-/// cast: a chain of one, and further casts go on from there. Back from a chain, its first cast is
-/// possible. A call then answers the value that the cast gives, unless there is no memory.
+/// cast. It is a chain of one, and further casts go on from there. Back from a chain, its first cast
+/// is possible. A call then answers the value that the cast gives, unless there is no memory.
 pub fn calls_are_chains()
     ensures { CallsAreChains }
 {}
@@ -153,15 +153,15 @@ pub fn there_and_back()
     ensures { ThereAndBack }
 {}
 
-/// Two values that were cast by chains to one type, from types that are the same up to nullability,
-/// are equal exactly if they were equal before, and are ordered as before.
+/// Take two values whose types are the same up to nullability, and cast both by chains to one type.
+/// The results are equal exactly if the values were, and are ordered alike.
 pub fn equality_and_order_are_kept()
     ensures values { ChainsKeepValues }
     ensures scalars { CastsKeepScalars ⟦<Scalar as PartialEq>⟧.eq scalar_order }
 {}
 
 /// Between two types without extensions one cast gives what a chain of casts gives, if the two
-/// types have no map or the content has no null: no way round leads further. So the direct cast
+/// types have no map or the content has no null. No way round leads further. So the direct cast
 /// answers what the chain gave, unless there is no memory.
 pub fn no_way_round()
     ensures values { NoWayRound }

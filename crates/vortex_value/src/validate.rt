@@ -140,7 +140,8 @@ fn check(value: Option<&ScalarValue>, dtype: &DType, trace: &mut Trace) -> bool
     }
 }
 
-/// Whether a raw value that is present is valid for the type.
+/// Whether a raw value that is present is valid for the type. A leaf of just this type needs no
+/// call of the recursion.
 #[cycle(validity)]
 #[inline(always)]
 fn check_present(value: &ScalarValue, dtype: &DType, trace: &mut Trace) -> bool
@@ -150,7 +151,8 @@ fn check_present(value: &ScalarValue, dtype: &DType, trace: &mut Trace) -> bool
     is_leaf_of(value, dtype) || check_value(value, dtype, trace)
 }
 
-/// Whether a raw value is valid for the type: for an extension its storage decides.
+/// Whether a raw value is valid for the type, by the recursion. For an extension its storage
+/// decides.
 #[cycle(validity)]
 fn check_value(value: &ScalarValue, dtype: &DType, trace: &mut Trace) -> bool
     ensures { Checks trace.old.alloc result trace.new

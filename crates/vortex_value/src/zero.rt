@@ -254,7 +254,7 @@ fn is_zero(value: Option<&ScalarValue>, dtype: &DType) -> Option<bool>
     }
 }
 
-/// Whether each element is zero. An element for which `is_zero` says `None` is not.
+/// Whether each element is zero. One is not, if `is_zero` says `None`.
 #[cycle(is_zero)]
 fn are_elements_zero(items: &[Option<ScalarValue>], element: &DType) -> bool
     ensures { result ≡ each_zero (type_of element.now) (contents (value_trees items.now)) }
@@ -267,8 +267,8 @@ fn are_elements_zero(items: &[Option<ScalarValue>], element: &DType) -> bool
     true
 }
 
-/// Whether there are as many values as fields and each is zero. One for which `is_zero` says `None`
-/// is not.
+/// Whether there are as many values as fields and each is zero. One is not, if `is_zero` says
+/// `None`.
 #[cycle(is_zero)]
 fn are_fields_zero(items: &[Option<ScalarValue>], fields: &[DType]) -> bool
     ensures { result ≡ fields_zero (dtype_trees fields.now) (contents (value_trees items.now)) }
@@ -328,9 +328,8 @@ impl Scalar {
     }
 
     /// The default of the type: the null if the type takes one, else made as its zero, with
-    /// defaults in the parts. `None` exactly for a type that takes no null and is a union without
-    /// variants, or has a field, an element of its fixed size, a first variant or a storage without
-    /// a default.
+    /// defaults in the parts. `None` exactly if the type takes no null and has no default: a union
+    /// without variants, or a type with a part without a default.
     ///
     /// `OutOfMemory` is its only refusal. It comes only if there is a default, and never for a type
     /// whose values take no memory. Ports `Scalar::default_value`, which panics if there is no

@@ -69,7 +69,7 @@ impl<'a> ExtScalar<'a> {
     }
 }
 
-/// Whether a raw value is a null, or of the kind that values of this type have. The type is no
+/// Whether a raw value is a null, or of the variant that values of this type have. The type is no
 /// extension.
 fn is_of_kind(dtype: &DType, value: Option<&ScalarValue>) -> bool
     ensures { result ≡ is_of_kind (type_of dtype.now) (lent_raw value.entry) }
@@ -80,7 +80,7 @@ fn is_of_kind(dtype: &DType, value: Option<&ScalarValue>) -> bool
     }
 }
 
-/// Whether a raw value is of the kind that values of this type have. The type is no extension.
+/// Whether a raw value is of the variant that values of this type have. The type is no extension.
 #[tactic(auto, using(crate::proofs::KindSteps::shown))]
 fn is_value_of_kind(dtype: &DType, value: &ScalarValue) -> bool
     ensures { result ≡ is_of_kind (type_of dtype.now) (value_tree value.now) }
@@ -111,9 +111,9 @@ fn is_nested(dtype: &DType) -> bool
 /// valid if the scalar is.
 ///
 /// `WrongKind` exactly if the type is no extension, or the raw value is neither a null nor of the
-/// kind that values of the storage have, below all extensions. Integers of all `PType`s are of one
-/// kind, and the Null type has no value but the null. Upstream has no such conversion: it views
-/// only valid scalars.
+/// variant that values of the storage have, below all extensions. Integers of all `PType`s are of
+/// one variant, and the Null type has no value but the null. Upstream has no such conversion: it
+/// views only valid scalars.
 impl<'a> TryFrom<&'a Scalar> for ExtScalar<'a> {
     type Error = VortexError;
 

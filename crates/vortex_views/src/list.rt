@@ -27,7 +27,7 @@ impl<'a> ListScalar<'a> {
     /// the raw value is not valid for the type, with the first breach in reading order and the path
     /// to it. `OutOfMemory` comes in its place if the path has steps and there is no memory for
     /// them. A valid value takes no memory. Ports `ListScalar::try_new`, which panics at another
-    /// kind of value and tests no part.
+    /// variant of raw value and tests no part.
     pub fn try_new(
         alloc: Global,
         dtype: &'a DType,

@@ -21,7 +21,7 @@ impl<'a> VariantScalar<'a> {
 
     /// A borrowed scalar, viewed as a variant. The caller knows that it is one.
     ///
-    /// Ports `VariantScalar::try_new`, which tests the type and panics at another kind of value.
+    /// Ports `VariantScalar::try_new`, which tests the type and panics at another raw value.
     pub(crate) fn of(scalar: ScalarRef<'a>) -> VariantScalar<'a>
         requires { is_of_variant (ref_type scalar) (ref_raw scalar) ≡ true }
         ensures { IsRefOf (ref_type scalar.entry) (ref_raw scalar.entry) (variant_ref result) }

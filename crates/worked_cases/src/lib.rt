@@ -1,6 +1,6 @@
 // SPDX-License-Identifier: Apache-2.0
 // SPDX-FileCopyrightText: Copyright the Vortex contributors; ported to Rattle and changed
-//! The program `scalar_cases` without its `main`: it reads worked cases, one a line, answers each by
+//! The program `scalar_cases` without its `main`. It reads worked cases, one a line, answers each by
 //! the call that it names, and compares the answer with the one that stands in the line.
 #![tactic(auto)]
 

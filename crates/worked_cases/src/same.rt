@@ -1,9 +1,9 @@
 //! Exact sameness, to see whether a call changed what it borrowed. Unlike `==` of raw values and
-//! scalars it tells integer kinds and nullability apart.
+//! scalars it tells `PType`s and nullability apart.
 
 use vortex_value::{Scalar, ScalarRef, ScalarValue, UnionValue};
 
-/// Whether two raw values are exactly the same, integer kinds and variants' types included.
+/// Whether two raw values are exactly the same, `PType`s and variants' types included.
 #[cycle(same)]
 fn same_value(a: &ScalarValue, b: &ScalarValue) -> bool {
     match (a, b) {

@@ -18,7 +18,7 @@ pub struct Zoning {
     pub kind: LineKind,
     /// How many lines a zone has.
     pub size: usize,
-    /// The length in bytes to which bounds are cut.
+    /// How many bytes a bound has at most.
     pub length: usize,
 }
 

@@ -16,8 +16,8 @@ use Rattle.vortex_value.specs.Values.RawTree.{RawTree, absent, raw_bool, raw_int
 use Rattle.vortex_value.specs.Validity.{EachValid, HasType, Valid, type_with}
 use Rattle.vortex_value.specs.Examples.ValueExamples.{i8, i16, i32, i64, u8, u32, u64, boolean, utf8, binary, variant, or_null, list_of, fixed_list_of, map_of, struct_of, union_of, extension_a, extension_b, a_and_b, int_or_string, unsorted_map, sorted_map, tuple, entry, int, parts, number, nested_list, nested_tuple, nested_parts, tell_apart, no_null, is_integer_of, is_sorted_map, i32_valid}
 
--- What the proofs use. A content that a type has is known by cases: a null asks for a nullable type, a number for one
--- in the type's range, a sequence for parts that the element type has, and for as many as the size says.
+-- What the proofs use. A content that a type has is known by cases. A null asks for a nullable type, and a number for one
+-- in the type's range. A sequence asks for parts that the element type has, and for as many as the size says.
 
 abbrev is_null : Content → Bool
 is_null null = true

@@ -8,8 +8,8 @@ use Rattle.vortex_value.specs.Values.Content.{null, text, tagged, typed}
 use Rattle.vortex_value.specs.Values.RawTree.{absent}
 use Rattle.vortex_value.specs.Examples.ValueExamples.{i32, boolean, u32, or_null, a_and_b, unsorted_map, sorted_map, tuple, int, parts, number, i32_valid}
 
--- a null of an unsorted map becomes one of a sorted map by way of truth values, with a number beside it: the direct cast
--- is refused, since the maps would come to be sorted
+-- A null of an unsorted map becomes one of a sorted map by way of truth values, with a number beside it. The direct cast
+-- is refused, since the maps would come to be sorted.
 pub null_of_a_map_by_way_of_booleans : Runs (a_and_b unsorted_map i32) (tuple (absent ∷ int 7 ∷ [])) (a_and_b (or_null boolean) i32) (a_and_b sorted_map i32 ∷ []) (tuple (absent ∷ int 7 ∷ []))
 null_of_a_map_by_way_of_booleans = record {
   starts = (refl, (i32_valid 7 tt, tt));

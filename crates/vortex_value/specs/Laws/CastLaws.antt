@@ -32,7 +32,7 @@ pub record AreAlike (v w x y : RawTree) : Type 0 where
   pub ordered : order (content x) (content y) ≡ order (content v) (content w)
 
 -- Chains to types that are the same up to nullability, from types that are so too, keep equality and order, whatever types
--- they go through; a cast is a chain of one.
+-- they go through. A cast is a chain of one.
 abbrev pub ChainsKeepValues : Type 0
 ChainsKeepValues = (s u : TypeTree) (v w : RawTree) (t r : TypeTree) (ts rs : List TypeTree) (x y : RawTree)
     → Same s u → Same (last_of t ts) (last_of r rs) → Runs s v t ts x → Runs u w r rs y → AreAlike v w x y
@@ -76,9 +76,9 @@ abbrev pub NullableCastsBack : Type 0
 NullableCastsBack = (x y : Scalar) (r : Result Scalar VortexError) → IsValid x → IsMadeOf (as_nullable (scalar_type x)) (scalar_raw x) y
     → AnswersCast (scalar_type y) (scalar_type x) (scalar_raw y) r → GivesCast (scalar_type x) (scalar_raw x) r
 
--- Casts that calls make, owned or of what is lent, and chains: what a cast of the value v of type s answered is a cast, and
--- a cast and a chain that goes on from it are a chain. Back from a chain, its first cast is possible, what is cast so goes
--- on along the rest, and what a call answers is the value that the cast gives.
+-- Casts that calls make, owned or of what is lent, and chains. What a cast of the value v of type s answered is a cast. A
+-- cast and a chain that goes on from it are a chain. Back from a chain, its first cast is possible, and what is cast so
+-- goes on along the rest. What a call answers is the value that the cast gives.
 pub record CallsAreChains : Type 0 where
   pub cast : (s t : TypeTree) (v : RawTree) (y : Scalar) → CanCast s t (content v) → IsTheOne t (content v) y → IsCast s t v (scalar_raw y)
   pub alone : (s t : TypeTree) (v w : RawTree) → Valid s v → IsCast s t v w → Runs s v t [] w

@@ -199,7 +199,7 @@ impl TryFrom<&ScalarValue> for usize {
 }
 
 /// The number. `WrongKind` if the type is no integer type, as an extension over one; then `IsNull`
-/// of a null; then `WrongKind` if the raw value is no integer, and `OutOfRange` if it is not
+/// of a null. Then `WrongKind` if the raw value is no integer, and `OutOfRange` if it is not
 /// between 0 and `u64::MAX`.
 impl TryFrom<ScalarRef<'_>> for usize {
     type Error = VortexError;
@@ -215,7 +215,7 @@ impl TryFrom<ScalarRef<'_>> for usize {
 }
 
 /// The number. `WrongKind` if the type is no integer type, as an extension over one; then `IsNull`
-/// of a null; then `WrongKind` if the raw value is no integer, and `OutOfRange` if it is not
+/// of a null. Then `WrongKind` if the raw value is no integer, and `OutOfRange` if it is not
 /// between 0 and `u64::MAX`.
 impl TryFrom<&Scalar> for usize {
     type Error = VortexError;

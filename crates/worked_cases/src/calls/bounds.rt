@@ -100,11 +100,11 @@ fn bound_of<T: ScalarTruncation>(
     side: Side,
     value: Option<T>,
     length: usize,
-    n: Nullability,
+    nullability: Nullability,
 ) -> CallResult {
     match side {
-        Side::Lower => Ok(or_none(lower_bound(alloc, value, length, n)?.map(Answer::Bound))),
-        Side::Upper => Ok(or_none(upper_bound(alloc, value, length, n)?.map(Answer::Bound))),
+        Side::Lower => Ok(or_none(lower_bound(alloc, value, length, nullability)?.map(Answer::Bound))),
+        Side::Upper => Ok(or_none(upper_bound(alloc, value, length, nullability)?.map(Answer::Bound))),
         Side::OwnLower | Side::OwnUpper => match value {
             Some(value) => own_bound(alloc, side, value, length, n),
             None => Ok(Answer::Unmet),
@@ -118,16 +118,16 @@ fn own_bound<T: ScalarTruncation>(
     side: Side,
     value: T,
     length: usize,
-    n: Nullability,
+    nullability: Nullability,
 ) -> CallResult {
     if value.len() < length {
         drop(value);
         return Ok(Answer::Unmet);
     }
     match side {
-        Side::OwnLower => Ok(scalar_of(value.lower_bound(alloc, length)?, n)),
+        Side::OwnLower => Ok(scalar_of(value.lower_bound(alloc, length)?, nullability)),
         _ => match value.upper_bound(alloc, length)? {
-            Some(bound) => Ok(scalar_of(bound, n)),
+            Some(bound) => Ok(scalar_of(bound, nullability)),
             None => Ok(Answer::None),
         },
     }

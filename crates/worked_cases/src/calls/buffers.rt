@@ -86,8 +86,8 @@ fn slice_bytes(_alloc: Global, value: &ByteBuffer) -> CallResult {
     Ok(without_first(value)?.map_or(Answer::Unmet, bytes))
 }
 
-/// Whether the slice of the first buffer without its first byte equals the second buffer, which
-/// holds its bytes as `from_slice` makes them where they are at most 22.
+/// Whether the slice of the first buffer without its first byte equals the second buffer. That holds
+/// its bytes as `from_slice` makes them, if they are at most 22.
 fn equal_slice(_alloc: Global, (whole, part): &(ByteBuffer, ByteBuffer)) -> CallResult {
     Ok(match without_first(whole)? {
         Some(slice) => Answer::Truth(slice == *part),
