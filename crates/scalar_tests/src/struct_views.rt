@@ -55,7 +55,11 @@ fn extension_scalar(rt: &(impl AllocGlobal + Abort), number: i32) -> Scalar {
 
 #[test]
 fn views_of_extensions_hash(rt: HostRuntime) {
-    let all = [extension_scalar(&rt, 7), extension_scalar(&rt, 7), extension_scalar(&rt, 8)];
+    let all = [
+        extension_scalar(&rt, 7),
+        extension_scalar(&rt, 7),
+        extension_scalar(&rt, 8),
+    ];
     let view = extension_view(&rt, &all[0]);
     hashes(
         &rt,

@@ -103,8 +103,12 @@ fn bound_of<T: ScalarTruncation>(
     nullability: Nullability,
 ) -> CallResult {
     match side {
-        Side::Lower => Ok(or_none(lower_bound(alloc, value, length, nullability)?.map(Answer::Bound))),
-        Side::Upper => Ok(or_none(upper_bound(alloc, value, length, nullability)?.map(Answer::Bound))),
+        Side::Lower => Ok(or_none(lower_bound(alloc, value, length, nullability)?.map(
+            Answer::Bound,
+        ))),
+        Side::Upper => Ok(or_none(upper_bound(alloc, value, length, nullability)?.map(
+            Answer::Bound,
+        ))),
         Side::OwnLower | Side::OwnUpper => match value {
             Some(value) => own_bound(alloc, side, value, length, n),
             None => Ok(Answer::Unmet),
