@@ -1,9 +1,10 @@
 -- Types and raw values without parts, and what cannot be viewed.
-use Rattle.std.specs.Prelude.{◌≡◌, ℕ, Bool, true, false, not, List, Option, Some, None, Result, MatchResult}
+use Rattle.std.specs.Prelude.{◌≡◌, ◌↔◌, ℕ, Bool, true, false, not, List, Option, Some, None, Result, IfErr, IfOk, IsOk, IsTrue, MatchResult}
 use Rattle.vortex_dtype.specs.TypeTree.{TypeTree, bool_type}
 use Rattle.vortex_dtype.specs.declared.error.VortexError.{VortexError}
 use Rattle.vortex_dtype.specs.declared.error.VortexError.TheVariants.{WrongKind}
 use Rattle.vortex_value.specs.Breaches.{Refuses, breaches}
+use Rattle.vortex_value.specs.Validity.{Valid}
 use Rattle.vortex_value.specs.Values.RawTree.{RawTree, absent, raw_bool, raw_text, raw_bytes}
 
 -- whether the type is a type of booleans; an extension over one is not
@@ -49,6 +50,15 @@ bytes_in _ = None
 abbrev pub RefusesView : Bool → TypeTree → RawTree → VortexError → Type 0
 RefusesView false t v e = e ≡ WrongKind
 RefusesView true t v e = Refuses e (breaches t v)
+
+-- r answers a call that views the value v of type t: the contract of `try_new` of every view but that of integers. It
+-- succeeds exactly if the type is of the kind that the view has, and the value valid for it. Then it gives a valid view of
+-- that type and value.
+pub record AnswersView {X : Type 0} (IsViewOf : TypeTree → RawTree → X → Type 0) (IsValidView : X → Type 0) (has_kind : TypeTree → Bool) (t : TypeTree) (v : RawTree) (r : Result X VortexError) : Type 0 where
+  pub ok : IsOk r ↔ (IsTrue (has_kind t) × Valid t v)
+  pub made : IfOk r (IsViewOf t v)
+  pub valid : IfOk r IsValidView
+  pub refused : IfErr r (RefusesView (has_kind t) t v)
 
 -- the view x has this type and this raw value
 pub record Lends {X : Type 0} (type_at : X → TypeTree) (raw_at : X → RawTree) (t : TypeTree) (v : RawTree) (x : X) : Type 0 where

@@ -1,16 +1,23 @@
 -- What contracts say of views that hold a borrowed scalar.
-use Rattle.std.specs.Prelude.{◌&&◌, ℕ, Bool, List, Option}
+use Rattle.std.specs.Prelude.{◌&&◌, ℕ, Bool, List, Option, Result}
 use Rattle.std.specs.Cmp.Lexicographic.{slice_cmp}
 use Rattle.std.specs.Hash.{HashWrites}
 use Rattle.std.specs.Option.{option_cmp}
 use Rattle.std.specs.Ordering.{nat_cmp, on}
 use Rattle.std.specs.declared.cmp.Ordering.{Ordering}
+use Rattle.vortex_dtype.specs.TypeTree.{TypeTree}
+use Rattle.vortex_dtype.specs.declared.error.VortexError.{VortexError}
 use Rattle.vortex_value.specs.Equality.{equal, same_type}
 use Rattle.vortex_value.specs.Hashing.{typed_feed}
 use Rattle.vortex_value.specs.Texts.{text_of}
-use Rattle.vortex_value.specs.Values.Refs.{ref_content, ref_raw, ref_type}
+use Rattle.vortex_value.specs.Values.RawTree.{RawTree}
+use Rattle.vortex_value.specs.Values.Refs.{IsRefOf, IsValidRef, ref_content, ref_raw, ref_type}
 use Rattle.vortex_value.specs.declared.refs.ScalarRef.{ScalarRef}
-use Rattle.vortex_leaves.specs.Leaves.{bytes_in}
+use Rattle.vortex_leaves.specs.Leaves.{AnswersView, bytes_in}
+
+-- r answers a call that views a value of a type, by a view that holds them as a borrowed scalar
+abbrev pub AnswersRefView : {X : Type 0} → (X → ScalarRef) → (TypeTree → Bool) → TypeTree → RawTree → Result X VortexError → Type 0
+AnswersRefView held = AnswersView (λ t v x. IsRefOf t v (held x)) (λ x. IsValidRef (held x))
 
 -- the types are the same up to nullability, and the contents equal
 abbrev pub ref_equal : ScalarRef → ScalarRef → Bool

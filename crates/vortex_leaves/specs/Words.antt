@@ -18,12 +18,12 @@ pub use Rattle.vortex_value.specs.Validity.{Valid}
 pub use Rattle.vortex_value.specs.Values.Content.{content}
 pub use Rattle.vortex_value.specs.Values.RawOf.{lent_raw}
 pub use Rattle.vortex_value.specs.Values.RawTree.{absent, raw_bool, raw_bytes, raw_integer, raw_text}
-pub use Rattle.vortex_value.specs.Values.Refs.{IsRefOf, IsValidRef, ref_order, ref_raw, ref_type}
+pub use Rattle.vortex_value.specs.Values.Refs.{IsRefOf, ref_order, ref_raw, ref_type}
 pub use Rattle.vortex_value.specs.Values.Scalars.{IsMadeOf, IsValid, scalar_raw, scalar_type}
 pub use Rattle.vortex_value.specs.Zero.{is_zero_of}
 pub use Rattle.vortex_leaves.specs.Arithmetic.{numeric_type, outcome, within}
 pub use Rattle.vortex_leaves.specs.Laws.{OrderAgrees}
-pub use Rattle.vortex_leaves.specs.Leaves.{GivesView, RefusesView, is_bool_type, may_be_bytes, may_be_text, may_be_truth, opposite}
+pub use Rattle.vortex_leaves.specs.Leaves.{AnswersView, GivesView, is_bool_type, may_be_bytes, may_be_text, may_be_truth, opposite}
 pub use Rattle.vortex_leaves.specs.Numbers.{HoldsNumber, RefusesNumber, in_ptype_of}
-pub use Rattle.vortex_leaves.specs.RefViews.{bytes_cmp, ref_bytes, ref_equal, ref_feed, ref_text}
+pub use Rattle.vortex_leaves.specs.RefViews.{AnswersRefView, bytes_cmp, ref_bytes, ref_equal, ref_feed, ref_text}
 pub use Rattle.vortex_leaves.specs.ViewLaws.{ref_alike, ref_equiv, view_alike, view_equiv}

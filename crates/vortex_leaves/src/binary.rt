@@ -1,7 +1,7 @@
 //! Views of bytes.
 
-ghost use Rattle.std.specs.Prelude.{◌≡◌, ◌≢◌, ◌↔◌, ◌==◌, Err, IfErr, IfOk, IsOk, IsTrue, MatchOption, Some, length, option_map};
-ghost use Rattle.vortex_leaves.specs.Words.{GivesView, IsRefOf, IsValidRef, RefusesView, Valid, absent, is_binary_type, lent_raw, may_be_bytes, raw_bytes, ref_bytes, ref_raw, ref_type, scalar_raw, scalar_type, type_of};
+ghost use Rattle.std.specs.Prelude.{◌≡◌, ◌≢◌, ◌==◌, Err, IsTrue, MatchOption, Some, length, option_map};
+ghost use Rattle.vortex_leaves.specs.Words.{AnswersRefView, GivesView, IsRefOf, absent, is_binary_type, lent_raw, may_be_bytes, raw_bytes, ref_bytes, ref_raw, ref_type, scalar_raw, scalar_type, type_of};
 
 use std::alloc::Global;
 use vortex_dtype::{ByteBuffer, DType, VortexError};
@@ -30,13 +30,8 @@ impl<'a> BinaryScalar<'a> {
         dtype: &'a DType,
         value: Option<&'a ScalarValue>,
     ) -> Result<BinaryScalar<'a>, VortexError>
-        ensures ok { IsOk result ↔ (IsTrue (is_binary_type (type_of dtype.now))
-            × Valid (type_of dtype.now) (lent_raw value.entry)) }
-        ensures made { IfOk result (λ view.
-            IsRefOf (type_of dtype.now) (lent_raw value.entry) (bytes_ref view)) }
-        ensures valid { IfOk result (λ view. IsValidRef (bytes_ref view)) }
-        ensures refused { IfErr result (RefusesView (is_binary_type (type_of dtype.now))
-            (type_of dtype.now) (lent_raw value.entry)) }
+        ensures answers { AnswersRefView bytes_ref is_binary_type
+            (type_of dtype.now) (lent_raw value.entry) result }
         ensures memory { result ≢ Err VortexError.OutOfMemory }
     {
         if !dtype.is_binary() {

@@ -1,7 +1,7 @@
 //! Views of booleans.
 
-ghost use Rattle.std.specs.Prelude.{◌≡◌, ◌≢◌, ◌↔◌, Err, IfErr, IfOk, IsOk, IsTrue, MatchOption};
-ghost use Rattle.vortex_leaves.specs.Words.{GivesView, IsMadeOf, IsValid, RefusesView, Valid, absent, is_bool_type, lent_raw, may_be_truth, opposite, raw_bool, scalar_raw, scalar_type, type_of};
+ghost use Rattle.std.specs.Prelude.{◌≡◌, ◌≢◌, Err, IsTrue, MatchOption};
+ghost use Rattle.vortex_leaves.specs.Words.{AnswersView, GivesView, IsMadeOf, IsValid, absent, is_bool_type, lent_raw, may_be_truth, opposite, raw_bool, scalar_raw, scalar_type, type_of};
 
 use std::alloc::Global;
 use vortex_dtype::{DType, VortexError};
@@ -30,12 +30,8 @@ impl<'a> BoolScalar<'a> {
         dtype: &'a DType,
         value: Option<&ScalarValue>,
     ) -> Result<BoolScalar<'a>, VortexError>
-        ensures ok { IsOk result ↔ (IsTrue (is_bool_type (type_of dtype.now))
-            × Valid (type_of dtype.now) (lent_raw value.entry)) }
-        ensures made { IfOk result (IsBoolViewOf (type_of dtype.now) (lent_raw value.entry)) }
-        ensures valid { IfOk result IsValidBoolView }
-        ensures refused { IfErr result (RefusesView (is_bool_type (type_of dtype.now))
-            (type_of dtype.now) (lent_raw value.entry)) }
+        ensures answers { AnswersView IsBoolViewOf IsValidBoolView is_bool_type
+            (type_of dtype.now) (lent_raw value.entry) result }
         ensures memory { result ≢ Err VortexError.OutOfMemory }
     {
         let DType::Bool(_) = dtype else {

@@ -17,8 +17,8 @@ pub use Rattle.vortex_value.specs.Values.RawTree.{RawTree, absent, is_absent}
 pub use Rattle.vortex_value.specs.Values.Refs.{IsRefOf, IsValidRef, ref_content, ref_order, ref_raw, ref_type}
 pub use Rattle.vortex_value.specs.Values.Scalars.{IsMadeOf, IsValid, scalar_raw, scalar_type}
 pub use Rattle.vortex_value.specs.Zero.{is_zero_of}
-pub use Rattle.vortex_leaves.specs.Leaves.{GivesView, RefusesView, is_bool_type}
-pub use Rattle.vortex_leaves.specs.RefViews.{ref_equal, ref_feed, ref_text}
+pub use Rattle.vortex_leaves.specs.Leaves.{GivesView, is_bool_type}
+pub use Rattle.vortex_leaves.specs.RefViews.{AnswersRefView, ref_equal, ref_feed, ref_text}
 pub use Rattle.vortex_leaves.specs.ViewLaws.{ref_alike, ref_equiv}
 pub use Rattle.vortex_views.specs.Copies.{CopiesEntry, CopiesEntryOf, CopiesPart, CopiesPartOf, GivesCopy}
 pub use Rattle.vortex_views.specs.ExtensionParts.{is_nested, is_of_kind}

@@ -1,7 +1,7 @@
 //! Views of lists, of fixed size or not.
 
-ghost use Rattle.std.specs.Prelude.{◌≡◌, ◌↔◌, ◌==◌, ◌<◌, Some, true, length, map, option_map, slice_get, is_some, All, IfErr, IfOk, IfSome, IsOk, IsTrue, MatchResult};
-ghost use Rattle.vortex_views.specs.Words.{CopiesPartOf, GivesView, IsRefOf, IsValid, IsValidRef, OutOfMemory, RefusesView, Valid, element_in, elements_of, is_absent, is_null_or_tuple, lent_raw, parts_of, raw_of, ref_order, ref_part, ref_type, scalar_part, scalar_raw, scalar_type, type_of, unless_null};
+ghost use Rattle.std.specs.Prelude.{◌≡◌, ◌==◌, ◌<◌, Some, true, length, map, option_map, slice_get, is_some, All, IfErr, IfOk, IfSome, IsTrue, MatchResult};
+ghost use Rattle.vortex_views.specs.Words.{AnswersRefView, CopiesPartOf, GivesView, IsRefOf, IsValid, IsValidRef, OutOfMemory, element_in, elements_of, is_absent, is_null_or_tuple, lent_raw, parts_of, raw_of, ref_order, ref_part, ref_type, scalar_part, scalar_raw, scalar_type, type_of, unless_null};
 
 use crate::parts::{copy_part_if_any, is_null_or_tuple, items_of, part_at};
 use std::alloc::Global;
@@ -33,13 +33,8 @@ impl<'a> ListScalar<'a> {
         dtype: &'a DType,
         value: Option<&'a ScalarValue>,
     ) -> Result<ListScalar<'a>, VortexError>
-        ensures ok { IsOk result ↔ (IsTrue (is_some (element_in (type_of dtype.now)))
-            × Valid (type_of dtype.now) (lent_raw value.entry)) }
-        ensures made { IfOk result (λ view.
-            IsRefOf (type_of dtype.now) (lent_raw value.entry) (list_ref view)) }
-        ensures valid { IfOk result (λ view. IsValidRef (list_ref view)) }
-        ensures refused { IfErr result (RefusesView (is_some (element_in (type_of dtype.now)))
-            (type_of dtype.now) (lent_raw value.entry)) }
+        ensures { AnswersRefView list_ref (λ t. is_some (element_in t))
+            (type_of dtype.now) (lent_raw value.entry) result }
     {
         if dtype.as_any_size_list_element_opt().is_none() {
             return Err(VortexError::WrongKind);

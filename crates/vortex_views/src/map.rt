@@ -1,7 +1,7 @@
 //! Views of maps.
 
-ghost use Rattle.std.specs.Prelude.{◌≡◌, ◌↔◌, ◌==◌, Some, true, length, map, option_map, slice_get, is_some, All, IfErr, IfOk, IfSome, IsOk, IsTrue};
-ghost use Rattle.vortex_views.specs.Words.{AreValidParts, CopiesEntryOf, GivesView, IsRefOf, IsValidPart, IsValidRef, RefusesView, Valid, entries_of, is_absent, is_null_or_tuple, lent_raw, map_in, map_of, parts_of, raw_of, ref_entry, ref_type, scalar_raw, scalar_type, type_of};
+ghost use Rattle.std.specs.Prelude.{◌≡◌, ◌==◌, Some, true, length, map, option_map, slice_get, is_some, All, IfSome, IsTrue};
+ghost use Rattle.vortex_views.specs.Words.{AnswersRefView, AreValidParts, CopiesEntryOf, GivesView, IsRefOf, IsValidPart, IsValidRef, entries_of, is_absent, is_null_or_tuple, lent_raw, map_in, map_of, parts_of, raw_of, ref_entry, ref_type, scalar_raw, scalar_type, type_of};
 
 use crate::iterators::{Entries, Keys, Values};
 use crate::parts::{copy_entry_if_any, entry_at, is_null_or_tuple, items_of};
@@ -34,13 +34,8 @@ impl<'a> MapScalar<'a> {
         dtype: &'a DType,
         value: Option<&'a ScalarValue>,
     ) -> Result<MapScalar<'a>, VortexError>
-        ensures ok { IsOk result ↔ (IsTrue (is_some (map_in (type_of dtype.now)))
-            × Valid (type_of dtype.now) (lent_raw value.entry)) }
-        ensures made { IfOk result (λ view.
-            IsRefOf (type_of dtype.now) (lent_raw value.entry) (map_ref view)) }
-        ensures valid { IfOk result (λ view. IsValidRef (map_ref view)) }
-        ensures refused { IfErr result (RefusesView (is_some (map_in (type_of dtype.now)))
-            (type_of dtype.now) (lent_raw value.entry)) }
+        ensures { AnswersRefView map_ref (λ t. is_some (map_in t))
+            (type_of dtype.now) (lent_raw value.entry) result }
     {
         if dtype.as_map_opt().is_none() {
             return Err(VortexError::WrongKind);

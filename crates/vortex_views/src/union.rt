@@ -1,7 +1,7 @@
 //! Views of unions.
 
-ghost use Rattle.std.specs.Prelude.{◌≡◌, ◌↔◌, true, option_map, IfErr, IfNone, IfOk, IfSome, IsOk, IsTrue, MatchOption};
-ghost use Rattle.vortex_views.specs.Words.{CopiesPartOf, IsRefOf, IsValidRef, RefusesView, Valid, absent, is_absent, is_of_union, is_union_type, lent_raw, nullability_of, ref_part, ref_raw, ref_type, type_of, union_tree, union_type_of, variants_of};
+ghost use Rattle.std.specs.Prelude.{◌≡◌, true, option_map, IfNone, IfOk, IfSome, MatchOption};
+ghost use Rattle.vortex_views.specs.Words.{AnswersRefView, CopiesPartOf, IsRefOf, IsValidRef, absent, is_absent, is_of_union, is_union_type, lent_raw, nullability_of, ref_part, ref_raw, ref_type, type_of, union_tree, union_type_of, variants_of};
 
 use crate::parts::copy_part_if_any;
 use std::alloc::Global;
@@ -35,13 +35,8 @@ impl<'a> UnionScalar<'a> {
         dtype: &'a DType,
         value: Option<&'a ScalarValue>,
     ) -> Result<UnionScalar<'a>, VortexError>
-        ensures ok { IsOk result ↔ (IsTrue (is_union_type (type_of dtype.now))
-            × Valid (type_of dtype.now) (lent_raw value.entry)) }
-        ensures made { IfOk result (λ view.
-            IsRefOf (type_of dtype.now) (lent_raw value.entry) (union_ref view)) }
-        ensures valid { IfOk result (λ view. IsValidRef (union_ref view)) }
-        ensures refused { IfErr result (RefusesView (is_union_type (type_of dtype.now))
-            (type_of dtype.now) (lent_raw value.entry)) }
+        ensures { AnswersRefView union_ref is_union_type
+            (type_of dtype.now) (lent_raw value.entry) result }
     {
         if !dtype.is_union() {
             return Err(VortexError::WrongKind);
