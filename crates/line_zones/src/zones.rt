@@ -100,10 +100,7 @@ fn bounds_of(
 {
     let least = value_of(alloc, kind, least_of(lines))?;
     let greatest = value_of(alloc, kind, greatest_of(lines))?;
-    match ZoneBounds::of(alloc, least, greatest, bytes) {
-        Ok(bounds) => Ok(bounds),
-        Err(_) => Err(AllocError),
-    }
+    ZoneBounds::of(alloc, least, greatest, bytes).map_err(|_| AllocError)
 }
 
 /// The least line.

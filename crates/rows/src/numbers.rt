@@ -162,8 +162,6 @@ fn long_hex(alloc: Global, word: &[u8]) -> Result<Option<ByteBuffer>, AllocError
         Err(FromHexError::OutOfMemory) => return Err(AllocError),
         Err(_) => return Ok(None),
     };
-    match ByteBuffer::from_vec(bytes) {
-        Ok(value) => Ok(Some(value)),
-        Err(_) => Err(AllocError),
-    }
+    let value = ByteBuffer::from_vec(bytes).map_err(|_| AllocError)?;
+    Ok(Some(value))
 }

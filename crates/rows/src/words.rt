@@ -34,10 +34,8 @@ pub fn cut_word(text: &[u8]) -> Option<(&[u8], &[u8])>
     ensures some { IfSome result (λ cut. words_of text.now ≡ cut.0.now ∷ words_of cut.1.now) }
     ensures none { IfNone result (words_of text.now ≡ text.now ∷ []) }
 {
-    match word_end(text) {
-        Some(end) => Some((&text[..end], &text[end + 1..])),
-        None => None,
-    }
+    let end = word_end(text)?;
+    Some((&text[..end], &text[end + 1..]))
 }
 
 /// The place of the first space, if there is one. Words are short, so it goes byte by byte.

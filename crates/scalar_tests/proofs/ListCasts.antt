@@ -19,7 +19,7 @@ use Rattle.vortex_value.specs.Values.Scalars.{IsMadeOf, IsTheOne, IsValid, scala
 use Rattle.vortex_value.specs.Validity.{Valid}
 use Rattle.vortex_value.specs.declared.scalars.Scalar.{Scalar}
 
--- integers of the kind, and lists of them
+-- integers of the PType, and lists of them
 abbrev pub ints : PType → TypeTree
 ints k = integer_type k NonNullable
 
@@ -92,16 +92,15 @@ by_way calls s v y z t u valid can one can' one' =
     let between : Valid t (scalar_raw y) = rw e at one.valid in
     calls.further s t u [] v _ _ valid first (calls.alone t u _ _ between second)
 
--- casts of x to u by way of t, and at once
-pub ways_agree : CallsAreChains → ChainsAgree → (x y z w : Scalar) (t u : TypeTree) → IsValid x
-    → CanCast (scalar_type x) t (scalar_content x) → IsTheOne t (scalar_content x) y
+-- casts of the value v to u by way of t, and at once
+pub ways_agree : CallsAreChains → ChainsAgree → (s : TypeTree) (v : RawTree) (y z w : Scalar) (t u : TypeTree) → Valid s v
+    → CanCast s t (content v) → IsTheOne t (content v) y
     → CanCast (scalar_type y) u (scalar_content y) → IsTheOne u (scalar_content y) z
-    → CanCast (scalar_type x) u (scalar_content x) → IsTheOne u (scalar_content x) w
+    → CanCast s u (content v) → IsTheOne u (content v) w
     → scalar_raw z ≡ scalar_raw w
-ways_agree calls law x y z w t u valid can one can' one' can'' one'' =
-    let s = scalar_type x in
-    let chained = by_way calls s (scalar_raw x) y z t u valid can one can' one' in
-    law s (scalar_raw x) t u (u ∷ []) [] _ _ chained (calls.alone s u _ _ valid (calls.cast s u (scalar_raw x) w can'' one'')) refl
+ways_agree calls law s v y z w t u valid can one can' one' can'' one'' =
+    let chained = by_way calls s v y z t u valid can one can' one' in
+    law s v t u (u ∷ []) [] _ _ chained (calls.alone s u _ _ valid (calls.cast s u v w can'' one'')) refl
 
 -- y, which is x made nullable, cast back to the type of x
 pub comes_back : NullableCastsBack → (x y : Scalar) (t : TypeTree) (r : Result Scalar VortexError) → t ≡ scalar_type x → IsValid x

@@ -13,10 +13,7 @@ fn order_from_behind(first: &Scalar, second: &Scalar) -> Option<Ordering>
     ensures { result ≡ scalar_order first.now second.now }
 {
     order_is_reversed();
-    match second.partial_cmp(first) {
-        Some(order) => Some(order.reverse()),
-        None => None,
-    }
+    second.partial_cmp(first).map(|order| order.reverse())
 }
 
 /// The order of the first and the third scalar, if comparisons with the second give it.

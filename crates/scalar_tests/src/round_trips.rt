@@ -1,18 +1,18 @@
 //! What a caller derives about several casts, from the contract of `cast` and the laws alone.
 
 ghost use Rattle.std.specs.Prelude.{[], ◌∷◌, ◌≡◌, IfErr, IfOk};
-ghost use Rattle.scalar_tests.specs.Words.{GivesCast, HasNoExtension, HasNoMap, IsMadeOf, IsTheOne, IsValid, Runs, Same, integer_type, list_type, scalar_content, scalar_order, scalar_raw, scalar_type, type_of};
+ghost use Rattle.scalar_tests.specs.Words.{GivesCast, HasNoExtension, HasNoMap, IsMadeOf, IsTheOne, IsValid, IsValidRef, Runs, Same, integer_type, list_type, scalar_content, scalar_order, scalar_raw, scalar_type, type_of};
 
 use crate::fixtures::{integer, tuple};
 use std::alloc::Global;
 use std::cmp::Ordering;
 use std::process::Abort;
 use vortex_dtype::{DType, Nullability, PType, VortexError};
-use vortex_value::Scalar;
 use vortex_value::laws::{
     calls_are_chains, chains_agree, equality_and_order_are_kept, has_by_cases,
     into_nullable_and_back, no_way_round, there_and_back,
 };
+use vortex_value::{Scalar, ScalarRef};
 
 /// The type of lists of these integers.
 fn list_of(alloc: Global, ptype: PType) -> Result<DType, VortexError>
@@ -59,6 +59,25 @@ fn two_ways(
     let step = scalar.cast(alloc, between)?;
     let chained = step.cast(alloc, target)?;
     let direct = scalar.cast(alloc, target)?;
+    Ok((chained, direct))
+}
+
+/// A scalar that is lent, cast by way of a type between, and cast at once: if both succeed, they
+/// give one raw value.
+fn two_ways_lent(
+    alloc: Global,
+    lent: &ScalarRef<'_>,
+    between: &DType,
+    target: &DType,
+) -> Result<(Scalar, Scalar), VortexError>
+    requires { IsValidRef lent.now }
+    ensures { IfOk result (λ made. scalar_raw made.0 ≡ scalar_raw made.1) }
+{
+    calls_are_chains();
+    chains_agree();
+    let step = lent.cast(alloc, between)?;
+    let chained = step.cast(alloc, target)?;
+    let direct = lent.cast(alloc, target)?;
     Ok((chained, direct))
 }
 
@@ -202,6 +221,10 @@ fn two_ways_agree(rt: HostRuntime) {
         DType::Primitive(PType::U8, Nullability::NonNullable),
     ];
     let made = two_ways(rt.alloc(), &number, &types[0], &types[1]).expect(&rt, "casts");
+    assert!(rt; made.0 == made.1);
+    drop(made);
+    let lent = ScalarRef::of(&number);
+    let made = two_ways_lent(rt.alloc(), &lent, &types[0], &types[1]).expect(&rt, "casts");
     assert!(rt; made.0 == made.1);
     drop(made);
     drop(number);

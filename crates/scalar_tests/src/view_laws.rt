@@ -1,5 +1,5 @@
-//! What a caller derives about two views that are ordered `Equal`, from the contract of `partial_cmp`
-//! and the laws of views alone: they feed hashers the same.
+//! What a caller derives about views, from the contracts of `partial_cmp` and `==` and the laws of
+//! views alone. Two that are ordered `Equal` feed hashers the same, and equality is an equivalence.
 
 ghost use Rattle.std.specs.Prelude.{◌≡◌, IsTrue};
 ghost use Rattle.scalar_tests.specs.Words.{EqualContents, HasNoVariant, IsValidRef, Same, list_ref, list_view_type, ref_content, ref_feed, text_view_content, text_view_type, typed_feed};
@@ -28,6 +28,32 @@ fn are_tied_texts(first: &Utf8Scalar<'_>, second: &Utf8Scalar<'_>) -> bool
     matches!(first.partial_cmp(second), Some(Ordering::Equal))
 }
 
+/// Whether the second string equals the first and the third: then these two are equal.
+fn are_equal_texts_through(
+    first: &Utf8Scalar<'_>,
+    second: &Utf8Scalar<'_>,
+    third: &Utf8Scalar<'_>,
+) -> bool
+    ensures { IsTrue result
+        → IsTrue (⟦<Utf8Scalar<'static> as PartialEq>⟧.eq first.now third.now) }
+{
+    vortex_leaves::laws::equality_is_an_equivalence();
+    *first == *second && *second == *third
+}
+
+/// Whether the second list equals the first and the third: then these two are equal.
+fn are_equal_lists_through(
+    first: &ListScalar<'_>,
+    second: &ListScalar<'_>,
+    third: &ListScalar<'_>,
+) -> bool
+    ensures { IsTrue result
+        → IsTrue (⟦<ListScalar<'static> as PartialEq>⟧.eq first.now third.now) }
+{
+    vortex_views::laws::equality_is_an_equivalence();
+    *first == *second && *second == *third
+}
+
 /// Whether the order says `Equal` of two lists.
 fn are_tied_lists(first: &ListScalar<'_>, second: &ListScalar<'_>) -> bool
     requires valid { IsValidRef (list_ref first.now) }
@@ -52,6 +78,7 @@ fn tied_texts_are_seen(rt: HostRuntime) {
         Scalar::utf8(text_buffer(&rt, "abd"), Nullable),
     ];
     let first = text_view(&rt, &all[0]);
+    assert!(rt; are_equal_texts_through(&first, &text_view(&rt, &all[1]), &first));
     assert!(rt; are_tied_texts(&first, &text_view(&rt, &all[1])));
     assert!(rt; !are_tied_texts(&first, &text_view(&rt, &all[2])));
 }
@@ -62,6 +89,7 @@ fn tied_lists_are_seen(rt: HostRuntime) {
     let first = ListScalar::try_from(&all[0]).expect(&rt, "a list");
     let second = ListScalar::try_from(&all[1]).expect(&rt, "a list");
     let third = ListScalar::try_from(&all[2]).expect(&rt, "a list");
+    assert!(rt; are_equal_lists_through(&first, &second, &first));
     assert!(rt; are_tied_lists(&first, &second));
     assert!(rt; !are_tied_lists(&first, &third));
 }

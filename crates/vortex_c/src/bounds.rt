@@ -1,7 +1,7 @@
 //! Bounds of bytes and of strings.
 
 ghost use Rattle.std.specs.Prelude.{◌≡◌, ◌≢◌, ◌≤◌, ◌<◌, ◌⊎◌, IfOk, IfSome, IsCharBoundary, IsOk, IsUtf8, MatchOption, MatchResult, drop, length, take};
-ghost use Rattle.vortex_c.specs.Words.{HasNoTextUpper, HasNoUpper, HasNone, IsLower, IsTextLower, IsTextUpper, IsUpper, IsWholeOrBest, OutOfMemory, SomeOfLength, bytes_of, option_copied, option_map};
+ghost use Rattle.vortex_c.specs.Words.{AnswersUpper, HasNoTextUpper, HasNoUpper, HasNone, IsLower, IsTextLower, IsTextUpper, IsUpper, IsWholeOrBest, OutOfMemory, bytes_of, option_copied, option_map};
 
 use crate::status::{GIVEN, NO_MEMORY, NO_ROOM, NONE, NOT_UTF8};
 use std::alloc::Global;
@@ -61,25 +61,8 @@ pub extern "C" fn doqallin_upper_bound_bytes(
 ) -> u32
     ensures statuses { (result ≡ GIVEN)
         ⊎ ((result ≡ NONE) ⊎ ((result ≡ NO_MEMORY) ⊎ (result ≡ NO_ROOM))) }
-    ensures within { result ≡ GIVEN → count.new ≤ length room.new }
-    ensures given { result ≡ GIVEN
-        → IsWholeOrBest IsUpper value.now max_length (take count.new room.new) }
-    ensures none { result ≡ NONE → HasNone HasNoUpper value.now max_length }
-
-    // Memory is asked only for a longer value, at more than 22 bytes.
-    ensures inline { max_length ≤ 22 → result ≢ NO_MEMORY }
-    ensures whole { length value.now ≤ max_length → result ≢ NO_MEMORY }
-
-    // The bound has as many bytes as is told, which is more than the room has.
-    ensures small { result ≡ NO_ROOM → length room.old < count.new }
-    ensures needed { result ≡ NO_ROOM → SomeOfLength IsUpper value.now max_length count.new }
-    ensures enough { max_length ≤ length room.old → result ≢ NO_ROOM }
-    ensures enough_of_value { length value.now ≤ length room.old → result ≢ NO_ROOM }
-
-    // What is not said to be written stays.
-    ensures rest { result ≡ GIVEN → drop count.new room.new ≡ drop count.new room.old }
-    ensures kept_room { result ≢ GIVEN → room.new ≡ room.old }
-    ensures kept_count { (result ≢ GIVEN) × (result ≢ NO_ROOM) → count.new ≡ count.old }
+    ensures answer { AnswersUpper IsUpper HasNoUpper
+        value.now max_length room.old room.new count.old count.new result }
 {
     match upper_of_bytes(alloc, value, max_length) {
         Ok(Some(bound)) => give(bound.as_slice(), room, count),
@@ -101,29 +84,10 @@ pub extern "C" fn doqallin_upper_bound_text(
 ) -> u32
     ensures statuses { (result ≡ GIVEN) ⊎ ((result ≡ NONE)
         ⊎ ((result ≡ NO_MEMORY) ⊎ ((result ≡ NO_ROOM) ⊎ (result ≡ NOT_UTF8)))) }
-    ensures within { result ≡ GIVEN → count.new ≤ length room.new }
-    ensures given { result ≡ GIVEN
-        → IsWholeOrBest IsTextUpper value.now max_length (take count.new room.new) }
-    ensures none { result ≡ NONE → HasNone HasNoTextUpper value.now max_length }
-
-    // The value is tested, whole.
+    ensures answer { AnswersUpper IsTextUpper HasNoTextUpper
+        value.now max_length room.old room.new count.old count.new result }
     ensures text { result ≢ NOT_UTF8 → IsUtf8 value.now }
     ensures refused { result ≡ NOT_UTF8 → ¬ (IsUtf8 value.now) }
-
-    // Memory is asked only for a longer value, at more than 22 bytes.
-    ensures inline { max_length ≤ 22 → result ≢ NO_MEMORY }
-    ensures whole { length value.now ≤ max_length → result ≢ NO_MEMORY }
-
-    // The bound has as many bytes as is told, which is more than the room has.
-    ensures small { result ≡ NO_ROOM → length room.old < count.new }
-    ensures needed { result ≡ NO_ROOM → SomeOfLength IsTextUpper value.now max_length count.new }
-    ensures enough { max_length ≤ length room.old → result ≢ NO_ROOM }
-    ensures enough_of_value { length value.now ≤ length room.old → result ≢ NO_ROOM }
-
-    // What is not said to be written stays.
-    ensures rest { result ≡ GIVEN → drop count.new room.new ≡ drop count.new room.old }
-    ensures kept_room { result ≢ GIVEN → room.new ≡ room.old }
-    ensures kept_count { (result ≢ GIVEN) × (result ≢ NO_ROOM) → count.new ≡ count.old }
 {
     let Ok(text) = str::from_utf8(value) else {
         return NOT_UTF8;

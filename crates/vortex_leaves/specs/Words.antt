@@ -1,5 +1,5 @@
 -- The words of clauses, from one place. None of them names a view, so the views themselves cite them.
-pub use Rattle.std.specs.Cmp.{partial_equiv_from_equiv}
+pub use Rattle.std.specs.Cmp.{IsEquivalence, partial_equiv_from_equiv}
 pub use Rattle.vortex_dtype.specs.Laws.{AgreesWithHash}
 pub use Rattle.vortex_dtype.specs.Parts.{is_binary_type, is_utf8_type}
 pub use Rattle.vortex_dtype.specs.TypeOf.{type_of}

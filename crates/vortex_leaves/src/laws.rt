@@ -3,7 +3,7 @@
 //! These functions do nothing when they run. The contract of each is a law over the definitions in
 //! `specs/`, and its proof is the law's proof.
 
-ghost use Rattle.vortex_leaves.specs.Words.{AgreesWithHash, EqualsByTypeAndContent, OrderAgrees};
+ghost use Rattle.vortex_leaves.specs.Words.{AgreesWithHash, EqualsByTypeAndContent, IsEquivalence, OrderAgrees};
 ghost use Rattle.vortex_leaves.specs.ViewWords.{bool_view_content, bool_view_type, bytes_view_content, bytes_view_type, number_view_content, number_view_type, text_view_content, text_view_type};
 
 use crate::binary::BinaryScalar;
@@ -16,21 +16,30 @@ use std::hash::Hash;
 pub fn equality()
     ensures truths { EqualsByTypeAndContent
         bool_view_type bool_view_content ⟦<BoolScalar<'static> as PartialEq>⟧.eq }
-    ensures texts { EqualsByTypeAndContent
-        text_view_type text_view_content ⟦<Utf8Scalar<'static> as PartialEq>⟧.eq }
     ensures strings { EqualsByTypeAndContent
+        text_view_type text_view_content ⟦<Utf8Scalar<'static> as PartialEq>⟧.eq }
+    ensures bytes { EqualsByTypeAndContent
         bytes_view_type bytes_view_content ⟦<BinaryScalar<'static> as PartialEq>⟧.eq }
     ensures integers { EqualsByTypeAndContent
         number_view_type number_view_content ⟦<PrimitiveScalar<'static> as PartialEq>⟧.eq }
+{}
+
+/// Equality is an equivalence: every view equals itself, equality goes both ways, and it goes on
+/// from one view to the next.
+pub fn equality_is_an_equivalence()
+    ensures truths { IsEquivalence ⟦<BoolScalar<'static> as PartialEq>⟧.eq }
+    ensures strings { IsEquivalence ⟦<Utf8Scalar<'static> as PartialEq>⟧.eq }
+    ensures bytes { IsEquivalence ⟦<BinaryScalar<'static> as PartialEq>⟧.eq }
+    ensures integers { IsEquivalence ⟦<PrimitiveScalar<'static> as PartialEq>⟧.eq }
 {}
 
 /// Equal views feed every hasher the same.
 pub fn hash_agrees()
     ensures truths { AgreesWithHash
         ⟦<BoolScalar<'static> as PartialEq>⟧.eq ⟦<BoolScalar<'static> as Hash>⟧.hash_input }
-    ensures texts { AgreesWithHash
-        ⟦<Utf8Scalar<'static> as PartialEq>⟧.eq ⟦<Utf8Scalar<'static> as Hash>⟧.hash_input }
     ensures strings { AgreesWithHash
+        ⟦<Utf8Scalar<'static> as PartialEq>⟧.eq ⟦<Utf8Scalar<'static> as Hash>⟧.hash_input }
+    ensures bytes { AgreesWithHash
         ⟦<BinaryScalar<'static> as PartialEq>⟧.eq ⟦<BinaryScalar<'static> as Hash>⟧.hash_input }
     ensures integers { AgreesWithHash ⟦<PrimitiveScalar<'static> as PartialEq>⟧.eq
         ⟦<PrimitiveScalar<'static> as Hash>⟧.hash_input }
@@ -40,9 +49,9 @@ pub fn hash_agrees()
 pub fn order_agrees_with_equality()
     ensures truths { OrderAgrees ⟦<BoolScalar<'static> as PartialOrd>⟧.partial_cmp
         ⟦<BoolScalar<'static> as PartialEq>⟧.eq }
-    ensures texts { OrderAgrees ⟦<Utf8Scalar<'static> as PartialOrd>⟧.partial_cmp
+    ensures strings { OrderAgrees ⟦<Utf8Scalar<'static> as PartialOrd>⟧.partial_cmp
         ⟦<Utf8Scalar<'static> as PartialEq>⟧.eq }
-    ensures strings { OrderAgrees ⟦<BinaryScalar<'static> as PartialOrd>⟧.partial_cmp
+    ensures bytes { OrderAgrees ⟦<BinaryScalar<'static> as PartialOrd>⟧.partial_cmp
         ⟦<BinaryScalar<'static> as PartialEq>⟧.eq }
     ensures integers { OrderAgrees ⟦<PrimitiveScalar<'static> as PartialOrd>⟧.partial_cmp
         ⟦<PrimitiveScalar<'static> as PartialEq>⟧.eq }

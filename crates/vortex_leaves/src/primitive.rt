@@ -113,13 +113,9 @@ impl<'a> PrimitiveScalar<'a> {
         requires { ptype_in (number_view_type self.now) ≡ Some T.PTYPE }
         ensures { option_map T.value result ≡ view_number self.now }
     {
-        match self.pvalue {
-            Some(number) => {
-                is_in_range(&number);
-                T::from_pvalue(&number)
-            }
-            None => None,
-        }
+        let number = self.pvalue?;
+        is_in_range(&number);
+        T::from_pvalue(&number)
     }
 
     /// The number as the Rust integer of the type's `PType`; `None` for a null.

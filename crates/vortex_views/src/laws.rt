@@ -3,7 +3,7 @@
 //! These functions do nothing when they run. The contract of each is a law over the definitions in
 //! `specs/`, and its proof is the law's proof.
 
-ghost use Rattle.vortex_views.specs.Words.{AgreesWithHash, EqualsAsViewed, OrderAgreesAsViewed, scalar_entry, scalar_part};
+ghost use Rattle.vortex_views.specs.Words.{AgreesWithHash, EqualsAsViewed, IsEquivalence, OrderAgreesAsViewed, scalar_entry, scalar_part};
 ghost use Rattle.vortex_views.specs.ViewWords.{GivesEachPart, entries_left, ext_ref, fields_left, keys_left, list_ref, map_ref, struct_ref, union_ref, values_left};
 
 use crate::extension::ExtScalar;
@@ -37,6 +37,16 @@ pub fn equality()
 {
     vortex_value::laws::equality();
 }
+
+/// Equality is an equivalence: every view equals itself, equality goes both ways, and it goes on
+/// from one view to the next.
+pub fn equality_is_an_equivalence()
+    ensures lists { IsEquivalence ⟦<ListScalar<'static> as PartialEq>⟧.eq }
+    ensures maps { IsEquivalence ⟦<MapScalar<'static> as PartialEq>⟧.eq }
+    ensures structs { IsEquivalence ⟦<StructScalar<'static> as PartialEq>⟧.eq }
+    ensures unions { IsEquivalence ⟦<UnionScalar<'static> as PartialEq>⟧.eq }
+    ensures extensions { IsEquivalence ⟦<ExtScalar<'static> as PartialEq>⟧.eq }
+{}
 
 /// Equal views feed every hasher the same.
 pub fn hash_agrees()
