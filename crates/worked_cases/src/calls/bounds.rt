@@ -86,11 +86,23 @@ fn own_upper(alloc: Global, inputs: Truncated) -> CallResult {
 
 /// A bound of a scalar's bytes or string.
 fn bound(alloc: Global, side: Side, inputs: Truncated) -> CallResult {
-    let (scalar, length, n) = inputs;
+    let (scalar, length, nullability) = inputs;
     if scalar.dtype().is_binary() {
-        bound_of(alloc, side, ByteBuffer::from_scalar(scalar)?, length, n)
+        bound_of(
+            alloc,
+            side,
+            ByteBuffer::from_scalar(scalar)?,
+            length,
+            nullability,
+        )
     } else {
-        bound_of(alloc, side, BufferString::from_scalar(scalar)?, length, n)
+        bound_of(
+            alloc,
+            side,
+            BufferString::from_scalar(scalar)?,
+            length,
+            nullability,
+        )
     }
 }
 
@@ -103,14 +115,16 @@ fn bound_of<T: ScalarTruncation>(
     nullability: Nullability,
 ) -> CallResult {
     match side {
-        Side::Lower => Ok(or_none(lower_bound(alloc, value, length, nullability)?.map(
-            Answer::Bound,
-        ))),
-        Side::Upper => Ok(or_none(upper_bound(alloc, value, length, nullability)?.map(
-            Answer::Bound,
-        ))),
+        Side::Lower => {
+            let bound = lower_bound(alloc, value, length, nullability)?;
+            Ok(or_none(bound.map(Answer::Bound)))
+        }
+        Side::Upper => {
+            let bound = upper_bound(alloc, value, length, nullability)?;
+            Ok(or_none(bound.map(Answer::Bound)))
+        }
         Side::OwnLower | Side::OwnUpper => match value {
-            Some(value) => own_bound(alloc, side, value, length, n),
+            Some(value) => own_bound(alloc, side, value, length, nullability),
             None => Ok(Answer::Unmet),
         },
     }
