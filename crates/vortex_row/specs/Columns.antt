@@ -18,13 +18,17 @@ abbrev pub key_with : SortOptions → Content → List ℕ
 key_with o null = null_byte o.nulls_first ∷ []
 key_with o c = inverted o.descending (key c)
 
--- the order of two contents in a column: nulls stand at the end that is asked for, and other contents go by their own
--- order, reversed if greater ones come first
+-- where the order of two contents stands in a column, if r is their own: nulls stand at the end that is asked for, and
+-- the order of others is reversed if greater ones come first
+abbrev pub in_column : SortOptions → Content → Content → Ordering → Ordering
+in_column o null null r = Equal
+in_column o null d r = if o.nulls_first then Less else Greater
+in_column o c null r = if o.nulls_first then Greater else Less
+in_column o c d r = if o.descending then ordering_reverse r else r
+
+-- the order of two contents in a column
 abbrev pub column_cmp : SortOptions → Content → Content → Ordering
-column_cmp o null null = Equal
-column_cmp o null d = if o.nulls_first then Less else Greater
-column_cmp o c null = if o.nulls_first then Greater else Less
-column_cmp o c d = if o.descending then ordering_reverse (content_cmp c d) else content_cmp c d
+column_cmp o c d = in_column o c d (content_cmp c d)
 
 -- the key of a row: those of its columns, one after the other
 abbrev pub row_key : List SortOptions → List Content → List ℕ

@@ -1,6 +1,6 @@
 -- What the contents of real values have: numbers of an integer kind, strings and ids of bytes, and texts in UTF-8.
 use Rattle.std.specs.Prelude.{ℕ, ℤ, pos, negsuc, ◌<◌, ◌^◌, List, slice_index, IsUtf8}
-use Rattle.vortex_value.specs.Values.Content.{Content, whole, text, string, sequence, tagged, typed, Contents, no_contents, content_then}
+use Rattle.vortex_value.specs.Values.Content.{Content, whole, text, string, sequence, tagged, Contents, no_contents, content_then}
 
 -- each is a byte
 abbrev pub AreBytes : List ℕ → Type 0
@@ -24,15 +24,3 @@ abbrev mutual
   pub AreHeld : Contents → Type 0
   AreHeld no_contents = Unit {0}
   AreHeld (content_then c cs) = IsHeld c × AreHeld cs
-
--- no typed child stands in the content, at any depth
-abbrev mutual
-  pub HasNoTyped : Content → Type 0
-  HasNoTyped (typed t c) = ⊥
-  HasNoTyped (sequence cs) = HaveNoTyped cs
-  HasNoTyped (tagged id c) = HasNoTyped c
-  HasNoTyped _ = Unit {0}
-
-  pub HaveNoTyped : Contents → Type 0
-  HaveNoTyped no_contents = Unit {0}
-  HaveNoTyped (content_then c cs) = HasNoTyped c × HaveNoTyped cs
