@@ -1,5 +1,5 @@
 -- Strings of bytes, and that inverting each byte reverses their order.
-use Rattle.std.proofs.Common.{ℕ, zero, suc, ◌-◌, ◌<◌, inl, inr, List, [], ◌∷◌, ◌++◌, Bool, true, false, if◌then◌else◌, Ordering, Less, Equal, Greater, sym, ap, arith}
+use Rattle.std.proofs.Common.{◌≡◌, ℕ, zero, suc, ◌-◌, ◌<◌, inl, inr, List, [], ◌∷◌, ◌++◌, Bool, true, false, if◌then◌else◌, Ordering, Less, Equal, Greater, refl, sym, ap, arith, length}
 use Rattle.std.specs.Ordering.{ordering_reverse}
 use Rattle.vortex_row.specs.Held.{AreBytes}
 use Rattle.vortex_row.specs.Keys.{inverted}
@@ -25,6 +25,11 @@ bytes_then (b ∷ bs) cs h g = bytes_after b (bs ++ cs) (bytes_first b bs h) (by
 pub inverted-bytes : (bs : List ℕ) → AreBytes (inverted true bs)
 inverted-bytes [] = no_bytes
 inverted-bytes (b ∷ bs) = bytes_after (255 - b) (inverted true bs) (omega arith) (inverted-bytes bs)
+
+pub inverted-length : (b : Bool) (bs : List ℕ) → length (inverted b bs) ≡ length bs
+inverted-length false bs = refl
+inverted-length true [] = refl
+inverted-length true (b ∷ bs) = ap suc (inverted-length true bs)
 
 pub inverted-below : (xs ys : List ℕ) → AreBytes ys → IsBelow xs ys → IsBelow (inverted true ys) (inverted true xs)
 inverted-below [] ys b h = absurd h

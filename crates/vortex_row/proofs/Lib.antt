@@ -6,3 +6,4 @@ pub mod NumberLaws
 pub mod OrderLaws
 pub mod PlaceLaws
 pub mod StringLaws
+pub mod VariantSteps

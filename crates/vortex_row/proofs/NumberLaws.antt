@@ -41,7 +41,7 @@ without_zeros-bytes [] h = h
 without_zeros-bytes (zero ∷ bs) h = without_zeros-bytes bs (bytes_rest 0 bs h)
 without_zeros-bytes (suc b ∷ bs) h = h
 
-without_zeros-length : (bs : List ℕ) → length (without_leading_zeros bs) ≤ length bs
+pub without_zeros-length : (bs : List ℕ) → length (without_leading_zeros bs) ≤ length bs
 without_zeros-length [] = omega arith
 without_zeros-length (zero ∷ bs) = let rest = without_zeros-length bs in omega arith
 without_zeros-length (suc b ∷ bs) = omega arith

@@ -6,3 +6,6 @@ pub mod Held
 pub mod Keys
 pub mod Laws
 pub mod Places
+pub mod Steps
+pub mod Variants
+pub mod Words

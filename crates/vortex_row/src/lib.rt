@@ -6,6 +6,7 @@
 mod error;
 pub mod laws;
 mod options;
+mod variants;
 
 pub use error::RowError;
 pub use options::SortOptions;
