@@ -1,9 +1,13 @@
 pub mod ApartLaws
 pub mod ByteLaws
 pub mod ColumnLaws
+pub mod EncodeSteps
 pub mod KeyLaws
+pub mod KeySteps
+pub mod LengthSteps
 pub mod NumberLaws
 pub mod OrderLaws
 pub mod PlaceLaws
+pub mod RowSteps
 pub mod StringLaws
 pub mod VariantSteps

@@ -39,7 +39,7 @@ mutual
   none-from_test (extension_type id metadata t) h = none-from_test t h
   none-from_test _ h = tt
 
-  none-from_tests : (ts : TypeTrees) → have_variant ts ≡ false → HaveNoVariant ts
+  pub none-from_tests : (ts : TypeTrees) → have_variant ts ≡ false → HaveNoVariant ts
   none-from_tests no_types h = tt
   none-from_tests (type_then t ts) h = let both = or_both (has_variant t) (have_variant ts) h in (none-from_test t both.0, none-from_tests ts both.1)
 
@@ -62,4 +62,7 @@ mutual
 pub found_variant : (t : TypeTree) → has_variant t ≡ true → ¬ (HasNoVariant t)
 found_variant t h n = true≢false (sym h ∙ test-from_none t n)
 
-pub ruleset decided = (none-from_test, found_variant)
+pub found_variants : (ts : TypeTrees) → have_variant ts ≡ true → ¬ (HaveNoVariant ts)
+found_variants ts h n = true≢false (sym h ∙ tests-from_none ts n)
+
+pub ruleset decided = (none-from_test, none-from_tests, found_variant, found_variants)

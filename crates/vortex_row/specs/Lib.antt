@@ -1,6 +1,7 @@
 pub mod Columns
 pub mod ContentOrder
 pub mod Decoded
+pub mod Encoders
 pub mod Examples
 pub mod Held
 pub mod Keys

@@ -3,10 +3,16 @@
 //! Keys of scalars and of rows: bytes that sort as the scalars do, and from which they come back.
 #![tactic(auto)]
 
+mod encode;
 mod error;
+mod keys;
 pub mod laws;
+mod lengths;
 mod options;
+mod rows;
 mod variants;
 
 pub use error::RowError;
+pub use keys::{append_key, compare_keys, key_length};
 pub use options::SortOptions;
+pub use rows::{RowEncoder, append_row_key};

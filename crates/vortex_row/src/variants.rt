@@ -1,7 +1,7 @@
 //! Whether a variant stands in a type: then its values have no order, and no keys.
 
 ghost use Rattle.std.specs.Prelude.{◌≡◌, Err, OnOk, IfErr};
-ghost use Rattle.vortex_row.specs.Words.{HasNoVariant, HasVariant, dtype_trees, has_variant, have_variant, type_of};
+ghost use Rattle.vortex_row.specs.Words.{HasNoVariant, HasVariant, HaveNoVariant, dtype_trees, has_variant, have_variant, type_of};
 
 use crate::error::RowError;
 use vortex_dtype::DType;
@@ -45,6 +45,19 @@ pub(crate) fn expect_no_variant(dtype: &DType) -> Result<(), RowError>
     ensures refused { IfErr result (λ e. (e ≡ HasVariant) × ¬ (HasNoVariant (type_of dtype.now))) }
 {
     if has_variant(dtype) {
+        return Err(RowError::HasVariant);
+    }
+    Ok(())
+}
+
+/// `HasVariant` exactly if a variant stands in one of the types, at any depth.
+#[tactic(auto, using(crate::proofs::VariantSteps::decided))]
+pub(crate) fn expect_no_variants(dtypes: &[DType]) -> Result<(), RowError>
+    ensures ordered { OnOk result (HaveNoVariant (dtype_trees dtypes.now)) }
+    ensures refused { IfErr result
+        (λ e. (e ≡ HasVariant) × ¬ (HaveNoVariant (dtype_trees dtypes.now))) }
+{
+    if have_variant(dtypes) {
         return Err(RowError::HasVariant);
     }
     Ok(())

@@ -1,0 +1,255 @@
+-- Steps of the encoder.
+use Rattle.std.proofs.Common.{◌≡◌, ℕ, zero, suc, ◌+◌, ◌-◌, ◌*◌, ◌/◌, ◌%◌, ◌^◌, ◌<◌, ◌≤◌, Bool, true, false, List, [], ◌∷◌, ◌++◌, take, drop, length, length-append, get_or, Option, append_assoc, refl, sym, subst, ap, ap₂, ◌∙◌, rules, arith}
+use Rattle.std.specs.Global.{Vec}
+use Rattle.std.specs.Int.{w64, to_be_bytes, byte_at, bytes_high_first}
+use Rattle.std.specs.Vec.{vec_len, vec_capacity}
+use Rattle.std.proofs.Math.Nat.{div-div-eq-div-mul}
+use Rattle.std.proofs.lemmas.List.{drop_more, length-drop, take_all}
+use Rattle.vortex_value.specs.Values.Content.{Content, content, contents, null}
+use Rattle.vortex_value.specs.Values.RawTree.{RawTree, absent, is_absent}
+use Rattle.vortex_value.specs.Values.RawOf.{raw_of, value_tree, value_trees}
+use Rattle.vortex_value.specs.declared.values.ScalarValue.{ScalarValue, Tuple, the_lemmas}
+use Rattle.vortex_value.proofs.ValueSteps.{value_tree-Tuple, value_tree-Union, value_tree-Variant, variant_tree-parts}
+use Rattle.vortex_row.specs.Columns.{key_with}
+use Rattle.vortex_row.specs.Keys.{inverted, big_endian, number_bytes, upward_key, downward_key, escape, escaped, key, keys}
+use Rattle.vortex_row.specs.Steps.{Appends, HasRoom, IsLeft}
+use Rattle.vortex_row.specs.declared.options.SortOptions.{SortOptions}
+use Rattle.vortex_row.proofs.ByteLaws.{inverted-length}
+use Rattle.vortex_row.proofs.NumberLaws.{big_endian-length}
+use Rattle.vortex_row.proofs.LengthSteps.{union-content, escape-plain}
+
+-- the bytes that std writes are those of the key
+
+byte_higher : (k n : ℕ) → byte_at (suc k) n ≡ byte_at k (n / 256)
+byte_higher zero n = refl
+byte_higher (suc k) n =
+    let e : 256 * 256 ^ suc k ≡ 256 ^ suc (suc k) = omega arith in
+    let f : n / 256 ^ suc (suc k) ≡ n / 256 / 256 ^ suc k = sym (div-div-eq-div-mul n 256 (256 ^ suc k) ∙ ap (λ m. n / m) e) in
+    ap (λ m. m % 256) f
+
+last_byte : (k n : ℕ) → bytes_high_first (suc k) n ≡ bytes_high_first k (n / 256) ++ (n % 256) ∷ []
+last_byte zero n = refl
+last_byte (suc k) n = ap₂ (λ b bs. b ∷ bs) (byte_higher k n) (last_byte k n)
+
+bytes-big_endian : (k n : ℕ) → bytes_high_first k n ≡ big_endian k n
+bytes-big_endian zero n = refl
+bytes-big_endian (suc k) n = last_byte k n ∙ ap (λ bs. bs ++ (n % 256) ∷ []) (bytes-big_endian k (n / 256))
+
+pub bytes-64 : (n : ℕ) → to_be_bytes w64 n ≡ big_endian 8 n
+bytes-64 n = bytes-big_endian 8 n
+
+-- the bytes of what is left to the greatest number are inverted
+
+inverted-append : (bs cs : List ℕ) → inverted true (bs ++ cs) ≡ inverted true bs ++ inverted true cs
+inverted-append [] cs = refl
+inverted-append (b ∷ bs) cs = ap (λ xs. (255 - b) ∷ xs) (inverted-append bs cs)
+
+inverted-big_endian : (k n : ℕ) → n < 256 ^ k → big_endian k (256 ^ k - 1 - n) ≡ inverted true (big_endian k n)
+inverted-big_endian zero n h = refl
+inverted-big_endian (suc k) n h =
+    let high : (256 ^ suc k - 1 - n) / 256 ≡ 256 ^ k - 1 - n / 256 = omega arith in
+    let low : (256 ^ suc k - 1 - n) % 256 ≡ 255 - n % 256 = omega arith in
+    ap₂ (λ m b. big_endian k m ++ b ∷ []) high low ∙ ap (λ xs. xs ++ (255 - n % 256) ∷ []) (inverted-big_endian k (n / 256) (omega arith)) ∙ sym (inverted-append (big_endian k (n / 256)) ((n % 256) ∷ []))
+
+pub inverted-64 : (n : ℕ) → n < 2 ^ 64 → to_be_bytes w64 (2 ^ 64 - 1 - n) ≡ inverted true (big_endian 8 n)
+inverted-64 n h = bytes-64 (2 ^ 64 - 1 - n) ∙ inverted-big_endian 8 n h
+
+pub inverted-drop : (j : ℕ) (bs : List ℕ) → drop j (inverted true bs) ≡ inverted true (drop j bs)
+inverted-drop zero bs = refl
+inverted-drop (suc j) [] = refl
+inverted-drop (suc j) (b ∷ bs) = inverted-drop j bs
+
+-- room, and what is appended in it
+
+pub appends-then : (bs cs : List ℕ) (before mid now : Vec ℕ) → Appends bs before mid → Appends cs mid now → Appends (bs ++ cs) before now
+appends-then bs cs before mid now a c =
+    let long = length-append bs cs in
+    let one = a.count in
+    let two = c.count in
+    let less = a.room in
+    let least = c.room in
+    record {
+      items = c.items ∙ ap (λ xs. xs ++ cs) a.items ∙ append_assoc before.items bs cs;
+      count = omega arith;
+      room = omega arith;
+    }
+
+pub appends-after_one : (b : ℕ) (bs : List ℕ) (before mid now : Vec ℕ) → Appends (b ∷ []) before mid → Appends bs mid now → Appends (b ∷ bs) before now
+appends-after_one b bs before mid now a c = appends-then (b ∷ []) bs before mid now a c
+
+-- what is left of the whole
+
+pub left-all : (all : List ℕ) (before : Vec ℕ) → IsLeft all all before before
+left-all all before = record { items = refl; count = refl; room = omega arith }
+
+pub left-room : (bs rest all : List ℕ) (before now : Vec ℕ) → IsLeft (bs ++ rest) all before now → HasRoom before all → HasRoom now bs
+left-room bs rest all before now l h =
+    let long = length-append bs rest in
+    let count = l.count in
+    let room = l.room in
+    omega arith
+
+pub left-then : (bs rest all : List ℕ) (before mid now : Vec ℕ) → IsLeft (bs ++ rest) all before mid → Appends bs mid now → IsLeft rest all before now
+left-then bs rest all before mid now l a =
+    let long = length-append bs rest in
+    let count = l.count in
+    let room = l.room in
+    let more = a.count in
+    let kept = a.room in
+    record {
+      items = ap (λ xs. xs ++ rest) a.items ∙ append_assoc mid.items bs rest ∙ l.items;
+      count = omega arith;
+      room = omega arith;
+    }
+
+pub left-last_room : (rest all : List ℕ) (before now : Vec ℕ) → IsLeft rest all before now → HasRoom before all → HasRoom now rest
+left-last_room rest all before now l h =
+    let count = l.count in
+    let room = l.room in
+    omega arith
+
+pub left-last : (rest all : List ℕ) (before mid now : Vec ℕ) → IsLeft rest all before mid → Appends rest mid now → Appends all before now
+left-last rest all before mid now l a =
+    let count = l.count in
+    let room = l.room in
+    let more = a.count in
+    let kept = a.room in
+    record { items = a.items ∙ l.items; count = omega arith; room = omega arith }
+
+-- numbers
+
+-- the last bytes of eight
+last_of : (j : ℕ) (bs : List ℕ) → length bs ≡ 8 → take (8 - j) (drop j bs) ≡ drop j bs
+last_of j bs e = take_all (8 - j) (drop j bs) (omega (arith, length-drop j bs))
+
+upward-last : (n j : ℕ) (bs : List ℕ) → number_bytes n ≡ drop j (big_endian 8 n) → bs ≡ to_be_bytes w64 n → take (8 - j) (drop j bs) ≡ number_bytes n
+upward-last n j bs f is =
+    let e : bs ≡ big_endian 8 n = is ∙ bytes-64 n in
+    let long : length bs ≡ 8 = ap length e ∙ big_endian-length 8 n in
+    last_of j bs long ∙ ap (drop j) e ∙ sym f
+
+downward-last : (n j : ℕ) (bs : List ℕ) → n < 2 ^ 64 → number_bytes n ≡ drop j (big_endian 8 n) → bs ≡ to_be_bytes w64 (2 ^ 64 - 1 - n) → take (8 - j) (drop j bs) ≡ inverted true (number_bytes n)
+downward-last n j bs h f is =
+    let e : bs ≡ inverted true (big_endian 8 n) = is ∙ inverted-64 n h in
+    let long : length bs ≡ 8 = ap length e ∙ inverted-length true (big_endian 8 n) ∙ big_endian-length 8 n in
+    last_of j bs long ∙ ap (drop j) e ∙ inverted-drop j (big_endian 8 n) ∙ ap (inverted true) (sym f)
+
+number-appends : (a b : ℕ) (bs cs : List ℕ) (before mid now : Vec ℕ) → a ≡ b → bs ≡ cs → Appends (a ∷ []) before mid → Appends bs mid now → Appends (b ∷ cs) before now
+number-appends a b bs cs before mid now e f one more = subst (λ xs. Appends xs before now) (ap₂ (λ x xs. x ∷ xs) e f) (appends-after_one a bs before mid now one more)
+
+pub upward-appends : (n j : ℕ) (bs : List ℕ) (before mid now : Vec ℕ) → length (number_bytes n) + j ≡ 8 → number_bytes n ≡ drop j (big_endian 8 n) → bs ≡ to_be_bytes w64 n
+    → Appends ((20 - j) ∷ []) before mid → Appends (take (8 - j) (drop j bs)) mid now → Appends (upward_key (number_bytes n)) before now
+upward-appends n j bs before mid now e f is one more =
+    number-appends (20 - j) (12 + length (number_bytes n)) (take (8 - j) (drop j bs)) (number_bytes n) before mid now (omega arith) (upward-last n j bs f is) one more
+
+pub downward-appends : (n j : ℕ) (bs : List ℕ) (before mid now : Vec ℕ) → n < 2 ^ 64 → length (number_bytes n) + j ≡ 8 → number_bytes n ≡ drop j (big_endian 8 n) → bs ≡ to_be_bytes w64 (2 ^ 64 - 1 - n)
+    → Appends ((4 + j) ∷ []) before mid → Appends (take (8 - j) (drop j bs)) mid now → Appends (downward_key (number_bytes n)) before now
+downward-appends n j bs before mid now h e f is one more =
+    number-appends (4 + j) (12 - length (number_bytes n)) (take (8 - j) (drop j bs)) (inverted true (number_bytes n)) before mid now (omega arith) (downward-last n j bs h f is) one more
+
+pub ruleset strings = (appends-after_one, appends-then, left-all)
+
+-- one byte of a string
+
+escape-two : (b : ℕ) → b < 2 → escape b ≡ 1 ∷ (b + 1) ∷ []
+escape-two zero h = refl
+escape-two (suc zero) h = refl
+escape-two (suc (suc b)) h = absurd (omega arith)
+
+pub two-room : (b : ℕ) (out : Vec ℕ) → b < 2 → HasRoom out (escape b) → HasRoom out (1 ∷ (b + 1) ∷ [])
+two-room b out h r = subst (HasRoom out) (escape-two b h) r
+
+pub two-appends : (b : ℕ) (before now : Vec ℕ) → b < 2 → Appends (1 ∷ (b + 1) ∷ []) before now → Appends (escape b) before now
+two-appends b before now h a = subst (λ bs. Appends bs before now) (sym (escape-two b h)) a
+
+-- a string of which the bytes before a place are written as one each
+
+pub plain-step : (bs : List ℕ) (i : ℕ) → i < length bs → 2 ≤ get_or bs i 0 → take i bs ++ escaped (drop i bs) ≡ take (i + 1) bs ++ escaped (drop (i + 1) bs)
+plain-step [] i h more = absurd (omega arith)
+plain-step (b ∷ bs) zero h more = ap (λ xs. xs ++ escaped bs) (escape-plain b (omega arith))
+plain-step (b ∷ bs) (suc i) h more =
+    let e : suc i + 1 ≡ suc (i + 1) = omega arith in
+    rw e (ap (λ xs. b ∷ xs) (plain-step bs i (omega arith) more))
+
+pub ruleset shown = (appends-after_one, left-all, left-last_room, left-last, value_tree-Tuple, value_tree-Union, value_tree-Variant, variant_tree-parts, union-content)
+
+pub ruleset doubled = (two-room, two-appends)
+
+-- a tuple
+
+tuple-key : (v : ScalarValue) (vs : Vec (Option ScalarValue)) → v ≡ Tuple vs → key (content (value_tree v)) ≡ 23 ∷ keys (contents (value_trees vs.items))
+tuple-key v vs e = ap (λ w. key (content (value_tree w))) e ∙ ap (λ r. key (content r)) (value_tree-Tuple vs)
+
+pub tuple-appends : (v : ScalarValue) (vs : Vec (Option ScalarValue)) (ps : List (Option ScalarValue)) (before mid now : Vec ℕ) → v ≡ Tuple vs → ps ≡ vs.items
+    → Appends (23 ∷ []) before mid → Appends (keys (contents (value_trees ps))) mid now → Appends (key (content (value_tree v))) before now
+tuple-appends v vs ps before mid now e f one more =
+    subst (λ bs. Appends bs before now) (sym (tuple-key v vs e))
+    (number-appends 23 23 (keys (contents (value_trees ps))) (keys (contents (value_trees vs.items))) before mid now refl (ap (λ xs. keys (contents (value_trees xs))) f) one more)
+
+-- the parts from a place on
+pub keys-at : (i : ℕ) (vs : List (Option ScalarValue)) (v : Option ScalarValue) → i < length vs → v ≡ get_or vs i v
+    → keys (contents (value_trees (drop i vs))) ≡ key (content (raw_of v)) ++ keys (contents (value_trees (drop (i + 1) vs)))
+keys-at i vs v h is = rw (drop_more vs i v h, ← is) refl
+
+-- what was appended is inverted
+
+pub inverted-at : (old body : List ℕ) → take (length old) (old ++ body) ++ inverted true (drop (length old) (old ++ body)) ≡ old ++ inverted true body
+inverted-at [] body = refl
+inverted-at (x ∷ xs) body = ap (λ bs. x ∷ bs) (inverted-at xs body)
+
+inverted-after : (old now body : List ℕ) (n : ℕ) → now ≡ old ++ body → n ≡ length old → take n now ++ inverted true (drop n now) ≡ old ++ inverted true body
+inverted-after old now body n e f = rw (e, f) (inverted-at old body)
+
+pub inverted-appends : (start : ℕ) (body : List ℕ) (before mid now : Vec ℕ) → start ≡ vec_len before → Appends body before mid → now.items ≡ take start mid.items ++ inverted true (drop start mid.items)
+    → vec_len now ≡ vec_len mid → vec_capacity now ≡ vec_capacity mid → Appends (inverted true body) before now
+inverted-appends start body before mid now e a is count room =
+    let inside = before.ok in
+    let same : start ≡ length before.items = e ∙ inside.0 in
+    let long = inverted-length true body in
+    let more = a.count in
+    let kept = a.room in
+    record {
+      items = is ∙ inverted-after before.items mid.items body start a.items same;
+      count = omega arith;
+      room = omega arith;
+    }
+
+-- a value is no null
+
+not_absent : (v : ScalarValue) → is_absent (value_tree v) ≡ false
+not_absent v = search (rules, the_lemmas)
+
+key_with-present : (o : SortOptions) (v : RawTree) → is_absent v ≡ false → key_with o (content v) ≡ inverted o.descending (key (content v))
+key_with-present o absent h = cc
+key_with-present o _ h = refl
+
+pub key_with-value : (o : SortOptions) (v : ScalarValue) (d : Bool) → o.descending ≡ d → key_with o (content (value_tree v)) ≡ inverted d (key (content (value_tree v)))
+key_with-value o v d e = key_with-present o (value_tree v) (not_absent v) ∙ ap (λ b. inverted b (key (content (value_tree v)))) e
+
+-- the key in a column is as long as the key
+
+pub key_with-length : (o : SortOptions) (c : Content) → length (key_with o c) ≡ length (key c)
+key_with-length o null = refl
+key_with-length o c = inverted-length o.descending (key c)
+
+pub room-inverted : (b : Bool) (bs : List ℕ) (out : Vec ℕ) → HasRoom out (inverted b bs) → HasRoom out bs
+room-inverted b bs out h =
+    let e = inverted-length b bs in
+    omega arith
+
+pub column-room : (o : SortOptions) (v : ScalarValue) (out : Vec ℕ) → HasRoom out (key_with o (content (value_tree v))) → HasRoom out (key (content (value_tree v)))
+column-room o v out h =
+    let e = key_with-length o (content (value_tree v)) in
+    omega arith
+
+pub column-appends : (o : SortOptions) (v : ScalarValue) (d : Bool) (before now : Vec ℕ) → o.descending ≡ d → Appends (inverted d (key (content (value_tree v)))) before now
+    → Appends (key_with o (content (value_tree v))) before now
+column-appends o v d before now e a = subst (λ bs. Appends bs before now) (sym (key_with-value o v d e)) a
+
+pub plain-appends : (o : SortOptions) (v : ScalarValue) (before now : Vec ℕ) → o.descending ≡ false → Appends (key (content (value_tree v))) before now
+    → Appends (key_with o (content (value_tree v))) before now
+plain-appends o v before now e a = column-appends o v false before now e a
+
+pub ruleset in_columns = (column-room, column-appends, plain-appends)
+
+pub ruleset inverting = (inverted-appends)

@@ -1,0 +1,66 @@
+//! The key of a scalar: how long it is, and how it is appended and compared.
+#![tactic(auto, using(crate::proofs::KeySteps::shown))]
+
+ghost use Rattle.std.specs.Prelude.{◌+◌, ◌++◌, ◌≡◌, ◌≤◌, ◌↔◌, ◌⊎◌, ◌<◌, Err, IfErr, IsOk, OnErr, OnOk, length};
+ghost use Rattle.vortex_row.specs.Words.{HasNoVariant, HasVariant, IsHeld, OutOfMemory, capped, key, key_with, nat_cmp, ref_content, ref_type, slice_cmp, vec_capacity, vec_len};
+
+use crate::encode::append_column;
+use crate::error::RowError;
+use crate::lengths::length;
+use crate::options::SortOptions;
+use crate::variants::expect_no_variant;
+use std::cmp::Ordering;
+use vortex_value::ScalarRef;
+
+/// The order of two keys, byte by byte: that of what they are the keys of.
+pub fn compare_keys(x: &[u8], y: &[u8]) -> Ordering
+    ensures { result ≡ slice_cmp nat_cmp x.now y.now }
+{
+    x.cmp(y)
+}
+
+/// How many bytes the key of a scalar has, under any options. It is the greatest `usize` if the key
+/// has more.
+pub fn key_length(value: ScalarRef<'_>) -> usize
+    ensures { result ≡ capped (length (key (ref_content value.entry))) }
+{
+    length(value.value())
+}
+
+/// Takes room for so many bytes more. `OutOfMemory` if there is none.
+pub(crate) fn take_room(count: usize, out: &mut Vec<u8>) -> Result<(), RowError>
+    ensures taken { OnOk result (vec_len out.new + count ≤ vec_capacity out.new) }
+    ensures refused { IfErr result
+        (λ e. (e ≡ OutOfMemory) × (vec_capacity out.old < vec_len out.old + count)) }
+    ensures unchanged { out.new.items ≡ out.old.items }
+{
+    out.reserve(count)?;
+    Ok(())
+}
+
+/// Appends the key of a scalar, in a column that is sorted so, and nothing else.
+///
+/// `HasVariant` exactly if a variant stands in the type, at any depth. Else `OutOfMemory` is the
+/// only refusal, and never comes if `out` has room for the key. After a refusal `out` has the bytes
+/// that it had. The value need not be valid for the type.
+pub fn append_key(
+    value: ScalarRef<'_>,
+    options: SortOptions,
+    out: &mut Vec<u8>,
+) -> Result<(), RowError>
+    ensures appended { OnOk result
+        (out.new.items ≡ out.old.items ++ key_with options (ref_content value.entry)) }
+    ensures held { OnOk result (IsHeld (ref_content value.entry)) }
+    ensures ordered { OnOk result (HasNoVariant (ref_type value.entry)) }
+    ensures variant { (result ≡ Err HasVariant) ↔ ¬ (HasNoVariant (ref_type value.entry)) }
+    ensures refused { IfErr result (λ e. (e ≡ HasVariant) ⊎ (e ≡ OutOfMemory)) }
+    ensures room { HasNoVariant (ref_type value.entry)
+        → vec_len out.old + length (key (ref_content value.entry)) ≤ vec_capacity out.old
+        → IsOk result }
+    ensures unchanged { OnErr result (out.new.items ≡ out.old.items) }
+{
+    expect_no_variant(value.dtype())?;
+    take_room(key_length(value), out)?;
+    append_column(value.value(), options, out);
+    Ok(())
+}

@@ -1,0 +1,129 @@
+//! How many bytes keys have, so that room for them is taken once.
+
+ghost use Rattle.std.specs.Prelude.{[], ◌++◌, ◌+◌, ◌≡◌, ◌∷◌, drop, length, true, unsigned_abs};
+ghost use Rattle.vortex_row.specs.Words.{big_endian, capped, content, contents, escaped, key, keys, lent_raw, number_bytes, union_tree, value_tree, value_trees, whole_key, whole_of};
+
+use vortex_pvalue::PValue;
+use vortex_value::{ScalarValue, UnionValue};
+
+/// How far a number is from zero.
+fn distance(number: &PValue) -> u64
+    ensures { result ≡ unsigned_abs (whole_of number.now) }
+{
+    match *number {
+        PValue::U8(n) => u64::from(n),
+        PValue::U16(n) => u64::from(n),
+        PValue::U32(n) => u64::from(n),
+        PValue::U64(n) => n,
+        PValue::I8(n) => i64::from(n).unsigned_abs(),
+        PValue::I16(n) => i64::from(n).unsigned_abs(),
+        PValue::I32(n) => i64::from(n).unsigned_abs(),
+        PValue::I64(n) => n.unsigned_abs(),
+    }
+}
+
+/// How many of the eight bytes of a number are zeros at its front, which no key has.
+pub(crate) fn leading_zero_bytes(number: u64) -> usize
+    ensures count { length (number_bytes number) + result ≡ 8 }
+    ensures bytes { number_bytes number ≡ drop result (big_endian 8 number) }
+{
+    number.leading_zeros() as usize / 8
+}
+
+/// How many bytes the key of a number has.
+#[tactic(auto, using(crate::proofs::LengthSteps::numbers))]
+fn number_length(number: &PValue) -> usize
+    ensures { result ≡ length (whole_key (whole_of number.now)) }
+{
+    9 - leading_zero_bytes(distance(number))
+}
+
+/// Whether no byte of a string is written as two. It looks at all bytes, so that several are tested
+/// at once.
+#[tactic(auto, using(crate::proofs::LengthSteps::strings))]
+pub(crate) fn is_plain(bytes: &[u8]) -> bool
+    ensures { result ≡ true → escaped bytes.now ≡ bytes.now ++ 0 ∷ [] }
+{
+    let mut least = 255u8;
+    for byte in bytes {
+        least = least.min(*byte);
+    }
+    least > 1
+}
+
+/// How many bytes of a string are written as two.
+#[tactic(auto, using(crate::proofs::LengthSteps::strings))]
+fn doubled_bytes(bytes: &[u8]) -> usize
+    ensures { length (escaped bytes.now) ≡ length bytes.now + result + 1 }
+{
+    let mut doubled = 0usize;
+    for byte in bytes {
+        if *byte < 2 {
+            doubled += 1;
+        }
+    }
+    doubled
+}
+
+/// How many bytes the key of a string has.
+#[tactic(auto, using(crate::proofs::LengthSteps::strings))]
+fn string_length(bytes: &[u8]) -> usize
+    ensures { result ≡ capped (1 + length (escaped bytes.now)) }
+{
+    let doubled = if is_plain(bytes) {
+        0
+    } else {
+        doubled_bytes(bytes)
+    };
+    bytes.len().saturating_add(doubled).saturating_add(2)
+}
+
+/// How many bytes the key of an optional raw value has, or the greatest number.
+#[cycle(length)]
+#[tactic(auto, using(crate::proofs::LengthSteps::shown))]
+pub(crate) fn length(value: Option<&ScalarValue>) -> usize
+    ensures { result ≡ capped (length (key (content (lent_raw value.entry)))) }
+{
+    match value {
+        Some(value) => value_length(value),
+        None => 1,
+    }
+}
+
+/// How many bytes the key of a raw value has.
+#[cycle(length)]
+#[tactic(auto, using(crate::proofs::LengthSteps::shown))]
+fn value_length(value: &ScalarValue) -> usize
+    ensures { result ≡ capped (length (key (content (value_tree value.now)))) }
+{
+    match value {
+        ScalarValue::Bool(_) | ScalarValue::Variant(_) => 1,
+        ScalarValue::Primitive(number) => number_length(number),
+        ScalarValue::Utf8(text) => string_length(text.inner().as_slice()),
+        ScalarValue::Binary(bytes) => string_length(bytes.as_slice()),
+        ScalarValue::Tuple(parts) => parts_length(parts).saturating_add(1),
+        ScalarValue::Union(union) => union_length(union),
+    }
+}
+
+/// How many bytes the keys of the parts and their end have.
+#[cycle(length)]
+#[tactic(auto, using(crate::proofs::LengthSteps::shown))]
+fn parts_length(parts: &[Option<ScalarValue>]) -> usize
+    ensures { result ≡ capped (length (keys (contents (value_trees parts.now)))) }
+{
+    let mut total = 0usize;
+    for part in parts {
+        total = total.saturating_add(length(part.as_ref()));
+    }
+    total.saturating_add(1)
+}
+
+/// How many bytes the key of a union has: its first byte and its id, and the key of its child.
+#[cycle(length)]
+#[tactic(auto, using(crate::proofs::LengthSteps::shown))]
+fn union_length(union: &UnionValue) -> usize
+    ensures { result ≡ capped (length (key (content (union_tree union.now)))) }
+{
+    length(union.child.as_deref()).saturating_add(2)
+}
