@@ -136,6 +136,7 @@ fn put_string(bytes: &[u8], out: &mut Vec<u8>)
 /// Appends the key of an optional raw value.
 #[cycle(append)]
 #[tactic(auto, using(crate::proofs::EncodeSteps::shown))]
+#[inline(always)]
 fn append(value: Option<&ScalarValue>, out: &mut Vec<u8>)
     requires { HasRoom out.old (key (content (lent_raw value))) }
     ensures appended { Appends (key (content (lent_raw value.entry))) out.old out.new }
@@ -150,6 +151,7 @@ fn append(value: Option<&ScalarValue>, out: &mut Vec<u8>)
 /// Appends the key of a raw value.
 #[cycle(append)]
 #[tactic(auto, using(crate::proofs::EncodeSteps::shown))]
+#[inline(always)]
 fn append_value(value: &ScalarValue, out: &mut Vec<u8>)
     requires { HasRoom out.old (key (content (value_tree value.now))) }
     ensures appended { Appends (key (content (value_tree value.now))) out.old out.new }

@@ -81,6 +81,7 @@ fn string_length(bytes: &[u8]) -> usize
 /// How many bytes the key of an optional raw value has, or the greatest number.
 #[cycle(length)]
 #[tactic(auto, using(crate::proofs::LengthSteps::shown))]
+#[inline(always)]
 pub(crate) fn length(value: Option<&ScalarValue>) -> usize
     ensures { result ≡ capped (length (key (content (lent_raw value.entry)))) }
 {
@@ -93,6 +94,7 @@ pub(crate) fn length(value: Option<&ScalarValue>) -> usize
 /// How many bytes the key of a raw value has.
 #[cycle(length)]
 #[tactic(auto, using(crate::proofs::LengthSteps::shown))]
+#[inline(always)]
 fn value_length(value: &ScalarValue) -> usize
     ensures { result ≡ capped (length (key (content (value_tree value.now)))) }
 {
