@@ -1,3 +1,4 @@
 mod GivenZeros
+mod KeySteps
 mod KeysCounted
 mod ListCasts

@@ -12,6 +12,8 @@ mod fixtures;
 mod hashers;
 #[cfg(test)]
 mod items;
+pub mod key_laws;
+pub mod keyed;
 #[cfg(test)]
 mod leaf_views;
 #[cfg(test)]

@@ -1,0 +1,45 @@
+//! Scalars with their keys, by which they are compared.
+
+ghost use Rattle.std.specs.Prelude.{◌≡◌, IfOk};
+ghost use Rattle.vortex_value.specs.Equality.{HasNoTyped};
+ghost use Rattle.vortex_value.specs.Values.Scalars.{IsValid, scalar_content};
+ghost use Rattle.vortex_row.specs.Held.{IsHeld};
+ghost use Rattle.vortex_row.specs.Keys.{key};
+ghost use Rattle.scalar_tests.specs.KeyProps.{held-prop, plain-prop};
+
+use std::alloc::Global;
+use vortex_row::laws::values_have_no_typed;
+use vortex_row::{RowError, SortOptions, append_key};
+use vortex_value::{Scalar, ScalarRef};
+
+/// A valid scalar with its key, by which it is compared.
+#[derive(Drop)]
+#[derive_where(PartialEq, Eq, PartialOrd, Ord)]
+pub struct Keyed {
+    bytes: Vec<u8>,
+    #[derive_where(skip(EqHashOrd))]
+    scalar: Scalar,
+    ghost keyed: { bytes.items ≡ key (scalar_content scalar) },
+    ghost held: { IsHeld (scalar_content scalar) } by { held-prop (scalar_content scalar) },
+    ghost plain: { HasNoTyped (scalar_content scalar) } by { plain-prop (scalar_content scalar) },
+}
+
+impl Keyed {
+    /// The scalar with its key. `HasVariant` if a variant stands in its type, and `OutOfMemory`.
+    pub fn try_new(alloc: Global, scalar: Scalar) -> Result<Keyed, RowError>
+        requires { IsValid scalar }
+        ensures { IfOk result (λ keyed. keyed.scalar ≡ scalar) }
+    {
+        values_have_no_typed();
+        let mut bytes = Vec::new(alloc);
+        append_key(ScalarRef::of(&scalar), SortOptions::default(), &mut bytes)?;
+        Ok(Keyed { bytes, scalar })
+    }
+
+    /// The scalar.
+    pub fn scalar(&self) -> &Scalar
+        ensures { result.now ≡ self.now.scalar }
+    {
+        &self.scalar
+    }
+}
