@@ -1,15 +1,16 @@
 //! The answers of calls, and how each is written.
 
 use crate::write::output::Output;
-use crate::write::refusals::write_refusal;
+use crate::write::refusals::{write_key_refusal, write_refusal};
 use crate::write::texts::write_text;
 use crate::write::types::write_type;
-use crate::write::values::{write_number, write_scalar, write_value};
+use crate::write::values::{write_bytes, write_number, write_scalar, write_value};
 use std::alloc::{AllocError, Global};
 use std::cmp::Ordering;
 use std::fmt::Display;
 use vortex_dtype::{BufferString, ByteBuffer, DType, VortexError};
 use vortex_pvalue::PValue;
+use vortex_row::RowError;
 use vortex_value::{Scalar, ScalarValue};
 
 /// What a call answers.
@@ -50,6 +51,15 @@ pub enum Answer {
     /// A key and its value.
     Entry((Scalar, Scalar)),
     Entries(Vec<(Scalar, Scalar)>),
+    /// The bytes of a key.
+    Key(Vec<u8>),
+    /// A scalar, and how long its key is.
+    Decoded((Scalar, usize)),
+    /// The scalars of a row, and how long its key is.
+    DecodedRow((Vec<Scalar>, usize)),
+    KeyRefused(RowError),
+    /// The places of elements, in another order.
+    Places(Vec<usize>),
     /// An answer that is written already.
     Written(String),
     Refused(VortexError),
@@ -112,6 +122,17 @@ pub fn write_answer(out: &mut Output, answer: &Answer) {
         Answer::Parts(parts) => write_parts(out, parts),
         Answer::Entry(entry) => write_entry(out, entry),
         Answer::Entries(entries) => write_entries(out, entries),
+        Answer::Key(key) => write_bytes(out, key),
+        Answer::Decoded((scalar, length)) => {
+            write_scalar(out, scalar);
+            write_length(out, *length);
+        }
+        Answer::DecodedRow((scalars, length)) => {
+            write_parts(out, scalars);
+            write_length(out, *length);
+        }
+        Answer::KeyRefused(refusal) => write_key_refusal(out, *refusal),
+        Answer::Places(places) => write_places(out, places),
         Answer::Written(text) => out.word(text),
         Answer::Refused(refusal) => write_refusal(out, refusal),
     }
@@ -142,6 +163,20 @@ fn write_parts(out: &mut Output, parts: &[Scalar]) {
     for (place, part) in parts.iter().enumerate() {
         out.comma(place);
         write_scalar(out, part);
+    }
+    out.char(']');
+}
+
+fn write_length(out: &mut Output, length: usize) {
+    out.word(", ");
+    out.number(length);
+}
+
+fn write_places(out: &mut Output, places: &[usize]) {
+    out.char('[');
+    for (index, place) in places.iter().enumerate() {
+        out.comma(index);
+        out.number(*place);
     }
     out.char(']');
 }

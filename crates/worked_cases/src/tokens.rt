@@ -153,6 +153,16 @@ impl<'a> Tokens<'a> {
         word
     }
 
+    /// Takes spaces and this word, if it comes next; else takes nothing.
+    pub fn takes_word(&mut self, word: &[u8]) -> bool {
+        let before = self.rest;
+        let takes = self.word() == word;
+        if !takes {
+            self.rest = before;
+        }
+        takes
+    }
+
     /// Takes the question mark of a nullable type, if there is one.
     pub fn nullability(&mut self) -> Nullability {
         if self.takes(b'?') {

@@ -1,8 +1,8 @@
 //! Calls that make, copy or lend the parts of types and scalars.
 
 use crate::answers::{Answer, CallResult};
-use crate::calls::Line;
 use crate::calls::makers::{validate_entries, where_valid};
+use crate::calls::{Line, keys};
 use crate::inputs::Variants;
 use crate::read::named;
 use crate::read::types::{Fields, struct_fields};
@@ -43,7 +43,7 @@ const CALLS: [(&str, Call); 10] = [
     ("try_map", Call::TryMap),
 ];
 
-/// The answer of the line's call, if it is one of these, or of `answer_types`; else `BadLine`.
+/// The answer of the line's call, if it is one of these, or of `answer_types`.
 pub fn answer_line(line: &mut Line<'_>) -> Result<Answer, AllocError> {
     let Some(call) = named(&CALLS, line.name) else {
         return answer_types(line);
@@ -97,10 +97,10 @@ const TYPE_CALLS: [(&str, TypeCall); 14] = [
     ("null_of_rust", TypeCall::NullOfRust),
 ];
 
-/// The answer of a call of types and their parts.
+/// The answer of a call of types and their parts; other calls are in `keys`.
 fn answer_types(line: &mut Line<'_>) -> Result<Answer, AllocError> {
     let Some(call) = named(&TYPE_CALLS, line.name) else {
-        return Ok(Answer::BadLine);
+        return keys::answer_line(line);
     };
     match call {
         TypeCall::CloneName => line.borrowing(clone_name),

@@ -2,6 +2,7 @@
 
 use crate::write::output::Output;
 use vortex_dtype::{Breach, Step, TypeCause, VortexError};
+use vortex_row::RowError;
 
 /// Writes the name of a refusal, and then its fields.
 pub fn write_refusal(out: &mut Output, refusal: &VortexError) {
@@ -19,6 +20,23 @@ pub fn write_refusal(out: &mut Output, refusal: &VortexError) {
             out.word(cause_name(*cause));
         }
         _ => {}
+    }
+}
+
+/// Writes the name of a key's refusal, and then its fields.
+pub fn write_key_refusal(out: &mut Output, refusal: RowError) {
+    match refusal {
+        RowError::OutOfMemory => out.word("OutOfMemory"),
+        RowError::HasVariant => out.word("HasVariant"),
+        RowError::BadKey { place } => {
+            out.word("BadKey");
+            write_count(out, place);
+        }
+        RowError::WrongLength { expected, found } => {
+            out.word("WrongLength");
+            write_count(out, expected);
+            write_count(out, found);
+        }
     }
 }
 

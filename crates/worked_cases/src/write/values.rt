@@ -18,16 +18,19 @@ fn write_integer(out: &mut Output, number: PValue) {
     out.word(number.ptype().name());
 }
 
+/// Writes bytes in hexadecimal, after an `x`.
+pub fn write_bytes(out: &mut Output, bytes: &[u8]) {
+    out.char('x');
+    out.hex(bytes);
+}
+
 #[cycle(values)]
 pub fn write_value(out: &mut Output, value: &ScalarValue) {
     match value {
         ScalarValue::Bool(truth) => out.word(truth_word(*truth)),
         ScalarValue::Primitive(number) => write_integer(out, *number),
         ScalarValue::Utf8(text) => write_text(out, text.as_str()),
-        ScalarValue::Binary(bytes) => {
-            out.char('x');
-            out.hex(bytes.as_slice());
-        }
+        ScalarValue::Binary(bytes) => write_bytes(out, bytes.as_slice()),
         ScalarValue::Tuple(parts) => write_tuple(out, parts),
         ScalarValue::Union(union) => write_union(out, union),
         ScalarValue::Variant(scalar) => write_variant(out, scalar),

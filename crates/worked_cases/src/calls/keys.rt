@@ -1,0 +1,315 @@
+//! Calls of keys: of scalars, of rows, and back.
+
+use crate::answers::{Answer, CallResult};
+use crate::calls::Line;
+use crate::inputs::{Borrowed, Exact, Inputs, ROOM};
+use crate::read::named;
+use crate::read::types::read_type;
+use crate::read::values::read_scalar;
+use crate::same::same_scalar;
+use crate::tokens::Tokens;
+use std::alloc::{AllocError, Global};
+use std::cmp::Ordering;
+use vortex_dtype::{ByteBuffer, DType, VortexError};
+use vortex_row::{
+    RowEncoder, RowError, SortOptions, append_key, append_row_key, compare_keys, decode_key,
+    decode_row_key, key_length,
+};
+use vortex_value::{Scalar, ScalarRef, ScalarValue};
+
+#[derive(Clone, Copy)]
+enum Call {
+    Key,
+    KeyInRoom,
+    KeyLength,
+    FromKey,
+    RowKey,
+    RowKeyInRoom,
+    FromRowKey,
+    RowEncoder,
+    CompareKeys,
+    SortedByKeys,
+    SortedByOrder,
+}
+
+const CALLS: [(&str, Call); 11] = [
+    ("key", Call::Key),
+    ("key_in_room", Call::KeyInRoom),
+    ("key_length", Call::KeyLength),
+    ("from_key", Call::FromKey),
+    ("row_key", Call::RowKey),
+    ("row_key_in_room", Call::RowKeyInRoom),
+    ("from_row_key", Call::FromRowKey),
+    ("row_encoder", Call::RowEncoder),
+    ("compare_keys", Call::CompareKeys),
+    ("sorted_by_keys", Call::SortedByKeys),
+    ("sorted_by_order", Call::SortedByOrder),
+];
+
+/// The answer of the line's call, if it is one of these; else `BadLine`.
+pub fn answer_line(line: &mut Line<'_>) -> Result<Answer, AllocError> {
+    let Some(call) = named(&CALLS, line.name) else {
+        return Ok(Answer::BadLine);
+    };
+    match call {
+        Call::Key => line.borrowing(key),
+        Call::KeyInRoom => line.taking(key_in_room),
+        Call::KeyLength => line.borrowing(length),
+        Call::FromKey => line.borrowing(from_key),
+        Call::RowKey => line.borrowing(row_key),
+        Call::RowKeyInRoom => line.taking(row_key_in_room),
+        Call::FromRowKey => line.borrowing(from_row_key),
+        Call::RowEncoder => line.borrowing(row_encoder),
+        Call::CompareKeys => line.borrowing(compare),
+        Call::SortedByKeys => line.borrowing(sorted_by_keys),
+        Call::SortedByOrder => line.borrowing(sorted_by_order),
+    }
+}
+
+/// `desc` for descending, and `nulls_last`; either may be missing.
+impl Inputs for SortOptions {
+    fn read(tokens: &mut Tokens<'_>) -> SortOptions {
+        let descending = tokens.takes_word(b"desc");
+        let nulls_first = !tokens.takes_word(b"nulls_last");
+        SortOptions {
+            descending,
+            nulls_first,
+        }
+    }
+}
+
+impl Exact for SortOptions {}
+
+/// What each column has, and how each is sorted.
+#[derive(Drop)]
+struct Columns<T> {
+    contents: Vec<T>,
+    options: Vec<SortOptions>,
+}
+
+/// What stands in a column.
+trait Column: Drop {
+    fn read_column(tokens: &mut Tokens<'_>) -> Self;
+}
+
+impl Column for Scalar {
+    fn read_column(tokens: &mut Tokens<'_>) -> Scalar {
+        read_scalar(tokens, ROOM)
+    }
+}
+
+impl Column for DType {
+    fn read_column(tokens: &mut Tokens<'_>) -> DType {
+        read_type(tokens, ROOM)
+    }
+}
+
+/// Columns with semicolons between them. An underscore stands for contents or options that are missing.
+impl<T: Column> Inputs for Columns<T> {
+    fn read(tokens: &mut Tokens<'_>) -> Columns<T> {
+        let mut columns = Columns {
+            contents: Vec::new(tokens.alloc),
+            options: Vec::new(tokens.alloc),
+        };
+        for _ in 0..tokens.left() {
+            tokens.spaces();
+            if !tokens.takes(b'_') {
+                let content = T::read_column(tokens);
+                tokens.push(&mut columns.contents, content);
+            }
+            if !tokens.takes(b'_') {
+                let options = SortOptions::read(tokens);
+                tokens.push(&mut columns.options, options);
+            }
+            if !tokens.takes(b';') {
+                break;
+            }
+        }
+        columns
+    }
+}
+
+impl Borrowed for Columns<DType> {
+    fn is_same(&self, copy: &Columns<DType>) -> bool {
+        self.contents == copy.contents && self.options == copy.options
+    }
+}
+
+impl Borrowed for Columns<Scalar> {
+    fn is_same(&self, copy: &Columns<Scalar>) -> bool {
+        same_scalars(&self.contents, &copy.contents) && self.options == copy.options
+    }
+}
+
+impl Borrowed for Vec<Scalar> {
+    fn is_same(&self, copy: &Vec<Scalar>) -> bool {
+        same_scalars(self, copy)
+    }
+}
+
+fn same_scalars(a: &[Scalar], b: &[Scalar]) -> bool {
+    a.len() == b.len() && a.iter().zip(b).all(|(x, y)| same_scalar(x, y))
+}
+
+/// Bytes with room for a key, made before the call.
+#[derive(Drop)]
+struct KeyRoom(Vec<u8>);
+
+impl Inputs for KeyRoom {
+    fn read(tokens: &mut Tokens<'_>) -> KeyRoom {
+        let mut bytes = Vec::new(tokens.alloc);
+        for _ in 0..4096 {
+            tokens.push(&mut bytes, 0);
+        }
+        bytes.clear();
+        KeyRoom(bytes)
+    }
+}
+
+/// A key, or its refusal. `Changed` if a refusal left a part of the key.
+fn key_answer(outcome: Result<(), RowError>, key: Vec<u8>) -> CallResult {
+    match outcome {
+        Ok(()) => Ok(Answer::Key(key)),
+        Err(_) if !key.is_empty() => Ok(Answer::Changed),
+        Err(refusal) => refused(refusal),
+    }
+}
+
+/// A refusal, which is an answer; `OutOfMemory` is that of all calls.
+fn refused(refusal: RowError) -> CallResult {
+    match refusal {
+        RowError::OutOfMemory => Err(VortexError::OutOfMemory),
+        _ => Ok(Answer::KeyRefused(refusal)),
+    }
+}
+
+fn key(alloc: Global, (scalar, options): &(Scalar, SortOptions)) -> CallResult {
+    let mut key = Vec::new(alloc);
+    let outcome = append_key(ScalarRef::of(scalar), *options, &mut key);
+    key_answer(outcome, key)
+}
+
+/// The key, appended where there is room.
+fn key_in_room(
+    _alloc: Global,
+    (scalar, options, KeyRoom(mut key)): (Scalar, SortOptions, KeyRoom),
+) -> CallResult {
+    let outcome = append_key(ScalarRef::of(&scalar), options, &mut key);
+    drop(scalar);
+    key_answer(outcome, key)
+}
+
+fn length(_alloc: Global, scalar: &Scalar) -> CallResult {
+    Ok(Answer::Number(key_length(ScalarRef::of(scalar))))
+}
+
+fn from_key(
+    alloc: Global,
+    ((dtype, bytes), options): &((DType, ByteBuffer), SortOptions),
+) -> CallResult {
+    match decode_key(alloc, dtype, *options, bytes.as_slice()) {
+        Ok(decoded) => Ok(Answer::Decoded(decoded)),
+        Err(refusal) => refused(refusal),
+    }
+}
+
+/// The scalars, lent.
+fn lent(alloc: Global, scalars: &[Scalar]) -> Result<Vec<ScalarRef<'_>>, AllocError> {
+    let mut values = Vec::new(alloc);
+    for scalar in scalars {
+        values.push(ScalarRef::of(scalar))?;
+    }
+    Ok(values)
+}
+
+fn row_key(alloc: Global, row: &Columns<Scalar>) -> CallResult {
+    let values = lent(alloc, &row.contents)?;
+    let mut key = Vec::new(alloc);
+    let outcome = append_row_key(&values, &row.options, &mut key);
+    key_answer(outcome, key)
+}
+
+/// The key of a row of one column, appended where there is room.
+fn row_key_in_room(
+    _alloc: Global,
+    (scalar, options, KeyRoom(mut key)): (Scalar, SortOptions, KeyRoom),
+) -> CallResult {
+    let outcome = append_row_key(&[ScalarRef::of(&scalar)], &[options], &mut key);
+    drop(scalar);
+    key_answer(outcome, key)
+}
+
+fn from_row_key(alloc: Global, (columns, bytes): &(Columns<DType>, ByteBuffer)) -> CallResult {
+    match decode_row_key(alloc, &columns.contents, &columns.options, bytes.as_slice()) {
+        Ok(decoded) => Ok(Answer::DecodedRow(decoded)),
+        Err(refusal) => refused(refusal),
+    }
+}
+
+/// The keys of rows, one row after another.
+fn row_encoder(alloc: Global, (columns, rows): &(Columns<DType>, Vec<Scalar>)) -> CallResult {
+    let values = lent(alloc, rows)?;
+    let encoder = match RowEncoder::try_new(&columns.contents, &columns.options) {
+        Ok(encoder) => encoder,
+        Err(refusal) => return refused(refusal),
+    };
+    let mut keys = Vec::new(alloc);
+    for row in values.chunks(columns.contents.len().max(1)) {
+        if let Err(refusal) = encoder.append(row, &mut keys) {
+            return refused(refusal);
+        }
+    }
+    Ok(Answer::Key(keys))
+}
+
+fn compare(_alloc: Global, (x, y): &(ByteBuffer, ByteBuffer)) -> CallResult {
+    Ok(Answer::Order(compare_keys(x.as_slice(), y.as_slice())))
+}
+
+/// The elements of a list, lent; of any other scalar none.
+fn elements(alloc: Global, list: &Scalar) -> Result<Vec<ScalarRef<'_>>, AllocError> {
+    let mut elements = Vec::new(alloc);
+    if let (DType::List(dtype, _), Some(ScalarValue::Tuple(parts))) = (&list.dtype, &list.value) {
+        for part in parts {
+            elements.push(ScalarRef::from_parts(dtype, part.as_ref()))?;
+        }
+    }
+    Ok(elements)
+}
+
+/// The places of a list's elements, sorted by their keys.
+fn sorted_by_keys(alloc: Global, list: &Scalar) -> CallResult {
+    let options = SortOptions {
+        descending: false,
+        nulls_first: true,
+    };
+    let mut keys = Vec::new(alloc);
+    for (place, element) in elements(alloc, list)?.iter().enumerate() {
+        let mut key = Vec::new(alloc);
+        if let Err(refusal) = append_key(*element, options, &mut key) {
+            return refused(refusal);
+        }
+        keys.push((key, place))?;
+    }
+    keys.sort_by(|(x, _), (y, _)| compare_keys(x, y))?;
+    let mut places = Vec::new(alloc);
+    for (_, place) in &keys {
+        places.push(*place)?;
+    }
+    Ok(Answer::Places(places))
+}
+
+/// The places of a list's elements, sorted by `partial_cmp`. Those without an order are as equal ones.
+fn sorted_by_order(alloc: Global, list: &Scalar) -> CallResult {
+    let elements = elements(alloc, list)?;
+    let mut places = Vec::new(alloc);
+    for (place, element) in elements.iter().enumerate() {
+        places.push((*element, place))?;
+    }
+    places.sort_by(|(x, _), (y, _)| x.partial_cmp(y).unwrap_or(Ordering::Equal))?;
+    let mut sorted = Vec::new(alloc);
+    for (_, place) in &places {
+        sorted.push(*place)?;
+    }
+    Ok(Answer::Places(sorted))
+}
