@@ -9,10 +9,15 @@ use std::io::Write as _;
 
 use crate::error::{VortexError, VortexResult};
 use crate::hashing::Recorder;
+use crate::keys::{
+    KeyError, KeyResult, RowEncoder, SortOptions, append_key, append_raw_key, append_row_key,
+    decode_key, key_length,
+};
+use crate::ordering::partial_cmp_values;
 use crate::read::{BadLine, Read, Reader};
 use crate::types::DType;
-use crate::values::Scalar;
-use crate::write::{write_error, write_quoted, write_scalar};
+use crate::values::{Scalar, ScalarValue};
+use crate::write::{write_error, write_hex, write_quoted, write_scalar};
 
 /// How lines are run: alone, or watched.
 #[derive(Clone, Copy)]
@@ -41,6 +46,13 @@ enum Call {
     Text(Scalar),
     Size(Scalar),
     IsZero(Scalar),
+    Key(Scalar, SortOptions),
+    KeyLength(Scalar),
+    FromKey(DType, Vec<u8>, SortOptions),
+    RowKey((Vec<Scalar>, Vec<SortOptions>)),
+    RowEncoder((Vec<DType>, Vec<SortOptions>), Vec<Scalar>),
+    SortedByKeys(Scalar),
+    SortedByOrder(Scalar),
 }
 
 enum Answer {
@@ -48,6 +60,10 @@ enum Answer {
     Number(usize),
     Scalar(Scalar),
     Text(String),
+    Key(Vec<u8>),
+    Decoded(Scalar, usize),
+    Places(Vec<usize>),
+    KeyRefused(KeyError),
 }
 
 pub fn answer_line(run: Run, line: &str, out: &mut String) -> Read<()> {
@@ -66,6 +82,18 @@ pub fn answer_line(run: Run, line: &str, out: &mut String) -> Read<()> {
         Ok(Answer::Number(number)) => write!(out, "{number}").expect("a String takes every text"),
         Ok(Answer::Scalar(scalar)) => write_scalar(scalar, out),
         Ok(Answer::Text(text)) => write_quoted(text, out),
+        Ok(Answer::Key(key)) => {
+            out.push('x');
+            write_hex(key, out);
+        }
+        Ok(Answer::Decoded(scalar, length)) => {
+            write_scalar(scalar, out);
+            write!(out, ", {length}").expect("a String takes every text");
+        }
+        Ok(Answer::Places(places)) => {
+            write!(out, "{places:?}").expect("a String takes every text");
+        }
+        Ok(Answer::KeyRefused(error)) => write_key_error(error, out),
         Err(error) => write_error(error, out),
     }
     Ok(())
@@ -82,6 +110,15 @@ fn read_call(reader: &mut Reader<'_>) -> Read<Call> {
         "text" => Call::Text(scalar(reader)?),
         "size" => Call::Size(scalar(reader)?),
         "is_zero" => Call::IsZero(scalar(reader)?),
+        "key" => Call::Key(scalar(reader)?, reader.options()),
+        "key_length" => Call::KeyLength(scalar(reader)?),
+        "from_key" => Call::FromKey(apart(reader)?.dtype()?, reader.bytes()?, reader.options()),
+        "row_key" => Call::RowKey(apart(reader)?.columns(Reader::scalar)?),
+        "row_encoder" => {
+            Call::RowEncoder(apart(reader)?.columns(Reader::dtype)?, reader.scalars()?)
+        }
+        "sorted_by_keys" => Call::SortedByKeys(scalar(reader)?),
+        "sorted_by_order" => Call::SortedByOrder(scalar(reader)?),
         _ => return Err(BadLine),
     })
 }
@@ -128,7 +165,91 @@ fn answer(call: &Call) -> VortexResult<Answer> {
             x.validate()?;
             Answer::Word(x.is_zero().map_or("none", truth))
         }
+        Call::Key(x, options) => {
+            let mut key = Vec::new();
+            of_keys(append_key(x, *options, &mut key), |()| Answer::Key(key))
+        }
+        Call::KeyLength(x) => Answer::Number(key_length(x.value())),
+        Call::FromKey(dtype, bytes, options) => {
+            of_keys(decode_key(dtype, *options, bytes), |(scalar, length)| {
+                Answer::Decoded(scalar, length)
+            })
+        }
+        Call::RowKey((values, options)) => {
+            let values: Vec<&Scalar> = values.iter().collect();
+            let mut key = Vec::new();
+            of_keys(append_row_key(&values, options, &mut key), |()| {
+                Answer::Key(key)
+            })
+        }
+        Call::RowEncoder((dtypes, options), values) => {
+            of_keys(encode_rows(dtypes, options, values), Answer::Key)
+        }
+        Call::SortedByKeys(x) => of_keys(sorted_by_keys(x), Answer::Places),
+        Call::SortedByOrder(x) => Answer::Places(sorted_by_order(x)),
     })
+}
+
+fn of_keys<T>(outcome: KeyResult<T>, answer: impl FnOnce(T) -> Answer) -> Answer {
+    outcome.map_or_else(Answer::KeyRefused, answer)
+}
+
+/// The keys of rows, one row after another.
+fn encode_rows(dtypes: &[DType], options: &[SortOptions], values: &[Scalar]) -> KeyResult<Vec<u8>> {
+    let values: Vec<&Scalar> = values.iter().collect();
+    let encoder = RowEncoder::try_new(dtypes, options)?;
+    let mut keys = Vec::new();
+    for row in values.chunks(dtypes.len().max(1)) {
+        encoder.append(row, &mut keys)?;
+    }
+    Ok(keys)
+}
+
+/// The type of a list's elements, and the elements.
+fn elements(list: &Scalar) -> (&DType, &[Option<ScalarValue>]) {
+    match (list.dtype(), list.value()) {
+        (DType::List(dtype, _), Some(value)) => (dtype, value.as_list()),
+        (dtype, _) => (dtype, &[]),
+    }
+}
+
+/// The places of a list's elements, sorted by their keys.
+fn sorted_by_keys(list: &Scalar) -> KeyResult<Vec<usize>> {
+    let (dtype, elements) = elements(list);
+    let options = SortOptions {
+        descending: false,
+        nulls_first: true,
+    };
+    let mut keys = Vec::with_capacity(elements.len());
+    for (place, element) in elements.iter().enumerate() {
+        let mut key = Vec::new();
+        append_raw_key(dtype, element.as_ref(), options, &mut key)?;
+        keys.push((key, place));
+    }
+    keys.sort_by(|(x, _), (y, _)| x.cmp(y));
+    Ok(keys.into_iter().map(|(_, place)| place).collect())
+}
+
+/// The places of a list's elements, sorted by their order.
+fn sorted_by_order(list: &Scalar) -> Vec<usize> {
+    let elements = elements(list).1;
+    let mut places: Vec<usize> = (0..elements.len()).collect();
+    places.sort_by(|x, y| {
+        partial_cmp_values(elements[*x].as_ref(), elements[*y].as_ref()).unwrap_or(Ordering::Equal)
+    });
+    places
+}
+
+fn write_key_error(error: &KeyError, out: &mut String) {
+    match error {
+        KeyError::HasVariant => out.push_str("HasVariant"),
+        KeyError::BadKey { place } => {
+            write!(out, "BadKey {place}").expect("a String takes every text");
+        }
+        KeyError::WrongLength { expected, found } => {
+            write!(out, "WrongLength {expected} {found}").expect("a String takes every text");
+        }
+    }
 }
 
 fn fed(scalar: &Scalar) -> u64 {

@@ -1,6 +1,6 @@
 // SPDX-License-Identifier: Apache-2.0
 //! The plain Rust that a user would write in place of the library, by std alone: types and raw values of upstream's shape,
-//! and nine calls over them. It reads lines of calls as `scalar_cases` does, and writes each with its answer. Given the
+//! nine calls over them, and keys. It reads lines of calls as `scalar_cases` does, and writes each with its answer. Given the
 //! word `--memory` it says on standard error when a call is made and when it has answered.
 
 mod calls;
@@ -9,6 +9,7 @@ mod display;
 mod equality;
 mod error;
 mod hashing;
+mod keys;
 mod ordering;
 mod pvalues;
 mod read;

@@ -16,7 +16,10 @@ impl PartialOrd for Scalar {
 }
 
 #[inline]
-fn partial_cmp_values(left: Option<&ScalarValue>, right: Option<&ScalarValue>) -> Option<Ordering> {
+pub fn partial_cmp_values(
+    left: Option<&ScalarValue>,
+    right: Option<&ScalarValue>,
+) -> Option<Ordering> {
     match (left, right) {
         (Some(left), Some(right)) => partial_cmp_non_null_values(left, right),
         _ => Some(left.is_some().cmp(&right.is_some())),

@@ -4,6 +4,7 @@
 use std::sync::Arc;
 
 use crate::error::TypeCause;
+use crate::keys::SortOptions;
 use crate::pvalues::PValue;
 use crate::types::{
     DType, ExtDType, FieldName, MapDType, Nullability, PType, StructFields, UnionVariants,
@@ -261,6 +262,45 @@ impl Reader<'_> {
     }
 }
 
+/// Columns.
+impl Reader<'_> {
+    fn takes_word(&mut self, word: &str) -> bool {
+        self.spaces();
+        let start = self.at;
+        let is_next = self.run(is_word) == word;
+        if !is_next {
+            self.at = start;
+        }
+        is_next
+    }
+
+    pub fn options(&mut self) -> SortOptions {
+        SortOptions {
+            descending: self.takes_word("desc"),
+            nulls_first: !self.takes_word("nulls_last"),
+        }
+    }
+
+    /// What columns have and their options, with semicolons between columns. An underscore stands for what is missing.
+    pub fn columns<T>(
+        &mut self,
+        mut read: impl FnMut(&mut Self) -> Read<T>,
+    ) -> Read<(Vec<T>, Vec<SortOptions>)> {
+        let (mut contents, mut options) = (Vec::new(), Vec::new());
+        loop {
+            if !self.take(b'_') {
+                contents.push(read(self)?);
+            }
+            if !self.take(b'_') {
+                options.push(self.options());
+            }
+            if !self.take(b';') {
+                return Ok((contents, options));
+            }
+        }
+    }
+}
+
 /// Raw values.
 impl Reader<'_> {
     pub fn scalar(&mut self) -> Read<Scalar> {
@@ -300,6 +340,22 @@ impl Reader<'_> {
                 _ => return Err(BadLine),
             },
         }))
+    }
+
+    /// Scalars in brackets.
+    pub fn scalars(&mut self) -> Read<Vec<Scalar>> {
+        let mut scalars = Vec::new();
+        self.need(b'[')?;
+        self.parts(b']', |reader| {
+            scalars.push(reader.scalar()?);
+            Ok(())
+        })?;
+        Ok(scalars)
+    }
+
+    pub fn bytes(&mut self) -> Read<Vec<u8>> {
+        self.need(b'x')?;
+        self.hex()
     }
 
     fn number_or_union(&mut self) -> Read<ScalarValue> {

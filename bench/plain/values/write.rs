@@ -34,7 +34,7 @@ fn write_name(name: &str, out: &mut String) {
     }
 }
 
-fn write_hex(bytes: &[u8], out: &mut String) {
+pub fn write_hex(bytes: &[u8], out: &mut String) {
     for byte in bytes {
         put!(out, "{byte:02x}");
     }
