@@ -172,8 +172,17 @@ fn append_number(number: PValue, out: &mut Vec<u8>) {
     out.extend_from_slice(&bytes.to_be_bytes()[8 - size..]);
 }
 
+/// Whether no byte is written as two. All are looked at, so that several are at once.
+fn is_plain(text: &[u8]) -> bool {
+    text.iter().fold(255, |least, byte| least.min(*byte)) > 1
+}
+
 fn append_string(first: u8, mut text: &[u8], out: &mut Vec<u8>) {
     out.push(first);
+    if is_plain(text) {
+        out.extend_from_slice(text);
+        return out.push(0);
+    }
     while let Some(place) = text.iter().position(|byte| *byte <= 1) {
         out.extend_from_slice(&text[..place]);
         out.extend_from_slice(&[1, text[place] + 1]);
@@ -184,7 +193,10 @@ fn append_string(first: u8, mut text: &[u8], out: &mut Vec<u8>) {
 }
 
 pub fn key_length(value: Option<&ScalarValue>) -> usize {
-    let string = |text: &[u8]| 2 + text.len() + text.iter().filter(|byte| **byte <= 1).count();
+    let string = |text: &[u8]| {
+        let doubled = |text: &[u8]| text.iter().filter(|byte| **byte <= 1).count();
+        2 + text.len() + if is_plain(text) { 0 } else { doubled(text) }
+    };
     match value {
         None | Some(ScalarValue::Bool(_) | ScalarValue::Variant(_)) => 1,
         Some(ScalarValue::Primitive(number)) => 1 + size_of(distance(*number).0),
