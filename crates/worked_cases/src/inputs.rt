@@ -13,7 +13,7 @@ use vortex_pvalue::PValue;
 use vortex_value::{Scalar, ScalarValue};
 
 /// How many brackets may be open at a time.
-pub const ROOM: u32 = 256;
+const ROOM: u32 = 256;
 
 /// What a call may be given.
 pub trait Inputs: Drop {

@@ -2,10 +2,8 @@
 
 use crate::answers::{Answer, CallResult};
 use crate::calls::Line;
-use crate::inputs::{Borrowed, Exact, Inputs, ROOM};
+use crate::inputs::{Borrowed, Exact, Inputs, Item};
 use crate::read::named;
-use crate::read::types::read_type;
-use crate::read::values::read_scalar;
 use crate::same::same_scalar;
 use crate::tokens::Tokens;
 use std::alloc::{AllocError, Global};
@@ -87,34 +85,17 @@ struct Columns<T> {
     options: Vec<SortOptions>,
 }
 
-/// What stands in a column.
-trait Column: Drop {
-    fn read_column(tokens: &mut Tokens<'_>) -> Self;
-}
-
-impl Column for Scalar {
-    fn read_column(tokens: &mut Tokens<'_>) -> Scalar {
-        read_scalar(tokens, ROOM)
-    }
-}
-
-impl Column for DType {
-    fn read_column(tokens: &mut Tokens<'_>) -> DType {
-        read_type(tokens, ROOM)
-    }
-}
-
 /// Columns with semicolons between them. An underscore stands for contents or options that are missing.
-impl<T: Column> Inputs for Columns<T> {
+impl<T: Item> Inputs for Columns<T> {
     fn read(tokens: &mut Tokens<'_>) -> Columns<T> {
         let mut columns = Columns {
             contents: Vec::new(tokens.alloc),
             options: Vec::new(tokens.alloc),
         };
-        for _ in 0..tokens.left() {
+        for _ in 0..=tokens.left() {
             tokens.spaces();
             if !tokens.takes(b'_') {
-                let content = T::read_column(tokens);
+                let content = T::read_item(tokens);
                 tokens.push(&mut columns.contents, content);
             }
             if !tokens.takes(b'_') {
@@ -157,12 +138,9 @@ struct KeyRoom(Vec<u8>);
 
 impl Inputs for KeyRoom {
     fn read(tokens: &mut Tokens<'_>) -> KeyRoom {
-        let mut bytes = Vec::new(tokens.alloc);
-        for _ in 0..4096 {
-            tokens.push(&mut bytes, 0);
-        }
-        bytes.clear();
-        KeyRoom(bytes)
+        let room = Vec::with_capacity(tokens.alloc, 4096);
+        let made = tokens.made(room.map_err(VortexError::from));
+        KeyRoom(made.unwrap_or(Vec::new(tokens.alloc)))
     }
 }
 
@@ -215,11 +193,10 @@ fn from_key(
 
 /// The scalars, lent.
 fn lent(alloc: Global, scalars: &[Scalar]) -> Result<Vec<ScalarRef<'_>>, AllocError> {
-    let mut values = Vec::new(alloc);
-    for scalar in scalars {
-        values.push(ScalarRef::of(scalar))?;
-    }
-    Ok(values)
+    scalars
+        .iter()
+        .map(|scalar| ScalarRef::of(scalar))
+        .collect(alloc)
 }
 
 fn row_key(alloc: Global, row: &Columns<Scalar>) -> CallResult {
@@ -268,13 +245,13 @@ fn compare(_alloc: Global, (x, y): &(ByteBuffer, ByteBuffer)) -> CallResult {
 
 /// The elements of a list, lent; of any other scalar none.
 fn elements(alloc: Global, list: &Scalar) -> Result<Vec<ScalarRef<'_>>, AllocError> {
-    let mut elements = Vec::new(alloc);
-    if let (DType::List(dtype, _), Some(ScalarValue::Tuple(parts))) = (&list.dtype, &list.value) {
-        for part in parts {
-            elements.push(ScalarRef::from_parts(dtype, part.as_ref()))?;
-        }
+    match (&list.dtype, &list.value) {
+        (DType::List(dtype, _), Some(ScalarValue::Tuple(parts))) => parts
+            .iter()
+            .map(|part| ScalarRef::from_parts(dtype, part.as_ref()))
+            .collect(alloc),
+        _ => Ok(Vec::new(alloc)),
     }
-    Ok(elements)
 }
 
 /// The places of a list's elements, sorted by their keys.
@@ -292,24 +269,20 @@ fn sorted_by_keys(alloc: Global, list: &Scalar) -> CallResult {
         keys.push((key, place))?;
     }
     keys.sort_by(|(x, _), (y, _)| compare_keys(x, y))?;
-    let mut places = Vec::new(alloc);
-    for (_, place) in &keys {
-        places.push(*place)?;
-    }
-    Ok(Answer::Places(places))
+    Ok(Answer::Places(keys.iter().map(|(_, place)| *place).collect(alloc)?))
 }
 
 /// The places of a list's elements, sorted by `partial_cmp`. Those without an order are as equal ones.
 fn sorted_by_order(alloc: Global, list: &Scalar) -> CallResult {
     let elements = elements(alloc, list)?;
-    let mut places = Vec::new(alloc);
-    for (place, element) in elements.iter().enumerate() {
-        places.push((*element, place))?;
+    let mut places: Vec<usize> = (0..elements.len()).collect(alloc)?;
+    places.sort_by(|x, y| order_at(&elements, *x, *y))?;
+    Ok(Answer::Places(places))
+}
+
+fn order_at(elements: &[ScalarRef<'_>], x: usize, y: usize) -> Ordering {
+    match (elements.get(x), elements.get(y)) {
+        (Some(x), Some(y)) => x.partial_cmp(y).unwrap_or(Ordering::Equal),
+        _ => Ordering::Equal,
     }
-    places.sort_by(|(x, _), (y, _)| x.partial_cmp(y).unwrap_or(Ordering::Equal))?;
-    let mut sorted = Vec::new(alloc);
-    for (_, place) in &places {
-        sorted.push(*place)?;
-    }
-    Ok(Answer::Places(sorted))
 }
