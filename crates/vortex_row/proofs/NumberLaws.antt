@@ -46,7 +46,7 @@ without_zeros-length [] = omega arith
 without_zeros-length (zero ∷ bs) = let rest = without_zeros-length bs in omega arith
 without_zeros-length (suc b ∷ bs) = omega arith
 
-number-bytes : (n : ℕ) → AreBytes (number_bytes n)
+pub number-bytes : (n : ℕ) → AreBytes (number_bytes n)
 number-bytes n = without_zeros-bytes (big_endian 8 n) (big_endian-bytes 8 n)
 
 pub number-length : (n : ℕ) → length (number_bytes n) ≤ 8

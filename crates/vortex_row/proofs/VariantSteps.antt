@@ -1,11 +1,12 @@
 -- Steps of the test for variants.
-use Rattle.std.proofs.Common.{◌≡◌, ◌||◌, ◌<◌, ◌≤◌, ℕ, suc, List, length, drop, get_or, drop-cons, Bool, true, false, refl, sym, subst, ◌∙◌, true≢false}
+use Rattle.std.proofs.Common.{◌≡◌, ◌||◌, ◌<◌, ◌≤◌, ℕ, zero, suc, ◌+◌, List, [], ◌∷◌, length, drop, get_or, drop-cons, Bool, true, false, refl, sym, subst, ap, ap₂, ◌∙◌, arith, true≢false}
+use Rattle.std.proofs.Math.Seq.{drop-nil}
 use Rattle.vortex_dtype.specs.TypeTree.{TypeTree, list_type, fixed_size_list_type, map_type, struct_type, union_type, variant_type, extension_type, TypeTrees, no_types, type_then}
 use Rattle.vortex_value.specs.TypesWithin.{HasNoVariant, HaveNoVariant}
 use Rattle.vortex_dtype.specs.declared.types.DType.{DType}
 use Rattle.vortex_dtype.specs.TypeOf.{type_of, dtype_trees}
 use Rattle.vortex_dtype.specs.Lemmas.TypeSize.{type_size, types_size, type_size-at}
-use Rattle.vortex_row.specs.Variants.{has_variant, have_variant}
+use Rattle.vortex_row.specs.Variants.{HasByteIds, HaveByteIds, has_variant, have_variant}
 use Rattle.vortex_dtype.specs.Lemmas.TypeLevels.{type_of-List, type_of-FixedSizeList, type_of-Map, type_of-Struct, type_of-Union, type_of-Extension}
 
 pub or_false : (b c : Bool) → b ≡ false → (b || c) ≡ c
@@ -66,3 +67,22 @@ pub found_variants : (ts : TypeTrees) → have_variant ts ≡ true → ¬ (HaveN
 found_variants ts h n = true≢false (sym h ∙ tests-from_none ts n)
 
 pub ruleset decided = (none-from_test, none-from_tests, found_variant, found_variants)
+
+-- the ids of the types from a place on
+
+pub rest-decides : (i : ℕ) (ts : List DType) (t : DType) (b c : Bool) → i < length ts → t ≡ get_or ts i t → b ≡ has_variant (type_of t) → b ≡ false → have_variant (dtype_trees (drop i ts)) ≡ c → have_variant (dtype_trees (drop (i + 1) ts)) ≡ c
+rest-decides i ts t b c less is e f h =
+    let one : i + 1 ≡ suc i = omega arith in
+    ap (λ n. have_variant (dtype_trees (drop n ts))) one ∙ sym (or_false (has_variant (type_of t)) (have_variant (dtype_trees (drop (suc i) ts))) (sym e ∙ f)) ∙ sym (have_variant-at i ts t less is) ∙ h
+
+pub ids-from : (i : ℕ) (ts : List DType) (t : DType) → i < length ts → t ≡ get_or ts i t → HasByteIds (type_of t) → (HaveByteIds (dtype_trees (drop i ts)) → HaveByteIds (dtype_trees ts)) → HaveByteIds (dtype_trees (drop (i + 1) ts))
+    → HaveByteIds (dtype_trees ts)
+ids-from i ts t less is one all more =
+    let next : suc i ≡ i + 1 = omega arith in
+    let e : drop i ts ≡ t ∷ drop (i + 1) ts = drop-cons ts i t less ∙ ap₂ (λ d n. d ∷ drop n ts) (sym is) next in
+    all (subst (λ ds. HaveByteIds (dtype_trees ds)) (sym e) (one, more))
+
+pub ids-end : (i : ℕ) (ts : List DType) → length ts ≤ i → HaveByteIds (dtype_trees (drop i ts))
+ids-end i [] h = subst (λ ds. HaveByteIds (dtype_trees ds)) (sym (drop-nil i)) tt
+ids-end zero (t ∷ ts) h = absurd (omega arith)
+ids-end (suc i) (t ∷ ts) h = ids-end i ts (omega arith)

@@ -1,3 +1,5 @@
+pub mod Bytes
+pub mod ColumnReading
 pub mod Columns
 pub mod ContentOrder
 pub mod Decoded
@@ -6,7 +8,10 @@ pub mod Examples
 pub mod Held
 pub mod Keys
 pub mod Laws
+pub mod Numbers
 pub mod Places
+pub mod Reading
 pub mod Steps
+pub mod Strings
 pub mod Variants
 pub mod Words

@@ -3,15 +3,18 @@
 //! Keys of scalars and of rows: bytes that sort as the scalars do, and from which they come back.
 #![tactic(auto)]
 
+mod decode;
 mod encode;
 mod error;
 mod keys;
 pub mod laws;
 mod lengths;
 mod options;
+mod reader;
 mod rows;
 mod variants;
 
+pub use decode::{decode_key, decode_row_key};
 pub use error::RowError;
 pub use keys::{append_key, compare_keys, key_length};
 pub use options::SortOptions;

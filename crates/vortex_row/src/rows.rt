@@ -119,7 +119,7 @@ impl<'a> RowEncoder<'a> {
 }
 
 /// `WrongLength` exactly if the two numbers are not one.
-fn expect_length(expected: usize, found: usize) -> Result<(), RowError>
+pub(crate) fn expect_length(expected: usize, found: usize) -> Result<(), RowError>
     ensures same { OnOk result (found ≡ expected) }
     ensures refused { IfErr result
         (λ e. (e ≡ WrongLength expected found) × (found ≢ expected)) }

@@ -1,16 +1,28 @@
 //! Whether a variant stands in a type: then its values have no order, and no keys.
 
-ghost use Rattle.std.specs.Prelude.{◌≡◌, Err, OnOk, IfErr};
-ghost use Rattle.vortex_row.specs.Words.{HasNoVariant, HasVariant, HaveNoVariant, dtype_trees, has_variant, have_variant, type_of};
+ghost use Rattle.std.specs.Prelude.{◌≡◌, Err, OnOk, IfErr, false};
+ghost use Rattle.vortex_row.specs.Words.{HasNoVariant, HasVariant, HaveNoVariant, dtype_trees, has_variant, have_variant, type_of, variants_of};
+ghost use Rattle.vortex_row.specs.Variants.{FirstIsByte, HasByteIds, HaveByteIds};
 
 use crate::error::RowError;
-use vortex_dtype::DType;
+use vortex_dtype::{DType, UnionVariants};
+
+/// Does nothing: its contract says that the first id is a byte, which the tree of a type does not.
+#[inline(always)]
+fn ids_are_bytes(variants: &UnionVariants)
+    ensures { FirstIsByte (variants_of variants.now).type_ids }
+{
+    if variants.len() > 0 {
+        let _id = variants.child_index_to_tag(0);
+    }
+}
 
 /// Whether a variant stands in the type, at any depth.
 #[cycle(variants)]
 #[tactic(auto, using(crate::proofs::VariantSteps::shown))]
 fn has_variant(dtype: &DType) -> bool
-    ensures { result ≡ has_variant (type_of dtype.now) }
+    ensures decided { result ≡ has_variant (type_of dtype.now) }
+    ensures ids { result ≡ false → HasByteIds (type_of dtype.now) }
 {
     match dtype {
         DType::Variant(_) => true,
@@ -18,7 +30,10 @@ fn has_variant(dtype: &DType) -> bool
         DType::FixedSizeList(element, _, _) => has_variant(element),
         DType::Map(map, _) => has_variant(map.key_dtype()) || has_variant(map.value_dtype()),
         DType::Struct(fields, _) => have_variant(fields.dtypes()),
-        DType::Union(variants, _) => have_variant(variants.dtypes()),
+        DType::Union(variants, _) => {
+            ids_are_bytes(variants);
+            have_variant(variants.dtypes())
+        }
         DType::Extension(extension) => has_variant(extension.storage_dtype()),
         _ => false,
     }
@@ -28,7 +43,8 @@ fn has_variant(dtype: &DType) -> bool
 #[cycle(variants)]
 #[tactic(auto, using(crate::proofs::VariantSteps::shown))]
 fn have_variant(dtypes: &[DType]) -> bool
-    ensures { result ≡ have_variant (dtype_trees dtypes.now) }
+    ensures decided { result ≡ have_variant (dtype_trees dtypes.now) }
+    ensures ids { result ≡ false → HaveByteIds (dtype_trees dtypes.now) }
 {
     for dtype in dtypes {
         if has_variant(dtype) {
@@ -42,6 +58,7 @@ fn have_variant(dtypes: &[DType]) -> bool
 #[tactic(auto, using(crate::proofs::VariantSteps::decided))]
 pub(crate) fn expect_no_variant(dtype: &DType) -> Result<(), RowError>
     ensures ordered { OnOk result (HasNoVariant (type_of dtype.now)) }
+    ensures ids { OnOk result (HasByteIds (type_of dtype.now)) }
     ensures refused { IfErr result (λ e. (e ≡ HasVariant) × ¬ (HasNoVariant (type_of dtype.now))) }
 {
     if has_variant(dtype) {
@@ -54,6 +71,7 @@ pub(crate) fn expect_no_variant(dtype: &DType) -> Result<(), RowError>
 #[tactic(auto, using(crate::proofs::VariantSteps::decided))]
 pub(crate) fn expect_no_variants(dtypes: &[DType]) -> Result<(), RowError>
     ensures ordered { OnOk result (HaveNoVariant (dtype_trees dtypes.now)) }
+    ensures ids { OnOk result (HaveByteIds (dtype_trees dtypes.now)) }
     ensures refused { IfErr result
         (λ e. (e ≡ HasVariant) × ¬ (HaveNoVariant (dtype_trees dtypes.now))) }
 {

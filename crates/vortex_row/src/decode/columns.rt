@@ -1,0 +1,145 @@
+//! Scalars of columns and of rows from their keys.
+
+ghost use Rattle.std.specs.Prelude.{◌≡◌, ◌≢◌, ◌≤◌, ◌∷◌, ℕ, List, MatchResult, false, length, true};
+ghost use Rattle.vortex_row.specs.ColumnReading.{AreColumnKeys, HasColumn, HasColumnAt, HasRow, IsColumnKey, IsRefusal, IsRefusalAt};
+ghost use Rattle.vortex_row.specs.Reading.{AllHaveValues, HasValues};
+ghost use Rattle.vortex_row.specs.Words.{IsMadeOf, IsNullable, OutOfMemory, absent, dtype_trees, null_byte, raw_of, scalar_raw, scalar_type, type_of};
+
+use super::values::read_value;
+use crate::error::RowError;
+use crate::options::SortOptions;
+use crate::reader::{Fault, Reader, bytes_from};
+use std::alloc::Global;
+use vortex_dtype::DType;
+use vortex_value::{Scalar, ScalarValue};
+
+/// The key of a null.
+fn null_byte(nulls_first: bool) -> u8
+    ensures { result ≡ null_byte nulls_first }
+{
+    if nulls_first { 1 } else { 255 }
+}
+
+/// Whether the bytes begin with the key of a null, and the type takes one.
+#[tactic(auto, using(crate::proofs::DecodeSteps::nulls))]
+fn begins_with_null(dtype: &DType, options: SortOptions, bytes: &[u8]) -> bool
+    ensures null { result ≡ true
+        → HasColumn options (type_of dtype.now) absent bytes.now 1 }
+    ensures other { result ≡ false → IsNullable (type_of dtype.now)
+        → (bs : List ℕ) → bytes.now ≢ null_byte options.nulls_first ∷ bs }
+{
+    match bytes {
+        [first, ..] => dtype.is_nullable() && *first == null_byte(options.nulls_first),
+        [] => false,
+    }
+}
+
+/// The value of the type that the bytes begin with the key of, and how many bytes that has.
+#[tactic(auto, using(crate::proofs::DecodeSteps::shown))]
+fn read_column(
+    alloc: Global,
+    dtype: &DType,
+    options: SortOptions,
+    bytes: &[u8],
+) -> Result<(Option<ScalarValue>, usize), RowError>
+    ensures { MatchResult result
+        (λ p. HasColumn options (type_of dtype.now) (raw_of p.0) bytes.now p.1)
+        (λ e. IsRefusal (HasValues (type_of dtype.now))
+        (IsColumnKey options (type_of dtype.now)) bytes.now e) }
+{
+    if begins_with_null(dtype, options, bytes) {
+        return Ok((None, 1));
+    }
+    let mut reader = Reader {
+        rest: bytes,
+        invert: options.descending,
+    };
+    let answer = read_value(alloc, dtype, &mut reader);
+    let taken = bytes.len().saturating_sub(reader.rest.len());
+    match answer {
+        Ok(value) => Ok((Some(value), taken)),
+        Err(Fault::NoMemory) => Err(RowError::OutOfMemory),
+        Err(Fault::Bad) => Err(RowError::BadKey { place: taken }),
+    }
+}
+
+/// The scalar of the type with this value. `OutOfMemory` if its type finds no memory.
+fn scalar_of(alloc: Global, dtype: &DType, value: Option<ScalarValue>) -> Result<Scalar, RowError>
+    ensures { MatchResult result
+        (IsMadeOf (type_of dtype.now) (raw_of value))
+        (λ e. e ≡ OutOfMemory) }
+{
+    match dtype.clone(alloc) {
+        Ok(dtype) => Ok(Scalar { dtype, value }),
+        Err(error) => {
+            drop((error, value));
+            Err(RowError::OutOfMemory)
+        }
+    }
+}
+
+/// The scalar of the type that the bytes begin with the key of, and how many bytes that has.
+#[tactic(auto, using(crate::proofs::DecodeSteps::shown))]
+pub(super) fn decode_column(
+    alloc: Global,
+    dtype: &DType,
+    options: SortOptions,
+    bytes: &[u8],
+) -> Result<(Scalar, usize), RowError>
+    ensures { MatchResult result
+        (λ p. (scalar_type p.0 ≡ type_of dtype.now)
+        × HasColumn options (type_of dtype.now) (scalar_raw p.0) bytes.now p.1)
+        (λ e. IsRefusal (HasValues (type_of dtype.now))
+        (IsColumnKey options (type_of dtype.now)) bytes.now e) }
+{
+    let (value, taken) = read_column(alloc, dtype, options, bytes)?;
+    Ok((scalar_of(alloc, dtype, value)?, taken))
+}
+
+/// The scalar of the type that the bytes from a place on begin with the key of, and the place after
+/// that key.
+#[tactic(auto, using(crate::proofs::RowDecodeSteps::places))]
+fn decode_at(
+    alloc: Global,
+    dtype: &DType,
+    options: SortOptions,
+    bytes: &[u8],
+    place: usize,
+) -> Result<(Scalar, usize), RowError>
+    requires { place ≤ length bytes.now }
+    ensures { MatchResult result
+        (λ p. HasColumnAt options (type_of dtype.now) p.0 bytes.now place p.1)
+        (λ e. IsRefusalAt (HasValues (type_of dtype.now))
+        (IsColumnKey options (type_of dtype.now)) bytes.now place e) }
+{
+    match decode_column(alloc, dtype, options, bytes_from(bytes, place)) {
+        Ok((scalar, taken)) => Ok((scalar, place + taken)),
+        Err(RowError::BadKey { place: bad }) => Err(RowError::BadKey { place: place + bad }),
+        Err(error) => Err(error),
+    }
+}
+
+/// The scalars of the types that the bytes begin with the key of the row of, and how many bytes that
+/// has.
+#[tactic(auto, using(crate::proofs::RowDecodeSteps::shown))]
+pub(super) fn decode_columns(
+    alloc: Global,
+    dtypes: &[DType],
+    options: &[SortOptions],
+    bytes: &[u8],
+) -> Result<(Vec<Scalar>, usize), RowError>
+    requires { length dtypes.now ≡ length options.now }
+    ensures { MatchResult result
+        (λ p. HasRow options.now (dtype_trees dtypes.now) p.0.items bytes.now p.1)
+        (λ e. IsRefusal (AllHaveValues (dtype_trees dtypes.now))
+        (AreColumnKeys options.now (dtype_trees dtypes.now)) bytes.now e) }
+{
+    let mut scalars = Vec::with_capacity(alloc, dtypes.len())?;
+    let mut place = 0;
+    for column in 0..dtypes.len() {
+        let (scalar, next) = decode_at(alloc, &dtypes[column], options[column], bytes, place)?;
+        scalars.push(scalar)?;
+        place = next;
+    }
+    Ok((scalars, place))
+}

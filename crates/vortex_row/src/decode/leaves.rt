@@ -1,0 +1,53 @@
+//! Values without parts from their keys.
+
+ghost use Rattle.vortex_row.specs.Reading.{IsPresent, Reads, left};
+ghost use Rattle.vortex_row.specs.Words.{NonNullable, binary_type, bool_type, utf8_type, value_tree};
+
+use super::strings::{read_bytes, read_text};
+use crate::reader::{Fault, Reader};
+use std::alloc::Global;
+use vortex_value::ScalarValue;
+
+/// False, which is the key itself.
+const FALSE: u8 = 2;
+/// True, which is the key itself.
+const TRUE: u8 = 3;
+/// The first byte of a text.
+const TEXT: u8 = 21;
+/// The first byte of a string of bytes.
+const STRING: u8 = 22;
+
+/// A truth value.
+#[tactic(auto, using(crate::proofs::LeafSteps::shown))]
+pub(super) fn read_truth(reader: &mut Reader<'_>) -> Result<ScalarValue, Fault>
+    ensures { Reads (Unit {0}) (IsPresent (bool_type NonNullable)) value_tree
+        result (left reader.old) (left reader.new) }
+{
+    if reader.takes(FALSE) {
+        Ok(ScalarValue::Bool(false))
+    } else if reader.takes(TRUE) {
+        Ok(ScalarValue::Bool(true))
+    } else {
+        Err(Fault::Bad)
+    }
+}
+
+/// A text.
+#[tactic(auto, using(crate::proofs::LeafSteps::shown))]
+pub(super) fn read_utf8(alloc: Global, reader: &mut Reader<'_>) -> Result<ScalarValue, Fault>
+    ensures { Reads (Unit {0}) (IsPresent (utf8_type NonNullable)) value_tree
+        result (left reader.old) (left reader.new) }
+{
+    reader.take(TEXT)?;
+    Ok(ScalarValue::Utf8(read_text(alloc, reader)?))
+}
+
+/// A string of bytes.
+#[tactic(auto, using(crate::proofs::LeafSteps::shown))]
+pub(super) fn read_binary(alloc: Global, reader: &mut Reader<'_>) -> Result<ScalarValue, Fault>
+    ensures { Reads (Unit {0}) (IsPresent (binary_type NonNullable)) value_tree
+        result (left reader.old) (left reader.new) }
+{
+    reader.take(STRING)?;
+    Ok(ScalarValue::Binary(read_bytes(alloc, reader)?))
+}

@@ -1,0 +1,160 @@
+//! Numbers from their keys.
+
+ghost use Rattle.std.specs.Prelude.{◌≡◌, ◌≤◌, ◌<◌, ℕ, List, IfErr, MatchOption, MatchResult, drop, false, length, true};
+ghost use Rattle.vortex_row.specs.Numbers.{GoesOnAs, HasDistance, HasLimits, HasMagnitude, IsMagnitude, whole_at};
+ghost use Rattle.vortex_row.specs.Reading.{IsInverted, IsKey, IsPresent, IsStuck, NoneBegins, Reads, left};
+ghost use Rattle.vortex_row.specs.Words.{NonNullable, integer_type, inverted, value_tree};
+
+use crate::reader::{Fault, Reader, are_bytes, inverted_again, inverted_if};
+use vortex_dtype::PType;
+use vortex_pvalue::PValue;
+use vortex_value::ScalarValue;
+
+/// The key of 0. Those of numbers above it begin with one more for each of their bytes, and those
+/// of numbers below it with one less.
+const ZERO: u8 = 12;
+
+/// How a number goes on after its first byte.
+#[derive(Clone, Copy)]
+struct Form {
+    /// Whether it is below 0; its bytes are then inverted.
+    below: bool,
+    /// How many bytes there are of how far it is from 0.
+    width: u8,
+    /// How far it is from 0 at most.
+    limit: u64,
+}
+
+/// The greatest number of the kind, and how far below 0 its least one is.
+fn limits(ptype: PType) -> (u64, u64)
+    ensures { HasLimits ptype result.0 result.1 }
+{
+    match ptype {
+        PType::U8 => (0xff, 0),
+        PType::U16 => (0xffff, 0),
+        PType::U32 => (0xffff_ffff, 0),
+        PType::U64 => (0xffff_ffff_ffff_ffff, 0),
+        PType::I8 => (0x7f, 0x80),
+        PType::I16 => (0x7fff, 0x8000),
+        PType::I32 => (0x7fff_ffff, 0x8000_0000),
+        PType::I64 => (0x7fff_ffff_ffff_ffff, 0x8000_0000_0000_0000),
+    }
+}
+
+/// Whether a number up to the limit has so many bytes, the first of them not 0.
+#[tactic(auto, using(crate::proofs::NumberSteps::widths))]
+fn has_width(width: u8, limit: u64) -> bool
+    ensures some { result ≡ true → (bs : List ℕ) × IsMagnitude width limit bs }
+    ensures none { result ≡ false → (bs : List ℕ) → ¬ (IsMagnitude width limit bs) }
+{
+    width <= 8 && (width == 0 || limit >> (8 * (width - 1)) > 0)
+}
+
+/// How a number of the kind goes on after this first byte. `None` if none begins with it.
+fn form_after(head: u8, ptype: PType) -> Option<Form>
+    ensures { MatchOption result
+        (NoneBegins (IsKey (IsPresent (integer_type ptype NonNullable))) head)
+        (λ form. GoesOnAs ptype head form.below form.width form.limit) }
+{
+    let (above, below) = limits(ptype);
+    if head < ZERO {
+        let width = ZERO - head;
+        if has_width(width, below) {
+            return Some(Form {
+                below: true,
+                width,
+                limit: below,
+            });
+        }
+    } else {
+        let width = head - ZERO;
+        if has_width(width, above) {
+            return Some(Form {
+                below: false,
+                width,
+                limit: above,
+            });
+        }
+    }
+    None
+}
+
+/// The number of so many bytes, the highest first, that is up to the limit and does not begin with
+/// 0. Else the place of the first byte that such a number does not have.
+fn magnitude_by_bytes(bytes: &[u8], invert: bool, width: u8, limit: u64) -> Result<u64, usize>
+    requires { width ≤ 8 }
+    ensures within { IfErr result (λ place. place ≤ length bytes.now) }
+    ensures read { MatchResult result
+        (λ number. HasMagnitude width limit (inverted invert bytes.now) number)
+        (λ place. IsStuck (Unit {0}) (IsMagnitude width limit) (inverted invert bytes.now)
+        (drop place (inverted invert bytes.now))) }
+{
+    let mut number = 0u64;
+    for taken in 0..width {
+        let place = taken as usize;
+        if place >= bytes.len() {
+            return Err(place);
+        }
+        let most = limit >> (8 * (width - 1 - taken));
+        let longer = number * 256 + u64::from(inverted_if(invert, bytes[place]));
+        if longer == 0 || longer > most {
+            return Err(place);
+        }
+        number = longer;
+    }
+    Ok(number)
+}
+
+/// How far the number is from 0.
+fn read_distance(form: Form, reader: &mut Reader<'_>) -> Result<u64, Fault>
+    requires { form.width ≤ 8 }
+    ensures { MatchResult result
+        (λ number. HasDistance form.below form.width form.limit number
+        (left reader.old) (left reader.new))
+        (λ e. IsStuck (Unit {0}) (IsInverted form.below (IsMagnitude form.width form.limit))
+        (left reader.old) (left reader.new)) }
+{
+    are_bytes(reader.rest);
+    let invert = inverted_again(reader.invert, form.below);
+    match magnitude_by_bytes(reader.rest, invert, form.width, form.limit) {
+        Ok(number) => {
+            reader.advance(form.width as usize);
+            Ok(number)
+        }
+        Err(place) => {
+            reader.advance(place);
+            Err(Fault::Bad)
+        }
+    }
+}
+
+/// The number that is so far above 0, or below it.
+fn whole_number(below: bool, distance: u64) -> i128
+    requires { below ≡ true → 0 < distance }
+    ensures { result ≡ whole_at below distance }
+{
+    if below {
+        -1 - i128::from(distance - 1)
+    } else {
+        i128::from(distance)
+    }
+}
+
+/// A number of the kind.
+pub(super) fn read_number(ptype: PType, reader: &mut Reader<'_>) -> Result<ScalarValue, Fault>
+    ensures { Reads (Unit {0}) (IsPresent (integer_type ptype NonNullable)) value_tree
+        result (left reader.old) (left reader.new) }
+{
+    let Some(head) = reader.first() else {
+        return Err(Fault::Bad);
+    };
+    let Some(form) = form_after(head, ptype) else {
+        return Err(Fault::Bad);
+    };
+    reader.advance(1);
+    let distance = read_distance(form, reader)?;
+    match PValue::from_whole(whole_number(form.below, distance), ptype) {
+        Some(number) => Ok(ScalarValue::Primitive(number)),
+        None => unreachable!(),
+    }
+}

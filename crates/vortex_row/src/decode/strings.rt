@@ -1,0 +1,153 @@
+//! Strings from their keys.
+
+ghost use Rattle.std.specs.Prelude.{◌≡◌, ◌+◌, ◌++◌, ◌∷◌, IfSome, MatchOption, MatchResult, IsUtf8, drop, length};
+ghost use Rattle.vortex_row.specs.Reading.{BeginsWithOne, IsStuck, left};
+ghost use Rattle.vortex_row.specs.Strings.{HasString, IsAny, IsEscaped, IsHalfEscaped};
+ghost use Rattle.vortex_row.specs.Words.{escape};
+ghost use Rattle.vortex_row.specs.declared.reader.Fault.TheVariants.{Bad, NoMemory};
+
+use super::texts::first_bad;
+use crate::reader::{Fault, Reader, bytes_to, inverted_if};
+use memchr::{memchr, memchr2};
+use std::alloc::Global;
+use vortex_dtype::{BufferString, ByteBuffer};
+
+/// The string whose escaped form the bytes begin with, if no byte of it is written as two. `None`
+/// says nothing.
+fn plain_string(bytes: &[u8]) -> Option<&[u8]>
+    ensures { IfSome result (λ string. HasString IsAny string.now bytes.now
+        (drop (length string.now + 1) bytes.now)) }
+{
+    let end = memchr2(0, 1, bytes)?;
+    if bytes[end] == 0 {
+        Some(bytes_to(bytes, end))
+    } else {
+        None
+    }
+}
+
+/// A buffer of these bytes.
+fn buffer_of(alloc: Global, bytes: &[u8]) -> Result<ByteBuffer, Fault>
+    ensures { MatchResult result (λ buffer. buffer ≡ bytes.now) (λ e. e ≡ NoMemory) }
+{
+    ByteBuffer::from_slice(alloc, bytes).map_err(|_| Fault::NoMemory)
+}
+
+/// A buffer with these bytes.
+fn buffer_with(bytes: Vec<u8>) -> Result<ByteBuffer, Fault>
+    ensures { MatchResult result (λ buffer. buffer ≡ bytes.items) (λ e. e ≡ NoMemory) }
+{
+    ByteBuffer::from_vec(bytes).map_err(|_| Fault::NoMemory)
+}
+
+/// The second byte of the two that a byte 0 or 1 is written as, after the first of them.
+#[tactic(auto, using(crate::proofs::StringSteps::bytes))]
+fn second_byte(reader: &mut Reader<'_>) -> Result<u8, Fault>
+    ensures { MatchResult result
+        (λ byte. 1 ∷ left reader.old ≡ escape byte ++ left reader.new)
+        (λ e. IsStuck (Unit {0}) (IsHalfEscaped IsAny) (left reader.old) (left reader.new)) }
+{
+    if reader.takes(1) {
+        Ok(0)
+    } else if reader.takes(2) {
+        Ok(1)
+    } else {
+        Err(Fault::Bad)
+    }
+}
+
+/// The next byte of a string. `None` at its end, which is taken.
+#[tactic(auto, using(crate::proofs::StringSteps::bytes))]
+fn next_byte(reader: &mut Reader<'_>) -> Result<Option<u8>, Fault>
+    ensures { MatchResult result
+        (λ next. MatchOption next (left reader.old ≡ 0 ∷ left reader.new)
+        (λ byte. left reader.old ≡ escape byte ++ left reader.new))
+        (λ e. IsStuck (Unit {0}) (IsEscaped IsAny) (left reader.old) (left reader.new)) }
+{
+    match reader.first() {
+        Some(0) => {
+            reader.advance(1);
+            Ok(None)
+        }
+        Some(1) => {
+            reader.advance(1);
+            match second_byte(reader) {
+                Ok(byte) => Ok(Some(byte)),
+                Err(fault) => Err(fault),
+            }
+        }
+        Some(byte) => {
+            reader.advance(1);
+            Ok(Some(byte))
+        }
+        None => Err(Fault::Bad),
+    }
+}
+
+/// The bytes of a string, one by one.
+#[tactic(auto, using(crate::proofs::StringSteps::strings))]
+fn read_by_bytes(alloc: Global, reader: &mut Reader<'_>) -> Result<Vec<u8>, Fault>
+    ensures { MatchResult result
+        (λ bytes. HasString IsAny bytes.items (left reader.old) (left reader.new))
+        (λ e. e ≡ Bad
+        → IsStuck (Unit {0}) (IsEscaped IsAny) (left reader.old) (left reader.new)) }
+{
+    let room = memchr(inverted_if(reader.invert, 0), reader.rest).unwrap_or(0);
+    let mut bytes = Vec::with_capacity(alloc, room)?;
+    loop {
+        match next_byte(reader)? {
+            Some(byte) => bytes.push(byte)?,
+            None => return Ok(bytes),
+        }
+    }
+}
+
+/// A string of bytes.
+#[tactic(auto, using(crate::proofs::StringSteps::strings))]
+pub(super) fn read_bytes(alloc: Global, reader: &mut Reader<'_>) -> Result<ByteBuffer, Fault>
+    ensures { MatchResult result
+        (λ buffer. HasString IsAny buffer (left reader.old) (left reader.new))
+        (λ e. e ≡ Bad
+        → IsStuck (Unit {0}) (IsEscaped IsAny) (left reader.old) (left reader.new)) }
+{
+    if !reader.invert {
+        if let Some(string) = plain_string(reader.rest) {
+            let buffer = buffer_of(alloc, string)?;
+            reader.advance(string.len() + 1);
+            return Ok(buffer);
+        }
+    }
+    buffer_with(read_by_bytes(alloc, reader)?)
+}
+
+/// A text. `Bad` exactly says that none is there, and nothing of where.
+#[tactic(auto, using(crate::proofs::StringSteps::strings))]
+fn read_valid(alloc: Global, reader: &mut Reader<'_>) -> Result<BufferString, Fault>
+    ensures { MatchResult result
+        (λ text. HasString IsUtf8 text (left reader.old) (left reader.new))
+        (λ e. e ≡ Bad → ¬ (BeginsWithOne (IsEscaped IsUtf8) (left reader.old))) }
+{
+    match BufferString::try_from(read_bytes(alloc, reader)?) {
+        Ok(text) => Ok(text),
+        Err(_) => Err(Fault::Bad),
+    }
+}
+
+/// A text.
+#[tactic(auto, using(crate::proofs::StringSteps::strings))]
+pub(super) fn read_text(alloc: Global, reader: &mut Reader<'_>) -> Result<BufferString, Fault>
+    ensures { MatchResult result
+        (λ text. HasString IsUtf8 text (left reader.old) (left reader.new))
+        (λ e. e ≡ Bad
+        → IsStuck (Unit {0}) (IsEscaped IsUtf8) (left reader.old) (left reader.new)) }
+{
+    let start = *reader;
+    match read_valid(alloc, reader) {
+        Err(Fault::Bad) => {
+            *reader = start;
+            reader.advance(first_bad(start.rest, start.invert));
+            Err(Fault::Bad)
+        }
+        answer => answer,
+    }
+}

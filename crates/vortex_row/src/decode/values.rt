@@ -1,0 +1,244 @@
+//! Values from their keys, down the type. A refusal leaves the reader before the first byte that
+//! cannot be.
+
+ghost use Rattle.std.specs.Prelude.{◌≡◌, ◌≢◌, ◌++◌, ◌∷◌, ◌<◌, [], ℕ, List, MatchOption, MatchResult, Some, false, option_map, true};
+ghost use Rattle.vortex_row.specs.Reading.{AllHaveValues, HasRead, HasValues, IsChild, IsPresent, IsStuck, Reads, entry_type, left};
+ghost use Rattle.vortex_row.specs.Words.{IsNullable, NonNullable, Valid, absent, as_type_trees, dtype_trees, fixed_size_list_type, list_type, map_of, map_type, raw_of, raw_union, struct_type, type_of, type_with, union_tree, union_type, value_tree, variants_of};
+ghost use Rattle.vortex_row.specs.declared.reader.Fault.TheVariants.{Bad, NoMemory};
+
+use super::leaves::{read_binary, read_truth, read_utf8};
+use super::numbers::read_number;
+use crate::reader::{Fault, Reader};
+use std::alloc::Global;
+use vortex_dtype::{DType, MapDType, UnionVariants};
+use vortex_value::{ScalarValue, UnionValue};
+
+/// The end of a sequence.
+const END: u8 = 0;
+/// A null.
+const NULL: u8 = 1;
+/// The first byte of a sequence.
+const SEQUENCE: u8 = 23;
+/// The first byte of a tagged child.
+const TAGGED: u8 = 24;
+
+/// The type of the variant with this id, if there is one.
+#[tactic(auto, using(crate::proofs::ValueSteps::by_place))]
+fn variant_with(variants: &UnionVariants, id: u8) -> Option<&DType>
+    ensures { option_map (λ v. type_of v.now) result
+        ≡ type_with id (variants_of variants.now).type_ids
+        (as_type_trees (variants_of variants.now).types) }
+{
+    let index = variants.tag_to_child_index(id)?;
+    variants.variant_by_index(index)
+}
+
+/// Puts a part to the others.
+#[inline(always)]
+fn push(part: Option<ScalarValue>, parts: &mut Vec<Option<ScalarValue>>) -> Result<(), Fault>
+    ensures { MatchResult result
+        (λ _. parts.new.items ≡ parts.old.items ++ part ∷ [])
+        (λ e. e ≡ NoMemory) }
+{
+    parts.push(part).map_err(|_| Fault::NoMemory)
+}
+
+/// The value of a union with this id and child.
+fn union_of(alloc: Global, id: u8, child: Option<ScalarValue>) -> Result<UnionValue, Fault>
+    ensures { MatchResult result
+        (λ made. union_tree made ≡ raw_union id (raw_of child))
+        (λ e. e ≡ NoMemory) }
+{
+    UnionValue::new(alloc, id, child).map_err(|_| Fault::NoMemory)
+}
+
+/// Whether a null comes, and the type takes one; it is then taken.
+#[tactic(auto, using(crate::proofs::ValueSteps::shown))]
+#[inline(always)]
+fn takes_null(dtype: &DType, reader: &mut Reader<'_>) -> bool
+    ensures taken { result ≡ true
+        → HasRead (Valid (type_of dtype.now)) absent (left reader.old) (left reader.new) }
+    ensures unchanged { result ≡ false → left reader.new ≡ left reader.old }
+    ensures other { result ≡ false → IsNullable (type_of dtype.now)
+        → (bs : List ℕ) → left reader.old ≢ 1 ∷ bs }
+{
+    dtype.is_nullable() && reader.takes(NULL)
+}
+
+/// An optional value of the type.
+#[cycle(read)]
+#[tactic(auto, using(crate::proofs::ValueSteps::shown))]
+pub(super) fn read(
+    alloc: Global,
+    dtype: &DType,
+    reader: &mut Reader<'_>,
+) -> Result<Option<ScalarValue>, Fault>
+    ensures { Reads (HasValues (type_of dtype.now)) (Valid (type_of dtype.now)) raw_of
+        result (left reader.old) (left reader.new) }
+{
+    if takes_null(dtype, reader) {
+        return Ok(None);
+    }
+    Ok(Some(read_value(alloc, dtype, reader)?))
+}
+
+/// A value of the type that is no null.
+#[cycle(read)]
+#[tactic(auto, using(crate::proofs::ValueSteps::shown))]
+pub(super) fn read_value(
+    alloc: Global,
+    dtype: &DType,
+    reader: &mut Reader<'_>,
+) -> Result<ScalarValue, Fault>
+    ensures { Reads (HasValues (type_of dtype.now)) (IsPresent (type_of dtype.now)) value_tree
+        result (left reader.old) (left reader.new) }
+{
+    match dtype {
+        DType::Bool(_) => read_truth(reader),
+        DType::Primitive(ptype, _) => read_number(*ptype, reader),
+        DType::Utf8(_) => read_utf8(alloc, reader),
+        DType::Binary(_) => read_binary(alloc, reader),
+        DType::List(element, _) => read_list(alloc, element, reader),
+        DType::FixedSizeList(element, size, _) => read_fixed(alloc, element, *size, reader),
+        DType::Map(map, _) => read_map(alloc, map, reader),
+        DType::Struct(fields, _) => read_struct(alloc, fields.dtypes(), reader),
+        DType::Union(variants, _) => read_union(alloc, variants, reader),
+        DType::Extension(extension) => read_value(alloc, extension.storage_dtype(), reader),
+        DType::Null | DType::Variant(_) => Err(Fault::Bad),
+    }
+}
+
+/// A list of elements of this type.
+#[cycle(read)]
+#[tactic(auto, using(crate::proofs::ValueSteps::shown))]
+fn read_list(alloc: Global, element: &DType, reader: &mut Reader<'_>) -> Result<ScalarValue, Fault>
+    ensures { Reads (HasValues (type_of element.now))
+        (IsPresent (list_type (type_of element.now) NonNullable)) value_tree
+        result (left reader.old) (left reader.new) }
+{
+    reader.take(SEQUENCE)?;
+    let mut parts = Vec::new(alloc);
+    while !reader.takes(END) {
+        push(read(alloc, element, reader)?, &mut parts)?;
+    }
+    Ok(ScalarValue::Tuple(parts))
+}
+
+/// A list of so many elements of this type.
+#[cycle(read)]
+#[tactic(auto, using(crate::proofs::ValueSteps::shown))]
+fn read_fixed(
+    alloc: Global,
+    element: &DType,
+    size: u32,
+    reader: &mut Reader<'_>,
+) -> Result<ScalarValue, Fault>
+    ensures { Reads (HasValues (type_of element.now))
+        (IsPresent (fixed_size_list_type (type_of element.now) size NonNullable)) value_tree
+        result (left reader.old) (left reader.new) }
+{
+    reader.take(SEQUENCE)?;
+    let mut parts = Vec::new(alloc);
+    for place in 0..size {
+        push(read(alloc, element, reader)?, &mut parts)?;
+    }
+    reader.take(END)?;
+    Ok(ScalarValue::Tuple(parts))
+}
+
+/// The entries of a map.
+#[cycle(read)]
+#[tactic(auto, using(crate::proofs::ValueSteps::shown))]
+fn read_map(alloc: Global, map: &MapDType, reader: &mut Reader<'_>) -> Result<ScalarValue, Fault>
+    ensures { Reads (HasValues (map_of map.now).key × HasValues (map_of map.now).value)
+        (IsPresent (map_type (map_of map.now).key (map_of map.now).value false NonNullable))
+        value_tree result (left reader.old) (left reader.new) }
+{
+    reader.take(SEQUENCE)?;
+    let mut parts = Vec::new(alloc);
+    while !reader.takes(END) {
+        push(Some(read_entry(alloc, map, reader)?), &mut parts)?;
+    }
+    Ok(ScalarValue::Tuple(parts))
+}
+
+/// A key and a value of a map.
+#[cycle(read)]
+#[tactic(auto, using(crate::proofs::ValueSteps::shown))]
+fn read_entry(alloc: Global, map: &MapDType, reader: &mut Reader<'_>) -> Result<ScalarValue, Fault>
+    ensures { Reads (HasValues (map_of map.now).key × HasValues (map_of map.now).value)
+        (IsPresent (entry_type (map_of map.now).key (map_of map.now).value)) value_tree
+        result (left reader.old) (left reader.new) }
+{
+    reader.take(SEQUENCE)?;
+    let mut parts = Vec::new(alloc);
+    push(read(alloc, map.key_dtype(), reader)?, &mut parts)?;
+    push(read(alloc, map.value_dtype(), reader)?, &mut parts)?;
+    reader.take(END)?;
+    Ok(ScalarValue::Tuple(parts))
+}
+
+/// A struct of fields of these types.
+#[cycle(read)]
+#[tactic(auto, using(crate::proofs::ValueSteps::shown))]
+fn read_struct(
+    alloc: Global,
+    dtypes: &[DType],
+    reader: &mut Reader<'_>,
+) -> Result<ScalarValue, Fault>
+    ensures { Reads (AllHaveValues (dtype_trees dtypes.now))
+        (IsPresent (struct_type [] (dtype_trees dtypes.now) NonNullable)) value_tree
+        result (left reader.old) (left reader.new) }
+{
+    reader.take(SEQUENCE)?;
+    let mut parts = Vec::new(alloc);
+    for dtype in dtypes {
+        push(read(alloc, dtype, reader)?, &mut parts)?;
+    }
+    reader.take(END)?;
+    Ok(ScalarValue::Tuple(parts))
+}
+
+/// A child of one of these variants.
+#[cycle(read)]
+#[tactic(auto, using(crate::proofs::ValueSteps::shown))]
+fn read_union(
+    alloc: Global,
+    variants: &UnionVariants,
+    reader: &mut Reader<'_>,
+) -> Result<ScalarValue, Fault>
+    ensures { Reads (HasValues (union_type []
+        (as_type_trees (variants_of variants.now).types)
+        (variants_of variants.now).type_ids NonNullable))
+        (IsPresent (union_type []
+        (as_type_trees (variants_of variants.now).types)
+        (variants_of variants.now).type_ids NonNullable))
+        value_tree result (left reader.old) (left reader.new) }
+{
+    reader.take(TAGGED)?;
+    let (id, dtype) = variant_at(variants, reader)?;
+    let child = read(alloc, dtype, reader)?;
+    Ok(ScalarValue::Union(union_of(alloc, id, child)?))
+}
+
+/// The id that comes, and the type of the variant with it.
+#[tactic(auto, using(crate::proofs::ValueSteps::shown))]
+fn variant_at<'a>(
+    variants: &'a UnionVariants,
+    reader: &mut Reader<'_>,
+) -> Result<(u8, &'a DType), Fault>
+    ensures { MatchResult result
+        (λ p. (left reader.old ≡ p.0 ∷ left reader.new)
+        × (type_with p.0 (variants_of variants.now).type_ids
+        (as_type_trees (variants_of variants.now).types) ≡ Some (type_of p.1.now))
+        × (p.0 < 256))
+        (λ e. IsStuck (Unit {0})
+        (IsChild (variants_of variants.now).type_ids
+        (as_type_trees (variants_of variants.now).types))
+        (left reader.old) (left reader.new)) }
+{
+    let id = reader.first().ok_or(Fault::Bad)?;
+    let dtype = variant_with(variants, id).ok_or(Fault::Bad)?;
+    reader.advance(1);
+    Ok((id, dtype))
+}
