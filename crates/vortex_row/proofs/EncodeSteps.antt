@@ -4,19 +4,21 @@ use Rattle.std.specs.Global.{Vec}
 use Rattle.std.specs.Int.{w64, to_be_bytes, byte_at, bytes_high_first}
 use Rattle.std.specs.Vec.{vec_len, vec_capacity}
 use Rattle.std.proofs.Math.Nat.{div-div-eq-div-mul}
-use Rattle.std.proofs.lemmas.List.{drop_more, length-drop, take_all}
+use Rattle.std.proofs.Math.Seq.{take-append-add}
+use Rattle.std.proofs.lemmas.List.{drop_more, length-take-le}
 use Rattle.vortex_value.specs.Values.Content.{Content, content, contents, null}
 use Rattle.vortex_value.specs.Values.RawTree.{RawTree, absent, is_absent}
 use Rattle.vortex_value.specs.Values.RawOf.{raw_of, value_tree, value_trees}
 use Rattle.vortex_value.specs.declared.values.ScalarValue.{ScalarValue, Tuple, the_lemmas}
 use Rattle.vortex_value.proofs.ValueSteps.{value_tree-Tuple, value_tree-Union, value_tree-Variant, variant_tree-parts}
 use Rattle.vortex_row.specs.Columns.{key_with}
-use Rattle.vortex_row.specs.Keys.{inverted, big_endian, number_bytes, upward_key, downward_key, escape, escaped, key, keys}
+use Rattle.vortex_row.specs.Keys.{inverted, big_endian, number_bytes, downward_key, escape, escaped, key, keys}
 use Rattle.vortex_row.specs.Steps.{Appends, HasRoom, IsLeft}
 use Rattle.vortex_row.specs.declared.options.SortOptions.{SortOptions}
 use Rattle.vortex_row.proofs.ByteLaws.{inverted-length}
 use Rattle.vortex_row.proofs.NumberLaws.{big_endian-length}
 use Rattle.vortex_row.proofs.LengthSteps.{union-content, escape-plain}
+use Rattle.vortex_row.proofs.ShiftSteps.{shifted_bytes}
 
 -- the bytes that std writes are those of the key
 
@@ -50,9 +52,6 @@ inverted-big_endian (suc k) n h =
     let high : (256 ^ suc k - 1 - n) / 256 ≡ 256 ^ k - 1 - n / 256 = omega arith in
     let low : (256 ^ suc k - 1 - n) % 256 ≡ 255 - n % 256 = omega arith in
     ap₂ (λ m b. big_endian k m ++ b ∷ []) high low ∙ ap (λ xs. xs ++ (255 - n % 256) ∷ []) (inverted-big_endian k (n / 256) (omega arith)) ∙ sym (inverted-append (big_endian k (n / 256)) ((n % 256) ∷ []))
-
-pub inverted-64 : (n : ℕ) → n < 2 ^ 64 → to_be_bytes w64 (2 ^ 64 - 1 - n) ≡ inverted true (big_endian 8 n)
-inverted-64 n h = bytes-64 (2 ^ 64 - 1 - n) ∙ inverted-big_endian 8 n h
 
 pub inverted-drop : (j : ℕ) (bs : List ℕ) → drop j (inverted true bs) ≡ inverted true (drop j bs)
 inverted-drop zero bs = refl
@@ -118,34 +117,45 @@ left-last rest all before mid now l a =
 
 -- numbers
 
--- the last bytes of eight
-last_of : (j : ℕ) (bs : List ℕ) → length bs ≡ 8 → take (8 - j) (drop j bs) ≡ drop j bs
-last_of j bs e = take_all (8 - j) (drop j bs) (omega (arith, length-drop j bs))
+same-appends : (a b : ℕ) (bs cs : List ℕ) (before now : Vec ℕ) → a ≡ b → bs ≡ cs → Appends (a ∷ bs) before now → Appends (b ∷ cs) before now
+same-appends a b bs cs before now e f all = subst (λ xs. Appends xs before now) (ap₂ (λ x xs. x ∷ xs) e f) all
 
-upward-last : (n j : ℕ) (bs : List ℕ) → number_bytes n ≡ drop j (big_endian 8 n) → bs ≡ to_be_bytes w64 n → take (8 - j) (drop j bs) ≡ number_bytes n
-upward-last n j bs f is =
-    let e : bs ≡ big_endian 8 n = is ∙ bytes-64 n in
-    let long : length bs ≡ 8 = ap length e ∙ big_endian-length 8 n in
-    last_of j bs long ∙ ap (drop j) e ∙ sym f
+pub downward-appends : (n j : ℕ) (before now : Vec ℕ) → n < 2 ^ 64 → length (number_bytes n) + j ≡ 8 → number_bytes n ≡ drop j (big_endian 8 n)
+    → Appends ((4 + j) ∷ drop j (big_endian 8 (2 ^ 64 - 1 - n))) before now → Appends (downward_key (number_bytes n)) before now
+downward-appends n j before now h e f all =
+    let last : drop j (big_endian 8 (2 ^ 64 - 1 - n)) ≡ inverted true (number_bytes n) =
+    ap (drop j) (inverted-big_endian 8 n h) ∙ inverted-drop j (big_endian 8 n) ∙ ap (inverted true) (sym f) in
+    same-appends (4 + j) (12 - length (number_bytes n)) (drop j (big_endian 8 (2 ^ 64 - 1 - n))) (inverted true (number_bytes n)) before now (omega arith) last all
 
-downward-last : (n j : ℕ) (bs : List ℕ) → n < 2 ^ 64 → number_bytes n ≡ drop j (big_endian 8 n) → bs ≡ to_be_bytes w64 (2 ^ 64 - 1 - n) → take (8 - j) (drop j bs) ≡ inverted true (number_bytes n)
-downward-last n j bs h f is =
-    let e : bs ≡ inverted true (big_endian 8 n) = is ∙ inverted-64 n h in
-    let long : length bs ≡ 8 = ap length e ∙ inverted-length true (big_endian 8 n) ∙ big_endian-length 8 n in
-    last_of j bs long ∙ ap (drop j) e ∙ inverted-drop j (big_endian 8 n) ∙ ap (inverted true) (sym f)
+-- all eight bytes were appended, and the last j of them cut off
+cut-appends : (b j : ℕ) (bs : List ℕ) (before one eight now : Vec ℕ) → length bs ≡ 8 → j ≤ 8 → Appends (b ∷ []) before one → Appends bs one eight
+    → now.items ≡ take (vec_len eight - j) eight.items → vec_len now + (vec_len eight - (vec_len eight - j)) ≡ vec_len eight → vec_capacity now ≡ vec_capacity eight
+    → Appends (b ∷ take (8 - j) bs) before now
+cut-appends b j bs before one eight now long h first all cut count room =
+    let fits : vec_len one ≡ length one.items = one.ok.0 in
+    let some = first.count in
+    let more = all.count in
+    let least = first.room in
+    let less = all.room in
+    let short = length-take-le (8 - j) bs (omega arith) in
+    let left : vec_len eight - j ≡ length one.items + (8 - j) = omega arith in
+    record {
+      items = cut ∙ ap₂ take left all.items ∙ take-append-add one.items bs (8 - j) ∙ ap (λ xs. xs ++ take (8 - j) bs) first.items ∙ append_assoc before.items (b ∷ []) (take (8 - j) bs);
+      count = omega arith;
+      room = omega arith;
+    }
 
-number-appends : (a b : ℕ) (bs cs : List ℕ) (before mid now : Vec ℕ) → a ≡ b → bs ≡ cs → Appends (a ∷ []) before mid → Appends bs mid now → Appends (b ∷ cs) before now
-number-appends a b bs cs before mid now e f one more = subst (λ xs. Appends xs before now) (ap₂ (λ x xs. x ∷ xs) e f) (appends-after_one a bs before mid now one more)
+pub used-appends : (b n j s l : ℕ) (bs : List ℕ) (before one eight now : Vec ℕ) → j ≤ 8 → s ≡ n * 2 ^ (8 * j % 64) % 2 ^ 64 → bs ≡ to_be_bytes w64 s
+    → Appends (b ∷ []) before one → Appends bs one eight
+    → l ≡ vec_len eight → now.items ≡ take (l - j) eight.items → vec_len now + (vec_len eight - (l - j)) ≡ vec_len eight → vec_capacity now ≡ vec_capacity eight
+    → Appends (b ∷ drop j (big_endian 8 n)) before now
+used-appends b n j s l bs before one eight now h shift is first all len cut count room =
+    let e : bs ≡ big_endian 8 s = is ∙ bytes-64 s in
+    let used : take (8 - j) bs ≡ drop j (big_endian 8 n) = ap (take (8 - j)) (e ∙ ap (big_endian 8) shift) ∙ shifted_bytes j n h in
+    same-appends b b (take (8 - j) bs) (drop j (big_endian 8 n)) before now refl used
+    (cut-appends b j bs before one eight now (ap length e ∙ big_endian-length 8 s) h first all (rw (sym len) cut) (omega (arith, len, count)) room)
 
-pub upward-appends : (n j : ℕ) (bs : List ℕ) (before mid now : Vec ℕ) → length (number_bytes n) + j ≡ 8 → number_bytes n ≡ drop j (big_endian 8 n) → bs ≡ to_be_bytes w64 n
-    → Appends ((20 - j) ∷ []) before mid → Appends (take (8 - j) (drop j bs)) mid now → Appends (upward_key (number_bytes n)) before now
-upward-appends n j bs before mid now e f is one more =
-    number-appends (20 - j) (12 + length (number_bytes n)) (take (8 - j) (drop j bs)) (number_bytes n) before mid now (omega arith) (upward-last n j bs f is) one more
-
-pub downward-appends : (n j : ℕ) (bs : List ℕ) (before mid now : Vec ℕ) → n < 2 ^ 64 → length (number_bytes n) + j ≡ 8 → number_bytes n ≡ drop j (big_endian 8 n) → bs ≡ to_be_bytes w64 (2 ^ 64 - 1 - n)
-    → Appends ((4 + j) ∷ []) before mid → Appends (take (8 - j) (drop j bs)) mid now → Appends (downward_key (number_bytes n)) before now
-downward-appends n j bs before mid now h e f is one more =
-    number-appends (4 + j) (12 - length (number_bytes n)) (take (8 - j) (drop j bs)) (inverted true (number_bytes n)) before mid now (omega arith) (downward-last n j bs h f is) one more
+pub ruleset numbers = (appends-after_one)
 
 pub ruleset strings = (appends-after_one, appends-then, left-all)
 
@@ -184,7 +194,7 @@ pub tuple-appends : (v : ScalarValue) (vs : Vec (Option ScalarValue)) (ps : List
     → Appends (23 ∷ []) before mid → Appends (keys (contents (value_trees ps))) mid now → Appends (key (content (value_tree v))) before now
 tuple-appends v vs ps before mid now e f one more =
     subst (λ bs. Appends bs before now) (sym (tuple-key v vs e))
-    (number-appends 23 23 (keys (contents (value_trees ps))) (keys (contents (value_trees vs.items))) before mid now refl (ap (λ xs. keys (contents (value_trees xs))) f) one more)
+    (same-appends 23 23 (keys (contents (value_trees ps))) (keys (contents (value_trees vs.items))) before now refl (ap (λ xs. keys (contents (value_trees xs))) f) (appends-after_one 23 (keys (contents (value_trees ps))) before mid now one more))
 
 -- the parts from a place on
 pub keys-at : (i : ℕ) (vs : List (Option ScalarValue)) (v : Option ScalarValue) → i < length vs → v ≡ get_or vs i v

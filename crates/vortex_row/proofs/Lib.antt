@@ -17,6 +17,7 @@ pub mod PlaceLaws
 pub mod ReaderSteps
 pub mod RowDecodeSteps
 pub mod RowSteps
+pub mod ShiftSteps
 pub mod StringLaws
 pub mod StringSteps
 pub mod StuckLaws

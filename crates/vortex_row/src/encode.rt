@@ -1,7 +1,7 @@
 //! The keys of scalars, appended to bytes in room that was taken.
 
 ghost use Rattle.std.specs.Prelude.{[], ◌++◌, ◌<◌, ◌≡◌, ◌≤◌, ◌∷◌, MatchOption, length, pos, slice_index, take, drop, true};
-ghost use Rattle.vortex_row.specs.Words.{Appends, AreBytes, AreHeld, HasRoom, IsHeld, IsWhole, content, contents, downward_key, escape, escaped, inverted, key, key_with, keys, lent_raw, number_bytes, union_tree, value_tree, value_trees, vec_capacity, vec_len, whole_key, whole_of};
+ghost use Rattle.vortex_row.specs.Words.{Appends, AreBytes, AreHeld, HasRoom, IsHeld, IsWhole, big_endian, content, contents, downward_key, escape, escaped, inverted, key, key_with, keys, lent_raw, number_bytes, union_tree, value_tree, value_trees, vec_capacity, vec_len, whole_key, whole_of};
 
 use crate::lengths::{is_plain, leading_zero_bytes};
 use crate::options::SortOptions;
@@ -26,27 +26,47 @@ fn put_all(bytes: &[u8], out: &mut Vec<u8>)
     }
 }
 
+/// Appends a number's first byte, and after it its eight bytes but those that are not used. They
+/// are written at once if there is room for all eight, the used ones first, and the rest cut off.
+#[inline(always)]
+#[tactic(auto, using(crate::proofs::EncodeSteps::numbers))]
+fn put_used(first: u8, number: u64, unused: usize, out: &mut Vec<u8>)
+    requires few { unused ≤ 8 }
+    requires room { HasRoom out.old (first ∷ drop unused (big_endian 8 number)) }
+    ensures { Appends (first ∷ drop unused (big_endian 8 number)) out.old out.new }
+{
+    put(first, out);
+    if out.capacity() - out.len() < 8 {
+        put_all(&number.to_be_bytes()[unused..], out);
+    } else {
+        let shifted = number.wrapping_shl(8 * unused as u32);
+        put_all(&shifted.to_be_bytes(), out);
+        out.truncate(out.len() - unused);
+    }
+}
+
 /// Appends the key of a number that is not below zero.
+#[inline(always)]
 fn put_upward(number: u64, out: &mut Vec<u8>)
     requires { HasRoom out.old (whole_key (pos number)) }
     ensures { Appends (whole_key (pos number)) out.old out.new }
 {
     let unused = leading_zero_bytes(number);
-    put(20 - unused as u8, out);
-    put_all(&number.to_be_bytes()[unused..], out);
+    put_used(20 - unused as u8, number, unused, out);
 }
 
 /// Appends the key of the number that is so far below zero, which is at least 1.
+#[inline(always)]
 fn put_downward(distance: u64, out: &mut Vec<u8>)
     requires { HasRoom out.old (downward_key (number_bytes distance)) }
     ensures { Appends (downward_key (number_bytes distance)) out.old out.new }
 {
     let unused = leading_zero_bytes(distance);
-    put(4 + unused as u8, out);
-    put_all(&(!distance).to_be_bytes()[unused..], out);
+    put_used(4 + unused as u8, !distance, unused, out);
 }
 
 /// Appends the key of a number that may be below zero.
+#[inline(always)]
 fn put_integer(number: i64, out: &mut Vec<u8>)
     requires { HasRoom out.old (whole_key number) }
     ensures { Appends (whole_key number) out.old out.new }
@@ -59,6 +79,7 @@ fn put_integer(number: i64, out: &mut Vec<u8>)
 }
 
 /// Appends the key of a number.
+#[inline(always)]
 fn put_number(number: &PValue, out: &mut Vec<u8>)
     requires { HasRoom out.old (whole_key (whole_of number.now)) }
     ensures appended { Appends (whole_key (whole_of number.now)) out.old out.new }

@@ -7,6 +7,7 @@ use vortex_pvalue::PValue;
 use vortex_value::{ScalarValue, UnionValue};
 
 /// How far a number is from zero.
+#[inline(always)]
 fn distance(number: &PValue) -> u64
     ensures { result ≡ unsigned_abs (whole_of number.now) }
 {
@@ -23,6 +24,7 @@ fn distance(number: &PValue) -> u64
 }
 
 /// How many of the eight bytes of a number are zeros at its front, which no key has.
+#[inline(always)]
 pub(crate) fn leading_zero_bytes(number: u64) -> usize
     ensures count { length (number_bytes number) + result ≡ 8 }
     ensures bytes { number_bytes number ≡ drop result (big_endian 8 number) }
@@ -31,6 +33,7 @@ pub(crate) fn leading_zero_bytes(number: u64) -> usize
 }
 
 /// How many bytes the key of a number has.
+#[inline(always)]
 #[tactic(auto, using(crate::proofs::LengthSteps::numbers))]
 fn number_length(number: &PValue) -> usize
     ensures { result ≡ length (whole_key (whole_of number.now)) }

@@ -4,5 +4,5 @@ use Rattle.vortex_row.proofs.encode.put_downward.Goals as goal
 
 pub returns : goal.returns
 returns c =
-    downward-appends c.args.distance c.leading_zero_bytes-unused.result c.to_be_bytes.result c.args.out.now c.put.new.out c.put_all.new.out c.ranges.distance.fits
-    c.leading_zero_bytes-unused.ensures.count c.leading_zero_bytes-unused.ensures.bytes c.to_be_bytes.ensures c.put.ensures c.put_all.ensures
+    downward-appends c.args.distance c.leading_zero_bytes-unused.result c.args.out.now c.put_used.new.out c.ranges.distance.fits
+    c.leading_zero_bytes-unused.ensures.count c.leading_zero_bytes-unused.ensures.bytes c.put_used.ensures

@@ -1,8 +1,0 @@
--- The bytes from the first that is not 0, after how many they are.
-use Rattle.vortex_row.proofs.EncodeSteps.{upward-appends}
-use Rattle.vortex_row.proofs.encode.put_upward.Goals as goal
-
-pub returns : goal.returns
-returns c =
-    upward-appends c.args.number c.leading_zero_bytes-unused.result c.to_be_bytes.result c.args.out.now c.put.new.out c.put_all.new.out
-    c.leading_zero_bytes-unused.ensures.count c.leading_zero_bytes-unused.ensures.bytes c.to_be_bytes.ensures c.put.ensures c.put_all.ensures
