@@ -78,53 +78,81 @@ impl Inputs for SortOptions {
 
 impl Exact for SortOptions {}
 
-/// What each column has, and how each is sorted.
+/// Reads columns with semicolons between them: what each has, and how each is sorted. An underscore
+/// stands for what is missing.
+fn read_columns<T: Item>(tokens: &mut Tokens<'_>) -> (Vec<T>, Vec<SortOptions>) {
+    let mut contents = Vec::new(tokens.alloc);
+    let mut options = Vec::new(tokens.alloc);
+    for _ in 0..=tokens.left() {
+        tokens.spaces();
+        if !tokens.takes(b'_') {
+            let content = T::read_item(tokens);
+            tokens.push(&mut contents, content);
+        }
+        if !tokens.takes(b'_') {
+            let sorted = SortOptions::read(tokens);
+            tokens.push(&mut options, sorted);
+        }
+        if !tokens.takes(b';') {
+            break;
+        }
+    }
+    (contents, options)
+}
+
+/// A row of scalars, and how their columns are sorted.
 #[derive(Drop)]
-struct Columns<T> {
-    contents: Vec<T>,
+struct Row {
+    scalars: Vec<Scalar>,
     options: Vec<SortOptions>,
 }
 
-/// Columns with semicolons between them. An underscore stands for contents or options that are missing.
-impl<T: Item> Inputs for Columns<T> {
-    fn read(tokens: &mut Tokens<'_>) -> Columns<T> {
-        let mut columns = Columns {
-            contents: Vec::new(tokens.alloc),
-            options: Vec::new(tokens.alloc),
-        };
-        for _ in 0..=tokens.left() {
-            tokens.spaces();
-            if !tokens.takes(b'_') {
-                let content = T::read_item(tokens);
-                tokens.push(&mut columns.contents, content);
-            }
-            if !tokens.takes(b'_') {
-                let options = SortOptions::read(tokens);
-                tokens.push(&mut columns.options, options);
-            }
-            if !tokens.takes(b';') {
-                break;
-            }
-        }
-        columns
+impl Inputs for Row {
+    fn read(tokens: &mut Tokens<'_>) -> Row {
+        let (scalars, options) = read_columns(tokens);
+        Row { scalars, options }
     }
 }
 
-impl Borrowed for Columns<DType> {
-    fn is_same(&self, copy: &Columns<DType>) -> bool {
-        self.contents == copy.contents && self.options == copy.options
+impl Borrowed for Row {
+    fn is_same(&self, copy: &Row) -> bool {
+        same_scalars(&self.scalars, &copy.scalars) && self.options == copy.options
     }
 }
 
-impl Borrowed for Columns<Scalar> {
-    fn is_same(&self, copy: &Columns<Scalar>) -> bool {
-        same_scalars(&self.contents, &copy.contents) && self.options == copy.options
+/// The types of columns, and how they are sorted.
+#[derive(Drop)]
+struct Columns {
+    dtypes: Vec<DType>,
+    options: Vec<SortOptions>,
+}
+
+impl Inputs for Columns {
+    fn read(tokens: &mut Tokens<'_>) -> Columns {
+        let (dtypes, options) = read_columns(tokens);
+        Columns { dtypes, options }
     }
 }
 
-impl Borrowed for Vec<Scalar> {
-    fn is_same(&self, copy: &Vec<Scalar>) -> bool {
-        same_scalars(self, copy)
+impl Borrowed for Columns {
+    fn is_same(&self, copy: &Columns) -> bool {
+        self.dtypes == copy.dtypes && self.options == copy.options
+    }
+}
+
+/// The scalars of rows, one row after another.
+#[derive(Drop)]
+struct Rows(Vec<Scalar>);
+
+impl Inputs for Rows {
+    fn read(tokens: &mut Tokens<'_>) -> Rows {
+        Rows(Vec::read(tokens))
+    }
+}
+
+impl Borrowed for Rows {
+    fn is_same(&self, copy: &Rows) -> bool {
+        same_scalars(&self.0, &copy.0)
     }
 }
 
@@ -199,8 +227,8 @@ fn lent(alloc: Global, scalars: &[Scalar]) -> Result<Vec<ScalarRef<'_>>, AllocEr
         .collect(alloc)
 }
 
-fn row_key(alloc: Global, row: &Columns<Scalar>) -> CallResult {
-    let values = lent(alloc, &row.contents)?;
+fn row_key(alloc: Global, row: &Row) -> CallResult {
+    let values = lent(alloc, &row.scalars)?;
     let mut key = Vec::new(alloc);
     let outcome = append_row_key(&values, &row.options, &mut key);
     key_answer(outcome, key)
@@ -216,22 +244,22 @@ fn row_key_in_room(
     key_answer(outcome, key)
 }
 
-fn from_row_key(alloc: Global, (columns, bytes): &(Columns<DType>, ByteBuffer)) -> CallResult {
-    match decode_row_key(alloc, &columns.contents, &columns.options, bytes.as_slice()) {
+fn from_row_key(alloc: Global, (columns, bytes): &(Columns, ByteBuffer)) -> CallResult {
+    match decode_row_key(alloc, &columns.dtypes, &columns.options, bytes.as_slice()) {
         Ok(decoded) => Ok(Answer::DecodedRow(decoded)),
         Err(refusal) => refused(refusal),
     }
 }
 
 /// The keys of rows, one row after another.
-fn row_encoder(alloc: Global, (columns, rows): &(Columns<DType>, Vec<Scalar>)) -> CallResult {
-    let values = lent(alloc, rows)?;
-    let encoder = match RowEncoder::try_new(&columns.contents, &columns.options) {
+fn row_encoder(alloc: Global, (columns, rows): &(Columns, Rows)) -> CallResult {
+    let values = lent(alloc, &rows.0)?;
+    let encoder = match RowEncoder::try_new(&columns.dtypes, &columns.options) {
         Ok(encoder) => encoder,
         Err(refusal) => return refused(refusal),
     };
     let mut keys = Vec::new(alloc);
-    for row in values.chunks(columns.contents.len().max(1)) {
+    for row in values.chunks(columns.dtypes.len().max(1)) {
         if let Err(refusal) = encoder.append(row, &mut keys) {
             return refused(refusal);
         }
@@ -244,26 +272,22 @@ fn compare(_alloc: Global, (x, y): &(ByteBuffer, ByteBuffer)) -> CallResult {
 }
 
 /// The elements of a list, lent; of any other scalar none.
-fn elements(alloc: Global, list: &Scalar) -> Result<Vec<ScalarRef<'_>>, AllocError> {
-    match (&list.dtype, &list.value) {
-        (DType::List(dtype, _), Some(ScalarValue::Tuple(parts))) => parts
-            .iter()
-            .map(|part| ScalarRef::from_parts(dtype, part.as_ref()))
-            .collect(alloc),
-        _ => Ok(Vec::new(alloc)),
+fn elements<'a>(alloc: Global, list: &'a Scalar) -> Result<Vec<ScalarRef<'a>>, AllocError> {
+    let mut elements = Vec::new(alloc);
+    if let (DType::List(dtype, _), Some(ScalarValue::Tuple(parts))) = (&list.dtype, &list.value) {
+        for part in parts {
+            elements.push(ScalarRef::from_parts(dtype, part.as_ref()))?;
+        }
     }
+    Ok(elements)
 }
 
 /// The places of a list's elements, sorted by their keys.
 fn sorted_by_keys(alloc: Global, list: &Scalar) -> CallResult {
-    let options = SortOptions {
-        descending: false,
-        nulls_first: true,
-    };
     let mut keys = Vec::new(alloc);
     for (place, element) in elements(alloc, list)?.iter().enumerate() {
         let mut key = Vec::new(alloc);
-        if let Err(refusal) = append_key(*element, options, &mut key) {
+        if let Err(refusal) = append_key(*element, SortOptions::default(), &mut key) {
             return refused(refusal);
         }
         keys.push((key, place))?;
