@@ -1,5 +1,5 @@
 -- Steps from the reading of a value to the answer for bytes.
-use Rattle.std.proofs.Common.{◌≡◌, ◌≢◌, ℕ, zero, suc, ◌+◌, ◌-◌, ◌<◌, ◌≤◌, ◌⊎◌, inl, inr, Bool, true, false, List, [], ◌∷◌, ◌++◌, length, length-append, take, drop, get_or, refl, sym, subst, ap, ap₂, ◌∙◌, append_assoc, append-nil, arith}
+use Rattle.std.proofs.Common.{◌≡◌, ◌≢◌, ℕ, suc, ◌+◌, ◌-◌, ◌≤◌, ◌⊎◌, inl, inr, Bool, true, false, List, [], ◌∷◌, ◌++◌, length, length-append, take, drop, get_or, refl, sym, subst, ap, ap₂, ◌∙◌, append_assoc, append-nil, arith}
 use Rattle.std.specs.Prelude.{Result, Ok, Err, MatchResult}
 use Rattle.vortex_dtype.specs.TypeTree.{TypeTree, null_type, bool_type, integer_type, utf8_type, binary_type, list_type, fixed_size_list_type, map_type, struct_type, union_type, variant_type, extension_type, TypeTrees, no_types, type_then, IsNullable}
 use Rattle.vortex_value.specs.Casts.{OneValue}
@@ -7,23 +7,23 @@ use Rattle.vortex_value.specs.TypesWithin.{HasNoVariant, HaveNoVariant, UnionsHa
 use Rattle.vortex_value.specs.Validity.{Valid}
 use Rattle.vortex_value.specs.Values.Content.{content}
 use Rattle.vortex_value.specs.Values.RawTree.{RawTree, absent, raw_bool, raw_integer, raw_text, raw_bytes, raw_tuple, raw_union, raw_variant, is_absent}
-use Rattle.vortex_value.specs.Values.Scalars.{IsMadeOf, scalar_content, scalar_raw, scalar_type}
+use Rattle.vortex_value.specs.Values.Scalars.{IsMadeOf, scalar_raw, scalar_type}
 use Rattle.vortex_value.specs.declared.scalars.Scalar.{Scalar}
 use Rattle.vortex_row.specs.Columns.{key_with, null_byte}
 use Rattle.vortex_row.specs.Decoded.{BeginsWithKey, DecodesTo, IsDecoded, IsFirstBad, IsKeyOf, IsValueOf, MayBegin}
-use Rattle.vortex_row.specs.Held.{AreBytes, IsHeld}
+use Rattle.vortex_row.specs.Held.{AreBytes}
 use Rattle.vortex_row.specs.Keys.{inverted, key}
 use Rattle.vortex_row.specs.ColumnReading.{HasColumn, IsColumnKey, IsRefusal}
 use Rattle.vortex_row.specs.Reading.{AllHaveValues, BeginAlike, HasRead, HasValues, IsInverted, IsKey, IsPlain, IsPresent, IsStuck}
 use Rattle.vortex_row.specs.Variants.{HasByteIds, HaveByteIds}
 use Rattle.vortex_row.specs.declared.error.RowError.{RowError}
-use Rattle.vortex_row.specs.declared.error.RowError.TheVariants.{BadKey, HasVariant, OutOfMemory}
+use Rattle.vortex_row.specs.declared.error.RowError.TheVariants.{BadKey, OutOfMemory}
 use Rattle.vortex_row.specs.declared.options.SortOptions.{SortOptions}
 use Rattle.vortex_row.proofs.ApartLaws.{column-apart}
 use Rattle.vortex_row.proofs.KeyLaws.{values_have_no_typed}
 use Rattle.vortex_row.proofs.OrderLaws.{key-bytes}
 use Rattle.vortex_row.proofs.PartSteps.{null_valid, null_allowed, some_value}
-use Rattle.vortex_row.proofs.ReaderSteps.{at-once, drop-inverted, inverted-append, inverted-are_bytes, inverted-back, length-inverted, take-more, take-then, take-length}
+use Rattle.vortex_row.proofs.ReaderSteps.{at-once, inverted-append, inverted-are_bytes, inverted-back, length-inverted, take-more, take-then}
 use Rattle.vortex_row.proofs.StuckLaws.{Some, not-stuck, stuck-inverted, stuck-within}
 
 first_of : (x y : ℕ) (xs ys : List ℕ) → x ∷ xs ≡ y ∷ ys → x ≡ y

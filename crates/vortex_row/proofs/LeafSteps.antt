@@ -1,15 +1,15 @@
 -- Steps of the reading of values without parts.
-use Rattle.std.proofs.Common.{◌≡◌, ◌≢◌, ℕ, Bool, true, false, List, [], ◌∷◌, ◌++◌, IsUtf8, refl, sym, subst, ap, ◌∙◌, inl, inr}
-use Rattle.vortex_dtype.specs.TypeTree.{TypeTree, bool_type, utf8_type, binary_type}
+use Rattle.std.proofs.Common.{◌≡◌, ◌≢◌, ℕ, Bool, true, false, List, [], ◌∷◌, ◌++◌, IsUtf8, refl, sym, subst, ap, ◌∙◌}
+use Rattle.vortex_dtype.specs.TypeTree.{bool_type, utf8_type, binary_type}
 use Rattle.vortex_dtype.specs.declared.nullability.Nullability.TheVariants.{NonNullable}
 use Rattle.vortex_value.specs.Values.Content.{content}
 use Rattle.vortex_value.specs.Values.RawTree.{RawTree, absent, raw_bool, raw_text, raw_bytes}
 use Rattle.vortex_row.specs.Keys.{key, truth_byte, escaped}
-use Rattle.vortex_row.specs.Reading.{BeginAlike, HasRead, IsKey, IsPlain, IsPresent, IsStuck, Reads}
+use Rattle.vortex_row.specs.Reading.{BeginAlike, HasRead, IsKey, IsPlain, IsPresent, IsStuck}
 use Rattle.vortex_row.specs.Strings.{HasString, IsAny, IsEscaped}
-use Rattle.vortex_row.proofs.PartSteps.{Opens, opens-none, opens-stuck, refused}
+use Rattle.vortex_row.proofs.PartSteps.{Opens, opens-none, opens-stuck}
 use Rattle.vortex_row.proofs.StringSteps.{some-escaped}
-use Rattle.vortex_row.proofs.StuckLaws.{Some, stuck-here}
+use Rattle.vortex_row.proofs.StuckLaws.{stuck-here}
 use Rattle.vortex_row.proofs.TextSteps.{continue-end}
 use Rattle.std.proofs.lemmas.Str.{IsUtf8-nil}
 

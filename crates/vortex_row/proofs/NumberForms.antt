@@ -1,18 +1,18 @@
 -- How a number of a kind goes on after its first byte.
-use Rattle.std.proofs.Common.{◌≡◌, ◌≢◌, ℕ, zero, suc, ℤ, pos, negsuc, ◌+◌, ◌-◌, ◌^◌, ◌<◌, ◌≤◌, Bool, true, false, true≢false, List, [], ◌∷◌, ◌++◌, length, refl, sym, subst, ap, ap₂, ◌∙◌, append_assoc, arith}
+use Rattle.std.proofs.Common.{◌≡◌, ℕ, zero, suc, ℤ, pos, negsuc, ◌+◌, ◌-◌, ◌^◌, ◌<◌, ◌≤◌, Bool, true, false, true≢false, List, [], ◌∷◌, ◌++◌, length, refl, sym, subst, ap, ◌∙◌, arith}
 use Rattle.vortex_dtype.specs.TypeTree.{integer_type}
 use Rattle.vortex_dtype.specs.declared.nullability.Nullability.TheVariants.{NonNullable}
 use Rattle.vortex_dtype.specs.declared.ptype.PType.{PType}
 use Rattle.vortex_pvalue.specs.Numbers.{InRange}
 use Rattle.vortex_value.specs.Values.Content.{Content, content}
 use Rattle.vortex_value.specs.Values.RawTree.{RawTree, absent, raw_integer}
-use Rattle.vortex_row.specs.Held.{AreBytes, IsWhole}
+use Rattle.vortex_row.specs.Held.{IsWhole}
 use Rattle.vortex_row.specs.Keys.{inverted, key, number_bytes, whole_key}
-use Rattle.vortex_row.specs.Numbers.{GoesOnAs, HasDistance, HasLimits, HasMagnitude, IsMagnitude, whole_at}
-use Rattle.vortex_row.specs.Reading.{ContinueWith, HasRead, IsInverted, IsKey, IsPlain, IsPresent, IsStuck, NoneBegins}
+use Rattle.vortex_row.specs.Numbers.{GoesOnAs, HasDistance, HasLimits, IsMagnitude, whole_at}
+use Rattle.vortex_row.specs.Reading.{HasRead, IsInverted, IsKey, IsPlain, IsPresent, IsStuck, NoneBegins}
 use Rattle.vortex_row.proofs.OrderLaws.{begins}
 use Rattle.vortex_row.proofs.NumberLaws.{number-length, number-some}
-use Rattle.vortex_row.proofs.StuckLaws.{Some, none-byte, none-end, stuck-here, stuck-later}
+use Rattle.vortex_row.proofs.StuckLaws.{none-byte, none-end, stuck-here, stuck-later}
 
 first_of : (x y : ℕ) (xs ys : List ℕ) → x ∷ xs ≡ y ∷ ys → x ≡ y
 first_of x y xs ys e = cc

@@ -1,9 +1,8 @@
 -- The number that bytes are, the highest first, and how far its first bytes say what it is.
-use Rattle.std.proofs.Common.{◌≡◌, ◌≢◌, ℕ, zero, suc, ◌+◌, ◌-◌, ◌*◌, ◌/◌, ◌%◌, ◌^◌, ◌<◌, ◌≤◌, ◌⊎◌, inl, inr, List, [], ◌∷◌, ◌++◌, length, length-append, take, drop, get_or, refl, sym, subst, ap, ap₂, ◌∙◌, append_assoc, append-nil, arith}
+use Rattle.std.proofs.Common.{◌≡◌, ◌≢◌, ℕ, zero, suc, ◌+◌, ◌-◌, ◌*◌, ◌/◌, ◌%◌, ◌^◌, ◌<◌, ◌≤◌, List, [], ◌∷◌, ◌++◌, length, refl, sym, ap, ap₂, ◌∙◌, append_assoc, append-nil, arith}
 use Rattle.vortex_row.specs.Held.{AreBytes}
 use Rattle.vortex_row.specs.Keys.{big_endian, without_leading_zeros, number_bytes}
-use Rattle.vortex_row.proofs.ByteLaws.{no_bytes, bytes_first, bytes_rest, bytes_after, bytes_then}
-use Rattle.vortex_row.proofs.NumberLaws.{big_endian-length, number-length}
+use Rattle.vortex_row.proofs.ByteLaws.{no_bytes, bytes_first, bytes_rest, bytes_after}
 
 -- the number that these bytes are, after one that was read
 abbrev pub worth : ℕ → List ℕ → ℕ

@@ -1,8 +1,8 @@
 -- Steps of the reading of a number, byte by byte.
-use Rattle.std.proofs.Common.{◌≡◌, ◌≢◌, ℕ, zero, suc, ◌+◌, ◌-◌, ◌*◌, ◌/◌, ◌^◌, ◌<◌, ◌≤◌, ◌⊎◌, inl, inr, Bool, true, false, List, [], ◌∷◌, ◌++◌, length, length-append, take, drop, get_or, refl, sym, subst, ap, ap₂, ◌∙◌, append_assoc, append-nil, arith}
+use Rattle.std.proofs.Common.{◌≡◌, ℕ, zero, suc, ◌+◌, ◌-◌, ◌*◌, ◌/◌, ◌^◌, ◌<◌, ◌≤◌, ◌⊎◌, inl, inr, Bool, true, false, List, [], ◌∷◌, ◌++◌, length, length-append, take, drop, get_or, refl, sym, subst, ap, ◌∙◌, arith}
 use Rattle.vortex_row.specs.Bytes.{inverted_again}
 use Rattle.vortex_row.specs.Held.{AreBytes}
-use Rattle.vortex_row.specs.Keys.{big_endian, inverted, number_bytes, without_leading_zeros}
+use Rattle.vortex_row.specs.Keys.{big_endian, inverted, number_bytes}
 use Rattle.vortex_row.specs.Numbers.{HasDistance, HasMagnitude, IsMagnitude}
 use Rattle.vortex_row.specs.Reading.{BeginAlike, IsInverted, IsStuck}
 use Rattle.vortex_row.proofs.ByteLaws.{no_bytes, bytes_after, bytes_then}

@@ -1,5 +1,5 @@
 -- Steps of the reading of values and of parts, by the values that a type has.
-use Rattle.std.proofs.Common.{◌≡◌, ◌≢◌, ℕ, zero, suc, ◌<◌, ◌≤◌, ◌==◌, ◌⊎◌, ◌↔◌, inl, inr, false, true, true≢false, List, [], ◌∷◌, ◌++◌, Option, Some as Present, None, refl, sym, subst, ap, ap₂, ◌∙◌, append_assoc, append-nil, arith}
+use Rattle.std.proofs.Common.{◌≡◌, ◌≢◌, ℕ, zero, suc, ◌<◌, ◌≤◌, ◌==◌, false, true, true≢false, List, [], ◌∷◌, ◌++◌, Option, Some as Present, None, refl, sym, subst, ap, ap₂, ◌∙◌, append_assoc, append-nil, arith}
 use Rattle.std.specs.Prelude.{Result, Ok, Err, IsErr, pos}
 use Rattle.std.specs.Result.{IsErrAnd}
 use Rattle.std.proofs.lemmas.Bool.Decides.{nat_tests}
@@ -14,7 +14,7 @@ use Rattle.vortex_value.specs.Equality.{HasNoTyped}
 use Rattle.vortex_value.specs.Validity.{EachValid, EntriesValid, FieldsValid, HasType, Valid, ValidAt, type_with}
 use Rattle.vortex_value.specs.Values.Content.{Content, null, content, contents}
 use Rattle.vortex_value.specs.Values.RawOf.{raw_of, value_trees}
-use Rattle.vortex_value.specs.Values.RawTree.{RawTree, absent, raw_bool, raw_integer, raw_text, raw_bytes, raw_tuple, raw_union, raw_variant, RawTrees, no_raws, raw_then, count}
+use Rattle.vortex_value.specs.Values.RawTree.{RawTree, absent, raw_bool, raw_integer, raw_text, raw_bytes, raw_tuple, raw_union, RawTrees, no_raws, raw_then}
 use Rattle.vortex_value.specs.declared.values.ScalarValue.{ScalarValue}
 use Rattle.vortex_row.specs.Held.{IsHeld}
 use Rattle.vortex_row.specs.Keys.{key, keys}
@@ -24,7 +24,7 @@ use Rattle.vortex_row.specs.declared.reader.Fault.TheVariants.{Bad}
 use Rattle.vortex_row.proofs.ApartLaws.{key-apart}
 use Rattle.vortex_row.proofs.ByteLaws.{no_bytes}
 use Rattle.vortex_row.proofs.OrderLaws.{begins, least}
-use Rattle.vortex_row.proofs.StuckLaws.{Begin, NoneHere, Some, continue-itself, continue-then, none-byte, none-end, stuck-here, stuck-later, stuck-same, stuck-within}
+use Rattle.vortex_row.proofs.StuckLaws.{Begin, Some, continue-itself, continue-then, none-byte, none-end, stuck-here, stuck-later, stuck-same, stuck-within}
 
 pub null_allowed : (t : TypeTree) → Valid t absent → IsNullable t
 null_allowed (extension_type id metadata t) h = null_allowed t h

@@ -1,5 +1,5 @@
 -- Steps of the reading of a row, column by column.
-use Rattle.std.proofs.Common.{◌≡◌, ◌≢◌, ℕ, zero, suc, ◌+◌, ◌<◌, ◌≤◌, ◌⊎◌, inl, inr, true≢false, List, [], ◌∷◌, ◌++◌, length, length-append, length-drop, map, take, drop, get_or, drop-cons, refl, sym, subst, ap, ap₂, ◌∙◌, append_assoc, append-nil, arith}
+use Rattle.std.proofs.Common.{◌≡◌, ◌≢◌, ℕ, zero, suc, ◌+◌, ◌<◌, ◌≤◌, inl, inr, true≢false, List, [], ◌∷◌, ◌++◌, length, length-append, length-drop, map, drop, get_or, drop-cons, refl, sym, subst, ap, ap₂, ◌∙◌, append_assoc, append-nil, arith}
 use Rattle.std.specs.Prelude.{Result, Ok, Err, IsErr, MatchResult, Vec}
 use Rattle.std.specs.Result.{IsErrAnd}
 use Rattle.std.specs.Global.{Global}
@@ -12,12 +12,12 @@ use Rattle.vortex_value.specs.TypesWithin.{HaveNoVariant, AllHaveVariants}
 use Rattle.vortex_value.specs.Validity.{Valid}
 use Rattle.vortex_value.specs.Values.Content.{content}
 use Rattle.vortex_value.specs.Values.RawTree.{RawTree}
-use Rattle.vortex_value.specs.Values.Scalars.{IsMadeOf, scalar_content, scalar_raw, scalar_type}
+use Rattle.vortex_value.specs.Values.Scalars.{scalar_content, scalar_raw, scalar_type}
 use Rattle.vortex_value.specs.declared.scalars.Scalar.{Scalar}
 use Rattle.vortex_row.specs.Columns.{key_with, row_key}
-use Rattle.vortex_row.specs.Decoded.{AreMadeOf, AreOfTypes, AreValuesOf, BeginsWithRow, DecodesRowTo, IsDecodedRow, IsFirstBad, IsRowKeyOf, IsValueOf, values_key}
+use Rattle.vortex_row.specs.Decoded.{AreMadeOf, AreOfTypes, AreValuesOf, BeginsWithRow, DecodesRowTo, IsDecodedRow, IsFirstBad, IsRowKeyOf, values_key}
 use Rattle.vortex_row.specs.ColumnReading.{AreColumnKeys, ArePlainOf, AreScalars, HasColumn, HasColumnAt, HasRow, IsColumnKey, IsRefusal, IsRefusalAt, scalars_key}
-use Rattle.vortex_row.specs.Reading.{AllHaveValues, BeginAlike, ContinueWith, HasValues, IsPlain, IsStuck}
+use Rattle.vortex_row.specs.Reading.{AllHaveValues, ContinueWith, HasValues, IsPlain, IsStuck}
 use Rattle.vortex_row.specs.Variants.{HaveByteIds}
 use Rattle.vortex_row.specs.declared.error.RowError.{RowError}
 use Rattle.vortex_row.specs.declared.error.RowError.TheVariants.{BadKey, OutOfMemory}

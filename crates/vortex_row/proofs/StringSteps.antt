@@ -1,14 +1,14 @@
 -- Steps of the reading of a string, byte by byte.
-use Rattle.std.proofs.Common.{◌≡◌, ◌≢◌, ℕ, zero, suc, ◌+◌, ◌<◌, ◌≤◌, ◌==◌, ◌||◌, ◌⊎◌, inl, inr, Bool, true, false, List, [], ◌∷◌, ◌++◌, IsUtf8, length, length-append, take, drop, get_or, refl, sym, subst, ap, ap₂, ◌∙◌, append_assoc, append-nil, arith}
+use Rattle.std.proofs.Common.{◌≡◌, ◌≢◌, ℕ, zero, suc, ◌+◌, ◌<◌, ◌≤◌, ◌==◌, ◌||◌, inl, inr, Bool, true, false, List, [], ◌∷◌, ◌++◌, IsUtf8, length, length-append, take, drop, get_or, refl, sym, subst, ap, ap₂, ◌∙◌, append_assoc, append-nil, arith}
 use Rattle.vortex_row.specs.Held.{AreBytes}
 use Rattle.vortex_row.specs.Keys.{escape, escaped, inverted}
 use Rattle.vortex_row.specs.Reading.{BeginsWithOne, ContinueWith, IsStuck}
 use Rattle.vortex_row.specs.Strings.{HasString, IsAny, IsEscaped, IsHalfEscaped}
 use Rattle.vortex_value.specs.Values.Content.{string}
 use Rattle.vortex_row.proofs.ApartLaws.{key-apart}
-use Rattle.vortex_row.proofs.ByteLaws.{no_bytes, bytes_first, bytes_rest, bytes_after, bytes_then}
+use Rattle.vortex_row.proofs.ByteLaws.{no_bytes, bytes_first, bytes_rest, bytes_after}
 use Rattle.vortex_row.proofs.ReaderSteps.{length-inverted, take-length}
-use Rattle.vortex_row.proofs.StuckLaws.{NoneHere, Some, continue-itself, continue-then, none-byte, none-end, not-stuck, stuck-after, stuck-here, stuck-later}
+use Rattle.vortex_row.proofs.StuckLaws.{NoneHere, Some, continue-itself, continue-then, none-byte, none-end, not-stuck, stuck-here, stuck-later}
 use Rattle.vortex_row.proofs.TextSteps.{Follow, continue-end, continue-half, continue-plain, continue-second, escaped-some, none-second, plain-byte}
 
 any-follows : (b : ℕ) → Follow IsAny b IsAny

@@ -5,10 +5,10 @@ use Rattle.std.proofs.lemmas.Str.{IsUtf8-nil}
 use Rattle.vortex_row.specs.Held.{AreBytes}
 use Rattle.vortex_row.specs.Keys.{escape, escaped}
 use Rattle.vortex_row.specs.Reading.{BeginsWithOne, ContinueWith, IsStuck, NoneBegins}
-use Rattle.vortex_row.specs.Strings.{Completes, ComesNext, IsAny, IsEscaped, IsHalfEscaped, IsProper, lowest_after, highest_after}
+use Rattle.vortex_row.specs.Strings.{Completes, ComesNext, IsEscaped, IsHalfEscaped, IsProper, lowest_after, highest_after}
 use Rattle.vortex_row.specs.declared.decode.texts.Next.{Next}
 use Rattle.vortex_row.specs.declared.decode.texts.Next.TheVariants.{Character, Escaped, Within}
-use Rattle.vortex_row.proofs.ByteLaws.{no_bytes, bytes_first, bytes_rest, bytes_after}
+use Rattle.vortex_row.proofs.ByteLaws.{no_bytes, bytes_rest, bytes_after}
 use Rattle.vortex_row.proofs.ReaderSteps.{at-once, drop-past, take-more, take-past, take-then}
 use Rattle.vortex_row.proofs.StuckLaws.{Some, continue-then, none-byte, none-end, stuck-after}
 use Rattle.vortex_row.proofs.TextLaws.{after-one, after-two, after-three, after-four, no-first}

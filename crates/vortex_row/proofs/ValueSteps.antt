@@ -1,5 +1,5 @@
 -- Steps of the reading of values, down the type.
-use Rattle.std.proofs.Common.{◌≡◌, ◌≢◌, ℕ, zero, suc, ◌+◌, ◌-◌, ◌<◌, ◌≤◌, ◌⊎◌, inl, inr, false, true, List, [], ◌∷◌, ◌++◌, length, length-append, map, drop, get_or, drop-cons, Option, Some as Present, None, Vec, Box, Global, refl, sym, subst, ap, ap₂, ◌∙◌, arith}
+use Rattle.std.proofs.Common.{◌≡◌, ◌≢◌, ℕ, zero, suc, ◌+◌, ◌<◌, ◌≤◌, ◌⊎◌, inl, inr, false, true, List, [], ◌∷◌, ◌++◌, length, length-append, map, drop, get_or, drop-cons, Option, Some as Present, Vec, Box, Global, refl, sym, subst, ap, ap₂, ◌∙◌, arith}
 use Rattle.std.specs.Prelude.{Result, ◌==◌, Bool, if◌then◌else◌}
 use Rattle.std.proofs.Math.Seq.{drop-nil}
 use Rattle.std.proofs.lemmas.Option.{same_Some}
@@ -20,10 +20,10 @@ use Rattle.vortex_value.specs.Values.Content.{content}
 use Rattle.vortex_value.specs.Values.RawOf.{raw_of, union_tree, value_tree, value_trees}
 use Rattle.vortex_value.specs.declared.values.ScalarValue.{ScalarValue, Tuple, Union as Union_}
 use Rattle.vortex_value.specs.declared.unions.UnionValue.{UnionValue}
-use Rattle.vortex_value.specs.Values.RawTree.{RawTree, absent, raw_tuple, raw_union, raw_variant, RawTrees, no_raws, raw_then}
+use Rattle.vortex_value.specs.Values.RawTree.{RawTree, absent, raw_union, raw_variant, RawTrees, no_raws, raw_then}
 use Rattle.vortex_value.proofs.ValueSteps.{value_tree-Tuple, value_tree-Union}
 use Rattle.vortex_row.specs.Keys.{key}
-use Rattle.vortex_row.specs.Reading.{AllHaveValues, AreKeys, AreSized, HasRead, HasValues, IsChild, IsKey, IsPlain, IsPresent, IsStuck, NoneBegins, Reads, entry_type}
+use Rattle.vortex_row.specs.Reading.{AllHaveValues, AreKeys, AreSized, HasRead, HasValues, IsChild, IsKey, IsPlain, IsPresent, IsStuck, Reads, entry_type}
 use Rattle.vortex_row.specs.declared.reader.Fault.{Fault}
 use Rattle.vortex_row.specs.declared.reader.Fault.TheVariants.{Bad, NoMemory}
 use Rattle.vortex_row.proofs.OrderLaws.{begins}

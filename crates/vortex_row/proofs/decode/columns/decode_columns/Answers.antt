@@ -1,5 +1,5 @@
 -- One column more, and the end of the row.
-use Rattle.std.proofs.Common.{arith, refl, sym, subst}
+use Rattle.std.proofs.Common.{arith}
 use Rattle.vortex_dtype.specs.TypeOf.{dtype_trees}
 use Rattle.vortex_row.proofs.RowDecodeSteps.{columns-end, columns-more, columns-refused, columns-start, columns-within, row-refused, same-option}
 use Rattle.vortex_row.proofs.decode.columns.decode_columns.Goals as goal

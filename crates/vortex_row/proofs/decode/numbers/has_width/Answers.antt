@@ -1,5 +1,5 @@
 -- Too many bytes, or too many for the limit.
-use Rattle.std.proofs.Common.{◌≡◌, ◌<◌, ◌/◌, ◌^◌, ◌*◌, ◌-◌, inl, inr, arith}
+use Rattle.std.proofs.Common.{◌≡◌, ◌/◌, ◌^◌, ◌*◌, ◌-◌, inl, inr, arith}
 use Rattle.std.proofs.lemmas.Bool.Decides.{nat_tests}
 use Rattle.vortex_row.proofs.NumberSteps.{width-none}
 use Rattle.vortex_row.proofs.decode.numbers.has_width.Goals as goal

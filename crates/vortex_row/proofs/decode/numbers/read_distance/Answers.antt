@@ -1,6 +1,5 @@
 -- The bytes of the distance, inverted once more if the number is below 0.
-use Rattle.std.proofs.Common.{refl, arith, ◌≤◌, length}
-use Rattle.vortex_row.specs.Keys.{inverted}
+use Rattle.std.proofs.Common.{refl, arith}
 use Rattle.vortex_row.proofs.NumberSteps.{distance-read, distance-stuck, distance-within}
 use Rattle.vortex_row.proofs.ReaderSteps.{length-inverted}
 use Rattle.vortex_row.proofs.decode.numbers.read_distance.Goals as goal

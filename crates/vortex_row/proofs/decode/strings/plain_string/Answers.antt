@@ -1,6 +1,5 @@
 -- The first byte that is 0 or 1 is the end, and those before it stand for themselves.
 use Rattle.std.proofs.Common.{arith, get_or}
-use Rattle.memchr.specs.Find.{NoneBefore}
 use Rattle.vortex_row.proofs.StringSteps.{not_special, plain-found}
 use Rattle.vortex_row.proofs.decode.strings.plain_string.Goals as goal
 

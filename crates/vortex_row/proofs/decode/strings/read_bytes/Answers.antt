@@ -1,6 +1,5 @@
 -- The string is the bytes up to its end.
-use Rattle.std.proofs.Common.{◌∙◌, ap, refl, sym, subst}
-use Rattle.vortex_row.specs.Keys.{inverted}
+use Rattle.std.proofs.Common.{refl, sym, subst}
 use Rattle.vortex_row.specs.Reading.{left}
 use Rattle.vortex_row.specs.Strings.{HasString, IsAny}
 use Rattle.vortex_row.proofs.StringSteps.{plain-read, plain-within}

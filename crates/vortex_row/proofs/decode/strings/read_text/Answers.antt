@@ -1,5 +1,5 @@
 -- Since no text is there, a byte is found that comes next in none.
-use Rattle.std.proofs.Common.{inl, inr, refl, sym, subst, IsUtf8}
+use Rattle.std.proofs.Common.{inl, inr, sym, subst, IsUtf8}
 use Rattle.vortex_row.specs.Reading.{IsStuck, left}
 use Rattle.vortex_row.specs.Strings.{IsEscaped}
 use Rattle.vortex_row.proofs.decode.strings.read_text.Goals as goal

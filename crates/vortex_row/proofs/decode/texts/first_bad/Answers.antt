@@ -1,5 +1,5 @@
 -- Each byte so far comes next in a text, and the one at the place does not, or the text is whole.
-use Rattle.std.proofs.Common.{inl, length, sym, ◌∙◌, rules, arith}
+use Rattle.std.proofs.Common.{inl, length, sym, ◌∙◌, arith}
 use Rattle.vortex_row.specs.Keys.{inverted}
 use Rattle.vortex_row.proofs.ReaderSteps.{inverted-at, length-inverted}
 use Rattle.vortex_row.proofs.TextSteps.{bad-byte, good-byte, ends-early}

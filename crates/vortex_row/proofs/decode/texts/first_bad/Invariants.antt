@@ -1,5 +1,5 @@
 -- The bytes so far are the beginning of a text, after which next may come.
-use Rattle.std.proofs.Common.{◌≡◌, ◌++◌, IsUtf8, take, drop}
+use Rattle.std.proofs.Common.{IsUtf8, take}
 use Rattle.vortex_row.specs.Keys.{inverted}
 use Rattle.vortex_row.specs.Reading.{ContinueWith}
 use Rattle.vortex_row.specs.Strings.{ComesNext, IsEscaped, IsProper}

@@ -1,5 +1,5 @@
 -- The parts so far, and what parts are to come; each call goes down the type.
-use Rattle.std.proofs.Common.{◌≡◌, ◌+◌, ◌-◌, ◌*◌, ◌≤◌, length, drop}
+use Rattle.std.proofs.Common.{◌+◌, ◌-◌, ◌*◌, length, drop}
 use Rattle.vortex_dtype.specs.TypeOf.{as_type_trees, dtype_trees, map_of, type_of, variants_of}
 use Rattle.vortex_dtype.specs.Lemmas.TypeSize.{type_size, types_size}
 use Rattle.vortex_value.specs.Validity.{EachValid, EntriesValid, FieldsValid}
