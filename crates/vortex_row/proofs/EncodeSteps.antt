@@ -46,7 +46,7 @@ inverted-append : (bs cs : List ℕ) → inverted true (bs ++ cs) ≡ inverted t
 inverted-append [] cs = refl
 inverted-append (b ∷ bs) cs = ap (λ xs. (255 - b) ∷ xs) (inverted-append bs cs)
 
-inverted-big_endian : (k n : ℕ) → n < 256 ^ k → big_endian k (256 ^ k - 1 - n) ≡ inverted true (big_endian k n)
+pub inverted-big_endian : (k n : ℕ) → n < 256 ^ k → big_endian k (256 ^ k - 1 - n) ≡ inverted true (big_endian k n)
 inverted-big_endian zero n h = refl
 inverted-big_endian (suc k) n h =
     let high : (256 ^ suc k - 1 - n) / 256 ≡ 256 ^ k - 1 - n / 256 = omega arith in

@@ -11,6 +11,7 @@ pub mod NumberForms
 pub mod NumberLaws
 pub mod NumberReading
 pub mod NumberSteps
+pub mod NumberWords
 pub mod OrderLaws
 pub mod PartSteps
 pub mod PlaceLaws

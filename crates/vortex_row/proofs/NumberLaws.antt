@@ -25,7 +25,7 @@ big_endian-ordered (suc k) m n p q =
 
 -- how many bytes there are, and that they are bytes
 
-big_endian-bytes : (k n : ℕ) → AreBytes (big_endian k n)
+pub big_endian-bytes : (k n : ℕ) → AreBytes (big_endian k n)
 big_endian-bytes zero n = no_bytes
 big_endian-bytes (suc k) n = bytes_then (big_endian k (n / 256)) (n % 256 ∷ []) (big_endian-bytes k (n / 256)) (bytes_after (n % 256) [] (omega arith) no_bytes)
 

@@ -51,7 +51,7 @@ zeros-bytes (suc k) = bytes_after 0 (zeros k) (omega arith) (zeros-bytes k)
 
 -- the bytes of a number are it
 
-worth-big_endian : (k n : ℕ) → n < 256 ^ k → worth 0 (big_endian k n) ≡ n
+pub worth-big_endian : (k n : ℕ) → n < 256 ^ k → worth 0 (big_endian k n) ≡ n
 worth-big_endian zero n h = omega arith
 worth-big_endian (suc k) n h =
     let rest = worth-big_endian k (n / 256) (omega arith) in

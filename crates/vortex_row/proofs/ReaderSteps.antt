@@ -3,7 +3,7 @@ use Rattle.std.proofs.Common.{◌≡◌, ℕ, zero, suc, ◌-◌, ◌<◌, ◌�
 use Rattle.vortex_row.specs.Bytes.{inverted_byte}
 use Rattle.vortex_row.specs.Held.{AreBytes}
 use Rattle.vortex_row.specs.Keys.{inverted}
-use Rattle.vortex_row.proofs.ByteLaws.{bytes_first, bytes_rest, inverted-bytes}
+use Rattle.vortex_row.proofs.ByteLaws.{bytes_after, bytes_first, bytes_rest, inverted-bytes, no_bytes}
 
 pub inverted-first : (d : Bool) (b : ℕ) (bs : List ℕ) → inverted d (b ∷ bs) ≡ inverted_byte d b ∷ inverted d bs
 inverted-first true b bs = refl
@@ -59,6 +59,11 @@ pub take-length : (n : ℕ) (xs : List ℕ) → n ≤ length xs → length (take
 take-length zero xs h = refl
 take-length (suc n) [] h = absurd (omega arith)
 take-length (suc n) (x ∷ xs) h = ap suc (take-length n xs (omega arith))
+
+pub take-bytes : (n : ℕ) (bs : List ℕ) → AreBytes bs → AreBytes (take n bs)
+take-bytes zero bs h = no_bytes
+take-bytes (suc n) [] h = no_bytes
+take-bytes (suc n) (b ∷ bs) h = bytes_after b (take n bs) (bytes_first b bs h) (take-bytes n bs (bytes_rest b bs h))
 
 pub inverted-at : (d : Bool) (i : ℕ) (bs : List ℕ) → i < length bs → get_or (inverted d bs) i 0 ≡ inverted_byte d (get_or bs i 0)
 inverted-at false i bs h = refl

@@ -7,7 +7,7 @@ use Rattle.vortex_row.specs.Strings.{HasString, IsAny, IsEscaped, IsHalfEscaped}
 use Rattle.vortex_value.specs.Values.Content.{string}
 use Rattle.vortex_row.proofs.ApartLaws.{key-apart}
 use Rattle.vortex_row.proofs.ByteLaws.{no_bytes, bytes_first, bytes_rest, bytes_after}
-use Rattle.vortex_row.proofs.ReaderSteps.{length-inverted, take-length}
+use Rattle.vortex_row.proofs.ReaderSteps.{length-inverted, take-bytes, take-length}
 use Rattle.vortex_row.proofs.StuckLaws.{NoneHere, Some, continue-itself, continue-then, none-byte, none-end, not-stuck, stuck-here, stuck-later}
 use Rattle.vortex_row.proofs.TextSteps.{Follow, continue-end, continue-half, continue-plain, continue-second, escaped-some, none-second, plain-byte}
 
@@ -95,11 +95,6 @@ plain-bytes (b ∷ bs) (suc end) h plain e =
     let tail = plain-bytes bs end (omega arith) (λ k less. plain (suc k) (omega arith)) e in
     let two : 2 ≤ b = plain 0 (omega arith) in
     ap (λ xs. b ∷ xs) tail ∙ ap (λ xs. (xs ++ escaped (take end bs)) ++ drop (suc end) bs) (sym (plain-byte b two))
-
-take-bytes : (n : ℕ) (bs : List ℕ) → AreBytes bs → AreBytes (take n bs)
-take-bytes zero bs h = no_bytes
-take-bytes (suc n) [] h = no_bytes
-take-bytes (suc n) (b ∷ bs) h = bytes_after b (take n bs) (bytes_first b bs h) (take-bytes n bs (bytes_rest b bs h))
 
 pub plain-found : (bs word : List ℕ) (end : ℕ) → AreBytes bs → end < length bs → ((k : ℕ) → k < end → 2 ≤ get_or bs k 0) → get_or bs end 0 ≡ 0 → word ≡ take end bs
     → HasString IsAny word bs (drop (length word + 1) bs)

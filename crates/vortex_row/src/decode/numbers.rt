@@ -1,9 +1,9 @@
 //! Numbers from their keys.
 
-ghost use Rattle.std.specs.Prelude.{◌≡◌, ◌≤◌, ◌<◌, ℕ, List, IfErr, MatchOption, MatchResult, drop, false, length, true};
+ghost use Rattle.std.specs.Prelude.{◌≡◌, ◌-◌, ◌≤◌, ◌<◌, ℕ, List, IfErr, IfSome, MatchOption, MatchResult, drop, false, length, take, true};
 ghost use Rattle.vortex_row.specs.Numbers.{GoesOnAs, HasDistance, HasLimits, HasMagnitude, IsMagnitude, whole_at};
 ghost use Rattle.vortex_row.specs.Reading.{IsInverted, IsKey, IsPresent, IsStuck, NoneBegins, Reads, left};
-ghost use Rattle.vortex_row.specs.Words.{NonNullable, integer_type, inverted, value_tree};
+ghost use Rattle.vortex_row.specs.Words.{NonNullable, big_endian, integer_type, inverted, value_tree};
 
 use crate::reader::{Fault, Reader, are_bytes, inverted_again, inverted_if};
 use vortex_dtype::PType;
@@ -81,6 +81,7 @@ fn form_after(head: u8, ptype: PType) -> Option<Form>
 
 /// The number of so many bytes, the highest first, that is up to the limit and does not begin with
 /// 0. Else the place of the first byte that such a number does not have.
+#[inline(never)]
 fn magnitude_by_bytes(bytes: &[u8], invert: bool, width: u8, limit: u64) -> Result<u64, usize>
     requires { width ≤ 8 }
     ensures within { IfErr result (λ place. place ≤ length bytes.now) }
@@ -105,6 +106,66 @@ fn magnitude_by_bytes(bytes: &[u8], invert: bool, width: u8, limit: u64) -> Resu
     Ok(number)
 }
 
+/// The first eight bytes as a number, the highest first. `None` if there are fewer.
+#[inline(always)]
+fn first_word(bytes: &[u8]) -> Option<u64>
+    ensures { IfSome result (λ word. (8 ≤ length bytes.now)
+        × (take 8 bytes.now ≡ big_endian 8 word)) }
+{
+    match bytes {
+        [a, b, c, d, e, f, g, h, ..] => {
+            Some(u64::from_be_bytes([*a, *b, *c, *d, *e, *f, *g, *h]))
+        }
+        _ => None,
+    }
+}
+
+/// The word with its bytes inverted, if that is asked for.
+#[inline(always)]
+fn inverted_word(invert: bool, word: u64) -> u64
+    ensures inverted { invert ≡ true → result ≡ u64.MAX - word }
+    ensures same { invert ≡ false → result ≡ word }
+{
+    if invert { !word } else { word }
+}
+
+/// The number of so many bytes, as `magnitude_by_bytes`, from one word. `None` says nothing: it
+/// comes near the end of the bytes, and for bytes that are refused.
+#[inline(always)]
+fn magnitude_at_once(bytes: &[u8], invert: bool, width: u8, limit: u64) -> Option<u64>
+    requires { width ≤ 8 }
+    ensures { IfSome result
+        (λ number. HasMagnitude width limit (inverted invert bytes.now) number) }
+{
+    if width == 0 {
+        return Some(0);
+    }
+    let word = first_word(bytes)?;
+    let word = inverted_word(invert, word);
+    let number = word >> (8 * (8 - width));
+    if number <= limit && number >> (8 * (width - 1)) > 0 {
+        Some(number)
+    } else {
+        None
+    }
+}
+
+/// The number of so many bytes, as `magnitude_by_bytes`.
+#[inline(always)]
+fn magnitude(bytes: &[u8], invert: bool, width: u8, limit: u64) -> Result<u64, usize>
+    requires { width ≤ 8 }
+    ensures within { IfErr result (λ place. place ≤ length bytes.now) }
+    ensures read { MatchResult result
+        (λ number. HasMagnitude width limit (inverted invert bytes.now) number)
+        (λ place. IsStuck (Unit {0}) (IsMagnitude width limit) (inverted invert bytes.now)
+        (drop place (inverted invert bytes.now))) }
+{
+    match magnitude_at_once(bytes, invert, width, limit) {
+        Some(number) => Ok(number),
+        None => magnitude_by_bytes(bytes, invert, width, limit),
+    }
+}
+
 /// How far the number is from 0.
 fn read_distance(form: Form, reader: &mut Reader<'_>) -> Result<u64, Fault>
     requires { form.width ≤ 8 }
@@ -116,7 +177,7 @@ fn read_distance(form: Form, reader: &mut Reader<'_>) -> Result<u64, Fault>
 {
     are_bytes(reader.rest);
     let invert = inverted_again(reader.invert, form.below);
-    match magnitude_by_bytes(reader.rest, invert, form.width, form.limit) {
+    match magnitude(reader.rest, invert, form.width, form.limit) {
         Ok(number) => {
             reader.advance(form.width as usize);
             Ok(number)

@@ -40,6 +40,21 @@ fn push(part: Option<ScalarValue>, parts: &mut Vec<Option<ScalarValue>>) -> Resu
         (λ _. parts.new.items ≡ parts.old.items ++ part ∷ [])
         (λ e. e ≡ NoMemory) }
 {
+    if parts.len() < parts.capacity() {
+        parts.push_reserved(part);
+        Ok(())
+    } else {
+        push_more(part, parts)
+    }
+}
+
+/// Puts a part to the others, in room that has to be taken first.
+#[inline(never)]
+fn push_more(part: Option<ScalarValue>, parts: &mut Vec<Option<ScalarValue>>) -> Result<(), Fault>
+    ensures { MatchResult result
+        (λ _. parts.new.items ≡ parts.old.items ++ part ∷ [])
+        (λ e. e ≡ NoMemory) }
+{
     parts.push(part).map_err(|_| Fault::NoMemory)
 }
 
