@@ -1,0 +1,127 @@
+-- The statistics of a cell that repeats, and what the code makes of a cell.
+use Rattle.std.proofs.Common.{◌≡◌, ℕ, ◌<◌, ◌*◌, Bool, true, false, cond, if◌then◌else◌, List, [], ◌∷◌, length, count_by, replicate, map, take, ◌+◌, ◌++◌, get_or, Option, Some, None, IfSome, is_some, Equal, refl, sym, ap, subst, ◌∙◌, arith, inl, inr, ◌⊎◌, ◌≤◌, ◌^◌, Ordering, Less, length-take}
+use Rattle.std.proofs.lemmas.Bool.{false≢true}
+use Rattle.std.proofs.lemmas.List.{get_or-replicate, length-map, length-replicate, map-append, take_more}
+use Rattle.std.proofs.lemmas.List.Folds.{sum_by-replicate}
+use Rattle.vortex_dtype.specs.TypeTree.{TypeTree}
+use Rattle.vortex_value.specs.Order.{IsReversed, IsTransitive, order}
+use Rattle.vortex_value.specs.Values.Content.{content}
+use Rattle.vortex_value.specs.Values.RawTree.{RawTree, is_absent}
+use Rattle.vortex_value.specs.Values.Refs.{IsRefOf, ref_raw}
+use Rattle.vortex_value.specs.Values.Scalars.{scalar_raw, scalar_type}
+use Rattle.vortex_value.specs.declared.refs.ScalarRef.{ScalarRef}
+use Rattle.vortex_value.specs.declared.scalars.Scalar.{Scalar}
+use Rattle.vortex_statistics.specs.Cells.{Cell, HasValue, cell_of, cell_of_ref, cell_order, is_null_cell, is_null_content, order_from_above}
+use Rattle.vortex_statistics.specs.Changes.{new_bound, replacing}
+use Rattle.vortex_statistics.specs.Observing.{RefusesCell, bound_at}
+use Rattle.vortex_statistics.specs.declared.error.StatisticsError.{StatisticsError}
+use Rattle.vortex_statistics.specs.declared.error.StatisticsError.TheVariants.{OutOfMemory}
+use Rattle.vortex_statistics.specs.declared.observing.Change.{Change}
+use Rattle.vortex_statistics.specs.declared.observing.Change.TheVariants.{Remove, Replace}
+use Rattle.vortex_statistics.specs.Statistics.{AreComplete, AreRight, IsBound, Known, KnownBound}
+use Rattle.vortex_statistics.proofs.CellLaws.{IsOrder, equal_itself, from_above, from_below}
+use Rattle.vortex_statistics.proofs.ObserveSteps.{null_content}
+
+in_replicate : (n : ℕ) (x y : Cell) → HasValue (replicate n x) y → x ≡ y
+in_replicate n x y h =
+    let short : h.cell.0 < n = omega (arith, h.cell.1, length-replicate n x) in
+    sym (get_or-replicate n h.cell.0 x y short) ∙ h.cell.2
+
+repeated_value : (n : ℕ) (x : Cell) → 0 < n → is_null_cell x ≡ false → HasValue (replicate n x) x
+repeated_value n x some valued = record { cell = (0, omega (arith, some, length-replicate n x), get_or-replicate n 0 x x some); value = valued }
+
+count-replicate : (n : ℕ) (x : Cell) → count_by is_null_cell (replicate n x) ≡ n * cond (is_null_cell x) 1 0
+count-replicate n x = sum_by-replicate (λ y. cond (is_null_cell y) 1 0) n x
+
+pub constant_null : (n : ℕ) (x : Cell) → is_null_cell x ≡ true → AreComplete (record { row_count = n; null_count = Some n; lower = None; upper = None }) (replicate n x)
+constant_null n x void = record {
+  right = record {
+    rows = sym (length-replicate n x);
+    nulls = omega (arith, count-replicate n x ∙ ap (λ b. n * cond b 1 0) void);
+    lower = tt;
+    upper = tt;
+  };
+  counted = refl;
+  exact = record { lower = tt; upper = tt };
+  bounded = λ compare y v. absurd (false≢true (sym v.value ∙ ap is_null_cell (sym (in_replicate n x y v)) ∙ void));
+}
+
+module _ (rev : IsReversed order) (trans : IsTransitive order) (n : ℕ) (x : Cell) (valued : is_null_cell x ≡ false) (some : 0 < n) where
+  below : IsOrder cell_order
+  below = from_below rev trans
+
+  above : IsOrder order_from_above
+  above = from_above (from_below rev trans)
+
+  bound_repeated : (cmp : Cell → Cell → Option Ordering) → (is_some (cell_order x x) ≡ true → cmp x x ≡ Some Equal) → (b : Bool) → is_some (cell_order x x) ≡ b
+      → IfSome (if b then Some (record { value = x; is_exact = true }) else None) (λ c. IsBound cmp c (replicate n x))
+  bound_repeated cmp itself false e = tt
+  bound_repeated cmp itself true e = record {
+    bounds = λ y v. let P : Cell → Type 0 = λ z. (cmp x z ≡ Some Less) ⊎ (cmp x z ≡ Some Equal) in subst P (in_replicate n x y v) (inr (itself e));
+    exact = λ k. (x, repeated_value n x some valued, itself e);
+  }
+
+  exact_repeated : (b : Bool) → IfSome (if b then Some (let made : KnownBound = record { value = x; is_exact = true } in made) else None) (λ c. c.is_exact ≡ true)
+  exact_repeated true = refl
+  exact_repeated false = tt
+
+  there_repeated : (b : Bool) → b ≡ true → is_some (if b then Some (let made : KnownBound = record { value = x; is_exact = true } in made) else None) ≡ true
+  there_repeated true e = refl
+  there_repeated false e = absurd (false≢true e)
+
+  pub constant_value : AreComplete (record { row_count = n; null_count = Some 0; lower = bound_at x; upper = bound_at x }) (replicate n x)
+  constant_value = record {
+    right = record {
+      rows = sym (length-replicate n x);
+      nulls = omega (arith, count-replicate n x ∙ ap (λ b. n * cond b 1 0) valued);
+      lower = bound_repeated cell_order (λ e. equal_itself cell_order below x e) (is_some (cell_order x x)) refl;
+      upper = bound_repeated order_from_above (λ e. equal_itself order_from_above above x e) (is_some (cell_order x x)) refl;
+    };
+    counted = refl;
+    exact = record { lower = exact_repeated (is_some (cell_order x x)); upper = exact_repeated (is_some (cell_order x x)) };
+    bounded = λ compare y v.
+        let ordered : is_some (cell_order x x) ≡ true = compare x x (repeated_value n x some valued) (repeated_value n x some valued) in
+        (there_repeated (is_some (cell_order x x)) ordered, there_repeated (is_some (cell_order x x)) ordered);
+  }
+
+-- the bound that the code makes of a cell
+pub made_bound : (x : Cell) → new_bound (replacing x) x ≡ bound_at x
+made_bound x = by_test (is_some (cell_order x x))
+  where
+    by_test : (b : Bool) → new_bound (if b then Replace else Remove) x ≡ (if b then Some (record { value = x; is_exact = true }) else None)
+    by_test true = refl
+    by_test false = refl
+
+-- what the code makes of a value that repeats
+pub constant_step : IsReversed order → IsTransitive order → (n : ℕ) (x : Cell) (v : RawTree) (change : Change) (lower upper : Option KnownBound) → is_absent v ≡ false → x.content ≡ content v → 0 < n
+    → change ≡ replacing x → lower ≡ new_bound change x → upper ≡ new_bound change x → AreComplete (record { row_count = n; null_count = Some 0; lower = lower; upper = upper }) (replicate n x)
+constant_step rev trans n x v change lower upper e f some r l u =
+    let valued : is_null_cell x ≡ false = ap is_null_content f ∙ null_content v ∙ e in
+    let first : bound_at x ≡ lower = sym (l ∙ ap (λ c. new_bound c x) r ∙ made_bound x) in
+    let second : bound_at x ≡ upper = sym (u ∙ ap (λ c. new_bound c x) r ∙ made_bound x) in
+    let P : Option KnownBound → Type 0 = λ b. AreComplete (record { row_count = n; null_count = Some 0; lower = b; upper = bound_at x }) (replicate n x) in
+    let Q : Option KnownBound → Type 0 = λ b. AreComplete (record { row_count = n; null_count = Some 0; lower = lower; upper = b }) (replicate n x) in
+    subst Q second (subst P first (constant_value rev trans n x valued some))
+
+-- what it makes of a null that repeats
+pub null_constant_step : (n : ℕ) (x : Cell) (v : RawTree) → is_absent v ≡ true → x.content ≡ content v → AreComplete (record { row_count = n; null_count = Some n; lower = None; upper = None }) (replicate n x)
+null_constant_step n x v e f = constant_null n x (ap is_null_content f ∙ null_content v ∙ e)
+
+-- one value more
+pub cells_more : (xs : List Scalar) (i : ℕ) (x : Scalar) → i < length xs → x ≡ get_or xs i x → map cell_of (take (i + 1) xs) ≡ map cell_of (take i xs) ++ cell_of x ∷ []
+cells_more xs i x h e =
+    ap (map cell_of) (take_more xs i x h ∙ ap (λ y. take i xs ++ (y ∷ [])) (sym e)) ∙ map-append cell_of (take i xs) (x ∷ [])
+
+-- a borrowed scalar is the cell that the scalar is
+pub ref_cell : (x : Scalar) (r : ScalarRef) → IsRefOf (scalar_type x) (scalar_raw x) r → cell_of_ref r ≡ cell_of x
+ref_cell x r made =
+    let typed_as : TypeTree → Cell = λ t. record { typed = t; content = content (ref_raw r) } in
+    let held_as : RawTree → Cell = λ v. record { typed = scalar_type x; content = content v } in
+    ap typed_as made.typed ∙ ap held_as made.value
+
+-- the values of a slice are never too many
+pub never_too_many : (s : Known) (x : Cell) (e : StatisticsError) (xs : List Scalar) (i : ℕ) → AreRight s (map cell_of (take i xs)) → i + 1 < 2 ^ 64 → RefusesCell s x e → e ≡ OutOfMemory
+never_too_many s x e xs i h fits (inl r) =
+    let rows : s.row_count ≤ i = omega (arith, h.rows, length-map (take i xs) cell_of, length-take i xs) in
+    absurd (omega (arith, rows, r.1, fits))
+never_too_many s x e xs i h fits (inr r) = r.0

@@ -1,0 +1,84 @@
+-- What the code answers for a bound that is a string, or bytes.
+use Rattle.std.proofs.Common.{◌≡◌, ℕ, ◌<◌, ◌≤◌, Bool, true, false, not, ◌&&◌, nat_lt, List, length, Option, Some, None, Result, Ok, Err, IsOk, MatchOption, refl, sym, ap, subst, ◌∙◌, arith}
+use Rattle.std.proofs.lemmas.Bool.{false≢true, ltb-false, ltb-true}
+use Rattle.vortex_array.specs.Truncation.{IsLowerAnswer, IsLowerOf, IsTypeOfKind, IsUpperAnswer, IsUpperOf}
+use Rattle.vortex_dtype.specs.TypeTree.{TypeTree, nullability_of}
+use Rattle.vortex_dtype.specs.declared.error.VortexError.{VortexError}
+use Rattle.vortex_dtype.specs.declared.nullability.Nullability.{Nullability}
+use Rattle.vortex_value.specs.Values.RawTree.{RawTree, absent, is_absent}
+use Rattle.vortex_value.specs.Values.Scalars.{scalar_raw, scalar_type}
+use Rattle.vortex_value.specs.declared.scalars.Scalar.{Scalar}
+use Rattle.vortex_statistics.specs.Truncating.{IsCut, IsCutLower, IsCutUpper, IsLongRaw}
+use Rattle.vortex_statistics.specs.declared.column_statistics.Bound.{Bound}
+
+-- a length past 22, where up to 22 the call does not fail
+past_inline : (n : ℕ) → (n ≤ 22 → ⊥) → 22 < n
+past_inline n f = by_test (nat_lt 22 n) refl
+  where
+    by_test : (p : Bool) → nat_lt 22 n ≡ p → 22 < n
+    by_test true e = ltb-true 22 n e
+    by_test false e = absurd (f (ltb-false 22 n e))
+
+never_ok : (e : VortexError) → let r : Result (Option (Scalar × Bool)) VortexError = Err e in IsOk r → ⊥
+never_ok e h = false≢true h
+
+module _ {V : Type 0} (raw : List ℕ → RawTree) (type_at : Nullability → TypeTree) (bytes : V → List ℕ) (law : (k : Nullability) → nullability_of (type_at k) ≡ k)
+    (o : Option V) (n : ℕ) (nullable : Nullability) (b : Bound)
+    (held : MatchOption o (scalar_raw b.value ≡ absent) (λ v. scalar_raw b.value ≡ raw (bytes v))) (there : is_absent (scalar_raw b.value) ≡ false)
+    (typed : IsTypeOfKind type_at (scalar_type b.value)) (kept : nullable ≡ nullability_of (scalar_type b.value)) where
+  -- the type at the bound's nullability is that of the bound
+  type_back : type_at nullable ≡ scalar_type b.value
+  type_back = ap type_at (kept ∙ ap nullability_of typed.1 ∙ law typed.0) ∙ sym typed.1
+
+  not_absent : scalar_raw b.value ≡ absent → ⊥
+  not_absent e = false≢true (sym there ∙ ap is_absent e)
+
+  module _ (Best : List ℕ → ℕ → List ℕ → Type 0) where
+    pub lower_step : (x : Scalar × Bool) → IsLowerAnswer Best raw type_at bytes o n nullable (Ok (Some x)) → IsCutLower Best raw n b (Some (record { value = x.0; is_exact = b.is_exact && not x.1 }))
+    lower_step x h = by_value o held h
+      where
+        by_value : (p : Option V) → MatchOption p (scalar_raw b.value ≡ absent) (λ v. scalar_raw b.value ≡ raw (bytes v)) → IsLowerAnswer Best raw type_at bytes p n nullable (Ok (Some x))
+            → IsCutLower Best raw n b (Some (record { value = x.0; is_exact = b.is_exact && not x.1 }))
+        by_value None m i = absurd (not_absent m)
+        by_value (Some v) m i =
+            let P : TypeTree → Type 0 = λ t. IsLowerOf Best raw t (bytes v) n x.0 x.1 in
+            (bytes v, m, record { cut = x.1; bound = subst P type_back i.bound; exact = refl })
+
+    pub lower_there : IsLowerAnswer Best raw type_at bytes o n nullable (Ok None) → ⊥
+    lower_there h = by_value o held h
+      where
+        by_value : (p : Option V) → MatchOption p (scalar_raw b.value ≡ absent) (λ v. scalar_raw b.value ≡ raw (bytes v)) → IsLowerAnswer Best raw type_at bytes p n nullable (Ok None) → ⊥
+        by_value None m i = not_absent m
+        by_value (Some v) m i = i.bound
+
+    pub lower_refused : (e : VortexError) → IsLowerAnswer Best raw type_at bytes o n nullable (Err e) → (22 < n) × IsLongRaw raw n b
+    lower_refused e h = by_value o held h
+      where
+        by_value : (p : Option V) → MatchOption p (scalar_raw b.value ≡ absent) (λ v. scalar_raw b.value ≡ raw (bytes v)) → IsLowerAnswer Best raw type_at bytes p n nullable (Err e) → (22 < n) × IsLongRaw raw n b
+        by_value None m i = absurd (not_absent m)
+        by_value (Some v) m i = (past_inline n (λ k. never_ok e (i.inline k)), (bytes v, m, i.refused.1))
+
+    module _ (HasNone : List ℕ → ℕ → Type 0) where
+      pub upper_step : (x : Scalar × Bool) → IsUpperAnswer Best HasNone raw type_at bytes o n nullable (Ok (Some x)) → IsCutUpper Best HasNone raw n b (Some (record { value = x.0; is_exact = b.is_exact && not x.1 }))
+      upper_step x h = by_value o held h
+        where
+          by_value : (p : Option V) → MatchOption p (scalar_raw b.value ≡ absent) (λ v. scalar_raw b.value ≡ raw (bytes v)) → IsUpperAnswer Best HasNone raw type_at bytes p n nullable (Ok (Some x))
+              → IsCutUpper Best HasNone raw n b (Some (record { value = x.0; is_exact = b.is_exact && not x.1 }))
+          by_value None m i = absurd (not_absent m)
+          by_value (Some v) m i =
+              let P : TypeTree → Type 0 = λ t. IsUpperOf Best raw t (bytes v) n x.0 x.1 in
+              (bytes v, m, record { cut = x.1; bound = subst P type_back i.bound; exact = refl })
+
+      pub upper_none : IsUpperAnswer Best HasNone raw type_at bytes o n nullable (Ok None) → IsCutUpper Best HasNone raw n b None
+      upper_none h = by_value o held h
+        where
+          by_value : (p : Option V) → MatchOption p (scalar_raw b.value ≡ absent) (λ v. scalar_raw b.value ≡ raw (bytes v)) → IsUpperAnswer Best HasNone raw type_at bytes p n nullable (Ok None) → IsCutUpper Best HasNone raw n b None
+          by_value None m i = absurd (not_absent m)
+          by_value (Some v) m i = (bytes v, m, i.bound)
+
+      pub upper_refused : (e : VortexError) → IsUpperAnswer Best HasNone raw type_at bytes o n nullable (Err e) → (22 < n) × IsLongRaw raw n b
+      upper_refused e h = by_value o held h
+        where
+          by_value : (p : Option V) → MatchOption p (scalar_raw b.value ≡ absent) (λ v. scalar_raw b.value ≡ raw (bytes v)) → IsUpperAnswer Best HasNone raw type_at bytes p n nullable (Err e) → (22 < n) × IsLongRaw raw n b
+          by_value None m i = absurd (not_absent m)
+          by_value (Some v) m i = (past_inline n (λ k. never_ok e (i.inline k)), (bytes v, m, i.refused.1))

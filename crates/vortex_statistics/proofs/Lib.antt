@@ -1,0 +1,11 @@
+pub mod BoundLaws
+pub mod CellLaws
+pub mod ConstantLaws
+pub mod CountLaws
+pub mod CutSteps
+pub mod LooseLaws
+pub mod MergeLaws
+pub mod ObserveLaws
+pub mod ObserveSteps
+pub mod ShortLaws
+pub mod TruncateLaws

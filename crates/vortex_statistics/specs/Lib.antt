@@ -1,0 +1,10 @@
+pub mod Cells
+pub mod Changes
+pub mod Examples
+pub mod Kinds
+pub mod Loosening
+pub mod Merging
+pub mod Observing
+pub mod Statistics
+pub mod Truncating
+pub mod Words

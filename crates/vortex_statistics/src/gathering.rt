@@ -1,0 +1,66 @@
+//! The statistics of values that are at hand.
+
+ghost use Rattle.std.specs.Prelude.{◌≡◌, ◌<◌, false, IfErr, IfOk, map, replicate};
+ghost use Rattle.vortex_statistics.specs.Words.{AreComplete, OutOfMemory, cell_of, is_null_cell, known};
+
+use crate::column_statistics::ColumnStatistics;
+use crate::error::StatisticsError;
+use crate::observing::{new_bounds, replacing};
+use std::alloc::Global;
+use vortex_array::{Scalar, ScalarRef};
+use vortex_value::laws::{order_is_reversed, order_is_transitive};
+
+impl ColumnStatistics {
+    /// The statistics of these values: the nulls are counted, and the bounds are exact. There are
+    /// bounds if there is a value and all values compare with one another.
+    ///
+    /// `OutOfMemory` is its only refusal.
+    pub fn of(alloc: Global, values: &[Scalar]) -> Result<ColumnStatistics, StatisticsError>
+        ensures complete { IfOk result (λ s. AreComplete (known s) (map cell_of values.now)) }
+        ensures refused { IfErr result (λ e. e ≡ OutOfMemory) }
+    {
+        let mut statistics = ColumnStatistics::empty();
+        for value in values {
+            statistics.observe(alloc, ScalarRef::of(value))?;
+        }
+        Ok(statistics)
+    }
+
+    /// The statistics of a column that has the same value, or a null, in each of `rows` rows: both
+    /// bounds are the value, or all rows are null.
+    ///
+    /// `OutOfMemory` is its only refusal, and only if there are rows and the value is not null.
+    pub fn of_constant(
+        alloc: Global,
+        value: &Scalar,
+        rows: u64,
+    ) -> Result<ColumnStatistics, StatisticsError>
+        ensures complete { IfOk result
+            (λ s. AreComplete (known s) (replicate rows (cell_of value.now))) }
+        ensures refused { IfErr result (λ e. (e ≡ OutOfMemory)
+            × (0 < rows) × (is_null_cell (cell_of value.now) ≡ false)) }
+    {
+        order_is_reversed();
+        order_is_transitive();
+        if rows == 0 {
+            return Ok(ColumnStatistics::empty());
+        }
+        if value.is_null() {
+            return Ok(ColumnStatistics {
+                row_count: rows,
+                null_count: Some(rows),
+                lower: None,
+                upper: None,
+            });
+        }
+        let value = ScalarRef::of(value);
+        let change = replacing(value);
+        let (lower, upper) = new_bounds(alloc, change, change, value)?;
+        Ok(ColumnStatistics {
+            row_count: rows,
+            null_count: Some(0),
+            lower,
+            upper,
+        })
+    }
+}

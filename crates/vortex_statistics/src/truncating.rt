@@ -1,0 +1,209 @@
+//! Bounds of strings and bytes, cut to a length in bytes.
+
+ghost use Rattle.std.specs.Prelude.{◌≡◌, ◌⊎◌, ◌&&◌, List, false, not, IfErr, IfOk};
+ghost use Rattle.vortex_statistics.specs.Cells.{Cell};
+ghost use Rattle.vortex_statistics.specs.Words.{AreRight, AreTruncated, HasShortBounds, IsCutLower, IsCutUpper, IsLong, IsLongRaw, IsOutOfMemoryAt, IsTruncatedLower, IsTruncatedUpper, IsTypeOfKind, MayHold, is_absent, kind_of, known, scalar_raw, scalar_type};
+
+use crate::column_statistics::{Bound, ColumnStatistics};
+use crate::error::StatisticsError;
+use std::alloc::Global;
+use vortex_array::{
+    BufferString, ByteBuffer, Scalar, ScalarTruncation, ScalarValue, lower_bound, upper_bound,
+};
+use vortex_value::laws::{order_is_reversed, order_is_transitive};
+
+impl ColumnStatistics {
+    /// These statistics with each bound that is a string, or bytes, cut to at most `n` bytes. A
+    /// bound that was cut is no longer exact. An upper bound is dropped if no string, or no bytes,
+    /// of that length are above it. Other bounds stay, those of extension types too.
+    ///
+    /// `OutOfMemory` only if a bound is longer than `n` bytes and `n` is above 22.
+    pub fn truncate(self, alloc: Global, n: usize) -> Result<ColumnStatistics, StatisticsError>
+        ensures value { IfOk result (AreTruncated n self) }
+        ensures right { IfOk result (λ t. (cells : List Cell)
+            → AreRight (known self) cells → AreRight (known t) cells) }
+        ensures short { IfOk result (HasShortBounds n) }
+        ensures refused { IfErr result
+            (IsOutOfMemoryAt n (IsLong n self.lower ⊎ IsLong n self.upper)) }
+    {
+        order_is_reversed();
+        order_is_transitive();
+        let ColumnStatistics {
+            row_count,
+            null_count,
+            lower,
+            upper,
+        } = self;
+        let (lower, upper) = truncate_bounds(alloc, lower, upper, n)?;
+        Ok(ColumnStatistics {
+            row_count,
+            null_count,
+            lower,
+            upper,
+        })
+    }
+}
+
+/// Both bounds, cut if they are strings or bytes.
+fn truncate_bounds(
+    alloc: Global,
+    lower: Option<Bound>,
+    upper: Option<Bound>,
+    n: usize,
+) -> Result<(Option<Bound>, Option<Bound>), StatisticsError>
+    ensures lower { IfOk result (λ bounds. IsTruncatedLower n lower bounds.0) }
+    ensures upper { IfOk result (λ bounds. IsTruncatedUpper n upper bounds.1) }
+    ensures refused { IfErr result (IsOutOfMemoryAt n (IsLong n lower ⊎ IsLong n upper)) }
+{
+    let lower = match truncate_lower(alloc, lower, n) {
+        Ok(lower) => lower,
+        Err(cause) => {
+            drop(upper);
+            return Err(cause);
+        }
+    };
+    match truncate_upper(alloc, upper, n) {
+        Ok(upper) => Ok((lower, upper)),
+        Err(cause) => {
+            drop(lower);
+            Err(cause)
+        }
+    }
+}
+
+/// What a bound is cut as.
+#[derive(Clone, Copy)]
+enum Kind {
+    /// A string of type `Utf8`.
+    Text,
+    /// Bytes of type `Binary`.
+    Bytes,
+    /// Anything else, which is not cut.
+    Whole,
+}
+
+/// What a bound is cut as, by its type and its raw value.
+fn kind_of(scalar: &Scalar) -> Kind
+    ensures { result ≡ kind_of (scalar_type scalar.now) (scalar_raw scalar.now) }
+{
+    match &scalar.value {
+        Some(ScalarValue::Utf8(_)) => {
+            if scalar.dtype.is_utf8() {
+                Kind::Text
+            } else {
+                Kind::Whole
+            }
+        }
+        Some(ScalarValue::Binary(_)) => {
+            if scalar.dtype.is_binary() {
+                Kind::Bytes
+            } else {
+                Kind::Whole
+            }
+        }
+        _ => Kind::Whole,
+    }
+}
+
+/// A lower bound, cut if it is a string or bytes.
+fn truncate_lower(
+    alloc: Global,
+    bound: Option<Bound>,
+    n: usize,
+) -> Result<Option<Bound>, StatisticsError>
+    ensures value { IfOk result (IsTruncatedLower n bound) }
+    ensures refused { IfErr result (IsOutOfMemoryAt n (IsLong n bound)) }
+{
+    let Some(bound) = bound else {
+        return Ok(None);
+    };
+    match kind_of(&bound.value) {
+        Kind::Text => cut_lower::<BufferString>(alloc, bound, n),
+        Kind::Bytes => cut_lower::<ByteBuffer>(alloc, bound, n),
+        Kind::Whole => Ok(Some(bound)),
+    }
+}
+
+/// An upper bound, cut if it is a string or bytes.
+fn truncate_upper(
+    alloc: Global,
+    bound: Option<Bound>,
+    n: usize,
+) -> Result<Option<Bound>, StatisticsError>
+    ensures value { IfOk result (IsTruncatedUpper n bound) }
+    ensures refused { IfErr result (IsOutOfMemoryAt n (IsLong n bound)) }
+{
+    let Some(bound) = bound else {
+        return Ok(None);
+    };
+    match kind_of(&bound.value) {
+        Kind::Text => cut_upper::<BufferString>(alloc, bound, n),
+        Kind::Bytes => cut_upper::<ByteBuffer>(alloc, bound, n),
+        Kind::Whole => Ok(Some(bound)),
+    }
+}
+
+/// The lower bound at n bytes of a bound that is a string, or bytes.
+fn cut_lower<T: ScalarTruncation>(
+    alloc: Global,
+    bound: Bound,
+    n: usize,
+) -> Result<Option<Bound>, StatisticsError>
+    requires typed { IsTypeOfKind T.type_at (scalar_type bound.value) }
+    requires raw { MayHold T.raw_at (scalar_raw bound.value) }
+    requires some { is_absent (scalar_raw bound.value) ≡ false }
+    ensures value { IfOk result (IsCutLower T.IsBestLower T.raw_at n bound) }
+    ensures refused { IfErr result (IsOutOfMemoryAt n (IsLongRaw T.raw_at n bound)) }
+{
+    let Bound { value, is_exact } = bound;
+    let nullability = value.dtype().nullability();
+    let Ok(value) = T::from_scalar(value) else {
+        unreachable!()
+    };
+    match lower_bound(alloc, value, n, nullability) {
+        Ok(Some((value, cut))) => Ok(Some(bound_of(value, cut, is_exact))),
+        Ok(None) => unreachable!(),
+        Err(cause) => {
+            drop(cause);
+            Err(StatisticsError::OutOfMemory)
+        }
+    }
+}
+
+/// The upper bound at n bytes of a bound that is a string, or bytes.
+fn cut_upper<T: ScalarTruncation>(
+    alloc: Global,
+    bound: Bound,
+    n: usize,
+) -> Result<Option<Bound>, StatisticsError>
+    requires typed { IsTypeOfKind T.type_at (scalar_type bound.value) }
+    requires raw { MayHold T.raw_at (scalar_raw bound.value) }
+    requires some { is_absent (scalar_raw bound.value) ≡ false }
+    ensures value { IfOk result
+        (IsCutUpper T.IsBestUpper T.HasNoBestUpper T.raw_at n bound) }
+    ensures refused { IfErr result (IsOutOfMemoryAt n (IsLongRaw T.raw_at n bound)) }
+{
+    let Bound { value, is_exact } = bound;
+    let nullability = value.dtype().nullability();
+    let Ok(value) = T::from_scalar(value) else {
+        unreachable!()
+    };
+    match upper_bound(alloc, value, n, nullability) {
+        Ok(Some((value, cut))) => Ok(Some(bound_of(value, cut, is_exact))),
+        Ok(None) => Ok(None),
+        Err(cause) => {
+            drop(cause);
+            Err(StatisticsError::OutOfMemory)
+        }
+    }
+}
+
+/// What a bound becomes: it stays exact if it was not cut.
+fn bound_of(value: Scalar, cut: bool, is_exact: bool) -> Bound
+    ensures { result ≡ record { value = value; is_exact = is_exact && not cut } }
+{
+    Bound {
+        value,
+        is_exact: is_exact && !cut,
+    }
+}
