@@ -1,10 +1,10 @@
 -- Bounds of the cells of two pieces, one after the other.
-use Rattle.std.proofs.Common.{◌≡◌, ◌⊎◌, inl, inr, ℕ, zero, suc, ◌+◌, ◌<◌, Bool, true, false, cond, ◌||◌, List, [], ◌∷◌, ◌++◌, get_or, Contains, Option, Some, None, IfSome, is_some, Ordering, Less, Equal, Greater, refl, sym, ap, arith}
+use Rattle.std.proofs.Common.{◌≡◌, ◌⊎◌, inl, inr, ℕ, zero, suc, ◌<◌, Bool, true, false, ◌||◌, List, [], ◌∷◌, ◌++◌, get_or, Option, Some, None, IfSome, is_some, Ordering, Less, Equal, Greater, refl, arith}
 use Rattle.std.proofs.lemmas.Bool.{false≢true}
 use Rattle.std.proofs.lemmas.List.Elements.{Contains-append_cases, Contains-append_left, Contains-append_right}
 use Rattle.std.specs.Option.{option_or}
-use Rattle.vortex_statistics.specs.Cells.{AllCompare, Cell, HasValue, IsUpTo, is_null_cell}
-use Rattle.vortex_statistics.specs.Merging.{bound_of_both, bound_order, joined, outer_by}
+use Rattle.vortex_statistics.specs.Cells.{Cell, HasValue, IsUpTo, is_null_cell}
+use Rattle.vortex_statistics.specs.Merging.{bound_of_both, bound_order, outer_by}
 use Rattle.vortex_statistics.specs.Statistics.{IsBound, KnownBound}
 use Rattle.vortex_statistics.proofs.CellLaws.{IsOrder, compare_through, equal_equal, turned, up_up}
 

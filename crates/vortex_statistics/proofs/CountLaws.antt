@@ -5,7 +5,6 @@ use Rattle.std.proofs.lemmas.List.Sums.{count_by-le-length, sum_by-append, sum_b
 use Rattle.vortex_statistics.specs.Cells.{Cell, HasValue, is_null_cell}
 use Rattle.vortex_statistics.specs.Merging.{sum_of}
 use Rattle.vortex_statistics.specs.Statistics.{AreRight, Known, LeaveNoNull, LeaveNoValue, may_be_null, may_be_value, some_null, some_value}
-use Rattle.vortex_statistics.proofs.BoundLaws.{HasNone}
 
 weight-most : (b : Bool) → cond b 1 0 ≤ 1
 weight-most true = omega arith

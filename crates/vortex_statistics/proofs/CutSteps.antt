@@ -1,5 +1,5 @@
 -- What the code answers for a bound that is a string, or bytes.
-use Rattle.std.proofs.Common.{◌≡◌, ℕ, ◌<◌, ◌≤◌, Bool, true, false, not, ◌&&◌, nat_lt, List, length, Option, Some, None, Result, Ok, Err, IsOk, MatchOption, refl, sym, ap, subst, ◌∙◌, arith}
+use Rattle.std.proofs.Common.{◌≡◌, ℕ, ◌<◌, ◌≤◌, Bool, true, false, not, ◌&&◌, nat_lt, List, Option, Some, None, Result, Ok, Err, IsOk, MatchOption, refl, sym, ap, subst, ◌∙◌}
 use Rattle.std.proofs.lemmas.Bool.{false≢true, ltb-false, ltb-true}
 use Rattle.vortex_array.specs.Truncation.{IsLowerAnswer, IsLowerOf, IsTypeOfKind, IsUpperAnswer, IsUpperOf}
 use Rattle.vortex_dtype.specs.TypeTree.{TypeTree, nullability_of}
@@ -8,7 +8,7 @@ use Rattle.vortex_dtype.specs.declared.nullability.Nullability.{Nullability}
 use Rattle.vortex_value.specs.Values.RawTree.{RawTree, absent, is_absent}
 use Rattle.vortex_value.specs.Values.Scalars.{scalar_raw, scalar_type}
 use Rattle.vortex_value.specs.declared.scalars.Scalar.{Scalar}
-use Rattle.vortex_statistics.specs.Truncating.{IsCut, IsCutLower, IsCutUpper, IsLongRaw}
+use Rattle.vortex_statistics.specs.Truncating.{IsCutLower, IsCutUpper, IsLongRaw}
 use Rattle.vortex_statistics.specs.declared.column_statistics.Bound.{Bound}
 
 -- a length past 22, where up to 22 the call does not fail

@@ -1,9 +1,9 @@
 -- Merged statistics are right, and complete, for the cells of both pieces.
-use Rattle.std.proofs.Common.{◌≡◌, inl, inr, ◌+◌, ◌<◌, ◌^◌, Bool, true, false, List, [], ◌∷◌, ◌++◌, length, Option, Some, None, IsSome, is_some, refl, arith, length-append}
+use Rattle.std.proofs.Common.{◌≡◌, inl, inr, ◌+◌, ◌<◌, ◌^◌, Bool, true, false, List, ◌++◌, is_some, refl, arith, length-append}
 use Rattle.vortex_value.specs.Order.{IsReversed, IsTransitive, order}
-use Rattle.vortex_statistics.specs.Cells.{AllCompare, Cell, HasValue, cell_order, order_from_above}
-use Rattle.vortex_statistics.specs.Merging.{AnyGroupingIsRight, AreRightTogether, Grouping, bound_of_both, bound_order, both, merged, no_piece, piece}
-use Rattle.vortex_statistics.specs.Statistics.{AreComplete, AreRight, HasExactBounds, IsBoundedFor, Known, may_be_value}
+use Rattle.vortex_statistics.specs.Cells.{AllCompare, Cell, cell_order, order_from_above}
+use Rattle.vortex_statistics.specs.Merging.{AnyGroupingIsRight, AreRightTogether, bound_of_both, bound_order, both, merged, no_piece, piece}
+use Rattle.vortex_statistics.specs.Statistics.{AreComplete, HasExactBounds, IsBoundedFor, Known, may_be_value}
 use Rattle.vortex_statistics.proofs.BoundLaws.{both_bound, both_exact, both_there, value_cases, value_left, value_right}
 use Rattle.vortex_statistics.proofs.CellLaws.{IsOrder, from_above, from_below}
 use Rattle.vortex_statistics.proofs.CountLaws.{no_value, sum_fits, sum_right, value_there}

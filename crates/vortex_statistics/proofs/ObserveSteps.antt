@@ -1,5 +1,5 @@
 -- What the code does to the bounds gives the statistics of one cell more.
-use Rattle.std.proofs.Common.{◌≡◌, inl, inr, ℕ, ◌+◌, Bool, true, false, not, ◌&&◌, ◌||◌, if◌then◌else◌, Option, Some, None, is_some, Ordering, Less, Equal, Greater, refl, sym, ap, ◌∙◌}
+use Rattle.std.proofs.Common.{◌≡◌, ℕ, ◌+◌, Bool, true, false, not, ◌&&◌, ◌||◌, if◌then◌else◌, Option, Some, None, is_some, Ordering, Less, Equal, Greater, refl, sym, ap, ◌∙◌}
 use Rattle.std.proofs.lemmas.Bool.{false≢true}
 use Rattle.std.specs.Ordering.{is_gt, is_some_and}
 use Rattle.vortex_value.specs.Values.Content.{content}
@@ -10,7 +10,7 @@ use Rattle.vortex_statistics.specs.Merging.{sum_of}
 use Rattle.vortex_statistics.specs.Observing.{becomes_bound, bound_after, bound_at, bound_with, is_below_some, is_new_bound, observed, with_null, with_value}
 use Rattle.vortex_statistics.specs.Statistics.{Known, KnownBound, may_be_value}
 use Rattle.vortex_statistics.specs.declared.observing.Change.{Change}
-use Rattle.vortex_statistics.specs.declared.observing.Change.TheVariants.{Keep, Confirm, Remove, Replace}
+use Rattle.vortex_statistics.specs.declared.observing.Change.TheVariants.{Keep, Remove, Replace}
 
 -- a raw value is absent exactly if its content is null
 pub null_content : (v : RawTree) → is_null_content (content v) ≡ is_absent v

@@ -3,7 +3,7 @@ use Rattle.std.proofs.Common.{◌≡◌, ℕ, ◌<◌, ◌≤◌, Bool, true, fa
 use Rattle.std.proofs.lemmas.Bool.{ltb-false, ltb-true}
 use Rattle.vortex_array.specs.Strings.{IsLower, IsUpper}
 use Rattle.vortex_array.specs.Texts.{IsTextLower, IsTextUpper}
-use Rattle.vortex_array.specs.Truncation.{IsBoundOf, IsTypeOfKind}
+use Rattle.vortex_array.specs.Truncation.{IsBoundOf}
 use Rattle.vortex_dtype.specs.TypeTree.{TypeTree, binary_type, utf8_type}
 use Rattle.vortex_value.specs.Values.RawTree.{RawTree, raw_bytes, raw_text}
 use Rattle.vortex_value.specs.Values.Scalars.{scalar_raw, scalar_type}

@@ -1,5 +1,5 @@
 -- Truncated bounds: what they are by the kind of the bound, and that they are right.
-use Rattle.std.proofs.Common.{◌≡◌, inl, inr, ℕ, ◌<◌, ◌≤◌, Bool, true, false, not, ◌&&◌, IsTrue, if◌then◌else◌, List, length, count_by, Option, Some, None, IfSome, MatchOption, is_some, Ordering, Less, Equal, option_map, refl, sym, ap, subst, ◌∙◌, arith, IsSomeAnd}
+use Rattle.std.proofs.Common.{◌≡◌, inl, inr, ℕ, ◌<◌, ◌≤◌, Bool, true, false, not, ◌&&◌, IsTrue, if◌then◌else◌, List, length, count_by, Option, Some, None, IfSome, MatchOption, is_some, Ordering, Equal, option_map, refl, sym, ap, subst, ◌∙◌, arith}
 use Rattle.std.proofs.lemmas.Bool.{false≢true}
 use Rattle.vortex_array.specs.Strings.{HasNoUpper, IsLower, IsUpper}
 use Rattle.vortex_array.specs.Texts.{HasNoTextUpper, IsTextLower, IsTextUpper}
@@ -10,10 +10,9 @@ use Rattle.vortex_value.specs.Order.{IsReversed, IsTransitive, order}
 use Rattle.vortex_value.specs.Values.Content.{content}
 use Rattle.vortex_value.specs.Values.RawTree.{RawTree, is_absent, raw_bytes, raw_text}
 use Rattle.vortex_value.specs.Values.Scalars.{scalar_raw, scalar_type}
-use Rattle.vortex_value.specs.declared.scalars.Scalar.{Scalar}
 use Rattle.vortex_statistics.specs.Cells.{Cell, cell_of, cell_order, is_null_cell, order_from_above}
 use Rattle.vortex_statistics.specs.Kinds.{kind_of}
-use Rattle.vortex_statistics.specs.Statistics.{AreRight, IsBound, KnownBound, known, known_bound}
+use Rattle.vortex_statistics.specs.Statistics.{AreRight, IsBound, known, known_bound}
 use Rattle.vortex_statistics.specs.Truncating.{AreTruncated, IsCut, IsCutLower, IsCutUpper, IsTruncatedLower, IsTruncatedUpper, LowerAt, UpperAt}
 use Rattle.vortex_statistics.specs.declared.column_statistics.Bound.{Bound}
 use Rattle.vortex_statistics.specs.declared.column_statistics.ColumnStatistics.{ColumnStatistics}

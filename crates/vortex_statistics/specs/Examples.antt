@@ -1,6 +1,6 @@
 -- Worked cases of the definitions, each a theorem.
-use Rattle.std.specs.Prelude.{◌≡◌, ℕ, ℤ, pos, true, false, Bool, [], ◌∷◌, Option, Some, None, refl}
-use Rattle.vortex_dtype.specs.TypeTree.{integer_type, union_type, no_types, type_then, utf8_type, variant_type, bool_type}
+use Rattle.std.specs.Prelude.{◌≡◌, ℕ, pos, true, false, [], Option, Some, None, refl}
+use Rattle.vortex_dtype.specs.TypeTree.{integer_type, union_type, no_types, utf8_type, variant_type, bool_type}
 use Rattle.vortex_dtype.specs.declared.nullability.Nullability.TheVariants.{NonNullable, Nullable}
 use Rattle.vortex_dtype.specs.declared.ptype.PType.TheVariants.{I32}
 use Rattle.vortex_value.specs.Values.Content.{null, tagged, text, truth, typed, whole}

@@ -1,5 +1,5 @@
 -- The statistics of two pieces of a column together, one after the other.
-use Rattle.std.specs.Prelude.{◌+◌, ◌^◌, ℕ, Bool, true, false, ◌||◌, nat_lt, List, [], ◌∷◌, ◌++◌, Option, Some, None, if◌then◌else◌}
+use Rattle.std.specs.Prelude.{◌+◌, ◌^◌, ℕ, Bool, true, false, ◌||◌, nat_lt, List, [], ◌++◌, Option, Some, None, if◌then◌else◌}
 use Rattle.std.specs.Option.{option_or}
 use Rattle.std.specs.declared.cmp.Ordering.{Ordering}
 use Rattle.std.specs.declared.cmp.Ordering.TheVariants.{Less, Equal, Greater}

@@ -31,6 +31,10 @@ known s = record {
   upper = option_map known_bound s.upper;
 }
 
+-- the statistics of no rows
+abbrev pub empty_statistics : ColumnStatistics
+empty_statistics = record { row_count = 0; null_count = Some 0; lower = None; upper = None }
+
 -- ---- right statistics
 
 -- each value compares with the bound and is not before it, in this order; and some value is equal to it, if it is exact

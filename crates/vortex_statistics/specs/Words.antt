@@ -9,6 +9,6 @@ pub use Rattle.vortex_statistics.specs.Kinds.{kind_of}
 pub use Rattle.vortex_statistics.specs.Loosening.{LooserBoundsAreRight}
 pub use Rattle.vortex_statistics.specs.Merging.{AnyGroupingIsRight, AreCompleteTogether, AreRightTogether, bound_of_both, bound_order, joined, merged, outer_by, sum_of}
 pub use Rattle.vortex_statistics.specs.Observing.{IsCompleteWith, IsRightWith, RefusesCell, observed}
-pub use Rattle.vortex_statistics.specs.Statistics.{AreComplete, AreRight, LeaveNoNull, LeaveNoValue, known, known_bound, may_be_null, may_be_value}
+pub use Rattle.vortex_statistics.specs.Statistics.{AreComplete, AreRight, LeaveNoNull, LeaveNoValue, empty_statistics, known, known_bound, may_be_null, may_be_value}
 pub use Rattle.vortex_statistics.specs.Truncating.{AreTruncated, HasShortBounds, IsCutLower, IsCutUpper, IsLong, IsLongRaw, IsOutOfMemoryAt, IsTruncatedLower, IsTruncatedUpper}
 pub use Rattle.vortex_statistics.specs.declared.error.StatisticsError.TheVariants.{OutOfMemory, TooManyRows}

@@ -1,7 +1,7 @@
 //! What is known of the cells of a column.
 
 ghost use Rattle.std.specs.Prelude.{◌≡◌, [], false};
-ghost use Rattle.vortex_statistics.specs.Words.{AreComplete, LeaveNoNull, LeaveNoValue, known, may_be_null, may_be_value};
+ghost use Rattle.vortex_statistics.specs.Words.{AreComplete, LeaveNoNull, LeaveNoValue, empty_statistics, known, may_be_null, may_be_value};
 
 use vortex_array::Scalar;
 
@@ -34,8 +34,7 @@ pub struct ColumnStatistics {
 impl ColumnStatistics {
     /// The statistics of no rows. Merged with others, on either side, they change nothing.
     pub fn empty() -> ColumnStatistics
-        ensures value { result
-            ≡ record { row_count = 0; null_count = Some 0; lower = None; upper = None } }
+        ensures value { result ≡ empty_statistics }
         ensures complete { AreComplete (known result) [] }
     {
         ColumnStatistics {

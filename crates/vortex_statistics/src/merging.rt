@@ -1,7 +1,7 @@
 //! The statistics of two pieces of a column together.
 
 ghost use Rattle.std.specs.Prelude.{◌≡◌, ◌+◌, ◌<◌, ◌≤◌, ◌^◌, false, IfErr, IfOk, option_map};
-ghost use Rattle.vortex_statistics.specs.Words.{AreCompleteTogether, AreRightTogether, TooManyRows, bound_of_both, bound_order, cell_order, joined, known, known_bound, merged, option_copied, outer_by, sum_of};
+ghost use Rattle.vortex_statistics.specs.Words.{AreCompleteTogether, AreRightTogether, TooManyRows, bound_of_both, bound_order, cell_order, empty_statistics, joined, known, known_bound, merged, option_copied, outer_by, sum_of};
 
 use crate::column_statistics::{Bound, ColumnStatistics};
 use crate::error::StatisticsError;
@@ -25,11 +25,9 @@ impl ColumnStatistics {
         ensures fits { IfOk result (λ _. self.row_count + other.row_count < 2 ^ 64) }
         ensures refused { IfErr result
             (λ e. (e ≡ TooManyRows) × (2 ^ 64 ≤ self.row_count + other.row_count)) }
-        // `empty` is neutral on both sides.
-        ensures onto_none { self ≡ record { row_count = 0; null_count = Some 0; lower = None; upper = None }
-            → result ≡ Ok other }
-        ensures with_none { other ≡ record { row_count = 0; null_count = Some 0; lower = None; upper = None }
-            → result ≡ Ok self }
+        // The statistics of no rows are neutral, on both sides.
+        ensures onto_none { self ≡ empty_statistics → result ≡ Ok other }
+        ensures with_none { other ≡ empty_statistics → result ≡ Ok self }
     {
         order_is_reversed();
         order_is_transitive();

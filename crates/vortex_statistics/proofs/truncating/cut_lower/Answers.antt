@@ -1,9 +1,8 @@
-use Rattle.std.proofs.Common.{◌≡◌, Bool, Option, Some, None, Result, Ok, refl, sym, ap, subst, ◌∙◌}
+use Rattle.std.proofs.Common.{◌≡◌, Bool, Option, Some, Result, Ok, refl, sym, ap, subst, ◌∙◌}
 use Rattle.vortex_array.specs.Truncation.{IsLowerAnswer}
 use Rattle.vortex_dtype.specs.TypeOf.{type_of}
 use Rattle.vortex_dtype.specs.TypeTree.{nullability_of}
 use Rattle.vortex_dtype.specs.declared.error.VortexError.{VortexError}
-use Rattle.vortex_dtype.specs.declared.nullability.Nullability.{Nullability}
 use Rattle.vortex_value.specs.Values.Scalars.{scalar_type}
 use Rattle.vortex_value.specs.declared.scalars.Scalar.{Scalar}
 use Rattle.vortex_statistics.specs.Truncating.{IsCutLower}

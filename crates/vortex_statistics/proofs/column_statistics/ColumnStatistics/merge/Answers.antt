@@ -1,7 +1,6 @@
-use Rattle.std.proofs.Common.{◌≡◌, ◌+◌, ◌<◌, ◌^◌, List, ◌++◌, sym, subst, rules}
-use Rattle.vortex_statistics.specs.Cells.{Cell}
+use Rattle.std.proofs.Common.{◌≡◌, ◌+◌, ◌<◌, ◌^◌, subst, rules}
 use Rattle.vortex_statistics.specs.Merging.{AreCompleteTogether, AreRightTogether, merged}
-use Rattle.vortex_statistics.specs.Statistics.{AreComplete, Known, known}
+use Rattle.vortex_statistics.specs.Statistics.{Known, known}
 use Rattle.vortex_statistics.specs.declared.column_statistics.ColumnStatistics.{ColumnStatistics}
 use Rattle.vortex_statistics.proofs.MergeLaws.{merged_complete, merged_right}
 use Rattle.vortex_statistics.proofs.column_statistics.ColumnStatistics.merge.Goals as goal
