@@ -1,9 +1,10 @@
 -- Merged statistics are right, and complete, for the cells of both pieces.
-use Rattle.std.proofs.Common.{◌≡◌, inl, inr, ◌+◌, ◌<◌, ◌^◌, Bool, true, false, List, ◌++◌, is_some, refl, arith, length-append}
+use Rattle.std.proofs.Common.{◌≡◌, inl, inr, ◌+◌, ◌<◌, ◌^◌, Bool, true, false, List, [], ◌∷◌, ◌++◌, is_some, refl, sym, subst, fold, append_assoc, arith, length-append}
+use Rattle.std.proofs.lemmas.List.{append-nil}
 use Rattle.vortex_value.specs.Order.{IsReversed, IsTransitive, order}
 use Rattle.vortex_statistics.specs.Cells.{AllCompare, Cell, cell_order, order_from_above}
-use Rattle.vortex_statistics.specs.Merging.{AnyGroupingIsRight, AreRightTogether, bound_of_both, bound_order, both, merged, no_piece, piece}
-use Rattle.vortex_statistics.specs.Statistics.{AreComplete, HasExactBounds, IsBoundedFor, Known, may_be_value}
+use Rattle.vortex_statistics.specs.Merging.{AnyGroupingIsRight, AreEachRight, AreRightForAll, AreRightTogether, bound_of_both, bound_order, both, joined_cells, merged, no_piece, nothing, piece}
+use Rattle.vortex_statistics.specs.Statistics.{AreComplete, AreRight, HasExactBounds, IsBoundedFor, Known, may_be_value}
 use Rattle.vortex_statistics.proofs.BoundLaws.{both_bound, both_exact, both_there, value_cases, value_left, value_right}
 use Rattle.vortex_statistics.proofs.CellLaws.{IsOrder, from_above, from_below}
 use Rattle.vortex_statistics.proofs.CountLaws.{no_value, sum_fits, sum_right, value_there}
@@ -67,3 +68,15 @@ module _ (rev : IsReversed order) (trans : IsTransitive order) where
   any_grouping no_piece h = record { rows = refl; nulls = refl; lower = tt; upper = tt }
   any_grouping (piece s cells) h = h
   any_grouping (both p q) h = merged_right _ _ _ _ (any_grouping p h.0) (any_grouping q h.1)
+
+  -- statistics merged from the first to the last
+  fold_right : (s : Known) (ss : List Known) (cells : List Cell) (pieces : List (List Cell)) → AreRight s cells → AreEachRight ss pieces → AreRight (fold merged s ss) (cells ++ joined_cells pieces)
+  fold_right s [] cells [] h k = let P : List Cell → Type 0 = λ c. AreRight s c in subst P (sym (append-nil cells)) h
+  fold_right s [] cells (p ∷ pieces) h k = absurd k
+  fold_right s (t ∷ ts) cells [] h k = absurd k
+  fold_right s (t ∷ ts) cells (p ∷ pieces) h k =
+      let P : List Cell → Type 0 = λ c. AreRight (fold merged (merged s t) ts) c in
+      subst P (append_assoc cells p (joined_cells pieces)) (fold_right (merged s t) ts (cells ++ p) pieces (merged_right s t cells p h k.0) k.1)
+
+  pub all_right : (ss : List Known) → AreRightForAll ss (fold merged nothing ss)
+  all_right ss pieces h = fold_right nothing ss [] pieces (record { rows = refl; nulls = refl; lower = tt; upper = tt }) h

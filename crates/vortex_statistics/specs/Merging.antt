@@ -1,10 +1,11 @@
 -- The statistics of two pieces of a column together, one after the other.
-use Rattle.std.specs.Prelude.{◌+◌, ◌^◌, ℕ, Bool, true, false, ◌||◌, nat_lt, List, [], ◌++◌, Option, Some, None, if◌then◌else◌}
+use Rattle.std.specs.Prelude.{◌+◌, ◌^◌, ℕ, Bool, true, false, ◌||◌, nat_lt, sum_by, List, [], ◌∷◌, ◌++◌, Option, Some, None, if◌then◌else◌}
 use Rattle.std.specs.Option.{option_or}
 use Rattle.std.specs.declared.cmp.Ordering.{Ordering}
 use Rattle.std.specs.declared.cmp.Ordering.TheVariants.{Less, Equal, Greater}
 use Rattle.vortex_statistics.specs.Cells.{Cell, cell_order, order_from_above}
 use Rattle.vortex_statistics.specs.Statistics.{AreComplete, AreRight, Known, KnownBound, may_be_value}
+use Rattle.vortex_statistics.specs.declared.column_statistics.ColumnStatistics.{ColumnStatistics}
 
 -- ---- no piece
 
@@ -94,3 +95,22 @@ EachIsRight (both p q) = EachIsRight p × EachIsRight q
 -- whatever the grouping, the merged statistics are right for the cells of all pieces
 abbrev pub AnyGroupingIsRight : Type 0
 AnyGroupingIsRight = (p : Grouping) → EachIsRight p → AreRight (statistics_of p) (cells_of p)
+
+-- how many rows all pieces have
+abbrev pub rows_of : List ColumnStatistics → ℕ
+rows_of = sum_by (λ s. s.row_count)
+
+-- the cells of all pieces, one after the other
+abbrev pub joined_cells : List (List Cell) → List Cell
+joined_cells [] = []
+joined_cells (cells ∷ pieces) = cells ++ joined_cells pieces
+
+-- each of the statistics is right for the cells of its piece
+abbrev pub AreEachRight : List Known → List (List Cell) → Type 0
+AreEachRight [] [] = Unit {0}
+AreEachRight (s ∷ ss) (cells ∷ pieces) = AreRight s cells × AreEachRight ss pieces
+AreEachRight _ _ = ⊥
+
+-- t is right for the cells of all pieces, one after the other, whenever each of the statistics is right for its piece
+abbrev pub AreRightForAll : List Known → Known → Type 0
+AreRightForAll ss t = (pieces : List (List Cell)) → AreEachRight ss pieces → AreRight t (joined_cells pieces)

@@ -1,7 +1,7 @@
 //! The statistics of two pieces of a column together.
 
-ghost use Rattle.std.specs.Prelude.{◌≡◌, ◌+◌, ◌<◌, ◌≤◌, ◌^◌, false, IfErr, IfOk, option_map};
-ghost use Rattle.vortex_statistics.specs.Words.{AreCompleteTogether, AreRightTogether, TooManyRows, bound_of_both, bound_order, cell_order, empty_statistics, joined, known, known_bound, merged, option_copied, outer_by, sum_of};
+ghost use Rattle.std.specs.Prelude.{◌≡◌, ◌+◌, ◌<◌, ◌≤◌, ◌^◌, false, IfErr, IfOk, fold, map, option_map};
+ghost use Rattle.vortex_statistics.specs.Words.{AreCompleteTogether, AreRightForAll, AreRightTogether, TooManyRows, bound_of_both, bound_order, cell_order, empty_statistics, joined, known, known_bound, merged, nothing, option_copied, outer_by, rows_of, sum_of};
 
 use crate::column_statistics::{Bound, ColumnStatistics};
 use crate::error::StatisticsError;
@@ -57,6 +57,25 @@ impl ColumnStatistics {
                 other.upper,
             ),
         })
+    }
+
+    /// The statistics of all pieces, one after the other, merged from the first to the last.
+    ///
+    /// `TooManyRows` exactly if 64 bits do not count the rows of all.
+    pub fn merge_all(pieces: Vec<ColumnStatistics>) -> Result<ColumnStatistics, StatisticsError>
+        ensures value { IfOk result (λ s. known s ≡ fold merged nothing (map known pieces.items)) }
+        ensures right { IfOk result (λ s. AreRightForAll (map known pieces.items) (known s)) }
+        ensures fits { IfOk result (λ _. rows_of pieces.items < 2 ^ 64) }
+        ensures refused { IfErr result
+            (λ e. (e ≡ TooManyRows) × (2 ^ 64 ≤ rows_of pieces.items)) }
+    {
+        order_is_reversed();
+        order_is_transitive();
+        let mut total = ColumnStatistics::empty();
+        for piece in pieces {
+            total = total.merge(piece)?;
+        }
+        Ok(total)
     }
 }
 
