@@ -6,6 +6,7 @@ use Rattle.vortex_value.specs.Values.RawTree.{RawTree, raw_bytes, raw_text}
 use Rattle.vortex_statistics.specs.declared.truncating.Kind.{Kind}
 use Rattle.vortex_statistics.specs.declared.truncating.Kind.TheVariants.{Bytes, Text, Whole}
 
+-- what a bound of this type and value is cut as
 abbrev pub kind_of : TypeTree → RawTree → Kind
 kind_of t (raw_text bs) = if is_utf8_type t then Text else Whole
 kind_of t (raw_bytes bs) = if is_binary_type t then Bytes else Whole
