@@ -1,16 +1,24 @@
 -- How a number of a kind goes on after its first byte.
-use Rattle.std.proofs.Common.{◌≡◌, ℕ, zero, suc, ℤ, pos, negsuc, ◌+◌, ◌-◌, ◌^◌, ◌<◌, ◌≤◌, Bool, true, false, true≢false, List, [], ◌∷◌, ◌++◌, length, refl, sym, subst, ap, ◌∙◌, arith}
+use Rattle.std.proofs.Common.{◌≡◌, ℕ, zero, suc, ℤ, pos, negsuc, ◌+◌, ◌-◌, ◌^◌, ◌<◌, ◌≤◌, Bool, true, false, true≢false, List, [], ◌∷◌, ◌++◌, length, length-drop, drop, get_or, refl, sym, subst, ap, ap₂, ◌∙◌, arith}
 use Rattle.vortex_dtype.specs.TypeTree.{integer_type}
 use Rattle.vortex_dtype.specs.declared.nullability.Nullability.TheVariants.{NonNullable}
 use Rattle.vortex_dtype.specs.declared.ptype.PType.{PType}
+use Rattle.vortex_dtype.specs.declared.ptype.PType.TheVariants.{U8, U16, U32, U64, I8, I16, I32, I64}
+use Rattle.vortex_pvalue.specs.Conversions.{IsNumber}
 use Rattle.vortex_pvalue.specs.Numbers.{InRange}
+use Rattle.vortex_pvalue.specs.Whole.{ptype_of, whole_of}
+use Rattle.vortex_pvalue.specs.declared.pvalues.PValue.{PValue}
 use Rattle.vortex_value.specs.Values.Content.{Content, content}
 use Rattle.vortex_value.specs.Values.RawTree.{RawTree, absent, raw_integer}
-use Rattle.vortex_row.specs.Held.{IsWhole}
+use Rattle.vortex_row.specs.Bytes.{inverted_again, inverted_byte}
+use Rattle.vortex_row.specs.Held.{AreBytes, IsWhole}
 use Rattle.vortex_row.specs.Keys.{inverted, key, number_bytes, whole_key}
-use Rattle.vortex_row.specs.Numbers.{GoesOnAs, HasDistance, HasLimits, IsMagnitude, whole_at}
+use Rattle.vortex_row.specs.Numbers.{GoesOnAs, HasDistance, HasLimits, HasMagnitude, IsMagnitude, IsSide, whole_at}
 use Rattle.vortex_row.specs.Reading.{HasRead, IsInverted, IsKey, IsPlain, IsPresent, IsStuck, NoneBegins}
+use Rattle.vortex_row.proofs.ByteLaws.{bytes_rest}
+use Rattle.vortex_row.proofs.NumberSteps.{distance-read, distance-within}
 use Rattle.vortex_row.proofs.OrderLaws.{begins}
+use Rattle.vortex_row.proofs.ReaderSteps.{inverted-first, length-inverted}
 use Rattle.vortex_row.proofs.NumberLaws.{number-length, number-some}
 use Rattle.vortex_row.proofs.StuckLaws.{none-byte, none-end, stuck-here, stuck-later}
 
@@ -168,3 +176,69 @@ number-missing k old e = stuck-here (Unit {0}) (IsKey (IsPresent (integer_type k
 pub number-none : (k : PType) (head : ℕ) (old more : List ℕ) → old ≡ head ∷ more → NoneBegins (IsKey (IsPresent (integer_type k NonNullable))) head → IsStuck (Unit {0}) (IsKey (IsPresent (integer_type k NonNullable))) old old
 number-none k head old more e none =
     stuck-here (Unit {0}) (IsKey (IsPresent (integer_type k NonNullable))) old (none-byte (IsKey (IsPresent (integer_type k NonNullable))) head old more e none)
+
+-- a number from the first byte and a word
+
+is_held : (k : PType) (z : ℤ) → InRange k z → IsWhole z
+is_held U8 (pos n) h = omega arith
+is_held U16 (pos n) h = omega arith
+is_held U32 (pos n) h = omega arith
+is_held U64 (pos n) h = omega arith
+is_held I8 (pos n) h = omega arith
+is_held I16 (pos n) h = omega arith
+is_held I32 (pos n) h = omega arith
+is_held I64 (pos n) h = omega arith
+is_held U8 (negsuc n) h = omega arith
+is_held U16 (negsuc n) h = omega arith
+is_held U32 (negsuc n) h = omega arith
+is_held U64 (negsuc n) h = omega arith
+is_held I8 (negsuc n) h = omega arith
+is_held I16 (negsuc n) h = omega arith
+is_held I32 (negsuc n) h = omega arith
+is_held I64 (negsuc n) h = omega arith
+
+pub side-away : (head : ℕ) (below : Bool) (width limit n : ℕ) (xs : List ℕ) → IsSide head below width → HasMagnitude width limit xs n → below ≡ true → 0 < n
+side-away head below width limit zero xs side h e = let some = (side.down e).1 in let count = h.count in let none : length (number_bytes 0) ≡ 0 = refl in absurd (omega arith)
+side-away head below width limit (suc n) xs side h e = omega arith
+
+side-key : (head : ℕ) (below : Bool) (width n : ℕ) → IsSide head below width → length (number_bytes n) ≡ width → (below ≡ true → 0 < n) → whole_key (whole_at below n) ≡ head ∷ inverted below (number_bytes n)
+side-key head false width n side count away = let up = side.up refl in let first : 12 + length (number_bytes n) ≡ head = omega arith in ap (λ b. b ∷ number_bytes n) first
+side-key head true width zero side count away = let some = away refl in absurd (omega arith)
+side-key head true width (suc m) side count away =
+    let down = (side.down refl).0 in
+    let first : 12 - length (number_bytes (suc m)) ≡ head = omega arith in
+    let less : suc m - 1 ≡ m = omega arith in
+    ap (λ j. whole_key (negsuc j)) less ∙ ap (λ b. b ∷ inverted true (number_bytes (suc m))) first
+
+-- the first byte and the rest, inverted or not
+first-and-rest : (d : Bool) (bs : List ℕ) (head : ℕ) → 1 ≤ length bs → head ≡ inverted_byte d (get_or bs 0 0) → inverted d bs ≡ head ∷ inverted d (drop 1 bs)
+first-and-rest d [] head h e = absurd (omega arith)
+first-and-rest d (b ∷ bs) head h e = inverted-first d b bs ∙ ap (λ c. c ∷ inverted d bs) (sym e)
+
+pub number-at_once : (k : PType) (d below again : Bool) (head width limit n taken : ℕ) (bs rest : List ℕ) (number : PValue) → AreBytes bs → 1 ≤ length bs → head ≡ inverted_byte d (get_or bs 0 0) → rest ≡ drop 1 bs
+    → again ≡ inverted_again d below → IsSide head below width → HasMagnitude width limit (inverted again rest) n → IsNumber k (whole_at below n) number → taken ≡ 1 + width
+    → (taken ≤ length bs) × HasRead (IsPresent (integer_type k NonNullable)) (raw_integer (ptype_of number) (whole_of number)) (inverted d bs) (drop taken (inverted d bs))
+number-at_once k d below again head width limit n taken bs rest number bytes some head_is rest_is again_is side h is count =
+    let old = inverted d (drop 1 bs) in
+    let m = subst (λ ys. HasMagnitude width limit (inverted again ys) n) rest_is h in
+    let distance = distance-read d below again width limit n (drop 1 bs) old (drop width old) (drop-bytes 1 bs bytes) again_is refl refl m in
+    let away = side-away head below width limit n (inverted again (drop 1 bs)) side m in
+    let same = side-key head below width n side h.count away in
+    let whole : inverted d bs ≡ head ∷ old = first-and-rest d bs head some head_is in
+    let step : taken ≡ suc width = omega arith in
+    let now : drop taken (inverted d bs) ≡ drop width old = ap₂ (λ j ys. drop j ys) step whole in
+    let within = distance-within width limit n (inverted again (drop 1 bs)) m in
+    let one = length-inverted again (drop 1 bs) in
+    let two = length-drop 1 bs in
+    let value : raw_integer (ptype_of number) (whole_of number) ≡ raw_integer k (whole_at below n) = ap₂ (λ j z. raw_integer j z) is.0 is.1 in (
+      omega arith,
+      subst (λ v. HasRead (IsPresent (integer_type k NonNullable)) v (inverted d bs) (drop taken (inverted d bs))) (sym value) (record {
+        plain = a_number k (whole_at below n) is.2 (is_held k (whole_at below n) is.2);
+        is = whole ∙ ap (λ ys. head ∷ ys) distance.is ∙ ap (λ ys. ys ++ drop width old) (sym same) ∙ ap (λ ys. whole_key (whole_at below n) ++ ys) (sym now);
+      }),
+    )
+  where
+    drop-bytes : (j : ℕ) (bs : List ℕ) → AreBytes bs → AreBytes (drop j bs)
+    drop-bytes zero bs h = h
+    drop-bytes (suc j) [] h = h
+    drop-bytes (suc j) (b ∷ bs) h = drop-bytes j bs (bytes_rest b bs h)

@@ -1,6 +1,7 @@
 -- Steps of the reading of values, down the type.
-use Rattle.std.proofs.Common.{◌≡◌, ◌≢◌, ℕ, zero, suc, ◌+◌, ◌<◌, ◌≤◌, ◌⊎◌, inl, inr, false, true, List, [], ◌∷◌, ◌++◌, length, length-append, map, drop, get_or, drop-cons, Option, Some as Present, Vec, Box, Global, refl, sym, subst, ap, ap₂, ◌∙◌, arith}
-use Rattle.std.specs.Prelude.{Result, ◌==◌, Bool, if◌then◌else◌}
+use Rattle.std.proofs.Common.{◌≡◌, ◌≢◌, ℕ, zero, suc, ◌+◌, ◌<◌, ◌≤◌, ◌⊎◌, inl, inr, false, true, true≢false, List, [], ◌∷◌, ◌++◌, length, length-append, map, drop, get_or, drop-cons, Option, Some as Present, Vec, Box, Global, refl, sym, subst, ap, ap₂, ◌∙◌, arith}
+use Rattle.std.specs.Prelude.{Bool, Err, IsErr, MatchResult, Ok, Result, if◌then◌else◌, ◌==◌}
+use Rattle.std.specs.Result.{IsErrAnd}
 use Rattle.std.proofs.Math.Seq.{drop-nil}
 use Rattle.std.proofs.lemmas.Option.{same_Some}
 use Rattle.vortex_dtype.specs.Lemmas.TypeLevels.{type_of-Null, type_of-Variant, type_of-List, type_of-FixedSizeList, type_of-Map, type_of-Struct, type_of-Union, type_of-Extension}
@@ -23,11 +24,11 @@ use Rattle.vortex_value.specs.declared.unions.UnionValue.{UnionValue}
 use Rattle.vortex_value.specs.Values.RawTree.{RawTree, absent, raw_union, raw_variant, RawTrees, no_raws, raw_then}
 use Rattle.vortex_value.proofs.ValueSteps.{value_tree-Tuple, value_tree-Union}
 use Rattle.vortex_row.specs.Keys.{key}
-use Rattle.vortex_row.specs.Reading.{AllHaveValues, AreKeys, AreSized, HasRead, HasValues, IsChild, IsKey, IsPlain, IsPresent, IsStuck, Reads, entry_type}
+use Rattle.vortex_row.specs.Reading.{AllHaveValues, AreKeys, AreSized, HasRead, HasValues, IsChild, IsKey, IsPlain, IsPresent, IsStuck, Puts, Reads, entry_type}
 use Rattle.vortex_row.specs.declared.reader.Fault.{Fault}
 use Rattle.vortex_row.specs.declared.reader.Fault.TheVariants.{Bad, NoMemory}
 use Rattle.vortex_row.proofs.OrderLaws.{begins}
-use Rattle.vortex_row.proofs.PartSteps.{Opens, SameValues, SoFar, Takes, TupleOf, continue-child, opens-none, opens-stuck, present-read, present-stuck, null-read, reads-as, refused, so-far-end, so-far-more, so-far-none, so-far-open, so-far-stuck, some-key, some-keys, some_sized, some_value, some_values, tagged-opens, takes-field, tuple-opens, tuple-read}
+use Rattle.vortex_row.proofs.PartSteps.{Opens, SameValues, SoFar, Takes, TupleOf, continue-child, null-read, opens-none, opens-stuck, present-read, present-stuck, reads-as, refused, so-far-end, so-far-more, so-far-none, so-far-open, so-far-stuck, some-key, some-keys, some_sized, some_value, some_values, stuck-as, tagged-opens, takes-field, tuple-opens, tuple-read}
 use Rattle.vortex_row.proofs.StuckLaws.{Some, stuck-here, stuck-later, stuck-same}
 
 pub ruleset by_place = (type_with-position)
@@ -344,5 +345,33 @@ takes-null t b e h = says (nullability_of t) (sym e ∙ h)
 
 pub null-taken : (t : TypeTree) (old now : List ℕ) (b c : Bool) → b ≡ is_nullable t → b ≡ true → (c ≡ true → old ≡ 1 ∷ now) → c ≡ true → HasRead (Valid t) absent old now
 null-taken t old now b c e h taken k = null-read t old now (takes-null t b e h) (taken k)
+
+-- a part that is put to the others
+
+pub pushed : (has : Type 0) (One : RawTree → Type 0) (r : Result Unit Fault) (parts more : List (Option ScalarValue)) (part : Option ScalarValue) (old now : List ℕ) → HasRead One (raw_of part) old now
+    → MatchResult r (λ u. more ≡ parts ++ part ∷ []) (λ e. e ≡ NoMemory) → Puts has One r parts more old now
+pushed has One (Ok u) parts more part old now h e = (part, e, h)
+pushed has One (Err f) parts more part old now h e = λ bad. not-memory f e bad
+
+pub puts-refused : (has : Type 0) (One : RawTree → Type 0) (r : Result Unit Fault) (e : Fault) (parts more : List (Option ScalarValue)) (old now : List ℕ) → IsErr r × IsErrAnd r (λ f. f ≡ e) → (e ≡ Bad → IsStuck has (IsKey One) old now)
+    → Puts has One r parts more old now
+puts-refused has One (Ok u) e parts more old now h g = absurd (true≢false (sym h.0))
+puts-refused has One (Err f) e parts more old now h g = λ bad. g (sym h.1 ∙ bad)
+
+pub puts-present : (has : Type 0) (t : TypeTree) (r : Result Unit Fault) (parts more : List (Option ScalarValue)) (old mid now : List ℕ) → mid ≡ old → (IsNullable t → (bs : List ℕ) → old ≢ 1 ∷ bs) → Puts has (IsPresent t) r parts more mid now
+    → Puts has (Valid t) r parts more old now
+puts-present has t (Ok u) parts more old mid now same other (part, e, h) = (part, e, present-read t (raw_of part) old mid now same h)
+puts-present has t (Err f) parts more old mid now same other h = λ bad. present-stuck has t old mid now same other (h bad)
+
+pub puts-arm : (any : Type 0) (d t : TypeTree) (r : Result Unit Fault) (parts more : List (Option ScalarValue)) (old now : List ℕ) → d ≡ t → (HasValues t → any) → Puts any (IsPresent (bare t)) r parts more old now
+    → Puts (HasValues d) (IsPresent d) r parts more old now
+puts-arm any d t r parts more old now e weaker h = subst (λ u. Puts (HasValues u) (IsPresent u) r parts more old now) (sym e) (to_type r h)
+  where
+    same : SameValues (bare t) t
+    same = record { to = from_bare t; from = to_bare t }
+
+    to_type : (r : Result Unit Fault) → Puts any (IsPresent (bare t)) r parts more old now → Puts (HasValues t) (IsPresent t) r parts more old now
+    to_type (Ok u) (part, e, h) = (part, e, record { plain = record { kind = from_bare t (raw_of part) h.plain.kind; held = h.plain.held; untyped = h.plain.untyped }; is = h.is })
+    to_type (Err f) h = λ bad. stuck-as (HasValues t) any (bare t) t old now same weaker (h bad)
 
 pub ruleset shown = (null-read, present-read, present-stuck, value_tree-Tuple, value_tree-Union, type_size_item, child-size, type_of-List, type_of-FixedSizeList, type_of-Map, type_of-Struct, type_of-Union, type_of-Extension)

@@ -1,10 +1,12 @@
 -- The bytes of numbers in keys, which a decoder reads after it knows how many they are.
-use Rattle.std.specs.Prelude.{◌≡◌, ◌↔◌, ℕ, suc, ℤ, pos, negsuc, ◌-◌, ◌^◌, ◌<◌, ◌≤◌, Bool, true, false, List, [], ◌∷◌, ◌++◌, length, drop}
+use Rattle.std.specs.Prelude.{◌≡◌, ◌↔◌, ℕ, suc, ℤ, pos, negsuc, ◌+◌, ◌-◌, ◌^◌, ◌<◌, ◌≤◌, Bool, true, false, List, [], ◌∷◌, ◌++◌, length, drop}
 use Rattle.vortex_dtype.specs.TypeTree.{integer_type}
 use Rattle.vortex_dtype.specs.declared.nullability.Nullability.TheVariants.{NonNullable}
 use Rattle.vortex_dtype.specs.declared.ptype.PType.{PType}
 use Rattle.vortex_pvalue.specs.Numbers.{InRange}
-use Rattle.vortex_value.specs.Values.RawTree.{raw_integer}
+use Rattle.vortex_pvalue.specs.Whole.{ptype_of, whole_of}
+use Rattle.vortex_pvalue.specs.declared.pvalues.PValue.{PValue}
+use Rattle.vortex_value.specs.Values.RawTree.{RawTree, raw_integer}
 use Rattle.vortex_row.specs.Keys.{inverted, number_bytes, whole_key}
 use Rattle.vortex_row.specs.Reading.{ContinueWith, IsInverted, IsKey, IsPlain, IsPresent}
 
@@ -26,6 +28,16 @@ pub record HasDistance (below : Bool) (width limit number : ℕ) (old now : List
   pub small : number ≤ limit
   pub count : length (number_bytes number) ≡ width
   pub is : old ≡ inverted below (number_bytes number) ++ now
+
+-- the first byte of the key of a number below 0 or not, of which so many bytes follow
+pub record IsSide (head : ℕ) (below : Bool) (width : ℕ) : Type 0 where
+  pub few : width ≤ 8
+  pub down : below ≡ true → (head + width ≡ 12) × (0 < width)
+  pub up : below ≡ false → head ≡ 12 + width
+
+-- the tree of a number
+abbrev pub number_tree : PValue → RawTree
+number_tree n = raw_integer (ptype_of n) (whole_of n)
 
 -- the kind has the numbers from below less than 0 up to above
 pub record HasLimits (k : PType) (above below : ℕ) : Type 0 where

@@ -1,11 +1,13 @@
 -- What the steps of a decoder answer: what they read, or that the bytes go on as no key does.
-use Rattle.std.specs.Prelude.{◌≡◌, ℕ, ◌<◌, ◌⊎◌, List, [], ◌∷◌, ◌++◌, MatchResult, Result, Bool, false, Some}
+use Rattle.std.specs.Prelude.{◌≡◌, ℕ, ◌<◌, ◌⊎◌, List, [], ◌∷◌, ◌++◌, MatchResult, Option, Result, Bool, false, Some}
 use Rattle.vortex_dtype.specs.TypeTree.{TypeTree, list_type, fixed_size_list_type, map_type, struct_type, union_type, variant_type, extension_type, TypeTrees, no_types, type_then}
 use Rattle.vortex_dtype.specs.declared.nullability.Nullability.TheVariants.{NonNullable}
 use Rattle.vortex_value.specs.Equality.{HasNoTyped, HaveNoTyped}
 use Rattle.vortex_value.specs.Validity.{EachValid, Valid, type_with}
 use Rattle.vortex_value.specs.Values.Content.{content, contents}
+use Rattle.vortex_value.specs.Values.RawOf.{raw_of}
 use Rattle.vortex_value.specs.Values.RawTree.{RawTree, RawTrees, count, is_absent}
+use Rattle.vortex_value.specs.declared.values.ScalarValue.{ScalarValue}
 use Rattle.vortex_row.specs.Held.{IsHeld, AreHeld}
 use Rattle.vortex_row.specs.Keys.{inverted, key, keys}
 use Rattle.vortex_row.specs.declared.reader.Fault.{Fault}
@@ -84,10 +86,10 @@ pub record HaveRead (AreAll : RawTrees → Type 0) (vs : RawTrees) (old now : Li
 abbrev pub Reads : {A : Type 0} → Type 0 → (RawTree → Type 0) → (A → RawTree) → Result A Fault → List ℕ → List ℕ → Type 0
 Reads has_values IsOne view r old now = MatchResult r (λ x. HasRead IsOne (view x) old now) (λ e. e ≡ Bad → IsStuck has_values (IsKey IsOne) old now)
 
--- the same of parts up to their end
-abbrev pub ReadsAll : {A : Type 0} → Type 0 → (RawTrees → Type 0) → (A → RawTrees) → Result A Fault → List ℕ → List ℕ → Type 0
-ReadsAll has_values AreAll view r old now =
-    MatchResult r (λ x. HaveRead AreAll (view x) old now) (λ e. e ≡ Bad → IsStuck has_values (AreKeys AreAll) old now)
+-- a value of this kind is read and put to the others, or memory is refused, or the bytes go on as no key of such a value
+abbrev pub Puts : Type 0 → (RawTree → Type 0) → Result Unit Fault → List (Option ScalarValue) → List (Option ScalarValue) → List ℕ → List ℕ → Type 0
+Puts has_values IsOne r parts more old now =
+    MatchResult r (λ u. (part : Option ScalarValue) × (more ≡ parts ++ part ∷ []) × HasRead IsOne (raw_of part) old now) (λ e. e ≡ Bad → IsStuck has_values (IsKey IsOne) old now)
 
 -- the type has values that keys can have: no variant stands in it, and each union in it has a variant, whose id is a byte
 abbrev mutual

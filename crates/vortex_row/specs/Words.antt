@@ -7,13 +7,15 @@ pub use Rattle.std.specs.Vec.{vec_capacity, vec_len}
 pub use Rattle.vortex_dtype.specs.TypeOf.{as_type_trees, dtype_trees, map_of, type_of, variants_of}
 pub use Rattle.vortex_dtype.specs.TypeTree.{IsNullable, binary_type, bool_type, fixed_size_list_type, integer_type, list_type, map_type, struct_type, union_type, utf8_type}
 pub use Rattle.vortex_dtype.specs.declared.nullability.Nullability.TheVariants.{NonNullable}
-pub use Rattle.vortex_pvalue.specs.Whole.{whole_of}
+pub use Rattle.vortex_pvalue.specs.Conversions.{IsNumber}
+pub use Rattle.vortex_pvalue.specs.Numbers.{InRange}
+pub use Rattle.vortex_pvalue.specs.Whole.{ptype_of, whole_of}
 pub use Rattle.vortex_value.specs.Size.{capped}
 pub use Rattle.vortex_value.specs.TypesWithin.{HasNoVariant, HaveNoVariant, UnionsHaveVariants, AllHaveVariants}
 pub use Rattle.vortex_value.specs.Validity.{Valid, type_with}
 pub use Rattle.vortex_value.specs.Values.Content.{content, contents}
 pub use Rattle.vortex_value.specs.Values.RawOf.{lent_raw, raw_of, union_tree, value_tree, value_trees}
-pub use Rattle.vortex_value.specs.Values.RawTree.{RawTree, absent, raw_union}
+pub use Rattle.vortex_value.specs.Values.RawTree.{RawTree, absent, raw_integer, raw_union}
 pub use Rattle.vortex_value.specs.Values.Refs.{ref_content, ref_type}
 pub use Rattle.vortex_value.specs.Values.Scalars.{IsMadeOf, scalar_raw, scalar_type}
 pub use Rattle.vortex_row.specs.Columns.{key_with, null_byte, row_key}

@@ -1,11 +1,13 @@
 //! Values without parts from their keys.
 
 ghost use Rattle.vortex_row.specs.Reading.{IsPresent, Reads, left};
-ghost use Rattle.vortex_row.specs.Words.{NonNullable, binary_type, bool_type, utf8_type, value_tree};
+ghost use Rattle.vortex_row.specs.Words.{NonNullable, binary_type, bool_type, integer_type, utf8_type, value_tree};
 
+use super::numbers::read_number;
 use super::strings::{read_bytes, read_text};
 use crate::reader::{Fault, Reader};
 use std::alloc::Global;
+use vortex_dtype::PType;
 use vortex_value::ScalarValue;
 
 /// False, which is the key itself.
@@ -29,6 +31,18 @@ pub(super) fn read_truth(reader: &mut Reader<'_>) -> Result<ScalarValue, Fault>
         Ok(ScalarValue::Bool(true))
     } else {
         Err(Fault::Bad)
+    }
+}
+
+/// A number of the kind.
+#[tactic(auto, using(crate::proofs::LeafSteps::shown))]
+pub(super) fn read_primitive(ptype: PType, reader: &mut Reader<'_>) -> Result<ScalarValue, Fault>
+    ensures { Reads (Unit {0}) (IsPresent (integer_type ptype NonNullable)) value_tree
+        result (left reader.old) (left reader.new) }
+{
+    match read_number(ptype, reader) {
+        Ok(number) => Ok(ScalarValue::Primitive(number)),
+        Err(fault) => Err(fault),
     }
 }
 

@@ -1,14 +1,13 @@
 //! Numbers from their keys.
 
 ghost use Rattle.std.specs.Prelude.{◌≡◌, ◌-◌, ◌≤◌, ◌<◌, ℕ, List, IfErr, IfSome, MatchOption, MatchResult, drop, false, length, take, true};
-ghost use Rattle.vortex_row.specs.Numbers.{GoesOnAs, HasDistance, HasLimits, HasMagnitude, IsMagnitude, whole_at};
-ghost use Rattle.vortex_row.specs.Reading.{IsInverted, IsKey, IsPresent, IsStuck, NoneBegins, Reads, left};
-ghost use Rattle.vortex_row.specs.Words.{NonNullable, big_endian, integer_type, inverted, value_tree};
+ghost use Rattle.vortex_row.specs.Numbers.{GoesOnAs, HasDistance, HasLimits, HasMagnitude, IsMagnitude, IsSide, number_tree, whole_at};
+ghost use Rattle.vortex_row.specs.Reading.{HasRead, IsInverted, IsKey, IsPresent, IsStuck, NoneBegins, Reads, left};
+ghost use Rattle.vortex_row.specs.Words.{InRange, IsNumber, NonNullable, big_endian, integer_type, inverted, ptype_of, raw_integer, whole_of};
 
-use crate::reader::{Fault, Reader, are_bytes, inverted_again, inverted_if};
+use crate::reader::{Fault, Reader, are_bytes, bytes_from, inverted_again, inverted_if};
 use vortex_dtype::PType;
 use vortex_pvalue::PValue;
-use vortex_value::ScalarValue;
 
 /// The key of 0. Those of numbers above it begin with one more for each of their bytes, and those
 /// of numbers below it with one less.
@@ -48,6 +47,19 @@ fn has_width(width: u8, limit: u64) -> bool
     ensures none { result ≡ false → (bs : List ℕ) → ¬ (IsMagnitude width limit bs) }
 {
     width <= 8 && (width == 0 || limit >> (8 * (width - 1)) > 0)
+}
+
+/// Whether the number is below 0, and how many bytes there are of how far it is from 0, by the first
+/// byte of its key. `None` if no number begins with it.
+#[inline(always)]
+fn side_of(head: u8) -> Option<(bool, u8)>
+    ensures { IfSome result (λ p. IsSide head p.0 p.1) }
+{
+    match head {
+        4..=11 => Some((true, ZERO - head)),
+        12..=20 => Some((false, head - ZERO)),
+        _ => None,
+    }
 }
 
 /// How a number of the kind goes on after this first byte. `None` if none begins with it.
@@ -150,22 +162,6 @@ fn magnitude_at_once(bytes: &[u8], invert: bool, width: u8, limit: u64) -> Optio
     }
 }
 
-/// The number of so many bytes, as `magnitude_by_bytes`.
-#[inline(always)]
-fn magnitude(bytes: &[u8], invert: bool, width: u8, limit: u64) -> Result<u64, usize>
-    requires { width ≤ 8 }
-    ensures within { IfErr result (λ place. place ≤ length bytes.now) }
-    ensures read { MatchResult result
-        (λ number. HasMagnitude width limit (inverted invert bytes.now) number)
-        (λ place. IsStuck (Unit {0}) (IsMagnitude width limit) (inverted invert bytes.now)
-        (drop place (inverted invert bytes.now))) }
-{
-    match magnitude_at_once(bytes, invert, width, limit) {
-        Some(number) => Ok(number),
-        None => magnitude_by_bytes(bytes, invert, width, limit),
-    }
-}
-
 /// How far the number is from 0.
 fn read_distance(form: Form, reader: &mut Reader<'_>) -> Result<u64, Fault>
     requires { form.width ≤ 8 }
@@ -177,7 +173,7 @@ fn read_distance(form: Form, reader: &mut Reader<'_>) -> Result<u64, Fault>
 {
     are_bytes(reader.rest);
     let invert = inverted_again(reader.invert, form.below);
-    match magnitude(reader.rest, invert, form.width, form.limit) {
+    match magnitude_by_bytes(reader.rest, invert, form.width, form.limit) {
         Ok(number) => {
             reader.advance(form.width as usize);
             Ok(number)
@@ -190,6 +186,7 @@ fn read_distance(form: Form, reader: &mut Reader<'_>) -> Result<u64, Fault>
 }
 
 /// The number that is so far above 0, or below it.
+#[inline(always)]
 fn whole_number(below: bool, distance: u64) -> i128
     requires { below ≡ true → 0 < distance }
     ensures { result ≡ whole_at below distance }
@@ -201,9 +198,37 @@ fn whole_number(below: bool, distance: u64) -> i128
     }
 }
 
-/// A number of the kind.
-pub(super) fn read_number(ptype: PType, reader: &mut Reader<'_>) -> Result<ScalarValue, Fault>
-    ensures { Reads (Unit {0}) (IsPresent (integer_type ptype NonNullable)) value_tree
+/// The number of the kind that is so far above 0, or below it. `None` exactly if the kind has none.
+#[inline(always)]
+fn number_of(ptype: PType, below: bool, distance: u64) -> Option<PValue>
+    requires { below ≡ true → 0 < distance }
+    ensures { MatchOption result (¬ (InRange ptype (whole_at below distance)))
+        (IsNumber ptype (whole_at below distance)) }
+{
+    PValue::from_whole(whole_number(below, distance), ptype)
+}
+
+/// A number of the kind, and how many bytes its key has, from one word. `None` says nothing: it
+/// comes near the end of the bytes, and for bytes that are refused.
+#[inline(always)]
+fn number_at_once(ptype: PType, bytes: &[u8], invert: bool) -> Option<(PValue, usize)>
+    ensures { IfSome result (λ p. (p.1 ≤ length bytes.now)
+        × HasRead (IsPresent (integer_type ptype NonNullable))
+        (raw_integer (ptype_of p.0) (whole_of p.0))
+        (inverted invert bytes.now) (drop p.1 (inverted invert bytes.now))) }
+{
+    let head = inverted_if(invert, *bytes.first()?);
+    let (below, width) = side_of(head)?;
+    let rest = bytes_from(bytes, 1);
+    let distance = magnitude_at_once(rest, inverted_again(invert, below), width, u64::MAX)?;
+    let number = number_of(ptype, below, distance)?;
+    Some((number, 1 + usize::from(width)))
+}
+
+/// A number of the kind, byte by byte.
+#[inline(never)]
+fn number_by_bytes(ptype: PType, reader: &mut Reader<'_>) -> Result<PValue, Fault>
+    ensures { Reads (Unit {0}) (IsPresent (integer_type ptype NonNullable)) number_tree
         result (left reader.old) (left reader.new) }
 {
     let Some(head) = reader.first() else {
@@ -214,8 +239,23 @@ pub(super) fn read_number(ptype: PType, reader: &mut Reader<'_>) -> Result<Scala
     };
     reader.advance(1);
     let distance = read_distance(form, reader)?;
-    match PValue::from_whole(whole_number(form.below, distance), ptype) {
-        Some(number) => Ok(ScalarValue::Primitive(number)),
+    match number_of(ptype, form.below, distance) {
+        Some(number) => Ok(number),
         None => unreachable!(),
+    }
+}
+
+/// A number of the kind.
+#[inline(always)]
+pub(super) fn read_number(ptype: PType, reader: &mut Reader<'_>) -> Result<PValue, Fault>
+    ensures { Reads (Unit {0}) (IsPresent (integer_type ptype NonNullable)) number_tree
+        result (left reader.old) (left reader.new) }
+{
+    match number_at_once(ptype, reader.rest, reader.invert) {
+        Some((number, taken)) => {
+            reader.advance(taken);
+            Ok(number)
+        }
+        None => number_by_bytes(ptype, reader),
     }
 }

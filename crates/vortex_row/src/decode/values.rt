@@ -2,15 +2,15 @@
 //! cannot be.
 
 ghost use Rattle.std.specs.Prelude.{◌≡◌, ◌≢◌, ◌++◌, ◌∷◌, ◌<◌, [], ℕ, List, MatchOption, MatchResult, Some, false, option_map, true};
-ghost use Rattle.vortex_row.specs.Reading.{AllHaveValues, HasRead, HasValues, IsChild, IsPresent, IsStuck, Reads, entry_type, left};
-ghost use Rattle.vortex_row.specs.Words.{IsNullable, NonNullable, Valid, absent, as_type_trees, dtype_trees, fixed_size_list_type, list_type, map_of, map_type, raw_of, raw_union, struct_type, type_of, type_with, union_tree, union_type, value_tree, variants_of};
+ghost use Rattle.vortex_row.specs.Reading.{AllHaveValues, HasRead, HasValues, IsChild, IsPresent, IsStuck, Puts, Reads, entry_type, left};
+ghost use Rattle.vortex_row.specs.Words.{IsNullable, NonNullable, Valid, absent, as_type_trees, dtype_trees, fixed_size_list_type, integer_type, list_type, map_of, map_type, raw_of, raw_union, struct_type, type_of, type_with, union_tree, union_type, value_tree, variants_of};
 ghost use Rattle.vortex_row.specs.declared.reader.Fault.TheVariants.{Bad, NoMemory};
 
-use super::leaves::{read_binary, read_truth, read_utf8};
+use super::leaves::{read_binary, read_primitive, read_truth, read_utf8};
 use super::numbers::read_number;
 use crate::reader::{Fault, Reader};
 use std::alloc::Global;
-use vortex_dtype::{DType, MapDType, UnionVariants};
+use vortex_dtype::{DType, MapDType, PType, UnionVariants};
 use vortex_value::{ScalarValue, UnionValue};
 
 /// The end of a sequence.
@@ -97,6 +97,58 @@ pub(super) fn read(
     Ok(Some(read_value(alloc, dtype, reader)?))
 }
 
+/// Puts a number of the kind to the others.
+#[inline(always)]
+fn push_number(
+    ptype: PType,
+    reader: &mut Reader<'_>,
+    parts: &mut Vec<Option<ScalarValue>>,
+) -> Result<(), Fault>
+    ensures { Puts (Unit {0}) (IsPresent (integer_type ptype NonNullable)) result
+        parts.old.items parts.new.items (left reader.old) (left reader.new) }
+{
+    let number = read_number(ptype, reader)?;
+    push(Some(ScalarValue::Primitive(number)), parts)
+}
+
+/// Puts a value of the type that is no null to the others.
+#[cycle(read)]
+#[inline(never)]
+fn push_value(
+    alloc: Global,
+    dtype: &DType,
+    reader: &mut Reader<'_>,
+    parts: &mut Vec<Option<ScalarValue>>,
+) -> Result<(), Fault>
+    ensures { Puts (HasValues (type_of dtype.now)) (IsPresent (type_of dtype.now)) result
+        parts.old.items parts.new.items (left reader.old) (left reader.new) }
+{
+    let value = read_value(alloc, dtype, reader)?;
+    push(Some(value), parts)
+}
+
+/// Puts an optional value of the type to the others. Numbers are read in the loop that asks for
+/// them, without a call.
+#[cycle(read)]
+#[inline(always)]
+fn push_next(
+    alloc: Global,
+    dtype: &DType,
+    reader: &mut Reader<'_>,
+    parts: &mut Vec<Option<ScalarValue>>,
+) -> Result<(), Fault>
+    ensures { Puts (HasValues (type_of dtype.now)) (Valid (type_of dtype.now)) result
+        parts.old.items parts.new.items (left reader.old) (left reader.new) }
+{
+    if takes_null(dtype, reader) {
+        return push(None, parts);
+    }
+    match dtype {
+        DType::Primitive(ptype, _) => push_number(*ptype, reader, parts),
+        _ => push_value(alloc, dtype, reader, parts),
+    }
+}
+
 /// A value of the type that is no null.
 #[cycle(read)]
 #[tactic(auto, using(crate::proofs::ValueSteps::shown))]
@@ -110,7 +162,7 @@ pub(super) fn read_value(
 {
     match dtype {
         DType::Bool(_) => read_truth(reader),
-        DType::Primitive(ptype, _) => read_number(*ptype, reader),
+        DType::Primitive(ptype, _) => read_primitive(*ptype, reader),
         DType::Utf8(_) => read_utf8(alloc, reader),
         DType::Binary(_) => read_binary(alloc, reader),
         DType::List(element, _) => read_list(alloc, element, reader),
@@ -134,7 +186,7 @@ fn read_list(alloc: Global, element: &DType, reader: &mut Reader<'_>) -> Result<
     reader.take(SEQUENCE)?;
     let mut parts = Vec::new(alloc);
     while !reader.takes(END) {
-        push(read(alloc, element, reader)?, &mut parts)?;
+        push_next(alloc, element, reader, &mut parts)?;
     }
     Ok(ScalarValue::Tuple(parts))
 }
@@ -155,7 +207,7 @@ fn read_fixed(
     reader.take(SEQUENCE)?;
     let mut parts = Vec::new(alloc);
     for place in 0..size {
-        push(read(alloc, element, reader)?, &mut parts)?;
+        push_next(alloc, element, reader, &mut parts)?;
     }
     reader.take(END)?;
     Ok(ScalarValue::Tuple(parts))
@@ -187,8 +239,8 @@ fn read_entry(alloc: Global, map: &MapDType, reader: &mut Reader<'_>) -> Result<
 {
     reader.take(SEQUENCE)?;
     let mut parts = Vec::new(alloc);
-    push(read(alloc, map.key_dtype(), reader)?, &mut parts)?;
-    push(read(alloc, map.value_dtype(), reader)?, &mut parts)?;
+    push_next(alloc, map.key_dtype(), reader, &mut parts)?;
+    push_next(alloc, map.value_dtype(), reader, &mut parts)?;
     reader.take(END)?;
     Ok(ScalarValue::Tuple(parts))
 }
@@ -208,7 +260,7 @@ fn read_struct(
     reader.take(SEQUENCE)?;
     let mut parts = Vec::new(alloc);
     for dtype in dtypes {
-        push(read(alloc, dtype, reader)?, &mut parts)?;
+        push_next(alloc, dtype, reader, &mut parts)?;
     }
     reader.take(END)?;
     Ok(ScalarValue::Tuple(parts))

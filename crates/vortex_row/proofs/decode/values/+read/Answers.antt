@@ -1,5 +1,5 @@
 -- The parts of each loop, and the keys of each kind of type.
-use Rattle.std.proofs.Common.{◌≡◌, ◌+◌, ◌-◌, suc, false, [], drop, Some as Present, refl, subst, ap, ◌∙◌, arith}
+use Rattle.std.proofs.Common.{◌≡◌, ◌+◌, ◌-◌, suc, false, [], drop, Some as Present, None, refl, subst, ap, ◌∙◌, arith}
 use Rattle.vortex_dtype.specs.Lemmas.TypeLevels.{type_of-Bool, type_of-Primitive, type_of-Utf8, type_of-Binary}
 use Rattle.vortex_dtype.specs.TypeOf.{as_type_trees, dtype_trees, map_of, type_of, variants_of}
 use Rattle.vortex_dtype.specs.TypeTree.{bool_type, integer_type, utf8_type, binary_type, list_type, fixed_size_list_type, map_type, struct_type, no_types, type_then}
@@ -8,7 +8,7 @@ use Rattle.vortex_value.specs.Validity.{EachValid, EntriesValid, FieldsValid, Va
 use Rattle.vortex_value.specs.Values.RawOf.{raw_of, value_trees}
 use Rattle.vortex_row.specs.Reading.{AllHaveValues, AreSized, HasRead, HasValues, IsKey, IsPresent, IsStuck, entry_type, left}
 use Rattle.vortex_row.proofs.PartSteps.{SoFar, fixed-tuple, list-tuple, map-tuple, present-read, present-stuck, refused, struct-tuple, takes-each, takes-entry, takes-field, takes-sized}
-use Rattle.vortex_row.proofs.ValueSteps.{arm, child-size, child-stuck, end-found, end-missing, entry-stuck, extension-arm, extension-type, fixed-type, has-field, head-missing, id-stuck, list-type, map-type, more-sized, never-fields, never-sized, no-fields, none-each, none-entries, none-sized, not-memory, part-stuck, read-shorter, so-far-next, so-far-start, some-field, some-fields, some-rest, some-sized_keys, struct-type, takes-field_at, union-arm, union-found, union-none, union-type, valueless}
+use Rattle.vortex_row.proofs.ValueSteps.{arm, child-size, child-stuck, end-found, end-missing, entry-stuck, extension-arm, extension-type, fixed-type, has-field, head-missing, id-stuck, list-type, map-type, more-sized, never-fields, never-sized, no-fields, none-each, none-entries, none-sized, not-memory, part-stuck, pushed, puts-arm, puts-present, puts-refused, read-shorter, so-far-next, so-far-start, some-field, some-fields, some-rest, some-sized_keys, struct-type, takes-field_at, union-arm, union-found, union-none, union-type, valueless}
 use Rattle.vortex_row.proofs.decode.values.+read.Goals as goal
 
 pub read-returns-in_err-read_value : goal.read-returns-in_err-read_value
@@ -26,7 +26,7 @@ read_value-returns-in-Bool t c =
 pub read_value-returns-in-Primitive : goal.read_value-returns-in-Primitive
 read_value-returns-in-Primitive t c =
     let e : type_of c.args.dtype.now ≡ integer_type c.in-Primitive.ptype c.in-Primitive.field-1 = ap type_of c.in-Primitive.is ∙ type_of-Primitive c.in-Primitive.ptype c.in-Primitive.field-1 in
-    arm (Unit {0}) _ _ _ _ _ _ e (λ a. tt) c.read_number.ensures
+    arm (Unit {0}) _ _ _ _ _ _ e (λ a. tt) c.read_primitive.ensures
 
 pub read_value-returns-in-Utf8 : goal.read_value-returns-in-Utf8
 read_value-returns-in-Utf8 t c =
@@ -70,23 +70,23 @@ pub read_list-returns-in_err-take : goal.read_list-returns-in_err-take
 read_list-returns-in_err-take t c =
     refused _ _ _ _ _ _ _ c.from_residual.ensures (λ bad. head-missing _ (list_type (type_of c.args.element.now) NonNullable) (EachValid (type_of c.args.element.now)) _ _ (list-tuple (type_of c.args.element.now)) c.in_err-take.ensures.0 c.in_err-take.ensures.1)
 
-pub read_list-returns-in_err-read : goal.read_list-returns-in_err-read
-read_list-returns-in_err-read t c =
-    refused _ _ _ _ _ _ _ c.from_residual-in_err-read.ensures (λ bad.
+pub read_list-returns-in_err-push_next : goal.read_list-returns-in_err-push_next
+read_list-returns-in_err-push_next t c =
+    refused _ _ _ _ _ _ _ c.from_residual-in_err-push_next.ensures (λ bad.
     part-stuck (HasValues (type_of c.args.element.now)) (HasValues (type_of c.args.element.now)) (list_type (type_of c.args.element.now) NonNullable) (EachValid (type_of c.args.element.now)) (Valid (type_of c.args.element.now)) (EachValid (type_of c.args.element.now)) (EachValid (type_of c.args.element.now)) (value_trees c.loop-alloc.parts.items) _ _ _ _ _ (list-tuple (type_of c.args.element.now))
     c.in_ok-take.ensures c.loop-alloc.invariant (c.takes.ensures.unchanged c.loop-alloc-test.true) (λ a. a) (λ a. none-each (type_of c.args.element.now)) (λ a. none-each (type_of c.args.element.now)) (λ a. none-each (type_of c.args.element.now)) (takes-each (type_of c.args.element.now))
-    (λ none. c.takes.ensures.other c.loop-alloc-test.true) (c.in_err-read.ensures bad))
+    (λ none. c.takes.ensures.other c.loop-alloc-test.true) (c.in_err-push_next.ensures bad))
 
 pub read_list-loop-alloc-init : goal.read_list-loop-alloc-init
 read_list-loop-alloc-init t c = so-far-start (EachValid (type_of c.args.element.now)) _ _ c.new-parts.ensures.items
 
 pub read_list-loop-alloc-preserved : goal.read_list-loop-alloc-preserved
 read_list-loop-alloc-preserved t c =
-    so-far-next (EachValid (type_of c.args.element.now)) (Valid (type_of c.args.element.now)) (EachValid (type_of c.args.element.now)) (EachValid (type_of c.args.element.now)) c.loop-alloc.parts.items _ c.in_ok-read.field-0 _ _ _ _ c.loop-alloc.invariant (c.takes.ensures.unchanged c.loop-alloc-test.true) (takes-each (type_of c.args.element.now))
-    c.in_ok-read.ensures c.in_ok-push.ensures
+    so-far-next (EachValid (type_of c.args.element.now)) (Valid (type_of c.args.element.now)) (EachValid (type_of c.args.element.now)) (EachValid (type_of c.args.element.now)) c.loop-alloc.parts.items _ c.in_ok-push_next.ensures.0 _ _ _ _ c.loop-alloc.invariant (c.takes.ensures.unchanged c.loop-alloc-test.true) (takes-each (type_of c.args.element.now))
+    c.in_ok-push_next.ensures.2 c.in_ok-push_next.ensures.1
 
 pub read_list-loop-alloc-smaller : goal.read_list-loop-alloc-smaller
-read_list-loop-alloc-smaller t c = read-shorter (Valid (type_of c.args.element.now)) _ _ _ _ (c.takes.ensures.unchanged c.loop-alloc-test.true) c.in_ok-read.ensures
+read_list-loop-alloc-smaller t c = read-shorter (Valid (type_of c.args.element.now)) _ _ _ _ (c.takes.ensures.unchanged c.loop-alloc-test.true) c.in_ok-push_next.ensures.2
 
 pub read_list-returns : goal.read_list-returns
 read_list-returns t c =
@@ -96,13 +96,13 @@ pub read_fixed-returns-in_err-take : goal.read_fixed-returns-in_err-take
 read_fixed-returns-in_err-take t c =
     refused _ _ _ _ _ _ _ c.from_residual.ensures (λ bad. head-missing _ (fixed_size_list_type (type_of c.args.element.now) c.args.size NonNullable) (AreSized c.args.size (type_of c.args.element.now)) _ _ (fixed-tuple (type_of c.args.element.now) c.args.size) c.in_err-take.ensures.0 c.in_err-take.ensures.1)
 
-pub read_fixed-returns-in_err-read : goal.read_fixed-returns-in_err-read
-read_fixed-returns-in_err-read t c =
+pub read_fixed-returns-in_err-push_next : goal.read_fixed-returns-in_err-push_next
+read_fixed-returns-in_err-push_next t c =
     let one : c.args.size - c.loop-place.place ≡ suc (c.args.size - (c.loop-place.place + 1)) = let less = c.loop-place-test.true in omega arith in
-    refused _ _ _ _ _ _ _ c.from_residual-in_err-read.ensures (λ bad.
+    refused _ _ _ _ _ _ _ c.from_residual-in_err-push_next.ensures (λ bad.
     part-stuck (HasValues (type_of c.args.element.now)) (HasValues (type_of c.args.element.now)) (fixed_size_list_type (type_of c.args.element.now) c.args.size NonNullable) (AreSized c.args.size (type_of c.args.element.now)) (Valid (type_of c.args.element.now)) (AreSized (c.args.size - c.loop-place.place) (type_of c.args.element.now)) (AreSized (c.args.size - (c.loop-place.place + 1)) (type_of c.args.element.now)) (value_trees c.loop-place.parts.items) _ _ _ _ _ (fixed-tuple (type_of c.args.element.now) c.args.size)
     c.in_ok-take.ensures c.loop-place.invariant refl (λ a. a) (some-sized_keys c.args.size (type_of c.args.element.now)) (some-sized_keys (c.args.size - c.loop-place.place) (type_of c.args.element.now)) (some-sized_keys (c.args.size - (c.loop-place.place + 1)) (type_of c.args.element.now)) (takes-sized (c.args.size - c.loop-place.place) (c.args.size - (c.loop-place.place + 1)) (type_of c.args.element.now) one)
-    (λ none. absurd (more-sized (c.args.size - c.loop-place.place) (type_of c.args.element.now) (omega arith) none)) (c.in_err-read.ensures bad))
+    (λ none. absurd (more-sized (c.args.size - c.loop-place.place) (type_of c.args.element.now) (omega arith) none)) (c.in_err-push_next.ensures bad))
 
 pub read_fixed-loop-place-init : goal.read_fixed-loop-place-init
 read_fixed-loop-place-init t c =
@@ -112,8 +112,8 @@ read_fixed-loop-place-init t c =
 pub read_fixed-loop-place-preserved : goal.read_fixed-loop-place-preserved
 read_fixed-loop-place-preserved t c =
     let one : c.args.size - c.loop-place.place ≡ suc (c.args.size - (c.loop-place.place + 1)) = let less = c.loop-place-test.true in omega arith in
-    so-far-next (AreSized c.args.size (type_of c.args.element.now)) (Valid (type_of c.args.element.now)) (AreSized (c.args.size - c.loop-place.place) (type_of c.args.element.now)) (AreSized (c.args.size - (c.loop-place.place + 1)) (type_of c.args.element.now)) c.loop-place.parts.items _ c.in_ok-read.field-0 _ _ _ _ c.loop-place.invariant refl (takes-sized (c.args.size - c.loop-place.place) (c.args.size - (c.loop-place.place + 1)) (type_of c.args.element.now) one)
-    c.in_ok-read.ensures c.in_ok-push.ensures
+    so-far-next (AreSized c.args.size (type_of c.args.element.now)) (Valid (type_of c.args.element.now)) (AreSized (c.args.size - c.loop-place.place) (type_of c.args.element.now)) (AreSized (c.args.size - (c.loop-place.place + 1)) (type_of c.args.element.now)) c.loop-place.parts.items _ c.in_ok-push_next.ensures.0 _ _ _ _ c.loop-place.invariant refl (takes-sized (c.args.size - c.loop-place.place) (c.args.size - (c.loop-place.place + 1)) (type_of c.args.element.now) one)
+    c.in_ok-push_next.ensures.2 c.in_ok-push_next.ensures.1
 
 pub read_fixed-returns-in_err-take-2 : goal.read_fixed-returns-in_err-take-2
 read_fixed-returns-in_err-take-2 t c =
@@ -157,53 +157,53 @@ pub read_entry-returns-in_err-take : goal.read_entry-returns-in_err-take
 read_entry-returns-in_err-take t c =
     refused _ _ _ _ _ _ _ c.from_residual.ensures (λ bad. head-missing _ (entry_type (map_of c.args.map.now).key (map_of c.args.map.now).value) (FieldsValid (type_then (map_of c.args.map.now).key (type_then (map_of c.args.map.now).value no_types))) _ _ (struct-tuple (type_then (map_of c.args.map.now).key (type_then (map_of c.args.map.now).value no_types))) c.in_err-take.ensures.0 c.in_err-take.ensures.1)
 
-pub read_entry-returns-in_err-read : goal.read_entry-returns-in_err-read
-read_entry-returns-in_err-read t c =
-    refused _ _ _ _ _ _ _ c.from_residual-in_err-read.ensures (λ bad.
+pub read_entry-returns-in_err-push_next : goal.read_entry-returns-in_err-push_next
+read_entry-returns-in_err-push_next t c =
+    refused _ _ _ _ _ _ _ c.from_residual-in_err-push_next.ensures (λ bad.
     part-stuck (HasValues (map_of c.args.map.now).key × HasValues (map_of c.args.map.now).value) (HasValues (map_of c.args.map.now).key) (entry_type (map_of c.args.map.now).key (map_of c.args.map.now).value) (FieldsValid (type_then (map_of c.args.map.now).key (type_then (map_of c.args.map.now).value no_types))) (Valid (map_of c.args.map.now).key) (FieldsValid (type_then (map_of c.args.map.now).key (type_then (map_of c.args.map.now).value no_types))) (FieldsValid (type_then (map_of c.args.map.now).value no_types)) (value_trees c.new-parts.result.items) _ _ _ _ _ (struct-tuple (type_then (map_of c.args.map.now).key (type_then (map_of c.args.map.now).value no_types)))
     c.in_ok-take.ensures (so-far-start (FieldsValid (type_then (map_of c.args.map.now).key (type_then (map_of c.args.map.now).value no_types))) _ _ c.new-parts.ensures.items) refl (λ a. a.0) (λ a. some-fields (type_then (map_of c.args.map.now).key (type_then (map_of c.args.map.now).value no_types)) (a.0, (a.1, tt))) (λ a. some-fields (type_then (map_of c.args.map.now).key (type_then (map_of c.args.map.now).value no_types)) (a.0, (a.1, tt))) (λ a. some-fields (type_then (map_of c.args.map.now).value no_types) (a.1, tt)) (takes-field (map_of c.args.map.now).key (type_then (map_of c.args.map.now).value no_types))
-    (λ none. absurd none) (subst (λ t. IsStuck (HasValues t) (IsKey (Valid t)) (left c.take.new.self) (left c.read.new.reader)) c.key_dtype.ensures.tree (c.in_err-read.ensures bad)))
+    (λ none. absurd none) (subst (λ t. IsStuck (HasValues t) (IsKey (Valid t)) (left c.take.new.self) (left c.push_next.new.reader)) c.key_dtype.ensures.tree (c.in_err-push_next.ensures bad)))
 
-pub read_entry-returns-in_err-read-2 : goal.read_entry-returns-in_err-read-2
-read_entry-returns-in_err-read-2 t c =
-    let key = subst (λ t. HasRead (Valid t) (raw_of c.in_ok-read.field-0) (left c.take.new.self) (left c.read.new.reader)) c.key_dtype.ensures.tree c.in_ok-read.ensures in
-    refused _ _ _ _ _ _ _ c.from_residual-in_err-read-2.ensures (λ bad.
+pub read_entry-returns-in_err-push_next-2 : goal.read_entry-returns-in_err-push_next-2
+read_entry-returns-in_err-push_next-2 t c =
+    let key = subst (λ t. HasRead (Valid t) (raw_of c.in_ok-push_next.ensures.0) (left c.take.new.self) (left c.push_next.new.reader)) c.key_dtype.ensures.tree c.in_ok-push_next.ensures.2 in
+    refused _ _ _ _ _ _ _ c.from_residual-in_err-push_next-2.ensures (λ bad.
     part-stuck (HasValues (map_of c.args.map.now).key × HasValues (map_of c.args.map.now).value) (HasValues (map_of c.args.map.now).value) (entry_type (map_of c.args.map.now).key (map_of c.args.map.now).value) (FieldsValid (type_then (map_of c.args.map.now).key (type_then (map_of c.args.map.now).value no_types))) (Valid (map_of c.args.map.now).value) (FieldsValid (type_then (map_of c.args.map.now).value no_types)) (FieldsValid no_types) _ _ _ _ _ _ (struct-tuple (type_then (map_of c.args.map.now).key (type_then (map_of c.args.map.now).value no_types)))
-    c.in_ok-take.ensures (so-far-next (FieldsValid (type_then (map_of c.args.map.now).key (type_then (map_of c.args.map.now).value no_types))) (Valid (map_of c.args.map.now).key) (FieldsValid (type_then (map_of c.args.map.now).key (type_then (map_of c.args.map.now).value no_types))) (FieldsValid (type_then (map_of c.args.map.now).value no_types)) c.new-parts.result.items _ c.in_ok-read.field-0 _ _ _ _ (so-far-start (FieldsValid (type_then (map_of c.args.map.now).key (type_then (map_of c.args.map.now).value no_types))) _ _ c.new-parts.ensures.items) refl (takes-field (map_of c.args.map.now).key (type_then (map_of c.args.map.now).value no_types)) key c.in_ok-push.ensures) refl (λ a. a.1) (λ a. some-fields (type_then (map_of c.args.map.now).key (type_then (map_of c.args.map.now).value no_types)) (a.0, (a.1, tt))) (λ a. some-fields (type_then (map_of c.args.map.now).value no_types) (a.1, tt)) (λ a. some-fields no_types tt) (takes-field (map_of c.args.map.now).value no_types)
-    (λ none. absurd none) (subst (λ t. IsStuck (HasValues t) (IsKey (Valid t)) (left c.read.new.reader) (left c.read-2.new.reader)) c.value_dtype.ensures.tree (c.in_err-read-2.ensures bad)))
+    c.in_ok-take.ensures (so-far-next (FieldsValid (type_then (map_of c.args.map.now).key (type_then (map_of c.args.map.now).value no_types))) (Valid (map_of c.args.map.now).key) (FieldsValid (type_then (map_of c.args.map.now).key (type_then (map_of c.args.map.now).value no_types))) (FieldsValid (type_then (map_of c.args.map.now).value no_types)) c.new-parts.result.items _ c.in_ok-push_next.ensures.0 _ _ _ _ (so-far-start (FieldsValid (type_then (map_of c.args.map.now).key (type_then (map_of c.args.map.now).value no_types))) _ _ c.new-parts.ensures.items) refl (takes-field (map_of c.args.map.now).key (type_then (map_of c.args.map.now).value no_types)) key c.in_ok-push_next.ensures.1) refl (λ a. a.1) (λ a. some-fields (type_then (map_of c.args.map.now).key (type_then (map_of c.args.map.now).value no_types)) (a.0, (a.1, tt))) (λ a. some-fields (type_then (map_of c.args.map.now).value no_types) (a.1, tt)) (λ a. some-fields no_types tt) (takes-field (map_of c.args.map.now).value no_types)
+    (λ none. absurd none) (subst (λ t. IsStuck (HasValues t) (IsKey (Valid t)) (left c.push_next.new.reader) (left c.push_next-2.new.reader)) c.value_dtype.ensures.tree (c.in_err-push_next-2.ensures bad)))
 
 pub read_entry-returns-in_err-take-2 : goal.read_entry-returns-in_err-take-2
 read_entry-returns-in_err-take-2 t c =
-    let key = subst (λ t. HasRead (Valid t) (raw_of c.in_ok-read.field-0) (left c.take.new.self) (left c.read.new.reader)) c.key_dtype.ensures.tree c.in_ok-read.ensures in
-    let value = subst (λ t. HasRead (Valid t) (raw_of c.in_ok-read-2.field-0) (left c.read.new.reader) (left c.read-2.new.reader)) c.value_dtype.ensures.tree c.in_ok-read-2.ensures in
+    let key = subst (λ t. HasRead (Valid t) (raw_of c.in_ok-push_next.ensures.0) (left c.take.new.self) (left c.push_next.new.reader)) c.key_dtype.ensures.tree c.in_ok-push_next.ensures.2 in
+    let value = subst (λ t. HasRead (Valid t) (raw_of c.in_ok-push_next-2.ensures.0) (left c.push_next.new.reader) (left c.push_next-2.new.reader)) c.value_dtype.ensures.tree c.in_ok-push_next-2.ensures.2 in
     refused _ _ _ _ _ _ _ c.from_residual-in_err-take-2.ensures (λ bad.
-    end-missing _ (entry_type (map_of c.args.map.now).key (map_of c.args.map.now).value) (FieldsValid (type_then (map_of c.args.map.now).key (type_then (map_of c.args.map.now).value no_types))) (FieldsValid no_types) _ _ _ _ _ (struct-tuple (type_then (map_of c.args.map.now).key (type_then (map_of c.args.map.now).value no_types))) c.in_ok-take.ensures (so-far-next (FieldsValid (type_then (map_of c.args.map.now).key (type_then (map_of c.args.map.now).value no_types))) (Valid (map_of c.args.map.now).value) (FieldsValid (type_then (map_of c.args.map.now).value no_types)) (FieldsValid no_types) _ _ c.in_ok-read-2.field-0 _ _ _ _ (so-far-next (FieldsValid (type_then (map_of c.args.map.now).key (type_then (map_of c.args.map.now).value no_types))) (Valid (map_of c.args.map.now).key) (FieldsValid (type_then (map_of c.args.map.now).key (type_then (map_of c.args.map.now).value no_types))) (FieldsValid (type_then (map_of c.args.map.now).value no_types)) c.new-parts.result.items _ c.in_ok-read.field-0 _ _ _ _ (so-far-start (FieldsValid (type_then (map_of c.args.map.now).key (type_then (map_of c.args.map.now).value no_types))) _ _ c.new-parts.ensures.items) refl (takes-field (map_of c.args.map.now).key (type_then (map_of c.args.map.now).value no_types)) key c.in_ok-push.ensures) refl (takes-field (map_of c.args.map.now).value no_types) value c.in_ok-push-2.ensures) c.in_err-take-2.ensures.0
+    end-missing _ (entry_type (map_of c.args.map.now).key (map_of c.args.map.now).value) (FieldsValid (type_then (map_of c.args.map.now).key (type_then (map_of c.args.map.now).value no_types))) (FieldsValid no_types) _ _ _ _ _ (struct-tuple (type_then (map_of c.args.map.now).key (type_then (map_of c.args.map.now).value no_types))) c.in_ok-take.ensures (so-far-next (FieldsValid (type_then (map_of c.args.map.now).key (type_then (map_of c.args.map.now).value no_types))) (Valid (map_of c.args.map.now).value) (FieldsValid (type_then (map_of c.args.map.now).value no_types)) (FieldsValid no_types) _ _ c.in_ok-push_next-2.ensures.0 _ _ _ _ (so-far-next (FieldsValid (type_then (map_of c.args.map.now).key (type_then (map_of c.args.map.now).value no_types))) (Valid (map_of c.args.map.now).key) (FieldsValid (type_then (map_of c.args.map.now).key (type_then (map_of c.args.map.now).value no_types))) (FieldsValid (type_then (map_of c.args.map.now).value no_types)) c.new-parts.result.items _ c.in_ok-push_next.ensures.0 _ _ _ _ (so-far-start (FieldsValid (type_then (map_of c.args.map.now).key (type_then (map_of c.args.map.now).value no_types))) _ _ c.new-parts.ensures.items) refl (takes-field (map_of c.args.map.now).key (type_then (map_of c.args.map.now).value no_types)) key c.in_ok-push_next.ensures.1) refl (takes-field (map_of c.args.map.now).value no_types) value c.in_ok-push_next-2.ensures.1) c.in_err-take-2.ensures.0
     (λ a. some-fields (type_then (map_of c.args.map.now).key (type_then (map_of c.args.map.now).value no_types)) (a.0, (a.1, tt))) tt (λ v ws none. none) c.in_err-take-2.ensures.1)
 
 pub read_entry-returns : goal.read_entry-returns
 read_entry-returns t c =
-    let key = subst (λ t. HasRead (Valid t) (raw_of c.in_ok-read.field-0) (left c.take.new.self) (left c.read.new.reader)) c.key_dtype.ensures.tree c.in_ok-read.ensures in
-    let value = subst (λ t. HasRead (Valid t) (raw_of c.in_ok-read-2.field-0) (left c.read.new.reader) (left c.read-2.new.reader)) c.value_dtype.ensures.tree c.in_ok-read-2.ensures in
-    end-found (entry_type (map_of c.args.map.now).key (map_of c.args.map.now).value) (FieldsValid (type_then (map_of c.args.map.now).key (type_then (map_of c.args.map.now).value no_types))) (FieldsValid no_types) c.push-2.new.parts _ _ _ _ (struct-tuple (type_then (map_of c.args.map.now).key (type_then (map_of c.args.map.now).value no_types))) c.in_ok-take.ensures (so-far-next (FieldsValid (type_then (map_of c.args.map.now).key (type_then (map_of c.args.map.now).value no_types))) (Valid (map_of c.args.map.now).value) (FieldsValid (type_then (map_of c.args.map.now).value no_types)) (FieldsValid no_types) _ _ c.in_ok-read-2.field-0 _ _ _ _ (so-far-next (FieldsValid (type_then (map_of c.args.map.now).key (type_then (map_of c.args.map.now).value no_types))) (Valid (map_of c.args.map.now).key) (FieldsValid (type_then (map_of c.args.map.now).key (type_then (map_of c.args.map.now).value no_types))) (FieldsValid (type_then (map_of c.args.map.now).value no_types)) c.new-parts.result.items _ c.in_ok-read.field-0 _ _ _ _ (so-far-start (FieldsValid (type_then (map_of c.args.map.now).key (type_then (map_of c.args.map.now).value no_types))) _ _ c.new-parts.ensures.items) refl (takes-field (map_of c.args.map.now).key (type_then (map_of c.args.map.now).value no_types)) key c.in_ok-push.ensures) refl (takes-field (map_of c.args.map.now).value no_types) value c.in_ok-push-2.ensures) tt c.in_ok-take-2.ensures
+    let key = subst (λ t. HasRead (Valid t) (raw_of c.in_ok-push_next.ensures.0) (left c.take.new.self) (left c.push_next.new.reader)) c.key_dtype.ensures.tree c.in_ok-push_next.ensures.2 in
+    let value = subst (λ t. HasRead (Valid t) (raw_of c.in_ok-push_next-2.ensures.0) (left c.push_next.new.reader) (left c.push_next-2.new.reader)) c.value_dtype.ensures.tree c.in_ok-push_next-2.ensures.2 in
+    end-found (entry_type (map_of c.args.map.now).key (map_of c.args.map.now).value) (FieldsValid (type_then (map_of c.args.map.now).key (type_then (map_of c.args.map.now).value no_types))) (FieldsValid no_types) c.push_next-2.new.parts _ _ _ _ (struct-tuple (type_then (map_of c.args.map.now).key (type_then (map_of c.args.map.now).value no_types))) c.in_ok-take.ensures (so-far-next (FieldsValid (type_then (map_of c.args.map.now).key (type_then (map_of c.args.map.now).value no_types))) (Valid (map_of c.args.map.now).value) (FieldsValid (type_then (map_of c.args.map.now).value no_types)) (FieldsValid no_types) _ _ c.in_ok-push_next-2.ensures.0 _ _ _ _ (so-far-next (FieldsValid (type_then (map_of c.args.map.now).key (type_then (map_of c.args.map.now).value no_types))) (Valid (map_of c.args.map.now).key) (FieldsValid (type_then (map_of c.args.map.now).key (type_then (map_of c.args.map.now).value no_types))) (FieldsValid (type_then (map_of c.args.map.now).value no_types)) c.new-parts.result.items _ c.in_ok-push_next.ensures.0 _ _ _ _ (so-far-start (FieldsValid (type_then (map_of c.args.map.now).key (type_then (map_of c.args.map.now).value no_types))) _ _ c.new-parts.ensures.items) refl (takes-field (map_of c.args.map.now).key (type_then (map_of c.args.map.now).value no_types)) key c.in_ok-push_next.ensures.1) refl (takes-field (map_of c.args.map.now).value no_types) value c.in_ok-push_next-2.ensures.1) tt c.in_ok-take-2.ensures
 
 pub read_struct-returns-in_err-take : goal.read_struct-returns-in_err-take
 read_struct-returns-in_err-take t c =
     refused _ _ _ _ _ _ _ c.from_residual.ensures (λ bad. head-missing _ (struct_type [] (dtype_trees c.args.dtypes.now) NonNullable) (FieldsValid (dtype_trees c.args.dtypes.now)) _ _ (struct-tuple (dtype_trees c.args.dtypes.now)) c.in_err-take.ensures.0 c.in_err-take.ensures.1)
 
-pub read_struct-returns-in_err-read : goal.read_struct-returns-in_err-read
-read_struct-returns-in_err-read t c =
-    refused _ _ _ _ _ _ _ c.from_residual-in_err-read.ensures (λ bad.
+pub read_struct-returns-in_err-push_next : goal.read_struct-returns-in_err-push_next
+read_struct-returns-in_err-push_next t c =
+    refused _ _ _ _ _ _ _ c.from_residual-in_err-push_next.ensures (λ bad.
     part-stuck (AllHaveValues (dtype_trees c.args.dtypes.now)) (HasValues (type_of c.dtype-item.result)) (struct_type [] (dtype_trees c.args.dtypes.now) NonNullable) (FieldsValid (dtype_trees c.args.dtypes.now)) (Valid (type_of c.dtype-item.result)) (FieldsValid (dtype_trees (drop c.loop-dtype.dtype-index c.args.dtypes.now))) (FieldsValid (dtype_trees (drop (c.loop-dtype.dtype-index + 1) c.args.dtypes.now))) (value_trees c.loop-dtype.parts.items) _ _ _ _ _ (struct-tuple (dtype_trees c.args.dtypes.now))
     c.in_ok-take.ensures c.loop-dtype.invariant refl (has-field c.loop-dtype.dtype-index c.args.dtypes.now c.dtype-item.result c.loop-dtype-test.true c.dtype-item.is) (some-fields (dtype_trees c.args.dtypes.now)) (some-rest c.loop-dtype.dtype-index c.args.dtypes.now) (some-rest (c.loop-dtype.dtype-index + 1) c.args.dtypes.now)
-    (takes-field_at c.loop-dtype.dtype-index c.args.dtypes.now c.dtype-item.result c.loop-dtype-test.true c.dtype-item.is) (λ none. absurd (some-field c.loop-dtype.dtype-index c.args.dtypes.now c.dtype-item.result c.loop-dtype-test.true c.dtype-item.is none)) (c.in_err-read.ensures bad))
+    (takes-field_at c.loop-dtype.dtype-index c.args.dtypes.now c.dtype-item.result c.loop-dtype-test.true c.dtype-item.is) (λ none. absurd (some-field c.loop-dtype.dtype-index c.args.dtypes.now c.dtype-item.result c.loop-dtype-test.true c.dtype-item.is none)) (c.in_err-push_next.ensures bad))
 
 pub read_struct-loop-dtype-init : goal.read_struct-loop-dtype-init
 read_struct-loop-dtype-init t c = so-far-start (FieldsValid (dtype_trees c.args.dtypes.now)) _ _ c.new-parts.ensures.items
 
 pub read_struct-loop-dtype-preserved : goal.read_struct-loop-dtype-preserved
 read_struct-loop-dtype-preserved t c =
-    so-far-next (FieldsValid (dtype_trees c.args.dtypes.now)) (Valid (type_of c.dtype-item.result)) (FieldsValid (dtype_trees (drop c.loop-dtype.dtype-index c.args.dtypes.now))) (FieldsValid (dtype_trees (drop (c.loop-dtype.dtype-index + 1) c.args.dtypes.now))) c.loop-dtype.parts.items _ c.in_ok-read.field-0 _ _ _ _ c.loop-dtype.invariant refl (takes-field_at c.loop-dtype.dtype-index c.args.dtypes.now c.dtype-item.result c.loop-dtype-test.true c.dtype-item.is)
-    c.in_ok-read.ensures c.in_ok-push.ensures
+    so-far-next (FieldsValid (dtype_trees c.args.dtypes.now)) (Valid (type_of c.dtype-item.result)) (FieldsValid (dtype_trees (drop c.loop-dtype.dtype-index c.args.dtypes.now))) (FieldsValid (dtype_trees (drop (c.loop-dtype.dtype-index + 1) c.args.dtypes.now))) c.loop-dtype.parts.items _ c.in_ok-push_next.ensures.0 _ _ _ _ c.loop-dtype.invariant refl (takes-field_at c.loop-dtype.dtype-index c.args.dtypes.now c.dtype-item.result c.loop-dtype-test.true c.dtype-item.is)
+    c.in_ok-push_next.ensures.2 c.in_ok-push_next.ensures.1
 
 pub read_struct-returns-in_err-take-2 : goal.read_struct-returns-in_err-take-2
 read_struct-returns-in_err-take-2 t c =
@@ -239,3 +239,20 @@ read_union-returns t c =
 pub read_union-read-requires : goal.read_union-read-requires
 read_union-read-requires t c =
     omega (arith, child-size c.in_ok-id.id (variants_of c.args.variants.now).type_ids (as_type_trees (variants_of c.args.variants.now).types) (type_of c.in_ok-id.dtype.now) c.in_ok-id.ensures.1)
+
+pub push_value-returns-in_err-value : goal.push_value-returns-in_err-value
+push_value-returns-in_err-value t c = puts-refused _ _ _ _ _ _ _ _ c.from_residual.ensures c.in_err-value.ensures
+
+pub push_value-returns : goal.push_value-returns
+push_value-returns t c = pushed _ _ _ _ _ (Present c.in_ok-value.value) _ _ c.in_ok-value.ensures c.push.ensures
+
+pub push_next-returns-then-takes_null : goal.push_next-returns-then-takes_null
+push_next-returns-then-takes_null t c = pushed _ _ _ _ _ None _ _ (c.takes_null.ensures.taken c.if-takes_null.true) c.push.ensures
+
+pub push_next-returns-in-Primitive : goal.push_next-returns-in-Primitive
+push_next-returns-in-Primitive t c =
+    let e : type_of c.args.dtype.now ≡ integer_type c.in-Primitive.ptype c.in-Primitive.field-1 = ap type_of c.in-Primitive.is ∙ type_of-Primitive c.in-Primitive.ptype c.in-Primitive.field-1 in
+    puts-present _ _ _ _ _ _ _ _ (c.takes_null.ensures.unchanged c.if-takes_null.false) (c.takes_null.ensures.other c.if-takes_null.false) (puts-arm (Unit {0}) _ _ _ _ _ _ _ e (λ a. tt) c.push_number.ensures)
+
+pub push_next-returns-in_default : goal.push_next-returns-in_default
+push_next-returns-in_default t c = puts-present _ _ _ _ _ _ _ _ (c.takes_null.ensures.unchanged c.if-takes_null.false) (c.takes_null.ensures.other c.if-takes_null.false) c.push_value.ensures

@@ -2,7 +2,7 @@
 use Rattle.vortex_row.proofs.NumberForms.{number-away, number-missing, number-stuck}
 use Rattle.vortex_row.proofs.PartSteps.{refused}
 use Rattle.vortex_row.proofs.ReaderSteps.{after-first}
-use Rattle.vortex_row.proofs.decode.numbers.read_number.Goals as goal
+use Rattle.vortex_row.proofs.decode.numbers.number_by_bytes.Goals as goal
 
 pub returns-in_default : goal.returns-in_default
 returns-in_default c = λ bad. number-missing c.args.ptype _ c.in_default.ensures
@@ -13,5 +13,5 @@ returns-in_err-distance c =
     (λ bad. number-stuck c.args.ptype c.in-Some.head c.in-Some-form_after.form.below c.in-Some-form_after.form.width c.in-Some-form_after.form.limit _ _ _ c.in-Some-form_after.ensures
     (after-first _ _ c.in-Some.head c.in-Some.ensures c.advance.ensures) c.in_err-distance.ensures)
 
-pub whole_number-requires : goal.whole_number-requires
-whole_number-requires c = λ e. number-away c.args.ptype c.in-Some.head c.in-Some-form_after.form.below c.in-Some-form_after.form.width c.in-Some-form_after.form.limit c.in_ok-distance.distance _ _ c.in-Some-form_after.ensures c.in_ok-distance.ensures e
+pub number_of-requires : goal.number_of-requires
+number_of-requires c = λ e. number-away c.args.ptype c.in-Some.head c.in-Some-form_after.form.below c.in-Some-form_after.form.width c.in-Some-form_after.form.limit c.in_ok-distance.distance _ _ c.in-Some-form_after.ensures c.in_ok-distance.ensures e
