@@ -13,6 +13,7 @@ mod hashers;
 #[cfg(test)]
 mod items;
 pub mod key_laws;
+pub mod key_returns;
 pub mod keyed;
 #[cfg(test)]
 mod leaf_views;

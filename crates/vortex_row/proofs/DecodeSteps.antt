@@ -23,11 +23,10 @@ use Rattle.vortex_row.proofs.ApartLaws.{column-apart}
 use Rattle.vortex_row.proofs.KeyLaws.{values_have_no_typed}
 use Rattle.vortex_row.proofs.OrderLaws.{key-bytes}
 use Rattle.vortex_row.proofs.PartSteps.{null_valid, null_allowed, some_value}
-use Rattle.vortex_row.proofs.ReaderSteps.{at-once, inverted-append, inverted-are_bytes, inverted-back, length-inverted, take-more, take-then}
+use Rattle.vortex_row.proofs.PlaceLaws.{first_of}
+use Rattle.vortex_row.proofs.ReaderSteps.{at-once, inverted-append, inverted-are_bytes, inverted-back, take-more, take-then}
 use Rattle.vortex_row.proofs.StuckLaws.{Some, not-stuck, stuck-inverted, stuck-within}
-
-first_of : (x y : ℕ) (xs ys : List ℕ) → x ∷ xs ≡ y ∷ ys → x ≡ y
-first_of x y xs ys e = cc
+use Rattle.vortex_row.proofs.ByteLaws.{inverted-length}
 
 -- a column's key of a value that is no null
 key_with-present : (o : SortOptions) (v : RawTree) → is_absent v ≡ false → key_with o (content v) ≡ inverted o.descending (key (content v))
@@ -71,7 +70,7 @@ column-value o t v bytes now n left h read rest is =
     let same : bytes ≡ inverted d (key (content v)) ++ inverted d now = sym (inverted-twice d bytes h) ∙ ap (inverted d) read.is ∙ inverted-append d (key (content v)) now in
     let column : key_with o (content v) ≡ inverted d (key (content v)) = key_with-present o v read.plain.kind.present in
     let long : length bytes ≡ length (inverted d (key (content v))) + length (inverted d now) = ap length same ∙ length-append (inverted d (key (content v))) (inverted d now) in
-    let tail = length-inverted d now in
+    let tail = inverted-length d now in
     let count : n ≡ length (inverted d (key (content v))) = omega arith in
     let dropped : drop n bytes ≡ inverted d now = ap₂ (λ m bs. drop m bs) count same ∙ drop-front (inverted d (key (content v))) (inverted d now) in
     record {
@@ -134,7 +133,7 @@ pub column-refused : (has : Type 0) (o : SortOptions) (t : TypeTree) (bytes now 
     → IsStuck has (IsKey (IsPresent t)) (inverted o.descending bytes) now → length now ≡ left → place ≡ length bytes - left → IsRefusal has (IsColumnKey o t) bytes (BadKey place)
 column-refused has o t bytes now left place h other stuck rest is =
     let here = column-stuck has o t bytes now h other stuck in
-    let at = place-of has (IsColumnKey o t) bytes (inverted o.descending now) left place here (length-inverted o.descending now ∙ rest) is in
+    let at = place-of has (IsColumnKey o t) bytes (inverted o.descending now) left place here (inverted-length o.descending now ∙ rest) is in
     inr (place, refl, at.0, at.1)
 
 -- the answers

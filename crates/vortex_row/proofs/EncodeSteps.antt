@@ -19,6 +19,7 @@ use Rattle.vortex_row.proofs.ByteLaws.{inverted-length}
 use Rattle.vortex_row.proofs.NumberLaws.{big_endian-length}
 use Rattle.vortex_row.proofs.LengthSteps.{union-content, escape-plain}
 use Rattle.vortex_row.proofs.ShiftSteps.{shifted_bytes}
+use Rattle.vortex_row.proofs.ReaderSteps.{inverted-append}
 
 -- the bytes that std writes are those of the key
 
@@ -42,16 +43,12 @@ bytes-64 n = bytes-big_endian 8 n
 
 -- the bytes of what is left to the greatest number are inverted
 
-inverted-append : (bs cs : List ℕ) → inverted true (bs ++ cs) ≡ inverted true bs ++ inverted true cs
-inverted-append [] cs = refl
-inverted-append (b ∷ bs) cs = ap (λ xs. (255 - b) ∷ xs) (inverted-append bs cs)
-
 pub inverted-big_endian : (k n : ℕ) → n < 256 ^ k → big_endian k (256 ^ k - 1 - n) ≡ inverted true (big_endian k n)
 inverted-big_endian zero n h = refl
 inverted-big_endian (suc k) n h =
     let high : (256 ^ suc k - 1 - n) / 256 ≡ 256 ^ k - 1 - n / 256 = omega arith in
     let low : (256 ^ suc k - 1 - n) % 256 ≡ 255 - n % 256 = omega arith in
-    ap₂ (λ m b. big_endian k m ++ b ∷ []) high low ∙ ap (λ xs. xs ++ (255 - n % 256) ∷ []) (inverted-big_endian k (n / 256) (omega arith)) ∙ sym (inverted-append (big_endian k (n / 256)) ((n % 256) ∷ []))
+    ap₂ (λ m b. big_endian k m ++ b ∷ []) high low ∙ ap (λ xs. xs ++ (255 - n % 256) ∷ []) (inverted-big_endian k (n / 256) (omega arith)) ∙ sym (inverted-append true (big_endian k (n / 256)) ((n % 256) ∷ []))
 
 pub inverted-drop : (j : ℕ) (bs : List ℕ) → drop j (inverted true bs) ≡ inverted true (drop j bs)
 inverted-drop zero bs = refl

@@ -15,18 +15,13 @@ use Rattle.vortex_row.specs.Held.{AreBytes, IsWhole}
 use Rattle.vortex_row.specs.Keys.{inverted, key, number_bytes, whole_key}
 use Rattle.vortex_row.specs.Numbers.{GoesOnAs, HasDistance, HasLimits, HasMagnitude, IsMagnitude, IsSide, whole_at}
 use Rattle.vortex_row.specs.Reading.{HasRead, IsInverted, IsKey, IsPlain, IsPresent, IsStuck, NoneBegins}
-use Rattle.vortex_row.proofs.ByteLaws.{bytes_rest}
+use Rattle.vortex_row.proofs.ByteLaws.{bytes_rest, inverted-length}
 use Rattle.vortex_row.proofs.NumberSteps.{distance-read, distance-within}
 use Rattle.vortex_row.proofs.OrderLaws.{begins}
-use Rattle.vortex_row.proofs.ReaderSteps.{inverted-first, length-inverted}
+use Rattle.vortex_row.proofs.PlaceLaws.{first_of, rest_of}
+use Rattle.vortex_row.proofs.ReaderSteps.{inverted-first}
 use Rattle.vortex_row.proofs.NumberLaws.{number-length, number-some}
 use Rattle.vortex_row.proofs.StuckLaws.{none-byte, none-end, stuck-here, stuck-later}
-
-first_of : (x y : ℕ) (xs ys : List ℕ) → x ∷ xs ≡ y ∷ ys → x ≡ y
-first_of x y xs ys e = cc
-
-rest_of : (x y : ℕ) (xs ys : List ℕ) → x ∷ xs ≡ y ∷ ys → xs ≡ ys
-rest_of x y xs ys e = cc
 
 -- the present values of an integer type
 
@@ -228,7 +223,7 @@ number-at_once k d below again head width limit n taken bs rest number bytes som
     let step : taken ≡ suc width = omega arith in
     let now : drop taken (inverted d bs) ≡ drop width old = ap₂ (λ j ys. drop j ys) step whole in
     let within = distance-within width limit n (inverted again (drop 1 bs)) m in
-    let one = length-inverted again (drop 1 bs) in
+    let one = inverted-length again (drop 1 bs) in
     let two = length-drop 1 bs in
     let value : raw_integer (ptype_of number) (whole_of number) ≡ raw_integer k (whole_at below n) = ap₂ (λ j z. raw_integer j z) is.0 is.1 in (
       omega arith,

@@ -3,6 +3,7 @@ use Rattle.std.proofs.Common.{◌≡◌, ◌≢◌, ℕ, zero, suc, ◌+◌, ◌
 use Rattle.vortex_row.specs.Held.{AreBytes}
 use Rattle.vortex_row.specs.Keys.{big_endian, without_leading_zeros, number_bytes}
 use Rattle.vortex_row.proofs.ByteLaws.{no_bytes, bytes_first, bytes_rest, bytes_after}
+use Rattle.vortex_row.proofs.NumberLaws.{without_zeros-length}
 
 -- the number that these bytes are, after one that was read
 abbrev pub worth : ℕ → List ℕ → ℕ
@@ -90,11 +91,6 @@ pub number-of-bytes : (bs : List ℕ) → IsCanonical bs → AreBytes bs → len
 number-of-bytes bs c h l =
     let e : 8 ≡ (8 - length bs) + length bs = omega arith in
     ap (λ k. without_leading_zeros (big_endian k (worth 0 bs))) e ∙ ap without_leading_zeros (big_endian-worth (8 - length bs) 0 bs h) ∙ front-zeros (8 - length bs) bs ∙ c
-
-without_zeros-length : (bs : List ℕ) → length (without_leading_zeros bs) ≤ length bs
-without_zeros-length [] = omega arith
-without_zeros-length (zero ∷ bs) = let rest = without_zeros-length bs in omega arith
-without_zeros-length (suc b ∷ bs) = omega arith
 
 pub canonical-first : (b : ℕ) (bs : List ℕ) → IsCanonical (b ∷ bs) → 0 < b
 canonical-first zero bs c = let short = without_zeros-length bs in let same = ap length c in absurd (omega arith)

@@ -8,7 +8,7 @@ use Rattle.vortex_row.specs.Reading.{BeginAlike, IsInverted, IsStuck}
 use Rattle.vortex_row.proofs.ByteLaws.{no_bytes, bytes_after, bytes_then}
 use Rattle.vortex_row.proofs.NumberLaws.{number-bytes, number-length}
 use Rattle.vortex_row.proofs.StuckLaws.{stuck-inverted}
-use Rattle.vortex_row.proofs.ReaderSteps.{at-once, drop-inverted, drop-past, inverted-append, inverted-are_bytes, inverted-back, take-length, take-more, take-then}
+use Rattle.vortex_row.proofs.ReaderSteps.{at-once, drop-inverted, none-left, inverted-append, inverted-are_bytes, inverted-back, take-length, take-more, take-then}
 use Rattle.vortex_row.proofs.NumberReading.{worth, scaled, zeros, worth-append, scaled-least, scaled-monotone, worth-least, worth-zeros, zeros-length, zeros-bytes, worth-number, IsCanonical, number-of-bytes, canonical-first, canonical-from, canonical-more, canonical-number, canonical-worth, longer, scaled-to_limit, limit-from_scaled}
 
 -- so many bytes are read, and are this number; with zeros after it, it is up to the limit
@@ -138,7 +138,7 @@ number-ends width limit xs taken number h eight less past =
           let wide = ap length m.is in
           let wide_enough = m.count in
           let more = longer (take taken xs) s zs rest e (omega arith) in
-          subst (λ ys. BeginAlike ys (more.next ∷ more.more ++ rest)) (drop-past taken xs past) (subst (BeginAlike (drop taken xs)) more.after alike);
+          subst (λ ys. BeginAlike ys (more.next ∷ more.more ++ rest)) (none-left taken xs past) (subst (BeginAlike (drop taken xs)) more.after alike);
     }
 
 -- how many bytes a number up to the limit may have

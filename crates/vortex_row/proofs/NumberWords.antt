@@ -1,17 +1,17 @@
 -- A number from a word of eight bytes: its first bytes are what is left without the last ones.
-use Rattle.std.proofs.Common.{◌≡◌, ℕ, zero, suc, ◌+◌, ◌-◌, ◌*◌, ◌/◌, ◌^◌, ◌<◌, ◌≤◌, inl, inr, Bool, true, false, List, [], ◌∷◌, ◌++◌, length, length-append, take, drop, get_or, refl, sym, subst, ap, ap₂, ◌∙◌, arith}
+use Rattle.std.proofs.Common.{◌≡◌, ℕ, zero, suc, ◌+◌, ◌-◌, ◌*◌, ◌/◌, ◌^◌, ◌<◌, ◌≤◌, inl, inr, Bool, true, false, List, [], ◌∷◌, ◌++◌, length, length-append, take, drop, get_or, refl, sym, subst, ap, ◌∙◌, arith}
 use Rattle.std.specs.Int.{w64, from_be_bytes}
 use Rattle.std.proofs.lemmas.Bool.{cases_lt}
 use Rattle.std.proofs.lemmas.Nat.{be_bytes_8}
 use Rattle.vortex_row.specs.Held.{AreBytes}
-use Rattle.vortex_row.specs.Keys.{big_endian, inverted, number_bytes}
+use Rattle.vortex_row.specs.Keys.{big_endian, inverted}
 use Rattle.vortex_row.specs.Numbers.{HasMagnitude}
-use Rattle.vortex_row.proofs.ByteLaws.{bytes_first, bytes_rest, no_bytes, bytes_after}
+use Rattle.vortex_row.proofs.ByteLaws.{bytes_first, bytes_rest}
 use Rattle.vortex_row.proofs.EncodeSteps.{bytes-64, inverted-big_endian}
 use Rattle.vortex_row.proofs.NumberLaws.{big_endian-bytes}
-use Rattle.vortex_row.proofs.NumberReading.{worth, scaled, scaled-monotone, worth-append, worth-least, worth-big_endian, canonical-from, IsCanonical, scaled-to_limit, limit-from_scaled}
-use Rattle.vortex_row.proofs.NumberSteps.{Began, began-all, began-none}
-use Rattle.vortex_row.proofs.ReaderSteps.{take-bytes, take-length, take-then}
+use Rattle.vortex_row.proofs.NumberReading.{worth, scaled, scaled-monotone, worth-append, worth-least, worth-big_endian, IsCanonical, scaled-to_limit, limit-from_scaled}
+use Rattle.vortex_row.proofs.NumberSteps.{began-all, began-none}
+use Rattle.vortex_row.proofs.ReaderSteps.{bytes-parts, take-bytes, take-length, take-then}
 
 -- the word of the first eight bytes
 
@@ -56,15 +56,11 @@ worth-most n (b ∷ bs) h =
     let more = scaled-monotone (length bs) (n * 256 + b + 1) ((n + 1) * 256) (omega arith) in
     omega arith
 
-parts-bytes : (xs ys : List ℕ) → AreBytes (xs ++ ys) → AreBytes xs × AreBytes ys
-parts-bytes [] ys h = (no_bytes, h)
-parts-bytes (x ∷ xs) ys h = let rest = parts-bytes xs ys (bytes_rest x (xs ++ ys) h) in (bytes_after x xs (bytes_first x (xs ++ ys) h) rest.0, rest.1)
-
 -- a number without its last bytes is that of the first ones
 worth-front : (xs ys : List ℕ) (whole : ℕ) → AreBytes (xs ++ ys) → length ys ≤ 7 → whole ≡ worth 0 (xs ++ ys) → whole / 2 ^ (8 * length ys) ≡ worth 0 xs
 worth-front xs ys whole h few is =
     let low = worth-least (worth 0 xs) ys in
-    let high = worth-most (worth 0 xs) ys (parts-bytes xs ys h).1 in
+    let high = worth-most (worth 0 xs) ys (bytes-parts xs ys h).1 in
     let all : whole ≡ worth (worth 0 xs) ys = is ∙ worth-append 0 xs ys in
     let least = limit-from_scaled (length ys) (worth 0 xs) whole few (omega arith) in
     no_more (scaled-to_limit (length ys) (worth 0 xs + 1) whole few) (omega arith) least
@@ -99,9 +95,9 @@ word-magnitude width limit xs word number some eight long fits is front small fi
     let none : 0 ≡ width - width = omega arith in
     began-all width limit xs number (record {
       there = omega arith;
-      bytes = (parts-bytes start rest bytes).0;
+      bytes = (bytes-parts start rest bytes).0;
       is = number_is;
-      canonical = some-first (width - 1) number start (omega arith) (parts-bytes start rest bytes).0 (omega arith) number_is first;
+      canonical = some-first (width - 1) number start (omega arith) (bytes-parts start rest bytes).0 (omega arith) number_is first;
       small = subst (λ k. scaled k number ≤ limit) none small;
     }) eight
   where

@@ -25,6 +25,7 @@ use Rattle.vortex_row.proofs.ApartLaws.{key-apart}
 use Rattle.vortex_row.proofs.ByteLaws.{no_bytes}
 use Rattle.vortex_row.proofs.OrderLaws.{begins, least}
 use Rattle.vortex_row.proofs.StuckLaws.{Begin, Some, continue-itself, continue-then, none-byte, none-end, stuck-here, stuck-later, stuck-same, stuck-within}
+use Rattle.vortex_row.proofs.PlaceLaws.{first_of, rest_of}
 
 pub null_allowed : (t : TypeTree) → Valid t absent → IsNullable t
 null_allowed (extension_type id metadata t) h = null_allowed t h
@@ -33,12 +34,6 @@ null_allowed _ h = h
 pub null_valid : (t : TypeTree) → IsNullable t → Valid t absent
 null_valid (extension_type id metadata t) h = null_valid t h
 null_valid _ h = h
-
-first_of : (x y : ℕ) (xs ys : List ℕ) → x ∷ xs ≡ y ∷ ys → x ≡ y
-first_of x y xs ys e = cc
-
-rest_of : (x y : ℕ) (xs ys : List ℕ) → x ∷ xs ≡ y ∷ ys → xs ≡ ys
-rest_of x y xs ys e = cc
 
 -- each type that has values has one
 

@@ -3,7 +3,8 @@ use Rattle.std.proofs.Common.{◌≡◌, ℕ, zero, suc, ◌-◌, ◌<◌, ◌�
 use Rattle.vortex_row.specs.Bytes.{inverted_byte}
 use Rattle.vortex_row.specs.Held.{AreBytes}
 use Rattle.vortex_row.specs.Keys.{inverted}
-use Rattle.vortex_row.proofs.ByteLaws.{bytes_after, bytes_first, bytes_rest, inverted-bytes, no_bytes}
+use Rattle.vortex_row.proofs.ByteLaws.{bytes_after, bytes_first, bytes_rest, inverted-bytes, inverted-length, no_bytes}
+use Rattle.std.proofs.Math.Seq.{drop-nil}
 
 pub inverted-first : (d : Bool) (b : ℕ) (bs : List ℕ) → inverted d (b ∷ bs) ≡ inverted_byte d b ∷ inverted d bs
 inverted-first true b bs = refl
@@ -12,11 +13,6 @@ inverted-first false b bs = refl
 pub inverted-none : (d : Bool) → inverted d [] ≡ []
 inverted-none true = refl
 inverted-none false = refl
-
-pub length-inverted : (d : Bool) (bs : List ℕ) → length (inverted d bs) ≡ length bs
-length-inverted false bs = refl
-length-inverted true [] = refl
-length-inverted true (b ∷ bs) = ap suc (length-inverted true bs)
 
 pub drop-inverted : (d : Bool) (n : ℕ) (bs : List ℕ) → drop n (inverted d bs) ≡ inverted d (drop n bs)
 drop-inverted false n bs = refl
@@ -49,11 +45,10 @@ take-past zero (x ∷ xs) h = absurd (omega arith)
 take-past (suc n) [] h = refl
 take-past (suc n) (x ∷ xs) h = ap (λ ys. x ∷ ys) (take-past n xs (omega arith))
 
-pub drop-past : (n : ℕ) (xs : List ℕ) → length xs ≤ n → drop n xs ≡ []
-drop-past zero [] h = refl
-drop-past zero (x ∷ xs) h = absurd (omega arith)
-drop-past (suc n) [] h = refl
-drop-past (suc n) (x ∷ xs) h = drop-past n xs (omega arith)
+pub none-left : {A : Type 0} (i : ℕ) (xs : List A) → length xs ≤ i → drop i xs ≡ []
+none-left i [] h = drop-nil i
+none-left zero (x ∷ xs) h = absurd (omega arith)
+none-left (suc i) (x ∷ xs) h = none-left i xs (omega arith)
 
 pub take-length : (n : ℕ) (xs : List ℕ) → n ≤ length xs → length (take n xs) ≡ n
 take-length zero xs h = refl
@@ -88,6 +83,12 @@ pub inverted-are_bytes : (d : Bool) (bs : List ℕ) → AreBytes bs → AreBytes
 inverted-are_bytes false bs h = h
 inverted-are_bytes true bs h = inverted-bytes bs
 
+pub bytes-parts : (xs ys : List ℕ) → AreBytes (xs ++ ys) → AreBytes xs × AreBytes ys
+bytes-parts [] ys h = (no_bytes, h)
+bytes-parts (x ∷ xs) ys h =
+    let rest = bytes-parts xs ys (bytes_rest x (xs ++ ys) h) in
+    (bytes_after x xs (bytes_first x (xs ++ ys) h) rest.0, rest.1)
+
 -- the first of the bytes
 pub left-first : (d : Bool) (bs : List ℕ) (b : ℕ) → 1 ≤ length bs → b ≡ inverted_byte d (get_or bs 0 0) → (more : List ℕ) × (inverted d bs ≡ b ∷ more)
 left-first d [] b h e = absurd (omega arith)
@@ -97,4 +98,4 @@ left-first d (x ∷ bs) b h e = (inverted d bs, inverted-first d x bs ∙ ap (λ
 pub after-first : (old now : List ℕ) (b : ℕ) → (more : List ℕ) × (old ≡ b ∷ more) → now ≡ drop 1 old → old ≡ b ∷ now
 after-first old now b h e = h.1 ∙ ap (λ xs. b ∷ xs) (sym (e ∙ ap (drop 1) h.1))
 
-pub ruleset shown = (inverted-first, inverted-none, length-inverted, drop-inverted)
+pub ruleset shown = (inverted-first, inverted-none, inverted-length, drop-inverted)

@@ -26,6 +26,7 @@ use Rattle.vortex_row.proofs.ApartLaws.{column-apart}
 use Rattle.vortex_row.proofs.DecodeSteps.{a_plain, first-bad, have-values}
 use Rattle.vortex_row.proofs.PartSteps.{some_value}
 use Rattle.vortex_row.proofs.StuckLaws.{Begin, Some, continue-itself, continue-then, not-stuck, stuck-later, stuck-same, stuck-within}
+use Rattle.vortex_row.proofs.ReaderSteps.{none-left}
 
 -- after a column come the others
 
@@ -203,11 +204,6 @@ columns-end os ts i xs bytes taken same past so =
       is = there.split ∙ ap (λ bs. bs ++ drop taken bytes) k;
       count = there.count ∙ ap length k;
     }
-  where
-    none-left : {A : Type 0} (i : ℕ) (ts : List A) → length ts ≤ i → drop i ts ≡ []
-    none-left i [] h = drop-nil i
-    none-left zero (t ∷ ts) h = absurd (omega arith)
-    none-left (suc i) (t ∷ ts) h = none-left i ts (omega arith)
 
 -- the answers
 

@@ -6,8 +6,8 @@ use Rattle.vortex_row.specs.Reading.{BeginsWithOne, ContinueWith, IsStuck}
 use Rattle.vortex_row.specs.Strings.{HasString, IsAny, IsEscaped, IsHalfEscaped}
 use Rattle.vortex_value.specs.Values.Content.{string}
 use Rattle.vortex_row.proofs.ApartLaws.{key-apart}
-use Rattle.vortex_row.proofs.ByteLaws.{no_bytes, bytes_first, bytes_rest, bytes_after}
-use Rattle.vortex_row.proofs.ReaderSteps.{length-inverted, take-bytes, take-length}
+use Rattle.vortex_row.proofs.ByteLaws.{bytes_first, bytes_rest, inverted-length}
+use Rattle.vortex_row.proofs.ReaderSteps.{take-bytes, take-length}
 use Rattle.vortex_row.proofs.StuckLaws.{NoneHere, Some, continue-itself, continue-then, none-byte, none-end, not-stuck, stuck-here, stuck-later}
 use Rattle.vortex_row.proofs.TextSteps.{Follow, continue-end, continue-half, continue-plain, continue-second, escaped-some, none-second, plain-byte}
 
@@ -121,7 +121,7 @@ plain-within d word bs now h =
     let more = escaped-longer word in
     let all = ap length h.is in
     let parts = length-append (escaped word) now in
-    let long = length-inverted d bs in
+    let long = inverted-length d bs in
     omega arith
 
 -- a byte that is neither 0 nor 1

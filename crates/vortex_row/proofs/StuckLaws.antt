@@ -3,8 +3,8 @@ use Rattle.std.proofs.Common.{◌≡◌, ℕ, ◌⊎◌, Bool, true, false, inl,
 use Rattle.vortex_row.specs.Held.{AreBytes}
 use Rattle.vortex_row.specs.Keys.{inverted}
 use Rattle.vortex_row.specs.Reading.{BeginAlike, IsInverted, IsStuck, ContinueWith, NoneBegins}
-use Rattle.vortex_row.proofs.ByteLaws.{bytes_after, bytes_first, bytes_rest, no_bytes}
-use Rattle.vortex_row.proofs.ReaderSteps.{inverted-append, inverted-back}
+use Rattle.vortex_row.proofs.ByteLaws.{bytes_first}
+use Rattle.vortex_row.proofs.ReaderSteps.{bytes-parts, inverted-append, inverted-back}
 
 -- what now begins with, a byte or the end, comes first in none of the strings
 abbrev pub NoneHere : (List ℕ → Type 0) → List ℕ → Type 0
@@ -116,12 +116,6 @@ not-stuck all Is old now s rest stuck h e = stuck.none s now rest h (itself now)
     itself (x ∷ xs) = refl
 
 -- of bytes that are inverted
-
-bytes-parts : (xs ys : List ℕ) → AreBytes (xs ++ ys) → AreBytes xs × AreBytes ys
-bytes-parts [] ys h = (no_bytes, h)
-bytes-parts (x ∷ xs) ys h =
-    let rest = bytes-parts xs ys (bytes_rest x (xs ++ ys) h) in
-    (bytes_after x xs (bytes_first x (xs ++ ys) h) rest.0, rest.1)
 
 alike-inverted : (now zs : List ℕ) → AreBytes now → BeginAlike (inverted true now) zs → BeginAlike now (inverted true zs)
 alike-inverted [] [] h alike = tt

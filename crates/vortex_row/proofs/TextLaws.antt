@@ -5,6 +5,7 @@ use Rattle.std.proofs.lemmas.Bool.Decides.{nat_tests}
 use Rattle.std.proofs.lemmas.Str.{IsUtf8-append, IsUtf8-encode, encode_ascii}
 use Rattle.std.proofs.Math.Utf8.{scalar, scalars, encode, encodes, scalar_cases}
 use Rattle.vortex_row.specs.Strings.{Completes, lowest_after, highest_after}
+use Rattle.vortex_row.proofs.PlaceLaws.{first_of, rest_of}
 
 encode_two : (c : ℕ) → 128 ≤ c → c < 2048 → encode c ≡ (192 + c / 64) ∷ (128 + c % 64) ∷ []
 unfolding encode
@@ -64,12 +65,6 @@ record OfFour (b : ℕ) (xs : List ℕ) : Type 0 where
 
 abbrev Begun : ℕ → List ℕ → Type 0
 Begun b xs = OfOne b xs ⊎ (OfTwo b xs ⊎ (OfThree b xs ⊎ OfFour b xs))
-
-first_of : (x y : ℕ) (xs ys : List ℕ) → x ∷ xs ≡ y ∷ ys → x ≡ y
-first_of x y xs ys e = cc
-
-rest_of : (x y : ℕ) (xs ys : List ℕ) → x ∷ xs ≡ y ∷ ys → xs ≡ ys
-rest_of x y xs ys e = cc
 
 surrogates : (c : ℕ) → (c < 55296) ⊎ ((57344 ≤ c) × (c < 1114112)) → (c < 55296) ⊎ (57344 ≤ c)
 surrogates c (inl h) = inl h

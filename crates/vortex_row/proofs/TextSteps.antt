@@ -9,15 +9,10 @@ use Rattle.vortex_row.specs.Strings.{Completes, ComesNext, IsEscaped, IsHalfEsca
 use Rattle.vortex_row.specs.declared.decode.texts.Next.{Next}
 use Rattle.vortex_row.specs.declared.decode.texts.Next.TheVariants.{Character, Escaped, Within}
 use Rattle.vortex_row.proofs.ByteLaws.{no_bytes, bytes_rest, bytes_after}
-use Rattle.vortex_row.proofs.ReaderSteps.{at-once, drop-past, take-more, take-past, take-then}
+use Rattle.vortex_row.proofs.PlaceLaws.{first_of, rest_of}
+use Rattle.vortex_row.proofs.ReaderSteps.{at-once, none-left, take-more, take-past, take-then}
 use Rattle.vortex_row.proofs.StuckLaws.{Some, continue-then, none-byte, none-end, stuck-after}
 use Rattle.vortex_row.proofs.TextLaws.{after-one, after-two, after-three, after-four, no-first}
-
-first_of : (x y : ℕ) (xs ys : List ℕ) → x ∷ xs ≡ y ∷ ys → x ≡ y
-first_of x y xs ys e = cc
-
-rest_of : (x y : ℕ) (xs ys : List ℕ) → x ∷ xs ≡ y ∷ ys → xs ≡ ys
-rest_of x y xs ys e = cc
 
 apart : (x y : ℕ) (xs ys : List ℕ) → x ≢ y → x ∷ xs ≡ y ∷ ys → ⊥
 apart x y xs ys h e = h (first_of x y xs ys e)
@@ -249,7 +244,7 @@ pub ends-early : (xs : List ℕ) (n i : ℕ) (next : Next) → n ≡ length xs �
     → IsStuck (Unit {0}) (IsEscaped IsUtf8) xs (drop n xs)
 ends-early xs n i next is past proper go =
     let all : take i xs ≡ xs = take-past i xs (omega arith) in
-    let none : drop n xs ≡ [] = drop-past n xs (omega arith) in
+    let none : drop n xs ≡ [] = none-left n xs (omega arith) in
     stuck-after (Unit {0}) (take i xs) (IsEscaped IsUtf8) (ComesNext next) xs (drop n xs) go
     (sym (append-nil xs) ∙ ap₂ (λ ys zs. ys ++ zs) (sym all) (sym none)) (λ u. goes-on next proper) (none-end (ComesNext next) (drop n xs) none (no-empty next))
 

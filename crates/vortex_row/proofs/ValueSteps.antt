@@ -2,10 +2,9 @@
 use Rattle.std.proofs.Common.{◌≡◌, ◌≢◌, ℕ, zero, suc, ◌+◌, ◌<◌, ◌≤◌, ◌⊎◌, inl, inr, false, true, true≢false, List, [], ◌∷◌, ◌++◌, length, length-append, map, drop, get_or, drop-cons, Option, Some as Present, Vec, Box, Global, refl, sym, subst, ap, ap₂, ◌∙◌, arith}
 use Rattle.std.specs.Prelude.{Bool, Err, IsErr, MatchResult, Ok, Result, if◌then◌else◌, ◌==◌}
 use Rattle.std.specs.Result.{IsErrAnd}
-use Rattle.std.proofs.Math.Seq.{drop-nil}
 use Rattle.std.proofs.lemmas.Option.{same_Some}
 use Rattle.vortex_dtype.specs.Lemmas.TypeLevels.{type_of-Null, type_of-Variant, type_of-List, type_of-FixedSizeList, type_of-Map, type_of-Struct, type_of-Union, type_of-Extension}
-use Rattle.vortex_dtype.specs.Lemmas.TypeSize.{type_size, types_size, type_size-at}
+use Rattle.vortex_dtype.specs.Lemmas.TypeSize.{type_size, types_size}
 use Rattle.vortex_dtype.specs.TypeOf.{as_type_trees, dtype_trees, ext_of, fields_of, map_of, type_of, variants_of}
 use Rattle.vortex_dtype.specs.TypeTree.{TypeTree, null_type, bool_type, integer_type, utf8_type, binary_type, list_type, fixed_size_list_type, map_type, struct_type, union_type, variant_type, extension_type, TypeTrees, no_types, type_then, storage, IsNullable, is_nullable, nullability_of, says_nullable}
 use Rattle.vortex_dtype.specs.declared.nullability.Nullability.{Nullability}
@@ -30,6 +29,8 @@ use Rattle.vortex_row.specs.declared.reader.Fault.TheVariants.{Bad, NoMemory}
 use Rattle.vortex_row.proofs.OrderLaws.{begins}
 use Rattle.vortex_row.proofs.PartSteps.{Opens, SameValues, SoFar, Takes, TupleOf, continue-child, null-read, opens-none, opens-stuck, present-read, present-stuck, reads-as, refused, so-far-end, so-far-more, so-far-none, so-far-open, so-far-stuck, some-key, some-keys, some_sized, some_value, some_values, stuck-as, tagged-opens, takes-field, tuple-opens, tuple-read}
 use Rattle.vortex_row.proofs.StuckLaws.{Some, stuck-here, stuck-later, stuck-same}
+use Rattle.vortex_row.proofs.VariantSteps.{type_size_item}
+use Rattle.vortex_row.proofs.ReaderSteps.{none-left}
 
 pub ruleset by_place = (type_with-position)
 
@@ -238,11 +239,6 @@ takes-field_at i ts t less is =
     let e : drop i ts ≡ t ∷ drop (i + 1) ts = drop-cons ts i t less ∙ ap₂ (λ d n. d ∷ drop n ts) (sym is) one in
     subst (λ ds. Takes (FieldsValid (dtype_trees ds)) (Valid (type_of t)) (FieldsValid (dtype_trees (drop (i + 1) ts)))) (sym e) (takes-field (type_of t) (dtype_trees (drop (i + 1) ts)))
 
-none-left : (i : ℕ) (ts : List DType) → length ts ≤ i → drop i ts ≡ []
-none-left i [] h = drop-nil i
-none-left zero (t ∷ ts) h = absurd (omega arith)
-none-left (suc i) (t ∷ ts) h = none-left i ts (omega arith)
-
 pub no-fields : (i : ℕ) (ts : List DType) → length ts ≤ i → FieldsValid (dtype_trees (drop i ts)) no_raws
 no-fields i ts h = subst (λ ds. FieldsValid (dtype_trees ds) no_raws) (sym (none-left i ts h)) tt
 
@@ -263,10 +259,6 @@ never-sized n e is v ws h = let c = h.count in omega arith
 
 pub more-sized : (n : ℕ) (e : TypeTree) → 0 < n → ¬ (AreSized n e no_raws)
 more-sized n e some h = let c = h.count in omega arith
-
--- a type among several is no larger than they all
-pub type_size_item : (ts : List DType) (i : ℕ) (t : DType) → i < length ts → t ≡ get_or ts i t → type_size (type_of t) ≤ types_size (dtype_trees ts)
-type_size_item ts i t h is = subst (λ (d : DType). type_size (type_of d) ≤ types_size (dtype_trees ts)) (sym is) (type_size-at ts i t h)
 
 pub child-size : (id : ℕ) (ids : List ℕ) (ts : TypeTrees) (t : TypeTree) → type_with id ids ts ≡ Present t → type_size t ≤ types_size ts
 child-size id [] ts t e = cc

@@ -1,13 +1,13 @@
 -- The bytes of the word that are the number's.
-use Rattle.std.proofs.Common.{◌<◌, ◌≤◌, ◌^◌, length, arith, refl, rules}
+use Rattle.std.proofs.Common.{◌<◌, ◌^◌, arith, refl, rules}
 use Rattle.vortex_row.specs.Keys.{inverted}
 use Rattle.vortex_row.proofs.NumberWords.{word-inverted, word-magnitude}
-use Rattle.vortex_row.proofs.ReaderSteps.{length-inverted}
 use Rattle.vortex_row.proofs.decode.numbers.magnitude_at_once.Goals as goal
+use Rattle.vortex_row.proofs.ByteLaws.{inverted-length}
 
 pub returns-then-number-width-gt0 : goal.returns-then-number-width-gt0
 returns-then-number-width-gt0 c =
-    let long = length-inverted c.args.invert c.args.bytes.now in
+    let long = inverted-length c.args.invert c.args.bytes.now in
     let there = c.in_ok-word.ensures.0 in
     let some = c.if-width-eq0.false in
     let word : c.in_ok-word.word < 2 ^ 64 = search rules in

@@ -2,16 +2,17 @@
 use Rattle.std.proofs.Common.{◌≡◌, ◌<◌, inl, inr, sym, ◌∙◌, rules, arith, subst, suc, ◌+◌, ◌*◌}
 use Rattle.vortex_row.specs.Keys.{inverted}
 use Rattle.vortex_row.proofs.NumberSteps.{Began, began-all, began-fits, began-more, began-none, number-bad, number-ends}
-use Rattle.vortex_row.proofs.ReaderSteps.{inverted-at, length-inverted}
+use Rattle.vortex_row.proofs.ReaderSteps.{inverted-at}
 use Rattle.vortex_row.proofs.decode.numbers.magnitude_by_bytes.Goals as goal
 use Rattle.vortex_row.proofs.decode.numbers.magnitude_by_bytes.Goals.{then-longer-eq0-via-then-longer-eq0, then-longer-eq0-via-else-longer-eq0+then-longer-most}
+use Rattle.vortex_row.proofs.ByteLaws.{inverted-length}
 
 pub loop-taken-init : goal.loop-taken-init
 loop-taken-init c = began-none c.args.width c.args.limit (inverted c.args.invert c.args.bytes.now)
 
 pub returns-then-place-bytes-clause-read : goal.returns-then-place-bytes-clause-read
 returns-then-place-bytes-clause-read c =
-    let long = length-inverted c.args.invert c.args.bytes.now in
+    let long = inverted-length c.args.invert c.args.bytes.now in
     let past = c.if-place-bytes.true in
     number-ends c.args.width c.args.limit (inverted c.args.invert c.args.bytes.now) c.loop-taken.taken c.loop-taken.number c.loop-taken.invariant c.requires c.loop-taken-test.true (omega arith)
 
@@ -28,7 +29,7 @@ overflow_add-longer c =
 
 pub returns-then-longer-eq0-clause-read : goal.returns-then-longer-eq0-clause-read
 returns-then-longer-eq0-clause-read c =
-    let long = length-inverted c.args.invert c.args.bytes.now in
+    let long = inverted-length c.args.invert c.args.bytes.now in
     let there = c.if-place-bytes.false in
     let byte : c.from.result ≡ c.inverted_if.result = search rules in
     let is = byte ∙ c.inverted_if.ensures ∙ sym (inverted-at c.args.invert c.loop-taken.taken c.args.bytes.now (omega arith)) in
@@ -40,7 +41,7 @@ returns-then-longer-eq0-clause-read c =
 
 pub loop-taken-preserved : goal.loop-taken-preserved
 loop-taken-preserved c =
-    let long = length-inverted c.args.invert c.args.bytes.now in
+    let long = inverted-length c.args.invert c.args.bytes.now in
     let there = c.if-place-bytes.false in
     let byte : c.from.result ≡ c.inverted_if.result = search rules in
     let small : c.from.result < 256 = search rules in

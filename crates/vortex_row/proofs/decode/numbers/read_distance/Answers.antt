@@ -1,20 +1,20 @@
 -- The bytes of the distance, inverted once more if the number is below 0.
 use Rattle.std.proofs.Common.{refl, arith}
 use Rattle.vortex_row.proofs.NumberSteps.{distance-read, distance-stuck, distance-within}
-use Rattle.vortex_row.proofs.ReaderSteps.{length-inverted}
 use Rattle.vortex_row.proofs.decode.numbers.read_distance.Goals as goal
+use Rattle.vortex_row.proofs.ByteLaws.{inverted-length}
 
 pub advance-requires : goal.advance-requires
 advance-requires c =
     let there = distance-within c.args.form.width c.args.form.limit c.in-Ok.number _ c.in-Ok.ensures.read in
-    let one = length-inverted c.inverted_again-invert.result c.args.reader.now.rest.now in
-    let two = length-inverted c.args.reader.now.invert c.args.reader.now.rest.now in
+    let one = inverted-length c.inverted_again-invert.result c.args.reader.now.rest.now in
+    let two = inverted-length c.args.reader.now.invert c.args.reader.now.rest.now in
     omega arith
 
 pub advance-requires-in-Err : goal.advance-requires-in-Err
 advance-requires-in-Err c =
     let there = c.in-Err.ensures.within in
-    let two = length-inverted c.args.reader.now.invert c.args.reader.now.rest.now in
+    let two = inverted-length c.args.reader.now.invert c.args.reader.now.rest.now in
     omega arith
 
 pub returns-in-Ok : goal.returns-in-Ok
