@@ -44,7 +44,7 @@ pub fn decoded_as(
 ) -> Result<Scalar, RowError>
     ensures { (w : RawTree) → Valid (type_of target.now) w → content w ≡ ref_content x.entry
         → MatchResult result (IsMadeOf (type_of target.now) w)
-            (λ e. (e ≡ HasVariant) ⊎ (e ≡ OutOfMemory)) }
+        (λ e. (e ≡ HasVariant) ⊎ (e ≡ OutOfMemory)) }
 {
     let mut key = Vec::new(alloc);
     append_key(x, options, &mut key)?;

@@ -7,7 +7,7 @@ mod strings;
 mod texts;
 mod values;
 
-ghost use Rattle.std.specs.Prelude.{◌≡◌, ◌≢◌, ◌↔◌, ◌⊎◌, ℕ, List, Err, IfErr, IfOk, length};
+ghost use Rattle.std.specs.Prelude.{◌≡◌, ◌≢◌, ◌↔◌, ◌⊎◌, ℕ, List, Err, IfErr, IfOk, OnOk, length};
 ghost use Rattle.vortex_row.specs.Decoded.{BeginsWithKey, BeginsWithRow, DecodesRowTo, DecodesTo, IsDecoded, IsDecodedRow, IsFirstBad, IsKeyOf, IsRowKeyOf};
 ghost use Rattle.vortex_row.specs.Words.{AllHaveVariants, BadKey, HasNoVariant, HasVariant, HaveNoVariant, OutOfMemory, RawTree, UnionsHaveVariants, WrongLength, dtype_trees, type_of};
 
@@ -40,6 +40,7 @@ pub fn decode_key(
     ensures whole { (v : RawTree) (rest : List ℕ) → HasNoVariant (type_of dtype.now)
         → BeginsWithKey options (type_of dtype.now) bytes.now v rest
         → DecodesTo options (type_of dtype.now) v result }
+    ensures ordered { OnOk result (HasNoVariant (type_of dtype.now)) }
     ensures variant { (result ≡ Err HasVariant) ↔ ¬ (HasNoVariant (type_of dtype.now)) }
     ensures bad { (place : ℕ) → result ≡ Err (BadKey place)
         → IsFirstBad (IsKeyOf options (type_of dtype.now))
@@ -73,6 +74,7 @@ pub fn decode_row_key(
         → HaveNoVariant (dtype_trees dtypes.now)
         → BeginsWithRow options.now (dtype_trees dtypes.now) bytes.now vs rest
         → DecodesRowTo options.now (dtype_trees dtypes.now) vs result }
+    ensures ordered { OnOk result (HaveNoVariant (dtype_trees dtypes.now)) }
     ensures lengths { (result ≡ Err (WrongLength (length options.now) (length dtypes.now)))
         ↔ (length dtypes.now ≢ length options.now) }
     ensures variant { (result ≡ Err HasVariant) ↔ ((length dtypes.now ≡ length options.now)
