@@ -1,0 +1,27 @@
+-- Which strings and bytes begin with a prefix.
+use Rattle.std.specs.Prelude.{nat_eq, Bool, Option, Some, None, if◌then◌else◌}
+use Rattle.std.specs.List.{starts_with}
+use Rattle.vortex_value.specs.Equality.{same_type}
+use Rattle.vortex_value.specs.Values.Content.{Content, text, string}
+use Rattle.vortex_statistics.specs.Cells.{Cell}
+use Rattle.vortex_filter.specs.declared.truth.Truth.{Truth}
+use Rattle.vortex_filter.specs.declared.truth.Truth.TheVariants.{Unknown}
+use Rattle.vortex_filter.specs.Truths.{truth_of}
+
+-- whether the first content begins with the second, if both are strings or both bytes
+abbrev pub begins : Content → Content → Option Bool
+begins (text bs) (text p) = Some (starts_with nat_eq bs p)
+begins (string bs) (string p) = Some (starts_with nat_eq bs p)
+begins _ _ = None
+
+-- the same of two cells, if their types are the same up to nullability
+abbrev pub cell_begins : Cell → Cell → Option Bool
+cell_begins x p = if same_type x.typed p.typed then begins x.content p.content else None
+
+abbrev pub begins_truth : Option Bool → Truth
+begins_truth None = Unknown
+begins_truth (Some b) = truth_of b
+
+-- whether the cell begins with the prefix: Unknown if one of them is null, or neither a string nor bytes
+abbrev pub prefix_truth : Cell → Cell → Truth
+prefix_truth x p = begins_truth (cell_begins x p)

@@ -1,0 +1,17 @@
+// SPDX-License-Identifier: Apache-2.0
+// SPDX-FileCopyrightText: Copyright the Vortex contributors; ported to Rattle and changed
+//! Filters over rows of scalars, by SQL's three-valued logic, and what they can be on the rows of
+//! a zone of which statistics are known.
+#![tactic(auto)]
+
+mod column;
+mod error;
+mod filter;
+mod operator;
+mod truth;
+
+pub use column::Column;
+pub use error::FilterError;
+pub use filter::Filter;
+pub use operator::CompareOperator;
+pub use truth::Truth;
