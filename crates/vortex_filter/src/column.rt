@@ -1,6 +1,6 @@
 //! The columns that a filter speaks of.
 
-use vortex_array::DType;
+use vortex_dtype::DType;
 
 /// A column: its name, and the type of its cells.
 #[derive(Debug, Drop)]

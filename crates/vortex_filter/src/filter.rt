@@ -2,7 +2,7 @@
 
 use crate::operator::CompareOperator;
 use crate::truth::Truth;
-use vortex_array::Scalar;
+use vortex_value::Scalar;
 
 /// A filter over rows. It names a column by its place, and a row that ends before the column has a
 /// null there.
