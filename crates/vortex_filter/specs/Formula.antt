@@ -1,6 +1,9 @@
 -- Filters as formulas, and their truth on a row.
-use Rattle.std.specs.Prelude.{ℕ, ◌||◌, Bool, List, fold, map, slice_get, Option, Some, None, if◌then◌else◌}
+use Rattle.std.specs.Prelude.{ℕ, ◌||◌, Bool, List, fold, map, slice_get, Option, Some, None, option_map, if◌then◌else◌}
+use Rattle.std.specs.Borrow.{Bor}
+use Rattle.std.specs.Option.{option_copied}
 use Rattle.std.specs.declared.cmp.Ordering.{Ordering}
+use Rattle.vortex_value.specs.declared.scalars.Scalar.{Scalar}
 use Rattle.vortex_statistics.specs.Cells.{Cell, cell_of, cell_or_null, cell_order, is_null_cell}
 use Rattle.vortex_filter.specs.declared.filter.Filter.{Filter, fold-Filter}
 use Rattle.vortex_filter.specs.declared.filter.Filter.TheOpen.{Filter-F}
@@ -45,6 +48,14 @@ formula = fold-Filter Formula formula_step
 abbrev pub cell_at : List Cell → ℕ → Cell
 cell_at row k = cell_or_null (slice_get row k)
 
+-- a cell that is lent, or none: then a null
+abbrev pub lent_cell : Option (Bor Scalar) → Cell
+lent_cell x = cell_or_null (option_map cell_of (option_copied x))
+
+-- whether a cell is null: never Unknown
+abbrev pub null_truth : Cell → Truth
+null_truth x = truth_of (is_null_cell x)
+
 -- True or False by the order, Unknown if there is none
 abbrev pub order_truth : CompareOperator → Option Ordering → Truth
 order_truth op None = Unknown
@@ -66,7 +77,7 @@ range_truth x lower upper = truth_and (compare_truth Gte x lower) (compare_truth
 abbrev pub truth : Formula → List Cell → Truth
 truth (constant t) row = t
 truth (comparison k op literal) row = compare_truth op (cell_at row k) literal
-truth (null_test k) row = truth_of (is_null_cell (cell_at row k))
+truth (null_test k) row = null_truth (cell_at row k)
 truth (membership k literals) row = member_truth (cell_at row k) literals
 truth (range k lower upper) row = range_truth (cell_at row k) lower upper
 truth (prefix_test k prefix) row = prefix_truth (cell_at row k) prefix

@@ -1,6 +1,11 @@
+pub mod Exactness
 pub mod Examples
 pub mod Formula
 pub mod Operators
+pub mod Orders
+pub mod OutcomeSets
+pub mod Outcomes
 pub mod Prefixes
+pub mod Pruning
 pub mod Truths
 pub mod Words

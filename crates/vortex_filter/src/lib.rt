@@ -6,12 +6,19 @@
 
 mod column;
 mod error;
+mod evaluation;
 mod filter;
 mod operator;
+mod orders;
+mod outcomes;
+mod prefix;
+mod prefix_pruning;
+mod pruning;
 mod truth;
 
 pub use column::Column;
 pub use error::FilterError;
 pub use filter::Filter;
 pub use operator::CompareOperator;
+pub use outcomes::Outcomes;
 pub use truth::Truth;

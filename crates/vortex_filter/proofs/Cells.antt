@@ -1,0 +1,26 @@
+-- Cells as the code reads them.
+use Rattle.std.proofs.Common.{◌≡◌, ℕ, List, map, slice_get, Option, option_map, refl, sym, ap, ◌∙◌}
+use Rattle.std.proofs.lemmas.Option.{slice_get-map}
+use Rattle.vortex_value.specs.Values.Content.{content}
+use Rattle.vortex_value.specs.Values.RawTree.{RawTree, absent, is_absent}
+use Rattle.vortex_value.specs.Values.Scalars.{scalar_raw}
+use Rattle.vortex_value.specs.declared.scalars.Scalar.{Scalar}
+use Rattle.vortex_statistics.specs.Cells.{cell_of, cell_or_null, is_null_cell, is_null_content}
+use Rattle.vortex_statistics.specs.Statistics.{known}
+use Rattle.vortex_statistics.specs.declared.column_statistics.ColumnStatistics.{ColumnStatistics}
+use Rattle.vortex_filter.specs.Formula.{cell_at}
+
+-- the cell of a row, by the scalar that stands there
+pub cell_is : (row : List Scalar) (k : ℕ) → cell_at (map cell_of row) k ≡ cell_or_null (option_map cell_of (slice_get row k))
+cell_is row k = ap cell_or_null (slice_get-map cell_of row k)
+
+raw_null : (v : RawTree) → is_null_content (content v) ≡ is_absent v
+raw_null absent = refl
+raw_null _ = refl
+
+pub null_is : (x : Scalar) → is_null_cell (cell_of x) ≡ is_absent (scalar_raw x)
+null_is x = raw_null (scalar_raw x)
+
+-- the statistics of a column, by those that stand there
+pub known_is : (ss : List ColumnStatistics) (k : ℕ) → slice_get (map known ss) k ≡ option_map known (slice_get ss k)
+known_is ss k = slice_get-map known ss k

@@ -1,0 +1,10 @@
+pub mod Admitting
+pub mod Bounds
+pub mod Cells
+pub mod Loops
+pub mod Plain
+pub mod PrefixLaws
+pub mod PrefixSteps
+pub mod Soundness
+pub mod Steps
+pub mod Tests
