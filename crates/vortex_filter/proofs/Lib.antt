@@ -1,10 +1,14 @@
 pub mod Admitting
 pub mod Bounds
 pub mod Cells
+pub mod Exactness
 pub mod Loops
+pub mod Occurrence
 pub mod Plain
+pub mod PrefixExact
 pub mod PrefixLaws
 pub mod PrefixSteps
+pub mod Searches
 pub mod Soundness
 pub mod Steps
 pub mod Tests

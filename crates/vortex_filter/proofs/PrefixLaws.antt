@@ -254,7 +254,7 @@ lower_says (Some b) x p f h a e = said_by_lower b.value x p f h a e
 
 -- ---- where nothing begins
 
-null_begins : (d p : Content) → is_null_content d ≡ true → begins d p ≡ None
+pub null_begins : (d p : Content) → is_null_content d ≡ true → begins d p ≡ None
 null_begins null p e = refl
 null_begins _ p e = absurd (false≢true e)
 
@@ -263,7 +263,7 @@ no_prefix_begins (text bs) (text ps) e = absurd (false≢true (sym e))
 no_prefix_begins (string bs) (string ps) e = absurd (false≢true (sym e))
 no_prefix_begins _ _ e = refl
 
-neither_begins : (x p : Cell) → begins x.content p.content ≡ None → prefix_truth x p ≡ begins_truth None
+pub neither_begins : (x p : Cell) → begins x.content p.content ≡ None → prefix_truth x p ≡ begins_truth None
 neither_begins x p e = ap begins_truth (by_types (same_type x.typed p.typed))
   where
     by_types : (b : Bool) → cond b (begins x.content p.content) None ≡ None

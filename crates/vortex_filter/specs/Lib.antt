@@ -7,5 +7,6 @@ pub mod OutcomeSets
 pub mod Outcomes
 pub mod Prefixes
 pub mod Pruning
+pub mod Searching
 pub mod Truths
 pub mod Words

@@ -6,6 +6,7 @@ pub use Rattle.vortex_dtype.specs.TypeOf.{type_of}
 pub use Rattle.vortex_value.specs.Equality.{same_type}
 pub use Rattle.vortex_statistics.specs.Cells.{cell_of, cell_order, is_null_cell, order_from_above}
 pub use Rattle.vortex_statistics.specs.Statistics.{known, known_bound}
+pub use Rattle.vortex_filter.specs.Exactness.{ComparisonsAreExact, ComparisonsOccur, PrefixesAreExact}
 pub use Rattle.vortex_filter.specs.Formula.{Formula, cell_at, compare_truth, formula, is_match, lent_cell, member_truth, null_truth, range_truth, truth}
 pub use Rattle.vortex_filter.specs.Operators.{holds}
 pub use Rattle.vortex_filter.specs.Orders.{bound_order, is_plain, is_plain_bound, may_fail, may_hold, orders, orders_between, rules_out, settles}
@@ -13,5 +14,6 @@ pub use Rattle.vortex_filter.specs.OutcomeSets.{allows, any, is_only_true, only,
 pub use Rattle.vortex_filter.specs.Outcomes.{bound_prefix_order, compare_outcomes, is_prefix, member_outcomes, never_begins, null_outcomes, outcomes, prefix_outcomes, prefix_outcomes_by, range_outcomes, unknown_outcomes, value_outcomes}
 pub use Rattle.vortex_filter.specs.Prefixes.{cell_prefix_order, prefix_truth}
 pub use Rattle.vortex_filter.specs.Pruning.{Covers, MatchesEachRow, MatchesNoRow}
+pub use Rattle.vortex_filter.specs.Searching.{SearchesFindAll, ZonesAreSearched}
 pub use Rattle.vortex_filter.specs.Truths.{truth_and, truth_not, truth_of, truth_or}
 pub use Rattle.vortex_filter.specs.declared.truth.Truth.TheVariants.{True}

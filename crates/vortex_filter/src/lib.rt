@@ -8,6 +8,7 @@ mod column;
 mod error;
 mod evaluation;
 mod filter;
+pub mod laws;
 mod operator;
 mod orders;
 mod outcomes;

@@ -1,0 +1,46 @@
+//! The laws of filters: what holds of all of them, whatever calls gave them.
+//!
+//! These functions do nothing when they run. The contract of each is a law over the definitions in
+//! `specs/`, and its proof is the law's proof.
+
+ghost use Rattle.vortex_filter.specs.Words.{ComparisonsAreExact, ComparisonsOccur, PrefixesAreExact, SearchesFindAll, ZonesAreSearched};
+
+use vortex_value::laws::{order_is_reversed, order_is_transitive};
+
+/// Between two bounds without parts, a comparison has just the outcomes that it has on the cells
+/// which the statistics allow: none is claimed that cannot happen.
+pub fn comparisons_are_exact()
+    ensures { ComparisonsAreExact }
+{
+    order_is_reversed();
+    order_is_transitive();
+}
+
+/// If the nulls are counted and both bounds are values of the zone, without parts, then each outcome
+/// that a comparison is said to have, it has on some cell of the zone. Only one that needs a value
+/// equal to the literal may be claimed though there is none.
+pub fn comparisons_occur()
+    ensures { ComparisonsOccur }
+{
+    order_is_reversed();
+    order_is_transitive();
+}
+
+/// Between two bounds without parts, a test for a prefix has just the outcomes that it has on the
+/// cells which the statistics allow.
+pub fn prefixes_are_exact()
+    ensures { PrefixesAreExact }
+{
+    order_is_reversed();
+    order_is_transitive();
+}
+
+/// A search that skips the zones where no row may match, and takes those whole where each row must,
+/// finds what a search of each row finds: in each zone, and in all zones one after the other.
+pub fn searches_find_all()
+    ensures zone { ZonesAreSearched }
+    ensures zones { SearchesFindAll }
+{
+    order_is_reversed();
+    order_is_transitive();
+}
