@@ -3,9 +3,9 @@ use Rattle.std.proofs.Common.{◌≡◌, ℕ, List, map, slice_get, Option, opti
 use Rattle.std.proofs.lemmas.Option.{slice_get-map}
 use Rattle.vortex_value.specs.Values.Content.{content}
 use Rattle.vortex_value.specs.Values.RawTree.{RawTree, absent, is_absent}
-use Rattle.vortex_value.specs.Values.Scalars.{scalar_raw}
+use Rattle.vortex_value.specs.Values.Scalars.{IsMadeOf, scalar_raw, scalar_type}
 use Rattle.vortex_value.specs.declared.scalars.Scalar.{Scalar}
-use Rattle.vortex_statistics.specs.Cells.{cell_of, cell_or_null, is_null_cell, is_null_content}
+use Rattle.vortex_statistics.specs.Cells.{Cell, cell_of, cell_or_null, is_null_cell, is_null_content}
 use Rattle.vortex_statistics.specs.Statistics.{known}
 use Rattle.vortex_statistics.specs.declared.column_statistics.ColumnStatistics.{ColumnStatistics}
 use Rattle.vortex_filter.specs.Formula.{cell_at}
@@ -24,3 +24,9 @@ null_is x = raw_null (scalar_raw x)
 -- the statistics of a column, by those that stand there
 pub known_is : (ss : List ColumnStatistics) (k : ℕ) → slice_get (map known ss) k ≡ option_map known (slice_get ss k)
 known_is ss k = slice_get-map known ss k
+
+-- what is made of the same type and raw value is the same cell
+pub made_cell : (x y : Scalar) → IsMadeOf (scalar_type x) (scalar_raw x) y → cell_of y ≡ cell_of x
+made_cell x y m =
+    ap (λ t. let c : Cell = record { typed = t; content = content (scalar_raw y) } in c) m.typed
+    ∙ ap (λ v. let c : Cell = record { typed = scalar_type x; content = content v } in c) m.value

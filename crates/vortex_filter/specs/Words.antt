@@ -3,11 +3,8 @@ pub use Rattle.std.specs.Cmp.Lexicographic.{slice_cmp}
 pub use Rattle.std.specs.Option.{option_copied}
 pub use Rattle.std.specs.Ordering.{nat_cmp}
 pub use Rattle.vortex_dtype.specs.TypeOf.{type_of}
-pub use Rattle.vortex_value.specs.Equality.{same_type}
-pub use Rattle.vortex_statistics.specs.Cells.{cell_of, cell_order, is_null_cell, order_from_above}
-pub use Rattle.vortex_statistics.specs.Statistics.{known, known_bound}
 pub use Rattle.vortex_filter.specs.Exactness.{ComparisonsAreExact, ComparisonsOccur, PrefixesAreExact}
-pub use Rattle.vortex_filter.specs.Formula.{Formula, cell_at, compare_truth, formula, is_match, lent_cell, member_truth, null_truth, range_truth, truth}
+pub use Rattle.vortex_filter.specs.Formula.{Formula, both, cell_at, compare_truth, either, formula, is_match, lent_cell, member_truth, negation, null_truth, range, range_truth, truth}
 pub use Rattle.vortex_filter.specs.Operators.{holds}
 pub use Rattle.vortex_filter.specs.Orders.{bound_order, is_plain, is_plain_bound, may_fail, may_hold, orders, orders_between, rules_out, settles}
 pub use Rattle.vortex_filter.specs.OutcomeSets.{allows, any, is_only_true, only, outcomes_and, outcomes_not, outcomes_or}
@@ -16,4 +13,8 @@ pub use Rattle.vortex_filter.specs.Prefixes.{cell_prefix_order, prefix_truth}
 pub use Rattle.vortex_filter.specs.Pruning.{Covers, MatchesEachRow, MatchesNoRow}
 pub use Rattle.vortex_filter.specs.Searching.{SearchesFindAll, ZonesAreSearched}
 pub use Rattle.vortex_filter.specs.Truths.{truth_and, truth_not, truth_of, truth_or}
+pub use Rattle.vortex_filter.specs.declared.error.FilterError.TheVariants.{OutOfMemory}
 pub use Rattle.vortex_filter.specs.declared.truth.Truth.TheVariants.{True}
+pub use Rattle.vortex_statistics.specs.Cells.{cell_of, cell_order, is_null_cell, order_from_above}
+pub use Rattle.vortex_statistics.specs.Statistics.{known, known_bound}
+pub use Rattle.vortex_value.specs.Equality.{same_type}

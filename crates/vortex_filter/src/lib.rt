@@ -4,7 +4,9 @@
 //! a zone of which statistics are known.
 #![tactic(auto)]
 
+mod building;
 mod column;
+mod copying;
 mod error;
 mod evaluation;
 mod filter;
