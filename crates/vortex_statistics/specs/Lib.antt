@@ -1,6 +1,9 @@
 pub mod Cells
 pub mod Changes
 pub mod Examples
+pub mod Form
+pub mod FormAnswers
+pub mod FormSteps
 pub mod Kinds
 pub mod Loosening
 pub mod Merging

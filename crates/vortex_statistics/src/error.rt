@@ -1,5 +1,9 @@
 //! Why statistics were refused.
 
+ghost use Rattle.std.specs.Prelude.{◌≡◌};
+ghost use Rattle.vortex_statistics.specs.declared.error.StatisticsError.TheVariants.{OutOfMemory};
+
+use std::alloc::AllocError;
 use thiserror::Error;
 
 /// Why there are no statistics. What `Display` writes is for people and is not promised.
@@ -11,4 +15,20 @@ pub enum StatisticsError {
     /// There are more rows than 64 bits can count.
     #[error("too many rows")]
     TooManyRows,
+    /// A variant stands in the type, so its values have no keys.
+    #[error("a variant stands in the type")]
+    HasVariant,
+    /// The bytes are no form of statistics of the type: the place of the first byte that none has
+    /// there, or of the end if they end too early.
+    #[error("no form of statistics of the type: byte {place}")]
+    BadBytes { place: usize },
+}
+
+/// Out of memory, whatever was asked for.
+impl From<AllocError> for StatisticsError {
+    ghost from_gives = { λ _ e. e ≡ OutOfMemory };
+
+    fn from(_error: AllocError) -> StatisticsError {
+        StatisticsError::OutOfMemory
+    }
 }
