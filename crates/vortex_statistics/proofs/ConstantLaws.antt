@@ -1,5 +1,5 @@
 -- The statistics of a cell that repeats, and what the code makes of a cell.
-use Rattle.std.proofs.Common.{◌≡◌, ℕ, ◌<◌, ◌*◌, Bool, true, false, cond, if◌then◌else◌, List, [], ◌∷◌, length, count_by, replicate, map, take, ◌+◌, ◌++◌, get_or, Option, Some, None, IfSome, is_some, Equal, refl, sym, ap, subst, ◌∙◌, arith, inl, inr, ◌⊎◌, ◌≤◌, ◌^◌, Ordering, Less, length-take}
+use Rattle.std.proofs.Common.{◌≡◌, ℕ, ◌<◌, ◌*◌, Bool, true, false, not, ◌&&◌, cond, if◌then◌else◌, List, [], ◌∷◌, length, count_by, replicate, map, take, ◌+◌, ◌++◌, get_or, Option, Some, None, IfSome, is_some, Equal, refl, sym, ap, subst, ◌∙◌, arith, inl, inr, ◌⊎◌, ◌≤◌, ◌^◌, Ordering, Less, length-take}
 use Rattle.std.proofs.lemmas.Bool.{false≢true}
 use Rattle.std.proofs.lemmas.List.{get_or-replicate, length-map, length-replicate, map-append, take_more}
 use Rattle.std.proofs.lemmas.List.Folds.{sum_by-replicate}
@@ -7,13 +7,13 @@ use Rattle.vortex_dtype.specs.TypeTree.{TypeTree}
 use Rattle.vortex_value.specs.Order.{IsReversed, IsTransitive, order}
 use Rattle.vortex_value.specs.Values.Content.{content}
 use Rattle.vortex_value.specs.Values.RawTree.{RawTree, is_absent}
-use Rattle.vortex_value.specs.Values.Refs.{IsRefOf, ref_raw}
+use Rattle.vortex_value.specs.Values.Refs.{IsRefOf, ref_raw, ref_type}
 use Rattle.vortex_value.specs.Values.Scalars.{scalar_raw, scalar_type}
 use Rattle.vortex_value.specs.declared.refs.ScalarRef.{ScalarRef}
 use Rattle.vortex_value.specs.declared.scalars.Scalar.{Scalar}
 use Rattle.vortex_statistics.specs.Cells.{Cell, HasValue, cell_of, cell_of_ref, cell_order, is_null_cell, is_null_content, order_from_above}
 use Rattle.vortex_statistics.specs.Changes.{new_bound, replacing}
-use Rattle.vortex_statistics.specs.Observing.{RefusesCell, bound_at}
+use Rattle.vortex_statistics.specs.Observing.{IsFlatValue, MayTakeMemory, RefusesCell, SomeMayTakeMemory, becomes_bound, bound_at}
 use Rattle.vortex_statistics.specs.declared.error.StatisticsError.{StatisticsError}
 use Rattle.vortex_statistics.specs.declared.error.StatisticsError.TheVariants.{OutOfMemory}
 use Rattle.vortex_statistics.specs.declared.observing.Change.{Change}
@@ -119,9 +119,25 @@ ref_cell x r made =
     let held_as : RawTree → Cell = λ v. record { typed = scalar_type x; content = content v } in
     ap typed_as made.typed ∙ ap held_as made.value
 
+-- ---- why a value is refused
+
+becomes_value : (s : Known) (x : Cell) → becomes_bound s x ≡ true → is_null_cell x ≡ false
+becomes_value s x e = by_test (is_null_cell x) _ e
+  where
+    by_test : (b c : Bool) → (not b && c) ≡ true → b ≡ false
+    by_test true c h = absurd (false≢true h)
+    by_test false c h = refl
+
+-- the scalar that was borrowed may take memory
+pub lent_may_take : (x : Scalar) (r : ScalarRef) → IsRefOf (scalar_type x) (scalar_raw x) r → is_null_cell (cell_of_ref r) ≡ false → ¬ (IsFlatValue (ref_type r) (ref_raw r)) → MayTakeMemory x
+lent_may_take x r made valued not =
+    (ap is_null_cell (sym (ref_cell x r made)) ∙ valued, λ flat. not (subst (λ t. IsFlatValue t (ref_raw r)) (sym made.typed) (subst (IsFlatValue (scalar_type x)) (sym made.value) flat)))
+
 -- the values of a slice are never too many
-pub never_too_many : (s : Known) (x : Cell) (e : StatisticsError) (xs : List Scalar) (i : ℕ) → AreRight s (map cell_of (take i xs)) → i + 1 < 2 ^ 64 → RefusesCell s x e → e ≡ OutOfMemory
-never_too_many s x e xs i h fits (inl r) =
+pub one_may_take : (s : Known) (r : ScalarRef) (e : StatisticsError) (xs : List Scalar) (i : ℕ) (x : Scalar) → i < length xs → x ≡ get_or xs i x → IsRefOf (scalar_type x) (scalar_raw x) r → AreRight s (map cell_of (take i xs)) → i + 1 < 2 ^ 64
+    → RefusesCell s r e → (e ≡ OutOfMemory) × SomeMayTakeMemory xs
+one_may_take s r e xs i x here is made h fits (inl many) =
     let rows : s.row_count ≤ i = omega (arith, h.rows, length-map (take i xs) cell_of, length-take i xs) in
-    absurd (omega (arith, rows, r.1, fits))
-never_too_many s x e xs i h fits (inr r) = r.0
+    absurd (omega (arith, rows, many.1, fits))
+one_may_take s r e xs i x here is made h fits (inr why) =
+    (why.0, (x, (i, here, sym is), lent_may_take x r made (becomes_value s (cell_of_ref r) why.2) why.3))

@@ -2,7 +2,7 @@
 use Rattle.std.proofs.Common.{◌≡◌, ◌⊎◌, inl, inr, ℕ, zero, suc, ◌+◌, ◌<◌, ◌^◌, Bool, true, false, if◌then◌else◌, cond, List, [], ◌∷◌, ◌++◌, length, map, count_by, get_or, Contains, Option, Some, None, IfSome, IsSome, is_some, Ordering, Less, Equal, refl, sym, ap, ap₂, subst, ◌∙◌, arith}
 use Rattle.std.proofs.lemmas.Bool.{false≢true}
 use Rattle.std.proofs.Math.ListN.{get_or-map}
-use Rattle.std.proofs.lemmas.List.{append-nil, length-map}
+use Rattle.std.proofs.lemmas.List.{append_assoc, length-map}
 use Rattle.std.proofs.lemmas.List.Sums.{sum_by-cons}
 use Rattle.vortex_dtype.specs.TypeEquality.{tree_eq}
 use Rattle.vortex_dtype.specs.TypeTree.{Same, TypeTree, erase}
@@ -21,7 +21,7 @@ use Rattle.vortex_statistics.specs.FormSteps.{flags_of, state_at, state_of}
 use Rattle.vortex_statistics.specs.Statistics.{AreComplete, AreRight, IsBound, IsBoundedFor, Known, KnownBound}
 use Rattle.vortex_statistics.specs.declared.flags.BoundState.{BoundState}
 use Rattle.vortex_statistics.specs.declared.flags.BoundState.TheVariants.{Missing, Inexact, Exact}
-use Rattle.vortex_statistics.proofs.HeadLaws.{IsHead, form-head, heads-apart}
+use Rattle.vortex_statistics.proofs.HeadLaws.{IsHead, form-head, head_bytes, heads-apart}
 
 -- ---- what shares a form
 
@@ -45,14 +45,21 @@ module _ (apart : KeysAreApart) where
       ((states-apart a.is_exact b.is_exact s, w.0), w.1)
 
   pub forms-apart : FormsAreApart
-  forms-apart s t g h lower upper e =
+  forms-apart s t xs ys g h lower upper e =
+      let l = bound_bytes s.lower in
+      let u = bound_bytes s.upper in
+      let m = bound_bytes t.lower in
+      let v = bound_bytes t.upper in
+      let front = head_bytes (flags_of s) s.row_count s.null_count in
+      let other = head_bytes (flags_of t) t.row_count t.null_count in
       let first : IsHead (flags_of s) s.row_count s.null_count = record { rows_fit = g.rows; nulls_fit = g.nulls; known = refl } in
       let second : IsHead (flags_of t) t.row_count t.null_count = record { rows_fit = h.rows; nulls_fit = h.nulls; known = refl } in
-      let w = heads-apart (flags_of s) (flags_of t) s.row_count t.row_count s.null_count t.null_count (bound_bytes s.lower ++ bound_bytes s.upper) (bound_bytes t.lower ++ bound_bytes t.upper)
-          first second (sym (form-head s) ∙ e ∙ form-head t) in
-      let l = bounds-apart s.lower t.lower (bound_bytes s.upper) (bound_bytes t.upper) (ap (λ f. f.lower) w.0) lower g.lower h.lower w.3 in
-      let u = bounds-apart s.upper t.upper [] [] (ap (λ f. f.upper) w.0) upper g.upper h.upper (append-nil (bound_bytes s.upper) ∙ l.1 ∙ sym (append-nil (bound_bytes t.upper))) in
-      record { rows = w.1; nulls = w.2; lower = l.0; upper = u.0 }
+      let split : front ++ ((l ++ u) ++ xs) ≡ other ++ ((m ++ v) ++ ys) =
+      sym (ap (λ zs. zs ++ xs) (form-head s) ∙ append_assoc front (l ++ u) xs) ∙ e ∙ ap (λ zs. zs ++ ys) (form-head t) ∙ append_assoc other (m ++ v) ys in
+      let w = heads-apart (flags_of s) (flags_of t) s.row_count t.row_count s.null_count t.null_count ((l ++ u) ++ xs) ((m ++ v) ++ ys) first second split in
+      let below = bounds-apart s.lower t.lower (u ++ xs) (v ++ ys) (ap (λ f. f.lower) w.0) lower g.lower h.lower (sym (append_assoc l u xs) ∙ w.3 ∙ append_assoc m v ys) in
+      let above = bounds-apart s.upper t.upper xs ys (ap (λ f. f.upper) w.0) upper g.upper h.upper below.1 in
+      (record { rows = w.1; nulls = w.2; lower = below.0; upper = above.0 }, above.1)
 
 -- ---- bounds of a type
 
@@ -89,7 +96,7 @@ same_known t r s g h e =
 
 module _ (apart : KeysAreApart) (untyped : ValuesHaveNoTyped) (t : TypeTree) where
   said : (r s : Known) → AreOf t r → IsHeldKnown s → form r ≡ form s → SaySame r s
-  said r s g h e = forms-apart apart r s (held_of t r g) h (untyped_bound untyped t r.lower g.lower) (untyped_bound untyped t r.upper g.upper) e
+  said r s g h e = (forms-apart apart r s [] [] (held_of t r g) h (untyped_bound untyped t r.lower g.lower) (untyped_bound untyped t r.upper g.upper) (ap (λ zs. zs ++ []) e)).0
 
   -- what is read is what was written
   pub read_back : (r s : Known) → AreOf t r → AreOf t s → form r ≡ form s → r ≡ s

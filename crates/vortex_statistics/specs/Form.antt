@@ -102,6 +102,7 @@ pub record SaySame (s t : Known) : Type 0 where
 abbrev pub IsUntypedBound : Option KnownBound → Type 0
 IsUntypedBound b = IfSome b (λ b. HasNoTyped b.value.content)
 
--- statistics with one form say the same, if no typed child stands in the bounds of one
+-- What begins with the forms of two statistics has statistics that say the same, and one rest, if no typed child stands in
+-- the bounds of one.
 abbrev pub FormsAreApart : Type 0
-FormsAreApart = (s t : Known) → IsHeldKnown s → IsHeldKnown t → IsUntypedBound s.lower → IsUntypedBound s.upper → form s ≡ form t → SaySame s t
+FormsAreApart = (s t : Known) (xs ys : List ℕ) → IsHeldKnown s → IsHeldKnown t → IsUntypedBound s.lower → IsUntypedBound s.upper → form s ++ xs ≡ form t ++ ys → SaySame s t × (xs ≡ ys)

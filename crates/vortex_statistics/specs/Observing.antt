@@ -1,9 +1,16 @@
 -- The statistics of cells and one cell more.
-use Rattle.std.specs.Prelude.{◌≡◌, ◌⊎◌, ◌+◌, ◌<◌, ◌≤◌, ◌^◌, Bool, true, false, not, ◌&&◌, ◌||◌, List, [], ◌∷◌, ◌++◌, Option, Some, None, is_some, if◌then◌else◌}
+use Rattle.std.specs.Prelude.{◌≡◌, ◌⊎◌, ◌+◌, ◌<◌, ◌≤◌, ◌^◌, Bool, true, false, not, ◌&&◌, ◌||◌, List, [], ◌∷◌, ◌++◌, Contains, Option, Some, None, is_some, if◌then◌else◌}
 use Rattle.std.specs.Ordering.{is_gt, is_some_and}
 use Rattle.std.specs.declared.cmp.Ordering.{Ordering}
 use Rattle.std.specs.declared.cmp.Ordering.TheVariants.{Less, Equal, Greater}
-use Rattle.vortex_statistics.specs.Cells.{Cell, cell_order, is_null_cell, order_from_above}
+use Rattle.vortex_dtype.specs.TypeTree.{IsFlat, TypeTree}
+use Rattle.vortex_value.specs.Validity.{Valid}
+use Rattle.vortex_value.specs.Values.RawTree.{RawTree}
+use Rattle.vortex_value.specs.Values.Refs.{ref_raw, ref_type}
+use Rattle.vortex_value.specs.Values.Scalars.{scalar_raw, scalar_type}
+use Rattle.vortex_value.specs.declared.refs.ScalarRef.{ScalarRef}
+use Rattle.vortex_value.specs.declared.scalars.Scalar.{Scalar}
+use Rattle.vortex_statistics.specs.Cells.{Cell, cell_of, cell_of_ref, cell_order, is_null_cell, order_from_above}
 use Rattle.vortex_statistics.specs.Merging.{sum_of}
 use Rattle.vortex_statistics.specs.Statistics.{AreComplete, AreRight, Known, KnownBound, may_be_value}
 use Rattle.vortex_statistics.specs.declared.error.StatisticsError.{StatisticsError}
@@ -65,10 +72,23 @@ abbrev pub becomes_bound : Known → Cell → Bool
 becomes_bound s x = not (is_null_cell x)
     && (if may_be_value s then (is_new_bound cell_order s.lower x || is_new_bound order_from_above s.upper x) else is_some (cell_order x x))
 
--- why the cell is not counted: its row is one too many, or there is no memory for the bound that it becomes
-abbrev pub RefusesCell : Known → Cell → StatisticsError → Type 0
+-- a valid value of a type whose values take no memory, as integers
+abbrev pub IsFlatValue : TypeTree → RawTree → Type 0
+IsFlatValue t v = IsFlat t × Valid t v
+
+-- why the value is not counted: its row is one too many, or there is no memory for the bound that it becomes, which takes
+-- some
+abbrev pub RefusesCell : Known → ScalarRef → StatisticsError → Type 0
 RefusesCell s x e = ((e ≡ TooManyRows) × (2 ^ 64 ≤ s.row_count + 1))
-    ⊎ ((e ≡ OutOfMemory) × (s.row_count + 1 < 2 ^ 64) × (becomes_bound s x ≡ true))
+    ⊎ ((e ≡ OutOfMemory) × (s.row_count + 1 < 2 ^ 64) × (becomes_bound s (cell_of_ref x) ≡ true) × (¬ (IsFlatValue (ref_type x) (ref_raw x))))
+
+-- the scalar is no null, and a copy of it may take memory
+abbrev pub MayTakeMemory : Scalar → Type 0
+MayTakeMemory x = (is_null_cell (cell_of x) ≡ false) × (¬ (IsFlatValue (scalar_type x) (scalar_raw x)))
+
+-- one of the scalars may
+abbrev pub SomeMayTakeMemory : List Scalar → Type 0
+SomeMayTakeMemory xs = (x : Scalar) × Contains xs x × MayTakeMemory x
 
 -- t is right for the cells and x, whenever s is right for the cells
 abbrev pub IsRightWith : Known → Cell → Known → Type 0

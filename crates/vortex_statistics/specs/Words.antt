@@ -5,6 +5,7 @@ pub use Rattle.vortex_array.specs.Truncation.{IsTypeOfKind, MayHold}
 pub use Rattle.vortex_dtype.specs.TypeOf.{type_of}
 pub use Rattle.vortex_value.specs.TypesWithin.{HasNoVariant, UnionsHaveVariants}
 pub use Rattle.vortex_value.specs.Values.RawTree.{is_absent}
+pub use Rattle.vortex_value.specs.Values.Refs.{ref_raw, ref_type}
 pub use Rattle.vortex_value.specs.Values.Scalars.{scalar_content, scalar_raw, scalar_type}
 pub use Rattle.vortex_row.specs.Held.{IsHeld}
 pub use Rattle.vortex_row.specs.Keys.{key}
@@ -17,7 +18,7 @@ pub use Rattle.vortex_statistics.specs.FormSteps.{AreBoundKeys, AreBoundsRead, H
 pub use Rattle.vortex_statistics.specs.Kinds.{kind_of}
 pub use Rattle.vortex_statistics.specs.Loosening.{LooserBoundsAreRight}
 pub use Rattle.vortex_statistics.specs.Merging.{AnyGroupingIsRight, AreCompleteTogether, AreRightForAll, AreRightTogether, bound_of_both, bound_order, joined, merged, nothing, outer_by, rows_of, sum_of}
-pub use Rattle.vortex_statistics.specs.Observing.{IsCompleteWith, IsRightWith, RefusesCell, observed}
+pub use Rattle.vortex_statistics.specs.Observing.{IsCompleteWith, IsFlatValue, IsRightWith, MayTakeMemory, RefusesCell, SomeMayTakeMemory, observed}
 pub use Rattle.vortex_statistics.specs.Statistics.{AreComplete, AreRight, LeaveNoNull, LeaveNoValue, empty_statistics, known, known_bound, may_be_null, may_be_value}
 pub use Rattle.vortex_statistics.specs.Truncating.{AreTruncated, HasShortBounds, IsCutLower, IsCutUpper, IsLong, IsLongRaw, IsOutOfMemoryAt, IsTruncatedLower, IsTruncatedUpper}
 pub use Rattle.vortex_statistics.specs.declared.error.StatisticsError.TheVariants.{BadBytes, HasVariant, OutOfMemory, TooManyRows}

@@ -1,7 +1,7 @@
 //! The statistics of values that are at hand.
 
-ghost use Rattle.std.specs.Prelude.{◌≡◌, ◌<◌, false, IfErr, IfOk, map, replicate};
-ghost use Rattle.vortex_statistics.specs.Words.{AreComplete, OutOfMemory, cell_of, is_null_cell, known};
+ghost use Rattle.std.specs.Prelude.{◌≡◌, ◌<◌, IfErr, IfOk, map, replicate};
+ghost use Rattle.vortex_statistics.specs.Words.{AreComplete, MayTakeMemory, OutOfMemory, SomeMayTakeMemory, cell_of, known};
 
 use crate::column_statistics::ColumnStatistics;
 use crate::error::StatisticsError;
@@ -14,10 +14,12 @@ impl ColumnStatistics {
     /// The statistics of these values: the nulls are counted, and the bounds are exact. There are
     /// bounds if there is a value and all values compare with one another.
     ///
-    /// `OutOfMemory` is its only refusal.
+    /// `OutOfMemory` is its only refusal, and only if a value is not null, and is not a valid one of
+    /// a type whose values take no memory, as an integer.
     pub fn of(alloc: Global, values: &[Scalar]) -> Result<ColumnStatistics, StatisticsError>
         ensures complete { IfOk result (λ s. AreComplete (known s) (map cell_of values.now)) }
-        ensures refused { IfErr result (λ e. e ≡ OutOfMemory) }
+        ensures refused { IfErr result
+            (λ e. (e ≡ OutOfMemory) × SomeMayTakeMemory values.now) }
     {
         let mut statistics = ColumnStatistics::empty();
         for value in values {
@@ -29,7 +31,8 @@ impl ColumnStatistics {
     /// The statistics of a column that has the same value, or a null, in each of `rows` rows: both
     /// bounds are the value, or all rows are null.
     ///
-    /// `OutOfMemory` is its only refusal, and only if there are rows and the value is not null.
+    /// `OutOfMemory` is its only refusal, and only if there are rows and the value is not null. It
+    /// never comes for a valid value of a type whose values take no memory, as an integer.
     pub fn of_constant(
         alloc: Global,
         value: &Scalar,
@@ -37,8 +40,8 @@ impl ColumnStatistics {
     ) -> Result<ColumnStatistics, StatisticsError>
         ensures complete { IfOk result
             (λ s. AreComplete (known s) (replicate rows (cell_of value.now))) }
-        ensures refused { IfErr result (λ e. (e ≡ OutOfMemory)
-            × (0 < rows) × (is_null_cell (cell_of value.now) ≡ false)) }
+        ensures refused { IfErr result
+            (λ e. (e ≡ OutOfMemory) × (0 < rows) × MayTakeMemory value.now) }
     {
         order_is_reversed();
         order_is_transitive();

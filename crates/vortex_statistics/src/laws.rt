@@ -3,8 +3,9 @@
 //! These functions do nothing when they run. The contract of each is a law over the definitions in
 //! `specs/`, and its proof is the law's proof.
 
-ghost use Rattle.vortex_statistics.specs.Words.{AnyGroupingIsRight, LooserBoundsAreRight};
+ghost use Rattle.vortex_statistics.specs.Words.{AnyGroupingIsRight, FormsAreApart, LooserBoundsAreRight};
 
+use vortex_row::laws::keys_are_apart;
 use vortex_value::laws::{order_is_reversed, order_is_transitive};
 
 /// If the statistics of each piece are right, what is merged of them is right for all pieces, one
@@ -22,4 +23,13 @@ pub fn looser_bounds_are_right()
 {
     order_is_reversed();
     order_is_transitive();
+}
+
+/// What begins with the forms of two statistics, one of whose bounds have no variant's child, has
+/// statistics that say the same, whatever the types of their bounds, and one rest. So statistics have
+/// one form, and no form begins another.
+pub fn forms_are_apart()
+    ensures { FormsAreApart }
+{
+    keys_are_apart();
 }

@@ -1,7 +1,7 @@
 //! The statistics of cells and one cell more.
 
 ghost use Rattle.std.specs.Prelude.{◌≡◌, ◌⊎◌, ◌+◌, ◌<◌, ◌^◌, true, IfErr, IfOk, OnErr, OnOk, option_map};
-ghost use Rattle.vortex_statistics.specs.Words.{IsCompleteWith, IsRightWith, OutOfMemory, RefusesCell, after, cell_of_ref, change_by, change_of, known, known_bound, lower_change, new_bound, observed, order_from_above, replaces, replacing, upper_change};
+ghost use Rattle.vortex_statistics.specs.Words.{IsCompleteWith, IsFlatValue, IsRightWith, OutOfMemory, RefusesCell, after, cell_of_ref, change_by, change_of, known, known_bound, lower_change, new_bound, observed, order_from_above, ref_raw, ref_type, replaces, replacing, upper_change};
 
 use crate::column_statistics::{Bound, ColumnStatistics};
 use crate::error::StatisticsError;
@@ -16,7 +16,8 @@ impl ColumnStatistics {
     /// compared with the lower bound, and with the upper one if that does not decide.
     ///
     /// It copies only what becomes a bound. `TooManyRows` if 64 bits do not count its row; else
-    /// `OutOfMemory`, only for a value that becomes a bound. After a refusal nothing has changed.
+    /// `OutOfMemory`, only for a value that becomes a bound, and never for a valid one of a type
+    /// whose values take no memory, as an integer. After a refusal nothing has changed.
     pub fn observe(&mut self, alloc: Global, value: ScalarRef<'_>) -> Result<(), StatisticsError>
         ensures value { OnOk result
             (known self.new ≡ observed (known self.old) (cell_of_ref value.entry)) }
@@ -25,8 +26,7 @@ impl ColumnStatistics {
         ensures complete { OnOk result
             (IsCompleteWith (known self.old) (cell_of_ref value.entry) (known self.new)) }
         ensures fits { OnOk result (self.old.row_count + 1 < 2 ^ 64) }
-        ensures refused { IfErr result
-            (RefusesCell (known self.old) (cell_of_ref value.entry)) }
+        ensures refused { IfErr result (RefusesCell (known self.old) value.entry) }
         ensures unchanged { OnErr result (self.new ≡ self.old) }
     {
         order_is_reversed();
@@ -127,7 +127,8 @@ pub(crate) fn new_bounds(
     ensures upper { IfOk result (λ bounds. option_map known_bound bounds.1
         ≡ new_bound above (cell_of_ref value.entry)) }
     ensures refused { IfErr result (λ e. (e ≡ OutOfMemory)
-        × ((replaces below ≡ true) ⊎ (replaces above ≡ true))) }
+        × ((replaces below ≡ true) ⊎ (replaces above ≡ true))
+        × ¬ (IsFlatValue (ref_type value.entry) (ref_raw value.entry))) }
 {
     let lower = new_bound(alloc, below, value)?;
     match new_bound(alloc, above, value) {
@@ -147,7 +148,8 @@ fn new_bound(
 ) -> Result<Option<Bound>, StatisticsError>
     ensures made { IfOk result (λ bound. option_map known_bound bound
         ≡ new_bound change (cell_of_ref value.entry)) }
-    ensures refused { IfErr result (λ e. (e ≡ OutOfMemory) × (replaces change ≡ true)) }
+    ensures refused { IfErr result (λ e. (e ≡ OutOfMemory) × (replaces change ≡ true)
+        × ¬ (IsFlatValue (ref_type value.entry) (ref_raw value.entry))) }
 {
     if !matches!(change, Change::Replace) {
         return Ok(None);

@@ -41,7 +41,7 @@ returns-in_err-lower-clause-refused c =
       | inl r ↦ lower_becomes s x v c.changes-below.result.0 there refl c.changes-below.ensures.below r
       | inr r ↦ upper_becomes s x v c.changes-below.result.1 there refl c.changes-below.ensures.above r
     ] in
-    let why : RefusesCell s x c.in_err-lower.field-0.0 = inr (c.in_err-lower.ensures.refused.0, fits, becomes) in
+    let why : RefusesCell s c.args.value c.in_err-lower.field-0.0 = inr (c.in_err-lower.ensures.refused.0, fits, becomes, c.in_err-lower.ensures.refused.2) in
     let p = err_from_is_err_and c.from_residual.result c.from_residual.ensures.1 in rw (p.1, p.2) why
 
 pub returns-clause-value : goal.returns-clause-value

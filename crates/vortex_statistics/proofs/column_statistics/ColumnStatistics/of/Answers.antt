@@ -1,16 +1,18 @@
 use Rattle.std.proofs.Common.{◌≡◌, ◌+◌, ◌<◌, ◌^◌, List, [], ◌∷◌, ◌++◌, map, take, sym, subst, arith}
 use Rattle.std.proofs.lemmas.Result.{err_from_is_err_and}
 use Rattle.vortex_statistics.specs.Cells.{Cell, cell_of, cell_of_ref}
+use Rattle.vortex_statistics.specs.Observing.{SomeMayTakeMemory}
 use Rattle.vortex_statistics.specs.Statistics.{AreComplete, known}
 use Rattle.vortex_statistics.specs.declared.error.StatisticsError.TheVariants.{OutOfMemory}
-use Rattle.vortex_statistics.proofs.ConstantLaws.{cells_more, never_too_many, ref_cell}
+use Rattle.vortex_statistics.proofs.ConstantLaws.{cells_more, one_may_take, ref_cell}
 use Rattle.vortex_statistics.proofs.column_statistics.ColumnStatistics.of.Goals as goal
 
 pub returns-in_err-observe-clause-refused : goal.returns-in_err-observe-clause-refused
 returns-in_err-observe-clause-refused c =
     let fits : c.loop-value.value-index + 1 < 2 ^ 64 = omega arith in
-    let why : c.in_err-observe.field-0.0 ≡ OutOfMemory =
-    never_too_many (known c.loop-value.statistics) (cell_of_ref c.of.result) c.in_err-observe.field-0.0 c.args.values.now c.loop-value.value-index c.loop-value.invariant.right fits c.in_err-observe.ensures.refused in
+    let why : (c.in_err-observe.field-0.0 ≡ OutOfMemory) × SomeMayTakeMemory c.args.values.now =
+    one_may_take (known c.loop-value.statistics) c.of.result c.in_err-observe.field-0.0 c.args.values.now c.loop-value.value-index c.value-item.result (omega arith) c.value-item.is c.of.ensures.made
+    c.loop-value.invariant.right fits c.in_err-observe.ensures.refused in
     let p = err_from_is_err_and c.from_residual.result c.from_residual.ensures.1 in rw (p.1, p.2) why
 
 pub loop-value-preserved : goal.loop-value-preserved
