@@ -1,0 +1,3 @@
+pub mod CellLists
+pub mod RowSteps
+pub mod BitCounts

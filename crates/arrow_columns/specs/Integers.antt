@@ -1,0 +1,56 @@
+-- Integers as they lie in a buffer, one after another, each with its low byte first.
+use Rattle.std.specs.Prelude.{ℕ, ℤ, pos, negsuc, ◌*◌, ◌+◌, ◌-◌, ◌^◌, ◌≤ℤ◌, List, slice_range}
+use Rattle.std.specs.Int.{w8, w16, w32, w64, cast_signed, from_le_bytes}
+use Rattle.arrow_columns.specs.declared.kinds.IntegerKind.{IntegerKind}
+use Rattle.arrow_columns.specs.declared.kinds.IntegerKind.TheVariants.{U8, U16, U32, U64, I8, I16, I32, I64}
+
+-- how many bytes an integer of the kind has
+abbrev pub width_of : IntegerKind → ℕ
+width_of U8 = 1
+width_of U16 = 2
+width_of U32 = 4
+width_of U64 = 8
+width_of I8 = 1
+width_of I16 = 2
+width_of I32 = 4
+width_of I64 = 8
+
+-- the integer that so many bytes stand for; of a signed kind in two's complement
+abbrev pub integer_of : IntegerKind → List ℕ → ℤ
+integer_of U8 bytes = pos (from_le_bytes w8 bytes)
+integer_of U16 bytes = pos (from_le_bytes w16 bytes)
+integer_of U32 bytes = pos (from_le_bytes w32 bytes)
+integer_of U64 bytes = pos (from_le_bytes w64 bytes)
+integer_of I8 bytes = cast_signed w8 (from_le_bytes w8 bytes)
+integer_of I16 bytes = cast_signed w16 (from_le_bytes w16 bytes)
+integer_of I32 bytes = cast_signed w32 (from_le_bytes w32 bytes)
+integer_of I64 bytes = cast_signed w64 (from_le_bytes w64 bytes)
+
+-- item i of a buffer whose items have n bytes
+abbrev pub item_at : ℕ → List ℕ → ℕ → List ℕ
+item_at n buffer i = slice_range buffer (i * n) (i * n + n)
+
+-- the least and the greatest integer of a kind
+abbrev pub least_of : IntegerKind → ℤ
+least_of U8 = pos 0
+least_of U16 = pos 0
+least_of U32 = pos 0
+least_of U64 = pos 0
+least_of I8 = negsuc (2 ^ 7 - 1)
+least_of I16 = negsuc (2 ^ 15 - 1)
+least_of I32 = negsuc (2 ^ 31 - 1)
+least_of I64 = negsuc (2 ^ 63 - 1)
+
+abbrev pub greatest_of : IntegerKind → ℤ
+greatest_of U8 = pos (2 ^ 8 - 1)
+greatest_of U16 = pos (2 ^ 16 - 1)
+greatest_of U32 = pos (2 ^ 32 - 1)
+greatest_of U64 = pos (2 ^ 64 - 1)
+greatest_of I8 = pos (2 ^ 7 - 1)
+greatest_of I16 = pos (2 ^ 15 - 1)
+greatest_of I32 = pos (2 ^ 31 - 1)
+greatest_of I64 = pos (2 ^ 63 - 1)
+
+-- the kind has this integer
+abbrev pub IsOfKind : IntegerKind → ℤ → Type 0
+IsOfKind kind z = (least_of kind ≤ℤ z) × (z ≤ℤ greatest_of kind)

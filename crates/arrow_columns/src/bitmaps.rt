@@ -1,0 +1,38 @@
+//! Bitmaps.
+
+ghost use Rattle.std.specs.Prelude.{◌≡◌, ℕ, ◌<◌, ◌≤◌, ◌*◌, false, true, length};
+ghost use Rattle.arrow_columns.specs.Bitmaps.{HasBits, bit_of, is_valid};
+
+/// Whether bit i is set.
+pub fn is_set(bitmap: &[u8], i: usize) -> bool
+    requires { i < 8 * length bitmap.now }
+    ensures { result ≡ bit_of bitmap.now i }
+{
+    bitmap[i / 8] >> (i % 8) & 1 == 1
+}
+
+/// Whether row i, which is below the end, is no null.
+pub fn is_row_valid(validity: &[u8], i: usize, end: usize) -> bool
+    requires bits { HasBits validity.now end }
+    requires below { i < end }
+    ensures { result ≡ is_valid validity.now i }
+{
+    validity.is_empty() || is_set(validity, i)
+}
+
+/// The first row that is no null, or the end.
+pub fn first_valid(validity: &[u8], from: usize, end: usize) -> usize
+    requires range { from ≤ end }
+    requires bits { HasBits validity.now end }
+    ensures from { from ≤ result }
+    ensures end { result ≤ end }
+    ensures nulls { (k : ℕ) → k < result → from ≤ k → is_valid validity.now k ≡ false }
+    ensures valid { result < end → is_valid validity.now result ≡ true }
+{
+    for i in from..end {
+        if is_row_valid(validity, i, end) {
+            return i;
+        }
+    }
+    end
+}

@@ -1,0 +1,11 @@
+// SPDX-License-Identifier: Apache-2.0
+// SPDX-FileCopyrightText: Copyright the Vortex contributors; ported to Rattle and changed
+//! Columns as the Arrow C data interface lays them out, read where they lie: integers, booleans,
+//! strings and bytes, with nulls or without.
+#![tactic(auto)]
+
+mod bitmaps;
+mod extremes;
+mod integers;
+mod kinds;
+mod statistics;
