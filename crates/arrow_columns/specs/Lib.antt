@@ -1,6 +1,10 @@
 pub mod Bitmaps
 pub mod Cells
+pub mod Checked
+pub mod Columns
+pub mod Faults
 pub mod Integers
 pub mod Kinds
+pub mod Offsets
 pub mod Running
 pub mod Statistics

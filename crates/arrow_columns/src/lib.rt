@@ -5,7 +5,13 @@
 #![tactic(auto)]
 
 mod bitmaps;
+mod checking;
+mod column;
 mod extremes;
+mod faults;
 mod integers;
 mod kinds;
+mod offset_width;
+mod offsets;
+mod rows;
 mod statistics;

@@ -1,0 +1,29 @@
+-- The rows of a column that can be read.
+use Rattle.std.specs.Prelude.{◌≡◌, Some}
+use Rattle.arrow_columns.specs.Columns.{IsBooleanColumn, IsByteColumn, IsIntegerColumn}
+use Rattle.arrow_columns.specs.Faults.{AreTextRows}
+use Rattle.arrow_columns.specs.Kinds.{kind_at}
+use Rattle.arrow_columns.specs.declared.column.Column.{Column}
+use Rattle.arrow_columns.specs.declared.kinds.Kind.{Kind}
+use Rattle.arrow_columns.specs.declared.kinds.Kind.TheVariants.{Binary, Boolean, Integer, LargeBinary, LargeUtf8, Null, Utf8}
+use Rattle.arrow_columns.specs.declared.offset_width.OffsetWidth.{OffsetWidth}
+use Rattle.arrow_columns.specs.declared.offset_width.OffsetWidth.TheVariants.{Bits32, Bits64}
+use Rattle.arrow_columns.specs.declared.rows.Rows.{Rows}
+use Rattle.arrow_columns.specs.declared.rows.Rows.TheVariants.{Booleans, Bytes, Integers, Nulls, Strings}
+
+-- the kinds with offsets of this width
+abbrev pub string_kind : OffsetWidth → Kind
+string_kind Bits32 = Utf8
+string_kind Bits64 = LargeUtf8
+
+abbrev pub byte_kind : OffsetWidth → Kind
+byte_kind Bits32 = Binary
+byte_kind Bits64 = LargeBinary
+
+-- the rows are the column's, by its kind
+abbrev pub AreRowsOf : Column → Rows → Type 0
+AreRowsOf column (Integers rows) = (kind_at column.kind ≡ Some (Integer rows.kind)) × (rows.column ≡ column)
+AreRowsOf column (Booleans rows) = (kind_at column.kind ≡ Some Boolean) × (rows.column ≡ column)
+AreRowsOf column (Strings rows) = (kind_at column.kind ≡ Some (string_kind rows.width)) × (rows.column ≡ column) × AreTextRows rows.width column column.length
+AreRowsOf column (Bytes rows) = (kind_at column.kind ≡ Some (byte_kind rows.width)) × (rows.column ≡ column)
+AreRowsOf column (Nulls count) = (kind_at column.kind ≡ Some Null) × (count ≡ column.length)

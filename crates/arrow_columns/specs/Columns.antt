@@ -1,0 +1,57 @@
+-- What a column of each kind has, and its cells.
+use Rattle.std.specs.Prelude.{◌≡◌, ◌≢◌, ℕ, ℤ, ◌+◌, ◌*◌, ◌^◌, ◌<◌, ◌≤◌, Bool, List, length, Option, None, replicate}
+use Rattle.arrow_columns.specs.Bitmaps.{HasBits, bit_of}
+use Rattle.arrow_columns.specs.Cells.{cells_from}
+use Rattle.arrow_columns.specs.Integers.{integer_of, item_at, width_of}
+use Rattle.arrow_columns.specs.Offsets.{AreRows, bytes_between, bytes_of_offset, offset_at}
+use Rattle.arrow_columns.specs.declared.column.Column.{Column}
+use Rattle.arrow_columns.specs.declared.kinds.IntegerKind.{IntegerKind}
+use Rattle.arrow_columns.specs.declared.offset_width.OffsetWidth.{OffsetWidth}
+
+-- the row after its last one, by its place in the buffers
+abbrev pub end_of : Column → ℕ
+end_of column = column.offset + column.length
+
+-- its rows have numbers, and bits of a bitmap, if there is one
+abbrev pub HasRows : Column → Type 0
+HasRows column = (end_of column < 2 ^ 64) × HasBits column.validity.now (end_of column)
+
+-- integers: there is an item for each row
+abbrev pub HasIntegers : IntegerKind → Column → Type 0
+HasIntegers kind column = end_of column * width_of kind ≤ length column.values.now
+
+abbrev pub IsIntegerColumn : IntegerKind → Column → Type 0
+IsIntegerColumn kind column = HasRows column × HasIntegers kind column
+
+abbrev pub integer_cells : IntegerKind → Column → List (Option ℤ)
+integer_cells kind column = cells_from column.validity.now (λ i. integer_of kind (item_at (width_of kind) column.values.now i)) column.offset column.length
+
+-- booleans: there is a bit for each row
+abbrev pub HasBooleans : Column → Type 0
+HasBooleans column = end_of column ≤ 8 * length column.values.now
+
+abbrev pub IsBooleanColumn : Column → Type 0
+IsBooleanColumn column = HasRows column × HasBooleans column
+
+abbrev pub boolean_cells : Column → List (Option Bool)
+boolean_cells column = cells_from column.validity.now (bit_of column.values.now) column.offset column.length
+
+-- strings and bytes: there is an offset for each row and one more, unless there is no row; and each row is one
+abbrev pub HasOffsets : OffsetWidth → Column → Type 0
+HasOffsets width column = column.length ≢ 0 → (end_of column + 1) * bytes_of_offset width ≤ length column.offsets.now
+
+abbrev pub offset_in : OffsetWidth → Column → ℕ → ℕ
+offset_in width column = offset_at width column.offsets.now
+
+abbrev pub AreRowsBefore : OffsetWidth → Column → ℕ → Type 0
+AreRowsBefore width column row = AreRows width column.values.now (offset_in width column) column.offset (column.offset + row)
+
+abbrev pub IsByteColumn : OffsetWidth → Column → Type 0
+IsByteColumn width column = HasRows column × HasOffsets width column × AreRowsBefore width column column.length
+
+abbrev pub byte_cells : OffsetWidth → Column → List (Option (List ℕ))
+byte_cells width column = cells_from column.validity.now (bytes_between column.values.now (offset_in width column)) column.offset column.length
+
+-- nulls alone
+abbrev pub null_cells : {X : Type 0} → Column → List (Option X)
+null_cells column = replicate column.length None

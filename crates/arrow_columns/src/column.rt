@@ -1,0 +1,20 @@
+//! A column as it comes.
+
+/// A column as the Arrow C data interface lays it out: its buffers, and which rows of them it has.
+/// What it says of itself is tested by `Column::check`.
+#[derive(Clone, Copy)]
+#[repr(C)]
+pub struct Column<'a> {
+    /// The code of its kind: see `Kind::from_code`.
+    pub kind: u8,
+    /// A bit for each row, 0 where it is null. Empty if no row is.
+    pub validity: &'a [u8],
+    /// The values: integers, bits, or the bytes of all rows one after another.
+    pub values: &'a [u8],
+    /// Of strings and bytes: where row i begins in `values`, and at i + 1 where it ends.
+    pub offsets: &'a [u8],
+    /// How many rows of the buffers come before its first.
+    pub offset: usize,
+    /// How many rows it has.
+    pub length: usize,
+}
