@@ -1,3 +1,6 @@
-pub mod CellLists
-pub mod RowSteps
 pub mod BitCounts
+pub mod BufferItems
+pub mod ByteOrder
+pub mod CellLists
+pub mod OffsetItems
+pub mod RowSteps

@@ -1,5 +1,5 @@
 -- What is known of the rows of a column before row i.
-use Rattle.std.specs.Prelude.{◌≡◌, ℕ, ℤ, ◌<◌, ◌≤◌, ◌≤ℤ◌, ◌-◌, Option, Some, map}
+use Rattle.std.specs.Prelude.{◌≡◌, ℕ, ℤ, ◌<◌, ◌≤◌, ◌≤ℤ◌, ◌-◌, List, Option, Some, map}
 use Rattle.std.specs.List.{count_by, range_with_len}
 use Rattle.std.specs.Option.{IfSome, is_none}
 use Rattle.arrow_columns.specs.declared.extremes.Gathered.{Gathered}
@@ -24,3 +24,10 @@ pub record AreGathered {T : Type 0} (number : T → ℤ) (cell : ℕ → Option 
   pub within : gathered.null_count ≤ i - from
   pub least : IsLeastBefore cell from i (number gathered.least)
   pub greatest : IsGreatestBefore cell from i (number gathered.greatest)
+
+-- row b has the value x of its cell, which is in this relation to each value before row i
+pub record IsBestAt (R : List ℕ → List ℕ → Type 0) (cell : ℕ → Option (List ℕ)) (value : ℕ → List ℕ) (from i b : ℕ) : Type 0 where
+  pub from' : from ≤ b
+  pub before : b < i
+  pub is : cell b ≡ Some (value b)
+  pub best : (k : ℕ) → k < i → from ≤ k → IfSome (cell k) (R (value b))

@@ -1,15 +1,19 @@
 //! Whether a column can be read.
 
-ghost use Rattle.std.specs.Prelude.{◌≡◌, ◌^◌, ◌<◌, ◌*◌, IfErr, IfOk};
+ghost use Rattle.std.specs.Prelude.{◌≡◌, ◌<◌, ◌≤◌, IfErr, IfOk, MatchOption};
 ghost use Rattle.arrow_columns.specs.Checked.{AreRowsOf};
-ghost use Rattle.arrow_columns.specs.Columns.{HasRows, end_of};
-ghost use Rattle.arrow_columns.specs.Faults.{IsBooleanFault, IsFaultOf, IsIntegerFault, IsRowsFault};
+ghost use Rattle.arrow_columns.specs.Columns.{HasRows, IsByteColumn, end_of};
+ghost use Rattle.arrow_columns.specs.Faults.{AreTextRows, IsBooleanFault, IsByteFault, IsFaultOf, IsIntegerFault, IsRowsFault, IsStringFault, IsTextRow};
 ghost use Rattle.arrow_columns.specs.Integers.{width_of};
+ghost use Rattle.arrow_columns.specs.Offsets.{bytes_of_offset};
 
+use crate::byte_items::{first_bad, first_not_utf8};
 use crate::column::Column;
 use crate::faults::{Buffer, ColumnFault};
 use crate::kinds::{IntegerKind, Kind};
-use crate::rows::{BooleanRows, IntegerRows, Rows};
+use crate::offset_width::OffsetWidth;
+use crate::offsets::Offset;
+use crate::rows::{BooleanRows, ByteRows, IntegerRows, Rows};
 
 impl IntegerKind {
     /// How many bytes an integer of the kind has.
@@ -61,4 +65,103 @@ fn boolean_rows(column: Column) -> Result<BooleanRows, ColumnFault>
         return Err(ColumnFault::TooShort(Buffer::Values));
     }
     Ok(BooleanRows { column })
+}
+
+/// Whether a column of strings or bytes, of offsets of N bytes, can be read.
+fn test_offsets<const N: usize, T: Offset<N>>(column: Column) -> Result<(), ColumnFault>
+    requires narrow { N ≤ 8 }
+    requires width { N ≡ bytes_of_offset T.width }
+    requires some { 0 < N }
+    ensures column { IfOk result (λ _. IsByteColumn T.width column.entry) }
+    ensures fault { IfErr result (λ fault. IsByteFault T.width column.entry fault) }
+{
+    let end = end_of_rows(column)?;
+    if column.length == 0 {
+        return Ok(());
+    }
+    let (offsets, _) = column.offsets.as_chunks::<N>();
+    if offsets.len() <= end {
+        return Err(ColumnFault::TooShort(Buffer::Offsets));
+    }
+    match first_bad::<N, T>(column.values, offsets, column.offset, end) {
+        Some(i) => Err(ColumnFault::BadOffsets(i - column.offset)),
+        None => Ok(()),
+    }
+}
+
+/// The rows of a column of bytes.
+fn byte_rows(width: OffsetWidth, column: Column) -> Result<ByteRows, ColumnFault>
+    ensures rows { IfOk result (λ rows. (rows.width ≡ width) × (rows.column ≡ column.entry)) }
+    ensures fault { IfErr result (λ fault. IsByteFault width column.entry fault) }
+{
+    match width {
+        OffsetWidth::Bits32 => test_offsets::<4, u32>(column)?,
+        OffsetWidth::Bits64 => test_offsets::<8, u64>(column)?,
+    }
+    Ok(ByteRows { width, column })
+}
+
+/// The first row that is no UTF-8, of a column of bytes with offsets of N bytes.
+fn first_bad_text<const N: usize, T: Offset<N>>(column: Column) -> Option<usize>
+    requires narrow { N ≤ 8 }
+    requires width { N ≡ bytes_of_offset T.width }
+    requires some { 0 < N }
+    requires column { IsByteColumn T.width column }
+    ensures { MatchOption result (AreTextRows T.width column.entry column.entry.length)
+        (λ row. (row < column.entry.length) × AreTextRows T.width column.entry row × ¬ (IsTextRow T.width column.entry row)) }
+{
+    if column.length == 0 {
+        return None;
+    }
+    let (offsets, _) = column.offsets.as_chunks::<N>();
+    let end = column.offset + column.length;
+    match first_not_utf8::<N, T>(column.validity, column.values, offsets, column.offset, end) {
+        Some(i) => Some(i - column.offset),
+        None => None,
+    }
+}
+
+/// The first row that is no UTF-8.
+fn first_bad_string(rows: ByteRows) -> Option<usize>
+    ensures { MatchOption result (AreTextRows rows.entry.width rows.entry.column rows.entry.column.length)
+        (λ row. (row < rows.entry.column.length) × AreTextRows rows.entry.width rows.entry.column row × ¬ (IsTextRow rows.entry.width rows.entry.column row)) }
+{
+    match rows.width {
+        OffsetWidth::Bits32 => first_bad_text::<4, u32>(rows.column),
+        OffsetWidth::Bits64 => first_bad_text::<8, u64>(rows.column),
+    }
+}
+
+/// The rows of a column of strings.
+fn string_rows(width: OffsetWidth, column: Column) -> Result<ByteRows, ColumnFault>
+    ensures rows { IfOk result (λ rows. (rows.width ≡ width) × (rows.column ≡ column.entry)) }
+    ensures text { IfOk result (λ rows. AreTextRows width column.entry column.entry.length) }
+    ensures fault { IfErr result (λ fault. IsStringFault width column.entry fault) }
+{
+    let rows = byte_rows(width, column)?;
+    match first_bad_string(rows) {
+        Some(row) => Err(ColumnFault::NotUtf8(row)),
+        None => Ok(rows),
+    }
+}
+
+impl<'a> Column<'a> {
+    /// The rows of the column, or why it cannot be read.
+    pub fn check(self) -> Result<Rows<'a>, ColumnFault>
+        ensures rows { IfOk result (λ rows. AreRowsOf self.entry rows) }
+        ensures fault { IfErr result (λ fault. IsFaultOf self.entry fault) }
+    {
+        let Some(kind) = Kind::from_code(self.kind) else {
+            return Err(ColumnFault::UnknownKind);
+        };
+        match kind {
+            Kind::Integer(kind) => Ok(Rows::Integers(integer_rows(kind, self)?)),
+            Kind::Boolean => Ok(Rows::Booleans(boolean_rows(self)?)),
+            Kind::Utf8 => Ok(Rows::Strings(string_rows(OffsetWidth::Bits32, self)?)),
+            Kind::LargeUtf8 => Ok(Rows::Strings(string_rows(OffsetWidth::Bits64, self)?)),
+            Kind::Binary => Ok(Rows::Bytes(byte_rows(OffsetWidth::Bits32, self)?)),
+            Kind::LargeBinary => Ok(Rows::Bytes(byte_rows(OffsetWidth::Bits64, self)?)),
+            Kind::Null => Ok(Rows::Nulls(self.length)),
+        }
+    }
 }

@@ -5,6 +5,8 @@
 #![tactic(auto)]
 
 mod bitmaps;
+mod byte_extremes;
+mod byte_items;
 mod checking;
 mod column;
 mod extremes;

@@ -14,3 +14,26 @@ pub struct IntegerStatistics {
     pub null_count: usize,
     pub extremes: Option<IntegerExtremes>,
 }
+
+/// How many cells of a column of booleans are null, false and true.
+#[derive(Clone, Copy, Debug, PartialEq, Eq)]
+pub struct BooleanStatistics {
+    pub null_count: usize,
+    pub false_count: usize,
+    pub true_count: usize,
+}
+
+/// The rows of the least and of the greatest value of a column of strings or bytes.
+#[derive(Clone, Copy, Debug, PartialEq, Eq)]
+pub struct ByteExtremes {
+    pub least: usize,
+    pub greatest: usize,
+}
+
+/// How many cells of a column of strings or bytes are null, and where the least and the greatest
+/// value of the others stand.
+#[derive(Clone, Copy, Debug, PartialEq, Eq)]
+pub struct ByteStatistics {
+    pub null_count: usize,
+    pub extremes: Option<ByteExtremes>,
+}

@@ -1,0 +1,72 @@
+//! The loop that gathers the statistics of strings and bytes.
+
+ghost use Rattle.std.specs.Prelude.{[], ◌≡◌, ℕ, ◌<◌, ◌≤◌, ◌-◌, length, slice_index_or};
+ghost use Rattle.std.specs.Cmp.Lexicographic.{slice_cmp};
+ghost use Rattle.std.specs.Ordering.{is_lt, nat_cmp};
+ghost use Rattle.arrow_columns.specs.Bitmaps.{HasBits};
+ghost use Rattle.arrow_columns.specs.Cells.{cells_from};
+ghost use Rattle.arrow_columns.specs.Offsets.{AreRows, bytes_between, offset_of};
+ghost use Rattle.arrow_columns.specs.Statistics.{AreByteStatisticsOf};
+
+use crate::bitmaps::{first_valid, is_row_valid};
+use crate::byte_items::row;
+use crate::offsets::Offset;
+use crate::statistics::{ByteExtremes, ByteStatistics};
+
+/// The statistics of some rows; those of the extremes count from the first.
+pub fn statistics_of_byte_rows<const N: usize, T: Offset<N>>(
+    validity: &[u8],
+    bytes: &[u8],
+    offsets: &[[u8; N]],
+    from: usize,
+    end: usize,
+) -> ByteStatistics
+    requires narrow { N ≤ 8 }
+    requires range { from ≤ end }
+    requires bits { HasBits validity.now end }
+    requires offsets { end < length offsets.now }
+    requires rows { AreRows T.width bytes.now (λ i. offset_of T.width (slice_index_or offsets.now i [])) from end }
+    ensures { let value = bytes_between bytes.now (λ i. offset_of T.width (slice_index_or offsets.now i [])) in
+        AreByteStatisticsOf (cells_from validity.now value from (end - from)) result }
+{
+    let start = first_valid(validity, from, end);
+    if start == end {
+        return ByteStatistics {
+            null_count: end - from,
+            extremes: None,
+        };
+    }
+    let mut null_count = start - from;
+    let mut least = start;
+    let mut greatest = start;
+    let mut low = row::<N, T>(bytes, offsets, start);
+    let mut high = low;
+    for i in start + 1..end {
+        if is_row_valid(validity, i, end) {
+            let value = row::<N, T>(bytes, offsets, i);
+            if is_below(value, low) {
+                least = i;
+                low = value;
+            } else if is_below(high, value) {
+                greatest = i;
+                high = value;
+            }
+        } else {
+            null_count += 1;
+        }
+    }
+    ByteStatistics {
+        null_count,
+        extremes: Some(ByteExtremes {
+            least: least - from,
+            greatest: greatest - from,
+        }),
+    }
+}
+
+/// Whether one is below the other, byte by byte.
+fn is_below(one: &[u8], other: &[u8]) -> bool
+    ensures { result ≡ is_lt (slice_cmp nat_cmp one.now other.now) }
+{
+    one.cmp(other).is_lt()
+}
