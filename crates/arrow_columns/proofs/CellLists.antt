@@ -1,7 +1,8 @@
 -- Cells as a list, and by number.
-use Rattle.std.proofs.Common.{◌≡◌, ◌≢◌, ◌∙◌, ◌||◌, ◌==◌, ℕ, ℤ, ◌+◌, ◌-◌, ◌<◌, ◌≤◌, ◌≤ℤ◌, add-one, add-zero, ap, arith, cond, length, map, refl, subst, sym, true, false, Bool, List, ◌∷◌, Option, Some, None, suc, zero}
+use Rattle.std.proofs.Common.{◌≡◌, ◌≢◌, ◌∙◌, ◌||◌, ◌==◌, ℕ, ℤ, ◌+◌, ◌-◌, ◌<◌, ◌≤◌, ◌≤ℤ◌, add-one, add-zero, ap, arith, cond, length, map, refl, subst, sym, true, false, Bool, List, ◌∷◌, Option, Some, None, slice_get, suc, zero}
 use Rattle.std.proofs.lemmas.Bool.{ne_eqb}
 use Rattle.std.proofs.lemmas.List.FromFn.{get_or-map-range_with_len, length-map-range_with_len, sum_by-map-range_with_len_more}
+use Rattle.std.proofs.lemmas.Option.{slice_get-get_or}
 use Rattle.std.specs.List.{All, Contains, count_by, range_with_len}
 use Rattle.std.specs.Option.{IfSome, IsNone, is_none}
 use Rattle.arrow_columns.specs.Bitmaps.{bit_of, is_valid}
@@ -104,3 +105,20 @@ valid_or validity i h e = ap (λ t. t || bit_of validity i) (ne_eqb (length vali
 
 pub is_none_valid : {X : Type 0} (validity : List ℕ) (value : ℕ → X) (i : ℕ) → is_valid validity i ≡ true → is_none (cell_at validity value i) ≡ false
 is_none_valid validity value i v = ap is_none (valid_cell validity value i (value i) v refl)
+
+-- cells whose values are alike
+pub values_alike : {X : Type 0} (validity : List ℕ) (f g : ℕ → X) (from n count m : ℕ) → n ≡ count → from + n ≤ m → ((k : ℕ) → k < m → f k ≡ g k)
+    → map (cell_at validity f) (range_with_len from n) ≡ map (cell_at validity g) (range_with_len from count)
+values_alike validity f g from n count m e l h =
+    cells_alike (cell_at validity f) (cell_at validity g) from n (λ k b. ap (λ x. cond (is_valid validity k) (Some x) None) (h k (omega arith)))
+    ∙ ap (λ c. map (cell_at validity g) (range_with_len from c)) e
+
+-- the cell of a row
+pub cell_got : {X : Type 0} (cell : ℕ → Option X) (from n row : ℕ) (o : Option X) → row < n → cell (from + row) ≡ o → slice_get (map cell (range_with_len from n)) row ≡ Some o
+cell_got cell from n row o l e =
+    slice_get-get_or (map cell (range_with_len from n)) row None (omega (arith, length-map-range_with_len cell from n))
+    ∙ ap Some (get_or-map-range_with_len cell from n row (from + row) None l refl ∙ e)
+
+-- a number that went through another
+pub through_number : (l z w : ℤ) → l ≡ z → z ≡ w → l ≡ w
+through_number l z w p q = p ∙ q

@@ -5,6 +5,7 @@
 #![tactic(auto)]
 
 mod bitmaps;
+mod booleans;
 mod byte_extremes;
 mod byte_items;
 mod checking;
@@ -15,5 +16,6 @@ mod integers;
 mod kinds;
 mod offset_width;
 mod offsets;
+mod reading;
 mod rows;
 mod statistics;
