@@ -10,7 +10,7 @@ use Rattle.std.specs.Ordering.{is_lt, is_gt, ordering_reverse}
 use Rattle.arrow_columns.specs.Running.{IsBestAt, nulls_from}
 use Rattle.arrow_columns.specs.Statistics.{AreByteStatisticsOf, NotAbove}
 use Rattle.arrow_columns.proofs.CellLists.{all_from, all_none, all_nulls}
-use Rattle.arrow_columns.proofs.RowSteps.{at_null, at_value}
+use Rattle.arrow_columns.proofs.RowSteps.{at_null, at_value, some_says}
 
 abbrev order : List ℕ → List ℕ → Ordering
 order x y = slice_cmp nat_cmp x y
@@ -54,9 +54,6 @@ not_below_says x y v w b e p q t = subst (NotAbove w) p (subst (λ z. NotAbove z
 if_some : (P Q : List ℕ → Type 0) (o : Option (List ℕ)) → ((y : List ℕ) → P y → Q y) → IfSome o P → IfSome o Q
 if_some P Q (Some y) f h = f y h
 if_some P Q None f h = tt
-
-some_says : (P : List ℕ → Type 0) (o : Option (List ℕ)) (x : List ℕ) → o ≡ Some x → IfSome o P → P x
-some_says P o x e h = subst (λ v. IfSome v P) e h
 
 -- the relation goes on, and holds of a value and itself
 pub record Ranks (R : List ℕ → List ℕ → Type 0) : Type 0 where

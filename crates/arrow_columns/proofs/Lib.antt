@@ -3,4 +3,5 @@ pub mod BufferItems
 pub mod ByteOrder
 pub mod CellLists
 pub mod OffsetItems
+pub mod RoomSteps
 pub mod RowSteps

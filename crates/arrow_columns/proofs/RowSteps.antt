@@ -135,3 +135,7 @@ gathered_first number cell from start x f e n = record {
 pub of_choice : {X Y : Type 0} (f : X → Y) (b : Bool) (x y : X) → f (cond b x y) ≡ cond b (f x) (f y)
 of_choice f true x y = refl
 of_choice f false x y = refl
+
+-- what holds of a value, if there is one, holds of this
+pub some_says : {X : Type 0} (P : X → Type 0) (o : Option X) (x : X) → o ≡ Some x → IfSome o P → P x
+some_says P o x e h = subst (λ v. IfSome v P) e h

@@ -1,4 +1,5 @@
 pub mod Bitmaps
+pub mod Casts
 pub mod Cells
 pub mod Checked
 pub mod Columns

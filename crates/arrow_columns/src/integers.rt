@@ -1,8 +1,8 @@
 //! Integers as they lie in a buffer.
 
-ghost use Rattle.std.specs.Prelude.{◌≡◌, ℕ, ℤ, List, pos};
+ghost use Rattle.std.specs.Prelude.{◌≡◌, ℕ, ℤ, List, MatchBool, pos};
 ghost use Rattle.std.specs.Int.{int_max, int_min};
-ghost use Rattle.arrow_columns.specs.Integers.{integer_of};
+ghost use Rattle.arrow_columns.specs.Integers.{IsOfKind, integer_of};
 ghost use Rattle.arrow_columns.specs.declared.kinds.IntegerKind.{IntegerKind};
 ghost use Rattle.arrow_columns.specs.declared.kinds.IntegerKind.TheVariants.{I16, I32, I64, I8, U16, U32, U64, U8};
 
@@ -27,6 +27,23 @@ pub trait Integer<const N: usize>: Copy + Drop {
     /// The number.
     fn whole(self) -> i128
         ensures { result ≡ number self };
+
+    /// Whether the kind has this number.
+    fn fits(whole: i128) -> bool
+        ensures { MatchBool result (IsOfKind kind whole) (¬ (IsOfKind kind whole)) };
+
+    /// The integer of this number.
+    fn of_whole(whole: i128) -> Self
+        requires { IsOfKind kind whole }
+        ensures { number result ≡ whole };
+
+    /// The integer 0.
+    fn zero() -> Self
+        ensures { number result ≡ pos 0 };
+
+    /// The bytes, the low one first.
+    fn to_bytes(self) -> [u8; N]
+        ensures { integer_of kind result ≡ number self };
 }
 
 impl Integer<1> for u8 {
@@ -50,6 +67,22 @@ impl Integer<1> for u8 {
 
     fn whole(self) -> i128 {
         self as i128
+    }
+
+    fn fits(whole: i128) -> bool {
+        u8::MIN as i128 <= whole && whole <= u8::MAX as i128
+    }
+
+    fn of_whole(whole: i128) -> u8 {
+        whole as u8
+    }
+
+    fn zero() -> u8 {
+        0
+    }
+
+    fn to_bytes(self) -> [u8; 1] {
+        self.to_le_bytes()
     }
 }
 
@@ -75,6 +108,22 @@ impl Integer<2> for u16 {
     fn whole(self) -> i128 {
         self as i128
     }
+
+    fn fits(whole: i128) -> bool {
+        u16::MIN as i128 <= whole && whole <= u16::MAX as i128
+    }
+
+    fn of_whole(whole: i128) -> u16 {
+        whole as u16
+    }
+
+    fn zero() -> u16 {
+        0
+    }
+
+    fn to_bytes(self) -> [u8; 2] {
+        self.to_le_bytes()
+    }
 }
 
 impl Integer<4> for u32 {
@@ -98,6 +147,22 @@ impl Integer<4> for u32 {
 
     fn whole(self) -> i128 {
         self as i128
+    }
+
+    fn fits(whole: i128) -> bool {
+        u32::MIN as i128 <= whole && whole <= u32::MAX as i128
+    }
+
+    fn of_whole(whole: i128) -> u32 {
+        whole as u32
+    }
+
+    fn zero() -> u32 {
+        0
+    }
+
+    fn to_bytes(self) -> [u8; 4] {
+        self.to_le_bytes()
     }
 }
 
@@ -123,6 +188,22 @@ impl Integer<8> for u64 {
     fn whole(self) -> i128 {
         self as i128
     }
+
+    fn fits(whole: i128) -> bool {
+        u64::MIN as i128 <= whole && whole <= u64::MAX as i128
+    }
+
+    fn of_whole(whole: i128) -> u64 {
+        whole as u64
+    }
+
+    fn zero() -> u64 {
+        0
+    }
+
+    fn to_bytes(self) -> [u8; 8] {
+        self.to_le_bytes()
+    }
 }
 
 impl Integer<1> for i8 {
@@ -146,6 +227,22 @@ impl Integer<1> for i8 {
 
     fn whole(self) -> i128 {
         self as i128
+    }
+
+    fn fits(whole: i128) -> bool {
+        i8::MIN as i128 <= whole && whole <= i8::MAX as i128
+    }
+
+    fn of_whole(whole: i128) -> i8 {
+        whole as i8
+    }
+
+    fn zero() -> i8 {
+        0
+    }
+
+    fn to_bytes(self) -> [u8; 1] {
+        self.to_le_bytes()
     }
 }
 
@@ -171,6 +268,22 @@ impl Integer<2> for i16 {
     fn whole(self) -> i128 {
         self as i128
     }
+
+    fn fits(whole: i128) -> bool {
+        i16::MIN as i128 <= whole && whole <= i16::MAX as i128
+    }
+
+    fn of_whole(whole: i128) -> i16 {
+        whole as i16
+    }
+
+    fn zero() -> i16 {
+        0
+    }
+
+    fn to_bytes(self) -> [u8; 2] {
+        self.to_le_bytes()
+    }
 }
 
 impl Integer<4> for i32 {
@@ -195,6 +308,22 @@ impl Integer<4> for i32 {
     fn whole(self) -> i128 {
         self as i128
     }
+
+    fn fits(whole: i128) -> bool {
+        i32::MIN as i128 <= whole && whole <= i32::MAX as i128
+    }
+
+    fn of_whole(whole: i128) -> i32 {
+        whole as i32
+    }
+
+    fn zero() -> i32 {
+        0
+    }
+
+    fn to_bytes(self) -> [u8; 4] {
+        self.to_le_bytes()
+    }
 }
 
 impl Integer<8> for i64 {
@@ -218,5 +347,21 @@ impl Integer<8> for i64 {
 
     fn whole(self) -> i128 {
         self as i128
+    }
+
+    fn fits(whole: i128) -> bool {
+        i64::MIN as i128 <= whole && whole <= i64::MAX as i128
+    }
+
+    fn of_whole(whole: i128) -> i64 {
+        whole as i64
+    }
+
+    fn zero() -> i64 {
+        0
+    }
+
+    fn to_bytes(self) -> [u8; 8] {
+        self.to_le_bytes()
     }
 }

@@ -8,6 +8,7 @@ mod bitmaps;
 mod booleans;
 mod byte_extremes;
 mod byte_items;
+mod casts;
 mod checking;
 mod column;
 mod extremes;
