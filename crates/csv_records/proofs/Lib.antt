@@ -1,0 +1,4 @@
+pub mod Walking
+pub mod RowCuts
+pub mod Cutting
+pub mod Fielding

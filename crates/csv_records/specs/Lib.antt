@@ -1,0 +1,5 @@
+pub mod Rows
+pub mod Records
+pub mod Fields
+pub mod Lemmas
+pub mod Words

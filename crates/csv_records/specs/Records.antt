@@ -1,0 +1,46 @@
+-- A text is cut into records: after each line feed where a record may start.
+use Rattle.std.specs.Prelude.{ℕ, List, [], ◌∷◌, ◌==◌, ◌&&◌, Bool, true, false, if◌then◌else◌}
+use Rattle.std.specs.List.{onto_first}
+use Rattle.csv.specs.Machine.{step}
+use Rattle.csv.specs.declared.parser.State.{State}
+use Rattle.csv.specs.declared.parser.State.TheVariants as st
+use Rattle.csv_records.specs.Rows.{config_of, is_whole_from, rows_of}
+use Rattle.csv_records.specs.declared.places.Place.{Place}
+use Rattle.csv_records.specs.declared.places.Place.TheVariants.{Fresh, AfterReturn, FieldStart, Bare, Quoted, AfterQuote}
+
+-- whether a record may start here
+abbrev pub is_start : State → Bool
+is_start st.StartRecord = true
+is_start st.AfterCr = false
+is_start st.InComment = false
+is_start st.StartField = false
+is_start st.InField = false
+is_start st.InQuoted = false
+is_start st.AfterQuote = false
+is_start st.InEscape = false
+
+-- the records from a state on
+abbrev pub records_from : ℕ → State → List ℕ → List (List ℕ)
+records_from delimiter s [] = []
+records_from delimiter s (c ∷ rest) =
+    let next = (step (config_of delimiter) s c).0 in
+    if (c == 10) && is_start next then (c ∷ []) ∷ records_from delimiter st.StartRecord rest
+    else onto_first c (records_from delimiter next rest)
+
+-- the records of a text, each with its line feed; a last one has none where the text ends without it.
+-- An empty line is a record without a row
+abbrev pub records_of : ℕ → List ℕ → List (List ℕ)
+records_of delimiter bytes = records_from delimiter st.StartRecord bytes
+
+-- whether a record has a row, and no bytes after it
+abbrev pub is_whole : ℕ → List ℕ → Bool
+is_whole delimiter bytes = is_whole_from delimiter st.StartRecord bytes
+
+-- the state of `csv` at a place
+abbrev pub state_at : Place → State
+state_at Fresh = st.StartRecord
+state_at AfterReturn = st.AfterCr
+state_at FieldStart = st.StartField
+state_at Bare = st.InField
+state_at Quoted = st.InQuoted
+state_at AfterQuote = st.AfterQuote

@@ -1,0 +1,16 @@
+// SPDX-License-Identifier: Apache-2.0
+// SPDX-FileCopyrightText: Copyright the Vortex contributors; ported to Rattle and changed
+//! Records of comma-separated text: where one ends and the next begins, and the fields of one. What
+//! a row is goes by the states of the kit's `csv`.
+#![tactic(auto)]
+
+mod delimiter;
+mod fields;
+// pub mod laws;
+mod places;
+mod records;
+
+pub use delimiter::Delimiter;
+pub use fields::{CutField, Follows, cut_field, row_start};
+pub use places::{Place, place_after_line};
+pub use records::cut_record;

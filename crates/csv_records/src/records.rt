@@ -1,0 +1,48 @@
+//! Records are cut from the front of a text.
+
+ghost use Rattle.std.specs.Prelude.{◌≡◌, ◌∷◌, ◌++◌, ◌<◌, ◌≤◌, [], IfNone, IfSome, drop, length, take};
+ghost use Rattle.csv_records.specs.Words.{records_of, rows_of};
+
+use crate::delimiter::Delimiter;
+use crate::places::{Place, place_after_line};
+use memchr::memchr;
+
+/// The first record, with its line feed, and what follows.
+#[tactic(auto, using(crate::proofs::Cutting::cutting))]
+pub fn cut_record(delimiter: Delimiter, text: &[u8]) -> (&[u8], &[u8])
+    requires { 0 < length text.now }
+    ensures records { records_of delimiter.byte text.now ≡
+        result.0.now ∷ records_of delimiter.byte result.1.now }
+    // The rows are those of the record and of what follows.
+    ensures rows { rows_of delimiter.byte text.now ≡
+        rows_of delimiter.byte result.0.now ++ rows_of delimiter.byte result.1.now }
+    ensures parts { text.now ≡ result.0.now ++ result.1.now }
+    ensures shorter { length result.1.now < length text.now }
+{
+    match record_end(delimiter, text) {
+        Some(end) => (&text[..end], &text[end..]),
+        None => (text, &[]),
+    }
+}
+
+/// The place behind the line feed that ends the first record.
+fn record_end(delimiter: Delimiter, text: &[u8]) -> Option<usize>
+    ensures within { IfSome result (λ end. (0 < end) × (end ≤ length text.now)) }
+    ensures cut { IfSome result (λ end. records_of delimiter.byte text.now ≡
+        take end text.now ∷ records_of delimiter.byte (drop end text.now)) }
+    ensures rows { IfSome result (λ end. rows_of delimiter.byte text.now ≡
+        rows_of delimiter.byte (take end text.now) ++ rows_of delimiter.byte (drop end text.now)) }
+    ensures none { IfNone result (0 < length text.now → records_of delimiter.byte text.now ≡ text.now ∷ []) }
+{
+    let mut place = Place::Fresh;
+    let mut end = 0;
+    while let Some(feed) = memchr(b'\n', &text[end..]) {
+        let next = end + feed + 1;
+        place = place_after_line(delimiter, place, &text[end..next]);
+        if let Place::Fresh = place {
+            return Some(next);
+        }
+        end = next;
+    }
+    None
+}
