@@ -11,7 +11,7 @@ pub state_after-append : (d : ℕ) (s : State) (xs ys : List ℕ) → state_afte
 state_after-append d s [] ys = refl
 state_after-append d s (x ∷ xs) ys = state_after-append d (step (config_of d) s x).0 xs ys
 
-start_is : (s : State) → is_start s ≡ true → s ≡ st.StartRecord
+pub start_is : (s : State) → is_start s ≡ true → s ≡ st.StartRecord
 start_is st.StartRecord h = refl
 start_is st.AfterCr h = absurd cc
 start_is st.InComment h = absurd cc

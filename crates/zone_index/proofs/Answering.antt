@@ -1,0 +1,133 @@
+-- What is read and written of a zone.
+use Rattle.std.proofs.Common.{◌≡◌, ◌≤◌, ◌<◌, ◌+◌, ℕ, suc, zero, List, [], ◌∷◌, ◌++◌, ◌==◌, Bool, true, false, not, cond, Option, refl, sym, ap, ◌∙◌, subst, length, take, drop, arith, append-nil}
+use Rattle.std.proofs.lemmas.List.{drop-take, length-take, length-drop, take-take}
+use Rattle.std.proofs.lemmas.List.Sums.{count_by-le-length, length-filter, sum_by-cons}
+use Rattle.std.proofs.lemmas.Bool.{eqb-true}
+use Rattle.std.proofs.KnownBytes.{Appends-nil}
+use Rattle.std.specs.Io.KnownBytes.{Appends}
+use Rattle.std.specs.Prelude.{IfSome}
+use lib.Seq.{take-append_seam}
+use Rattle.std.specs.List.{AllPass, concat, count_by, filter}
+use Rattle.csv_records.specs.Lemmas.RecordLaws.{concat-records_of}
+use Rattle.csv_records.specs.Records.{records_of}
+use Rattle.zone_index.specs.Asking.{Asks, AsksWithin, IsWithin}
+use Rattle.zone_index.specs.Records.{is_same, kept_of}
+use Rattle.zone_index.specs.Zones.{Agree, AsksOfZone, IsHeld, IsWayOf, IsZoneOf, is_skip, is_skipped, way_of, zone_bytes, zone_records}
+use Rattle.zone_index.specs.declared.read_at.Asked.{Asked}
+use Rattle.zone_index.specs.declared.records.Decision.{Decision}
+use Rattle.zone_index.specs.declared.zones.Way.{Way}
+use Rattle.zone_index.specs.declared.zones.Way.TheVariants as ways
+use Rattle.zone_index.specs.declared.zones.Zone.{Zone}
+use Rattle.zone_index.proofs.Asking.{asks_more}
+
+same_piece : (bytes was : List ℕ) (f n : ℕ) → Agree bytes was → f + n ≤ length was → f + n ≤ length bytes → take n (drop f bytes) ≡ take n (drop f was)
+same_piece bytes was f n agree p q =
+    sym (drop-take f n bytes)
+    ∙ ap (drop f) (sym (take-take (f + n) (length was) bytes p) ∙ ap (take (f + n)) agree ∙ take-take (f + n) (length bytes) was q)
+    ∙ drop-take f n was
+
+long_piece : (bytes was : List ℕ) (f n : ℕ) → Agree bytes was → f + n ≤ length was → length (take n (drop f bytes)) ≡ n → take n (drop f bytes) ≡ take n (drop f was)
+long_piece bytes was f zero agree p long = refl
+long_piece bytes was f (suc n) agree p long =
+    same_piece bytes was f (suc n) agree p (omega (arith, length-take (suc n) (drop f bytes), length-drop f bytes))
+
+-- the same bytes at the same place
+held_piece : (known : Option (List ℕ)) (was piece : List ℕ) (z : Zone) (held : IsHeld known was) → z.first + z.length ≤ length was → piece ≡ take z.length (drop z.first held.bytes) → length piece ≡ z.length → piece ≡ zone_bytes was z
+held_piece known was piece z held inside is long =
+    is ∙ long_piece held.bytes was z.first z.length held.agree inside (sym (ap length is) ∙ long)
+
+pub filled_piece : (known : Option (List ℕ)) (was into items : List ℕ) (n len : ℕ) (z : Zone) → IsHeld known was → z.first + z.length ≤ length was → IfSome known (λ xs. into ≡ take n (drop z.first xs)) → length into ≡ n → n ≡ z.length → len ≡ z.length → take len (into ++ drop (length into) items) ≡ zone_bytes was z
+filled_piece known was into items n len z held inside filled long same same_len =
+    let is : into ≡ take n (drop z.first held.bytes) = subst (λ (o : Option (List ℕ)). IfSome o (λ xs. into ≡ take n (drop z.first xs))) held.is filled in
+    let piece : into ≡ zone_bytes was z = held_piece known was into z held inside (is ∙ ap (λ m. take m (drop z.first held.bytes)) same) (long ∙ same) in
+    ap (λ m. take m (into ++ drop (length into) items)) (same_len ∙ sym same ∙ sym long) ∙ take-append_seam into (drop (length into) items) ∙ piece
+
+-- ---- records that match
+
+filter_all : (p : List ℕ → Bool) (xs : List (List ℕ)) → AllPass p xs → filter p xs ≡ xs
+filter_all p [] h = refl
+filter_all p (x ∷ xs) h = rw (h 0 x (omega arith), filter_all p xs (λ k d below. h (suc k) d (omega arith))) refl
+
+not_true : (b : Bool) → not b ≡ true → b ≡ false
+not_true true h = cc
+not_true false h = refl
+
+filter_none : (p : List ℕ → Bool) (xs : List (List ℕ)) → AllPass (λ x. not (p x)) xs → filter p xs ≡ []
+filter_none p [] h = refl
+filter_none p (x ∷ xs) h =
+    let no : p x ≡ false = not_true (p x) (h 0 x (omega arith)) in
+    rw (no, filter_none p xs (λ k d below. h (suc k) d (omega arith))) refl
+
+-- where each record matches, all is kept
+pub all_kept : (d : ℕ) (keep : List ℕ → Bool) (was : List ℕ) (z : Zone) → AllPass keep (zone_records d was z) → kept_of d keep (zone_bytes was z) ≡ zone_bytes was z
+all_kept d keep was z all = ap concat (filter_all keep (zone_records d was z) all) ∙ concat-records_of d (zone_bytes was z)
+
+-- where none matches, nothing
+pub none_kept : (d : ℕ) (keep : List ℕ → Bool) (was : List ℕ) (z : Zone) → AllPass (λ x. not (keep x)) (zone_records d was z) → kept_of d keep (zone_bytes was z) ≡ []
+none_kept d keep was z none = ap concat (filter_none keep (zone_records d was z) none)
+
+pub none_written : (before : Option (List ℕ)) (d : ℕ) (keep : List ℕ → Bool) (was : List ℕ) (z : Zone) → AllPass (λ x. not (keep x)) (zone_records d was z) → Appends before before (kept_of d keep (zone_bytes was z))
+none_written before d keep was z none = subst (Appends before before) (sym (none_kept d keep was z none)) (Appends-nil before)
+
+pub all_written : (a b : Option (List ℕ)) (d : ℕ) (keep : List ℕ → Bool) (was output : List ℕ) (z : Zone) → AllPass keep (zone_records d was z) → output ≡ zone_bytes was z → Appends a b output → Appends a b (kept_of d keep (zone_bytes was z))
+all_written a b d keep was output z all is h = subst (Appends a b) (is ∙ sym (all_kept d keep was z all)) h
+
+pub found_written : (a b : Option (List ℕ)) (d : ℕ) (keep : List ℕ → Bool) (was piece view found output : List ℕ) (z : Zone) → view ≡ piece → piece ≡ zone_bytes was z → found ≡ kept_of d keep view → output ≡ found → Appends a b output → Appends a b (kept_of d keep (zone_bytes was z))
+found_written a b d keep was piece view found output z same is found_is out h =
+    subst (Appends a b) (out ∙ found_is ∙ ap (kept_of d keep) (same ∙ is)) h
+
+-- each record that has a row matches, and each has one
+both_true : (m h : Bool) → is_same m h ≡ true → h ≡ true → m ≡ true
+both_true true h p q = refl
+both_true false h p q = absurd cc
+
+first_counts : (p : List ℕ → Bool) (x : List ℕ) (xs : List (List ℕ)) (b : Bool) → p x ≡ b → count_by p (x ∷ xs) ≡ length (x ∷ xs) → (b ≡ true) × (count_by p xs ≡ length xs)
+first_counts p x xs true e h =
+    let one : count_by p (x ∷ xs) ≡ 1 + count_by p xs = sum_by-cons (λ (y : List ℕ). cond (p y) 1 0) x xs ∙ ap (λ (b : Bool). cond b 1 0 + count_by p xs) e in
+    (refl, omega arith)
+first_counts p x xs false e h =
+    let one : count_by p (x ∷ xs) ≡ 0 + count_by p xs = sum_by-cons (λ (y : List ℕ). cond (p y) 1 0) x xs ∙ ap (λ (b : Bool). cond b 1 0 + count_by p xs) e in
+    absurd (omega (arith, count_by-le-length p xs))
+
+pub all_match : (has keep : List ℕ → Bool) (xs : List (List ℕ)) → AllPass (λ x. is_same (keep x) (has x)) xs → count_by has xs ≡ length xs → AllPass keep xs
+all_match has keep [] same all k d below = absurd (omega arith)
+all_match has keep (x ∷ xs) same all zero d below = both_true (keep x) (has x) (same 0 d (omega arith)) (first_counts has x xs (has x) refl all).0
+all_match has keep (x ∷ xs) same all (suc k) d below = all_match has keep xs (λ i e under. same (suc i) e (omega arith)) (first_counts has x xs (has x) refl all).1 k d (omega arith)
+
+-- ---- what was asked for
+
+pub not_skipped : (decides : List ℕ → Decision) (z : Zone) (w : Way) (a b : Option (List Asked)) → w ≡ way_of decides z → is_skip w ≡ false → AsksWithin a b z.first (z.first + z.length) → Asks (AsksOfZone decides z) a b
+not_skipped decides z w a b is other h =
+    asks_more (IsWithin z.first (z.first + z.length)) (AsksOfZone decides z) a b (λ x within. (ap is_skip (sym is) ∙ other, within)) h
+
+-- ---- counting
+
+none_counted : (p : List ℕ → Bool) (xs : List (List ℕ)) → AllPass (λ x. not (p x)) xs → count_by p xs ≡ 0
+none_counted p xs h = sym (length-filter p xs) ∙ ap length (filter_none p xs h)
+
+pub none_match : (d : ℕ) (keep : List ℕ → Bool) (was : List ℕ) (z : Zone) → AllPass (λ x. not (keep x)) (zone_records d was z) → 0 ≡ count_by keep (zone_records d was z)
+none_match d keep was z none = sym (none_counted keep (zone_records d was z) none)
+
+same_truth : (a b : Bool) → is_same a b ≡ true → b ≡ a
+same_truth true true h = refl
+same_truth true false h = absurd cc
+same_truth false true h = absurd cc
+same_truth false false h = refl
+
+pub rows_match : (has keep : List ℕ → Bool) (xs : List (List ℕ)) → AllPass (λ x. is_same (keep x) (has x)) xs → count_by has xs ≡ count_by keep xs
+rows_match has keep [] same = refl
+rows_match has keep (x ∷ xs) same =
+    let f : List ℕ → ℕ = λ y. cond (has y) 1 0 in
+    let g : List ℕ → ℕ = λ y. cond (keep y) 1 0 in
+    let one : f x ≡ g x = ap (λ (b : Bool). cond b 1 0) (same_truth (keep x) (has x) (same 0 x (omega arith))) in
+    let others : count_by has xs ≡ count_by keep xs = rows_match has keep xs (λ k d below. same (suc k) d (omega arith)) in
+    sum_by-cons f x xs ∙ ap (λ n. n + count_by has xs) one ∙ ap (λ n. g x + n) others ∙ sym (sum_by-cons g x xs)
+
+pub found_counted : (d : ℕ) (keep : List ℕ → Bool) (was piece view : List ℕ) (z : Zone) (n : ℕ) → view ≡ piece → piece ≡ zone_bytes was z → n ≡ count_by keep (records_of d view) → n ≡ count_by keep (zone_records d was z)
+found_counted d keep was piece view z n same is e = e ∙ ap (λ (l : List ℕ). count_by keep (records_of d l)) (same ∙ is)
+
+pub hit_more : (d : ℕ) (keep : List ℕ → Bool) (text line rest : List ℕ) (n total now : ℕ) (b : Bool) → records_of d text ≡ line ∷ records_of d rest → b ≡ keep line → n + count_by keep (records_of d text) ≡ total → now ≡ n + cond b 1 0 → now + count_by keep (records_of d rest) ≡ total
+hit_more d keep text line rest n total now b cut is before e =
+    let f : List ℕ → ℕ = λ y. cond (keep y) 1 0 in
+    let one : count_by keep (records_of d text) ≡ cond b 1 0 + count_by keep (records_of d rest) = ap (count_by keep) cut ∙ sum_by-cons f line (records_of d rest) ∙ ap (λ (t : Bool). cond t 1 0 + count_by keep (records_of d rest)) (sym is) in
+    omega arith

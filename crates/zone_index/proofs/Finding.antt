@@ -1,0 +1,97 @@
+-- What is found zone by zone is what is kept of all.
+use Rattle.std.proofs.Common.{◌≡◌, ◌≤◌, ◌<◌, ◌+◌, ℕ, List, [], ◌∷◌, ◌++◌, Bool, true, false, cond, Option, refl, sym, ap, ◌∙◌, subst, length, take, drop, get_or, append-nil, take_all, add-zero}
+use Rattle.std.proofs.KnownBytes.{Appends-trans}
+use Rattle.std.proofs.lemmas.Grind.{flat_map-append, take_at_read}
+use Rattle.std.proofs.lemmas.List.Elements.{Contains-get_or, filter-append}
+use Rattle.std.proofs.lemmas.List.Folds.{concat-append}
+use Rattle.std.proofs.lemmas.List.Sums.{count_by_more_no, count_by_more_yes, sum_by-append, sum_by-cons, sum_by_more}
+use Rattle.std.specs.List.{All, concat, count_by, filter, flat_map, sum_by}
+use Rattle.csv_records.specs.Records.{records_of}
+use Rattle.std.specs.Io.KnownBytes.{Appends}
+use Rattle.zone_index.specs.Asking.{Asks}
+use Rattle.zone_index.specs.Records.{kept_of}
+use Rattle.zone_index.specs.Zones.{AsksInPart, AsksOfZone, IsIndexOf, IsOfZone, IsPartOfZone, found_in, zone_bytes, zone_records}
+use Rattle.zone_index.specs.declared.read_at.Asked.{Asked}
+use Rattle.zone_index.specs.declared.records.Decision.{Decision}
+use Rattle.zone_index.specs.declared.zones.Zone.{Zone}
+use Rattle.zone_index.proofs.Asking.{asks_more, asks_then}
+
+kept_of_zones : (p : List ℕ → Bool) (f : Zone → List (List ℕ)) (zones : List Zone) → concat (filter p (flat_map f zones)) ≡ flat_map (λ z. concat (filter p (f z))) zones
+kept_of_zones p f [] = refl
+kept_of_zones p f (z ∷ zones) =
+    ap concat (filter-append p (f z) (flat_map f zones))
+    ∙ concat-append (filter p (f z)) (filter p (flat_map f zones))
+    ∙ ap (λ l. concat (filter p (f z)) ++ l) (kept_of_zones p f zones)
+
+-- all zones
+pub found_all : (d : ℕ) (has_row : List ℕ → Bool) (Describes : List ℕ → List (List ℕ) → Type 0) (keep : List ℕ → Bool) (start : ℕ) (zones : List Zone) (was : List ℕ) → IsIndexOf d has_row Describes start zones was → found_in d keep was zones ≡ kept_of d keep (drop start was)
+found_all d has_row Describes keep start zones was index =
+    sym (kept_of_zones keep (zone_records d was) zones)
+    ∙ ap (λ records. concat (filter keep records)) (sym index.records)
+
+-- one zone more
+pub found_more : (a b c : Option (List ℕ)) (d : ℕ) (keep : List ℕ → Bool) (was : List ℕ) (zones : List Zone) (i : ℕ) (z : Zone) → i < length zones → z ≡ get_or zones i z
+    → Appends a b (found_in d keep was (take i zones)) → Appends b c (kept_of d keep (zone_bytes was z)) → Appends a c (found_in d keep was (take (i + 1) zones))
+found_more a b c d keep was zones i z inside is before here =
+    let f : Zone → List ℕ = λ y. kept_of d keep (zone_bytes was y) in
+    let e : found_in d keep was (take (i + 1) zones) ≡ found_in d keep was (take i zones) ++ kept_of d keep (zone_bytes was (get_or zones i z)) =
+    ap (flat_map f) (take_at_read zones i z inside).1 ∙ flat_map-append f (take i zones) (get_or zones i z ∷ []) ∙ ap (λ l. flat_map f (take i zones) ++ l) (append-nil (f (get_or zones i z))) in
+    subst (Appends a c) (sym e) (Appends-trans a b c _ _ before (subst (λ (y : Zone). Appends b c (f y)) is here))
+
+-- after the last zone
+pub found_whole : (a b : Option (List ℕ)) (d : ℕ) (has_row : List ℕ → Bool) (Describes : List ℕ → List (List ℕ) → Type 0) (keep : List ℕ → Bool) (start : ℕ) (zones : List Zone) (was : List ℕ) (i : ℕ) → length zones ≤ i → IsIndexOf d has_row Describes start zones was
+    → Appends a b (found_in d keep was (take i zones)) → Appends a b (kept_of d keep (drop start was))
+found_whole a b d has_row Describes keep start zones was i ended index before =
+    subst (Appends a b) (ap (found_in d keep was) (take_all i zones ended) ∙ found_all d has_row Describes keep start zones was index) before
+
+count_step : (p : Zone → Bool) (zones : List Zone) (i : ℕ) (z : Zone) (b : Bool) → i < length zones → p (get_or zones i z) ≡ b → count_by p (take (i + 1) zones) ≡ count_by p (take i zones) + cond b 1 0
+count_step p zones i z true inside e = count_by_more_yes p zones i z inside e
+count_step p zones i z false inside e = count_by_more_no p zones i z inside e ∙ sym (add-zero (count_by p (take i zones)))
+
+-- one more is counted
+pub counted_more : (p : Zone → Bool) (zones : List Zone) (i old new : ℕ) (z : Zone) (b : Bool) → i < length zones → z ≡ get_or zones i z → p z ≡ b → old ≡ count_by p (take i zones) → new ≡ old + cond b 1 0 → new ≡ count_by p (take (i + 1) zones)
+counted_more p zones i old new z b inside is e before here = here ∙ ap (λ n. n + cond b 1 0) before ∙ sym (count_step p zones i z b inside (ap p (sym is) ∙ e))
+
+of_zone : (decides : List ℕ → Decision) (zones : List Zone) (i : ℕ) (z : Zone) (x : Asked) → i < length zones → AsksOfZone decides (get_or zones i z) x → IsOfZone decides zones x
+of_zone decides zones i z x inside h = record { zone = get_or zones i z; among = Contains-get_or zones i z inside; read = h.0; within = h.1 }
+
+-- what was asked for in one zone more
+pub asks_zone : (decides : List ℕ → Decision) (zones : List Zone) (i : ℕ) (z : Zone) (a b c : Option (List Asked)) → i < length zones → z ≡ get_or zones i z → Asks (IsOfZone decides zones) a b → Asks (AsksOfZone decides z) b c → Asks (IsOfZone decides zones) a c
+asks_zone decides zones i z a b c inside is before here =
+    let at : Asks (AsksOfZone decides (get_or zones i z)) b c = subst (λ (y : Zone). Asks (AsksOfZone decides y) b c) is here in
+    asks_then (IsOfZone decides zones) a b c before (asks_more (AsksOfZone decides (get_or zones i z)) (IsOfZone decides zones) b c (λ x h. of_zone decides zones i z x inside h) at)
+
+-- what holds of all holds of this one
+pub at_item : (P : Zone → Type 0) (zones : List Zone) (i : ℕ) (z : Zone) → i < length zones → z ≡ get_or zones i z → All P zones → P z
+at_item P zones i z inside is all = subst P (sym is) (all i z inside)
+
+-- ---- counting
+
+pub count_zones : (keep : List ℕ → Bool) (f : Zone → List (List ℕ)) (zones : List Zone) → count_by keep (flat_map f zones) ≡ sum_by (λ z. count_by keep (f z)) zones
+count_zones keep f [] = refl
+count_zones keep f (z ∷ zones) =
+    sum_by-append (λ (x : List ℕ). cond (keep x) 1 0) (f z) (flat_map f zones) ∙ ap (λ n. count_by keep (f z) + n) (count_zones keep f zones) ∙ sym (sum_by-cons (λ (y : Zone). count_by keep (f y)) z zones)
+
+-- as many in the zones so far
+abbrev pub counted_in : ℕ → (List ℕ → Bool) → List ℕ → List Zone → ℕ
+counted_in d keep was zones = sum_by (λ z. count_by keep (zone_records d was z)) zones
+
+pub total_more : (d : ℕ) (keep : List ℕ → Bool) (was : List ℕ) (zones : List Zone) (i old n new : ℕ) (z : Zone) → i < length zones → z ≡ get_or zones i z → old ≡ counted_in d keep was (take i zones) → n ≡ count_by keep (zone_records d was z) → new ≡ old + n
+    → new ≡ counted_in d keep was (take (i + 1) zones)
+total_more d keep was zones i old n new z inside is before here sum =
+    let f : Zone → ℕ = λ y. count_by keep (zone_records d was y) in
+    sum ∙ ap (λ m. m + n) before ∙ ap (λ m. counted_in d keep was (take i zones) + m) (here ∙ ap f is) ∙ sym (sum_by_more f zones i z inside)
+
+pub total_all : (d : ℕ) (has_row : List ℕ → Bool) (Describes : List ℕ → List (List ℕ) → Type 0) (keep : List ℕ → Bool) (start : ℕ) (zones : List Zone) (was : List ℕ) (i total : ℕ) → length zones ≤ i → IsIndexOf d has_row Describes start zones was
+    → total ≡ counted_in d keep was (take i zones) → total ≡ count_by keep (records_of d (drop start was))
+total_all d has_row Describes keep start zones was i total ended index before =
+    before ∙ ap (counted_in d keep was) (take_all i zones ended) ∙ sym (count_zones keep (zone_records d was) zones) ∙ ap (count_by keep) (sym index.records)
+
+part_of : (decides : List ℕ → Decision) (zones : List Zone) (i : ℕ) (z : Zone) (x : Asked) → i < length zones → AsksInPart decides (get_or zones i z) x → IsPartOfZone decides zones x
+part_of decides zones i z x inside h = record { zone = get_or zones i z; among = Contains-get_or zones i z inside; undecided = h.0; within = h.1 }
+
+-- what was asked for in one zone more
+pub asks_part : (decides : List ℕ → Decision) (zones : List Zone) (i : ℕ) (z : Zone) (a b c : Option (List Asked)) → i < length zones → z ≡ get_or zones i z → Asks (IsPartOfZone decides zones) a b → Asks (AsksInPart decides z) b c → Asks (IsPartOfZone decides zones) a c
+asks_part decides zones i z a b c inside is before here =
+    let at : Asks (AsksInPart decides (get_or zones i z)) b c = subst (λ (y : Zone). Asks (AsksInPart decides y) b c) is here in
+    asks_then (IsPartOfZone decides zones) a b c before (asks_more (AsksInPart decides (get_or zones i z)) (IsPartOfZone decides zones) b c (λ x h. part_of decides zones i z x inside h) at)

@@ -1,0 +1,129 @@
+-- A line more is taken.
+use Rattle.std.proofs.Common.{◌≡◌, ◌≢◌, ◌≤◌, ◌<◌, ◌+◌, ◌⊎◌, inl, inr, ℕ, List, [], ◌∷◌, ◌++◌, ◌==◌, Bool, true, false, Option, Some, IfSome, refl, sym, ap, ◌∙◌, subst, cond, length, drop, arith, append_assoc, append-nil, drop_at}
+use Rattle.std.proofs.lemmas.Bool.{eqb-true}
+use Rattle.std.proofs.lemmas.List.{length-append}
+use Rattle.std.specs.Io.KnownBytes.{IsAtEnd}
+use Rattle.std.specs.Io.BufRead.{take_through, drop_through, DropsThrough}
+use Rattle.csv.specs.declared.parser.State.{State}
+use Rattle.csv.specs.declared.parser.State.TheVariants as st
+use Rattle.csv_records.specs.Lemmas.RecordLaws.{EndsRecord, records_of-append, start_is, state_after-append}
+use Rattle.csv_records.specs.Records.{is_start, records_of}
+use Rattle.csv_records.specs.Rows.{state_after}
+use Rattle.zone_index.specs.Taking.{IsTaken}
+
+through_step : (x : ℕ) (xs : List ℕ) (b : Bool) → (x == 10) ≡ b → take_through 10 xs ++ drop_through 10 xs ≡ xs → take_through 10 (x ∷ xs) ++ drop_through 10 (x ∷ xs) ≡ x ∷ xs
+through_step x xs true e h = rw e refl
+through_step x xs false e h = rw e (ap (λ (l : List ℕ). x ∷ l) h)
+
+through_all : (xs : List ℕ) → take_through 10 xs ++ drop_through 10 xs ≡ xs
+through_all [] = refl
+through_all (x ∷ xs) = through_step x xs (x == 10) refl (through_all xs)
+
+-- bytes that end with a line feed
+abbrev EndsWithFeed : List ℕ → Type 0
+EndsWithFeed xs = (front : List ℕ) × (xs ≡ front ++ 10 ∷ [])
+
+feed_onto : (x : ℕ) (xs : List ℕ) → EndsWithFeed xs → EndsWithFeed (x ∷ xs)
+feed_onto x xs h = (x ∷ h.0, ap (λ (l : List ℕ). x ∷ l) h.1)
+
+feed_after : (xs ys : List ℕ) → EndsWithFeed ys → EndsWithFeed (xs ++ ys)
+feed_after xs ys h = (xs ++ h.0, ap (λ (l : List ℕ). xs ++ l) h.1 ∙ sym (append_assoc xs h.0 (10 ∷ [])))
+
+through_ends_step : (x : ℕ) (xs : List ℕ) (b : Bool) → (x == 10) ≡ b → EndsWithFeed (take_through 10 xs) ⊎ (drop_through 10 xs ≡ []) → EndsWithFeed (take_through 10 (x ∷ xs)) ⊎ (drop_through 10 (x ∷ xs) ≡ [])
+through_ends_step x xs true e h = rw e (inl ([], ap (λ (y : ℕ). y ∷ []) (eqb-true x 10 e)))
+through_ends_step x xs false e (inl h) = rw e (inl (feed_onto x (take_through 10 xs) h))
+through_ends_step x xs false e (inr h) = rw e (inr h)
+
+-- what was taken ends with a line feed, or nothing is left
+through_ends : (xs : List ℕ) → EndsWithFeed (take_through 10 xs) ⊎ (drop_through 10 xs ≡ [])
+through_ends [] = inr refl
+through_ends (x ∷ xs) = through_ends_step x xs (x == 10) refl (through_ends xs)
+
+-- the text was taken from the front of the bytes, and leads to this state
+pub record Taking (d : ℕ) (bytes text : List ℕ) (left : Option (List ℕ)) (s : State) : Type 0 where
+  pub rest : List ℕ
+  pub is : left ≡ Some rest
+  pub parts : bytes ≡ text ++ rest
+  pub state : state_after d st.StartRecord text ≡ s
+  pub ends : (text ≡ []) ⊎ EndsWithFeed text ⊎ (rest ≡ [])
+
+pub taking_none : (d : ℕ) (bytes text : List ℕ) (left : Option (List ℕ)) → text ≡ [] → left ≡ Some bytes → Taking d bytes text left st.StartRecord
+taking_none d bytes text left none is = record {
+  rest = bytes;
+  is = is;
+  parts = ap (λ (l : List ℕ). l ++ bytes) (sym none);
+  state = ap (state_after d st.StartRecord) none;
+  ends = inl none;
+}
+
+pub taking_more : (d : ℕ) (bytes text more line : List ℕ) (old new : Option (List ℕ)) (s next : State) → Taking d bytes text old s → IfSome old (λ xs. more ≡ text ++ take_through 10 xs) → DropsThrough old new 10
+    → line ≡ drop (length text) more → next ≡ state_after d s line → Taking d bytes more new next
+taking_more d bytes text more line old new s next t given drops line_is leads =
+    let front = take_through 10 t.rest in
+    let back = drop_through 10 t.rest in
+    let more_is : more ≡ text ++ front = subst (λ (o : Option (List ℕ)). IfSome o (λ xs. more ≡ text ++ take_through 10 xs)) t.is given in
+    let left_is : new ≡ Some back = subst (λ (o : Option (List ℕ)). IfSome o (λ xs. new ≡ Some (drop_through 10 xs))) t.is drops in
+    let line_front : line ≡ front = line_is ∙ ap (drop (length text)) more_is ∙ drop_at text front (length text) refl in
+    record {
+      rest = back;
+      is = left_is;
+      parts = t.parts ∙ ap (λ (l : List ℕ). text ++ l) (sym (through_all t.rest)) ∙ sym (append_assoc text front back) ∙ ap (λ (l : List ℕ). l ++ back) (sym more_is);
+      state = ap (state_after d st.StartRecord) more_is ∙ state_after-append d st.StartRecord text front ∙ ap (λ (r : State). state_after d r front) t.state ∙ ap (state_after d s) (sym line_front) ∙ sym leads;
+      ends = elim (through_ends t.rest) [
+        | inl h ↦ inr (inl (subst EndsWithFeed (sym more_is) (feed_after text front h)))
+        | inr h ↦ inr (inr h)
+      ];
+    }
+
+abbrev Apart : ℕ → List ℕ → List ℕ → Type 0
+Apart d text rest = (text ≡ []) ⊎ EndsRecord d text ⊎ (rest ≡ [])
+
+ends_here : (d : ℕ) (text : List ℕ) (s : State) → state_after d st.StartRecord text ≡ s → is_start s ≡ true → EndsWithFeed text → EndsRecord d text
+ends_here d text s state start h = record { front = h.0; is = h.1; start = state ∙ start_is s start }
+
+split : (d : ℕ) (text rest : List ℕ) (s : State) → state_after d st.StartRecord text ≡ s → (text ≡ []) ⊎ EndsWithFeed text ⊎ (rest ≡ []) → (is_start s ≡ true) ⊎ (rest ≡ []) → Apart d text rest
+split d text rest s state (inl none) whole = inl none
+split d text rest s state (inr (inr done)) whole = inr (inr done)
+split d text rest s state (inr (inl feed)) (inl start) = inr (inl (ends_here d text s state start feed))
+split d text rest s state (inr (inl feed)) (inr done) = inr (inr done)
+
+apart : (d : ℕ) (text rest : List ℕ) → Apart d text rest → records_of d (text ++ rest) ≡ records_of d text ++ records_of d rest
+apart d text rest (inl none) = rw none refl
+apart d text rest (inr (inl h)) = records_of-append d text rest h
+apart d text rest (inr (inr done)) = rw done (ap (records_of d) (append-nil text) ∙ sym (append-nil (records_of d text)))
+
+-- whole records, where one may start, or nothing is left
+pub taken : (d : ℕ) (bytes text : List ℕ) (left : Option (List ℕ)) (s : State) (t : Taking d bytes text left s) → (is_start s ≡ true) ⊎ (t.rest ≡ []) → IsTaken d bytes text left
+taken d bytes text left s t whole =
+    record {
+      rest = t.rest;
+      is = t.is;
+      parts = t.parts;
+      records = ap (records_of d) t.parts ∙ apart d text t.rest (split d text t.rest s t.state t.ends whole);
+    }
+
+-- nothing came, since nothing was left
+pub stays : (d : ℕ) (bytes text more : List ℕ) (old new : Option (List ℕ)) (s : State) → Taking d bytes text old s → IfSome old (λ xs. more ≡ text ++ take_through 10 xs) → DropsThrough old new 10
+    → IsAtEnd old → IsTaken d bytes more new × (more ≡ [] → bytes ≡ [])
+stays d bytes text more old new s t given drops at_end =
+    let done : t.rest ≡ [] = subst IsAtEnd t.is at_end in
+    let more_is : more ≡ text ++ take_through 10 t.rest = subst (λ (o : Option (List ℕ)). IfSome o (λ xs. more ≡ text ++ take_through 10 xs)) t.is given in
+    let left_is : new ≡ Some (drop_through 10 t.rest) = subst (λ (o : Option (List ℕ)). IfSome o (λ xs. new ≡ Some (drop_through 10 xs))) t.is drops in
+    let same : more ≡ text = more_is ∙ ap (λ (l : List ℕ). text ++ take_through 10 l) done ∙ append-nil text in
+    let all : bytes ≡ more = t.parts ∙ ap (λ (l : List ℕ). text ++ l) done ∙ append-nil text ∙ sym same in (
+      record {
+        rest = [];
+        is = left_is ∙ ap (λ (l : List ℕ). Some (drop_through 10 l)) done;
+        parts = all ∙ sym (append-nil more);
+        records = ap (records_of d) all ∙ sym (append-nil (records_of d more));
+      },
+      λ none. all ∙ none,
+    )
+
+pub one_started : (taken size : ℕ) (b : Bool) → taken < size → taken + (cond b 1 0) ≡ size → b ≡ true
+one_started taken size true below e = refl
+one_started taken size false below e = absurd (omega arith)
+
+pub stays_below : (taken size now : ℕ) (b : Bool) → taken < size → now ≡ taken + (cond b 1 0) → now ≢ size → now < size
+stays_below taken size now true below e other = omega arith
+stays_below taken size now false below e other = omega arith

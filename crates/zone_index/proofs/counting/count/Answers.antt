@@ -1,0 +1,30 @@
+-- A zone more, and all of them.
+use Rattle.std.proofs.Common.{rules, arith, sym, ◌∙◌, subst, ℕ, List, Option}
+use Rattle.zone_index.specs.Zones.{IsHeld, IsZoneOf}
+use Rattle.zone_index.proofs.Finding.{asks_part, at_item, total_all, total_more}
+use Rattle.zone_index.proofs.counting.count.Goals as goal
+
+pub loop-zone-preserved : goal.loop-zone-preserved
+loop-zone-preserved g c =
+    let here = c.loop-zone.invariant.0 in
+    let zones = c.args.zones.now in
+    let i = c.loop-zone.zone-index in
+    let item = c.zone-item.result in (
+      search rules,
+      λ was held right. total_more (g.M.Records.delimiter c.args.matcher.now) (g.M.Matcher.matches c.args.matcher.now) was zones i c.loop-zone.total c.in_ok-hits.hits c.in-Some.sum item (search rules) c.zone-item.is (c.loop-zone.invariant.1 was held right)
+          (c.in_ok-hits.ensures.counted was (subst (λ (known : Option (List ℕ)). IsHeld known was) (sym here) held)
+          (at_item (IsZoneOf (g.M.Records.delimiter c.args.matcher.now) (g.M.Records.has_row c.args.matcher.now) (g.M.Records.Describes c.args.matcher.now) was) zones i item (search rules) c.zone-item.is right)) (search rules),
+      asks_part (g.M.Matcher.decides c.args.matcher.now) zones i item _ (g.R.ReadAt.asked c.loop-zone.reader) _ (search rules) c.zone-item.is c.loop-zone.invariant.2 c.in_ok-hits.ensures.asks,
+    )
+
+pub returns-in_err-hits-clause-asks : goal.returns-in_err-hits-clause-asks
+returns-in_err-hits-clause-asks g c =
+    asks_part (g.M.Matcher.decides c.args.matcher.now) c.args.zones.now c.loop-zone.zone-index c.zone-item.result _ (g.R.ReadAt.asked c.loop-zone.reader) _ (search rules) c.zone-item.is c.loop-zone.invariant.2 c.in_err-hits.ensures.asks
+
+pub returns-in-None-clause-asks : goal.returns-in-None-clause-asks
+returns-in-None-clause-asks g c =
+    asks_part (g.M.Matcher.decides c.args.matcher.now) c.args.zones.now c.loop-zone.zone-index c.zone-item.result _ (g.R.ReadAt.asked c.loop-zone.reader) _ (search rules) c.zone-item.is c.loop-zone.invariant.2 c.in_ok-hits.ensures.asks
+
+pub returns-clause-counted : goal.returns-clause-counted
+returns-clause-counted g c = λ was start held index.
+    total_all (g.M.Records.delimiter c.args.matcher.now) (g.M.Records.has_row c.args.matcher.now) (g.M.Records.Describes c.args.matcher.now) (g.M.Matcher.matches c.args.matcher.now) start c.args.zones.now was c.loop-zone.zone-index c.loop-zone.total (search rules) index (c.loop-zone.invariant.1 was held index.right)

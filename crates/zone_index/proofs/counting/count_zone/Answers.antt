@@ -1,0 +1,15 @@
+-- No row matches, and each does.
+use Rattle.std.proofs.Common.{sym, ◌∙◌, subst, List, ℕ}
+use Rattle.zone_index.specs.Zones.{zone_records}
+use Rattle.zone_index.proofs.Answering.{none_match, rows_match}
+use Rattle.zone_index.proofs.counting.count_zone.Goals as goal
+
+pub returns-in-NoneMatch-clause-counted : goal.returns-in-NoneMatch-clause-counted
+returns-in-NoneMatch-clause-counted g c = λ was held zone.
+    none_match (g.M.Records.delimiter c.args.matcher.now) (g.M.Matcher.matches c.args.matcher.now) was c.args.zone.now
+    (c.in_ok-decision.ensures.none (sym c.in_ok-decision.ensures.value ∙ c.in-NoneMatch.is) _ (subst (λ (l : List ℕ). g.M.Records.Describes c.args.matcher.now l (zone_records (g.M.Records.delimiter c.args.matcher.now) was c.args.zone.now)) (sym c.deref.ensures.value) zone.described))
+
+pub returns-in-AllMatch-clause-counted : goal.returns-in-AllMatch-clause-counted
+returns-in-AllMatch-clause-counted g c = λ was held zone.
+    zone.rows ∙ rows_match (g.M.Records.has_row c.args.matcher.now) (g.M.Matcher.matches c.args.matcher.now) (zone_records (g.M.Records.delimiter c.args.matcher.now) was c.args.zone.now)
+    (c.in_ok-decision.ensures.all (sym c.in_ok-decision.ensures.value ∙ c.in-AllMatch.is) _ (subst (λ (l : List ℕ). g.M.Records.Describes c.args.matcher.now l (zone_records (g.M.Records.delimiter c.args.matcher.now) was c.args.zone.now)) (sym c.deref.ensures.value) zone.described))

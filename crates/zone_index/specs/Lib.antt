@@ -1,0 +1,5 @@
+pub mod Asking
+pub mod Faults
+pub mod Records
+pub mod Taking
+pub mod Zones

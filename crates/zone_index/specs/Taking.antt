@@ -1,0 +1,10 @@
+-- Whole records are taken from the front of a stream.
+use Rattle.std.specs.Prelude.{◌≡◌, ℕ, List, ◌++◌, Option, Some}
+use Rattle.csv_records.specs.Records.{records_of}
+
+-- the text was taken from the front of the bytes, whole records of it, and the rest is left
+pub record IsTaken (delimiter : ℕ) (bytes text : List ℕ) (left : Option (List ℕ)) : Type 0 where
+  pub rest : List ℕ
+  pub is : left ≡ Some rest
+  pub parts : bytes ≡ text ++ rest
+  pub records : records_of delimiter bytes ≡ records_of delimiter text ++ records_of delimiter rest

@@ -1,0 +1,98 @@
+//! Records are counted.
+
+ghost use Rattle.std.specs.Prelude.{◌≡◌, ◌≢◌, ◌<◌, ◌≤◌, ◌+◌, ◌-◌, ◌^◌, ℕ, List, IfErr, IfOk, IfSome, length, count_by, drop, if◌then◌else◌};
+ghost use Rattle.csv_records.specs.Records.{records_of};
+ghost use Rattle.zone_index.specs.Asking.{Asks};
+ghost use Rattle.zone_index.specs.Faults.{IsOfRecord};
+ghost use Rattle.zone_index.specs.Zones.{AsksInPart, IsHeld, IsIndexOf, IsPartOfZone, IsZoneOf, zone_records};
+ghost use Rattle.zone_index.specs.declared.faults.Fault.TheVariants.{CutShort, Write as WriteFault};
+
+use crate::faults::Fault;
+use crate::read_at::ReadAt;
+use crate::records::{Decision, Matcher};
+use crate::search::{is_hit, read_zone};
+use crate::zones::Zone;
+use csv_records::cut_record;
+use std::alloc::Global;
+
+/// How many records of a file match. A zone of which each row matches is counted unread.
+pub fn count<R: ReadAt, M: Matcher>(
+    alloc: Global,
+    zones: &[Zone],
+    matcher: &M,
+    reader: &mut R,
+) -> Result<u64, Fault>
+    // Of the bytes that the index is right for, where those that the reader has are these, fewer or more.
+    ensures counted { IfOk result (λ n. (was : List ℕ) (start : ℕ) → IsHeld (R.bytes reader.old) was
+        → IsIndexOf (M.delimiter matcher.now) (M.has_row matcher.now) (M.Describes matcher.now) start zones.now was
+        → n ≡ count_by (M.matches matcher.now) (records_of (M.delimiter matcher.now) (drop start was))) }
+    // All that the reader was asked for stands in zones whose statistics decide nothing.
+    ensures asks { Asks (IsPartOfZone (M.decides matcher.now) zones.now) (R.asked reader.old) (R.asked reader.new) }
+    ensures cut { IfErr result (λ fault. fault ≡ CutShort → IfSome (R.bytes reader.old)
+        (λ bytes. (was : List ℕ) (start : ℕ)
+        → IsIndexOf (M.delimiter matcher.now) (M.has_row matcher.now) (M.Describes matcher.now) start zones.now was
+        → length bytes < length was)) }
+    ensures reading { IfErr result (λ fault. fault ≢ WriteFault) }
+{
+    let mut total = 0u64;
+    for zone in zones {
+        let hits = count_zone(alloc, zone, matcher, reader)?;
+        match total.checked_add(hits) {
+            Some(sum) => total = sum,
+            None => return Err(Fault::TooFar),
+        }
+    }
+    Ok(total)
+}
+
+/// How many records of a zone match.
+fn count_zone<R: ReadAt, M: Matcher>(
+    alloc: Global,
+    zone: &Zone,
+    matcher: &M,
+    reader: &mut R,
+) -> Result<u64, Fault>
+    ensures counted { IfOk result (λ n. (was : List ℕ) → IsHeld (R.bytes reader.old) was
+        → IsZoneOf (M.delimiter matcher.now) (M.has_row matcher.now) (M.Describes matcher.now) was zone.now
+        → n ≡ count_by (M.matches matcher.now) (zone_records (M.delimiter matcher.now) was zone.now)) }
+    ensures kept { R.bytes reader.new ≡ R.bytes reader.old }
+    ensures asks { Asks (AsksInPart (M.decides matcher.now) zone.now) (R.asked reader.old) (R.asked reader.new) }
+    ensures cut { IfErr result (λ fault. fault ≡ CutShort → IfSome (R.bytes reader.old)
+        (λ bytes. length bytes < zone.now.first + zone.now.length)) }
+    ensures reading { IfErr result (λ fault. fault ≢ WriteFault) }
+{
+    let decision = matcher.decide(alloc, &zone.statistics)?;
+    match decision {
+        Decision::NoneMatch => Ok(0),
+        Decision::AllMatch => Ok(zone.rows),
+        Decision::Unknown => {
+            let piece = read_zone(alloc, zone, reader)?;
+            count_in(alloc, zone.first, &piece, matcher)
+        }
+    }
+}
+
+/// How many records of a text match.
+fn count_in<M: Matcher>(alloc: Global, first: u64, text: &[u8], matcher: &M) -> Result<u64, Fault>
+    ensures counted { IfOk result (λ n. n ≡ count_by (M.matches matcher.now)
+        (records_of (M.delimiter matcher.now) text.now)) }
+    ensures why { IfErr result IsOfRecord }
+{
+    let mut hits = 0u64;
+    let mut rest = text;
+    while !rest.is_empty() {
+        let (line, after) = cut_record(matcher.delimiter_byte(), rest);
+        let hit = is_hit(alloc, first, line, matcher)?;
+        hits = one_more(hits, hit);
+        rest = after;
+    }
+    Ok(hits)
+}
+
+/// One more, if that is so.
+fn one_more(hits: u64, hit: bool) -> u64
+    requires { hits < 2 ^ 64 - 1 }
+    ensures { result ≡ hits + (if hit then 1 else 0) }
+{
+    if hit { hits + 1 } else { hits }
+}

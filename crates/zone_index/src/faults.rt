@@ -1,0 +1,96 @@
+//! Why an index or a search stops.
+
+ghost use Rattle.std.specs.Prelude.{◌≡◌};
+ghost use Rattle.zone_index.specs.declared.faults.Fault.TheVariants.{Memory};
+ghost use Rattle.zone_index.specs.declared.faults.RecordFault.TheVariants.{Memory as NoMemory};
+
+use std::alloc::{AllocError, AllocFailed};
+
+/// Why a record has no row under the columns.
+#[derive(Debug, Drop)]
+pub struct Refusal {
+    /// Where the record begins, in the bytes that were given.
+    pub place: u64,
+    /// Which column refused, counted from 0.
+    pub column: u64,
+    /// The word that it refused.
+    pub word: Vec<u8>,
+}
+
+/// Why a record was not judged.
+#[derive(Debug, Drop)]
+pub enum RecordFault {
+    /// No memory was left.
+    Memory,
+    /// The record has no row.
+    Refused(Refusal),
+}
+
+/// Why an index or a search stopped.
+#[derive(Debug, Drop)]
+pub enum Fault {
+    /// A read failed.
+    Read,
+    /// The file ends before a zone that the index has.
+    CutShort,
+    /// A place or a number is past all that 64 bits can tell.
+    TooFar,
+    /// A write failed.
+    Write,
+    /// No memory was left.
+    Memory,
+    /// A record has no row. Its place counts from the beginning of the file.
+    Refused(Refusal),
+}
+
+/// Out of memory.
+impl From<AllocError> for RecordFault {
+    ghost from_gives = { λ _ fault. fault ≡ NoMemory };
+
+    fn from(_error: AllocError) -> RecordFault {
+        RecordFault::Memory
+    }
+}
+
+/// Out of memory.
+impl From<AllocError> for Fault {
+    ghost from_gives = { λ _ fault. fault ≡ Memory };
+
+    fn from(_error: AllocError) -> Fault {
+        Fault::Memory
+    }
+}
+
+/// The same, of a value that found no room.
+impl<T: Drop> From<AllocFailed<T>> for Fault {
+    ghost from_gives = { λ _ fault. fault ≡ Memory };
+
+    fn from(_error: AllocFailed<T>) -> Fault {
+        Fault::Memory
+    }
+}
+
+impl RecordFault {
+    ghost use Rattle.zone_index.specs.Faults.{fault_at};
+
+    /// The same, where the bytes that were given stand here in the file.
+    pub(crate) fn at(self, first: u64) -> Fault
+        ensures { result ≡ fault_at first self }
+    {
+        match self {
+            RecordFault::Memory => Fault::Memory,
+            RecordFault::Refused(refusal) => {
+                let Refusal {
+                    place,
+                    column,
+                    word,
+                } = refusal;
+                Fault::Refused(Refusal {
+                    place: place.saturating_add(first),
+                    column,
+                    word,
+                })
+            }
+        }
+    }
+}

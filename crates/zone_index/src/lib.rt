@@ -1,0 +1,25 @@
+// SPDX-License-Identifier: Apache-2.0
+// SPDX-FileCopyrightText: Copyright the Vortex contributors; ported to Rattle and changed
+//! An index of the zones of a file of records, and a search that reads only the zones it must.
+//!
+//! What a record's row is, and what the statistics of a zone say of its rows, are a caller's: of
+//! the traits `Records`, `Describer` and `Matcher`.
+#![tactic(auto)]
+
+mod counting;
+mod faults;
+mod indexing;
+mod read_at;
+mod records;
+mod search;
+mod taking;
+mod zones;
+
+pub use counting::count;
+pub use faults::{Fault, RecordFault, Refusal};
+pub use indexing::index_records;
+pub use read_at::{Asked, Logged, ReadAt, fill_from};
+pub use records::{Decision, Described, Describer, Matcher, Records};
+pub use search::{Tally, find};
+pub use taking::take_records;
+pub use zones::{Way, Zone};

@@ -1,0 +1,82 @@
+//! What records mean to an index and a search.
+
+ghost use Rattle.std.specs.Prelude.{◌≡◌, ℕ, List, Bool, IfOk, length, not, count_by};
+ghost use Rattle.std.specs.List.{AllPass};
+ghost use Rattle.csv_records.specs.Records.{records_of};
+ghost use Rattle.zone_index.specs.Records.{is_same};
+ghost use Rattle.zone_index.specs.declared.records.Decision.{Decision};
+ghost use Rattle.zone_index.specs.declared.records.Decision.TheVariants.{AllMatch, NoneMatch};
+
+use crate::faults::RecordFault;
+use csv_records::Delimiter;
+use std::alloc::{AllocError, Global};
+
+/// What the statistics of a zone say of its rows.
+#[derive(Clone, Copy, Debug, PartialEq, Eq)]
+pub enum Decision {
+    /// No row matches.
+    NoneMatch,
+    /// Each row matches.
+    AllMatch,
+    /// Some rows may match.
+    Unknown,
+}
+
+/// What is known of the records of a text.
+#[derive(Debug, Drop)]
+pub struct Described {
+    /// How many records there are.
+    pub records: u64,
+    /// How many of them have a row.
+    pub rows: u64,
+    /// Statistics of the rows, in bytes.
+    pub statistics: Vec<u8>,
+}
+
+/// What records are.
+pub trait Records {
+    // The byte between two fields.
+    ghost delimiter: { Self → ℕ };
+    // Whether a record has a row.
+    ghost has_row: { Self → List ℕ → Bool };
+    // The bytes are statistics that are right for the rows of these records.
+    ghost Describes: { Self → List ℕ → List (List ℕ) → Type 0 };
+
+    /// The byte between two fields.
+    fn delimiter_byte(&self) -> Delimiter
+        ensures { result.byte ≡ delimiter self.now };
+}
+
+/// Describes the records of a zone.
+pub trait Describer: Records {
+    /// What is known of the records of a text. `Refused` with the place of a record in the text.
+    fn describe(&self, alloc: Global, text: &[u8]) -> Result<Described, RecordFault>
+        ensures records { IfOk result (λ d. d.records ≡
+            length (records_of (Self.delimiter self.now) text.now)) }
+        ensures rows { IfOk result (λ d. d.rows ≡
+            count_by (Self.has_row self.now) (records_of (Self.delimiter self.now) text.now)) }
+        ensures describes { IfOk result (λ d. Self.Describes self.now d.statistics.items
+            (records_of (Self.delimiter self.now) text.now)) };
+}
+
+/// Says which records match.
+pub trait Matcher: Records {
+    // Whether a record has a row, which matches.
+    ghost matches: { Self → List ℕ → Bool };
+    // What statistics decide.
+    ghost decides: { Self → List ℕ → Decision };
+
+    /// Whether a record has a row, which matches.
+    fn is_match(&self, alloc: Global, line: &[u8]) -> Result<bool, RecordFault>
+        ensures { IfOk result (λ hit. hit ≡ matches self.now line.now) };
+
+    /// What statistics say of the rows that they are of.
+    fn decide(&self, alloc: Global, statistics: &[u8]) -> Result<Decision, AllocError>
+        ensures value { IfOk result (λ d. d ≡ decides self.now statistics.now) }
+        ensures none { decides self.now statistics.now ≡ NoneMatch → (records : List (List ℕ))
+            → Self.Describes self.now statistics.now records
+            → AllPass (λ line. not (matches self.now line)) records }
+        ensures all { decides self.now statistics.now ≡ AllMatch → (records : List (List ℕ))
+            → Self.Describes self.now statistics.now records
+            → AllPass (λ line. is_same (matches self.now line) (Self.has_row self.now line)) records };
+}
