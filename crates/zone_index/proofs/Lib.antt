@@ -1,6 +1,10 @@
 pub mod Answering
 pub mod Asking
 pub mod Begun
+pub mod Fields
 pub mod Filling
 pub mod Finding
+pub mod Forms
+pub mod Loop
 pub mod TakeMore
+pub mod Writing

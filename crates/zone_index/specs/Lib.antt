@@ -1,5 +1,7 @@
 pub mod Asking
 pub mod Faults
+pub mod Form
+pub mod FormReading
 pub mod Records
 pub mod Taking
 pub mod Zones

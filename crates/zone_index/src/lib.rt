@@ -8,6 +8,7 @@
 
 mod counting;
 mod faults;
+mod form;
 mod indexing;
 mod read_at;
 mod records;
@@ -17,6 +18,7 @@ mod zones;
 
 pub use counting::count;
 pub use faults::{Fault, RecordFault, Refusal};
+pub use form::{FormFault, Index, MAGIC, ReadError, VERSION, read_index, write_index};
 pub use indexing::index_records;
 pub use read_at::{Asked, Logged, ReadAt, fill_from};
 pub use records::{Decision, Described, Describer, Matcher, Records};

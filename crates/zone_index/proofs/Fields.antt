@@ -1,0 +1,168 @@
+-- A field that is read is the field that was written, and what was written is read again.
+use Rattle.std.proofs.Common.{◌≡◌, ℕ, zero, suc, ◌+◌, ◌-◌, ◌^◌, ◌<◌, ◌≤◌, Bool, true, false, cond, eqb, ltb, List, [], ◌∷◌, ◌++◌, length, get_or, take, drop, Result, Ok, Err, refl, sym, ap, subst, ◌∙◌, append_assoc, arith, inl, inr}
+use Rattle.std.specs.Int.{Width, w32, w64, byte_len, from_le_bytes, to_le_bytes}
+use Rattle.std.specs.Str.{bytes_eq}
+use Rattle.std.proofs.lemmas.Slice.Eq.{bytes_eq-Decides}
+use Rattle.std.proofs.lemmas.Bool.{eq-eqb, eqb-true, cases_lt, ltb-false, le-ltb}
+use Rattle.std.proofs.lemmas.List.{take_at, drop_at, take-append-drop, length-append, length-take, length-take-le, get_or-drop, get_or-take, get_or_past}
+use Rattle.std.proofs.lemmas.Nat.{le_bytes_4, le_bytes_8, from_le_bytes-to_le_bytes_4, from_le_bytes-to_le_bytes_8}
+use Rattle.zone_index.specs.declared.form.FormFault.{FormFault}
+use Rattle.zone_index.specs.declared.form.FormFault.TheVariants.{Damaged, Short}
+use Rattle.sha2.specs.Sha256.{sha256}
+use Rattle.sha2.proofs.Facts256.{length-sha256}
+use Rattle.zone_index.specs.Form.{bytes_form}
+use Rattle.zone_index.specs.FormReading.{◌>>=◌, bytes_at, known_at, number_at, signed_at}
+
+abbrev pub IsBytes : List ℕ → Type 0
+IsBytes bytes = (i : ℕ) → get_or bytes i 0 < 256
+
+IsBytes-drop : (n : ℕ) (bytes : List ℕ) → IsBytes bytes → IsBytes (drop n bytes)
+IsBytes-drop n bytes h i = rw get_or-drop (h (n + i))
+
+IsBytes-take : (n : ℕ) (bytes : List ℕ) → IsBytes bytes → IsBytes (take n bytes)
+IsBytes-take n bytes h i =
+    elim (cases_lt i n) [
+      | inl lt ↦ rw (get_or-take n bytes i 0 lt) (h i)
+      | inr le ↦ rw (get_or_past (take n bytes) i 0 (omega (arith, length-take n bytes))) (omega arith)
+    ]
+
+-- the value of a step that did not fail
+pub bind_ok : {A B : Type 0} (r : Result A FormFault) (f : A → Result B FormFault) (y : B) → (r >>= f) ≡ Ok y → (x : A) × (r ≡ Ok x) × (f x ≡ Ok y)
+bind_ok (Ok x) f y e = (x, refl, e)
+bind_ok (Err d) f y e = absurd cc
+
+-- a test that did not fail
+pub guard_ok : {A : Type 0} (b : Bool) (d : FormFault) (x y : A) → cond b (Err d) (Ok x) ≡ Ok y → (b ≡ false) × (x ≡ y)
+guard_ok true d x y e = absurd cc
+guard_ok false d x y e = (refl, cc)
+
+abbrev done : {A : Type 0} → A → Result A FormFault
+done x = Ok x
+
+pub ok_is : {A : Type 0} (x y : A) → done x ≡ done y → x ≡ y
+ok_is x y e = cc
+
+-- what a reader took from the front
+pub record Takes (bytes text rest : List ℕ) : Type 0 where
+  pub parts : bytes ≡ text ++ rest
+  pub rest_fits : IsBytes rest
+
+pub Takes-then : (a x b y c : List ℕ) → Takes a x b → Takes b y c → Takes a (x ++ y) c
+Takes-then a x b y c p q = record { parts = p.parts ∙ ap (λ (t : List ℕ). x ++ t) q.parts ∙ sym (append_assoc x y c); rest_fits = q.rest_fits }
+
+-- ---- numbers
+
+pub record IsWide (w : Width) (limit : ℕ) : Type 0 where
+  pub len : (n : ℕ) → length (to_le_bytes w n) ≡ byte_len w
+  pub back : (bytes : List ℕ) → length bytes ≡ byte_len w → IsBytes bytes → to_le_bytes w (from_le_bytes w bytes) ≡ bytes
+  pub again : (n : ℕ) → n < limit → from_le_bytes w (to_le_bytes w n) ≡ n
+  pub below : (bytes : List ℕ) → IsBytes bytes → from_le_bytes w bytes < limit
+
+pub wide32 : IsWide w32 (2 ^ 32)
+wide32 = record {
+  len = λ n. refl;
+  back = λ bytes len fits. le_bytes_4 bytes _ len fits refl;
+  again = λ n lt. from_le_bytes-to_le_bytes_4 n lt;
+  below = λ bytes fits. omega (arith, fits 0, fits 1, fits 2, fits 3);
+}
+
+pub wide64 : IsWide w64 (2 ^ 64)
+wide64 = record {
+  len = λ n. refl;
+  back = λ bytes len fits. le_bytes_8 bytes _ len fits refl;
+  again = λ n lt. from_le_bytes-to_le_bytes_8 n lt;
+  below = λ bytes fits. omega (arith, fits 0, fits 1, fits 2, fits 3, fits 4, fits 5, fits 6, fits 7);
+}
+
+pub number_takes : (w : Width) (limit : ℕ) (wide : IsWide w limit) (bytes : List ℕ) (n : ℕ) (rest : List ℕ) → IsBytes bytes → number_at w bytes ≡ Ok (n, rest) → Takes bytes (to_le_bytes w n) rest × (n < limit)
+number_takes w limit wide bytes n rest fits e =
+    let g = guard_ok (ltb (length bytes) (byte_len w)) Short (from_le_bytes w (take (byte_len w) bytes), drop (byte_len w) bytes) (n, rest) e in
+    let long : byte_len w ≤ length bytes = ltb-false _ _ g.0 in
+    let n-is : from_le_bytes w (take (byte_len w) bytes) ≡ n = ap (λ (p : ℕ × List ℕ). p.0) g.1 in
+    let rest-is : drop (byte_len w) bytes ≡ rest = ap (λ (p : ℕ × List ℕ). p.1) g.1 in
+    let front : to_le_bytes w n ≡ take (byte_len w) bytes = rw (← n-is) (wide.back (take (byte_len w) bytes) (omega (arith, length-take (byte_len w) bytes)) (IsBytes-take (byte_len w) bytes fits)) in
+    (record { parts = rw (front, ← rest-is) (sym (take-append-drop (byte_len w) bytes)); rest_fits = rw (← rest-is) (IsBytes-drop (byte_len w) bytes fits) }, rw (← n-is) (wide.below (take (byte_len w) bytes) (IsBytes-take (byte_len w) bytes fits)))
+
+pub number_again : (w : Width) (limit : ℕ) (wide : IsWide w limit) (n : ℕ) (rest : List ℕ) → n < limit → number_at w (to_le_bytes w n ++ rest) ≡ Ok (n, rest)
+number_again w limit wide n rest lt =
+    let len = wide.len n in
+    let long : ltb (length (to_le_bytes w n ++ rest)) (byte_len w) ≡ false = le-ltb _ _ (omega (arith, length-append (to_le_bytes w n) rest)) in
+    rw (long, take_at (to_le_bytes w n) rest (byte_len w) len, drop_at (to_le_bytes w n) rest (byte_len w) len, wide.again n lt) refl
+
+IsBytes-rest : (b : ℕ) (bytes : List ℕ) → IsBytes (b ∷ bytes) → IsBytes bytes
+IsBytes-rest b bytes h i = h (suc i)
+
+-- ---- known numbers
+
+guard_known : {A : Type 0} (b : Bool) (d : FormFault) (x y : A) → cond b (Ok x) (Err d) ≡ Ok y → (b ≡ true) × (x ≡ y)
+guard_known true d x y e = (refl, cc)
+guard_known false d x y e = absurd cc
+
+pub known_takes : (fault : FormFault) (n : ℕ) (bytes rest : List ℕ) → IsBytes bytes → known_at fault n bytes ≡ Ok rest → Takes bytes (to_le_bytes w32 n) rest
+known_takes fault n bytes rest fits e =
+    let a = bind_ok (number_at w32 bytes) (λ x. cond (eqb x.0 n) (Ok x.1) (Err fault)) rest e in
+    let g = guard_known (eqb a.0.0 n) fault a.0.1 rest a.2 in
+    let t = number_takes w32 (2 ^ 32) wide32 bytes a.0.0 a.0.1 fits a.1 in
+    subst (λ (r : List ℕ). Takes bytes (to_le_bytes w32 n) r) g.1 (subst (λ (k : ℕ). Takes bytes (to_le_bytes w32 k) a.0.1) (eqb-true _ _ g.0) t.0)
+
+pub known_again : (fault : FormFault) (n : ℕ) (rest : List ℕ) → n < 2 ^ 32 → known_at fault n (to_le_bytes w32 n ++ rest) ≡ Ok rest
+known_again fault n rest lt = rw (number_again w32 (2 ^ 32) wide32 n rest lt, eq-eqb n n refl) refl
+
+-- ---- bytes
+
+pub bytes_takes : (bytes x rest : List ℕ) → IsBytes bytes → bytes_at bytes ≡ Ok (x, rest) → Takes bytes (bytes_form x) rest
+unfolding bytes_at
+bytes_takes bytes x rest fits e =
+    let a = bind_ok (number_at w64 bytes) (λ n. cond (ltb (length n.1) n.0) (Err Short) (Ok (take n.0 n.1, drop n.0 n.1))) (x, rest) e in
+    let n : ℕ = a.0.0 in
+    let r : List ℕ = a.0.1 in
+    let g = guard_ok (ltb (length r) n) Short (take n r, drop n r) (x, rest) a.2 in
+    let t = number_takes w64 (2 ^ 64) wide64 bytes n r fits a.1 in
+    let long : n ≤ length r = ltb-false _ _ g.0 in
+    let x-is : take n r ≡ x = ap (λ (p : List ℕ × List ℕ). p.0) g.1 in
+    let rest-is : drop n r ≡ rest = ap (λ (p : List ℕ × List ℕ). p.1) g.1 in
+    let n-is : n ≡ length x = sym (length-take-le n r long) ∙ ap length x-is in
+    let parts : r ≡ x ++ rest = sym (take-append-drop n r) ∙ ap (λ (l : List ℕ). l ++ drop n r) x-is ∙ ap (λ (l : List ℕ). x ++ l) rest-is in
+    let second : Takes r x rest = record { parts = parts; rest_fits = subst IsBytes rest-is (IsBytes-drop n r t.0.rest_fits) } in
+    subst (λ (m : ℕ). Takes bytes (to_le_bytes w64 m ++ x) rest) n-is (Takes-then bytes (to_le_bytes w64 n) r x rest t.0 second)
+
+pub bytes_again : (x rest : List ℕ) → length x < 2 ^ 64 → bytes_at (bytes_form x ++ rest) ≡ Ok (x, rest)
+unfolding bytes_at
+bytes_again x rest lt =
+    let n = length x in
+    let long : ltb (length (x ++ rest)) n ≡ false = le-ltb _ _ (omega (arith, length-append x rest)) in
+    ap bytes_at (append_assoc (to_le_bytes w64 n) x rest) ∙ rw (number_again w64 (2 ^ 64) wide64 n (x ++ rest) lt, long, take_at x rest n refl, drop_at x rest n refl) refl
+
+-- ---- the digest
+
+two_guards : {A : Type 0} (a b : Bool) (d e : FormFault) (x y : A) → cond a (Err d) (cond b (Ok x) (Err e)) ≡ Ok y → (b ≡ true) × (x ≡ y)
+two_guards true b d e x y h = absurd cc
+two_guards false true d e x y h = (refl, cc)
+two_guards false false d e x y h = absurd cc
+
+pub record Signed (bytes content : List ℕ) : Type 0 where
+  pub parts : bytes ≡ content ++ sha256 content
+  pub fits : IsBytes content
+
+pub signed_takes : (bytes content : List ℕ) → IsBytes bytes → signed_at bytes ≡ Ok content → Signed bytes content
+unfolding signed_at
+signed_takes bytes content fits e =
+    let n = length bytes - 32 in
+    let g = two_guards (ltb (length bytes) 32) (bytes_eq (sha256 (take n bytes)) (drop n bytes)) Short Damaged (take n bytes) content e in
+    let same : sha256 (take n bytes) ≡ drop n bytes = (bytes_eq-Decides (sha256 (take n bytes)) (drop n bytes)).0 g.0 in
+    let whole : bytes ≡ take n bytes ++ sha256 (take n bytes) = sym (take-append-drop n bytes) ∙ ap (λ (l : List ℕ). take n bytes ++ l) (sym same) in
+    record {
+      parts = whole ∙ ap (λ (l : List ℕ). l ++ sha256 l) g.1;
+      fits = subst IsBytes g.1 (IsBytes-take n bytes fits);
+    }
+
+pub signed_again : (content : List ℕ) → signed_at (content ++ sha256 content) ≡ Ok content
+unfolding signed_at
+signed_again content =
+    let digest = sha256 content in
+    let bytes = content ++ digest in
+    let all : length bytes ≡ length content + 32 = length-append content digest ∙ ap (λ n. length content + n) (length-sha256 content) in
+    let n-is : length bytes - 32 ≡ length content = omega arith in
+    let long : ltb (length bytes) 32 ≡ false = le-ltb _ _ (omega arith) in
+    let same : bytes_eq digest digest ≡ true = (bytes_eq-Decides digest digest).1 refl in
+    rw (long, n-is, take_at content digest (length content) refl, drop_at content digest (length content) refl, same) refl
