@@ -1,18 +1,16 @@
 -- Fields, byte by byte.
-use Rattle.std.proofs.Common.{◌≡◌, ◌≢◌, ◌⊎◌, inl, inr, ◌≤◌, ◌<◌, ◌+◌, ℕ, suc, zero, List, [], ◌∷◌, ◌++◌, ◌==◌, ◌&&◌, ◌||◌, Bool, true, false, cond, Option, None, Some, refl, sym, ap, ◌∙◌, subst, length, take, drop, get_or, arith, append_assoc, append-nil}
+use Rattle.std.proofs.Common.{◌≡◌, ◌≢◌, ◌⊎◌, inl, inr, ◌≤◌, ◌<◌, ◌+◌, ℕ, suc, List, [], ◌∷◌, ◌++◌, ◌==◌, ◌&&◌, ◌||◌, Bool, true, false, cond, refl, sym, ap, ◌∙◌, subst, length, take, drop, get_or, arith, append_assoc, append-nil}
 use Rattle.std.proofs.lemmas.Bool.{eq-eqb, eqb-true, ne_eqb}
-use Rattle.std.proofs.lemmas.List.{get_or-take, length-take, length-drop, drop_more, drop_all, drop-drop, take-append-drop, take_all}
-use Rattle.std.proofs.lemmas.List.{length-append}
-use Rattle.std.specs.List.{onto_first}
-use Rattle.csv.specs.Machine.{after_end, in_field, is_end, start_field, step}
+use Rattle.std.proofs.lemmas.List.{get_or-take, length-take, length-drop, drop_more, take-append-drop}
+use Rattle.csv.specs.Machine.{in_field, step}
 use Rattle.csv.specs.declared.parser.Action.{Action}
 use Rattle.csv.specs.declared.parser.Action.TheVariants as act
 use Rattle.csv.specs.declared.parser.State.{State}
 use Rattle.csv.specs.declared.parser.State.TheVariants as st
-use Rattle.memchr.specs.Find.{IsFirstByte, NoneBefore, Nowhere, Passes, is_byte, is_byte3}
-use Rattle.csv_records.specs.Fields.{AreBare, BeginsBare, HasNoFront, IsCut, IsFollowed, IsLast}
+use Rattle.memchr.specs.Find.{NoneBefore, Nowhere, Passes, is_byte}
+use Rattle.csv_records.specs.Fields.{AreBare, BeginsBare, IsCut, IsFollowed, IsLast}
 use Rattle.csv_records.specs.Records.{is_whole}
-use Rattle.csv_records.specs.Rows.{Field, config_of, field_rows, is_line_end, is_whole_from, joined, rows_from, rows_of}
+use Rattle.csv_records.specs.Rows.{Field, config_of, field_rows, is_line_end, is_whole_from, rows_from, rows_of}
 use Rattle.csv_records.specs.declared.fields.Follows.{Follows}
 use Rattle.csv_records.specs.declared.fields.Follows.TheVariants.{Another, Nothing, Bytes}
 

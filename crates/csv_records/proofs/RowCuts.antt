@@ -1,7 +1,7 @@
 -- Where a record may start, the rows of a text are those of what is before and of what follows.
-use Rattle.std.proofs.Common.{◌≡◌, ℕ, List, [], ◌∷◌, ◌++◌, ◌==◌, ◌&&◌, ◌||◌, Bool, true, false, cond, refl, ap, sym, ◌∙◌}
+use Rattle.std.proofs.Common.{◌≡◌, ℕ, List, [], ◌∷◌, ◌++◌, ◌==◌, ◌||◌, Bool, true, false, cond, refl, ap, ◌∙◌}
 use Rattle.std.specs.List.{onto_first}
-use Rattle.csv.specs.Machine.{ends_at_end, field_after, in_field, is_end, start_field, start_record, step}
+use Rattle.csv.specs.Machine.{ends_at_end, field_after, in_field, start_field, start_record, step}
 use Rattle.csv.specs.declared.parser.Action.{Action}
 use Rattle.csv.specs.declared.parser.Action.TheVariants as act
 use Rattle.csv.specs.declared.parser.State.{State}

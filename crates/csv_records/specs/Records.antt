@@ -4,7 +4,7 @@ use Rattle.std.specs.List.{onto_first}
 use Rattle.csv.specs.Machine.{step}
 use Rattle.csv.specs.declared.parser.State.{State}
 use Rattle.csv.specs.declared.parser.State.TheVariants as st
-use Rattle.csv_records.specs.Rows.{config_of, is_whole_from, rows_of}
+use Rattle.csv_records.specs.Rows.{config_of, is_whole_from}
 use Rattle.csv_records.specs.declared.places.Place.{Place}
 use Rattle.csv_records.specs.declared.places.Place.TheVariants.{Fresh, AfterReturn, FieldStart, Bare, Quoted, AfterQuote}
 

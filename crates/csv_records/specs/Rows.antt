@@ -1,5 +1,5 @@
 -- The rows of a text, after the machine of `csv`: what it reads, and whether a field began with a quote.
-use Rattle.std.specs.Prelude.{ℕ, List, [], ◌∷◌, ◌++◌, ◌==◌, ◌&&◌, ◌||◌, Bool, true, false, None, if◌then◌else◌}
+use Rattle.std.specs.Prelude.{ℕ, List, [], ◌∷◌, ◌==◌, ◌&&◌, ◌||◌, Bool, true, false, None, if◌then◌else◌}
 use Rattle.std.specs.List.{onto_first}
 use Rattle.csv.specs.Machine.{ends_at_end, field_after, is_end, step}
 use Rattle.csv.specs.declared.parser.Action.{Action}

@@ -1,8 +1,7 @@
 -- What is read and written of a zone.
-use Rattle.std.proofs.Common.{◌≡◌, ◌≤◌, ◌<◌, ◌+◌, ℕ, suc, zero, List, [], ◌∷◌, ◌++◌, ◌==◌, Bool, true, false, not, cond, Option, refl, sym, ap, ◌∙◌, subst, length, take, drop, arith, append-nil}
+use Rattle.std.proofs.Common.{◌≡◌, ◌≤◌, ◌+◌, ℕ, suc, zero, List, [], ◌∷◌, ◌++◌, Bool, true, false, not, cond, Option, refl, sym, ap, ◌∙◌, subst, length, take, drop, arith}
 use Rattle.std.proofs.lemmas.List.{drop-take, length-take, length-drop, take-take}
 use Rattle.std.proofs.lemmas.List.Sums.{count_by-le-length, length-filter, sum_by-cons}
-use Rattle.std.proofs.lemmas.Bool.{eqb-true}
 use Rattle.std.proofs.KnownBytes.{Appends-nil}
 use Rattle.std.specs.Io.KnownBytes.{Appends}
 use Rattle.std.specs.Prelude.{IfSome}
@@ -12,11 +11,10 @@ use Rattle.csv_records.specs.Lemmas.RecordLaws.{concat-records_of}
 use Rattle.csv_records.specs.Records.{records_of}
 use Rattle.zone_index.specs.Asking.{Asks, AsksWithin, IsWithin}
 use Rattle.zone_index.specs.Records.{is_same, kept_of}
-use Rattle.zone_index.specs.Zones.{Agree, AsksOfZone, IsHeld, IsWayOf, IsZoneOf, is_skip, is_skipped, way_of, zone_bytes, zone_records}
+use Rattle.zone_index.specs.Zones.{Agree, AsksOfZone, IsHeld, is_skip, way_of, zone_bytes, zone_records}
 use Rattle.zone_index.specs.declared.read_at.Asked.{Asked}
 use Rattle.zone_index.specs.declared.records.Decision.{Decision}
 use Rattle.zone_index.specs.declared.zones.Way.{Way}
-use Rattle.zone_index.specs.declared.zones.Way.TheVariants as ways
 use Rattle.zone_index.specs.declared.zones.Zone.{Zone}
 use Rattle.zone_index.proofs.Asking.{asks_more}
 

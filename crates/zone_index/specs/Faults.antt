@@ -4,7 +4,6 @@ use Rattle.zone_index.specs.declared.faults.Fault.{Fault}
 use Rattle.zone_index.specs.declared.faults.Fault.TheVariants as faults
 use Rattle.zone_index.specs.declared.faults.RecordFault.{RecordFault}
 use Rattle.zone_index.specs.declared.faults.RecordFault.TheVariants as record_faults
-use Rattle.zone_index.specs.declared.faults.Refusal.{Refusal}
 
 -- the fault, where the bytes that a record was given in stand at this place
 abbrev pub fault_at : ℕ → RecordFault → Fault

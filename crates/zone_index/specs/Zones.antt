@@ -3,7 +3,7 @@ use Rattle.std.specs.Prelude.{◌≡◌, ◌≤◌, ◌+◌, ◌==◌, ℕ, List
 use Rattle.std.specs.List.{All, AllPass, flat_map}
 use Rattle.csv_records.specs.Records.{records_of}
 use Rattle.zone_index.specs.Records.{kept_of}
-use Rattle.zone_index.specs.Asking.{Asks, IsWithin}
+use Rattle.zone_index.specs.Asking.{IsWithin}
 use Rattle.zone_index.specs.declared.read_at.Asked.{Asked}
 use Rattle.zone_index.specs.declared.records.Decision.{Decision}
 use Rattle.zone_index.specs.declared.records.Decision.TheVariants as decisions

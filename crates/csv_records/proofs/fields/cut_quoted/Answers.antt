@@ -1,5 +1,5 @@
 -- A quote for two, the quote that closes, and none.
-use Rattle.std.proofs.Common.{rules, sym, ap, ◌∙◌, ◌+◌, ◌++◌, ◌∷◌, [], List, ℕ, take, ◌≡◌, true}
+use Rattle.std.proofs.Common.{rules, ap, ◌∙◌, ◌+◌, ◌++◌, ◌∷◌, [], List, ℕ, true}
 use Rattle.std.proofs.lemmas.List.{take_rest}
 use Rattle.csv_records.proofs.Fielding.{quote_closes, quote_doubled, quote_lacks}
 use Rattle.csv_records.proofs.fields.cut_quoted.Goals as goal

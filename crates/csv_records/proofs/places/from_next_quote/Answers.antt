@@ -1,9 +1,8 @@
 -- Up to the next quote nothing happens.
-use Rattle.std.proofs.Common.{rules, sym, ap, subst, ◌∙◌}
+use Rattle.std.proofs.Common.{sym, ap, ◌∙◌}
 use Rattle.std.proofs.lemmas.List.{take_rest}
 use Rattle.csv.specs.declared.parser.State.TheVariants as st
 use Rattle.csv_records.specs.Rows.{state_after}
-use Rattle.csv_records.specs.Records.{state_at}
 use Rattle.csv_records.proofs.Walking.{at_next_quote, no_next_quote}
 use Rattle.csv_records.proofs.places.from_next_quote.Goals as goal
 

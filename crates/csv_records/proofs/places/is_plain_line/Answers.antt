@@ -1,5 +1,5 @@
 -- A line without quotes leads from outside of quotes to the start of a record.
-use Rattle.std.proofs.Common.{rules, sym, ap, ◌∙◌, not}
+use Rattle.std.proofs.Common.{ap, ◌∙◌, not}
 use Rattle.csv_records.proofs.Walking.{after_plain_line}
 use Rattle.csv_records.proofs.places.is_plain_line.Goals as goal
 

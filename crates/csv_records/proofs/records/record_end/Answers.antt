@@ -1,5 +1,5 @@
 -- A line that ends the record, one that does not, and none.
-use Rattle.std.proofs.Common.{◌≡◌, ◌-◌, ◌+◌, ℕ, ap, arith, take, drop, None, Some}
+use Rattle.std.proofs.Common.{ℕ, ap, arith, take, drop}
 use Rattle.std.proofs.lemmas.List.{take_rest}
 use Rattle.csv_records.specs.Records.{state_at}
 use Rattle.csv_records.proofs.Cutting.{ended, goes_on, next_feed, only_rest}

@@ -1,5 +1,5 @@
 -- A zone more, and all of them.
-use Rattle.std.proofs.Common.{rules, arith, sym, ◌∙◌, subst, ℕ, List, Option}
+use Rattle.std.proofs.Common.{rules, sym, subst, ℕ, List, Option}
 use Rattle.zone_index.specs.Zones.{IsHeld, IsZoneOf}
 use Rattle.zone_index.proofs.Finding.{asks_part, at_item, total_all, total_more}
 use Rattle.zone_index.proofs.counting.count.Goals as goal

@@ -1,7 +1,7 @@
 -- What is written of a zone, in each of the three ways.
 use Rattle.std.proofs.Common.{subst, ◌∙◌}
 use Rattle.zone_index.specs.Zones.{IsWayOf}
-use Rattle.zone_index.proofs.Answering.{all_written, found_written, none_written}
+use Rattle.zone_index.proofs.Answering.{all_written, none_written}
 use Rattle.zone_index.proofs.search.answer_zone.Goals as goal
 
 pub returns-in-Skip-clause-written : goal.returns-in-Skip-clause-written

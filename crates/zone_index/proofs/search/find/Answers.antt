@@ -1,5 +1,5 @@
 -- A zone more, and all of them.
-use Rattle.std.proofs.Common.{rules, arith, sym, ap, ◌∙◌, subst, ℕ, List, Option}
+use Rattle.std.proofs.Common.{rules, arith, sym, ap, subst, ℕ, List, Option}
 use Rattle.zone_index.specs.Zones.{IsHeld, IsZoneOf, is_copied, is_copy, is_search, is_searched, is_skip, is_skipped}
 use Rattle.zone_index.proofs.Finding.{asks_zone, at_item, counted_more, found_more, found_whole}
 use Rattle.zone_index.proofs.search.find.Goals as goal

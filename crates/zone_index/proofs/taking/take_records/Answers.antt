@@ -1,5 +1,5 @@
 -- A line more, none, and enough.
-use Rattle.std.proofs.Common.{arith, sym, ap, ◌∙◌, ◌≡◌, ℕ, List, [], length, drop, inl}
+use Rattle.std.proofs.Common.{arith, sym, ap, ◌∙◌, ◌≡◌, ℕ, List, length, drop, inl}
 use Rattle.std.proofs.lemmas.List.{take_rest}
 use Rattle.csv_records.specs.Records.{is_start, state_at}
 use Rattle.zone_index.proofs.TakeMore.{one_started, stays, stays_below, taken, taking_more}
