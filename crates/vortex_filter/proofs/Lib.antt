@@ -1,6 +1,9 @@
 pub mod Admitting
 pub mod Bounds
 pub mod Cells
+pub mod CheckLaws
+pub mod CheckSteps
+pub mod CoerceLaws
 pub mod Exactness
 pub mod Loops
 pub mod Occurrence
@@ -12,3 +15,4 @@ pub mod Searches
 pub mod Soundness
 pub mod Steps
 pub mod Tests
+pub mod VariantSteps

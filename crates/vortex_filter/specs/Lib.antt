@@ -1,3 +1,7 @@
+pub mod Asked
+pub mod CheckSteps
+pub mod Checking
+pub mod Coercing
 pub mod Exactness
 pub mod Examples
 pub mod Formula
@@ -7,6 +11,8 @@ pub mod OutcomeSets
 pub mod Outcomes
 pub mod Prefixes
 pub mod Pruning
+pub mod Rows
 pub mod Searching
 pub mod Truths
+pub mod Variants
 pub mod Words

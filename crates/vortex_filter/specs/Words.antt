@@ -1,8 +1,12 @@
 -- The words of this crate's clauses, from one place.
 pub use Rattle.std.specs.Cmp.Lexicographic.{slice_cmp}
+pub use Rattle.std.specs.List.{list_all}
 pub use Rattle.std.specs.Option.{option_copied}
 pub use Rattle.std.specs.Ordering.{nat_cmp}
-pub use Rattle.vortex_dtype.specs.TypeOf.{type_of}
+pub use Rattle.vortex_dtype.specs.TypeOf.{dtype_trees, type_of}
+pub use Rattle.vortex_filter.specs.Asked.{demand_of}
+pub use Rattle.vortex_filter.specs.CheckSteps.{answer_behind, answer_of_both, behind, checked, checked_test, holds_strings, lacks_order, suits}
+pub use Rattle.vortex_filter.specs.Checking.{FitsColumns, IsOfType, RefusesFirst, tests}
 pub use Rattle.vortex_filter.specs.Exactness.{ComparisonsAreExact, ComparisonsOccur, PrefixesAreExact}
 pub use Rattle.vortex_filter.specs.Formula.{Formula, both, cell_at, compare_truth, either, formula, is_match, lent_cell, member_truth, negation, null_truth, range, range_truth, truth}
 pub use Rattle.vortex_filter.specs.Operators.{holds}
@@ -18,3 +22,5 @@ pub use Rattle.vortex_filter.specs.declared.truth.Truth.TheVariants.{True}
 pub use Rattle.vortex_statistics.specs.Cells.{cell_of, cell_order, is_null_cell, order_from_above}
 pub use Rattle.vortex_statistics.specs.Statistics.{known, known_bound}
 pub use Rattle.vortex_value.specs.Equality.{same_type}
+pub use Rattle.vortex_value.specs.Size.{capped}
+pub use Rattle.vortex_value.specs.Values.Scalars.{scalar_type}

@@ -5,6 +5,7 @@
 #![tactic(auto)]
 
 mod building;
+mod check;
 mod column;
 mod copying;
 mod error;
@@ -18,6 +19,7 @@ mod prefix;
 mod prefix_pruning;
 mod pruning;
 mod truth;
+mod variants;
 
 pub use column::Column;
 pub use error::FilterError;
