@@ -6,11 +6,13 @@ pub mod CheckSteps
 pub mod CoerceLaws
 pub mod Exactness
 pub mod Loops
+pub mod MakeSteps
 pub mod Occurrence
 pub mod Plain
 pub mod PrefixExact
 pub mod PrefixLaws
 pub mod PrefixSteps
+pub mod ResidualLaws
 pub mod Searches
 pub mod Soundness
 pub mod Steps

@@ -5,12 +5,14 @@ pub mod Coercing
 pub mod Exactness
 pub mod Examples
 pub mod Formula
+pub mod Makes
 pub mod Operators
 pub mod Orders
 pub mod OutcomeSets
 pub mod Outcomes
 pub mod Prefixes
 pub mod Pruning
+pub mod Residual
 pub mod Rows
 pub mod Searching
 pub mod Truths

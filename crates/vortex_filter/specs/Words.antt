@@ -8,13 +8,14 @@ pub use Rattle.vortex_filter.specs.Asked.{demand_of}
 pub use Rattle.vortex_filter.specs.CheckSteps.{answer_behind, answer_of_both, behind, checked, checked_test, holds_strings, lacks_order, suits}
 pub use Rattle.vortex_filter.specs.Checking.{FitsColumns, IsOfType, RefusesFirst, tests}
 pub use Rattle.vortex_filter.specs.Exactness.{ComparisonsAreExact, ComparisonsOccur, PrefixesAreExact}
-pub use Rattle.vortex_filter.specs.Formula.{Formula, both, cell_at, compare_truth, either, formula, is_match, lent_cell, member_truth, negation, null_truth, range, range_truth, truth}
+pub use Rattle.vortex_filter.specs.Formula.{Formula, both, cell_at, compare_truth, comparison, constant, either, formula, is_match, lent_cell, member_truth, membership, negation, null_truth, prefix_test, range, range_truth, truth}
 pub use Rattle.vortex_filter.specs.Operators.{holds}
 pub use Rattle.vortex_filter.specs.Orders.{bound_order, is_plain, is_plain_bound, may_fail, may_hold, orders, orders_between, rules_out, settles}
 pub use Rattle.vortex_filter.specs.OutcomeSets.{allows, any, is_only_true, only, outcomes_and, outcomes_not, outcomes_or}
 pub use Rattle.vortex_filter.specs.Outcomes.{bound_prefix_order, compare_outcomes, is_prefix, member_outcomes, never_begins, null_outcomes, outcomes, prefix_outcomes, prefix_outcomes_by, range_outcomes, unknown_outcomes, value_outcomes}
 pub use Rattle.vortex_filter.specs.Prefixes.{cell_prefix_order, prefix_truth}
 pub use Rattle.vortex_filter.specs.Pruning.{Covers, MatchesEachRow, MatchesNoRow}
+pub use Rattle.vortex_filter.specs.Residual.{IsBare, SameOnRows, conjunction, disjunction, is_constant_false, is_constant_true, reduced, residual, size, sole}
 pub use Rattle.vortex_filter.specs.Searching.{SearchesFindAll, ZonesAreSearched}
 pub use Rattle.vortex_filter.specs.Truths.{truth_and, truth_not, truth_of, truth_or}
 pub use Rattle.vortex_filter.specs.declared.error.FilterError.TheVariants.{OutOfMemory}

@@ -7,6 +7,7 @@
 mod building;
 mod check;
 mod column;
+mod copies;
 mod copying;
 mod error;
 mod evaluation;

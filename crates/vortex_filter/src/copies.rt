@@ -1,0 +1,246 @@
+//! Copies of filters, and filters made of parts, in memory of their own.
+
+ghost use Rattle.std.specs.Prelude.{◌≡◌, Err, IfErr, IfOk, MatchResult, map};
+ghost use Rattle.vortex_filter.specs.Makes.{Makes, OfParts};
+ghost use Rattle.vortex_filter.specs.Words.{OutOfMemory, both, cell_of, comparison, either, formula, membership, negation, prefix_test, range};
+
+use crate::error::FilterError;
+use crate::filter::Filter;
+use crate::operator::CompareOperator;
+use std::alloc::Global;
+use vortex_value::Scalar;
+
+impl Filter {
+    /// A copy with memory of its own. `OutOfMemory` is its only refusal.
+    pub fn clone(&self, alloc: Global) -> Result<Filter, FilterError>
+        ensures copied { IfOk result (λ copy. formula copy ≡ formula self.now) }
+        ensures refused { IfErr result (λ e. e ≡ OutOfMemory) }
+    {
+        copy(alloc, self)
+    }
+}
+
+/// A copy of a filter.
+#[tactic(auto, using(crate::proofs::Steps::shown))]
+pub(crate) fn copy(alloc: Global, filter: &Filter) -> Result<Filter, FilterError>
+    ensures { Makes (formula filter.now) result }
+{
+    match filter {
+        Filter::Constant(truth) => Ok(Filter::Constant(*truth)),
+        Filter::Compare {
+            column,
+            operator,
+            literal,
+        } => copy_comparison(alloc, *column, *operator, literal),
+        Filter::IsNull { column } => Ok(Filter::IsNull { column: *column }),
+        Filter::In { column, literals } => copy_membership(alloc, *column, literals),
+        Filter::Between {
+            column,
+            lower,
+            upper,
+        } => copy_range(alloc, *column, lower, upper),
+        Filter::StartsWith { column, prefix } => copy_prefix(alloc, *column, prefix),
+        Filter::And(left, right) => {
+            let first = copy(alloc, left);
+            conjoin(alloc, first, copy(alloc, right))
+        }
+        Filter::Or(left, right) => {
+            let first = copy(alloc, left);
+            disjoin(alloc, first, copy(alloc, right))
+        }
+        Filter::Not(inner) => negate(alloc, copy(alloc, inner)),
+    }
+}
+
+// ---- tests
+
+#[tactic(auto, using(crate::proofs::Steps::shown))]
+fn copy_comparison(
+    alloc: Global,
+    column: usize,
+    operator: CompareOperator,
+    literal: &Scalar,
+) -> Result<Filter, FilterError>
+    ensures { Makes (comparison column operator (cell_of literal.now)) result }
+{
+    let literal = copy_scalar(alloc, literal)?;
+    Ok(Filter::Compare {
+        column,
+        operator,
+        literal,
+    })
+}
+
+#[tactic(auto, using(crate::proofs::Steps::shown))]
+fn copy_membership(alloc: Global, column: usize, literals: &[Scalar]) -> Result<Filter, FilterError>
+    ensures { Makes (membership column (map cell_of literals.now)) result }
+{
+    let literals = copy_scalars(alloc, literals)?;
+    Ok(Filter::In { column, literals })
+}
+
+#[tactic(auto, using(crate::proofs::Steps::shown))]
+fn copy_range(
+    alloc: Global,
+    column: usize,
+    lower: &Scalar,
+    upper: &Scalar,
+) -> Result<Filter, FilterError>
+    ensures { Makes (range column (cell_of lower.now) (cell_of upper.now)) result }
+{
+    let lower = copy_scalar(alloc, lower)?;
+    match copy_scalar(alloc, upper) {
+        Ok(upper) => Ok(Filter::Between {
+            column,
+            lower,
+            upper,
+        }),
+        Err(cause) => {
+            drop(lower);
+            Err(cause)
+        }
+    }
+}
+
+#[tactic(auto, using(crate::proofs::Steps::shown))]
+fn copy_prefix(alloc: Global, column: usize, prefix: &Scalar) -> Result<Filter, FilterError>
+    ensures { Makes (prefix_test column (cell_of prefix.now)) result }
+{
+    let prefix = copy_scalar(alloc, prefix)?;
+    Ok(Filter::StartsWith { column, prefix })
+}
+
+/// A copy of a scalar.
+#[tactic(auto, using(crate::proofs::MakeSteps::copied_cell))]
+pub(crate) fn copy_scalar(alloc: Global, scalar: &Scalar) -> Result<Scalar, FilterError>
+    ensures { MatchResult result
+        (λ copy. cell_of copy ≡ cell_of scalar.now)
+        (λ e. e ≡ OutOfMemory) }
+{
+    match scalar.clone(alloc) {
+        Ok(copy) => Ok(copy),
+        Err(cause) => {
+            drop(cause);
+            Err(FilterError::OutOfMemory)
+        }
+    }
+}
+
+/// Copies of the scalars, in order.
+fn copy_scalars(alloc: Global, scalars: &[Scalar]) -> Result<Vec<Scalar>, FilterError>
+    ensures { MatchResult result
+        (λ copies. map cell_of copies.items ≡ map cell_of scalars.now)
+        (λ e. e ≡ OutOfMemory) }
+{
+    let mut copies = Vec::with_capacity(alloc, scalars.len())?;
+    for scalar in scalars {
+        copies.push(copy_scalar(alloc, scalar)?)?;
+    }
+    Ok(copies)
+}
+
+// ---- parts
+
+/// Both parts together, if both were made; else the refusal of the first that was not.
+#[tactic(auto, using(crate::proofs::Steps::shown))]
+pub(crate) fn conjoin(
+    alloc: Global,
+    left: Result<Filter, FilterError>,
+    right: Result<Filter, FilterError>,
+) -> Result<Filter, FilterError>
+    ensures { OfParts (λ f g. Makes (both (formula f) (formula g)) result)
+        (λ e. result ≡ Err e) left right }
+{
+    match boxed_parts(alloc, left, right) {
+        Ok((left, right)) => Ok(Filter::And(left, right)),
+        Err(cause) => Err(cause),
+    }
+}
+
+/// One part or the other, if both were made; else the refusal of the first that was not.
+#[tactic(auto, using(crate::proofs::Steps::shown))]
+pub(crate) fn disjoin(
+    alloc: Global,
+    left: Result<Filter, FilterError>,
+    right: Result<Filter, FilterError>,
+) -> Result<Filter, FilterError>
+    ensures { OfParts (λ f g. Makes (either (formula f) (formula g)) result)
+        (λ e. result ≡ Err e) left right }
+{
+    match boxed_parts(alloc, left, right) {
+        Ok((left, right)) => Ok(Filter::Or(left, right)),
+        Err(cause) => Err(cause),
+    }
+}
+
+/// The part negated, if it was made.
+#[tactic(auto, using(crate::proofs::Steps::shown))]
+pub(crate) fn negate(
+    alloc: Global,
+    inner: Result<Filter, FilterError>,
+) -> Result<Filter, FilterError>
+    ensures { MatchResult inner
+        (λ f. Makes (negation (formula f)) result)
+        (λ e. result ≡ Err e) }
+{
+    match inner {
+        Ok(inner) => Ok(Filter::Not(boxed(alloc, inner)?)),
+        Err(cause) => Err(cause),
+    }
+}
+
+/// Both parts in boxes, if both were made; else the refusal of the first that was not.
+fn boxed_parts(
+    alloc: Global,
+    left: Result<Filter, FilterError>,
+    right: Result<Filter, FilterError>,
+) -> Result<(Box<Filter>, Box<Filter>), FilterError>
+    ensures { OfParts (λ f g. MatchResult result
+        (λ boxes. (boxes.0.value ≡ f) × (boxes.1.value ≡ g))
+        (λ e. e ≡ OutOfMemory))
+        (λ e. result ≡ Err e) left right }
+{
+    match left {
+        Ok(left) => match right {
+            Ok(right) => boxed_both(alloc, left, right),
+            Err(cause) => {
+                drop(left);
+                Err(cause)
+            }
+        },
+        Err(cause) => {
+            drop(right);
+            Err(cause)
+        }
+    }
+}
+
+fn boxed_both(
+    alloc: Global,
+    left: Filter,
+    right: Filter,
+) -> Result<(Box<Filter>, Box<Filter>), FilterError>
+    ensures { MatchResult result
+        (λ boxes. (boxes.0.value ≡ left) × (boxes.1.value ≡ right))
+        (λ e. e ≡ OutOfMemory) }
+{
+    match boxed(alloc, left) {
+        Ok(left) => match boxed(alloc, right) {
+            Ok(right) => Ok((left, right)),
+            Err(cause) => {
+                drop(left);
+                Err(cause)
+            }
+        },
+        Err(cause) => {
+            drop(right);
+            Err(cause)
+        }
+    }
+}
+
+fn boxed(alloc: Global, filter: Filter) -> Result<Box<Filter>, FilterError>
+    ensures { MatchResult result (λ made. made.value ≡ filter) (λ e. e ≡ OutOfMemory) }
+{
+    Ok(Box::new(alloc, filter)?)
+}
