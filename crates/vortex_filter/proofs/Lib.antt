@@ -14,6 +14,7 @@ pub mod PrefixLaws
 pub mod PrefixSteps
 pub mod ResidualLaws
 pub mod Searches
+pub mod SimplifySteps
 pub mod Soundness
 pub mod Steps
 pub mod Tests

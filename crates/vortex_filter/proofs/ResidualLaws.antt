@@ -9,7 +9,7 @@ use Rattle.vortex_filter.specs.declared.truth.Truth.TheVariants.{False, Unknown,
 use Rattle.vortex_filter.specs.Formula.{Formula, constant, comparison, null_test, membership, range, prefix_test, both, either, negation, truth}
 use Rattle.vortex_filter.specs.OutcomeSets.{allows, only}
 use Rattle.vortex_filter.specs.Outcomes.{outcomes}
-use Rattle.vortex_filter.specs.Residual.{conjunction, disjunction, is_constant_false, is_constant_true, reduced, residual, settled_as, size, sole, sole_of}
+use Rattle.vortex_filter.specs.Residual.{conjunction, disjunction, is_constant, reduced, residual, settled_as, size, sole, sole_of}
 use Rattle.vortex_filter.specs.Truths.{truth_and, truth_not, truth_or}
 
 -- ---- truth
@@ -58,20 +58,20 @@ or_false_right False = refl
 or_false_right Unknown = refl
 or_false_right True = refl
 
-constant_true : (f : Formula) (row : List Cell) → is_constant_true f ≡ true → truth f row ≡ True
+constant_true : (f : Formula) (row : List Cell) → is_constant True f ≡ true → truth f row ≡ True
 constant_true (constant True) row e = refl
 constant_true (constant False) row e = absurd (false≢true e)
 constant_true (constant Unknown) row e = absurd (false≢true e)
 constant_true _ row e = absurd (false≢true e)
 
-constant_false : (f : Formula) (row : List Cell) → is_constant_false f ≡ true → truth f row ≡ False
+constant_false : (f : Formula) (row : List Cell) → is_constant False f ≡ true → truth f row ≡ False
 constant_false (constant False) row e = refl
 constant_false (constant True) row e = absurd (false≢true e)
 constant_false (constant Unknown) row e = absurd (false≢true e)
 constant_false _ row e = absurd (false≢true e)
 
 conjunction_truth : (f g : Formula) (row : List Cell) → truth (conjunction f g) row ≡ truth_and (truth f row) (truth g row)
-conjunction_truth f g row = by_tests (is_constant_true f) (is_constant_true g) (constant_true f row) (constant_true g row)
+conjunction_truth f g row = by_tests (is_constant True f) (is_constant True g) (constant_true f row) (constant_true g row)
   where
     by_tests : (a b : Bool) → (a ≡ true → truth f row ≡ True) → (b ≡ true → truth g row ≡ True) → truth (cond a g (cond b f (both f g))) row ≡ truth_and (truth f row) (truth g row)
     by_tests true b h k = sym (ap (λ t. truth_and t (truth g row)) (h refl) ∙ and_true_left (truth g row))
@@ -79,7 +79,7 @@ conjunction_truth f g row = by_tests (is_constant_true f) (is_constant_true g) (
     by_tests false false h k = refl
 
 disjunction_truth : (f g : Formula) (row : List Cell) → truth (disjunction f g) row ≡ truth_or (truth f row) (truth g row)
-disjunction_truth f g row = by_tests (is_constant_false f) (is_constant_false g) (constant_false f row) (constant_false g row)
+disjunction_truth f g row = by_tests (is_constant False f) (is_constant False g) (constant_false f row) (constant_false g row)
   where
     by_tests : (a b : Bool) → (a ≡ true → truth f row ≡ False) → (b ≡ true → truth g row ≡ False) → truth (cond a g (cond b f (either f g))) row ≡ truth_or (truth f row) (truth g row)
     by_tests true b h k = sym (ap (λ t. truth_or t (truth g row)) (h refl) ∙ or_false_left (truth g row))
@@ -137,12 +137,12 @@ residual_size ss (both f g) =
     let h : size (residual ss f) ≤ size f = residual_size ss f in
     let k : size (residual ss g) ≤ size g = residual_size ss g in
     settled_size (sole (outcomes (both f g) ss)) (conjunction (residual ss f) (residual ss g)) (1 + size f + size g) (omega arith)
-    (choice_size (is_constant_true (residual ss f)) (is_constant_true (residual ss g)) (residual ss f) (residual ss g) (both (residual ss f) (residual ss g)) (1 + size f + size g) (omega arith) (omega arith) (omega arith))
+    (choice_size (is_constant True (residual ss f)) (is_constant True (residual ss g)) (residual ss f) (residual ss g) (both (residual ss f) (residual ss g)) (1 + size f + size g) (omega arith) (omega arith) (omega arith))
 residual_size ss (either f g) =
     let h : size (residual ss f) ≤ size f = residual_size ss f in
     let k : size (residual ss g) ≤ size g = residual_size ss g in
     settled_size (sole (outcomes (either f g) ss)) (disjunction (residual ss f) (residual ss g)) (1 + size f + size g) (omega arith)
-    (choice_size (is_constant_false (residual ss f)) (is_constant_false (residual ss g)) (residual ss f) (residual ss g) (either (residual ss f) (residual ss g)) (1 + size f + size g) (omega arith) (omega arith) (omega arith))
+    (choice_size (is_constant False (residual ss f)) (is_constant False (residual ss g)) (residual ss f) (residual ss g) (either (residual ss f) (residual ss g)) (1 + size f + size g) (omega arith) (omega arith) (omega arith))
 residual_size ss (negation f) =
     let h : size (residual ss f) ≤ size f = residual_size ss f in
     settled_size (sole (outcomes (negation f) ss)) (negation (residual ss f)) (1 + size f) (omega arith) (omega arith)

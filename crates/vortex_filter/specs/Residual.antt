@@ -28,21 +28,25 @@ settled_as (Some t) f = constant t
 
 -- ---- connectives
 
-abbrev pub is_constant_true : Formula → Bool
-is_constant_true (constant True) = true
-is_constant_true _ = false
+-- whether the two are one truth
+abbrev pub same_truths : Truth → Truth → Bool
+same_truths False False = true
+same_truths Unknown Unknown = true
+same_truths True True = true
+same_truths _ _ = false
 
-abbrev pub is_constant_false : Formula → Bool
-is_constant_false (constant False) = true
-is_constant_false _ = false
+-- whether the formula is this constant
+abbrev pub is_constant : Truth → Formula → Bool
+is_constant t (constant s) = same_truths t s
+is_constant t _ = false
 
 -- both, without a True
 abbrev pub conjunction : Formula → Formula → Formula
-conjunction f g = if is_constant_true f then g else (if is_constant_true g then f else both f g)
+conjunction f g = if is_constant True f then g else (if is_constant True g then f else both f g)
 
 -- either, without a False
 abbrev pub disjunction : Formula → Formula → Formula
-disjunction f g = if is_constant_false f then g else (if is_constant_false g then f else either f g)
+disjunction f g = if is_constant False f then g else (if is_constant False g then f else either f g)
 
 -- ---- what is left
 

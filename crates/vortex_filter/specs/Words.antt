@@ -15,7 +15,7 @@ pub use Rattle.vortex_filter.specs.OutcomeSets.{allows, any, is_only_true, only,
 pub use Rattle.vortex_filter.specs.Outcomes.{bound_prefix_order, compare_outcomes, is_prefix, member_outcomes, never_begins, null_outcomes, outcomes, prefix_outcomes, prefix_outcomes_by, range_outcomes, unknown_outcomes, value_outcomes}
 pub use Rattle.vortex_filter.specs.Prefixes.{cell_prefix_order, prefix_truth}
 pub use Rattle.vortex_filter.specs.Pruning.{Covers, MatchesEachRow, MatchesNoRow}
-pub use Rattle.vortex_filter.specs.Residual.{IsBare, SameOnRows, conjunction, disjunction, is_constant_false, is_constant_true, reduced, residual, size, sole}
+pub use Rattle.vortex_filter.specs.Residual.{IsBare, SameOnRows, conjunction, disjunction, is_constant, is_constant_false, is_constant_true, reduced, residual, same_truths, size, sole}
 pub use Rattle.vortex_filter.specs.Searching.{SearchesFindAll, ZonesAreSearched}
 pub use Rattle.vortex_filter.specs.Truths.{truth_and, truth_not, truth_of, truth_or}
 pub use Rattle.vortex_filter.specs.declared.error.FilterError.TheVariants.{OutOfMemory}

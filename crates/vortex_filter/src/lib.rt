@@ -19,6 +19,7 @@ mod outcomes;
 mod prefix;
 mod prefix_pruning;
 mod pruning;
+mod simplify;
 mod truth;
 mod variants;
 

@@ -1,9 +1,8 @@
 //! What is left of a filter on the rows of a zone of which statistics are known.
 
-ghost use Rattle.std.specs.Prelude.{◌≡◌, ◌≤◌, IfErr, IfOk, IsOkAnd, MatchResult, None, map};
-ghost use Rattle.vortex_filter.specs.Makes.{Makes};
-ghost use Rattle.vortex_filter.specs.Words.{IsBare, OutOfMemory, SameOnRows, conjunction, constant, disjunction, formula, is_constant_false, is_constant_true, known, negation, only, outcomes, reduced, residual, size, sole};
-ghost use Rattle.vortex_filter.specs.Makes.{OfParts};
+ghost use Rattle.std.specs.Prelude.{◌≡◌, ◌≤◌, Err, IfErr, IfOk, IsOkAnd, map};
+ghost use Rattle.vortex_filter.specs.Makes.{Leaves, Makes, MakesUnlessBare, OfParts, is_made_false, is_made_true};
+ghost use Rattle.vortex_filter.specs.Words.{IsBare, OutOfMemory, SameOnRows, conjunction, constant, disjunction, formula, is_constant, known, negation, only, outcomes, reduced, residual, same_truths, size, sole};
 ghost use Rattle.vortex_filter.specs.declared.truth.Truth.{Truth};
 
 use crate::copies::{conjoin, copy, disjoin, negate};
@@ -97,7 +96,7 @@ fn sole(outcomes: Outcomes) -> Option<Truth>
     }
 }
 
-/// Both filters together, without a True.
+/// Both filters together, without a True; else the refusal of the first that was not made.
 fn without_true(
     alloc: Global,
     left: Result<Filter, FilterError>,
@@ -106,8 +105,82 @@ fn without_true(
     ensures { OfParts (λ f g. Makes (conjunction (formula f) (formula g)) result)
         (λ e. result ≡ Err e) left right }
 {
-    match left {
-        Ok(left) if is_true(&left) => right,
-        _ => x,
+    if is_true(&left) {
+        drop(left);
+        return right;
+    }
+    if is_true(&right) {
+        drop(right);
+        return left;
+    }
+    conjoin(alloc, left, right)
+}
+
+/// One filter or the other, without a False; else the refusal of the first that was not made.
+fn without_false(
+    alloc: Global,
+    left: Result<Filter, FilterError>,
+    right: Result<Filter, FilterError>,
+) -> Result<Filter, FilterError>
+    ensures { OfParts (λ f g. Makes (disjunction (formula f) (formula g)) result)
+        (λ e. result ≡ Err e) left right }
+{
+    if is_false(&left) {
+        drop(left);
+        return right;
+    }
+    if is_false(&right) {
+        drop(right);
+        return left;
+    }
+    disjoin(alloc, left, right)
+}
+
+/// Whether it is the constant True.
+fn is_true(made: &Result<Filter, FilterError>) -> bool
+    ensures { result ≡ is_made_true made.now }
+{
+    match made {
+        Ok(filter) => is_constant(filter, Truth::True),
+        Err(_) => false,
+    }
+}
+
+/// Whether it is the constant False.
+fn is_false(made: &Result<Filter, FilterError>) -> bool
+    ensures { result ≡ is_made_false made.now }
+{
+    match made {
+        Ok(filter) => is_constant(filter, Truth::False),
+        Err(_) => false,
+    }
+}
+
+/// Whether the filter is this constant.
+#[tactic(auto, using(crate::proofs::Steps::shown))]
+fn is_constant(filter: &Filter, truth: Truth) -> bool
+    ensures { result ≡ is_constant truth (formula filter.now) }
+{
+    match filter {
+        Filter::Constant(constant) => are_same(truth, *constant),
+        Filter::Compare { .. } => false,
+        Filter::IsNull { .. } => false,
+        Filter::In { .. } => false,
+        Filter::Between { .. } => false,
+        Filter::StartsWith { .. } => false,
+        Filter::And(_, _) => false,
+        Filter::Or(_, _) => false,
+        Filter::Not(_) => false,
+    }
+}
+
+fn are_same(truth: Truth, other: Truth) -> bool
+    ensures { result ≡ same_truths truth other }
+{
+    match (truth, other) {
+        (Truth::False, Truth::False) => true,
+        (Truth::Unknown, Truth::Unknown) => true,
+        (Truth::True, Truth::True) => true,
+        _ => false,
     }
 }
