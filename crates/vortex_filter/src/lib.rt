@@ -8,7 +8,6 @@ mod building;
 mod check;
 mod column;
 mod copies;
-mod copying;
 mod error;
 mod evaluation;
 mod filter;
