@@ -2,3 +2,4 @@ mod GivenZeros
 mod KeySteps
 mod KeysCounted
 mod ListCasts
+mod ReadBack

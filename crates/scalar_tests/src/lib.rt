@@ -33,6 +33,7 @@ mod round_trips;
 mod rust_values;
 #[cfg(test)]
 mod sizes;
+pub mod statistics_laws;
 #[cfg(test)]
 mod streams;
 #[cfg(test)]

@@ -52,7 +52,6 @@ eight_first (a ∷ b ∷ []) l = absurd (omega arith)
 eight_first (a ∷ []) l = absurd (omega arith)
 eight_first [] l = absurd (omega arith)
 
-
 pub count_read : (bs : List ℕ) (n : ℕ) → AreBytes bs → 8 ≤ length bs
     → n ≡ from_be_bytes w64 (get_or bs 0 0 ∷ get_or bs 1 0 ∷ get_or bs 2 0 ∷ get_or bs 3 0 ∷ get_or bs 4 0 ∷ get_or bs 5 0 ∷ get_or bs 6 0 ∷ get_or bs 7 0 ∷ []) → bs ≡ big_endian 8 n ++ drop 8 bs
 count_read bs n bytes long is =

@@ -91,8 +91,8 @@ same_known : (t : TypeTree) (r s : Known) → AreOf t r → AreOf t s → SaySam
 same_known t r s g h e =
     let made : ℕ → Option ℕ → Option KnownBound → Option KnownBound → Known = λ m n l u. record { row_count = m; null_count = n; lower = l; upper = u } in
     ap (λ m. made m r.null_count r.lower r.upper) e.rows ∙ ap (λ n. made s.row_count n r.lower r.upper) e.nulls
-      ∙ ap (λ l. made s.row_count s.null_count l r.upper) (same_bound t r.lower s.lower g.lower h.lower e.lower)
-      ∙ ap (λ u. made s.row_count s.null_count s.lower u) (same_bound t r.upper s.upper g.upper h.upper e.upper)
+    ∙ ap (λ l. made s.row_count s.null_count l r.upper) (same_bound t r.lower s.lower g.lower h.lower e.lower)
+    ∙ ap (λ u. made s.row_count s.null_count s.lower u) (same_bound t r.upper s.upper g.upper h.upper e.upper)
 
 module _ (apart : KeysAreApart) (untyped : ValuesHaveNoTyped) (t : TypeTree) where
   said : (r s : Known) → AreOf t r → IsHeldKnown s → form r ≡ form s → SaySame r s
@@ -108,7 +108,7 @@ count-retyped : (t : TypeTree) (cells : List Cell) → count_by is_null_cell (ma
 count-retyped t [] = refl
 count-retyped t (x ∷ cells) =
     sum_by-cons (λ y. cond (is_null_cell y) 1 0) (retyped t x) (map (retyped t) cells) ∙ ap (λ n. cond (is_null_cell x) 1 0 + n) (count-retyped t cells)
-      ∙ sym (sum_by-cons (λ y. cond (is_null_cell y) 1 0) x cells)
+    ∙ sym (sum_by-cons (λ y. cond (is_null_cell y) 1 0) x cells)
 
 value_retyped : (t : TypeTree) (cells : List Cell) (x : Cell) → HasValue cells x → HasValue (map (retyped t) cells) (retyped t x)
 value_retyped t cells x h = record {
@@ -164,9 +164,9 @@ retyped_bound cmp law t cells (Some a) (Some b) g e h =
     let same : retyped t b.value ≡ a.value = same_cell (retyped t b.value) a.value (sym g.typed) (sym e.1) in
     record {
       bounds = λ y v. let w = came_from t cells y v in
-        subst (λ z. IsUpTo cmp a.value z) (sym w.is) (subst (λ z. IsUpTo cmp z (retyped t w.cell)) same (retyped_up cmp law t b.value w.cell (h.bounds w.cell w.value)));
+          subst (λ z. IsUpTo cmp a.value z) (sym w.is) (subst (λ z. IsUpTo cmp z (retyped t w.cell)) same (retyped_up cmp law t b.value w.cell (h.bounds w.cell w.value)));
       exact = λ k. let w = h.exact (sym e.0 ∙ k) in
-        (retyped t w.0, value_retyped t cells w.0 w.1, subst (λ z. cmp z (retyped t w.0) ≡ Some Equal) same (law.keep t b.value w.0 Equal w.2));
+          (retyped t w.0, value_retyped t cells w.0 w.1, subst (λ z. cmp z (retyped t w.0) ≡ Some Equal) same (law.keep t b.value w.0 Equal w.2));
     }
 
 nulls_retyped : (t : TypeTree) (cells : List Cell) (n : Option ℕ) → IfSome n (λ k. k ≡ count_by is_null_cell cells) → IfSome n (λ k. k ≡ count_by is_null_cell (map (retyped t) cells))

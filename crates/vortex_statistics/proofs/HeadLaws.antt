@@ -58,7 +58,7 @@ heads-apart f g m n p q xs ys h k e =
     let first = first-apart (flags_byte f) (flags_byte g) ((count_bytes m ++ known_count_bytes p) ++ xs) ((count_bytes n ++ known_count_bytes q) ++ ys) e in
     let same : f ≡ g = flags-apart f g first.0 in
     let rows = count_then m n (known_count_bytes p ++ xs) (known_count_bytes q ++ ys) h.rows_fit k.rows_fit
-        (sym (append_assoc (count_bytes m) (known_count_bytes p) xs) ∙ first.1 ∙ append_assoc (count_bytes n) (known_count_bytes q) ys) in
+    (sym (append_assoc (count_bytes m) (known_count_bytes p) xs) ∙ first.1 ∙ append_assoc (count_bytes n) (known_count_bytes q) ys) in
     let nulls = known_then p q xs ys (h.known ∙ ap (λ x. x.has_null_count) same ∙ sym k.known) h.nulls_fit k.nulls_fit rows.1 in
     (same, rows.0, nulls.0, nulls.1)
 

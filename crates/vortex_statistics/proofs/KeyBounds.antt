@@ -63,11 +63,12 @@ key_from t (Some b) h = by_test b.is_exact
 
 -- a bound of this key
 bound_with : (t : TypeTree) (e : Bool) (bs : List ℕ) → IsKeyIn t bs → (b : Option KnownBound) × IsBoundOf t b × (state_of b ≡ state_at e) × (bound_bytes b ≡ bs)
-bound_with t e bs h =
-    (Some (record { value = record { typed = t; content = content h.key.value }; is_exact = e }),
-      record { typed = refl; ordered = h.ordered; value = h.key.value; is_value = h.key.begins.value; is = refl },
-      refl,
-      sym (key_of t bs h))
+bound_with t e bs h = (
+  Some (record { value = record { typed = t; content = content h.key.value }; is_exact = e }),
+  record { typed = refl; ordered = h.ordered; value = h.key.value; is_value = h.key.begins.value; is = refl },
+  refl,
+  sym (key_of t bs h),
+)
 
 bound_from : (t : TypeTree) (l : BoundState) (bs : List ℕ) → IsBoundKey t l bs → (b : Option KnownBound) × IsBoundOf t b × (state_of b ≡ l) × (bound_bytes b ≡ bs)
 bound_from t Missing bs h = (None, tt, refl, sym h)
@@ -122,8 +123,8 @@ pub wrong_lower : (t : TypeTree) (l u : BoundState) (bytes : List ℕ) (p : ℕ)
 wrong_lower t l u bytes p there ordered h =
     where_bad (IsKeyOf ascending t) (AreBoundKeys t l u) (UnionsHaveVariants t) bytes p
     (λ k one. let made : IsKeyIn t k = record { ordered = ordered; key = one } in
-      let more = some_key t u k made in
-      record { more = more.0; is_one = record { first = k; second = more.0; is_lower = key_there t l k there made; is_upper = more.1; is = refl } })
+    let more = some_key t u k made in
+    record { more = more.0; is_one = record { first = k; second = more.0; is_lower = key_there t l k there made; is_upper = more.1; is = refl } })
     (λ q one. record { key = one.first; rest = one.second; is_key = (of_there t l one.first there one.is_lower).key; is = one.is })
     h
 
@@ -143,7 +144,7 @@ module _ (apart : KeysAreApart) (untyped : ValuesHaveNoTyped) where
       let c = content h.key.value in
       let d = content g.key.value in
       (apart.contents c d xs ys (untyped t h.key.value h.ordered h.key.begins.value.valid) h.key.begins.value.held g.key.begins.value.held
-        (ap (λ zs. zs ++ xs) (sym (key_of t ks h)) ∙ e ∙ ap (λ zs. zs ++ ys) (key_of t js g))).1
+      (ap (λ zs. zs ++ xs) (sym (key_of t ks h)) ∙ e ∙ ap (λ zs. zs ++ ys) (key_of t js g))).1
 
   pub bounds_then : (t : TypeTree) (l : BoundState) (ks js xs ys : List ℕ) → IsBoundKey t l ks → IsBoundKey t l js → ks ++ xs ≡ js ++ ys → xs ≡ ys
   bounds_then t Missing ks js xs ys h g e = ap (λ zs. zs ++ xs) (sym h) ∙ e ∙ ap (λ zs. zs ++ ys) g

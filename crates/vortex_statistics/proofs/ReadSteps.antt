@@ -102,9 +102,12 @@ pub more_left : KeysAreApart → ValuesHaveNoTyped → (t : TypeTree) (u : Bound
 more_left apart untyped t u b bytes place next h some =
     let key = bound_key t u b h.bound.of_type h.bound.state_is in
     let split : drop place bytes ≡ bound_bytes b ++ get_or bytes next 0 ∷ drop (next + 1) bytes = h.bound.is ∙ ap (λ ys. bound_bytes b ++ ys) (drop_more bytes next 0 some) in
-    inr (length (bound_bytes b), ap BadBytes h.after,
+    inr (
+      length (bound_bytes b),
+      ap BadBytes h.after,
       subst (λ xs. IsFirstWrong (IsBoundKey t u) (is_there u ≡ true → UnionsHaveVariants t) xs (length (bound_bytes b))) (sym split)
-      (where_more (IsBoundKey t u) _ (bound_bytes b) (get_or bytes next 0) (drop (next + 1) bytes) key (λ xs more. alone apart untyped t u (bound_bytes b) xs key more)))
+          (where_more (IsBoundKey t u) _ (bound_bytes b) (get_or bytes next 0) (drop (next + 1) bytes) key (λ xs more. alone apart untyped t u (bound_bytes b) xs key more)),
+    )
 
 -- ---- both bounds
 

@@ -235,11 +235,13 @@ cut_off t f rest bytes short ordered = record {
 
     key_in : (SaysBound (1 ∷ flags_byte f ∷ rest) → HasValues t) → has_bound f ≡ true → (k : List ℕ) × IsKeyIn t k
     key_in v h =
-        let w = v (bytes_say f rest h) in
-        (key_with ascending (content w.value), record {
-          ordered = ordered h;
-          key = record { value = w.value; begins = record { value = w.is_value; is = sym (append-nil (key_with ascending (content w.value))) } };
-        })
+        let w = v (bytes_say f rest h) in (
+          key_with ascending (content w.value),
+          record {
+            ordered = ordered h;
+            key = record { value = w.value; begins = record { value = w.is_value; is = sym (append-nil (key_with ascending (content w.value))) } };
+          },
+        )
 
     goes_on : (SaysBound (1 ∷ flags_byte f ∷ rest) → HasValues t) → MayGoOn (IsFormOf t) (1 ∷ flags_byte f ∷ rest)
     goes_on v =

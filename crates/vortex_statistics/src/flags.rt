@@ -47,7 +47,8 @@ fn bound_flags(bound: Option<&Bound>) -> u8
 {
     match bound {
         None => 0,
-        Some(bound) => { if bound.is_exact { 3 } else { 1 } }
+        Some(bound) if bound.is_exact => 3,
+        Some(_) => 1,
     }
 }
 
@@ -55,11 +56,7 @@ fn bound_flags(bound: Option<&Bound>) -> u8
 pub(crate) fn flags_of(statistics: &ColumnStatistics) -> u8
     ensures { result ≡ flags (known statistics.now) }
 {
-    let counts = if statistics.null_count.is_some() {
-        1
-    } else {
-        0
-    };
+    let counts = u8::from(statistics.null_count.is_some());
     let lower = bound_flags(statistics.lower.as_ref());
     let upper = bound_flags(statistics.upper.as_ref());
     counts + 2 * lower + 8 * upper

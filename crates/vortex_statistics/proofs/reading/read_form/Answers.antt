@@ -29,4 +29,4 @@ returns-in_err-lower-clause-refused c =
     let counts = c.in_ok-counts.ensures.read in
     let is : c.from_residual-in_err-lower.result ≡ Err c.in_err-lower.field-0.0 = search rules in
     rw is (bounds_refused (type_of c.args.dtype.now) c.args.bytes.now c.in_ok-flags.flags c.in_ok-counts.counts.row_count c.in_ok-counts.counts.null_count c.in_ok-counts.counts.end c.in_err-lower.field-0.0
-      c.in_ok-flags.ensures.read counts.0 counts.1 c.in_err-lower.ensures.refused)
+    c.in_ok-flags.ensures.read counts.0 counts.1 c.in_err-lower.ensures.refused)

@@ -1,0 +1,189 @@
+//! What callers derive of statistics from the contracts and the laws alone: pieces that are reduced in
+//! two groupings, and statistics that are written, read back and merged.
+
+ghost use Rattle.std.specs.Prelude.{◌≡◌, ◌++◌, List, IfErr, IfOk, map, true};
+ghost use Rattle.vortex_dtype.specs.TypeOf.{type_of};
+ghost use Rattle.vortex_statistics.specs.Cells.{Cell};
+ghost use Rattle.vortex_statistics.specs.Form.{AreOf, IsHeldKnown, IsUntypedBound, SaySame, form};
+ghost use Rattle.vortex_statistics.specs.FormAnswers.{retyped};
+ghost use Rattle.vortex_statistics.specs.Statistics.{AreRight, Known, known};
+ghost use Rattle.vortex_statistics.specs.declared.error.StatisticsError.TheVariants.{OutOfMemory};
+ghost use Rattle.scalar_tests.specs.Pieces.{AreRightForThree};
+
+use std::alloc::Global;
+use vortex_dtype::DType;
+use vortex_statistics::laws::{any_grouping_is_right, forms_are_apart, looser_bounds_are_right};
+use vortex_statistics::{ColumnStatistics, StatisticsError};
+
+/// The statistics of three pieces, reduced from the first.
+pub fn from_the_first(
+    first: ColumnStatistics,
+    second: ColumnStatistics,
+    third: ColumnStatistics,
+) -> Result<ColumnStatistics, StatisticsError>
+    ensures { IfOk result (AreRightForThree first second third) }
+{
+    any_grouping_is_right();
+    match first.merge(second) {
+        Ok(front) => front.merge(third),
+        Err(cause) => {
+            drop(third);
+            Err(cause)
+        }
+    }
+}
+
+/// The statistics of three pieces, reduced from the last. They are right for the same columns.
+pub fn from_the_last(
+    first: ColumnStatistics,
+    second: ColumnStatistics,
+    third: ColumnStatistics,
+) -> Result<ColumnStatistics, StatisticsError>
+    ensures { IfOk result (AreRightForThree first second third) }
+{
+    any_grouping_is_right();
+    match second.merge(third) {
+        Ok(back) => first.merge(back),
+        Err(cause) => {
+            drop(first);
+            Err(cause)
+        }
+    }
+}
+
+/// The counts alone, which stay right.
+pub fn counts_alone(statistics: ColumnStatistics) -> ColumnStatistics
+    ensures { (cells : List Cell) → AreRight (known statistics) cells
+        → AreRight (known result) cells }
+{
+    looser_bounds_are_right();
+    let ColumnStatistics {
+        row_count,
+        null_count,
+        lower,
+        upper,
+    } = statistics;
+    drop((lower, upper));
+    ColumnStatistics {
+        row_count,
+        null_count,
+        lower: None,
+        upper: None,
+    }
+}
+
+/// The statistics of a column of the type that are written and read back: they say the same, and
+/// want of memory alone is in the way.
+pub fn there_and_back(
+    alloc: Global,
+    dtype: &DType,
+    statistics: &ColumnStatistics,
+) -> Result<ColumnStatistics, StatisticsError>
+    requires { AreOf (type_of dtype.now) (known statistics.now) }
+    ensures back { IfOk result (λ back. known back ≡ known statistics.now) }
+    ensures refused { IfErr result (λ e. e ≡ OutOfMemory) }
+{
+    let mut bytes = Vec::new(alloc);
+    statistics.append_bytes(&mut bytes)?;
+    ColumnStatistics::from_bytes(alloc, dtype, bytes.as_slice())
+}
+
+/// The statistics of two pieces, read back as those of a column of the type. They are right for the
+/// contents of both pieces, whatever the types in which they were written.
+pub fn merge_written(
+    alloc: Global,
+    dtype: &DType,
+    first: &[u8],
+    second: &[u8],
+) -> Result<ColumnStatistics, StatisticsError>
+    ensures { IfOk result (λ both. (s t : Known) (cells others : List Cell)
+        → IsHeldKnown s → IsHeldKnown t → first.now ≡ form s → second.now ≡ form t
+        → AreRight s cells → AreRight t others
+        → AreRight (known both) (map (retyped (type_of dtype.now)) (cells ++ others))) }
+{
+    let first = ColumnStatistics::from_bytes(alloc, dtype, first)?;
+    match ColumnStatistics::from_bytes(alloc, dtype, second) {
+        Ok(second) => first.merge(second),
+        Err(cause) => {
+            drop(first);
+            Err(cause)
+        }
+    }
+}
+
+/// Whether the bytes are the same: then, if they are the forms of statistics, these say the same.
+pub fn say_the_same(first: &[u8], second: &[u8]) -> bool
+    ensures { result ≡ true → (s t : Known) → IsHeldKnown s → IsHeldKnown t
+        → IsUntypedBound s.lower → IsUntypedBound s.upper
+        → first.now ≡ form s → second.now ≡ form t → SaySame s t }
+{
+    forms_are_apart();
+    first == second
+}
+
+#[cfg(test)]
+mod tests {
+    use super::{from_the_first, from_the_last};
+    use std::process::Abort;
+    use vortex_dtype::Nullability::Nullable;
+    use vortex_dtype::{DType, PType};
+    use vortex_statistics::ColumnStatistics;
+    use vortex_value::Scalar;
+
+    /// The type of 32-bit integers and nulls.
+    const MAYBE_I32: DType = DType::Primitive(PType::I32, Nullable);
+
+    /// The statistics of one integer, the number of rows that have it.
+    fn repeated(rt: &(impl AllocGlobal + Abort), number: i32, rows: u64) -> ColumnStatistics {
+        let value = Scalar::primitive(number, Nullable);
+        let statistics = ColumnStatistics::of_constant(rt.alloc(), &value, rows);
+        drop(value);
+        statistics.expect(rt, "statistics")
+    }
+
+    #[test]
+    fn both_groupings_have_the_outer_bounds(rt: HostRuntime) {
+        let first = from_the_first(
+            repeated(&rt, 4, 1),
+            repeated(&rt, -1, 2),
+            repeated(&rt, 9, 3),
+        )
+        .expect(&rt, "statistics");
+        let last = from_the_last(
+            repeated(&rt, 4, 1),
+            repeated(&rt, -1, 2),
+            repeated(&rt, 9, 3),
+        )
+        .expect(&rt, "statistics");
+        assert!(rt; first.row_count == 6 && last.row_count == 6);
+        let mut bytes = Vec::new(rt.alloc());
+        first.append_bytes(&mut bytes).expect(&rt, "a form");
+        let mut others = Vec::new(rt.alloc());
+        last.append_bytes(&mut others).expect(&rt, "a form");
+        assert!(rt; bytes == others);
+        drop((first, last));
+    }
+
+    /// 2, null and 5, as docs/STATISTICS.md has them.
+    #[test]
+    fn a_form_is_read_back(rt: HostRuntime) {
+        let values = [
+            Scalar::primitive(2i32, Nullable),
+            Scalar::null(MAYBE_I32),
+            Scalar::primitive(5i32, Nullable),
+        ];
+        let statistics = ColumnStatistics::of(rt.alloc(), &values).expect(&rt, "statistics");
+        let mut bytes = Vec::new(rt.alloc());
+        statistics.append_bytes(&mut bytes).expect(&rt, "a form");
+        let form = [
+            1, 0x1f, 0, 0, 0, 0, 0, 0, 0, 3, 0, 0, 0, 0, 0, 0, 0, 1, 13, 2, 13, 5,
+        ];
+        assert!(rt; bytes.as_slice() == &form);
+        let back = ColumnStatistics::from_bytes(rt.alloc(), &MAYBE_I32, bytes.as_slice());
+        let back = back.expect(&rt, "statistics");
+        let mut again = Vec::new(rt.alloc());
+        back.append_bytes(&mut again).expect(&rt, "a form");
+        assert!(rt; bytes == again);
+        drop((values, statistics, back));
+    }
+}
