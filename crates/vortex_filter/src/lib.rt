@@ -19,6 +19,7 @@ mod prefix;
 mod prefix_pruning;
 mod pruning;
 mod simplify;
+mod sql;
 mod truth;
 mod variants;
 
@@ -27,4 +28,5 @@ pub use error::FilterError;
 pub use filter::Filter;
 pub use operator::CompareOperator;
 pub use outcomes::Outcomes;
+pub use sql::{Expected, ParseError, Sql};
 pub use truth::Truth;

@@ -1,0 +1,9 @@
+//! Filters as SQL text.
+
+mod error;
+mod lex;
+mod print;
+mod token;
+
+pub use error::{Expected, ParseError};
+pub use print::Sql;
