@@ -1,11 +1,11 @@
 -- How a value can stand to a literal, by the bounds of its zone.
-use Rattle.std.proofs.Common.{◌≡◌, Bool, true, false, not, ◌||◌, ◌⊎◌, inl, inr, Option, Some, None, IfSome, is_some, is_none, Ordering, Less, Equal, Greater, refl, sym, ap, ◌∙◌}
+use Rattle.std.proofs.Common.{◌≡◌, true, false, not, ◌||◌, inl, inr, Option, Some, None, IfSome, is_some, is_none, Ordering, Less, Equal, Greater, refl, sym, ap, ◌∙◌}
 use Rattle.std.specs.Ordering.{is_some_and, is_ge, is_gt}
 use Rattle.vortex_statistics.specs.Cells.{Cell, IsUpTo, cell_order, is_null_cell, order_from_above}
 use Rattle.vortex_statistics.specs.Statistics.{Known, KnownBound}
 use Rattle.vortex_statistics.proofs.CellLaws.{IsOrder, from_above, turned}
 use Rattle.vortex_filter.specs.Exactness.{IsWithin}
-use Rattle.vortex_filter.specs.Orders.{bound_order, includes, is_plain_bound, orders, rules_out, settles}
+use Rattle.vortex_filter.specs.Orders.{bound_order, includes, orders, rules_out, settles}
 use Rattle.vortex_filter.proofs.Plain.{cells_compare, cells_reach}
 use Rattle.vortex_filter.proofs.Tests.{is_some-reversed, none_not_some, none_or_some, not_both, not_ge, or_none}
 

@@ -1,5 +1,5 @@
 -- Cells as the code reads them.
-use Rattle.std.proofs.Common.{◌≡◌, ℕ, List, map, slice_get, Option, option_map, refl, sym, ap, ◌∙◌}
+use Rattle.std.proofs.Common.{◌≡◌, ℕ, List, map, slice_get, option_map, refl, ap, ◌∙◌}
 use Rattle.std.proofs.lemmas.Option.{slice_get-map}
 use Rattle.vortex_value.specs.Values.Content.{content}
 use Rattle.vortex_value.specs.Values.RawTree.{RawTree, absent, is_absent}

@@ -1,7 +1,6 @@
 -- Each outcome of a comparison is its truth on a cell that the statistics allow.
 use Rattle.std.proofs.Common.{◌≡◌, ◌⊎◌, inl, inr, Bool, true, false, not, ◌&&◌, ◌||◌, cond, Option, Some, None, is_some, is_none, subst, Ordering, Less, Equal, Greater, refl, sym, ap, ◌∙◌}
 use Rattle.std.proofs.lemmas.Bool.{false≢true}
-use Rattle.std.specs.Ordering.{is_some_and, is_ge, is_gt}
 use Rattle.vortex_statistics.specs.Cells.{Cell, IsUpTo, cell_or_null, cell_order, is_null_cell, order_from_above}
 use Rattle.vortex_statistics.specs.Statistics.{Known, KnownBound, may_be_null, may_be_value}
 use Rattle.vortex_statistics.proofs.CellLaws.{IsOrder, equal_itself, turned}

@@ -13,7 +13,7 @@ use Rattle.vortex_filter.specs.declared.truth.Truth.TheVariants.{False, Unknown,
 use Rattle.vortex_filter.specs.Exactness.{AreExactBounds, ArePlainBounds, ComparisonsOccur, IsPlainRange, OnSomeOf, needs_equal}
 use Rattle.vortex_filter.specs.Formula.{compare_truth, order_truth}
 use Rattle.vortex_filter.specs.Operators.{holds}
-use Rattle.vortex_filter.specs.Orders.{bound_order, is_plain, orders, orders_by, rules_out, settles}
+use Rattle.vortex_filter.specs.Orders.{bound_order, is_plain, orders, orders_by, settles}
 use Rattle.vortex_filter.specs.OutcomeSets.{allows}
 use Rattle.vortex_filter.specs.Outcomes.{compare_outcomes, unknown_outcomes, value_outcomes}
 use Rattle.vortex_filter.specs.Truths.{truth_of}

@@ -1,5 +1,5 @@
 -- What compares with a cell that has no parts compares with all else that does.
-use Rattle.std.proofs.Common.{◌≡◌, ℤ, Bool, true, false, cond, List, ℕ, Option, None, is_some, Ordering, refl, sym, ap, ◌∙◌}
+use Rattle.std.proofs.Common.{◌≡◌, ℤ, Bool, true, false, cond, List, ℕ, Option, None, is_some, refl, sym, ap, ◌∙◌}
 use Rattle.std.proofs.lemmas.Bool.{false≢true}
 use Rattle.vortex_dtype.specs.TypeTree.{TypeTree, Same}
 use Rattle.vortex_value.specs.Equality.{same_type}

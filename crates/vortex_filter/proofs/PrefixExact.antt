@@ -9,21 +9,21 @@ use Rattle.vortex_value.specs.Equality.{same_type}
 use Rattle.vortex_value.specs.Lemmas.EqualityLaws.{same_type-Decides}
 use Rattle.vortex_value.specs.Order.{order}
 use Rattle.vortex_value.specs.Values.Content.{Content, text, string}
-use Rattle.vortex_statistics.specs.Cells.{Cell, cell_or_null, cell_order, is_null_cell, is_null_content, order_from_above}
+use Rattle.vortex_statistics.specs.Cells.{Cell, cell_or_null, cell_order, is_null_cell, is_null_content}
 use Rattle.vortex_statistics.specs.Statistics.{Known, KnownBound, may_be_null, may_be_value}
 use Rattle.vortex_statistics.proofs.CellLaws.{IsOrder, turned}
 use Rattle.vortex_filter.specs.declared.truth.Truth.{Truth}
 use Rattle.vortex_filter.specs.declared.truth.Truth.TheVariants.{False, Unknown, True}
-use Rattle.vortex_filter.specs.Exactness.{Admits, ArePlainBounds, IsPlainRange, IsWithin, OnSomeCell, PrefixesAreExact}
+use Rattle.vortex_filter.specs.Exactness.{ArePlainBounds, IsPlainRange, IsWithin, OnSomeCell, PrefixesAreExact}
 use Rattle.vortex_filter.specs.Orders.{rules_out}
 use Rattle.vortex_filter.specs.OutcomeSets.{allows}
 use Rattle.vortex_filter.specs.Outcomes.{bound_prefix_order, is_prefix, is_prefix_content, never_begins, prefix_outcomes}
 use Rattle.vortex_filter.specs.Prefixes.{begins_truth, cell_prefix_order, prefix_order, prefix_truth}
 use Rattle.vortex_filter.proofs.Exactness.{as_known, both_known, lower_itself, null_admitted, upper_itself, value_admitted}
 use Rattle.vortex_filter.proofs.Plain.{plain_value}
-use Rattle.vortex_filter.proofs.PrefixLaws.{chosen, null_begins, neither_begins, prefix_allowed}
+use Rattle.vortex_filter.proofs.PrefixLaws.{chosen, neither_begins, prefix_allowed}
 use Rattle.vortex_filter.proofs.PrefixSteps.{begins_as_ordered}
-use Rattle.vortex_filter.proofs.Tests.{and_parts, none_left, not_or, not_true, or_cases, or_false, some_of_not_none}
+use Rattle.vortex_filter.proofs.Tests.{and_parts, none_left, not_or, or_cases, or_false}
 
 -- ---- lists
 

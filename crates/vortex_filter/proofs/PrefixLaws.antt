@@ -1,23 +1,23 @@
 -- What the beginnings of bounds say of the beginnings of the values between them.
-use Rattle.std.proofs.Common.{◌≡◌, ◌⊎◌, inl, inr, ℕ, zero, suc, Bool, true, false, not, ◌&&◌, ◌||◌, cond, List, [], ◌∷◌, length, take, Option, Some, None, IfSome, is_some, is_none, option_map, Ordering, Less, Equal, Greater, refl, sym, ap, subst, ◌∙◌}
+use Rattle.std.proofs.Common.{◌≡◌, ◌⊎◌, inl, inr, ℕ, zero, suc, Bool, true, false, not, ◌&&◌, cond, List, [], ◌∷◌, length, take, Option, Some, None, IfSome, is_some, option_map, Ordering, Less, Equal, Greater, refl, sym, ap, subst, ◌∙◌}
 use Rattle.std.proofs.lemmas.Bool.{false≢true}
 use Rattle.std.specs.Cmp.Lexicographic.{slice_cmp, nat_list_cmp_total}
 use Rattle.std.specs.Ordering.{is_eq, is_gt, is_lt, is_some_and, nat_cmp, ordering_reverse, ordering_then}
 use Rattle.vortex_value.specs.Equality.{same_type}
 use Rattle.vortex_value.specs.Order.{order}
-use Rattle.vortex_value.specs.Values.Content.{Content, null, truth, whole, text, string}
+use Rattle.vortex_value.specs.Values.Content.{Content, null, text, string}
 use Rattle.vortex_statistics.specs.Cells.{Cell, IsUpTo, cell_order, is_null_cell, is_null_content, order_from_above}
 use Rattle.vortex_statistics.specs.Statistics.{Known, KnownBound, may_be_null, may_be_value}
 use Rattle.vortex_statistics.proofs.CellLaws.{IsOrder, turned}
 use Rattle.vortex_filter.specs.Exactness.{Admits, IsWithin}
-use Rattle.vortex_filter.specs.Orders.{is_plain, is_plain_bound, is_plain_content, rules_out}
+use Rattle.vortex_filter.specs.Orders.{is_plain, is_plain_content, rules_out}
 use Rattle.vortex_filter.specs.OutcomeSets.{allows, any, only}
 use Rattle.vortex_filter.specs.Outcomes.{bound_prefix_order, is_prefix, is_prefix_content, never_begins, prefix_outcomes, prefix_outcomes_by}
 use Rattle.vortex_filter.specs.Prefixes.{begins, begins_truth, cell_begins, cell_prefix_order, prefix_order, prefix_truth}
 use Rattle.vortex_filter.proofs.Bounds.{reached_from, reached_to, some_of_up}
 use Rattle.vortex_filter.proofs.Plain.{only_strings, only_texts, typed_parts, typed_whole, types_meet, types_reach}
 use Rattle.vortex_filter.proofs.PrefixSteps.{begins_as_ordered}
-use Rattle.vortex_filter.proofs.Tests.{and_true, none_not_some, none_or_some, not_both, or_left, or_none, or_right}
+use Rattle.vortex_filter.proofs.Tests.{and_true, none_or_some, not_both, or_left, or_none, or_right}
 
 -- ---- lists
 

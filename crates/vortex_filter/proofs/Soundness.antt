@@ -11,11 +11,11 @@ use Rattle.vortex_filter.specs.declared.outcomes.Outcomes.{Outcomes}
 use Rattle.vortex_filter.specs.declared.truth.Truth.{Truth}
 use Rattle.vortex_filter.specs.declared.truth.Truth.TheVariants.{False, Unknown, True}
 use Rattle.vortex_filter.specs.Exactness.{Admits}
-use Rattle.vortex_filter.specs.Formula.{Formula, constant, comparison, null_test, membership, range, prefix_test, both, either, negation, cell_at, compare_truth, member_truth, null_truth, order_truth, truth}
+use Rattle.vortex_filter.specs.Formula.{Formula, constant, comparison, null_test, membership, range, prefix_test, both, either, negation, cell_at, compare_truth, null_truth, order_truth, truth}
 use Rattle.vortex_filter.specs.Operators.{holds}
 use Rattle.vortex_filter.specs.Orders.{includes, may_fail, may_hold, orders}
 use Rattle.vortex_filter.specs.OutcomeSets.{allows, any, is_only_true, only, outcomes_and, outcomes_not, outcomes_or}
-use Rattle.vortex_filter.specs.Outcomes.{compare_outcomes, member_outcomes, null_outcomes, outcomes, unknown_outcomes, value_outcomes}
+use Rattle.vortex_filter.specs.Outcomes.{compare_outcomes, null_outcomes, outcomes, unknown_outcomes, value_outcomes}
 use Rattle.vortex_filter.specs.Pruning.{Covers, MatchesEachRow, MatchesNoRow}
 use Rattle.vortex_filter.specs.Truths.{truth_and, truth_not, truth_of, truth_or}
 use Rattle.vortex_filter.proofs.Admitting.{row_admits}

@@ -69,8 +69,8 @@ needs_equal _ _ = false
 abbrev pub OnSomeOf : List Cell → (Cell → Type 0) → Type 0
 OnSomeOf cells P = (x : Cell) × Contains cells x × P x
 
--- if the nulls are counted, and both bounds are values of the zone without parts, a comparison has just the outcomes that it
--- has on the cells of the zone, but for those that need an equal one
+-- Let the nulls be counted, and both bounds be values of the zone without parts. Then a comparison has just the outcomes that
+-- it has on the cells of the zone, but for those that need an equal one.
 abbrev pub ComparisonsOccur : Type 0
 ComparisonsOccur = (s : Known) (cells : List Cell) → AreRight s cells → IsSome s.null_count
     → ArePlainBounds s.lower s.upper → AreExactBounds s.lower s.upper

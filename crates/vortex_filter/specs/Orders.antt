@@ -50,8 +50,8 @@ rules_out bound o = is_none o && is_plain_bound bound
 
 -- ---- what both bounds leave open
 
--- by whether no value compares with the literal, or each does, and by how the bounds stand to it, each from its own side: no
--- value is before a bound, so none is on that side of a literal that is not past the bound
+-- Never: no value compares with the literal; always: each does. The orders say how the bounds stand to it, each from its own
+-- side. A value is on that side of the literal only if the bound is, and equal to it only if neither bound is past it.
 abbrev pub orders_between : Bool → Bool → Option Ordering → Option Ordering → Orders
 orders_between never always lower upper = record {
   less = not (never || is_some_and is_ge lower);

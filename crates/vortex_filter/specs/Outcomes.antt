@@ -62,8 +62,8 @@ is_prefix_content _ = false
 abbrev pub is_prefix : Cell → Bool
 is_prefix p = is_prefix_content p.content
 
--- by whether no value has the prefix's type, and by how the prefix stands to the beginnings of the bounds: no value begins
--- with a prefix that is below the beginning of the lower bound, or above that of the upper one, and each does if both do
+-- Never: no value is of the prefix's type. The orders say how the prefix stands to the beginnings of the bounds. No value
+-- begins with what is below the beginning of the lower bound, or above that of the upper one; each does if both bounds do.
 abbrev pub prefix_outcomes_by : Bool → Bool → Bool → Option Ordering → Option Ordering → Outcomes
 prefix_outcomes_by has_nulls has_values never lower upper = record {
   may_be_false = has_values && not (never || (is_some_and is_eq lower && is_some_and is_eq upper));

@@ -16,9 +16,9 @@ pub fn comparisons_are_exact()
     order_is_transitive();
 }
 
-/// If the nulls are counted and both bounds are values of the zone, without parts, then each outcome
-/// that a comparison is said to have, it has on some cell of the zone. Only one that needs a value
-/// equal to the literal may be claimed though there is none.
+/// Let the nulls be counted, and both bounds be values of the zone without parts. Then each outcome
+/// that a comparison is said to have, it has on some cell of the zone itself. Only one that needs a
+/// value equal to the literal may be claimed though there is none.
 pub fn comparisons_occur()
     ensures { ComparisonsOccur }
 {

@@ -60,8 +60,8 @@ fn never_begins(
             || rules_out(statistics.upper.as_ref(), upper))
 }
 
-/// What it can be by whether some cell may be null, whether some may be a value, whether no value
-/// is of the prefix's type, and by how the prefix stands to the beginnings of the bounds.
+/// What it can be, by how the prefix stands to the beginnings of the bounds. `never` says that no
+/// value is of the prefix's type.
 fn outcomes_between(
     has_nulls: bool,
     has_values: bool,
