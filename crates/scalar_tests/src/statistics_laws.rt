@@ -178,7 +178,7 @@ mod tests {
         let form = [
             1, 0x1f, 0, 0, 0, 0, 0, 0, 0, 3, 0, 0, 0, 0, 0, 0, 0, 1, 13, 2, 13, 5,
         ];
-        assert!(rt; bytes.as_slice() == &form);
+        assert!(rt; bytes.as_slice() == form.as_slice());
         let back = ColumnStatistics::from_bytes(rt.alloc(), &MAYBE_I32, bytes.as_slice());
         let back = back.expect(&rt, "statistics");
         let mut again = Vec::new(rt.alloc());

@@ -11,12 +11,14 @@ use Rattle.vortex_value.specs.Values.Content.{content}
 use Rattle.vortex_value.specs.Values.RawTree.{RawTree, is_absent, raw_bytes, raw_text}
 use Rattle.vortex_value.specs.Values.Scalars.{scalar_raw, scalar_type}
 use Rattle.vortex_statistics.specs.Cells.{Cell, cell_of, cell_order, is_null_cell, order_from_above}
-use Rattle.vortex_statistics.specs.Kinds.{kind_of}
+use Rattle.vortex_statistics.specs.Kinds.{IsCutAt, IsTruncated, kind_of}
 use Rattle.vortex_statistics.specs.Statistics.{AreRight, IsBound, known, known_bound}
 use Rattle.vortex_statistics.specs.Truncating.{AreTruncated, IsCut, IsCutLower, IsCutUpper, IsTruncatedLower, IsTruncatedUpper, LowerAt, UpperAt}
 use Rattle.vortex_statistics.specs.declared.column_statistics.Bound.{Bound}
 use Rattle.vortex_statistics.specs.declared.column_statistics.ColumnStatistics.{ColumnStatistics}
 use Rattle.vortex_statistics.specs.declared.truncating.Kind.TheVariants.{Bytes, Text, Whole}
+use Rattle.vortex_statistics.specs.declared.truncating.Side.{Side}
+use Rattle.vortex_statistics.specs.declared.truncating.Side.TheVariants.{Lower, Upper}
 use Rattle.vortex_statistics.proofs.CellLaws.{IsOrder, equal_itself, from_above, from_below}
 use Rattle.vortex_statistics.proofs.LooseLaws.{looser_bound}
 
@@ -55,11 +57,11 @@ module _ (n : ℕ) (b : Bound) where
       let P : RawTree → Type 0 = λ w. LowerAt t w n b c in
       subst P (sym e) (let Q : TypeTree → Type 0 = λ u. IsCut (IsLowerOf IsLower raw_bytes u bs n) b c → LowerAt u (raw_bytes bs) n b c in subst Q (sym k.1) (λ i. i) h)
 
-  pub text_lower : (c : Option Bound) → kind_of (scalar_type b.value) (scalar_raw b.value) ≡ Text → IsCutLower IsTextLower raw_text n b c → IsTruncatedLower n (Some b) c
+  text_lower : (c : Option Bound) → kind_of (scalar_type b.value) (scalar_raw b.value) ≡ Text → IsCutLower IsTextLower raw_text n b c → IsTruncatedLower n (Some b) c
   text_lower None e h = h.2
   text_lower (Some c) e h = text_lower_at c (scalar_type b.value) (scalar_raw b.value) h.0 (text_kind _ _ e).0 h.1 h.2
 
-  pub bytes_lower : (c : Option Bound) → kind_of (scalar_type b.value) (scalar_raw b.value) ≡ Bytes → IsCutLower IsLower raw_bytes n b c → IsTruncatedLower n (Some b) c
+  bytes_lower : (c : Option Bound) → kind_of (scalar_type b.value) (scalar_raw b.value) ≡ Bytes → IsCutLower IsLower raw_bytes n b c → IsTruncatedLower n (Some b) c
   bytes_lower None e h = h.2
   bytes_lower (Some c) e h = bytes_lower_at c (scalar_type b.value) (scalar_raw b.value) h.0 (bytes_kind _ _ e).0 h.1 h.2
 
@@ -68,10 +70,10 @@ module _ (n : ℕ) (b : Bound) where
   whole_lower_at (binary_type k) (raw_bytes bs) e = absurd (cc)
   whole_lower_at t v e = refl
 
-  pub whole_lower : kind_of (scalar_type b.value) (scalar_raw b.value) ≡ Whole → IsTruncatedLower n (Some b) (Some b)
+  whole_lower : kind_of (scalar_type b.value) (scalar_raw b.value) ≡ Whole → IsTruncatedLower n (Some b) (Some b)
   whole_lower e = whole_lower_at (scalar_type b.value) (scalar_raw b.value) e
 
-  pub text_upper : (c : Option Bound) → kind_of (scalar_type b.value) (scalar_raw b.value) ≡ Text → IsCutUpper IsTextUpper HasNoTextUpper raw_text n b c → IsTruncatedUpper n (Some b) c
+  text_upper : (c : Option Bound) → kind_of (scalar_type b.value) (scalar_raw b.value) ≡ Text → IsCutUpper IsTextUpper HasNoTextUpper raw_text n b c → IsTruncatedUpper n (Some b) c
   text_upper c e h = at (scalar_type b.value) (scalar_raw b.value) h.0 (text_kind _ _ e).0 h.1 h.2
     where
       at : (t : TypeTree) (v : RawTree) (bs : List ℕ) → IsTypeOfKind utf8_type t → v ≡ raw_text bs
@@ -81,7 +83,7 @@ module _ (n : ℕ) (b : Bound) where
           subst P (sym i) (let Q : TypeTree → Type 0 = λ u. MatchOption c ((n < length bs) × HasNoTextUpper bs n) (IsCut (IsUpperOf IsTextUpper raw_text u bs n) b) → UpperAt u (raw_text bs) n b c in
           subst Q (sym k.1) (λ j. j) m)
 
-  pub bytes_upper : (c : Option Bound) → kind_of (scalar_type b.value) (scalar_raw b.value) ≡ Bytes → IsCutUpper IsUpper HasNoUpper raw_bytes n b c → IsTruncatedUpper n (Some b) c
+  bytes_upper : (c : Option Bound) → kind_of (scalar_type b.value) (scalar_raw b.value) ≡ Bytes → IsCutUpper IsUpper HasNoUpper raw_bytes n b c → IsTruncatedUpper n (Some b) c
   bytes_upper c e h = at (scalar_type b.value) (scalar_raw b.value) h.0 (bytes_kind _ _ e).0 h.1 h.2
     where
       at : (t : TypeTree) (v : RawTree) (bs : List ℕ) → IsTypeOfKind binary_type t → v ≡ raw_bytes bs
@@ -96,8 +98,22 @@ module _ (n : ℕ) (b : Bound) where
   whole_upper_at (binary_type k) (raw_bytes bs) e = absurd (cc)
   whole_upper_at t v e = refl
 
-  pub whole_upper : kind_of (scalar_type b.value) (scalar_raw b.value) ≡ Whole → IsTruncatedUpper n (Some b) (Some b)
+  whole_upper : kind_of (scalar_type b.value) (scalar_raw b.value) ≡ Whole → IsTruncatedUpper n (Some b) (Some b)
   whole_upper e = whole_upper_at (scalar_type b.value) (scalar_raw b.value) e
+
+  -- ---- on either side
+
+  pub text_cut : (side : Side) (c : Option Bound) → kind_of (scalar_type b.value) (scalar_raw b.value) ≡ Text → IsCutAt side IsTextLower IsTextUpper HasNoTextUpper raw_text n b c → IsTruncated side n (Some b) c
+  text_cut Lower c e h = text_lower c e h
+  text_cut Upper c e h = text_upper c e h
+
+  pub bytes_cut : (side : Side) (c : Option Bound) → kind_of (scalar_type b.value) (scalar_raw b.value) ≡ Bytes → IsCutAt side IsLower IsUpper HasNoUpper raw_bytes n b c → IsTruncated side n (Some b) c
+  bytes_cut Lower c e h = bytes_lower c e h
+  bytes_cut Upper c e h = bytes_upper c e h
+
+  pub whole_cut : (side : Side) → kind_of (scalar_type b.value) (scalar_raw b.value) ≡ Whole → IsTruncated side n (Some b) (Some b)
+  whole_cut Lower e = whole_lower e
+  whole_cut Upper e = whole_upper e
 
 -- ---- that it is right
 

@@ -15,10 +15,10 @@ pub use Rattle.vortex_statistics.specs.Changes.{after, change_by, change_of, low
 pub use Rattle.vortex_statistics.specs.Form.{AreOf, FormsAreApart, IsFormOf, IsHeldBound, IsHeldKnown, bound_bytes, bound_flags, count_bytes, flags, form, known_count_bytes}
 pub use Rattle.vortex_statistics.specs.FormAnswers.{HasValues, IsFirstWrong, ReadsAs, ReadsRight, SaysBound}
 pub use Rattle.vortex_statistics.specs.FormSteps.{AreBoundKeys, AreBoundsRead, HasNoVariantIn, HasNoVariants, IsBadBound, IsBadForm, IsBoundKey, IsBoundRead, IsBoundReadAt, IsCountsRead, IsRefusal, IsWrongStart, ascending, counts_length, flags_byte, has_bound, is_there, state_at, state_bits}
-pub use Rattle.vortex_statistics.specs.Kinds.{kind_of}
+pub use Rattle.vortex_statistics.specs.Kinds.{IsBestAnswer, IsCutAt, IsTruncated, kind_of}
 pub use Rattle.vortex_statistics.specs.Loosening.{LooserBoundsAreRight}
 pub use Rattle.vortex_statistics.specs.Merging.{AnyGroupingIsRight, AreCompleteTogether, AreRightForAll, AreRightTogether, bound_of_both, bound_order, joined, merged, nothing, outer_by, rows_of, sum_of}
 pub use Rattle.vortex_statistics.specs.Observing.{IsCompleteWith, IsFlatValue, IsRightWith, MayTakeMemory, RefusesCell, SomeMayTakeMemory, observed}
 pub use Rattle.vortex_statistics.specs.Statistics.{AreComplete, AreRight, LeaveNoNull, LeaveNoValue, empty_statistics, known, known_bound, may_be_null, may_be_value}
-pub use Rattle.vortex_statistics.specs.Truncating.{AreTruncated, HasShortBounds, IsCutLower, IsCutUpper, IsLong, IsLongRaw, IsOutOfMemoryAt, IsTruncatedLower, IsTruncatedUpper}
+pub use Rattle.vortex_statistics.specs.Truncating.{AreTruncated, HasShortBounds, IsLong, IsLongRaw, IsOutOfMemoryAt, IsTruncatedLower, IsTruncatedUpper}
 pub use Rattle.vortex_statistics.specs.declared.error.StatisticsError.TheVariants.{BadBytes, HasVariant, OutOfMemory, TooManyRows}

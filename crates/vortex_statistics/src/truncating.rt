@@ -2,13 +2,14 @@
 
 ghost use Rattle.std.specs.Prelude.{◌≡◌, ◌⊎◌, ◌&&◌, List, false, not, IfErr, IfOk};
 ghost use Rattle.vortex_statistics.specs.Cells.{Cell};
-ghost use Rattle.vortex_statistics.specs.Words.{AreRight, AreTruncated, HasShortBounds, IsCutLower, IsCutUpper, IsLong, IsLongRaw, IsOutOfMemoryAt, IsTruncatedLower, IsTruncatedUpper, IsTypeOfKind, MayHold, is_absent, kind_of, known, scalar_raw, scalar_type};
+ghost use Rattle.vortex_statistics.specs.Words.{AreRight, AreTruncated, HasShortBounds, IsBestAnswer, IsCutAt, IsLong, IsLongRaw, IsOutOfMemoryAt, IsTruncated, IsTruncatedLower, IsTruncatedUpper, IsTypeOfKind, MayHold, is_absent, kind_of, known, scalar_raw, scalar_type};
 
 use crate::column_statistics::{Bound, ColumnStatistics};
 use crate::error::StatisticsError;
 use std::alloc::Global;
 use vortex_array::{
-    BufferString, ByteBuffer, Scalar, ScalarTruncation, ScalarValue, lower_bound, upper_bound,
+    BufferString, ByteBuffer, Nullability, Scalar, ScalarTruncation, ScalarValue, VortexError,
+    lower_bound, upper_bound,
 };
 use vortex_value::laws::{order_is_reversed, order_is_transitive};
 
@@ -55,20 +56,29 @@ fn truncate_bounds(
     ensures upper { IfOk result (λ bounds. IsTruncatedUpper n upper bounds.1) }
     ensures refused { IfErr result (IsOutOfMemoryAt n (IsLong n lower ⊎ IsLong n upper)) }
 {
-    let lower = match truncate_lower(alloc, lower, n) {
+    let lower = match truncate_bound(alloc, Side::Lower, lower, n) {
         Ok(lower) => lower,
         Err(cause) => {
             drop(upper);
             return Err(cause);
         }
     };
-    match truncate_upper(alloc, upper, n) {
+    match truncate_bound(alloc, Side::Upper, upper, n) {
         Ok(upper) => Ok((lower, upper)),
         Err(cause) => {
             drop(lower);
             Err(cause)
         }
     }
+}
+
+/// Which of the two bounds it is.
+#[derive(Clone, Copy)]
+enum Side {
+    /// The lower one, which may become less.
+    Lower,
+    /// The upper one, which may become greater.
+    Upper,
 }
 
 /// What a bound is cut as.
@@ -105,74 +115,30 @@ fn kind_of(scalar: &Scalar) -> Kind
     }
 }
 
-/// A lower bound, cut if it is a string or bytes.
-fn truncate_lower(
+/// A bound, cut if it is a string or bytes.
+fn truncate_bound(
     alloc: Global,
+    side: Side,
     bound: Option<Bound>,
     n: usize,
 ) -> Result<Option<Bound>, StatisticsError>
-    ensures value { IfOk result (IsTruncatedLower n bound) }
+    ensures value { IfOk result (IsTruncated side n bound) }
     ensures refused { IfErr result (IsOutOfMemoryAt n (IsLong n bound)) }
 {
     let Some(bound) = bound else {
         return Ok(None);
     };
     match kind_of(&bound.value) {
-        Kind::Text => cut_lower::<BufferString>(alloc, bound, n),
-        Kind::Bytes => cut_lower::<ByteBuffer>(alloc, bound, n),
+        Kind::Text => cut::<BufferString>(alloc, side, bound, n),
+        Kind::Bytes => cut::<ByteBuffer>(alloc, side, bound, n),
         Kind::Whole => Ok(Some(bound)),
     }
 }
 
-/// An upper bound, cut if it is a string or bytes.
-fn truncate_upper(
+/// The best bound at n bytes of a bound that is a string, or bytes.
+fn cut<T: ScalarTruncation>(
     alloc: Global,
-    bound: Option<Bound>,
-    n: usize,
-) -> Result<Option<Bound>, StatisticsError>
-    ensures value { IfOk result (IsTruncatedUpper n bound) }
-    ensures refused { IfErr result (IsOutOfMemoryAt n (IsLong n bound)) }
-{
-    let Some(bound) = bound else {
-        return Ok(None);
-    };
-    match kind_of(&bound.value) {
-        Kind::Text => cut_upper::<BufferString>(alloc, bound, n),
-        Kind::Bytes => cut_upper::<ByteBuffer>(alloc, bound, n),
-        Kind::Whole => Ok(Some(bound)),
-    }
-}
-
-/// The lower bound at n bytes of a bound that is a string, or bytes.
-fn cut_lower<T: ScalarTruncation>(
-    alloc: Global,
-    bound: Bound,
-    n: usize,
-) -> Result<Option<Bound>, StatisticsError>
-    requires typed { IsTypeOfKind T.type_at (scalar_type bound.value) }
-    requires raw { MayHold T.raw_at (scalar_raw bound.value) }
-    requires some { is_absent (scalar_raw bound.value) ≡ false }
-    ensures value { IfOk result (IsCutLower T.IsBestLower T.raw_at n bound) }
-    ensures refused { IfErr result (IsOutOfMemoryAt n (IsLongRaw T.raw_at n bound)) }
-{
-    let Bound { value, is_exact } = bound;
-    let nullability = value.dtype().nullability();
-    let Ok(value) = T::from_scalar(value) else {
-        unreachable!()
-    };
-    match lower_bound(alloc, value, n, nullability) {
-        Ok(Some((value, cut))) => Ok(Some(bound_of(value, cut, is_exact))),
-        Ok(None) => unreachable!(),
-        Err(cause) => {
-            drop(cause);
-            Err(StatisticsError::OutOfMemory)
-        }
-    }
-}
-
-/// The upper bound at n bytes of a bound that is a string, or bytes.
-fn cut_upper<T: ScalarTruncation>(
-    alloc: Global,
+    side: Side,
     bound: Bound,
     n: usize,
 ) -> Result<Option<Bound>, StatisticsError>
@@ -180,7 +146,7 @@ fn cut_upper<T: ScalarTruncation>(
     requires raw { MayHold T.raw_at (scalar_raw bound.value) }
     requires some { is_absent (scalar_raw bound.value) ≡ false }
     ensures value { IfOk result
-        (IsCutUpper T.IsBestUpper T.HasNoBestUpper T.raw_at n bound) }
+        (IsCutAt side T.IsBestLower T.IsBestUpper T.HasNoBestUpper T.raw_at n bound) }
     ensures refused { IfErr result (IsOutOfMemoryAt n (IsLongRaw T.raw_at n bound)) }
 {
     let Bound { value, is_exact } = bound;
@@ -188,13 +154,30 @@ fn cut_upper<T: ScalarTruncation>(
     let Ok(value) = T::from_scalar(value) else {
         unreachable!()
     };
-    match upper_bound(alloc, value, n, nullability) {
+    match best_bound(alloc, side, value, n, nullability) {
         Ok(Some((value, cut))) => Ok(Some(bound_of(value, cut, is_exact))),
         Ok(None) => Ok(None),
         Err(cause) => {
             drop(cause);
             Err(StatisticsError::OutOfMemory)
         }
+    }
+}
+
+/// The best lower or upper bound of a value at n bytes, and whether the value was cut.
+fn best_bound<T: ScalarTruncation>(
+    alloc: Global,
+    side: Side,
+    value: Option<T>,
+    n: usize,
+    nullability: Nullability,
+) -> Result<Option<(Scalar, bool)>, VortexError>
+    ensures { IsBestAnswer side T.IsBestLower T.IsBestUpper T.HasNoBestUpper T.raw_at T.type_at
+        T.bytes value n nullability result }
+{
+    match side {
+        Side::Lower => lower_bound(alloc, value, n, nullability),
+        Side::Upper => upper_bound(alloc, value, n, nullability),
     }
 }
 
