@@ -1,6 +1,5 @@
 -- What is read of a form is what was written, and is right for what that was right for.
-use Rattle.std.proofs.Common.{◌≡◌, ◌⊎◌, inl, inr, ℕ, zero, suc, ◌+◌, ◌<◌, ◌^◌, Bool, true, false, if◌then◌else◌, cond, List, [], ◌∷◌, ◌++◌, length, map, count_by, get_or, Contains, Option, Some, None, IfSome, IsSome, is_some, Ordering, Less, Equal, refl, sym, ap, ap₂, subst, ◌∙◌, arith}
-use Rattle.std.proofs.lemmas.Bool.{false≢true}
+use Rattle.std.proofs.Common.{◌≡◌, inl, inr, ℕ, zero, suc, ◌+◌, ◌<◌, Bool, true, false, if◌then◌else◌, cond, List, [], ◌∷◌, ◌++◌, length, map, count_by, get_or, Option, Some, None, IfSome, is_some, Ordering, Less, Equal, refl, sym, ap, ap₂, subst, ◌∙◌, arith}
 use Rattle.std.proofs.Math.ListN.{get_or-map}
 use Rattle.std.proofs.lemmas.List.{append_assoc, length-map}
 use Rattle.std.proofs.lemmas.List.Sums.{sum_by-cons}
@@ -11,16 +10,14 @@ use Rattle.vortex_value.specs.Lemmas.EqualityLaws.{same_type-Decides}
 use Rattle.vortex_value.specs.Order.{order}
 use Rattle.vortex_value.specs.Values.Content.{Content, content}
 use Rattle.vortex_row.specs.Held.{IsHeld}
-use Rattle.vortex_row.specs.Keys.{key}
 use Rattle.vortex_row.specs.Laws.{KeysAreApart, ValuesHaveNoTyped}
 use Rattle.vortex_value.specs.Equality.{HasNoTyped}
-use Rattle.vortex_statistics.specs.Cells.{AllCompare, Cell, HasValue, IsUpTo, cell_order, is_null_cell, order_from_above}
+use Rattle.vortex_statistics.specs.Cells.{Cell, HasValue, IsUpTo, cell_order, is_null_cell, order_from_above}
 use Rattle.vortex_statistics.specs.Form.{AreOf, FormsAreApart, IsBoundOf, IsCellOf, IsHeldBound, IsHeldKnown, IsSameBound, IsUntypedBound, SaySame, bound_bytes, form}
 use Rattle.vortex_statistics.specs.FormAnswers.{AreTyped, ReadsRight, retyped}
 use Rattle.vortex_statistics.specs.FormSteps.{flags_of, state_at, state_of}
-use Rattle.vortex_statistics.specs.Statistics.{AreComplete, AreRight, IsBound, IsBoundedFor, Known, KnownBound}
-use Rattle.vortex_statistics.specs.declared.flags.BoundState.{BoundState}
-use Rattle.vortex_statistics.specs.declared.flags.BoundState.TheVariants.{Missing, Inexact, Exact}
+use Rattle.vortex_statistics.specs.Statistics.{AreComplete, AreRight, IsBound, Known, KnownBound}
+use Rattle.vortex_statistics.specs.declared.flags.BoundState.TheVariants.{Missing}
 use Rattle.vortex_statistics.proofs.HeadLaws.{IsHead, form-head, head_bytes, heads-apart}
 
 -- ---- what shares a form

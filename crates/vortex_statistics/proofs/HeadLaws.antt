@@ -1,8 +1,8 @@
 -- What comes first in a form, the version, the flags and the counts, says the flags and the counts.
-use Rattle.std.proofs.Common.{◌≡◌, ℕ, ◌<◌, ◌^◌, Bool, true, false, List, [], ◌∷◌, ◌++◌, length, Option, Some, None, IfSome, is_some, refl, sym, ap, ap₂, ◌∙◌, arith}
+use Rattle.std.proofs.Common.{◌≡◌, ℕ, ◌<◌, ◌^◌, false, List, [], ◌∷◌, ◌++◌, length, Option, Some, None, IfSome, is_some, refl, sym, ap, ap₂, ◌∙◌, arith}
 use Rattle.std.proofs.lemmas.Bool.{false≢true}
 use Rattle.std.proofs.lemmas.List.{append_assoc}
-use Rattle.vortex_statistics.specs.Form.{bound_bytes, count_bytes, flags, form, known_count_bytes}
+use Rattle.vortex_statistics.specs.Form.{bound_bytes, count_bytes, form, known_count_bytes}
 use Rattle.vortex_statistics.specs.FormSteps.{flags_byte, flags_of}
 use Rattle.vortex_statistics.specs.Statistics.{Known}
 use Rattle.vortex_statistics.specs.declared.flags.Flags.{Flags}

@@ -1,5 +1,5 @@
 -- The keys of bounds: what begins with two of them goes on alike, and a form goes on with them after its counts.
-use Rattle.std.proofs.Common.{◌≡◌, ℕ, Bool, true, false, List, [], ◌++◌, Option, Some, None, IfSome, refl, sym, ap, ap₂, subst, ◌∙◌}
+use Rattle.std.proofs.Common.{◌≡◌, ℕ, Bool, true, false, List, [], ◌++◌, Option, Some, None, refl, sym, ap, ap₂, subst, ◌∙◌}
 use Rattle.std.proofs.lemmas.Bool.{false≢true}
 use Rattle.std.proofs.lemmas.List.{append-nil}
 use Rattle.vortex_dtype.specs.TypeTree.{TypeTree}
@@ -9,14 +9,14 @@ use Rattle.vortex_row.specs.Columns.{key_with}
 use Rattle.vortex_row.specs.Decoded.{IsFirstBad, IsKeyOf}
 use Rattle.vortex_row.specs.Keys.{key}
 use Rattle.vortex_row.specs.Laws.{KeysAreApart, ValuesHaveNoTyped}
-use Rattle.vortex_statistics.specs.Form.{IsBoundOf, IsFormOf, bound_bytes, form}
+use Rattle.vortex_statistics.specs.Form.{IsBoundOf, IsFormOf, bound_bytes}
 use Rattle.vortex_statistics.specs.FormAnswers.{IsFirstWrong}
 use Rattle.vortex_statistics.specs.FormSteps.{AreBoundKeys, IsBoundKey, IsKeyIn, ascending, flags_of, is_there, state_at, state_of}
 use Rattle.vortex_statistics.specs.Statistics.{Known, KnownBound}
 use Rattle.vortex_statistics.specs.declared.flags.BoundState.{BoundState}
 use Rattle.vortex_statistics.specs.declared.flags.BoundState.TheVariants.{Missing, Inexact, Exact}
 use Rattle.vortex_statistics.specs.declared.flags.Flags.{Flags}
-use Rattle.vortex_statistics.proofs.FirstWrong.{BeginsWith, Follow, where_bad}
+use Rattle.vortex_statistics.proofs.FirstWrong.{Follow, where_bad}
 use Rattle.vortex_statistics.proofs.HeadLaws.{IsHead, form-head, head_bytes, heads-apart}
 
 pub key-ascending : (c : Content) → key_with ascending c ≡ key c

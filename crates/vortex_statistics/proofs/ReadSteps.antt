@@ -1,15 +1,13 @@
 -- What is read of a form, part by part, and where its bytes are wrong.
-use Rattle.std.proofs.Common.{◌≡◌, ◌⊎◌, inl, inr, ℕ, zero, suc, ◌+◌, ◌-◌, ◌<◌, ◌≤◌, Bool, true, false, List, [], ◌∷◌, ◌++◌, length, length-append, take, drop, get_or, Option, Some, None, IfOk, IfErr, Ok, Err, Result, is_some, refl, sym, ap, subst, ◌∙◌, arith}
+use Rattle.std.proofs.Common.{◌≡◌, inl, inr, ℕ, zero, suc, ◌+◌, ◌-◌, ◌<◌, ◌≤◌, Bool, true, false, List, [], ◌∷◌, ◌++◌, length, length-append, drop, get_or, Option, Some, None, IfOk, IfErr, Ok, Err, Result, refl, sym, ap, subst, ◌∙◌, arith}
 use Rattle.std.proofs.Math.Nat.{suc-add, zero-add}
 use Rattle.std.proofs.Math.Seq.{drop-nil}
 use Rattle.std.proofs.lemmas.Bool.{false≢true}
 use Rattle.std.proofs.lemmas.List.{append_assoc, drop_at, drop_more, length-drop}
 use Rattle.vortex_dtype.specs.TypeTree.{TypeTree}
 use Rattle.vortex_value.specs.TypesWithin.{HasNoVariant, UnionsHaveVariants}
-use Rattle.vortex_value.specs.Values.Content.{content}
 use Rattle.vortex_value.specs.Values.Scalars.{scalar_content, scalar_raw}
 use Rattle.vortex_value.specs.declared.scalars.Scalar.{Scalar}
-use Rattle.vortex_row.specs.Columns.{key_with}
 use Rattle.vortex_row.specs.Decoded.{IsDecoded, IsFirstBad, IsKeyOf}
 use Rattle.vortex_row.specs.Held.{AreBytes}
 use Rattle.vortex_row.specs.Keys.{key}
@@ -36,7 +34,7 @@ drop-drop zero n xs = ap (λ k. drop k xs) (sym (zero-add n))
 drop-drop (suc m) n [] = drop-nil n ∙ sym (drop-nil (suc m + n))
 drop-drop (suc m) n (x ∷ xs) = drop-drop m n xs ∙ ap (λ k. drop k (x ∷ xs)) (sym (suc-add m n))
 
-state-there : (e : Bool) → is_there (state_at e) ≡ true
+pub state-there : (e : Bool) → is_there (state_at e) ≡ true
 state-there true = refl
 state-there false = refl
 
@@ -60,6 +58,8 @@ either-right Exact Exact e = refl
 
 weaker : (Is : List ℕ → Type 0) (has less : Type 0) (bytes : List ℕ) (p : ℕ) → (less → has) → IsFirstWrong Is has bytes p → IsFirstWrong Is less bytes p
 weaker Is has less bytes p f h = record { within = h.within; before = λ v. h.before (f v); wrong = h.wrong; none = h.none }
+
+pub ruleset states = (state-there)
 
 -- ---- one bound
 
@@ -90,7 +90,7 @@ no_key o t exact start old place same h = inr (place, refl, state-there exact, s
 -- ---- the last bound
 
 pub last_refused : (t : TypeTree) (u : BoundState) (start : ℕ) (old : List ℕ) (e : StatisticsError) → (is_there u ≡ true → HasNoVariant t) → IsBadBound t u start old e
-    → IsRefusal (IsBoundKey t u) (is_there u ≡ true → UnionsHaveVariants t) start old e
+    → IsRefusal (IsBoundKey t u) (is_there u ≡ true) (is_there u ≡ true → UnionsHaveVariants t) start old e
 last_refused t u start old e ordered (inl memory) = inl memory
 last_refused t u start old e ordered (inr h) = inr (h.0, h.1, weaker (IsBoundKey t u) (UnionsHaveVariants t) _ old h.0 (λ v. v h.2) (wrong_last t u old h.0 h.2 (ordered h.2) h.3))
 
@@ -98,7 +98,7 @@ bound_key : (t : TypeTree) (u : BoundState) (b : Option KnownBound) → IsBoundO
 bound_key t u b h e = subst (λ s. IsBoundKey t s (bound_bytes b)) e (key_from t b h)
 
 pub more_left : KeysAreApart → ValuesHaveNoTyped → (t : TypeTree) (u : BoundState) (b : Option KnownBound) (bytes : List ℕ) (place next : ℕ) → IsBoundReadAt t u b bytes place next → next < length bytes
-    → IsRefusal (IsBoundKey t u) (is_there u ≡ true → UnionsHaveVariants t) place (drop place bytes) (BadBytes next)
+    → IsRefusal (IsBoundKey t u) (is_there u ≡ true) (is_there u ≡ true → UnionsHaveVariants t) place (drop place bytes) (BadBytes next)
 more_left apart untyped t u b bytes place next h some =
     let key = bound_key t u b h.bound.of_type h.bound.state_is in
     let split : drop place bytes ≡ bound_bytes b ++ get_or bytes next 0 ∷ drop (next + 1) bytes = h.bound.is ∙ ap (λ ys. bound_bytes b ++ ys) (drop_more bytes next 0 some) in
@@ -112,16 +112,16 @@ more_left apart untyped t u b bytes place next h some =
 -- ---- both bounds
 
 pub lower_refused : (t : TypeTree) (f : Flags) (start : ℕ) (old : List ℕ) (e : StatisticsError) → (has_bound f ≡ true → HasNoVariant t) → IsBadBound t f.lower start old e
-    → IsRefusal (AreBoundKeys t f.lower f.upper) (has_bound f ≡ true → UnionsHaveVariants t) start old e
-lower_refused t f start old e ordered (inl memory) = inl memory
+    → IsRefusal (AreBoundKeys t f.lower f.upper) (has_bound f ≡ true) (has_bound f ≡ true → UnionsHaveVariants t) start old e
+lower_refused t f start old e ordered (inl memory) = inl (memory.0, either-left f.lower f.upper memory.1)
 lower_refused t f start old e ordered (inr h) =
     let there : has_bound f ≡ true = either-left f.lower f.upper h.2 in
     inr (h.0, h.1, weaker (AreBoundKeys t f.lower f.upper) (UnionsHaveVariants t) _ old h.0 (λ v. v there) (wrong_lower t f.lower f.upper old h.0 h.2 (ordered there) h.3))
 
 pub upper_refused : KeysAreApart → ValuesHaveNoTyped → (t : TypeTree) (f : Flags) (b : Option KnownBound) (bytes : List ℕ) (place next : ℕ) (e : StatisticsError) → IsBoundReadAt t f.lower b bytes place next
-    → IsRefusal (IsBoundKey t f.upper) (is_there f.upper ≡ true → UnionsHaveVariants t) next (drop next bytes) e
-    → IsRefusal (AreBoundKeys t f.lower f.upper) (has_bound f ≡ true → UnionsHaveVariants t) place (drop place bytes) e
-upper_refused apart untyped t f b bytes place next e h (inl memory) = inl memory
+    → IsRefusal (IsBoundKey t f.upper) (is_there f.upper ≡ true) (is_there f.upper ≡ true → UnionsHaveVariants t) next (drop next bytes) e
+    → IsRefusal (AreBoundKeys t f.lower f.upper) (has_bound f ≡ true) (has_bound f ≡ true → UnionsHaveVariants t) place (drop place bytes) e
+upper_refused apart untyped t f b bytes place next e h (inl memory) = inl (memory.0, either-right f.lower f.upper memory.1)
 upper_refused apart untyped t f b bytes place next e h (inr w) =
     let front = bound_bytes b in
     let last : IsFirstWrong (IsBoundKey t f.upper) (has_bound f ≡ true → UnionsHaveVariants t) (drop next bytes) w.0 = weaker (IsBoundKey t f.upper) _ _ (drop next bytes) w.0 (λ v i. v (either-right f.lower f.upper i)) w.2 in
@@ -151,9 +151,9 @@ counts_refused t bytes f e small start ordered is short =
     inr (inr (length bytes, is ∙ ap BadBytes (sym (zero-add (length bytes))), subst Wrong (sym start.1) (cut_off t f rest (λ k. less (suc (suc k))) (omega arith) ordered)))
 
 pub bounds_refused : (t : TypeTree) (bytes : List ℕ) (f : Flags) (rows : ℕ) (nulls : Option ℕ) (end : ℕ) (e : StatisticsError) → (rest : List ℕ) × (bytes ≡ 1 ∷ flags_byte f ∷ rest)
-    → IsCountsRead f.has_null_count rows nulls (drop 2 bytes) (drop end bytes) → end ≤ length bytes → IsRefusal (AreBoundKeys t f.lower f.upper) (has_bound f ≡ true → UnionsHaveVariants t) end (drop end bytes) e
+    → IsCountsRead f.has_null_count rows nulls (drop 2 bytes) (drop end bytes) → end ≤ length bytes → IsRefusal (AreBoundKeys t f.lower f.upper) (has_bound f ≡ true) (has_bound f ≡ true → UnionsHaveVariants t) end (drop end bytes) e
     → IsBadForm t bytes e
-bounds_refused t bytes f rows nulls end e start counts inside (inl memory) = inr (inl memory)
+bounds_refused t bytes f rows nulls end e start counts inside (inl memory) = inr (inl (memory.0, subst SaysBound (sym start.1) (bytes_say f start.0 memory.1)))
 bounds_refused t bytes f rows nulls end e start counts inside (inr w) =
     let front = head_bytes f rows nulls in
     let after : start.0 ≡ count_bytes rows ++ (known_count_bytes nulls ++ drop end bytes) = ap (drop 2) (sym start.1) ∙ counts.is in
@@ -180,7 +180,7 @@ pub reads_as : KeysAreApart → ValuesHaveNoTyped → (t : TypeTree) (bytes : Li
 reads_as apart untyped t bytes (Ok x) h g s of is = read_back apart untyped t (known x) s h.0 of (sym h.1 ∙ is)
 reads_as apart untyped t bytes (Err e) h (inl w) s of is =
     absurd (w.1 (ordered_in t s.lower s.upper of.lower of.upper (flags_say (flags_of s) bytes _ (is ∙ form-head s) w.2)))
-reads_as apart untyped t bytes (Err e) h (inr (inl memory)) s of is = memory
+reads_as apart untyped t bytes (Err e) h (inr (inl memory)) s of is = memory.0
 reads_as apart untyped t bytes (Err e) h (inr (inr w)) s of is = absurd (w.2.none (record { statistics = s; of_type = of; is = is }))
 
 pub right_read : KeysAreApart → ValuesHaveNoTyped → (t : TypeTree) (bytes : List ℕ) (r : Result ColumnStatistics StatisticsError) → IfOk r (λ x. AreOf t (known x) × (bytes ≡ form (known x))) → IfOk r (λ x. ReadsRight t bytes (known x))

@@ -1,5 +1,5 @@
 -- What is appended of a form.
-use Rattle.std.proofs.Common.{◌≡◌, ℕ, ◌<◌, ◌^◌, [], ◌∷◌, ◌++◌, Option, IfSome, OnOk, Ok, Err, Result, ap₂, ◌∙◌}
+use Rattle.std.proofs.Common.{◌≡◌, ◌<◌, ◌^◌, [], ◌∷◌, ◌++◌, IfSome, OnOk, Ok, Err, Result, ap₂, ◌∙◌}
 use Rattle.std.proofs.lemmas.List.{append-nil}
 use Rattle.vortex_value.specs.Values.Content.{Content}
 use Rattle.vortex_row.specs.Columns.{key_with, row_key}

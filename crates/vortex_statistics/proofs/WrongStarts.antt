@@ -1,5 +1,5 @@
 -- Bytes that are wrong before the bounds: the version, the flags, or counts that end too early.
-use Rattle.std.proofs.Common.{◌≡◌, ◌⊎◌, inl, inr, ℕ, zero, suc, ◌+◌, ◌-◌, ◌<◌, ◌≤◌, ◌^◌, Bool, true, false, List, [], ◌∷◌, ◌++◌, length, length-append, take, drop, get_or, Option, Some, None, IfSome, is_some, refl, sym, ap, ap₂, subst, ◌∙◌, arith}
+use Rattle.std.proofs.Common.{◌≡◌, ◌⊎◌, inl, inr, ℕ, zero, suc, ◌+◌, ◌-◌, ◌<◌, ◌^◌, Bool, true, false, List, [], ◌∷◌, ◌++◌, length, length-append, take, drop, Option, Some, None, IfSome, is_some, refl, sym, ap, ap₂, subst, ◌∙◌, arith}
 use Rattle.std.proofs.Math.Seq.{take-length}
 use Rattle.std.proofs.lemmas.Bool.{false≢true}
 use Rattle.std.proofs.lemmas.List.{append-nil, append_assoc, length-drop, length-take-le, take-append-drop}
@@ -9,8 +9,8 @@ use Rattle.vortex_value.specs.Values.Content.{content, null}
 use Rattle.vortex_row.specs.Columns.{key_with}
 use Rattle.vortex_row.specs.Held.{AreBytes}
 use Rattle.vortex_statistics.specs.Form.{IsFormOf, bound_bytes, count_bytes, flags, form, known_count_bytes}
-use Rattle.vortex_statistics.specs.FormAnswers.{HasBound, HasValues, IsFirstWrong, MayGoOn, SaysBound}
-use Rattle.vortex_statistics.specs.FormSteps.{AreBoundKeys, IsBoundKey, IsKeyIn, IsWrongStart, ascending, counts_length, either_there, flags_byte, flags_of, has_bound, state_at, state_of}
+use Rattle.vortex_statistics.specs.FormAnswers.{HasValues, IsFirstWrong, MayGoOn, SaysBound}
+use Rattle.vortex_statistics.specs.FormSteps.{AreBoundKeys, IsKeyIn, IsWrongStart, ascending, counts_length, either_there, flags_byte, flags_of, has_bound, state_at, state_of}
 use Rattle.vortex_statistics.specs.Merging.{nothing}
 use Rattle.vortex_statistics.specs.Statistics.{Known, KnownBound}
 use Rattle.vortex_statistics.specs.declared.flags.BoundState.{BoundState}
@@ -18,7 +18,7 @@ use Rattle.vortex_statistics.specs.declared.flags.BoundState.TheVariants.{Missin
 use Rattle.vortex_statistics.specs.declared.flags.Flags.{Flags}
 use Rattle.vortex_statistics.proofs.CountBytes.{big_endian-length, some_count}
 use Rattle.vortex_statistics.proofs.FlagLaws.{flags-apart, flags-byte}
-use Rattle.vortex_statistics.proofs.HeadLaws.{IsHead, first-apart, form-head, head_bytes}
+use Rattle.vortex_statistics.proofs.HeadLaws.{IsHead, first-apart, form-head}
 use Rattle.vortex_statistics.proofs.KeyBounds.{after_head, some_key}
 
 -- ---- the version and the flags

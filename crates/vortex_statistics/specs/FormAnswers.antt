@@ -1,12 +1,12 @@
 -- What reading a form answers: the statistics that were written, or the first byte that no form has there.
-use Rattle.std.specs.Prelude.{◌≡◌, ◌⊎◌, ℕ, suc, ◌<◌, ◌≤◌, List, ◌∷◌, ◌++◌, length, map, take, Option, IfSome, IsSome, Result, MatchResult}
+use Rattle.std.specs.Prelude.{◌≡◌, ◌⊎◌, ℕ, suc, ◌<◌, ◌≤◌, List, ◌∷◌, ◌++◌, length, map, take, IfSome, IsSome, Result, MatchResult}
 use Rattle.vortex_dtype.specs.TypeTree.{Same, TypeTree}
 use Rattle.vortex_value.specs.TypesWithin.{UnionsHaveVariants}
 use Rattle.vortex_value.specs.Values.RawTree.{RawTree}
 use Rattle.vortex_row.specs.Decoded.{IsValueOf}
 use Rattle.vortex_statistics.specs.Cells.{Cell}
 use Rattle.vortex_statistics.specs.Form.{IsHeldKnown, flags, form}
-use Rattle.vortex_statistics.specs.Statistics.{AreComplete, AreRight, Known, KnownBound, known}
+use Rattle.vortex_statistics.specs.Statistics.{AreComplete, AreRight, Known, known}
 use Rattle.vortex_statistics.specs.declared.column_statistics.ColumnStatistics.{ColumnStatistics}
 use Rattle.vortex_statistics.specs.declared.error.StatisticsError.{StatisticsError}
 use Rattle.vortex_statistics.specs.declared.error.StatisticsError.TheVariants.{OutOfMemory}

@@ -127,16 +127,16 @@ pub record AreBoundsRead (t : TypeTree) (flags : Flags) (lower upper : Option Kn
   pub upper_state : state_of upper ≡ flags.upper
   pub is : bytes ≡ bound_bytes lower ++ bound_bytes upper
 
--- why no key was read: there is no memory, or the place after start where no key goes on
+-- why no key was read of a bound that is there: there is no memory, or the place after start where no key goes on
 abbrev pub IsBadBound : TypeTree → BoundState → ℕ → List ℕ → StatisticsError → Type 0
-IsBadBound t state start old e = (e ≡ OutOfMemory)
+IsBadBound t state start old e = ((e ≡ OutOfMemory) × (is_there state ≡ true))
     ⊎ ((place : ℕ) × (e ≡ BadBytes (start + place)) × (is_there state ≡ true) × IsFirstBad (IsKeyOf ascending t) (UnionsHaveVariants t) old place)
 
--- why bytes are refused that should be one of the strings: there is no memory, or the place after start of the first wrong
--- byte
-abbrev pub IsRefusal : (List ℕ → Type 0) → Type 0 → ℕ → List ℕ → StatisticsError → Type 0
-IsRefusal Is has_values start bytes e = (e ≡ OutOfMemory) ⊎ ((place : ℕ) × (e ≡ BadBytes (start + place)) × IsFirstWrong Is has_values bytes place)
+-- why bytes are refused that should be one of the strings: there is no memory, which some take, or the place after start of
+-- the first wrong byte
+abbrev pub IsRefusal : (List ℕ → Type 0) → Type 0 → Type 0 → ℕ → List ℕ → StatisticsError → Type 0
+IsRefusal Is may_take has_values start bytes e = ((e ≡ OutOfMemory) × may_take) ⊎ ((place : ℕ) × (e ≡ BadBytes (start + place)) × IsFirstWrong Is has_values bytes place)
 
 -- why no statistics of the type were read: there is no memory, a bound of a type with a variant, or a wrong byte
 abbrev pub IsBadForm : TypeTree → List ℕ → StatisticsError → Type 0
-IsBadForm t bytes e = ((e ≡ HasVariant) × (¬ (HasNoVariant t)) × SaysBound bytes) ⊎ IsRefusal (IsFormOf t) (SaysBound bytes → HasValues t) 0 bytes e
+IsBadForm t bytes e = ((e ≡ HasVariant) × (¬ (HasNoVariant t)) × SaysBound bytes) ⊎ IsRefusal (IsFormOf t) (SaysBound bytes) (SaysBound bytes → HasValues t) 0 bytes e

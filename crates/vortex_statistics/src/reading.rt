@@ -22,7 +22,7 @@ impl ColumnStatistics {
     /// the version and with flags that say a bound. Else `BadBytes` if the bytes are not, whole, the
     /// form of statistics of the type: its place is that of the first byte that no such form has
     /// there, or of the end if they end too early. `OutOfMemory` may come in place of each answer
-    /// but `HasVariant`.
+    /// but `HasVariant`, only if the bytes begin so.
     pub fn from_bytes(
         alloc: Global,
         dtype: &DType,
@@ -39,7 +39,8 @@ impl ColumnStatistics {
         ensures bad { (place : ℕ) → result ≡ Err (BadBytes place)
             → IsFirstWrong (IsFormOf (type_of dtype.now))
             (SaysBound bytes.now → HasValues (type_of dtype.now)) bytes.now place }
-        ensures refused { IfErr result (λ e. (e ≡ HasVariant) ⊎ ((e ≡ OutOfMemory)
+        ensures refused { IfErr result (λ e. (e ≡ HasVariant)
+            ⊎ (((e ≡ OutOfMemory) × SaysBound bytes.now)
             ⊎ ((place : ℕ) × (e ≡ BadBytes place)))) }
     {
         keys_are_apart();
@@ -165,7 +166,7 @@ fn read_bounds(
         (option_map known_bound bounds.0) (option_map known_bound bounds.1)
         (drop place bytes.now)) }
     ensures refused { IfErr result (IsRefusal
-        (AreBoundKeys (type_of dtype.now) flags.lower flags.upper)
+        (AreBoundKeys (type_of dtype.now) flags.lower flags.upper) (has_bound flags ≡ true)
         (has_bound flags ≡ true → UnionsHaveVariants (type_of dtype.now))
         place (drop place bytes.now)) }
 {
@@ -193,7 +194,7 @@ fn read_last_bound(
     requires ordered { is_there state ≡ true → HasNoVariant (type_of dtype.now) }
     ensures read { IfOk result (λ bound. IsBoundRead (type_of dtype.now) state
         (option_map known_bound bound) (drop place bytes.now) []) }
-    ensures refused { IfErr result (IsRefusal (IsBoundKey (type_of dtype.now) state)
+    ensures refused { IfErr result (IsRefusal (IsBoundKey (type_of dtype.now) state) (is_there state ≡ true)
         (is_there state ≡ true → UnionsHaveVariants (type_of dtype.now))
         place (drop place bytes.now)) }
 {
@@ -238,6 +239,7 @@ fn bytes_from(bytes: &[u8], place: usize) -> &[u8]
 }
 
 /// A bound that is there, from a place on, and the place after it.
+#[tactic(auto, using(crate::proofs::ReadSteps::states))]
 fn read_value(
     alloc: Global,
     dtype: &DType,
