@@ -6,7 +6,7 @@ use Rattle.arrow_columns.specs.Columns.{HasOffsets, end_of}
 use Rattle.arrow_columns.specs.Integers.{item_at}
 use Rattle.arrow_columns.specs.Offsets.{AreRows, IsRow, bytes_between, bytes_of_offset, offset_at, offset_of}
 use Rattle.arrow_columns.specs.declared.offset_width.OffsetWidth.{OffsetWidth}
-use Rattle.arrow_columns.specs.declared.column.Column.{Column}
+use Rattle.arrow_columns.specs.declared.columns.Column.{Column}
 use Rattle.arrow_columns.proofs.BufferItems.{enough_items, item_is}
 
 -- offsets alike below m

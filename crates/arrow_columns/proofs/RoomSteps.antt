@@ -73,8 +73,8 @@ first_without_given kind cell from n i f l b h =
       cell_got cell from n (i - from) (Some s.0) (omega arith) (ap cell place ∙ s.1),
       s.2,
       λ k x d e.
-        let got : slice_get (map cell (range_with_len from n)) k ≡ Some (cell (from + k)) = cell_got cell from n k (cell (from + k)) (omega arith) refl in
-        some_says (IsOfKind kind) (cell (from + k)) x (the_value (cell (from + k)) x (sym got ∙ e)) (b (from + k) (omega arith) (omega arith)),
+          let got : slice_get (map cell (range_with_len from n)) k ≡ Some (cell (from + k)) = cell_got cell from n k (cell (from + k)) (omega arith) refl in
+          some_says (IsOfKind kind) (cell (from + k)) x (the_value (cell (from + k)) x (sym got ∙ e)) (b (from + k) (omega arith) (omega arith)),
     )
 
 same_value : (o p : Option ℤ) → Some o ≡ Some p → o ≡ p

@@ -3,13 +3,13 @@ use Rattle.std.specs.Prelude.{◌≡◌, Some}
 use Rattle.arrow_columns.specs.Columns.{IsBooleanColumn, IsByteColumn, IsIntegerColumn}
 use Rattle.arrow_columns.specs.Faults.{AreTextRows}
 use Rattle.arrow_columns.specs.Kinds.{kind_at}
-use Rattle.arrow_columns.specs.declared.column.Column.{Column}
+use Rattle.arrow_columns.specs.declared.columns.Column.{Column}
 use Rattle.arrow_columns.specs.declared.kinds.Kind.{Kind}
 use Rattle.arrow_columns.specs.declared.kinds.Kind.TheVariants.{Binary, Boolean, Integer, LargeBinary, LargeUtf8, Null, Utf8}
 use Rattle.arrow_columns.specs.declared.offset_width.OffsetWidth.{OffsetWidth}
 use Rattle.arrow_columns.specs.declared.offset_width.OffsetWidth.TheVariants.{Bits32, Bits64}
-use Rattle.arrow_columns.specs.declared.rows.Rows.{Rows}
-use Rattle.arrow_columns.specs.declared.rows.Rows.TheVariants.{Booleans, Bytes, Integers, Nulls, Strings}
+use Rattle.arrow_columns.specs.declared.tested_rows.Rows.{Rows}
+use Rattle.arrow_columns.specs.declared.tested_rows.Rows.TheVariants.{Booleans, Bytes, Integers, Nulls, Strings}
 
 -- the kinds with offsets of this width
 abbrev pub string_kind : OffsetWidth → Kind

@@ -4,7 +4,7 @@ use Rattle.arrow_columns.specs.Bitmaps.{HasBits, bit_of}
 use Rattle.arrow_columns.specs.Cells.{cells_from}
 use Rattle.arrow_columns.specs.Integers.{integer_of, item_at, width_of}
 use Rattle.arrow_columns.specs.Offsets.{AreRows, bytes_between, bytes_of_offset, offset_at}
-use Rattle.arrow_columns.specs.declared.column.Column.{Column}
+use Rattle.arrow_columns.specs.declared.columns.Column.{Column}
 use Rattle.arrow_columns.specs.declared.kinds.IntegerKind.{IntegerKind}
 use Rattle.arrow_columns.specs.declared.offset_width.OffsetWidth.{OffsetWidth}
 

@@ -4,7 +4,7 @@ use Rattle.arrow_columns.specs.Bitmaps.{is_valid, HasBits}
 use Rattle.arrow_columns.specs.Columns.{AreRowsBefore, HasBooleans, HasIntegers, HasOffsets, HasRows, IsByteColumn, end_of, offset_in}
 use Rattle.arrow_columns.specs.Kinds.{kind_at}
 use Rattle.arrow_columns.specs.Offsets.{IsRow, bytes_between}
-use Rattle.arrow_columns.specs.declared.column.Column.{Column}
+use Rattle.arrow_columns.specs.declared.columns.Column.{Column}
 use Rattle.arrow_columns.specs.declared.faults.Buffer.TheVariants.{Offsets, Validity, Values}
 use Rattle.arrow_columns.specs.declared.faults.ColumnFault.{ColumnFault}
 use Rattle.arrow_columns.specs.declared.faults.ColumnFault.TheVariants.{BadOffsets, NotUtf8, TooManyRows, TooShort, UnknownKind}

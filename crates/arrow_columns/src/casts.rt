@@ -10,10 +10,10 @@ ghost use Rattle.arrow_columns.specs.Columns.{HasRows, end_of, integer_cells};
 ghost use Rattle.arrow_columns.specs.Integers.{IsOfKind, integer_of, item_at, width_of};
 
 use crate::bitmaps::is_row_valid;
-use crate::column::Column;
+use crate::columns::Column;
 use crate::integers::Integer;
 use crate::kinds::IntegerKind;
-use crate::rows::IntegerRows;
+use crate::tested_rows::IntegerRows;
 
 /// Why a column was not cast: the integer of this row, the first such one, is none of the kind.
 #[derive(Clone, Copy, Debug, PartialEq, Eq)]
@@ -70,7 +70,11 @@ fn bytes_or_zero<const M: usize, U: Integer<M>>(is_valid: bool, whole: i128) -> 
     requires { IsTrue is_valid → IsOfKind U.kind whole }
     ensures { integer_of U.kind result ≡ (if is_valid then whole else pos 0) }
 {
-    let number = if is_valid { U::of_whole(whole) } else { U::zero() };
+    let number = if is_valid {
+        U::of_whole(whole)
+    } else {
+        U::zero()
+    };
     number.to_bytes()
 }
 

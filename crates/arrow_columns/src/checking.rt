@@ -8,12 +8,12 @@ ghost use Rattle.arrow_columns.specs.Integers.{width_of};
 ghost use Rattle.arrow_columns.specs.Offsets.{bytes_of_offset};
 
 use crate::byte_items::{first_bad, first_not_utf8};
-use crate::column::Column;
+use crate::columns::Column;
 use crate::faults::{Buffer, ColumnFault};
 use crate::kinds::{IntegerKind, Kind};
 use crate::offset_width::OffsetWidth;
 use crate::offsets::Offset;
-use crate::rows::{BooleanRows, ByteRows, IntegerRows, Rows};
+use crate::tested_rows::{BooleanRows, ByteRows, IntegerRows, Rows};
 
 impl IntegerKind {
     /// How many bytes an integer of the kind has.

@@ -10,7 +10,7 @@ mod byte_extremes;
 mod byte_items;
 mod casts;
 mod checking;
-mod column;
+mod columns;
 mod extremes;
 mod faults;
 mod integers;
@@ -18,5 +18,15 @@ mod kinds;
 mod offset_width;
 mod offsets;
 mod reading;
-mod rows;
 mod statistics;
+mod tested_rows;
+
+pub use casts::CastFault;
+pub use columns::Column;
+pub use faults::{Buffer, ColumnFault};
+pub use kinds::{IntegerKind, Kind};
+pub use offset_width::OffsetWidth;
+pub use statistics::{
+    BooleanStatistics, ByteExtremes, ByteStatistics, IntegerExtremes, IntegerStatistics,
+};
+pub use tested_rows::{BooleanRows, ByteRows, IntegerRows, Rows};

@@ -12,14 +12,14 @@ use crate::bitmaps::{is_row_valid, is_set};
 use crate::booleans::statistics_of_bits;
 use crate::byte_extremes::statistics_of_byte_rows;
 use crate::byte_items::row;
-use crate::column::Column;
+use crate::columns::Column;
 use crate::extremes::statistics_of_rows;
 use crate::integers::Integer;
 use crate::kinds::IntegerKind;
 use crate::offset_width::OffsetWidth;
 use crate::offsets::Offset;
-use crate::rows::{BooleanRows, ByteRows, IntegerRows};
 use crate::statistics::{BooleanStatistics, ByteStatistics, IntegerStatistics};
+use crate::tested_rows::{BooleanRows, ByteRows, IntegerRows};
 
 /// The statistics of a column of integers of N bytes.
 fn statistics_of_integers<const N: usize, T: Integer<N>>(column: Column) -> IntegerStatistics

@@ -19,9 +19,22 @@ pub write_rows-requires : goal.write_rows-requires
 write_rows-requires g c =
     let column = c.args.column in
     let within = le-div (end_of column) (length column.values.now) g.row.N c.requires.some c.requires.values in
-    let count : column.length ≡ column.offset + column.length - column.offset = omega arith in
-    (omega (arith, c.requires.narrow), (c.requires.narrow_to, (omega arith, (omega (arith, within, c.as_chunks.ensures.front_len), (c.requires.rows.1,
-    (subst (λ k. k * g.row.M ≤ length c.args.room.now) count c.requires.room, c.in-None.ensures))))))
+    let count : column.length ≡ column.offset + column.length - column.offset = omega arith in (
+      omega (arith, c.requires.narrow),
+      (
+        c.requires.narrow_to,
+        (
+          omega arith,
+          (
+            omega (arith, within, c.as_chunks.ensures.front_len),
+            (
+              c.requires.rows.1,
+              (subst (λ k. k * g.row.M ≤ length c.args.room.now) count c.requires.room, c.in-None.ensures),
+            ),
+          ),
+        ),
+      ),
+    )
 
 pub returns-in-Some-clause-fault : goal.returns-in-Some-clause-fault
 returns-in-Some-clause-fault g c =

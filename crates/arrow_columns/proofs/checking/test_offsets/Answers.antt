@@ -13,8 +13,7 @@ returns-in-Some-clause-fault g c =
     let s : SameOffsets F G m = offsets_same W g.row.N m c.args.column.offsets.now c.as_chunks.result.0.now c.requires.width c.as_chunks.ensures.front in
     let i : ℕ = c.in-Some.i in
     let place : i ≡ c.args.column.offset + (i - c.args.column.offset) = omega (arith, c.in-Some.ensures.1) in
-    let past : c.in_ok-end.end < m = omega (arith, c.as_chunks.ensures.front_len) in
-    (
+    let past : c.in_ok-end.end < m = omega (arith, c.as_chunks.ensures.front_len) in (
       c.in_ok-end.ensures.rows.1,
       has_offsets W g.row.N c.args.column c.in_ok-end.end c.requires.some c.requires.width c.in_ok-end.ensures.rows.0 past,
       omega (arith, c.in-Some.ensures.0, c.in-Some.ensures.1, c.in_ok-end.ensures.rows.0),
@@ -29,8 +28,7 @@ returns-in-None-clause-column g c =
     let G : ℕ → ℕ = offset_in W c.args.column in
     let m : ℕ = length c.args.column.offsets.now / g.row.N in
     let s : SameOffsets F G m = offsets_same W g.row.N m c.args.column.offsets.now c.as_chunks.result.0.now c.requires.width c.as_chunks.ensures.front in
-    let past : c.in_ok-end.end < m = omega (arith, c.as_chunks.ensures.front_len) in
-    (
+    let past : c.in_ok-end.end < m = omega (arith, c.as_chunks.ensures.front_len) in (
       c.in_ok-end.ensures.rows.1,
       has_offsets W g.row.N c.args.column c.in_ok-end.end c.requires.some c.requires.width c.in_ok-end.ensures.rows.0 past,
       subst (AreRows W c.args.column.values.now G c.args.column.offset) c.in_ok-end.ensures.rows.0 (rows_same W F G m c.args.column.values.now c.args.column.offset c.in_ok-end.end s past c.in-None.ensures),

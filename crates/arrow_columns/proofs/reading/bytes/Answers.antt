@@ -12,9 +12,13 @@ row-requires g c =
     let m : ℕ = length c.args.column.offsets.now / g.row.N in
     let s : SameOffsets F G m = offsets_same W g.row.N m c.args.column.offsets.now c.as_chunks.result.0.now c.requires.width c.as_chunks.ensures.front in
     let some : c.args.column.length ≢ 0 = λ z. absurd (omega arith) in
-    let past : end_of c.args.column < m = offset_count W g.row.N c.args.column c.requires.some c.requires.width c.requires.column.1 some in
-    (omega (arith, c.requires.narrow), (omega (arith, past, c.as_chunks.ensures.front_len),
-    row_same W G F m c.args.column.values.now c.args.i (turned F G m s) (omega (arith, past)) (c.requires.column.2 c.args.i c.requires.end c.requires.from)))
+    let past : end_of c.args.column < m = offset_count W g.row.N c.args.column c.requires.some c.requires.width c.requires.column.1 some in (
+      omega (arith, c.requires.narrow),
+      (
+        omega (arith, past, c.as_chunks.ensures.front_len),
+        row_same W G F m c.args.column.values.now c.args.i (turned F G m s) (omega (arith, past)) (c.requires.column.2 c.args.i c.requires.end c.requires.from),
+      ),
+    )
 
 pub returns : goal.returns
 returns g c =

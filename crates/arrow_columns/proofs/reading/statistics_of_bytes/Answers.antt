@@ -13,9 +13,22 @@ statistics_of_byte_rows-requires g c =
     let G : ℕ → ℕ = offset_in W c.args.column in
     let m : ℕ = length c.args.column.offsets.now / g.row.N in
     let s : SameOffsets F G m = offsets_same W g.row.N m c.args.column.offsets.now c.as_chunks.result.0.now c.requires.width c.as_chunks.ensures.front in
-    let past : end_of c.args.column < m = offset_count W g.row.N c.args.column c.requires.some c.requires.width c.requires.column.1 c.if-column-eq0.false in
-    (omega (arith, c.requires.narrow), (c.requires.narrow, (omega arith, (c.requires.column.0.1, (omega (arith, past, c.as_chunks.ensures.front_len),
-    rows_same W G F m c.args.column.values.now c.args.column.offset (end_of c.args.column) (turned F G m s) past c.requires.column.2)))))
+    let past : end_of c.args.column < m = offset_count W g.row.N c.args.column c.requires.some c.requires.width c.requires.column.1 c.if-column-eq0.false in (
+      omega (arith, c.requires.narrow),
+      (
+        c.requires.narrow,
+        (
+          omega arith,
+          (
+            c.requires.column.0.1,
+            (
+              omega (arith, past, c.as_chunks.ensures.front_len),
+              rows_same W G F m c.args.column.values.now c.args.column.offset (end_of c.args.column) (turned F G m s) past c.requires.column.2,
+            ),
+          ),
+        ),
+      ),
+    )
 
 pub returns : goal.returns
 returns g c =

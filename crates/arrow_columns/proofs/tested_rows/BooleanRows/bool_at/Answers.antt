@@ -2,7 +2,7 @@ use Rattle.std.proofs.Common.{◌∙◌, ◌+◌, None, Some, sym, ℕ}
 use Rattle.arrow_columns.specs.Bitmaps.{bit_of}
 use Rattle.arrow_columns.specs.Cells.{cell_at}
 use Rattle.arrow_columns.proofs.CellLists.{cell_got, null_cell, valid_cell}
-use Rattle.arrow_columns.proofs.rows.BooleanRows.bool_at.Goals as goal
+use Rattle.arrow_columns.proofs.tested_rows.BooleanRows.bool_at.Goals as goal
 
 pub returns-then-is_row_valid : goal.returns-then-is_row_valid
 returns-then-is_row_valid c =

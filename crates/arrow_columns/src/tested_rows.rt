@@ -2,7 +2,7 @@
 
 ghost use Rattle.arrow_columns.specs.Columns.{IsBooleanColumn, IsByteColumn, IsIntegerColumn};
 
-use crate::column::Column;
+use crate::columns::Column;
 use crate::kinds::IntegerKind;
 use crate::offset_width::OffsetWidth;
 

@@ -3,7 +3,7 @@ use Rattle.std.proofs.lemmas.Int.{ints}
 use Rattle.arrow_columns.specs.Cells.{cell_at}
 use Rattle.arrow_columns.specs.Integers.{integer_of, item_at, width_of}
 use Rattle.arrow_columns.proofs.CellLists.{cell_got, null_cell, through_number, valid_cell}
-use Rattle.arrow_columns.proofs.rows.IntegerRows.integer_at.Goals as goal
+use Rattle.arrow_columns.proofs.tested_rows.IntegerRows.integer_at.Goals as goal
 
 pub returns-then-is_row_valid : goal.returns-then-is_row_valid
 returns-then-is_row_valid c =

@@ -3,7 +3,7 @@ use Rattle.arrow_columns.specs.Cells.{cell_at}
 use Rattle.arrow_columns.specs.Columns.{offset_in}
 use Rattle.arrow_columns.specs.Offsets.{bytes_between}
 use Rattle.arrow_columns.proofs.CellLists.{cell_got, null_cell, valid_cell}
-use Rattle.arrow_columns.proofs.rows.ByteRows.bytes_at.Goals as goal
+use Rattle.arrow_columns.proofs.tested_rows.ByteRows.bytes_at.Goals as goal
 
 pub returns-then-is_row_valid : goal.returns-then-is_row_valid
 returns-then-is_row_valid c =

@@ -2,7 +2,7 @@ use Rattle.std.proofs.Common.{IfErr, subst, sym}
 use Rattle.arrow_columns.specs.Casts.{IsFirstWithout}
 use Rattle.arrow_columns.specs.Columns.{integer_cells}
 use Rattle.arrow_columns.specs.declared.kinds.IntegerKind.{IntegerKind}
-use Rattle.arrow_columns.proofs.rows.IntegerRows.cast.Goals as goal
+use Rattle.arrow_columns.proofs.tested_rows.IntegerRows.cast.Goals as goal
 
 pub returns-in-U8-clause-fault : goal.returns-in-U8-clause-fault
 returns-in-U8-clause-fault c =
