@@ -1,5 +1,5 @@
 -- Items as a list of chunks, and as they lie in a buffer.
-use Rattle.std.proofs.Common.{◌≡◌, ◌∙◌, ℕ, ◌+◌, ◌-◌, ◌*◌, ◌/◌, ◌<◌, ◌≤◌, ap, arith, drop, refl, slice_index_or, suc, take, zero, List, []}
+use Rattle.std.proofs.Common.{◌≡◌, ◌∙◌, ℕ, ◌+◌, ◌-◌, ◌*◌, ◌/◌, ◌<◌, ◌≤◌, ap, arith, drop, slice_index_or, suc, take, zero, List, []}
 use Rattle.std.proofs.Math.Nat.{div-mul-le_self, mul-le-mul_right}
 use Rattle.std.proofs.lemmas.List.{drop-drop}
 use Rattle.std.specs.Simd.{first_chunks}

@@ -1,5 +1,5 @@
 -- Items that are written one after another.
-use Rattle.std.proofs.Common.{◌≡◌, ◌∙◌, ℕ, ℤ, pos, ◌+◌, ◌-◌, ◌*◌, ◌<◌, ◌≤◌, Bool, MatchBool, ◌&&◌, List, None, Option, Some, inl, inr, map, not, slice_get, ap, arith, cond, drop, false, length, refl, slice_range, subst, sym, true, unwrap_or}
+use Rattle.std.proofs.Common.{◌≡◌, ◌∙◌, ℕ, ℤ, pos, ◌+◌, ◌-◌, ◌*◌, ◌<◌, ◌≤◌, ◌≤ℤ◌, [], Bool, MatchBool, ◌&&◌, List, None, Option, Some, inl, inr, map, slice_get, ap, arith, cond, drop, false, length, refl, slice_range, subst, sym, true, unwrap_or}
 use Rattle.std.proofs.Math.Nat.{mul-le-mul_right}
 use Rattle.std.proofs.lemmas.List.{drop-drop}
 use Rattle.std.proofs.lemmas.List.FromFn.{length-map-range_with_len}
@@ -11,10 +11,11 @@ use Rattle.std.specs.Option.{IfSome, IsSomeAnd}
 use Rattle.arrow_columns.specs.Bitmaps.{is_valid}
 use Rattle.arrow_columns.specs.Casts.{IsFirstWithout}
 use Rattle.arrow_columns.specs.Cells.{cell_at}
-use Rattle.arrow_columns.specs.Integers.{IsOfKind}
+use Rattle.arrow_columns.specs.Integers.{IsOfKind, greatest_of, least_of}
+use Rattle.arrow_columns.specs.Running.{IsGreatestBefore, IsLeastBefore}
 use Rattle.arrow_columns.specs.declared.kinds.IntegerKind.{IntegerKind}
 use Rattle.arrow_columns.proofs.CellLists.{cell_got}
-use Rattle.arrow_columns.proofs.RowSteps.{some_says}
+use Rattle.arrow_columns.proofs.RowSteps.{some_says, through}
 use borrow.Rule.Slice.PartMut.{put_mid}
 
 pub one_more : (j m : ℕ) → (j + 1) * m ≡ j * m + m
@@ -44,12 +45,20 @@ pub value_or_zero : (validity : List ℕ) (value : ℕ → ℤ) (i : ℕ) (b : B
 value_or_zero validity value i b whole e w =
     ap (λ x. cond b x (pos 0)) w ∙ ap (λ t. cond t (value i) (pos 0)) e ∙ either (is_valid validity i) (value i)
 
--- one more test, which was passed together with all before
-pub all_more : (all fits : Bool) (P Q R : Type 0) → OnTrue all P → MatchBool fits Q (¬ Q) → (P → Q → R) → OnTrue (all && fits) R
-all_more true true P Q R p q f = f p q
-all_more true false P Q R p q f = tt
-all_more false true P Q R p q f = tt
-all_more false false P Q R p q f = tt
+-- both of two tests were passed
+pub both_passed : (one other : Bool) (P Q R : Type 0) → MatchBool one P (¬ P) → MatchBool other Q (¬ Q) → (P → Q → R) → OnTrue (one && other) R
+both_passed true true P Q R p q f = f p q
+both_passed true false P Q R p q f = tt
+both_passed false true P Q R p q f = tt
+both_passed false false P Q R p q f = tt
+
+-- what lies between two integers of a kind is of the kind
+pub all_within : (kind : IntegerKind) (value : ℕ → ℤ) (from end : ℕ) (least greatest : ℤ) → IsLeastBefore (cell_at [] value) from end least → IsGreatestBefore (cell_at [] value) from end greatest
+    → IsOfKind kind least → IsOfKind kind greatest → (k : ℕ) → k < end → from ≤ k → IsOfKind kind (value k)
+all_within kind value from end least greatest low high p q = λ k l f. (
+  through (least_of kind) least (value k) p.0 (some_says (λ x. least ≤ℤ x) (cell_at [] value k) (value k) refl (low.below k l f)),
+  through (value k) greatest (greatest_of kind) (some_says (λ x. x ≤ℤ greatest) (cell_at [] value k) (value k) refl (high.above k l f)) q.1,
+)
 
 -- what a test says that was passed
 pub passed : (b : Bool) (P Q : Type 0) → MatchBool b P Q → b ≡ true → P

@@ -33,7 +33,7 @@ min_stays x y h = omega (arith, ints, clamps)
 max_stays : (x y : ℤ) → y ≤ℤ x → int_max x y ≡ x
 max_stays x y h = omega (arith, ints, clamps)
 
-through : (x y z : ℤ) → x ≤ℤ y → y ≤ℤ z → x ≤ℤ z
+pub through : (x y z : ℤ) → x ≤ℤ y → y ≤ℤ z → x ≤ℤ z
 through x y z h k = omega (arith, ints)
 
 pub itself : (x : ℤ) → x ≤ℤ x

@@ -1,6 +1,5 @@
 -- The rows of a column that can be read.
 use Rattle.std.specs.Prelude.{◌≡◌, Some}
-use Rattle.arrow_columns.specs.Columns.{IsBooleanColumn, IsByteColumn, IsIntegerColumn}
 use Rattle.arrow_columns.specs.Faults.{AreTextRows}
 use Rattle.arrow_columns.specs.Kinds.{kind_at}
 use Rattle.arrow_columns.specs.declared.columns.Column.{Column}

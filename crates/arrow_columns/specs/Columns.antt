@@ -1,5 +1,5 @@
 -- What a column of each kind has, and its cells.
-use Rattle.std.specs.Prelude.{◌≡◌, ◌≢◌, ℕ, ℤ, ◌+◌, ◌*◌, ◌^◌, ◌<◌, ◌≤◌, Bool, List, length, Option, None, replicate}
+use Rattle.std.specs.Prelude.{◌≢◌, ℕ, ℤ, ◌+◌, ◌*◌, ◌^◌, ◌<◌, ◌≤◌, Bool, List, length, Option, None, replicate}
 use Rattle.arrow_columns.specs.Bitmaps.{HasBits, bit_of}
 use Rattle.arrow_columns.specs.Cells.{cells_from}
 use Rattle.arrow_columns.specs.Integers.{integer_of, item_at, width_of}

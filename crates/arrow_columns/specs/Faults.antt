@@ -1,5 +1,5 @@
 -- Why a column cannot be read.
-use Rattle.std.specs.Prelude.{◌≡◌, ℕ, ◌+◌, ◌^◌, ◌<◌, ◌≤◌, IsUtf8, Option, Some, None, true, ⊤}
+use Rattle.std.specs.Prelude.{◌≡◌, ℕ, ◌+◌, ◌^◌, ◌<◌, ◌≤◌, IsUtf8, Option, Some, None, true}
 use Rattle.arrow_columns.specs.Bitmaps.{is_valid, HasBits}
 use Rattle.arrow_columns.specs.Columns.{AreRowsBefore, HasBooleans, HasIntegers, HasOffsets, HasRows, IsByteColumn, end_of, offset_in}
 use Rattle.arrow_columns.specs.Kinds.{kind_at}

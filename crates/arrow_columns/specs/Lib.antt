@@ -3,9 +3,11 @@ pub mod Casts
 pub mod Cells
 pub mod Checked
 pub mod Columns
+pub mod Examples
 pub mod Faults
 pub mod Integers
 pub mod Kinds
 pub mod Offsets
 pub mod Running
 pub mod Statistics
+pub mod Words

@@ -1,5 +1,5 @@
 -- What the statistics of some cells say.
-use Rattle.std.specs.Prelude.{◌≡◌, ◌≢◌, ℕ, ℤ, ◌<◌, ◌≤ℤ◌, Bool, not, true, false, List, length, slice_get, Option, Some, MatchOption, unwrap_or}
+use Rattle.std.specs.Prelude.{◌≡◌, ◌≢◌, ℕ, ℤ, ◌≤ℤ◌, Bool, not, true, false, List, slice_get, Option, Some, MatchOption, unwrap_or}
 use Rattle.std.specs.Cmp.Lexicographic.{slice_cmp}
 use Rattle.std.specs.List.{All, Contains, count_by}
 use Rattle.std.specs.Option.{IfSome, IsNone, is_none}

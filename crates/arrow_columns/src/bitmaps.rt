@@ -1,7 +1,7 @@
 //! Bitmaps.
 
 ghost use Rattle.std.specs.Prelude.{◌≡◌, ℕ, ◌<◌, ◌≤◌, ◌*◌, false, true, length};
-ghost use Rattle.arrow_columns.specs.Bitmaps.{HasBits, bit_of, is_valid};
+ghost use Rattle.arrow_columns.specs.Words.{HasBits, bit_of, is_valid};
 
 /// Whether bit i is set.
 pub fn is_set(bitmap: &[u8], i: usize) -> bool

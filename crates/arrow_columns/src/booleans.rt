@@ -1,9 +1,7 @@
 //! The loop that counts booleans.
 
 ghost use Rattle.std.specs.Prelude.{◌-◌, ◌≤◌, ◌*◌, length};
-ghost use Rattle.arrow_columns.specs.Bitmaps.{HasBits, bit_of};
-ghost use Rattle.arrow_columns.specs.Cells.{cells_from};
-ghost use Rattle.arrow_columns.specs.Statistics.{AreBooleanStatisticsOf};
+ghost use Rattle.arrow_columns.specs.Words.{AreBooleanStatisticsOf, HasBits, bit_of, cells_from};
 
 use crate::bitmaps::{is_row_valid, is_set};
 use crate::statistics::BooleanStatistics;

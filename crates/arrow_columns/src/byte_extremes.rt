@@ -3,10 +3,7 @@
 ghost use Rattle.std.specs.Prelude.{[], ◌≡◌, ℕ, ◌<◌, ◌≤◌, ◌-◌, length, slice_index_or};
 ghost use Rattle.std.specs.Cmp.Lexicographic.{slice_cmp};
 ghost use Rattle.std.specs.Ordering.{is_lt, nat_cmp};
-ghost use Rattle.arrow_columns.specs.Bitmaps.{HasBits};
-ghost use Rattle.arrow_columns.specs.Cells.{cells_from};
-ghost use Rattle.arrow_columns.specs.Offsets.{AreRows, bytes_between, offset_of};
-ghost use Rattle.arrow_columns.specs.Statistics.{AreByteStatisticsOf};
+ghost use Rattle.arrow_columns.specs.Words.{AreByteStatisticsOf, AreRows, HasBits, bytes_between, cells_from, offset_of};
 
 use crate::bitmaps::{first_valid, is_row_valid};
 use crate::byte_items::row;

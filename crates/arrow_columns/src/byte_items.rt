@@ -1,8 +1,7 @@
 //! The rows of a column of strings or bytes, by its offsets.
 
 ghost use Rattle.std.specs.Prelude.{[], ◌≡◌, ℕ, ◌+◌, ◌<◌, ◌≤◌, IsUtf8, List, MatchBool, MatchOption, length, slice_index_or, true};
-ghost use Rattle.arrow_columns.specs.Bitmaps.{HasBits, is_valid};
-ghost use Rattle.arrow_columns.specs.Offsets.{AreRows, IsRow, bytes_between, offset_of};
+ghost use Rattle.arrow_columns.specs.Words.{AreRows, HasBits, IsRow, bytes_between, is_valid, offset_of};
 
 use crate::bitmaps::is_row_valid;
 use crate::offsets::Offset;

@@ -3,14 +3,11 @@
 ghost use Rattle.std.specs.Prelude.{[], ◌≡◌, ℕ, ◌+◌, ◌-◌, ◌*◌, ◌<◌, ◌≤◌, IfErr, IsSomeAnd, IsTrue, MatchOption, OnErr, OnOk, Option, Some, drop, if◌then◌else◌, length, pos, slice_get, slice_index_or, unwrap_or, ℤ};
 ghost use Rattle.std.specs.Bool.{OnTrue};
 ghost use Rattle.std.specs.Option.{IfSome};
-ghost use Rattle.arrow_columns.specs.Bitmaps.{HasBits, is_valid};
-ghost use Rattle.arrow_columns.specs.Casts.{AreCastTo, IsFirstWithout};
-ghost use Rattle.arrow_columns.specs.Cells.{cell_at, cells_from};
-ghost use Rattle.arrow_columns.specs.Columns.{HasRows, end_of, integer_cells};
-ghost use Rattle.arrow_columns.specs.Integers.{IsOfKind, integer_of, item_at, width_of};
+ghost use Rattle.arrow_columns.specs.Words.{AreCastTo, HasBits, HasRows, IsFirstWithout, IsOfKind, cell_at, cells_from, end_of, integer_cells, integer_of, is_valid, item_at, width_of};
 
 use crate::bitmaps::is_row_valid;
 use crate::columns::Column;
+use crate::extremes::without_nulls;
 use crate::integers::Integer;
 use crate::kinds::IntegerKind;
 use crate::tested_rows::IntegerRows;
@@ -21,21 +18,21 @@ pub struct CastFault {
     pub row: usize,
 }
 
-/// Whether the kind of U has the integers of all rows, null or not.
+/// Whether the kind of U has the integers of all rows, null or not: their least and their greatest.
 fn all_fit<const N: usize, T: Integer<N>, const M: usize, U: Integer<M>>(
     items: &[[u8; N]],
     from: usize,
     end: usize,
 ) -> bool
-    requires range { from ≤ end }
+    requires narrow { N ≤ 8 }
+    requires range { from < end }
     requires items { end ≤ length items.now }
     ensures { OnTrue result ((k : ℕ) → k < end → from ≤ k → IsOfKind U.kind (integer_of T.kind (slice_index_or items.now k []))) }
 {
-    let mut all = true;
-    for i in from..end {
-        all &= U::fits(T::of_bytes(items[i]).whole());
-    }
-    all
+    let gathered = without_nulls::<N, T>(&[], items, from, end);
+    let low = U::fits(gathered.least.whole());
+    let high = U::fits(gathered.greatest.whole());
+    low & high
 }
 
 /// The first row that is no null and has an integer that the kind of U does not have.
@@ -54,7 +51,7 @@ fn first_without<const N: usize, T: Integer<N>, const M: usize, U: Integer<M>>(
         (λ k. (k < end) × (from ≤ k) × ((j : ℕ) → j < k → from ≤ j → IfSome (cell j) (IsOfKind U.kind))
         × IsSomeAnd (cell k) (λ z. ¬ (IsOfKind U.kind z))) }
 {
-    if all_fit::<N, T, M, U>(items, from, end) {
+    if from == end || all_fit::<N, T, M, U>(items, from, end) {
         return None;
     }
     for i in from..end {

@@ -1,11 +1,7 @@
 //! Whether a column can be read.
 
 ghost use Rattle.std.specs.Prelude.{◌≡◌, ◌<◌, ◌≤◌, IfErr, IfOk, MatchOption};
-ghost use Rattle.arrow_columns.specs.Checked.{AreRowsOf};
-ghost use Rattle.arrow_columns.specs.Columns.{HasRows, IsByteColumn, end_of};
-ghost use Rattle.arrow_columns.specs.Faults.{AreTextRows, IsBooleanFault, IsByteFault, IsFaultOf, IsIntegerFault, IsRowsFault, IsStringFault, IsTextRow};
-ghost use Rattle.arrow_columns.specs.Integers.{width_of};
-ghost use Rattle.arrow_columns.specs.Offsets.{bytes_of_offset};
+ghost use Rattle.arrow_columns.specs.Words.{AreRowsOf, AreTextRows, HasRows, IsBooleanFault, IsByteColumn, IsByteFault, IsFaultOf, IsIntegerFault, IsRowsFault, IsStringFault, IsTextRow, bytes_of_offset, end_of, width_of};
 
 use crate::byte_items::{first_bad, first_not_utf8};
 use crate::columns::Column;

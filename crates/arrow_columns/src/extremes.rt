@@ -1,11 +1,7 @@
 //! The loops that gather the statistics of integers.
 
 ghost use Rattle.std.specs.Prelude.{[], ◌≡◌, ◌≢◌, ℕ, ◌<◌, ◌≤◌, ◌-◌, ◌*◌, false, if◌then◌else◌, length, slice_index_or, true};
-ghost use Rattle.arrow_columns.specs.Bitmaps.{HasBits, is_valid};
-ghost use Rattle.arrow_columns.specs.Cells.{cell_at, cells_from};
-ghost use Rattle.arrow_columns.specs.Integers.{integer_of};
-ghost use Rattle.arrow_columns.specs.Running.{AreGathered};
-ghost use Rattle.arrow_columns.specs.Statistics.{AreStatisticsOf};
+ghost use Rattle.arrow_columns.specs.Words.{AreGathered, AreStatisticsOf, HasBits, cell_at, cells_from, integer_of, is_valid};
 
 use crate::bitmaps::{first_valid, is_set};
 use crate::integers::Integer;
@@ -74,7 +70,7 @@ fn gather<const N: usize, T: Integer<N>>(
 }
 
 /// What rows without a bitmap give: there is one at least.
-fn without_nulls<const N: usize, T: Integer<N>>(
+pub fn without_nulls<const N: usize, T: Integer<N>>(
     validity: &[u8],
     items: &[[u8; N]],
     from: usize,

@@ -2,7 +2,7 @@
 
 ghost use Rattle.std.specs.Prelude.{◌≡◌, ℕ, ℤ, List, MatchBool, pos};
 ghost use Rattle.std.specs.Int.{int_max, int_min};
-ghost use Rattle.arrow_columns.specs.Integers.{IsOfKind, integer_of};
+ghost use Rattle.arrow_columns.specs.Words.{IsOfKind, integer_of};
 ghost use Rattle.arrow_columns.specs.declared.kinds.IntegerKind.{IntegerKind};
 ghost use Rattle.arrow_columns.specs.declared.kinds.IntegerKind.TheVariants.{I16, I32, I64, I8, U16, U32, U64, U8};
 

@@ -1,7 +1,7 @@
 //! Kinds of columns.
 
 ghost use Rattle.std.specs.Prelude.{◌≡◌};
-ghost use Rattle.arrow_columns.specs.Kinds.{integer_kind_at, kind_at};
+ghost use Rattle.arrow_columns.specs.Words.{integer_kind_at, kind_at};
 
 /// A kind of integer.
 #[derive(Clone, Copy, Debug, PartialEq, Eq)]

@@ -1,7 +1,7 @@
 //! Offsets as they lie in a buffer.
 
 ghost use Rattle.std.specs.Prelude.{◌≡◌};
-ghost use Rattle.arrow_columns.specs.Offsets.{largest_offset, offset_of};
+ghost use Rattle.arrow_columns.specs.Words.{largest_offset, offset_of};
 ghost use Rattle.arrow_columns.specs.declared.offset_width.OffsetWidth.{OffsetWidth};
 ghost use Rattle.arrow_columns.specs.declared.offset_width.OffsetWidth.TheVariants.{Bits32, Bits64};
 

@@ -2,11 +2,7 @@
 
 ghost use Rattle.std.specs.Prelude.{◌≡◌, ◌+◌, ◌-◌, ◌*◌, ◌<◌, ◌≤◌, Some, length, slice_get};
 ghost use Rattle.std.specs.Option.{option_copied};
-ghost use Rattle.arrow_columns.specs.Cells.{cells_from};
-ghost use Rattle.arrow_columns.specs.Columns.{HasRows, IsByteColumn, boolean_cells, byte_cells, end_of, integer_cells, offset_in};
-ghost use Rattle.arrow_columns.specs.Integers.{integer_of, item_at, width_of};
-ghost use Rattle.arrow_columns.specs.Offsets.{bytes_between, bytes_of_offset};
-ghost use Rattle.arrow_columns.specs.Statistics.{AreBooleanStatisticsOf, AreByteStatisticsOf, AreStatisticsOf};
+ghost use Rattle.arrow_columns.specs.Words.{AreBooleanStatisticsOf, AreByteStatisticsOf, AreStatisticsOf, HasRows, IsByteColumn, boolean_cells, byte_cells, bytes_between, bytes_of_offset, cells_from, end_of, integer_cells, integer_of, item_at, offset_in, width_of};
 
 use crate::bitmaps::{is_row_valid, is_set};
 use crate::booleans::statistics_of_bits;

@@ -1,4 +1,4 @@
-use Rattle.std.proofs.Common.{[], ◌≡◌, ◌∙◌, ◌+◌, ◌-◌, ◌<◌, ◌≤◌, None, Option, Some, List, add-zero, ap, arith, refl, ℕ, slice_index_or, subst, sym}
+use Rattle.std.proofs.Common.{[], ◌≡◌, ◌∙◌, ◌-◌, ◌<◌, ◌≤◌, None, Option, Some, List, add-zero, ap, arith, refl, ℕ, slice_index_or, subst, sym}
 use Rattle.std.specs.Option.{is_none}
 use Rattle.arrow_columns.specs.Cells.{cell_at}
 use Rattle.arrow_columns.specs.Offsets.{bytes_between, offset_of}

@@ -1,4 +1,4 @@
-use Rattle.std.proofs.Common.{[], ◌≡◌, ◌∙◌, ◌+◌, ◌-◌, ◌*◌, ◌/◌, ◌<◌, ◌≤◌, Option, List, Some, ap, arith, length, map, pos, slice_get, slice_index_or, subst, unwrap_or, ℕ, ℤ}
+use Rattle.std.proofs.Common.{[], ◌≡◌, ◌+◌, ◌-◌, ◌*◌, ◌/◌, ◌≤◌, Option, Some, ap, arith, length, map, pos, slice_get, slice_index_or, subst, unwrap_or, ℕ, ℤ}
 use Rattle.std.proofs.lemmas.Nat.{le-div}
 use Rattle.std.specs.List.{range_with_len}
 use Rattle.arrow_columns.specs.Casts.{IsFirstWithout}

@@ -1,4 +1,4 @@
-use Rattle.std.proofs.Common.{◌≡◌, IfErr, OnOk, ℤ, ℕ, List, Option, subst, sym}
+use Rattle.std.proofs.Common.{IfErr, OnOk, ℤ, List, Option, subst, sym}
 use Rattle.arrow_columns.specs.Casts.{AreCastTo, IsFirstWithout}
 use Rattle.arrow_columns.specs.Cells.{cells_from}
 use Rattle.arrow_columns.specs.Integers.{integer_of, item_at}

@@ -1,4 +1,4 @@
-use Rattle.std.proofs.Common.{[], ◌≡◌, ◌∙◌, ◌<◌, ◌≤◌, Option, Some, ap, arith, below_more, sym, ℕ, ℤ, slice_index_or}
+use Rattle.std.proofs.Common.{[], ◌≡◌, ◌∙◌, ◌≤◌, Option, ap, arith, below_more, sym, ℕ, ℤ, slice_index_or}
 use Rattle.std.proofs.lemmas.Int.{ints}
 use Rattle.std.proofs.lemmas.List.{get_or_read}
 use Rattle.std.specs.Int.{w128}

@@ -1,4 +1,4 @@
-use Rattle.std.proofs.Common.{[], ◌≡◌, ◌+◌, ◌-◌, ◌/◌, ◌<◌, ◌≤◌, IsUtf8, arith, length, slice_index_or, subst, sym, true, List, ℕ}
+use Rattle.std.proofs.Common.{[], ◌≡◌, ◌+◌, ◌-◌, ◌/◌, ◌<◌, IsUtf8, arith, length, slice_index_or, subst, sym, true, List, ℕ}
 use Rattle.arrow_columns.specs.Bitmaps.{is_valid}
 use Rattle.arrow_columns.specs.Columns.{end_of, offset_in}
 use Rattle.arrow_columns.specs.Offsets.{bytes_between, offset_of}

@@ -1,4 +1,4 @@
-use Rattle.std.proofs.Common.{◌≡◌, ◌<◌, ℕ, subst}
+use Rattle.std.proofs.Common.{◌<◌, ℕ, subst}
 use Rattle.arrow_columns.specs.Columns.{IsByteColumn}
 use Rattle.arrow_columns.specs.Faults.{AreTextRows, IsTextRow}
 use Rattle.arrow_columns.proofs.checking.string_rows.Goals as goal

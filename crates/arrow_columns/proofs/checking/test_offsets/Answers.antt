@@ -1,4 +1,4 @@
-use Rattle.std.proofs.Common.{[], ◌≡◌, ◌+◌, ◌-◌, ◌*◌, ◌/◌, ◌<◌, ◌≤◌, ℕ, arith, length, slice_index_or, subst, sym}
+use Rattle.std.proofs.Common.{[], ◌≡◌, ◌+◌, ◌-◌, ◌/◌, ◌<◌, ℕ, arith, length, slice_index_or, subst, sym}
 use Rattle.arrow_columns.specs.Columns.{offset_in}
 use Rattle.arrow_columns.specs.Offsets.{AreRows, IsRow, offset_of}
 use Rattle.arrow_columns.proofs.OffsetItems.{SameOffsets, has_offsets, offsets_same, row_same, rows_same, turned}

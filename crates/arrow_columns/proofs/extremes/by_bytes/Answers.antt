@@ -1,4 +1,4 @@
-use Rattle.std.proofs.Common.{[], ◌≡◌, ◌∙◌, ◌==◌, ◌+◌, ◌-◌, ◌*◌, ◌<◌, Bool, None, Option, Some, ap, arith, cond, refl, ℕ, ℤ, slice_index, slice_index_or, subst, sym}
+use Rattle.std.proofs.Common.{[], ◌≡◌, ◌∙◌, ◌==◌, ◌+◌, ◌-◌, ◌*◌, Bool, None, Option, Some, ap, arith, cond, refl, ℕ, ℤ, slice_index, slice_index_or, subst, sym}
 use Rattle.std.proofs.lemmas.List.{get_or_read}
 use Rattle.std.proofs.lemmas.Nat.Bits.{shr_and_one}
 use Rattle.std.specs.Int.{bit_at, int_max, int_min}

@@ -1,4 +1,4 @@
-use Rattle.std.proofs.Common.{[], ◌≡◌, ◌≤◌, ◌≤ℤ◌, ◌+◌, ◌-◌, ◌*◌, slice_index_or, slice_index}
+use Rattle.std.proofs.Common.{[], ◌≡◌, ◌≤ℤ◌, ◌+◌, ◌-◌, ◌*◌, slice_index_or, slice_index}
 use Rattle.arrow_columns.specs.Cells.{cell_at}
 use Rattle.arrow_columns.specs.Integers.{integer_of}
 use Rattle.arrow_columns.specs.Running.{AreGathered, IsGreatestBefore, IsLeastBefore, nulls_from}

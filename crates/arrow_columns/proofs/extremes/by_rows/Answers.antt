@@ -1,4 +1,4 @@
-use Rattle.std.proofs.Common.{[], ◌≡◌, ◌∙◌, ◌+◌, ◌-◌, ◌<◌, ◌≤◌, None, Option, Some, add-zero, ap, arith, cond, refl, ℕ, ℤ, slice_index_or, subst, sym}
+use Rattle.std.proofs.Common.{[], ◌≡◌, ◌∙◌, ◌-◌, None, Option, Some, add-zero, ap, arith, ℕ, ℤ, slice_index_or, subst, sym}
 use Rattle.std.specs.Option.{is_none}
 use Rattle.std.proofs.lemmas.List.{get_or_read}
 use Rattle.arrow_columns.specs.Cells.{cell_at}

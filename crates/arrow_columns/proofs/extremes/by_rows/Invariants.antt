@@ -1,4 +1,4 @@
-use Rattle.std.proofs.Common.{[], ◌≡◌, ◌≤◌, ◌-◌, slice_index_or}
+use Rattle.std.proofs.Common.{[], slice_index_or}
 use Rattle.arrow_columns.specs.Cells.{cell_at}
 use Rattle.arrow_columns.specs.Integers.{integer_of}
 use Rattle.arrow_columns.specs.Running.{AreGathered}

@@ -1,8 +1,7 @@
-use Rattle.std.proofs.Common.{[], ◌≡◌, ◌∙◌, ◌+◌, ◌-◌, ◌<◌, ◌≤◌, None, Option, Some, ap, arith, refl, ℕ, ℤ, slice_index_or, subst}
+use Rattle.std.proofs.Common.{[], ◌≡◌, ◌∙◌, ◌<◌, ◌≤◌, None, Option, Some, ap, arith, ℕ, ℤ, slice_index_or}
 use Rattle.std.proofs.lemmas.List.{get_or_read}
 use Rattle.arrow_columns.specs.Cells.{cell_at}
 use Rattle.arrow_columns.specs.Integers.{integer_of}
-use Rattle.arrow_columns.specs.Running.{AreGathered}
 use Rattle.arrow_columns.proofs.CellLists.{null_cell, valid_cell}
 use Rattle.arrow_columns.proofs.RowSteps.{gathered_first}
 use Rattle.arrow_columns.proofs.extremes.with_nulls.Goals as goal

@@ -1,4 +1,4 @@
-use Rattle.std.proofs.Common.{[], ◌≡◌, ◌≢◌, ◌∙◌, ◌+◌, ◌/◌, ◌<◌, ◌≤◌, arith, length, ℕ, slice_index_or}
+use Rattle.std.proofs.Common.{[], ◌≢◌, ◌∙◌, ◌/◌, ◌<◌, arith, length, ℕ, slice_index_or}
 use Rattle.arrow_columns.specs.Columns.{end_of, offset_in}
 use Rattle.arrow_columns.specs.Offsets.{offset_of}
 use Rattle.arrow_columns.proofs.OffsetItems.{SameOffsets, bytes_same, offset_count, offsets_same, row_same, turned}

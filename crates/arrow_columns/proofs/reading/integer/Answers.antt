@@ -1,4 +1,4 @@
-use Rattle.std.proofs.Common.{[], ◌≡◌, ◌∙◌, ◌+◌, ◌/◌, ◌<◌, ap, arith, length, ℕ}
+use Rattle.std.proofs.Common.{[], ◌∙◌, ◌+◌, ◌/◌, ◌<◌, ap, arith, length, ℕ}
 use Rattle.std.proofs.lemmas.Int.{ints}
 use Rattle.std.proofs.lemmas.List.{get_or_read}
 use Rattle.std.proofs.lemmas.Nat.{le-div}

@@ -1,4 +1,4 @@
-use Rattle.std.proofs.Common.{[], ◌≡◌, ◌+◌, ◌-◌, ◌/◌, ◌<◌, ◌≤◌, arith, length, ℕ, List, slice_index_or, subst}
+use Rattle.std.proofs.Common.{[], ◌+◌, ◌-◌, ◌/◌, ◌<◌, arith, length, ℕ, slice_index_or, subst}
 use Rattle.arrow_columns.specs.Columns.{end_of, offset_in}
 use Rattle.arrow_columns.specs.Offsets.{bytes_between, offset_of}
 use Rattle.arrow_columns.specs.Statistics.{AreByteStatisticsOf}

@@ -1,4 +1,4 @@
-use Rattle.std.proofs.Common.{[], ◌≡◌, ◌+◌, ◌-◌, ◌/◌, ◌≤◌, ap, arith, length, ℕ, ℤ, slice_index_or, subst}
+use Rattle.std.proofs.Common.{[], ◌+◌, ◌-◌, ◌/◌, ap, arith, length, ℕ, ℤ, slice_index_or, subst}
 use Rattle.std.proofs.lemmas.Nat.{le-div}
 use Rattle.arrow_columns.specs.Columns.{end_of}
 use Rattle.arrow_columns.specs.Integers.{integer_of, item_at}

@@ -1,4 +1,4 @@
-use Rattle.std.proofs.Common.{◌∙◌, ◌+◌, None, Some, arith, sym, ℕ, ℤ}
+use Rattle.std.proofs.Common.{◌∙◌, ◌+◌, None, arith, sym, ℕ, ℤ}
 use Rattle.std.proofs.lemmas.Int.{ints}
 use Rattle.arrow_columns.specs.Cells.{cell_at}
 use Rattle.arrow_columns.specs.Integers.{integer_of, item_at, width_of}
