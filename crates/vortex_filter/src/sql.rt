@@ -2,6 +2,7 @@
 
 mod error;
 mod lex;
+mod parse;
 mod print;
 mod token;
 

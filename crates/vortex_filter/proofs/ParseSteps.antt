@@ -1,0 +1,137 @@
+-- From tokens to texts, and back.
+use Rattle.std.proofs.Common.{◌≡◌, ◌≤◌, ℕ, zero, suc, List, [], ◌∷◌, map, Option, Some, None, refl, sym, ap, subst, ◌∙◌, length}
+use Rattle.std.specs.Prelude.{slice_get, Result, Ok, Err, IfOk, IfErr}
+use Rattle.std.specs.List.{AllByRecursion}
+use Rattle.vortex_filter.specs.declared.sql.error.ParseError.{ParseError}
+use Rattle.vortex_filter.specs.declared.sql.error.ParseError.TheVariants as errors
+use Rattle.vortex_filter.specs.declared.sql.parse.fault.Cause.{Cause}
+use Rattle.vortex_filter.specs.declared.sql.parse.fault.Cause.TheVariants as causes
+use Rattle.vortex_filter.specs.declared.sql.parse.fault.Fault.{Fault}
+use Rattle.vortex_filter.specs.declared.sql.parse.fault.Fault.TheVariants as faults
+use Rattle.vortex_filter.specs.declared.sql.token.Placed.{Placed}
+use Rattle.vortex_filter.specs.Columns.{ColumnTree}
+use Rattle.vortex_filter.specs.Faults.{IsPlaced}
+use Rattle.vortex_filter.specs.Formula.{Formula, formula}
+use Rattle.vortex_filter.specs.Parsing.{AllOrdered, types_of, IsSql, IsNoSql, IsReadable, ReadsAs, RefusesSql, depth, nesting, tokens_in}
+use Rattle.vortex_filter.specs.Printing.{tokens_of}
+use Rattle.vortex_filter.specs.declared.filter.Filter.{Filter}
+use Rattle.vortex_filter.specs.Reading.{Fails, IsFaultAt, IsFaultIn, caused, filter_at}
+use Rattle.vortex_filter.specs.Texts.{Item, AreItemsOf, IsRefusal, items}
+use Rattle.vortex_filter.specs.Tokens.{trees, token_tree}
+use Rattle.vortex_filter.specs.Checking.{FitsColumns}
+use Rattle.vortex_filter.proofs.FitLaws.{filter_fits}
+use Rattle.vortex_filter.proofs.PrintLaws.{text_means}
+use Rattle.vortex_filter.proofs.ReadLaws.{filter_is, filter_read, no_filter}
+
+-- the place of each token lies in the text
+pub place_there : (end : ℕ) (ps : List Placed) (i : ℕ) (p : Placed) → AllByRecursion (λ (p : Placed). p.place ≤ end) ps → slice_get ps i ≡ Some p → p.place ≤ end
+place_there end [] i p all e = absurd cc
+place_there end (q ∷ ps) zero p all e = let same : Some q ≡ Some p = e in let is : q ≡ p = cc in subst (λ (r : Placed). r.place ≤ end) is all.0
+place_there end (q ∷ ps) (suc i) p all e = place_there end ps i p all.1 e
+
+pub ruleset places = (place_there)
+
+tokens_are : (ps : List Placed) → trees ps ≡ tokens_in (items ps)
+tokens_are [] = refl
+tokens_are (p ∷ ps) = ap (λ ts. token_tree p.token ∷ ts) (tokens_are ps)
+
+caused_in : {Y : Type 0} (end place : ℕ) (cause : Cause) (read : Option Y) → place ≤ end → read ≡ None → IsFaultIn end read (caused place cause)
+caused_in end place (causes.Expected expected) read within none = (none, within)
+caused_in end place causes.NoColumn read within none = (none, within)
+caused_in end place causes.TypesDiffer read within none = (none, within)
+caused_in end place causes.NoLiteral read within none = (none, within)
+caused_in end place causes.TooDeep read within none = (none, within)
+
+-- a fault among the tokens is one of the text
+pub fault_in : {Y : Type 0} (end : ℕ) (fault : Fault) (e : ParseError) (read : Option Y) → IsFaultAt end fault e → Fails fault read → IsFaultIn end read e
+fault_in end faults.NoMemory e read at none = subst (λ (e : ParseError). IsFaultIn end read e) (sym at) tt
+fault_in end (faults.At left cause) e read at none = subst (λ (e : ParseError). IsFaultIn end read e) (sym at.2) (caused_in end at.0 cause read at.1 none)
+
+module _ (columns : List ColumnTree) (text : List ℕ) (ps : List Placed) (are : AreItemsOf text (items ps)) where
+  -- a filter that is read of the tokens is the text's
+  pub is_sql : (f : Formula) → filter_at columns nesting (trees ps) ≡ Some f → IsSql columns text f
+  is_sql f e = record { items = items ps; are = are; means = filter_is columns nesting (tokens_in (items ps)) f (sym (ap (filter_at columns nesting) (tokens_are ps)) ∙ e) }
+
+  is_no_sql : filter_at columns nesting (trees ps) ≡ None → IsNoSql columns text
+  is_no_sql e = record { items = items ps; are = are; none = no_filter columns nesting (tokens_in (items ps)) (sym (ap (filter_at columns nesting) (tokens_are ps)) ∙ e) }
+
+  pub refuses : (end : ℕ) (e : ParseError) → IsFaultIn end (filter_at columns nesting (trees ps)) e → RefusesSql columns text e
+  refuses end errors.OutOfMemory h = tt
+  refuses end (errors.Expected place expected) h = is_no_sql h.0
+  refuses end (errors.NoColumn place) h = is_no_sql h.0
+  refuses end (errors.TypesDiffer place) h = is_no_sql h.0
+  refuses end (errors.NoLiteral place) h = is_no_sql h.0
+  refuses end (errors.TooDeep place) h = is_no_sql h.0
+  refuses end (errors.NumberTooLong place) h = absurd h
+  refuses end (errors.BadText place) h = absurd h
+
+-- what the lexer refuses
+pub lexer_refuses : (columns : List ColumnTree) (text : List ℕ) (e : ParseError) → IsRefusal text e → RefusesSql columns text e
+lexer_refuses columns text errors.OutOfMemory h = tt
+lexer_refuses columns text (errors.BadText place) h = h
+lexer_refuses columns text (errors.NumberTooLong place) h = h
+lexer_refuses columns text (errors.Expected place expected) h = absurd h
+lexer_refuses columns text (errors.NoColumn place) h = absurd h
+lexer_refuses columns text (errors.TypesDiffer place) h = absurd h
+lexer_refuses columns text (errors.NoLiteral place) h = absurd h
+lexer_refuses columns text (errors.TooDeep place) h = absurd h
+
+pub is_placed : {Y : Type 0} (end : ℕ) (read : Option Y) (e : ParseError) → IsFaultIn end read e → IsPlaced end e
+is_placed end read errors.OutOfMemory h = tt
+is_placed end read (errors.Expected place expected) h = h.1
+is_placed end read (errors.NoColumn place) h = h.1
+is_placed end read (errors.TypesDiffer place) h = h.1
+is_placed end read (errors.NoLiteral place) h = h.1
+is_placed end read (errors.TooDeep place) h = h.1
+is_placed end read (errors.NumberTooLong place) h = absurd h
+is_placed end read (errors.BadText place) h = absurd h
+
+-- nothing is refused where a filter is read, but for want of memory
+pub only_memory : (end : ℕ) (read : Option Formula) (f : Formula) (e : ParseError) → read ≡ Some f → IsFaultIn end read e → e ≡ errors.OutOfMemory
+only_memory end read f errors.OutOfMemory is h = refl
+only_memory end read f (errors.Expected place expected) is h = let both : None ≡ Some f = sym h.0 ∙ is in absurd cc
+only_memory end read f (errors.NoColumn place) is h = let both : None ≡ Some f = sym h.0 ∙ is in absurd cc
+only_memory end read f (errors.TypesDiffer place) is h = let both : None ≡ Some f = sym h.0 ∙ is in absurd cc
+only_memory end read f (errors.NoLiteral place) is h = let both : None ≡ Some f = sym h.0 ∙ is in absurd cc
+only_memory end read f (errors.TooDeep place) is h = let both : None ≡ Some f = sym h.0 ∙ is in absurd cc
+only_memory end read f (errors.NumberTooLong place) is h = absurd h
+only_memory end read f (errors.BadText place) is h = absurd h
+
+-- ---- results
+
+module _ (columns : List ColumnTree) (text : List ℕ) (ps : List Placed) (result : Result Filter ParseError) where
+  -- a filter that was read of the tokens, or what was refused of them
+  abbrev Given : Type 0
+  Given = IfOk result (λ filter. filter_at columns nesting (trees ps) ≡ Some (formula filter))
+
+  abbrev Refused : Type 0
+  Refused = IfErr result (IsFaultIn (length text) (filter_at columns nesting (trees ps)))
+
+pub result_is_sql : (columns : List ColumnTree) (text : List ℕ) (ps : List Placed) → AreItemsOf text (items ps) → (result : Result Filter ParseError) → Given columns text ps result → IfOk result (λ filter. IsSql columns text (formula filter))
+result_is_sql columns text ps are (Ok filter) given = is_sql columns text ps are (formula filter) given
+result_is_sql columns text ps are (Err e) given = tt
+
+pub result_refuses : (columns : List ColumnTree) (text : List ℕ) (ps : List Placed) → AreItemsOf text (items ps) → (result : Result Filter ParseError) → Refused columns text ps result → IfErr result (RefusesSql columns text)
+result_refuses columns text ps are (Ok filter) refused = tt
+result_refuses columns text ps are (Err e) refused = refuses columns text ps are (length text) e refused
+
+pub result_is_placed : (columns : List ColumnTree) (text : List ℕ) (ps : List Placed) (result : Result Filter ParseError) → Refused columns text ps result → IfErr result (IsPlaced (length text))
+result_is_placed columns text ps (Ok filter) refused = tt
+result_is_placed columns text ps (Err e) refused = is_placed (length text) (filter_at columns nesting (trees ps)) e refused
+
+same_some : (f g : Formula) (o : Option Formula) → o ≡ Some f → o ≡ Some g → f ≡ g
+same_some f g o a b = let both : Some f ≡ Some g = sym a ∙ b in cc
+
+read_back : (columns : List ColumnTree) (text : List ℕ) (ps : List Placed) (f : Formula) → filter_at columns nesting (trees ps) ≡ Some f → (result : Result Filter ParseError) → Given columns text ps result → Refused columns text ps result → ReadsAs f result
+read_back columns text ps f read (Ok filter) given refused = same_some (formula filter) f (filter_at columns nesting (trees ps)) given read
+read_back columns text ps f read (Err e) given refused = only_memory (length text) (filter_at columns nesting (trees ps)) f e read refused
+
+-- what is printed is read again
+pub result_reads_back : (columns : List ColumnTree) (names : List (List ℕ)) (text : List ℕ) (ps : List Placed) (f : Formula) → IsReadable columns names f → depth f ≤ 256 → trees ps ≡ tokens_of names f → (result : Result Filter ParseError) → Given columns text ps result → Refused columns text ps result → ReadsAs f result
+result_reads_back columns names text ps f readable deep are result given refused =
+    read_back columns text ps f (ap (filter_at columns nesting) are ∙ filter_read columns nesting (tokens_of names f) f (text_means columns names f readable deep)) result given refused
+
+-- what is read fits the columns, where their types have no variants
+pub result_fits : (columns : List ColumnTree) (text : List ℕ) (ps : List Placed) → AllOrdered columns → (result : Result Filter ParseError) → Given columns text ps result → IfOk result (λ filter. FitsColumns (types_of columns) (formula filter))
+result_fits columns text ps ordered (Ok filter) given = filter_fits columns ordered (filter_is columns nesting (trees ps) (formula filter) given)
+result_fits columns text ps ordered (Err e) given = tt

@@ -1,0 +1,209 @@
+-- What reading gives of literals in parentheses and of prefixes, step by step, as the code goes.
+use Rattle.std.proofs.Common.{◌==◌, ◌&&◌, ◌≡◌, ℕ, ◌<◌, ◌≤◌, ◌+◌, zero, suc, Bool, true, false, cond, List, [], ◌∷◌, ◌++◌, length, map, Option, Some, None, refl, sym, ap, subst, ◌∙◌, append_assoc, arith, IsUtf8}
+use Rattle.std.specs.Prelude.{IfNone}
+use Rattle.std.specs.Str.{bytes_eq, is_utf8}
+use Rattle.std.proofs.lemmas.List.{append-nil, length-map}
+use Rattle.std.proofs.lemmas.Str.{IsUtf8-from_is_utf8, is_utf8-from_IsUtf8}
+use Rattle.vortex_dtype.specs.TypeTree.{TypeTree}
+use Rattle.vortex_statistics.specs.Cells.{Cell}
+use Rattle.vortex_filter.specs.declared.sql.parse.fault.Fault.{Fault}
+use Rattle.vortex_filter.specs.declared.sql.parse.fault.Fault.TheVariants as faults
+use Rattle.vortex_filter.specs.declared.sql.token.Placed.{Placed}
+use Rattle.vortex_filter.specs.Formula.{Formula}
+use Rattle.vortex_filter.specs.Literals.{LiteralTree, literal_of, cells_of, string_literal, pattern_prefix, with_byte, is_wildcard}
+use Rattle.vortex_filter.specs.Tokens.{TokenTree, token_tree, trees, string_token, closing, comma}
+use Rattle.vortex_filter.specs.Reading.{Fails, literal_at, literal_then, preceded, more_cells, cells_at, with_front, with_bytes, ending, after_comma, after_closing, text_prefix, prefix_from}
+use Rattle.vortex_filter.proofs.ReadSteps.{fails_on}
+
+some_is : {A : Type 0} (x y : A) → Some x ≡ Some y → x ≡ y
+some_is x y e = cc
+
+-- ---- one literal
+
+-- a literal that was read is the first token
+pub record Came (t : TypeTree) (ts : List TokenTree) (l : LiteralTree) (us : List TokenTree) : Type 0 where
+  pub token : TokenTree
+  pub whole : ts ≡ token ∷ us
+  pub says : literal_of t token ≡ Some l
+
+came_from : (t : TypeTree) (x : TokenTree) (ts : List TokenTree) (l : LiteralTree) (us : List TokenTree) (o : Option LiteralTree) → literal_of t x ≡ o → literal_then o ts ≡ Some (l, us) → Came t (x ∷ ts) l us
+came_from t x ts l us None said e = absurd cc
+came_from t x ts l us (Some m) said e =
+    let made : LiteralTree × List TokenTree = (m, ts) in
+    let asked : LiteralTree × List TokenTree = (l, us) in
+    let same : made ≡ asked = some_is made asked e in
+    let first : m ≡ l = ap (λ (p : LiteralTree × List TokenTree). p.0) same in
+    let rest : ts ≡ us = ap (λ (p : LiteralTree × List TokenTree). p.1) same in
+    record { token = x; whole = ap (λ (r : List TokenTree). x ∷ r) rest; says = said ∙ ap (λ (m : LiteralTree). Some m) first }
+
+pub literal_came : (t : TypeTree) (ts : List TokenTree) (l : LiteralTree) (us : List TokenTree) → literal_at t ts ≡ Some (l, us) → Came t ts l us
+unfolding literal_at
+literal_came t [] l us e = absurd cc
+literal_came t (x ∷ ts) l us e = came_from t x ts l us (literal_of t x) refl e
+
+none_said : (o : Option LiteralTree) (ts : List TokenTree) (r : Option (List Cell × List TokenTree)) → literal_then o ts ≡ None → preceded o r ≡ None
+none_said None ts r e = refl
+none_said (Some l) ts r e = absurd cc
+
+-- ---- literals in parentheses
+
+comma_came : (ts us : List TokenTree) → Some us ≡ after_comma ts → ts ≡ comma ∷ us
+unfolding after_comma
+comma_came (comma ∷ ts) us e = let rest : us ≡ ts = some_is us ts e in cc
+comma_came _ us e = absurd cc
+
+-- behind a comma come literals
+pub comma_more : (t : TypeTree) (ts : List TokenTree) → more_cells t (comma ∷ ts) ≡ cells_at t ts
+unfolding more_cells cells_at
+comma_more t [] = refl
+comma_more t (x ∷ ts) = refl
+
+cells_fail : (t : TypeTree) (ts : List TokenTree) → literal_at t ts ≡ None → cells_at t ts ≡ None
+unfolding literal_at cells_at
+cells_fail t [] e = refl
+cells_fail t (x ∷ ts) e = none_said (literal_of t x) ts (more_cells t ts) e
+
+pub cells_left_fail : (e : Fault) (t : TypeTree) (ts : List TokenTree) → Fails e (literal_at t ts) → Fails e (cells_at t ts)
+cells_left_fail e t ts failed = fails_on e _ _ (cells_fail t ts) failed
+
+front_cells : (l : LiteralTree) (r : Option (List Cell × List TokenTree)) → preceded (Some l) r ≡ with_front (cells_of (l ∷ [])) r
+front_cells l None = refl
+front_cells l (Some x) = refl
+
+cells_of_token : (t : TypeTree) (x : TokenTree) (us : List TokenTree) (l : LiteralTree) → literal_of t x ≡ Some l → cells_at t (x ∷ us) ≡ with_front (cells_of (l ∷ [])) (more_cells t us)
+unfolding cells_at
+cells_of_token t x us l said = rw said (front_cells l (more_cells t us))
+
+-- the first literal, and those behind it
+pub cells_begin : (t : TypeTree) (ts : List TokenTree) (l : LiteralTree) (us : List TokenTree) → literal_at t ts ≡ Some (l, us) → cells_at t ts ≡ with_front (cells_of (l ∷ [])) (more_cells t us)
+cells_begin t ts l us e = let c = literal_came t ts l us e in ap (cells_at t) c.whole ∙ cells_of_token t c.token us l c.says
+
+two_fronts : (front more : List Cell) (r : Option (List Cell × List TokenTree)) → with_front front (with_front more r) ≡ with_front (front ++ more) r
+two_fronts front more None = refl
+two_fronts front more (Some x) = ap (λ (cs : List Cell). Some (cs, x.1)) (sym (append_assoc front more x.0))
+
+module _ (t : TypeTree) (front : List Cell) (ts : List TokenTree) (total : Option (List Cell × List TokenTree)) (so_far : with_front front (more_cells t ts) ≡ total) where
+  pub goes_on : (us : List TokenTree) (l : LiteralTree) (vs : List TokenTree) (fronts : List Cell) → Some us ≡ after_comma ts → literal_at t us ≡ Some (l, vs) → fronts ≡ front ++ cells_of (l ∷ []) → with_front fronts (more_cells t vs) ≡ total
+  goes_on us l vs fronts word read made =
+      let one : more_cells t ts ≡ with_front (cells_of (l ∷ [])) (more_cells t vs) = ap (more_cells t) (comma_came ts us word) ∙ comma_more t us ∙ cells_begin t us l vs read in
+      ap (λ (cs : List Cell). with_front cs (more_cells t vs)) made ∙ sym (two_fronts front (cells_of (l ∷ [])) (more_cells t vs)) ∙ ap (with_front front) (sym one) ∙ so_far
+
+  none_ends : (us : List TokenTree) → Some us ≡ after_comma ts → literal_at t us ≡ None → total ≡ None
+  none_ends us word none =
+      let one : more_cells t ts ≡ None = ap (more_cells t) (comma_came ts us word) ∙ comma_more t us ∙ cells_fail t us none in
+      sym so_far ∙ ap (with_front front) one
+
+  pub literal_fails : (e : Fault) (us : List TokenTree) → Some us ≡ after_comma ts → Fails e (literal_at t us) → Fails e total
+  literal_fails e us word failed = fails_on e _ _ (none_ends us word) failed
+
+no_end : (t : TypeTree) (ts : List TokenTree) → None ≡ after_comma ts → after_closing ts ≡ None → more_cells t ts ≡ None
+unfolding after_comma after_closing more_cells
+no_end t [] c d = refl
+no_end t (closing ∷ ts) c d = absurd cc
+no_end t (comma ∷ ts) c d = absurd cc
+no_end t (_ ∷ ts) c d = refl
+
+closed_cells : (t : TypeTree) (ts us : List TokenTree) → after_closing ts ≡ Some us → more_cells t ts ≡ Some ([], us)
+unfolding after_closing more_cells
+closed_cells t (closing ∷ ts) us e = let rest : ts ≡ us = some_is ts us e in ap (λ (r : List TokenTree). Some ([], r)) rest
+closed_cells t _ us e = absurd cc
+
+module _ (t : TypeTree) (front : List Cell) (ts : List TokenTree) (total : Option (List Cell × List TokenTree)) (so_far : with_front front (more_cells t ts) ≡ total) where
+  not_ended : None ≡ after_comma ts → after_closing ts ≡ None → total ≡ None
+  not_ended c d = sym so_far ∙ ap (with_front front) (no_end t ts c d)
+
+  pub end_fails : (e : Fault) → None ≡ after_comma ts → Fails e (after_closing ts) → Fails e total
+  end_fails e c failed = fails_on e _ _ (not_ended c) failed
+
+  pub ends : (us : List TokenTree) → after_closing ts ≡ Some us → total ≡ Some (front, us)
+  ends us e = sym so_far ∙ ap (with_front front) (closed_cells t ts us e) ∙ ap (λ (cs : List Cell). Some (cs, us)) (append-nil front)
+
+pub is_smaller : (t : TypeTree) (ps qs : List Placed) (us : List TokenTree) (l : LiteralTree) → Some us ≡ after_comma (trees ps) → literal_at t us ≡ Some (l, trees qs) → length qs < length ps
+is_smaller t ps qs us l word read =
+    let whole : trees ps ≡ comma ∷ us = comma_came (trees ps) us word in
+    let c = literal_came t us l (trees qs) read in
+    let long : length (trees ps) ≡ suc (suc (length (trees qs))) = ap length whole ∙ ap (λ (r : List TokenTree). suc (length r)) c.whole in
+    let p : length (trees ps) ≡ length ps = length-map ps (λ (p : Placed). token_tree p.token) in
+    let q : length (trees qs) ≡ length qs = length-map qs (λ (p : Placed). token_tree p.token) in
+    omega arith
+
+-- ---- prefixes
+
+module _ (k : ℕ) (t : TypeTree) (bs : List ℕ) where
+  no_text_by : (b : Bool) → is_utf8 bs ≡ b → (IsUtf8 bs → ⊥) → text_prefix k t bs ≡ None
+  unfolding text_prefix
+  no_text_by true is other = absurd (other (IsUtf8-from_is_utf8 bs is))
+  no_text_by false is other = rw is refl
+
+  pub no_text : (IsUtf8 bs → ⊥) → text_prefix k t bs ≡ None
+  no_text other = no_text_by (is_utf8 bs) refl other
+
+  pub text_is : (l : LiteralTree) → IsUtf8 bs → string_literal t bs ≡ Some l → text_prefix k t bs ≡ prefix_from k l
+  unfolding text_prefix literal_of
+  text_is l utf8 said = rw (is_utf8-from_IsUtf8 bs utf8, said) refl
+
+  text_none : IsUtf8 bs → string_literal t bs ≡ None → text_prefix k t bs ≡ None
+  unfolding text_prefix literal_of
+  text_none utf8 said = rw (is_utf8-from_IsUtf8 bs utf8, said) refl
+
+  pub text_fails : (e : Fault) → IsUtf8 bs → Fails e (string_literal t bs) → Fails e (text_prefix k t bs)
+  text_fails e utf8 failed = fails_on e _ _ (text_none utf8) failed
+
+-- ---- patterns
+
+module _ (escapes : Bool) where
+  pub step_escape : (b c : ℕ) (bs : List ℕ) → (escapes && (b == 92)) ≡ true → pattern_prefix escapes (b ∷ c ∷ bs) ≡ with_byte c (pattern_prefix escapes bs)
+  unfolding pattern_prefix
+  step_escape b c bs e = rw e refl
+
+  pub step_plain : (b c : ℕ) (bs : List ℕ) → (escapes && (b == 92)) ≡ false → is_wildcard b ≡ false → pattern_prefix escapes (b ∷ c ∷ bs) ≡ with_byte b (pattern_prefix escapes (c ∷ bs))
+  unfolding pattern_prefix
+  step_plain b c bs e w = rw (e, w) refl
+
+  no_two : (b c : ℕ) (bs : List ℕ) (same : Bool) → (b == 37) ≡ same → ending (b ∷ c ∷ bs) ≡ None
+  no_two b c bs true e = rw e refl
+  no_two b c bs false e = rw e refl
+
+  pub step_wild : (b c : ℕ) (bs : List ℕ) → (escapes && (b == 92)) ≡ false → is_wildcard b ≡ true → pattern_prefix escapes (b ∷ c ∷ bs) ≡ ending (b ∷ c ∷ bs)
+  unfolding pattern_prefix
+  step_wild b c bs e w = rw (e, w) (sym (no_two b c bs (b == 37) refl))
+
+  pub step_none : pattern_prefix escapes [] ≡ ending []
+  unfolding pattern_prefix
+  step_none = refl
+
+  one_by : (b : ℕ) (same : Bool) → (b == 37) ≡ same → pattern_prefix escapes (b ∷ []) ≡ ending (b ∷ [])
+  unfolding pattern_prefix
+  one_by b true e = rw e refl
+  one_by b false e = rw e refl
+
+  pub step_one : (b : ℕ) → pattern_prefix escapes (b ∷ []) ≡ ending (b ∷ [])
+  step_one b = one_by b (b == 37) refl
+
+byte_more : (front : List ℕ) (b : ℕ) (r : Option (List ℕ)) → with_bytes (front ++ b ∷ []) r ≡ with_bytes front (with_byte b r)
+byte_more front b None = refl
+byte_more front b (Some bs) = ap (λ (x : List ℕ). Some x) (append_assoc front (b ∷ []) bs)
+
+pub pattern_goes_on : (front fronts : List ℕ) (b : ℕ) (now next total : Option (List ℕ)) → with_bytes front now ≡ total → now ≡ with_byte b next → fronts ≡ front ++ b ∷ [] → with_bytes fronts next ≡ total
+pattern_goes_on front fronts b now next total so_far step made = ap (λ (x : List ℕ). with_bytes x next) made ∙ byte_more front b next ∙ ap (with_bytes front) (sym step) ∙ so_far
+
+pub pattern_ends : (front bs : List ℕ) (now total : Option (List ℕ)) → with_bytes front now ≡ total → now ≡ ending bs → bytes_eq bs (37 ∷ []) ≡ true → total ≡ Some front
+pattern_ends front bs now total so_far is end = sym so_far ∙ ap (with_bytes front) is ∙ rw end (ap (λ (x : List ℕ). Some x) (append-nil front))
+
+pub pattern_fails : (front bs : List ℕ) (now total : Option (List ℕ)) → with_bytes front now ≡ total → now ≡ ending bs → bytes_eq bs (37 ∷ []) ≡ false → total ≡ None
+pattern_fails front bs now total so_far is end = sym so_far ∙ ap (with_bytes front) is ∙ rw end refl
+
+pub none_if : {T : Type 0} (r : Option T) (P : Type 0) → P → IfNone r P
+none_if None P p = p
+none_if (Some x) P p = tt
+
+pub pattern_of_none : (escapes : Bool) (pattern : List ℕ) → pattern ≡ [] → pattern_prefix escapes pattern ≡ ending pattern
+pattern_of_none escapes pattern empty = ap (pattern_prefix escapes) empty ∙ step_none escapes ∙ ap ending (sym empty)
+
+pub pattern_of_one : (escapes : Bool) (pattern : List ℕ) (b : ℕ) (behind : List ℕ) → pattern ≡ b ∷ behind → behind ≡ [] → pattern_prefix escapes pattern ≡ ending pattern
+pattern_of_one escapes pattern b behind whole empty =
+    let one : pattern ≡ b ∷ [] = whole ∙ ap (λ (bs : List ℕ). b ∷ bs) empty in
+    ap (pattern_prefix escapes) one ∙ step_one escapes b ∙ ap ending (sym one)
+
+pub pattern_of_two : (pattern : List ℕ) (b : ℕ) (behind : List ℕ) (c : ℕ) (bs : List ℕ) → pattern ≡ b ∷ behind → behind ≡ c ∷ bs → pattern ≡ b ∷ c ∷ bs
+pattern_of_two pattern b behind c bs whole more = whole ∙ ap (λ (x : List ℕ). b ∷ x) more

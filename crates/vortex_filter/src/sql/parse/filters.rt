@@ -1,0 +1,111 @@
+//! Filters with connectives.
+
+ghost use Rattle.std.specs.Prelude.{◌≡◌, suc, MatchResult};
+ghost use Rattle.vortex_filter.specs.Columns.{column_trees};
+ghost use Rattle.vortex_filter.specs.Formula.{formula};
+ghost use Rattle.vortex_filter.specs.Tokens.{trees};
+ghost use Rattle.vortex_filter.specs.Reading.{Gives, conjunction_of, disjunction_of, filter_at, operand_of, predicate_at, reads};
+
+use crate::column::Column;
+use crate::filter::Filter;
+use crate::sql::error::Expected;
+use crate::sql::parse::fault::{Cause, Fault};
+use crate::sql::parse::formulas::{both, either, negation};
+use crate::sql::parse::predicates::predicate;
+use crate::sql::parse::tokens::{after_closing, after_keyword, after_opening, expected};
+use crate::sql::token::{Keyword, Placed};
+use std::alloc::Global;
+
+/// How deep what comes next may nest.
+fn deeper(rest: &[Placed], depth: usize) -> Result<usize, Fault>
+    ensures { MatchResult result (λ d. depth ≡ suc d) (λ e. depth ≡ 0) }
+{
+    match depth {
+        0 => Err(Fault::At(rest.len(), Cause::TooDeep)),
+        _ => Ok(depth - 1),
+    }
+}
+
+/// Filters with `or` between them, and what follows.
+#[cycle(filters)]
+pub(crate) fn disjunction<'a>(
+    alloc: Global,
+    columns: &[Column],
+    rest: &'a [Placed],
+    depth: usize,
+) -> Result<(Box<Filter>, &'a [Placed]), Fault>
+    ensures { Gives (λ x. (formula x.0.value, trees x.1.now)) result (disjunction_of (predicate_at (column_trees columns.now)) (reads (predicate_at (column_trees columns.now)) depth) (trees rest.now)) }
+{
+    let (left, rest) = conjunction(alloc, columns, rest, depth)?;
+    let Some(after) = after_keyword(rest, Keyword::Or) else {
+        return Ok((left, rest));
+    };
+    let depth = deeper(after, depth)?;
+    let (right, rest) = disjunction(alloc, columns, after, depth)?;
+    Ok((either(alloc, left, right)?, rest))
+}
+
+/// Filters with `and` between them, and what follows.
+#[cycle(filters)]
+fn conjunction<'a>(
+    alloc: Global,
+    columns: &[Column],
+    rest: &'a [Placed],
+    depth: usize,
+) -> Result<(Box<Filter>, &'a [Placed]), Fault>
+    ensures { Gives (λ x. (formula x.0.value, trees x.1.now)) result (conjunction_of (predicate_at (column_trees columns.now)) (reads (predicate_at (column_trees columns.now)) depth) (trees rest.now)) }
+{
+    let (left, rest) = operand(alloc, columns, rest, depth)?;
+    let Some(after) = after_keyword(rest, Keyword::And) else {
+        return Ok((left, rest));
+    };
+    let depth = deeper(after, depth)?;
+    let (right, rest) = conjunction(alloc, columns, after, depth)?;
+    Ok((both(alloc, left, right)?, rest))
+}
+
+/// A predicate, a filter in parentheses or one after `not`, and what follows.
+#[cycle(filters)]
+fn operand<'a>(
+    alloc: Global,
+    columns: &[Column],
+    rest: &'a [Placed],
+    depth: usize,
+) -> Result<(Box<Filter>, &'a [Placed]), Fault>
+    ensures { Gives (λ x. (formula x.0.value, trees x.1.now)) result (operand_of (predicate_at (column_trees columns.now)) (reads (predicate_at (column_trees columns.now)) depth) (trees rest.now)) }
+{
+    if let Some(after) = after_keyword(rest, Keyword::Not) {
+        let depth = deeper(after, depth)?;
+        let (inner, rest) = operand(alloc, columns, after, depth)?;
+        return Ok((negation(alloc, inner)?, rest));
+    }
+    if let Some(after) = after_opening(rest) {
+        let depth = deeper(after, depth)?;
+        let (inner, rest) = disjunction(alloc, columns, after, depth)?;
+        let Some(rest) = after_closing(rest) else {
+            return Err(expected(rest, Expected::Closing));
+        };
+        return Ok((inner, rest));
+    }
+    predicate(alloc, columns, rest)
+}
+
+/// The filter that all of the tokens are.
+#[tactic(auto, unfolding(crate::specs::Reading::filter_at))]
+pub(crate) fn filter_of(
+    alloc: Global,
+    columns: &[Column],
+    tokens: &[Placed],
+    depth: usize,
+) -> Result<Filter, Fault>
+    ensures { Gives formula result (filter_at (column_trees columns.now) depth (trees tokens.now)) }
+{
+    let (filter, rest) = disjunction(alloc, columns, tokens, depth)?;
+    match rest {
+        [] => Ok(Box::into_inner(filter)),
+        [_, ..] => {
+            drop(filter);
+            Err(expected(rest, Expected::End))
+        }
+    }
+}

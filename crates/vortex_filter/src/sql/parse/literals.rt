@@ -1,0 +1,180 @@
+//! Literals in the type of a column.
+
+ghost use Rattle.std.specs.Prelude.{◌≡◌, Some};
+ghost use Rattle.vortex_dtype.specs.TypeOf.{type_of};
+ghost use Rattle.vortex_filter.specs.Tokens.{token_tree, trees};
+ghost use Rattle.vortex_filter.specs.Literals.{bytes_literal, exactly, integer_literal, keyword_literal, literal_of, literal_tree, null_cell, number_said, signed, string_literal, truth_literal};
+ghost use Rattle.vortex_filter.specs.Reading.{Gives, literal_at};
+
+use crate::sql::error::Expected;
+use crate::sql::parse::fault::{Cause, Fault};
+use crate::sql::token::{Keyword, Placed, Token};
+use std::alloc::Global;
+use vortex_dtype::{BufferString, ByteBuffer, DType, Nullability, PType};
+use vortex_pvalue::PValue;
+use vortex_value::{Scalar, ScalarValue};
+
+/// What a literal says in a column of a type.
+#[derive(Debug, Drop)]
+pub(crate) enum Literal {
+    /// A cell of the type.
+    Exactly(Scalar),
+    /// A number that the type lacks: below all that it has, or above them.
+    Lacking { is_below: bool },
+}
+
+/// The literal that comes next, in a column of the type, and what follows it.
+#[tactic(auto, unfolding(crate::specs::Reading::literal_at))]
+pub(crate) fn literal_at<'a>(
+    alloc: Global,
+    dtype: &DType,
+    rest: &'a [Placed],
+) -> Result<(Literal, &'a [Placed]), Fault>
+    ensures { Gives (λ x. (literal_tree x.0, trees x.1.now)) result
+        (literal_at (type_of dtype.now) (trees rest.now)) }
+{
+    let [first, after @ ..] = rest else {
+        return Err(Fault::At(0, Cause::Expected(Expected::Literal)));
+    };
+    let literal = literal_of(alloc, dtype, &first.token, rest.len())?;
+    Ok((literal, after))
+}
+
+/// What the token says as a literal, where so many tokens are left.
+#[tactic(auto, unfolding(crate::specs::Literals::literal_of))]
+fn literal_of(alloc: Global, dtype: &DType, token: &Token, left: usize) -> Result<Literal, Fault>
+    ensures { Gives literal_tree result (literal_of (type_of dtype.now) (token_tree token.now)) }
+{
+    match token {
+        Token::Keyword(keyword) => keyword_literal(alloc, dtype, *keyword, left),
+        Token::Integer {
+            is_negative,
+            magnitude,
+        } => integer_literal(dtype, *is_negative, *magnitude, left),
+        Token::Text(text) => string_literal(alloc, dtype, text.as_str(), left),
+        Token::Bytes(bytes) => bytes_literal(alloc, dtype, bytes.as_slice(), left),
+        Token::Name(_) | Token::Operator(_) | Token::Open | Token::Close | Token::Comma => {
+            Err(Fault::At(left, Cause::Expected(Expected::Literal)))
+        }
+    }
+}
+
+/// `null`, `true` or `false`.
+fn keyword_literal(
+    alloc: Global,
+    dtype: &DType,
+    keyword: Keyword,
+    left: usize,
+) -> Result<Literal, Fault>
+    ensures { Gives literal_tree result (keyword_literal (type_of dtype.now) keyword) }
+{
+    match keyword {
+        Keyword::Null => null_literal(alloc, dtype),
+        Keyword::True => truth_literal(dtype, true, left),
+        Keyword::False => truth_literal(dtype, false, left),
+        _ => Err(Fault::At(left, Cause::Expected(Expected::Literal))),
+    }
+}
+
+/// The null of any type.
+fn null_literal(alloc: Global, dtype: &DType) -> Result<Literal, Fault>
+    ensures { Gives literal_tree result (Some (exactly (null_cell (type_of dtype.now)))) }
+{
+    let dtype = dtype.clone(alloc)?.as_nullable();
+    Ok(Literal::Exactly(Scalar { dtype, value: None }))
+}
+
+/// A truth value, in a column of truth values.
+fn truth_literal(dtype: &DType, truth: bool, left: usize) -> Result<Literal, Fault>
+    ensures { Gives literal_tree result (truth_literal (type_of dtype.now) truth) }
+{
+    match dtype {
+        DType::Bool(_) => Ok(Literal::Exactly(Scalar::bool(truth, Nullability::NonNullable))),
+        _ => Err(Fault::At(left, other_type(dtype))),
+    }
+}
+
+/// A number, in a column of integers.
+fn integer_literal(
+    dtype: &DType,
+    is_negative: bool,
+    magnitude: u64,
+    left: usize,
+) -> Result<Literal, Fault>
+    ensures { Gives literal_tree result
+        (integer_literal (type_of dtype.now) is_negative magnitude) }
+{
+    match dtype {
+        DType::Primitive(ptype, _) => Ok(number_said(*ptype, is_negative, magnitude)),
+        _ => Err(Fault::At(left, other_type(dtype))),
+    }
+}
+
+/// A number in a column of this integer type.
+fn number_said(ptype: PType, is_negative: bool, magnitude: u64) -> Literal
+    ensures { literal_tree result
+        ≡ number_said ptype is_negative (signed is_negative magnitude) }
+{
+    let number = signed(is_negative, magnitude);
+    match PValue::from_whole(number, ptype) {
+        Some(value) => Literal::Exactly(Scalar {
+            dtype: DType::Primitive(ptype, Nullability::NonNullable),
+            value: Some(ScalarValue::Primitive(value)),
+        }),
+        None => Literal::Lacking {
+            is_below: is_negative,
+        },
+    }
+}
+
+/// The number that a sign and digits say.
+fn signed(is_negative: bool, magnitude: u64) -> i128
+    ensures { result ≡ signed is_negative magnitude }
+{
+    if is_negative {
+        -(magnitude as i128)
+    } else {
+        magnitude as i128
+    }
+}
+
+/// A string, in a column of strings.
+pub(crate) fn string_literal(
+    alloc: Global,
+    dtype: &DType,
+    text: &str,
+    left: usize,
+) -> Result<Literal, Fault>
+    ensures { Gives literal_tree result (string_literal (type_of dtype.now) text.now) }
+{
+    match dtype {
+        DType::Utf8(_) => {
+            let text = BufferString::from_str(alloc, text)?;
+            Ok(Literal::Exactly(Scalar::utf8(text, Nullability::NonNullable)))
+        }
+        _ => Err(Fault::At(left, other_type(dtype))),
+    }
+}
+
+/// Bytes, in a column of bytes.
+fn bytes_literal(alloc: Global, dtype: &DType, bytes: &[u8], left: usize) -> Result<Literal, Fault>
+    ensures { Gives literal_tree result (bytes_literal (type_of dtype.now) bytes.now) }
+{
+    match dtype {
+        DType::Binary(_) => {
+            let bytes = ByteBuffer::from_slice(alloc, bytes)?;
+            Ok(Literal::Exactly(Scalar::binary(bytes, Nullability::NonNullable)))
+        }
+        _ => Err(Fault::At(left, other_type(dtype))),
+    }
+}
+
+/// Why a literal of another kind is none of the type: whether the type has literals.
+fn other_type(dtype: &DType) -> Cause {
+    match dtype {
+        DType::Bool(_) | DType::Primitive(_, _) | DType::Utf8(_) | DType::Binary(_) => {
+            Cause::TypesDiffer
+        }
+        _ => Cause::NoLiteral,
+    }
+}

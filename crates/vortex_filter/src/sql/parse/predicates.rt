@@ -1,0 +1,107 @@
+//! Filters without connectives.
+
+ghost use Rattle.std.specs.Prelude.{◌≡◌};
+ghost use Rattle.vortex_dtype.specs.TypeOf.{type_of};
+ghost use Rattle.vortex_filter.specs.Columns.{column_trees};
+ghost use Rattle.vortex_filter.specs.Formula.{formula};
+ghost use Rattle.vortex_filter.specs.Literals.{holds_strings, literal_tree};
+ghost use Rattle.vortex_filter.specs.Tokens.{trees};
+ghost use Rattle.vortex_filter.specs.Reading.{Gives, constant_at, predicate_at, prefix_call_at, prefix_of};
+
+use crate::column::Column;
+use crate::filter::Filter;
+use crate::sql::error::Expected;
+use crate::sql::parse::columns::{Found, expect_column};
+use crate::sql::parse::conditions::condition;
+use crate::sql::parse::fault::{Cause, Fault};
+use crate::sql::parse::formulas::{constant, prefix};
+use crate::sql::parse::literals::{Literal, literal_at};
+use crate::sql::parse::tokens::{
+    after_keyword, expect_closing, expect_comma, expect_name, expect_opening, expected, name_at,
+};
+use crate::sql::token::{Keyword, Placed, Token};
+use crate::truth::Truth;
+use std::alloc::Global;
+use vortex_dtype::DType;
+
+/// A test of a column, `starts_with` or a constant, and what follows.
+#[tactic(auto, unfolding(crate::specs::Reading::predicate_at))]
+pub(crate) fn predicate<'a>(
+    alloc: Global,
+    columns: &[Column],
+    rest: &'a [Placed],
+) -> Result<(Box<Filter>, &'a [Placed]), Fault>
+    ensures { Gives (λ x. (formula x.0.value, trees x.1.now)) result
+        (predicate_at (column_trees columns.now) (trees rest.now)) }
+{
+    if let Some((name, after)) = name_at(rest) {
+        let column = expect_column(columns, name, rest.len())?;
+        return condition(alloc, column, after);
+    }
+    let Some(after) = after_keyword(rest, Keyword::StartsWith) else {
+        return constant_at(alloc, rest);
+    };
+    prefix_call(alloc, columns, after)
+}
+
+/// What follows `starts_with`: a column and a literal in parentheses.
+#[tactic(auto, unfolding(crate::specs::Reading::prefix_call_at))]
+fn prefix_call<'a>(
+    alloc: Global,
+    columns: &[Column],
+    rest: &'a [Placed],
+) -> Result<(Box<Filter>, &'a [Placed]), Fault>
+    ensures { Gives (λ x. (formula x.0.value, trees x.1.now)) result
+        (prefix_call_at (column_trees columns.now) (trees rest.now)) }
+{
+    let named = expect_opening(rest)?;
+    let (name, rest) = expect_name(named)?;
+    let column = expect_column(columns, name, named.len())?;
+    let written = expect_comma(rest)?;
+    let (literal, rest) = literal_at(alloc, column.dtype, written)?;
+    let rest = expect_closing(rest)?;
+    Ok((prefix_of(alloc, column, literal, written.len())?, rest))
+}
+
+/// Whether the column begins with the literal, where so many tokens are left.
+#[tactic(auto, unfolding(crate::specs::Reading::prefix_of))]
+fn prefix_of(
+    alloc: Global,
+    column: Found<'_>,
+    literal: Literal,
+    left: usize,
+) -> Result<Box<Filter>, Fault>
+    ensures { Gives (λ f. formula f.value) result
+        (prefix_of (column.entry.place, type_of column.entry.dtype.now) (literal_tree literal)) }
+{
+    if holds_strings(column.dtype) {
+        return prefix(alloc, column.place, literal, left);
+    }
+    drop(literal);
+    Err(Fault::At(left, Cause::TypesDiffer))
+}
+
+/// Whether values of the type can begin with a prefix.
+fn holds_strings(dtype: &DType) -> bool
+    ensures { result ≡ holds_strings (type_of dtype.now) }
+{
+    dtype.is_utf8() || dtype.is_binary()
+}
+
+/// `true`, `false` or `null`.
+#[tactic(auto, unfolding(crate::specs::Reading::constant_at))]
+fn constant_at(alloc: Global, rest: &[Placed]) -> Result<(Box<Filter>, &[Placed]), Fault>
+    ensures { Gives (λ x. (formula x.0.value, trees x.1.now)) result
+        (constant_at (trees rest.now)) }
+{
+    let [first, after @ ..] = rest else {
+        return Err(Fault::At(0, Cause::Expected(Expected::Filter)));
+    };
+    let truth = match &first.token {
+        Token::Keyword(Keyword::True) => Truth::True,
+        Token::Keyword(Keyword::False) => Truth::False,
+        Token::Keyword(Keyword::Null) => Truth::Unknown,
+        _ => return Err(expected(rest, Expected::Filter)),
+    };
+    Ok((constant(alloc, truth)?, after))
+}
