@@ -203,7 +203,11 @@ module _ (names : List (List ℕ)) (k : ℕ) where
   starts_with_printed c = record {
     text = rw (content_apart c comma, content_closed c) refl;
     phrase = record {
-      first = keyword_token keywords.StartsWith; rest = opening ∷ column_token names k ∷ comma ∷ content_token c ∷ closing ∷ []; whole = refl; apart = λ t word. refl; closed = refl;
+      first = keyword_token keywords.StartsWith;
+      rest = opening ∷ column_token names k ∷ comma ∷ content_token c ∷ closing ∷ [];
+      whole = refl;
+      apart = λ t word. refl;
+      closed = refl;
     };
   }
 

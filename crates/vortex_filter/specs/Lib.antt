@@ -24,6 +24,7 @@ pub mod Reading
 pub mod Residual
 pub mod Rows
 pub mod Searching
+pub mod SqlExamples
 pub mod Texts
 pub mod Tokens
 pub mod Truths

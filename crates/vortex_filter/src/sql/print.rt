@@ -22,6 +22,7 @@ pub(crate) enum Level {
 
 /// A filter that is printed with the names of its columns. A column that is not there is printed as
 /// its number, from `$1` on.
+#[derive(Clone, Copy)]
 pub struct Sql<'a> {
     pub(crate) filter: &'a Filter,
     pub(crate) columns: &'a [Column],
@@ -41,11 +42,7 @@ impl Filter {
 }
 
 /// Writes a character, twice if it is the quote.
-fn write_quotable<W: Write>(
-    character: char,
-    quote: char,
-    f: &mut Formatter<W>,
-) -> fmt::Result
+fn write_quotable<W: Write>(character: char, quote: char, f: &mut Formatter<W>) -> fmt::Result
     ensures { WritesOnOk W.write_str_gives f.old result (quotable quote character) f.new }
 {
     if character == quote {
@@ -221,7 +218,11 @@ fn write_null_test<W: Write>(
     ensures { WritesOnOk W.write_str_gives f.old result (null_test_text (names_of columns.now) column is_negated) f.new }
 {
     write_column(column, columns, f)?;
-    f.write_str(if is_negated { " is not null" } else { " is null" })
+    f.write_str(if is_negated {
+        " is not null"
+    } else {
+        " is null"
+    })
 }
 
 /// What stands before the literal at this place: a comma and a space, or nothing before the first.
@@ -270,7 +271,11 @@ fn write_range<W: Write>(
     ensures { WritesOnOk W.write_str_gives f.old result (range_text (names_of columns.now) column is_negated (cell_of lower.now) (cell_of upper.now)) f.new }
 {
     write_column(column, columns, f)?;
-    f.write_str(if is_negated { " not between " } else { " between " })?;
+    f.write_str(if is_negated {
+        " not between "
+    } else {
+        " between "
+    })?;
     write_literal(lower, f)?;
     f.write_str(" and ")?;
     write_literal(upper, f)
