@@ -107,7 +107,7 @@ all_test : (t : TypeTree) (xs : List Cell) → (list_all (λ x. same_type t x.ty
 all_test t [] = ((λ e. tt), (λ e. absurd (false≢true (sym e))))
 all_test t (x ∷ xs) = both_true (same_type t x.typed) (list_all (λ x. same_type t x.typed) xs) (IsOfType t x) (AllByRecursion (IsOfType t) xs) (same_test t x.typed) (all_test t xs)
 
-strings_test : (t : TypeTree) → (holds_strings t ≡ true → HoldsStrings t) × (holds_strings t ≡ false → ¬ (HoldsStrings t))
+pub strings_test : (t : TypeTree) → (holds_strings t ≡ true → HoldsStrings t) × (holds_strings t ≡ false → ¬ (HoldsStrings t))
 strings_test (utf8_type n) = ((λ e. tt), (λ e. absurd (false≢true (sym e))))
 strings_test (binary_type n) = ((λ e. tt), (λ e. absurd (false≢true (sym e))))
 strings_test _ = ((λ e. absurd (false≢true e)), (λ e h. h))

@@ -337,11 +337,11 @@ membership_truth nullable t k (x ∷ xs) row m = by_cell m (either_way (is_null_
 
 -- ---- formulas
 
-fits_left : (P : TypeTree → Cell → Type 0) (columns : List TypeTree) (ps qs : List Test) → AllFit P columns (ps ++ qs) → AllFit P columns ps
+pub fits_left : (P : TypeTree → Cell → Type 0) (columns : List TypeTree) (ps qs : List Test) → AllFit P columns (ps ++ qs) → AllFit P columns ps
 fits_left P columns [] qs h = tt
 fits_left P columns (p ∷ ps) qs h = (h.0, fits_left P columns ps qs h.1)
 
-fits_right : (P : TypeTree → Cell → Type 0) (columns : List TypeTree) (ps qs : List Test) → AllFit P columns (ps ++ qs) → AllFit P columns qs
+pub fits_right : (P : TypeTree → Cell → Type 0) (columns : List TypeTree) (ps qs : List Test) → AllFit P columns (ps ++ qs) → AllFit P columns qs
 fits_right P columns [] qs h = h
 fits_right P columns (p ∷ ps) qs h = fits_right P columns ps qs h.1
 

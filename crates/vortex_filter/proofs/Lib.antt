@@ -7,10 +7,12 @@ pub mod Characters
 pub mod CheckLaws
 pub mod CheckSteps
 pub mod CoerceLaws
+pub mod CoerceSteps
 pub mod ColumnSteps
 pub mod Cuts
 pub mod Exactness
 pub mod FitLaws
+pub mod FitProofs
 pub mod Lexed
 pub mod Loops
 pub mod MakeSteps

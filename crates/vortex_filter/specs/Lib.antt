@@ -1,11 +1,15 @@
 pub mod Asked
 pub mod CheckSteps
 pub mod Checking
+pub mod Coerces
 pub mod Coercing
 pub mod Columns
 pub mod Exactness
 pub mod Examples
 pub mod Faults
+pub mod FilterLiterals
+pub mod FitExamples
+pub mod FitLaws
 pub mod Formula
 pub mod Grammar
 pub mod Lexing

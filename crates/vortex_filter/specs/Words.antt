@@ -10,12 +10,14 @@ pub use Rattle.std.specs.Ordering.{nat_cmp}
 pub use Rattle.std.specs.Str.{chars}
 pub use Rattle.std.specs.String.{string_bytes}
 pub use Rattle.vortex_dtype.specs.TypeOf.{dtype_trees, type_of}
+pub use Rattle.vortex_dtype.specs.TypeTree.{as_nullable}
 pub use Rattle.vortex_filter.specs.Asked.{demand_of}
 pub use Rattle.vortex_filter.specs.CheckSteps.{answer_behind, answer_of_both, behind, checked, checked_test, holds_strings, lacks_order, suits}
 pub use Rattle.vortex_filter.specs.Checking.{FitsColumns, IsOfType, RefusesFirst, tests}
 pub use Rattle.vortex_filter.specs.Exactness.{ComparisonsAreExact, ComparisonsOccur, PrefixesAreExact}
 pub use Rattle.vortex_filter.specs.Faults.{IsPlaced}
-pub use Rattle.vortex_filter.specs.Formula.{Formula, both, cell_at, compare_truth, comparison, constant, either, formula, is_match, lent_cell, member_truth, membership, negation, null_truth, prefix_test, range, range_truth, truth}
+pub use Rattle.vortex_filter.specs.FitLaws.{FittingComparesContents, UnknownForNulls, UnknownWithoutOrder}
+pub use Rattle.vortex_filter.specs.Formula.{Formula, both, cell_at, compare_truth, comparison, constant, either, formula, is_match, lent_cell, member_truth, membership, negation, null_test, null_truth, prefix_test, range, range_truth, truth}
 pub use Rattle.vortex_filter.specs.Lexing.{Gives, fault_at, quoted_at, quoted_token, view}
 pub use Rattle.vortex_filter.specs.Operators.{holds}
 pub use Rattle.vortex_filter.specs.Orders.{bound_order, is_plain, is_plain_bound, may_fail, may_hold, orders, orders_between, rules_out, settles}
@@ -25,16 +27,17 @@ pub use Rattle.vortex_filter.specs.Pieces.{and_text, column_text, comparison_tex
 pub use Rattle.vortex_filter.specs.Prefixes.{cell_prefix_order, prefix_truth}
 pub use Rattle.vortex_filter.specs.Printing.{constant_keyword, content_token, is_special, names_of, prefix_pattern, sql_text, tokens_at, tokens_of}
 pub use Rattle.vortex_filter.specs.Pruning.{Covers, MatchesEachRow, MatchesNoRow}
-pub use Rattle.vortex_filter.specs.Residual.{IsBare, SameOnRows, conjunction, disjunction, is_constant, is_constant_false, is_constant_true, reduced, residual, same_truths, size, sole}
+pub use Rattle.vortex_filter.specs.Residual.{IsBare, SameOnRows, conjunction, disjunction, is_constant, reduced, residual, same_truths, size, sole}
 pub use Rattle.vortex_filter.specs.Searching.{SearchesFindAll, ZonesAreSearched}
 pub use Rattle.vortex_filter.specs.Texts.{AreItemsOf, IsRefusal, StopsAt, items}
 pub use Rattle.vortex_filter.specs.Tokens.{AreTokens, TokenTree, canonical, doubled, is_word_byte, is_word_start, keyword_text, name_token, operator_text, quoted, spelling, token_tree, trees}
 pub use Rattle.vortex_filter.specs.Truths.{truth_and, truth_not, truth_of, truth_or}
 pub use Rattle.vortex_filter.specs.declared.error.FilterError.TheVariants.{OutOfMemory}
 pub use Rattle.vortex_filter.specs.declared.truth.Truth.TheVariants.{True}
-pub use Rattle.vortex_statistics.specs.Cells.{cell_of, cell_order, is_null_cell, order_from_above}
+pub use Rattle.vortex_pvalue.specs.Numbers.{in_range}
+pub use Rattle.vortex_statistics.specs.Cells.{Cell, cell_of, cell_order, is_null_cell, order_from_above}
 pub use Rattle.vortex_statistics.specs.Statistics.{known, known_bound}
 pub use Rattle.vortex_value.specs.Equality.{same_type}
 pub use Rattle.vortex_value.specs.Size.{capped}
 pub use Rattle.vortex_value.specs.Texts.{two_digits}
-pub use Rattle.vortex_value.specs.Values.Scalars.{scalar_content, scalar_type}
+pub use Rattle.vortex_value.specs.Values.Scalars.{IsValid, scalar_content, scalar_type}

@@ -3,8 +3,9 @@
 //! These functions do nothing when they run. The contract of each is a law over the definitions in
 //! `specs/`, and its proof is the law's proof.
 
-ghost use Rattle.vortex_filter.specs.Words.{ComparisonsAreExact, ComparisonsOccur, PrefixesAreExact, SearchesFindAll, ZonesAreSearched};
+ghost use Rattle.vortex_filter.specs.Words.{ComparisonsAreExact, ComparisonsOccur, FittingComparesContents, PrefixesAreExact, SearchesFindAll, UnknownForNulls, UnknownWithoutOrder, ZonesAreSearched};
 
+use vortex_dtype::laws::nullable_is_the_same;
 use vortex_value::laws::{order_is_reversed, order_is_transitive};
 
 /// Between two bounds without parts, a comparison has just the outcomes that it has on the cells
@@ -43,4 +44,19 @@ pub fn searches_find_all()
 {
     order_is_reversed();
     order_is_transitive();
+}
+
+/// A comparison that fits its column is Unknown of a row of the columns' types exactly if the cell or
+/// the literal is null, or if the two have no order. In a column of truth values, integers, strings
+/// or bytes it is so exactly if one of the two is null, if the literal is a value of its type.
+pub fn fitting_comparisons_decide()
+    ensures without_order { UnknownWithoutOrder }
+    ensures for_nulls { UnknownForNulls }
+{}
+
+/// A filter that fits the columns says of each row of their types what it says by contents alone.
+pub fn fitting_filters_compare_contents()
+    ensures { FittingComparesContents }
+{
+    nullable_is_the_same();
 }

@@ -6,6 +6,7 @@
 
 mod building;
 mod check;
+mod coerce;
 mod column;
 mod copies;
 mod error;

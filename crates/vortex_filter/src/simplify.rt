@@ -88,7 +88,11 @@ fn reduced(
 fn sole(outcomes: Outcomes) -> Option<Truth>
     ensures { result ≡ sole outcomes }
 {
-    match (outcomes.may_be_false, outcomes.may_be_unknown, outcomes.may_be_true) {
+    match (
+        outcomes.may_be_false,
+        outcomes.may_be_unknown,
+        outcomes.may_be_true,
+    ) {
         (true, false, false) => Some(Truth::False),
         (false, true, false) => Some(Truth::Unknown),
         (false, false, true) => Some(Truth::True),

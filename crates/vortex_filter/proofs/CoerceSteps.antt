@@ -1,0 +1,546 @@
+-- Steps of coercing a filter.
+use Rattle.std.proofs.Common.{◌≡◌, ◌≢◌, ◌⊎◌, ◌↔◌, inl, inr, ℕ, zero, suc, ◌+◌, ◌<◌, ◌≤◌, ℤ, pos, Bool, true, false, not, ◌||◌, ◌&&◌, ◌==◌, cond, IsTrue, List, [], ◌∷◌, ◌++◌, length, map, take, get_or, Vec, Global, Box, Option, Some, None, Result, Ok, Err, IfErr, IfOk, IsErrAnd, MatchOption, MatchResult, OnOk, Ordering, refl, sym, subst, ap, ap₂, ◌∙◌, arith, rules}
+use Rattle.std.specs.Borrow.{Bor}
+use Rattle.std.specs.List.{AllByRecursion, filter, slice_get}
+use Rattle.std.specs.Option.{IsSomeAnd}
+use Rattle.std.proofs.lemmas.Bool.{false≢true}
+use Rattle.std.proofs.lemmas.Bool.Decides.{nat_tests}
+use Rattle.std.proofs.lemmas.List.{take_all}
+use Rattle.std.proofs.lemmas.Result.{err_from_is_err_and}
+use Rattle.vortex_dtype.specs.TypeOf.{type_of}
+use Rattle.vortex_dtype.specs.TypeTree.{TypeTree, IsFlat, Same, as_nullable, binary_type, integer_type, utf8_type}
+use Rattle.vortex_dtype.specs.declared.error.VortexError.{VortexError}
+use Rattle.vortex_dtype.specs.declared.error.VortexError.TheVariants as why
+use Rattle.vortex_dtype.specs.declared.nullability.Nullability.{Nullability}
+use Rattle.vortex_dtype.specs.declared.ptype.PType.{PType}
+use Rattle.vortex_dtype.specs.declared.types.DType.{DType}
+use Rattle.vortex_pvalue.specs.Conversions.{IsNumber}
+use Rattle.vortex_pvalue.specs.Numbers.{InRange, in_range}
+use Rattle.vortex_pvalue.specs.RangeLaws.{in_range_false, in_range_true}
+use Rattle.vortex_pvalue.specs.declared.pvalues.PValue.{PValue}
+use Rattle.vortex_value.specs.CastAnswers.{AnswersCast}
+use Rattle.vortex_value.specs.Casts.{CanCast, RefusesCast}
+use Rattle.vortex_value.specs.Equality.{same_type}
+use Rattle.vortex_value.specs.Lemmas.EqualityLaws.{same_type-Decides}
+use Rattle.vortex_value.specs.Size.{capped}
+use Rattle.vortex_value.specs.TypesWithin.{HasNoVariant}
+use Rattle.vortex_value.specs.Values.Content.{Content, whole}
+use Rattle.vortex_value.specs.Values.Scalars.{IsValid, scalar_content, scalar_raw, scalar_type}
+use Rattle.vortex_value.specs.declared.scalars.Scalar.{Scalar}
+use Rattle.vortex_statistics.specs.Cells.{Cell, cell_of}
+use Rattle.vortex_statistics.proofs.ConstantLaws.{cells_more}
+use Rattle.vortex_filter.specs.declared.error.FilterError.{FilterError}
+use Rattle.vortex_filter.specs.declared.error.FilterError.TheVariants.{OutOfMemory, NoColumn, HasVariant, TypesDiffer}
+use Rattle.vortex_filter.specs.declared.filter.Filter.{Filter, Constant, Compare, IsNull, In, Between, StartsWith, And, Or, Not, the_lemmas}
+use Rattle.vortex_filter.specs.declared.operator.CompareOperator.{CompareOperator}
+use Rattle.vortex_filter.specs.declared.operator.CompareOperator.TheVariants.{Gte, Lte}
+use Rattle.vortex_filter.specs.declared.truth.Truth.{Truth}
+use Rattle.vortex_filter.specs.CheckSteps.{answer_behind, behind, holds_strings}
+use Rattle.vortex_filter.specs.Checking.{AllFit, Demand, FitsColumns, HoldsStrings, IsOrderedFor, RefusesFirst, Suits, beginning, comparing, nothing, tests}
+use Rattle.vortex_filter.specs.Coerces.{Coerces, CoercesLiteral, CoercesLiterals, CoercesTest, GivesOrdered, Pushes, RefusesLiterals, all_left_out, integer_in, lacks_of, number_in, side_of, with_cell}
+use Rattle.vortex_filter.specs.Coercing.{IsCoercible, by_column, coerced, coerced_cell, coerced_comparison, coerced_range, for_values, kept_cells, lacks, lacks_number, membership_of, side}
+use Rattle.vortex_filter.specs.Formula.{Formula, constant, comparison, null_test, membership, range, prefix_test, both, either, negation, formula, truth}
+use Rattle.vortex_filter.specs.FilterLiterals.{AreValid, literals_of}
+use Rattle.vortex_filter.specs.Makes.{Makes, OfParts}
+use Rattle.vortex_filter.specs.Operators.{holds}
+use Rattle.vortex_filter.specs.Rows.{IsRowOf, content_truth}
+use Rattle.vortex_filter.specs.Variants.{has_variant}
+use Rattle.vortex_filter.proofs.CheckLaws.{fit_both, fit_one, refuses_behind, refuses_front, refuses_one, strings_test}
+use Rattle.vortex_filter.proofs.CoerceLaws.{NullableIsSame, coerced_fits, coerced_truth}
+use Rattle.vortex_filter.proofs.FitProofs.{coerced_itself}
+use Rattle.vortex_filter.proofs.Steps.{formula-And, formula-Between, formula-Compare, formula-Constant, formula-In, formula-IsNull, formula-Not, formula-Or, formula-StartsWith}
+use Rattle.vortex_filter.proofs.VariantSteps.{none-from_test, test-from_none}
+
+-- ---- literals
+
+pub literals-Constant : (t : Truth) → literals_of (Constant t) ≡ []
+literals-Constant t = search (rules, the_lemmas)
+
+pub literals-Compare : (k : ℕ) (op : CompareOperator) (x : Scalar) → literals_of (Compare k op x) ≡ x ∷ []
+literals-Compare k op x = search (rules, the_lemmas)
+
+pub literals-IsNull : (k : ℕ) → literals_of (IsNull k) ≡ []
+literals-IsNull k = search (rules, the_lemmas)
+
+pub literals-In : (k : ℕ) (xs : Vec Scalar Global) → literals_of (In k xs) ≡ xs.items
+literals-In k xs = search (rules, the_lemmas)
+
+pub literals-Between : (k : ℕ) (x y : Scalar) → literals_of (Between k x y) ≡ x ∷ y ∷ []
+literals-Between k x y = search (rules, the_lemmas)
+
+pub literals-StartsWith : (k : ℕ) (p : Scalar) → literals_of (StartsWith k p) ≡ p ∷ []
+literals-StartsWith k p = search (rules, the_lemmas)
+
+pub literals-And : (f g : Box Filter Global) → literals_of (And f g) ≡ literals_of f.value ++ literals_of g.value
+literals-And f g = search (rules, the_lemmas)
+
+pub literals-Or : (f g : Box Filter Global) → literals_of (Or f g) ≡ literals_of f.value ++ literals_of g.value
+literals-Or f g = search (rules, the_lemmas)
+
+pub literals-Not : (f : Box Filter Global) → literals_of (Not f) ≡ literals_of f.value
+literals-Not f = search (rules, the_lemmas)
+
+valid_left : (ls rs : List Scalar) → AreValid (ls ++ rs) → AreValid ls
+valid_left [] rs v = tt
+valid_left (l ∷ ls) rs v = (v.0, valid_left ls rs v.1)
+
+valid_right : (ls rs : List Scalar) → AreValid (ls ++ rs) → AreValid rs
+valid_right [] rs v = v
+valid_right (l ∷ ls) rs v = valid_right ls rs v.1
+
+-- ---- connectives
+
+module _ (columns : List TypeTree) (join : Formula → Formula → Formula) (f g : Formula) (ls rs : List Scalar)
+    (parts : tests (join f g) ≡ tests f ++ tests g) (made : coerced columns (join f g) ≡ join (coerced columns f) (coerced columns g)) where
+  refused_here : (e : FilterError) → (e ≡ OutOfMemory) ⊎ (AreValid (ls ++ rs) → RefusesFirst IsCoercible columns (tests f ++ tests g) e) → (s : Result Filter FilterError) → s ≡ Err e → Coerces columns (join f g) (AreValid (ls ++ rs)) s
+  refused_here e h s w = subst (Coerces columns (join f g) (AreValid (ls ++ rs))) (sym w) (there h)
+    where
+      there : (e ≡ OutOfMemory) ⊎ (AreValid (ls ++ rs) → RefusesFirst IsCoercible columns (tests f ++ tests g) e) → Coerces columns (join f g) (AreValid (ls ++ rs)) (Err e)
+      there (inl o) = inl o
+      there (inr p) = inr (λ v. subst (λ ts. RefusesFirst IsCoercible columns ts e) (sym parts) (p v))
+
+  made_here : (a b : Filter) (s : Result Filter FilterError) → (formula a ≡ coerced columns f) × AllFit IsCoercible columns (tests f) → (formula b ≡ coerced columns g) × AllFit IsCoercible columns (tests g)
+      → Makes (join (formula a) (formula b)) s → Coerces columns (join f g) (AreValid (ls ++ rs)) s
+  made_here a b (Ok x) h k w = (w ∙ ap₂ join h.0 k.0 ∙ sym made, subst (AllFit IsCoercible columns) (sym parts) (fit_both IsCoercible columns (tests f) (tests g) h.1 k.1))
+  made_here a b (Err e) h k w = inl w
+
+  joined_coerces : (l r s : Result Filter FilterError) → Coerces columns f (AreValid ls) l → Coerces columns g (AreValid rs) r
+      → OfParts (λ a b. Makes (join (formula a) (formula b)) s) (λ e. s ≡ Err e) l (answer_behind (capped (length (tests f))) r) → Coerces columns (join f g) (AreValid (ls ++ rs)) s
+  joined_coerces (Err e) r s (inl o) k w = refused_here e (inl o) s w
+  joined_coerces (Err e) r s (inr p) k w = refused_here e (inr (λ v. refuses_front IsCoercible columns (tests f) (tests g) e (p (valid_left ls rs v)))) s w
+  joined_coerces (Ok a) (Err e) s h (inl o) w = refused_here (behind (capped (length (tests f))) e) (inl (ap (behind (capped (length (tests f)))) o)) s w
+  joined_coerces (Ok a) (Err e) s h (inr p) w =
+      refused_here (behind (capped (length (tests f))) e) (inr (λ v. refuses_behind IsCoercible columns (tests f) (tests g) (capped (length (tests f))) e refl h.1 (p (valid_right ls rs v)))) s w
+  joined_coerces (Ok a) (Ok b) s h k w = made_here a b s h k w
+
+pub both_coerces : (columns : List TypeTree) (f g : Formula) (ls rs : List Scalar) (l r m s : Result Filter FilterError) → Coerces columns f (AreValid ls) l → Coerces columns g (AreValid rs) r
+    → m ≡ answer_behind (capped (length (tests f))) r → OfParts (λ a b. Makes (both (formula a) (formula b)) s) (λ e. s ≡ Err e) l m → Coerces columns (both f g) (AreValid (ls ++ rs)) s
+both_coerces columns f g ls rs l r m s h k e w = joined_coerces columns both f g ls rs refl refl l r s h k (subst (OfParts (λ a b. Makes (both (formula a) (formula b)) s) (λ d. s ≡ Err d) l) e w)
+
+pub either_coerces : (columns : List TypeTree) (f g : Formula) (ls rs : List Scalar) (l r m s : Result Filter FilterError) → Coerces columns f (AreValid ls) l → Coerces columns g (AreValid rs) r
+    → m ≡ answer_behind (capped (length (tests f))) r → OfParts (λ a b. Makes (either (formula a) (formula b)) s) (λ e. s ≡ Err e) l m → Coerces columns (either f g) (AreValid (ls ++ rs)) s
+either_coerces columns f g ls rs l r m s h k e w = joined_coerces columns either f g ls rs refl refl l r s h k (subst (OfParts (λ a b. Makes (either (formula a) (formula b)) s) (λ d. s ≡ Err d) l) e w)
+
+module _ (columns : List TypeTree) (F : Filter) (f g : Box Filter Global) (a a' b : Filter) (l r m s : Result Filter FilterError) where
+  -- both, as the code borrows its parts
+  pub both_at : F ≡ And f g → a ≡ f.value → a' ≡ f.value → b ≡ g.value → Coerces columns (formula a) (AreValid (literals_of a)) l → Coerces columns (formula b) (AreValid (literals_of b)) r
+      → m ≡ answer_behind (capped (length (tests (formula a')))) r → OfParts (λ x y. Makes (both (formula x) (formula y)) s) (λ e. s ≡ Err e) l m → Coerces columns (formula F) (AreValid (literals_of F)) s
+  both_at q da da' db h k e w =
+      subst (λ x. Coerces columns (formula x) (AreValid (literals_of x)) s) (sym q)
+      (subst (λ p. Coerces columns p (AreValid (literals_of (And f g))) s) (sym (formula-And f g))
+      (subst (λ vs. Coerces columns (both (formula f.value) (formula g.value)) (AreValid vs) s) (sym (literals-And f g))
+      (both_coerces columns (formula f.value) (formula g.value) (literals_of f.value) (literals_of g.value) l r m s
+      (subst (λ x. Coerces columns (formula x) (AreValid (literals_of x)) l) da h) (subst (λ x. Coerces columns (formula x) (AreValid (literals_of x)) r) db k)
+      (e ∙ ap (λ x. answer_behind (capped (length (tests (formula x)))) r) da') w)))
+
+  pub either_at : F ≡ Or f g → a ≡ f.value → a' ≡ f.value → b ≡ g.value → Coerces columns (formula a) (AreValid (literals_of a)) l → Coerces columns (formula b) (AreValid (literals_of b)) r
+      → m ≡ answer_behind (capped (length (tests (formula a')))) r → OfParts (λ x y. Makes (either (formula x) (formula y)) s) (λ e. s ≡ Err e) l m → Coerces columns (formula F) (AreValid (literals_of F)) s
+  either_at q da da' db h k e w =
+      subst (λ x. Coerces columns (formula x) (AreValid (literals_of x)) s) (sym q)
+      (subst (λ p. Coerces columns p (AreValid (literals_of (Or f g))) s) (sym (formula-Or f g))
+      (subst (λ vs. Coerces columns (either (formula f.value) (formula g.value)) (AreValid vs) s) (sym (literals-Or f g))
+      (either_coerces columns (formula f.value) (formula g.value) (literals_of f.value) (literals_of g.value) l r m s
+      (subst (λ x. Coerces columns (formula x) (AreValid (literals_of x)) l) da h) (subst (λ x. Coerces columns (formula x) (AreValid (literals_of x)) r) db k)
+      (e ∙ ap (λ x. answer_behind (capped (length (tests (formula x)))) r) da') w)))
+
+pub negation_coerces : (columns : List TypeTree) (f : Formula) (ls : List Scalar) (l s : Result Filter FilterError) → Coerces columns f (AreValid ls) l → MatchResult l (λ a. Makes (negation (formula a)) s) (λ e. s ≡ Err e)
+    → Coerces columns (negation f) (AreValid ls) s
+negation_coerces columns f ls (Err e) s h w = subst (Coerces columns (negation f) (AreValid ls)) (sym w) h
+negation_coerces columns f ls (Ok a) (Ok x) h w = (w ∙ ap negation h.0, h.1)
+negation_coerces columns f ls (Ok a) (Err e) h w = inl w
+
+pub constant_coerces : (columns : List TypeTree) (t : Truth) (g : Filter) → formula g ≡ constant t → Coerces columns (constant t) (AreValid []) (Ok g)
+constant_coerces columns t g e = (e, tt)
+
+pub ruleset shown = (both_coerces, either_coerces, negation_coerces, constant_coerces, formula-Constant, formula-Compare, formula-IsNull, formula-In, formula-Between, formula-StartsWith, formula-And, formula-Or, formula-Not, literals-Constant, literals-Compare, literals-IsNull, literals-In, literals-Between, literals-StartsWith, literals-And, literals-Or, literals-Not)
+
+-- ---- a test and its column
+
+module _ (columns : List TypeTree) (f : Formula) (k : ℕ) (d : Demand) (g : TypeTree → Formula) (vs : List Scalar)
+    (one : tests f ≡ record { column = k; demand = d } ∷ []) (made : coerced columns f ≡ by_column (slice_get columns k) f g) where
+  test_coerces : (t : TypeTree) (r : Result Filter FilterError) → slice_get columns k ≡ Some t → IsOrderedFor d t → CoercesTest t d (g t) (AreValid vs) k r → Coerces columns f (AreValid vs) r
+  test_coerces t (Ok x) e o h = (h.0 ∙ sym (made ∙ ap (λ c. by_column c f g) e), subst (AllFit IsCoercible columns) (sym one) (fit_one IsCoercible columns k d t e o h.1))
+  test_coerces t (Err x) e o (inl m) = inl m
+  test_coerces t (Err x) e o (inr p) =
+      inr (λ v. subst (λ ts. RefusesFirst IsCoercible columns ts x) (sym one) (subst (RefusesFirst IsCoercible columns (record { column = k; demand = d } ∷ [])) (sym p.0)
+      (refuses_one IsCoercible columns k d (TypesDiffer 0 k) (refl, refl, subst (λ c. IsSomeAnd c (λ t. IsOrderedFor d t × ¬ (Suits IsCoercible d t))) (sym e) (o, p.1 v)))))
+
+  test_refused : (e : FilterError) → ((t : TypeTree) → IsOrderedFor d t → HasNoVariant t)
+      → ((e ≡ NoColumn 0 k) × (slice_get columns k ≡ None)) ⊎ ((t : TypeTree) × (e ≡ HasVariant 0 k) × (slice_get columns k ≡ Some t) × ¬ (HasNoVariant t)) → Coerces columns f (AreValid vs) (Err e)
+  test_refused e o (inl p) =
+      inr (λ v. subst (λ ts. RefusesFirst IsCoercible columns ts e) (sym one) (subst (RefusesFirst IsCoercible columns (record { column = k; demand = d } ∷ [])) (sym p.0)
+      (refuses_one IsCoercible columns k d (NoColumn 0 k) (refl, refl, p.1))))
+  test_refused e o (inr p) =
+      inr (λ v. subst (λ ts. RefusesFirst IsCoercible columns ts e) (sym one) (subst (RefusesFirst IsCoercible columns (record { column = k; demand = d } ∷ [])) (sym p.1)
+      (refuses_one IsCoercible columns k d (HasVariant 0 k) (refl, refl, subst (λ c. IsSomeAnd c (λ t. ¬ (IsOrderedFor d t))) (sym p.2) (λ h. p.3 (o p.0 h))))))
+
+module _ (columns : List TypeTree) (k : ℕ) (t : TypeTree) (r : Result Filter FilterError) where
+  pub comparison_column : (op : CompareOperator) (x : Cell) (vs : List Scalar) → (slice_get columns k ≡ Some t) × HasNoVariant t → CoercesTest t (comparing (x ∷ [])) (coerced_comparison t k op x) (AreValid vs) k r
+      → Coerces columns (comparison k op x) (AreValid vs) r
+  comparison_column op x vs e h = test_coerces columns (comparison k op x) k (comparing (x ∷ [])) (λ t. coerced_comparison t k op x) vs refl refl t r e.0 e.1 h
+
+  pub membership_column : (xs : List Cell) (vs : List Scalar) → (slice_get columns k ≡ Some t) × HasNoVariant t → CoercesTest t (comparing xs) (membership_of k (kept_cells t xs) xs) (AreValid vs) k r
+      → Coerces columns (membership k xs) (AreValid vs) r
+  membership_column xs vs e h = test_coerces columns (membership k xs) k (comparing xs) (λ t. membership_of k (kept_cells t xs) xs) vs refl refl t r e.0 e.1 h
+
+  pub range_column : (x y : Cell) (vs : List Scalar) → (slice_get columns k ≡ Some t) × HasNoVariant t → CoercesTest t (comparing (x ∷ y ∷ [])) (coerced_range t k x y) (AreValid vs) k r
+      → Coerces columns (range k x y) (AreValid vs) r
+  range_column x y vs e h = test_coerces columns (range k x y) k (comparing (x ∷ y ∷ [])) (λ t. coerced_range t k x y) vs refl refl t r e.0 e.1 h
+
+  pub prefix_column : (p : Cell) (vs : List Scalar) → (slice_get columns k ≡ Some t) × HasNoVariant t → CoercesTest t (beginning p) (prefix_test k (coerced_cell t p)) (AreValid vs) k r
+      → Coerces columns (prefix_test k p) (AreValid vs) r
+  prefix_column p vs e h = test_coerces columns (prefix_test k p) k (beginning p) (λ t. prefix_test k (coerced_cell t p)) vs refl refl t r e.0 e.1 h
+
+-- the column is not there, or a variant stands in its type
+abbrev pub NoOrdered : List TypeTree → ℕ → FilterError → Type 0
+NoOrdered columns k e = ((e ≡ NoColumn 0 k) × (slice_get columns k ≡ None)) ⊎ ((t : TypeTree) × (e ≡ HasVariant 0 k) × (slice_get columns k ≡ Some t) × ¬ (HasNoVariant t))
+
+module _ (columns : List TypeTree) (k : ℕ) (e : FilterError) (vs : List Scalar) where
+  pub comparison_refused : (op : CompareOperator) (x : Cell) → NoOrdered columns k e → Coerces columns (comparison k op x) (AreValid vs) (Err e)
+  comparison_refused op x h = test_refused columns (comparison k op x) k (comparing (x ∷ [])) (λ t. coerced_comparison t k op x) vs refl refl e (λ t o. o) h
+
+  pub membership_refused : (xs : List Cell) → NoOrdered columns k e → Coerces columns (membership k xs) (AreValid vs) (Err e)
+  membership_refused xs h = test_refused columns (membership k xs) k (comparing xs) (λ t. membership_of k (kept_cells t xs) xs) vs refl refl e (λ t o. o) h
+
+  pub range_refused : (x y : Cell) → NoOrdered columns k e → Coerces columns (range k x y) (AreValid vs) (Err e)
+  range_refused x y h = test_refused columns (range k x y) k (comparing (x ∷ y ∷ [])) (λ t. coerced_range t k x y) vs refl refl e (λ t o. o) h
+
+  pub prefix_refused : (p : Cell) → NoOrdered columns k e → Coerces columns (prefix_test k p) (AreValid vs) (Err e)
+  prefix_refused p h = test_refused columns (prefix_test k p) k (beginning p) (λ t. prefix_test k (coerced_cell t p)) vs refl refl e (λ t o. o) h
+
+pub null_there : (columns : List TypeTree) (k : ℕ) (t : TypeTree) (f : Filter) → Some t ≡ slice_get columns k → formula f ≡ null_test k → Coerces columns (null_test k) (AreValid []) (Ok f)
+null_there columns k t f e h = (h, (record { dtype = t; there = sym e; ordered = tt; suits = tt }, tt))
+
+pub null_absent : (columns : List TypeTree) (k : ℕ) → None ≡ slice_get columns k → Coerces columns (null_test k) (AreValid []) (Err (NoColumn 0 k))
+null_absent columns k e = inr (λ v. refuses_one IsCoercible columns k nothing (NoColumn 0 k) (refl, refl, sym e))
+
+pub ruleset columns = (comparison_column, membership_column, range_column, prefix_column, comparison_refused, membership_refused, range_refused, prefix_refused, null_there, null_absent, formula-IsNull)
+
+-- ---- the type of a column
+
+pub absent_given : (columns : List TypeTree) (k : ℕ) → None ≡ slice_get columns k → GivesOrdered columns k (Err (NoColumn 0 k))
+absent_given columns k e = inl (refl, sym e)
+
+pub variant_given : (columns : List TypeTree) (k : ℕ) (t : TypeTree) → Some t ≡ slice_get columns k → has_variant t ≡ true → GivesOrdered columns k (Err (HasVariant 0 k))
+variant_given columns k t e v = inr (t, refl, sym e, λ n. false≢true (sym (test-from_none t n) ∙ v))
+
+pub ordered_given : (columns : List TypeTree) (k : ℕ) (d : Bor DType) → Some (type_of d.now) ≡ slice_get columns k → has_variant (type_of d.now) ≡ false → GivesOrdered columns k (Ok d)
+ordered_given columns k d e v = (sym e, none-from_test (type_of d.now) v)
+
+pub ruleset variants = (absent_given, variant_given, ordered_given)
+
+-- ---- comparisons
+
+module _ (t : TypeTree) (k : ℕ) (op : CompareOperator) (x : Cell) where
+  pub lacking_comparison : (vs : List Scalar) (b : Bool) (r : Result Filter FilterError) → lacks t x ≡ true → b ≡ holds op (side x.content) → Makes (for_values b k) r → CoercesTest t (comparing (x ∷ [])) (coerced_comparison t k op x) (AreValid vs) k r
+  lacking_comparison vs b (Ok g) l e m =
+      (m ∙ ap (λ c. for_values c k) e ∙ sym (ap (λ c. cond c (for_values (holds op (side x.content)) k) (comparison k op (coerced_cell t x))) l), (inr (inl l), tt))
+  lacking_comparison vs b (Err e) l h m = inl m
+
+  pub kept_comparison : (vs : List Scalar) (y : Scalar) → lacks t x ≡ false → (cell_of y ≡ coerced_cell t x) × IsCoercible t x → CoercesTest t (comparing (x ∷ [])) (coerced_comparison t k op x) (AreValid vs) k (Ok (Compare k op y))
+  kept_comparison vs y l h =
+      (formula-Compare k op y ∙ ap (comparison k op) h.0 ∙ sym (ap (λ c. cond c (for_values (holds op (side x.content)) k) (comparison k op (coerced_cell t x))) l), (h.1, tt))
+
+  pub refused_comparison : (v : Scalar) (e : FilterError) → RefusesLiterals k (IsCoercible t x) (IsValid v) e → CoercesTest t (comparing (x ∷ [])) (coerced_comparison t k op x) (AreValid (v ∷ [])) k (Err e)
+  refused_comparison v e (inl o) = inl o
+  refused_comparison v e (inr p) = inr (p.0, λ a s. p.1 a.0 s.0)
+
+pub ruleset comparisons = (lacking_comparison, kept_comparison, refused_comparison)
+
+-- ---- memberships
+
+not_empty : (n : ℕ) → (suc n == 0) ≡ false
+not_empty n = grind (arith, nat_tests)
+
+pub left_out_then : (ks xs : List Scalar) (b c : Bool) → b ≡ (length ks == 0) → b ≡ true → c ≡ (length xs == 0) → not c ≡ all_left_out (map cell_of ks) (map cell_of xs)
+left_out_then [] [] b c h t k = ap not k
+left_out_then [] (x ∷ xs) b c h t k = ap not (k ∙ not_empty (length xs))
+left_out_then (y ∷ ks) xs b c h t k = absurd (false≢true (sym (not_empty (length ks)) ∙ sym h ∙ t))
+
+pub left_out_else : (ks xs : List Scalar) (b : Bool) → b ≡ (length ks == 0) → b ≡ false → b ≡ all_left_out (map cell_of ks) (map cell_of xs)
+left_out_else [] xs b h f = absurd (false≢true (sym f ∙ h))
+left_out_else (y ∷ ks) xs b h f = f
+
+member_form : (k : ℕ) (ks xs : List Cell) → membership_of k ks xs ≡ cond (all_left_out ks xs) (for_values false k) (membership k ks)
+member_form k [] [] = refl
+member_form k [] (x ∷ xs) = refl
+member_form k (y ∷ ks) xs = refl
+
+module _ (t : TypeTree) (k : ℕ) (xs : List Cell) (vs : List Scalar) where
+  pub none_kept : (ys : List Scalar) (r : Result Filter FilterError) → (map cell_of ys ≡ kept_cells t xs) × AllByRecursion (IsCoercible t) xs → all_left_out (map cell_of ys) xs ≡ true → Makes (for_values false k) r
+      → CoercesTest t (comparing xs) (membership_of k (kept_cells t xs) xs) (AreValid vs) k r
+  none_kept ys (Ok g) h e m =
+      (m ∙ sym (ap (λ c. cond c (for_values false k) (membership k (map cell_of ys))) e) ∙ sym (member_form k (map cell_of ys) xs) ∙ ap (λ zs. membership_of k zs xs) h.0, h.1)
+  none_kept ys (Err d) h e m = inl m
+
+  pub some_kept : (ys : Vec Scalar Global) → (map cell_of ys.items ≡ kept_cells t xs) × AllByRecursion (IsCoercible t) xs → all_left_out (map cell_of ys.items) xs ≡ false
+      → CoercesTest t (comparing xs) (membership_of k (kept_cells t xs) xs) (AreValid vs) k (Ok (In k ys))
+  some_kept ys h e =
+      (formula-In k ys ∙ sym (ap (λ c. cond c (for_values false k) (membership k (map cell_of ys.items))) e) ∙ sym (member_form k (map cell_of ys.items) xs) ∙ ap (λ zs. membership_of k zs xs) h.0, h.1)
+
+  pub refused_membership : (e : FilterError) → RefusesLiterals k (AllByRecursion (IsCoercible t) xs) (AreValid vs) e → CoercesTest t (comparing xs) (membership_of k (kept_cells t xs) xs) (AreValid vs) k (Err e)
+  refused_membership e h = h
+
+pub ruleset memberships = (none_kept, some_kept, refused_membership)
+
+-- ---- ranges
+
+or_left : (a b : Bool) → (a || b) ≡ false → a ≡ false
+or_left false b e = refl
+or_left true b e = absurd (false≢true (sym e))
+
+or_right : (a b : Bool) → (a || b) ≡ false → b ≡ false
+or_right false b e = e
+or_right true b e = absurd (false≢true (sym e))
+
+module _ (t : TypeTree) (k : ℕ) (x y : Cell) where
+  pub lower_there : (lacks t x || lacks t y) ≡ false → lacks t x ≡ false
+  lower_there e = or_left (lacks t x) (lacks t y) e
+
+  pub upper_there : (lacks t x || lacks t y) ≡ false → lacks t y ≡ false
+  upper_there e = or_right (lacks t x) (lacks t y) e
+
+  pub kept_range : (vs : List Scalar) (r : Result Filter FilterError) → (lacks t x || lacks t y) ≡ false → CoercesTest t (comparing (x ∷ y ∷ [])) (range k (coerced_cell t x) (coerced_cell t y)) (AreValid vs) k r
+      → CoercesTest t (comparing (x ∷ y ∷ [])) (coerced_range t k x y) (AreValid vs) k r
+  kept_range vs r e h =
+      subst (λ f. CoercesTest t (comparing (x ∷ y ∷ [])) f (AreValid vs) k r) (sym (ap (λ c. cond c (both (coerced_comparison t k Gte x) (coerced_comparison t k Lte y)) (range k (coerced_cell t x) (coerced_cell t y))) e)) h
+
+  module _ (v w : Scalar) where
+    refused_range : (e : FilterError) (f : Formula) → RefusesLiterals k (AllByRecursion (IsCoercible t) (x ∷ y ∷ [])) (AreValid (v ∷ w ∷ [])) e → (s : Result Filter FilterError) → s ≡ Err e
+        → CoercesTest t (comparing (x ∷ y ∷ [])) f (AreValid (v ∷ w ∷ [])) k s
+    refused_range e f h s q = subst (CoercesTest t (comparing (x ∷ y ∷ [])) f (AreValid (v ∷ w ∷ [])) k) (sym q) h
+
+    first_refused : (e : FilterError) → RefusesLiterals k (AllByRecursion (IsCoercible t) (x ∷ [])) (AreValid (v ∷ [])) e → RefusesLiterals k (AllByRecursion (IsCoercible t) (x ∷ y ∷ [])) (AreValid (v ∷ w ∷ [])) e
+    first_refused e (inl o) = inl o
+    first_refused e (inr p) = inr (p.0, λ a s. p.1 (a.0, tt) (s.0, tt))
+
+    second_refused : (e : FilterError) → RefusesLiterals k (AllByRecursion (IsCoercible t) (y ∷ [])) (AreValid (w ∷ [])) e → RefusesLiterals k (AllByRecursion (IsCoercible t) (x ∷ y ∷ [])) (AreValid (v ∷ w ∷ [])) e
+    second_refused e (inl o) = inl o
+    second_refused e (inr p) = inr (p.0, λ a s. p.1 a.1 s.1)
+
+    made_range : (a b : Filter) (s : Result Filter FilterError) → (lacks t x || lacks t y) ≡ true → (formula a ≡ coerced_comparison t k Gte x) × Suits IsCoercible (comparing (x ∷ [])) t
+        → (formula b ≡ coerced_comparison t k Lte y) × Suits IsCoercible (comparing (y ∷ [])) t → Makes (both (formula a) (formula b)) s → CoercesTest t (comparing (x ∷ y ∷ [])) (coerced_range t k x y) (AreValid (v ∷ w ∷ [])) k s
+    made_range a b (Ok g) e h m q =
+        (q ∙ ap₂ both h.0 m.0 ∙ sym (ap (λ c. cond c (both (coerced_comparison t k Gte x) (coerced_comparison t k Lte y)) (range k (coerced_cell t x) (coerced_cell t y))) e), (h.1.0, m.1))
+    made_range a b (Err d) e h m q = inl q
+
+    pub lacking_range : (l r s : Result Filter FilterError) → (lacks t x || lacks t y) ≡ true → CoercesTest t (comparing (x ∷ [])) (coerced_comparison t k Gte x) (AreValid (v ∷ [])) k l
+        → CoercesTest t (comparing (y ∷ [])) (coerced_comparison t k Lte y) (AreValid (w ∷ [])) k r → OfParts (λ a b. Makes (both (formula a) (formula b)) s) (λ e. s ≡ Err e) l r
+        → CoercesTest t (comparing (x ∷ y ∷ [])) (coerced_range t k x y) (AreValid (v ∷ w ∷ [])) k s
+    lacking_range (Err e) r s lk h m q = refused_range e (coerced_range t k x y) (first_refused e h) s q
+    lacking_range (Ok a) (Err e) s lk h m q = refused_range e (coerced_range t k x y) (second_refused e m) s q
+    lacking_range (Ok a) (Ok b) s lk h m q = made_range a b s lk h m q
+
+    pub refused_lower : (e : FilterError) (f : Formula) → RefusesLiterals k (IsCoercible t x) (IsValid v) e → CoercesTest t (comparing (x ∷ y ∷ [])) f (AreValid (v ∷ w ∷ [])) k (Err e)
+    refused_lower e f (inl o) = inl o
+    refused_lower e f (inr p) = inr (p.0, λ a s. p.1 a.0 s.0)
+
+    pub refused_upper : (e : FilterError) (f : Formula) → RefusesLiterals k (IsCoercible t y) (IsValid w) e → CoercesTest t (comparing (x ∷ y ∷ [])) f (AreValid (v ∷ w ∷ [])) k (Err e)
+    refused_upper e f (inl o) = inl o
+    refused_upper e f (inr p) = inr (p.0, λ a s. p.1 a.1.0 s.1.0)
+
+  pub kept_ends : (vs : List Scalar) (a b : Scalar) → (cell_of a ≡ coerced_cell t x) × IsCoercible t x → (cell_of b ≡ coerced_cell t y) × IsCoercible t y
+      → CoercesTest t (comparing (x ∷ y ∷ [])) (range k (coerced_cell t x) (coerced_cell t y)) (AreValid vs) k (Ok (Between k a b))
+  kept_ends vs a b h m = (formula-Between k a b ∙ ap₂ (range k) h.0 m.0, (h.1, (m.1, tt)))
+
+pub ruleset ranges = (lower_there, upper_there, kept_range, lacking_range, refused_lower, refused_upper, kept_ends)
+
+-- ---- prefixes
+
+never_lacked : (b : Bool) → cond b false false ≡ false
+never_lacked true = refl
+never_lacked false = refl
+
+pub lacks_no_string : (t : TypeTree) (p : Cell) → holds_strings t ≡ true → lacks t p ≡ false
+lacks_no_string (utf8_type n) p e = never_lacked (same_type (utf8_type n) p.typed)
+lacks_no_string (binary_type n) p e = never_lacked (same_type (binary_type n) p.typed)
+lacks_no_string _ p e = absurd (false≢true e)
+
+module _ (t : TypeTree) (k : ℕ) (p : Cell) where
+  pub no_strings : (f : Formula) (vs : List Scalar) → holds_strings t ≡ false → CoercesTest t (beginning p) f (AreValid vs) k (Err (TypesDiffer 0 k))
+  no_strings f vs e = inr (refl, λ a s. (strings_test t).1 e s.0)
+
+  pub kept_prefix : (vs : List Scalar) (y : Scalar) → holds_strings t ≡ true → (cell_of y ≡ coerced_cell t p) × IsCoercible t p → CoercesTest t (beginning p) (prefix_test k (coerced_cell t p)) (AreValid vs) k (Ok (StartsWith k y))
+  kept_prefix vs y e h = (formula-StartsWith k y ∙ ap (prefix_test k) h.0, ((strings_test t).0 e, h.1))
+
+  pub refused_prefix : (v : Scalar) (e : FilterError) (f : Formula) → RefusesLiterals k (IsCoercible t p) (IsValid v) e → CoercesTest t (beginning p) f (AreValid (v ∷ [])) k (Err e)
+  refused_prefix v e f (inl o) = inl o
+  refused_prefix v e f (inr q) = inr (q.0, λ a s. q.1 a.0 s.1)
+
+pub ruleset prefixes = (lacks_no_string, no_strings, kept_prefix, refused_prefix)
+
+-- ---- one literal
+
+abbrev cell_from : TypeTree → Content → Cell
+cell_from t c = record { typed = t; content = c }
+
+module _ (t : TypeTree) (k : ℕ) (l : Scalar) where
+  pub copied_literal : (r : Result Scalar FilterError) → same_type t (scalar_type l) ≡ true → MatchResult r (λ y. cell_of y ≡ cell_of l) (λ e. e ≡ OutOfMemory) → CoercesLiteral t (cell_of l) (IsValid l) k r
+  copied_literal (Ok y) e h = (h ∙ sym (ap (λ b. cond b (cell_of l) (cell_from (as_nullable t) (scalar_content l))) e), inl ((same_type-Decides t (scalar_type l)).0 e))
+  copied_literal (Err d) e h = inl h
+
+  pub invalid_literal : (b : Bool) → IsTrue b ↔ IsValid l → b ≡ false → CoercesLiteral t (cell_of l) (IsValid l) k (Err (TypesDiffer 0 k))
+  invalid_literal b h e = inr (refl, λ v. absurd (false≢true (sym e ∙ h.1 v)))
+
+  never_other : same_type t (scalar_type l) ≡ false → lacks t (cell_of l) ≡ false → ¬ (CanCast (scalar_type l) (as_nullable t) (scalar_content l)) → ¬ (IsCoercible t (cell_of l))
+  never_other e h n (inl s) = false≢true (sym e ∙ (same_type-Decides t (scalar_type l)).1 s)
+  never_other e h n (inr (inl m)) = false≢true (sym h ∙ m)
+  never_other e h n (inr (inr c)) = n c
+
+  pub cast_made : (u : TypeTree) (y : Scalar) → u ≡ as_nullable t → same_type t (scalar_type l) ≡ false → AnswersCast (scalar_type l) u (scalar_raw l) (Ok y) → CoercesLiteral t (cell_of l) (IsValid l) k (Ok y)
+  cast_made u y q e a =
+      (ap₂ cell_from (a.one.typed ∙ q) a.one.same ∙ sym (ap (λ b. cond b (cell_of l) (cell_from (as_nullable t) (scalar_content l))) e), inr (inr (subst (λ s. CanCast (scalar_type l) s (scalar_content l)) q a.succeeds_only)))
+
+  not_possible : (u : TypeTree) (p : Type 0) (e : VortexError) → e ≢ why.OutOfMemory → RefusesCast u p e → ¬ p
+  not_possible u p why.CannotCast n h = h
+  not_possible u p why.OutOfMemory n h = absurd (n refl)
+  not_possible u p _ n h = absurd h
+
+  pub cast_refused : (u : TypeTree) (e : VortexError) (d : FilterError) → u ≡ as_nullable t → same_type t (scalar_type l) ≡ false → lacks t (cell_of l) ≡ false → AnswersCast (scalar_type l) u (scalar_raw l) (Err e)
+      → ((e ≡ why.OutOfMemory) × (d ≡ OutOfMemory)) ⊎ ((e ≢ why.OutOfMemory) × (d ≡ TypesDiffer 0 k)) → CoercesLiteral t (cell_of l) (IsValid l) k (Err d)
+  cast_refused u e d q s h a (inl m) = inl m.1
+  cast_refused u e d q s h a (inr m) =
+      inr (m.1, λ v. never_other s h (subst (λ w. ¬ (CanCast (scalar_type l) w (scalar_content l))) q (not_possible u (CanCast (scalar_type l) u (scalar_content l)) e m.0 a.refuses_only)))
+
+-- ---- several literals
+
+module _ (t : TypeTree) (k : ℕ) (x : Cell) (v : Scalar) (ks : List Cell) where
+  pub lacking_pushed : lacks t x ≡ true → (ks ≡ with_cell t x ks) × IsCoercible t x
+  lacking_pushed e = (sym (ap (λ b. cond b ks (ks ++ coerced_cell t x ∷ [])) e), inr (inl e))
+
+  pub kept_pushed : (y : Scalar) (after : List Cell) (r : Result (Unit {0}) FilterError) → lacks t x ≡ false → (cell_of y ≡ coerced_cell t x) × IsCoercible t x
+      → MatchResult r (λ _. after ≡ ks ++ cell_of y ∷ []) (λ e. e ≡ OutOfMemory) → Pushes t x (IsValid v) k ks after r
+  kept_pushed y after (Ok u) e h p = (p ∙ ap (λ c. ks ++ c ∷ []) h.0 ∙ sym (ap (λ b. cond b ks (ks ++ coerced_cell t x ∷ [])) e), h.1)
+  kept_pushed y after (Err d) e h p = inl p
+
+pub ruleset pushes = (lacking_pushed, kept_pushed)
+
+at_place : (P : Cell → Type 0) (xs : List Scalar) (i : ℕ) (d : Scalar) → i < length xs → AllByRecursion P (map cell_of xs) → P (cell_of (get_or xs i d))
+at_place P [] i d h a = absurd (omega arith)
+at_place P (x ∷ xs) zero d h a = a.0
+at_place P (x ∷ xs) (suc i) d h a = at_place P xs i d (omega arith) a.1
+
+valid_at : (xs : List Scalar) (i : ℕ) (d : Scalar) → i < length xs → AreValid xs → IsValid (get_or xs i d)
+valid_at [] i d h a = absurd (omega arith)
+valid_at (x ∷ xs) zero d h a = a.0
+valid_at (x ∷ xs) (suc i) d h a = valid_at xs i d (omega arith) a.1
+
+pub item_refused : (t : TypeTree) (k : ℕ) (xs : List Scalar) (i : ℕ) (x : Scalar) (e : FilterError) → i < length xs → x ≡ get_or xs i x → RefusesLiterals k (IsCoercible t (cell_of x)) (IsValid x) e
+    → RefusesLiterals k (AllByRecursion (IsCoercible t) (map cell_of xs)) (AreValid xs) e
+item_refused t k xs i x e h q (inl o) = inl o
+item_refused t k xs i x e h q (inr p) =
+    inr (p.0, λ a s. p.1 (subst IsValid (sym q) (valid_at xs i x h a)) (subst (λ y. IsCoercible t (cell_of y)) (sym q) (at_place (IsCoercible t) xs i x h s)))
+
+pub passed_literals : (t : TypeTree) (k : ℕ) (xs : List Scalar) (r : Result (Vec Scalar Global) FilterError) (e : FilterError) → IsErrAnd r (λ d. d ≡ e) → RefusesLiterals k (AllByRecursion (IsCoercible t) (map cell_of xs)) (AreValid xs) e
+    → CoercesLiterals t (map cell_of xs) (AreValid xs) k r
+passed_literals t k xs r e h w =
+    let p = err_from_is_err_and r h in
+    subst (CoercesLiterals t (map cell_of xs) (AreValid xs) k) (sym p.1) (subst (RefusesLiterals k (AllByRecursion (IsCoercible t) (map cell_of xs)) (AreValid xs)) (sym p.2) w)
+
+-- the literals so far that the type does not lack
+pub record IsKept (t : TypeTree) (ks xs : List Cell) : Type 0 where
+  pub cells : ks ≡ kept_cells t xs
+  pub coercible : AllByRecursion (IsCoercible t) xs
+
+-- one cell more at the end
+kept_more : (t : TypeTree) (xs : List Cell) (x : Cell) → kept_cells t (xs ++ x ∷ []) ≡ with_cell t x (kept_cells t xs)
+kept_more t [] x = by_test (lacks t x)
+  where
+    by_test : (b : Bool) → map (coerced_cell t) (cond (not b) (x ∷ []) []) ≡ cond b [] (coerced_cell t x ∷ [])
+    by_test true = refl
+    by_test false = refl
+kept_more t (y ∷ xs) x = by_test (lacks t y) (kept_more t xs x)
+  where
+    in_front : (b : Bool) (ks : List Cell) → coerced_cell t y ∷ cond b ks (ks ++ coerced_cell t x ∷ []) ≡ cond b (coerced_cell t y ∷ ks) ((coerced_cell t y ∷ ks) ++ coerced_cell t x ∷ [])
+    in_front true ks = refl
+    in_front false ks = refl
+
+    by_test : (b : Bool) → kept_cells t (xs ++ x ∷ []) ≡ with_cell t x (kept_cells t xs)
+        → map (coerced_cell t) (cond (not b) (y ∷ filter (λ z. not (lacks t z)) (xs ++ x ∷ [])) (filter (λ z. not (lacks t z)) (xs ++ x ∷ [])))
+        ≡ with_cell t x (map (coerced_cell t) (cond (not b) (y ∷ filter (λ z. not (lacks t z)) xs) (filter (λ z. not (lacks t z)) xs)))
+    by_test true h = h
+    by_test false h = ap (λ zs. coerced_cell t y ∷ zs) h ∙ in_front (lacks t x) (kept_cells t xs)
+
+coercible_more : (t : TypeTree) (xs : List Cell) (x : Cell) → AllByRecursion (IsCoercible t) xs → IsCoercible t x → AllByRecursion (IsCoercible t) (xs ++ x ∷ [])
+coercible_more t [] x a h = (h, tt)
+coercible_more t (y ∷ xs) x a h = (a.0, coercible_more t xs x a.1 h)
+
+pub kept_step : (t : TypeTree) (xs : List Scalar) (i : ℕ) (x : Scalar) (before after : List Cell) → i < length xs → x ≡ get_or xs i x → IsKept t before (map cell_of (take i xs)) → (after ≡ with_cell t (cell_of x) before) × IsCoercible t (cell_of x)
+    → IsKept t after (map cell_of (take (i + 1) xs))
+kept_step t xs i x before after h q a p =
+    subst (IsKept t after) (sym (cells_more xs i x h q))
+    (record { cells = p.0 ∙ ap (with_cell t (cell_of x)) a.cells ∙ sym (kept_more t (map cell_of (take i xs)) (cell_of x)); coercible = coercible_more t (map cell_of (take i xs)) (cell_of x) a.coercible p.1 })
+
+pub kept_whole : (t : TypeTree) (xs : List Scalar) (i : ℕ) (ks : List Cell) → length xs ≤ i → IsKept t ks (map cell_of (take i xs)) → (ks ≡ kept_cells t (map cell_of xs)) × AllByRecursion (IsCoercible t) (map cell_of xs)
+kept_whole t xs i ks h a =
+    let p : IsKept t ks (map cell_of xs) = subst (λ ys. IsKept t ks (map cell_of ys)) (take_all i xs h) a in (p.cells, p.coercible)
+
+pub ruleset literals = (copied_literal, invalid_literal, cast_made, cast_refused)
+
+-- ---- numbers
+
+pub lacks_same : (t : TypeTree) (x : Cell) → same_type t x.typed ≡ true → false ≡ lacks t x
+lacks_same t x e = sym (ap (λ b. cond b false (lacks_number t x.typed x.content)) e)
+
+pub lacks_other : (t : TypeTree) (x : Cell) (b : Bool) → same_type t x.typed ≡ false → b ≡ lacks_number t x.typed x.content → b ≡ lacks t x
+lacks_other t x b e h = h ∙ sym (ap (λ b. cond b false (lacks_number t x.typed x.content)) e)
+
+pub ruleset lacking = (lacks_same, lacks_other)
+
+lacks_content : (k : PType) (l : PType) (m n : Nullability) (c : Content) → lacks_of (Some k) (Some l) (number_in c) ≡ lacks_number (integer_type k m) (integer_type l n) c
+lacks_content k l m n (whole z) = refl
+lacks_content k l m n _ = refl
+
+lacks_literal : (k : PType) (m : Nullability) (u : TypeTree) (c : Content) → lacks_of (Some k) (integer_in u) (number_in c) ≡ lacks_number (integer_type k m) u c
+lacks_literal k m (integer_type l n) c = lacks_content k l m n c
+lacks_literal k m _ c = refl
+
+lacks_column : (t u : TypeTree) (c : Content) → lacks_of (integer_in t) (integer_in u) (number_in c) ≡ lacks_number t u c
+lacks_column (integer_type k m) u c = lacks_literal k m u c
+lacks_column _ u c = refl
+
+pub lacks_number_is : (t u : TypeTree) (c : Content) (o p : Option PType) (z : Option ℤ) (b : Bool) → o ≡ integer_in t → p ≡ integer_in u → z ≡ number_in c → b ≡ lacks_of o p z → b ≡ lacks_number t u c
+lacks_number_is t u c o p z b h k m e = e ∙ ap (λ o. lacks_of o p z) h ∙ ap (λ p. lacks_of (integer_in t) p z) k ∙ ap (lacks_of (integer_in t) (integer_in u)) m ∙ lacks_column t u c
+
+pub number_there : (k : PType) (z : ℤ) (v : PValue) → IsNumber k z v → false ≡ not (in_range k z)
+number_there k z v n = sym (ap not (in_range_true k z n.2))
+
+pub number_absent : (k : PType) (z : ℤ) → ¬ (InRange k z) → true ≡ not (in_range k z)
+number_absent k z n = sym (ap not (in_range_false k z n))
+
+pub ruleset ranges_of = (number_there, number_absent)
+
+side_at : (c : Content) → side_of (number_in c) ≡ side c
+side_at (whole z) = refl
+side_at _ = refl
+
+pub side_is : (c : Content) (o : Option ℤ) (r : Ordering) → o ≡ number_in c → r ≡ side_of o → r ≡ side c
+side_is c o r h e = e ∙ ap side_of h ∙ side_at c
+
+-- ---- the whole filter
+
+module _ (columns : List TypeTree) (f : Formula) (vs : List Scalar) where
+  pub value_coerced : (r : Result Filter FilterError) → Coerces columns f (AreValid vs) r → IfOk r (λ g. formula g ≡ coerced columns f)
+  value_coerced (Ok g) h = h.0
+  value_coerced (Err e) h = tt
+
+  pub fits_coerced : NullableIsSame → (r : Result Filter FilterError) → Coerces columns f (AreValid vs) r → IfOk r (λ g. FitsColumns columns (formula g))
+  fits_coerced n (Ok g) h = subst (FitsColumns columns) (sym h.0) (coerced_fits n columns f h.1)
+  fits_coerced n (Err e) h = tt
+
+  pub same_coerced : NullableIsSame → (r : Result Filter FilterError) → Coerces columns f (AreValid vs) r → IfOk r (λ g. (row : List Cell) → IsRowOf columns row → truth (formula g) row ≡ content_truth f row)
+  same_coerced n (Ok g) h = λ row i. ap (λ p. truth p row) h.0 ∙ coerced_truth n columns f row i h.1
+  same_coerced n (Err e) h = tt
+
+  pub unchanged_coerced : (r : Result Filter FilterError) → Coerces columns f (AreValid vs) r → FitsColumns columns f → IfOk r (λ g. formula g ≡ f)
+  unchanged_coerced (Ok g) h i = h.0 ∙ coerced_itself columns f i
+  unchanged_coerced (Err e) h i = tt
+
+  pub only_coerced : (r : Result Filter FilterError) → Coerces columns f (AreValid vs) r → OnOk r (AllFit IsCoercible columns (tests f))
+  only_coerced (Ok g) h = h.1
+  only_coerced (Err e) h = tt
+
+  pub refused_coerced : (r : Result Filter FilterError) → Coerces columns f (AreValid vs) r → AreValid vs → IfErr r (λ e. (e ≡ OutOfMemory) ⊎ RefusesFirst IsCoercible columns (tests f) e)
+  refused_coerced (Ok g) h v = tt
+  refused_coerced (Err e) (inl o) v = inl o
+  refused_coerced (Err e) (inr p) v = inr (p v)

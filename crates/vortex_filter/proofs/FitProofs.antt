@@ -1,0 +1,223 @@
+-- A filter that fits is left as it is, and compares contents alone.
+use Rattle.std.proofs.Common.{◌≡◌, ◌≢◌, ◌⊎◌, ◌↔◌, inl, inr, ℕ, Bool, true, false, not, ◌||◌, cond, List, [], ◌∷◌, ◌++◌, map, Option, Some, None, Ordering, refl, sym, subst, ap, ap₂, ◌∙◌}
+use Rattle.std.specs.List.{AllByRecursion, filter, slice_get}
+use Rattle.std.proofs.lemmas.Bool.{false≢true}
+use Rattle.std.proofs.lemmas.Option.{none-some, same_Some}
+use Rattle.vortex_dtype.specs.TypeTree.{TypeTree, Same, as_nullable, binary_type, bool_type, integer_type, utf8_type}
+use Rattle.vortex_dtype.specs.declared.nullability.Nullability.{Nullability}
+use Rattle.vortex_dtype.specs.declared.ptype.PType.{PType}
+use Rattle.vortex_value.specs.Equality.{same_type}
+use Rattle.vortex_value.specs.Laws.HasContent.{HasContent}
+use Rattle.vortex_value.specs.Lemmas.EqualityLaws.{same_type-Decides}
+use Rattle.vortex_value.specs.Order.{order}
+use Rattle.vortex_value.specs.Values.Content.{Content, null, truth as truth_content, whole, text, string}
+use Rattle.vortex_statistics.specs.Cells.{Cell, cell_or_null, is_null_cell, is_null_content}
+use Rattle.vortex_filter.specs.declared.operator.CompareOperator.{CompareOperator}
+use Rattle.vortex_filter.specs.declared.operator.CompareOperator.TheVariants.{Gte, Lte}
+use Rattle.vortex_filter.specs.declared.truth.Truth.{Truth}
+use Rattle.vortex_filter.specs.declared.truth.Truth.TheVariants.{False, Unknown, True}
+use Rattle.vortex_filter.specs.Checking.{AllFit, Demand, FitsColumns, IsOfType, Suits, Test, beginning, comparing, nothing, tests}
+use Rattle.vortex_filter.specs.Coercing.{IsCoercible, by_column, coerced, coerced_cell, coerced_comparison, coerced_range, for_values, kept_cells, lacks, lacks_number, membership_of, side}
+use Rattle.vortex_filter.specs.FitLaws.{FittingComparesContents, IsPlainType, UnknownForNulls, UnknownWithoutOrder}
+use Rattle.vortex_filter.specs.Formula.{Formula, constant, comparison, null_test, membership, range, prefix_test, both, either, negation, cell_at, compare_truth, order_truth, truth}
+use Rattle.vortex_filter.specs.Operators.{holds}
+use Rattle.vortex_filter.specs.Rows.{IsCellOf, IsRowOf, content_truth}
+use Rattle.vortex_filter.specs.Truths.{truth_of}
+use Rattle.vortex_filter.proofs.CoerceLaws.{NullableIsSame, coerced_truth, fits_left, fits_right}
+
+-- ---- literals of the type are left as they are
+
+fitting_cell : (t : TypeTree) (x : Cell) → Same t x.typed → coerced_cell t x ≡ x
+fitting_cell t x s = ap (λ b. cond b x (record { typed = as_nullable t; content = x.content })) ((same_type-Decides t x.typed).1 s)
+
+fitting_there : (t : TypeTree) (x : Cell) → Same t x.typed → lacks t x ≡ false
+fitting_there t x s = ap (λ b. cond b false (lacks_number t x.typed x.content)) ((same_type-Decides t x.typed).1 s)
+
+fitting_cells : (t : TypeTree) (xs : List Cell) → AllByRecursion (IsOfType t) xs → kept_cells t xs ≡ xs
+fitting_cells t [] h = refl
+fitting_cells t (x ∷ xs) h =
+    ap (λ b. map (coerced_cell t) (cond (not b) (x ∷ filter (λ y. not (lacks t y)) xs) (filter (λ y. not (lacks t y)) xs))) (fitting_there t x h.0)
+    ∙ ap₂ (λ y ys. y ∷ ys) (fitting_cell t x h.0) (fitting_cells t xs h.1)
+
+membership_itself : (k : ℕ) (xs : List Cell) → membership_of k xs xs ≡ membership k xs
+membership_itself k [] = refl
+membership_itself k (x ∷ xs) = refl
+
+pub coerced_itself : (columns : List TypeTree) (f : Formula) → FitsColumns columns f → coerced columns f ≡ f
+coerced_itself columns (constant t) h = refl
+coerced_itself columns (comparison k op x) h =
+    let t : TypeTree = h.0.dtype in
+    ap (λ o. by_column o (comparison k op x) (λ t. coerced_comparison t k op x)) h.0.there
+    ∙ ap (λ b. cond b (for_values (holds op (side x.content)) k) (comparison k op (coerced_cell t x))) (fitting_there t x h.0.suits.0)
+    ∙ ap (comparison k op) (fitting_cell t x h.0.suits.0)
+coerced_itself columns (null_test k) h = refl
+coerced_itself columns (membership k xs) h =
+    let t : TypeTree = h.0.dtype in
+    ap (λ o. by_column o (membership k xs) (λ t. membership_of k (kept_cells t xs) xs)) h.0.there ∙ ap (λ ys. membership_of k ys xs) (fitting_cells t xs h.0.suits) ∙ membership_itself k xs
+coerced_itself columns (range k x y) h =
+    let t : TypeTree = h.0.dtype in
+    ap (λ o. by_column o (range k x y) (λ t. coerced_range t k x y)) h.0.there
+    ∙ ap₂ (λ a b. cond (a || b) (both (coerced_comparison t k Gte x) (coerced_comparison t k Lte y)) (range k (coerced_cell t x) (coerced_cell t y))) (fitting_there t x h.0.suits.0) (fitting_there t y h.0.suits.1.0)
+    ∙ ap₂ (range k) (fitting_cell t x h.0.suits.0) (fitting_cell t y h.0.suits.1.0)
+coerced_itself columns (prefix_test k p) h =
+    let t : TypeTree = h.0.dtype in
+    ap (λ o. by_column o (prefix_test k p) (λ t. prefix_test k (coerced_cell t p))) h.0.there ∙ ap (prefix_test k) (fitting_cell t p h.0.suits.1)
+coerced_itself columns (both f g) h = ap₂ both (coerced_itself columns f (fits_left IsOfType columns (tests f) (tests g) h)) (coerced_itself columns g (fits_right IsOfType columns (tests f) (tests g) h))
+coerced_itself columns (either f g) h = ap₂ either (coerced_itself columns f (fits_left IsOfType columns (tests f) (tests g) h)) (coerced_itself columns g (fits_right IsOfType columns (tests f) (tests g) h))
+coerced_itself columns (negation f) h = ap negation (coerced_itself columns f h)
+
+-- ---- what fits can be coerced
+
+suits_more : (d : Demand) (t : TypeTree) → Suits IsOfType d t → Suits IsCoercible d t
+suits_more nothing t h = tt
+suits_more (comparing xs) t h = each xs h
+  where
+    each : (xs : List Cell) → AllByRecursion (IsOfType t) xs → AllByRecursion (IsCoercible t) xs
+    each [] h = tt
+    each (x ∷ xs) h = (inl h.0, each xs h.1)
+suits_more (beginning p) t h = (h.0, inl h.1)
+
+pub fits_more : (columns : List TypeTree) (ts : List Test) → AllFit IsOfType columns ts → AllFit IsCoercible columns ts
+fits_more columns [] h = tt
+fits_more columns (test ∷ ts) h = (record { dtype = h.0.dtype; there = h.0.there; ordered = h.0.ordered; suits = suits_more test.demand h.0.dtype h.0.suits }, fits_more columns ts h.1)
+
+pub compares_contents : NullableIsSame → FittingComparesContents
+compares_contents nullable columns f row h r = sym (ap (λ g. truth g row) (coerced_itself columns f h)) ∙ coerced_truth nullable columns f row r (fits_more columns (tests f) h)
+
+-- ---- when a comparison is Unknown
+
+of_truth : (b : Bool) → truth_of b ≡ Unknown → ⊥
+of_truth true e = cc
+of_truth false e = cc
+
+order_unknown : (op : CompareOperator) (o : Option Ordering) → (order_truth op o ≡ Unknown) ↔ (o ≡ None)
+order_unknown op None = ((λ e. refl), (λ e. refl))
+order_unknown op (Some o) = ((λ e. absurd (of_truth (holds op o) e)), (λ e. cc))
+
+-- by whether the cell or the literal is null, and whether their types are the same
+unknown_by : (op : CompareOperator) (a b c : Bool) (o : Option Ordering) → (a ≡ false → c ≡ true)
+    → (cond (a || b) Unknown (order_truth op (cond c o None)) ≡ Unknown) ↔ ((a ≡ true) ⊎ ((b ≡ true) ⊎ (o ≡ None)))
+unknown_by op true b c o s = ((λ e. inl refl), (λ e. refl))
+unknown_by op false true c o s = ((λ e. inr (inl refl)), (λ e. refl))
+unknown_by op false false true o s = ((λ e. inr (inr ((order_unknown op o).0 e))), back)
+  where
+    back : (false ≡ true) ⊎ ((false ≡ true) ⊎ (o ≡ None)) → order_truth op o ≡ Unknown
+    back (inl e) = absurd (false≢true e)
+    back (inr (inl e)) = absurd (false≢true e)
+    back (inr (inr e)) = (order_unknown op o).1 e
+unknown_by op false false false o s = absurd (false≢true (s refl))
+
+cell_typed : (columns : List TypeTree) (row : List Cell) (k : ℕ) (t : TypeTree) → IsRowOf columns row → slice_get columns k ≡ Some t → is_null_cell (cell_at row k) ≡ false → IsCellOf t (cell_at row k)
+cell_typed columns row k t r e n = by_cell (slice_get row k) refl n
+  where
+    by_cell : (o : Option Cell) → slice_get row k ≡ o → is_null_cell (cell_or_null o) ≡ false → IsCellOf t (cell_or_null o)
+    by_cell None h f = absurd (false≢true (sym f))
+    by_cell (Some c) h f = r k t c e h
+
+pub unknown_without_order : UnknownWithoutOrder
+unknown_without_order columns row k op x h r =
+    unknown_by op (is_null_cell (cell_at row k)) (is_null_cell x) (same_type (cell_at row k).typed x.typed) (order (cell_at row k).content x.content)
+    (λ n. (same_type-Decides (cell_at row k).typed x.typed).1 (sym (cell_typed columns row k h.0.dtype r h.0.there n).same ∙ h.0.suits.0))
+
+-- ---- plain types
+
+-- a value of the plain type
+abbrev IsKind : TypeTree → Content → Type 0
+IsKind (bool_type n) (truth_content b) = Unit {0}
+IsKind (integer_type k n) (whole z) = Unit {0}
+IsKind (utf8_type n) (text bs) = Unit {0}
+IsKind (binary_type n) (string bs) = Unit {0}
+IsKind _ _ = ⊥
+
+bool_kind : (m n : Nullability) (c : Content) → HasContent (bool_type n) c → is_null_content c ≡ false → IsKind (bool_type m) c
+bool_kind m n null h f = absurd (false≢true (sym f))
+bool_kind m n (truth_content b) h f = tt
+bool_kind m n _ h f = absurd h
+
+integer_kind : (j k : PType) (m n : Nullability) (c : Content) → HasContent (integer_type k n) c → is_null_content c ≡ false → IsKind (integer_type j m) c
+integer_kind j k m n null h f = absurd (false≢true (sym f))
+integer_kind j k m n (whole z) h f = tt
+integer_kind j k m n _ h f = absurd h
+
+text_kind : (m n : Nullability) (c : Content) → HasContent (utf8_type n) c → is_null_content c ≡ false → IsKind (utf8_type m) c
+text_kind m n null h f = absurd (false≢true (sym f))
+text_kind m n (text bs) h f = tt
+text_kind m n _ h f = absurd h
+
+string_kind : (m n : Nullability) (c : Content) → HasContent (binary_type n) c → is_null_content c ≡ false → IsKind (binary_type m) c
+string_kind m n null h f = absurd (false≢true (sym f))
+string_kind m n (string bs) h f = tt
+string_kind m n _ h f = absurd h
+
+bool_in : (m : Nullability) (s : TypeTree) (c : Content) → Same (bool_type m) s → HasContent s c → is_null_content c ≡ false → IsKind (bool_type m) c
+bool_in m (bool_type n) c e h f = bool_kind m n c h f
+bool_in m _ c e h f = cc
+
+integer_in : (j : PType) (m : Nullability) (s : TypeTree) (c : Content) → Same (integer_type j m) s → HasContent s c → is_null_content c ≡ false → IsKind (integer_type j m) c
+integer_in j m (integer_type k n) c e h f = integer_kind j k m n c h f
+integer_in j m _ c e h f = cc
+
+text_in : (m : Nullability) (s : TypeTree) (c : Content) → Same (utf8_type m) s → HasContent s c → is_null_content c ≡ false → IsKind (utf8_type m) c
+text_in m (utf8_type n) c e h f = text_kind m n c h f
+text_in m _ c e h f = cc
+
+string_in : (m : Nullability) (s : TypeTree) (c : Content) → Same (binary_type m) s → HasContent s c → is_null_content c ≡ false → IsKind (binary_type m) c
+string_in m (binary_type n) c e h f = string_kind m n c h f
+string_in m _ c e h f = cc
+
+kind_in : (t s : TypeTree) (c : Content) → IsPlainType t → Same t s → HasContent s c → is_null_content c ≡ false → IsKind t c
+kind_in (bool_type m) s c p e h f = bool_in m s c e h f
+kind_in (integer_type j m) s c p e h f = integer_in j m s c e h f
+kind_in (utf8_type m) s c p e h f = text_in m s c e h f
+kind_in (binary_type m) s c p e h f = string_in m s c e h f
+kind_in _ s c p e h f = absurd p
+
+bools_ordered : (m : Nullability) (c d : Content) → IsKind (bool_type m) c → IsKind (bool_type m) d → order c d ≢ None
+bools_ordered m (truth_content a) (truth_content b) h k = λ e. cc
+bools_ordered m (truth_content a) _ h k = absurd k
+bools_ordered m _ d h k = absurd h
+
+integers_ordered : (j : PType) (m : Nullability) (c d : Content) → IsKind (integer_type j m) c → IsKind (integer_type j m) d → order c d ≢ None
+integers_ordered j m (whole a) (whole b) h k = λ e. cc
+integers_ordered j m (whole a) _ h k = absurd k
+integers_ordered j m _ d h k = absurd h
+
+texts_ordered : (m : Nullability) (c d : Content) → IsKind (utf8_type m) c → IsKind (utf8_type m) d → order c d ≢ None
+texts_ordered m (text a) (text b) h k = λ e. cc
+texts_ordered m (text a) _ h k = absurd k
+texts_ordered m _ d h k = absurd h
+
+strings_ordered : (m : Nullability) (c d : Content) → IsKind (binary_type m) c → IsKind (binary_type m) d → order c d ≢ None
+strings_ordered m (string a) (string b) h k = λ e. cc
+strings_ordered m (string a) _ h k = absurd k
+strings_ordered m _ d h k = absurd h
+
+kinds_ordered : (t : TypeTree) (c d : Content) → IsPlainType t → IsKind t c → IsKind t d → order c d ≢ None
+kinds_ordered (bool_type m) c d p h k = bools_ordered m c d h k
+kinds_ordered (integer_type j m) c d p h k = integers_ordered j m c d h k
+kinds_ordered (utf8_type m) c d p h k = texts_ordered m c d h k
+kinds_ordered (binary_type m) c d p h k = strings_ordered m c d h k
+kinds_ordered _ c d p h k = absurd p
+
+-- nothing else is Unknown, if values have an order
+nulls_alone : (a b : Bool) (U N : Type 0) → U ↔ ((a ≡ true) ⊎ ((b ≡ true) ⊎ N)) → (a ≡ false → b ≡ false → ¬ N) → U ↔ ((a ≡ true) ⊎ (b ≡ true))
+nulls_alone true b U N u n = ((λ h. inl refl), (λ h. u.1 (inl refl)))
+nulls_alone false true U N u n = ((λ h. inr refl), (λ h. u.1 (inr (inl refl))))
+nulls_alone false false U N u n = ((λ h. never (u.0 h)), neither)
+  where
+    never : (false ≡ true) ⊎ ((false ≡ true) ⊎ N) → (false ≡ true) ⊎ (false ≡ true)
+    never (inl e) = inl e
+    never (inr (inl e)) = inl e
+    never (inr (inr h)) = absurd (n refl refl h)
+
+    neither : (false ≡ true) ⊎ (false ≡ true) → U
+    neither (inl e) = absurd (false≢true e)
+    neither (inr e) = absurd (false≢true e)
+
+pub unknown_for_nulls : UnknownForNulls
+unknown_for_nulls columns row k op x t h r e p v =
+    let same : h.0.dtype ≡ t = same_Some h.0.dtype t (sym h.0.there ∙ e) in
+    nulls_alone (is_null_cell (cell_at row k)) (is_null_cell x) (truth (comparison k op x) row ≡ Unknown) (order (cell_at row k).content x.content ≡ None) (unknown_without_order columns row k op x h r)
+    (λ m n. kinds_ordered t (cell_at row k).content x.content p
+    (kind_in t (cell_at row k).typed (cell_at row k).content p (cell_typed columns row k t r e m).same (cell_typed columns row k t r e m).has m)
+    (kind_in t x.typed x.content p (subst (λ u. Same u x.typed) same h.0.suits.0) v n))

@@ -1,0 +1,86 @@
+-- What a call answers that coerces a filter or a part of one.
+use Rattle.std.specs.Prelude.{◌≡◌, ◌⊎◌, ℕ, ℤ, pos, Bool, true, false, not, List, [], ◌∷◌, ◌++◌, map, if◌then◌else◌, Option, Some, None, Result, MatchResult, slice_get, Vec}
+use Rattle.std.specs.Borrow.{Bor}
+use Rattle.std.specs.Global.{Global}
+use Rattle.std.specs.List.{AllByRecursion}
+use Rattle.std.specs.Ordering.{int_cmp}
+use Rattle.std.specs.declared.cmp.Ordering.{Ordering}
+use Rattle.std.specs.declared.cmp.Ordering.TheVariants.{Equal}
+use Rattle.vortex_dtype.specs.TypeOf.{type_of}
+use Rattle.vortex_dtype.specs.TypeTree.{TypeTree, integer_type}
+use Rattle.vortex_dtype.specs.declared.ptype.PType.{PType}
+use Rattle.vortex_dtype.specs.declared.types.DType.{DType}
+use Rattle.vortex_pvalue.specs.Numbers.{in_range}
+use Rattle.vortex_value.specs.TypesWithin.{HasNoVariant}
+use Rattle.vortex_value.specs.Values.Content.{Content, whole}
+use Rattle.vortex_value.specs.declared.scalars.Scalar.{Scalar}
+use Rattle.vortex_statistics.specs.Cells.{Cell, cell_of}
+use Rattle.vortex_filter.specs.declared.error.FilterError.{FilterError}
+use Rattle.vortex_filter.specs.declared.error.FilterError.TheVariants.{OutOfMemory, NoColumn, HasVariant, TypesDiffer}
+use Rattle.vortex_filter.specs.declared.filter.Filter.{Filter}
+use Rattle.vortex_filter.specs.Checking.{AllFit, Demand, RefusesFirst, Suits, tests}
+use Rattle.vortex_filter.specs.Coercing.{IsCoercible, coerced, coerced_cell, kept_cells, lacks}
+use Rattle.vortex_filter.specs.Formula.{Formula, formula}
+
+-- a filter, if each literal can be made one of its column's type; else it is out of memory, or, if the literals are valid,
+-- the first test is refused that has one which cannot
+abbrev pub Coerces : List TypeTree → Formula → Type 0 → Result Filter FilterError → Type 0
+Coerces columns f valid r =
+    MatchResult r (λ g. (formula g ≡ coerced columns f) × AllFit IsCoercible columns (tests f)) (λ e. (e ≡ OutOfMemory) ⊎ (valid → RefusesFirst IsCoercible columns (tests f) e))
+
+-- the refusal of a column k whose literals have not the property, if they are valid
+abbrev pub RefusesLiterals : ℕ → Type 0 → Type 0 → FilterError → Type 0
+RefusesLiterals k property valid e = (e ≡ OutOfMemory) ⊎ ((e ≡ TypesDiffer 0 k) × (valid → ¬ property))
+
+-- the same for one test of column k, of the type t
+abbrev pub CoercesTest : TypeTree → Demand → Formula → Type 0 → ℕ → Result Filter FilterError → Type 0
+CoercesTest t d f valid k r = MatchResult r (λ g. (formula g ≡ f) × Suits IsCoercible d t) (RefusesLiterals k (Suits IsCoercible d t) valid)
+
+-- the same for one literal that the type does not lack
+abbrev pub CoercesLiteral : TypeTree → Cell → Type 0 → ℕ → Result Scalar FilterError → Type 0
+CoercesLiteral t x valid k r = MatchResult r (λ y. (cell_of y ≡ coerced_cell t x) × IsCoercible t x) (RefusesLiterals k (IsCoercible t x) valid)
+
+-- the same for several literals, of which those that the type lacks are left out
+abbrev pub CoercesLiterals : TypeTree → List Cell → Type 0 → ℕ → Result (Vec Scalar Global) FilterError → Type 0
+CoercesLiterals t xs valid k r = MatchResult r (λ ys. (map cell_of ys.items ≡ kept_cells t xs) × AllByRecursion (IsCoercible t) xs) (RefusesLiterals k (AllByRecursion (IsCoercible t) xs) valid)
+
+-- the cells with one more, unless the type lacks it
+abbrev pub with_cell : TypeTree → Cell → List Cell → List Cell
+with_cell t x ks = if lacks t x then ks else ks ++ coerced_cell t x ∷ []
+
+-- one literal more is kept, unless the type lacks it
+abbrev pub Pushes : TypeTree → Cell → Type 0 → ℕ → List Cell → List Cell → Result (Unit {0}) FilterError → Type 0
+Pushes t x valid k before after r = MatchResult r (λ _. (after ≡ with_cell t x before) × IsCoercible t x) (RefusesLiterals k (IsCoercible t x) valid)
+
+-- the type of a column whose values have an order; else the column is not there, or a variant stands in its type
+abbrev pub GivesOrdered : List TypeTree → ℕ → Result (Bor DType) FilterError → Type 0
+GivesOrdered columns k r =
+    MatchResult r (λ d. (slice_get columns k ≡ Some (type_of d.now)) × HasNoVariant (type_of d.now))
+    (λ e. ((e ≡ NoColumn 0 k) × (slice_get columns k ≡ None)) ⊎ ((t : TypeTree) × (e ≡ HasVariant 0 k) × (slice_get columns k ≡ Some t) × ¬ (HasNoVariant t)))
+
+-- ---- numbers
+
+-- the integer type that it is
+abbrev pub integer_in : TypeTree → Option PType
+integer_in (integer_type k n) = Some k
+integer_in _ = None
+
+-- the number that it is
+abbrev pub number_in : Content → Option ℤ
+number_in (whole z) = Some z
+number_in _ = None
+
+-- whether both are integer types, and the first does not have the number
+abbrev pub lacks_of : Option PType → Option PType → Option ℤ → Bool
+lacks_of (Some k) (Some l) (Some z) = not (in_range k z)
+lacks_of _ _ _ = false
+
+-- how 0 stands to the number, if there is one
+abbrev pub side_of : Option ℤ → Ordering
+side_of None = Equal
+side_of (Some z) = int_cmp (pos 0) z
+
+-- whether none of several was kept
+abbrev pub all_left_out : List Cell → List Cell → Bool
+all_left_out [] (x ∷ xs) = true
+all_left_out _ _ = false

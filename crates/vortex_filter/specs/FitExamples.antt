@@ -1,0 +1,98 @@
+-- Worked cases of what fits the columns, of casts to their types, and of what is left on a zone, each a theorem.
+use Rattle.std.specs.Prelude.{◌≡◌, ℕ, pos, negsuc, true, false, [], ◌∷◌, Some, None, refl}
+use Rattle.vortex_dtype.specs.TypeTree.{TypeTree, integer_type, utf8_type}
+use Rattle.vortex_dtype.specs.declared.nullability.Nullability.TheVariants.{NonNullable, Nullable}
+use Rattle.vortex_dtype.specs.declared.ptype.PType.TheVariants.{I16, I64, U8}
+use Rattle.vortex_value.specs.Values.Content.{null, text, whole}
+use Rattle.vortex_statistics.specs.Cells.{Cell}
+use Rattle.vortex_statistics.specs.Statistics.{Known}
+use Rattle.vortex_filter.specs.declared.operator.CompareOperator.TheVariants.{Eq, Gt, Gte, Lt, Lte, NotEq}
+use Rattle.vortex_filter.specs.declared.truth.Truth.TheVariants.{False, Unknown, True}
+use Rattle.vortex_filter.specs.Checking.{comparing, nothing, tests}
+use Rattle.vortex_filter.specs.Coercing.{coerced}
+use Rattle.vortex_filter.specs.Formula.{Formula, both, comparison, constant, either, membership, negation, null_test, range}
+use Rattle.vortex_filter.specs.Residual.{residual, size}
+use Rattle.vortex_filter.specs.Rows.{content_truth}
+
+-- an i64 literal, and an i16 literal as a cast makes it
+abbrev long : ℕ → Cell
+long n = record { typed = integer_type I64 NonNullable; content = whole (pos n) }
+
+abbrev short : ℕ → Cell
+short n = record { typed = integer_type I16 Nullable; content = whole (pos n) }
+
+abbrev no_short : Cell
+no_short = record { typed = integer_type I16 Nullable; content = null }
+
+-- tests are counted in reading order: constants are none
+first_and_second : tests (both (comparison 0 Eq (long 1)) (negation (either (constant True) (null_test 2)))) ≡ record { column = 0; demand = comparing (long 1 ∷ []) } ∷ record { column = 2; demand = nothing } ∷ []
+first_and_second = refl
+
+-- ---- casts
+
+abbrev one_short : Formula → Formula
+one_short = coerced (integer_type I16 NonNullable ∷ [])
+
+number_cast : one_short (comparison 0 Lt (long 5)) ≡ comparison 0 Lt (short 5)
+number_cast = refl
+
+-- an i16 has only values below 100000, and is never equal to it
+below_all : one_short (comparison 0 Lt (long 100000)) ≡ either (negation (null_test 0)) (constant Unknown)
+below_all = refl
+
+equal_to_none : one_short (comparison 0 Eq (long 100000)) ≡ both (null_test 0) (constant Unknown)
+equal_to_none = refl
+
+-- a u8 has only values above -1
+above_all : coerced (integer_type U8 Nullable ∷ []) (comparison 0 Gt (record { typed = integer_type I64 NonNullable; content = whole (negsuc 0) })) ≡ either (negation (null_test 0)) (constant Unknown)
+above_all = refl
+
+-- what the type lacks is left out, unless nothing is left
+one_left : one_short (membership 0 (long 1 ∷ long 100000 ∷ [])) ≡ membership 0 (short 1 ∷ [])
+one_left = refl
+
+none_left : one_short (membership 0 (long 100000 ∷ [])) ≡ both (null_test 0) (constant Unknown)
+none_left = refl
+
+of_none : one_short (membership 0 []) ≡ membership 0 []
+of_none = refl
+
+-- a range with an end that the type lacks is two comparisons
+one_end : one_short (range 0 (long 1) (long 100000)) ≡ both (comparison 0 Gte (short 1)) (either (negation (null_test 0)) (constant Unknown))
+one_end = refl
+
+-- by contents an i16 compares with an i64, and a null with nothing
+by_contents : content_truth (comparison 0 Lt (long 100000)) (short 7 ∷ []) ≡ True
+by_contents = refl
+
+null_by_contents : content_truth (comparison 0 Lt (long 100000)) (no_short ∷ []) ≡ Unknown
+null_by_contents = refl
+
+-- ---- what is left on a zone
+
+-- three values from 2 to 5
+abbrev from_two_to_five : Known
+from_two_to_five = record { row_count = 3; null_count = Some 0; lower = Some (record { value = short 2; is_exact = true }); upper = Some (record { value = short 5; is_exact = true }) }
+
+abbrev some_null : Known
+some_null = record { row_count = 3; null_count = Some 1; lower = Some (record { value = short 2; is_exact = true }); upper = Some (record { value = short 5; is_exact = true }) }
+
+true_left_out : residual (from_two_to_five ∷ from_two_to_five ∷ []) (both (comparison 0 Gte (short 1)) (comparison 1 Eq (short 4))) ≡ comparison 1 Eq (short 4)
+true_left_out = refl
+
+false_left_out : residual (from_two_to_five ∷ from_two_to_five ∷ []) (either (comparison 0 Gt (short 5)) (comparison 1 Eq (short 4))) ≡ comparison 1 Eq (short 4)
+false_left_out = refl
+
+all_match : residual (from_two_to_five ∷ []) (negation (comparison 0 Gt (short 5))) ≡ constant True
+all_match = refl
+
+-- with a null among the values the comparison can be Unknown, and stays
+null_keeps : residual (some_null ∷ []) (comparison 0 Gte (short 1)) ≡ comparison 0 Gte (short 1)
+null_keeps = refl
+
+-- with a null as literal it is Unknown, whatever the cells are
+null_literal : residual (some_null ∷ []) (comparison 0 Eq no_short) ≡ constant Unknown
+null_literal = refl
+
+nodes_and_literals : size (both (comparison 0 Gte (short 1)) (membership 1 (short 1 ∷ short 2 ∷ []))) ≡ 6
+nodes_and_literals = refl

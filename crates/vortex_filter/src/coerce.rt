@@ -1,0 +1,562 @@
+//! A filter with its literals cast to the types of the columns.
+
+ghost use Rattle.std.specs.Prelude.{◌≡◌, ◌≢◌, ◌⊎◌, ◌↔◌, ◌∷◌, ◌++◌, [], false, not, ◌||◌, IfErr, IfOk, IsTrue, List, MatchResult, OnOk, map};
+ghost use Rattle.vortex_filter.specs.Coerces.{Coerces, CoercesLiteral, CoercesLiterals, CoercesTest, GivesOrdered, Pushes, all_left_out, integer_in, lacks_of, number_in, side_of};
+ghost use Rattle.vortex_filter.specs.Coercing.{IsCoercible, coerced, coerced_comparison, coerced_cell, coerced_range, for_values, kept_cells, lacks, lacks_number, membership_of, side};
+ghost use Rattle.vortex_filter.specs.Checking.{AllFit, beginning, comparing};
+ghost use Rattle.vortex_filter.specs.FilterLiterals.{AreValid, literals_of};
+ghost use Rattle.vortex_filter.specs.Makes.{Makes};
+ghost use Rattle.vortex_filter.specs.Rows.{IsRowOf, content_truth};
+ghost use Rattle.vortex_filter.specs.Words.{Cell, FitsColumns, IsValid, OutOfMemory, RefusesFirst, as_nullable, cell_of, comparison, formula, in_range, membership, null_test, prefix_test, range, same_type, scalar_content, scalar_type, tests, truth, type_of};
+
+use crate::check::{behind, holds_strings, is_of_type, type_at};
+use crate::copies::{conjoin, copy_scalar, disjoin, negate};
+use crate::error::FilterError;
+use crate::filter::Filter;
+use crate::operator::CompareOperator;
+use crate::truth::Truth;
+use crate::variants::has_variant;
+use std::alloc::Global;
+use std::cmp::Ordering;
+use vortex_dtype::laws::nullable_is_the_same;
+use vortex_dtype::{DType, PType, VortexError};
+use vortex_pvalue::PValue;
+use vortex_value::{Scalar, ScalarValue};
+
+impl Filter {
+    /// The filter with each literal cast to the type of its column, made nullable. A literal that is of
+    /// the type up to nullability is copied as it is.
+    ///
+    /// A test with an integer that the column's integer type lacks becomes what it is: the same for each
+    /// value of the column, and Unknown for a null. From an `In` such literals are left out. Of rows
+    /// whose cells are of the columns' types the result says what the filter says by contents alone.
+    ///
+    /// It is refused for the first test, in reading order, with a literal that cannot be cast, or whose
+    /// column is not there or has values without an order. A literal that is not valid for its own type
+    /// counts as one that cannot be cast. `OutOfMemory` may come in place of each answer. It borrows
+    /// the filter: casts are new scalars anyway, and so nothing is lost if it is refused. A filter that
+    /// passes `check` is copied as it is.
+    pub fn coerce(&self, alloc: Global, columns: &[DType]) -> Result<Filter, FilterError>
+        ensures value { IfOk result (λ made.
+            formula made ≡ coerced (map type_of columns.now) (formula self.now)) }
+        ensures fits { IfOk result (λ made.
+            FitsColumns (map type_of columns.now) (formula made)) }
+        ensures same { IfOk result (λ made. (row : List Cell)
+            → IsRowOf (map type_of columns.now) row
+            → truth (formula made) row ≡ content_truth (formula self.now) row) }
+        ensures unchanged { FitsColumns (map type_of columns.now) (formula self.now)
+            → IfOk result (λ made. formula made ≡ formula self.now) }
+        ensures only { OnOk result
+            (AllFit IsCoercible (map type_of columns.now) (tests (formula self.now))) }
+        ensures refused { AreValid (literals_of self.now) → IfErr result (λ e. (e ≡ OutOfMemory)
+            ⊎ RefusesFirst IsCoercible (map type_of columns.now) (tests (formula self.now)) e) }
+    {
+        nullable_is_the_same();
+        coerce_filter(alloc, self, columns)
+    }
+}
+
+#[tactic(auto, using(crate::proofs::CoerceSteps::shown))]
+fn coerce_filter(alloc: Global, filter: &Filter, columns: &[DType]) -> Result<Filter, FilterError>
+    ensures { Coerces (map type_of columns.now) (formula filter.now)
+        (AreValid (literals_of filter.now)) result }
+{
+    match filter {
+        Filter::Constant(truth) => Ok(Filter::Constant(*truth)),
+        Filter::Compare {
+            column,
+            operator,
+            literal,
+        } => coerce_comparison(alloc, *column, *operator, literal, columns),
+        Filter::IsNull { column } => coerce_null_test(*column, columns),
+        Filter::In { column, literals } => coerce_membership(alloc, *column, literals, columns),
+        Filter::Between {
+            column,
+            lower,
+            upper,
+        } => coerce_range(alloc, *column, lower, upper, columns),
+        Filter::StartsWith { column, prefix } => coerce_prefix(alloc, *column, prefix, columns),
+        Filter::And(left, right) => {
+            let first = coerce_filter(alloc, left, columns);
+            let second = behind(left, coerce_filter(alloc, right, columns));
+            conjoin(alloc, first, second)
+        }
+        Filter::Or(left, right) => {
+            let first = coerce_filter(alloc, left, columns);
+            let second = behind(left, coerce_filter(alloc, right, columns));
+            disjoin(alloc, first, second)
+        }
+        Filter::Not(inner) => negate(alloc, coerce_filter(alloc, inner, columns)),
+    }
+}
+
+// ---- tests
+
+#[tactic(auto, using(crate::proofs::CoerceSteps::columns))]
+fn coerce_null_test(column: usize, columns: &[DType]) -> Result<Filter, FilterError>
+    ensures { Coerces (map type_of columns.now) (null_test column) (AreValid []) result }
+{
+    match type_at(column, columns) {
+        Some(_) => Ok(Filter::IsNull { column }),
+        None => Err(FilterError::NoColumn { test: 0, column }),
+    }
+}
+
+#[tactic(auto, using(crate::proofs::CoerceSteps::columns))]
+fn coerce_comparison(
+    alloc: Global,
+    column: usize,
+    operator: CompareOperator,
+    literal: &Scalar,
+    columns: &[DType],
+) -> Result<Filter, FilterError>
+    ensures { Coerces (map type_of columns.now)
+        (comparison column operator (cell_of literal.now)) (AreValid (literal.now ∷ [])) result }
+{
+    match ordered_type(column, columns) {
+        Ok(dtype) => comparison_in(alloc, dtype, column, operator, literal),
+        Err(cause) => Err(cause),
+    }
+}
+
+#[tactic(auto, using(crate::proofs::CoerceSteps::columns))]
+fn coerce_membership(
+    alloc: Global,
+    column: usize,
+    literals: &[Scalar],
+    columns: &[DType],
+) -> Result<Filter, FilterError>
+    ensures { Coerces (map type_of columns.now)
+        (membership column (map cell_of literals.now)) (AreValid literals.now) result }
+{
+    match ordered_type(column, columns) {
+        Ok(dtype) => membership_in(alloc, dtype, column, literals),
+        Err(cause) => Err(cause),
+    }
+}
+
+#[tactic(auto, using(crate::proofs::CoerceSteps::columns))]
+fn coerce_range(
+    alloc: Global,
+    column: usize,
+    lower: &Scalar,
+    upper: &Scalar,
+    columns: &[DType],
+) -> Result<Filter, FilterError>
+    ensures { Coerces (map type_of columns.now)
+        (range column (cell_of lower.now) (cell_of upper.now))
+        (AreValid (lower.now ∷ upper.now ∷ [])) result }
+{
+    match ordered_type(column, columns) {
+        Ok(dtype) => range_in(alloc, dtype, column, lower, upper),
+        Err(cause) => Err(cause),
+    }
+}
+
+#[tactic(auto, using(crate::proofs::CoerceSteps::columns))]
+fn coerce_prefix(
+    alloc: Global,
+    column: usize,
+    prefix: &Scalar,
+    columns: &[DType],
+) -> Result<Filter, FilterError>
+    ensures { Coerces (map type_of columns.now)
+        (prefix_test column (cell_of prefix.now)) (AreValid (prefix.now ∷ [])) result }
+{
+    match ordered_type(column, columns) {
+        Ok(dtype) => prefix_in(alloc, dtype, column, prefix),
+        Err(cause) => Err(cause),
+    }
+}
+
+/// The type of a column whose values have an order.
+#[tactic(auto, using(crate::proofs::CoerceSteps::variants))]
+fn ordered_type(column: usize, columns: &[DType]) -> Result<&DType, FilterError>
+    ensures { GivesOrdered (map type_of columns.now) column result }
+{
+    let Some(dtype) = type_at(column, columns) else {
+        return Err(FilterError::NoColumn { test: 0, column });
+    };
+    if has_variant(dtype) {
+        return Err(FilterError::HasVariant { test: 0, column });
+    }
+    Ok(dtype)
+}
+
+// ---- tests of a column of a type
+
+#[tactic(auto, using(crate::proofs::CoerceSteps::comparisons))]
+fn comparison_in(
+    alloc: Global,
+    dtype: &DType,
+    column: usize,
+    operator: CompareOperator,
+    literal: &Scalar,
+) -> Result<Filter, FilterError>
+    ensures { CoercesTest (type_of dtype.now) (comparing (cell_of literal.now ∷ []))
+        (coerced_comparison (type_of dtype.now) column operator (cell_of literal.now))
+        (AreValid (literal.now ∷ [])) column result }
+{
+    if lacks(dtype, literal) {
+        return for_values(alloc, operator.holds(side(literal)), column);
+    }
+    match cast_literal(alloc, dtype, column, literal) {
+        Ok(literal) => Ok(Filter::Compare {
+            column,
+            operator,
+            literal,
+        }),
+        Err(cause) => Err(cause),
+    }
+}
+
+#[tactic(auto, using(crate::proofs::CoerceSteps::memberships))]
+fn membership_in(
+    alloc: Global,
+    dtype: &DType,
+    column: usize,
+    literals: &[Scalar],
+) -> Result<Filter, FilterError>
+    ensures { CoercesTest (type_of dtype.now) (comparing (map cell_of literals.now))
+        (membership_of column (kept_cells (type_of dtype.now) (map cell_of literals.now)) (map cell_of literals.now))
+        (AreValid literals.now) column result }
+{
+    match cast_literals(alloc, dtype, column, literals) {
+        Ok(kept) => {
+            if are_all_left_out(&kept, literals) {
+                drop(kept);
+                return for_values(alloc, false, column);
+            }
+            Ok(Filter::In {
+                column,
+                literals: kept,
+            })
+        }
+        Err(cause) => Err(cause),
+    }
+}
+
+/// Whether none of several literals was kept.
+fn are_all_left_out(kept: &[Scalar], literals: &[Scalar]) -> bool
+    ensures { result ≡ all_left_out (map cell_of kept.now) (map cell_of literals.now) }
+{
+    kept.is_empty() && !literals.is_empty()
+}
+
+#[tactic(auto, using(crate::proofs::CoerceSteps::ranges))]
+fn range_in(
+    alloc: Global,
+    dtype: &DType,
+    column: usize,
+    lower: &Scalar,
+    upper: &Scalar,
+) -> Result<Filter, FilterError>
+    ensures { CoercesTest (type_of dtype.now)
+        (comparing (cell_of lower.now ∷ cell_of upper.now ∷ []))
+        (coerced_range (type_of dtype.now) column (cell_of lower.now) (cell_of upper.now))
+        (AreValid (lower.now ∷ upper.now ∷ [])) column result }
+{
+    if lacks_an_end(dtype, lower, upper) {
+        let from = comparison_in(alloc, dtype, column, CompareOperator::Gte, lower);
+        let to = comparison_in(alloc, dtype, column, CompareOperator::Lte, upper);
+        return conjoin(alloc, from, to);
+    }
+    cast_range(alloc, dtype, column, lower, upper)
+}
+
+/// Whether the type lacks an end of a range.
+fn lacks_an_end(dtype: &DType, lower: &Scalar, upper: &Scalar) -> bool
+    ensures { result ≡ (lacks (type_of dtype.now) (cell_of lower.now)
+        || lacks (type_of dtype.now) (cell_of upper.now)) }
+{
+    lacks(dtype, lower) || lacks(dtype, upper)
+}
+
+/// The range between two literals that the type does not lack.
+#[tactic(auto, using(crate::proofs::CoerceSteps::ranges))]
+fn cast_range(
+    alloc: Global,
+    dtype: &DType,
+    column: usize,
+    lower: &Scalar,
+    upper: &Scalar,
+) -> Result<Filter, FilterError>
+    requires { (lacks (type_of dtype.now) (cell_of lower.now)
+        || lacks (type_of dtype.now) (cell_of upper.now)) ≡ false }
+    ensures { CoercesTest (type_of dtype.now)
+        (comparing (cell_of lower.now ∷ cell_of upper.now ∷ []))
+        (range column (coerced_cell (type_of dtype.now) (cell_of lower.now)) (coerced_cell (type_of dtype.now) (cell_of upper.now)))
+        (AreValid (lower.now ∷ upper.now ∷ [])) column result }
+{
+    match cast_literal(alloc, dtype, column, lower) {
+        Ok(lower) => match cast_literal(alloc, dtype, column, upper) {
+            Ok(upper) => Ok(Filter::Between {
+                column,
+                lower,
+                upper,
+            }),
+            Err(cause) => {
+                drop(lower);
+                Err(cause)
+            }
+        },
+        Err(cause) => Err(cause),
+    }
+}
+
+#[tactic(auto, using(crate::proofs::CoerceSteps::prefixes))]
+fn prefix_in(
+    alloc: Global,
+    dtype: &DType,
+    column: usize,
+    prefix: &Scalar,
+) -> Result<Filter, FilterError>
+    ensures { CoercesTest (type_of dtype.now) (beginning (cell_of prefix.now))
+        (prefix_test column (coerced_cell (type_of dtype.now) (cell_of prefix.now)))
+        (AreValid (prefix.now ∷ [])) column result }
+{
+    if holds_strings(dtype) {
+        return match cast_literal(alloc, dtype, column, prefix) {
+            Ok(prefix) => Ok(Filter::StartsWith { column, prefix }),
+            Err(cause) => Err(cause),
+        };
+    }
+    Err(FilterError::TypesDiffer { test: 0, column })
+}
+
+/// The same for each value of the column, and Unknown for a null.
+fn for_values(alloc: Global, holds: bool, column: usize) -> Result<Filter, FilterError>
+    ensures { Makes (for_values holds column) result }
+{
+    let is_null = Ok(Filter::IsNull { column });
+    let unknown = Ok(Filter::Constant(Truth::Unknown));
+    if holds {
+        disjoin(alloc, negate(alloc, is_null), unknown)
+    } else {
+        conjoin(alloc, is_null, unknown)
+    }
+}
+
+// ---- literals
+
+/// The literals that the type does not lack, each as one of the type.
+fn cast_literals(
+    alloc: Global,
+    dtype: &DType,
+    column: usize,
+    literals: &[Scalar],
+) -> Result<Vec<Scalar>, FilterError>
+    ensures { CoercesLiterals (type_of dtype.now) (map cell_of literals.now)
+        (AreValid literals.now) column result }
+{
+    let mut kept = Vec::with_capacity(alloc, literals.len())?;
+    for literal in literals {
+        push_cast(alloc, dtype, column, literal, &mut kept)?;
+    }
+    Ok(kept)
+}
+
+/// Appends a literal as one of the type, unless the type lacks it.
+#[tactic(auto, using(crate::proofs::CoerceSteps::pushes))]
+fn push_cast(
+    alloc: Global,
+    dtype: &DType,
+    column: usize,
+    literal: &Scalar,
+    kept: &mut Vec<Scalar>,
+) -> Result<(), FilterError>
+    ensures { Pushes (type_of dtype.now) (cell_of literal.now) (IsValid literal.now) column
+        (map cell_of kept.old.items) (map cell_of kept.new.items) result }
+{
+    if lacks(dtype, literal) {
+        return Ok(());
+    }
+    match cast_literal(alloc, dtype, column, literal) {
+        Ok(made) => push(made, kept),
+        Err(cause) => Err(cause),
+    }
+}
+
+fn push(made: Scalar, kept: &mut Vec<Scalar>) -> Result<(), FilterError>
+    ensures { MatchResult result
+        (λ _. map cell_of kept.new.items ≡ map cell_of kept.old.items ++ cell_of made ∷ [])
+        (λ e. e ≡ OutOfMemory) }
+{
+    match kept.push(made) {
+        Ok(()) => Ok(()),
+        Err(refused) => {
+            drop(refused);
+            Err(FilterError::OutOfMemory)
+        }
+    }
+}
+
+/// A literal as one of the type: a copy if it is of the type up to nullability, and else its cast.
+#[tactic(auto, using(crate::proofs::CoerceSteps::literals))]
+fn cast_literal(
+    alloc: Global,
+    dtype: &DType,
+    column: usize,
+    literal: &Scalar,
+) -> Result<Scalar, FilterError>
+    requires { lacks (type_of dtype.now) (cell_of literal.now) ≡ false }
+    ensures { CoercesLiteral (type_of dtype.now) (cell_of literal.now)
+        (IsValid literal.now) column result }
+{
+    if is_of_type(literal, dtype) {
+        return copy_scalar(alloc, literal);
+    }
+    if is_valid(literal) {
+        return cast_valid(alloc, dtype, column, literal);
+    }
+    Err(FilterError::TypesDiffer { test: 0, column })
+}
+
+/// The cast of a valid literal to the type, made nullable.
+#[tactic(auto, using(crate::proofs::CoerceSteps::literals))]
+fn cast_valid(
+    alloc: Global,
+    dtype: &DType,
+    column: usize,
+    literal: &Scalar,
+) -> Result<Scalar, FilterError>
+    requires valid { IsValid literal.now }
+    requires other { same_type (type_of dtype.now) (scalar_type literal.now) ≡ false }
+    requires has { lacks (type_of dtype.now) (cell_of literal.now) ≡ false }
+    ensures { CoercesLiteral (type_of dtype.now) (cell_of literal.now)
+        (IsValid literal.now) column result }
+{
+    let target = match nullable(alloc, dtype) {
+        Ok(target) => target,
+        Err(cause) => return Err(cause),
+    };
+    match literal.cast(alloc, &target) {
+        Ok(made) => {
+            drop(target);
+            Ok(made)
+        }
+        Err(cause) => {
+            drop(target);
+            Err(refusal(cause, column))
+        }
+    }
+}
+
+/// Whether the scalar is valid for its type.
+fn is_valid(scalar: &Scalar) -> bool
+    ensures { IsTrue result ↔ IsValid scalar.now }
+{
+    Scalar::is_compatible(&scalar.dtype, scalar.value.as_ref())
+}
+
+/// The type, made nullable.
+fn nullable(alloc: Global, dtype: &DType) -> Result<DType, FilterError>
+    ensures { MatchResult result
+        (λ made. type_of made ≡ as_nullable (type_of dtype.now))
+        (λ e. e ≡ OutOfMemory) }
+{
+    match dtype.clone(alloc) {
+        Ok(copy) => Ok(copy.as_nullable()),
+        Err(cause) => {
+            drop(cause);
+            Err(FilterError::OutOfMemory)
+        }
+    }
+}
+
+/// Why a cast was refused.
+fn refusal(cause: VortexError, column: usize) -> FilterError
+    ensures { ((cause ≡ VortexError.OutOfMemory) × (result ≡ OutOfMemory))
+        ⊎ ((cause ≢ VortexError.OutOfMemory) × (result ≡ FilterError.TypesDiffer 0 column)) }
+{
+    match cause {
+        VortexError::OutOfMemory => FilterError::OutOfMemory,
+        other => {
+            drop(other);
+            FilterError::TypesDiffer { test: 0, column }
+        }
+    }
+}
+
+// ---- numbers that a type lacks
+
+/// Whether the literal is an integer of another type than the column's, which does not have it.
+#[tactic(auto, using(crate::proofs::CoerceSteps::lacking))]
+fn lacks(dtype: &DType, literal: &Scalar) -> bool
+    ensures { result ≡ lacks (type_of dtype.now) (cell_of literal.now) }
+{
+    if is_of_type(literal, dtype) {
+        return false;
+    }
+    lacks_number(dtype, literal)
+}
+
+/// Whether both are of integer types, and the column's does not have the number.
+#[tactic(auto, using(crate::proofs::CoerceSteps::lacks_number_is))]
+fn lacks_number(dtype: &DType, literal: &Scalar) -> bool
+    ensures { result
+        ≡ lacks_number (type_of dtype.now) (scalar_type literal.now) (scalar_content literal.now) }
+{
+    lacks_of(
+        integer_type(dtype),
+        integer_type(&literal.dtype),
+        number(literal),
+    )
+}
+
+fn lacks_of(column: Option<PType>, literal: Option<PType>, number: Option<i128>) -> bool
+    ensures { result ≡ lacks_of column literal number }
+{
+    match (column, literal, number) {
+        (Some(ptype), Some(_), Some(number)) => is_out_of_range(ptype, number),
+        _ => false,
+    }
+}
+
+#[tactic(auto, using(crate::proofs::CoerceSteps::ranges_of))]
+fn is_out_of_range(ptype: PType, number: i128) -> bool
+    ensures { result ≡ not (in_range ptype number) }
+{
+    match PValue::from_whole(number, ptype) {
+        Some(_) => false,
+        None => true,
+    }
+}
+
+/// The integer type that it is, if it is one.
+#[tactic(auto, using(crate::proofs::VariantSteps::shown))]
+fn integer_type(dtype: &DType) -> Option<PType>
+    ensures { result ≡ integer_in (type_of dtype.now) }
+{
+    match dtype {
+        DType::Primitive(ptype, _) => Some(*ptype),
+        _ => None,
+    }
+}
+
+/// The number that a scalar is, if it is one.
+fn number(scalar: &Scalar) -> Option<i128>
+    ensures { result ≡ number_in (scalar_content scalar.now) }
+{
+    match scalar.value() {
+        Some(ScalarValue::Primitive(number)) => Some(number.whole()),
+        _ => None,
+    }
+}
+
+/// How each number of a type stands to a literal that the type lacks: as 0 does.
+#[tactic(auto, using(crate::proofs::CoerceSteps::side_is))]
+fn side(literal: &Scalar) -> Ordering
+    ensures { result ≡ side (scalar_content literal.now) }
+{
+    side_of(number(literal))
+}
+
+fn side_of(number: Option<i128>) -> Ordering
+    ensures { result ≡ side_of number }
+{
+    match number {
+        Some(number) => 0i128.cmp(&number),
+        None => Ordering::Equal,
+    }
+}
