@@ -1,8 +1,7 @@
 -- What is spelled as a token says is read as that token.
-use Rattle.std.proofs.Common.{◌≡◌, ◌≢◌, ◌⊎◌, inl, inr, ℕ, ◌+◌, ◌-◌, ◌<◌, ◌≤◌, ◌^◌, ◌||◌, ◌&&◌, List, [], ◌∷◌, ◌++◌, Option, Some, None, Bool, true, false, not, Result, Ok, Err, append_assoc, append-nil, suc, add-one, nat_lt, length-append, length, get_or, take, drop, map, codes, refl, sym, ap, ◌∙◌, subst, arith, ◌==◌}
-use Rattle.std.specs.Char.{is_ascii_digit, is_ascii_alphabetic, to_ascii_lowercase}
-use Rattle.std.specs.Int.{IsInRange}
-use Rattle.std.specs.List.{AllByRecursion, prefix_len, position_or_len, before_first, after_first, list_all, find, flat_map, AllPass}
+use Rattle.std.proofs.Common.{◌≡◌, ◌⊎◌, inl, inr, ℕ, ◌+◌, ◌<◌, ◌^◌, ◌||◌, ◌&&◌, List, [], ◌∷◌, ◌++◌, Some, None, Bool, true, false, not, Ok, append_assoc, add-one, nat_lt, length-append, length, get_or, take, drop, map, refl, sym, ap, ◌∙◌, arith, ◌==◌}
+use Rattle.std.specs.Char.{is_ascii_digit, to_ascii_lowercase}
+use Rattle.std.specs.List.{AllByRecursion, prefix_len, position_or_len, list_all, find}
 use Rattle.std.specs.Str.{bytes_eq}
 use Rattle.std.specs.Str.Parse.{AllDigits, IsNumeral, digits_value}
 use Rattle.std.proofs.lemmas.Bool.Decides.{nat_tests}
@@ -16,8 +15,8 @@ use Rattle.vortex_filter.specs.declared.operator.CompareOperator.{CompareOperato
 use Rattle.vortex_filter.specs.declared.operator.CompareOperator.TheVariants as operators
 use Rattle.vortex_filter.specs.declared.sql.token.Keyword.{Keyword}
 use Rattle.vortex_filter.specs.declared.sql.token.Keyword.TheVariants as keywords
-use Rattle.vortex_filter.specs.Tokens.{TokenTree, keyword_token, name_token, integer_token, string_token, bytes_token, operator_token, opening, closing, comma, verbatim, all_keywords, keyword_text, keyword_named, doubled, quoted, sign_text, is_word, is_word_byte, is_word_start, is_x, name_goes_on, goes_on, IsBareName, IsParameter, IsFront, Spells}
-use Rattle.vortex_filter.specs.Lexing.{bytes_at, integer_at, is_quote, mark_of, other_at, parameter_at, quoted_at, quoted_cut, signed_at, token_at, unquoted_at, with_byte, word_at, word_token}
+use Rattle.vortex_filter.specs.Tokens.{TokenTree, keyword_token, name_token, integer_token, string_token, bytes_token, operator_token, opening, closing, comma, verbatim, all_keywords, keyword_text, keyword_named, doubled, quoted, sign_text, is_word, is_word_byte, is_word_start, is_x, name_goes_on, goes_on, IsBareName, Spells}
+use Rattle.vortex_filter.specs.Lexing.{bytes_at, integer_at, is_quote, mark_of, other_at, parameter_at, signed_at, token_at, unquoted_at, with_byte, word_at, word_token}
 
 -- ---- runs
 

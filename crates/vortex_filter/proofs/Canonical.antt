@@ -1,9 +1,9 @@
 -- Printed tokens are read as themselves.
-use Rattle.std.proofs.Common.{◌≡◌, ◌⊎◌, inl, inr, ℕ, zero, suc, ◌+◌, ◌<◌, ◌^◌, ◌==◌, ◌||◌, ◌&&◌, Bool, true, false, cond, List, [], ◌∷◌, ◌++◌, Ok, length, get_or, drop, map, codes, refl, sym, ap, ◌∙◌, subst, arith, append-nil, length-append, append_assoc}
+use Rattle.std.proofs.Common.{◌≡◌, inl, inr, ℕ, zero, suc, ◌<◌, ◌==◌, ◌||◌, ◌&&◌, Bool, true, false, cond, List, [], ◌∷◌, ◌++◌, Ok, length, get_or, map, refl, sym, subst, arith, append-nil}
 use Rattle.std.specs.Char.{is_ascii_digit, is_ascii_whitespace, to_ascii_lowercase}
 use Rattle.std.specs.Fmt.{decimal}
 use Rattle.std.specs.List.{AllByRecursion, prefix_len}
-use Rattle.std.specs.Str.Parse.{AllDigits, IsNumeral}
+use Rattle.std.specs.Str.Parse.{IsNumeral}
 use Rattle.std.proofs.lemmas.Bool.Decides.{nat_tests}
 use Rattle.std.proofs.lemmas.Fmt.{decimal_is_IsNumeral}
 use Rattle.std.proofs.lemmas.Str.Parse.{digit_from_value}
@@ -12,7 +12,7 @@ use Rattle.hex.proofs.HexLemmas.{decode_of-encode_lower}
 use Rattle.vortex_filter.specs.declared.operator.CompareOperator.TheVariants as operators
 use Rattle.vortex_filter.specs.declared.sql.token.Keyword.{Keyword}
 use Rattle.vortex_filter.specs.declared.sql.token.Keyword.TheVariants as keywords
-use Rattle.vortex_filter.specs.Tokens.{TokenTree, keyword_token, name_token, integer_token, string_token, bytes_token, operator_token, opening, closing, comma, verbatim, canonical, gap, goes_on, is_close_behind, is_joined, is_opening, is_word_byte, is_x, keyword_text, name_goes_on, spelling, AreTokens, IsToken, Spells}
+use Rattle.vortex_filter.specs.Tokens.{TokenTree, keyword_token, name_token, integer_token, string_token, bytes_token, operator_token, opening, closing, comma, verbatim, canonical, gap, goes_on, is_close_behind, is_joined, is_opening, is_word_byte, is_x, keyword_text, spelling, AreTokens, IsToken, Spells}
 use Rattle.vortex_filter.specs.Lexing.{token_at}
 use Rattle.vortex_filter.specs.Texts.{trimmed}
 use Rattle.vortex_filter.proofs.Again.{token_again}

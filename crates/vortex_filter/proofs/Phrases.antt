@@ -1,5 +1,5 @@
 -- The text that is printed part by part is the text of the tokens.
-use Rattle.std.proofs.Common.{◌≡◌, ◌⊎◌, ℕ, ℤ, pos, negsuc, ◌||◌, Bool, true, false, List, [], ◌∷◌, ◌++◌, codes, refl, sym, ap, ◌∙◌, subst, append_assoc, append-nil}
+use Rattle.std.proofs.Common.{◌≡◌, ℕ, pos, negsuc, Bool, true, false, List, [], ◌∷◌, ◌++◌, codes, refl, sym, ap, ◌∙◌, append_assoc, append-nil}
 use Rattle.std.specs.List.{list_any}
 use Rattle.vortex_statistics.specs.Cells.{Cell}
 use Rattle.vortex_value.specs.Values.Content.{Content, null, truth, whole, text, string, sequence, tagged, typed}
@@ -10,9 +10,9 @@ use Rattle.vortex_filter.specs.declared.sql.token.Keyword.{Keyword}
 use Rattle.vortex_filter.specs.declared.sql.token.Keyword.TheVariants as keywords
 use Rattle.vortex_filter.specs.declared.truth.Truth.TheVariants as truths
 use Rattle.vortex_filter.specs.Formula.{Formula, constant, comparison, null_test, membership, range, prefix_test, both, either, negation}
-use Rattle.vortex_filter.specs.Tokens.{TokenTree, keyword_token, name_token, integer_token, string_token, bytes_token, operator_token, opening, closing, comma, verbatim, canonical, gap, is_close_behind, is_joined, is_opening, is_starts_with, keyword_text, quoted, spelling}
+use Rattle.vortex_filter.specs.Tokens.{TokenTree, keyword_token, string_token, operator_token, opening, closing, comma, canonical, gap, is_close_behind, is_opening, is_starts_with, keyword_text, quoted, spelling}
 use Rattle.vortex_filter.specs.Printing.{column_token, comparison_tokens, content_token, escape_tokens, grouped, groups_and, groups_or, is_special, like_tokens, literal_token, literal_tokens, membership_tokens, null_test_tokens, prefix_pattern, prefix_tokens, range_tokens, starts_with_tokens, tokens_at}
-use Rattle.vortex_filter.specs.Pieces.{comparison_text, content_text, group_text, like_text, literal_text, literals_text, membership_text, null_test_text, prefix_text, range_text, starts_with_text, text_at}
+use Rattle.vortex_filter.specs.Pieces.{comparison_text, group_text, like_text, literal_text, literals_text, membership_text, null_test_text, prefix_text, range_text, starts_with_text, text_at}
 
 -- ---- two lists, one behind the other
 

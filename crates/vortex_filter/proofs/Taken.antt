@@ -1,8 +1,8 @@
 -- What is read is spelled as the token says, and ends where it has to.
-use Rattle.std.proofs.Common.{◌≡◌, ◌≢◌, ◌⊎◌, inl, inr, ℕ, zero, suc, ◌+◌, ◌-◌, ◌<◌, ◌≤◌, ◌^◌, ◌||◌, ◌&&◌, List, [], ◌∷◌, ◌++◌, Option, Some, None, Bool, true, false, not, cond, Result, Ok, Err, append_assoc, add-one, add-zero, nat_lt, length-append, length, get_or, take, drop, map, codes, refl, sym, ap, ◌∙◌, subst, arith, ◌==◌, ⊎_elim, length-take-le, get_or-take, get_or-drop, take-append-drop, ltb-true, eqb-true, false-eqb}
+use Rattle.std.proofs.Common.{◌≡◌, ◌≢◌, ◌⊎◌, inl, inr, ℕ, zero, suc, ◌+◌, ◌<◌, ◌≤◌, ◌^◌, ◌||◌, ◌&&◌, List, [], ◌∷◌, ◌++◌, Option, Some, None, Bool, true, false, not, cond, Result, Ok, Err, append_assoc, add-one, add-zero, nat_lt, length-append, length, get_or, take, drop, map, refl, sym, ap, ◌∙◌, subst, arith, ◌==◌, ⊎_elim, length-take-le, get_or-drop, take-append-drop, ltb-true}
 use Rattle.std.proofs.str.Laws.{order}
 use Rattle.std.specs.Char.{digit_value, is_ascii_digit, to_ascii_lowercase}
-use Rattle.std.specs.List.{prefix_len, position_or_len, before_first, after_first, list_all, find}
+use Rattle.std.specs.List.{prefix_len, position_or_len, list_all, find}
 use Rattle.std.specs.Str.{bytes_eq}
 use Rattle.std.proofs.lemmas.Slice.Eq.{bytes_eq-Decides}
 use Rattle.std.specs.Str.Parse.{AllDigits, IsNumeral, digits_value}
@@ -13,10 +13,9 @@ use Rattle.hex.specs.Hex.{decode_of}
 use Rattle.hex.specs.declared.error.FromHexError.{FromHexError}
 use Rattle.vortex_filter.specs.declared.operator.CompareOperator.TheVariants as operators
 use Rattle.vortex_filter.specs.declared.sql.lex.Fault.{Fault}
-use Rattle.vortex_filter.specs.declared.sql.lex.Fault.TheVariants as faults
 use Rattle.vortex_filter.specs.declared.sql.token.Keyword.{Keyword}
-use Rattle.vortex_filter.specs.Tokens.{TokenTree, keyword_token, name_token, integer_token, string_token, bytes_token, operator_token, opening, closing, comma, doubled, quoted, sign_text, all_keywords, keyword_text, keyword_named, is_word, is_word_byte, is_word_start, is_x, goes_on, name_goes_on, IsFront, Spells}
-use Rattle.vortex_filter.specs.Lexing.{Cut, bytes_at, bytes_cut, cut_after, integer_at, is_quote, mark_of, other_at, parameter_at, quoted_at, quoted_cut, quoted_token, signed_at, token_at, unquoted_at, with_byte, word_at, word_token}
+use Rattle.vortex_filter.specs.Tokens.{TokenTree, name_token, integer_token, bytes_token, operator_token, opening, closing, comma, doubled, quoted, sign_text, all_keywords, keyword_text, keyword_named, is_word, is_word_byte, is_word_start, is_x, goes_on, IsFront, Spells}
+use Rattle.vortex_filter.specs.Lexing.{Cut, bytes_at, bytes_cut, cut_after, integer_at, is_quote, mark_of, other_at, parameter_at, quoted_cut, quoted_token, signed_at, token_at, unquoted_at, with_byte, word_at, word_token}
 use Rattle.vortex_filter.proofs.Again.{AllPassing, both_true, hex_text, quoted_text}
 
 -- the text begins with the token, which takes at least a byte, and goes on so

@@ -9,7 +9,7 @@ use Rattle.vortex_filter.specs.declared.sql.print.Level.{Level}
 use Rattle.vortex_filter.specs.declared.sql.print.Level.TheVariants as levels
 use Rattle.vortex_filter.specs.Formula.{Formula, constant, comparison, null_test, membership, range, prefix_test, both, either, negation}
 use Rattle.vortex_filter.specs.Tokens.{keyword_text, operator_text, quoted, spelling}
-use Rattle.vortex_filter.specs.Printing.{column_token, constant_keyword, content_token, groups_and, groups_or, is_special, literal_token, prefix_pattern}
+use Rattle.vortex_filter.specs.Printing.{column_token, constant_keyword, content_token, groups_and, groups_or, is_special, prefix_pattern}
 
 -- a character, twice if it is the quote
 abbrev pub quotable : ℕ → ℕ → List ℕ

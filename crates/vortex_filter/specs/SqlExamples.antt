@@ -1,10 +1,10 @@
 -- Worked cases of SQL text, each a theorem.
-use Rattle.std.specs.Prelude.{◌≡◌, ⊤, ◌++◌, true, false, pos, negsuc, [], ◌∷◌, refl, codes, Ok, Err, None, Some}
+use Rattle.std.specs.Prelude.{◌≡◌, ⊤, true, false, pos, negsuc, [], ◌∷◌, refl, codes, Ok, Err}
 use Rattle.std.specs.Fmt.{digits}
 use Rattle.hex.specs.Hex.{decode_pairs, encode_with}
 use Rattle.vortex_dtype.specs.TypeTree.{null_type}
 use Rattle.vortex_statistics.specs.Cells.{Cell}
-use Rattle.vortex_value.specs.Values.Content.{Content, null, truth, whole, text, string}
+use Rattle.vortex_value.specs.Values.Content.{Content, null, whole, text, string}
 use Rattle.vortex_filter.specs.declared.operator.CompareOperator.TheVariants.{NotEq, Gte, Lt, Eq}
 use Rattle.vortex_filter.specs.declared.sql.lex.Fault.TheVariants.{BadText, NumberTooLong}
 use Rattle.vortex_filter.specs.declared.sql.token.Keyword.TheVariants.{And}
