@@ -25,7 +25,7 @@ pub record AreGathered {T : Type 0} (number : T → ℤ) (cell : ℕ → Option 
   pub least : IsLeastBefore cell from i (number gathered.least)
   pub greatest : IsGreatestBefore cell from i (number gathered.greatest)
 
--- row b has the value x of its cell, which is in this relation to each value before row i
+-- row b has a value, which is in this relation to each value before row i
 pub record IsBestAt (R : List ℕ → List ℕ → Type 0) (cell : ℕ → Option (List ℕ)) (value : ℕ → List ℕ) (from i b : ℕ) : Type 0 where
   pub from' : from ≤ b
   pub before : b < i
