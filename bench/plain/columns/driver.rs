@@ -78,22 +78,26 @@ macro_rules! plain_extremes {
     ($name:ident, $number:ty) => {
         fn $name(bits: Option<&[u8]>, values: &[$number]) -> (u64, Option<($number, $number)>) {
             let mut nulls = 0;
-            let mut extremes: Option<($number, $number)> = None;
-            let mut take = |value: $number| {
-                extremes = Some(match extremes {
-                    None => (value, value),
-                    Some((least, greatest)) => (least.min(value), greatest.max(value)),
-                })
-            };
+            let (mut least, mut greatest) = (<$number>::MAX, <$number>::MIN);
             match bits {
-                None => values.iter().for_each(|value| take(*value)),
+                None => {
+                    for value in values {
+                        least = least.min(*value);
+                        greatest = greatest.max(*value);
+                    }
+                }
                 Some(bits) => {
                     for (row, value) in values.iter().enumerate() {
-                        if is_valid(bits, row) { take(*value) } else { nulls += 1 }
+                        if is_valid(bits, row) {
+                            least = least.min(*value);
+                            greatest = greatest.max(*value);
+                        } else {
+                            nulls += 1;
+                        }
                     }
                 }
             }
-            (nulls, extremes)
+            (nulls, (nulls < values.len() as u64).then_some((least, greatest)))
         }
     };
 }
