@@ -1,4 +1,6 @@
-pub mod Walking
-pub mod RowCuts
 pub mod Cutting
 pub mod Fielding
+pub mod ReadLaws
+pub mod RowCuts
+pub mod Walking
+pub mod WholeLaws

@@ -170,7 +170,7 @@ start_field_inside d c = choose_inside (c == 34) (st.InQuoted, act.Skip) (in_fie
 start_record_inside : (d c : ℕ) → EndsInside (start_record (config_of d) c)
 start_record_inside d c = choose_inside ((c == 13) || (c == 10)) (st.StartRecord, act.Skip) (start_field (config_of d) c) (λ e. absurd cc) (start_field_inside d c)
 
-step_inside : (d : ℕ) (s : State) (c : ℕ) → EndsInside (step (config_of d) s c)
+pub step_inside : (d : ℕ) (s : State) (c : ℕ) → EndsInside (step (config_of d) s c)
 step_inside d st.StartRecord c = start_record_inside d c
 step_inside d st.AfterCr c = choose_inside (c == 10) (st.StartRecord, act.Skip) (start_record (config_of d) c) (λ e. absurd cc) (start_record_inside d c)
 step_inside d st.InComment c = choose_inside (c == 10) (st.StartRecord, act.Skip) (st.InComment, act.Skip) (λ e. absurd cc) (λ e. absurd cc)

@@ -6,7 +6,7 @@
 
 mod delimiter;
 mod fields;
-// pub mod laws;
+pub mod laws;
 mod places;
 mod records;
 
