@@ -1,5 +1,6 @@
 pub mod Rows
 pub mod Records
+pub mod Examples
 pub mod Fields
 pub mod Laws
 pub mod Lemmas

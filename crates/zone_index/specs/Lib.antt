@@ -1,4 +1,5 @@
 pub mod Asking
+pub mod Examples
 pub mod Faults
 pub mod Form
 pub mod FormReading

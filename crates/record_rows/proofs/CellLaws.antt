@@ -1,0 +1,88 @@
+-- Cells of words are cells of fields.
+use Rattle.std.proofs.Common.{◌≡◌, ◌==◌, ◌&&◌, ℕ, ℤ, List, [], Bool, true, false, not, Option, None, Some, Result, Ok, Err, refl, sym, ap, ◌∙◌, subst, length}
+use Rattle.std.specs.Prelude.{IfOk, IsUtf8, MatchBool, MatchOption}
+use Rattle.hex.specs.Hex.{decode_of}
+use Rattle.csv_records.specs.Rows.{Field}
+use Rattle.vortex_dtype.specs.declared.nullability.Nullability.{Nullability}
+use Rattle.vortex_dtype.specs.declared.nullability.Nullability.TheVariants.{NonNullable, Nullable}
+use Rattle.vortex_dtype.specs.declared.ptype.PType.{PType}
+use Rattle.vortex_value.specs.Values.Content.{Content, null}
+use Rattle.vortex_value.specs.Values.Scalars.{IsValid, scalar_content, scalar_type}
+use Rattle.vortex_value.specs.declared.scalars.Scalar.{Scalar}
+use Rattle.record_rows.specs.Cells.{HasNoCell, HasNoValue, IsBinaryCell, IsCell, IsContent, IsIntegerCell, IsTextCell, IsValueCell, Means, column_type, is_null_field, type_by}
+use Rattle.record_rows.specs.Words.{IsIntegerWord}
+use Rattle.record_rows.specs.declared.columns.ColumnType.{ColumnType}
+use Rattle.record_rows.specs.declared.columns.Kind.{Kind}
+use Rattle.record_rows.specs.declared.columns.Kind.TheVariants as kinds
+
+-- ---- words of each kind
+
+abbrev Answers : ColumnType → List ℕ → Option Scalar → Type 0
+Answers column word o = MatchOption o (HasNoValue column word) (IsValueCell column word)
+
+integer_none : (p : PType) (k : Kind) (word : List ℕ) → k ≡ kinds.Integer p → ((z : ℤ) → ¬ (IsIntegerWord p word z)) → (c : Content) → ¬ (Means k word c)
+integer_none p k word e none c = subst (λ (i : Kind). ¬ (Means i word c)) (sym e) (λ h. none h.0 h.1)
+
+pub integer_value : (column : ColumnType) (p : PType) (word : List ℕ) (o : Option Scalar) → column.kind ≡ kinds.Integer p → MatchOption o ((z : ℤ) → ¬ (IsIntegerWord p word z)) (IsIntegerCell p column.nullability word) → Answers column word o
+integer_value column p word None e h = integer_none p column.kind word e h
+integer_value column p word (Some x) e h = record {
+  typed = h.typed ∙ ap (λ (k : Kind). type_by k column.nullability) (sym e);
+  content = subst (λ (k : Kind). Means k word (scalar_content x)) (sym e) (h.number, h.is, h.content);
+  valid = h.valid;
+}
+
+text_none : (k : Kind) (word : List ℕ) → k ≡ kinds.Utf8 → ¬ (IsUtf8 word) → (c : Content) → ¬ (Means k word c)
+text_none k word e none c = subst (λ (i : Kind). ¬ (Means i word c)) (sym e) (λ h. none h.0)
+
+text_one : (column : ColumnType) (word : List ℕ) (o : Option Scalar) → column.kind ≡ kinds.Utf8 → MatchOption o (¬ (IsUtf8 word)) (IsTextCell column.nullability word) → Answers column word o
+text_one column word None e h = text_none column.kind word e h
+text_one column word (Some x) e h = record {
+  typed = h.typed ∙ ap (λ (k : Kind). type_by k column.nullability) (sym e);
+  content = subst (λ (k : Kind). Means k word (scalar_content x)) (sym e) (h.is, h.content);
+  valid = h.valid;
+}
+
+pub text_value : {E : Type 0} (column : ColumnType) (word : List ℕ) (r : Result (Option Scalar) E) → column.kind ≡ kinds.Utf8 → IfOk r (λ o. MatchOption o (¬ (IsUtf8 word)) (IsTextCell column.nullability word)) → IfOk r (Answers column word)
+text_value column word (Ok o) e h = text_one column word o e h
+text_value column word (Err x) e h = tt
+
+binary_none : (k : Kind) (word : List ℕ) → k ≡ kinds.Binary → ((bytes : List ℕ) → ¬ (decode_of word ≡ Ok bytes)) → (c : Content) → ¬ (Means k word c)
+binary_none k word e none c = subst (λ (i : Kind). ¬ (Means i word c)) (sym e) (λ h. none h.0 h.1)
+
+binary_one : (column : ColumnType) (word : List ℕ) (o : Option Scalar) → column.kind ≡ kinds.Binary → MatchOption o ((bytes : List ℕ) → ¬ (decode_of word ≡ Ok bytes)) (IsBinaryCell column.nullability word) → Answers column word o
+binary_one column word None e h = binary_none column.kind word e h
+binary_one column word (Some x) e h = record {
+  typed = h.typed ∙ ap (λ (k : Kind). type_by k column.nullability) (sym e);
+  content = subst (λ (k : Kind). Means k word (scalar_content x)) (sym e) (h.bytes, h.is, h.content);
+  valid = h.valid;
+}
+
+pub binary_value : {E : Type 0} (column : ColumnType) (word : List ℕ) (r : Result (Option Scalar) E) → column.kind ≡ kinds.Binary → IfOk r (λ o. MatchOption o ((bytes : List ℕ) → ¬ (decode_of word ≡ Ok bytes)) (IsBinaryCell column.nullability word)) → IfOk r (Answers column word)
+binary_value column word (Ok o) e h = binary_one column word o e h
+binary_value column word (Err x) e h = tt
+
+-- ---- nulls
+
+pub null_takes : (n : Nullability) (f : Field) → is_null_field n f ≡ true → n ≡ Nullable
+null_takes Nullable f h = refl
+null_takes NonNullable f h = absurd cc
+
+null_content : (column : ColumnType) (f : Field) (c : Content) → is_null_field column.nullability f ≡ true → c ≡ null → IsContent column f c
+null_content column f c e h = rw e h
+
+pub null_cell : (column : ColumnType) (f : Field) (x : Scalar) → is_null_field column.nullability f ≡ true → scalar_type x ≡ column_type column → scalar_content x ≡ null → IsValid x → IsCell column f x
+null_cell column f x e typed content valid = record { typed = typed; content = null_content column f (scalar_content x) e content; valid = valid }
+
+word_content : (column : ColumnType) (f : Field) (c : Content) → is_null_field column.nullability f ≡ false → Means column.kind f.text c → IsContent column f c
+word_content column f c e h = rw e h
+
+content_word : (column : ColumnType) (f : Field) (c : Content) → is_null_field column.nullability f ≡ false → IsContent column f c → Means column.kind f.text c
+content_word column f c e h = subst (λ (b : Bool). MatchBool b (c ≡ null) (Means column.kind f.text c)) e h
+
+word_cell : (column : ColumnType) (f : Field) (o : Option Scalar) → is_null_field column.nullability f ≡ false → Answers column f.text o → MatchOption o (HasNoCell column f) (IsCell column f)
+word_cell column f None e h = λ c is. h c (content_word column f c e is)
+word_cell column f (Some x) e h = record { typed = h.typed; content = word_content column f (scalar_content x) e h.content; valid = h.valid }
+
+pub word_cells : {E : Type 0} (column : ColumnType) (f : Field) (r : Result (Option Scalar) E) → is_null_field column.nullability f ≡ false → IfOk r (Answers column f.text) → IfOk r (λ o. MatchOption o (HasNoCell column f) (IsCell column f))
+word_cells column f (Ok o) e h = word_cell column f o e h
+word_cells column f (Err x) e h = tt

@@ -1,0 +1,6 @@
+-- The fields so far.
+use Rattle.record_rows.proofs.Reading.{Begun}
+use Rattle.record_rows.proofs.rows.read_fields.Given as goal
+
+abbrev pub invariant-loop-place : goal.invariant-loop-place
+invariant-loop-place l = Begun l.delimiter.byte l.columns l.text l.place l.rest l.row.items

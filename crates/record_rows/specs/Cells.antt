@@ -1,0 +1,80 @@
+-- The cell of a field.
+use Rattle.std.specs.Prelude.{◌≡◌, ◌==◌, ◌&&◌, ℕ, ℤ, List, length, Bool, true, false, not, Ok, IsUtf8, MatchBool}
+use Rattle.hex.specs.Hex.{decode_of}
+use Rattle.csv_records.specs.Rows.{Field}
+use Rattle.vortex_dtype.specs.TypeTree.{TypeTree, binary_type, integer_type, utf8_type}
+use Rattle.vortex_dtype.specs.declared.nullability.Nullability.{Nullability}
+use Rattle.vortex_dtype.specs.declared.ptype.PType.{PType}
+use Rattle.vortex_dtype.specs.declared.nullability.Nullability.TheVariants.{NonNullable, Nullable}
+use Rattle.vortex_value.specs.Values.Content.{Content, null, string, text, whole}
+use Rattle.vortex_value.specs.Values.Scalars.{IsValid, scalar_content, scalar_type}
+use Rattle.vortex_value.specs.declared.scalars.Scalar.{Scalar}
+use Rattle.record_rows.specs.Words.{IsIntegerWord}
+use Rattle.record_rows.specs.declared.columns.ColumnType.{ColumnType}
+use Rattle.record_rows.specs.declared.columns.Kind.{Kind}
+use Rattle.record_rows.specs.declared.columns.Kind.TheVariants as kinds
+
+-- the type of the cells of a column
+abbrev pub type_by : Kind → Nullability → TypeTree
+type_by (kinds.Integer ptype) n = integer_type ptype n
+type_by kinds.Utf8 n = utf8_type n
+type_by kinds.Binary n = binary_type n
+
+abbrev pub column_type : ColumnType → TypeTree
+column_type c = type_by c.kind c.nullability
+
+-- whether a field is a null: no byte, and no quotes, where the column takes nulls
+abbrev pub is_null_field : Nullability → Field → Bool
+is_null_field Nullable f = (length f.text == 0) && not f.is_quoted
+is_null_field NonNullable f = false
+
+-- the word means this content
+abbrev pub Means : Kind → List ℕ → Content → Type 0
+Means (kinds.Integer ptype) word c = (z : ℤ) × IsIntegerWord ptype word z × (c ≡ whole z)
+Means kinds.Utf8 word c = IsUtf8 word × (c ≡ text word)
+Means kinds.Binary word c = (bytes : List ℕ) × (decode_of word ≡ Ok bytes) × (c ≡ string bytes)
+
+-- the content of a field
+abbrev pub IsContent : ColumnType → Field → Content → Type 0
+IsContent column f c = MatchBool (is_null_field column.nullability f) (c ≡ null) (Means column.kind f.text c)
+
+-- x is the cell of a field in a column
+pub record IsCell (column : ColumnType) (f : Field) (x : Scalar) : Type 0 where
+  pub typed : scalar_type x ≡ column_type column
+  pub content : IsContent column f (scalar_content x)
+  pub valid : IsValid x
+
+-- the column does not take the field
+abbrev pub HasNoCell : ColumnType → Field → Type 0
+HasNoCell column f = (c : Content) → ¬ (IsContent column f c)
+
+-- x is the cell of a word, which is no null
+pub record IsValueCell (column : ColumnType) (word : List ℕ) (x : Scalar) : Type 0 where
+  pub typed : scalar_type x ≡ column_type column
+  pub content : Means column.kind word (scalar_content x)
+  pub valid : IsValid x
+
+abbrev pub HasNoValue : ColumnType → List ℕ → Type 0
+HasNoValue column word = (c : Content) → ¬ (Means column.kind word c)
+
+-- ---- the cells of each kind
+
+pub record IsIntegerCell (ptype : PType) (n : Nullability) (word : List ℕ) (x : Scalar) : Type 0 where
+  pub typed : scalar_type x ≡ integer_type ptype n
+  pub number : ℤ
+  pub is : IsIntegerWord ptype word number
+  pub content : scalar_content x ≡ whole number
+  pub valid : IsValid x
+
+pub record IsTextCell (n : Nullability) (word : List ℕ) (x : Scalar) : Type 0 where
+  pub typed : scalar_type x ≡ utf8_type n
+  pub is : IsUtf8 word
+  pub content : scalar_content x ≡ text word
+  pub valid : IsValid x
+
+pub record IsBinaryCell (n : Nullability) (word : List ℕ) (x : Scalar) : Type 0 where
+  pub typed : scalar_type x ≡ binary_type n
+  pub bytes : List ℕ
+  pub is : decode_of word ≡ Ok bytes
+  pub content : scalar_content x ≡ string bytes
+  pub valid : IsValid x

@@ -1,0 +1,4 @@
+pub mod Cells
+pub mod Examples
+pub mod Rows
+pub mod Words

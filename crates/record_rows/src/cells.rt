@@ -1,0 +1,130 @@
+//! A field is the cell of its column.
+
+ghost use Rattle.std.specs.Prelude.{◌≡◌, ℕ, ℤ, List, IfOk, IsUtf8, MatchOption};
+ghost use Rattle.hex.specs.Hex.{decode_of};
+ghost use Rattle.vortex_dtype.specs.declared.nullability.Nullability.TheVariants.{Nullable};
+ghost use Rattle.vortex_dtype.specs.TypeOf.{type_of};
+ghost use Rattle.vortex_value.specs.Values.Content.{null};
+ghost use Rattle.vortex_value.specs.Values.Scalars.{IsValid, scalar_content, scalar_type};
+ghost use Rattle.record_rows.specs.Cells.{HasNoCell, HasNoValue, IsBinaryCell, IsCell, IsIntegerCell, IsTextCell, IsValueCell, column_type, is_null_field};
+ghost use Rattle.record_rows.specs.Words.{IsIntegerWord};
+
+use crate::columns::{ColumnType, Kind};
+use crate::words::integer_of;
+use hex::{FromHexError, decode};
+use std::alloc::{AllocError, Global};
+use vortex_dtype::{ByteBuffer, DType, Nullability, PType};
+use vortex_value::Scalar;
+
+/// The cell that a field is, if its column takes it.
+pub(crate) fn cell_of(
+    alloc: Global,
+    column: ColumnType,
+    word: &[u8],
+    is_quoted: bool,
+) -> Result<Option<Scalar>, AllocError>
+    ensures { IfOk result (λ cell. MatchOption cell
+        (HasNoCell column (record { text = word.now; is_quoted = is_quoted }))
+        (IsCell column (record { text = word.now; is_quoted = is_quoted }))) }
+{
+    if is_null(column.nullability, word, is_quoted) {
+        return Ok(Some(null_of(column)));
+    }
+    value_of(alloc, column, word)
+}
+
+/// Whether a field is a null.
+fn is_null(nullability: Nullability, word: &[u8], is_quoted: bool) -> bool
+    ensures { result ≡ is_null_field nullability (record { text = word.now; is_quoted = is_quoted }) }
+{
+    match nullability {
+        Nullability::Nullable => word.is_empty() && !is_quoted,
+        Nullability::NonNullable => false,
+    }
+}
+
+/// The null of a column that takes one.
+fn null_of(column: ColumnType) -> Scalar
+    requires { column.nullability ≡ Nullable }
+    ensures typed { scalar_type result ≡ column_type column }
+    ensures content { scalar_content result ≡ null }
+    ensures valid { IsValid result }
+{
+    Scalar::null(dtype_of(column))
+}
+
+/// The type of the cells of a column.
+fn dtype_of(column: ColumnType) -> DType
+    ensures { type_of result ≡ column_type column }
+{
+    match column.kind {
+        Kind::Integer(ptype) => DType::Primitive(ptype, column.nullability),
+        Kind::Utf8 => DType::Utf8(column.nullability),
+        Kind::Binary => DType::Binary(column.nullability),
+    }
+}
+
+/// The cell that a word is, if its column takes it.
+fn value_of(alloc: Global, column: ColumnType, word: &[u8]) -> Result<Option<Scalar>, AllocError>
+    ensures { IfOk result (λ cell. MatchOption cell
+        (HasNoValue column word.now) (IsValueCell column word.now)) }
+{
+    match column.kind {
+        Kind::Integer(ptype) => Ok(integer_cell(ptype, column.nullability, word)),
+        Kind::Utf8 => text_cell(alloc, column.nullability, word),
+        Kind::Binary => binary_cell(alloc, column.nullability, word),
+    }
+}
+
+/// The number that a word is.
+fn integer_cell(ptype: PType, nullability: Nullability, word: &[u8]) -> Option<Scalar>
+    ensures { MatchOption result ((z : ℤ) → ¬ (IsIntegerWord ptype word.now z))
+        (IsIntegerCell ptype nullability word.now) }
+{
+    match integer_of(word, ptype) {
+        Some(value) => match Scalar::primitive_value(value, ptype, nullability) {
+            Ok(cell) => Some(cell),
+            Err(_) => unreachable!(),
+        },
+        None => None,
+    }
+}
+
+/// The string that a word is.
+fn text_cell(
+    alloc: Global,
+    nullability: Nullability,
+    word: &[u8],
+) -> Result<Option<Scalar>, AllocError>
+    ensures { IfOk result (λ cell. MatchOption cell (¬ (IsUtf8 word.now))
+        (IsTextCell nullability word.now)) }
+{
+    let Ok(buffer) = ByteBuffer::from_slice(alloc, word) else {
+        return Err(AllocError);
+    };
+    match Scalar::try_utf8(buffer, nullability) {
+        Ok(cell) => Ok(Some(cell)),
+        Err(_) => Ok(None),
+    }
+}
+
+/// The bytes that a word is.
+fn binary_cell(
+    alloc: Global,
+    nullability: Nullability,
+    word: &[u8],
+) -> Result<Option<Scalar>, AllocError>
+    ensures { IfOk result (λ cell. MatchOption cell
+        ((bytes : List ℕ) → ¬ (decode_of word.now ≡ Ok bytes)) (IsBinaryCell nullability word.now)) }
+{
+    match decode(alloc, word) {
+        Ok(bytes) => {
+            let Ok(buffer) = ByteBuffer::from_slice(alloc, &bytes) else {
+                return Err(AllocError);
+            };
+            Ok(Some(Scalar::binary(buffer, nullability)))
+        }
+        Err(FromHexError::OutOfMemory) => Err(AllocError),
+        Err(_) => Ok(None),
+    }
+}
