@@ -1,5 +1,5 @@
 -- Cells of words are cells of fields.
-use Rattle.std.proofs.Common.{◌≡◌, ◌==◌, ◌&&◌, ℕ, ℤ, List, [], Bool, true, false, not, Option, None, Some, Result, Ok, Err, refl, sym, ap, ◌∙◌, subst, length}
+use Rattle.std.proofs.Common.{◌≡◌, ℕ, ℤ, List, Bool, true, false, Option, None, Some, Result, Ok, Err, refl, sym, ap, ◌∙◌, subst}
 use Rattle.std.specs.Prelude.{IfOk, IsUtf8, MatchBool, MatchOption}
 use Rattle.hex.specs.Hex.{decode_of}
 use Rattle.csv_records.specs.Rows.{Field}

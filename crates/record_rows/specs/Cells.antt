@@ -1,5 +1,5 @@
 -- The cell of a field.
-use Rattle.std.specs.Prelude.{◌≡◌, ◌==◌, ◌&&◌, ℕ, ℤ, List, length, Bool, true, false, not, Ok, IsUtf8, MatchBool}
+use Rattle.std.specs.Prelude.{◌≡◌, ◌==◌, ◌&&◌, ℕ, ℤ, List, length, Bool, false, not, Ok, IsUtf8, MatchBool}
 use Rattle.hex.specs.Hex.{decode_of}
 use Rattle.csv_records.specs.Rows.{Field}
 use Rattle.vortex_dtype.specs.TypeTree.{TypeTree, binary_type, integer_type, utf8_type}

@@ -1,42 +1,73 @@
 -- The row of a record.
-use Rattle.std.specs.Prelude.{◌≡◌, ◌<◌, ◌++◌, ℕ, List, [], ◌∷◌, Bool, false, length, slice_index_or}
+use Rattle.std.specs.Prelude.{◌≡◌, ◌<◌, ◌⊎◌, ◌++◌, ℕ, List, [], ◌∷◌, Bool, false, true, count_by, length, slice_index_or}
 use Rattle.csv_records.specs.Rows.{Field, field_rows, is_whole_from, rows_of}
 use Rattle.csv_records.specs.Records.{is_whole}
 use Rattle.csv.specs.declared.parser.State.TheVariants as st
+use Rattle.vortex_dtype.specs.declared.nullability.Nullability.TheVariants.{NonNullable, Nullable}
+use Rattle.vortex_value.specs.Values.Content.{null}
+use Rattle.vortex_value.specs.Values.Scalars.{IsValid, scalar_content, scalar_type}
 use Rattle.vortex_value.specs.declared.scalars.Scalar.{Scalar}
-use Rattle.record_rows.specs.Cells.{HasNoCell, IsCell}
+use Rattle.record_rows.specs.Cells.{HasNoCell, IsCell, column_type}
 use Rattle.record_rows.specs.declared.columns.ColumnType.{ColumnType}
 use Rattle.record_rows.specs.declared.rows.RowFault.{RowFault}
 use Rattle.record_rows.specs.declared.rows.RowFault.TheVariants as faults
 
--- each scalar is the cell of its field in its column, and there are as many of each
-abbrev pub AreCells : List ColumnType → List Field → List Scalar → Type 0
-AreCells [] [] [] = Unit {0}
-AreCells [] [] (x ∷ xs) = ⊥
-AreCells [] (f ∷ fs) xs = ⊥
-AreCells (c ∷ cs) [] xs = ⊥
-AreCells (c ∷ cs) (f ∷ fs) [] = ⊥
-AreCells (c ∷ cs) (f ∷ fs) (x ∷ xs) = IsCell c f x × AreCells cs fs xs
+-- the column does not take the field, and a null stands in its place, as is asked
+pub record IsLenientNull (lenient : Bool) (column : ColumnType) (f : Field) (x : Scalar) : Type 0 where
+  pub asked : lenient ≡ true
+  pub none : HasNoCell column f
+  pub takes : column.nullability ≡ Nullable
+  pub typed : scalar_type x ≡ column_type column
+  pub content : scalar_content x ≡ null
+  pub valid : IsValid x
 
--- the record has one row, and its cells are these
-pub record IsRow (delimiter : ℕ) (columns : List ColumnType) (line : List ℕ) (row : List Scalar) : Type 0 where
+-- x is the cell of the field, or stands in place of one
+abbrev pub IsTaken : Bool → ColumnType → Field → Scalar → Bool → Type 0
+IsTaken lenient column f x false = IsCell column f x
+IsTaken lenient column f x true = IsLenientNull lenient column f x
+
+-- each scalar is of its field in its column, each flag tells whether it stands in place of a cell, and there are as many of each
+abbrev pub AreCells : Bool → List ColumnType → List Field → List Scalar → List Bool → Type 0
+AreCells lenient [] [] [] [] = Unit {0}
+AreCells lenient [] [] [] (b ∷ bs) = ⊥
+AreCells lenient [] [] (x ∷ xs) bs = ⊥
+AreCells lenient [] (f ∷ fs) xs bs = ⊥
+AreCells lenient (c ∷ cs) [] xs bs = ⊥
+AreCells lenient (c ∷ cs) (f ∷ fs) [] bs = ⊥
+AreCells lenient (c ∷ cs) (f ∷ fs) (x ∷ xs) [] = ⊥
+AreCells lenient (c ∷ cs) (f ∷ fs) (x ∷ xs) (b ∷ bs) = IsTaken lenient c f x b × AreCells lenient cs fs xs bs
+
+-- how many stand in place of a cell
+abbrev pub refused_of : List Bool → ℕ
+refused_of flags = count_by (λ b. b) flags
+
+-- the record has one row, its cells are these, and so many stand in place of one
+pub record IsRow (delimiter : ℕ) (lenient : Bool) (columns : List ColumnType) (line : List ℕ) (row : List Scalar) (refused : ℕ) : Type 0 where
   pub fields : List Field
+  pub flags : List Bool
   pub is : rows_of delimiter line ≡ fields ∷ []
-  pub cells : AreCells columns fields row
+  pub cells : AreCells lenient columns fields row flags
+  pub count : refused ≡ refused_of flags
 
--- the text, which begins where a field does, has one row, and its cells are these
-pub record HasFields (delimiter : ℕ) (columns : List ColumnType) (bytes : List ℕ) (row : List Scalar) : Type 0 where
+-- the same of a text that begins where a field does
+pub record HasFields (delimiter : ℕ) (lenient : Bool) (columns : List ColumnType) (bytes : List ℕ) (row : List Scalar) (refused : ℕ) : Type 0 where
   pub fields : List Field
+  pub flags : List Bool
   pub is : field_rows delimiter bytes ≡ fields ∷ []
-  pub cells : AreCells columns fields row
+  pub cells : AreCells lenient columns fields row flags
+  pub count : refused ≡ refused_of flags
 
--- one cell more, that of this field
-pub record PushesCell (column : ColumnType) (f : Field) (old new : List Scalar) : Type 0 where
+-- one more, that of this field
+pub record PushesCell (lenient : Bool) (column : ColumnType) (f : Field) (old new : List Scalar) (flag : Bool) : Type 0 where
   pub cell : Scalar
-  pub is : IsCell column f cell
+  pub is : IsTaken lenient column f cell flag
   pub pushed : new ≡ old ++ cell ∷ []
 
 -- ---- refusals
+
+-- no null may stand in place of a cell
+abbrev pub IsStrict : Bool → ColumnType → Type 0
+IsStrict lenient column = (lenient ≡ false) ⊎ (column.nullability ≡ NonNullable)
 
 -- the fault of a word at this column, unless memory ran out
 abbrev pub IsWordFault : ℕ → List ℕ → RowFault → Type 0
@@ -46,30 +77,31 @@ IsWordFault place word faults.FieldCount = ⊥
 IsWordFault place word faults.LoneReturn = ⊥
 
 -- a column refuses a field, and tells its word
-abbrev pub RefusesWord : ColumnType → ℕ → Field → RowFault → Type 0
-RefusesWord column place f faults.Memory = Unit {0}
-RefusesWord column place f (faults.Word at found) = (at ≡ place) × (found.items ≡ f.text) × HasNoCell column f
-RefusesWord column place f faults.FieldCount = ⊥
-RefusesWord column place f faults.LoneReturn = ⊥
+abbrev pub RefusesWord : Bool → ColumnType → ℕ → Field → RowFault → Type 0
+RefusesWord lenient column place f faults.Memory = Unit {0}
+RefusesWord lenient column place f (faults.Word at found) = (at ≡ place) × (found.items ≡ f.text) × HasNoCell column f × IsStrict lenient column
+RefusesWord lenient column place f faults.FieldCount = ⊥
+RefusesWord lenient column place f faults.LoneReturn = ⊥
 
 -- some field has this word, and the column at this place does not take it
-pub record IsRefused (columns : List ColumnType) (place : ℕ) (word : List ℕ) : Type 0 where
+pub record IsRefused (lenient : Bool) (columns : List ColumnType) (place : ℕ) (word : List ℕ) : Type 0 where
   pub field : Field
   pub column : ColumnType
   pub within : place < length columns
   pub is : column ≡ slice_index_or columns place column
   pub told : word ≡ field.text
   pub none : HasNoCell column field
+  pub strict : IsStrict lenient column
 
-abbrev pub RefusesFields : ℕ → List ColumnType → List ℕ → RowFault → Type 0
-RefusesFields delimiter columns bytes faults.Memory = Unit {0}
-RefusesFields delimiter columns bytes (faults.Word place found) = IsRefused columns place found.items
-RefusesFields delimiter columns bytes faults.FieldCount = Unit {0}
-RefusesFields delimiter columns bytes faults.LoneReturn = is_whole_from delimiter st.StartField bytes ≡ false
+abbrev pub RefusesFields : ℕ → Bool → List ColumnType → List ℕ → RowFault → Type 0
+RefusesFields delimiter lenient columns bytes faults.Memory = Unit {0}
+RefusesFields delimiter lenient columns bytes (faults.Word place found) = IsRefused lenient columns place found.items
+RefusesFields delimiter lenient columns bytes faults.FieldCount = Unit {0}
+RefusesFields delimiter lenient columns bytes faults.LoneReturn = is_whole_from delimiter st.StartField bytes ≡ false
 
 -- why a record has no row
-abbrev pub Refuses : ℕ → List ColumnType → List ℕ → RowFault → Type 0
-Refuses delimiter columns line faults.Memory = Unit {0}
-Refuses delimiter columns line (faults.Word place found) = IsRefused columns place found.items
-Refuses delimiter columns line faults.FieldCount = Unit {0}
-Refuses delimiter columns line faults.LoneReturn = is_whole delimiter line ≡ false
+abbrev pub Refuses : ℕ → Bool → List ColumnType → List ℕ → RowFault → Type 0
+Refuses delimiter lenient columns line faults.Memory = Unit {0}
+Refuses delimiter lenient columns line (faults.Word place found) = IsRefused lenient columns place found.items
+Refuses delimiter lenient columns line faults.FieldCount = Unit {0}
+Refuses delimiter lenient columns line faults.LoneReturn = is_whole delimiter line ≡ false

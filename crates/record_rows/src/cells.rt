@@ -44,7 +44,7 @@ fn is_null(nullability: Nullability, word: &[u8], is_quoted: bool) -> bool
 }
 
 /// The null of a column that takes one.
-fn null_of(column: ColumnType) -> Scalar
+pub(crate) fn null_of(column: ColumnType) -> Scalar
     requires { column.nullability ≡ Nullable }
     ensures typed { scalar_type result ≡ column_type column }
     ensures content { scalar_content result ≡ null }

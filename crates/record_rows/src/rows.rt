@@ -1,14 +1,16 @@
 //! The row of a record.
 
-ghost use Rattle.std.specs.Prelude.{◌≡◌, [], IfErr, IfOk, OnOk, MatchBool, if◌then◌else◌};
+ghost use Rattle.std.specs.Prelude.{◌≡◌, ◌+◌, ◌-◌, ◌<◌, ◌^◌, [], IfErr, IfOk, MatchOption, false, true, if◌then◌else◌};
 ghost use Rattle.csv_records.specs.Rows.{rows_of};
-ghost use Rattle.record_rows.specs.Rows.{HasFields, IsRow, IsWordFault, PushesCell, Refuses, RefusesFields, RefusesWord};
+ghost use Rattle.vortex_dtype.specs.declared.nullability.Nullability.TheVariants.{Nullable};
+ghost use Rattle.record_rows.specs.Rows.{HasFields, IsRow, IsStrict, IsWordFault, PushesCell, Refuses, RefusesFields, RefusesWord};
 ghost use Rattle.record_rows.specs.declared.rows.RowFault.TheVariants.{Memory};
 
-use crate::cells::cell_of;
+use crate::cells::{cell_of, null_of};
 use crate::columns::ColumnType;
 use csv_records::{CutField, Delimiter, Follows, cut_field, row_start};
 use std::alloc::{AllocError, AllocFailed, Global};
+use vortex_dtype::Nullability;
 use vortex_value::Scalar;
 
 /// Why a record has no row under the columns.
@@ -40,51 +42,59 @@ impl<T: Drop> From<AllocFailed<T>> for RowFault {
     }
 }
 
-/// Reads the row of a record; false where it has none, as an empty line.
+/// Reads the row of a record; `None` where it has none, as an empty line.
+///
+/// If it is lenient, a field that its column does not take is a null where the column takes nulls.
+/// The answer is how many of them there are.
 pub fn read_row(
     alloc: Global,
     delimiter: Delimiter,
+    is_lenient: bool,
     columns: &[ColumnType],
     line: &[u8],
     row: &mut Vec<Scalar>,
-) -> Result<bool, RowFault>
-    ensures row { IfOk result (λ some. MatchBool some
-        (IsRow delimiter.byte columns.now line.now row.new.items)
-        (rows_of delimiter.byte line.now ≡ [])) }
-    ensures refused { IfErr result (Refuses delimiter.byte columns.now line.now) }
+) -> Result<Option<usize>, RowFault>
+    ensures row { IfOk result (λ refused. MatchOption refused
+        (rows_of delimiter.byte line.now ≡ [])
+        (IsRow delimiter.byte is_lenient columns.now line.now row.new.items)) }
+    ensures refused { IfErr result (Refuses delimiter.byte is_lenient columns.now line.now) }
 {
     row.clear();
     let start = row_start(line);
     if start.is_empty() {
-        return Ok(false);
+        return Ok(None);
     }
-    read_fields(alloc, delimiter, columns, start, row)?;
-    Ok(true)
+    let refused = read_fields(alloc, delimiter, is_lenient, columns, start, row)?;
+    Ok(Some(refused))
 }
 
 /// Reads the fields of a text that begins where a field does.
 fn read_fields(
     alloc: Global,
     delimiter: Delimiter,
+    is_lenient: bool,
     columns: &[ColumnType],
     text: &[u8],
     row: &mut Vec<Scalar>,
-) -> Result<(), RowFault>
+) -> Result<usize, RowFault>
     requires { row.old.items ≡ [] }
-    ensures fields { OnOk result (HasFields delimiter.byte columns.now text.now row.new.items) }
-    ensures refused { IfErr result (RefusesFields delimiter.byte columns.now text.now) }
+    ensures fields { IfOk result
+        (HasFields delimiter.byte is_lenient columns.now text.now row.new.items) }
+    ensures refused { IfErr result (RefusesFields delimiter.byte is_lenient columns.now text.now) }
 {
+    let mut refused = 0;
     let mut buffer = Vec::new(alloc);
     let mut rest = text;
     for (place, column) in columns.iter().enumerate() {
         let cut = cut_field(delimiter, rest, &mut buffer)?;
         let word = word_of(&cut, &buffer);
-        push_cell(alloc, *column, place, word, cut.is_quoted, row)?;
+        let flag = push_cell(alloc, *column, place, word, cut.is_quoted, is_lenient, row)?;
+        refused = one_more(refused, flag);
         match cut.follows {
             Follows::Another(next) => rest = next,
             Follows::Nothing => {
                 if place + 1 == columns.len() {
-                    return Ok(());
+                    return Ok(refused);
                 }
                 return Err(RowFault::FieldCount);
             }
@@ -101,26 +111,54 @@ fn word_of<'a>(cut: &CutField<'a>, buffer: &'a [u8]) -> &'a [u8]
     if cut.is_quoted { buffer } else { cut.bare }
 }
 
-/// Adds the cell of a field.
+/// One more, if that is so.
+fn one_more(count: usize, flag: bool) -> usize
+    requires { count < 2 ^ 64 - 1 }
+    ensures { result ≡ count + (if flag then 1 else 0) }
+{
+    if flag { count + 1 } else { count }
+}
+
+/// Adds the cell of a field, or a null in its place, and says which.
 fn push_cell(
     alloc: Global,
     column: ColumnType,
     place: usize,
     word: &[u8],
     is_quoted: bool,
+    is_lenient: bool,
     row: &mut Vec<Scalar>,
-) -> Result<(), RowFault>
-    ensures cell { OnOk result (PushesCell column
+) -> Result<bool, RowFault>
+    ensures cell { IfOk result (PushesCell is_lenient column
         (record { text = word.now; is_quoted = is_quoted }) row.old.items row.new.items) }
-    ensures refused { IfErr result (RefusesWord column place
+    ensures refused { IfErr result (RefusesWord is_lenient column place
         (record { text = word.now; is_quoted = is_quoted })) }
 {
     match cell_of(alloc, column, word, is_quoted)? {
         Some(cell) => {
             row.push(cell)?;
-            Ok(())
+            Ok(false)
         }
-        None => Err(word_fault(alloc, place, word)),
+        None => {
+            if !may_be_null(is_lenient, column) {
+                return Err(word_fault(alloc, place, word));
+            }
+            let cell = null_of(column);
+            row.push(cell)?;
+            Ok(true)
+        }
+    }
+}
+
+/// Whether a null may stand in place of a cell.
+fn may_be_null(is_lenient: bool, column: ColumnType) -> bool
+    ensures asked { result ≡ true → is_lenient ≡ true }
+    ensures takes { result ≡ true → column.nullability ≡ Nullable }
+    ensures strict { result ≡ false → IsStrict is_lenient column }
+{
+    match column.nullability {
+        Nullability::Nullable => is_lenient,
+        Nullability::NonNullable => false,
     }
 }
 

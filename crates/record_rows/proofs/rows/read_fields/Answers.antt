@@ -1,22 +1,27 @@
 -- A field more, the last one, and a word that is refused.
-use Rattle.std.proofs.Common.{rules, ap, ◌∙◌, ◌+◌, cond, List, ℕ}
+use Rattle.std.proofs.Common.{rules, arith, ap, ◌∙◌, cond, List, ℕ}
 use Rattle.std.proofs.lemmas.Result.{err_from_is_err_and}
-use Rattle.record_rows.proofs.Reading.{last, more, refused}
+use Rattle.record_rows.proofs.Reading.{begun, last, more, one_at_most, refused}
 use Rattle.record_rows.proofs.rows.read_fields.Goals as goal
 
-pub returns-in_err-push_cell-clause-refused : goal.returns-in_err-push_cell-clause-refused
-returns-in_err-push_cell-clause-refused c =
-    let p = err_from_is_err_and c.from_residual-in_err-push_cell.result c.from_residual-in_err-push_cell.ensures.1 in
-    rw (p.1, p.2) (refused c.args.delimiter.byte c.args.columns.now c.args.text.now c.loop-place.place _ (record { text = c.word_of-word.result.now; is_quoted = c.in_ok-cut.cut.is_quoted }) c.in_err-push_cell.field-0.0 (search rules) c.in_err-push_cell.ensures.refused)
+pub returns-in_err-flag-clause-refused : goal.returns-in_err-flag-clause-refused
+returns-in_err-flag-clause-refused c =
+    let p = err_from_is_err_and c.from_residual-in_err-flag.result c.from_residual-in_err-flag.ensures.1 in
+    rw (p.1, p.2) (refused c.args.delimiter.byte c.args.is_lenient c.args.columns.now c.args.text.now c.loop-place.place _ (record { text = c.word_of-word.result.now; is_quoted = c.in_ok-cut.cut.is_quoted }) c.in_err-flag.field-0.0 (search rules) c.in_err-flag.ensures.refused)
 
 pub returns-then-place-columns-clause-fields : goal.returns-then-place-columns-clause-fields
 returns-then-place-columns-clause-fields c =
     let text = cond c.in_ok-cut.cut.is_quoted c.cut_field.new.buffer.items c.in_ok-cut.cut.bare.now in
-    last c.args.delimiter.byte c.args.columns.now c.args.text.now c.loop-place.rest.now c.loop-place.place _ c.word_of-word.result.now (record { text = text; is_quoted = c.in_ok-cut.cut.is_quoted }) c.in_ok-cut.cut.follows _ _ (search rules) (search rules) c.loop-place.invariant
-    c.in_ok-cut.ensures c.in-Nothing.is (c.word_of-word.ensures ∙ ap (λ (l : List ℕ). cond c.in_ok-cut.cut.is_quoted l c.in_ok-cut.cut.bare.now) c.deref.ensures.value) c.in_ok-push_cell.ensures.cell
+    last c.args.delimiter.byte c.args.is_lenient c.args.columns.now c.args.text.now c.loop-place.rest.now c.loop-place.place _ c.word_of-word.result.now (record { text = text; is_quoted = c.in_ok-cut.cut.is_quoted }) c.in_ok-cut.cut.follows _ _ c.in_ok-flag.flag c.loop-place.refused c.one_more-refused.result (search rules) (search rules) c.loop-place.invariant.0
+    c.in_ok-cut.ensures c.in-Nothing.is (c.word_of-word.ensures ∙ ap (λ (l : List ℕ). cond c.in_ok-cut.cut.is_quoted l c.in_ok-cut.cut.bare.now) c.deref.ensures.value) c.in_ok-flag.ensures.cell c.one_more-refused.ensures
 
 pub loop-place-preserved : goal.loop-place-preserved
-loop-place-preserved c =
-    let text = cond c.in_ok-cut.cut.is_quoted c.cut_field.new.buffer.items c.in_ok-cut.cut.bare.now in
-    more c.args.delimiter.byte c.args.columns.now c.args.text.now c.loop-place.rest.now c.in-Another.next c.loop-place.place _ c.word_of-word.result.now (record { text = text; is_quoted = c.in_ok-cut.cut.is_quoted }) c.in_ok-cut.cut.follows _ _ (search rules) c.loop-place.invariant
-    c.in_ok-cut.ensures c.in-Another.is (c.word_of-word.ensures ∙ ap (λ (l : List ℕ). cond c.in_ok-cut.cut.is_quoted l c.in_ok-cut.cut.bare.now) c.deref.ensures.value) c.in_ok-push_cell.ensures.cell
+loop-place-preserved c = (
+  let text = cond c.in_ok-cut.cut.is_quoted c.cut_field.new.buffer.items c.in_ok-cut.cut.bare.now in
+      more c.args.delimiter.byte c.args.is_lenient c.args.columns.now c.args.text.now c.loop-place.rest.now c.in-Another.next c.loop-place.place _ c.word_of-word.result.now (record { text = text; is_quoted = c.in_ok-cut.cut.is_quoted }) c.in_ok-cut.cut.follows _ _ c.in_ok-flag.flag c.loop-place.refused c.one_more-refused.result (search rules) c.loop-place.invariant.0
+      c.in_ok-cut.ensures c.in-Another.is (c.word_of-word.ensures ∙ ap (λ (l : List ℕ). cond c.in_ok-cut.cut.is_quoted l c.in_ok-cut.cut.bare.now) c.deref.ensures.value) c.in_ok-flag.ensures.cell c.one_more-refused.ensures,
+  omega (arith, one_at_most c.in_ok-flag.flag, c.one_more-refused.ensures),
+)
+
+pub loop-place-init : goal.loop-place-init
+loop-place-init c = (begun c.args.delimiter.byte c.args.is_lenient c.args.columns.now c.args.text.now c.args.row.now.items c.requires, omega arith)

@@ -1,6 +1,7 @@
 -- The fields so far.
+use Rattle.std.proofs.Common.{◌≤◌}
 use Rattle.record_rows.proofs.Reading.{Begun}
 use Rattle.record_rows.proofs.rows.read_fields.Given as goal
 
 abbrev pub invariant-loop-place : goal.invariant-loop-place
-invariant-loop-place l = Begun l.delimiter.byte l.columns l.text l.place l.rest l.row.items
+invariant-loop-place l = Begun l.delimiter.byte l.is_lenient l.columns l.text l.place l.rest l.row.items l.refused × (l.refused ≤ l.place)
