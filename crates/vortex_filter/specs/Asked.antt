@@ -5,6 +5,7 @@ use Rattle.vortex_filter.specs.declared.check.Asked.{Asked}
 use Rattle.vortex_filter.specs.declared.check.Asked.TheVariants.{Nothing, Literal, Literals, Ends, Beginning}
 use Rattle.vortex_filter.specs.Checking.{Demand, beginning, comparing, nothing}
 
+-- what a test asks, with its literals as cells
 abbrev pub demand_of : Asked → Demand
 demand_of Nothing = nothing
 demand_of (Literal x) = comparing (cell_of x.now ∷ [])

@@ -6,6 +6,7 @@ use Rattle.vortex_value.specs.declared.scalars.Scalar.{Scalar}
 use Rattle.vortex_filter.specs.declared.filter.Filter.{Filter, fold-Filter}
 use Rattle.vortex_filter.specs.declared.filter.Filter.TheOpen.{Filter-F}
 
+-- the literals of a variant, from those of its parts
 abbrev pub literals_step : Filter-F (List Scalar) → List Scalar
 literals_step (Filter-F.Constant t) = []
 literals_step (Filter-F.Compare column op literal) = literal ∷ []

@@ -23,6 +23,7 @@ use Rattle.vortex_filter.specs.Tokens.{TokenTree, keyword_token, name_token, str
 
 -- ---- what a function gave, and what reading gives
 
+-- what fails for want of memory says nothing, and else nothing is read
 abbrev pub Fails : {Y : Type 0} → Fault → Option Y → Type 0
 Fails faults.NoMemory read = Unit {0}
 Fails (faults.At left cause) read = read ≡ None

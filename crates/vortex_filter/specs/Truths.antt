@@ -3,6 +3,7 @@ use Rattle.std.specs.Prelude.{Bool, true, false}
 use Rattle.vortex_filter.specs.declared.truth.Truth.{Truth}
 use Rattle.vortex_filter.specs.declared.truth.Truth.TheVariants.{False, Unknown, True}
 
+-- True or False
 abbrev pub truth_of : Bool → Truth
 truth_of true = True
 truth_of false = False

@@ -3,6 +3,7 @@ use Rattle.std.specs.Prelude.{◌≡◌, ◌≤◌, ◌+◌, ◌⊎◌, ℕ, Lis
 use Rattle.std.specs.List.{All}
 use Rattle.zone_index.specs.declared.read_at.Asked.{Asked}
 
+-- so many bytes from a place on
 abbrev pub asked_at : ℕ → ℕ → Asked
 asked_at place count = record { place = place; length = count }
 

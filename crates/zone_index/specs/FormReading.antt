@@ -11,10 +11,12 @@ use Rattle.zone_index.specs.declared.form.ReadError.TheVariants as errors
 use Rattle.zone_index.specs.Form.{IndexValue, ZoneValue}
 
 infixl 10 ◌>>=◌
+-- what reads on, if nothing was wrong so far
 abbrev pub ◌>>=◌ : {A B : Type 0} → Result A FormFault → (A → Result B FormFault) → Result B FormFault
 (Ok x) >>= f = f x
 (Err e) >>= f = Err e
 
+-- memory ran out, or reading meets this fault
 abbrev pub Fails : {Y : Type 0} → ReadError → Result Y FormFault → Type 0
 Fails errors.Memory read = Unit {0}
 Fails (errors.Fault f) read = read ≡ Err f
