@@ -6,6 +6,7 @@
 
 #[cfg(test)]
 mod fillings;
+pub mod filter_laws;
 #[cfg(test)]
 mod fixtures;
 #[cfg(test)]

@@ -1,0 +1,10 @@
+-- Rows with their statistics, as a zone.
+use Rattle.std.specs.Prelude.{map}
+use Rattle.vortex_statistics.specs.Cells.{cell_of}
+use Rattle.vortex_statistics.specs.Statistics.{known}
+use Rattle.vortex_filter.specs.Searching.{Zone}
+use Rattle.scalar_tests.specs.declared.filter_laws.RowZone.{RowZone}
+
+-- what contracts see of a zone
+abbrev pub zone_of : RowZone → Zone
+zone_of p = record { statistics = map known p.statistics.items; rows = map (λ row. map cell_of row.items) p.rows.items }
