@@ -8,7 +8,7 @@ use Rattle.vortex_dtype.specs.TypeTree.{Same, TypeTree, erase}
 use Rattle.vortex_value.specs.Equality.{same_type}
 use Rattle.vortex_value.specs.Lemmas.EqualityLaws.{same_type-Decides}
 use Rattle.vortex_value.specs.Order.{order}
-use Rattle.vortex_value.specs.Values.Content.{Content, content}
+use Rattle.vortex_value.specs.Values.Content.{Content}
 use Rattle.vortex_row.specs.Held.{IsHeld}
 use Rattle.vortex_row.specs.Laws.{KeysAreApart, ValuesHaveNoTyped}
 use Rattle.vortex_value.specs.Equality.{HasNoTyped}
