@@ -1,7 +1,9 @@
 //! The answers of calls, and how each is written.
 
+use crate::read::statistics::TypedStatistics;
 use crate::write::output::Output;
 use crate::write::refusals::{write_key_refusal, write_refusal};
+use crate::write::statistics::{write_statistics, write_statistics_refusal};
 use crate::write::texts::write_text;
 use crate::write::types::write_type;
 use crate::write::values::{write_bytes, write_number, write_scalar, write_value};
@@ -11,6 +13,7 @@ use std::fmt::Display;
 use vortex_dtype::{BufferString, ByteBuffer, DType, VortexError};
 use vortex_pvalue::PValue;
 use vortex_row::RowError;
+use vortex_statistics::StatisticsError;
 use vortex_value::{Scalar, ScalarValue};
 
 /// What a call answers.
@@ -51,13 +54,15 @@ pub enum Answer {
     /// A key and its value.
     Entry((Scalar, Scalar)),
     Entries(Vec<(Scalar, Scalar)>),
-    /// The bytes of a key.
+    /// The bytes of a key, or of statistics.
     Key(Vec<u8>),
     /// A scalar, and how long its key is.
     Decoded((Scalar, usize)),
     /// The scalars of a row, and how long its key is.
     DecodedRow((Vec<Scalar>, usize)),
     KeyRefused(RowError),
+    Statistics(TypedStatistics),
+    StatisticsRefused(StatisticsError),
     /// The places of elements, in another order.
     Places(Vec<usize>),
     /// An answer that is written already.
@@ -132,6 +137,8 @@ pub fn write_answer(out: &mut Output, answer: &Answer) {
             write_length(out, *length);
         }
         Answer::KeyRefused(refusal) => write_key_refusal(out, *refusal),
+        Answer::Statistics(column) => write_statistics(out, column),
+        Answer::StatisticsRefused(refusal) => write_statistics_refusal(out, *refusal),
         Answer::Places(places) => write_places(out, places),
         Answer::Written(text) => out.word(text),
         Answer::Refused(refusal) => write_refusal(out, refusal),

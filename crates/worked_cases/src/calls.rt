@@ -9,6 +9,7 @@ mod numbers;
 mod recorder;
 mod rust_values;
 mod scalars;
+mod statistics;
 mod types;
 mod view_parts;
 mod whole_views;

@@ -13,7 +13,7 @@ use vortex_pvalue::PValue;
 use vortex_value::{Scalar, ScalarValue};
 
 /// How many brackets may be open at a time.
-const ROOM: u32 = 256;
+pub const ROOM: u32 = 256;
 
 /// What a call may be given.
 pub trait Inputs: Drop {
@@ -205,6 +205,16 @@ impl Inputs for usize {
 }
 
 impl Exact for usize {}
+
+/// A count of rows.
+impl Inputs for u64 {
+    fn read(tokens: &mut Tokens<'_>) -> u64 {
+        tokens.spaces();
+        read_natural(tokens, u64::MAX)
+    }
+}
+
+impl Exact for u64 {}
 
 /// `nullable` or `non_nullable`.
 impl Inputs for Nullability {

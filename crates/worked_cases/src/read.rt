@@ -1,6 +1,7 @@
 //! Reads what stands in a line.
 
 pub mod numbers;
+pub mod statistics;
 pub mod texts;
 pub mod types;
 pub mod values;

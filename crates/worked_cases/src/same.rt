@@ -1,6 +1,7 @@
 //! Exact sameness, to see whether a call changed what it borrowed. Unlike `==` of raw values and
 //! scalars it tells `PType`s and nullability apart.
 
+use vortex_statistics::{Bound, ColumnStatistics};
 use vortex_value::{Scalar, ScalarRef, ScalarValue, UnionValue};
 
 /// Whether two raw values are exactly the same, `PType`s and variants' types included.
@@ -57,4 +58,33 @@ pub fn same_scalar(a: &Scalar, b: &Scalar) -> bool {
 /// Whether a scalar is exactly the lent one.
 pub fn same_as_lent(scalar: &Scalar, lent: ScalarRef<'_>) -> bool {
     scalar.dtype == *lent.dtype() && same_raw(scalar.value.as_ref(), lent.value())
+}
+
+/// Whether two slices have exactly the same scalars.
+pub fn same_scalars(a: &[Scalar], b: &[Scalar]) -> bool {
+    a.len() == b.len() && a.iter().zip(b).all(|(x, y)| same_scalar(x, y))
+}
+
+/// Whether two slices have exactly the same raw values and nulls.
+pub fn same_raws(a: &[Option<ScalarValue>], b: &[Option<ScalarValue>]) -> bool {
+    a.len() == b.len()
+        && a.iter()
+            .zip(b)
+            .all(|(x, y)| same_raw(x.as_ref(), y.as_ref()))
+}
+
+/// Whether two statistics are exactly the same.
+pub fn same_statistics(a: &ColumnStatistics, b: &ColumnStatistics) -> bool {
+    a.row_count == b.row_count
+        && a.null_count == b.null_count
+        && same_bound(a.lower.as_ref(), b.lower.as_ref())
+        && same_bound(a.upper.as_ref(), b.upper.as_ref())
+}
+
+fn same_bound(a: Option<&Bound>, b: Option<&Bound>) -> bool {
+    match (a, b) {
+        (Some(x), Some(y)) => x.is_exact == y.is_exact && same_scalar(&x.value, &y.value),
+        (None, None) => true,
+        _ => false,
+    }
 }

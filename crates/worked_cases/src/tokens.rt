@@ -136,6 +136,16 @@ impl<'a> Tokens<'a> {
         false
     }
 
+    /// Whether another item comes next, after `before` items, of a list that goes to the end of the
+    /// line. Takes the comma before it.
+    pub fn has_more(&mut self, before: usize) -> bool {
+        if before == 0 {
+            !matches!(after_spaces(self.rest), [] | [b'=', ..])
+        } else {
+            self.takes(b',')
+        }
+    }
+
     /// Takes the spaces before an argument, at least one.
     pub fn spaces(&mut self) {
         match self.rest.first() {

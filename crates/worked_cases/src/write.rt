@@ -2,6 +2,7 @@
 
 pub mod output;
 pub mod refusals;
+pub mod statistics;
 pub mod texts;
 pub mod types;
 pub mod values;

@@ -1,10 +1,10 @@
 //! Calls of keys: of scalars, of rows, and back.
 
 use crate::answers::{Answer, CallResult};
-use crate::calls::Line;
+use crate::calls::{Line, statistics};
 use crate::inputs::{Borrowed, Exact, Inputs, Item};
 use crate::read::named;
-use crate::same::same_scalar;
+use crate::same::same_scalars;
 use crate::tokens::Tokens;
 use std::alloc::{AllocError, Global};
 use std::cmp::Ordering;
@@ -44,10 +44,10 @@ const CALLS: [(&str, Call); 11] = [
     ("sorted_by_order", Call::SortedByOrder),
 ];
 
-/// The answer of the line's call, if it is one of these; else `BadLine`.
+/// The answer of the line's call, if it is one of these; other calls are in `statistics`.
 pub fn answer_line(line: &mut Line<'_>) -> Result<Answer, AllocError> {
     let Some(call) = named(&CALLS, line.name) else {
-        return Ok(Answer::BadLine);
+        return statistics::answer_line(line);
     };
     match call {
         Call::Key => line.borrowing(key),
@@ -156,13 +156,9 @@ impl Borrowed for Rows {
     }
 }
 
-fn same_scalars(a: &[Scalar], b: &[Scalar]) -> bool {
-    a.len() == b.len() && a.iter().zip(b).all(|(x, y)| same_scalar(x, y))
-}
-
-/// Bytes with room for a key, made before the call.
+/// Bytes with room for a key or a form, made before the call.
 #[derive(Drop)]
-struct KeyRoom(Vec<u8>);
+pub struct KeyRoom(pub Vec<u8>);
 
 impl Inputs for KeyRoom {
     fn read(tokens: &mut Tokens<'_>) -> KeyRoom {

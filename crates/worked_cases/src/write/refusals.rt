@@ -70,7 +70,7 @@ fn cause_name(cause: TypeCause) -> &'static str {
 }
 
 /// Writes a number after a space.
-fn write_count(out: &mut Output, number: usize) {
+pub fn write_count(out: &mut Output, number: usize) {
     out.char(' ');
     out.number(number);
 }

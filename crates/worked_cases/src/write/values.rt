@@ -39,7 +39,7 @@ pub fn write_value(out: &mut Output, value: &ScalarValue) {
 
 /// Writes a raw value, or `null` if it is absent.
 #[cycle(values)]
-fn write_raw(out: &mut Output, value: Option<&ScalarValue>) {
+pub fn write_raw(out: &mut Output, value: Option<&ScalarValue>) {
     match value {
         Some(value) => write_value(out, value),
         None => out.word("null"),

@@ -1,0 +1,291 @@
+//! Calls of statistics of columns.
+
+use crate::answers::{Answer, CallResult};
+use crate::calls::Line;
+use crate::calls::keys::KeyRoom;
+use crate::inputs::{Borrowed, Inputs, ROOM};
+use crate::read::named;
+use crate::read::statistics::{TypedStatistics, read_typed_statistics};
+use crate::read::values::read_value;
+use crate::same::{same_raws, same_scalars, same_statistics};
+use crate::tokens::Tokens;
+use std::alloc::{AllocError, Global};
+use vortex_dtype::{ByteBuffer, DType, VortexError};
+use vortex_statistics::{ColumnStatistics, StatisticsError};
+use vortex_value::{Scalar, ScalarRef, ScalarValue};
+
+#[derive(Clone, Copy)]
+enum Call {
+    Statistics,
+    StatisticsOf,
+    ConstantStatistics,
+    Observe,
+    Merge,
+    MergeAll,
+    Truncate,
+    MayBeNull,
+    MayBeValue,
+    StatisticsBytes,
+    StatisticsBytesInRoom,
+    FromStatisticsBytes,
+}
+
+const CALLS: [(&str, Call); 12] = [
+    ("statistics", Call::Statistics),
+    ("statistics_of", Call::StatisticsOf),
+    ("constant_statistics", Call::ConstantStatistics),
+    ("observe", Call::Observe),
+    ("merge", Call::Merge),
+    ("merge_all", Call::MergeAll),
+    ("truncate", Call::Truncate),
+    ("may_be_null", Call::MayBeNull),
+    ("may_be_value", Call::MayBeValue),
+    ("statistics_bytes", Call::StatisticsBytes),
+    ("statistics_bytes_in_room", Call::StatisticsBytesInRoom),
+    ("from_statistics_bytes", Call::FromStatisticsBytes),
+];
+
+/// The answer of the line's call, if it is one of these; else `BadLine`.
+pub fn answer_line(line: &mut Line<'_>) -> Result<Answer, AllocError> {
+    let Some(call) = named(&CALLS, line.name) else {
+        return Ok(Answer::BadLine);
+    };
+    match call {
+        Call::Statistics => line.borrowing(statistics),
+        Call::StatisticsOf => line.borrowing(statistics_of),
+        Call::ConstantStatistics => line.borrowing(constant_statistics),
+        Call::Observe => line.taking(observe),
+        Call::Merge => line.taking(merge),
+        Call::MergeAll => line.taking(merge_all),
+        Call::Truncate => line.taking(truncate),
+        Call::MayBeNull => line.borrowing(may_be_null),
+        Call::MayBeValue => line.borrowing(may_be_value),
+        Call::StatisticsBytes => line.borrowing(statistics_bytes),
+        Call::StatisticsBytesInRoom => line.taking(statistics_bytes_in_room),
+        Call::FromStatisticsBytes => line.borrowing(from_statistics_bytes),
+    }
+}
+
+impl Inputs for TypedStatistics {
+    fn read(tokens: &mut Tokens<'_>) -> TypedStatistics {
+        tokens.spaces();
+        read_typed_statistics(tokens, ROOM)
+    }
+}
+
+impl Borrowed for TypedStatistics {
+    fn is_same(&self, copy: &TypedStatistics) -> bool {
+        self.dtype == copy.dtype && same_statistics(&self.statistics, &copy.statistics)
+    }
+}
+
+/// A type, and raw values of it, with commas between them.
+#[derive(Drop)]
+struct Values {
+    dtype: DType,
+    values: Vec<Option<ScalarValue>>,
+}
+
+impl Inputs for Values {
+    fn read(tokens: &mut Tokens<'_>) -> Values {
+        let dtype = DType::read(tokens);
+        let mut values = Vec::new(tokens.alloc);
+        for before in 0..=tokens.left() {
+            if !tokens.has_more(before) {
+                break;
+            }
+            let value = read_value(tokens, ROOM);
+            tokens.push(&mut values, value);
+        }
+        Values { dtype, values }
+    }
+}
+
+impl Borrowed for Values {
+    fn is_same(&self, copy: &Values) -> bool {
+        self.dtype == copy.dtype && same_raws(&self.values, &copy.values)
+    }
+}
+
+/// Scalars of any types, in brackets.
+#[derive(Drop)]
+struct Cells(Vec<Scalar>);
+
+impl Inputs for Cells {
+    fn read(tokens: &mut Tokens<'_>) -> Cells {
+        Cells(Vec::read(tokens))
+    }
+}
+
+impl Borrowed for Cells {
+    fn is_same(&self, copy: &Cells) -> bool {
+        same_scalars(&self.0, &copy.0)
+    }
+}
+
+/// Statistics, and the next cell.
+#[derive(Drop)]
+struct NextCell {
+    column: TypedStatistics,
+    cell: Scalar,
+}
+
+impl Inputs for NextCell {
+    fn read(tokens: &mut Tokens<'_>) -> NextCell {
+        let column = TypedStatistics::read(tokens);
+        tokens.expect(b';');
+        let cell = Scalar::read(tokens);
+        NextCell { column, cell }
+    }
+}
+
+/// The statistics of two pieces, and the type of the first.
+#[derive(Drop)]
+struct TwoPieces {
+    first: TypedStatistics,
+    second: ColumnStatistics,
+}
+
+impl Inputs for TwoPieces {
+    fn read(tokens: &mut Tokens<'_>) -> TwoPieces {
+        let first = TypedStatistics::read(tokens);
+        tokens.expect(b';');
+        let second = TypedStatistics::read(tokens).statistics;
+        TwoPieces { first, second }
+    }
+}
+
+/// The statistics of all pieces, and the type of the first.
+#[derive(Drop)]
+struct Pieces {
+    dtype: DType,
+    pieces: Vec<ColumnStatistics>,
+}
+
+impl Inputs for Pieces {
+    fn read(tokens: &mut Tokens<'_>) -> Pieces {
+        let TypedStatistics { dtype, statistics } = TypedStatistics::read(tokens);
+        let mut pieces = Vec::new(tokens.alloc);
+        tokens.push(&mut pieces, statistics);
+        for _ in 0..=tokens.left() {
+            if !tokens.takes(b';') {
+                break;
+            }
+            let piece = TypedStatistics::read(tokens).statistics;
+            tokens.push(&mut pieces, piece);
+        }
+        Pieces { dtype, pieces }
+    }
+}
+
+/// Statistics of a column of this type, or their refusal. `OutOfMemory` is that of all calls.
+fn column_answer(dtype: DType, made: Result<ColumnStatistics, StatisticsError>) -> CallResult {
+    match made {
+        Ok(statistics) => Ok(Answer::Statistics(TypedStatistics { dtype, statistics })),
+        Err(refusal) => {
+            drop(dtype);
+            refused(refusal)
+        }
+    }
+}
+
+fn refused(refusal: StatisticsError) -> CallResult {
+    match refusal {
+        StatisticsError::OutOfMemory => Err(VortexError::OutOfMemory),
+        _ => Ok(Answer::StatisticsRefused(refusal)),
+    }
+}
+
+/// The statistics of values, observed one by one.
+fn statistics(alloc: Global, column: &Values) -> CallResult {
+    let made = observed(alloc, &column.dtype, &column.values);
+    column_answer(column.dtype.clone(alloc)?, made)
+}
+
+fn observed(
+    alloc: Global,
+    dtype: &DType,
+    values: &[Option<ScalarValue>],
+) -> Result<ColumnStatistics, StatisticsError> {
+    let mut statistics = ColumnStatistics::empty();
+    for value in values {
+        statistics.observe(alloc, ScalarRef::from_parts(dtype, value.as_ref()))?;
+    }
+    Ok(statistics)
+}
+
+/// The statistics of scalars of any types, all at once.
+fn statistics_of(alloc: Global, (dtype, cells): &(DType, Cells)) -> CallResult {
+    let dtype = dtype.clone(alloc)?;
+    column_answer(dtype, ColumnStatistics::of(alloc, &cells.0))
+}
+
+fn constant_statistics(alloc: Global, (value, rows): &(Scalar, u64)) -> CallResult {
+    let dtype = value.dtype.clone(alloc)?;
+    column_answer(dtype, ColumnStatistics::of_constant(alloc, value, *rows))
+}
+
+fn observe(alloc: Global, inputs: NextCell) -> CallResult {
+    let NextCell { mut column, cell } = inputs;
+    let outcome = column.statistics.observe(alloc, ScalarRef::of(&cell));
+    drop(cell);
+    match outcome {
+        Ok(()) => Ok(Answer::Statistics(column)),
+        Err(refusal) => {
+            drop(column);
+            refused(refusal)
+        }
+    }
+}
+
+fn merge(_alloc: Global, pieces: TwoPieces) -> CallResult {
+    let TwoPieces { first, second } = pieces;
+    column_answer(first.dtype, first.statistics.merge(second))
+}
+
+fn merge_all(_alloc: Global, pieces: Pieces) -> CallResult {
+    let Pieces { dtype, pieces } = pieces;
+    column_answer(dtype, ColumnStatistics::merge_all(pieces))
+}
+
+fn truncate(alloc: Global, (column, length): (TypedStatistics, usize)) -> CallResult {
+    column_answer(column.dtype, column.statistics.truncate(alloc, length))
+}
+
+fn may_be_null(_alloc: Global, column: &TypedStatistics) -> CallResult {
+    Ok(Answer::Truth(column.statistics.may_be_null()))
+}
+
+fn may_be_value(_alloc: Global, column: &TypedStatistics) -> CallResult {
+    Ok(Answer::Truth(column.statistics.may_be_value()))
+}
+
+/// The form in bytes, or its refusal. `Changed` if a refusal left a part of it.
+fn bytes_answer(outcome: Result<(), StatisticsError>, bytes: Vec<u8>) -> CallResult {
+    match outcome {
+        Ok(()) => Ok(Answer::Key(bytes)),
+        Err(_) if !bytes.is_empty() => Ok(Answer::Changed),
+        Err(refusal) => refused(refusal),
+    }
+}
+
+fn statistics_bytes(alloc: Global, column: &TypedStatistics) -> CallResult {
+    let mut bytes = Vec::new(alloc);
+    let outcome = column.statistics.append_bytes(&mut bytes);
+    bytes_answer(outcome, bytes)
+}
+
+/// The form in bytes, appended where there is room.
+fn statistics_bytes_in_room(
+    _alloc: Global,
+    (column, KeyRoom(mut bytes)): (TypedStatistics, KeyRoom),
+) -> CallResult {
+    let outcome = column.statistics.append_bytes(&mut bytes);
+    drop(column);
+    bytes_answer(outcome, bytes)
+}
+
+fn from_statistics_bytes(alloc: Global, (dtype, bytes): &(DType, ByteBuffer)) -> CallResult {
+    let made = ColumnStatistics::from_bytes(alloc, dtype, bytes.as_slice());
+    column_answer(dtype.clone(alloc)?, made)
+}
