@@ -8,16 +8,21 @@ use std::hint::black_box;
 use std::io::Write as _;
 
 use crate::error::{VortexError, VortexResult};
+use crate::filters::{CompareOperator, Outcomes, Truth, compare, comparison};
 use crate::hashing::Recorder;
 use crate::keys::{
     KeyError, KeyResult, RowEncoder, SortOptions, append_key, append_raw_key, append_row_key,
     decode_key, key_length,
 };
 use crate::ordering::partial_cmp_values;
-use crate::read::{BadLine, Read, Reader};
+use crate::read::{BadLine, Filtered, Read, Reader};
+use crate::statistics::{ColumnStatistics, TooManyRows};
 use crate::types::DType;
 use crate::values::{Scalar, ScalarValue};
-use crate::write::{write_error, write_hex, write_quoted, write_scalar};
+use crate::write::{
+    truth_word, write_error, write_hex, write_outcomes, write_quoted, write_scalar,
+    write_statistics,
+};
 
 /// How lines are run: alone, or watched.
 #[derive(Clone, Copy)]
@@ -53,6 +58,18 @@ enum Call {
     RowEncoder((Vec<DType>, Vec<SortOptions>), Vec<Scalar>),
     SortedByKeys(Scalar),
     SortedByOrder(Scalar),
+    Statistics((DType, Vec<Option<ScalarValue>>)),
+    MayBeNull(ColumnStatistics),
+    MayBeValue(ColumnStatistics),
+    Truth(Filtered<Scalar>),
+    Matches(Filtered<Scalar>),
+    Matching(Filtered<Scalar>),
+    Outcomes(Filtered<ColumnStatistics>),
+    MayMatch(Filtered<ColumnStatistics>),
+    MustMatch(Filtered<ColumnStatistics>),
+    MatchingZones(Filtered<ColumnStatistics>),
+    Compare(Scalar, CompareOperator, Scalar),
+    CompareZone(ColumnStatistics, CompareOperator, Scalar),
 }
 
 enum Answer {
@@ -64,6 +81,9 @@ enum Answer {
     Decoded(Scalar, usize),
     Places(Vec<usize>),
     KeyRefused(KeyError),
+    Statistics(DType, ColumnStatistics),
+    Truth(Truth),
+    Outcomes(Outcomes),
 }
 
 pub fn answer_line(run: Run, line: &str, out: &mut String) -> Read<()> {
@@ -94,6 +114,9 @@ pub fn answer_line(run: Run, line: &str, out: &mut String) -> Read<()> {
             write!(out, "{places:?}").expect("a String takes every text");
         }
         Ok(Answer::KeyRefused(error)) => write_key_error(error, out),
+        Ok(Answer::Statistics(dtype, statistics)) => write_statistics(dtype, statistics, out),
+        Ok(Answer::Truth(truth)) => out.push_str(truth_word(*truth)),
+        Ok(Answer::Outcomes(outcomes)) => write_outcomes(*outcomes, out),
         Err(error) => write_error(error, out),
     }
     Ok(())
@@ -119,6 +142,21 @@ fn read_call(reader: &mut Reader<'_>) -> Read<Call> {
         }
         "sorted_by_keys" => Call::SortedByKeys(scalar(reader)?),
         "sorted_by_order" => Call::SortedByOrder(scalar(reader)?),
+        "statistics" => Call::Statistics(apart(reader)?.values()?),
+        "may_be_null" => Call::MayBeNull(apart(reader)?.statistics()?.1),
+        "may_be_value" => Call::MayBeValue(apart(reader)?.statistics()?.1),
+        "truth" => Call::Truth(apart(reader)?.filtered_row()?),
+        "matches" => Call::Matches(apart(reader)?.filtered_row()?),
+        "matching" => Call::Matching(apart(reader)?.filtered_rows()?),
+        "outcomes" => Call::Outcomes(apart(reader)?.filtered_zone()?),
+        "may_match" => Call::MayMatch(apart(reader)?.filtered_zone()?),
+        "must_match" => Call::MustMatch(apart(reader)?.filtered_zone()?),
+        "matching_zones" => Call::MatchingZones(apart(reader)?.filtered_zones()?),
+        "compare" => Call::Compare(scalar(reader)?, reader.operator()?, scalar(reader)?),
+        "compare_zone" => {
+            let statistics = apart(reader)?.statistics()?.1;
+            Call::CompareZone(statistics, reader.operator()?, scalar(reader)?)
+        }
         _ => return Err(BadLine),
     })
 }
@@ -187,7 +225,45 @@ fn answer(call: &Call) -> VortexResult<Answer> {
         }
         Call::SortedByKeys(x) => of_keys(sorted_by_keys(x), Answer::Places),
         Call::SortedByOrder(x) => Answer::Places(sorted_by_order(x)),
+        Call::Statistics((dtype, values)) => match statistics_of(dtype, values) {
+            Ok(statistics) => Answer::Statistics(dtype.clone(), statistics),
+            Err(TooManyRows) => Answer::Word("TooManyRows"),
+        },
+        Call::MayBeNull(statistics) => Answer::Word(truth(statistics.may_be_null())),
+        Call::MayBeValue(statistics) => Answer::Word(truth(statistics.may_be_value())),
+        Call::Truth(on) => Answer::Truth(on.filter.truth(&on.items)),
+        Call::Matches(on) => Answer::Word(truth(on.filter.matches(&on.items))),
+        Call::Matching(on) => Answer::Places(places(on, |row| on.filter.matches(row))),
+        Call::Outcomes(on) => Answer::Outcomes(on.filter.outcomes(&on.items)),
+        Call::MayMatch(on) => Answer::Word(truth(on.filter.outcomes(&on.items).may_be_true)),
+        Call::MustMatch(on) => Answer::Word(truth(on.filter.outcomes(&on.items).is_only_true())),
+        Call::MatchingZones(on) => {
+            Answer::Places(places(on, |zone| on.filter.outcomes(zone).may_be_true))
+        }
+        Call::Compare(x, operator, literal) => Answer::Truth(compare(Some(x), *operator, literal)),
+        Call::CompareZone(statistics, operator, literal) => {
+            Answer::Outcomes(comparison(Some(statistics), *operator, literal))
+        }
     })
+}
+
+/// The statistics of values, observed one by one.
+fn statistics_of(
+    dtype: &DType,
+    values: &[Option<ScalarValue>],
+) -> Result<ColumnStatistics, TooManyRows> {
+    let mut statistics = ColumnStatistics::empty();
+    for value in values {
+        statistics.observe(dtype, value.as_ref())?;
+    }
+    Ok(statistics)
+}
+
+/// The places of the rows, or of the zones, that are wanted.
+fn places<T>(on: &Filtered<T>, wanted: impl Fn(&[T]) -> bool) -> Vec<usize> {
+    let rows = on.items.chunks(on.width).enumerate();
+    rows.filter_map(|(place, row)| wanted(row).then_some(place))
+        .collect()
 }
 
 fn of_keys<T>(outcome: KeyResult<T>, answer: impl FnOnce(T) -> Answer) -> Answer {

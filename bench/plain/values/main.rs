@@ -1,6 +1,6 @@
 // SPDX-License-Identifier: Apache-2.0
 //! The plain Rust that a user would write in place of the library, by std alone: types and raw values of upstream's shape,
-//! nine calls over them, and keys. It reads lines of calls as `scalar_cases` does, and writes each with its answer. Given the
+//! nine calls over them, keys, statistics and filters. It reads lines of calls as `scalar_cases` does, and writes each with its answer. Given the
 //! word `--memory` it says on standard error when a call is made and when it has answered.
 
 mod calls;
@@ -8,12 +8,15 @@ mod cast;
 mod display;
 mod equality;
 mod error;
+mod filters;
 mod hashing;
 mod keys;
 mod ordering;
 mod pvalues;
 mod read;
 mod size;
+mod sql;
+mod statistics;
 mod types;
 mod validate;
 mod values;

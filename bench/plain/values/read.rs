@@ -4,8 +4,11 @@
 use std::sync::Arc;
 
 use crate::error::TypeCause;
+use crate::filters::{CompareOperator, Filter};
 use crate::keys::SortOptions;
 use crate::pvalues::PValue;
+use crate::sql;
+use crate::statistics::{Bound, ColumnStatistics};
 use crate::types::{
     DType, ExtDType, FieldName, MapDType, Nullability, PType, StructFields, UnionVariants,
 };
@@ -264,7 +267,7 @@ impl Reader<'_> {
 
 /// Columns.
 impl Reader<'_> {
-    fn takes_word(&mut self, word: &str) -> bool {
+    pub fn takes_word(&mut self, word: &str) -> bool {
         self.spaces();
         let start = self.at;
         let is_next = self.run(is_word) == word;
@@ -373,5 +376,185 @@ impl Reader<'_> {
         let child = self.raw()?;
         self.need(b')')?;
         Ok(ScalarValue::Union(UnionValue::new(type_id, child)))
+    }
+}
+
+/// A filter, how many columns it has, and cells or statistics for each column of one row or zone, or of many.
+pub struct Filtered<T> {
+    pub filter: Filter,
+    pub width: usize,
+    pub items: Vec<T>,
+}
+
+/// Statistics and filters.
+impl<'a> Reader<'a> {
+    /// Values of a type, with commas between them, to the end of the line.
+    pub fn values(&mut self) -> Read<(DType, Vec<Option<ScalarValue>>)> {
+        let dtype = self.dtype()?;
+        let values = self.separated(Self::raw)?;
+        Ok((dtype, values))
+    }
+
+    /// Items with commas between them, up to the end of the line or a semicolon.
+    fn separated<T>(&mut self, mut read: impl FnMut(&mut Self) -> Read<T>) -> Read<Vec<T>> {
+        let mut items = Vec::new();
+        self.spaces();
+        if matches!(self.peek(), None | Some(b';')) {
+            return Ok(items);
+        }
+        loop {
+            items.push(read(self)?);
+            if !self.take(b',') {
+                return Ok(items);
+            }
+        }
+    }
+
+    pub fn statistics(&mut self) -> Read<(DType, ColumnStatistics)> {
+        let dtype = self.dtype()?;
+        self.need(b':')?;
+        let statistics = self.statistics_of(&dtype)?;
+        Ok((dtype, statistics))
+    }
+
+    fn statistics_of(&mut self, dtype: &DType) -> Read<ColumnStatistics> {
+        self.need(b'(')?;
+        let row_count = self.number()?;
+        self.counted("row")?;
+        self.need(b',')?;
+        let null_count = if self.take(b'_') {
+            None
+        } else {
+            let nulls = self.number()?;
+            self.counted("null")?;
+            Some(nulls)
+        };
+        self.need(b',')?;
+        let lower = self.bound(dtype)?;
+        self.need(b',')?;
+        let upper = self.bound(dtype)?;
+        self.need(b')')?;
+        Ok(ColumnStatistics {
+            row_count,
+            null_count,
+            lower,
+            upper,
+        })
+    }
+
+    fn counted(&mut self, noun: &str) -> Read<()> {
+        match self.word()?.strip_prefix(noun) {
+            Some("" | "s") => Ok(()),
+            _ => Err(BadLine),
+        }
+    }
+
+    fn bound(&mut self, dtype: &DType) -> Read<Option<Bound>> {
+        if self.take(b'_') {
+            return Ok(None);
+        }
+        let value = self.raw()?;
+        let dtype = if self.takes_word("of") {
+            self.dtype()?
+        } else {
+            dtype.clone()
+        };
+        let is_exact = self.takes_word("exact");
+        Ok(Some(Bound {
+            value: Scalar::new_unchecked(dtype, value),
+            is_exact,
+        }))
+    }
+
+    /// SQL text and the semicolon after it.
+    fn sql(&mut self) -> Read<&'a str> {
+        let start = self.at;
+        let mut open = None;
+        loop {
+            let byte = self.next()?;
+            match open {
+                None if byte == b';' => return Ok(&self.line[start..self.at - 1]),
+                None if byte == b'\'' || byte == b'"' => open = Some(byte),
+                Some(quote) if quote == byte => open = None,
+                _ => {}
+            }
+        }
+    }
+
+    /// A filter, and a row.
+    pub fn filtered_row(&mut self) -> Read<Filtered<Scalar>> {
+        self.filtered(|reader, dtype| Ok(Scalar::new_unchecked(dtype.clone(), reader.raw()?)))
+    }
+
+    /// A filter, and the statistics of a zone.
+    pub fn filtered_zone(&mut self) -> Read<Filtered<ColumnStatistics>> {
+        self.filtered(|reader, dtype| reader.statistics_of(dtype))
+    }
+
+    fn filtered<T>(
+        &mut self,
+        mut read: impl FnMut(&mut Self, &DType) -> Read<T>,
+    ) -> Read<Filtered<T>> {
+        let text = self.sql()?;
+        let mut dtypes = Vec::new();
+        let items = self.separated(|reader| {
+            let dtype = reader.dtype()?;
+            reader.need(b':')?;
+            let item = read(reader, &dtype)?;
+            dtypes.push(dtype);
+            Ok(item)
+        })?;
+        Ok(Filtered {
+            filter: sql::parse(text, &dtypes)?,
+            width: dtypes.len(),
+            items,
+        })
+    }
+
+    /// A filter, and rows.
+    pub fn filtered_rows(&mut self) -> Read<Filtered<Scalar>> {
+        self.filtered_many(|reader, dtype| Ok(Scalar::new_unchecked(dtype.clone(), reader.raw()?)))
+    }
+
+    /// A filter, and the statistics of zones.
+    pub fn filtered_zones(&mut self) -> Read<Filtered<ColumnStatistics>> {
+        self.filtered_many(|reader, dtype| reader.statistics_of(dtype))
+    }
+
+    fn filtered_many<T>(
+        &mut self,
+        mut read: impl FnMut(&mut Self, &DType) -> Read<T>,
+    ) -> Read<Filtered<T>> {
+        let text = self.sql()?;
+        let dtypes = self.separated(Self::dtype)?;
+        self.need(b';')?;
+        let mut items = Vec::new();
+        self.separated(|reader| {
+            reader.need(b'[')?;
+            for (place, dtype) in dtypes.iter().enumerate() {
+                if place > 0 {
+                    reader.need(b',')?;
+                }
+                items.push(read(reader, dtype)?);
+            }
+            reader.need(b']')
+        })?;
+        Ok(Filtered {
+            filter: sql::parse(text, &dtypes)?,
+            width: dtypes.len().max(1),
+            items,
+        })
+    }
+
+    pub fn operator(&mut self) -> Read<CompareOperator> {
+        Ok(match self.word()? {
+            "eq" => CompareOperator::Eq,
+            "not_eq" => CompareOperator::NotEq,
+            "gt" => CompareOperator::Gt,
+            "gte" => CompareOperator::Gte,
+            "lt" => CompareOperator::Lt,
+            "lte" => CompareOperator::Lte,
+            _ => return Err(BadLine),
+        })
     }
 }

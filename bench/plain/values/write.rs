@@ -5,6 +5,8 @@ use std::fmt::Write;
 
 use crate::display::StringEscape;
 use crate::error::VortexError;
+use crate::filters::{Outcomes, Truth};
+use crate::statistics::{Bound, ColumnStatistics};
 use crate::types::{DType, ExtDType, FieldName, StructFields, UnionVariants};
 use crate::values::{Scalar, ScalarValue};
 
@@ -188,4 +190,60 @@ pub fn write_error(error: &VortexError, out: &mut String) {
             put!(out, "Invalid {path} {:?}", invalid.breach);
         }
     }
+}
+
+pub fn write_statistics(dtype: &DType, statistics: &ColumnStatistics, out: &mut String) {
+    write_type(dtype, out);
+    out.push_str(":(");
+    write_count(statistics.row_count, "row", out);
+    out.push_str(", ");
+    match statistics.null_count {
+        Some(nulls) => write_count(nulls, "null", out),
+        None => out.push('_'),
+    }
+    out.push_str(", ");
+    write_bound(dtype, statistics.lower.as_ref(), out);
+    out.push_str(", ");
+    write_bound(dtype, statistics.upper.as_ref(), out);
+    out.push(')');
+}
+
+fn write_count(count: u64, noun: &str, out: &mut String) {
+    put!(out, "{count} {noun}{}", if count == 1 { "" } else { "s" });
+}
+
+fn write_bound(dtype: &DType, bound: Option<&Bound>, out: &mut String) {
+    let Some(bound) = bound else {
+        return out.push('_');
+    };
+    write_raw(bound.value.value(), out);
+    if bound.value.dtype() != dtype {
+        out.push_str(" of ");
+        write_type(bound.value.dtype(), out);
+    }
+    if bound.is_exact {
+        out.push_str(" exact");
+    }
+}
+
+pub fn truth_word(truth: Truth) -> &'static str {
+    match truth {
+        Truth::False => "false",
+        Truth::Unknown => "unknown",
+        Truth::True => "true",
+    }
+}
+
+/// The truth values that are possible.
+pub fn write_outcomes(outcomes: Outcomes, out: &mut String) {
+    let possible: Vec<&str> = [
+        (outcomes.may_be_true, "true"),
+        (outcomes.may_be_false, "false"),
+        (outcomes.may_be_unknown, "unknown"),
+    ]
+    .into_iter()
+    .filter_map(|(is_possible, word)| is_possible.then_some(word))
+    .collect();
+    out.push_str(if possible.is_empty() { "none" } else { "" });
+    out.push_str(&possible.join(" "));
 }

@@ -1,6 +1,9 @@
 //! The answers of calls, and how each is written.
 
 use crate::read::statistics::TypedStatistics;
+use crate::write::filters::{
+    filter_truth_word, write_filter_refusal, write_outcomes, write_text_refusal,
+};
 use crate::write::output::Output;
 use crate::write::refusals::{write_key_refusal, write_refusal};
 use crate::write::statistics::{write_statistics, write_statistics_refusal};
@@ -11,6 +14,7 @@ use std::alloc::{AllocError, Global};
 use std::cmp::Ordering;
 use std::fmt::Display;
 use vortex_dtype::{BufferString, ByteBuffer, DType, VortexError};
+use vortex_filter::{FilterError, Outcomes, ParseError, Truth};
 use vortex_pvalue::PValue;
 use vortex_row::RowError;
 use vortex_statistics::StatisticsError;
@@ -65,6 +69,11 @@ pub enum Answer {
     StatisticsRefused(StatisticsError),
     /// The places of elements, in another order.
     Places(Vec<usize>),
+    /// What a filter is on a row.
+    FilterTruth(Truth),
+    Outcomes(Outcomes),
+    FilterRefused(FilterError),
+    TextRefused(ParseError),
     /// An answer that is written already.
     Written(String),
     Refused(VortexError),
@@ -140,6 +149,10 @@ pub fn write_answer(out: &mut Output, answer: &Answer) {
         Answer::Statistics(column) => write_statistics(out, column),
         Answer::StatisticsRefused(refusal) => write_statistics_refusal(out, *refusal),
         Answer::Places(places) => write_places(out, places),
+        Answer::FilterTruth(truth) => out.word(filter_truth_word(*truth)),
+        Answer::Outcomes(outcomes) => write_outcomes(out, *outcomes),
+        Answer::FilterRefused(refusal) => write_filter_refusal(out, *refusal),
+        Answer::TextRefused(refusal) => write_text_refusal(out, *refusal),
         Answer::Written(text) => out.word(text),
         Answer::Refused(refusal) => write_refusal(out, refusal),
     }

@@ -2,6 +2,7 @@
 
 mod bounds;
 mod buffers;
+mod filters;
 mod keys;
 mod makers;
 mod makers_of_parts;

@@ -136,11 +136,11 @@ impl<'a> Tokens<'a> {
         false
     }
 
-    /// Whether another item comes next, after `before` items, of a list that goes to the end of the
-    /// line. Takes the comma before it.
+    /// Whether another item comes next, after `before` items, of a list that goes to a semicolon or to
+    /// the end of the line. Takes the comma before it.
     pub fn has_more(&mut self, before: usize) -> bool {
         if before == 0 {
-            !matches!(after_spaces(self.rest), [] | [b'=', ..])
+            !matches!(after_spaces(self.rest), [] | [b'=' | b';', ..])
         } else {
             self.takes(b',')
         }
@@ -171,6 +171,21 @@ impl<'a> Tokens<'a> {
             self.rest = before;
         }
         takes
+    }
+
+    /// Takes SQL text, and the semicolon after it. One in quotes is part of the text.
+    pub fn sql(&mut self) -> &'a [u8] {
+        match split_sql(self.rest) {
+            Some((sql, others)) => {
+                self.rest = others;
+                self.expect(b';');
+                sql
+            }
+            None => {
+                self.bad_line();
+                &[]
+            }
+        }
     }
 
     /// Takes the question mark of a nullable type, if there is one.
@@ -221,4 +236,19 @@ pub fn split_front<F: Fn(u8) -> bool>(text: &[u8], holds: F) -> (&[u8], &[u8])
         Some(place) => text.split_at(place),
         None => (text, &[]),
     }
+}
+
+/// Splits a text before its first semicolon outside of quotes. A quote that is doubled within quotes
+/// ends them and begins others.
+fn split_sql(text: &[u8]) -> Option<(&[u8], &[u8])> {
+    let mut open = None;
+    for (place, byte) in text.iter().enumerate() {
+        match open {
+            None if *byte == b';' => return Some(text.split_at(place)),
+            None if *byte == b'\'' || *byte == b'"' => open = Some(*byte),
+            Some(quote) if quote == *byte => open = None,
+            _ => {}
+        }
+    }
+    None
 }

@@ -1,5 +1,6 @@
 //! Writes answers, each in one form.
 
+pub mod filters;
 pub mod output;
 pub mod refusals;
 pub mod statistics;

@@ -1,8 +1,8 @@
 //! Calls of statistics of columns.
 
 use crate::answers::{Answer, CallResult};
-use crate::calls::Line;
 use crate::calls::keys::KeyRoom;
+use crate::calls::{Line, filters};
 use crate::inputs::{Borrowed, Inputs, ROOM};
 use crate::read::named;
 use crate::read::statistics::{TypedStatistics, read_typed_statistics};
@@ -45,10 +45,10 @@ const CALLS: [(&str, Call); 12] = [
     ("from_statistics_bytes", Call::FromStatisticsBytes),
 ];
 
-/// The answer of the line's call, if it is one of these; else `BadLine`.
+/// The answer of the line's call, if it is one of these; other calls are in `filters`.
 pub fn answer_line(line: &mut Line<'_>) -> Result<Answer, AllocError> {
     let Some(call) = named(&CALLS, line.name) else {
-        return Ok(Answer::BadLine);
+        return filters::answer_line(line);
     };
     match call {
         Call::Statistics => line.borrowing(statistics),
