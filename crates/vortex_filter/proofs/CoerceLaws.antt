@@ -1,12 +1,12 @@
 -- A coerced formula says what the formula says by contents, on rows of the columns' types, and fits the columns.
-use Rattle.std.proofs.Common.{◌≡◌, ◌⊎◌, inl, inr, ℕ, zero, suc, ℤ, pos, negsuc, ◌<◌, ◌≤◌, ◌^◌, Bool, true, false, not, ◌||◌, cond, List, [], ◌∷◌, ◌++◌, map, fold, Option, Some, None, Ordering, Less, Equal, Greater, refl, sym, subst, ap, ap₂, ◌∙◌, option_map, ◌<ℤ◌, nat_lt, arith, rules}
+use Rattle.std.proofs.Common.{◌≡◌, ◌⊎◌, inl, inr, ℕ, zero, suc, ℤ, pos, negsuc, ◌<◌, ◌^◌, Bool, true, false, not, ◌||◌, cond, List, [], ◌∷◌, ◌++◌, map, fold, Option, Some, None, Less, Greater, refl, sym, subst, ap, ap₂, ◌∙◌, option_map, ◌<ℤ◌, nat_lt, arith}
 use Rattle.std.specs.List.{AllByRecursion, filter, slice_get}
-use Rattle.std.specs.Ordering.{int_cmp, nat_cmp}
+use Rattle.std.specs.Ordering.{int_cmp}
 use Rattle.std.specs.Cmp.{int_cmp_is}
 use Rattle.std.proofs.lemmas.Bool.{false≢true, not-true}
 use Rattle.std.proofs.lemmas.Bool.Decides.{nat_tests}
 use Rattle.std.proofs.lemmas.Int.{ints}
-use Rattle.std.proofs.lemmas.Option.{none-some, same_Some, slice_get-map}
+use Rattle.std.proofs.lemmas.Option.{slice_get-map}
 use Rattle.vortex_dtype.specs.TypeTree.{TypeTree, null_type, integer_type, Same, as_nullable}
 use Rattle.vortex_dtype.specs.declared.nullability.Nullability.{Nullability}
 use Rattle.vortex_dtype.specs.declared.ptype.PType.{PType}
@@ -24,12 +24,12 @@ use Rattle.vortex_filter.specs.declared.operator.CompareOperator.{CompareOperato
 use Rattle.vortex_filter.specs.declared.operator.CompareOperator.TheVariants.{Eq, Gte, Lte}
 use Rattle.vortex_filter.specs.declared.truth.Truth.{Truth}
 use Rattle.vortex_filter.specs.declared.truth.Truth.TheVariants.{False, Unknown, True}
-use Rattle.vortex_filter.specs.Checking.{AllFit, Fits, IsOfType, IsOrderedFor, Suits, Test, beginning, comparing, nothing, tests}
+use Rattle.vortex_filter.specs.Checking.{AllFit, IsOfType, Test, tests}
 use Rattle.vortex_filter.specs.Coercing.{IsCoercible, by_column, coerced, coerced_cell, coerced_comparison, coerced_range, for_values, kept_cells, lacks, lacks_number, membership_of, side}
 use Rattle.vortex_filter.specs.Formula.{Formula, constant, comparison, null_test, membership, range, prefix_test, both, either, negation, cell_at, compare_truth, member_truth, order_truth, truth}
 use Rattle.vortex_filter.specs.Operators.{holds}
 use Rattle.vortex_filter.specs.Prefixes.{begins, begins_truth, prefix_truth}
-use Rattle.vortex_filter.specs.Rows.{IsCellOf, IsRowOf, content_truth, untyped, untyped_cell}
+use Rattle.vortex_filter.specs.Rows.{IsCellOf, IsRowOf, content_truth, untyped_cell}
 use Rattle.vortex_filter.specs.Truths.{truth_and, truth_not, truth_of, truth_or}
 use Rattle.vortex_filter.proofs.CheckLaws.{fit_both}
 

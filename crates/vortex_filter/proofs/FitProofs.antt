@@ -1,8 +1,8 @@
 -- A filter that fits is left as it is, and compares contents alone.
-use Rattle.std.proofs.Common.{◌≡◌, ◌≢◌, ◌⊎◌, ◌↔◌, inl, inr, ℕ, Bool, true, false, not, ◌||◌, cond, List, [], ◌∷◌, ◌++◌, map, Option, Some, None, Ordering, refl, sym, subst, ap, ap₂, ◌∙◌}
+use Rattle.std.proofs.Common.{◌≡◌, ◌≢◌, ◌⊎◌, ◌↔◌, inl, inr, ℕ, Bool, true, false, not, ◌||◌, cond, List, [], ◌∷◌, map, Option, Some, None, Ordering, refl, sym, subst, ap, ap₂, ◌∙◌}
 use Rattle.std.specs.List.{AllByRecursion, filter, slice_get}
 use Rattle.std.proofs.lemmas.Bool.{false≢true}
-use Rattle.std.proofs.lemmas.Option.{none-some, same_Some}
+use Rattle.std.proofs.lemmas.Option.{same_Some}
 use Rattle.vortex_dtype.specs.TypeTree.{TypeTree, Same, as_nullable, binary_type, bool_type, integer_type, utf8_type}
 use Rattle.vortex_dtype.specs.declared.nullability.Nullability.{Nullability}
 use Rattle.vortex_dtype.specs.declared.ptype.PType.{PType}
@@ -14,14 +14,13 @@ use Rattle.vortex_value.specs.Values.Content.{Content, null, truth as truth_cont
 use Rattle.vortex_statistics.specs.Cells.{Cell, cell_or_null, is_null_cell, is_null_content}
 use Rattle.vortex_filter.specs.declared.operator.CompareOperator.{CompareOperator}
 use Rattle.vortex_filter.specs.declared.operator.CompareOperator.TheVariants.{Gte, Lte}
-use Rattle.vortex_filter.specs.declared.truth.Truth.{Truth}
-use Rattle.vortex_filter.specs.declared.truth.Truth.TheVariants.{False, Unknown, True}
+use Rattle.vortex_filter.specs.declared.truth.Truth.TheVariants.{Unknown}
 use Rattle.vortex_filter.specs.Checking.{AllFit, Demand, FitsColumns, IsOfType, Suits, Test, beginning, comparing, nothing, tests}
 use Rattle.vortex_filter.specs.Coercing.{IsCoercible, by_column, coerced, coerced_cell, coerced_comparison, coerced_range, for_values, kept_cells, lacks, lacks_number, membership_of, side}
 use Rattle.vortex_filter.specs.FitLaws.{FittingComparesContents, IsPlainType, UnknownForNulls, UnknownWithoutOrder}
-use Rattle.vortex_filter.specs.Formula.{Formula, constant, comparison, null_test, membership, range, prefix_test, both, either, negation, cell_at, compare_truth, order_truth, truth}
+use Rattle.vortex_filter.specs.Formula.{Formula, constant, comparison, null_test, membership, range, prefix_test, both, either, negation, cell_at, order_truth, truth}
 use Rattle.vortex_filter.specs.Operators.{holds}
-use Rattle.vortex_filter.specs.Rows.{IsCellOf, IsRowOf, content_truth}
+use Rattle.vortex_filter.specs.Rows.{IsCellOf, IsRowOf}
 use Rattle.vortex_filter.specs.Truths.{truth_of}
 use Rattle.vortex_filter.proofs.CoerceLaws.{NullableIsSame, coerced_truth, fits_left, fits_right}
 

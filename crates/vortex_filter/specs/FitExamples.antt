@@ -1,13 +1,13 @@
 -- Worked cases of what fits the columns, of casts to their types, and of what is left on a zone, each a theorem.
-use Rattle.std.specs.Prelude.{◌≡◌, ℕ, pos, negsuc, true, false, [], ◌∷◌, Some, None, refl}
-use Rattle.vortex_dtype.specs.TypeTree.{TypeTree, integer_type, utf8_type}
+use Rattle.std.specs.Prelude.{◌≡◌, ℕ, pos, negsuc, true, [], ◌∷◌, Some, refl}
+use Rattle.vortex_dtype.specs.TypeTree.{integer_type}
 use Rattle.vortex_dtype.specs.declared.nullability.Nullability.TheVariants.{NonNullable, Nullable}
 use Rattle.vortex_dtype.specs.declared.ptype.PType.TheVariants.{I16, I64, U8}
-use Rattle.vortex_value.specs.Values.Content.{null, text, whole}
+use Rattle.vortex_value.specs.Values.Content.{null, whole}
 use Rattle.vortex_statistics.specs.Cells.{Cell}
 use Rattle.vortex_statistics.specs.Statistics.{Known}
-use Rattle.vortex_filter.specs.declared.operator.CompareOperator.TheVariants.{Eq, Gt, Gte, Lt, Lte, NotEq}
-use Rattle.vortex_filter.specs.declared.truth.Truth.TheVariants.{False, Unknown, True}
+use Rattle.vortex_filter.specs.declared.operator.CompareOperator.TheVariants.{Eq, Gt, Gte, Lt}
+use Rattle.vortex_filter.specs.declared.truth.Truth.TheVariants.{Unknown, True}
 use Rattle.vortex_filter.specs.Checking.{comparing, nothing, tests}
 use Rattle.vortex_filter.specs.Coercing.{coerced}
 use Rattle.vortex_filter.specs.Formula.{Formula, both, comparison, constant, either, membership, negation, null_test, range}

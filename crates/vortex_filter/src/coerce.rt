@@ -24,18 +24,18 @@ use vortex_pvalue::PValue;
 use vortex_value::{Scalar, ScalarValue};
 
 impl Filter {
-    /// The filter with each literal cast to the type of its column, made nullable. A literal that is of
-    /// the type up to nullability is copied as it is.
+    /// The filter with each literal cast to the type of its column, made nullable. A literal that
+    /// is of the type up to nullability is copied as it is.
     ///
-    /// A test with an integer that the column's integer type lacks becomes what it is: the same for each
-    /// value of the column, and Unknown for a null. From an `In` such literals are left out. Of rows
-    /// whose cells are of the columns' types the result says what the filter says by contents alone.
+    /// A test with an integer that the column's integer type lacks becomes what it is: the same for
+    /// each value of the column, and Unknown for a null. From an `In` such literals are left out. Of
+    /// rows whose cells are of the columns' types the result says what the filter says by contents
+    /// alone. A filter that passes `check` is copied as it is.
     ///
-    /// It is refused for the first test, in reading order, with a literal that cannot be cast, or whose
-    /// column is not there or has values without an order. A literal that is not valid for its own type
-    /// counts as one that cannot be cast. `OutOfMemory` may come in place of each answer. It borrows
-    /// the filter: casts are new scalars anyway, and so nothing is lost if it is refused. A filter that
-    /// passes `check` is copied as it is.
+    /// It is refused for the first test, in reading order, with a literal that cannot be cast, or
+    /// whose column is not there or has values without an order. A literal that is not valid for its
+    /// own type counts as one that cannot be cast. `OutOfMemory` may come in place of each answer.
+    /// It borrows the filter: casts are new scalars anyway, and so nothing is lost if it is refused.
     pub fn coerce(&self, alloc: Global, columns: &[DType]) -> Result<Filter, FilterError>
         ensures value { IfOk result (λ made.
             formula made ≡ coerced (map type_of columns.now) (formula self.now)) }
@@ -218,7 +218,8 @@ fn membership_in(
     literals: &[Scalar],
 ) -> Result<Filter, FilterError>
     ensures { CoercesTest (type_of dtype.now) (comparing (map cell_of literals.now))
-        (membership_of column (kept_cells (type_of dtype.now) (map cell_of literals.now)) (map cell_of literals.now))
+        (membership_of column
+        (kept_cells (type_of dtype.now) (map cell_of literals.now)) (map cell_of literals.now))
         (AreValid literals.now) column result }
 {
     match cast_literals(alloc, dtype, column, literals) {
@@ -285,7 +286,8 @@ fn cast_range(
         || lacks (type_of dtype.now) (cell_of upper.now)) ≡ false }
     ensures { CoercesTest (type_of dtype.now)
         (comparing (cell_of lower.now ∷ cell_of upper.now ∷ []))
-        (range column (coerced_cell (type_of dtype.now) (cell_of lower.now)) (coerced_cell (type_of dtype.now) (cell_of upper.now)))
+        (range column (coerced_cell (type_of dtype.now) (cell_of lower.now))
+        (coerced_cell (type_of dtype.now) (cell_of upper.now)))
         (AreValid (lower.now ∷ upper.now ∷ [])) column result }
 {
     match cast_literal(alloc, dtype, column, lower) {

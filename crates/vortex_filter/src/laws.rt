@@ -46,9 +46,10 @@ pub fn searches_find_all()
     order_is_transitive();
 }
 
-/// A comparison that fits its column is Unknown of a row of the columns' types exactly if the cell or
-/// the literal is null, or if the two have no order. In a column of truth values, integers, strings
-/// or bytes it is so exactly if one of the two is null, if the literal is a value of its type.
+/// A comparison that fits its column is Unknown of a row of the columns' types exactly if the cell
+/// or the literal is null, or if the two have no order. In a column of truth values, integers,
+/// strings or bytes it is so exactly if one of the two is null, if the literal is a value of its
+/// type.
 pub fn fitting_comparisons_decide()
     ensures without_order { UnknownWithoutOrder }
     ensures for_nulls { UnknownForNulls }
