@@ -16,14 +16,14 @@ pub enum FilterError {
     #[error("out of memory")]
     OutOfMemory,
     /// The test reads a column that is not there.
-    #[error("test {test}: no column {column}")]
+    #[error("no column {column}")]
     NoColumn { test: usize, column: usize },
     /// A variant stands in the type of the column, so its values have no order.
-    #[error("test {test}: a variant stands in the type of column {column}")]
+    #[error("a variant stands in the type of column {column}")]
     HasVariant { test: usize, column: usize },
     /// The column and a literal are of types that are not the same up to nullability, or a prefix is
     /// sought in a column that holds neither strings nor bytes.
-    #[error("test {test}: column {column} is of another type")]
+    #[error("a literal of another type than column {column}")]
     TypesDiffer { test: usize, column: usize },
 }
 
