@@ -80,10 +80,19 @@ class Counter:
             self.known[line] = int(counted[1])
         return self.known[line]
 
-    def seconds(self, line):
-        """Returns how long the call takes, once."""
-        said = run([self.program, "--memory"], line + "\n", LD_PRELOAD=f"{self.folder}/marks.so", TIMED="1")[1]
-        return int(re.search(r"took (\d+)", said)[1]) / 1e9
+    def seconds(self, line, runs):
+        """Returns how long the call takes in each of so many runs in one process."""
+        said = run([self.program, "--memory"], f"{line}\n" * runs, LD_PRELOAD=f"{self.folder}/marks.so", TIMED="1")[1]
+        return [int(took) / 1e9 for took in re.findall(r"took (\d+)", said)]
+
+
+def timed(counters, line, turns, runs):
+    """Returns how long the call takes in each program: in each turn one process of each, which makes so many runs of the call."""
+    taken = [[] for _ in counters]
+    for _ in range(turns):
+        for times, counter in zip(taken, counters):
+            times += counter.seconds(line, runs)
+    return taken
 
 
 def shown(ours, plain):
