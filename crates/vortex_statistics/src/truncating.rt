@@ -15,8 +15,10 @@ use vortex_value::laws::{order_is_reversed, order_is_transitive};
 
 impl ColumnStatistics {
     /// These statistics with each bound that is a string, or bytes, cut to at most `n` bytes. A
-    /// bound that was cut is no longer exact. An upper bound is dropped if no string, or no bytes,
-    /// of that length are above it. Other bounds stay, those of extension types too.
+    /// bound that was cut is no longer exact. Other bounds stay, those of extension types too.
+    ///
+    /// An upper bound is dropped if `upper_bound` gives none: if its first `n` bytes are all 255, or
+    /// if no whole character fits, or none of as many bytes follows the last one that fits.
     ///
     /// `OutOfMemory` only if a bound is longer than `n` bytes and `n` is above 22.
     pub fn truncate(self, alloc: Global, n: usize) -> Result<ColumnStatistics, StatisticsError>
