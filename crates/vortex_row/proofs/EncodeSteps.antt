@@ -158,7 +158,7 @@ pub ruleset strings = (appends-after_one, appends-then, left-all)
 
 -- one byte of a string
 
-escape-two : (b : ℕ) → b < 2 → escape b ≡ 1 ∷ (b + 1) ∷ []
+pub escape-two : (b : ℕ) → b < 2 → escape b ≡ 1 ∷ (b + 1) ∷ []
 escape-two zero h = refl
 escape-two (suc zero) h = refl
 escape-two (suc (suc b)) h = absurd (omega arith)

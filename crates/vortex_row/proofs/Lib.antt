@@ -15,10 +15,12 @@ pub mod NumberWords
 pub mod OrderLaws
 pub mod PartSteps
 pub mod PlaceLaws
+pub mod PlainSteps
 pub mod ReaderSteps
 pub mod RowDecodeSteps
 pub mod RowSteps
 pub mod ShiftSteps
+pub mod SlotSteps
 pub mod StringLaws
 pub mod StringSteps
 pub mod StuckLaws

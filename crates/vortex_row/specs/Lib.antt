@@ -10,7 +10,9 @@ pub mod Keys
 pub mod Laws
 pub mod Numbers
 pub mod Places
+pub mod Plain
 pub mod Reading
+pub mod Slots
 pub mod Steps
 pub mod Strings
 pub mod Variants

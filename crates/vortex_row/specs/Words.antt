@@ -23,6 +23,8 @@ pub use Rattle.vortex_row.specs.Encoders.{encoder_options, encoder_types}
 pub use Rattle.vortex_row.specs.Held.{AreBytes, AreHeld, IsHeld, IsWhole}
 pub use Rattle.vortex_row.specs.Keys.{big_endian, downward_key, escape, escaped, inverted, key, keys, number_bytes, upward_key, whole_key}
 pub use Rattle.vortex_row.specs.Laws.{CastsKeepKeys, KeysAreApart, KeysAreOrdered, OrderIsContentOrder, ValuesHaveNoTyped}
+pub use Rattle.vortex_row.specs.Plain.{plain_content}
+pub use Rattle.vortex_row.specs.Slots.{HasSlot, Writes}
 pub use Rattle.vortex_row.specs.Steps.{Appends, HasRoom, keys_length}
 pub use Rattle.vortex_row.specs.Variants.{has_variant, have_variant}
 pub use Rattle.vortex_row.specs.declared.error.RowError.TheVariants.{BadKey, HasVariant, OutOfMemory, WrongLength}

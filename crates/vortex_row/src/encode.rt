@@ -9,7 +9,7 @@ use vortex_pvalue::PValue;
 use vortex_value::{ScalarValue, UnionValue};
 
 /// Appends one byte.
-fn put(byte: u8, out: &mut Vec<u8>)
+pub(crate) fn put(byte: u8, out: &mut Vec<u8>)
     requires { HasRoom out.old (byte ∷ []) }
     ensures { Appends (byte ∷ []) out.old out.new }
 {
@@ -47,7 +47,7 @@ fn put_used(first: u8, number: u64, unused: usize, out: &mut Vec<u8>)
 
 /// Appends the key of a number that is not below zero.
 #[inline(always)]
-fn put_upward(number: u64, out: &mut Vec<u8>)
+pub(crate) fn put_upward(number: u64, out: &mut Vec<u8>)
     requires { HasRoom out.old (whole_key (pos number)) }
     ensures { Appends (whole_key (pos number)) out.old out.new }
 {
@@ -67,7 +67,7 @@ fn put_downward(distance: u64, out: &mut Vec<u8>)
 
 /// Appends the key of a number that may be below zero.
 #[inline(always)]
-fn put_integer(number: i64, out: &mut Vec<u8>)
+pub(crate) fn put_integer(number: i64, out: &mut Vec<u8>)
     requires { HasRoom out.old (whole_key number) }
     ensures { Appends (whole_key number) out.old out.new }
 {
@@ -109,7 +109,7 @@ fn put_doubled(byte: u8, out: &mut Vec<u8>)
 
 /// The place of the first byte that is written as two, if there is one.
 #[tactic(auto, using(crate::proofs::EncodeSteps::doubled))]
-fn doubled_place(bytes: &[u8]) -> Option<usize>
+pub(crate) fn doubled_place(bytes: &[u8]) -> Option<usize>
     ensures { MatchOption result
         (escaped bytes.now ≡ bytes.now ++ 0 ∷ [])
         (λ place. (place < length bytes.now) × (slice_index bytes.now place < 2) × (escaped bytes.now
@@ -141,7 +141,7 @@ fn put_runs(bytes: &[u8], out: &mut Vec<u8>)
 
 /// Appends the bytes of a string, and its end.
 #[tactic(auto, using(crate::proofs::EncodeSteps::strings))]
-fn put_string(bytes: &[u8], out: &mut Vec<u8>)
+pub(crate) fn put_string(bytes: &[u8], out: &mut Vec<u8>)
     requires { HasRoom out.old (escaped bytes.now) }
     ensures appended { Appends (escaped bytes.now) out.old out.new }
     ensures held { AreBytes bytes.now }
@@ -226,7 +226,7 @@ fn append_union(union: &UnionValue, out: &mut Vec<u8>)
 }
 
 /// Inverts each byte, which reverses the order of strings of them.
-fn invert(bytes: &mut [u8])
+pub(crate) fn invert(bytes: &mut [u8])
     ensures { bytes.new ≡ inverted true bytes.old }
 {
     for byte in bytes.iter_mut() {
@@ -235,7 +235,7 @@ fn invert(bytes: &mut [u8])
 }
 
 /// Inverts each byte from this place on.
-fn invert_from(start: usize, out: &mut Vec<u8>)
+pub(crate) fn invert_from(start: usize, out: &mut Vec<u8>)
     requires { start ≤ vec_len out.old }
     ensures items { out.new.items
         ≡ take start out.old.items ++ inverted true (drop start out.old.items) }

@@ -1,6 +1,6 @@
 //! How many bytes keys have, so that room for them is taken once.
 
-ghost use Rattle.std.specs.Prelude.{[], ◌++◌, ◌+◌, ◌≡◌, ◌∷◌, drop, length, true, unsigned_abs};
+ghost use Rattle.std.specs.Prelude.{[], ◌++◌, ◌+◌, ◌≡◌, ◌∷◌, drop, length, pos, true, unsigned_abs};
 ghost use Rattle.vortex_row.specs.Words.{big_endian, capped, content, contents, escaped, key, keys, lent_raw, number_bytes, union_tree, value_tree, value_trees, whole_key, whole_of};
 
 use vortex_pvalue::PValue;
@@ -41,6 +41,24 @@ fn number_length(number: &PValue) -> usize
     9 - leading_zero_bytes(distance(number))
 }
 
+/// How many bytes the key of a number has that is not below zero.
+#[inline(always)]
+#[tactic(auto, using(crate::proofs::LengthSteps::numbers))]
+pub(crate) fn upward_length(number: u64) -> usize
+    ensures { result ≡ length (whole_key (pos number)) }
+{
+    9 - leading_zero_bytes(number)
+}
+
+/// How many bytes the key of a number has that may be below zero.
+#[inline(always)]
+#[tactic(auto, using(crate::proofs::LengthSteps::numbers))]
+pub(crate) fn integer_length(number: i64) -> usize
+    ensures { result ≡ length (whole_key number) }
+{
+    9 - leading_zero_bytes(number.unsigned_abs())
+}
+
 /// Whether no byte of a string is written as two. It looks at all bytes, so that several are tested
 /// at once.
 #[tactic(auto, using(crate::proofs::LengthSteps::strings))]
@@ -70,7 +88,7 @@ fn doubled_bytes(bytes: &[u8]) -> usize
 
 /// How many bytes the key of a string has.
 #[tactic(auto, using(crate::proofs::LengthSteps::strings))]
-fn string_length(bytes: &[u8]) -> usize
+pub(crate) fn string_length(bytes: &[u8]) -> usize
     ensures { result ≡ capped (1 + length (escaped bytes.now)) }
 {
     let doubled = if is_plain(bytes) {

@@ -17,24 +17,31 @@ fn ids_are_bytes(variants: &UnionVariants)
     }
 }
 
-/// Whether a variant stands in the type, at any depth.
+/// Whether a variant stands in the type, at any depth: then its values have no order, and no keys.
+pub fn has_variant(dtype: &DType) -> bool
+    ensures { result ≡ has_variant (type_of dtype.now) }
+{
+    holds_variant(dtype)
+}
+
+/// Whether a variant stands in the type, and if none does, that the ids of unions are bytes.
 #[cycle(variants)]
 #[tactic(auto, using(crate::proofs::VariantSteps::shown))]
-fn has_variant(dtype: &DType) -> bool
+fn holds_variant(dtype: &DType) -> bool
     ensures decided { result ≡ has_variant (type_of dtype.now) }
     ensures ids { result ≡ false → HasByteIds (type_of dtype.now) }
 {
     match dtype {
         DType::Variant(_) => true,
-        DType::List(element, _) => has_variant(element),
-        DType::FixedSizeList(element, _, _) => has_variant(element),
-        DType::Map(map, _) => has_variant(map.key_dtype()) || has_variant(map.value_dtype()),
+        DType::List(element, _) => holds_variant(element),
+        DType::FixedSizeList(element, _, _) => holds_variant(element),
+        DType::Map(map, _) => holds_variant(map.key_dtype()) || holds_variant(map.value_dtype()),
         DType::Struct(fields, _) => have_variant(fields.dtypes()),
         DType::Union(variants, _) => {
             ids_are_bytes(variants);
             have_variant(variants.dtypes())
         }
-        DType::Extension(extension) => has_variant(extension.storage_dtype()),
+        DType::Extension(extension) => holds_variant(extension.storage_dtype()),
         _ => false,
     }
 }
@@ -47,7 +54,7 @@ fn have_variant(dtypes: &[DType]) -> bool
     ensures ids { result ≡ false → HaveByteIds (dtype_trees dtypes.now) }
 {
     for dtype in dtypes {
-        if has_variant(dtype) {
+        if holds_variant(dtype) {
             return true;
         }
     }
@@ -61,7 +68,7 @@ pub(crate) fn expect_no_variant(dtype: &DType) -> Result<(), RowError>
     ensures ids { OnOk result (HasByteIds (type_of dtype.now)) }
     ensures refused { IfErr result (λ e. (e ≡ HasVariant) × ¬ (HasNoVariant (type_of dtype.now))) }
 {
-    if has_variant(dtype) {
+    if holds_variant(dtype) {
         return Err(RowError::HasVariant);
     }
     Ok(())

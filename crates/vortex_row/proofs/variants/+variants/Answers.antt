@@ -8,8 +8,8 @@ have_variant-loop-dtype-init t c = (refl, λ h. h)
 
 pub have_variant-loop-dtype-preserved : goal.have_variant-loop-dtype-preserved
 have_variant-loop-dtype-preserved t c = (
-  rest-decides c.loop-dtype.dtype-index c.args.dtypes.now c.dtype-item.result _ _ c.loop-dtype-test.true c.dtype-item.is c.has_variant.ensures.decided c.if-has_variant.false c.loop-dtype.invariant.0,
-  ids-from c.loop-dtype.dtype-index c.args.dtypes.now c.dtype-item.result c.loop-dtype-test.true c.dtype-item.is (c.has_variant.ensures.ids c.if-has_variant.false) c.loop-dtype.invariant.1,
+  rest-decides c.loop-dtype.dtype-index c.args.dtypes.now c.dtype-item.result _ _ c.loop-dtype-test.true c.dtype-item.is c.holds_variant.ensures.decided c.if-holds_variant.false c.loop-dtype.invariant.0,
+  ids-from c.loop-dtype.dtype-index c.args.dtypes.now c.dtype-item.result c.loop-dtype-test.true c.dtype-item.is (c.holds_variant.ensures.ids c.if-holds_variant.false) c.loop-dtype.invariant.1,
 )
 
 pub have_variant-returns-clause-ids : goal.have_variant-returns-clause-ids
