@@ -1,0 +1,3 @@
+mod CellLaws
+mod ContentLaws
+mod KindRanges

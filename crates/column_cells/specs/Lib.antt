@@ -1,0 +1,4 @@
+pub mod Contents
+pub mod Examples
+pub mod Types
+pub mod Words

@@ -1,0 +1,13 @@
+-- The words of this crate's clauses, from one place.
+pub use Rattle.arrow_columns.specs.Checked.{AreRowsOf}
+pub use Rattle.arrow_columns.specs.Faults.{IsFaultOf}
+pub use Rattle.std.specs.Option.{option_copied}
+pub use Rattle.vortex_dtype.specs.TypeOf.{type_of}
+pub use Rattle.vortex_dtype.specs.TypeTree.{binary_type, bool_type, integer_type, utf8_type}
+pub use Rattle.vortex_dtype.specs.declared.error.VortexError.TheVariants.{OutOfMemory}
+pub use Rattle.vortex_dtype.specs.declared.nullability.Nullability.TheVariants.{Nullable}
+pub use Rattle.vortex_pvalue.specs.Numbers.{InRange}
+pub use Rattle.vortex_value.specs.Values.Content.{string, text, truth, whole}
+pub use Rattle.vortex_value.specs.Values.Scalars.{IsValid, scalar_content, scalar_type}
+pub use Rattle.column_cells.specs.Contents.{AreBytes, HasTexts, IsLongContent, content_or_null, contents_of_column, contents_of_rows}
+pub use Rattle.column_cells.specs.Types.{ptype_of_kind, type_of_column, type_of_kind, type_of_rows}

@@ -1,0 +1,14 @@
+// SPDX-License-Identifier: Apache-2.0
+// SPDX-FileCopyrightText: Copyright the Vortex contributors; ported to Rattle and changed
+//! Columns in Arrow's layout as columns of scalars: the type of each kind, and the scalar of a row.
+#![tactic(auto)]
+
+mod cells;
+mod columns;
+mod scalars;
+mod types;
+
+pub use cells::{row_count, scalar_at};
+pub use columns::rows_of;
+pub use scalars::{bool_scalar, byte_scalar, integer_scalar, text_scalar};
+pub use types::{dtype_of, dtype_of_rows, ptype_of};
