@@ -149,7 +149,7 @@ residual_size ss (negation f) =
 
 -- ---- one truth for all
 
-sole_only : (t : Truth) → sole (only t) ≡ Some t
+pub sole_only : (t : Truth) → sole (only t) ≡ Some t
 sole_only False = refl
 sole_only Unknown = refl
 sole_only True = refl

@@ -27,7 +27,7 @@ pub use Rattle.vortex_filter.specs.Pieces.{and_text, column_text, comparison_tex
 pub use Rattle.vortex_filter.specs.Prefixes.{cell_prefix_order, prefix_truth}
 pub use Rattle.vortex_filter.specs.Printing.{constant_keyword, content_token, is_special, names_of, prefix_pattern, sql_text, tokens_at, tokens_of}
 pub use Rattle.vortex_filter.specs.Pruning.{Covers, MatchesEachRow, MatchesNoRow}
-pub use Rattle.vortex_filter.specs.Residual.{IsBare, SameOnRows, conjunction, disjunction, is_constant, reduced, residual, same_truths, size, sole}
+pub use Rattle.vortex_filter.specs.Residual.{IsBare, SameOnRows, conjunction, disjunction, is_constant, residual, same_truths, size, sole}
 pub use Rattle.vortex_filter.specs.Searching.{SearchesFindAll, ZonesAreSearched}
 pub use Rattle.vortex_filter.specs.Texts.{AreItemsOf, IsRefusal, StopsAt, items}
 pub use Rattle.vortex_filter.specs.Tokens.{AreTokens, TokenTree, canonical, doubled, is_word_byte, is_word_start, keyword_text, name_token, operator_text, quoted, spelling, token_tree, trees}

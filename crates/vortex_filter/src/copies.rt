@@ -1,8 +1,8 @@
 //! Copies of filters, and filters made of parts, in memory of their own.
 
 ghost use Rattle.std.specs.Prelude.{◌≡◌, Err, IfErr, IfOk, MatchResult, map};
-ghost use Rattle.vortex_filter.specs.Makes.{Makes, OfParts};
-ghost use Rattle.vortex_filter.specs.Words.{OutOfMemory, both, cell_of, comparison, either, formula, membership, negation, prefix_test, range};
+ghost use Rattle.vortex_filter.specs.Makes.{Makes, MakesUnlessBare, OfParts};
+ghost use Rattle.vortex_filter.specs.Words.{IsBare, OutOfMemory, both, cell_of, comparison, either, formula, membership, negation, prefix_test, range};
 
 use crate::error::FilterError;
 use crate::filter::Filter;
@@ -11,19 +11,20 @@ use std::alloc::Global;
 use vortex_value::Scalar;
 
 impl Filter {
-    /// A copy with memory of its own. `OutOfMemory` is its only refusal.
+    /// A copy with memory of its own. `OutOfMemory` is its only refusal, and comes neither of a
+    /// constant nor of a test for null.
     pub fn clone(&self, alloc: Global) -> Result<Filter, FilterError>
         ensures copied { IfOk result (λ copy. formula copy ≡ formula self.now) }
-        ensures refused { IfErr result (λ e. e ≡ OutOfMemory) }
+        ensures refused { IfErr result (λ e. (e ≡ OutOfMemory) × ¬ (IsBare (formula self.now))) }
     {
         copy(alloc, self)
     }
 }
 
-/// A copy of a filter.
-#[tactic(auto, using(crate::proofs::Steps::shown))]
+/// A copy of a filter. That of a constant or a test for null takes no memory.
+#[tactic(auto, using(crate::proofs::MakeSteps::shown))]
 pub(crate) fn copy(alloc: Global, filter: &Filter) -> Result<Filter, FilterError>
-    ensures { Makes (formula filter.now) result }
+    ensures { MakesUnlessBare (formula filter.now) result }
 {
     match filter {
         Filter::Constant(truth) => Ok(Filter::Constant(*truth)),

@@ -91,7 +91,7 @@ impl Filter {
 }
 
 /// Whether this truth value, and no other, is possible.
-fn is_settled(outcomes: Outcomes, truth: Truth) -> bool
+pub(crate) fn is_settled(outcomes: Outcomes, truth: Truth) -> bool
     ensures { IsTrue result ↔ (outcomes ≡ only truth) }
 {
     outcomes == Outcomes::only(truth)

@@ -1,14 +1,16 @@
 //! What is left of a filter on the rows of a zone of which statistics are known.
 
-ghost use Rattle.std.specs.Prelude.{◌≡◌, ◌≤◌, Err, IfErr, IfOk, IsOkAnd, map};
-ghost use Rattle.vortex_filter.specs.Makes.{Leaves, Makes, MakesUnlessBare, OfParts, is_made_false, is_made_true};
-ghost use Rattle.vortex_filter.specs.Words.{IsBare, OutOfMemory, SameOnRows, conjunction, constant, disjunction, formula, is_constant, known, negation, only, outcomes, reduced, residual, same_truths, size, sole};
+ghost use Rattle.std.specs.Prelude.{◌≡◌, ◌≤◌, ◌&&◌, ◌||◌, Err, IfErr, IfOk, IsOkAnd, List, MatchOption, is_none, is_some, map};
+ghost use Rattle.vortex_filter.specs.Makes.{IsResidual, MakesUnlessBare, OfParts, is_made_false, is_made_true, settled};
+ghost use Rattle.vortex_filter.specs.Words.{IsBare, OutOfMemory, SameOnRows, both, conjunction, constant, disjunction, either, formula, is_constant, known, negation, only, outcomes, residual, same_truths, size, sole};
+ghost use Rattle.vortex_statistics.specs.Statistics.{Known};
 ghost use Rattle.vortex_filter.specs.declared.truth.Truth.{Truth};
 
 use crate::copies::{conjoin, copy, disjoin, negate};
 use crate::error::FilterError;
 use crate::filter::Filter;
 use crate::outcomes::Outcomes;
+use crate::pruning::is_settled;
 use crate::truth::Truth;
 use std::alloc::Global;
 use vortex_statistics::ColumnStatistics;
@@ -33,54 +35,152 @@ impl Filter {
         ensures smaller { IfOk result (λ left. size (formula left) ≤ size (formula self.now)) }
         ensures decided { (t : Truth) → outcomes (formula self.now) (map known statistics.now) ≡ only t
             → IsOkAnd result (λ left. formula left ≡ constant t) }
-        ensures refused { IfErr result (λ e. (e ≡ OutOfMemory) × ¬ (IsBare (formula self.now))) }
+        ensures refused { IfErr result (λ e. (e ≡ OutOfMemory)
+            × ¬ (IsBare (residual (map known statistics.now) (formula self.now)))) }
     {
         order_is_reversed();
         order_is_transitive();
-        residual(alloc, self, statistics)
+        left_filter(alloc, self, residual_of(alloc, self, statistics))
     }
 }
 
-/// What is left of a filter. Memory is taken only if more than one truth is possible.
-#[cycle(residual)]
-#[tactic(auto, using(crate::proofs::SimplifySteps::shown))]
-fn residual(
-    alloc: Global,
-    filter: &Filter,
-    statistics: &[ColumnStatistics],
-) -> Result<Filter, FilterError>
-    ensures { Leaves (map known statistics.now) (formula filter.now) result }
-{
-    match sole(filter.outcomes(statistics)) {
-        Some(truth) => Ok(Filter::Constant(truth)),
-        None => reduced(alloc, filter, statistics),
-    }
+/// What a filter can be, and what is left of it.
+#[derive(Drop)]
+struct Residual {
+    outcomes: Outcomes,
+    /// What stands in its place, or the refusal of its memory. `None`: the filter stays as it is.
+    change: Option<Result<Filter, FilterError>>,
 }
 
-/// The filter with what is left of its parts.
+/// What is left of a filter. Each part is visited once, and takes no memory while it stays as it
+/// is.
 #[cycle(residual)]
 #[tactic(auto, using(crate::proofs::SimplifySteps::shown))]
-fn reduced(
-    alloc: Global,
-    filter: &Filter,
-    statistics: &[ColumnStatistics],
-) -> Result<Filter, FilterError>
-    ensures { MakesUnlessBare (formula filter.now)
-        (reduced (map known statistics.now) (formula filter.now)) result }
+fn residual_of(alloc: Global, filter: &Filter, statistics: &[ColumnStatistics]) -> Residual
+    ensures { IsResidual (map known statistics.now) (formula filter.now) result }
 {
     match filter {
-        Filter::Constant(truth) => Ok(Filter::Constant(*truth)),
-        Filter::IsNull { column } => Ok(Filter::IsNull { column: *column }),
         Filter::And(left, right) => {
-            let first = residual(alloc, left, statistics);
-            without_true(alloc, first, residual(alloc, right, statistics))
+            let front = residual_of(alloc, left, statistics);
+            if is_settled(front.outcomes, Truth::False) {
+                return front;
+            }
+            conjoined(
+                alloc,
+                left,
+                front,
+                right,
+                residual_of(alloc, right, statistics),
+            )
         }
         Filter::Or(left, right) => {
-            let first = residual(alloc, left, statistics);
-            without_false(alloc, first, residual(alloc, right, statistics))
+            let front = residual_of(alloc, left, statistics);
+            if is_settled(front.outcomes, Truth::True) {
+                return front;
+            }
+            disjoined(
+                alloc,
+                left,
+                front,
+                right,
+                residual_of(alloc, right, statistics),
+            )
         }
-        Filter::Not(inner) => negate(alloc, residual(alloc, inner, statistics)),
-        _ => copy(alloc, filter),
+        Filter::Not(inner) => negated(alloc, inner, residual_of(alloc, inner, statistics)),
+        _ => settled(filter.outcomes(statistics)),
+    }
+}
+
+/// What is left of a filter whose parts stay as they are: a constant, if one truth alone is
+/// possible.
+fn settled(outcomes: Outcomes) -> Residual
+    ensures { result ≡ settled outcomes }
+{
+    let change = match sole(outcomes) {
+        Some(truth) => Some(Ok(Filter::Constant(truth))),
+        None => None,
+    };
+    Residual { outcomes, change }
+}
+
+/// What is left of both filters together.
+#[tactic(auto, using(crate::proofs::SimplifySteps::pairs))]
+fn conjoined(
+    alloc: Global,
+    left: &Filter,
+    front: Residual,
+    right: &Filter,
+    back: Residual,
+) -> Residual
+    ensures { (ss : List Known) → IsResidual ss (formula left.now) front
+        → IsResidual ss (formula right.now) back
+        → IsResidual ss (both (formula left.now) (formula right.now)) result }
+{
+    let outcomes = front.outcomes.and(back.outcomes);
+    if are_settled(outcomes, &front, &back) {
+        drop((front, back));
+        return settled(outcomes);
+    }
+    let front = left_filter(alloc, left, front);
+    let back = left_filter(alloc, right, back);
+    let change = Some(without_true(alloc, front, back));
+    Residual { outcomes, change }
+}
+
+/// What is left of one filter or the other.
+#[tactic(auto, using(crate::proofs::SimplifySteps::pairs))]
+fn disjoined(
+    alloc: Global,
+    left: &Filter,
+    front: Residual,
+    right: &Filter,
+    back: Residual,
+) -> Residual
+    ensures { (ss : List Known) → IsResidual ss (formula left.now) front
+        → IsResidual ss (formula right.now) back
+        → IsResidual ss (either (formula left.now) (formula right.now)) result }
+{
+    let outcomes = front.outcomes.or(back.outcomes);
+    if are_settled(outcomes, &front, &back) {
+        drop((front, back));
+        return settled(outcomes);
+    }
+    let front = left_filter(alloc, left, front);
+    let back = left_filter(alloc, right, back);
+    let change = Some(without_false(alloc, front, back));
+    Residual { outcomes, change }
+}
+
+/// What is left of a filter that is negated.
+fn negated(alloc: Global, inner: &Filter, residual: Residual) -> Residual
+    ensures { (ss : List Known) → IsResidual ss (formula inner.now) residual
+        → IsResidual ss (negation (formula inner.now)) result }
+{
+    let outcomes = residual.outcomes.negate();
+    if sole(outcomes).is_some() || residual.change.is_none() {
+        drop(residual);
+        return settled(outcomes);
+    }
+    let change = Some(negate(alloc, left_filter(alloc, inner, residual)));
+    Residual { outcomes, change }
+}
+
+/// Whether there is nothing to make: one truth alone is possible, or both filters stay as they are.
+fn are_settled(outcomes: Outcomes, front: &Residual, back: &Residual) -> bool
+    ensures { result
+        ≡ (is_some (sole outcomes) || (is_none front.now.change && is_none back.now.change)) }
+{
+    sole(outcomes).is_some() || (front.change.is_none() && back.change.is_none())
+}
+
+/// The filter that is left: what stands in its place, or else a copy.
+fn left_filter(alloc: Global, filter: &Filter, residual: Residual) -> Result<Filter, FilterError>
+    ensures { MatchOption residual.change
+        (MakesUnlessBare (formula filter.now) result) (λ made. result ≡ made) }
+{
+    match residual.change {
+        Some(made) => made,
+        None => copy(alloc, filter),
     }
 }
 
@@ -101,12 +201,13 @@ fn sole(outcomes: Outcomes) -> Option<Truth>
 }
 
 /// Both filters together, without a True; else the refusal of the first that was not made.
+#[tactic(auto, using(crate::proofs::SimplifySteps::left_out))]
 fn without_true(
     alloc: Global,
     left: Result<Filter, FilterError>,
     right: Result<Filter, FilterError>,
 ) -> Result<Filter, FilterError>
-    ensures { OfParts (λ f g. Makes (conjunction (formula f) (formula g)) result)
+    ensures { OfParts (λ f g. MakesUnlessBare (conjunction (formula f) (formula g)) result)
         (λ e. result ≡ Err e) left right }
 {
     if is_true(&left) {
@@ -121,12 +222,13 @@ fn without_true(
 }
 
 /// One filter or the other, without a False; else the refusal of the first that was not made.
+#[tactic(auto, using(crate::proofs::SimplifySteps::left_out))]
 fn without_false(
     alloc: Global,
     left: Result<Filter, FilterError>,
     right: Result<Filter, FilterError>,
 ) -> Result<Filter, FilterError>
-    ensures { OfParts (λ f g. Makes (disjunction (formula f) (formula g)) result)
+    ensures { OfParts (λ f g. MakesUnlessBare (disjunction (formula f) (formula g)) result)
         (λ e. result ≡ Err e) left right }
 {
     if is_false(&left) {

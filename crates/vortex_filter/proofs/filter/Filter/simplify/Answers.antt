@@ -2,14 +2,17 @@ use Rattle.std.proofs.Common.{map}
 use Rattle.vortex_statistics.specs.Statistics.{known}
 use Rattle.vortex_statistics.proofs.CellLaws.{from_below}
 use Rattle.vortex_filter.specs.Formula.{formula}
-use Rattle.vortex_filter.proofs.SimplifySteps.{decided_left, refused_left, same_left, smaller_left, value_left}
+use Rattle.vortex_filter.specs.Residual.{residual}
+use Rattle.vortex_filter.proofs.SimplifySteps.{decided_left, filter_left, refused_left, same_left, smaller_left, value_left}
 use Rattle.vortex_filter.proofs.filter.Filter.simplify.Goals as goal
 
 pub returns : goal.returns
-returns c = record {
-  value = value_left (map known c.args.statistics.now) (formula c.args.self.now) c.residual.result c.residual.ensures;
-  same = same_left (from_below c.order_is_reversed.ensures.contents c.order_is_transitive.ensures.contents) (map known c.args.statistics.now) (formula c.args.self.now) c.residual.result c.residual.ensures;
-  smaller = smaller_left (map known c.args.statistics.now) (formula c.args.self.now) c.residual.result c.residual.ensures;
-  decided = decided_left (map known c.args.statistics.now) (formula c.args.self.now) c.residual.result c.residual.ensures;
-  refused = refused_left (map known c.args.statistics.now) (formula c.args.self.now) c.residual.result c.residual.ensures;
-}
+returns c =
+    let made = filter_left (map known c.args.statistics.now) (formula c.args.self.now) c.residual_of.result c.left_filter.result c.residual_of.ensures c.left_filter.ensures in
+    record {
+      value = value_left (map known c.args.statistics.now) (formula c.args.self.now) c.left_filter.result made;
+      same = same_left (from_below c.order_is_reversed.ensures.contents c.order_is_transitive.ensures.contents) (map known c.args.statistics.now) (formula c.args.self.now) c.left_filter.result made;
+      smaller = smaller_left (map known c.args.statistics.now) (formula c.args.self.now) c.left_filter.result made;
+      decided = decided_left (map known c.args.statistics.now) (formula c.args.self.now) c.left_filter.result made;
+      refused = refused_left (residual (map known c.args.statistics.now) (formula c.args.self.now)) c.left_filter.result made;
+    }
