@@ -14,7 +14,7 @@ use Rattle.vortex_filter.specs.declared.error.FilterError.TheVariants.{OutOfMemo
 use Rattle.vortex_filter.specs.CheckSteps.{answer_of_both, behind, checked, checked_test, holds_strings, lacks_order, suits}
 use Rattle.vortex_filter.specs.Checking.{AllFit, Demand, Fits, FitsColumns, HoldsStrings, IsOfType, IsOrderedFor, Refuses, RefusesFirst, Suits, Test, beginning, comparing, nothing, tests}
 use Rattle.vortex_filter.specs.Formula.{Formula, constant, comparison, null_test, membership, range, prefix_test, both, either, negation}
-use Rattle.vortex_filter.proofs.VariantSteps.{none-from_test, test-from_none}
+use Rattle.vortex_row.proofs.VariantSteps.{none-from_test, test-from_none}
 
 -- ---- counts
 

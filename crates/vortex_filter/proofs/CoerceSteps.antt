@@ -14,6 +14,7 @@ use Rattle.vortex_dtype.specs.declared.error.VortexError.TheVariants as why
 use Rattle.vortex_dtype.specs.declared.nullability.Nullability.{Nullability}
 use Rattle.vortex_dtype.specs.declared.ptype.PType.{PType}
 use Rattle.vortex_dtype.specs.declared.types.DType.{DType}
+use Rattle.vortex_dtype.specs.Lemmas.TypeLevels.{type_of-List, type_of-FixedSizeList, type_of-Map, type_of-Struct, type_of-Union, type_of-Extension}
 use Rattle.vortex_pvalue.specs.Conversions.{IsNumber}
 use Rattle.vortex_pvalue.specs.Numbers.{InRange, in_range}
 use Rattle.vortex_pvalue.specs.RangeLaws.{in_range_false, in_range_true}
@@ -44,12 +45,12 @@ use Rattle.vortex_filter.specs.FilterLiterals.{AreValid, literals_of}
 use Rattle.vortex_filter.specs.Makes.{Makes, OfParts}
 use Rattle.vortex_filter.specs.Operators.{holds}
 use Rattle.vortex_filter.specs.Rows.{IsRowOf, content_truth}
-use Rattle.vortex_filter.specs.Variants.{has_variant}
+use Rattle.vortex_row.specs.Variants.{has_variant}
 use Rattle.vortex_filter.proofs.CheckLaws.{fit_both, fit_one, refuses_behind, refuses_front, refuses_one, strings_test}
 use Rattle.vortex_filter.proofs.CoerceLaws.{NullableIsSame, coerced_fits, coerced_truth}
 use Rattle.vortex_filter.proofs.FitProofs.{coerced_itself}
 use Rattle.vortex_filter.proofs.Steps.{formula-And, formula-Between, formula-Compare, formula-Constant, formula-In, formula-IsNull, formula-Not, formula-Or, formula-StartsWith}
-use Rattle.vortex_filter.proofs.VariantSteps.{none-from_test, test-from_none}
+use Rattle.vortex_row.proofs.VariantSteps.{none-from_test, test-from_none}
 
 -- ---- literals
 
@@ -228,6 +229,10 @@ pub ordered_given : (columns : List TypeTree) (k : ℕ) (d : Bor DType) → Some
 ordered_given columns k d e v = (sym e, none-from_test (type_of d.now) v)
 
 pub ruleset variants = (absent_given, variant_given, ordered_given)
+
+-- ---- the integer type of a column
+
+pub ruleset levels = (type_of-List, type_of-FixedSizeList, type_of-Map, type_of-Struct, type_of-Union, type_of-Extension)
 
 -- ---- comparisons
 

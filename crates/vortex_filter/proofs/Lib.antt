@@ -37,5 +37,4 @@ pub mod Steps
 pub mod Taken
 pub mod TestSteps
 pub mod Tests
-pub mod VariantSteps
 pub mod Words

@@ -10,7 +10,7 @@ use Rattle.vortex_filter.specs.declared.error.FilterError.{FilterError}
 use Rattle.vortex_filter.specs.declared.error.FilterError.TheVariants.{OutOfMemory, NoColumn, HasVariant, TypesDiffer}
 use Rattle.vortex_filter.specs.Checking.{Demand, beginning, comparing, nothing, tests}
 use Rattle.vortex_filter.specs.Formula.{Formula, constant, comparison, null_test, membership, range, prefix_test, both, either, negation}
-use Rattle.vortex_filter.specs.Variants.{has_variant}
+use Rattle.vortex_row.specs.Variants.{has_variant}
 
 -- whether the type holds strings, or bytes
 abbrev pub holds_strings : TypeTree → Bool

@@ -32,5 +32,4 @@ pub mod SqlExamples
 pub mod Texts
 pub mod Tokens
 pub mod Truths
-pub mod Variants
 pub mod Words

@@ -15,12 +15,12 @@ use crate::error::FilterError;
 use crate::filter::Filter;
 use crate::operator::CompareOperator;
 use crate::truth::Truth;
-use crate::variants::has_variant;
 use std::alloc::Global;
 use std::cmp::Ordering;
 use vortex_dtype::laws::nullable_is_the_same;
 use vortex_dtype::{DType, PType, VortexError};
 use vortex_pvalue::PValue;
+use vortex_row::has_variant;
 use vortex_value::{Scalar, ScalarValue};
 
 impl Filter {
@@ -526,7 +526,7 @@ fn is_out_of_range(ptype: PType, number: i128) -> bool
 }
 
 /// The integer type that it is, if it is one.
-#[tactic(auto, using(crate::proofs::VariantSteps::shown))]
+#[tactic(auto, using(crate::proofs::CoerceSteps::levels))]
 fn integer_type(dtype: &DType) -> Option<PType>
     ensures { result ≡ integer_in (type_of dtype.now) }
 {

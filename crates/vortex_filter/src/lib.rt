@@ -22,7 +22,6 @@ mod pruning;
 mod simplify;
 mod sql;
 mod truth;
-mod variants;
 
 pub use column::Column;
 pub use error::FilterError;
