@@ -18,6 +18,7 @@ from itertools import accumulate, pairwise
 from pathlib import Path
 
 import doqallin
+import doqallin._library
 from doqallin import Kind, ZoneBounds
 
 COUNT = 100_000
@@ -243,7 +244,7 @@ class Found(unittest.TestCase):
     def test_a_library_that_is_not_there(self) -> None:
         with tempfile.TemporaryDirectory() as folder:
             self.assertEqual(told("import doqallin", folder), f"doqallin.LibraryMissing: {folder}/libdoqallin.so is not there: run tools/build_bindings")
-            os.symlink(doqallin._lib._name, f"{folder}/libdoqallin.so")
+            os.symlink(doqallin._library.library._name, f"{folder}/libdoqallin.so")
             self.assertEqual(told("import doqallin; doqallin.lower_bound(b'a', 1)", folder), "")
             said = f"doqallin.LibraryMissing: {folder}/libdoqallin_call.so is not there: run tools/build_bindings --call"
             self.assertEqual(told("import doqallin; doqallin.call('')", folder), said)

@@ -1,0 +1,137 @@
+# SPDX-License-Identifier: Apache-2.0
+# SPDX-FileCopyrightText: Copyright the Vortex contributors; ported to Rattle and changed
+"""The proved libraries, and their exports as C sees them.
+
+The declarations are written by hand after crates/vortex_c and crates/vortex_call: nothing compares them with those crates. A
+slice crosses as a pointer and then a length, and a `bytes` lends its pointer, which is never null.
+"""
+
+from __future__ import annotations
+
+import ctypes
+import functools
+import os
+from ctypes import POINTER, byref, c_bool, c_char_p, c_size_t, c_uint8, c_uint32, c_uint64
+from pathlib import Path
+from typing import Any
+
+from ._errors import BadOffsets, DoqallinError, LibraryMissing, NegativeLength, NotANumber, NotUtf8, OutOfMemory
+
+GIVEN, NONE, NO_MEMORY, NO_ROOM, NOT_UTF8, NOT_A_NUMBER, BAD_OFFSETS = range(7)
+MAX_SIZE: int = 2 ** (8 * ctypes.sizeof(c_size_t)) - 1
+
+_ERRORS: dict[int, tuple[type[DoqallinError], str]] = {
+    NO_MEMORY: (OutOfMemory, "an allocation was refused"),
+    NOT_UTF8: (NotUtf8, "the bytes are not UTF-8"),
+    NOT_A_NUMBER: (NotANumber, "the kind does not have the number"),
+    BAD_OFFSETS: (BadOffsets, "an offset goes down, or past the end of the bytes"),
+}
+
+
+class BoundLengths(ctypes.Structure):
+    _fields_ = [("lower", c_size_t), ("upper", c_size_t), ("has_upper", c_bool)]
+
+
+_BYTES = (c_char_p, c_size_t)
+_ROOM = (POINTER(c_uint8), c_size_t)
+_COLUMN = (*_BYTES, POINTER(c_uint64), c_size_t, c_size_t, *_ROOM, *_ROOM, POINTER(BoundLengths))
+
+
+def _folder() -> Path:
+    """Where the libraries are: the folder that DOQALLIN_LIB names, that of an installed package, or the repository's."""
+    named = os.environ.get("DOQALLIN_LIB")
+    if named:
+        return Path(named)
+    here = Path(__file__).resolve().parent
+    return here if (here / "libdoqallin.so").is_file() else here.parents[1] / "out"
+
+
+def _load(name: str, made_by: str) -> ctypes.CDLL:
+    path = _folder() / name
+    if not path.is_file():
+        raise LibraryMissing(f"{path} is not there: run {made_by}")
+    return ctypes.CDLL(str(path))
+
+
+library = _load("libdoqallin.so", "tools/build_bindings")
+
+
+def _declare(name: str, result: Any, *arguments: Any, of: ctypes.CDLL = library) -> Any:
+    function = getattr(of, f"doqallin_{name}")
+    function.argtypes = arguments
+    function.restype = result
+    return function
+
+
+_version = _declare("version", c_uint32)
+
+cast_integer = _declare("cast_integer", c_uint32, c_uint8, c_uint64, c_uint8, POINTER(c_uint64))
+lower_bytes = _declare("lower_bound_bytes", c_size_t, *_BYTES, c_size_t)
+lower_text = _declare("lower_bound_text", c_uint32, *_BYTES, c_size_t, POINTER(c_size_t))
+upper_bytes = _declare("upper_bound_bytes", c_uint32, *_BYTES, c_size_t, *_ROOM, POINTER(c_size_t))
+upper_text = _declare("upper_bound_text", c_uint32, *_BYTES, c_size_t, *_ROOM, POINTER(c_size_t))
+may_contain_bytes = _declare("may_contain_bytes", c_bool, *_BYTES, *_BYTES, c_bool, *_BYTES)
+may_contain_text = _declare("may_contain_text", c_uint32, *_BYTES, *_BYTES, c_bool, *_BYTES, POINTER(c_bool))
+column_bytes = _declare("column_bounds_bytes", c_uint32, *_COLUMN)
+column_text = _declare("column_bounds_text", c_uint32, *_COLUMN)
+
+
+@functools.cache
+def _call() -> Any:
+    """The call by a line, in a library of its own."""
+    of = _load("libdoqallin_call.so", "tools/build_bindings --call")
+    return _declare("call", c_uint32, *_BYTES, *_ROOM, POINTER(c_size_t), of=of)
+
+
+def library_version() -> str:
+    """The version of the library that is loaded, as `0.1.0`."""
+    major, minor, patch = _version().to_bytes(4, "big")[1:]
+    return f"{major}.{minor}.{patch}"
+
+
+def check(status: int) -> None:
+    if status != GIVEN:
+        error, words = _ERRORS.get(status, (DoqallinError, f"status {status}"))
+        raise error(words)
+
+
+def size(n: int) -> int:
+    """A length as C takes it."""
+    if n < 0:
+        raise NegativeLength(f"{n} bytes")
+    return min(n, MAX_SIZE)
+
+
+def encoded(string: str) -> bytes:
+    if not isinstance(string, str):
+        raise TypeError(f"a str is wanted, not {type(string).__name__}")
+    try:
+        return string.encode()
+    except UnicodeEncodeError:
+        raise NotUtf8("the string has half of a surrogate pair") from None
+
+
+def new_room(length: int) -> ctypes.Array[c_uint8]:
+    return (c_uint8 * length)()
+
+
+def call(line: str) -> str:
+    """The answer to a line: the name of a call and what it is given, as in the worked cases of crates/scalar_cases/stdin.
+
+    A refusal is an answer, OutOfMemory among them, and so is `bad line`, to a string that is no line. An arrow, ` => `, and
+    what follows it is passed over. Raises OutOfMemory if there is no memory for the line or for the answer, and
+    LibraryMissing if libdoqallin_call.so was not made.
+
+    >>> call("cast i32:1000i32 i16"), call("cast i32:1000i32 i8")
+    ('i16:1000i16', 'CannotCast')
+    """
+    answer = _call()
+    text = encoded(line)
+    count = c_size_t(256)
+    status = NO_ROOM
+    while status == NO_ROOM:
+        length = count.value
+        written = new_room(length)
+        status = answer(text, len(text), written, length, byref(count))
+    check(status)
+    return ctypes.string_at(written, count.value).decode()
