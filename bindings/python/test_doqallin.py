@@ -1,7 +1,7 @@
 # SPDX-License-Identifier: Apache-2.0
-"""100,000 random values of each call, compared with plain Python, the stored cases, and what each error comes of.
+"""Random values of each call, compared with plain Python, the stored cases, and what each error comes of.
 
-python3 -m unittest runs it, in this folder.
+python3 -m unittest runs it, in this folder. There are 100,000 values of each call, or as many as DOQALLIN_COUNT says.
 """
 
 from __future__ import annotations
@@ -21,7 +21,7 @@ import doqallin
 import doqallin._library
 from doqallin import Kind, ZoneBounds
 
-COUNT = 100_000
+COUNT = int(os.environ.get("DOQALLIN_COUNT", 100_000))
 TOP = Path(__file__).resolve().parents[2]
 CASES = TOP / "crates/scalar_cases"
 RANGES = {

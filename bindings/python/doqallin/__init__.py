@@ -15,26 +15,58 @@ library when it is first used, `libdoqallin_call.so`, which `tools/build_binding
 """
 
 from ._bounds import Kind, ZoneBounds, cast, column_bounds, column_bounds_text, lower_bound, lower_bound_text, upper_bound, upper_bound_text
-from ._errors import BadOffsets, DoqallinError, LibraryMissing, NegativeLength, NotANumber, NotUtf8, OutOfMemory
+from ._errors import (
+    BadKey,
+    BadOffsets,
+    BadText,
+    BadType,
+    CannotCast,
+    DoqallinError,
+    HasVariant,
+    Invalid,
+    LibraryMissing,
+    NegativeLength,
+    NoField,
+    NoOrder,
+    NotANumber,
+    NotUtf8,
+    OutOfMemory,
+    Refused,
+)
 from ._library import call, library_version
+from ._scalars import Scalar, scalar
+from ._types import DType, dtype
 
 __all__ = [
+    "BadKey",
     "BadOffsets",
+    "BadText",
+    "BadType",
+    "CannotCast",
+    "DType",
     "DoqallinError",
+    "HasVariant",
+    "Invalid",
     "Kind",
     "LibraryMissing",
     "NegativeLength",
+    "NoField",
+    "NoOrder",
     "NotANumber",
     "NotUtf8",
     "OutOfMemory",
+    "Refused",
+    "Scalar",
     "ZoneBounds",
     "call",
     "cast",
     "column_bounds",
     "column_bounds_text",
+    "dtype",
     "library_version",
     "lower_bound",
     "lower_bound_text",
+    "scalar",
     "upper_bound",
     "upper_bound_text",
 ]

@@ -7,13 +7,22 @@ from __future__ import annotations
 from typing import Any
 
 __all__ = [
+    "BadKey",
     "BadOffsets",
+    "BadText",
+    "BadType",
+    "CannotCast",
     "DoqallinError",
+    "HasVariant",
+    "Invalid",
     "LibraryMissing",
     "NegativeLength",
+    "NoField",
+    "NoOrder",
     "NotANumber",
     "NotUtf8",
     "OutOfMemory",
+    "Refused",
 ]
 
 
@@ -49,3 +58,66 @@ class NegativeLength(DoqallinError, ValueError):
 
 class LibraryMissing(DoqallinError, ImportError):
     """A library is not in the folder where it is looked for. The message says which, and what makes it."""
+
+
+class BadText(DoqallinError, ValueError):
+    """A text is no type or no scalar. `text` is it, and `place` where reading ended."""
+
+    def __init__(self, text: str, place: int) -> None:
+        super().__init__(text, place)
+        self.text, self.place = text, place
+
+    def __str__(self) -> str:
+        return f"{self.text!r} cannot be read at {self.place}"
+
+
+class BadType(DoqallinError, ValueError):
+    """There is no such type. `cause` is why: `NullableKey` or `RepeatedTypeId`."""
+
+    def __init__(self, cause: str) -> None:
+        super().__init__(cause)
+        self.cause = cause
+
+
+class Invalid(DoqallinError, ValueError):
+    """A value does not fit its type. `path` leads to the first such part, the outermost step first, and `breach` says why."""
+
+    def __init__(self, path: tuple[str, ...], breach: str) -> None:
+        super().__init__(path, breach)
+        self.path, self.breach = path, breach
+
+    def __str__(self) -> str:
+        return f"{self.breach} at {'/'.join(self.path) or 'the value itself'}"
+
+
+class NoField(DoqallinError, ValueError):
+    """A struct lacks a field of this name, or a dict lacks a field of the struct."""
+
+
+class CannotCast(DoqallinError, ValueError):
+    """The type does not have the value. Of a column, `row` is the first row that it does not have."""
+
+    row: int | None = None
+
+
+class NoOrder(DoqallinError, TypeError):
+    """Neither of two scalars is before the other, nor are they equal."""
+
+
+class HasVariant(DoqallinError, ValueError):
+    """A variant stands in the type: it has no key."""
+
+
+class BadKey(DoqallinError, ValueError):
+    """Bytes are no key of the type. `place` is the first byte that none has there."""
+
+    def __init__(self, place: int) -> None:
+        super().__init__(place)
+        self.place = place
+
+    def __str__(self) -> str:
+        return f"no key of the type has byte {self.place}"
+
+
+class Refused(DoqallinError):
+    """A refusal that has no class of its own. The message is its name, and what it says."""

@@ -11,7 +11,7 @@ from __future__ import annotations
 import ctypes
 import functools
 import os
-from ctypes import POINTER, byref, c_bool, c_char_p, c_size_t, c_uint8, c_uint32, c_uint64
+from ctypes import POINTER, byref, c_bool, c_char, c_char_p, c_size_t, c_uint8, c_uint32, c_uint64, c_void_p
 from pathlib import Path
 from typing import Any
 
@@ -76,11 +76,15 @@ column_bytes = _declare("column_bounds_bytes", c_uint32, *_COLUMN)
 column_text = _declare("column_bounds_text", c_uint32, *_COLUMN)
 
 
+# Most answers have room in this.
+_Answer = c_char * 256
+
+
 @functools.cache
 def _call() -> Any:
     """The call by a line, in a library of its own."""
     of = _load("libdoqallin_call.so", "tools/build_bindings --call")
-    return _declare("call", c_uint32, *_BYTES, *_ROOM, POINTER(c_size_t), of=of)
+    return _declare("call", c_uint32, *_BYTES, c_void_p, c_size_t, c_void_p, of=of)
 
 
 def library_version() -> str:
@@ -125,13 +129,12 @@ def call(line: str) -> str:
     >>> call("cast i32:1000i32 i16"), call("cast i32:1000i32 i8")
     ('i16:1000i16', 'CannotCast')
     """
-    answer = _call()
     text = encoded(line)
-    count = c_size_t(256)
-    status = NO_ROOM
+    count = c_size_t()
+    written: ctypes.Array[c_char] = _Answer()
+    status = _call()(text, len(text), written, len(written), byref(count))
     while status == NO_ROOM:
-        length = count.value
-        written = new_room(length)
-        status = answer(text, len(text), written, length, byref(count))
+        written = (c_char * count.value)()
+        status = _call()(text, len(text), written, len(written), byref(count))
     check(status)
     return ctypes.string_at(written, count.value).decode()
