@@ -11,7 +11,7 @@ use Rattle.csv_records.specs.Lemmas.RecordLaws.{concat-records_of}
 use Rattle.csv_records.specs.Records.{records_of}
 use Rattle.zone_index.specs.Asking.{Asks, AsksWithin, IsWithin}
 use Rattle.zone_index.specs.Records.{is_same, kept_of}
-use Rattle.zone_index.specs.Zones.{Agree, AsksOfZone, IsHeld, is_skip, way_of, zone_bytes, zone_records}
+use Rattle.zone_index.specs.Zones.{Agree, AsksOfZone, IsHeld, IsZoneOf, is_skip, way_of, zone_bytes, zone_records}
 use Rattle.zone_index.specs.declared.read_at.Asked.{Asked}
 use Rattle.zone_index.specs.declared.records.Decision.{Decision}
 use Rattle.zone_index.specs.declared.zones.Way.{Way}
@@ -129,3 +129,9 @@ hit_more d keep text line rest n total now b cut is before e =
     let f : List ℕ → ℕ = λ y. cond (keep y) 1 0 in
     let one : count_by keep (records_of d text) ≡ cond b 1 0 + count_by keep (records_of d rest) = ap (count_by keep) cut ∙ sum_by-cons f line (records_of d rest) ∙ ap (λ (t : Bool). cond t 1 0 + count_by keep (records_of d rest)) (sym is) in
     omega arith
+
+pub all_counted : (keep : List ℕ → Bool) (xs : List (List ℕ)) → AllPass keep xs → length xs ≡ count_by keep xs
+all_counted keep xs all = sym (ap length (filter_all keep xs all)) ∙ length-filter keep xs
+
+pub copied_counted : (d : ℕ) (has_row : List ℕ → Bool) (Describes : List ℕ → List (List ℕ) → Type 0) (keep : List ℕ → Bool) (was : List ℕ) (z : Zone) → AllPass keep (zone_records d was z) → IsZoneOf d has_row Describes was z → z.records ≡ count_by keep (zone_records d was z)
+copied_counted d has_row Describes keep was z all zone = zone.records ∙ all_counted keep (zone_records d was z) all

@@ -1,5 +1,5 @@
 -- What is found zone by zone is what is kept of all.
-use Rattle.std.proofs.Common.{◌≡◌, ◌≤◌, ◌<◌, ◌+◌, ℕ, List, [], ◌∷◌, ◌++◌, Bool, true, false, cond, Option, refl, sym, ap, ◌∙◌, subst, length, take, drop, get_or, append-nil, take_all, add-zero}
+use Rattle.std.proofs.Common.{◌≡◌, ◌≤◌, ◌<◌, ◌+◌, ◌-◌, ◌^◌, min, arith, ℕ, List, [], ◌∷◌, ◌++◌, Bool, true, false, cond, Option, refl, sym, ap, ◌∙◌, subst, length, take, drop, get_or, append-nil, take_all, add-zero}
 use Rattle.std.proofs.KnownBytes.{Appends-trans}
 use Rattle.std.proofs.lemmas.Grind.{flat_map-append, take_at_read}
 use Rattle.std.proofs.lemmas.List.Elements.{Contains-get_or, filter-append}
@@ -95,3 +95,17 @@ pub asks_part : (decides : List ℕ → Decision) (zones : List Zone) (i : ℕ) 
 asks_part decides zones i z a b c inside is before here =
     let at : Asks (AsksInPart decides (get_or zones i z)) b c = subst (λ (y : Zone). Asks (AsksInPart decides y) b c) is here in
     asks_then (IsPartOfZone decides zones) a b c before (asks_more (AsksInPart decides (get_or zones i z)) (IsPartOfZone decides zones) b c (λ x h. part_of decides zones i z x inside h) at)
+
+-- as far as 64 bits count
+pub capped_more : (d : ℕ) (keep : List ℕ → Bool) (was : List ℕ) (zones : List Zone) (i old n new : ℕ) (z : Zone) → i < length zones → z ≡ get_or zones i z → old ≡ min (counted_in d keep was (take i zones)) (2 ^ 64 - 1) → n ≡ count_by keep (zone_records d was z) → new ≡ min (old + n) (2 ^ 64 - 1)
+    → new ≡ min (counted_in d keep was (take (i + 1) zones)) (2 ^ 64 - 1)
+capped_more d keep was zones i old n new z inside is before here sum =
+    let before_it = counted_in d keep was (take i zones) in
+    let more : before_it + n ≡ counted_in d keep was (take (i + 1) zones) = total_more d keep was zones i before_it n (before_it + n) z inside is refl here refl in
+    let joined : min (old + n) (2 ^ 64 - 1) ≡ min (before_it + n) (2 ^ 64 - 1) = omega arith in
+    sum ∙ joined ∙ ap (λ (m : ℕ). min m (2 ^ 64 - 1)) more
+
+pub capped_all : (d : ℕ) (has_row : List ℕ → Bool) (Describes : List ℕ → List (List ℕ) → Type 0) (keep : List ℕ → Bool) (start : ℕ) (zones : List Zone) (was : List ℕ) (i found : ℕ) → length zones ≤ i → IsIndexOf d has_row Describes start zones was
+    → found ≡ min (counted_in d keep was (take i zones)) (2 ^ 64 - 1) → found ≡ min (count_by keep (records_of d (drop start was))) (2 ^ 64 - 1)
+capped_all d has_row Describes keep start zones was i found ended index before =
+    before ∙ ap (λ (m : ℕ). min m (2 ^ 64 - 1)) (total_all d has_row Describes keep start zones was i (counted_in d keep was (take i zones)) ended index refl)

@@ -7,4 +7,5 @@ pub mod Finding
 pub mod Forms
 pub mod Loop
 pub mod TakeMore
+pub mod Rests
 pub mod Writing

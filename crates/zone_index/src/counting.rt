@@ -73,7 +73,12 @@ fn count_zone<R: ReadAt, M: Matcher>(
 }
 
 /// How many records of a text match.
-fn count_in<M: Matcher>(alloc: Global, first: u64, text: &[u8], matcher: &M) -> Result<u64, Fault>
+pub(crate) fn count_in<M: Matcher>(
+    alloc: Global,
+    first: u64,
+    text: &[u8],
+    matcher: &M,
+) -> Result<u64, Fault>
     ensures counted { IfOk result (λ n. n ≡ count_by (M.matches matcher.now)
         (records_of (M.delimiter matcher.now) text.now)) }
     ensures why { IfErr result IsOfRecord }

@@ -11,10 +11,19 @@ use std::alloc::{AllocError, AllocFailed};
 pub struct Refusal {
     /// Where the record begins, in the bytes that were given.
     pub place: u64,
-    /// Which column refused, counted from 0.
-    pub column: u64,
-    /// The word that it refused.
-    pub word: Vec<u8>,
+    /// Why it has none.
+    pub cause: Cause,
+}
+
+/// Why the columns do not take a record.
+#[derive(Debug, Drop)]
+pub enum Cause {
+    /// This column, counted from 0, does not take the word.
+    Word { column: u64, word: Vec<u8> },
+    /// The record has fewer fields than there are columns, or more.
+    FieldCount,
+    /// A carriage return ends a row inside of the record.
+    LoneReturn,
 }
 
 /// Why a record was not judged.
@@ -52,6 +61,15 @@ impl From<AllocError> for RecordFault {
     }
 }
 
+/// The same, of a value that found no room.
+impl<T: Drop> From<AllocFailed<T>> for RecordFault {
+    ghost from_gives = { λ _ fault. fault ≡ NoMemory };
+
+    fn from(_error: AllocFailed<T>) -> RecordFault {
+        RecordFault::Memory
+    }
+}
+
 /// Out of memory.
 impl From<AllocError> for Fault {
     ghost from_gives = { λ _ fault. fault ≡ Memory };
@@ -80,15 +98,10 @@ impl RecordFault {
         match self {
             RecordFault::Memory => Fault::Memory,
             RecordFault::Refused(refusal) => {
-                let Refusal {
-                    place,
-                    column,
-                    word,
-                } = refusal;
+                let Refusal { place, cause } = refusal;
                 Fault::Refused(Refusal {
                     place: place.saturating_add(first),
-                    column,
-                    word,
+                    cause,
                 })
             }
         }

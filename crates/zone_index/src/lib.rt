@@ -13,15 +13,17 @@ mod indexing;
 mod read_at;
 mod records;
 mod search;
+mod streaming;
 mod taking;
 mod zones;
 
 pub use counting::count;
-pub use faults::{Fault, RecordFault, Refusal};
+pub use faults::{Cause, Fault, RecordFault, Refusal};
 pub use form::{FormFault, Index, MAGIC, ReadError, VERSION, read_index, write_index};
 pub use indexing::index_records;
 pub use read_at::{Asked, Logged, ReadAt, fill_from};
 pub use records::{Decision, Described, Describer, Matcher, Records};
 pub use search::{Tally, find};
+pub use streaming::{count_rest, find_rest};
 pub use taking::take_records;
 pub use zones::{Way, Zone};

@@ -1,11 +1,12 @@
 //! The search.
 
-ghost use Rattle.std.specs.Prelude.{◌≡◌, ◌≢◌, ◌<◌, ◌≤◌, ◌+◌, ◌-◌, ◌^◌, ℕ, List, IfErr, IfOk, IfSome, OnOk, length, take, count_by, drop, if◌then◌else◌};
-ghost use Rattle.std.specs.Io.KnownBytes.{Appends};
+ghost use Rattle.std.specs.Prelude.{◌≡◌, ◌≢◌, ◌<◌, ◌≤◌, ◌+◌, ◌-◌, ◌^◌, ℕ, List, IfErr, IfOk, IfSome, OnOk, length, min, take, count_by, drop, if◌then◌else◌};
+ghost use Rattle.std.specs.Io.KnownBytes.{Appends, Keeps};
+ghost use Rattle.csv_records.specs.Records.{records_of};
 ghost use Rattle.zone_index.specs.Asking.{Asks, AsksWithin};
 ghost use Rattle.zone_index.specs.Faults.{IsOfRecord};
 ghost use Rattle.zone_index.specs.Records.{kept_of};
-ghost use Rattle.zone_index.specs.Zones.{AsksOfZone, IsHeld, IsIndexOf, IsOfZone, IsWayOf, IsZoneOf, found_in, is_copied, is_copy, is_search, is_searched, is_skip, is_skipped, way_of, zone_bytes};
+ghost use Rattle.zone_index.specs.Zones.{AsksOfZone, IsHeld, IsIndexOf, IsOfZone, IsWayOf, IsZoneOf, found_in, is_copied, is_copy, is_search, is_searched, is_skip, is_skipped, way_of, zone_bytes, zone_records};
 ghost use Rattle.zone_index.specs.declared.faults.Fault.TheVariants.{CutShort, TooFar, Write as WriteFault};
 
 use crate::faults::Fault;
@@ -25,18 +26,22 @@ pub struct Tally {
     pub copied: usize,
     /// How many were searched.
     pub searched: usize,
+    /// How many records were written, as far as 64 bits count.
+    pub found: u64,
 }
 
 impl Tally {
-    /// Counts one more.
-    fn add(&mut self, way: Way)
+    /// Counts one more zone, and so many records.
+    fn add(&mut self, way: Way, found: u64)
         requires { self.old.skipped + self.old.copied + self.old.searched < 2 ^ 64 - 1 }
+        ensures found { self.new.found ≡ min (self.old.found + found) (2 ^ 64 - 1) }
         ensures skipped { self.new.skipped ≡ self.old.skipped + (if is_skip way then 1 else 0) }
         ensures copied { self.new.copied ≡ self.old.copied + (if is_copy way then 1 else 0) }
         ensures searched { self.new.searched ≡ self.old.searched + (if is_search way then 1 else 0) }
         ensures sum { self.new.skipped + self.new.copied + self.new.searched ≡
             self.old.skipped + self.old.copied + self.old.searched + 1 }
     {
+        self.found = self.found.saturating_add(found);
         match way {
             Way::Skip => self.skipped += 1,
             Way::Copy => self.copied += 1,
@@ -62,6 +67,10 @@ pub fn find<R: ReadAt, M: Matcher, W: Write>(
     ensures skipped { IfOk result (λ tally. tally.skipped ≡ count_by (is_skipped (M.decides matcher.now)) zones.now) }
     ensures copied { IfOk result (λ tally. tally.copied ≡ count_by (is_copied (M.decides matcher.now)) zones.now) }
     ensures searched { IfOk result (λ tally. tally.searched ≡ count_by (is_searched (M.decides matcher.now)) zones.now) }
+    ensures found { IfOk result (λ tally. (was : List ℕ) (start : ℕ) → IsHeld (R.bytes reader.old) was
+        → IsIndexOf (M.delimiter matcher.now) (M.has_row matcher.now) (M.Describes matcher.now) start zones.now was
+        → tally.found ≡ min (count_by (M.matches matcher.now)
+        (records_of (M.delimiter matcher.now) (drop start was))) (2 ^ 64 - 1)) }
     // All that the reader was asked for stands in zones that are not skipped.
     ensures asks { Asks (IsOfZone (M.decides matcher.now) zones.now) (R.asked reader.old) (R.asked reader.new) }
     // After a fault other than one of the writer, what is found in the first zones was written, and
@@ -84,27 +93,33 @@ pub fn find<R: ReadAt, M: Matcher, W: Write>(
         skipped: 0,
         copied: 0,
         searched: 0,
+        found: 0,
     };
     for zone in zones {
-        let way = answer_zone(alloc, zone, matcher, reader, writer)?;
-        tally.add(way);
+        let (way, found) = answer_zone(alloc, zone, matcher, reader, writer)?;
+        tally.add(way, found);
     }
+    flush_out(writer)?;
     Ok(tally)
 }
 
-/// Writes the records of a zone that match, in one go, and says what became of it.
+/// Writes the records of a zone that match, in one go, and says what became of it and how many they
+/// are.
 fn answer_zone<R: ReadAt, M: Matcher, W: Write>(
     alloc: Global,
     zone: &Zone,
     matcher: &M,
     reader: &mut R,
     writer: &mut W,
-) -> Result<Way, Fault>
+) -> Result<(Way, u64), Fault>
     ensures written { OnOk result ((was : List ℕ) → IsHeld (R.bytes reader.old) was
         → IsZoneOf (M.delimiter matcher.now) (M.has_row matcher.now) (M.Describes matcher.now) was zone.now
         → Appends (W.contents writer.old) (W.contents writer.new)
         (kept_of (M.delimiter matcher.now) (M.matches matcher.now) (zone_bytes was zone.now))) }
-    ensures way { IfOk result (λ way. way ≡ way_of (M.decides matcher.now) zone.now) }
+    ensures way { IfOk result (λ answer. answer.0 ≡ way_of (M.decides matcher.now) zone.now) }
+    ensures found { IfOk result (λ answer. (was : List ℕ) → IsHeld (R.bytes reader.old) was
+        → IsZoneOf (M.delimiter matcher.now) (M.has_row matcher.now) (M.Describes matcher.now) was zone.now
+        → answer.1 ≡ count_by (M.matches matcher.now) (zone_records (M.delimiter matcher.now) was zone.now)) }
     ensures kept { R.bytes reader.new ≡ R.bytes reader.old }
     ensures asks { Asks (AsksOfZone (M.decides matcher.now) zone.now) (R.asked reader.old) (R.asked reader.new) }
     ensures untouched { IfErr result (λ fault. fault ≢ WriteFault → writer.new ≡ writer.old) }
@@ -114,17 +129,17 @@ fn answer_zone<R: ReadAt, M: Matcher, W: Write>(
 {
     let way = way_of_zone(alloc, zone, matcher)?;
     match way {
-        Way::Skip => Ok(way),
+        Way::Skip => Ok((way, 0)),
         Way::Copy => {
             let whole = read_zone(alloc, zone, reader)?;
             write_out(writer, &whole)?;
-            Ok(way)
+            Ok((way, zone.records))
         }
         Way::Search => {
             let piece = read_zone(alloc, zone, reader)?;
-            let found = kept_in(alloc, zone.first, &piece, matcher)?;
-            write_out(writer, &found)?;
-            Ok(way)
+            let (kept, hits) = kept_in(alloc, zone.first, &piece, matcher)?;
+            write_out(writer, &kept)?;
+            Ok((way, hits))
         }
     }
 }
@@ -174,26 +189,30 @@ pub(crate) fn read_zone<R: ReadAt>(
     Ok(piece)
 }
 
-/// The records that match.
-fn kept_in<M: Matcher>(
+/// The records that match, and how many they are.
+pub(crate) fn kept_in<M: Matcher>(
     alloc: Global,
     first: u64,
     text: &[u8],
     matcher: &M,
-) -> Result<Vec<u8>, Fault>
-    ensures found { IfOk result (λ found. found.items ≡ kept_of (M.delimiter matcher.now) (M.matches matcher.now) text.now) }
+) -> Result<(Vec<u8>, u64), Fault>
+    ensures kept { IfOk result (λ kept. kept.0.items ≡ kept_of (M.delimiter matcher.now) (M.matches matcher.now) text.now) }
+    ensures counted { IfOk result (λ kept. kept.1 ≡ count_by (M.matches matcher.now)
+        (records_of (M.delimiter matcher.now) text.now)) }
     ensures why { IfErr result IsOfRecord }
 {
-    let mut found = Vec::new(alloc);
+    let mut kept = Vec::new(alloc);
+    let mut hits = 0u64;
     let mut rest = text;
     while !rest.is_empty() {
         let (line, after) = cut_record(matcher.delimiter_byte(), rest);
         if is_hit(alloc, first, line, matcher)? {
-            found.extend_from_slice(line)?;
+            kept.extend_from_slice(line)?;
+            hits += 1;
         }
         rest = after;
     }
-    Ok(found)
+    Ok((kept, hits))
 }
 
 /// Whether a record matches.
@@ -212,12 +231,19 @@ pub(crate) fn is_hit<M: Matcher>(
     }
 }
 
-/// Writes all bytes and flushes the writer.
-fn write_out<W: Write>(writer: &mut W, output: &[u8]) -> Result<(), Fault>
+/// Writes all bytes.
+pub(crate) fn write_out<W: Write>(writer: &mut W, output: &[u8]) -> Result<(), Fault>
     ensures written { OnOk result
         (Appends (W.contents writer.old) (W.contents writer.new) output.now) }
     ensures fault { IfErr result (λ fault. fault ≡ WriteFault) }
 {
-    writer.write_all(output).map_err(|_| Fault::Write)?;
+    writer.write_all(output).map_err(|_| Fault::Write)
+}
+
+/// Flushes the writer.
+pub(crate) fn flush_out<W: Write>(writer: &mut W) -> Result<(), Fault>
+    ensures kept { Keeps (W.contents writer.old) (W.contents writer.new) }
+    ensures fault { IfErr result (λ fault. fault ≡ WriteFault) }
+{
     writer.flush().map_err(|_| Fault::Write)
 }

@@ -1,8 +1,9 @@
 //! Zones of whole records are read from a stream.
 
-ghost use Rattle.std.specs.Prelude.{◌≡◌, ◌<◌, ◌+◌, ◌-◌, ◌^◌, ℕ, List, [], Some, OnOk, if◌then◌else◌};
+ghost use Rattle.std.specs.Prelude.{◌≡◌, ◌≢◌, ◌<◌, ◌+◌, ◌-◌, ◌^◌, ℕ, List, [], Some, IfErr, OnOk, if◌then◌else◌};
 ghost use Rattle.csv_records.specs.Records.{is_start, state_at};
 ghost use Rattle.zone_index.specs.Taking.{IsTaken};
+ghost use Rattle.zone_index.specs.declared.faults.Fault.TheVariants.{Write as WriteFault};
 
 use crate::faults::Fault;
 use csv_records::{Delimiter, Place, place_after_line};
@@ -22,6 +23,7 @@ pub fn take_records<B: BufRead>(
     // Nothing was taken only where nothing was left.
     ensures ended { OnOk result ((bytes : List ℕ) → B.remaining reader.old ≡ Some bytes
         → text.new.items ≡ [] → bytes ≡ []) }
+    ensures reading { IfErr result (λ fault. fault ≢ WriteFault) }
 {
     let mut place = Place::Fresh;
     let mut taken = 0;

@@ -1,0 +1,8 @@
+-- What was searched so far.
+use Rattle.std.proofs.Common.{◌≡◌, List, Some, ℕ}
+use Rattle.zone_index.proofs.Rests.{Searched}
+use Rattle.zone_index.proofs.streaming.find_rest.Given as goal
+
+abbrev pub invariant-loop : goal.invariant-loop
+invariant-loop g l = (bytes : List ℕ) → g.B.Read.remaining l.initial.reader ≡ Some bytes
+    → Searched (g.M.Records.delimiter l.matcher) (g.M.Matcher.matches l.matcher) bytes (g.B.Read.remaining l.reader) (g.W.Write.contents l.initial.writer) (g.W.Write.contents l.writer) l.found

@@ -1,0 +1,94 @@
+//! The records of a stream are searched.
+
+ghost use Rattle.std.specs.Prelude.{◌≡◌, ◌≢◌, ◌<◌, ◌++◌, ℕ, List, Some, IfErr, IfOk, OnOk, count_by};
+ghost use Rattle.std.specs.Io.KnownBytes.{Appends};
+ghost use Rattle.std.specs.List.{concat, filter};
+ghost use Rattle.csv_records.specs.Records.{records_of};
+ghost use Rattle.zone_index.specs.Records.{kept_of};
+ghost use Rattle.zone_index.specs.declared.faults.Fault.TheVariants.{Write as WriteFault};
+
+use crate::counting::count_in;
+use crate::faults::Fault;
+use crate::records::Matcher;
+use crate::search::{flush_out, kept_in, write_out};
+use crate::taking::take_records;
+use std::alloc::Global;
+use std::io::{BufRead, Write};
+
+/// Writes the records that a reader has left and that match, whole and in order, and says how many
+/// they are. So many records are in memory at a time. The first byte that is left stands at `start`.
+pub fn find_rest<B: BufRead, M: Matcher, W: Write>(
+    alloc: Global,
+    size: u64,
+    start: u64,
+    matcher: &M,
+    reader: &mut B,
+    writer: &mut W,
+) -> Result<u64, Fault>
+    requires { 0 < size }
+    ensures written { OnOk result ((bytes : List ℕ) → B.remaining reader.old ≡ Some bytes
+        → Appends (W.contents writer.old) (W.contents writer.new)
+        (kept_of (M.delimiter matcher.now) (M.matches matcher.now) bytes)) }
+    ensures found { IfOk result (λ found. (bytes : List ℕ) → B.remaining reader.old ≡ Some bytes
+        → found ≡ count_by (M.matches matcher.now) (records_of (M.delimiter matcher.now) bytes)) }
+    // After a fault other than one of the writer, those of the first records that match were written.
+    ensures partial { IfErr result (λ fault. fault ≢ WriteFault → (bytes : List ℕ)
+        → B.remaining reader.old ≡ Some bytes
+        → (first others : List (List ℕ)) × (records_of (M.delimiter matcher.now) bytes ≡ first ++ others)
+        × Appends (W.contents writer.old) (W.contents writer.new) (concat (filter (M.matches matcher.now) first))) }
+{
+    let delimiter = matcher.delimiter_byte();
+    let mut text = Vec::new(alloc);
+    let mut at = start;
+    let mut found = 0u64;
+    for _ in 0..u64::MAX {
+        text.clear();
+        take_records(delimiter, size, &mut text, reader)?;
+        if text.is_empty() {
+            flush_out(writer)?;
+            return Ok(found);
+        }
+        let (kept, hits) = kept_in(alloc, at, &text, matcher)?;
+        match found.checked_add(hits) {
+            Some(sum) => found = sum,
+            None => return Err(Fault::TooFar),
+        }
+        write_out(writer, &kept)?;
+        at = at.saturating_add(text.len() as u64);
+    }
+    Err(Fault::TooFar)
+}
+
+/// How many of the records that a reader has left match. So many records are in memory at a time.
+/// The first byte that is left stands at `start`.
+pub fn count_rest<B: BufRead, M: Matcher>(
+    alloc: Global,
+    size: u64,
+    start: u64,
+    matcher: &M,
+    reader: &mut B,
+) -> Result<u64, Fault>
+    requires { 0 < size }
+    ensures counted { IfOk result (λ n. (bytes : List ℕ) → B.remaining reader.old ≡ Some bytes
+        → n ≡ count_by (M.matches matcher.now) (records_of (M.delimiter matcher.now) bytes)) }
+    ensures reading { IfErr result (λ fault. fault ≢ WriteFault) }
+{
+    let delimiter = matcher.delimiter_byte();
+    let mut text = Vec::new(alloc);
+    let mut at = start;
+    let mut total = 0u64;
+    for _ in 0..u64::MAX {
+        text.clear();
+        take_records(delimiter, size, &mut text, reader)?;
+        if text.is_empty() {
+            return Ok(total);
+        }
+        let hits = count_in(alloc, at, &text, matcher)?;
+        match total.checked_add(hits) {
+            Some(sum) => total = sum,
+            None => return Err(Fault::TooFar),
+        }
+        at = at.saturating_add(text.len() as u64);
+    }
+    Err(Fault::TooFar)
+}
