@@ -1,0 +1,4 @@
+mod ColumnSteps
+mod RowSteps
+mod TableSteps
+mod ValueSteps

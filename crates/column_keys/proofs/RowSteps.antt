@@ -1,0 +1,45 @@
+-- Steps of one row.
+use Rattle.std.proofs.Common.{◌≡◌, ℕ, ◌+◌, ◌-◌, ◌<◌, Bool, true, false, List, ◌++◌, length, length-append, drop, get_or, refl, sym, subst, ap, ◌∙◌, arith}
+use Rattle.std.proofs.lemmas.List.{drop_more, length-map}
+use Rattle.vortex_value.specs.Size.{capped}
+use Rattle.vortex_row.specs.Keys.{inverted, key}
+use Rattle.vortex_row.specs.Columns.{key_with}
+use Rattle.vortex_value.specs.Values.Content.{Content, null}
+use Rattle.vortex_row.specs.declared.options.SortOptions.{SortOptions}
+use Rattle.column_cells.specs.Contents.{HasTexts, contents_of_rows}
+use Rattle.column_keys.specs.Keys.{key_of_row}
+use Rattle.column_keys.specs.Tables.{HasRow, options_of, table_of}
+use Rattle.column_keys.specs.declared.columns.KeyColumn.{KeyColumn}
+
+-- the key of the columns from a place on
+pub key-at : (i : ℕ) (columns : List KeyColumn) (row : ℕ) (column : KeyColumn) → i < length columns → column ≡ get_or columns i column
+    → key_of_row (options_of (drop i columns)) (table_of (drop i columns)) row
+    ≡ key_with column.options (get_or (contents_of_rows column.rows) row null) ++ key_of_row (options_of (drop (i + 1) columns)) (table_of (drop (i + 1) columns)) row
+key-at i columns row column h is = rw (drop_more columns i column h, ← is) refl
+
+pub row-here : (i : ℕ) (columns : List KeyColumn) (row : ℕ) (column : KeyColumn) → i < length columns → column ≡ get_or columns i column → HasRow columns row → (row < length (contents_of_rows column.rows)) × HasTexts column.rows
+row-here i columns row column h is all = subst (λ c. (row < length (contents_of_rows c.rows)) × HasTexts c.rows) (sym is) (all i column h)
+
+-- how long it is
+
+inverted-length : (b : Bool) (bs : List ℕ) → length (inverted b bs) ≡ length bs
+inverted-length false bs = refl
+inverted-length true bs = length-map bs (λ b. 255 - b)
+
+key_with-length : (o : SortOptions) (c : Content) → length (key_with o c) ≡ length (key c)
+key_with-length o null = refl
+key_with-length o c = inverted-length o.descending (key c)
+
+pub length-at : (i : ℕ) (columns : List KeyColumn) (row : ℕ) (column : KeyColumn) → i < length columns → column ≡ get_or columns i column
+    → length (key_of_row (options_of (drop i columns)) (table_of (drop i columns)) row)
+    ≡ length (key (get_or (contents_of_rows column.rows) row null)) + length (key_of_row (options_of (drop (i + 1) columns)) (table_of (drop (i + 1) columns)) row)
+length-at i columns row column h is =
+    let content = get_or (contents_of_rows column.rows) row null in
+    let rest = key_of_row (options_of (drop (i + 1) columns)) (table_of (drop (i + 1) columns)) row in
+    ap length (key-at i columns row column h is) ∙ length-append (key_with column.options content) rest ∙ ap (λ n. n + length rest) (key_with-length column.options content)
+
+-- a part is counted
+pub row-counted : (total part rest all piece now : ℕ) → now ≡ capped (total + piece) → piece ≡ capped part → capped (total + (part + rest)) ≡ capped all → (capped now ≡ now) × (capped (now + rest) ≡ capped all)
+row-counted total part rest all piece now e f h = (omega arith, omega arith)
+
+pub ruleset shown = (key-at, row-here)

@@ -1,0 +1,20 @@
+-- One column more, and the first fault.
+use Rattle.std.proofs.Common.{arith}
+use Rattle.column_keys.proofs.ColumnSteps.{read-more, sound-more, table-fault, table-refused}
+use Rattle.column_keys.proofs.columns.read_columns.Goals as goal
+
+pub returns-in_err-column-clause-fault : goal.returns-in_err-column-clause-fault
+returns-in_err-column-clause-fault c =
+    table-refused c.args.columns.now c.args.options.now _ _ c.from_residual-in_err-column.ensures
+    (table-fault c.args.columns.now c.args.options.now c.loop-place.place _ _ (omega (arith, c.if-options-columns.false)) c.loop-place-test.true c.loop-place.invariant.1 (rw c.row_count_of-count.ensures at c.in_err-column.ensures.fault))
+
+pub loop-place-preserved : goal.loop-place-preserved
+loop-place-preserved c =
+    let read = rw c.row_count_of-count.ensures at c.in_ok-column.ensures.read in
+    let counts = c.if-options-columns.false in
+    let here = c.loop-place-test.true in (
+      read-more c.args.columns.now c.args.options.now c.loop-place.place _ c.loop-place.table.items c.push_reserved.new.self.items _ here (omega (arith, here, counts)) c.loop-place.invariant.0 read c.push_reserved.ensures.items,
+      sound-more c.args.columns.now c.args.options.now c.loop-place.place _ _ here c.loop-place.invariant.1 read,
+      omega (arith, c.push_reserved.ensures.len, c.loop-place.invariant.2),
+      omega (arith, c.push_reserved.ensures.capacity, c.loop-place.invariant.3),
+    )

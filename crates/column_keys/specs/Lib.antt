@@ -1,0 +1,3 @@
+pub mod Keys
+pub mod Tables
+pub mod Words

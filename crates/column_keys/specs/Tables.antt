@@ -1,0 +1,80 @@
+-- Tables of columns in Arrow's layout, and why one has no keys.
+use Rattle.std.specs.Prelude.{◌≡◌, ◌≢◌, ℕ, ◌/◌, ◌%◌, ◌==◌, ◌<◌, List, [], ◌∷◌, length, map, slice_get, slice_index, Some, take}
+use Rattle.std.specs.List.{All}
+use Rattle.arrow_columns.specs.Checked.{AreRowsOf}
+use Rattle.arrow_columns.specs.Faults.{IsFaultOf}
+use Rattle.arrow_columns.specs.declared.columns.Column.{Column}
+use Rattle.arrow_columns.specs.declared.tested_rows.Rows.{Rows}
+use Rattle.vortex_value.specs.Values.Content.{Content}
+use Rattle.vortex_row.specs.declared.options.SortOptions.{SortOptions}
+use Rattle.column_cells.specs.Contents.{HasTexts, contents_of_column, contents_of_rows}
+use Rattle.column_keys.specs.declared.columns.KeyColumn.{KeyColumn}
+use Rattle.column_keys.specs.declared.faults.TableFault.{TableFault}
+use Rattle.column_keys.specs.declared.faults.TableFault.TheVariants.{BadOptions, OutOfMemory, Unreadable, WrongCount, WrongLength}
+
+-- the options of columns that were read, and their contents
+abbrev pub options_of : List KeyColumn → List SortOptions
+options_of columns = map (λ column. column.options) columns
+
+abbrev pub table_of : List KeyColumn → List (List Content)
+table_of columns = map (λ column. contents_of_rows column.rows) columns
+
+-- each column has this row, and strings that are UTF-8
+abbrev pub HasRow : List KeyColumn → ℕ → Type 0
+HasRow columns row = All (λ column. (row < length (contents_of_rows column.rows)) × HasTexts column.rows) columns
+
+-- each column has so many rows, and strings that are UTF-8
+abbrev pub HaveRows : List KeyColumn → ℕ → Type 0
+HaveRows columns count = All (λ column. (length (contents_of_rows column.rows) ≡ count) × HasTexts column.rows) columns
+
+-- the options that a byte stands for, if it is below 4: bit 0 is for greater values first, and bit 1 for nulls first
+abbrev pub options_in : ℕ → SortOptions
+options_in byte = record { descending = byte % 2 == 1; nulls_first = byte / 2 % 2 == 1 }
+
+-- the contents of columns, and how many rows they have: as many as the first one says
+abbrev pub contents_in : List Column → List (List Content)
+contents_in columns = map contents_of_column columns
+
+abbrev pub rows_in : List Column → ℕ
+rows_in [] = 0
+rows_in (column ∷ columns) = column.length
+
+-- the column can be read, the byte stands for options, and there are so many rows
+pub record IsSound (column : Column) (byte count : ℕ) : Type 0 where
+  pub rows : Rows
+  pub readable : AreRowsOf column rows
+  pub options' : byte < 4
+  pub even : length (contents_of_column column) ≡ count
+
+-- this was read of it
+pub record IsReadFrom (column : Column) (byte count : ℕ) (read : KeyColumn) : Type 0 where
+  pub sound : IsSound column byte count
+  pub contents : contents_of_rows read.rows ≡ contents_of_column column
+  pub texts : HasTexts read.rows
+  pub options' : read.options ≡ options_in byte
+
+-- the first columns are sound
+abbrev pub AreSoundBefore : List Column → List ℕ → ℕ → Type 0
+AreSoundBefore columns options k = (j : ℕ) (column : Column) → j < k → slice_get columns j ≡ Some column → IsSound column (slice_index options j) (rows_in columns)
+
+-- these were read of the first columns
+pub record AreReadFrom (columns : List Column) (options : List ℕ) (k : ℕ) (read : List KeyColumn) : Type 0 where
+  pub contents : table_of read ≡ contents_in (take k columns)
+  pub options' : options_of read ≡ map options_in (take k options)
+  pub rows : HaveRows read (rows_in columns)
+
+-- why a column at a place is not sound: the first reason in this order
+abbrev pub IsFaultAt : ℕ → Column → ℕ → ℕ → TableFault → Type 0
+IsFaultAt k column byte count OutOfMemory = ⊥
+IsFaultAt k column byte count WrongCount = ⊥
+IsFaultAt k column byte count (Unreadable place fault) = (place ≡ k) × IsFaultOf column fault
+IsFaultAt k column byte count (BadOptions place) = (place ≡ k) × ((rows : Rows) × AreRowsOf column rows) × ¬ (byte < 4)
+IsFaultAt k column byte count (WrongLength place) = (place ≡ k) × ((rows : Rows) × AreRowsOf column rows) × (byte < 4) × ¬ (length (contents_of_column column) ≡ count)
+
+-- why a table has no keys: of the columns the first that is not sound, if there are as many options
+abbrev pub IsTableFault : List Column → List ℕ → TableFault → Type 0
+IsTableFault columns options OutOfMemory = Unit {0}
+IsTableFault columns options WrongCount = length options ≢ length columns
+IsTableFault columns options fault =
+    (length options ≡ length columns)
+    × ((k : ℕ) × (column : Column) × (slice_get columns k ≡ Some column) × AreSoundBefore columns options k × IsFaultAt k column (slice_index options k) (rows_in columns) fault)

@@ -1,0 +1,100 @@
+//! Columns of a table whose rows have keys.
+
+ghost use Rattle.std.specs.Prelude.{◌≡◌, ◌<◌, IfErr, IfOk, MatchOption, OnOk, length};
+ghost use Rattle.column_keys.specs.Words.{AreReadFrom, AreSoundBefore, IsFaultAt, IsReadFrom, IsTableFault, options_in, rows_in};
+
+use crate::faults::TableFault;
+use arrow_columns::{Column, Rows};
+use column_cells::{row_count, rows_of};
+use std::alloc::Global;
+use vortex_row::SortOptions;
+
+/// A column whose values can be read, and how it is sorted.
+#[derive(Clone, Copy)]
+pub struct KeyColumn<'a> {
+    /// The rows of the column.
+    pub rows: Rows<'a>,
+    /// How it is sorted.
+    pub options: SortOptions,
+}
+
+/// The options that a byte stands for: 1 for greater values first, 2 for nulls first, and the sum
+/// for both. `None` for a byte of another value than 0 to 3.
+pub fn options_of_byte(byte: u8) -> Option<SortOptions>
+    ensures { MatchOption result (¬ (byte < 4))
+        (λ options. (byte < 4) × (options ≡ options_in byte)) }
+{
+    if byte > 3 {
+        return None;
+    }
+    Some(SortOptions {
+        descending: byte % 2 == 1,
+        nulls_first: byte / 2 % 2 == 1,
+    })
+}
+
+/// How many rows the columns have: as many as the first one says.
+pub fn row_count_of(columns: &[Column]) -> usize
+    ensures { result ≡ rows_in columns.now }
+{
+    match columns {
+        [first, ..] => first.length,
+        [] => 0,
+    }
+}
+
+/// The column at a place, if it has so many rows.
+fn key_column<'a>(
+    place: usize,
+    column: Column<'a>,
+    options: u8,
+    count: usize,
+) -> Result<KeyColumn<'a>, TableFault>
+    ensures read { IfOk result (λ read. IsReadFrom column.entry options count read) }
+    ensures fault { IfErr result (λ fault. IsFaultAt place column.entry options count fault) }
+{
+    let rows = match rows_of(column) {
+        Ok(rows) => rows,
+        Err(fault) => {
+            return Err(TableFault::Unreadable {
+                column: place,
+                fault,
+            });
+        }
+    };
+    let Some(options) = options_of_byte(options) else {
+        return Err(TableFault::BadOptions { column: place });
+    };
+    if row_count(&rows) != count {
+        return Err(TableFault::WrongLength { column: place });
+    }
+    Ok(KeyColumn { rows, options })
+}
+
+/// The columns of a table, each with its byte of options.
+///
+/// `WrongCount` exactly if there are not as many options as columns, before all else. Then the first
+/// column with a fault says it: `Unreadable`, `BadOptions` for a byte above 3, and `WrongLength` for
+/// another number of rows than the first. `OutOfMemory` may come in place of these.
+#[tactic(auto, using(crate::proofs::ColumnSteps::shown))]
+pub fn read_columns<'a>(
+    alloc: Global,
+    columns: &[Column<'a>],
+    options: &[u8],
+) -> Result<Vec<KeyColumn<'a>>, TableFault>
+    ensures read { IfOk result (λ table. AreReadFrom columns.now options.now (length columns.now) table.items) }
+    ensures counts { OnOk result (length options.now ≡ length columns.now) }
+    ensures sound { OnOk result (AreSoundBefore columns.now options.now (length columns.now)) }
+    ensures fault { IfErr result (λ fault. IsTableFault columns.now options.now fault) }
+{
+    if options.len() != columns.len() {
+        return Err(TableFault::WrongCount);
+    }
+    let count = row_count_of(columns);
+    let mut table = Vec::with_capacity(alloc, columns.len())?;
+    for place in 0..columns.len() {
+        let column = key_column(place, columns[place], options[place], count)?;
+        table.push_reserved(column);
+    }
+    Ok(table)
+}
