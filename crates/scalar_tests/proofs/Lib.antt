@@ -1,3 +1,4 @@
+mod FilterSteps
 mod GivenZeros
 mod KeySteps
 mod KeysCounted
