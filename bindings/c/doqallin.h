@@ -40,7 +40,12 @@ enum {
     DOQALLIN_NO_ROOM = 3,      /* a room is too small: the lengths that are needed are written, and nothing else */
     DOQALLIN_NOT_UTF8 = 4,     /* bytes that are to be a string are not UTF-8 */
     DOQALLIN_NOT_A_NUMBER = 5, /* a code names no integer type, or the bits stand for no number of the type */
-    DOQALLIN_BAD_OFFSETS = 6   /* offsets go down, or past the end of the bytes */
+    DOQALLIN_BAD_OFFSETS = 6,  /* offsets go down, or past the end of the bytes */
+    DOQALLIN_UNKNOWN_KIND = 7, /* a code is of no kind of columns */
+    DOQALLIN_TOO_MANY_ROWS = 8, /* offset and length of a column are together above 2^64 - 1 */
+    DOQALLIN_TOO_SHORT = 9,    /* a buffer of a column is too short for its rows */
+    DOQALLIN_WRONG_LENGTH = 12, /* numbers of columns, of rows or of options differ that are to be equal */
+    DOQALLIN_BAD_OPTIONS = 13  /* a byte stands for no options */
 };
 
 /* The integer types. The 64 bits of a number of a signed type are in two's complement: (uint64_t)(int64_t)-5. */
@@ -116,6 +121,47 @@ uint32_t doqallin_column_bounds_text(const uint8_t *bytes, size_t bytes_length, 
                                      size_t offsets_length, size_t n, uint8_t *lower_room, size_t lower_room_length,
                                      uint8_t *upper_room, size_t upper_room_length,
                                      struct doqallin_bound_lengths *lengths);
+
+/* Kinds of columns: the codes of the integer types (dates, times and the like go by theirs), and then these. Strings and bytes
+ * have offsets of 32 bits, and the large ones of 64. */
+enum { DOQALLIN_BOOL = 8, DOQALLIN_UTF8, DOQALLIN_LARGE_UTF8, DOQALLIN_BINARY, DOQALLIN_LARGE_BINARY, DOQALLIN_NULL };
+
+/* A column as the Arrow C data interface lays it out: rows offset to offset + length of its buffers. `validity` has a bit for
+ * each row, 0 where it is null, or no byte if none is. `values` are the integers, bits, or the bytes of all rows. `offsets` are
+ * of strings and bytes alone. A column without rows may have no bytes in a buffer. */
+struct doqallin_column {
+    uint8_t kind;
+    const uint8_t *validity;
+    size_t validity_length;
+    const uint8_t *values;
+    size_t values_length;
+    const uint8_t *offsets;
+    size_t offsets_length;
+    size_t offset;
+    size_t length;
+};
+
+/* Where a mistake is: which column, and which row of it (the first such one), or which buffer: 0 validity, 1 values,
+ * 2 offsets. */
+struct doqallin_fault {
+    size_t column;
+    size_t place;
+};
+
+/* The keys of the rows of some columns (docs/KEYS.md): bytes that compare as the rows do, column by column. The key of row k is
+ * the bytes of the room from offsets_room[k] to offsets_room[k + 1]. A column has a byte of options: 1 for greater values
+ * first, 2 for nulls first, or the sum. Of several mistakes the first column's is told, and nothing of the room is written.
+ * GIVEN: the keys have the first *count bytes of the room; those after it are as they were.
+ * NO_ROOM: *count, which is all that is written, is how many bytes the keys have: above room_length, or offsets_room has not a
+ * place for each row and one more. A call without room asks for it.
+ * WRONG_LENGTH: the options are not as many as the columns, and fault->column is the number of columns; or that column has
+ * another number of rows than the first.
+ * BAD_OPTIONS: the byte of fault->column is above 3.
+ * UNKNOWN_KIND, TOO_MANY_ROWS, TOO_SHORT, BAD_OFFSETS, NOT_UTF8: fault->column cannot be read, for what is at fault->place.
+ * NO_MEMORY: memory is asked for each column, and none for its rows. */
+uint32_t doqallin_row_keys(const struct doqallin_column *columns, size_t column_count, const uint8_t *options,
+                           size_t options_length, uint64_t *offsets_room, size_t offsets_room_length, uint8_t *room,
+                           size_t room_length, size_t *count, struct doqallin_fault *fault);
 
 /* Nearly any call of the library, by a line of text. In the library doqallin_call.
  * The line has the call's name and what it is given, as the worked cases in crates/scalar_cases/stdin: `cast i32:1000i32 i16`

@@ -158,6 +158,53 @@ static void columns(void) {
     CHECK(doqallin_column_bounds_bytes(BYTES("ab"), alone, 1, 2, room, ROOM, other, ROOM, &lengths) == DOQALLIN_NONE && nothing_written());
 }
 
+static struct doqallin_fault fault;
+
+static int at_fault(size_t column, size_t place) { return fault.column == column && fault.place == place; }
+
+// Nothing is written but a fault, if there is one.
+static int no_keys(const uint64_t *starts) { return count == 77 && is_kept(room, 0) && starts[0] == 9 && starts[2] == 9; }
+
+static void row_keys(void) {
+    // The numbers -1 and 7 as i16, and "a" and a null after a first row that is passed over.
+    static const uint8_t numbers[] = {0xff, 0xff, 7, 0}, valid[] = {3}, ends[] = {0, 0, 0, 0, 1, 0, 0, 0, 2, 0, 0, 0, 2, 0, 0, 0};
+    struct doqallin_column two[] = {
+        {DOQALLIN_I16, valid, 0, numbers, 4, ends, 0, 0, 2},
+        {DOQALLIN_UTF8, valid, 1, (const uint8_t *)"xa", 2, ends, 16, 1, 2},
+    };
+    uint64_t starts[3] = {9, 9, 9};
+    fresh();
+    fault = (struct doqallin_fault){77, 78};
+    CHECK(doqallin_row_keys(two, 2, BYTES("\0\1"), starts, 3, room, ROOM, &count, &fault) == DOQALLIN_GIVEN && at_fault(77, 78));
+    CHECK(count == 8 && is_kept(room, 8) && !memcmp(room, "\x0b\xfe\xea\x9e\xff\x0d\x07\xff", 8));
+    CHECK(starts[0] == 0 && starts[1] == 5 && starts[2] == 8);
+    fresh();
+    starts[0] = starts[1] = starts[2] = 9;
+    CHECK(doqallin_row_keys(two, 2, BYTES("\0\1"), starts, 3, room, 7, &count, &fault) == DOQALLIN_NO_ROOM && count == 8);
+    count = 77;
+    CHECK(no_keys(starts) && at_fault(77, 78));
+    CHECK(doqallin_row_keys(two, 2, BYTES("\0\1"), starts, 2, room, ROOM, &count, &fault) == DOQALLIN_NO_ROOM && count == 8);
+    count = 77;
+    CHECK(no_keys(starts) && at_fault(77, 78));
+    CHECK(doqallin_row_keys(two, 2, BYTES("\0"), starts, 3, room, ROOM, &count, &fault) == DOQALLIN_WRONG_LENGTH && at_fault(2, 0));
+    CHECK(doqallin_row_keys(two, 2, BYTES("\0\4"), starts, 3, room, ROOM, &count, &fault) == DOQALLIN_BAD_OPTIONS && at_fault(1, 0));
+    two[1].length = 1;
+    CHECK(doqallin_row_keys(two, 2, BYTES("\0\1"), starts, 3, room, ROOM, &count, &fault) == DOQALLIN_WRONG_LENGTH && at_fault(1, 0));
+    two[1].length = 2;
+    two[1].offsets_length = 15;
+    CHECK(doqallin_row_keys(two, 2, BYTES("\0\1"), starts, 3, room, ROOM, &count, &fault) == DOQALLIN_TOO_SHORT && at_fault(1, 2));
+    two[1].offset = SIZE_MAX;
+    CHECK(doqallin_row_keys(two, 2, BYTES("\0\1"), starts, 3, room, ROOM, &count, &fault) == DOQALLIN_TOO_MANY_ROWS && at_fault(1, 0));
+    two[1] = (struct doqallin_column){DOQALLIN_UTF8, valid, 0, (const uint8_t *)"x\xff", 2, ends, 16, 0, 2};
+    CHECK(doqallin_row_keys(two, 2, BYTES("\0\1"), starts, 3, room, ROOM, &count, &fault) == DOQALLIN_NOT_UTF8 && at_fault(1, 1));
+    two[1].values_length = 1;
+    CHECK(doqallin_row_keys(two, 2, BYTES("\0\1"), starts, 3, room, ROOM, &count, &fault) == DOQALLIN_BAD_OFFSETS && at_fault(1, 1));
+    two[0].kind = 14;
+    CHECK(doqallin_row_keys(two, 2, BYTES("\0\1"), starts, 3, room, ROOM, &count, &fault) == DOQALLIN_UNKNOWN_KIND && at_fault(0, 0));
+    CHECK(no_keys(starts));
+    CHECK(doqallin_row_keys(two, 0, BYTES(""), starts, 3, room, ROOM, &count, &fault) == DOQALLIN_GIVEN && count == 0 && starts[0] == 0);
+}
+
 static void calls(void) {
     fresh();
     CHECK(doqallin_call(BYTES("cast i32:1000i32 i16"), room, ROOM, &count) == DOQALLIN_GIVEN && holds(room, count, "i16:1000i16"));
@@ -175,15 +222,18 @@ static void calls(void) {
 
 #define LONG "0123456789012345678901234567"
 
-// The calls that take memory: of bounds at more than 22 bytes, and of a line that makes lists.
+// The calls that take memory: of bounds at more than 22 bytes, of a line that makes lists, and of keys.
 static uint32_t take_memory(int which) {
     static const uint64_t offsets[] = {0, 28};
+    static const struct doqallin_column bools = {DOQALLIN_BOOL, (const uint8_t *)"", 0, (const uint8_t *)"\1", 1, (const uint8_t *)"", 0, 0, 1};
+    static uint64_t starts[2];
     switch (which) {
     case 0: return doqallin_upper_bound_bytes(BYTES(LONG), 24, room, ROOM, &count);
     case 1: return doqallin_upper_bound_text(BYTES(LONG), 24, room, ROOM, &count);
     case 2: return doqallin_column_bounds_bytes(BYTES(LONG), offsets, 2, 24, room, ROOM, other, ROOM, &lengths);
     case 3: return doqallin_column_bounds_text(BYTES(LONG), offsets, 2, 24, room, ROOM, other, ROOM, &lengths);
     case 4: return doqallin_call(BYTES("cast list(i32):[1i32, 2i32] list(i64)"), room, ROOM, &count);
+    case 5: return doqallin_row_keys(&bools, 1, BYTES("\0"), starts, 2, room, ROOM, &count, &fault);
     default: exit(2);
     }
 }
@@ -193,9 +243,10 @@ static void say(const char *line) {
     if (write(2, line, strlen(line)) < 0) exit(2);
 }
 
-// Of what was given: 0 if it is the bound, or the cast list; 3 if it says that the cast found no memory; 1 otherwise.
+// Of what was given: 0 if it is the bound, the cast list or the key; 3 if it says that the cast found no memory; 1 otherwise.
 static int given(int which) {
     if (which == 4) return holds(room, count, "list(i64):[1i64, 2i64]") ? 0 : holds(room, count, "OutOfMemory") ? 3 : 1;
+    if (which == 5) return holds(room, count, "\3") ? 0 : 1;
     return memcmp(which < 2 ? room : other, "012345678901234567890124", 24) ? 1 : 0;
 }
 
@@ -221,6 +272,7 @@ int main(int argc, char **argv) {
     upper_bounds();
     zones();
     columns();
+    row_keys();
     calls();
     printf("%d passed, %d failed\n", passed, failed);
     return failed != 0;

@@ -2,5 +2,6 @@ mod Beginnings
 mod ColumnBounds
 mod ColumnEnds
 mod ColumnOrder
+mod KeySteps
 mod Truncations
 mod ZoneAnswers

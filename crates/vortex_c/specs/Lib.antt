@@ -1,7 +1,9 @@
 pub mod Bounds
 pub mod ColumnAnswers
+pub mod ColumnFaults
 pub mod Columns
 pub mod Integers
+pub mod RowKeys
 pub mod UpperAnswers
 pub mod Uppers
 pub mod Words

@@ -1,13 +1,15 @@
 // SPDX-License-Identifier: Apache-2.0
 // SPDX-FileCopyrightText: Copyright the Vortex contributors; ported to Rattle and changed
-//! Casts, bounds and pruning for callers from C: the static library `libdoqallin`.
+//! Casts, bounds, pruning and keys for callers from C: the static library `libdoqallin`.
 //!
 //! Most calls answer a status. Their clauses say what each status means, and what was written.
 #![tactic(auto)]
 
 mod bounds;
 mod columns;
+mod fault;
 mod integers;
+mod keys;
 mod status;
 mod version;
 mod zones;

@@ -20,3 +20,18 @@ pub const NOT_A_NUMBER: u32 = 5;
 
 /// Offsets go down, or past the end of the bytes.
 pub const BAD_OFFSETS: u32 = 6;
+
+/// A code is of no kind of columns.
+pub const UNKNOWN_KIND: u32 = 7;
+
+/// Offset and length of a column are together above 2^64 - 1.
+pub const TOO_MANY_ROWS: u32 = 8;
+
+/// A buffer of a column is too short for its rows.
+pub const TOO_SHORT: u32 = 9;
+
+/// Numbers of columns, of rows or of options differ that are to be equal.
+pub const WRONG_LENGTH: u32 = 12;
+
+/// A byte stands for no options.
+pub const BAD_OPTIONS: u32 = 13;

@@ -1,0 +1,43 @@
+//! Where a mistake is.
+
+ghost use Rattle.std.specs.Prelude.{◌≡◌};
+ghost use Rattle.vortex_c.specs.Words.{place_in_column, status_of_column};
+
+use crate::status::{BAD_OFFSETS, NOT_UTF8, TOO_MANY_ROWS, TOO_SHORT, UNKNOWN_KIND};
+use arrow_columns::{Buffer, ColumnFault};
+
+/// Where a mistake is: which column, and which row, byte or buffer of it.
+#[derive(Clone, Copy)]
+#[repr(C)]
+pub struct Fault {
+    /// Which column.
+    pub column: usize,
+    /// Which row of it, or which buffer: 0 validity, 1 values, 2 offsets.
+    pub place: usize,
+}
+
+/// The status of a column that cannot be read.
+pub(crate) fn status_of_column(fault: ColumnFault) -> u32
+    ensures { result ≡ status_of_column fault }
+{
+    match fault {
+        ColumnFault::UnknownKind => UNKNOWN_KIND,
+        ColumnFault::TooManyRows => TOO_MANY_ROWS,
+        ColumnFault::TooShort(_) => TOO_SHORT,
+        ColumnFault::BadOffsets(_) => BAD_OFFSETS,
+        ColumnFault::NotUtf8(_) => NOT_UTF8,
+    }
+}
+
+/// Where in a column the fault is: its row, or its buffer, and else 0.
+pub(crate) fn place_in_column(fault: ColumnFault) -> usize
+    ensures { result ≡ place_in_column fault }
+{
+    match fault {
+        ColumnFault::UnknownKind | ColumnFault::TooManyRows => 0,
+        ColumnFault::TooShort(Buffer::Validity) => 0,
+        ColumnFault::TooShort(Buffer::Values) => 1,
+        ColumnFault::TooShort(Buffer::Offsets) => 2,
+        ColumnFault::BadOffsets(row) | ColumnFault::NotUtf8(row) => row,
+    }
+}

@@ -1,0 +1,105 @@
+//! The keys of the rows of columns.
+
+ghost use Rattle.std.specs.Prelude.{◌≡◌, ◌≢◌, ◌+◌, ◌<◌, ◌≤◌, ◌⊎◌, drop, length};
+ghost use Rattle.vortex_c.specs.Words.{AreAllKeys, AreSoundBefore, HaveKeys, IsTableFault, TableFault, all_keys_length, fault_of_table, rows_in, status_of_table};
+
+use crate::fault::{Fault, place_in_column, status_of_column};
+use crate::status::{BAD_OPTIONS, GIVEN, NO_MEMORY, NO_ROOM, WRONG_LENGTH};
+use arrow_columns::Column;
+use column_keys::{TableFault, read_columns, row_count_of, row_keys_length, write_row_keys};
+use std::alloc::Global;
+
+/// The keys of the rows of some columns, one after the other, and their offsets: that of row k goes
+/// from offset k to the next. They sort as the rows do, column by column.
+///
+/// A column has a byte of options: 1 for greater values first, 2 for nulls first, or the sum.
+/// Memory is asked for the columns, and none for each row.
+///
+/// - `NO_ROOM`: `count` says how many bytes the keys have, or that it is the greatest `usize` or
+///   more. There is less room, or not an offset for each row and one more.
+/// - `WRONG_LENGTH`: the options are not as many as the columns, and `fault` has the number of
+///   columns; or a column has another number of rows than the first.
+/// - `BAD_OPTIONS`: a byte of options is above 3.
+/// - `UNKNOWN_KIND`, `TOO_MANY_ROWS`, `TOO_SHORT`, `BAD_OFFSETS`, `NOT_UTF8`: a column cannot be
+///   read.
+/// - `NO_MEMORY`: `fault` is not written.
+#[unsafe(no_mangle)]
+#[tactic(auto, using(crate::proofs::KeySteps::shown))]
+pub extern "C" fn doqallin_row_keys(
+    alloc: Global,
+    columns: &[Column],
+    options: &[u8],
+    offsets: &mut [u64],
+    room: &mut [u8],
+    count: &mut usize,
+    fault: &mut Fault,
+) -> u32
+    ensures keys { result ≡ GIVEN
+        → AreAllKeys options.now columns.now offsets.new room.new count.new }
+    ensures counted { HaveKeys result → count.new ≡ all_keys_length options.now columns.now }
+    ensures small { result ≡ NO_ROOM → (length room.old < count.new)
+        ⊎ ((count.new ≡ usize.MAX) ⊎ (length offsets.old ≤ rows_in columns.now)) }
+    ensures large { result ≡ GIVEN → (count.new ≤ length room.old)
+        × (rows_in columns.now < length offsets.old) }
+
+    // What has keys: as many options as columns, and each column sound.
+    ensures options { HaveKeys result → length options.now ≡ length columns.now }
+    ensures sound { HaveKeys result
+        → AreSoundBefore columns.now options.now (length columns.now) }
+    ensures refused { (HaveKeys result) ⊎ ((refusal : TableFault)
+        × IsTableFault columns.now options.now refusal
+        × (result ≡ status_of_table refusal)
+        × (fault.new ≡ fault_of_table (length columns.now) refusal fault.old)) }
+
+    // What is not said to be written stays.
+    ensures rest { result ≡ GIVEN → drop count.new room.new ≡ drop count.new room.old }
+    ensures rest_offsets { result ≡ GIVEN → drop (rows_in columns.now + 1) offsets.new
+        ≡ drop (rows_in columns.now + 1) offsets.old }
+    ensures kept { result ≢ GIVEN → (room.new ≡ room.old) × (offsets.new ≡ offsets.old) }
+    ensures kept_count { (HaveKeys result) ⊎ (count.new ≡ count.old) }
+    ensures kept_fault { HaveKeys result → fault.new ≡ fault.old }
+{
+    let table = match read_columns(alloc, columns, options) {
+        Ok(table) => table,
+        Err(refusal) => return tell(refusal, columns.len(), fault),
+    };
+    let rows = row_count_of(columns);
+    let length = row_keys_length(&table, rows);
+    *count = length;
+    if offsets.len() <= rows || room.len() < length || length == usize::MAX {
+        return NO_ROOM;
+    }
+    write_row_keys(&table, rows, offsets, &mut room[..length]);
+    GIVEN
+}
+
+/// The status of a table that has no keys; and its place is told.
+fn tell(refusal: TableFault, columns: usize, fault: &mut Fault) -> u32
+    ensures status { result ≡ status_of_table refusal }
+    ensures fault { fault.new ≡ fault_of_table columns refusal fault.old }
+{
+    match refusal {
+        TableFault::OutOfMemory => NO_MEMORY,
+        TableFault::WrongCount => at(columns, 0, fault, WRONG_LENGTH),
+        TableFault::Unreadable {
+            column,
+            fault: reason,
+        } => at(
+            column,
+            place_in_column(reason),
+            fault,
+            status_of_column(reason),
+        ),
+        TableFault::BadOptions { column } => at(column, 0, fault, BAD_OPTIONS),
+        TableFault::WrongLength { column } => at(column, 0, fault, WRONG_LENGTH),
+    }
+}
+
+/// The status, whose place is told.
+fn at(column: usize, place: usize, fault: &mut Fault, status: u32) -> u32
+    ensures status { result ≡ status }
+    ensures fault { fault.new ≡ record { column = column; place = place } }
+{
+    *fault = Fault { column, place };
+    status
+}
