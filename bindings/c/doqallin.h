@@ -34,18 +34,18 @@ uint32_t doqallin_version(void);
 
 /* The statuses that a call answers. */
 enum {
-    DOQALLIN_GIVEN = 0,        /* what was asked for is written */
-    DOQALLIN_NONE = 1,         /* there is no such value, or the cast is refused */
-    DOQALLIN_NO_MEMORY = 2,    /* an allocation was refused */
-    DOQALLIN_NO_ROOM = 3,      /* a room is too small: the lengths that are needed are written, and nothing else */
-    DOQALLIN_NOT_UTF8 = 4,     /* bytes that are to be a string are not UTF-8 */
-    DOQALLIN_NOT_A_NUMBER = 5, /* a code names no integer type, or the bits stand for no number of the type */
-    DOQALLIN_BAD_OFFSETS = 6,  /* offsets go down, or past the end of the bytes */
-    DOQALLIN_UNKNOWN_KIND = 7, /* a code is of no kind of columns */
-    DOQALLIN_TOO_MANY_ROWS = 8, /* offset and length of a column are together above 2^64 - 1 */
-    DOQALLIN_TOO_SHORT = 9,    /* a buffer of a column is too short for its rows */
+    DOQALLIN_GIVEN = 0,         /* what was asked for is written */
+    DOQALLIN_NONE = 1,          /* there is no such value, or the cast is refused */
+    DOQALLIN_NO_MEMORY = 2,     /* an allocation was refused */
+    DOQALLIN_NO_ROOM = 3,       /* a room is too small: the lengths that are needed are written, and nothing else */
+    DOQALLIN_NOT_UTF8 = 4,      /* bytes that are to be a string are not UTF-8 */
+    DOQALLIN_NOT_A_NUMBER = 5,  /* a code names no integer type, or the bits stand for no number of the type */
+    DOQALLIN_BAD_OFFSETS = 6,   /* offsets go down, or past the end of the bytes */
+    DOQALLIN_UNKNOWN_KIND = 7,  /* a code is of no kind that the call takes */
+    DOQALLIN_TOO_MANY_ROWS = 8, /* offset and length of a column are together 2^64 or more */
+    DOQALLIN_TOO_SHORT = 9,     /* a buffer of a column is too short for its rows */
     DOQALLIN_WRONG_LENGTH = 12, /* numbers of columns, of rows or of options differ that are to be equal */
-    DOQALLIN_BAD_OPTIONS = 13  /* a byte stands for no options */
+    DOQALLIN_BAD_OPTIONS = 13   /* a byte stands for no options */
 };
 
 /* The integer types. The 64 bits of a number of a signed type are in two's complement: (uint64_t)(int64_t)-5. */
@@ -56,6 +56,43 @@ enum { DOQALLIN_U8, DOQALLIN_U16, DOQALLIN_U32, DOQALLIN_U64, DOQALLIN_I8, DOQAL
  * NONE: that type does not have the number.
  * NOT_A_NUMBER: a code is not below 8, or `bits` are of no number of the type `from` (256 is no u8). */
 uint32_t doqallin_cast_integer(uint8_t from, uint64_t bits, uint8_t to, uint64_t *out);
+
+/* Kinds of columns: the codes of the integer types (dates, times and the like go by theirs), and then these. Strings and bytes
+ * have offsets of 32 bits, and the large ones of 64. */
+enum { DOQALLIN_BOOL = 8, DOQALLIN_UTF8, DOQALLIN_LARGE_UTF8, DOQALLIN_BINARY, DOQALLIN_LARGE_BINARY, DOQALLIN_NULL };
+
+/* A column as the Arrow C data interface lays it out: rows offset to offset + length of its buffers. `validity` has a bit for
+ * each row, 0 where it is null, or no byte if none is. `values` are the integers, bits, or the bytes of all rows. `offsets` are
+ * of strings and bytes alone. A column without rows may have no bytes in a buffer. Buffers may have any alignment. */
+struct doqallin_column {
+    uint8_t kind;
+    const uint8_t *validity;
+    size_t validity_length;
+    const uint8_t *values;
+    size_t values_length;
+    const uint8_t *offsets;
+    size_t offsets_length;
+    size_t offset;
+    size_t length;
+};
+
+/* Where a mistake is: which column, and which row of it (the first such one), or which buffer: 0 validity, 1 values,
+ * 2 offsets. */
+struct doqallin_fault {
+    size_t column;
+    size_t place;
+};
+
+/* Casts a column of integers to the type `to`, all rows or none. Takes no memory. If several statuses fit, the first of
+ * these comes:
+ * UNKNOWN_KIND: exactly if a code is not below 8: `to` with fault->column 1, and else column->kind with 0. fault->place is 0.
+ * TOO_MANY_ROWS: exactly if column->offset + column->length is 2^64 or more. fault->column and fault->place are 0.
+ * TOO_SHORT: exactly if a buffer is too short: fault->place is 0 for the validity, 1 for the values. fault->column is 0.
+ * NO_ROOM: exactly if the room has fewer bytes than column->length times the width of `to`. Here nothing is written.
+ * NONE: exactly if that type lacks the number of a row that is not null: fault->place is the first. fault->column is 0.
+ * GIVEN: the room begins with a number of that type for each row, 0 where it is null; the bytes after them are as they were. */
+uint32_t doqallin_cast_column(const struct doqallin_column *column, uint8_t to, uint8_t *room, size_t room_length,
+                              struct doqallin_fault *fault);
 
 /* The lower bound of bytes at n bytes: a value of at most n bytes whole, and else its first n bytes. These are the greatest
  * bytes of at most that length that are not above the value. Returns how many of the first bytes the bound has:
@@ -121,32 +158,6 @@ uint32_t doqallin_column_bounds_text(const uint8_t *bytes, size_t bytes_length, 
                                      size_t offsets_length, size_t n, uint8_t *lower_room, size_t lower_room_length,
                                      uint8_t *upper_room, size_t upper_room_length,
                                      struct doqallin_bound_lengths *lengths);
-
-/* Kinds of columns: the codes of the integer types (dates, times and the like go by theirs), and then these. Strings and bytes
- * have offsets of 32 bits, and the large ones of 64. */
-enum { DOQALLIN_BOOL = 8, DOQALLIN_UTF8, DOQALLIN_LARGE_UTF8, DOQALLIN_BINARY, DOQALLIN_LARGE_BINARY, DOQALLIN_NULL };
-
-/* A column as the Arrow C data interface lays it out: rows offset to offset + length of its buffers. `validity` has a bit for
- * each row, 0 where it is null, or no byte if none is. `values` are the integers, bits, or the bytes of all rows. `offsets` are
- * of strings and bytes alone. A column without rows may have no bytes in a buffer. */
-struct doqallin_column {
-    uint8_t kind;
-    const uint8_t *validity;
-    size_t validity_length;
-    const uint8_t *values;
-    size_t values_length;
-    const uint8_t *offsets;
-    size_t offsets_length;
-    size_t offset;
-    size_t length;
-};
-
-/* Where a mistake is: which column, and which row of it (the first such one), or which buffer: 0 validity, 1 values,
- * 2 offsets. */
-struct doqallin_fault {
-    size_t column;
-    size_t place;
-};
 
 /* The keys of the rows of some columns (docs/KEYS.md): bytes that compare as the rows do, column by column. The key of row k is
  * the bytes of the room from offsets_room[k] to offsets_room[k + 1]. A column has a byte of options: 1 for greater values

@@ -60,6 +60,52 @@ static void casts(void) {
     CHECK(doqallin_cast_integer(DOQALLIN_I64, 0, 255, &out) == DOQALLIN_NOT_A_NUMBER && out == 7);
 }
 
+// A column of 5, a null and -2. A row of the buffers comes before its first.
+static const uint8_t validity[] = {0x0b}, values[] = {0xff, 0xff, 5, 0, 0xff, 0xff, 0xfe, 0xff};
+static const struct doqallin_column rows = {DOQALLIN_I16, validity, 1, values, 8, values, 0, 1, 3};
+
+// Whether a cast of the column answers so, tells this of the mistake, and writes so many bytes, and no more.
+static int casts_to(struct doqallin_column column, uint8_t to, size_t room_length, uint32_t status, size_t at, size_t place,
+                    size_t written) {
+    struct doqallin_fault fault = {77, 78};
+    fresh();
+    uint32_t answer = doqallin_cast_column(&column, to, room, room_length, &fault);
+    return answer == status && fault.column == at && fault.place == place && is_kept(room, written);
+}
+
+static void column_casts(void) {
+    struct doqallin_column column = rows;
+    CHECK(casts_to(rows, DOQALLIN_I32, 12, DOQALLIN_GIVEN, 77, 78, 12) && !memcmp(room, "\5\0\0\0\0\0\0\0\xfe\xff\xff\xff", 12));
+    CHECK(casts_to(rows, DOQALLIN_I8, ROOM, DOQALLIN_GIVEN, 77, 78, 3) && !memcmp(room, "\5\0\xfe", 3));
+    CHECK(casts_to(rows, DOQALLIN_U64, ROOM, DOQALLIN_NONE, 0, 2, 0));
+    CHECK(casts_to(rows, DOQALLIN_I32, 11, DOQALLIN_NO_ROOM, 77, 78, 0));
+    // A room too small is told before a row without a number.
+    CHECK(casts_to(rows, DOQALLIN_U64, 23, DOQALLIN_NO_ROOM, 77, 78, 0));
+    column.length = 2;
+    CHECK(casts_to(column, DOQALLIN_U8, 2, DOQALLIN_GIVEN, 77, 78, 2) && !memcmp(room, "\5\0", 2));
+    column.length = 0;
+    CHECK(casts_to(column, DOQALLIN_U8, 0, DOQALLIN_GIVEN, 77, 78, 0));
+    // Without a bitmap no row is null.
+    column.length = 3, column.validity_length = 0;
+    CHECK(casts_to(column, DOQALLIN_I8, ROOM, DOQALLIN_GIVEN, 77, 78, 3) && !memcmp(room, "\5\xff\xfe", 3));
+    CHECK(casts_to(column, DOQALLIN_U16, ROOM, DOQALLIN_NONE, 0, 1, 0));
+    CHECK(casts_to(rows, 8, ROOM, DOQALLIN_UNKNOWN_KIND, 1, 0, 0));
+    CHECK(casts_to(rows, 255, ROOM, DOQALLIN_UNKNOWN_KIND, 1, 0, 0));
+    column = rows, column.kind = 9;
+    CHECK(casts_to(column, DOQALLIN_I32, ROOM, DOQALLIN_UNKNOWN_KIND, 0, 0, 0));
+    CHECK(casts_to(column, 8, ROOM, DOQALLIN_UNKNOWN_KIND, 1, 0, 0));
+    column = rows, column.offset = SIZE_MAX;
+    CHECK(casts_to(column, DOQALLIN_I32, ROOM, DOQALLIN_TOO_MANY_ROWS, 0, 0, 0));
+    column.offset = SIZE_MAX - 3;
+    CHECK(casts_to(column, DOQALLIN_I32, ROOM, DOQALLIN_TOO_SHORT, 0, 0, 0));
+    column.validity_length = 0;
+    CHECK(casts_to(column, DOQALLIN_I32, ROOM, DOQALLIN_TOO_SHORT, 0, 1, 0));
+    column = rows, column.values_length = 7;
+    CHECK(casts_to(column, DOQALLIN_I32, ROOM, DOQALLIN_TOO_SHORT, 0, 1, 0));
+    // The room is asked for once the buffers are long enough.
+    CHECK(casts_to(column, DOQALLIN_I32, 0, DOQALLIN_TOO_SHORT, 0, 1, 0));
+}
+
 static void lower_bounds(void) {
     CHECK(doqallin_lower_bound_bytes(BYTES(""), 4) == 0);
     CHECK(doqallin_lower_bound_bytes(BYTES("apple"), 3) == 3);
@@ -268,6 +314,7 @@ int main(int argc, char **argv) {
     if (argc == 3) return memory(atoi(argv[2]));
     CHECK(doqallin_version() == DOQALLIN_VERSION);
     casts();
+    column_casts();
     lower_bounds();
     upper_bounds();
     zones();

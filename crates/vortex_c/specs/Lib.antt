@@ -1,5 +1,6 @@
 pub mod Bounds
 pub mod ColumnAnswers
+pub mod ColumnCasts
 pub mod ColumnFaults
 pub mod Columns
 pub mod Integers

@@ -1,5 +1,9 @@
 -- The words of clauses, from one place.
 pub use Rattle.std.specs.Option.{option_copied, option_map}
+pub use Rattle.arrow_columns.specs.Faults.{IsIntegerFault}
+pub use Rattle.arrow_columns.specs.Integers.{width_of}
+pub use Rattle.arrow_columns.specs.Kinds.{integer_kind_at, kind_at}
+pub use Rattle.arrow_columns.specs.declared.kinds.Kind.TheVariants.{Integer}
 pub use Rattle.vortex_dtype.specs.TypeTree.{binary_type, utf8_type}
 pub use Rattle.vortex_dtype.specs.declared.error.VortexError.TheVariants.{OutOfMemory}
 pub use Rattle.vortex_dtype.specs.declared.nullability.Nullability.TheVariants.{NonNullable}
@@ -12,6 +16,7 @@ pub use Rattle.column_keys.specs.Tables.{AreSoundBefore, IsTableFault, rows_in}
 pub use Rattle.column_keys.specs.declared.faults.TableFault.{TableFault}
 pub use Rattle.vortex_c.specs.Bounds.{HasNone, IsWholeOrBest}
 pub use Rattle.vortex_c.specs.ColumnAnswers.{AnswersColumn, KeepsTheRest}
+pub use Rattle.vortex_c.specs.ColumnCasts.{IsCastRefusal, IsColumnCast, SaysWhyNoCast, fault_of_cast, status_of_cast}
 pub use Rattle.vortex_c.specs.ColumnFaults.{place_in_column, status_of_column}
 pub use Rattle.vortex_c.specs.Columns.{AreEndsText, HasEndNoText, HasValue, IsColumn, IsGreatestAt, IsLeastAt, some_where, value_at}
 pub use Rattle.vortex_c.specs.Integers.{IsCastOf, IsInteger, IsNotCast, number_in, ptype_at}

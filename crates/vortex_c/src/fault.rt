@@ -1,9 +1,9 @@
 //! Where a mistake is.
 
-ghost use Rattle.std.specs.Prelude.{◌≡◌};
+ghost use Rattle.std.specs.Prelude.{◌≡◌, ◌≢◌};
 ghost use Rattle.vortex_c.specs.Words.{place_in_column, status_of_column};
 
-use crate::status::{BAD_OFFSETS, NOT_UTF8, TOO_MANY_ROWS, TOO_SHORT, UNKNOWN_KIND};
+use crate::status::{BAD_OFFSETS, GIVEN, NOT_UTF8, TOO_MANY_ROWS, TOO_SHORT, UNKNOWN_KIND};
 use arrow_columns::{Buffer, ColumnFault};
 
 /// Where a mistake is: which column, and which row, byte or buffer of it.
@@ -18,7 +18,8 @@ pub struct Fault {
 
 /// The status of a column that cannot be read.
 pub(crate) fn status_of_column(fault: ColumnFault) -> u32
-    ensures { result ≡ status_of_column fault }
+    ensures status { result ≡ status_of_column fault }
+    ensures refused { result ≢ GIVEN }
 {
     match fault {
         ColumnFault::UnknownKind => UNKNOWN_KIND,

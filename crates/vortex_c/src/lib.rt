@@ -6,6 +6,7 @@
 #![tactic(auto)]
 
 mod bounds;
+mod column_casts;
 mod columns;
 mod fault;
 mod integers;

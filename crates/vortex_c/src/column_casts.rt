@@ -1,0 +1,139 @@
+//! Casts of columns of integers.
+
+ghost use Rattle.std.specs.Prelude.{◌≡◌, ◌≢◌, ◌*◌, IfErr, IfOk, OnErr, OnOk, Some, drop, length};
+ghost use Rattle.arrow_columns.specs.declared.kinds.IntegerKind.{IntegerKind as AnyKind};
+ghost use Rattle.vortex_c.specs.Words.{Integer, IsCastRefusal, IsColumnCast, IsIntegerFault, SaysWhyNoCast, fault_of_cast, integer_kind_at, kind_at, status_of_cast, width_of};
+
+use crate::fault::{Fault, place_in_column, status_of_column};
+use crate::status::{GIVEN, NO_ROOM, NONE, UNKNOWN_KIND};
+use arrow_columns::{Column, ColumnFault, IntegerKind, IntegerRows, Kind, Rows};
+
+/// Why a column was not cast.
+#[derive(Clone, Copy)]
+pub(crate) enum CastRefusal {
+    /// The code that is asked for is of no kind of integers.
+    NotAKind,
+    /// The column is none of integers.
+    NotIntegers,
+    /// The column cannot be read.
+    Unreadable(ColumnFault),
+    /// The room is too small.
+    TooSmall,
+    /// The integer of this row, the first such one, is none of the kind.
+    Without(usize),
+}
+
+/// Casts a column of integers to another kind: writes an item for each row, 0 where it is null.
+/// Takes no memory.
+///
+/// - `UNKNOWN_KIND`: column 1, `to` is no kind of integers; column 0, the column is none of them.
+/// - `TOO_MANY_ROWS`, `TOO_SHORT`: the column cannot be read.
+/// - `NO_ROOM`: the room has fewer bytes than the items.
+/// - `NONE`: the kind lacks an integer. `fault` says the row of the first.
+#[unsafe(no_mangle)]
+pub extern "C" fn doqallin_cast_column(
+    column: &Column,
+    to: u8,
+    room: &mut [u8],
+    fault: &mut Fault,
+) -> u32
+    ensures given { result ≡ GIVEN → IsColumnCast column.now to room.new }
+    ensures rest { result ≡ GIVEN → (kind : AnyKind) → integer_kind_at to ≡ Some kind
+        → drop (column.now.length * width_of kind) room.new
+        ≡ drop (column.now.length * width_of kind) room.old }
+    ensures no_fault { result ≡ GIVEN → fault.new ≡ fault.old }
+    ensures refused { result ≢ GIVEN
+        → SaysWhyNoCast column.now to (length room.old) fault.old fault.new result }
+    ensures kept { result ≢ GIVEN → room.new ≡ room.old }
+{
+    match cast(*column, to, room) {
+        Ok(()) => GIVEN,
+        Err(refusal) => {
+            tell(refusal, fault);
+            status_of_refusal(refusal)
+        }
+    }
+}
+
+/// Casts a column of integers to the kind with this code.
+fn cast(column: Column, to: u8, room: &mut [u8]) -> Result<(), CastRefusal>
+    ensures cast { OnOk result (IsColumnCast column.entry to room.new) }
+    ensures rest { OnOk result ((kind : AnyKind) → integer_kind_at to ≡ Some kind
+        → drop (column.entry.length * width_of kind) room.new
+        ≡ drop (column.entry.length * width_of kind) room.old) }
+    ensures refused { IfErr result (λ r. IsCastRefusal column.entry to (length room.old) r) }
+    ensures kept { OnErr result (room.new ≡ room.old) }
+{
+    let Some(into) = IntegerKind::from_code(to) else {
+        return Err(CastRefusal::NotAKind);
+    };
+    let Some(Kind::Integer(from)) = Kind::from_code(column.kind) else {
+        return Err(CastRefusal::NotIntegers);
+    };
+    let rows = match integer_rows(from, column) {
+        Ok(rows) => rows,
+        Err(fault) => return Err(CastRefusal::Unreadable(fault)),
+    };
+    if room.len() / into.width() < column.length {
+        return Err(CastRefusal::TooSmall);
+    }
+    match rows.cast(into, room) {
+        Ok(()) => Ok(()),
+        Err(fault) => Err(CastRefusal::Without(fault.row)),
+    }
+}
+
+/// The rows of a column of integers.
+fn integer_rows(from: IntegerKind, column: Column) -> Result<IntegerRows, ColumnFault>
+    requires { kind_at column.kind ≡ Some (Integer from) }
+    ensures rows { IfOk result (λ rows. (rows.kind ≡ from) × (rows.column ≡ column.entry)) }
+    ensures fault { IfErr result (λ fault. IsIntegerFault from column.entry fault) }
+{
+    match column.check() {
+        Ok(Rows::Integers(rows)) => Ok(rows),
+        Ok(_) => unreachable!(),
+        Err(fault) => Err(fault),
+    }
+}
+
+/// Tells where the mistake is.
+fn tell(refusal: CastRefusal, fault: &mut Fault)
+    ensures { fault.new ≡ fault_of_cast fault.old refusal }
+{
+    match refusal {
+        CastRefusal::NotAKind => *fault = Fault {
+            column: 1,
+            place: 0,
+        },
+        CastRefusal::NotIntegers => *fault = Fault {
+            column: 0,
+            place: 0,
+        },
+        CastRefusal::Unreadable(cause) => {
+            *fault = Fault {
+                column: 0,
+                place: place_in_column(cause),
+            }
+        }
+        CastRefusal::TooSmall => {}
+        CastRefusal::Without(row) => {
+            *fault = Fault {
+                column: 0,
+                place: row,
+            }
+        }
+    }
+}
+
+/// The status of a refusal.
+fn status_of_refusal(refusal: CastRefusal) -> u32
+    ensures status { result ≡ status_of_cast refusal }
+    ensures refused { result ≢ GIVEN }
+{
+    match refusal {
+        CastRefusal::NotAKind | CastRefusal::NotIntegers => UNKNOWN_KIND,
+        CastRefusal::Unreadable(fault) => status_of_column(fault),
+        CastRefusal::TooSmall => NO_ROOM,
+        CastRefusal::Without(_) => NONE,
+    }
+}
