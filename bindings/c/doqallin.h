@@ -90,7 +90,7 @@ struct doqallin_fault {
  * TOO_SHORT: exactly if a buffer is too short: fault->place is 0 for the validity, 1 for the values. fault->column is 0.
  * NO_ROOM: exactly if the room has fewer bytes than column->length times the width of `to`. Here nothing is written.
  * NONE: exactly if that type lacks the number of a row that is not null: fault->place is the first. fault->column is 0.
- * GIVEN: the room begins with a number of that type for each row, 0 where it is null; the bytes after them are as they were. */
+ * GIVEN: the room begins with a number of that type for each row, 0 for a null; the bytes after them are as they were. */
 uint32_t doqallin_cast_column(const struct doqallin_column *column, uint8_t to, uint8_t *room, size_t room_length,
                               struct doqallin_fault *fault);
 

@@ -1,4 +1,4 @@
-//! Scalars with their keys, by which they are compared.
+//! Scalars that are compared by their keys.
 
 ghost use Rattle.std.specs.Prelude.{◌≡◌, IfOk};
 ghost use Rattle.vortex_value.specs.Equality.{HasNoTyped};
@@ -12,7 +12,7 @@ use vortex_row::laws::values_have_no_typed;
 use vortex_row::{RowError, SortOptions, append_key};
 use vortex_value::{Scalar, ScalarRef};
 
-/// A valid scalar with its key, by which it is compared.
+/// A valid scalar with its key. It is compared by the key alone.
 #[derive(Drop)]
 #[derive_where(PartialEq, Eq, PartialOrd, Ord)]
 pub struct Keyed {

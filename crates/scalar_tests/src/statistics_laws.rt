@@ -89,7 +89,7 @@ pub fn there_and_back(
 }
 
 /// The statistics of two pieces, read back as those of a column of the type. They are right for the
-/// contents of both pieces, whatever the types in which they were written.
+/// contents of both pieces, whatever types they were written in.
 pub fn merge_written(
     alloc: Global,
     dtype: &DType,

@@ -19,7 +19,7 @@ pub record AreKinds (column : Column) (to : ℕ) (from into : IntegerKind) : Typ
   pub from_is : kind_at column.kind ≡ Some (Integer from)
   pub into_is : integer_kind_at to ≡ Some into
 
--- the room begins with the integers of the column in the kind with this code: 0 where a cell is null
+-- the room begins with the integers of the column in the kind with this code: 0 for a null
 pub record IsColumnCast (column : Column) (to : ℕ) (room : List ℕ) : Type 0 where
   pub from : IntegerKind
   pub into : IntegerKind

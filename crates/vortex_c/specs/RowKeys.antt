@@ -18,7 +18,7 @@ status_of_table (Unreadable column fault) = status_of_column fault
 status_of_table (BadOptions column) = BAD_OPTIONS
 status_of_table (WrongLength column) = WRONG_LENGTH
 
--- where it is told to be, among so many columns: after them all if there are not as many options; want of memory is nowhere
+-- its column, among so many: past the last one if there are not as many options; want of memory has no column
 abbrev pub fault_of_table : ℕ → TableFault → Fault → Fault
 fault_of_table columns OutOfMemory before = before
 fault_of_table columns WrongCount before = record { column = columns; place = 0 }

@@ -13,20 +13,20 @@ use arrow_columns::{Column, ColumnFault, IntegerKind, IntegerRows, Kind, Rows};
 pub(crate) enum CastRefusal {
     /// The code that is asked for is of no kind of integers.
     NotAKind,
-    /// The column is none of integers.
+    /// The column is not one of integers.
     NotIntegers,
     /// The column cannot be read.
     Unreadable(ColumnFault),
     /// The room is too small.
     TooSmall,
-    /// The integer of this row, the first such one, is none of the kind.
+    /// The kind lacks the integer of this row, the first such one.
     Without(usize),
 }
 
-/// Casts a column of integers to another kind: writes an item for each row, 0 where it is null.
+/// Casts a column of integers to another kind: writes an item for each row, 0 for a null.
 /// Takes no memory.
 ///
-/// - `UNKNOWN_KIND`: column 1, `to` is no kind of integers; column 0, the column is none of them.
+/// - `UNKNOWN_KIND`: a code is of no kind of integers: `to` with column 1, the column's with 0.
 /// - `TOO_MANY_ROWS`, `TOO_SHORT`: the column cannot be read.
 /// - `NO_ROOM`: the room has fewer bytes than the items.
 /// - `NONE`: the kind lacks an integer. `fault` says the row of the first.

@@ -73,7 +73,7 @@ pub extern "C" fn doqallin_row_keys(
     GIVEN
 }
 
-/// The status of a table that has no keys; and its place is told.
+/// Tells why a table has no keys, and gives the status.
 fn tell(refusal: TableFault, columns: usize, fault: &mut Fault) -> u32
     ensures status { result ≡ status_of_table refusal }
     ensures fault { fault.new ≡ fault_of_table columns refusal fault.old }
@@ -95,7 +95,7 @@ fn tell(refusal: TableFault, columns: usize, fault: &mut Fault) -> u32
     }
 }
 
-/// The status, whose place is told.
+/// Tells the place, and gives the status back.
 fn at(column: usize, place: usize, fault: &mut Fault, status: u32) -> u32
     ensures status { result ≡ status }
     ensures fault { fault.new ≡ record { column = column; place = place } }
