@@ -1,8 +1,8 @@
 /* SPDX-License-Identifier: Apache-2.0
  * SPDX-FileCopyrightText: Copyright the Vortex contributors; ported to Rattle and changed
  *
- * Doqallin for C: casts that never change a value, bounds of bytes and strings, and pruning by these. The calls are proved
- * against the contracts in crates/vortex_c and crates/vortex_call. This header is written by hand.
+ * Doqallin for C: casts that never change a value, bounds of bytes and strings, pruning by these, and keys of rows. The calls
+ * are proved against the contracts in crates/vortex_c and crates/vortex_call. This header is written by hand.
  *
  * Link with -ldoqallin. One call, doqallin_call, is in a library of its own: link with -ldoqallin_call for it.
  *

@@ -1,4 +1,4 @@
-//! What a caller derives of filters from the contracts and the laws alone: the rows of a zone that
+//! What a caller derives of filters from the contracts and the laws alone. The rows of a zone that
 //! match are counted, and read only if the statistics leave that open. Statistics tell whether some
 //! cell gives a test a truth, and a filter that fits its columns compares contents.
 

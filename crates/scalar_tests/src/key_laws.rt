@@ -1,5 +1,5 @@
-//! What callers derive from the contracts and the laws of keys alone: the order of two scalars by
-//! their keys, that a cast keeps a key, and columns that are sorted, searched and merged by keys.
+//! What callers derive from the contracts and the laws of keys alone. Keys give the order of two
+//! scalars, and a cast keeps them. Columns are sorted, searched and merged by keys.
 
 ghost use Rattle.std.specs.Prelude.{◌++◌, ◌≡◌, IfOk, MatchOption, OnOk, Some, true};
 ghost use Rattle.std.specs.List.{All, HoldsAt};
