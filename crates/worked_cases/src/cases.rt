@@ -1,44 +1,48 @@
 //! One line: its call's answer, compared with the answer that stands in it.
 
-use crate::answers::{Answer, answer_text};
-use crate::calls::Line;
 use crate::lines::push_number;
-use crate::runs::Run;
+use case_lines::{Line, LineAnswer, LineResult, Run};
 use std::alloc::{AllocError, Global};
 
-/// The written answer to a line, and the answer that stands in the line, if there is one.
+/// The answer to a line, and the answer that stands in the line, if there is one.
 #[derive(Drop)]
 struct AnsweredLine<'a> {
-    text: String,
-    is_bad: bool,
+    answer: LineAnswer,
     expected: Option<&'a [u8]>,
 }
 
 /// Answers a line, which need not be UTF-8.
 fn answer_line<'a>(run: Run<'a>, line: &'a [u8]) -> Result<AnsweredLine<'a>, AllocError> {
     let mut line = Line::new(run, line);
-    let answer = line.answer();
+    let answer = answer(&mut line);
     let expected = line.expected();
     drop(line);
-    let (text, is_bad) = written(run.alloc(), answer?)?;
     Ok(AnsweredLine {
-        text,
-        is_bad,
+        answer: answer?,
         expected,
     })
 }
 
-/// An answer as it is written, and whether it is `BadLine`.
-fn written(alloc: Global, answer: Answer) -> Result<(String, bool), AllocError> {
-    let is_bad = matches!(answer, Answer::BadLine);
-    let text = answer_text(alloc, &answer);
-    drop(answer);
-    Ok((text?, is_bad))
+/// The answer of the line's call, by the crate that has a call of that name.
+fn answer(line: &mut Line<'_>) -> LineResult {
+    if !line.is_utf8() {
+        return line.bad_line();
+    }
+    if let Some(answer) = scalar_calls::answer(line) {
+        return answer;
+    }
+    if let Some(answer) = view_calls::answer(line) {
+        return answer;
+    }
+    if let Some(answer) = filter_calls::answer(line) {
+        return answer;
+    }
+    line.bad_line()
 }
 
 /// The written answer of a line's call, or `bad line` if the line is not in the language.
 pub fn call(alloc: Global, line: &[u8]) -> Result<String, AllocError> {
-    Ok(answer_line(Run::alone(alloc), line)?.text)
+    Ok(answer_line(Run::alone(alloc), line)?.answer.text)
 }
 
 /// How a line comes out.
@@ -64,8 +68,7 @@ pub fn run_line<'a>(
         return Ok(Outcome::Passed);
     }
     let AnsweredLine {
-        text,
-        is_bad,
+        answer: LineAnswer { text, is_bad },
         expected,
     } = answer_line(run, line)?;
     match expected {

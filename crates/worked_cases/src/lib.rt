@@ -4,17 +4,9 @@
 //! the call that it names, and compares the answer with the one that stands in the line.
 #![tactic(auto)]
 
-mod answers;
-mod calls;
 mod cases;
-mod inputs;
 mod lines;
-mod read;
-mod runs;
-mod same;
-mod tokens;
-mod write;
 
+pub use case_lines::Run;
 pub use cases::call;
 pub use lines::{Report, run_lines};
-pub use runs::Run;

@@ -1,7 +1,7 @@
 //! Runs all lines of an input, and counts the wrong ones.
 
 use crate::cases::{Outcome, run_line};
-use crate::runs::Run;
+use case_lines::Run;
 use itoa::Buffer;
 use rows::first_line;
 use std::alloc::AllocError;

@@ -1,0 +1,15 @@
+//! Words of answers.
+
+use std::cmp::Ordering;
+
+pub fn truth_word(is_true: bool) -> &'static str {
+    if is_true { "true" } else { "false" }
+}
+
+pub fn order_word(order: Ordering) -> &'static str {
+    match order {
+        Ordering::Less => "less",
+        Ordering::Equal => "equal",
+        Ordering::Greater => "greater",
+    }
+}

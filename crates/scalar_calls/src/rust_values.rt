@@ -1,0 +1,359 @@
+//! Calls that convert scalars to Rust values, and Rust values to scalars.
+
+use case_lines::{
+    Answer, CallResult, Exact, Inputs, Line, LineResult, Output, Tokens, WriteAnswer, buffer_text,
+    bytes, named, ptype_named,
+};
+use std::alloc::Global;
+use vortex_array::{FromScalar, IntoScalar};
+use vortex_dtype::{BufferString, ByteBuffer, PType, VortexError};
+use vortex_pvalue::NativePType;
+use vortex_value::{Scalar, ScalarRef};
+
+#[derive(Clone, Copy)]
+enum Call {
+    Take,
+    Give,
+    TryFrom,
+    TryFromOwned,
+}
+
+const CALLS: [(&str, Call); 4] = [
+    ("take", Call::Take),
+    ("give", Call::Give),
+    ("try_from", Call::TryFrom),
+    ("try_from_owned", Call::TryFromOwned),
+];
+
+/// The answer of the line's call, if it is one of these.
+pub fn answer_line(line: &mut Line<'_>) -> Option<LineResult> {
+    let call = named(&CALLS, line.name())?;
+    Some(answer_of(line, call))
+}
+
+fn answer_of(line: &mut Line<'_>, call: Call) -> LineResult {
+    match call {
+        Call::Take => line.borrowing(take),
+        Call::Give => line.borrowing(give),
+        Call::TryFrom => line.borrowing(try_from),
+        Call::TryFromOwned => line.taking(try_from_owned),
+    }
+}
+
+/// A Rust type: a leaf, which may be an `Option`, inside so many vectors.
+#[derive(Clone, Copy, PartialEq)]
+struct RustType {
+    vectors: u32,
+    is_optional: bool,
+    leaf: RustLeaf,
+}
+
+/// How deep vectors may nest.
+const MOST_VECTORS: u32 = 3;
+
+/// The Rust types that contain no other.
+#[derive(Clone, Copy, PartialEq)]
+enum RustLeaf {
+    Bool,
+    Number(PType),
+    Usize,
+    Text,
+    Buffer,
+    Bytes,
+}
+
+const LEAVES: [(&str, RustLeaf); 5] = [
+    ("bool", RustLeaf::Bool),
+    ("usize", RustLeaf::Usize),
+    ("string", RustLeaf::Text),
+    ("buffer_string", RustLeaf::Buffer),
+    ("bytes", RustLeaf::Bytes),
+];
+
+impl Inputs for RustType {
+    fn read(tokens: &mut Tokens<'_>) -> RustType {
+        let mut vectors = 0u32;
+        let mut word = rust_word(tokens);
+        for _ in 0..MOST_VECTORS {
+            if word == b"vec".as_slice() {
+                vectors = vectors.saturating_add(1);
+                word = rust_word(tokens);
+            }
+        }
+        let is_optional = word == b"option".as_slice();
+        if is_optional {
+            word = rust_word(tokens);
+        }
+        RustType {
+            vectors,
+            is_optional,
+            leaf: tokens.or_bad(leaf_named(word), RustLeaf::Bool),
+        }
+    }
+}
+
+impl Exact for RustType {}
+
+/// Takes a word of a Rust type.
+fn rust_word<'a>(tokens: &mut Tokens<'a>) -> &'a [u8] {
+    tokens.spaces();
+    tokens.word()
+}
+
+fn leaf_named(word: &[u8]) -> Option<RustLeaf> {
+    match named(&LEAVES, word) {
+        None => ptype_named(word).map(RustLeaf::Number),
+        leaf => leaf,
+    }
+}
+
+#[derive(Clone, Copy)]
+struct Asked {
+    /// Whether the Rust value is made a scalar again.
+    gives: bool,
+    /// How deep the vectors of the Rust type nest.
+    vectors: u32,
+}
+
+fn take(alloc: Global, (rust, scalar): &(RustType, Scalar)) -> CallResult {
+    through_traits(alloc, false, *rust, scalar)
+}
+
+fn give(alloc: Global, (rust, scalar): &(RustType, Scalar)) -> CallResult {
+    through_traits(alloc, true, *rust, scalar)
+}
+
+/// What `FromScalar` answers, or if it `gives`, the scalar that `IntoScalar` makes of that.
+fn through_traits(alloc: Global, gives: bool, rust: RustType, scalar: &Scalar) -> CallResult {
+    let asked = Asked {
+        gives,
+        vectors: rust.vectors,
+    };
+    match (rust.leaf, rust.is_optional) {
+        (RustLeaf::Bool, false) => nested::<bool>(alloc, asked, scalar),
+        (RustLeaf::Bool, true) => nested::<Option<bool>>(alloc, asked, scalar),
+        (RustLeaf::Number(ptype), false) => number(alloc, asked, scalar, ptype),
+        (RustLeaf::Number(ptype), true) => optional_number(alloc, asked, scalar, ptype),
+        (RustLeaf::Usize, false) => nested::<usize>(alloc, asked, scalar),
+        (RustLeaf::Usize, true) => nested::<Option<usize>>(alloc, asked, scalar),
+        (RustLeaf::Text, false) => nested::<String>(alloc, asked, scalar),
+        (RustLeaf::Buffer, false) => nested::<BufferString>(alloc, asked, scalar),
+        (RustLeaf::Text | RustLeaf::Buffer, true) => {
+            nested::<Option<BufferString>>(alloc, asked, scalar)
+        }
+        (RustLeaf::Bytes, false) => nested::<ByteBuffer>(alloc, asked, scalar),
+        (RustLeaf::Bytes, true) => nested::<Option<ByteBuffer>>(alloc, asked, scalar),
+    }
+}
+
+fn number(alloc: Global, asked: Asked, scalar: &Scalar, ptype: PType) -> CallResult {
+    match ptype {
+        PType::U8 => nested::<u8>(alloc, asked, scalar),
+        PType::U16 => nested::<u16>(alloc, asked, scalar),
+        PType::U32 => nested::<u32>(alloc, asked, scalar),
+        PType::U64 => nested::<u64>(alloc, asked, scalar),
+        PType::I8 => nested::<i8>(alloc, asked, scalar),
+        PType::I16 => nested::<i16>(alloc, asked, scalar),
+        PType::I32 => nested::<i32>(alloc, asked, scalar),
+        PType::I64 => nested::<i64>(alloc, asked, scalar),
+    }
+}
+
+fn optional_number(alloc: Global, asked: Asked, scalar: &Scalar, ptype: PType) -> CallResult {
+    match ptype {
+        PType::U8 => nested::<Option<u8>>(alloc, asked, scalar),
+        PType::U16 => nested::<Option<u16>>(alloc, asked, scalar),
+        PType::U32 => nested::<Option<u32>>(alloc, asked, scalar),
+        PType::U64 => nested::<Option<u64>>(alloc, asked, scalar),
+        PType::I8 => nested::<Option<i8>>(alloc, asked, scalar),
+        PType::I16 => nested::<Option<i16>>(alloc, asked, scalar),
+        PType::I32 => nested::<Option<i32>>(alloc, asked, scalar),
+        PType::I64 => nested::<Option<i64>>(alloc, asked, scalar),
+    }
+}
+
+/// The call's answer at as many vectors around `T` as are asked for, at most `MOST_VECTORS`.
+fn nested<T: FromScalar + IntoScalar + Answers + Drop>(
+    alloc: Global,
+    asked: Asked,
+    scalar: &Scalar,
+) -> CallResult {
+    let gives = asked.gives;
+    match asked.vectors {
+        0 => taken::<T>(alloc, gives, scalar),
+        1 => taken::<Vec<T>>(alloc, gives, scalar),
+        2 => taken::<Vec<Vec<T>>>(alloc, gives, scalar),
+        _ => taken::<Vec<Vec<Vec<T>>>>(alloc, gives, scalar),
+    }
+}
+
+fn taken<T: FromScalar + IntoScalar + Answers + Drop>(
+    alloc: Global,
+    gives: bool,
+    scalar: &Scalar,
+) -> CallResult {
+    let value = T::try_from_scalar(alloc, ScalarRef::of(scalar))?;
+    if gives {
+        Ok(Answer::Scalar(value.try_into_scalar(alloc)?))
+    } else {
+        value.answer(alloc)
+    }
+}
+
+/// The answer of a conversion.
+fn converted<T: Answers>(alloc: Global, outcome: Result<T, VortexError>) -> CallResult {
+    outcome?.answer(alloc)
+}
+
+/// What `TryFrom<&Scalar>` answers. It has no `String` and no vectors.
+fn try_from(alloc: Global, (rust, scalar): &(RustType, Scalar)) -> CallResult {
+    match (rust.vectors, rust.leaf, rust.is_optional) {
+        (0, RustLeaf::Bool, false) => converted(alloc, bool::try_from(scalar)),
+        (0, RustLeaf::Bool, true) => converted(alloc, Option::<bool>::try_from(scalar)),
+        (0, RustLeaf::Number(ptype), false) => try_number(alloc, scalar, ptype),
+        (0, RustLeaf::Number(ptype), true) => try_optional_number(alloc, scalar, ptype),
+        (0, RustLeaf::Usize, false) => converted(alloc, usize::try_from(scalar)),
+        (0, RustLeaf::Usize, true) => converted(alloc, Option::<usize>::try_from(scalar)),
+        (0, RustLeaf::Buffer, false) => converted(alloc, BufferString::try_from(scalar)),
+        (0, RustLeaf::Buffer, true) => converted(alloc, Option::<BufferString>::try_from(scalar)),
+        (0, RustLeaf::Bytes, false) => converted(alloc, ByteBuffer::try_from(scalar)),
+        (0, RustLeaf::Bytes, true) => converted(alloc, Option::<ByteBuffer>::try_from(scalar)),
+        _ => Ok(Answer::Unmet),
+    }
+}
+
+fn try_number(alloc: Global, scalar: &Scalar, ptype: PType) -> CallResult {
+    match ptype {
+        PType::U8 => converted(alloc, u8::try_from(scalar)),
+        PType::U16 => converted(alloc, u16::try_from(scalar)),
+        PType::U32 => converted(alloc, u32::try_from(scalar)),
+        PType::U64 => converted(alloc, u64::try_from(scalar)),
+        PType::I8 => converted(alloc, i8::try_from(scalar)),
+        PType::I16 => converted(alloc, i16::try_from(scalar)),
+        PType::I32 => converted(alloc, i32::try_from(scalar)),
+        PType::I64 => converted(alloc, i64::try_from(scalar)),
+    }
+}
+
+fn try_optional_number(alloc: Global, scalar: &Scalar, ptype: PType) -> CallResult {
+    match ptype {
+        PType::U8 => converted(alloc, Option::<u8>::try_from(scalar)),
+        PType::U16 => converted(alloc, Option::<u16>::try_from(scalar)),
+        PType::U32 => converted(alloc, Option::<u32>::try_from(scalar)),
+        PType::U64 => converted(alloc, Option::<u64>::try_from(scalar)),
+        PType::I8 => converted(alloc, Option::<i8>::try_from(scalar)),
+        PType::I16 => converted(alloc, Option::<i16>::try_from(scalar)),
+        PType::I32 => converted(alloc, Option::<i32>::try_from(scalar)),
+        PType::I64 => converted(alloc, Option::<i64>::try_from(scalar)),
+    }
+}
+
+/// What `TryFrom<Scalar>` answers. It has booleans and buffers alone.
+fn try_from_owned(alloc: Global, (rust, scalar): (RustType, Scalar)) -> CallResult {
+    match (rust.vectors, rust.leaf, rust.is_optional) {
+        (0, RustLeaf::Bool, false) => converted(alloc, bool::try_from(scalar)),
+        (0, RustLeaf::Bool, true) => converted(alloc, Option::<bool>::try_from(scalar)),
+        (0, RustLeaf::Buffer, false) => converted(alloc, BufferString::try_from(scalar)),
+        (0, RustLeaf::Buffer, true) => converted(alloc, Option::<BufferString>::try_from(scalar)),
+        (0, RustLeaf::Bytes, false) => converted(alloc, ByteBuffer::try_from(scalar)),
+        (0, RustLeaf::Bytes, true) => converted(alloc, Option::<ByteBuffer>::try_from(scalar)),
+        _ => {
+            drop(scalar);
+            Ok(Answer::Unmet)
+        }
+    }
+}
+
+/// A Rust value that can be an answer.
+trait Answers {
+    /// The value, without a number's `PType`; `None` is `none`.
+    fn answer(self, alloc: Global) -> CallResult;
+}
+
+impl Answers for bool {
+    fn answer(self, _alloc: Global) -> CallResult {
+        Ok(Answer::Truth(self))
+    }
+}
+
+/// The eight integers. An impl for all of another crate's `NativePType` would clash with the one for
+/// `bool`.
+trait Whole: NativePType {}
+
+impl Whole for u8 {}
+
+impl Whole for u16 {}
+
+impl Whole for u32 {}
+
+impl Whole for u64 {}
+
+impl Whole for i8 {}
+
+impl Whole for i16 {}
+
+impl Whole for i32 {}
+
+impl Whole for i64 {}
+
+impl<T: Whole> Answers for T {
+    fn answer(self, _alloc: Global) -> CallResult {
+        Ok(Answer::Integer(self.into_pvalue()))
+    }
+}
+
+impl Answers for usize {
+    fn answer(self, _alloc: Global) -> CallResult {
+        Ok(Answer::Number(self))
+    }
+}
+
+impl Answers for String {
+    fn answer(self, _alloc: Global) -> CallResult {
+        Ok(Answer::Text(self))
+    }
+}
+
+impl Answers for BufferString {
+    fn answer(self, _alloc: Global) -> CallResult {
+        Ok(buffer_text(self))
+    }
+}
+
+impl Answers for ByteBuffer {
+    fn answer(self, _alloc: Global) -> CallResult {
+        Ok(bytes(self))
+    }
+}
+
+impl<T: Answers> Answers for Option<T> {
+    fn answer(self, alloc: Global) -> CallResult {
+        match self {
+            Some(value) => value.answer(alloc),
+            None => Ok(Answer::None),
+        }
+    }
+}
+
+/// Writes the answer at once, which takes memory.
+impl<T: Answers + Drop> Answers for Vec<T> {
+    fn answer(self, alloc: Global) -> CallResult {
+        let mut out = Output::new(alloc);
+        out.char('[');
+        for (place, value) in self.into_iter().enumerate() {
+            out.comma(place);
+            push_answer(&mut out, value.answer(alloc));
+        }
+        out.char(']');
+        Ok(Answer::Written(out.into_text()?))
+    }
+}
+
+/// Writes the answer of an item. `OutOfMemory` is its only refusal, and the output remembers that.
+fn push_answer(out: &mut Output, outcome: CallResult) {
+    match &outcome {
+        Ok(answer) => answer.write_answer(out),
+        Err(_) => out.cut(),
+    }
+    drop(outcome);
+}

@@ -1,7 +1,0 @@
-use Rattle.std.proofs.Common.{take}
-use Rattle.std.specs.List.{All}
-use Rattle.vortex_value.specs.Values.Scalars.{IsValid}
-use Rattle.worked_cases.proofs.calls.makers.validate_all.Given as goal
-
-abbrev pub invariant-loop-scalar : goal.invariant-loop-scalar
-invariant-loop-scalar l = All IsValid (take l.scalar-index l.scalars)

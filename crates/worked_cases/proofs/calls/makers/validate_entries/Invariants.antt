@@ -1,7 +1,0 @@
-use Rattle.std.proofs.Common.{take}
-use Rattle.std.specs.List.{All}
-use Rattle.vortex_value.specs.Makers.{IsValidEntry}
-use Rattle.worked_cases.proofs.calls.makers.validate_entries.Given as goal
-
-abbrev pub invariant-loop-entry : goal.invariant-loop-entry
-invariant-loop-entry l = All IsValidEntry (take l.entry-index l.entries)
