@@ -66,7 +66,7 @@ fn answer_of(line: &mut Line<'_>, call: Call) -> LineResult {
 
 /// How a column is sorted.
 #[derive(Clone, Copy, PartialEq)]
-struct Sorting(SortOptions);
+pub struct Sorting(pub SortOptions);
 
 impl Inputs for Sorting {
     fn read(tokens: &mut Tokens<'_>) -> Sorting {
@@ -165,10 +165,10 @@ impl Borrowed for Rows {
 }
 
 /// An answer, or the refusal that all calls have.
-type KeyResult = Result<KeyAnswer, VortexError>;
+pub type KeyResult = Result<KeyAnswer, VortexError>;
 
 /// A key, or its refusal. `Changed` if a refusal left a part of the key.
-fn key_answer(outcome: Result<(), RowError>, key: Vec<u8>) -> KeyResult {
+pub fn key_answer(outcome: Result<(), RowError>, key: Vec<u8>) -> KeyResult {
     match outcome {
         Ok(()) => Ok(KeyAnswer::Key(key)),
         Err(_) if !key.is_empty() => Ok(KeyAnswer::Changed),

@@ -7,6 +7,7 @@
 mod answers;
 mod filters;
 mod keys;
+mod plain_keys;
 mod read;
 mod same;
 mod statistics;
@@ -16,6 +17,9 @@ use case_lines::{Line, LineResult};
 /// The answer of the line's call, if it is one of these.
 pub fn answer(line: &mut Line<'_>) -> Option<LineResult> {
     if let Some(answer) = keys::answer_line(line) {
+        return Some(answer);
+    }
+    if let Some(answer) = plain_keys::answer_line(line) {
         return Some(answer);
     }
     if let Some(answer) = statistics::answer_line(line) {

@@ -2,7 +2,8 @@
 
 use crate::answers::write_places;
 use case_lines::{
-    Output, WriteAnswer, order_word, write_bytes, write_count, write_scalar, write_scalars,
+    Output, WriteAnswer, order_word, truth_word, write_bytes, write_count, write_scalar,
+    write_scalars,
 };
 use std::cmp::Ordering;
 use vortex_row::RowError;
@@ -21,6 +22,9 @@ pub enum KeyAnswer {
     /// The scalars of a row, and how long its key is.
     DecodedRow((Vec<Scalar>, usize)),
     Order(Ordering),
+    Truth(bool),
+    /// The scalar has parts, so that it is no plain value.
+    NotPlain,
     /// The places of elements, in another order.
     Places(Vec<usize>),
     Refused(RowError),
@@ -41,6 +45,8 @@ impl WriteAnswer for KeyAnswer {
                 write_length(out, *length);
             }
             KeyAnswer::Order(order) => out.word(order_word(*order)),
+            KeyAnswer::Truth(is_true) => out.word(truth_word(*is_true)),
+            KeyAnswer::NotPlain => out.word("not plain"),
             KeyAnswer::Places(places) => write_places(out, places),
             KeyAnswer::Refused(refusal) => write_refusal(out, *refusal),
         }
