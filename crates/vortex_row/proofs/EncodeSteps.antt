@@ -1,5 +1,5 @@
 -- Steps of the encoder.
-use Rattle.std.proofs.Common.{◌≡◌, ℕ, zero, suc, ◌+◌, ◌-◌, ◌*◌, ◌/◌, ◌%◌, ◌^◌, ◌<◌, ◌≤◌, Bool, true, false, List, [], ◌∷◌, ◌++◌, take, drop, length, length-append, get_or, Option, append_assoc, refl, sym, subst, ap, ap₂, ◌∙◌, rules, arith}
+use Rattle.std.proofs.Common.{◌≡◌, ℕ, zero, suc, ◌+◌, ◌-◌, ◌*◌, ◌/◌, ◌%◌, ◌^◌, ◌<◌, ◌≤◌, Bool, true, false, List, [], ◌∷◌, ◌++◌, take, drop, length, length-append, length-drop, get_or, Option, append_assoc, refl, sym, subst, ap, ap₂, ◌∙◌, rules, arith}
 use Rattle.std.specs.Global.{Vec}
 use Rattle.std.specs.Int.{w64, to_be_bytes, byte_at, bytes_high_first}
 use Rattle.std.specs.Vec.{vec_len, vec_capacity}
@@ -11,9 +11,10 @@ use Rattle.vortex_value.specs.Values.RawTree.{RawTree, absent, is_absent}
 use Rattle.vortex_value.specs.Values.RawOf.{raw_of, value_tree, value_trees}
 use Rattle.vortex_value.specs.declared.values.ScalarValue.{ScalarValue, Tuple, the_lemmas}
 use Rattle.vortex_value.proofs.ValueSteps.{value_tree-Tuple, value_tree-Union, value_tree-Variant, variant_tree-parts}
+use Rattle.vortex_row.specs.Bytes.{inverted_again, inverted_byte}
 use Rattle.vortex_row.specs.Columns.{key_with}
-use Rattle.vortex_row.specs.Keys.{inverted, big_endian, number_bytes, downward_key, escape, escaped, key, keys}
-use Rattle.vortex_row.specs.Steps.{Appends, HasRoom, IsLeft}
+use Rattle.vortex_row.specs.Keys.{inverted, big_endian, number_bytes, escape, escaped, key, keys}
+use Rattle.vortex_row.specs.Steps.{Appends, HasRoom, IsLeft, inverted_word, side_byte, side_key}
 use Rattle.vortex_row.specs.declared.options.SortOptions.{SortOptions}
 use Rattle.vortex_row.proofs.ByteLaws.{inverted-length}
 use Rattle.vortex_row.proofs.NumberLaws.{big_endian-length}
@@ -117,12 +118,43 @@ left-last rest all before mid now l a =
 same-appends : (a b : ℕ) (bs cs : List ℕ) (before now : Vec ℕ) → a ≡ b → bs ≡ cs → Appends (a ∷ bs) before now → Appends (b ∷ cs) before now
 same-appends a b bs cs before now e f all = subst (λ xs. Appends xs before now) (ap₂ (λ x xs. x ∷ xs) e f) all
 
-pub downward-appends : (n j : ℕ) (before now : Vec ℕ) → n < 2 ^ 64 → length (number_bytes n) + j ≡ 8 → number_bytes n ≡ drop j (big_endian 8 n)
-    → Appends ((4 + j) ∷ drop j (big_endian 8 (2 ^ 64 - 1 - n))) before now → Appends (downward_key (number_bytes n)) before now
-downward-appends n j before now h e f all =
-    let last : drop j (big_endian 8 (2 ^ 64 - 1 - n)) ≡ inverted true (number_bytes n) =
-    ap (drop j) (inverted-big_endian 8 n h) ∙ inverted-drop j (big_endian 8 n) ∙ ap (inverted true) (sym f) in
-    same-appends (4 + j) (12 - length (number_bytes n)) (drop j (big_endian 8 (2 ^ 64 - 1 - n))) (inverted true (number_bytes n)) before now (omega arith) last all
+-- the used bytes of a number, inverted once and twice
+
+turned-bytes : (n j : ℕ) → n < 2 ^ 64 → number_bytes n ≡ drop j (big_endian 8 n) → drop j (big_endian 8 (2 ^ 64 - 1 - n)) ≡ inverted true (number_bytes n)
+turned-bytes n j h f = ap (drop j) (inverted-big_endian 8 n h) ∙ inverted-drop j (big_endian 8 n) ∙ ap (inverted true) (sym f)
+
+twice-turned : (n j : ℕ) → n < 2 ^ 64 → number_bytes n ≡ drop j (big_endian 8 n) → drop j (big_endian 8 n) ≡ inverted true (inverted true (number_bytes n))
+twice-turned n j h f =
+    let m : ℕ = 2 ^ 64 - 1 - n in
+    let back : 2 ^ 64 - 1 - m ≡ n = omega arith in
+    let once : drop j (big_endian 8 m) ≡ inverted true (number_bytes n) = turned-bytes n j h f in
+    let again : drop j (big_endian 8 (2 ^ 64 - 1 - m)) ≡ inverted true (drop j (big_endian 8 m)) = ap (drop j) (inverted-big_endian 8 m (omega arith)) ∙ inverted-drop j (big_endian 8 m) in
+    ap (λ k. drop j (big_endian 8 k)) (sym back) ∙ again ∙ ap (inverted true) once
+
+-- the key of a number, inverted or not, whose first byte and whose bytes were chosen
+
+side-bytes : (s d : Bool) (n j : ℕ) → n < 2 ^ 64 → length (number_bytes n) + j ≡ 8 → number_bytes n ≡ drop j (big_endian 8 n)
+    → inverted_byte d (side_byte s j) ∷ drop j (big_endian 8 (inverted_word (inverted_again s d) n)) ≡ inverted d (side_key s n)
+side-bytes false false n j h e f = let first : 20 - j ≡ 12 + length (number_bytes n) = omega arith in ap₂ (λ x xs. x ∷ xs) first (sym f)
+side-bytes true false n j h e f = let first : 4 + j ≡ 12 - length (number_bytes n) = omega arith in ap₂ (λ x xs. x ∷ xs) first (turned-bytes n j h f)
+side-bytes false true n j h e f = let first : 255 - (20 - j) ≡ 255 - (12 + length (number_bytes n)) = omega arith in ap₂ (λ x xs. x ∷ xs) first (turned-bytes n j h f)
+side-bytes true true n j h e f = let first : 255 - (4 + j) ≡ 255 - (12 - length (number_bytes n)) = omega arith in ap₂ (λ x xs. x ∷ xs) first (twice-turned n j h f)
+
+pub side-appends : (s d : Bool) (n j b m : ℕ) (before now : Vec ℕ) → n < 2 ^ 64 → length (number_bytes n) + j ≡ 8 → number_bytes n ≡ drop j (big_endian 8 n)
+    → b ≡ inverted_byte d (side_byte s j) → m ≡ inverted_word (inverted_again s d) n → Appends (b ∷ drop j (big_endian 8 m)) before now → Appends (inverted d (side_key s n)) before now
+side-appends s d n j b m before now h e f first word a =
+    subst (λ bs. Appends bs before now) (ap₂ (λ x k. x ∷ drop j (big_endian 8 k)) first word ∙ side-bytes s d n j h e f) a
+
+side-length : (s : Bool) (n : ℕ) → length (side_key s n) ≡ 1 + length (number_bytes n)
+side-length true n = let e = inverted-length true (number_bytes n) in omega arith
+side-length false n = omega arith
+
+pub side-room : (s : Bool) (n j b m : ℕ) (out : Vec ℕ) → length (number_bytes n) + j ≡ 8 → HasRoom out (side_key s n) → HasRoom out (b ∷ drop j (big_endian 8 m))
+side-room s n j b m out e h =
+    let long = side-length s n in
+    let all = big_endian-length 8 m in
+    let rest = length-drop j (big_endian 8 m) in
+    omega arith
 
 -- all eight bytes were appended, and the last j of them cut off
 cut-appends : (b j : ℕ) (bs : List ℕ) (before one eight now : Vec ℕ) → length bs ≡ 8 → j ≤ 8 → Appends (b ∷ []) before one → Appends bs one eight

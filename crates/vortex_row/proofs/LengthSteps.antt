@@ -147,6 +147,29 @@ doubled-at bs i b h is few =
 
 pub ruleset strings = (escaped-plain, single-at, doubled-at)
 
+-- no key has more
+
+escape-most : (b : ℕ) → length (escape b) ≤ 2
+escape-most zero = omega arith
+escape-most (suc zero) = omega arith
+escape-most (suc (suc b)) = omega arith
+
+pub escaped-most : (bs : List ℕ) → length (escaped bs) ≤ 2 * length bs + 1
+escaped-most [] = omega arith
+escaped-most (b ∷ bs) =
+    let e : length (escape b ++ escaped bs) ≡ length (escape b) + length (escaped bs) = length-append (escape b) (escaped bs) in
+    let first = escape-most b in
+    let rest = escaped-most bs in
+    omega arith
+
+pub whole-most : (z : ℤ) → length (whole_key z) ≤ 9
+whole-most z =
+    let long = whole-length z in
+    let few = number-length (unsigned_abs z) in
+    omega arith
+
+pub ruleset bounds = (escaped-most, whole-most)
+
 -- values
 
 pub union-content : (u : UnionValue) → content (union_tree u) ≡ tagged u.type_id (content (raw_of (option_map (λ b. b.value) u.child)))

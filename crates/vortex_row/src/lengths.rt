@@ -1,8 +1,9 @@
 //! How many bytes keys have, so that room for them is taken once.
 
-ghost use Rattle.std.specs.Prelude.{[], ◌++◌, ◌+◌, ◌≡◌, ◌∷◌, drop, length, pos, true, unsigned_abs};
+ghost use Rattle.std.specs.Prelude.{[], ◌++◌, ◌+◌, ◌≡◌, ◌≤◌, ◌∷◌, drop, length, pos, true, unsigned_abs};
 ghost use Rattle.vortex_row.specs.Words.{big_endian, capped, content, contents, escaped, key, keys, lent_raw, number_bytes, union_tree, value_tree, value_trees, whole_key, whole_of};
 
+use vortex_dtype::ByteBuffer;
 use vortex_pvalue::PValue;
 use vortex_value::{ScalarValue, UnionValue};
 
@@ -86,17 +87,69 @@ fn doubled_bytes(bytes: &[u8]) -> usize
     doubled
 }
 
+/// How many of at most 255 bytes of a string are written as two. So few are counted in a byte, and
+/// 16 bytes are then tested at once.
+#[tactic(auto, using(crate::proofs::LengthSteps::strings))]
+fn doubled_of_few(bytes: &[u8]) -> u8
+    requires { length bytes.now ≤ 255 }
+    ensures { length (escaped bytes.now) ≡ length bytes.now + result + 1 }
+{
+    let mut doubled = 0u8;
+    for byte in bytes {
+        if *byte < 2 {
+            doubled += 1;
+        }
+    }
+    doubled
+}
+
 /// How many bytes the key of a string has.
 #[tactic(auto, using(crate::proofs::LengthSteps::strings))]
 pub(crate) fn string_length(bytes: &[u8]) -> usize
     ensures { result ≡ capped (1 + length (escaped bytes.now)) }
 {
-    let doubled = if is_plain(bytes) {
+    let doubled = if bytes.len() <= 255 {
+        usize::from(doubled_of_few(bytes))
+    } else if is_plain(bytes) {
         0
     } else {
         doubled_bytes(bytes)
     };
     bytes.len().saturating_add(doubled).saturating_add(2)
+}
+
+/// No fewer bytes than the key of any number has.
+#[inline(always)]
+#[tactic(auto, using(crate::proofs::LengthSteps::bounds))]
+fn number_bound(number: &PValue) -> usize
+    ensures { length (whole_key (whole_of number.now)) ≤ result }
+{
+    let _ = number;
+    9
+}
+
+/// No fewer bytes than the key of a string has, by how long the string is.
+#[inline(always)]
+#[tactic(auto, using(crate::proofs::LengthSteps::bounds))]
+fn string_bound(bytes: &ByteBuffer) -> usize
+    ensures { capped (1 + length (escaped bytes.now)) ≤ result }
+{
+    let count = bytes.len();
+    count.saturating_add(count).saturating_add(2)
+}
+
+/// No fewer bytes than the key of an optional raw value has. No byte of a string is looked at.
+#[inline(always)]
+#[tactic(auto, using(crate::proofs::LengthSteps::bounds))]
+pub(crate) fn length_bound(value: Option<&ScalarValue>) -> usize
+    ensures { capped (length (key (content (lent_raw value.entry)))) ≤ result }
+{
+    match value {
+        Some(ScalarValue::Primitive(number)) => number_bound(number),
+        Some(ScalarValue::Utf8(text)) => string_bound(text.inner()),
+        Some(ScalarValue::Binary(bytes)) => string_bound(bytes),
+        _ => length(value),
+    }
 }
 
 /// How many bytes the key of an optional raw value has, or the greatest number.

@@ -1,13 +1,13 @@
 //! The keys of rows: those of the columns, one after the other.
 #![tactic(auto, using(crate::proofs::RowSteps::shown))]
 
-ghost use Rattle.std.specs.Prelude.{◌+◌, ◌++◌, ◌≡◌, ◌≢◌, ◌≤◌, ◌↔◌, ◌⊎◌, Err, IfErr, IfOk, IsOk, OnErr, OnOk, length, map};
+ghost use Rattle.std.specs.Prelude.{◌+◌, ◌++◌, ◌<◌, ◌≡◌, ◌≢◌, ◌≤◌, ◌↔◌, ◌⊎◌, Err, IfErr, IfOk, IsOk, OnErr, OnOk, length, map};
 ghost use Rattle.vortex_row.specs.Words.{All, Appends, HasNoVariant, HasRoom, HasVariant, HaveNoVariant, IsHeld, OutOfMemory, WrongLength, capped, dtype_trees, encoder_options, encoder_types, keys_length, ref_content, ref_type, row_key, type_of, vec_capacity, vec_len};
 
 use crate::encode::append_column;
 use crate::error::RowError;
 use crate::keys::take_room;
-use crate::lengths::length;
+use crate::lengths::{length, length_bound};
 use crate::options::SortOptions;
 use crate::variants::{expect_no_variant, expect_no_variants};
 use vortex_dtype::DType;
@@ -153,6 +153,33 @@ fn row_length(values: &[ScalarRef<'_>]) -> usize
     total
 }
 
+/// No fewer bytes than the keys of a row's values have together.
+fn row_bound(values: &[ScalarRef<'_>]) -> usize
+    ensures { capped (keys_length (map ref_content values.now)) ≤ result }
+{
+    let mut total = 0usize;
+    for value in values {
+        total = total.saturating_add(length_bound(value.value()));
+    }
+    total
+}
+
+/// Takes room for the key of a row. It counts the bytes of the key only if there may be too little
+/// room, since a count reads each byte of a string. For a string of 16 bytes and a number a count
+/// takes 111 instructions, and the bound that mostly stands for it takes 43.
+fn take_row_room(values: &[ScalarRef<'_>], out: &mut Vec<u8>) -> Result<(), RowError>
+    ensures taken { OnOk result (vec_len out.new
+        + capped (keys_length (map ref_content values.now)) ≤ vec_capacity out.new) }
+    ensures refused { IfErr result (λ e. (e ≡ OutOfMemory)
+        × (vec_capacity out.old < vec_len out.old + keys_length (map ref_content values.now))) }
+    ensures unchanged { out.new.items ≡ out.old.items }
+{
+    if row_bound(values) <= out.capacity() - out.len() {
+        return Ok(());
+    }
+    take_room(row_length(values), out)
+}
+
 /// Appends the key of a row of as many values as there are options, in room that was taken.
 fn append_columns(values: &[ScalarRef<'_>], options: &[SortOptions], out: &mut Vec<u8>)
     requires lengths { length values.now ≡ length options.now }
@@ -180,7 +207,7 @@ fn append_row(
         → IsOk result }
     ensures unchanged { OnErr result (out.new.items ≡ out.old.items) }
 {
-    take_room(row_length(values), out)?;
+    take_row_room(values, out)?;
     append_columns(values, options, out);
     Ok(())
 }
