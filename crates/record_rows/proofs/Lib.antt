@@ -1,2 +1,3 @@
 pub mod CellLaws
+mod CsvReads
 pub mod Reading
