@@ -1,6 +1,6 @@
 -- Steps of callers: orders by keys are orders by contents, and by `partial_cmp`.
 use Rattle.std.proofs.Common.{◌≡◌, ℕ, inl, inr, ◌+◌, ◌≤◌, List, [], ◌++◌, get_or, Bool, true, false, true≢false, if◌then◌else◌, Option, Some, None, Ordering, Less, Equal, Greater, nat_cmp, refl, sym, subst, ap, ap₂, ◌∙◌, arith}
-use Rattle.std.specs.Cmp.{IsTotalOrder}
+use Rattle.std.specs.Cmp.{IsStrictWeakOrder, IsTotalOrder}
 use Rattle.std.specs.Cmp.Lexicographic.{slice_cmp}
 use Rattle.std.specs.List.{All}
 use Rattle.std.specs.List.Sorted.{IsSorted, IsSortedBy, IsNonDecreasingBy, IsPartitionPoint}
@@ -8,7 +8,7 @@ use Rattle.std.specs.Ordering.{is_lt, is_gt, is_some_and, ordering_index, orderi
 use Rattle.std.proofs.lemmas.Bool.{cases_lt}
 use Rattle.std.proofs.lemmas.Cmp.{nat_list_cmp_total, on_total, upto, tied_itself}
 use Rattle.std.proofs.lemmas.Map.Lookups.{exact_bytes}
-use Rattle.std.proofs.lemmas.List.Sorted.{IsNonDecreasingBy-from_all_adjacent}
+use Rattle.std.proofs.lemmas.List.Sorted.{IsNonDecreasingBy-from_all_adjacent, ranks_by}
 use Rattle.vortex_value.specs.Equality.{EqualContents, same_type}
 use Rattle.vortex_value.specs.Order.{order}
 use Rattle.vortex_value.specs.Values.Scalars.{scalar_content, scalar_order, scalar_type}
@@ -20,14 +20,18 @@ use Rattle.vortex_row.specs.Laws.{KeysAreOrdered, OrderIsContentOrder, KeysAreAp
 
 -- the order of keys is that of the contents
 
-abbrev by_key : Keyed → Keyed → Ordering
+abbrev pub by_key : Keyed → Keyed → Ordering
 by_key x y = slice_cmp nat_cmp x.bytes.items y.bytes.items
 
-by_key-is : KeysAreOrdered → (x y : Keyed) → by_key x y ≡ keyed_cmp x y
+pub by_key-is : KeysAreOrdered → (x y : Keyed) → by_key x y ≡ keyed_cmp x y
 by_key-is l x y = ap₂ (slice_cmp nat_cmp) x.keyed y.keyed ∙ l.contents (scalar_content x.scalar) (scalar_content y.scalar) x.held y.held
 
 by_key-total : IsTotalOrder by_key
 by_key-total = on_total (λ x. x.bytes.items) nat_list_cmp_total
+
+pub keyed-ranks : KeysAreOrdered → IsStrictWeakOrder (λ x y. is_lt (keyed_cmp x y))
+keyed-ranks l =
+    subst (λ (cmp : Keyed → Keyed → Ordering). IsStrictWeakOrder (λ x y. is_lt (cmp x y))) (λ i x y. by_key-is l x y i) (ranks_by nat_list_cmp_total (λ x. x.bytes.items))
 
 pub sorted-contents : KeysAreOrdered → (xs : List Keyed) → IsSorted by_key xs → IsSorted keyed_cmp xs
 sorted-contents l xs h k d low less = subst (λ o. is_lt o ≡ false) (by_key-is l (get_or xs (k + 1) d) (get_or xs k d)) (h k d low less)

@@ -3,4 +3,5 @@ mod GivenZeros
 mod KeySteps
 mod KeysCounted
 mod ListCasts
+mod MergeSteps
 mod ReadBack

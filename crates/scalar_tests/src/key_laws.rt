@@ -1,17 +1,19 @@
 //! What callers derive from the contracts and the laws of keys alone. Keys give the order of two
 //! scalars, and a cast keeps them. Columns are sorted, searched and merged by keys.
 
-ghost use Rattle.std.specs.Prelude.{◌++◌, ◌≡◌, IfOk, MatchOption, OnOk, Some, true};
+ghost use Rattle.std.specs.Prelude.{◌++◌, ◌≡◌, [], IfNone, IfOk, IfSome, MatchOption, Some, option_copied, slice_get, true};
 ghost use Rattle.std.specs.List.{All, HoldsAt};
-ghost use Rattle.std.specs.List.Sorted.{IsPermutation, IsSorted, IsSortedBy};
+ghost use Rattle.std.specs.List.Sorted.{IsPermutation, IsSorted, IsSortedBy, IsStable};
 ghost use Rattle.std.specs.declared.cmp.Ordering.{Ordering};
 ghost use Rattle.vortex_value.specs.Values.Refs.{IsValidRef, ref_content, ref_order};
 ghost use Rattle.vortex_row.specs.Columns.{in_column};
 ghost use Rattle.scalar_tests.specs.Keyed.{HasEqualContent, is_below, keyed_cmp};
+ghost use Rattle.scalar_tests.specs.Merging.{IsTakenFrom, is_from_second};
 
 use crate::keyed::Keyed;
-use std::alloc::Global;
+use std::alloc::{AllocError, Global};
 use std::cmp::Ordering;
+use std::collections::VecDeque;
 use vortex_dtype::{DType, VortexError};
 use vortex_row::laws::{casts_keep_keys, keys_are_apart, keys_are_ordered, order_is_content_order};
 use vortex_row::{RowError, SortOptions, append_key, compare_keys};
@@ -105,14 +107,58 @@ pub fn find_by_key(column: &[Keyed], sought: &Keyed) -> Option<usize>
     }
 }
 
-/// Puts two sorted columns together by their keys, one of `i32` and one of `i64` as well.
-pub fn merge_by_keys(left: &mut Vec<Keyed>, right: &mut Vec<Keyed>) -> Result<(), RowError>
-    ensures permutation { OnOk result
-        (IsPermutation (left.old.items ++ right.old.items) left.new.items) }
-    ensures sorted { OnOk result (IsSorted keyed_cmp left.new.items) }
-    ensures partial { OnOk result (IsSortedBy is_below left.new.items) }
+/// Puts two columns together by their keys, one of `i32` and one of `i64` as well. Each step takes the
+/// lesser of the two first scalars, and of equal ones that of `left`. So there are as many steps as
+/// scalars, and none is copied.
+///
+/// Of sorted columns what comes is sorted. Equal contents stand as they stood, those of `left` first.
+pub fn merge_by_keys(
+    alloc: Global,
+    left: Vec<Keyed>,
+    right: Vec<Keyed>,
+) -> Result<Vec<Keyed>, AllocError>
+    ensures permutation { IfOk result (λ merged.
+        IsPermutation (left.items ++ right.items) merged.items) }
+    ensures sorted { IsSorted keyed_cmp left.items → IsSorted keyed_cmp right.items
+        → IfOk result (λ merged. IsSorted keyed_cmp merged.items) }
+    ensures partial { IsSorted keyed_cmp left.items → IsSorted keyed_cmp right.items
+        → IfOk result (λ merged. IsSortedBy is_below merged.items) }
+    ensures stable { IsSorted keyed_cmp left.items → IsSorted keyed_cmp right.items
+        → IfOk result (λ merged. IsStable keyed_cmp (left.items ++ right.items) merged.items) }
 {
-    left.append(right)?;
-    sort_by_keys(left);
-    Ok(())
+    keys_are_ordered();
+    order_is_content_order();
+    let mut merged = Vec::new(alloc);
+    let mut left = VecDeque::from_vec(left);
+    let mut right = VecDeque::from_vec(right);
+    while let Some(next) = take_lesser(&mut left, &mut right) {
+        merged.push(next)?;
+    }
+    Ok(merged)
+}
+
+/// Takes the lesser of the two first scalars, and of equal ones that of `left`.
+fn take_lesser(left: &mut VecDeque<Keyed>, right: &mut VecDeque<Keyed>) -> Option<Keyed>
+    ensures taken { IfSome result (IsTakenFrom
+        (is_from_second keyed_cmp (slice_get left.old.items 0) (slice_get right.old.items 0))
+        left.old.items right.old.items left.new.items right.new.items) }
+    ensures none { IfNone result ((left.old.items ≡ []) × (right.old.items ≡ [])) }
+{
+    if is_from_right(left.front(), right.front()) {
+        right.pop_front()
+    } else {
+        left.pop_front()
+    }
+}
+
+/// Whether the next scalar is the first of `right`.
+fn is_from_right(left: Option<&Keyed>, right: Option<&Keyed>) -> bool
+    ensures { result ≡
+        is_from_second keyed_cmp (option_copied left.entry) (option_copied right.entry) }
+{
+    match (left, right) {
+        (Some(x), Some(y)) => y.compare(x).is_lt(),
+        (Some(_), None) => false,
+        (None, _) => true,
+    }
 }

@@ -3,13 +3,15 @@
 ghost use Rattle.std.specs.Prelude.{◌≡◌, IfOk};
 ghost use Rattle.vortex_value.specs.Equality.{HasNoTyped};
 ghost use Rattle.vortex_value.specs.Values.Scalars.{IsValid, scalar_content};
+ghost use Rattle.vortex_row.specs.ContentOrder.{content_cmp};
 ghost use Rattle.vortex_row.specs.Held.{IsHeld};
 ghost use Rattle.vortex_row.specs.Keys.{key};
 ghost use Rattle.scalar_tests.specs.KeyProps.{held-prop, plain-prop};
 
 use std::alloc::Global;
-use vortex_row::laws::values_have_no_typed;
-use vortex_row::{RowError, SortOptions, append_key};
+use std::cmp::Ordering;
+use vortex_row::laws::{keys_are_ordered, values_have_no_typed};
+use vortex_row::{RowError, SortOptions, append_key, compare_keys};
 use vortex_value::{Scalar, ScalarRef};
 
 /// A valid scalar with its key. It is compared by the key alone.
@@ -41,5 +43,14 @@ impl Keyed {
         ensures { result.now ≡ self.now.scalar }
     {
         &self.scalar
+    }
+
+    /// The order of the contents of two scalars, by their keys.
+    pub fn compare(&self, other: &Keyed) -> Ordering
+        ensures { result ≡
+            content_cmp (scalar_content self.now.scalar) (scalar_content other.now.scalar) }
+    {
+        keys_are_ordered();
+        compare_keys(self.bytes.as_slice(), other.bytes.as_slice())
     }
 }
