@@ -180,7 +180,8 @@ uint32_t doqallin_row_keys(const struct doqallin_column *columns, size_t column_
  * ` => `, and what follows it is passed over.
  * GIVEN: the answer is in the first *count bytes of the room, and is UTF-8; those after it are as they were. No clause says
  * which answer comes: the stored cases are run.
- * NO_ROOM: *count is above room_length. It is how many bytes the answer has, by tests alone. A room of no bytes asks for it.
+ * NO_ROOM: *count, above room_length, is how many bytes the whole answer has. A room of no bytes asks for it. That the next
+ * call has the same answer, and so fits in that room, is tested alone.
  * NO_MEMORY: there is no memory to read the line or to write the answer. If the call itself finds none, the answer is
  * `OutOfMemory`.
  * Nested brackets take stack: at 256 levels, the most that are read, 600 kilobytes were seen, and 20 without any. */

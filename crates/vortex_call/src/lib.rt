@@ -6,9 +6,11 @@
 //! It stands beside `vortex_c`, since it holds the whole language of the worked cases.
 #![tactic(auto)]
 
-ghost use Rattle.std.specs.Prelude.{◌≡◌, ◌≢◌, ◌≤◌, ◌<◌, ◌⊎◌, IsUtf8, drop, length, take};
+ghost use Rattle.std.specs.Prelude.{◌≡◌, ◌≢◌, ◌≤◌, ◌<◌, ◌⊎◌, List, ℕ, IfOk, IsUtf8, ⊤, drop, length, take};
+ghost use Rattle.std.specs.String.{string_bytes};
+ghost use Rattle.vortex_call.specs.Answers.{IsTold};
 
-use std::alloc::Global;
+use std::alloc::{AllocError, Global};
 
 /// The answer is written.
 pub const GIVEN: u32 = 0;
@@ -25,8 +27,8 @@ pub const NO_ROOM: u32 = 3;
 /// refusal is an answer, as `CannotCast`, and so is `bad line`, to bytes that are no line. No clause
 /// says which answer comes: the stored cases are run.
 ///
-/// - `NO_ROOM`: the room is too small. `count` is above its length. That a room of `count` bytes
-///   suffices is tested alone.
+/// - `NO_ROOM`: the room is too small. `count` says how many bytes the whole answer has. No clause
+///   says that the next call has the same answer.
 /// - `NO_MEMORY`: there was no memory to read the line or to write the answer.
 #[unsafe(no_mangle)]
 pub extern "C" fn doqallin_call(
@@ -36,6 +38,8 @@ pub extern "C" fn doqallin_call(
     count: &mut usize,
 ) -> u32
     ensures statuses { (result ≡ GIVEN) ⊎ ((result ≡ NO_MEMORY) ⊎ (result ≡ NO_ROOM)) }
+    ensures told { result ≢ NO_MEMORY → (answer : List ℕ) × IsUtf8 answer
+        × IsTold answer room.old room.new count.new result }
     ensures within { result ≡ GIVEN → count.new ≤ length room.new }
     ensures text { result ≡ GIVEN → IsUtf8 (take count.new room.new) }
     ensures small { result ≡ NO_ROOM → length room.old < count.new }
@@ -45,7 +49,50 @@ pub extern "C" fn doqallin_call(
     ensures kept_room { result ≢ GIVEN → room.new ≡ room.old }
     ensures kept_count { result ≡ NO_MEMORY → count.new ≡ count.old }
 {
-    match worked_cases::call(alloc, line) {
+    answer_into(alloc, &WorkedCases, line, room, count)
+}
+
+/// What answers lines.
+trait Answerer {
+    // The text is an answer to the line.
+    ghost IsAnswer: { Self → List ℕ → List ℕ → Type 0 };
+
+    /// The answer to a line.
+    fn answer(&self, alloc: Global, line: &[u8]) -> Result<String, AllocError>
+        ensures { IfOk result (λ text. IsAnswer self.now line.now (string_bytes text)) };
+}
+
+/// The language of the worked cases.
+#[derive(Clone, Copy)]
+struct WorkedCases;
+
+impl Answerer for WorkedCases {
+    // Which answer comes, no clause says.
+    ghost IsAnswer = { λ s line text. ⊤ };
+
+    fn answer(&self, alloc: Global, line: &[u8]) -> Result<String, AllocError> {
+        worked_cases::call(alloc, line)
+    }
+}
+
+/// The answer to a line, whatever answers it, written to the room, and its length.
+///
+/// The length is that of the whole answer, also where the room is too small for it.
+fn answer_into<A: Answerer>(
+    alloc: Global,
+    answerer: &A,
+    line: &[u8],
+    room: &mut [u8],
+    count: &mut usize,
+) -> u32
+    ensures statuses { (result ≡ GIVEN) ⊎ ((result ≡ NO_MEMORY) ⊎ (result ≡ NO_ROOM)) }
+    ensures told { result ≢ NO_MEMORY → (answer : List ℕ)
+        × A.IsAnswer answerer.now line.now answer × IsUtf8 answer
+        × IsTold answer room.old room.new count.new result }
+    ensures kept_room { result ≡ NO_MEMORY → room.new ≡ room.old }
+    ensures kept_count { result ≡ NO_MEMORY → count.new ≡ count.old }
+{
+    match answerer.answer(alloc, line) {
         Ok(answer) => give(answer.as_str().as_bytes(), room, count),
         Err(_) => NO_MEMORY,
     }
@@ -54,13 +101,7 @@ pub extern "C" fn doqallin_call(
 /// Writes the answer to the room, and its length; only the length if the room is too small.
 fn give(answer: &[u8], room: &mut [u8], count: &mut usize) -> u32
     ensures statuses { (result ≡ GIVEN) ⊎ (result ≡ NO_ROOM) }
-    ensures count { count.new ≡ length answer.now }
-    ensures within { result ≡ GIVEN → length answer.now ≤ length room.old }
-    ensures given { result ≡ GIVEN → take (length answer.now) room.new ≡ answer.now }
-    ensures rest { result ≡ GIVEN
-        → drop (length answer.now) room.new ≡ drop (length answer.now) room.old }
-    ensures small { result ≡ NO_ROOM → length room.old < length answer.now }
-    ensures kept { result ≢ GIVEN → room.new ≡ room.old }
+    ensures told { IsTold answer.now room.old room.new count.new result }
 {
     let needed = answer.len();
     *count = needed;
