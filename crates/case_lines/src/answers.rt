@@ -77,7 +77,7 @@ pub fn text_of<T: Display>(alloc: Global, shown: &T) -> CallResult {
 }
 
 /// Bytes, as a raw value.
-pub fn bytes(bytes: ByteBuffer) -> Answer {
+pub fn buffer_bytes(bytes: ByteBuffer) -> Answer {
     Answer::Raw(ScalarValue::Binary(bytes))
 }
 

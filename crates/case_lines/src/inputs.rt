@@ -37,6 +37,7 @@ impl<T: Exact> Borrowed for T {
 
 /// What may stand in a list.
 pub trait Item: Drop {
+    /// Reads the next item.
     fn read_item(tokens: &mut Tokens<'_>) -> Self;
 }
 

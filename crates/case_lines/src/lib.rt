@@ -14,7 +14,7 @@ mod tokens;
 mod valid;
 mod write;
 
-pub use answers::{Answer, CallResult, WriteAnswer, buffer_text, bytes, or_none, text_of};
+pub use answers::{Answer, CallResult, WriteAnswer, buffer_bytes, buffer_text, or_none, text_of};
 pub use inputs::{Borrowed, Exact, Inputs, Item, MemoryRoom, ROOM, Variants};
 pub use line::{Line, LineAnswer, LineResult};
 pub use read::numbers::read_natural;
@@ -29,5 +29,5 @@ pub use valid::{validate, where_valid};
 pub use write::output::Output;
 pub use write::refusals::write_count;
 pub use write::types::write_type;
-pub use write::values::{write_bytes, write_raw, write_scalar, write_scalars};
+pub use write::values::{write_bytes, write_places, write_raw, write_scalar, write_scalars};
 pub use write::words::{order_word, truth_word};

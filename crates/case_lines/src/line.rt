@@ -13,6 +13,7 @@ use vortex_dtype::VortexError;
 /// The answer to a line, as it is written.
 #[derive(Drop)]
 pub struct LineAnswer {
+    /// What the answer is, as it stands in a line.
     pub text: String,
     /// Whether the line is not in the language.
     pub is_bad: bool,

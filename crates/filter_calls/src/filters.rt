@@ -1,13 +1,13 @@
 //! Calls of filters. SQL text ends at a semicolon; its columns are `$1`, `$2` and so on, of the types
 //! that follow.
 
-use crate::answers::filters::FilterAnswer;
-use crate::read::{TypedStatistics, read_statistics};
-use crate::same::{same_filter, same_statistics};
+use crate::answers::FilterAnswer;
+use crate::same::same_filter;
 use case_lines::{
     Borrowed, Inputs, Line, LineResult, ROOM, Tokens, copy_type, named, read_name, read_named,
     read_type, read_value, same_scalar,
 };
+use statistics_calls::{TypedStatistics, read_statistics, same_statistics};
 use std::alloc::{AllocError, Global};
 use std::fmt::Display;
 use std::slice::from_ref;

@@ -1,7 +1,7 @@
 //! Calls that make, copy or slice buffers.
 
 use crate::recorder::fed;
-use case_lines::{Answer, CallResult, Line, LineResult, buffer_text, bytes, named};
+use case_lines::{Answer, CallResult, Line, LineResult, buffer_bytes, buffer_text, named};
 use std::alloc::Global;
 use vortex_dtype::{BufferString, ByteBuffer, VortexError};
 
@@ -63,15 +63,15 @@ fn answer_of(line: &mut Line<'_>, call: Call) -> LineResult {
 }
 
 fn empty_bytes(alloc: Global, _nothing: ()) -> CallResult {
-    Ok(bytes(ByteBuffer::empty(alloc)?))
+    Ok(buffer_bytes(ByteBuffer::empty(alloc)?))
 }
 
 fn bytes_of_text(alloc: Global, text: &BufferString) -> CallResult {
-    Ok(bytes(ByteBuffer::from_slice(alloc, text.as_str().as_bytes())?))
+    Ok(buffer_bytes(ByteBuffer::from_slice(alloc, text.as_str().as_bytes())?))
 }
 
 fn bytes_of_vec(_alloc: Global, items: Vec<u8>) -> CallResult {
-    Ok(bytes(ByteBuffer::from_vec(items)?))
+    Ok(buffer_bytes(ByteBuffer::from_vec(items)?))
 }
 
 /// The slice of all bytes but the first, if there is one.
@@ -83,7 +83,7 @@ fn without_first(value: &ByteBuffer) -> Result<Option<ByteBuffer>, VortexError> 
 }
 
 fn slice_bytes(_alloc: Global, value: &ByteBuffer) -> CallResult {
-    Ok(without_first(value)?.map_or(Answer::Unmet, bytes))
+    Ok(without_first(value)?.map_or(Answer::Unmet, buffer_bytes))
 }
 
 /// Whether the slice of the first buffer without its first byte equals the second buffer. That holds
@@ -104,14 +104,14 @@ fn hash_slice(_alloc: Global, (whole, part): &(ByteBuffer, ByteBuffer)) -> CallR
 }
 
 fn clone_bytes(_alloc: Global, value: &ByteBuffer) -> CallResult {
-    Ok(bytes(value.clone()?))
+    Ok(buffer_bytes(value.clone()?))
 }
 
 fn clone_bytes_twice(_alloc: Global, value: &ByteBuffer) -> CallResult {
     let copy = value.clone()?;
     let second = copy.clone();
     drop(copy);
-    Ok(bytes(second?))
+    Ok(buffer_bytes(second?))
 }
 
 fn empty_text(alloc: Global, _nothing: ()) -> CallResult {

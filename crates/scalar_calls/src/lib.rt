@@ -9,7 +9,6 @@ mod makers;
 mod makers_of_parts;
 mod makers_of_types;
 mod recorder;
-mod rust_values;
 mod scalars;
 mod types;
 
@@ -32,8 +31,5 @@ pub fn answer(line: &mut Line<'_>) -> Option<LineResult> {
     if let Some(answer) = makers_of_types::answer_line(line) {
         return Some(answer);
     }
-    if let Some(answer) = buffers::answer_line(line) {
-        return Some(answer);
-    }
-    rust_values::answer_line(line)
+    buffers::answer_line(line)
 }

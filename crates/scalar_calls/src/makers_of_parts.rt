@@ -4,7 +4,6 @@ use crate::makers::validate_entries;
 use case_lines::{Answer, CallResult, Line, LineResult, named, same_as_lent, where_valid};
 use std::alloc::Global;
 use std::fmt::{self, Write};
-use vortex_array::IntoScalar;
 use vortex_dtype::{DType, Nullability, VortexError};
 use vortex_value::{Scalar, ScalarRef, ScalarValue, UnionValue};
 
@@ -13,8 +12,6 @@ enum Call {
     CloneValue,
     CloneUnion,
     UnionValue,
-    GiveLent,
-    GiveOptional,
     ToScalar,
     Borrow,
     Display,
@@ -22,12 +19,10 @@ enum Call {
     TryMap,
 }
 
-const CALLS: [(&str, Call); 10] = [
+const CALLS: [(&str, Call); 8] = [
     ("clone_value", Call::CloneValue),
     ("clone_union", Call::CloneUnion),
     ("union_value", Call::UnionValue),
-    ("give_lent", Call::GiveLent),
-    ("give_optional", Call::GiveOptional),
     ("to_scalar", Call::ToScalar),
     ("borrow", Call::Borrow),
     ("display", Call::Display),
@@ -46,8 +41,6 @@ fn answer_of(line: &mut Line<'_>, call: Call) -> LineResult {
         Call::CloneValue => line.borrowing(clone_value),
         Call::CloneUnion => line.borrowing(clone_union),
         Call::UnionValue => line.taking(union_value),
-        Call::GiveLent => line.borrowing(give_lent),
-        Call::GiveOptional => line.borrowing(give_optional),
         Call::ToScalar => line.borrowing(to_scalar),
         Call::Borrow => line.borrowing(borrow),
         Call::Display => line.borrowing(display),
@@ -74,29 +67,6 @@ fn clone_union(alloc: Global, value: &Option<ScalarValue>) -> CallResult {
 
 fn union_value(alloc: Global, (id, child): (u8, Option<ScalarValue>)) -> CallResult {
     Ok(Answer::Raw(ScalarValue::Union(UnionValue::new(alloc, id, child)?)))
-}
-
-/// The scalar of a lent string, or of lent bytes.
-fn give_lent(alloc: Global, value: &Option<ScalarValue>) -> CallResult {
-    match value {
-        Some(ScalarValue::Utf8(text)) => given(alloc, text.as_str()),
-        Some(ScalarValue::Binary(bytes)) => given(alloc, bytes.as_slice()),
-        _ => Err(VortexError::WrongKind),
-    }
-}
-
-/// The scalar of an optional lent string, or of optional lent bytes; a null stands for no string.
-fn give_optional(alloc: Global, value: &Option<ScalarValue>) -> CallResult {
-    match value {
-        Some(ScalarValue::Utf8(text)) => given(alloc, Some(text.as_str())),
-        Some(ScalarValue::Binary(bytes)) => given(alloc, Some(bytes.as_slice())),
-        None => given(alloc, None::<&str>),
-        _ => Err(VortexError::WrongKind),
-    }
-}
-
-fn given<T: IntoScalar>(alloc: Global, value: T) -> CallResult {
-    Ok(Answer::Scalar(value.try_into_scalar(alloc)?))
 }
 
 fn to_scalar(alloc: Global, scalar: &Scalar) -> CallResult {

@@ -40,53 +40,10 @@ const OPERATIONS: [(&str, Operation); 8] = [
 
 /// The answer of the line's call, if it is one of these.
 pub fn answer_line(line: &mut Line<'_>) -> Option<LineResult> {
-    let call = named(&OPERATIONS, line.name())?;
-    Some(answer_of(line, call))
-}
-
-fn answer_of(line: &mut Line<'_>, call: Operation) -> LineResult {
-    match call {
-        Operation::Add => line.borrowing(add),
-        Operation::Sub => line.borrowing(sub),
-        Operation::Mul => line.borrowing(mul),
-        Operation::Div => line.borrowing(div),
-        Operation::NumericAdd => line.borrowing(numeric_add),
-        Operation::NumericSub => line.borrowing(numeric_sub),
-        Operation::Plus => line.borrowing(plus),
-        Operation::Minus => line.borrowing(minus),
-    }
-}
-
-fn add(alloc: Global, numbers: &(Scalar, Scalar)) -> CallResult {
-    arithmetic(alloc, Operation::Add, numbers)
-}
-
-fn sub(alloc: Global, numbers: &(Scalar, Scalar)) -> CallResult {
-    arithmetic(alloc, Operation::Sub, numbers)
-}
-
-fn mul(alloc: Global, numbers: &(Scalar, Scalar)) -> CallResult {
-    arithmetic(alloc, Operation::Mul, numbers)
-}
-
-fn div(alloc: Global, numbers: &(Scalar, Scalar)) -> CallResult {
-    arithmetic(alloc, Operation::Div, numbers)
-}
-
-fn numeric_add(alloc: Global, numbers: &(Scalar, Scalar)) -> CallResult {
-    arithmetic(alloc, Operation::NumericAdd, numbers)
-}
-
-fn numeric_sub(alloc: Global, numbers: &(Scalar, Scalar)) -> CallResult {
-    arithmetic(alloc, Operation::NumericSub, numbers)
-}
-
-fn plus(alloc: Global, numbers: &(Scalar, Scalar)) -> CallResult {
-    arithmetic(alloc, Operation::Plus, numbers)
-}
-
-fn minus(alloc: Global, numbers: &(Scalar, Scalar)) -> CallResult {
-    arithmetic(alloc, Operation::Minus, numbers)
+    let operation = named(&OPERATIONS, line.name())?;
+    Some(line.borrowing(|alloc: Global, numbers: &(Scalar, Scalar)| {
+        arithmetic(alloc, operation, numbers)
+    }))
 }
 
 fn arithmetic(

@@ -1,11 +1,11 @@
 // SPDX-License-Identifier: Apache-2.0
 // SPDX-FileCopyrightText: Copyright the Vortex contributors; ported to Rattle and changed
-//! Calls of views, of their numbers and of bounds, which worked cases name: each file has a family of
-//! them, their names and what each answers.
+//! Calls of views and of numbers, which worked cases name: each file has a family of them, their names
+//! and what each answers.
 #![tactic(auto)]
 
 mod arithmetic;
-mod bounds;
+mod conversions;
 mod numbers;
 mod view_parts;
 mod whole_views;
@@ -23,8 +23,8 @@ pub fn answer(line: &mut Line<'_>) -> Option<LineResult> {
     if let Some(answer) = numbers::answer_line(line) {
         return Some(answer);
     }
-    if let Some(answer) = arithmetic::answer_line(line) {
+    if let Some(answer) = conversions::answer_line(line) {
         return Some(answer);
     }
-    bounds::answer_line(line)
+    arithmetic::answer_line(line)
 }

@@ -34,6 +34,12 @@ fn answer(line: &mut Line<'_>) -> LineResult {
     if let Some(answer) = view_calls::answer(line) {
         return answer;
     }
+    if let Some(answer) = array_calls::answer(line) {
+        return answer;
+    }
+    if let Some(answer) = statistics_calls::answer(line) {
+        return answer;
+    }
     if let Some(answer) = filter_calls::answer(line) {
         return answer;
     }

@@ -20,6 +20,7 @@ fn write_flat(out: &mut Output, name: &str, nullability: Nullability) {
 /// How deep types may nest: deeper than a line can hold, so that no type is cut.
 const ROOM: u32 = 1024;
 
+/// Writes a type.
 pub fn write_type(out: &mut Output, dtype: &DType) {
     write_within(out, dtype, ROOM);
 }

@@ -88,3 +88,13 @@ pub fn write_scalars(out: &mut Output, scalars: &[Scalar]) {
     }
     out.char(']');
 }
+
+/// Writes places in brackets: of elements, rows or zones.
+pub fn write_places(out: &mut Output, places: &[usize]) {
+    out.char('[');
+    for (index, place) in places.iter().enumerate() {
+        out.comma(index);
+        out.number(*place);
+    }
+    out.char(']');
+}

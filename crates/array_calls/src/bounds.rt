@@ -1,10 +1,10 @@
 //! Calls of bounds by truncation, of zones, and of increments of strings.
 
 ghost use Rattle.std.specs.Prelude.{OnOk};
-ghost use Rattle.view_calls.specs.Words.{IsValid};
+ghost use Rattle.array_calls.specs.Words.{IsValid};
 
 use case_lines::{
-    Answer, CallResult, Exact, Inputs, Line, LineResult, Tokens, buffer_text, bytes, named,
+    Answer, CallResult, Exact, Inputs, Line, LineResult, Tokens, buffer_bytes, buffer_text, named,
     or_none, read_named, validate, where_valid,
 };
 use std::alloc::Global;
@@ -15,21 +15,13 @@ use vortex_zone::ZoneBounds;
 
 #[derive(Clone, Copy)]
 enum Call {
-    Lower,
-    Upper,
-    OwnLower,
-    OwnUpper,
     TruncatedBytes,
     TruncatedText,
     Increment,
     MayContain,
 }
 
-const CALLS: [(&str, Call); 8] = [
-    ("lower", Call::Lower),
-    ("upper", Call::Upper),
-    ("own_lower", Call::OwnLower),
-    ("own_upper", Call::OwnUpper),
+const CALLS: [(&str, Call); 4] = [
     ("truncated_bytes", Call::TruncatedBytes),
     ("truncated_text", Call::TruncatedText),
     ("increment", Call::Increment),
@@ -38,16 +30,15 @@ const CALLS: [(&str, Call); 8] = [
 
 /// The answer of the line's call, if it is one of these.
 pub fn answer_line(line: &mut Line<'_>) -> Option<LineResult> {
+    if let Some(side) = named(&SIDES, line.name()) {
+        return Some(answer_side(line, side));
+    }
     let call = named(&CALLS, line.name())?;
     Some(answer_of(line, call))
 }
 
 fn answer_of(line: &mut Line<'_>, call: Call) -> LineResult {
     match call {
-        Call::Lower => line.taking(lower),
-        Call::Upper => line.taking(upper),
-        Call::OwnLower => line.taking(own_lower),
-        Call::OwnUpper => line.taking(own_upper),
         Call::TruncatedBytes => line.taking(truncated_bytes),
         Call::TruncatedText => line.taking(truncated_text),
         Call::Increment => line.borrowing(increment),
@@ -67,20 +58,15 @@ enum Side {
     OwnUpper,
 }
 
-fn lower(alloc: Global, inputs: Truncated) -> CallResult {
-    bound(alloc, Side::Lower, inputs)
-}
+const SIDES: [(&str, Side); 4] = [
+    ("lower", Side::Lower),
+    ("upper", Side::Upper),
+    ("own_lower", Side::OwnLower),
+    ("own_upper", Side::OwnUpper),
+];
 
-fn upper(alloc: Global, inputs: Truncated) -> CallResult {
-    bound(alloc, Side::Upper, inputs)
-}
-
-fn own_lower(alloc: Global, inputs: Truncated) -> CallResult {
-    bound(alloc, Side::OwnLower, inputs)
-}
-
-fn own_upper(alloc: Global, inputs: Truncated) -> CallResult {
-    bound(alloc, Side::OwnUpper, inputs)
+fn answer_side(line: &mut Line<'_>, side: Side) -> LineResult {
+    line.taking(|alloc: Global, inputs: Truncated| bound(alloc, side, inputs))
 }
 
 /// A bound of a scalar's bytes or string.
@@ -155,7 +141,7 @@ fn scalar_of<T: ScalarTruncation>(bound: T, nullability: Nullability) -> Answer 
 }
 
 fn truncated_bytes(_alloc: Global, scalar: Scalar) -> CallResult {
-    Ok(or_none(ByteBuffer::from_scalar(scalar)?.map(bytes)))
+    Ok(or_none(ByteBuffer::from_scalar(scalar)?.map(buffer_bytes)))
 }
 
 fn truncated_text(_alloc: Global, scalar: Scalar) -> CallResult {

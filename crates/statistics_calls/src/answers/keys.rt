@@ -1,9 +1,8 @@
 //! What calls of keys answer, and how it is written.
 
-use crate::answers::write_places;
 use case_lines::{
-    Output, WriteAnswer, order_word, truth_word, write_bytes, write_count, write_scalar,
-    write_scalars,
+    Output, WriteAnswer, order_word, truth_word, write_bytes, write_count, write_places,
+    write_scalar, write_scalars,
 };
 use std::cmp::Ordering;
 use vortex_row::RowError;

@@ -1,14 +1,14 @@
 //! Calls that convert scalars to Rust values, and Rust values to scalars.
 
 use case_lines::{
-    Answer, CallResult, Exact, Inputs, Line, LineResult, Output, Tokens, WriteAnswer, buffer_text,
-    bytes, named, ptype_named,
+    Answer, CallResult, Exact, Inputs, Line, LineResult, Output, Tokens, WriteAnswer, buffer_bytes,
+    buffer_text, named, ptype_named,
 };
 use std::alloc::Global;
 use vortex_array::{FromScalar, IntoScalar};
 use vortex_dtype::{BufferString, ByteBuffer, PType, VortexError};
 use vortex_pvalue::NativePType;
-use vortex_value::{Scalar, ScalarRef};
+use vortex_value::{Scalar, ScalarRef, ScalarValue};
 
 #[derive(Clone, Copy)]
 enum Call {
@@ -16,13 +16,17 @@ enum Call {
     Give,
     TryFrom,
     TryFromOwned,
+    GiveLent,
+    GiveOptional,
 }
 
-const CALLS: [(&str, Call); 4] = [
+const CALLS: [(&str, Call); 6] = [
     ("take", Call::Take),
     ("give", Call::Give),
     ("try_from", Call::TryFrom),
     ("try_from_owned", Call::TryFromOwned),
+    ("give_lent", Call::GiveLent),
+    ("give_optional", Call::GiveOptional),
 ];
 
 /// The answer of the line's call, if it is one of these.
@@ -37,6 +41,8 @@ fn answer_of(line: &mut Line<'_>, call: Call) -> LineResult {
         Call::Give => line.borrowing(give),
         Call::TryFrom => line.borrowing(try_from),
         Call::TryFromOwned => line.taking(try_from_owned),
+        Call::GiveLent => line.borrowing(give_lent),
+        Call::GiveOptional => line.borrowing(give_optional),
     }
 }
 
@@ -264,6 +270,29 @@ fn try_from_owned(alloc: Global, (rust, scalar): (RustType, Scalar)) -> CallResu
     }
 }
 
+/// The scalar of a lent string, or of lent bytes.
+fn give_lent(alloc: Global, value: &Option<ScalarValue>) -> CallResult {
+    match value {
+        Some(ScalarValue::Utf8(text)) => given(alloc, text.as_str()),
+        Some(ScalarValue::Binary(bytes)) => given(alloc, bytes.as_slice()),
+        _ => Err(VortexError::WrongKind),
+    }
+}
+
+/// The scalar of an optional lent string, or of optional lent bytes; a null stands for no string.
+fn give_optional(alloc: Global, value: &Option<ScalarValue>) -> CallResult {
+    match value {
+        Some(ScalarValue::Utf8(text)) => given(alloc, Some(text.as_str())),
+        Some(ScalarValue::Binary(bytes)) => given(alloc, Some(bytes.as_slice())),
+        None => given(alloc, None::<&str>),
+        _ => Err(VortexError::WrongKind),
+    }
+}
+
+fn given<T: IntoScalar>(alloc: Global, value: T) -> CallResult {
+    Ok(Answer::Scalar(value.try_into_scalar(alloc)?))
+}
+
 /// A Rust value that can be an answer.
 trait Answers {
     /// The value, without a number's `PType`; `None` is `none`.
@@ -322,7 +351,7 @@ impl Answers for BufferString {
 
 impl Answers for ByteBuffer {
     fn answer(self, _alloc: Global) -> CallResult {
-        Ok(bytes(self))
+        Ok(buffer_bytes(self))
     }
 }
 

@@ -246,16 +246,21 @@ fn from_row_key(alloc: Global, (columns, bytes): &(Columns, ByteBuffer)) -> KeyR
     }
 }
 
-/// The keys of rows, one row after another.
+/// The keys of rows, one row after another. Each row is lent just before its key is made, so that
+/// the memory of its scalars is read once.
 fn row_encoder(alloc: Global, (columns, rows): &(Columns, Rows)) -> KeyResult {
-    let values = lent(alloc, &rows.0)?;
     let encoder = match RowEncoder::try_new(&columns.dtypes, &columns.options) {
         Ok(encoder) => encoder,
         Err(refusal) => return refused(refusal),
     };
     let mut keys = Vec::new(alloc);
-    for row in values.chunks(columns.dtypes.len().max(1)) {
-        if let Err(refusal) = encoder.append(row, &mut keys) {
+    let mut row = Vec::new(alloc);
+    for scalars in rows.0.chunks(columns.dtypes.len().max(1)) {
+        row.clear();
+        for scalar in scalars {
+            row.push(ScalarRef::of(scalar))?;
+        }
+        if let Err(refusal) = encoder.append(&row, &mut keys) {
             return refused(refusal);
         }
     }
