@@ -12,15 +12,14 @@ use Rattle.vortex_value.specs.Values.Scalars.{scalar_raw, scalar_type}
 use Rattle.vortex_value.specs.declared.refs.ScalarRef.{ScalarRef}
 use Rattle.vortex_value.specs.declared.scalars.Scalar.{Scalar}
 use Rattle.vortex_statistics.specs.Cells.{Cell, HasValue, cell_of, cell_of_ref, cell_order, is_null_cell, is_null_content, order_from_above}
-use Rattle.vortex_statistics.specs.Changes.{new_bound, replacing}
+use Rattle.vortex_statistics.specs.Changes.{after, replacing}
 use Rattle.vortex_statistics.specs.Observing.{IsFlatValue, MayTakeMemory, RefusesCell, SomeMayTakeMemory, becomes_bound, bound_at}
 use Rattle.vortex_statistics.specs.declared.error.StatisticsError.{StatisticsError}
 use Rattle.vortex_statistics.specs.declared.error.StatisticsError.TheVariants.{OutOfMemory}
 use Rattle.vortex_statistics.specs.declared.observing.Change.{Change}
-use Rattle.vortex_statistics.specs.declared.observing.Change.TheVariants.{Remove, Replace}
 use Rattle.vortex_statistics.specs.Statistics.{AreComplete, AreRight, IsBound, Known, KnownBound}
 use Rattle.vortex_statistics.proofs.CellLaws.{IsOrder, equal_itself, from_above, from_below}
-use Rattle.vortex_statistics.proofs.ObserveSteps.{null_content}
+use Rattle.vortex_statistics.proofs.ObserveSteps.{made_after, null_content}
 
 in_replicate : (n : ℕ) (x y : Cell) → HasValue (replicate n x) y → x ≡ y
 in_replicate n x y h =
@@ -84,24 +83,19 @@ module _ (rev : IsReversed order) (trans : IsTransitive order) (n : ℕ) (x : Ce
         (there_repeated (is_some (cell_order x x)) ordered, there_repeated (is_some (cell_order x x)) ordered);
   }
 
--- the bound that the code makes of a cell
-pub made_bound : (x : Cell) → new_bound (replacing x) x ≡ bound_at x
-made_bound x = by_test (is_some (cell_order x x))
-  where
-    by_test : (b : Bool) → new_bound (if b then Replace else Remove) x ≡ (if b then Some (record { value = x; is_exact = true }) else None)
-    by_test true = refl
-    by_test false = refl
-
 -- what the code makes of a value that repeats
-pub constant_step : IsReversed order → IsTransitive order → (n : ℕ) (x : Cell) (v : RawTree) (change : Change) (lower upper : Option KnownBound) → is_absent v ≡ false → x.content ≡ content v → 0 < n
-    → change ≡ replacing x → lower ≡ new_bound change x → upper ≡ new_bound change x → AreComplete (record { row_count = n; null_count = Some 0; lower = lower; upper = upper }) (replicate n x)
-constant_step rev trans n x v change lower upper e f some r l u =
+pub constant_step : IsReversed order → IsTransitive order → (n : ℕ) (x : Cell) (v : RawTree) (change : Change) (rows : ℕ) (nulls : Option ℕ) (lower upper : Option KnownBound) → is_absent v ≡ false → x.content ≡ content v → 0 < n
+    → change ≡ replacing x → rows ≡ n → nulls ≡ Some 0 → lower ≡ after change None x → upper ≡ after change None x
+    → AreComplete (record { row_count = rows; null_count = nulls; lower = lower; upper = upper }) (replicate n x)
+constant_step rev trans n x v change rows nulls lower upper e f some r k m l u =
     let valued : is_null_cell x ≡ false = ap is_null_content f ∙ null_content v ∙ e in
-    let first : bound_at x ≡ lower = sym (l ∙ ap (λ c. new_bound c x) r ∙ made_bound x) in
-    let second : bound_at x ≡ upper = sym (u ∙ ap (λ c. new_bound c x) r ∙ made_bound x) in
+    let first : bound_at x ≡ lower = sym (l ∙ ap (λ c. after c None x) r ∙ made_after None x) in
+    let second : bound_at x ≡ upper = sym (u ∙ ap (λ c. after c None x) r ∙ made_after None x) in
     let P : Option KnownBound → Type 0 = λ b. AreComplete (record { row_count = n; null_count = Some 0; lower = b; upper = bound_at x }) (replicate n x) in
     let Q : Option KnownBound → Type 0 = λ b. AreComplete (record { row_count = n; null_count = Some 0; lower = lower; upper = b }) (replicate n x) in
-    subst Q second (subst P first (constant_value rev trans n x valued some))
+    let S : Option ℕ → Type 0 = λ i. AreComplete (record { row_count = n; null_count = i; lower = lower; upper = upper }) (replicate n x) in
+    let T : ℕ → Type 0 = λ i. AreComplete (record { row_count = i; null_count = nulls; lower = lower; upper = upper }) (replicate n x) in
+    subst T (sym k) (subst S (sym m) (subst Q second (subst P first (constant_value rev trans n x valued some))))
 
 -- what it makes of a null that repeats
 pub null_constant_step : (n : ℕ) (x : Cell) (v : RawTree) → is_absent v ≡ true → x.content ≡ content v → AreComplete (record { row_count = n; null_count = Some n; lower = None; upper = None }) (replicate n x)

@@ -5,7 +5,7 @@ use Rattle.std.specs.Ordering.{is_gt, is_some_and}
 use Rattle.vortex_value.specs.Values.Content.{content}
 use Rattle.vortex_value.specs.Values.RawTree.{RawTree, absent, is_absent}
 use Rattle.vortex_statistics.specs.Cells.{Cell, cell_order, is_null_cell, is_null_content, order_from_above}
-use Rattle.vortex_statistics.specs.Changes.{after, change_by, change_of, leaves_upper, lower_change, new_bound, replaces, replacing, upper_change}
+use Rattle.vortex_statistics.specs.Changes.{after, change_by, change_of, leaves_upper, lower_change, replaces, replacing, upper_change}
 use Rattle.vortex_statistics.specs.Merging.{sum_of}
 use Rattle.vortex_statistics.specs.Observing.{becomes_bound, bound_after, bound_at, bound_with, is_below_some, is_new_bound, observed, with_null, with_value}
 use Rattle.vortex_statistics.specs.Statistics.{Known, KnownBound, may_be_value}
@@ -19,20 +19,20 @@ null_content v = refl
 
 -- ---- the bound after a change
 
-made_after : (b : Option KnownBound) (x : Cell) → after (replacing x) b (new_bound (replacing x) x) ≡ bound_at x
+pub made_after : (b : Option KnownBound) (x : Cell) → after (replacing x) b x ≡ bound_at x
 made_after b x = by_test (is_some (cell_order x x))
   where
-    by_test : (p : Bool) → after (if p then Replace else Remove) b (new_bound (if p then Replace else Remove) x) ≡ (if p then Some (record { value = x; is_exact = true }) else None)
+    by_test : (p : Bool) → after (if p then Replace else Remove) b x ≡ (if p then Some (record { value = x; is_exact = true }) else None)
     by_test true = refl
     by_test false = refl
 
-by_order : (o : Option Ordering) (b : KnownBound) (x : Cell) → after (change_by o x) (Some b) (new_bound (change_by o x) x) ≡ bound_with o b x
+by_order : (o : Option Ordering) (b : KnownBound) (x : Cell) → after (change_by o x) (Some b) x ≡ bound_with o b x
 by_order None b x = refl
 by_order (Some Less) b x = refl
 by_order (Some Equal) b x = refl
 by_order (Some Greater) b x = made_after (Some b) x
 
-changed : (cmp : Cell → Cell → Option Ordering) (b : Option KnownBound) (x : Cell) → after (change_of cmp b x) b (new_bound (change_of cmp b x) x) ≡ bound_after cmp b x
+changed : (cmp : Cell → Cell → Option Ordering) (b : Option KnownBound) (x : Cell) → after (change_of cmp b x) b x ≡ bound_after cmp b x
 changed cmp None x = refl
 changed cmp (Some b) x = by_order (cmp b.value x) b x
 
@@ -65,26 +65,25 @@ decides (Some b) s x e = by_exact b.is_exact
 
 -- ---- both bounds
 
-lower_after : (s : Known) (x : Cell) → after (lower_change s x) s.lower (new_bound (lower_change s x) x) ≡ (with_value s x).lower
+lower_after : (s : Known) (x : Cell) → after (lower_change s x) s.lower x ≡ (with_value s x).lower
 lower_after s x = by_values (may_be_value s)
   where
-    by_values : (p : Bool) → after (if p then change_of cell_order s.lower x else replacing x) s.lower (new_bound (if p then change_of cell_order s.lower x else replacing x) x)
+    by_values : (p : Bool) → after (if p then change_of cell_order s.lower x else replacing x) s.lower x
         ≡ (if p then bound_after cell_order s.lower x else bound_at x)
     by_values true = changed cell_order s.lower x
     by_values false = made_after s.lower x
 
-upper_after : (s : Known) (x : Cell) → after (upper_change s x) s.upper (new_bound (upper_change s x) x) ≡ (with_value s x).upper
+upper_after : (s : Known) (x : Cell) → after (upper_change s x) s.upper x ≡ (with_value s x).upper
 upper_after s x = by_values (may_be_value s)
   where
-    by_lower : (p q : Bool) → p ≡ q → after (if p then Keep else change_of order_from_above s.upper x) s.upper (new_bound (if p then Keep else change_of order_from_above s.upper x) x)
+    by_lower : (p q : Bool) → p ≡ q → after (if p then Keep else change_of order_from_above s.upper x) s.upper x
         ≡ (if q then s.upper else bound_after order_from_above s.upper x)
     by_lower true true e = refl
     by_lower true false e = absurd (false≢true (sym e))
     by_lower false true e = absurd (false≢true e)
     by_lower false false e = changed order_from_above s.upper x
 
-    by_values : (p : Bool) → after (if p then (if leaves_upper s.lower (change_of cell_order s.lower x) then Keep else change_of order_from_above s.upper x) else replacing x) s.upper
-        (new_bound (if p then (if leaves_upper s.lower (change_of cell_order s.lower x) then Keep else change_of order_from_above s.upper x) else replacing x) x)
+    by_values : (p : Bool) → after (if p then (if leaves_upper s.lower (change_of cell_order s.lower x) then Keep else change_of order_from_above s.upper x) else replacing x) s.upper x
         ≡ (if p then (if is_below_some s x then s.upper else bound_after order_from_above s.upper x) else bound_at x)
     by_values true = by_lower (leaves_upper s.lower (change_of cell_order s.lower x)) (is_below_some s x) (decides s.lower s x refl)
     by_values false = made_after s.upper x
@@ -104,16 +103,17 @@ null_step s x v rows nulls e f r n =
     by_null false h = absurd (false≢true h)
 
 -- what the code makes of a value
-pub value_step : (s : Known) (x : Cell) (v : RawTree) (rows : ℕ) (below above : Change) (low up lower upper : Option KnownBound) → is_absent v ≡ false → x.content ≡ content v → rows ≡ s.row_count + 1
-    → below ≡ lower_change s x → above ≡ upper_change s x → low ≡ new_bound below x → up ≡ new_bound above x → lower ≡ after below s.lower low → upper ≡ after above s.upper up
-    → record { row_count = rows; null_count = s.null_count; lower = lower; upper = upper } ≡ observed s x
-value_step s x v rows below above low up lower upper e f r b a l u low_after up_after =
-    let with_rows : ℕ → Known = λ i. record { row_count = i; null_count = s.null_count; lower = lower; upper = upper } in
-    let first : lower ≡ (with_value s x).lower = low_after ∙ ap (after below s.lower) l ∙ ap (λ c. after c s.lower (new_bound c x)) b ∙ lower_after s x in
-    let second : upper ≡ (with_value s x).upper = up_after ∙ ap (after above s.upper) u ∙ ap (λ c. after c s.upper (new_bound c x)) a ∙ upper_after s x in
+pub value_step : (s : Known) (x : Cell) (v : RawTree) (rows : ℕ) (nulls : Option ℕ) (below above : Change) (lower upper : Option KnownBound) → is_absent v ≡ false → x.content ≡ content v → rows ≡ s.row_count + 1 → nulls ≡ s.null_count
+    → below ≡ lower_change s x → above ≡ upper_change s x → lower ≡ after below s.lower x → upper ≡ after above s.upper x
+    → record { row_count = rows; null_count = nulls; lower = lower; upper = upper } ≡ observed s x
+value_step s x v rows nulls below above lower upper e f r n b a low_after up_after =
+    let with_rows : ℕ → Known = λ i. record { row_count = i; null_count = nulls; lower = lower; upper = upper } in
+    let with_nulls : Option ℕ → Known = λ m. record { row_count = s.row_count + 1; null_count = m; lower = lower; upper = upper } in
+    let first : lower ≡ (with_value s x).lower = low_after ∙ ap (λ c. after c s.lower x) b ∙ lower_after s x in
+    let second : upper ≡ (with_value s x).upper = up_after ∙ ap (λ c. after c s.upper x) a ∙ upper_after s x in
     let with_lower : Option KnownBound → Known = λ c. record { row_count = s.row_count + 1; null_count = s.null_count; lower = c; upper = upper } in
     let with_upper : Option KnownBound → Known = λ c. record { row_count = s.row_count + 1; null_count = s.null_count; lower = (with_value s x).lower; upper = c } in
-    ap with_rows r ∙ ap with_lower first ∙ ap with_upper second ∙ by_null (is_null_cell x) (ap is_null_content f ∙ null_content v ∙ e)
+    ap with_rows r ∙ ap with_nulls n ∙ ap with_lower first ∙ ap with_upper second ∙ by_null (is_null_cell x) (ap is_null_content f ∙ null_content v ∙ e)
   where
     by_null : (p : Bool) → p ≡ false → with_value s x ≡ (if p then with_null s else with_value s x)
     by_null true h = absurd (false≢true (sym h))

@@ -7,21 +7,20 @@ use Rattle.vortex_statistics.specs.Statistics.{Known, KnownBound, may_be_value}
 use Rattle.vortex_statistics.specs.declared.observing.Change.{Change}
 use Rattle.vortex_statistics.specs.declared.observing.Change.TheVariants.{Keep, Confirm, Replace, Remove}
 
--- the bound after the change
-abbrev pub after : Change → Option KnownBound → Option KnownBound → Option KnownBound
-after Keep b new = b
-after Confirm b new = option_map (λ c. record { value = c.value; is_exact = true }) b
-after Replace b new = new
-after Remove b new = None
+-- the bound that the cell makes
+abbrev pub exact_bound : Cell → KnownBound
+exact_bound x = record { value = x; is_exact = true }
+
+-- the bound after the change, by which the cell may take its place
+abbrev pub after : Change → Option KnownBound → Cell → Option KnownBound
+after Keep b x = b
+after Confirm b x = option_map (λ c. record { value = c.value; is_exact = true }) b
+after Replace b x = Some (exact_bound x)
+after Remove b x = None
 
 abbrev pub replaces : Change → Bool
 replaces Replace = true
 replaces _ = false
-
--- the bound that the change wants made
-abbrev pub new_bound : Change → Cell → Option KnownBound
-new_bound Replace x = Some (record { value = x; is_exact = true })
-new_bound _ x = None
 
 -- the cell in the place of a bound, if it has an order with itself
 abbrev pub replacing : Cell → Change

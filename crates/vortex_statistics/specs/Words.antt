@@ -3,6 +3,7 @@ pub use Rattle.std.specs.Option.{option_copied}
 pub use Rattle.std.specs.Vec.{vec_capacity, vec_len}
 pub use Rattle.vortex_array.specs.Truncation.{IsTypeOfKind, MayHold}
 pub use Rattle.vortex_dtype.specs.TypeOf.{type_of}
+pub use Rattle.vortex_value.specs.Equality.{same_type}
 pub use Rattle.vortex_value.specs.TypesWithin.{HasNoVariant, UnionsHaveVariants}
 pub use Rattle.vortex_value.specs.Values.RawTree.{is_absent}
 pub use Rattle.vortex_value.specs.Values.Refs.{ref_raw, ref_type}
@@ -10,8 +11,8 @@ pub use Rattle.vortex_value.specs.Values.Scalars.{scalar_content, scalar_raw, sc
 pub use Rattle.vortex_row.specs.Held.{IsHeld}
 pub use Rattle.vortex_row.specs.Keys.{key}
 pub use Rattle.vortex_row.specs.Steps.{Appends, HasRoom}
-pub use Rattle.vortex_statistics.specs.Cells.{cell_of, cell_of_ref, cell_order, is_null_cell, order_from_above}
-pub use Rattle.vortex_statistics.specs.Changes.{after, change_by, change_of, lower_change, new_bound, replaces, replacing, upper_change}
+pub use Rattle.vortex_statistics.specs.Cells.{Cell, cell_of, cell_of_ref, cell_order, is_null_cell, order_from_above}
+pub use Rattle.vortex_statistics.specs.Changes.{after, change_by, change_of, exact_bound, lower_change, replaces, replacing, upper_change}
 pub use Rattle.vortex_statistics.specs.Form.{AreOf, FormsAreApart, IsFormOf, IsHeldBound, IsHeldKnown, bound_bytes, bound_flags, count_bytes, flags, form, known_count_bytes}
 pub use Rattle.vortex_statistics.specs.FormAnswers.{HasValues, IsFirstWrong, ReadsAs, ReadsRight, SaysBound}
 pub use Rattle.vortex_statistics.specs.FormSteps.{AreBoundKeys, AreBoundsRead, HasNoVariantIn, HasNoVariants, IsBadBound, IsBadForm, IsBoundKey, IsBoundRead, IsBoundReadAt, IsCountsRead, IsRefusal, IsWrongStart, ascending, counts_length, flags_byte, has_bound, is_there, state_at, state_bits}

@@ -5,7 +5,7 @@ ghost use Rattle.vortex_statistics.specs.Words.{AreComplete, MayTakeMemory, OutO
 
 use crate::column_statistics::ColumnStatistics;
 use crate::error::StatisticsError;
-use crate::observing::{new_bounds, replacing};
+use crate::observing::replacing;
 use std::alloc::Global;
 use vortex_array::{Scalar, ScalarRef};
 use vortex_value::laws::{order_is_reversed, order_is_transitive};
@@ -58,12 +58,18 @@ impl ColumnStatistics {
         }
         let value = ScalarRef::of(value);
         let change = replacing(value);
-        let (lower, upper) = new_bounds(alloc, change, change, value)?;
-        Ok(ColumnStatistics {
+        let mut statistics = ColumnStatistics {
             row_count: rows,
             null_count: Some(0),
-            lower,
-            upper,
-        })
+            lower: None,
+            upper: None,
+        };
+        match statistics.change_bounds(alloc, change, change, value) {
+            Ok(()) => Ok(statistics),
+            Err(cause) => {
+                drop(statistics);
+                Err(cause)
+            }
+        }
     }
 }

@@ -5,6 +5,7 @@
 #![tactic(auto)]
 
 mod column_statistics;
+mod comparing;
 mod error;
 mod flags;
 mod gathering;

@@ -1,9 +1,10 @@
 //! The statistics of cells and one cell more.
 
-ghost use Rattle.std.specs.Prelude.{◌≡◌, ◌⊎◌, ◌+◌, ◌<◌, ◌^◌, true, IfErr, IfOk, OnErr, OnOk, option_map};
-ghost use Rattle.vortex_statistics.specs.Words.{IsCompleteWith, IsFlatValue, IsRightWith, OutOfMemory, RefusesCell, after, cell_of_ref, change_by, change_of, known, known_bound, lower_change, new_bound, observed, order_from_above, ref_raw, ref_type, replaces, replacing, upper_change};
+ghost use Rattle.std.specs.Prelude.{◌≡◌, ◌⊎◌, ◌+◌, ◌<◌, ◌^◌, Some, false, true, IfErr, IfOk, OnErr, OnOk, option_map};
+ghost use Rattle.vortex_statistics.specs.Words.{Cell, IsCompleteWith, IsFlatValue, IsRightWith, OutOfMemory, RefusesCell, after, cell_of_ref, change_by, change_of, exact_bound, known, known_bound, lower_change, observed, order_from_above, ref_raw, ref_type, replaces, replacing, upper_change};
 
 use crate::column_statistics::{Bound, ColumnStatistics};
+use crate::comparing::compare;
 use crate::error::StatisticsError;
 use crate::merging::sum_of;
 use std::alloc::Global;
@@ -40,15 +41,51 @@ impl ColumnStatistics {
             return Ok(());
         }
         let (below, above) = self.changes(value);
-        let (lower, upper) = new_bounds(alloc, below, above, value)?;
-        apply(&mut self.lower, below, lower);
-        apply(&mut self.upper, above, upper);
+        self.change_bounds(alloc, below, above, value)?;
         self.row_count = row_count;
+        Ok(())
+    }
+
+    /// Changes both bounds, or neither if there is no memory for a copy of the value.
+    #[inline(always)]
+    pub(crate) fn change_bounds(
+        &mut self,
+        alloc: Global,
+        below: Change,
+        above: Change,
+        value: ScalarRef<'_>,
+    ) -> Result<(), StatisticsError>
+        ensures lower { OnOk result (option_map known_bound self.new.lower
+            ≡ after below (option_map known_bound self.old.lower) (cell_of_ref value.entry)) }
+        ensures upper { OnOk result (option_map known_bound self.new.upper
+            ≡ after above (option_map known_bound self.old.upper) (cell_of_ref value.entry)) }
+        ensures rows { self.new.row_count ≡ self.old.row_count }
+        ensures nulls { self.new.null_count ≡ self.old.null_count }
+        ensures refused { IfErr result (λ e. (e ≡ OutOfMemory)
+            × ((replaces below ≡ true) ⊎ (replaces above ≡ true))
+            × ¬ (IsFlatValue (ref_type value.entry) (ref_raw value.entry))) }
+        ensures unchanged { OnErr result (self.new ≡ self.old) }
+    {
+        if below.replaces() {
+            if above.replaces() {
+                return replace_both(alloc, &mut self.lower, &mut self.upper, value);
+            }
+            replace(alloc, &mut self.lower, value)?;
+            change_in_place(&mut self.upper, above);
+            return Ok(());
+        }
+        if above.replaces() {
+            replace(alloc, &mut self.upper, value)?;
+        } else {
+            change_in_place(&mut self.upper, above);
+        }
+        change_in_place(&mut self.lower, below);
         Ok(())
     }
 
     /// What a value does to the lower and to the upper bound. A value below an exact lower bound is
     /// below some value, and so not above the upper bound.
+    #[inline(always)]
     fn changes(&self, value: ScalarRef<'_>) -> (Change, Change)
         ensures below { result.0 ≡ lower_change (known self.now) (cell_of_ref value.entry) }
         ensures above { result.1 ≡ upper_change (known self.now) (cell_of_ref value.entry) }
@@ -60,14 +97,15 @@ impl ColumnStatistics {
         let Some(lower) = &self.lower else {
             return (Change::Keep, self.upper_change(value));
         };
-        let below = change_by(ScalarRef::of(&lower.value).partial_cmp(&value), value);
-        if lower.is_exact && matches!(below, Change::Replace) {
+        let below = change_by(compare(ScalarRef::of(&lower.value), value), value);
+        if lower.is_exact && below.replaces() {
             return (below, Change::Keep);
         }
         (below, self.upper_change(value))
     }
 
     /// What a value does to the upper bound, by its order with it.
+    #[inline(always)]
     fn upper_change(&self, value: ScalarRef<'_>) -> Change
         ensures { result ≡ change_of order_from_above
             (option_map known_bound self.now.upper) (cell_of_ref value.entry) }
@@ -75,7 +113,7 @@ impl ColumnStatistics {
         let Some(upper) = &self.upper else {
             return Change::Keep;
         };
-        change_by(value.partial_cmp(&ScalarRef::of(&upper.value)), value)
+        change_by(compare(value, ScalarRef::of(&upper.value)), value)
     }
 }
 
@@ -92,7 +130,18 @@ pub(crate) enum Change {
     Remove,
 }
 
+impl Change {
+    /// Whether the value becomes the bound.
+    #[inline(always)]
+    fn replaces(self) -> bool
+        ensures { result ≡ replaces self }
+    {
+        matches!(self, Change::Replace)
+    }
+}
+
 /// What a value does to a bound, by how the bound compares with it.
+#[inline(always)]
 fn change_by(order: Option<Ordering>, value: ScalarRef<'_>) -> Change
     ensures { result ≡ change_by order (cell_of_ref value.entry) }
 {
@@ -115,50 +164,63 @@ pub(crate) fn replacing(value: ScalarRef<'_>) -> Change
     }
 }
 
-/// The copies of a value that becomes the lower or the upper bound.
-pub(crate) fn new_bounds(
+/// Puts a copy of the value in the place of both bounds, or of neither.
+fn replace_both(
     alloc: Global,
-    below: Change,
-    above: Change,
+    lower: &mut Option<Bound>,
+    upper: &mut Option<Bound>,
     value: ScalarRef<'_>,
-) -> Result<(Option<Bound>, Option<Bound>), StatisticsError>
-    ensures lower { IfOk result (λ bounds. option_map known_bound bounds.0
-        ≡ new_bound below (cell_of_ref value.entry)) }
-    ensures upper { IfOk result (λ bounds. option_map known_bound bounds.1
-        ≡ new_bound above (cell_of_ref value.entry)) }
+) -> Result<(), StatisticsError>
+    ensures lower { OnOk result (option_map known_bound lower.new
+        ≡ Some (exact_bound (cell_of_ref value.entry))) }
+    ensures upper { OnOk result (option_map known_bound upper.new
+        ≡ Some (exact_bound (cell_of_ref value.entry))) }
     ensures refused { IfErr result (λ e. (e ≡ OutOfMemory)
-        × ((replaces below ≡ true) ⊎ (replaces above ≡ true))
         × ¬ (IsFlatValue (ref_type value.entry) (ref_raw value.entry))) }
+    ensures lower_stays { OnErr result (lower.new ≡ lower.old) }
+    ensures upper_stays { OnErr result (upper.new ≡ upper.old) }
 {
-    let lower = new_bound(alloc, below, value)?;
-    match new_bound(alloc, above, value) {
-        Ok(upper) => Ok((lower, upper)),
+    let bound = copied(alloc, value)?;
+    match replace(alloc, upper, value) {
+        Ok(()) => {
+            *lower = Some(bound);
+            Ok(())
+        }
         Err(cause) => {
-            drop(lower);
+            drop(bound);
             Err(cause)
         }
     }
 }
 
-/// The copy of a value that becomes a bound; `None` if the change wants none.
-fn new_bound(
+/// Puts a copy of the value in the place of a bound.
+fn replace(
     alloc: Global,
-    change: Change,
+    bound: &mut Option<Bound>,
     value: ScalarRef<'_>,
-) -> Result<Option<Bound>, StatisticsError>
-    ensures made { IfOk result (λ bound. option_map known_bound bound
-        ≡ new_bound change (cell_of_ref value.entry)) }
-    ensures refused { IfErr result (λ e. (e ≡ OutOfMemory) × (replaces change ≡ true)
+) -> Result<(), StatisticsError>
+    ensures made { OnOk result (option_map known_bound bound.new
+        ≡ Some (exact_bound (cell_of_ref value.entry))) }
+    ensures refused { IfErr result (λ e. (e ≡ OutOfMemory)
+        × ¬ (IsFlatValue (ref_type value.entry) (ref_raw value.entry))) }
+    ensures unchanged { OnErr result (bound.new ≡ bound.old) }
+{
+    *bound = Some(copied(alloc, value)?);
+    Ok(())
+}
+
+/// A copy of a value, as a bound.
+fn copied(alloc: Global, value: ScalarRef<'_>) -> Result<Bound, StatisticsError>
+    ensures made { IfOk result (λ bound. known_bound bound
+        ≡ exact_bound (cell_of_ref value.entry)) }
+    ensures refused { IfErr result (λ e. (e ≡ OutOfMemory)
         × ¬ (IsFlatValue (ref_type value.entry) (ref_raw value.entry))) }
 {
-    if !matches!(change, Change::Replace) {
-        return Ok(None);
-    }
     match value.to_scalar(alloc) {
-        Ok(value) => Ok(Some(Bound {
+        Ok(value) => Ok(Bound {
             value,
             is_exact: true,
-        })),
+        }),
         Err(cause) => {
             drop(cause);
             Err(StatisticsError::OutOfMemory)
@@ -166,23 +228,21 @@ fn new_bound(
     }
 }
 
-/// Changes a bound; `new` is what `new_bound` gave for it.
-fn apply(bound: &mut Option<Bound>, change: Change, new: Option<Bound>)
-    ensures { option_map known_bound bound.new
-        ≡ after change (option_map known_bound bound.old) (option_map known_bound new) }
+/// Changes a bound that no value replaces.
+#[inline(always)]
+fn change_in_place(bound: &mut Option<Bound>, change: Change)
+    requires { replaces change ≡ false }
+    ensures { (x : Cell) → option_map known_bound bound.new
+        ≡ after change (option_map known_bound bound.old) x }
 {
     match change {
-        Change::Keep => drop(new),
+        Change::Keep => {}
         Change::Confirm => {
-            drop(new);
             if let Some(bound) = bound {
                 bound.is_exact = true;
             }
         }
-        Change::Replace => *bound = new,
-        Change::Remove => {
-            drop(new);
-            *bound = None;
-        }
+        Change::Remove => *bound = None,
+        Change::Replace => unreachable!(),
     }
 }

@@ -30,27 +30,27 @@ returns-then-is_null-clause-complete c = λ cells h.
     subst P (sym (null_step s x (ref_raw c.args.value) c.in-Some.row_count c.sum_of-self.result void refl rows c.sum_of-self.ensures))
     (observed_complete c.order_is_reversed.ensures.contents c.order_is_transitive.ensures.contents s cells x fits h)
 
-pub returns-in_err-lower-clause-refused : goal.returns-in_err-lower-clause-refused
-returns-in_err-lower-clause-refused c =
+pub returns-in_err-change_bounds-clause-refused : goal.returns-in_err-change_bounds-clause-refused
+returns-in_err-change_bounds-clause-refused c =
     let s : Known = known c.args.self.now in
     let x : Cell = cell_of_ref c.args.value in
     let v : RawTree = ref_raw c.args.value in
     let there : is_absent v ≡ false = cc in
     let fits : c.args.self.now.row_count + 1 < 2 ^ 64 = search rules in
-    let becomes : becomes_bound s x ≡ true = elim c.in_err-lower.ensures.refused.1 [
+    let becomes : becomes_bound s x ≡ true = elim c.in_err-change_bounds.ensures.refused.1 [
       | inl r ↦ lower_becomes s x v c.changes-below.result.0 there refl c.changes-below.ensures.below r
       | inr r ↦ upper_becomes s x v c.changes-below.result.1 there refl c.changes-below.ensures.above r
     ] in
-    let why : RefusesCell s c.args.value c.in_err-lower.field-0.0 = inr (c.in_err-lower.ensures.refused.0, fits, becomes, c.in_err-lower.ensures.refused.2) in
+    let why : RefusesCell s c.args.value c.in_err-change_bounds.field-0.0 = inr (c.in_err-change_bounds.ensures.refused.0, fits, becomes, c.in_err-change_bounds.ensures.refused.2) in
     let p = err_from_is_err_and c.from_residual.result c.from_residual.ensures.1 in rw (p.1, p.2) why
 
 pub returns-clause-value : goal.returns-clause-value
 returns-clause-value c =
     let there : is_absent (ref_raw c.args.value) ≡ false = cc in
     let rows : c.in-Some.row_count ≡ c.args.self.now.row_count + 1 = search rules in
-    value_step (known c.args.self.now) (cell_of_ref c.args.value) (ref_raw c.args.value) c.in-Some.row_count c.changes-below.result.0 c.changes-below.result.1
-    (option_map known_bound c.in_ok-lower.lower) (option_map known_bound c.in_ok-lower.upper) (option_map known_bound c.apply.new.bound) (option_map known_bound c.apply-2.new.bound)
-    there refl rows c.changes-below.ensures.below c.changes-below.ensures.above c.in_ok-lower.ensures.lower c.in_ok-lower.ensures.upper c.apply.ensures c.apply-2.ensures
+    value_step (known c.args.self.now) (cell_of_ref c.args.value) (ref_raw c.args.value) c.in-Some.row_count c.change_bounds.new.self.null_count c.changes-below.result.0 c.changes-below.result.1
+    (option_map known_bound c.change_bounds.new.self.lower) (option_map known_bound c.change_bounds.new.self.upper)
+    there refl rows c.change_bounds.ensures.nulls c.changes-below.ensures.below c.changes-below.ensures.above c.in_ok-change_bounds.ensures.lower c.in_ok-change_bounds.ensures.upper
 
 pub returns-clause-right : goal.returns-clause-right
 returns-clause-right c = λ cells h.

@@ -1,9 +1,9 @@
-use Rattle.std.proofs.Common.{◌≡◌, ◌<◌, true, false, replicate, option_map, Some, refl, ap, subst, ◌∙◌, arith}
+use Rattle.std.proofs.Common.{◌≡◌, ◌<◌, true, false, replicate, option_map, refl, ap, subst, ◌∙◌, arith}
 use Rattle.vortex_value.specs.Values.RawTree.{is_absent}
 use Rattle.vortex_value.specs.Values.Refs.{ref_raw}
 use Rattle.vortex_value.specs.Values.Scalars.{scalar_raw}
 use Rattle.vortex_statistics.specs.Cells.{Cell, cell_of, cell_of_ref}
-use Rattle.vortex_statistics.specs.Statistics.{AreComplete, known_bound}
+use Rattle.vortex_statistics.specs.Statistics.{AreComplete, known, known_bound}
 use Rattle.vortex_statistics.proofs.ConstantLaws.{constant_step, null_constant_step, ref_cell}
 use Rattle.vortex_statistics.proofs.column_statistics.ColumnStatistics.of_constant.Goals as goal
 
@@ -12,12 +12,13 @@ returns-then-is_null-clause-complete c =
     let void : is_absent (scalar_raw c.args.value.now) ≡ true = cc in
     null_constant_step c.args.rows (cell_of c.args.value.now) (scalar_raw c.args.value.now) void refl
 
-pub returns-clause-complete : goal.returns-clause-complete
-returns-clause-complete c =
+pub returns-in-Ok-clause-complete : goal.returns-in-Ok-clause-complete
+returns-in-Ok-clause-complete c =
     let absent : is_absent (scalar_raw c.args.value.now) ≡ false = cc in
     let there : is_absent (ref_raw c.of-value.result) ≡ false = ap is_absent c.of-value.ensures.made.value ∙ absent in
     let some : 0 < c.args.rows = omega arith in
-    let P : Cell → Type 0 = λ y. AreComplete (record { row_count = c.args.rows; null_count = Some 0; lower = option_map known_bound c.in_ok-lower.lower; upper = option_map known_bound c.in_ok-lower.upper }) (replicate c.args.rows y) in
+    let made = c.change_bounds.new.self in
+    let P : Cell → Type 0 = λ y. AreComplete (known made) (replicate c.args.rows y) in
     subst P (ref_cell c.args.value.now c.of-value.result c.of-value.ensures.made)
-    (constant_step c.order_is_reversed.ensures.contents c.order_is_transitive.ensures.contents c.args.rows (cell_of_ref c.of-value.result) (ref_raw c.of-value.result) c.replacing-change.result
-    (option_map known_bound c.in_ok-lower.lower) (option_map known_bound c.in_ok-lower.upper) there refl some c.replacing-change.ensures c.in_ok-lower.ensures.lower c.in_ok-lower.ensures.upper)
+    (constant_step c.order_is_reversed.ensures.contents c.order_is_transitive.ensures.contents c.args.rows (cell_of_ref c.of-value.result) (ref_raw c.of-value.result) c.replacing-change.result made.row_count made.null_count
+    (option_map known_bound made.lower) (option_map known_bound made.upper) there refl some c.replacing-change.ensures c.change_bounds.ensures.rows c.change_bounds.ensures.nulls c.in-Ok.ensures.lower c.in-Ok.ensures.upper)
