@@ -1,10 +1,19 @@
 //! How a value compares with a bound.
 
 ghost use Rattle.std.specs.Prelude.{◌≡◌, true};
-ghost use Rattle.vortex_statistics.specs.Words.{cell_of_ref, cell_order, same_type, type_of};
+ghost use Rattle.vortex_statistics.specs.Words.{cell_of, cell_of_ref, cell_order, same_type, type_of};
 
 use std::cmp::Ordering;
-use vortex_array::{DType, ScalarRef, ScalarValue};
+use vortex_array::{DType, Scalar, ScalarRef, ScalarValue};
+
+/// How two scalars compare: what `Scalar::partial_cmp` says, sooner for integers, strings and bytes.
+/// Of this port alone: filters compare by it.
+#[inline(always)]
+pub fn compare_scalars(a: &Scalar, b: &Scalar) -> Option<Ordering>
+    ensures { result ≡ cell_order (cell_of a.now) (cell_of b.now) }
+{
+    compare(ScalarRef::of(a), ScalarRef::of(b))
+}
 
 /// How two scalars compare, as `ScalarRef::partial_cmp` says it. Integers of one type, strings and
 /// bytes are compared here, without a walk over their types.

@@ -17,4 +17,5 @@ mod truncating;
 mod writing;
 
 pub use column_statistics::{Bound, ColumnStatistics};
+pub use comparing::compare_scalars;
 pub use error::StatisticsError;
