@@ -23,7 +23,7 @@ type_by kinds.Binary n = binary_type n
 abbrev pub column_type : ColumnType → TypeTree
 column_type c = type_by c.kind c.nullability
 
--- whether a field is a null: no byte, and no quotes, where the column takes nulls
+-- whether a field is a null: no byte and no quotes, in a column that takes nulls
 abbrev pub is_null_field : Nullability → Field → Bool
 is_null_field Nullable f = (length f.text == 0) && not f.is_quoted
 is_null_field NonNullable f = false

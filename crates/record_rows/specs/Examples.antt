@@ -3,7 +3,7 @@ use Rattle.std.specs.Prelude.{◌≡◌, [], true, false, codes, refl}
 use Rattle.vortex_dtype.specs.declared.nullability.Nullability.TheVariants.{NonNullable, Nullable}
 use Rattle.record_rows.specs.Cells.{is_null_field}
 
--- a field without a byte is a null where the column takes nulls
+-- a field without a byte is a null if the column takes nulls
 pub empty-is-null : is_null_field Nullable (record { text = []; is_quoted = false }) ≡ true
 empty-is-null = refl
 
@@ -11,7 +11,7 @@ empty-is-null = refl
 pub quotes-are-empty : is_null_field Nullable (record { text = []; is_quoted = true }) ≡ false
 quotes-are-empty = refl
 
--- and not where the column takes none
+-- and not if the column takes none
 pub no-null-here : is_null_field NonNullable (record { text = []; is_quoted = false }) ≡ false
 no-null-here = refl
 

@@ -49,7 +49,7 @@ pub record IsRow (delimiter : ℕ) (lenient : Bool) (columns : List ColumnType) 
   pub cells : AreCells lenient columns fields row flags
   pub count : refused ≡ refused_of flags
 
--- the same of a text that begins where a field does
+-- the fields of a text are this row; the text begins where a field does
 pub record HasFields (delimiter : ℕ) (lenient : Bool) (columns : List ColumnType) (bytes : List ℕ) (row : List Scalar) (refused : ℕ) : Type 0 where
   pub fields : List Field
   pub flags : List Bool

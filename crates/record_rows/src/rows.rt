@@ -42,9 +42,9 @@ impl<T: Drop> From<AllocFailed<T>> for RowFault {
     }
 }
 
-/// Reads the row of a record; `None` where it has none, as an empty line.
+/// Reads the row of a record; `None` if it has no row, as an empty line.
 ///
-/// If it is lenient, a field that its column does not take is a null where the column takes nulls.
+/// If it is lenient, a field that its column does not take is a null if the column takes nulls.
 /// The answer is how many of them there are.
 pub fn read_row(
     alloc: Global,

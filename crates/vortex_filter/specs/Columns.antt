@@ -47,6 +47,6 @@ abbrev pub column_there : List ColumnTree → Option ℕ → Option (ℕ × Type
 column_there columns None = None
 column_there columns (Some k) = typed_place k (slice_get columns k)
 
--- the place and the type of the first column with this name; where there is none, $1 is the first column, and so on
+-- the place and the type of the first column with this name; if there is none, $1 is the first column, and so on
 unfoldable pub column_named : List ColumnTree → List ℕ → Option (ℕ × TypeTree)
 column_named columns name = column_there columns (or_numbered name (named_place columns name))

@@ -1,4 +1,4 @@
--- What a filter can be on the rows of a zone of which statistics are known.
+-- What a filter can be on the rows of a zone, by the zone's statistics.
 use Rattle.std.specs.Prelude.{Bool, true, false, ◌&&◌, ◌||◌, not, List, fold, slice_get, Option, Some, None, is_some, if◌then◌else◌}
 use Rattle.std.specs.Ordering.{is_some_and, is_eq, is_gt, is_lt}
 use Rattle.std.specs.declared.cmp.Ordering.{Ordering}
@@ -28,7 +28,7 @@ value_outcomes s op literal = record {
   may_be_true = may_be_value s && may_hold op (orders s literal);
 }
 
--- a comparison, of a column of which nothing may be known
+-- a comparison; of the column nothing may be known
 abbrev pub compare_outcomes : Option Known → CompareOperator → Cell → Outcomes
 compare_outcomes None op literal = if is_null_cell literal then only Unknown else any
 compare_outcomes (Some s) op literal = if is_null_cell literal then unknown_outcomes s else value_outcomes s op literal

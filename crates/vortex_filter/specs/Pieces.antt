@@ -59,7 +59,7 @@ abbrev pub prefix_text : List (List ℕ) → ℕ → Content → List ℕ
 prefix_text names k (text bs) = like_text names k bs
 prefix_text names k prefix = starts_with_text names k prefix
 
--- a text, in parentheses where they are needed
+-- a text, in parentheses if they are needed
 abbrev pub group_text : Bool → List ℕ → List ℕ
 group_text grouped inner = (if grouped then codes "(" else []) ++ (inner ++ (if grouped then codes ")" else []))
 

@@ -19,7 +19,7 @@ use Rattle.vortex_filter.specs.Tokens.{TokenTree, keyword_token, name_token, int
 
 -- ---- columns and literals
 
--- the name of the column at this place, or $1, $2 and so on where there is none
+-- the name of the column at this place, or $1, $2 and so on if there is none
 abbrev pub column_name : List (List ℕ) → ℕ → List ℕ
 column_name names k = unwrap_or (slice_get names k) (36 ∷ decimal (k + 1))
 
@@ -65,7 +65,7 @@ escaped_byte b = if is_special b then 92 ∷ b ∷ [] else b ∷ []
 abbrev pub prefix_pattern : List ℕ → List ℕ
 prefix_pattern prefix = flat_map escaped_byte prefix ++ 37 ∷ []
 
--- which byte escapes, only where one is escaped
+-- which byte escapes, if one is escaped
 abbrev pub escape_tokens : List ℕ → List TokenTree
 escape_tokens prefix = if list_any is_special prefix then keyword_token keywords.Escape ∷ string_token (92 ∷ []) ∷ [] else []
 
@@ -87,7 +87,7 @@ constant_keyword truths.True = keywords.True
 constant_keyword truths.False = keywords.False
 constant_keyword truths.Unknown = keywords.Null
 
--- tokens in parentheses, where they are needed
+-- tokens in parentheses, if they are needed
 abbrev pub grouped : Bool → List TokenTree → List TokenTree
 grouped true ts = opening ∷ (ts ++ closing ∷ [])
 grouped false ts = ts

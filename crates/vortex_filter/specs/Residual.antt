@@ -1,4 +1,4 @@
--- What is left of a formula on the rows of a zone of which statistics are known.
+-- What is left of a formula on the rows of a zone, by the zone's statistics.
 use Rattle.std.specs.Prelude.{◌≡◌, ℕ, ◌+◌, Bool, true, false, List, length, Option, Some, None, if◌then◌else◌}
 use Rattle.vortex_statistics.specs.Statistics.{Known}
 use Rattle.vortex_filter.specs.declared.outcomes.Outcomes.{Outcomes}
@@ -50,7 +50,7 @@ disjunction f g = if is_constant False f then g else (if is_constant False g the
 
 -- ---- what is left
 
--- each part of which one truth alone is possible is that constant
+-- each part that can have one truth alone is that constant
 abbrev pub residual : List Known → Formula → Formula
 residual ss (both f g) = settled_as (sole (outcomes (both f g) ss)) (conjunction (residual ss f) (residual ss g))
 residual ss (either f g) = settled_as (sole (outcomes (either f g) ss)) (disjunction (residual ss f) (residual ss g))

@@ -208,7 +208,7 @@ pub(crate) fn behind<T>(before: &Filter, answer: Result<T, FilterError>) -> Resu
     }
 }
 
-/// The answer for two filters, of the first of which this is the answer.
+/// The answer for two filters; the answer for the first is given.
 fn both_answers(
     before: &Filter,
     front: Result<(), FilterError>,

@@ -326,7 +326,7 @@ fn prefix_in(
     Err(FilterError::TypesDiffer { test: 0, column })
 }
 
-/// The same for each value of the column, and Unknown for a null.
+/// A filter with one truth for each value of the column, and Unknown for a null.
 fn for_values(alloc: Global, holds: bool, column: usize) -> Result<Filter, FilterError>
     ensures { Makes (for_values holds column) result }
 {

@@ -36,8 +36,8 @@ pub fn prefixes_are_exact()
     order_is_transitive();
 }
 
-/// A search that skips the zones where no row may match, and takes those whole where each row must,
-/// finds what a search of each row finds: in each zone, and in all zones one after the other.
+/// Let a search skip the zones whose rows cannot match, and take those whole whose rows all must.
+/// It finds what a search of each row finds: in each zone, and in all zones one after the other.
 pub fn searches_find_all()
     ensures zone { ZonesAreSearched }
     ensures zones { SearchesFindAll }

@@ -1,4 +1,4 @@
-//! What a filter can be on the rows of a zone of which statistics are known.
+//! What a filter can be on the rows of a zone, by the zone's statistics.
 
 ghost use Rattle.std.specs.Prelude.{◌≡◌, ◌↔◌, IsTrue, false, map, option_map, slice_get};
 ghost use Rattle.vortex_filter.specs.Words.{Covers, MatchesEachRow, MatchesNoRow, cell_of, compare_outcomes, formula, is_null_cell, is_only_true, known, member_outcomes, null_outcomes, only, option_copied, outcomes, range_outcomes, unknown_outcomes, value_outcomes};

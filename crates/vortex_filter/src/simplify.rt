@@ -1,4 +1,4 @@
-//! What is left of a filter on the rows of a zone of which statistics are known.
+//! What is left of a filter on the rows of a zone, by the zone's statistics.
 
 ghost use Rattle.std.specs.Prelude.{◌≡◌, ◌≤◌, ◌&&◌, ◌||◌, Err, IfErr, IfOk, IsOkAnd, List, MatchOption, is_none, is_some, map};
 ghost use Rattle.vortex_filter.specs.Makes.{IsResidual, MakesUnlessBare, OfParts, is_made_false, is_made_true, settled};
@@ -20,7 +20,7 @@ impl Filter {
     /// The filter that is left for the rows of a zone, if these are right of its columns: it says the
     /// same on each of them, and is never larger.
     ///
-    /// A part of which one truth alone is possible becomes that constant, and so does the whole filter.
+    /// A part that can have one truth alone becomes that constant, and so does the whole filter.
     /// A True is then left out of an `And`, and a False out of an `Or`. `OutOfMemory` is its only
     /// refusal, and comes only if some other test or connective is left.
     pub fn simplify(

@@ -23,7 +23,7 @@ cell_of x = record { typed = scalar_type x; content = scalar_content x }
 abbrev pub cell_of_ref : ScalarRef → Cell
 cell_of_ref x = record { typed = ref_type x; content = ref_content x }
 
--- a cell that need not be there: where it is not, a null
+-- a cell that need not be there: if it is not, a null
 abbrev pub cell_or_null : Option Cell → Cell
 cell_or_null None = record { typed = null_type; content = null }
 cell_or_null (Some x) = x

@@ -25,9 +25,9 @@ pub fn looser_bounds_are_right()
     order_is_transitive();
 }
 
-/// What begins with the forms of two statistics, one of whose bounds have no variant's child, has
-/// statistics that say the same, whatever the types of their bounds, and one rest. So statistics have
-/// one form, and no form begins another.
+/// Let the bounds of one of two statistics have no variant's child. What begins with the forms of
+/// both has statistics that say the same, whatever the types of their bounds, and one rest. So
+/// statistics have one form, and no form begins another.
 pub fn forms_are_apart()
     ensures { FormsAreApart }
 {

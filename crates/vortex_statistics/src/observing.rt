@@ -16,9 +16,9 @@ impl ColumnStatistics {
     /// Counts one cell more, a value or a null, and takes it as a bound if it is past one. It is
     /// compared with the lower bound, and with the upper one if that does not decide.
     ///
-    /// It copies only what becomes a bound. `TooManyRows` if 64 bits do not count its row; else
-    /// `OutOfMemory`, only for a value that becomes a bound, and never for a valid one of a type
-    /// whose values take no memory, as an integer. After a refusal nothing has changed.
+    /// It copies only what becomes a bound. `TooManyRows` if 64 bits do not count its row. Else
+    /// `OutOfMemory`, only for a value that becomes a bound. It never comes for a valid one of a
+    /// type whose values take no memory, as an integer. After a refusal nothing has changed.
     pub fn observe(&mut self, alloc: Global, value: ScalarRef<'_>) -> Result<(), StatisticsError>
         ensures value { OnOk result
             (known self.new ≡ observed (known self.old) (cell_of_ref value.entry)) }

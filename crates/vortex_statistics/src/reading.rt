@@ -20,7 +20,7 @@ impl ColumnStatistics {
     ///
     /// `HasVariant` exactly if a variant stands in the type, at any depth, and the bytes begin with
     /// the version and with flags that say a bound. Else `BadBytes` if the bytes are not, whole, the
-    /// form of statistics of the type: its place is that of the first byte that no such form has
+    /// form of statistics of the type. Its place is that of the first byte that no such form has
     /// there, or of the end if they end too early. `OutOfMemory` may come in place of each answer
     /// but `HasVariant`, only if the bytes begin so.
     pub fn from_bytes(

@@ -17,8 +17,8 @@ impl ColumnStatistics {
     /// These statistics with each bound that is a string, or bytes, cut to at most `n` bytes. A
     /// bound that was cut is no longer exact. Other bounds stay, those of extension types too.
     ///
-    /// An upper bound is dropped if `upper_bound` gives none: if its first `n` bytes are all 255, or
-    /// if no whole character fits, or none of as many bytes follows the last one that fits.
+    /// An upper bound is dropped if `upper_bound` gives none. So it is if the first `n` bytes are
+    /// all 255; of a string, if no whole character fits, or none of as many bytes follows the last.
     ///
     /// `OutOfMemory` only if a bound is longer than `n` bytes and `n` is above 22.
     pub fn truncate(self, alloc: Global, n: usize) -> Result<ColumnStatistics, StatisticsError>

@@ -81,7 +81,7 @@ fn is_word_byte(byte: u8) -> bool
     is_word_start(byte) || byte.is_ascii_digit()
 }
 
-/// What follows so many bytes, of which the last is ASCII.
+/// What follows so many bytes; the last of them is ASCII.
 fn past(text: &str, count: usize) -> &str
     requires some { 0 < count }
     requires within { count ≤ length text.now }

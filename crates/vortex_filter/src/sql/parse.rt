@@ -35,7 +35,7 @@ impl Filter {
 
     /// The filter that SQL text is, over columns by name and type.
     ///
-    /// A name is one of the first column with exactly that name; where there is none, `$1` is the
+    /// A name is one of the first column with exactly that name; if there is none, `$1` is the
     /// first column, and so on. A literal takes the column's type. A number that the type lacks
     /// makes a comparison what it is for each value: True or False, and Unknown for a null.
     ///

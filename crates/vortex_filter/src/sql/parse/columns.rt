@@ -21,7 +21,7 @@ pub(crate) struct Found<'a> {
     pub(crate) dtype: &'a DType,
 }
 
-/// The first column with this name; where there is none, `$1` is the first column, and so on.
+/// The first column with this name; if there is none, `$1` is the first column, and so on.
 #[tactic(auto, unfolding(crate::specs::Columns::column_named))]
 fn column_named<'a>(columns: &'a [Column], name: &str) -> Option<Found<'a>>
     ensures { option_map (λ x. (x.place, type_of x.dtype.now)) result

@@ -225,8 +225,8 @@ fn pattern_prefix(
     }
 }
 
-/// The next byte of a prefix, and what follows it in the pattern. None where a wildcard or the end
-/// comes next.
+/// The next byte of a prefix, and what follows it in the pattern. `None` if a wildcard or the
+/// end comes next.
 fn prefix_byte(pattern: &[u8], escapes: bool) -> Option<(u8, &[u8])>
     ensures some { IfSome result (λ x. pattern_prefix escapes pattern.now
         ≡ with_byte x.0 (pattern_prefix escapes x.1.now)) }
