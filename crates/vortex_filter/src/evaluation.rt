@@ -7,6 +7,7 @@ use crate::filter::Filter;
 use crate::operator::CompareOperator;
 use crate::prefix::truth_of_prefix;
 use crate::truth::Truth;
+use vortex_statistics::compare_scalars;
 use vortex_value::Scalar;
 
 impl Filter {
@@ -79,7 +80,7 @@ fn truth_of_comparison(cell: Option<&Scalar>, operator: CompareOperator, literal
     if is_null(value) || is_null(literal) {
         return Truth::Unknown;
     }
-    match value.partial_cmp(literal) {
+    match compare_scalars(value, literal) {
         Some(ordering) => Truth::of(operator.holds(ordering)),
         None => Truth::Unknown,
     }

@@ -5,7 +5,7 @@ ghost use Rattle.vortex_filter.specs.Words.{bound_order, cell_of, cell_order, is
 
 use crate::operator::CompareOperator;
 use std::cmp::Ordering;
-use vortex_statistics::{Bound, ColumnStatistics};
+use vortex_statistics::{Bound, ColumnStatistics, compare_scalars};
 use vortex_value::{Scalar, ScalarValue};
 
 /// How a value of a zone can stand to a literal.
@@ -83,7 +83,7 @@ fn order_of_lower(bound: Option<&Bound>, literal: &Scalar) -> Option<Ordering>
     ensures { result ≡ bound_order cell_order
         (option_map known_bound (option_copied bound.entry)) (cell_of literal.now) }
 {
-    bound?.value.partial_cmp(literal)
+    compare_scalars(&bound?.value, literal)
 }
 
 /// How the upper bound stands to the literal, from above; `None` if it is not there.
@@ -91,7 +91,7 @@ fn order_of_upper(bound: Option<&Bound>, literal: &Scalar) -> Option<Ordering>
     ensures { result ≡ bound_order order_from_above
         (option_map known_bound (option_copied bound.entry)) (cell_of literal.now) }
 {
-    literal.partial_cmp(&bound?.value)
+    compare_scalars(literal, &bound?.value)
 }
 
 /// Whether each value compares with the literal, because a bound without parts does.
