@@ -1,0 +1,5 @@
+mod CompleteLaws
+mod ContentLaws
+mod CutLaws
+mod IntegerRanges
+mod KindLaws

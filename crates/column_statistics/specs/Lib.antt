@@ -1,0 +1,4 @@
+pub mod Cells
+pub mod Extremes
+pub mod Faults
+pub mod Words

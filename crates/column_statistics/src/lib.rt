@@ -1,0 +1,12 @@
+// SPDX-License-Identifier: Apache-2.0
+// SPDX-FileCopyrightText: Copyright the Vortex contributors; ported to Rattle and changed
+//! Statistics of columns in Arrow's layout: the counts, and the least and the greatest value, cut
+//! to a length.
+#![tactic(auto)]
+
+mod extremes;
+mod faults;
+mod statistics;
+
+pub use faults::StatisticsFault;
+pub use statistics::statistics_of;
