@@ -1,11 +1,10 @@
 -- Statistics of contents whose bounds are extremes say all that can be said.
-use Rattle.std.proofs.Common.{◌≡◌, ◌∙◌, ◌⊎◌, ℕ, ◌+◌, Bool, true, false, cond, if◌then◌else◌, List, [], ◌∷◌, map, length, Option, Some, None, IfSome, arith, ap, refl, subst, sym}
+use Rattle.std.proofs.Common.{◌≡◌, ◌∙◌, ℕ, true, false, if◌then◌else◌, List, [], ◌∷◌, map, length, Option, Some, None, ap, refl, subst, sym}
 use Rattle.std.proofs.lemmas.Bool.{false≢true}
 use Rattle.std.proofs.lemmas.List.{length-map}
 use Rattle.std.proofs.lemmas.List.Elements.{All-contains}
 use Rattle.std.specs.List.{All, Contains, count_by}
 use Rattle.std.specs.declared.cmp.Ordering.{Ordering}
-use Rattle.std.specs.declared.cmp.Ordering.TheVariants.{Equal}
 use Rattle.vortex_dtype.specs.TypeTree.{TypeTree}
 use Rattle.vortex_value.specs.Lemmas.EqualityLaws.{same_type-Decides}
 use Rattle.vortex_value.specs.Order.{order}
@@ -13,15 +12,15 @@ use Rattle.vortex_value.specs.Values.Content.{Content, null}
 use Rattle.vortex_value.specs.Values.Scalars.{IsValid, scalar_content, scalar_type}
 use Rattle.vortex_value.specs.declared.scalars.Scalar.{Scalar}
 use Rattle.vortex_statistics.specs.Cells.{Cell, HasValue, IsUpTo, cell_of, cell_order, is_null_cell, is_null_content, order_from_above}
-use Rattle.vortex_statistics.specs.Statistics.{AreComplete, AreRight, IsBound, IsLowerBound, IsUpperBound, KnownBound, known}
+use Rattle.vortex_statistics.specs.Statistics.{IsBound, IsLowerBound, IsUpperBound}
 use Rattle.vortex_statistics.specs.declared.column_statistics.Bound.{Bound}
 use Rattle.arrow_columns.specs.declared.columns.Column.{Column}
 use Rattle.arrow_columns.specs.declared.tested_rows.Rows.{Rows}
 use Rattle.column_cells.specs.Contents.{contents_of_column, contents_of_rows}
 use Rattle.column_cells.specs.Types.{type_of_column, type_of_rows}
 use Rattle.vortex_statistics.specs.declared.column_statistics.ColumnStatistics.{ColumnStatistics}
-use Rattle.column_statistics.specs.Cells.{IsBoundIn, HasBoundsIn, typed_as}
-use Rattle.column_statistics.specs.Extremes.{AreExtremesOf, AreSummaryOf, AreWholeOf, IsExtreme, IsExtremeOf, SaysUpTo, order_down}
+use Rattle.column_statistics.specs.Cells.{typed_as}
+use Rattle.column_statistics.specs.Extremes.{AreExtremesOf, AreWholeOf, IsExtreme, IsExtremeOf, SaysUpTo, order_down}
 use Rattle.column_statistics.specs.declared.extremes.Extremes.{Extremes}
 use Rattle.column_statistics.proofs.ContentLaws.{contains_back, contains_of, counted_alike}
 

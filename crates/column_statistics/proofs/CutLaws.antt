@@ -1,13 +1,11 @@
 -- Bounds that were cut: they are values of the type, and only long ones take memory.
-use Rattle.std.proofs.Common.{◌≡◌, ◌∙◌, ◌⊎◌, inl, inr, ℕ, ◌<◌, List, length, Option, Some, None, IfSome, IsSomeAnd, MatchOption, arith, ap, refl, subst, sym}
-use Rattle.std.specs.List.{Contains}
+use Rattle.std.proofs.Common.{◌≡◌, ◌⊎◌, inl, inr, ℕ, ◌<◌, List, Option, Some, None, IfSome, arith, refl, subst, sym}
 use Rattle.column_cells.specs.Contents.{IsLongContent}
-use Rattle.vortex_array.specs.Truncation.{IsLowerOf, IsUpperOf}
 use Rattle.vortex_dtype.specs.TypeTree.{TypeTree, binary_type, utf8_type}
 use Rattle.vortex_value.specs.Values.Content.{Content, content}
 use Rattle.vortex_value.specs.Values.RawTree.{RawTree, raw_bytes, raw_text}
 use Rattle.vortex_value.specs.Values.Scalars.{IsValid, scalar_content, scalar_raw, scalar_type}
-use Rattle.vortex_statistics.specs.Truncating.{AreTruncated, IsLong, IsOutOfMemoryAt, IsTruncatedLower, IsTruncatedUpper, LongAt, LowerAt, UpperAt}
+use Rattle.vortex_statistics.specs.Truncating.{AreTruncated, IsLong, IsTruncatedLower, IsTruncatedUpper, LongAt, LowerAt, UpperAt}
 use Rattle.vortex_statistics.specs.declared.column_statistics.Bound.{Bound}
 use Rattle.vortex_statistics.specs.declared.column_statistics.ColumnStatistics.{ColumnStatistics}
 use Rattle.column_statistics.specs.Cells.{HasBoundsIn, IsBoundIn}

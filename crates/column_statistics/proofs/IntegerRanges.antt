@@ -1,5 +1,5 @@
 -- An integer that stands in bytes is one of its type.
-use Rattle.std.proofs.Common.{◌≡◌, ℤ, Bool, true, false, Option, Some, None, if◌then◌else◌, ℕ, suc, zero, ◌+◌, ◌-◌, ◌*◌, ◌^◌, ◌<◌, List, [], ◌∷◌, arith, drop, subst, sym, take}
+use Rattle.std.proofs.Common.{◌≡◌, ℤ, Bool, true, false, Some, None, if◌then◌else◌, ℕ, suc, zero, ◌+◌, ◌-◌, ◌*◌, ◌^◌, ◌<◌, List, [], ◌∷◌, arith, drop, subst, sym, take}
 use Rattle.std.proofs.Math.Facts.{sfits_to_z}
 use Rattle.std.proofs.lemmas.List.{get_or-drop}
 use Rattle.std.specs.List.{Contains, range_with_len}

@@ -1,5 +1,6 @@
 mod CompleteLaws
 mod ContentLaws
 mod CutLaws
+mod FormLaws
 mod IntegerRanges
 mod KindLaws

@@ -1,7 +1,7 @@
 -- The least and the greatest of some contents.
-use Rattle.std.specs.Prelude.{◌≡◌, ◌⊎◌, ℕ, Bool, false, List, Contains, slice_get, length, map, Option, Some, IfSome, MatchOption}
+use Rattle.std.specs.Prelude.{◌≡◌, ◌⊎◌, ℕ, Bool, false, List, Contains, slice_get, map, Option, Some, IfSome, MatchOption}
 use Rattle.std.specs.List.{All, count_by}
-use Rattle.std.specs.Option.{IsNone, is_none}
+use Rattle.std.specs.Option.{IsNone}
 use Rattle.std.specs.declared.cmp.Ordering.{Ordering}
 use Rattle.std.specs.declared.cmp.Ordering.TheVariants.{Less, Equal}
 use Rattle.arrow_columns.specs.declared.statistics.ByteExtremes.{ByteExtremes}

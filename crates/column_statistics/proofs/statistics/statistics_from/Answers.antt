@@ -1,4 +1,4 @@
-use Rattle.std.proofs.Common.{◌≡◌, Option, MatchOption, subst}
+use Rattle.std.proofs.Common.{◌≡◌, MatchOption, subst}
 use Rattle.std.specs.List.{All}
 use Rattle.vortex_value.specs.Values.Content.{null}
 use Rattle.column_statistics.specs.Extremes.{AreExtremesOf}
