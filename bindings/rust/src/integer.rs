@@ -4,9 +4,10 @@
 
 use crate::raw;
 
-mod sealed {
+pub(crate) mod sealed {
     pub trait Bits: Copy {
         const KIND: u8;
+        const ZERO: Self;
         fn to_bits(self) -> u64;
         fn from_bits(bits: u64) -> Self;
     }
@@ -19,6 +20,7 @@ macro_rules! integers {
     ($($kind:literal: $integer:ty, $widest:ty;)*) => {$(
         impl sealed::Bits for $integer {
             const KIND: u8 = $kind;
+            const ZERO: $integer = 0;
 
             fn to_bits(self) -> u64 {
                 <$widest>::from(self) as u64

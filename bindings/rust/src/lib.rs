@@ -1,10 +1,22 @@
 // SPDX-License-Identifier: Apache-2.0
 // SPDX-FileCopyrightText: Copyright the Vortex contributors; ported to Rattle and changed
-//! Casts that never change a value, bounds that never exclude one, and pruning that loses none. With the feature `call`,
-//! nearly any other call of the library by a line of text.
+//! Columns as Arrow lays them out: keys that sort as the rows do, and casts that never change a value. Bounds that never
+//! exclude a value, and pruning by these. With the feature `call`, nearly any other call of the library by a line of text.
 //!
 //! The work is done by functions that are proved against their contracts, in Rattle. This crate is their safe face: it
 //! is plain Rust, and not proved.
+//!
+//! ```
+//! use doqallin::{Column, SortOptions, cast_column, row_keys};
+//!
+//! let (cities, fares) = (Column::utf8(b"osloskien", &[0, 4, 9]), Column::integers(&[12i64, 7]));
+//! let keys = row_keys(&[cities, fares], &[SortOptions::default(); 2])?;
+//! assert!(keys.get(0) < keys.get(1));
+//! assert_eq!(cast_column::<u8>(&fares)?, [12, 7]);
+//! # Ok::<(), Box<dyn std::error::Error>>(())
+//! ```
+//!
+//! Bounds of strings, for pruning:
 //!
 //! ```
 //! let values = ["banana", "apple", "cherry pie with cream"];
@@ -22,18 +34,22 @@
 //! # Ok::<(), doqallin::ColumnError>(())
 //! ```
 
+mod arrow;
 #[cfg(feature = "call")]
 mod call;
 mod column;
 mod integer;
+mod keys;
 mod raw;
 mod truncation;
 mod zone;
 
+pub use arrow::{Buffer, CastError, Column, ColumnFault, Kind, RowsError, cast_column};
 #[cfg(feature = "call")]
 pub use call::call;
 pub use column::{ColumnError, column_bounds, column_bounds_text};
 pub use integer::{Integer, cast};
+pub use keys::{RowKeys, SortOptions, row_keys};
 pub use truncation::{lower_bound, lower_bound_text, upper_bound, upper_bound_text};
 pub use zone::{Value, ZoneBounds};
 

@@ -9,10 +9,13 @@
 pub const GIVEN: u32 = 0;
 pub const NONE: u32 = 1;
 pub const NO_MEMORY: u32 = 2;
-#[cfg(feature = "call")]
 pub const NO_ROOM: u32 = 3;
 pub const NOT_UTF8: u32 = 4;
 pub const BAD_OFFSETS: u32 = 6;
+pub const UNKNOWN_KIND: u32 = 7;
+pub const TOO_MANY_ROWS: u32 = 8;
+pub const TOO_SHORT: u32 = 9;
+pub const WRONG_LENGTH: u32 = 12;
 
 #[repr(C)]
 #[derive(Default)]
@@ -20,6 +23,27 @@ pub struct BoundLengths {
     pub lower: usize,
     pub upper: usize,
     pub has_upper: bool,
+}
+
+/// A column in Arrow's layout.
+#[repr(C)]
+pub struct ArrowColumn {
+    pub kind: u8,
+    pub validity: *const u8,
+    pub validity_length: usize,
+    pub values: *const u8,
+    pub values_length: usize,
+    pub offsets: *const u8,
+    pub offsets_length: usize,
+    pub offset: usize,
+    pub length: usize,
+}
+
+#[repr(C)]
+#[derive(Default)]
+pub struct Fault {
+    pub column: usize,
+    pub place: usize,
 }
 
 /// An upper bound of a value at n bytes, into a room.
@@ -107,6 +131,25 @@ unsafe extern "C" {
         upper_room: *mut u8,
         upper_room_length: usize,
         lengths: &mut BoundLengths,
+    ) -> u32;
+    pub fn doqallin_cast_column(
+        column: &ArrowColumn,
+        to: u8,
+        room: *mut u8,
+        room_length: usize,
+        fault: &mut Fault,
+    ) -> u32;
+    pub fn doqallin_row_keys(
+        columns: *const ArrowColumn,
+        column_count: usize,
+        options: *const u8,
+        options_length: usize,
+        offsets_room: *mut u64,
+        offsets_room_length: usize,
+        room: *mut u8,
+        room_length: usize,
+        count: &mut usize,
+        fault: &mut Fault,
     ) -> u32;
 }
 

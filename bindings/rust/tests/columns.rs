@@ -1,0 +1,517 @@
+// SPDX-License-Identifier: Apache-2.0
+// SPDX-FileCopyrightText: Copyright the Vortex contributors; ported to Rattle and changed
+//! Random columns of each kind, compared with plain Rust: slices that begin at any row, with rubbish under nulls and round them.
+//! 100,000 of each kind, or as many as DOQALLIN_COUNT says.
+
+use doqallin::*;
+use std::cmp::Ordering;
+
+/// A value of a column.
+#[derive(Clone, Debug, PartialEq, Eq, PartialOrd, Ord)]
+enum Item {
+    Integer(i128),
+    Bool(bool),
+    Utf8(String),
+    Binary(Vec<u8>),
+}
+
+/// A xorshift generator.
+struct Random(u64);
+
+const KINDS: [Kind; 14] = [
+    Kind::U8,
+    Kind::U16,
+    Kind::U32,
+    Kind::U64,
+    Kind::I8,
+    Kind::I16,
+    Kind::I32,
+    Kind::I64,
+    Kind::Bool,
+    Kind::Utf8,
+    Kind::LargeUtf8,
+    Kind::Binary,
+    Kind::LargeBinary,
+    Kind::Null,
+];
+
+fn count() -> usize {
+    let told = std::env::var("DOQALLIN_COUNT").ok();
+    told.map_or(100_000, |told| told.parse().expect("a number"))
+}
+
+impl Random {
+    fn next(&mut self) -> u64 {
+        self.0 ^= self.0 << 13;
+        self.0 ^= self.0 >> 7;
+        self.0 ^= self.0 << 17;
+        self.0
+    }
+
+    fn below(&mut self, end: usize) -> usize {
+        (self.next() % end as u64) as usize
+    }
+
+    fn one_in(&mut self, of: usize) -> bool {
+        self.below(of) == 0
+    }
+
+    fn one_of<T: Copy>(&mut self, of: &[T]) -> T {
+        of[self.below(of.len())]
+    }
+
+    fn bytes(&mut self, length: usize) -> Vec<u8> {
+        (0..length).map(|_| self.next() as u8).collect()
+    }
+
+    fn text(&mut self, of_strings: bool) -> Vec<u8> {
+        let length = self.below(9);
+        if !of_strings {
+            return (0..length).map(|_| self.one_of(&[0, 1, 255, 97])).collect();
+        }
+        let letters = [
+            'a',
+            '\0',
+            '\u{7f}',
+            'ñ',
+            '\u{7ff}',
+            '€',
+            '\u{d7ff}',
+            '𐍈',
+            '\u{10ffff}',
+        ];
+        (0..length)
+            .map(|_| self.one_of(&letters))
+            .collect::<String>()
+            .into_bytes()
+    }
+}
+
+/// How many bytes an integer has.
+fn width(kind: Kind) -> usize {
+    1 << (kind as usize % 4)
+}
+
+fn is_integer(kind: Kind) -> bool {
+    (kind as u8) < 8
+}
+
+fn is_text(kind: Kind) -> bool {
+    matches!(kind, Kind::Utf8 | Kind::LargeUtf8)
+}
+
+fn offset_width(kind: Kind) -> usize {
+    if matches!(kind, Kind::Utf8 | Kind::Binary) {
+        4
+    } else {
+        8
+    }
+}
+
+/// The least and the greatest integer of a kind.
+fn limits(kind: Kind) -> (i128, i128) {
+    let bits = 8 * width(kind);
+    if (kind as u8) < 4 {
+        (0, (1 << bits) - 1)
+    } else {
+        (-(1 << (bits - 1)), (1 << (bits - 1)) - 1)
+    }
+}
+
+fn item(random: &mut Random, kind: Kind) -> Item {
+    match kind {
+        Kind::Bool => Item::Bool(random.one_in(2)),
+        Kind::Utf8 | Kind::LargeUtf8 => Item::Utf8(String::from_utf8(random.text(true)).unwrap()),
+        Kind::Binary | Kind::LargeBinary => Item::Binary(random.text(false)),
+        integer => {
+            let (least, greatest) = limits(integer);
+            let small = random.below(19) as i128 - 9;
+            let any = least + i128::from(random.next()) % (greatest - least + 1);
+            Item::Integer(random.one_of(&[least, greatest, any, small.clamp(least, greatest)]))
+        }
+    }
+}
+
+/// The memory of a column, and what it holds.
+struct Layout {
+    kind: Kind,
+    validity: Vec<u8>,
+    values: Vec<u8>,
+    offsets: Vec<u8>,
+    offset: usize,
+    rows: Vec<Option<Item>>,
+}
+
+impl Layout {
+    fn column(&self) -> Column<'_> {
+        let rows = self.rows.len();
+        Column::from_buffers(self.kind, &self.values, &self.offsets, self.offset, rows)
+            .with_validity(&self.validity)
+    }
+}
+
+fn bitmap(bits: &[bool]) -> Vec<u8> {
+    let byte =
+        |bits: &[bool]| (0..bits.len()).fold(0, |byte, bit| byte | u8::from(bits[bit]) << bit);
+    bits.chunks(8).map(byte).collect()
+}
+
+fn rows(random: &mut Random, kind: Kind, count: usize) -> Vec<Option<Item>> {
+    let nulls = random.one_of(&[0, 0, 2, 10]);
+    let is_null = |random: &mut Random| random.below(10) < nulls || kind == Kind::Null;
+    (0..count)
+        .map(|_| (!is_null(random)).then(|| item(random, kind)))
+        .collect()
+}
+
+fn bytes_of(item: &Item, kind: Kind) -> Vec<u8> {
+    match item {
+        Item::Integer(number) => number.to_le_bytes()[..width(kind)].to_vec(),
+        Item::Bool(truth) => vec![u8::from(*truth)],
+        Item::Utf8(text) => text.clone().into_bytes(),
+        Item::Binary(bytes) => bytes.clone(),
+    }
+}
+
+/// Lays rows out after some rows of rubbish, and before some.
+fn layout(random: &mut Random, kind: Kind, rows: Vec<Option<Item>>) -> Layout {
+    let offset = if kind == Kind::Null {
+        0
+    } else {
+        random.one_of(&[0, 1, 3, 7, 8, 9, 13])
+    };
+    let after = random.one_of(&[0, 0, 1, 5]);
+    let total = offset + rows.len() + after;
+    let at = |place: usize| {
+        place
+            .checked_sub(offset)
+            .and_then(|row| rows.get(row))
+            .cloned()
+    };
+    let mut valid = Vec::new();
+    let (mut values, mut offsets) = (Vec::new(), Vec::new());
+    let mut bits = Vec::new();
+    let mut end = random.below(3);
+    if !is_integer(kind) {
+        values = random.bytes(end);
+    }
+    offsets.extend_from_slice(&end.to_le_bytes()[..offset_width(kind)]);
+    for place in 0..total {
+        let row = at(place);
+        valid.push(
+            row.as_ref()
+                .map_or_else(|| random.one_in(2), Option::is_some),
+        );
+        let bytes = match row.flatten() {
+            Some(item) => bytes_of(&item, kind),
+            None if is_integer(kind) => random.bytes(width(kind)),
+            None if kind == Kind::Bool => vec![random.one_in(2).into()],
+            None => random.one_of(&[&b""[..], b"rubbish", b"\xc3"]).to_vec(),
+        };
+        bits.push(bytes.first() == Some(&1));
+        end += bytes.len();
+        offsets.extend_from_slice(&end.to_le_bytes()[..offset_width(kind)]);
+        values.extend(bytes);
+    }
+    let has_bitmap = rows.contains(&None) || random.one_in(3);
+    let (values, offsets) = match kind {
+        Kind::Bool => (bitmap(&bits), Vec::new()),
+        Kind::Null => (Vec::new(), Vec::new()),
+        kind if is_integer(kind) => (values, Vec::new()),
+        _ => (values, offsets),
+    };
+    let validity = if has_bitmap && kind != Kind::Null {
+        bitmap(&valid)
+    } else {
+        Vec::new()
+    };
+    Layout {
+        kind,
+        validity,
+        values,
+        offsets,
+        offset,
+        rows,
+    }
+}
+
+fn some_layout(random: &mut Random, kind: Kind, most: usize) -> Layout {
+    let count = random.below(most);
+    let rows = rows(random, kind, count);
+    layout(random, kind, rows)
+}
+
+macro_rules! casts {
+    ($random:expr, $made:expr; $($kind:ident: $to:ty),*) => {$(
+        let (least, greatest) = limits(Kind::$kind);
+        let fits = |item: &Option<Item>| match item {
+            Some(Item::Integer(number)) => least <= *number && *number <= greatest,
+            _ => true,
+        };
+        let as_number = |item: &Option<Item>| match item {
+            Some(Item::Integer(number)) => *number as $to,
+            _ => 0,
+        };
+        let wanted = match $made.rows.iter().position(|item| !fits(item)) {
+            Some(row) => Err(CastError::NoValue(row)),
+            None => Ok($made.rows.iter().map(as_number).collect::<Vec<$to>>()),
+        };
+        assert_eq!(cast_column::<$to>(&$made.column()), wanted, "{:?}", $made.rows);
+    )*};
+}
+
+#[test]
+fn casts_of_columns() {
+    let mut random = Random(0x4567_89ab);
+    for kind in &KINDS[..8] {
+        for _ in 0..count() / 8 {
+            let made = some_layout(&mut random, *kind, 5);
+            casts!(random, made; U8: u8, U16: u16, U32: u32, U64: u64, I8: i8, I16: i16, I32: i32, I64: i64);
+        }
+    }
+    let no_integers = Err(CastError::Column(ColumnFault::UnknownKind));
+    assert_eq!(cast_column::<u8>(&Column::bools(&[1], 1)), no_integers);
+}
+
+/// How rows compare, column by column.
+fn order(one: &[Option<Item>], two: &[Option<Item>], options: &[SortOptions]) -> Ordering {
+    let of_column = |column: usize| {
+        let of = options[column];
+        match (&one[column], &two[column]) {
+            (Some(x), Some(y)) if of.descending => y.cmp(x),
+            (Some(x), Some(y)) => x.cmp(y),
+            (x, y) if of.nulls_first => x.is_some().cmp(&y.is_some()),
+            (x, y) => x.is_none().cmp(&y.is_none()),
+        }
+    };
+    (0..options.len())
+        .map(of_column)
+        .find(|order| order.is_ne())
+        .unwrap_or(Ordering::Equal)
+}
+
+/// The key of a row, by docs/KEYS.md.
+fn plain_key(row: &[Option<Item>], options: &[SortOptions]) -> Vec<u8> {
+    let escaped = |first: u8, bytes: &[u8]| {
+        let mut key = vec![first];
+        for byte in bytes {
+            match byte {
+                0 | 1 => key.extend([1, byte + 1]),
+                _ => key.push(*byte),
+            }
+        }
+        key.push(0);
+        key
+    };
+    let of_item = |item: &Item| match item {
+        Item::Bool(truth) => vec![2 + u8::from(*truth)],
+        Item::Utf8(text) => escaped(21, text.as_bytes()),
+        Item::Binary(bytes) => escaped(22, bytes),
+        Item::Integer(number) => {
+            let distance = number.unsigned_abs().to_be_bytes();
+            let digits = &distance[distance.iter().take_while(|byte| **byte == 0).count()..];
+            let size = digits.len() as u8;
+            let (first, mask) = if *number < 0 {
+                (12 - size, 255)
+            } else {
+                (12 + size, 0)
+            };
+            let digits = digits.iter().map(|byte| byte ^ mask);
+            std::iter::once(first).chain(digits).collect()
+        }
+    };
+    let mut whole = Vec::new();
+    for (item, of) in row.iter().zip(options) {
+        let mask = if of.descending { 255 } else { 0 };
+        match item {
+            Some(item) => whole.extend(of_item(item).iter().map(|byte| byte ^ mask)),
+            None => whole.push(if of.nulls_first { 1 } else { 255 }),
+        }
+    }
+    whole
+}
+
+#[test]
+fn keys_sort_as_rows() {
+    let mut random = Random(0x5678_9abc);
+    for _ in 0..count() {
+        let (width, length) = (1 + random.below(3), random.below(7));
+        let kinds: Vec<Kind> = (0..width).map(|_| random.one_of(&KINDS)).collect();
+        let options: Vec<SortOptions> = (0..width)
+            .map(|_| SortOptions {
+                descending: random.one_in(2),
+                nulls_first: random.one_in(2),
+            })
+            .collect();
+        let made: Vec<Layout> = kinds
+            .iter()
+            .map(|kind| {
+                let rows = rows(&mut random, *kind, length);
+                layout(&mut random, *kind, rows)
+            })
+            .collect();
+        let columns: Vec<Column<'_>> = made.iter().map(Layout::column).collect();
+        let keys = row_keys(&columns, &options).unwrap();
+        assert_eq!((keys.len(), keys.iter().count()), (length, length));
+        let row = |place: usize| {
+            made.iter()
+                .map(|part| part.rows[place].clone())
+                .collect::<Vec<_>>()
+        };
+        for x in 0..length {
+            for y in 0..length {
+                let wanted = order(&row(x), &row(y), &options);
+                assert_eq!(
+                    keys.get(x).cmp(&keys.get(y)),
+                    wanted,
+                    "{:?} {:?} {options:?}",
+                    row(x),
+                    row(y)
+                );
+            }
+        }
+        for place in 0..length {
+            let wanted = plain_key(&row(place), &options);
+            assert_eq!(keys.get(place), Some(&wanted[..]), "{:?}", row(place));
+        }
+    }
+}
+
+#[test]
+fn columns_that_differ_in_length() {
+    let columns = [Column::integers(&[1u8]), Column::integers(&[1u8, 2])];
+    let options = [SortOptions::default(); 2];
+    assert_eq!(row_keys(&columns, &options), Err(RowsError::WrongLength));
+    assert_eq!(
+        row_keys(&columns[..1], &options),
+        Err(RowsError::WrongLength)
+    );
+}
+
+/// What the test of a column says: by its buffers alone.
+fn plain_fault(of: &Layout, offset: usize, length: usize) -> Option<ColumnFault> {
+    if of.kind == Kind::Null {
+        return None;
+    }
+    let Some(end) = offset.checked_add(length) else {
+        return Some(ColumnFault::TooManyRows);
+    };
+    let is_short = |bytes: &[u8], rows_a_byte: u128, bytes_a_row: u128| {
+        (bytes.len() as u128) < (end as u128 * bytes_a_row).div_ceil(rows_a_byte)
+    };
+    if !of.validity.is_empty() && is_short(&of.validity, 8, 1) {
+        return Some(ColumnFault::TooShort(Buffer::Validity));
+    }
+    if is_integer(of.kind) {
+        return is_short(&of.values, 1, width(of.kind) as u128)
+            .then_some(ColumnFault::TooShort(Buffer::Values));
+    }
+    if of.kind == Kind::Bool {
+        return is_short(&of.values, 8, 1).then_some(ColumnFault::TooShort(Buffer::Values));
+    }
+    let size = offset_width(of.kind);
+    if length > 0 && (of.offsets.len() as u128) < (end as u128 + 1) * size as u128 {
+        return Some(ColumnFault::TooShort(Buffer::Offsets));
+    }
+    let at = |place: usize| {
+        let mut bytes = [0; 8];
+        bytes[..size].copy_from_slice(&of.offsets[place * size..][..size]);
+        u64::from_le_bytes(bytes)
+    };
+    let ends = |row: usize| (at(offset + row), at(offset + row + 1));
+    let goes_down = |row: &usize| ends(*row).0 > ends(*row).1;
+    let is_past = |row: &usize| ends(*row).1 > of.values.len() as u64;
+    if let Some(row) = (0..length).find(|row| goes_down(row) || is_past(row)) {
+        return Some(ColumnFault::BadOffsets(row));
+    }
+    let is_valid =
+        |place: usize| of.validity.is_empty() || of.validity[place / 8] >> (place % 8) & 1 == 1;
+    let is_bad = |row: &usize| {
+        let bytes = &of.values[ends(*row).0 as usize..ends(*row).1 as usize];
+        is_text(of.kind) && is_valid(offset + row) && std::str::from_utf8(bytes).is_err()
+    };
+    (0..length).find(is_bad).map(ColumnFault::NotUtf8)
+}
+
+#[test]
+fn hostile_columns() {
+    for kind in KINDS {
+        let mut random = Random(0x789a_bcde + kind as u64);
+        let (mut given, mut refused) = (0, 0);
+        for _ in 0..count() / 4 {
+            let mut made = some_layout(&mut random, kind, 6);
+            for buffer in [&mut made.validity, &mut made.values, &mut made.offsets] {
+                let length =
+                    buffer.len() - random.below(buffer.len() + 1) * usize::from(random.one_in(8));
+                buffer.truncate(length);
+                if length > 0 && random.one_in(4) {
+                    buffer[random.next() as usize % length] = random.next() as u8;
+                }
+            }
+            let hostile = [usize::MAX, usize::MAX - 7, 1 << 61, 1 << 32, 0, 1, 9];
+            let offset = if random.one_in(6) {
+                random.one_of(&hostile)
+            } else {
+                made.offset
+            };
+            let mut length = if random.one_in(6) {
+                random.one_of(&hostile)
+            } else {
+                made.rows.len()
+            };
+            if kind == Kind::Null {
+                length = length.min(9);
+            }
+            let column = Column::from_buffers(kind, &made.values, &made.offsets, offset, length)
+                .with_validity(&made.validity);
+            let wanted = plain_fault(&made, offset, length);
+            let of_keys = row_keys(&[column], &[SortOptions::default()]).err();
+            assert_eq!(of_keys, wanted.map(|fault| RowsError::Column(0, fault)));
+            let of_cast = cast_column::<i64>(&column).err();
+            if !is_integer(kind) {
+                assert_eq!(of_cast, Some(CastError::Column(ColumnFault::UnknownKind)));
+            } else if wanted.is_some() || kind != Kind::U64 {
+                assert_eq!(of_cast, wanted.map(CastError::Column));
+            }
+            given += u32::from(wanted.is_none());
+            refused += u32::from(wanted.is_some());
+        }
+        let is_refused = refused > 0 || kind == Kind::Null;
+        assert!(given > 0 && is_refused, "{kind:?} {given} {refused}");
+    }
+}
+
+#[test]
+fn slices_and_offsets_of_rust() {
+    let numbers = [1i32, 2, 3, 4];
+    let part = Column::integers(&numbers).slice(1, 3).slice(1, 1);
+    assert_eq!(cast_column::<u8>(&part), Ok(vec![3]));
+    let options = [SortOptions::default()];
+    for column in [
+        Column::utf8(b"ab", &[0, 1, 2]),
+        Column::large_utf8(b"ab", &[0, 1, 2]),
+        Column::binary(b"ab", &[0, 1, 2]),
+        Column::large_binary(b"ab", &[0, 1, 2]),
+    ] {
+        let keys = row_keys(&[column.slice(1, 1)], &options).unwrap();
+        let first = if is_text(column.kind()) { 21 } else { 22 };
+        assert_eq!(keys.get(0), Some(&[first, b'b', 0][..]));
+        assert_eq!((column.len(), keys.len(), keys.get(1)), (2, 1, None));
+    }
+    assert!(Column::utf8(b"", &[]).is_empty() && Column::binary(b"", &[0]).is_empty());
+    let keys = row_keys(
+        &[Column::nulls(3), Column::bools(&[2], 3)],
+        &[options[0]; 2],
+    )
+    .unwrap();
+    assert_eq!(keys.parts(), (&[0, 2, 4, 6][..], &[1, 2, 1, 3, 1, 2][..]));
+    assert!(row_keys(&[], &[]).unwrap().is_empty());
+    let past = std::panic::catch_unwind(|| Column::nulls(1).slice(1, 1));
+    assert!(past.is_err());
+    let far = Column::from_buffers(Kind::U8, &[], &[], usize::MAX, 2).slice(1, 1);
+    let too_many = CastError::Column(ColumnFault::TooManyRows);
+    assert_eq!(cast_column::<u8>(&far), Err(too_many));
+    assert_eq!(too_many.to_string(), "64 bits do not count the rows");
+    let error: &dyn std::error::Error = &RowsError::Column(1, ColumnFault::NotUtf8(2));
+    assert_eq!(error.to_string(), "column 1: row 2 is not UTF-8");
+}
