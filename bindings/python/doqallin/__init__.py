@@ -1,20 +1,38 @@
 # SPDX-License-Identifier: Apache-2.0
 # SPDX-FileCopyrightText: Copyright the Vortex contributors; ported to Rattle and changed
-"""Casts that never change a value, bounds that never exclude one, and pruning that loses none.
+"""Columns and scalars: keys that sort, casts that never change a value, and bounds that never exclude one.
 
-The work is done by functions that are proved against their contracts, in Rattle. This package is their face: it is plain
-Python, and not proved. It loads `libdoqallin.so`, which is in an installed package. In the repository
-`tools/build_bindings` puts it into bindings/out. If `DOQALLIN_LIB` is set, it names the folder. `call` loads a second
-library when it is first used, `libdoqallin_call.so`, which `tools/build_bindings --call` makes.
+A column is what has Arrow data (`__arrow_c_array__` or `__arrow_c_stream__`, as pyarrow, polars, DuckDB and pandas have), a
+buffer of integers (as a numpy array is), or a list. Arrow data and buffers are read where they lie.
+
+Keys of rows sort by their bytes as the rows do, so a store or an index needs no types:
+
+>>> [key.hex() for key in row_keys([["b", "a"], [1, None]])]
+['1562000d01', '15610001']
+>>> cast([200, None, 7], "u8")
+Column('u8', [200, None, 7])
+
+A scalar is a type and a value, with casts, an order and a key:
+
+>>> scalar([1, 2, None], "list(u8?)").cast("fsl(i64?, 3)").as_py()
+[1, 2, None]
+
+Bounds of values, for pruning:
 
 >>> bounds = ZoneBounds.of("apple", "banana", 3)
->>> bounds.lower, bounds.upper
-('app', 'bao')
->>> bounds.may_contain("banana"), bounds.may_contain("ap")
-(True, False)
+>>> bounds.lower, bounds.upper, bounds.may_contain("ap")
+('app', 'bao', False)
+
+What goes wrong is a DoqallinError whose class has the refusal's name. The work is done by functions that are proved against
+their contracts, in Rattle. This package is their face: it is plain Python, and not proved. It loads `libdoqallin.so`, which is
+in an installed package. In the repository `tools/build_bindings` puts it into bindings/out. If `DOQALLIN_LIB` is set, it names
+the folder. Scalars and `call` load a second library when they are first used, `libdoqallin_call.so`, which
+`tools/build_bindings --call` makes.
 """
 
-from ._bounds import Kind, ZoneBounds, cast, column_bounds, column_bounds_text, lower_bound, lower_bound_text, upper_bound, upper_bound_text
+from ._bounds import Kind, ZoneBounds, column_bounds, column_bounds_text, lower_bound, lower_bound_text, upper_bound, upper_bound_text
+from ._casts import cast
+from ._columns import Column
 from ._errors import (
     BadKey,
     BadOffsets,
@@ -24,6 +42,7 @@ from ._errors import (
     DoqallinError,
     HasVariant,
     Invalid,
+    KindsDiffer,
     LibraryMissing,
     NegativeLength,
     NoField,
@@ -32,8 +51,15 @@ from ._errors import (
     NotUtf8,
     OutOfMemory,
     Refused,
+    StreamFailed,
+    TooManyRows,
+    TooShort,
+    UnknownKind,
+    WrongLength,
 )
+from ._keys import row_keys
 from ._library import call, library_version
+from ._reading import column, columns
 from ._scalars import Scalar, scalar
 from ._types import DType, dtype
 
@@ -43,11 +69,13 @@ __all__ = [
     "BadText",
     "BadType",
     "CannotCast",
+    "Column",
     "DType",
     "DoqallinError",
     "HasVariant",
     "Invalid",
     "Kind",
+    "KindsDiffer",
     "LibraryMissing",
     "NegativeLength",
     "NoField",
@@ -57,15 +85,23 @@ __all__ = [
     "OutOfMemory",
     "Refused",
     "Scalar",
+    "StreamFailed",
+    "TooManyRows",
+    "TooShort",
+    "UnknownKind",
+    "WrongLength",
     "ZoneBounds",
     "call",
     "cast",
+    "column",
     "column_bounds",
     "column_bounds_text",
+    "columns",
     "dtype",
     "library_version",
     "lower_bound",
     "lower_bound_text",
+    "row_keys",
     "scalar",
     "upper_bound",
     "upper_bound_text",

@@ -1,6 +1,6 @@
 # SPDX-License-Identifier: Apache-2.0
 # SPDX-FileCopyrightText: Copyright the Vortex contributors; ported to Rattle and changed
-"""Casts of a number, bounds of values and of columns of strings, and pruning by these."""
+"""Bounds of values and of columns of strings, and pruning by these."""
 
 from __future__ import annotations
 
@@ -13,13 +13,12 @@ from dataclasses import dataclass
 from typing import Any, Generic, TypeVar
 
 from . import _library
-from ._errors import BadOffsets, NotANumber
+from ._errors import BadOffsets
 from ._library import NONE, BoundLengths, check, encoded, new_room, size
 
 __all__ = [
     "Kind",
     "ZoneBounds",
-    "cast",
     "column_bounds",
     "column_bounds_text",
     "lower_bound",
@@ -52,26 +51,6 @@ def _frozen(value: bytes | bytearray | memoryview) -> bytes:
     if not isinstance(value, (bytes, bytearray, memoryview)):
         raise TypeError(f"bytes are wanted, not {type(value).__name__}")
     return bytes(value)
-
-
-def cast(number: int, source: Kind, target: Kind) -> int | None:
-    """The number, or None if the target type does not have it.
-
-    Raises NotANumber if the source kind does not have it.
-
-    >>> cast(200, Kind.I64, Kind.U8), cast(-1, Kind.I64, Kind.U8)
-    (200, None)
-    """
-    source, target = Kind(source), Kind(target)
-    least, end = (-(2**63), 2**63) if source.is_signed else (0, 2**64)
-    if not least <= number < end:
-        raise NotANumber(f"{source.name} does not have {number}")
-    out = c_uint64()
-    status = _library.cast_integer(source, number % 2**64, target, byref(out))
-    if status == NONE:
-        return None
-    check(status)
-    return ctypes.c_int64(out.value).value if target.is_signed else out.value
 
 
 def lower_bound(value: bytes | bytearray | memoryview, n: int) -> bytes:

@@ -4,7 +4,7 @@
 
 from __future__ import annotations
 
-from typing import Any
+from typing import Any, TypeVar
 
 __all__ = [
     "BadKey",
@@ -15,6 +15,7 @@ __all__ = [
     "DoqallinError",
     "HasVariant",
     "Invalid",
+    "KindsDiffer",
     "LibraryMissing",
     "NegativeLength",
     "NoField",
@@ -23,6 +24,11 @@ __all__ = [
     "NotUtf8",
     "OutOfMemory",
     "Refused",
+    "StreamFailed",
+    "TooManyRows",
+    "TooShort",
+    "UnknownKind",
+    "WrongLength",
 ]
 
 
@@ -30,6 +36,9 @@ class DoqallinError(Exception):
     """The base of this package's errors. An argument of another type is a TypeError, which is none of them."""
 
     __module__ = "doqallin"
+
+    place: int | None = None
+    """Where it is, if that is known: the row of a column, or the buffer that is too short."""
 
     def __init_subclass__(cls, **words: Any) -> None:
         super().__init_subclass__(**words)
@@ -54,6 +63,15 @@ class BadOffsets(DoqallinError, ValueError):
 
 class NegativeLength(DoqallinError, ValueError):
     """A length in bytes is below 0."""
+
+
+_Error = TypeVar("_Error", bound=DoqallinError)
+
+
+def at(error: _Error, place: int) -> _Error:
+    """The error, with its place."""
+    error.place = place
+    return error
 
 
 class LibraryMissing(DoqallinError, ImportError):
@@ -95,9 +113,7 @@ class NoField(DoqallinError, ValueError):
 
 
 class CannotCast(DoqallinError, ValueError):
-    """The type does not have the value. Of a column, `row` is the first row that it does not have."""
-
-    row: int | None = None
+    """The type does not have the value. Of a column, `place` is the first row whose value it does not have."""
 
 
 class NoOrder(DoqallinError, TypeError):
@@ -121,3 +137,27 @@ class BadKey(DoqallinError, ValueError):
 
 class Refused(DoqallinError):
     """A refusal that has no class of its own. The message is its name, and what it says."""
+
+
+class UnknownKind(DoqallinError, TypeError):
+    """Columns are not of this kind, or the call does not take it. The message names it, and says why of floats and decimals."""
+
+
+class KindsDiffer(DoqallinError, TypeError):
+    """A column is of another kind than asked for."""
+
+
+class TooManyRows(DoqallinError, ValueError):
+    """64 bits do not count the rows."""
+
+
+class TooShort(DoqallinError, ValueError):
+    """A buffer of a column is too short for its offset and length."""
+
+
+class WrongLength(DoqallinError, ValueError):
+    """Columns differ in their rows, or there are not as many options as columns."""
+
+
+class StreamFailed(DoqallinError, OSError):
+    """An Arrow stream gave no schema or no chunk. The message is the stream's own."""

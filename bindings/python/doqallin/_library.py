@@ -13,11 +13,25 @@ import functools
 import os
 from ctypes import POINTER, byref, c_bool, c_char, c_char_p, c_size_t, c_uint8, c_uint32, c_uint64, c_void_p
 from pathlib import Path
-from typing import Any
+from typing import Any, TypeVar
 
-from ._errors import BadOffsets, DoqallinError, LibraryMissing, NegativeLength, NotANumber, NotUtf8, OutOfMemory
+from ._errors import (
+    BadOffsets,
+    DoqallinError,
+    LibraryMissing,
+    NegativeLength,
+    NotANumber,
+    NotUtf8,
+    OutOfMemory,
+    TooManyRows,
+    TooShort,
+    UnknownKind,
+    WrongLength,
+    at,
+)
 
 GIVEN, NONE, NO_MEMORY, NO_ROOM, NOT_UTF8, NOT_A_NUMBER, BAD_OFFSETS = range(7)
+UNKNOWN_KIND, TOO_MANY_ROWS, TOO_SHORT, WRONG_LENGTH = 7, 8, 9, 12
 MAX_SIZE: int = 2 ** (8 * ctypes.sizeof(c_size_t)) - 1
 
 _ERRORS: dict[int, tuple[type[DoqallinError], str]] = {
@@ -30,6 +44,26 @@ _ERRORS: dict[int, tuple[type[DoqallinError], str]] = {
 
 class BoundLengths(ctypes.Structure):
     _fields_ = [("lower", c_size_t), ("upper", c_size_t), ("has_upper", c_bool)]
+
+
+class RawColumn(ctypes.Structure):
+    _fields_ = [
+        ("kind", c_uint8),
+        ("validity", c_void_p),
+        ("validity_length", c_size_t),
+        ("values", c_void_p),
+        ("values_length", c_size_t),
+        ("offsets", c_void_p),
+        ("offsets_length", c_size_t),
+        ("offset", c_size_t),
+        ("length", c_size_t),
+    ]
+
+
+class Fault(ctypes.Structure):
+    column: int
+    place: int
+    _fields_ = [("column", c_size_t), ("place", c_size_t)]
 
 
 _BYTES = (c_char_p, c_size_t)
@@ -76,6 +110,13 @@ column_bytes = _declare("column_bounds_bytes", c_uint32, *_COLUMN)
 column_text = _declare("column_bounds_text", c_uint32, *_COLUMN)
 
 
+# Columns. A place that is written is an address, and so is a room.
+_OUT = c_void_p
+_SPACE = (c_void_p, c_size_t)
+cast_column = _declare("cast_column", c_uint32, _OUT, c_uint8, *_SPACE, _OUT)
+row_keys = _declare("row_keys", c_uint32, *_SPACE, *_BYTES, *_SPACE, *_SPACE, _OUT, _OUT)
+
+
 # Most answers have room in this.
 _Answer = c_char * 256
 
@@ -99,6 +140,26 @@ def check(status: int) -> None:
         raise error(words)
 
 
+BUFFERS = ("bits of validity", "values", "offsets")
+
+
+def check_column(status: int, fault: Fault, of: str = "") -> None:
+    """Raises what the status of a call over columns says. `of` names the column, if there are more."""
+    place = fault.place
+    errors: dict[int, tuple[type[DoqallinError], str]] = {
+        NOT_UTF8: (NotUtf8, f"row {place} is not UTF-8"),
+        BAD_OFFSETS: (BadOffsets, f"the offsets of row {place} go down, or past the end of the bytes"),
+        TOO_SHORT: (TooShort, f"the {BUFFERS[min(place, 2)]} are too short for offset and length"),
+        TOO_MANY_ROWS: (TooManyRows, "64 bits do not count the rows"),
+        WRONG_LENGTH: (WrongLength, "there are not as many as there are to be"),
+        UNKNOWN_KIND: (UnknownKind, "the call does not take this kind of column"),
+    }
+    if status in errors:
+        error, words = errors[status]
+        raise at(error(of + words), place)
+    check(status)
+
+
 def size(n: int) -> int:
     """A length as C takes it."""
     if n < 0:
@@ -115,8 +176,22 @@ def encoded(string: str) -> bytes:
         raise NotUtf8("the string has half of a surrogate pair") from None
 
 
+_Item = TypeVar("_Item", c_uint8, c_uint64)
+
+
+def _new(item: type[_Item], count: int) -> ctypes.Array[_Item]:
+    try:
+        return (item * count)()
+    except (MemoryError, OverflowError):
+        raise OutOfMemory(f"there is no memory for {count} items") from None
+
+
 def new_room(length: int) -> ctypes.Array[c_uint8]:
-    return (c_uint8 * length)()
+    return _new(c_uint8, length)
+
+
+def new_offsets(count: int) -> ctypes.Array[c_uint64]:
+    return _new(c_uint64, count)
 
 
 def call(line: str) -> str:
