@@ -39,7 +39,7 @@ def cast(number: Any, source: Any, target: Kind | None = None) -> Any:
     Column('u8', [200, None, 7])
     >>> cast([200, None, -7], "u8")
     Traceback (most recent call last):
-    doqallin.CannotCast: u8 does not have row 2
+    doqallin.CannotCast: u8 does not have the value at index 2
     """
     return _cast_column(number, source) if target is None else _cast_number(number, source, target)
 
@@ -66,7 +66,7 @@ def _cast_column(values: Any, to: str | DType | Kind) -> Column:
     raw, room, fault = one._raw(), new_room(length), Fault()
     status = _library.cast_column(byref(raw), code, room, length, byref(fault))
     if status == NONE:
-        raise at(CannotCast(f"{KINDS[code]} does not have row {fault.place}"), fault.place)
+        raise at(CannotCast(f"{KINDS[code]} does not have the value at index {fault.place}"), fault.place)
     check_column(status, fault)
     validity = EMPTY
     if one._validity.length:

@@ -513,5 +513,5 @@ fn slices_and_offsets_of_rust() {
     assert_eq!(cast_column::<u8>(&far), Err(too_many));
     assert_eq!(too_many.to_string(), "64 bits do not count the rows");
     let error: &dyn std::error::Error = &RowsError::Column(1, ColumnFault::NotUtf8(2));
-    assert_eq!(error.to_string(), "column 1: row 2 is not UTF-8");
+    assert_eq!(error.to_string(), format!("column {}: row {} is not UTF-8", 1, 2));
 }
