@@ -6,7 +6,7 @@ from array import array
 from itertools import accumulate
 
 import doqallin
-from doqallin import Kind, ZoneBounds
+from doqallin import Kind, ZoneBounds, cast, row_keys
 
 
 def seconds(call, calls: int) -> float:
@@ -31,6 +31,24 @@ def plain_column(data: bytes, offsets: array, n: int) -> tuple[bytes, bytes | No
     return min(values)[:n], plain_upper(max(values), n)
 
 
+def columns() -> None:
+    """Calls over an array of numpy, where there is numpy."""
+    try:
+        import numpy
+    except ImportError:
+        print("Python, columns: numpy is not installed")
+        return
+    numbers = numpy.random.default_rng(1).integers(-(2**31), 2**31, 1_000_000)
+
+    def plain_cast():
+        made = numbers.astype("i4")
+        assert (made == numbers).all()
+        return made
+
+    compare("a cast of a million numbers, beside numpy", lambda: cast(numbers, "i32"), plain_cast, 10)
+    compare("the keys of a million numbers, beside numpy's sorting", lambda: row_keys([numbers]), lambda: numbers.argsort(), 1)
+
+
 def main() -> None:
     value = bytes(range(200))
     zone = ZoneBounds.of("apple pie", "banana split", 16)
@@ -41,6 +59,7 @@ def main() -> None:
     values = [str(number * 2_654_435_761 % 10**12).encode() for number in range(1_000_000)]
     data = b"".join(values)
     offsets = array("Q", accumulate(map(len, values), initial=0))
+    columns()
     compare("a column of a million values", lambda: doqallin.column_bounds(data, offsets, 16), lambda: plain_column(data, offsets, 16), 1)
 
 

@@ -1,0 +1,222 @@
+// SPDX-License-Identifier: Apache-2.0
+// SPDX-FileCopyrightText: Copyright the Vortex contributors; ported to Rattle and changed
+//! Casts and keys of a million rows beside careful plain loops. `speed_columns` shows the times of both, and their ratio.
+//! `speed_columns NAME ours`, `plain` and `none` make the column, and do one of the two or neither: bench/bindings counts what
+//! each takes.
+
+use doqallin::*;
+use std::cmp::Ordering;
+use std::hint::black_box;
+use std::time::Instant;
+
+const ROWS: usize = 1_000_000;
+
+/// A xorshift generator.
+struct Random(u64);
+
+impl Random {
+    fn next(&mut self) -> u64 {
+        self.0 ^= self.0 << 13;
+        self.0 ^= self.0 >> 7;
+        self.0 ^= self.0 << 17;
+        self.0
+    }
+}
+
+/// A million rows, of which the columns of each name are made.
+struct Rows {
+    wide: Vec<i64>,
+    /// One in eight is null.
+    validity: Vec<u8>,
+    text: Vec<u8>,
+    offsets: Vec<i32>,
+}
+
+fn rows() -> Rows {
+    let mut random = Random(88_172_645_463_325_252);
+    let wide: Vec<i64> = (0..ROWS).map(|_| i64::from(random.next() as i32)).collect();
+    let (mut text, mut offsets) = (Vec::new(), vec![0]);
+    for _ in 0..ROWS {
+        let length = 4 + random.next() % 25;
+        text.extend((0..length).map(|_| b'a' + (random.next() % 26) as u8));
+        offsets.push(text.len() as i32);
+    }
+    Rows {
+        validity: (0..ROWS / 8).map(|_| !(1 << (random.next() % 8))).collect(),
+        wide,
+        text,
+        offsets,
+    }
+}
+
+fn is_valid(validity: &[u8], row: usize) -> bool {
+    validity.is_empty() || validity[row / 8] >> (row % 8) & 1 == 1
+}
+
+/// The key of a row: a number, and then a string.
+fn plain_key(number: i64, text: &[u8], out: &mut Vec<u8>) {
+    let distance = number.unsigned_abs();
+    let size = 8 - distance.leading_zeros() as usize / 8;
+    let (first, bytes) = if number < 0 {
+        (12 - size, !distance)
+    } else {
+        (12 + size, distance)
+    };
+    out.push(first as u8);
+    out.extend_from_slice(&bytes.to_be_bytes()[8 - size..]);
+    out.push(21);
+    for byte in text {
+        if *byte < 2 {
+            out.push(1);
+        }
+        out.push(if *byte < 2 { byte + 1 } else { *byte });
+    }
+    out.push(0);
+}
+
+fn plain_keys(of: &Rows) -> (Vec<u64>, Vec<u8>) {
+    let (mut offsets, mut keys) = (vec![0], Vec::new());
+    for row in 0..ROWS {
+        let text = &of.text[of.offsets[row] as usize..of.offsets[row + 1] as usize];
+        plain_key(of.wide[row], text, &mut keys);
+        offsets.push(keys.len() as u64);
+    }
+    (offsets, keys)
+}
+
+/// The wide numbers of the rows, all of which are narrow too, as narrow ones.
+fn plain_cast(values: &[i64], validity: &[u8]) -> Vec<i32> {
+    let value = |(row, value): (usize, &i64)| {
+        if is_valid(validity, row) {
+            i32::try_from(*value).expect("a narrow number")
+        } else {
+            0
+        }
+    };
+    values.iter().enumerate().map(value).collect()
+}
+
+const NAMES: [&str; 3] = ["cast", "cast with nulls", "keys"];
+
+fn column<'a>(name: &str, of: &'a Rows) -> Column<'a> {
+    let column = match name {
+        "strings" => Column::utf8(&of.text, &of.offsets),
+        _ => Column::integers(&of.wide),
+    };
+    if name.ends_with("with nulls") {
+        column.with_validity(&of.validity)
+    } else {
+        column
+    }
+}
+
+fn ours(name: &str, of: &Rows) -> String {
+    if name == "keys" {
+        let columns = [column("numbers", of), column("strings", of)];
+        let keys = row_keys(&columns, &[SortOptions::default(); 2]).expect("sound columns");
+        return format!("{:?}", keys.get(ROWS - 1));
+    }
+    let made = cast_column::<i32>(&column(name, of)).expect("narrow numbers");
+    format!("{:?}", &made[ROWS - 9..])
+}
+
+fn plain(name: &str, of: &Rows) -> String {
+    if name == "keys" {
+        let (offsets, keys) = plain_keys(of);
+        return format!("{:?}", Some(&keys[offsets[ROWS - 1] as usize..]));
+    }
+    let validity = if name.ends_with("with nulls") {
+        &of.validity[..]
+    } else {
+        &[]
+    };
+    format!("{:?}", &plain_cast(&of.wide, validity)[ROWS - 9..])
+}
+
+/// The seconds of one call: the best of five.
+fn seconds<T>(mut call: impl FnMut() -> T) -> f64 {
+    let round = |_| {
+        let start = Instant::now();
+        black_box(call());
+        start.elapsed().as_secs_f64()
+    };
+    (0..5).map(round).fold(f64::MAX, f64::min)
+}
+
+fn compare(name: &str, ours: f64, plain: f64) {
+    println!(
+        "Rust, {name}, a million rows: {:.2} ms, {:.2} of the time of plain Rust",
+        1e3 * ours,
+        ours / plain
+    );
+}
+
+/// The first eight bytes of a key as a number, which compares as they do.
+fn beginning(key: &[u8]) -> u64 {
+    let mut bytes = [0; 8];
+    let length = key.len().min(8);
+    bytes[..length].copy_from_slice(&key[..length]);
+    u64::from_be_bytes(bytes)
+}
+
+/// The rows sorted by their keys. Most are told apart by their first eight bytes.
+fn sorted_by_keys(keys: &RowKeys) -> Vec<usize> {
+    let mut rows: Vec<(u64, usize)> = keys.iter().map(beginning).zip(0..).collect();
+    rows.sort_unstable_by(|x, y| {
+        x.0.cmp(&y.0)
+            .then_with(|| keys.get(x.1).cmp(&keys.get(y.1)))
+    });
+    rows.into_iter().map(|(_, row)| row).collect()
+}
+
+/// Sorting the rows of two columns by their keys, beside sorting them by comparing their values.
+fn sorting(name: &str, columns: [Column<'_>; 2], order: impl Fn(&usize, &usize) -> Ordering) {
+    let keys = row_keys(&columns, &[SortOptions::default(); 2]).expect("sound columns");
+    let sorted_by_values = || {
+        let mut rows: Vec<usize> = (0..ROWS).collect();
+        rows.sort_unstable_by(&order);
+        rows
+    };
+    assert_eq!(sorted_by_keys(&keys), sorted_by_values());
+    compare(
+        &format!("sorting by keys of {name}"),
+        seconds(|| sorted_by_keys(&keys)),
+        seconds(sorted_by_values),
+    );
+}
+
+fn sort(of: &Rows) {
+    let (numbers, strings) = (column("numbers", of), column("strings", of));
+    let text = |row: usize| &of.text[of.offsets[row] as usize..of.offsets[row + 1] as usize];
+    let by_number = |x: &usize, y: &usize| of.wide[*x].cmp(&of.wide[*y]);
+    let by_text = |x: &usize, y: &usize| text(*x).cmp(text(*y));
+    sorting("numbers and then strings", [numbers, strings], |x, y| {
+        by_number(x, y).then_with(|| by_text(x, y))
+    });
+    sorting("strings and then numbers", [strings, numbers], |x, y| {
+        by_text(x, y).then_with(|| by_number(x, y))
+    });
+}
+
+fn main() {
+    let words: Vec<String> = std::env::args().skip(1).collect();
+    if let [name, of] = &words[..] {
+        let made = rows();
+        match &of[..] {
+            "ours" => println!("{}", ours(name, &made)),
+            "plain" => println!("{}", plain(name, &made)),
+            _ => println!("{}", made.wide.len()),
+        }
+        return;
+    }
+    for name in NAMES {
+        let made = rows();
+        assert_eq!(ours(name, &made), plain(name, &made), "{name}");
+        compare(
+            name,
+            seconds(|| ours(name, &made)),
+            seconds(|| plain(name, &made)),
+        );
+    }
+    sort(&rows());
+}
