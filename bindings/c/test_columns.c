@@ -1,6 +1,6 @@
 // SPDX-License-Identifier: Apache-2.0
-// Casts and keys of random columns, beside plain C: `test_columns COUNT` makes so many, with any bytes in them, buffers cut
-// short, and offsets and lengths up to the greatest. Each buffer has exactly its bytes, with a page behind it that nobody may
+// Casts, keys and bounds of random columns, beside plain C: `test_columns COUNT` makes so many, with any bytes in them, buffers
+// cut short, and offsets and lengths up to the greatest. Each buffer has exactly its bytes, with a page behind it that nobody may
 // read; or, as `test_columns COUNT malloc`, memory of its own, for AddressSanitizer and valgrind.
 #define _GNU_SOURCE
 #include "doqallin.h"
@@ -242,6 +242,62 @@ static uint32_t of_keys(const struct doqallin_column *two) {
     return status;
 }
 
+#define TEXT_ROOM 40
+
+static int is_before(const uint8_t *bytes, const uint64_t *offsets, size_t i, size_t k) {
+    size_t size = offsets[i + 1] - offsets[i], other = offsets[k + 1] - offsets[k];
+    int order = memcmp(bytes + offsets[i], bytes + offsets[k], size < other ? size : other);
+    return order < 0 || (order == 0 && size < other);
+}
+
+// What the bounds of a column of values answer, and which values are the least and the greatest.
+static uint32_t plain_bounds(const uint8_t *bytes, size_t length, const uint64_t *offsets, size_t many, int of_texts, size_t ends_of[2]) {
+    for (size_t i = 1; i < many; i++)
+        if (offsets[i - 1] > offsets[i] || offsets[i] > length) return DOQALLIN_BAD_OFFSETS;
+    if (many < 2) return DOQALLIN_NONE;
+    for (size_t i = ends_of[0] = ends_of[1] = 0; i + 1 < many; i++) {
+        if (is_before(bytes, offsets, i, ends_of[0])) ends_of[0] = i;
+        if (is_before(bytes, offsets, ends_of[1], i)) ends_of[1] = i;
+    }
+    for (int end = 0; of_texts && end < 2; end++)
+        if (!is_utf8(bytes + offsets[ends_of[end]], offsets[ends_of[end] + 1] - offsets[ends_of[end]])) return DOQALLIN_NOT_UTF8;
+    return DOQALLIN_GIVEN;
+}
+
+// Bounds of random values by offsets of 64 bits. Of one value, the bounds are those of the calls for one.
+static uint32_t of_bounds(void) {
+    uint8_t some[TEXT_ROOM], upper[TEXT_ROOM], upper_room[TEXT_ROOM];
+    uint64_t starts[6] = {0}, at = below(3);
+    size_t length = below(TEXT_ROOM), many = below(6), n = below(10) ? below(12) : SIZE_MAX, of[2] = {0}, lower = 0, above = 0;
+    int of_texts = below(2);
+    for (size_t i = 0; i < length; i++) some[i] = below(6) ? 'a' + below(3) : below(256);
+    for (size_t i = 0; i < many; i++, at += below(12)) starts[i] = below(40) ? at : UINT64_MAX - below(3);
+    const uint8_t *bytes = exactly(0, some, length);
+    const uint64_t *offsets = many ? (const void *)exactly(1, (const uint8_t *)starts, 8 * many) : starts;
+    size_t lower_length = below(6) ? TEXT_ROOM : below(4), upper_length = below(6) ? TEXT_ROOM : below(4);
+    uint32_t status = plain_bounds(bytes, length, offsets, many, of_texts, of);
+    int has_upper = 0;
+    if (!status) {
+        const uint8_t *least = bytes + offsets[of[0]], *greatest = bytes + offsets[of[1]];
+        size_t size = offsets[of[0] + 1] - offsets[of[0]], other = offsets[of[1] + 1] - offsets[of[1]];
+        if (of_texts) CHECK(!doqallin_lower_bound_text(least, size, n, &lower));
+        if (!of_texts) lower = doqallin_lower_bound_bytes(least, size, n);
+        has_upper = !(of_texts ? doqallin_upper_bound_text : doqallin_upper_bound_bytes)(greatest, other, n, upper, TEXT_ROOM, &above);
+        memcpy(wanted, least, lower);
+        if (lower > lower_length || above > upper_length) status = DOQALLIN_NO_ROOM;
+    }
+    fresh();
+    memset(upper_room, 'q', TEXT_ROOM);
+    struct doqallin_bound_lengths lengths = {77, 78, true};
+    CHECK((of_texts ? doqallin_column_bounds_text : doqallin_column_bounds_bytes)(bytes, length, offsets, many, n, room, lower_length, upper_room, upper_length, &lengths) == status);
+    int is_told = status == DOQALLIN_GIVEN || status == DOQALLIN_NO_ROOM;
+    CHECK(is_told ? lengths.lower == lower && lengths.upper == above && lengths.has_upper == has_upper : lengths.lower == 77 && lengths.upper == 78 && lengths.has_upper);
+    size_t written = status ? 0 : lower, written_above = status ? 0 : above;
+    CHECK(!memcmp(room, wanted, written) && is_kept(written, 0) && !memcmp(upper_room, upper, written_above));
+    for (size_t i = written_above; i < TEXT_ROOM; i++) CHECK(upper_room[i] == 'q');
+    return status;
+}
+
 int main(int argc, char **argv) {
     if (argc < 2) return 2;
     long columns = atol(argv[1]), seen[14] = {0};
@@ -251,6 +307,7 @@ int main(int argc, char **argv) {
         struct doqallin_column two[] = {some_column(0, rows), some_column(3, rows)};
         seen[of_cast(&two[0])]++;
         seen[of_keys(two)]++;
+        seen[of_bounds()]++;
     }
     static const uint32_t all[] = {DOQALLIN_GIVEN, DOQALLIN_NONE, DOQALLIN_NO_ROOM, DOQALLIN_NOT_UTF8, DOQALLIN_BAD_OFFSETS, DOQALLIN_UNKNOWN_KIND,
                                    DOQALLIN_TOO_MANY_ROWS, DOQALLIN_TOO_SHORT, DOQALLIN_WRONG_LENGTH, DOQALLIN_BAD_OPTIONS};
