@@ -1,135 +1,9 @@
 // SPDX-License-Identifier: Apache-2.0
-// Casts, keys and bounds of random columns, beside plain C: `test_columns COUNT` makes so many, with any bytes in them, buffers
-// cut short, and offsets and lengths up to the greatest. Each buffer has exactly its bytes, with a page behind it that nobody may
-// read; or, as `test_columns COUNT malloc`, memory of its own, for AddressSanitizer and valgrind.
-#define _GNU_SOURCE
-#include "doqallin.h"
-#include <stdio.h>
-#include <stdlib.h>
-#include <string.h>
-#include <sys/mman.h>
+// Casts, keys and bounds of random columns, beside plain C: `test_columns COUNT` makes so many, with a page behind each buffer
+// that nobody may read, and `test_columns COUNT malloc` with memory of its own for each.
+#include "random_columns.h"
 
-static long failed = 0;
-
-static void check(int holds, int line) {
-    if (!holds && failed++ < 10) printf("test_columns.c:%d does not hold\n", line);
-}
-#define CHECK(condition) check(condition, __LINE__)
-
-#define ROOM 1024
-#define ROWS 24
-
-// What a call may write, as it is before.
-static uint8_t room[ROOM], wanted[ROOM];
-static uint64_t places[ROWS + 2], ends[ROWS + 2];
-static size_t count;
-static struct doqallin_fault fault;
-
-static void fresh(void) {
-    memset(room, 'q', ROOM);
-    for (int i = 0; i < ROWS + 2; i++) places[i] = 99;
-    count = 77;
-    fault = (struct doqallin_fault){77, 78};
-}
-
-static int is_kept(size_t after, size_t after_place) {
-    for (size_t i = after; i < ROOM; i++)
-        if (room[i] != 'q') return 0;
-    for (size_t i = after_place; i < ROWS + 2; i++)
-        if (places[i] != 99) return 0;
-    return 1;
-}
-
-static uint64_t state = 88172645463325252u;
-
-static uint64_t below(uint64_t end) {
-    state ^= state << 13;
-    state ^= state >> 7;
-    state ^= state << 17;
-    return state % end;
-}
-
-#define PAGE ((size_t)4096)
-static int in_malloc = 0;
-
-// Exactly these bytes: behind them is a page that nobody may read, or what malloc has there.
-static const uint8_t *exactly(int which, const uint8_t *bytes, size_t length) {
-    static uint8_t *pages[6];
-    if (in_malloc) {
-        free(pages[which]);
-        pages[which] = malloc(length ? length : 1);
-        if (!pages[which]) exit(2);
-        return memcpy(pages[which] + (length ? 0 : 1), bytes, length);
-    }
-    if (!pages[which]) {
-        pages[which] = mmap(NULL, 2 * PAGE, PROT_READ | PROT_WRITE, MAP_PRIVATE | MAP_ANONYMOUS, -1, 0);
-        if (pages[which] == MAP_FAILED || mprotect(pages[which] + PAGE, PAGE, PROT_NONE)) exit(2);
-    }
-    return memcpy(pages[which] + PAGE - length, bytes, length);
-}
-
-static int is_small(uint8_t kind) { return kind == DOQALLIN_UTF8 || kind == DOQALLIN_BINARY; }
-static int is_text(uint8_t kind) { return kind == DOQALLIN_UTF8 || kind == DOQALLIN_LARGE_UTF8; }
-
-static int is_bit(const uint8_t *bits, size_t place) { return bits[place / 8] >> place % 8 & 1; }
-
-static int is_valid(const struct doqallin_column *of, size_t row) {
-    return of->kind != DOQALLIN_NULL && (!of->validity_length || is_bit(of->validity, of->offset + row));
-}
-
-static uint64_t start_of(const struct doqallin_column *of, size_t row) {
-    size_t width = is_small(of->kind) ? 4 : 8;
-    uint64_t found = 0;
-    memcpy(&found, of->offsets + (of->offset + row) * width, width);
-    return found;
-}
-
-static int is_utf8(const uint8_t *at, uint64_t length) {
-    static const uint32_t least[] = {0, 0x80, 0x800, 0x10000};
-    for (uint64_t i = 0; i < length;) {
-        int more = at[i] < 0x80 ? 0 : at[i] < 0xc0 ? -1 : at[i] < 0xe0 ? 1 : at[i] < 0xf0 ? 2 : at[i] < 0xf8 ? 3 : -1;
-        if (more < 0 || i + more >= length) return 0;
-        uint32_t code = more ? at[i] & (0x3f >> more) : at[i];
-        for (int k = 1; k <= more; k++) {
-            if ((at[i + k] & 0xc0) != 0x80) return 0;
-            code = code << 6 | (at[i + k] & 0x3f);
-        }
-        if (code < least[more] || code > 0x10ffff || (code >= 0xd800 && code < 0xe000)) return 0;
-        i += 1 + more;
-    }
-    return 1;
-}
-
-// What a call over the column answers, and the place.
-static uint32_t plain_check(const struct doqallin_column *of, size_t *place) {
-    unsigned __int128 end = (unsigned __int128)of->offset + of->length;
-    *place = 0;
-    if (of->kind > DOQALLIN_NULL) return DOQALLIN_UNKNOWN_KIND;
-    if (of->kind == DOQALLIN_NULL) return DOQALLIN_GIVEN;
-    if (end >> 64) return DOQALLIN_TOO_MANY_ROWS;
-    if (of->validity_length && of->validity_length < (end + 7) / 8) return DOQALLIN_TOO_SHORT;
-    *place = 1;
-    if (of->kind < DOQALLIN_BOOL && of->values_length < end << of->kind % 4) return DOQALLIN_TOO_SHORT;
-    if (of->kind == DOQALLIN_BOOL && of->values_length < (end + 7) / 8) return DOQALLIN_TOO_SHORT;
-    if (of->kind <= DOQALLIN_BOOL) return DOQALLIN_GIVEN;
-    *place = 2;
-    if (of->length && of->offsets_length < (end + 1) * (is_small(of->kind) ? 4 : 8)) return DOQALLIN_TOO_SHORT;
-    for (*place = 0; *place < of->length; ++*place)
-        if (start_of(of, *place) > start_of(of, *place + 1) || start_of(of, *place + 1) > of->values_length) return DOQALLIN_BAD_OFFSETS;
-    for (*place = 0; is_text(of->kind) && *place < of->length; ++*place) {
-        uint64_t start = start_of(of, *place);
-        if (is_valid(of, *place) && !is_utf8(of->values + start, start_of(of, *place + 1) - start)) return DOQALLIN_NOT_UTF8;
-    }
-    return DOQALLIN_GIVEN;
-}
-
-static __int128 number_at(const struct doqallin_column *of, size_t row) {
-    size_t width = (size_t)1 << of->kind % 4;
-    const uint8_t *at = of->values + (of->offset + row) * width;
-    uint64_t bits = of->kind >= DOQALLIN_I8 && at[width - 1] > 127 ? UINT64_MAX : 0;
-    memcpy(&bits, at, width);
-    return of->kind >= DOQALLIN_I8 ? (__int128)(int64_t)bits : (__int128)bits;
-}
+static uint64_t ends[ROWS + 2];
 
 // What a cast answers, with the place and the bytes that it writes.
 static uint32_t plain_cast(const struct doqallin_column *of, uint8_t to, size_t room_length, size_t *place) {
@@ -144,55 +18,6 @@ static uint32_t plain_cast(const struct doqallin_column *of, uint8_t to, size_t 
         memcpy(wanted + *place * width, &number, width);
     }
     return DOQALLIN_GIVEN;
-}
-
-static size_t put(size_t at, unsigned byte, uint8_t option) {
-    wanted[at] = (uint8_t)(option & 1 ? ~byte : byte);
-    return at + 1;
-}
-
-// Writes the key of a row at this place; returns its end.
-static size_t plain_key(const struct doqallin_column *of, size_t row, uint8_t option, size_t at) {
-    if (!is_valid(of, row)) return put(at, option & 2 ? 1 : 255, 0);
-    if (of->kind == DOQALLIN_BOOL) return put(at, 2 + is_bit(of->values, of->offset + row), option);
-    if (of->kind < DOQALLIN_BOOL) {
-        __int128 number = number_at(of, row);
-        uint64_t distance = (uint64_t)(number < 0 ? -number : number);
-        int size = 0;
-        while (size < 8 && distance >> 8 * size) size++;
-        at = put(at, number < 0 ? 12 - size : 12 + size, option);
-        while (size-- > 0) at = put(at, (distance >> 8 * size & 255) ^ (number < 0 ? 255 : 0), option);
-        return at;
-    }
-    at = put(at, is_text(of->kind) ? 21 : 22, option);
-    for (uint64_t k = start_of(of, row); k < start_of(of, row + 1); k++) {
-        if (of->values[k] < 2) at = put(at, 1, option);
-        at = put(at, of->values[k] < 2 ? of->values[k] + 1 : of->values[k], option);
-    }
-    return put(at, 0, option);
-}
-
-// A column in the buffers from this one on. Most have their bytes, and few have not.
-static struct doqallin_column some_column(int first, size_t rows) {
-    static const uint64_t lengths[] = {UINT64_MAX, UINT64_MAX - 7, (uint64_t)1 << 61, (uint64_t)1 << 32, 0, 1};
-    uint8_t kind = below(20) ? below(14) : 14 + below(242), bytes[3][512];
-    size_t offset = below(12), size[3], width = is_small(kind) ? 4 : 8;
-    int has_offsets = kind > DOQALLIN_BOOL && kind < DOQALLIN_NULL;
-    size[0] = below(3) ? (offset + rows + 7) / 8 : 0;
-    size[1] = has_offsets ? below(40) : kind == DOQALLIN_BOOL ? (offset + rows + 7) / 8 : (offset + rows) << kind % 4;
-    size[2] = has_offsets ? (offset + rows + 1) * width : 0;
-    for (int which = 0; which < 3; which++) {
-        if (!below(8)) size[which] = below(size[which] + 2);
-        for (size_t i = 0; i < size[which]; i++) bytes[which][i] = which == 1 && below(12) ? below(3) : below(256);
-    }
-    uint64_t at = 0;
-    for (size_t i = 0; has_offsets && (i + 1) * width <= size[2]; i++, at += below(2 + size[1] / (rows + offset + 1)))
-        if (below(200)) memcpy(bytes[2] + i * width, &at, width);
-    struct doqallin_column made = {kind, exactly(first, bytes[0], size[0]), size[0], exactly(first + 1, bytes[1], size[1]), size[1],
-                                   exactly(first + 2, bytes[2], size[2]), size[2], offset, rows};
-    if (!below(16)) made.offset = lengths[below(6)];
-    if (!below(16) && kind != DOQALLIN_NULL) made.length = lengths[below(6)];
-    return made;
 }
 
 static uint32_t of_cast(const struct doqallin_column *some) {
@@ -299,9 +124,7 @@ static uint32_t of_bounds(void) {
 }
 
 int main(int argc, char **argv) {
-    if (argc < 2) return 2;
-    long columns = atol(argv[1]), seen[14] = {0};
-    in_malloc = argc > 2;
+    long columns = begun(argc, argv), seen[STATUSES] = {0};
     for (long k = 0; k < columns; k++) {
         size_t rows = below(ROWS);
         struct doqallin_column two[] = {some_column(0, rows), some_column(3, rows)};
@@ -311,7 +134,5 @@ int main(int argc, char **argv) {
     }
     static const uint32_t all[] = {DOQALLIN_GIVEN, DOQALLIN_NONE, DOQALLIN_NO_ROOM, DOQALLIN_NOT_UTF8, DOQALLIN_BAD_OFFSETS, DOQALLIN_UNKNOWN_KIND,
                                    DOQALLIN_TOO_MANY_ROWS, DOQALLIN_TOO_SHORT, DOQALLIN_WRONG_LENGTH, DOQALLIN_BAD_OPTIONS};
-    for (size_t i = 0; i < sizeof all / sizeof *all; i++) CHECK(seen[all[i]] > columns / 1000);
-    printf("%ld passed, %ld failed\n", failed ? 0 : columns, failed);
-    return failed != 0;
+    return ended(columns, seen, all, sizeof all / sizeof *all);
 }
