@@ -1,5 +1,5 @@
 # SPDX-License-Identifier: Apache-2.0
-"""Columns that others make: numpy's arrays, and the Arrow streams of GDAL. What is not installed is skipped.
+"""Columns that others make: numpy's arrays, pandas' frames, and the Arrow streams of GDAL. What is not installed is skipped.
 
 GDAL 3.6 has no capsules yet: this file lends them over the structures that GDAL fills. Memory and release are GDAL's own.
 """
@@ -19,6 +19,10 @@ try:
     import numpy
 except ImportError:
     numpy = None
+try:
+    import pandas
+except ImportError:
+    pandas = None
 try:
     from osgeo import ogr
 except ImportError:
@@ -60,6 +64,32 @@ class OfNumpy(unittest.TestCase):
         with self.assertRaises(doqallin.CannotCast) as error:
             cast(numbers, "i32")
         self.assertEqual(error.exception.place, int(numpy.argmax(abs(numbers) >= 2**31)))
+
+
+@unittest.skipIf(pandas is None, "pandas is not installed")
+class OfPandas(unittest.TestCase):
+    def frame(self) -> Any:
+        days = pandas.date_range("2026-01-01", periods=3000, freq="h")
+        return pandas.DataFrame({"day": days, "fare": range(3000), "small": numpy.arange(3000, dtype="i2"), "late": days.hour > 20})
+
+    def test_columns_of_a_frame(self) -> None:
+        frame = self.frame()
+        table = columns({name: part.view("i8") if part.dtype.kind == "M" else part for name, part in ((name, frame[name].to_numpy()) for name in frame)})
+        self.assertEqual({name: one.kind for name, one in table.items()}, {"day": "i64", "fare": "i64", "small": "i16", "late": "bool"})
+        self.assertEqual(table["day"].to_list(), [day.value for day in frame["day"]])
+        self.assertEqual([table[name].to_list() for name in ("fare", "small", "late")], [frame[name].to_list() for name in ("fare", "small", "late")])
+        keys = row_keys({"late": table["late"], "small": table["small"]}, descending=[True, False])
+        wanted = frame.sort_values(["late", "small"], ascending=[False, True]).index.to_list()
+        self.assertEqual(sorted(range(3000), key=keys.__getitem__), wanted)
+
+    def test_a_frame_as_arrow_data(self) -> None:
+        frame = self.frame()
+        if not hasattr(frame, "__arrow_c_stream__"):
+            self.skipTest("this pandas lends no Arrow data")
+        table = columns(frame)
+        self.assertEqual([table[name].to_list() for name in ("fare", "small", "late")], [frame[name].to_list() for name in ("fare", "small", "late")])
+        with self.assertRaises(doqallin.UnknownKind):
+            columns(pandas.DataFrame({"x": [0.5]}))
 
 
 _new = ctypes.PYFUNCTYPE(ctypes.py_object, ctypes.c_void_p, ctypes.c_char_p, ctypes.c_void_p)(("PyCapsule_New", ctypes.pythonapi))
