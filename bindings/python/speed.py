@@ -6,7 +6,7 @@ from array import array
 from itertools import accumulate
 
 import doqallin
-from doqallin import Kind, ZoneBounds, cast, row_keys
+from doqallin import Kind, LibraryMissing, ZoneBounds, cast, row_keys, scalar
 
 
 def seconds(call, calls: int) -> float:
@@ -49,6 +49,23 @@ def columns() -> None:
     compare("the keys of a million numbers, beside numpy's sorting", lambda: row_keys([numbers]), lambda: numbers.argsort(), 1)
 
 
+def scalars() -> None:
+    """Scalars, by lines of the call."""
+    try:
+        number = scalar(1000, "i32")
+    except LibraryMissing as missing:
+        print(f"Python, scalars: {missing}")
+        return
+    values = scalar([1, 2, None], "list(u8?)")
+    for name, call in [
+        ("a cast of a scalar", lambda: number.cast("i16")),
+        ("a cast of a scalar of three parts", lambda: values.cast("fsl(i64?, 3)")),
+        ("a scalar made", lambda: scalar(1000, "i32")),
+        ("a comparison of scalars", lambda: number < number),
+    ]:
+        print(f"Python, {name}: {1e-3 / seconds(call, 20_000):.0f} thousand calls a second")
+
+
 def main() -> None:
     value = bytes(range(200))
     zone = ZoneBounds.of("apple pie", "banana split", 16)
@@ -60,6 +77,7 @@ def main() -> None:
     data = b"".join(values)
     offsets = array("Q", accumulate(map(len, values), initial=0))
     columns()
+    scalars()
     compare("a column of a million values", lambda: doqallin.column_bounds(data, offsets, 16), lambda: plain_column(data, offsets, 16), 1)
 
 
