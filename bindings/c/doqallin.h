@@ -16,7 +16,10 @@
  * - A `bool` is 0 or 1, even one that is to be written.
  * - What is read does not change during the call, and what is written is used by nobody else until it returns.
  * - `malloc`, `realloc` and `free` are of one allocator, and no call comes from a signal handler.
- * Calls on different threads need no lock: nothing is kept from one call to the next. */
+ * Calls on different threads need no lock: nothing is kept from one call to the next.
+ *
+ * Stack: a call takes at most 4 kilobytes of it, whatever it is given, but for doqallin_call, which says what it takes. That was
+ * measured, on x86-64; no contract speaks of stack. */
 #ifndef DOQALLIN_H
 #define DOQALLIN_H
 #include <stdbool.h>

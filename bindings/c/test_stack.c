@@ -1,0 +1,69 @@
+// SPDX-License-Identifier: Apache-2.0
+// The stack of each call over random columns, on a thread whose stack is painted before: `test_stack COUNT` makes so many. None
+// may take more than the header says.
+#include "random_columns.h"
+#include <pthread.h>
+
+// What doqallin.h says under Stack.
+#define MOST 4096
+#define SIZE ((size_t)1 << 16)
+#define PAINT 0xA5
+
+static struct doqallin_column two[2];
+static uint8_t options[2], value[64], other[ROOM];
+static uint64_t starts[4];
+static size_t n;
+static struct doqallin_bound_lengths lengths;
+
+static void nothing(void) {}
+static void cast(void) { doqallin_cast_column(&two[0], (uint8_t)(n % 8), room, ROOM, &fault); }
+static void keys(void) { doqallin_row_keys(two, 2, options, 2, places, ROWS + 1, room, ROOM, &count, &fault); }
+static void bytes_bounds(void) { doqallin_column_bounds_bytes(value, sizeof value, starts, 4, n, room, ROOM, other, ROOM, &lengths); }
+static void text_bounds(void) { doqallin_column_bounds_text(value, sizeof value, starts, 4, n, room, ROOM, other, ROOM, &lengths); }
+static void upper_bound(void) { doqallin_upper_bound_text(value, sizeof value, n, room, ROOM, &count); }
+
+static void (*const calls[])(void) = {cast, keys, bytes_bounds, text_bounds, upper_bound};
+#define CALLS (sizeof calls / sizeof *calls)
+
+static void *run(void *call) {
+    (*(void (*const *)(void))call)();
+    return NULL;
+}
+
+// How many bytes of a thread's stack a call changes.
+static size_t used(uint8_t *stack, void (*const *call)(void)) {
+    pthread_attr_t attributes;
+    pthread_t thread;
+    memset(stack, PAINT, SIZE);
+    if (pthread_attr_init(&attributes) || pthread_attr_setstack(&attributes, stack, SIZE)) exit(2);
+    if (pthread_create(&thread, &attributes, run, (void *)call)) exit(2);
+    pthread_join(thread, NULL);
+    pthread_attr_destroy(&attributes);
+    size_t low = 0;
+    while (low < SIZE && stack[low] == PAINT) low++;
+    return SIZE - low;
+}
+
+int main(int argc, char **argv) {
+    long columns = begun(argc, argv);
+    size_t most = 0;
+    static void (*const empty)(void) = nothing;
+    uint8_t *stack = mmap(NULL, SIZE, PROT_READ | PROT_WRITE, MAP_PRIVATE | MAP_ANONYMOUS, -1, 0);
+    if (stack == MAP_FAILED) return 2;
+    size_t none = used(stack, &empty);
+    for (long k = 0; k < columns; k++) {
+        size_t rows = below(ROWS);
+        two[0] = some_column(0, rows), two[1] = some_column(3, rows);
+        options[0] = below(4), options[1] = below(4), n = below(40);
+        for (size_t i = 0; i < sizeof value; i++) value[i] = below(9) ? 'a' + below(26) : below(256);
+        for (int i = 1; i < 4; i++) starts[i] = starts[i - 1] + below(20);
+        for (size_t i = 0; i < CALLS; i++) {
+            size_t of = used(stack, &calls[i]) - none;
+            CHECK(of <= MOST);
+            most = of > most ? of : most;
+        }
+        starts[0] = below(2);
+    }
+    printf("at most %zu bytes\n%ld passed, %ld failed\n", most, failed ? 0 : columns, failed);
+    return failed != 0;
+}
