@@ -1,5 +1,6 @@
--- Statistics of a column as those of its type, which have a form.
-use Rattle.std.proofs.Common.{Option, Some, None, IfSome, refl, subst, sym, option_map}
+-- Statistics of columns of one type: as forms, and merged.
+use Rattle.std.proofs.Common.{◌∙◌, ◌⊎◌, inl, inr, List, ap, ◌≡◌, ℕ, ◌+◌, ◌<◌, ◌^◌, Bool, true, false, nat_lt, Option, Some, None, IfSome, Ordering, Less, Equal, Greater, arith, refl, subst, sym, if◌then◌else◌, option_map}
+use Rattle.std.proofs.lemmas.Bool.Decides.{nat_tests}
 use Rattle.arrow_columns.specs.Kinds.{kind_at}
 use Rattle.arrow_columns.specs.declared.columns.Column.{Column}
 use Rattle.arrow_columns.specs.declared.kinds.Kind.{Kind}
@@ -9,20 +10,28 @@ use Rattle.vortex_dtype.specs.TypeTree.{TypeTree}
 use Rattle.vortex_value.specs.Validity.{Valid}
 use Rattle.vortex_value.specs.TypesWithin.{HasNoVariant}
 use Rattle.vortex_value.specs.Values.Scalars.{scalar_raw}
+use Rattle.vortex_statistics.specs.Cells.{cell_order, order_from_above}
 use Rattle.vortex_statistics.specs.FormSteps.{HasNoVariantIn, HasNoVariants}
-use Rattle.vortex_statistics.specs.Statistics.{known, known_bound}
+use Rattle.vortex_statistics.specs.Merging.{AreRightTogether, bound_of_both, bound_order, merged, outer_by, sum_of}
+use Rattle.vortex_statistics.specs.Statistics.{Known, KnownBound, known, known_bound, may_be_value}
 use Rattle.vortex_statistics.specs.declared.column_statistics.Bound.{Bound}
 use Rattle.vortex_statistics.specs.declared.column_statistics.ColumnStatistics.{ColumnStatistics}
-use Rattle.vortex_statistics.specs.Form.{AreOf, IsBoundOf, IsHeldBound, IsHeldKnown}
+use Rattle.vortex_statistics.specs.Form.{AreOf, IsBoundOf, IsHeldBound, IsHeldKnown, form}
+use Rattle.vortex_statistics.specs.FormAnswers.{SaysBound}
+use Rattle.vortex_statistics.specs.declared.error.StatisticsError.{StatisticsError}
+use Rattle.vortex_statistics.specs.declared.error.StatisticsError.TheVariants.{BadBytes, HasVariant, OutOfMemory as Memory}
 use Rattle.column_statistics.specs.Faults.{IsStatisticsFault}
-use Rattle.column_statistics.specs.Forms.{IsFormFault}
+use Rattle.column_statistics.specs.Forms.{IsFormAs, IsFormFault, IsMergeFault, IsMergedForm, IsReadFault, IsWrongAt, fault_of_piece, read_fault}
+use Rattle.column_statistics.specs.declared.faults.MergeFault.{MergeFault}
+use Rattle.column_statistics.specs.declared.faults.ReadFault.{ReadFault}
+use Rattle.column_statistics.specs.declared.faults.ReadFault.TheVariants as read
 use Rattle.column_statistics.specs.declared.faults.StatisticsFault.{StatisticsFault}
 use Rattle.column_statistics.specs.declared.faults.StatisticsFault.TheVariants.{OutOfMemory, Unreadable}
 use Rattle.column_statistics.specs.Cells.{HasBoundsIn, IsBoundIn}
 
 -- ---- types of columns
 
-no_variant : (kind : Kind) → HasNoVariant (type_of_kind kind)
+pub no_variant : (kind : Kind) → HasNoVariant (type_of_kind kind)
 no_variant (Integer kind) = tt
 no_variant Boolean = tt
 no_variant Utf8 = tt
@@ -68,10 +77,95 @@ are_of t s n h k = record {
   upper = bound_of_type t s.upper n h.upper k.upper;
 }
 
--- ---- why there is no form
+-- ---- of two pieces
+
+module _ (t : TypeTree) where
+  outer_of : (o : Option Ordering) (a b : Option KnownBound) → IsBoundOf t a → IsBoundOf t b → IsBoundOf t (outer_by o a b)
+  outer_of None a b h k = tt
+  outer_of (Some Less) a b h k = h
+  outer_of (Some Greater) a b h k = k
+  outer_of (Some Equal) None b h k = tt
+  outer_of (Some Equal) (Some a) None h k = tt
+  outer_of (Some Equal) (Some a) (Some b) h k = h
+
+  both_of : (o : Option Ordering) (p q : Bool) (a b : Option KnownBound) → IsBoundOf t a → IsBoundOf t b → IsBoundOf t (bound_of_both o p q a b)
+  both_of o true true a b h k = outer_of o a b h k
+  both_of o true false a b h k = h
+  both_of o false true a b h k = k
+  both_of o false false None b h k = k
+  both_of o false false (Some a) b h k = h
+
+  small_sum : (m n : Option ℕ) → IfSome (sum_of m n) (λ k. k < 2 ^ 64)
+  small_sum None n = tt
+  small_sum (Some m) None = tt
+  small_sum (Some m) (Some n) = by_test (nat_lt (m + n) (2 ^ 64)) refl
+    where
+      by_test : (b : Bool) → nat_lt (m + n) (2 ^ 64) ≡ b → IfSome (if b then Some (m + n) else None) (λ k. k < 2 ^ 64)
+      by_test true e = grind (arith, nat_tests)
+      by_test false e = tt
+
+  pub merged_of : (s u : Known) → AreOf t s → AreOf t u → s.row_count + u.row_count < 2 ^ 64 → AreOf t (merged s u)
+  merged_of s u h k l = record {
+    rows = l;
+    nulls = small_sum s.null_count u.null_count;
+    lower = both_of (bound_order cell_order s.lower u.lower) (may_be_value s) (may_be_value u) s.lower u.lower h.lower k.lower;
+    upper = both_of (bound_order order_from_above s.upper u.upper) (may_be_value s) (may_be_value u) s.upper u.upper h.upper k.upper;
+  }
+
+-- what is of a type has keys, if the type has
+key_bound : (t : TypeTree) (b : Option KnownBound) → IsBoundOf t b → HasNoVariantIn b
+key_bound t None h = tt
+key_bound t (Some b) h = subst HasNoVariant (sym h.typed) h.ordered
+
+pub keyed : (t : TypeTree) (s : Known) → AreOf t s → HasNoVariants s
+keyed t s h = record { lower = key_bound t s.lower h.lower; upper = key_bound t s.upper h.upper }
+
+-- ---- what a function below answered, in the words of the function above
 
 pub form_fault : (column : Column) (fault : StatisticsFault) → IsStatisticsFault column fault → IsFormFault column fault
 form_fault column OutOfMemory h = h.0
 form_fault column (Unreadable fault) h = h
 
-pub ruleset shown = (without_variants, no_variant_in, form_fault)
+-- what was read of bytes, of a type that is this one
+pub as_form : (t u : TypeTree) (bytes : List ℕ) (s : Known) → t ≡ u → AreOf t s → bytes ≡ form s → IsFormAs u bytes s
+as_form t u bytes s e h f = record { of_type = subst (λ v. AreOf v s) e h; is = f }
+
+-- why bytes are not read, of a type that is this one, in which no variant stands
+pub not_read : (t u : TypeTree) (bytes : List ℕ) (e : StatisticsError) (told : ReadFault) → t ≡ u → HasNoVariant u → told ≡ read_fault e
+    → (e ≡ HasVariant → (¬ (HasNoVariant t)) × SaysBound bytes) → ((place : ℕ) → e ≡ BadBytes place → IsWrongAt t bytes place)
+    → ((e ≡ HasVariant) ⊎ (((e ≡ Memory) × SaysBound bytes) ⊎ ((place : ℕ) × (e ≡ BadBytes place)))) → IsReadFault u bytes told
+not_read t u bytes e told q n f variant bad (inl h) = absurd ((variant h).0 (subst HasNoVariant (sym q) n))
+not_read t u bytes e told q n f variant bad (inr (inl h)) = subst (IsReadFault u bytes) (sym (f ∙ ap read_fault h.0)) h.1
+not_read t u bytes e told q n f variant bad (inr (inr h)) =
+    subst (IsReadFault u bytes) (sym (f ∙ ap read_fault h.1)) (subst (λ v. IsWrongAt v bytes h.0) q (bad h.0 h.1))
+
+-- both pieces, which are forms
+pub merged_keyed : (t : TypeTree) (one other : List ℕ) (s u m : Known) → IsFormAs t one s → IsFormAs t other u → s.row_count + u.row_count < 2 ^ 64 → m ≡ merged s u → HasNoVariants m
+merged_keyed t one other s u m h k l e = subst HasNoVariants (sym e) (keyed t (merged s u) (merged_of t s u h.of_type k.of_type l))
+
+pub merged_form_of : (t : TypeTree) (one other bytes : List ℕ) (s u m : Known) → IsFormAs t one s → IsFormAs t other u → s.row_count + u.row_count < 2 ^ 64
+    → m ≡ merged s u → AreRightTogether s u m → bytes ≡ form m → IsMergedForm t one other bytes
+merged_form_of t one other bytes s u m h k l e r f = record {
+  first = s;
+  second = u;
+  is_first = h;
+  is_second = k;
+  together = subst (AreRightTogether s u) e r;
+  both = record { of_type = merged_of t s u h.of_type k.of_type l; is = f ∙ ap form e };
+}
+
+pub first_wrong : (t : TypeTree) (one other : List ℕ) (fault : ReadFault) (told : MergeFault) → told ≡ fault_of_piece 0 fault → IsReadFault t one fault → IsMergeFault t one other told
+first_wrong t one other fault told e h = subst (IsMergeFault t one other) (sym e) (by_fault fault h)
+  where
+    by_fault : (fault : ReadFault) → IsReadFault t one fault → IsMergeFault t one other (fault_of_piece 0 fault)
+    by_fault read.OutOfMemory k = tt
+    by_fault (read.BadBytes place) k = inl (refl, k)
+
+pub second_wrong : (t : TypeTree) (one other : List ℕ) (s : Known) (fault : ReadFault) (told : MergeFault) → told ≡ fault_of_piece 1 fault → IsFormAs t one s → IsReadFault t other fault → IsMergeFault t one other told
+second_wrong t one other s fault told e f h = subst (IsMergeFault t one other) (sym e) (by_fault fault h)
+  where
+    by_fault : (fault : ReadFault) → IsReadFault t other fault → IsMergeFault t one other (fault_of_piece 1 fault)
+    by_fault read.OutOfMemory k = tt
+    by_fault (read.BadBytes place) k = inr (refl, record { statistics = s; of_type = f.of_type; is = f.is }, k)
+
+pub ruleset shown = (without_variants, no_variant, no_variant_in, form_fault)

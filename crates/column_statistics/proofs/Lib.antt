@@ -3,4 +3,5 @@ mod ContentLaws
 mod CutLaws
 mod FormLaws
 mod IntegerRanges
+mod ItemLaws
 mod KindLaws

@@ -1,14 +1,21 @@
 -- The words of this crate's clauses, from one place.
 pub use Rattle.arrow_columns.specs.Statistics.{AreBooleanStatisticsOf}
+pub use Rattle.arrow_columns.specs.declared.kinds.Kind.TheVariants.{Integer}
 pub use Rattle.column_cells.specs.Contents.{HasTexts, boolean_contents, contents_of_rows, integer_contents}
-pub use Rattle.column_cells.specs.Types.{ptype_of_kind, type_of_column, type_of_rows}
+pub use Rattle.column_cells.specs.Types.{ptype_of_kind, type_of_column, type_of_kind, type_of_rows}
 pub use Rattle.vortex_dtype.specs.TypeTree.{bool_type, integer_type}
 pub use Rattle.vortex_dtype.specs.declared.nullability.Nullability.TheVariants.{Nullable}
-pub use Rattle.vortex_statistics.specs.Form.{IsHeldKnown, form}
+pub use Rattle.vortex_pvalue.specs.Numbers.{InRange}
+pub use Rattle.vortex_value.specs.Values.Content.{null, whole}
+pub use Rattle.vortex_value.specs.Values.Scalars.{scalar_content}
+pub use Rattle.vortex_statistics.specs.Cells.{cell_of}
+pub use Rattle.vortex_statistics.specs.Form.{IsCellOf, IsHeldKnown, form}
+pub use Rattle.vortex_statistics.specs.FormAnswers.{ReadsRight}
 pub use Rattle.vortex_statistics.specs.FormSteps.{HasNoVariants}
 pub use Rattle.vortex_statistics.specs.Statistics.{AreRight, known}
 pub use Rattle.vortex_statistics.specs.Truncating.{HasShortBounds}
 pub use Rattle.column_statistics.specs.Cells.{AreCutStatistics, HasBoundsIn, cells_of_column}
 pub use Rattle.column_statistics.specs.Extremes.{AreExtremesAt, AreExtremesOf, ArePlacesOf, AreSummaryOf, AreTruthsOf, AreWholeOf}
 pub use Rattle.column_statistics.specs.Faults.{HasLong, IsReadable, IsStatisticsFault}
-pub use Rattle.column_statistics.specs.Forms.{IsColumnForm, IsFormFault}
+pub use Rattle.column_statistics.specs.Forms.{IsColumnForm, IsFormAs, IsFormFault, IsMergeFault, IsMergedForm, IsReadFault, fault_of_piece, read_fault}
+pub use Rattle.column_statistics.specs.Items.{IsItemOf, bytes_of_item}

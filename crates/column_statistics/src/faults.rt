@@ -1,4 +1,4 @@
-//! Why a column has no statistics.
+//! Why a column has no statistics, and why bytes are none.
 
 use arrow_columns::ColumnFault;
 
@@ -9,4 +9,26 @@ pub enum StatisticsFault {
     OutOfMemory,
     /// The column cannot be read.
     Unreadable(ColumnFault),
+}
+
+/// Why bytes are read as no statistics.
+#[derive(Clone, Copy, Debug, PartialEq, Eq)]
+pub enum ReadFault {
+    /// An allocation was refused.
+    OutOfMemory,
+    /// They are no form of statistics of the type: the place of the first byte that none has there,
+    /// or of the end if they end too early.
+    BadBytes { place: usize },
+}
+
+/// Why the statistics of two pieces are not merged.
+#[derive(Clone, Copy, Debug, PartialEq, Eq)]
+pub enum MergeFault {
+    /// An allocation was refused.
+    OutOfMemory,
+    /// There are more rows than 64 bits can count.
+    TooManyRows,
+    /// The bytes of piece 0 or 1 are no form of statistics of the type: the first such piece, and
+    /// the place in it.
+    BadBytes { piece: usize, place: usize },
 }

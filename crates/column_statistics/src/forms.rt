@@ -1,13 +1,15 @@
-//! The statistics of columns as bytes.
+//! The statistics of columns as bytes, and those of two pieces as of both.
 
 ghost use Rattle.std.specs.Prelude.{◌≡◌, IfErr, IfOk, IfSome};
-ghost use Rattle.column_statistics.specs.Words.{HasNoVariants, IsColumnForm, IsFormFault, IsHeldKnown, form, known};
+ghost use Rattle.vortex_statistics.specs.Statistics.{Known};
+ghost use Rattle.column_statistics.specs.Words.{HasNoVariants, IsColumnForm, IsFormAs, IsFormFault, IsHeldKnown, IsMergeFault, IsMergedForm, IsReadFault, ReadsRight, fault_of_piece, form, known, read_fault, type_of_kind};
 
-use crate::faults::StatisticsFault;
+use crate::faults::{MergeFault, ReadFault, StatisticsFault};
 use crate::statistics::statistics_of;
-use arrow_columns::Column;
+use arrow_columns::{Column, Kind};
+use column_cells::dtype_of;
 use std::alloc::Global;
-use vortex_statistics::ColumnStatistics;
+use vortex_statistics::{ColumnStatistics, StatisticsError};
 
 /// The statistics of a column in their stable form, with bounds that are cut to `limit` bytes.
 ///
@@ -27,6 +29,75 @@ pub fn column_form(alloc: Global, column: Column, limit: usize) -> Result<Vec<u8
     }
 }
 
+/// The statistics of a piece of a column and then of another, in their stable form, of the forms of
+/// both. The kind is that of the column.
+///
+/// `BadBytes` has the first piece that is no form, before `TooManyRows`. `OutOfMemory` may come in
+/// place of each answer.
+#[tactic(auto, using(crate::proofs::FormLaws::shown))]
+pub fn merged_form(
+    alloc: Global,
+    kind: Kind,
+    one: &[u8],
+    other: &[u8],
+) -> Result<Vec<u8>, MergeFault>
+    ensures form { IfOk result
+        (λ bytes. IsMergedForm (type_of_kind kind) one.now other.now bytes.items) }
+    ensures refused { IfErr result (IsMergeFault (type_of_kind kind) one.now other.now) }
+{
+    let first = match read_form(alloc, kind, one) {
+        Ok(first) => first,
+        Err(fault) => return Err(fault_of_piece(0, fault)),
+    };
+    let second = match read_form(alloc, kind, other) {
+        Ok(second) => second,
+        Err(fault) => {
+            drop(first);
+            return Err(fault_of_piece(1, fault));
+        }
+    };
+    let both = match first.merge(second) {
+        Ok(both) => both,
+        Err(_) => return Err(MergeFault::TooManyRows),
+    };
+    match written(alloc, &both) {
+        Some(bytes) => Ok(bytes),
+        None => Err(MergeFault::OutOfMemory),
+    }
+}
+
+/// The statistics of a column of this kind that have this form: its counts, its bounds, and whether
+/// each is exact.
+///
+/// `BadBytes` comes only if they are no such form, and `OutOfMemory` only if they say a bound. In
+/// bytes from anywhere a bound may be null.
+#[tactic(auto, using(crate::proofs::FormLaws::shown))]
+pub fn read_form(alloc: Global, kind: Kind, bytes: &[u8]) -> Result<ColumnStatistics, ReadFault>
+    ensures read { IfOk result (λ s. IsFormAs (type_of_kind kind) bytes.now (known s)) }
+    ensures whole { (s : Known) → IsFormAs (type_of_kind kind) bytes.now s
+        → IfOk result (λ t. known t ≡ s) }
+    ensures right { IfOk result
+        (λ s. ReadsRight (type_of_kind kind) bytes.now (known s)) }
+    ensures refused { IfErr result (IsReadFault (type_of_kind kind) bytes.now) }
+{
+    let dtype = dtype_of(kind);
+    match ColumnStatistics::from_bytes(alloc, &dtype, bytes) {
+        Ok(statistics) => Ok(statistics),
+        Err(cause) => Err(read_fault(cause)),
+    }
+}
+
+/// Why bytes are not read.
+fn read_fault(cause: StatisticsError) -> ReadFault
+    ensures { result ≡ read_fault cause }
+{
+    match cause {
+        StatisticsError::BadBytes { place } => ReadFault::BadBytes { place },
+        StatisticsError::OutOfMemory | StatisticsError::TooManyRows | StatisticsError::HasVariant =>
+            ReadFault::OutOfMemory,
+    }
+}
+
 /// The form of statistics whose bounds have keys. `None` if there is no memory.
 fn written(alloc: Global, statistics: &ColumnStatistics) -> Option<Vec<u8>>
     requires { HasNoVariants (known statistics.now) }
@@ -37,5 +108,15 @@ fn written(alloc: Global, statistics: &ColumnStatistics) -> Option<Vec<u8>>
     match statistics.append_bytes(&mut bytes) {
         Ok(()) => Some(bytes),
         Err(_) => None,
+    }
+}
+
+/// Why two pieces are not merged, of which one is not read.
+fn fault_of_piece(piece: usize, fault: ReadFault) -> MergeFault
+    ensures { result ≡ fault_of_piece piece fault }
+{
+    match fault {
+        ReadFault::OutOfMemory => MergeFault::OutOfMemory,
+        ReadFault::BadBytes { place } => MergeFault::BadBytes { piece, place },
     }
 }
