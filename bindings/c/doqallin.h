@@ -1,8 +1,8 @@
 /* SPDX-License-Identifier: Apache-2.0
  * SPDX-FileCopyrightText: Copyright the Vortex contributors; ported to Rattle and changed
  *
- * Doqallin for C: casts that never change a value, bounds of bytes and strings, pruning by these, and keys of rows. The calls
- * are proved against the contracts in crates/vortex_c and crates/vortex_call. This header is written by hand.
+ * Doqallin for C: casts that never change a value, bounds of bytes and strings, pruning by these, keys of rows, and statistics of
+ * columns. The calls are proved against the contracts in crates/vortex_c and crates/vortex_call. This header is written by hand.
  *
  * Link with -ldoqallin. One call, doqallin_call, is in a library of its own: link with -ldoqallin_call for it.
  *
@@ -45,8 +45,9 @@ enum {
     DOQALLIN_NOT_A_NUMBER = 5,  /* a code names no integer type, or the bits stand for no number of the type */
     DOQALLIN_BAD_OFFSETS = 6,   /* offsets go down, or past the end of the bytes */
     DOQALLIN_UNKNOWN_KIND = 7,  /* a code is of no kind that the call takes */
-    DOQALLIN_TOO_MANY_ROWS = 8, /* offset and length of a column are together 2^64 or more */
+    DOQALLIN_TOO_MANY_ROWS = 8, /* offset and length of a column, or the rows of two pieces, are together 2^64 or more */
     DOQALLIN_TOO_SHORT = 9,     /* a buffer of a column is too short for its rows */
+    DOQALLIN_BAD_BYTES = 10,    /* bytes are not of the form that is read */
     DOQALLIN_WRONG_LENGTH = 12, /* numbers of columns, of rows or of options differ that are to be equal */
     DOQALLIN_BAD_OPTIONS = 13   /* a byte stands for no options */
 };
@@ -80,7 +81,7 @@ struct doqallin_column {
 };
 
 /* Where a mistake is: which column, and which row of it (the first such one), or which buffer: 0 validity, 1 values,
- * 2 offsets. */
+ * 2 offsets. Of statistics in bytes it is which of them, and which byte. */
 struct doqallin_fault {
     size_t column;
     size_t place;
@@ -176,6 +177,57 @@ uint32_t doqallin_column_bounds_text(const uint8_t *bytes, size_t bytes_length, 
 uint32_t doqallin_row_keys(const struct doqallin_column *columns, size_t column_count, const uint8_t *options,
                            size_t options_length, uint64_t *offsets_room, size_t offsets_room_length, uint8_t *room,
                            size_t room_length, size_t *count, struct doqallin_fault *fault);
+
+/* The statistics of a column in their stable form (docs/STATISTICS.md): its counts, and its least and its greatest value. If
+ * these are strings or bytes, they are cut to max_length bytes: then they are bounds, and no values.
+ * GIVEN: the form has the first *count bytes of the room; those after it are as they were.
+ * NO_ROOM: *count, which is all that is written, is how many bytes the form has: above room_length. A call without room asks
+ * for it.
+ * UNKNOWN_KIND, TOO_MANY_ROWS, TOO_SHORT, BAD_OFFSETS, NOT_UTF8: the column cannot be read, for what is at fault->place.
+ * fault->column is 0.
+ * NO_MEMORY: memory is asked for the form, and for a least and a greatest value of more than 22 bytes; none for each row. */
+uint32_t doqallin_column_statistics(const struct doqallin_column *column, size_t max_length, uint8_t *room,
+                                    size_t room_length, size_t *count, struct doqallin_fault *fault);
+
+/* The statistics of a piece of a column and then of another one, of the forms of both. `kind` is that of the column. If those of
+ * each piece are right, so are these, and pieces may be merged in any grouping. A room of both lengths suffices.
+ * GIVEN, NO_ROOM: as from doqallin_column_statistics.
+ * UNKNOWN_KIND: exactly if `kind` is of no kind. fault->column and fault->place are 0.
+ * BAD_BYTES: fault->column is 0 or 1, the first piece that is no form of statistics of the kind. fault->place is its first byte
+ * that no such form has there, or its length if it ends too early.
+ * TOO_MANY_ROWS: both are such forms, and 64 bits do not count the rows of both. fault->column and fault->place are 0.
+ * NO_MEMORY: may come in place of all but UNKNOWN_KIND. */
+uint32_t doqallin_merge_statistics(uint8_t kind, const uint8_t *one, size_t one_length, const uint8_t *other,
+                                   size_t other_length, uint8_t *room, size_t room_length, size_t *count,
+                                   struct doqallin_fault *fault);
+
+/* What statistics say, but for the bytes of the bounds: how many rows there are, and in how many the cell is null (0 if that is
+ * not known). A bound is exact if some value is equal to it. One that is not there is not exact, and has no bytes. */
+struct doqallin_statistics_parts {
+    uint64_t row_count;
+    uint64_t null_count;
+    size_t lower_length;
+    size_t upper_length;
+    bool has_null_count;
+    bool has_lower;
+    bool lower_is_exact;
+    bool has_upper;
+    bool upper_is_exact;
+};
+
+/* The statistics of a column of this kind that have this form. No value is below the lower bound, or above the upper one. A bound
+ * that is an integer has its bytes in a buffer of the kind, the low one first. A bool is a byte, 0 or 1, and strings and bytes
+ * are as they are. In bytes from anywhere a bound may be null: it is told as none, which says less. Two rooms of 8 bytes, or of
+ * bytes_length if that is more, suffice.
+ * GIVEN: the bounds are in the first bytes of the rooms, as *parts says; the bytes after them are as they were.
+ * NO_ROOM: a room has fewer bytes than its bound; *parts says all the same, how many bytes each bound has too.
+ * UNKNOWN_KIND: exactly if `kind` is of no kind. fault->column and fault->place are 0.
+ * BAD_BYTES: the bytes are no form of statistics of the kind. fault->place is the first byte that no such form has there, or
+ * bytes_length if they end too early. fault->column is 0.
+ * NO_MEMORY: only if the bytes say that there is a bound. */
+uint32_t doqallin_read_statistics(uint8_t kind, const uint8_t *bytes, size_t bytes_length, uint8_t *lower_room,
+                                  size_t lower_room_length, uint8_t *upper_room, size_t upper_room_length,
+                                  struct doqallin_statistics_parts *parts, struct doqallin_fault *fault);
 
 /* Nearly any call of the library, by a line of text. In the library doqallin_call.
  * The line has the call's name and what it is given, as the worked cases in crates/scalar_cases/stdin: `cast i32:1000i32 i16`

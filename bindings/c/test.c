@@ -251,6 +251,134 @@ static void row_keys(void) {
     CHECK(doqallin_row_keys(two, 0, BYTES(""), starts, 3, room, ROOM, &count, &fault) == DOQALLIN_GIVEN && count == 0 && starts[0] == 0);
 }
 
+// The statistics of 2, null and 5 as i32, of two such pieces, and of "apple" and "banana" at three bytes.
+static const uint8_t three[] = "\1\x1f\0\0\0\0\0\0\0\3\0\0\0\0\0\0\0\1\x0d\2\x0d\5";
+static const uint8_t six[] = "\1\x1f\0\0\0\0\0\0\0\6\0\0\0\0\0\0\0\2\x0d\2\x0d\5";
+static const uint8_t fruits[] = "\1\x0b\0\0\0\0\0\0\0\2\0\0\0\0\0\0\0\0\x15" "app\0\x15" "bao";
+// As many rows as 64 bits count, and nothing else.
+static const uint8_t most[] = "\1\0\xff\xff\xff\xff\xff\xff\xff\xff";
+
+static int nothing_given(void) { return count == 77 && is_kept(room, 0); }
+
+static void column_statistics(void) {
+    static const uint8_t numbers[] = {2, 0, 0, 0, 9, 9, 9, 9, 5, 0, 0, 0}, valid[] = {5};
+    static const uint8_t ends[] = {0, 0, 0, 0, 5, 0, 0, 0, 11, 0, 0, 0};
+    struct doqallin_column ints = {DOQALLIN_I32, valid, 1, numbers, 12, ends, 0, 0, 3};
+    struct doqallin_column strings = {DOQALLIN_UTF8, valid, 0, (const uint8_t *)"applebanana", 11, ends, 12, 0, 2};
+    fresh();
+    fault = (struct doqallin_fault){77, 78};
+    CHECK(doqallin_column_statistics(&ints, 3, room, ROOM, &count, &fault) == DOQALLIN_GIVEN && at_fault(77, 78));
+    CHECK(count == 22 && is_kept(room, 22) && !memcmp(room, three, 22));
+    fresh();
+    CHECK(doqallin_column_statistics(&ints, 3, room, 22, &count, &fault) == DOQALLIN_GIVEN && count == 22 && !memcmp(room, three, 22));
+    fresh();
+    CHECK(doqallin_column_statistics(&ints, 3, room, 21, &count, &fault) == DOQALLIN_NO_ROOM && count == 22);
+    CHECK(is_kept(room, 0) && at_fault(77, 78));
+    fresh();
+    CHECK(doqallin_column_statistics(&strings, 3, room, ROOM, &count, &fault) == DOQALLIN_GIVEN && at_fault(77, 78));
+    CHECK(count == 28 && is_kept(room, 28) && !memcmp(room, fruits, 28));
+    // The rows from the second on: a null and 5.
+    ints.offset = 1, ints.length = 2;
+    fresh();
+    CHECK(doqallin_column_statistics(&ints, 3, room, ROOM, &count, &fault) == DOQALLIN_GIVEN && count == 22);
+    CHECK(!memcmp(room, "\1\x1f\0\0\0\0\0\0\0\2\0\0\0\0\0\0\0\1\x0d\5\x0d\5", 22));
+    ints.offset = 0, ints.length = 0;
+    fresh();
+    CHECK(doqallin_column_statistics(&ints, 3, room, ROOM, &count, &fault) == DOQALLIN_GIVEN && count == 18);
+    CHECK(!memcmp(room, "\1\1\0\0\0\0\0\0\0\0\0\0\0\0\0\0\0\0", 18) && is_kept(room, 18));
+    fresh();
+    strings.values_length = 10;
+    CHECK(doqallin_column_statistics(&strings, 3, room, ROOM, &count, &fault) == DOQALLIN_BAD_OFFSETS && at_fault(0, 1));
+    // Strings of later rows are not looked at.
+    strings.values = (const uint8_t *)"apple\xff\xff\xff\xff\xff\xff", strings.values_length = 11, strings.length = 1;
+    CHECK(doqallin_column_statistics(&strings, 3, room, ROOM, &count, &fault) == DOQALLIN_GIVEN && count == 28);
+    fresh();
+    strings.values = (const uint8_t *)"appl\xff" "banana";
+    CHECK(doqallin_column_statistics(&strings, 3, room, ROOM, &count, &fault) == DOQALLIN_NOT_UTF8 && at_fault(0, 0));
+    ints.length = 3, ints.values_length = 11;
+    CHECK(doqallin_column_statistics(&ints, 3, room, ROOM, &count, &fault) == DOQALLIN_TOO_SHORT && at_fault(0, 1));
+    ints.offset = SIZE_MAX;
+    CHECK(doqallin_column_statistics(&ints, 3, room, ROOM, &count, &fault) == DOQALLIN_TOO_MANY_ROWS && at_fault(0, 0));
+    ints.kind = 14;
+    CHECK(doqallin_column_statistics(&ints, 3, room, ROOM, &count, &fault) == DOQALLIN_UNKNOWN_KIND && at_fault(0, 0));
+    CHECK(nothing_given());
+}
+
+static void merged_statistics(void) {
+    fresh();
+    fault = (struct doqallin_fault){77, 78};
+    CHECK(doqallin_merge_statistics(DOQALLIN_I32, three, 22, three, 22, room, ROOM, &count, &fault) == DOQALLIN_GIVEN && at_fault(77, 78));
+    CHECK(count == 22 && is_kept(room, 22) && !memcmp(room, six, 22));
+    fresh();
+    CHECK(doqallin_merge_statistics(DOQALLIN_I32, three, 22, three, 22, room, 0, &count, &fault) == DOQALLIN_NO_ROOM && count == 22);
+    CHECK(is_kept(room, 0) && at_fault(77, 78));
+    fresh();
+    CHECK(doqallin_merge_statistics(DOQALLIN_LARGE_UTF8, fruits, 28, (const uint8_t *)"\1\1\0\0\0\0\0\0\0\1\0\0\0\0\0\0\0\1", 18, room, ROOM, &count, &fault) == DOQALLIN_GIVEN);
+    CHECK(count == 28 && room[9] == 3 && room[17] == 1 && !memcmp(room + 18, fruits + 18, 10));
+    fresh();
+    CHECK(doqallin_merge_statistics(DOQALLIN_I32, three, 22, three, 21, room, ROOM, &count, &fault) == DOQALLIN_BAD_BYTES && at_fault(1, 21));
+    CHECK(doqallin_merge_statistics(DOQALLIN_I32, six + 1, 21, three, 21, room, ROOM, &count, &fault) == DOQALLIN_BAD_BYTES && at_fault(0, 0));
+    CHECK(doqallin_merge_statistics(DOQALLIN_UTF8, three, 22, three, 22, room, ROOM, &count, &fault) == DOQALLIN_BAD_BYTES && at_fault(0, 18));
+    CHECK(doqallin_merge_statistics(DOQALLIN_I32, most, 10, three, 22, room, ROOM, &count, &fault) == DOQALLIN_TOO_MANY_ROWS && at_fault(0, 0));
+    // Bytes that are no form are told before rows that are too many.
+    CHECK(doqallin_merge_statistics(DOQALLIN_I32, most, 10, three, 1, room, ROOM, &count, &fault) == DOQALLIN_BAD_BYTES && at_fault(1, 1));
+    CHECK(doqallin_merge_statistics(14, three, 22, three, 22, room, ROOM, &count, &fault) == DOQALLIN_UNKNOWN_KIND && at_fault(0, 0));
+    CHECK(nothing_given());
+}
+
+static struct doqallin_statistics_parts parts;
+
+// Whether the statistics have so many rows and nulls (-1: that is not known), and whether each bound is there (1), and exact (2).
+static int tell(uint64_t rows, int nulls, int lower, int upper) {
+    return parts.row_count == rows && parts.null_count == (uint64_t)(nulls < 0 ? 0 : nulls) && parts.has_null_count == (nulls >= 0)
+           && parts.has_lower == (lower > 0) && parts.lower_is_exact == (lower == 2) && parts.has_upper == (upper > 0)
+           && parts.upper_is_exact == (upper == 2) && (lower || !parts.lower_length) && (upper || !parts.upper_length);
+}
+
+static int bounds_are(const char *lower, size_t lower_length, const char *upper, size_t upper_length) {
+    return parts.lower_length == lower_length && !memcmp(room, lower, lower_length) && is_kept(room, lower_length)
+           && parts.upper_length == upper_length && !memcmp(other, upper, upper_length) && is_kept(other, upper_length);
+}
+
+static uint32_t read_as(uint8_t kind, const uint8_t *bytes, size_t length, size_t lower_room, size_t upper_room) {
+    fresh();
+    memset(&parts, 1, sizeof parts);
+    fault = (struct doqallin_fault){77, 78};
+    return doqallin_read_statistics(kind, bytes, length, room, lower_room, other, upper_room, &parts, &fault);
+}
+
+static int none_read(size_t place) {
+    return at_fault(0, place) && is_kept(room, 0) && is_kept(other, 0) && parts.row_count == 0x0101010101010101 && parts.has_lower;
+}
+
+static void read_statistics(void) {
+    CHECK(read_as(DOQALLIN_I32, three, 22, ROOM, ROOM) == DOQALLIN_GIVEN && at_fault(77, 78) && tell(3, 1, 2, 2));
+    CHECK(bounds_are("\2\0\0\0", 4, "\5\0\0\0", 4));
+    CHECK(read_as(DOQALLIN_U8, three, 22, 1, 1) == DOQALLIN_GIVEN && tell(3, 1, 2, 2) && bounds_are("\2", 1, "\5", 1));
+    CHECK(read_as(DOQALLIN_I64, three, 22, 8, 8) == DOQALLIN_GIVEN && bounds_are("\2\0\0\0\0\0\0\0", 8, "\5\0\0\0\0\0\0\0", 8));
+    CHECK(read_as(DOQALLIN_I16, BYTES("\1\x0e\0\0\0\0\0\0\0\2\x0a\xfe\xff\x0c"), ROOM, ROOM) == DOQALLIN_GIVEN && tell(2, -1, 2, 1));
+    CHECK(bounds_are("\0\xff", 2, "\0\0", 2));
+    CHECK(read_as(DOQALLIN_I32, three, 22, 3, ROOM) == DOQALLIN_NO_ROOM && at_fault(77, 78) && tell(3, 1, 2, 2));
+    CHECK(parts.lower_length == 4 && parts.upper_length == 4 && is_kept(room, 0) && is_kept(other, 0));
+    CHECK(read_as(DOQALLIN_I32, three, 22, 4, 3) == DOQALLIN_NO_ROOM && is_kept(room, 0) && is_kept(other, 0));
+    CHECK(read_as(DOQALLIN_UTF8, fruits, 28, ROOM, ROOM) == DOQALLIN_GIVEN && tell(2, 0, 1, 1) && bounds_are("app", 3, "bao", 3));
+    CHECK(read_as(DOQALLIN_LARGE_UTF8, fruits, 28, 3, 3) == DOQALLIN_GIVEN && bounds_are("app", 3, "bao", 3));
+    CHECK(read_as(DOQALLIN_BINARY, BYTES("\1\7\0\0\0\0\0\0\0\1\0\0\0\0\0\0\0\0\x16\1\1\0"), ROOM, ROOM) == DOQALLIN_GIVEN);
+    CHECK(tell(1, 0, 2, 0) && bounds_are("\0", 1, "", 0));
+    CHECK(read_as(DOQALLIN_BOOL, BYTES("\1\x1f\0\0\0\0\0\0\0\2\0\0\0\0\0\0\0\0\2\3"), ROOM, ROOM) == DOQALLIN_GIVEN);
+    CHECK(tell(2, 0, 2, 2) && bounds_are("\0", 1, "\1", 1));
+    CHECK(read_as(DOQALLIN_NULL, most, 10, 0, 0) == DOQALLIN_GIVEN && tell(UINT64_MAX, -1, 0, 0) && bounds_are("", 0, "", 0));
+    // A bound that is null is none: it may come from anywhere.
+    CHECK(read_as(DOQALLIN_I8, BYTES("\1\x0e\0\0\0\0\0\0\0\2\1\x0d\5"), ROOM, ROOM) == DOQALLIN_GIVEN && tell(2, -1, 0, 1));
+    CHECK(bounds_are("", 0, "\5", 1));
+    CHECK(read_as(DOQALLIN_UTF8, three, 22, ROOM, ROOM) == DOQALLIN_BAD_BYTES && none_read(18));
+    CHECK(read_as(DOQALLIN_I32, three, 21, ROOM, ROOM) == DOQALLIN_BAD_BYTES && none_read(21));
+    CHECK(read_as(DOQALLIN_I32, three, 23, ROOM, ROOM) == DOQALLIN_BAD_BYTES && none_read(22));
+    CHECK(read_as(DOQALLIN_I32, three, 0, ROOM, ROOM) == DOQALLIN_BAD_BYTES && none_read(0));
+    CHECK(read_as(DOQALLIN_I8, BYTES("\1\2\0\0\0\0\0\0\0\1\x0d\x80"), ROOM, ROOM) == DOQALLIN_BAD_BYTES && none_read(11));
+    CHECK(read_as(14, three, 22, ROOM, ROOM) == DOQALLIN_UNKNOWN_KIND && none_read(0));
+}
+
 static void calls(void) {
     fresh();
     CHECK(doqallin_call(BYTES("cast i32:1000i32 i16"), room, ROOM, &count) == DOQALLIN_GIVEN && holds(room, count, "i16:1000i16"));
@@ -268,10 +396,11 @@ static void calls(void) {
 
 #define LONG "0123456789012345678901234567"
 
-// The calls that take memory: of bounds at more than 22 bytes, of a line that makes lists, and of keys.
+// The calls that take memory: of bounds at more than 22 bytes, of a line that makes lists, of keys, and of statistics.
 static uint32_t take_memory(int which) {
     static const uint64_t offsets[] = {0, 28};
     static const struct doqallin_column bools = {DOQALLIN_BOOL, (const uint8_t *)"", 0, (const uint8_t *)"\1", 1, (const uint8_t *)"", 0, 0, 1};
+    static const uint8_t lowest[] = "\1\3\0\0\0\0\0\0\0\1\0\0\0\0\0\0\0\0\x15" LONG;
     static uint64_t starts[2];
     switch (which) {
     case 0: return doqallin_upper_bound_bytes(BYTES(LONG), 24, room, ROOM, &count);
@@ -280,6 +409,9 @@ static uint32_t take_memory(int which) {
     case 3: return doqallin_column_bounds_text(BYTES(LONG), offsets, 2, 24, room, ROOM, other, ROOM, &lengths);
     case 4: return doqallin_call(BYTES("cast list(i32):[1i32, 2i32] list(i64)"), room, ROOM, &count);
     case 5: return doqallin_row_keys(&bools, 1, BYTES("\0"), starts, 2, room, ROOM, &count, &fault);
+    case 6: return doqallin_column_statistics(&bools, 0, room, ROOM, &count, &fault);
+    case 7: return doqallin_merge_statistics(DOQALLIN_I32, three, 22, three, 22, room, ROOM, &count, &fault);
+    case 8: return doqallin_read_statistics(DOQALLIN_UTF8, lowest, sizeof lowest, room, ROOM, other, ROOM, &parts, &fault);
     default: exit(2);
     }
 }
@@ -289,10 +421,13 @@ static void say(const char *line) {
     if (write(2, line, strlen(line)) < 0) exit(2);
 }
 
-// Of what was given: 0 if it is the bound, the cast list or the key; 3 if it says that the cast found no memory; 1 otherwise.
+// Of what was given: 0 if it is the bound, the cast list, the key or the statistics; 3 if it says that the cast found no memory; 1 otherwise.
 static int given(int which) {
     if (which == 4) return holds(room, count, "list(i64):[1i64, 2i64]") ? 0 : holds(room, count, "OutOfMemory") ? 3 : 1;
     if (which == 5) return holds(room, count, "\3") ? 0 : 1;
+    if (which == 6) return count == 20 && !memcmp(room, "\1\x1f\0\0\0\0\0\0\0\1\0\0\0\0\0\0\0\0\3\3", 20) ? 0 : 1;
+    if (which == 7) return count == 22 && !memcmp(room, six, 22) ? 0 : 1;
+    if (which == 8) return parts.lower_length == 28 && !memcmp(room, LONG, 28) ? 0 : 1;
     return memcmp(which < 2 ? room : other, "012345678901234567890124", 24) ? 1 : 0;
 }
 
@@ -320,6 +455,9 @@ int main(int argc, char **argv) {
     zones();
     columns();
     row_keys();
+    column_statistics();
+    merged_statistics();
+    read_statistics();
     calls();
     printf("%d passed, %d failed\n", passed, failed);
     return failed != 0;

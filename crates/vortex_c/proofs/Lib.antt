@@ -3,5 +3,6 @@ mod ColumnBounds
 mod ColumnEnds
 mod ColumnOrder
 mod KeySteps
+mod PartSteps
 mod Truncations
 mod ZoneAnswers

@@ -4,7 +4,9 @@ pub mod ColumnCasts
 pub mod ColumnFaults
 pub mod Columns
 pub mod Integers
+pub mod Parts
 pub mod RowKeys
+pub mod Statistics
 pub mod UpperAnswers
 pub mod Uppers
 pub mod Words

@@ -12,15 +12,22 @@ pub use Rattle.vortex_pvalue.specs.Whole.{ptype_of, whole_of}
 pub use Rattle.vortex_value.specs.Values.RawTree.{raw_bytes, raw_text}
 pub use Rattle.vortex_array.specs.Strings.{HasNoUpper, IsLower, IsUpper}
 pub use Rattle.vortex_array.specs.Texts.{HasNoTextUpper, IsTextLower, IsTextUpper}
+pub use Rattle.column_cells.specs.Types.{type_of_kind}
+pub use Rattle.vortex_statistics.specs.Form.{AreOf, IsBoundOf}
+pub use Rattle.vortex_statistics.specs.Statistics.{known, known_bound}
 pub use Rattle.column_keys.specs.Tables.{AreSoundBefore, IsTableFault, rows_in}
 pub use Rattle.column_keys.specs.declared.faults.TableFault.{TableFault}
+pub use Rattle.column_statistics.specs.Forms.{IsColumnForm}
+pub use Rattle.column_statistics.specs.Items.{bytes_of_item}
 pub use Rattle.vortex_c.specs.Bounds.{HasNone, IsWholeOrBest}
 pub use Rattle.vortex_c.specs.ColumnAnswers.{AnswersColumn, KeepsTheRest}
 pub use Rattle.vortex_c.specs.ColumnCasts.{IsCastRefusal, IsColumnCast, SaysWhyNoCast, fault_of_cast, status_of_cast}
 pub use Rattle.vortex_c.specs.ColumnFaults.{place_in_column, status_of_column}
 pub use Rattle.vortex_c.specs.Columns.{AreEndsText, HasEndNoText, HasValue, IsColumn, IsGreatestAt, IsLeastAt, some_where, value_at}
 pub use Rattle.vortex_c.specs.Integers.{IsCastOf, IsInteger, IsNotCast, number_in, ptype_at}
+pub use Rattle.vortex_c.specs.Parts.{AreParts, ArePartsAt, IsBoundTold, SaysWhyNotRead, fault_of_read, status_of_read}
 pub use Rattle.vortex_c.specs.RowKeys.{AreAllKeys, HaveKeys, all_keys_length, fault_of_table, status_of_table}
+pub use Rattle.vortex_c.specs.Statistics.{HasAnswer, IsLengthOf, IsMergedAt, SaysWhyNoForm, SaysWhyNotMerged, fault_of_form, fault_of_merge, status_of_form, status_of_merge}
 pub use Rattle.vortex_c.specs.UpperAnswers.{AnswersUpper}
 pub use Rattle.vortex_c.specs.Uppers.{bytes_of}
 pub use Rattle.vortex_c.specs.Zones.{IsAnswerOfZones, may_hold_bytes}

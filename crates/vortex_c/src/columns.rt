@@ -1,6 +1,6 @@
 //! Bounds of a column: of its least and of its greatest value.
 
-ghost use Rattle.std.specs.Prelude.{◌≡◌, ◌≢◌, ◌+◌, ◌≤◌, ◌<◌, ◌⊎◌, [], IfErr, IfOk, IsTrue, IsUtf8, MatchBool, MatchOption, is_some, length, take, unwrap_or};
+ghost use Rattle.std.specs.Prelude.{◌≡◌, ◌≢◌, ◌+◌, ◌≤◌, ◌<◌, ◌⊎◌, [], IfErr, IfOk, IsTrue, IsUtf8, MatchBool, MatchOption, drop, is_some, length, take, unwrap_or};
 ghost use Rattle.vortex_c.specs.Words.{AnswersColumn, AreEndsText, HasEndNoText, HasNoTextUpper, HasNoUpper, HasValue, IsColumn, IsGreatestAt, IsLeastAt, IsLower, IsTextLower, IsTextUpper, IsUpper, KeepsTheRest, option_copied, some_where, value_at};
 
 use crate::bounds::{
@@ -218,10 +218,38 @@ fn give_both(
         upper: upper_bytes.len(),
         has_upper: upper.is_some(),
     };
-    if lower_room.len() < lower.len() || upper_room.len() < upper_bytes.len() {
+    write_both(lower, upper_bytes, lower_room, upper_room)
+}
+
+/// Writes the bytes of both bounds, each to its room, or neither if a room is too small.
+pub(crate) fn write_both(
+    lower: &[u8],
+    upper: &[u8],
+    lower_room: &mut [u8],
+    upper_room: &mut [u8],
+) -> u32
+    ensures statuses { (result ≡ GIVEN) ⊎ (result ≡ NO_ROOM) }
+    ensures lower_given { result ≡ GIVEN → take (length lower.now) lower_room.new ≡ lower.now }
+    ensures upper_given { result ≡ GIVEN → take (length upper.now) upper_room.new ≡ upper.now }
+    ensures within_lower { result ≡ GIVEN → length lower.now ≤ length lower_room.old }
+    ensures within_upper { result ≡ GIVEN → length upper.now ≤ length upper_room.old }
+    ensures small { result ≡ NO_ROOM → (length lower_room.old < length lower.now)
+        ⊎ (length upper_room.old < length upper.now) }
+
+    // What stays.
+    ensures lengths { (length lower_room.new ≡ length lower_room.old)
+        × (length upper_room.new ≡ length upper_room.old) }
+    ensures rest_lower { result ≡ GIVEN → drop (length lower.now) lower_room.new
+        ≡ drop (length lower.now) lower_room.old }
+    ensures rest_upper { result ≡ GIVEN → drop (length upper.now) upper_room.new
+        ≡ drop (length upper.now) upper_room.old }
+    ensures kept_lower { result ≢ GIVEN → lower_room.new ≡ lower_room.old }
+    ensures kept_upper { result ≢ GIVEN → upper_room.new ≡ upper_room.old }
+{
+    if lower_room.len() < lower.len() || upper_room.len() < upper.len() {
         return NO_ROOM;
     }
     lower_room[..lower.len()].copy_from_slice(lower);
-    upper_room[..upper_bytes.len()].copy_from_slice(upper_bytes);
+    upper_room[..upper.len()].copy_from_slice(upper);
     GIVEN
 }

@@ -42,3 +42,12 @@ pub(crate) fn place_in_column(fault: ColumnFault) -> usize
         ColumnFault::BadOffsets(row) | ColumnFault::NotUtf8(row) => row,
     }
 }
+
+/// Tells the place, and gives the status back.
+pub(crate) fn at(column: usize, place: usize, fault: &mut Fault, status: u32) -> u32
+    ensures status { result ≡ status }
+    ensures fault { fault.new ≡ record { column = column; place = place } }
+{
+    *fault = Fault { column, place };
+    status
+}

@@ -3,7 +3,7 @@
 ghost use Rattle.std.specs.Prelude.{◌≡◌, ◌≢◌, ◌+◌, ◌<◌, ◌≤◌, ◌⊎◌, drop, length};
 ghost use Rattle.vortex_c.specs.Words.{AreAllKeys, AreSoundBefore, HaveKeys, IsTableFault, TableFault, all_keys_length, fault_of_table, rows_in, status_of_table};
 
-use crate::fault::{Fault, place_in_column, status_of_column};
+use crate::fault::{Fault, at, place_in_column, status_of_column};
 use crate::status::{BAD_OPTIONS, GIVEN, NO_MEMORY, NO_ROOM, WRONG_LENGTH};
 use arrow_columns::Column;
 use column_keys::{TableFault, read_columns, row_count_of, row_keys_length, write_row_keys};
@@ -93,13 +93,4 @@ fn tell(refusal: TableFault, columns: usize, fault: &mut Fault) -> u32
         TableFault::BadOptions { column } => at(column, 0, fault, BAD_OPTIONS),
         TableFault::WrongLength { column } => at(column, 0, fault, WRONG_LENGTH),
     }
-}
-
-/// Tells the place, and gives the status back.
-fn at(column: usize, place: usize, fault: &mut Fault, status: u32) -> u32
-    ensures status { result ≡ status }
-    ensures fault { fault.new ≡ record { column = column; place = place } }
-{
-    *fault = Fault { column, place };
-    status
 }

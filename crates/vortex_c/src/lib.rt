@@ -1,6 +1,6 @@
 // SPDX-License-Identifier: Apache-2.0
 // SPDX-FileCopyrightText: Copyright the Vortex contributors; ported to Rattle and changed
-//! Casts, bounds, pruning and keys for callers from C: the static library `libdoqallin`.
+//! Casts, bounds, pruning, keys and statistics for callers from C: the static library `libdoqallin`.
 //!
 //! Most calls answer a status. Their clauses say what each status means, and what was written.
 #![tactic(auto)]
@@ -11,6 +11,8 @@ mod columns;
 mod fault;
 mod integers;
 mod keys;
+mod parts;
+mod statistics;
 mod status;
 mod version;
 mod zones;

@@ -24,11 +24,14 @@ pub const BAD_OFFSETS: u32 = 6;
 /// A code is of no kind of columns.
 pub const UNKNOWN_KIND: u32 = 7;
 
-/// Offset and length of a column are together above 2^64 - 1.
+/// Offset and length of a column, or the rows of two pieces, are together above 2^64 - 1.
 pub const TOO_MANY_ROWS: u32 = 8;
 
 /// A buffer of a column is too short for its rows.
 pub const TOO_SHORT: u32 = 9;
+
+/// Bytes are not of the form that is read.
+pub const BAD_BYTES: u32 = 10;
 
 /// Numbers of columns, of rows or of options differ that are to be equal.
 pub const WRONG_LENGTH: u32 = 12;

@@ -1,0 +1,62 @@
+-- Steps of the exports for statistics.
+use Rattle.std.proofs.Common.{◌≡◌, ◌∙◌, ℕ, Bool, true, List, length, take, Option, Some, None, is_some, option_map, unwrap_or, ap, refl, subst, sym}
+use Rattle.arrow_columns.specs.declared.kinds.Kind.{Kind}
+use Rattle.arrow_columns.specs.declared.kinds.Kind.TheVariants.{Binary, Boolean, Integer, LargeBinary, LargeUtf8, Null, Utf8}
+use Rattle.vortex_value.specs.Values.Content.{Content, null, sequence, string, tagged, text, truth, typed, whole}
+use Rattle.vortex_value.specs.Values.Scalars.{scalar_content}
+use Rattle.vortex_statistics.specs.Statistics.{Known, KnownBound, known_bound}
+use Rattle.vortex_statistics.specs.declared.column_statistics.Bound.{Bound}
+use Rattle.column_statistics.specs.Items.{IsItemOf}
+use Rattle.vortex_c.specs.Parts.{AreParts, IsBoundTold, IsCountTold, IsValueTold}
+use Rattle.vortex_c.specs.Statistics.{IsLengthOf}
+use Rattle.vortex_c.specs.declared.parts.StatisticsParts.{StatisticsParts}
+
+-- ---- a form in a room
+
+pub form_given : (Is : List ℕ → Type 0) (bytes slice room : List ℕ) (count : ℕ) → Is bytes → slice ≡ bytes → count ≡ length slice → take (length slice) room ≡ slice → Is (take count room)
+form_given Is bytes slice room count h e n t = subst Is (sym (ap (λ k. take k room) n ∙ t ∙ e)) h
+
+pub form_long : (Is : List ℕ → Type 0) (bytes slice : List ℕ) (count : ℕ) → Is bytes → slice ≡ bytes → count ≡ length slice → IsLengthOf Is count
+form_long Is bytes slice count h e n = (bytes, h, n ∙ ap length e)
+
+-- ---- parts
+
+pub count_told : (o : Option ℕ) (is_known : Bool) (count : ℕ) → is_known ≡ is_some o → count ≡ unwrap_or o 0 → IsCountTold o is_known count
+count_told None is_known count e n = (e, n)
+count_told (Some k) is_known count e n = (e, n)
+
+null_item : (kind : Kind) (bytes : List ℕ) → ¬ (IsItemOf kind null bytes)
+null_item (Integer k) bytes h = h
+null_item Boolean bytes h = h
+null_item Utf8 bytes h = h
+null_item LargeUtf8 bytes h = h
+null_item Binary bytes h = h
+null_item LargeBinary bytes h = h
+null_item Null bytes h = h
+
+-- a value that has bytes is told with these
+value_told : (kind : Kind) (x : Content) (exact : Bool) (bytes : List ℕ) → IsItemOf kind x bytes → IsValueTold kind x exact true exact bytes
+value_told kind null exact bytes h = absurd (null_item kind bytes h)
+value_told kind (truth b) exact bytes h = (refl, refl, h)
+value_told kind (whole z) exact bytes h = (refl, refl, h)
+value_told kind (text s) exact bytes h = (refl, refl, h)
+value_told kind (string s) exact bytes h = (refl, refl, h)
+value_told kind (sequence cs) exact bytes h = (refl, refl, h)
+value_told kind (tagged id c) exact bytes h = (refl, refl, h)
+value_told kind (typed t c) exact bytes h = (refl, refl, h)
+
+-- a bound that is there and has bytes
+pub some_told : (kind : Kind) (o : Option Bound) (b : Bound) (bytes : List ℕ) → o ≡ Some b → IsItemOf kind (scalar_content b.value) bytes → IsBoundTold kind (option_map known_bound o) true b.is_exact bytes
+some_told kind o b bytes e h = subst (λ p. IsBoundTold kind (option_map known_bound p) true b.is_exact bytes) (sym e) (value_told kind (scalar_content b.value) b.is_exact bytes h)
+
+-- the same bound by its bytes in a slice
+pub bound_told : (kind : Kind) (b : Option KnownBound) (is_there is_exact : Bool) (item slice : List ℕ) → slice ≡ item → IsBoundTold kind b is_there is_exact item → IsBoundTold kind b is_there is_exact slice
+bound_told kind b is_there is_exact item slice e h = subst (IsBoundTold kind b is_there is_exact) (sym e) h
+
+-- the same parts by what stands in the rooms
+pub parts_given : (kind : Kind) (s : Known) (lower upper lower_room upper_room : List ℕ) (p : StatisticsParts) → AreParts kind s lower upper p
+    → take (length lower) lower_room ≡ lower → take (length upper) upper_room ≡ upper → AreParts kind s (take p.lower_length lower_room) (take p.upper_length upper_room) p
+parts_given kind s lower upper lower_room upper_room p h e f =
+    let l : take p.lower_length lower_room ≡ lower = ap (λ n. take n lower_room) h.lower_length ∙ e in
+    let u : take p.upper_length upper_room ≡ upper = ap (λ n. take n upper_room) h.upper_length ∙ f in
+    subst (λ bs. AreParts kind s bs (take p.upper_length upper_room) p) (sym l) (subst (λ bs. AreParts kind s lower bs p) (sym u) h)

@@ -1,0 +1,68 @@
+-- What callers are told of the statistics of columns, in their stable form.
+use Rattle.std.specs.Prelude.{◌≡◌, ◌⊎◌, ℕ, List, length, Some, None}
+use Rattle.arrow_columns.specs.Kinds.{kind_at}
+use Rattle.arrow_columns.specs.declared.columns.Column.{Column}
+use Rattle.arrow_columns.specs.declared.kinds.Kind.{Kind}
+use Rattle.column_cells.specs.Types.{type_of_kind}
+use Rattle.column_statistics.specs.Forms.{IsFormFault, IsMergeFault, IsMergedForm}
+use Rattle.column_statistics.specs.declared.faults.MergeFault.{MergeFault}
+use Rattle.column_statistics.specs.declared.faults.MergeFault.TheVariants as merge
+use Rattle.column_statistics.specs.declared.faults.StatisticsFault.{StatisticsFault}
+use Rattle.column_statistics.specs.declared.faults.StatisticsFault.TheVariants as column
+use Rattle.vortex_c.specs.ColumnFaults.{place_in_column, status_of_column}
+use Rattle.vortex_c.specs.declared.fault.Fault.{Fault}
+use Rattle.vortex_c.specs.declared.status.TheConstants.{BAD_BYTES, GIVEN, NO_MEMORY, NO_ROOM, TOO_MANY_ROWS, UNKNOWN_KIND}
+
+-- there is an answer: it is given, or the room for it is too small
+abbrev pub HasAnswer : ℕ → Type 0
+HasAnswer status = (status ≡ GIVEN) ⊎ (status ≡ NO_ROOM)
+
+-- some bytes that are so have this length
+abbrev pub IsLengthOf : (List ℕ → Type 0) → ℕ → Type 0
+IsLengthOf Is count = (bytes : List ℕ) × Is bytes × (count ≡ length bytes)
+
+-- the code is of no kind, which is told of column 0
+abbrev pub SaysNoKind : ℕ → Fault → ℕ → Type 0
+SaysNoKind code after status = (kind_at code ≡ None) × (status ≡ UNKNOWN_KIND) × (after ≡ record { column = 0; place = 0 })
+
+-- ---- of a column
+
+-- the status of a column that has no form
+abbrev pub status_of_form : StatisticsFault → ℕ
+status_of_form column.OutOfMemory = NO_MEMORY
+status_of_form (column.Unreadable fault) = status_of_column fault
+
+-- where it is told to be, if it was there before: want of memory is nowhere
+abbrev pub fault_of_form : Fault → StatisticsFault → Fault
+fault_of_form before column.OutOfMemory = before
+fault_of_form before (column.Unreadable fault) = record { column = 0; place = place_in_column fault }
+
+-- the call with this status gave no form for such a reason, and told where
+abbrev pub SaysWhyNoForm : Column → Fault → Fault → ℕ → Type 0
+SaysWhyNoForm c before after status = (reason : StatisticsFault) × IsFormFault c reason × (status ≡ status_of_form reason) × (after ≡ fault_of_form before reason)
+
+-- ---- of two pieces
+
+-- the bytes are the form of both pieces, of a column of the kind with this code
+pub record IsMergedAt (code : ℕ) (one other bytes : List ℕ) : Type 0 where
+  pub kind : Kind
+  pub is_kind : kind_at code ≡ Some kind
+  pub merged : IsMergedForm (type_of_kind kind) one other bytes
+
+-- the status of pieces that are not merged
+abbrev pub status_of_merge : MergeFault → ℕ
+status_of_merge merge.OutOfMemory = NO_MEMORY
+status_of_merge merge.TooManyRows = TOO_MANY_ROWS
+status_of_merge (merge.BadBytes piece place) = BAD_BYTES
+
+-- where that is told to be, if it was there before: the piece, and the place in it
+abbrev pub fault_of_merge : Fault → MergeFault → Fault
+fault_of_merge before merge.OutOfMemory = before
+fault_of_merge before merge.TooManyRows = record { column = 0; place = 0 }
+fault_of_merge before (merge.BadBytes piece place) = record { column = piece; place = place }
+
+-- the call with this status merged nothing for such a reason, and told where
+abbrev pub SaysWhyNotMerged : ℕ → List ℕ → List ℕ → Fault → Fault → ℕ → Type 0
+SaysWhyNotMerged code one other before after status = SaysNoKind code after status
+    ⊎ ((kind : Kind) × (reason : MergeFault) × (kind_at code ≡ Some kind) × IsMergeFault (type_of_kind kind) one other reason
+    × (status ≡ status_of_merge reason) × (after ≡ fault_of_merge before reason))

@@ -1,0 +1,118 @@
+//! The statistics of columns, in their stable form.
+
+ghost use Rattle.std.specs.Prelude.{◌≡◌, ◌≢◌, ◌<◌, ◌≤◌, ◌⊎◌, drop, length, take};
+ghost use Rattle.vortex_c.specs.Words.{HasAnswer, IsColumnForm, IsLengthOf, IsMergedAt, SaysWhyNoForm, SaysWhyNotMerged, fault_of_form, fault_of_merge, status_of_form, status_of_merge};
+
+use crate::bounds::give;
+use crate::fault::{Fault, at, place_in_column, status_of_column};
+use crate::status::{BAD_BYTES, GIVEN, NO_MEMORY, NO_ROOM, TOO_MANY_ROWS, UNKNOWN_KIND};
+use arrow_columns::{Column, Kind};
+use column_statistics::{MergeFault, StatisticsFault, column_form, merged_form};
+use std::alloc::Global;
+
+/// The statistics of a column in their stable form. Bounds that are strings or bytes are cut to
+/// `max_length` bytes.
+///
+/// - `NO_ROOM`: `count` says how many bytes the form has.
+/// - `UNKNOWN_KIND`, `TOO_MANY_ROWS`, `TOO_SHORT`, `BAD_OFFSETS`, `NOT_UTF8`: the column cannot be
+///   read. `fault` says where.
+/// - `NO_MEMORY`: `fault` is not written.
+#[unsafe(no_mangle)]
+pub extern "C" fn doqallin_column_statistics(
+    alloc: Global,
+    column: &Column,
+    max_length: usize,
+    room: &mut [u8],
+    count: &mut usize,
+    fault: &mut Fault,
+) -> u32
+    ensures given { result ≡ GIVEN
+        → IsColumnForm column.now max_length (take count.new room.new) }
+    ensures within { result ≡ GIVEN → count.new ≤ length room.old }
+    ensures small { result ≡ NO_ROOM → length room.old < count.new }
+    ensures needed { result ≡ NO_ROOM
+        → IsLengthOf (IsColumnForm column.now max_length) count.new }
+    ensures refused { (HasAnswer result)
+        ⊎ SaysWhyNoForm column.now fault.old fault.new result }
+
+    // What is not said to be written stays.
+    ensures rest { result ≡ GIVEN → drop count.new room.new ≡ drop count.new room.old }
+    ensures kept { result ≢ GIVEN → room.new ≡ room.old }
+    ensures kept_count { (HasAnswer result) ⊎ (count.new ≡ count.old) }
+    ensures kept_fault { HasAnswer result → fault.new ≡ fault.old }
+{
+    match column_form(alloc, *column, max_length) {
+        Ok(bytes) => give(bytes.as_slice(), room, count),
+        Err(refusal) => tell_form(refusal, fault),
+    }
+}
+
+/// Tells why a column has no form, and gives the status.
+fn tell_form(refusal: StatisticsFault, fault: &mut Fault) -> u32
+    ensures status { result ≡ status_of_form refusal }
+    ensures fault { fault.new ≡ fault_of_form fault.old refusal }
+    ensures refused { ¬ (HasAnswer result) }
+{
+    match refusal {
+        StatisticsFault::OutOfMemory => NO_MEMORY,
+        StatisticsFault::Unreadable(cause) => {
+            at(0, place_in_column(cause), fault, status_of_column(cause))
+        }
+    }
+}
+
+/// The statistics of a piece of a column of this kind and then of another, in their stable form, of
+/// the forms of both.
+///
+/// - `NO_ROOM`: `count` says how many bytes the form has.
+/// - `UNKNOWN_KIND`: the code is of no kind.
+/// - `BAD_BYTES`: a piece is no form of statistics of the kind. `fault` says which, 0 or 1, and the
+///   first byte that none has there.
+/// - `TOO_MANY_ROWS`: 64 bits do not count the rows of both.
+/// - `NO_MEMORY`: `fault` is not written.
+#[unsafe(no_mangle)]
+pub extern "C" fn doqallin_merge_statistics(
+    alloc: Global,
+    kind: u8,
+    one: &[u8],
+    other: &[u8],
+    room: &mut [u8],
+    count: &mut usize,
+    fault: &mut Fault,
+) -> u32
+    ensures given { result ≡ GIVEN
+        → IsMergedAt kind one.now other.now (take count.new room.new) }
+    ensures within { result ≡ GIVEN → count.new ≤ length room.old }
+    ensures small { result ≡ NO_ROOM → length room.old < count.new }
+    ensures needed { result ≡ NO_ROOM
+        → IsLengthOf (IsMergedAt kind one.now other.now) count.new }
+    ensures refused { (HasAnswer result)
+        ⊎ SaysWhyNotMerged kind one.now other.now fault.old fault.new result }
+
+    // What is not said to be written stays.
+    ensures rest { result ≡ GIVEN → drop count.new room.new ≡ drop count.new room.old }
+    ensures kept { result ≢ GIVEN → room.new ≡ room.old }
+    ensures kept_count { (HasAnswer result) ⊎ (count.new ≡ count.old) }
+    ensures kept_fault { HasAnswer result → fault.new ≡ fault.old }
+{
+    let Some(kind) = Kind::from_code(kind) else {
+        return at(0, 0, fault, UNKNOWN_KIND);
+    };
+    match merged_form(alloc, kind, one, other) {
+        Ok(bytes) => give(bytes.as_slice(), room, count),
+        Err(refusal) => tell_merge(refusal, fault),
+    }
+}
+
+/// Tells why two pieces were not merged, and gives the status.
+fn tell_merge(refusal: MergeFault, fault: &mut Fault) -> u32
+    ensures status { result ≡ status_of_merge refusal }
+    ensures fault { fault.new ≡ fault_of_merge fault.old refusal }
+    ensures refused { ¬ (HasAnswer result) }
+{
+    match refusal {
+        MergeFault::OutOfMemory => NO_MEMORY,
+        MergeFault::TooManyRows => at(0, 0, fault, TOO_MANY_ROWS),
+        MergeFault::BadBytes { piece, place } => at(piece, place, fault, BAD_BYTES),
+    }
+}
