@@ -1,0 +1,15 @@
+-- Their number, and then each.
+use Rattle.vortex_statistics.specs.Cells.{cell_of}
+use Rattle.filter_form.specs.Form.{IsLiteral, literal_bytes}
+use Rattle.filter_form.specs.Lists.{AreListed, listed}
+use Rattle.filter_form.proofs.ListLaws.{count_stuck, list_answer}
+use Rattle.filter_form.proofs.LiteralLaws.{null_literal}
+use Rattle.filter_form.proofs.PlaceLaws.{places_apart}
+use Rattle.filter_form.proofs.ReadSteps.{passed_on}
+use Rattle.filter_form.proofs.literals.read_literals.Goals as goal
+
+pub returns-in_err-count : goal.returns-in_err-count
+returns-in_err-count c = passed_on (listed literal_bytes) (AreListed IsLiteral) _ _ _ _ _ c.from_residual.ensures (λ bad. count_stuck literal_bytes IsLiteral _ null_literal _ _ (c.in_err-count.ensures bad))
+
+pub returns : goal.returns
+returns c = list_answer places_apart literal_bytes IsLiteral cell_of c.in_ok-count.count c.read_so_many.result _ _ _ c.in_ok-count.ensures c.read_so_many.ensures

@@ -1,0 +1,207 @@
+//! A prepared filter from its form in bytes.
+
+ghost use Rattle.std.specs.Prelude.{◌≡◌, ◌≢◌, ◌∷◌, ◌⊎◌, ◌<◌, ◌≤◌, ℕ, List, Err, IfErr, IfOk, MatchResult};
+ghost use Rattle.filter_form.specs.Words.{BadBytes, HasForm, IsFirstWrong, IsForm, IsNode, OutOfMemory, Prepared, Reads, ReadsAs, ReadsBehind, ReadsBoth, form, formula, left, node_bytes, operator_byte, prepared};
+
+use crate::error::FilterFormError;
+use crate::heads::{Head, read_head};
+use crate::literals::{read_literal, read_literals};
+use crate::places::read_place;
+use crate::prepared::PreparedFilter;
+use crate::reader::{Fault, Reader};
+use crate::types::read_types;
+use crate::writing::VERSION;
+use std::alloc::Global;
+use vortex_filter::{CompareOperator, Filter};
+
+/// The prepared filter that has this form.
+///
+/// `BadBytes` if the bytes are not, whole, the form of a prepared filter: its place is that of the
+/// first byte that no form has there, or of the end if they end too early. `OutOfMemory` may come in
+/// place of each answer.
+pub fn read_filter(alloc: Global, bytes: &[u8]) -> Result<PreparedFilter, FilterFormError>
+    ensures read { IfOk result (λ p. HasForm (prepared p) × (bytes.now ≡ form (prepared p))) }
+    ensures whole { (p : Prepared) → HasForm p → bytes.now ≡ form p → ReadsAs p result }
+    ensures bad { (place : ℕ) → result ≡ Err (BadBytes place)
+        → IsFirstWrong IsForm bytes.now place }
+    ensures refused { IfErr result (λ e. (e ≡ OutOfMemory)
+        ⊎ ((place : ℕ) × (e ≡ BadBytes place))) }
+{
+    let mut reader = Reader { rest: bytes };
+    let answer = read_form(alloc, &mut reader);
+    let taken = bytes.len().saturating_sub(reader.rest.len());
+    match answer {
+        Ok(prepared) => whole_or_bad(prepared, taken, bytes.len()),
+        Err(Fault::NoMemory) => Err(FilterFormError::OutOfMemory),
+        Err(Fault::Bad) => Err(FilterFormError::BadBytes { place: taken }),
+    }
+}
+
+/// The prepared filter, if its form was all of the bytes.
+fn whole_or_bad(
+    prepared: PreparedFilter,
+    taken: usize,
+    length: usize,
+) -> Result<PreparedFilter, FilterFormError>
+    ensures { MatchResult result
+        (λ p. (p ≡ prepared) × (length ≤ taken))
+        (λ e. (e ≡ BadBytes taken) × (taken < length)) }
+{
+    if taken < length {
+        drop(prepared);
+        return Err(FilterFormError::BadBytes { place: taken });
+    }
+    Ok(prepared)
+}
+
+/// The prepared filter with whose form the bytes begin.
+fn read_form(alloc: Global, reader: &mut Reader<'_>) -> Result<PreparedFilter, Fault>
+    ensures { Reads form HasForm prepared result (left reader.old) (left reader.new) }
+{
+    read_version(reader)?;
+    let columns = read_types(alloc, reader)?;
+    match read_node(alloc, Filter::MAX_DEPTH, reader) {
+        Ok(filter) => Ok(PreparedFilter { columns, filter }),
+        Err(fault) => {
+            drop(columns);
+            Err(fault)
+        }
+    }
+}
+
+/// Takes the version.
+fn read_version(reader: &mut Reader<'_>) -> Result<(), Fault>
+    ensures { MatchResult result
+        (λ _. left reader.old ≡ 1 ∷ left reader.new)
+        (λ e. (left reader.new ≡ left reader.old)
+        × ((bs : List ℕ) → left reader.old ≢ 1 ∷ bs)) }
+{
+    if reader.takes(VERSION) {
+        Ok(())
+    } else {
+        Err(Fault::Bad)
+    }
+}
+
+/// The next filter, in which at most so many connectives nest.
+#[cycle(filters)]
+fn read_node(alloc: Global, depth: usize, reader: &mut Reader<'_>) -> Result<Filter, Fault>
+    ensures { Reads node_bytes (IsNode depth) formula
+        result (left reader.old) (left reader.new) }
+{
+    let head = read_head(depth, reader)?;
+    match head {
+        Head::Constant(truth) => Ok(Filter::Constant(truth)),
+        Head::Compare(operator) => read_comparison(alloc, operator, reader),
+        Head::IsNull => read_null_test(reader),
+        Head::In => read_membership(alloc, reader),
+        Head::Between => read_range(alloc, reader),
+        Head::StartsWith => read_prefix(alloc, reader),
+        Head::And => {
+            let (left, right) = read_parts(alloc, depth - 1, reader)?;
+            Ok(Filter::And(left, right))
+        }
+        Head::Or => {
+            let (one, other) = read_parts(alloc, depth - 1, reader)?;
+            Ok(Filter::Or(one, other))
+        }
+        Head::Not => {
+            let inner = read_part(alloc, depth - 1, reader)?;
+            Ok(Filter::Not(inner))
+        }
+    }
+}
+
+/// The next filter, in a box.
+#[cycle(filters)]
+fn read_part(alloc: Global, depth: usize, reader: &mut Reader<'_>) -> Result<Box<Filter>, Fault>
+    ensures { Reads node_bytes (IsNode depth) (λ part. formula part.value)
+        result (left reader.old) (left reader.new) }
+{
+    let filter = read_node(alloc, depth, reader)?;
+    Ok(Box::new(alloc, filter)?)
+}
+
+/// The next two filters, in boxes.
+#[cycle(filters)]
+fn read_parts(
+    alloc: Global,
+    depth: usize,
+    reader: &mut Reader<'_>,
+) -> Result<(Box<Filter>, Box<Filter>), Fault>
+    ensures { ReadsBoth depth result (left reader.old) (left reader.new) }
+{
+    let left = read_part(alloc, depth, reader)?;
+    match read_part(alloc, depth, reader) {
+        Ok(right) => Ok((left, right)),
+        Err(fault) => {
+            drop(left);
+            Err(fault)
+        }
+    }
+}
+
+// ---- tests
+
+/// A comparison, after its first byte.
+fn read_comparison(
+    alloc: Global,
+    operator: CompareOperator,
+    reader: &mut Reader<'_>,
+) -> Result<Filter, Fault>
+    ensures { (n : ℕ) → ReadsBehind (operator_byte operator) n
+        result (left reader.old) (left reader.new) }
+{
+    let column = read_place(reader)?;
+    let literal = read_literal(alloc, reader)?;
+    Ok(Filter::Compare {
+        column,
+        operator,
+        literal,
+    })
+}
+
+/// A test for null, after its first byte.
+fn read_null_test(reader: &mut Reader<'_>) -> Result<Filter, Fault>
+    ensures { (n : ℕ) → ReadsBehind 9 n result (left reader.old) (left reader.new) }
+{
+    let column = read_place(reader)?;
+    Ok(Filter::IsNull { column })
+}
+
+/// Whether a cell is equal to one of several literals, after its first byte.
+fn read_membership(alloc: Global, reader: &mut Reader<'_>) -> Result<Filter, Fault>
+    ensures { (n : ℕ) → ReadsBehind 10 n result (left reader.old) (left reader.new) }
+{
+    let column = read_place(reader)?;
+    let literals = read_literals(alloc, reader)?;
+    Ok(Filter::In { column, literals })
+}
+
+/// Whether a cell is from one literal up to another, after its first byte.
+fn read_range(alloc: Global, reader: &mut Reader<'_>) -> Result<Filter, Fault>
+    ensures { (n : ℕ) → ReadsBehind 11 n result (left reader.old) (left reader.new) }
+{
+    let column = read_place(reader)?;
+    let lower = read_literal(alloc, reader)?;
+    match read_literal(alloc, reader) {
+        Ok(upper) => Ok(Filter::Between {
+            column,
+            lower,
+            upper,
+        }),
+        Err(fault) => {
+            drop(lower);
+            Err(fault)
+        }
+    }
+}
+
+/// Whether a cell begins with a literal, after its first byte.
+fn read_prefix(alloc: Global, reader: &mut Reader<'_>) -> Result<Filter, Fault>
+    ensures { (n : ℕ) → ReadsBehind 12 n result (left reader.old) (left reader.new) }
+{
+    let column = read_place(reader)?;
+    let prefix = read_literal(alloc, reader)?;
+    Ok(Filter::StartsWith { column, prefix })
+}
