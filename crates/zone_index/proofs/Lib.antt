@@ -6,6 +6,7 @@ pub mod Filling
 pub mod Finding
 pub mod Forms
 pub mod Loop
-pub mod TakeMore
+pub mod Refusing
 pub mod Rests
+pub mod TakeMore
 pub mod Writing

@@ -3,7 +3,7 @@
 ghost use Rattle.std.specs.Prelude.{◌≡◌, ◌≢◌, ◌<◌, ◌≤◌, ◌+◌, ◌-◌, ◌^◌, ℕ, List, IfErr, IfOk, IfSome, length, count_by, drop, if◌then◌else◌};
 ghost use Rattle.csv_records.specs.Records.{records_of};
 ghost use Rattle.zone_index.specs.Asking.{Asks};
-ghost use Rattle.zone_index.specs.Faults.{IsOfRecord};
+ghost use Rattle.zone_index.specs.Faults.{IfRefused, IsOfRecord, TellsOneOf};
 ghost use Rattle.zone_index.specs.Zones.{AsksInPart, IsHeld, IsIndexOf, IsPartOfZone, IsZoneOf, zone_records};
 ghost use Rattle.zone_index.specs.declared.faults.Fault.TheVariants.{CutShort, Write as WriteFault};
 
@@ -33,6 +33,11 @@ pub fn count<R: ReadAt, M: Matcher>(
         → IsIndexOf (M.delimiter matcher.now) (M.has_row matcher.now) (M.Describes matcher.now) start zones.now was
         → length bytes < length was)) }
     ensures reading { IfErr result (λ fault. fault ≢ WriteFault) }
+    // The record that is told is one of the bytes, and begins there.
+    ensures refused { IfErr result (IfRefused (λ refusal. (was : List ℕ) (start : ℕ)
+        → IsHeld (R.bytes reader.old) was
+        → IsIndexOf (M.delimiter matcher.now) (M.has_row matcher.now) (M.Describes matcher.now) start zones.now was
+        → TellsOneOf (M.Refuses matcher.now) start (records_of (M.delimiter matcher.now) (drop start was)) refusal)) }
 {
     let mut total = 0u64;
     for zone in zones {
@@ -60,6 +65,10 @@ fn count_zone<R: ReadAt, M: Matcher>(
     ensures cut { IfErr result (λ fault. fault ≡ CutShort → IfSome (R.bytes reader.old)
         (λ bytes. length bytes < zone.now.first + zone.now.length)) }
     ensures reading { IfErr result (λ fault. fault ≢ WriteFault) }
+    ensures refused { IfErr result (IfRefused (λ refusal. (was : List ℕ) → IsHeld (R.bytes reader.old) was
+        → zone.now.first + zone.now.length ≤ length was
+        → TellsOneOf (M.Refuses matcher.now) zone.now.first
+        (zone_records (M.delimiter matcher.now) was zone.now) refusal)) }
 {
     let decision = matcher.decide(alloc, &zone.statistics)?;
     match decision {
@@ -72,7 +81,7 @@ fn count_zone<R: ReadAt, M: Matcher>(
     }
 }
 
-/// How many records of a text match.
+/// How many records of a text match. It stands at `first` in the file.
 pub(crate) fn count_in<M: Matcher>(
     alloc: Global,
     first: u64,
@@ -82,12 +91,15 @@ pub(crate) fn count_in<M: Matcher>(
     ensures counted { IfOk result (λ n. n ≡ count_by (M.matches matcher.now)
         (records_of (M.delimiter matcher.now) text.now)) }
     ensures why { IfErr result IsOfRecord }
+    ensures refused { IfErr result (IfRefused (TellsOneOf (M.Refuses matcher.now) first
+        (records_of (M.delimiter matcher.now) text.now))) }
 {
     let mut hits = 0u64;
     let mut rest = text;
     while !rest.is_empty() {
+        let place = first.saturating_add((text.len() - rest.len()) as u64);
         let (line, after) = cut_record(matcher.delimiter_byte(), rest);
-        let hit = is_hit(alloc, first, line, matcher)?;
+        let hit = is_hit(alloc, place, line, matcher)?;
         hits = one_more(hits, hit);
         rest = after;
     }

@@ -1,6 +1,8 @@
 //! An index is made of a stream.
 
-ghost use Rattle.std.specs.Prelude.{◌≡◌, ◌<◌, ◌+◌, ◌++◌, ℕ, List, Some, IfOk, length};
+ghost use Rattle.std.specs.Prelude.{◌≡◌, ◌<◌, ◌+◌, ◌++◌, ℕ, List, Some, IfErr, IfOk, length};
+ghost use Rattle.csv_records.specs.Records.{records_of};
+ghost use Rattle.zone_index.specs.Faults.{IfRefused, TellsOneOf};
 ghost use Rattle.zone_index.specs.Zones.{IsIndexOf, IsZoneOfText};
 
 use crate::faults::Fault;
@@ -24,6 +26,9 @@ pub fn index_records<B: BufRead, D: Describer>(
         → B.remaining reader.old ≡ Some bytes
         → IsIndexOf (D.delimiter describer.now) (D.has_row describer.now) (D.Describes describer.now)
         start zones.items (before ++ bytes)) }
+    // The record that is told is one of those, and begins there.
+    ensures refused { IfErr result (IfRefused (λ refusal. (bytes : List ℕ) → B.remaining reader.old ≡ Some bytes
+        → TellsOneOf (D.Refuses describer.now) start (records_of (D.delimiter describer.now) bytes) refusal)) }
 {
     let delimiter = describer.delimiter_byte();
     let mut zones = Vec::new(alloc);
@@ -52,8 +57,10 @@ fn zone_of<D: Describer>(
     text: &[u8],
     describer: &D,
 ) -> Result<Zone, Fault>
-    ensures { IfOk result (IsZoneOfText (D.delimiter describer.now) (D.has_row describer.now)
+    ensures zone { IfOk result (IsZoneOfText (D.delimiter describer.now) (D.has_row describer.now)
         (D.Describes describer.now) first text.now) }
+    ensures refused { IfErr result (IfRefused (TellsOneOf (D.Refuses describer.now) first
+        (records_of (D.delimiter describer.now) text.now))) }
 {
     match describer.describe(alloc, text) {
         Ok(described) => {

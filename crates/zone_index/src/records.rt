@@ -1,9 +1,11 @@
 //! What records mean to an index and a search.
 
-ghost use Rattle.std.specs.Prelude.{◌≡◌, ℕ, List, Bool, IfOk, length, not, count_by};
+ghost use Rattle.std.specs.Prelude.{◌≡◌, ℕ, List, Bool, IfErr, IfOk, length, not, count_by};
 ghost use Rattle.std.specs.List.{AllPass};
 ghost use Rattle.csv_records.specs.Records.{records_of};
+ghost use Rattle.zone_index.specs.Faults.{IfRecordRefused, TellsOneOf, TellsRecord};
 ghost use Rattle.zone_index.specs.Records.{is_same};
+ghost use Rattle.zone_index.specs.declared.faults.Cause.{Cause};
 ghost use Rattle.zone_index.specs.declared.records.Decision.{Decision};
 ghost use Rattle.zone_index.specs.declared.records.Decision.TheVariants.{AllMatch, NoneMatch};
 
@@ -41,6 +43,8 @@ pub trait Records {
     ghost has_row: { Self → List ℕ → Bool };
     // The bytes are statistics that are right for the rows of these records.
     ghost Describes: { Self → List ℕ → List (List ℕ) → Type 0 };
+    // Why a record that is refused has no row.
+    ghost Refuses: { Self → List ℕ → Cause → Type 0 };
 
     /// The byte between two fields.
     fn delimiter_byte(&self) -> Delimiter
@@ -56,7 +60,9 @@ pub trait Describer: Records {
         ensures rows { IfOk result (λ d. d.rows ≡
             count_by (Self.has_row self.now) (records_of (Self.delimiter self.now) text.now)) }
         ensures describes { IfOk result (λ d. Self.Describes self.now d.statistics.items
-            (records_of (Self.delimiter self.now) text.now)) };
+            (records_of (Self.delimiter self.now) text.now)) }
+        ensures refused { IfErr result (IfRecordRefused (TellsOneOf (Self.Refuses self.now) 0
+            (records_of (Self.delimiter self.now) text.now))) };
 }
 
 /// Says which records match.
@@ -66,9 +72,10 @@ pub trait Matcher: Records {
     // What statistics decide.
     ghost decides: { Self → List ℕ → Decision };
 
-    /// Whether a record has a row, which matches.
+    /// Whether a record has a row, which matches. `Refused` with the place 0.
     fn is_match(&self, alloc: Global, line: &[u8]) -> Result<bool, RecordFault>
-        ensures { IfOk result (λ hit. hit ≡ matches self.now line.now) };
+        ensures hit { IfOk result (λ hit. hit ≡ matches self.now line.now) }
+        ensures refused { IfErr result (IfRecordRefused (TellsRecord (Self.Refuses self.now) 0 line.now)) };
 
     /// What statistics say of the rows that they are of.
     fn decide(&self, alloc: Global, statistics: &[u8]) -> Result<Decision, AllocError>

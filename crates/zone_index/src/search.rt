@@ -4,7 +4,7 @@ ghost use Rattle.std.specs.Prelude.{◌≡◌, ◌≢◌, ◌<◌, ◌≤◌, �
 ghost use Rattle.std.specs.Io.KnownBytes.{Appends, Keeps};
 ghost use Rattle.csv_records.specs.Records.{records_of};
 ghost use Rattle.zone_index.specs.Asking.{Asks, AsksWithin};
-ghost use Rattle.zone_index.specs.Faults.{IsOfRecord};
+ghost use Rattle.zone_index.specs.Faults.{IfRefused, IsOfReading, IsOfRecord, TellsOneOf, TellsRecord};
 ghost use Rattle.zone_index.specs.Records.{kept_of};
 ghost use Rattle.zone_index.specs.Zones.{AsksOfZone, IsHeld, IsIndexOf, IsOfZone, IsWayOf, IsZoneOf, found_in, is_copied, is_copy, is_search, is_searched, is_skip, is_skipped, way_of, zone_bytes, zone_records};
 ghost use Rattle.zone_index.specs.declared.faults.Fault.TheVariants.{CutShort, TooFar, Write as WriteFault};
@@ -88,6 +88,11 @@ pub fn find<R: ReadAt, M: Matcher, W: Write>(
     ensures far { IfErr result (λ fault. fault ≡ TooFar → (was : List ℕ) (start : ℕ)
         → IsIndexOf (M.delimiter matcher.now) (M.has_row matcher.now) (M.Describes matcher.now) start zones.now was
         → 2 ^ 64 ≤ length was) }
+    // The record that is told is one of the bytes, and begins there.
+    ensures refused { IfErr result (IfRefused (λ refusal. (was : List ℕ) (start : ℕ)
+        → IsHeld (R.bytes reader.old) was
+        → IsIndexOf (M.delimiter matcher.now) (M.has_row matcher.now) (M.Describes matcher.now) start zones.now was
+        → TellsOneOf (M.Refuses matcher.now) start (records_of (M.delimiter matcher.now) (drop start was)) refusal)) }
 {
     let mut tally = Tally {
         skipped: 0,
@@ -126,6 +131,10 @@ fn answer_zone<R: ReadAt, M: Matcher, W: Write>(
     ensures cut { IfErr result (λ fault. fault ≡ CutShort → IfSome (R.bytes reader.old)
         (λ bytes. length bytes < zone.now.first + zone.now.length)) }
     ensures far { IfErr result (λ fault. fault ≡ TooFar → 2 ^ 64 ≤ zone.now.first + zone.now.length) }
+    ensures refused { IfErr result (IfRefused (λ refusal. (was : List ℕ) → IsHeld (R.bytes reader.old) was
+        → zone.now.first + zone.now.length ≤ length was
+        → TellsOneOf (M.Refuses matcher.now) zone.now.first
+        (zone_records (M.delimiter matcher.now) was zone.now) refusal)) }
 {
     let way = way_of_zone(alloc, zone, matcher)?;
     match way {
@@ -175,6 +184,7 @@ pub(crate) fn read_zone<R: ReadAt>(
     ensures kept { R.bytes reader.new ≡ R.bytes reader.old }
     ensures asks { AsksWithin (R.asked reader.old) (R.asked reader.new) zone.now.first (zone.now.first + zone.now.length) }
     ensures reading { IfErr result (λ fault. fault ≢ WriteFault) }
+    ensures why { IfErr result IsOfReading }
     ensures cut { IfErr result (λ fault. fault ≡ CutShort → IfSome (R.bytes reader.old)
         (λ bytes. length bytes < zone.now.first + zone.now.length)) }
     ensures far { IfErr result (λ fault. fault ≡ TooFar → 2 ^ 64 ≤ zone.now.first + zone.now.length) }
@@ -189,7 +199,7 @@ pub(crate) fn read_zone<R: ReadAt>(
     Ok(piece)
 }
 
-/// The records that match, and how many they are.
+/// The records that match, and how many they are. The text stands at `first` in the file.
 pub(crate) fn kept_in<M: Matcher>(
     alloc: Global,
     first: u64,
@@ -200,13 +210,16 @@ pub(crate) fn kept_in<M: Matcher>(
     ensures counted { IfOk result (λ kept. kept.1 ≡ count_by (M.matches matcher.now)
         (records_of (M.delimiter matcher.now) text.now)) }
     ensures why { IfErr result IsOfRecord }
+    ensures refused { IfErr result (IfRefused (TellsOneOf (M.Refuses matcher.now) first
+        (records_of (M.delimiter matcher.now) text.now))) }
 {
     let mut kept = Vec::new(alloc);
     let mut hits = 0u64;
     let mut rest = text;
     while !rest.is_empty() {
+        let place = first.saturating_add((text.len() - rest.len()) as u64);
         let (line, after) = cut_record(matcher.delimiter_byte(), rest);
-        if is_hit(alloc, first, line, matcher)? {
+        if is_hit(alloc, place, line, matcher)? {
             kept.extend_from_slice(line)?;
             hits += 1;
         }
@@ -215,19 +228,20 @@ pub(crate) fn kept_in<M: Matcher>(
     Ok((kept, hits))
 }
 
-/// Whether a record matches.
+/// Whether a record matches, which begins at this place.
 pub(crate) fn is_hit<M: Matcher>(
     alloc: Global,
-    first: u64,
+    place: u64,
     line: &[u8],
     matcher: &M,
 ) -> Result<bool, Fault>
     ensures hit { IfOk result (λ hit. hit ≡ M.matches matcher.now line.now) }
     ensures why { IfErr result IsOfRecord }
+    ensures refused { IfErr result (IfRefused (TellsRecord (M.Refuses matcher.now) place line.now)) }
 {
     match matcher.is_match(alloc, line) {
         Ok(hit) => Ok(hit),
-        Err(fault) => Err(fault.at(first)),
+        Err(fault) => Err(fault.at(place)),
     }
 }
 

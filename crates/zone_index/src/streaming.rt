@@ -4,6 +4,7 @@ ghost use Rattle.std.specs.Prelude.{◌≡◌, ◌≢◌, ◌<◌, ◌++◌, ℕ
 ghost use Rattle.std.specs.Io.KnownBytes.{Appends};
 ghost use Rattle.std.specs.List.{concat, filter};
 ghost use Rattle.csv_records.specs.Records.{records_of};
+ghost use Rattle.zone_index.specs.Faults.{IfRefused, TellsOneOf};
 ghost use Rattle.zone_index.specs.Records.{kept_of};
 ghost use Rattle.zone_index.specs.declared.faults.Fault.TheVariants.{Write as WriteFault};
 
@@ -36,6 +37,9 @@ pub fn find_rest<B: BufRead, M: Matcher, W: Write>(
         → B.remaining reader.old ≡ Some bytes
         → (first others : List (List ℕ)) × (records_of (M.delimiter matcher.now) bytes ≡ first ++ others)
         × Appends (W.contents writer.old) (W.contents writer.new) (concat (filter (M.matches matcher.now) first))) }
+    // The record that is told is one of those, and begins there.
+    ensures refused { IfErr result (IfRefused (λ refusal. (bytes : List ℕ) → B.remaining reader.old ≡ Some bytes
+        → TellsOneOf (M.Refuses matcher.now) start (records_of (M.delimiter matcher.now) bytes) refusal)) }
 {
     let delimiter = matcher.delimiter_byte();
     let mut text = Vec::new(alloc);
@@ -72,6 +76,9 @@ pub fn count_rest<B: BufRead, M: Matcher>(
     ensures counted { IfOk result (λ n. (bytes : List ℕ) → B.remaining reader.old ≡ Some bytes
         → n ≡ count_by (M.matches matcher.now) (records_of (M.delimiter matcher.now) bytes)) }
     ensures reading { IfErr result (λ fault. fault ≢ WriteFault) }
+    // The record that is told is one of those, and begins there.
+    ensures refused { IfErr result (IfRefused (λ refusal. (bytes : List ℕ) → B.remaining reader.old ≡ Some bytes
+        → TellsOneOf (M.Refuses matcher.now) start (records_of (M.delimiter matcher.now) bytes) refusal)) }
 {
     let delimiter = matcher.delimiter_byte();
     let mut text = Vec::new(alloc);

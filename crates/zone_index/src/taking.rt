@@ -2,6 +2,7 @@
 
 ghost use Rattle.std.specs.Prelude.{◌≡◌, ◌≢◌, ◌<◌, ◌+◌, ◌-◌, ◌^◌, ℕ, List, [], Some, IfErr, OnOk, if◌then◌else◌};
 ghost use Rattle.csv_records.specs.Records.{is_start, state_at};
+ghost use Rattle.zone_index.specs.Faults.{IsOfReading};
 ghost use Rattle.zone_index.specs.Taking.{IsTaken};
 ghost use Rattle.zone_index.specs.declared.faults.Fault.TheVariants.{Write as WriteFault};
 
@@ -24,6 +25,7 @@ pub fn take_records<B: BufRead>(
     ensures ended { OnOk result ((bytes : List ℕ) → B.remaining reader.old ≡ Some bytes
         → text.new.items ≡ [] → bytes ≡ []) }
     ensures reading { IfErr result (λ fault. fault ≢ WriteFault) }
+    ensures why { IfErr result IsOfReading }
 {
     let mut place = Place::Fresh;
     let mut taken = 0;

@@ -1,7 +1,9 @@
 -- A zone more, and all of them.
 use Rattle.std.proofs.Common.{rules, sym, subst, ℕ, List, Option}
+use Rattle.std.proofs.lemmas.Result.{err_from_is_err_and}
 use Rattle.zone_index.specs.Zones.{IsHeld, IsZoneOf}
 use Rattle.zone_index.proofs.Finding.{asks_part, at_item, total_all, total_more}
+use Rattle.zone_index.proofs.Refusing.{refused_in_zone}
 use Rattle.zone_index.proofs.counting.count.Goals as goal
 
 pub loop-zone-preserved : goal.loop-zone-preserved
@@ -28,3 +30,8 @@ returns-in-None-clause-asks g c =
 pub returns-clause-counted : goal.returns-clause-counted
 returns-clause-counted g c = λ was start held index.
     total_all (g.M.Records.delimiter c.args.matcher.now) (g.M.Records.has_row c.args.matcher.now) (g.M.Records.Describes c.args.matcher.now) (g.M.Matcher.matches c.args.matcher.now) start c.args.zones.now was c.loop-zone.zone-index c.loop-zone.total (search rules) index (c.loop-zone.invariant.1 was held index.right)
+
+pub returns-in_err-hits-clause-refused : goal.returns-in_err-hits-clause-refused
+returns-in_err-hits-clause-refused g c =
+    let p = err_from_is_err_and c.from_residual.result c.from_residual.ensures.1 in
+    rw (p.1, p.2) (refused_in_zone (g.M.Records.Refuses c.args.matcher.now) (g.M.Records.delimiter c.args.matcher.now) (g.M.Records.has_row c.args.matcher.now) (g.M.Records.Describes c.args.matcher.now) _ _ c.args.zones.now c.loop-zone.zone-index c.zone-item.result c.in_err-hits.field-0.0 (search rules) c.zone-item.is c.loop-zone.invariant.0 c.in_err-hits.ensures.refused)

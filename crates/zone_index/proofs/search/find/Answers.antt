@@ -1,8 +1,10 @@
 -- A zone more, and all of them.
 use Rattle.std.proofs.Common.{rules, arith, sym, ap, subst, ℕ, List, Option}
+use Rattle.std.proofs.lemmas.Result.{err_from_is_err_and}
 use Rattle.zone_index.specs.Zones.{IsHeld, IsZoneOf, is_copied, is_copy, is_search, is_searched, is_skip, is_skipped}
 use Rattle.zone_index.proofs.Finding.{asks_zone, at_item, capped_all, capped_more, counted_more, found_more, found_whole}
 use Rattle.zone_index.proofs.Rests.{appends-kept}
+use Rattle.zone_index.proofs.Refusing.{refused_in_zone}
 use Rattle.zone_index.proofs.search.find.Goals as goal
 
 pub loop-zone-preserved : goal.loop-zone-preserved
@@ -38,3 +40,8 @@ returns-clause-written g c = λ was start held index.
 pub returns-clause-found : goal.returns-clause-found
 returns-clause-found g c = λ was start held index.
     capped_all (g.M.Records.delimiter c.args.matcher.now) (g.M.Records.has_row c.args.matcher.now) (g.M.Records.Describes c.args.matcher.now) (g.M.Matcher.matches c.args.matcher.now) start c.args.zones.now was c.loop-zone.zone-index c.loop-zone.tally.found (search rules) index (c.loop-zone.invariant.7 was held index.right)
+
+pub returns-in_err-way-clause-refused : goal.returns-in_err-way-clause-refused
+returns-in_err-way-clause-refused g c =
+    let p = err_from_is_err_and c.from_residual.result c.from_residual.ensures.1 in
+    rw (p.1, p.2) (refused_in_zone (g.M.Records.Refuses c.args.matcher.now) (g.M.Records.delimiter c.args.matcher.now) (g.M.Records.has_row c.args.matcher.now) (g.M.Records.Describes c.args.matcher.now) _ _ c.args.zones.now c.loop-zone.zone-index c.zone-item.result c.in_err-way.field-0.0 (search rules) c.zone-item.is c.loop-zone.invariant.0 c.in_err-way.ensures.refused)
