@@ -1,0 +1,225 @@
+-- Statistics of columns are gathered, and their forms joined.
+use Rattle.std.proofs.Common.{◌≡◌, ◌<◌, ◌≤◌, ◌+◌, ◌^◌, ◌++◌, ◌⊎◌, inl, inr, ℕ, zero, suc, List, [], ◌∷◌, Bool, true, false, if◌then◌else◌, Option, None, Some, Result, Ok, Err, Vec, IfSome, Ordering, Contains, refl, sym, ap, ap₂, ◌∙◌, subst, length, map, take, arith, get_or, append_assoc, append-nil, option_map, take_all, is_some, count_by}
+use Rattle.std.specs.Global.{Global}
+use Rattle.std.specs.Int.{to_le_bytes, w64}
+use Rattle.std.specs.List.{AllByRecursion, cons_option, filter_map, flat_map}
+use Rattle.std.specs.Prelude.{OnOk}
+use Rattle.std.specs.Result.{is_ok}
+use Rattle.std.proofs.lemmas.Grind.{flat_map-append, take_at_read}
+use Rattle.std.proofs.lemmas.List.{map-append}
+use Rattle.std.proofs.lemmas.List.Recursion.{is_count_by}
+use Rattle.csv_records.specs.Records.{records_of}
+use Rattle.record_rows.specs.Cells.{column_type}
+use Rattle.record_rows.specs.declared.columns.ColumnType.{ColumnType}
+use Rattle.record_rows.specs.declared.columns.Kind.TheVariants as kinds
+use Rattle.vortex_dtype.specs.TypeTree.{Same, TypeTree}
+use Rattle.vortex_dtype.specs.declared.nullability.Nullability.TheVariants.{NonNullable}
+use Rattle.vortex_filter.specs.Formula.{cell_at}
+use Rattle.vortex_filter.specs.Pruning.{column}
+use Rattle.vortex_statistics.specs.Cells.{Cell, HasValue, IsUpTo, cell_of, cell_order, order_from_above}
+use Rattle.vortex_statistics.specs.Form.{IsHeldKnown, form}
+use Rattle.vortex_statistics.specs.FormAnswers.{AreTyped}
+use Rattle.vortex_statistics.specs.Statistics.{AreComplete, AreRight, IsLowerBound, IsUpperBound, Known, KnownBound, known, known_bound}
+use Rattle.vortex_statistics.specs.Truncating.{IsTruncatedLower, IsTruncatedUpper}
+use Rattle.vortex_statistics.specs.declared.column_statistics.Bound.{Bound}
+use Rattle.vortex_statistics.specs.declared.column_statistics.ColumnStatistics.{ColumnStatistics}
+use Rattle.vortex_value.specs.Equality.{same_type}
+use Rattle.vortex_value.specs.Lemmas.EqualityLaws.{same_type-Decides}
+use Rattle.vortex_value.specs.Order.{order}
+use Rattle.vortex_value.specs.declared.scalars.Scalar.{Scalar}
+use Rattle.zone_index.specs.Form.{bytes_form}
+use Rattle.record_search.specs.Searched.{AreCellsOf, AreDescribed, AreRightForms, AreRowsOf, IsCutOf, IsRightForm, ReachTo, row_cells}
+use Rattle.record_search.proofs.RowLaws.{cell_typed, row_reaches}
+
+-- ---- columns
+
+-- one row more
+pub column_more : (k : ℕ) (rows : List (Vec Scalar Global)) (i : ℕ) (row : Vec Scalar Global) → i < length rows → row ≡ get_or rows i row → column k (map row_cells (take (i + 1) rows)) ≡ column k (map row_cells (take i rows)) ++ cell_at (row_cells row) k ∷ []
+column_more k rows i row inside is =
+    let cell : Vec Scalar Global → Cell = λ r. cell_at (row_cells r) k in
+    ap (λ (rs : List (Vec Scalar Global)). column k (map row_cells rs)) ((take_at_read rows i row inside).1 ∙ ap (λ (r : Vec Scalar Global). take i rows ++ r ∷ []) (sym is))
+    ∙ ap (column k) (map-append row_cells (take i rows) (row ∷ []))
+    ∙ map-append (λ (cells : List Cell). cell_at cells k) (map row_cells (take i rows)) (row_cells row ∷ [])
+
+pub complete_more : (k : ℕ) (rows : List (Vec Scalar Global)) (i : ℕ) (row : Vec Scalar Global) (s t : Known) → i < length rows → row ≡ get_or rows i row → AreComplete s (column k (map row_cells (take i rows)))
+    → ((cells : List Cell) → AreComplete s cells → AreComplete t (cells ++ cell_at (row_cells row) k ∷ [])) → AreComplete t (column k (map row_cells (take (i + 1) rows)))
+complete_more k rows i row s t inside is before more = subst (AreComplete t) (sym (column_more k rows i row inside is)) (more (column k (map row_cells (take i rows))) before)
+
+reach_map : (k : ℕ) (rows : List (Vec Scalar Global)) (i : ℕ) (d : Vec Scalar Global) → ReachTo k (map row_cells rows) → i < length rows → k < length (row_cells (get_or rows i d))
+reach_map k [] i d h inside = absurd (omega arith)
+reach_map k (r ∷ rs) zero d h inside = h.0
+reach_map k (r ∷ rs) (suc i) d h inside = reach_map k rs i d h.1 (omega arith)
+
+-- the row at hand has a cell in this column
+pub reaches : (k : ℕ) (rows : List (Vec Scalar Global)) (i : ℕ) (row : Vec Scalar Global) (view : List Scalar) → ReachTo k (map row_cells rows) → i < length rows → row ≡ get_or rows i row → view ≡ row.items → k < length view
+reaches k rows i row view h inside is same =
+    let far : k < length (row_cells row) = subst (λ (r : Vec Scalar Global). k < length (row_cells r)) (sym is) (reach_map k rows i row h inside) in
+    let long : length (map cell_of row.items) ≡ length row.items = length_map row.items in
+    let here : length view ≡ length row.items = ap length same in
+    omega arith
+  where
+    length_map : (xs : List Scalar) → length (map cell_of xs) ≡ length xs
+    length_map [] = refl
+    length_map (x ∷ xs) = ap suc (length_map xs)
+
+pub all_reach : (cs : List ColumnType) (rows : List (List Cell)) (k : ℕ) → AreRowsOf cs rows → k < length cs → ReachTo k rows
+all_reach cs [] k h below = tt
+all_reach cs (row ∷ rows) k h below = (row_reaches cs row k h.0 below, all_reach cs rows k h.1 below)
+
+column_typed : (cs : List ColumnType) (rows : List (List Cell)) (k : ℕ) (d : ColumnType) → AreRowsOf cs rows → k < length cs → AllByRecursion (λ x. x.typed ≡ column_type (get_or cs k d)) (column k rows)
+column_typed cs [] k d h below = tt
+column_typed cs (row ∷ rows) k d h below = (cell_typed cs row k d h.0 below, column_typed cs rows k d h.1 below)
+
+at_cell : (P : Cell → Type 0) (cells : List Cell) (x : Cell) (k : ℕ) → AllByRecursion P cells → k < length cells → P (get_or cells k x)
+at_cell P [] x k h below = absurd (omega arith)
+at_cell P (c ∷ cs) x zero h below = h.0
+at_cell P (c ∷ cs) x (suc k) h below = at_cell P cs x k h.1 (omega arith)
+
+each_cell : (P : Cell → Type 0) (cells : List Cell) → AllByRecursion P cells → (x : Cell) → Contains cells x → P x
+each_cell P cells h x c = subst P c.2 (at_cell P cells x c.0 h c.1)
+
+-- ---- types of bounds
+
+-- two cells that compare have one type
+ordered_same : (s t : TypeTree) (o r : Option Ordering) (q : Ordering) (b : Bool) → same_type s t ≡ b → (if b then o else None) ≡ Some q → Same s t
+ordered_same s t o r q true e h = (same_type-Decides s t).0 e
+ordered_same s t o r q false e h = absurd cc
+
+compare_same : (x y : Cell) (q : Ordering) → cell_order x y ≡ Some q → Same x.typed y.typed
+compare_same x y q h = ordered_same x.typed y.typed (order x.content y.content) None q (same_type x.typed y.typed) refl h
+
+up_to_same : (x y : Cell) → IsUpTo cell_order x y → Same x.typed y.typed
+up_to_same x y (inl h) = compare_same x y _ h
+up_to_same x y (inr h) = compare_same x y _ h
+
+up_from_same : (x y : Cell) → IsUpTo order_from_above x y → Same y.typed x.typed
+up_from_same x y (inl h) = compare_same y x _ h
+up_from_same x y (inr h) = compare_same y x _ h
+
+same_at : (s t u : TypeTree) → Same s t → t ≡ u → Same s u
+same_at s t u h e = subst (λ (v : TypeTree). Same s v) e h
+
+lower_typed : (t : TypeTree) (n : ℕ) (cells : List Cell) (w s : Option Bound) → AllByRecursion (λ x. x.typed ≡ t) cells → IfSome (option_map known_bound w) (λ b. b.is_exact ≡ true) → IfSome (option_map known_bound w) (λ b. IsLowerBound b cells)
+    → IsTruncatedLower n w s → IfSome (option_map known_bound s) (λ b. IsLowerBound b cells) → IfSome (option_map known_bound s) (λ b. Same b.value.typed t)
+lower_typed t n cells w None all exact whole cut right = tt
+lower_typed t n cells None (Some b) all exact whole cut right = absurd cc
+lower_typed t n cells (Some a) (Some b) all exact whole cut right =
+    let one = whole.exact exact in
+    same_at _ one.0.typed t (up_to_same _ one.0 (right.bounds one.0 one.1)) (each_cell (λ x. x.typed ≡ t) cells all one.0 one.1.cell)
+
+upper_typed : (t : TypeTree) (n : ℕ) (cells : List Cell) (w s : Option Bound) → AllByRecursion (λ x. x.typed ≡ t) cells → IfSome (option_map known_bound w) (λ b. b.is_exact ≡ true) → IfSome (option_map known_bound w) (λ b. IsUpperBound b cells)
+    → IsTruncatedUpper n w s → IfSome (option_map known_bound s) (λ b. IsUpperBound b cells) → IfSome (option_map known_bound s) (λ b. Same b.value.typed t)
+upper_typed t n cells w None all exact whole cut right = tt
+upper_typed t n cells None (Some b) all exact whole cut right = absurd cc
+upper_typed t n cells (Some a) (Some b) all exact whole cut right =
+    let one = whole.exact exact in
+    same_at _ one.0.typed t (sym (up_from_same _ one.0 (right.bounds one.0 one.1))) (each_cell (λ x. x.typed ≡ t) cells all one.0 one.1.cell)
+
+cut_typed : (t : TypeTree) (n : ℕ) (cells : List Cell) (s : ColumnStatistics) → AllByRecursion (λ x. x.typed ≡ t) cells → IsCutOf n cells s → AreRight (known s) cells → AreTyped t (known s)
+cut_typed t n cells s all h right =
+    record {
+      lower = lower_typed t n cells h.whole.lower s.lower all h.complete.exact.lower h.complete.right.lower h.cut.lower right.lower;
+      upper = upper_typed t n cells h.whole.upper s.upper all h.complete.exact.upper h.complete.right.upper h.cut.upper right.upper;
+    }
+
+-- ---- forms
+
+forms_push : (k : ℕ) (cs : List ColumnType) (c : ColumnType) (rows : List (List Cell)) (ps : List (List ℕ)) (p : List ℕ) → AreRightForms k cs rows ps → IsRightForm (column_type c) (column (k + length cs) rows) p → AreRightForms k (cs ++ c ∷ []) rows (ps ++ p ∷ [])
+forms_push k [] c rows [] p h new = let e : k + 0 ≡ k = omega arith in (subst (λ (j : ℕ). IsRightForm (column_type c) (column j rows) p) e new, tt)
+forms_push k [] c rows (q ∷ ps) p h new = absurd h
+forms_push k (b ∷ cs) c rows [] p h new = absurd h
+forms_push k (b ∷ cs) c rows (q ∷ ps) p h new =
+    let e : k + suc (length cs) ≡ suc k + length cs = omega arith in
+    (h.0, forms_push (suc k) cs c rows ps p h.1 (subst (λ (j : ℕ). IsRightForm (column_type c) (column j rows) p) e new))
+
+pub none_described : (columns : List ColumnType) (rows : List (List Cell)) (output : List ℕ) → output ≡ [] → AreDescribed (take 0 columns) rows output
+none_described columns rows output e = record { forms = []; is = e; right = tt }
+
+pub some_column : ColumnType
+some_column = record { kind = kinds.Utf8; nullability = NonNullable }
+
+-- a column more
+pub described_more : (columns : List ColumnType) (rows : List (List Cell)) (k n : ℕ) (s : ColumnStatistics) (output new : List ℕ) → k < length columns → AreRowsOf columns rows → AreDescribed (take k columns) rows output
+    → IsCutOf n (column k rows) s → AreRight (known s) (column k rows) → IsHeldKnown (known s) → length (form (known s)) < 2 ^ 64 → new ≡ output ++ bytes_form (form (known s)) → AreDescribed (take (k + 1) columns) rows new
+described_more columns rows k n s output new below of before cut right held fits appended =
+    let c = get_or columns k some_column in
+    let more : take (k + 1) columns ≡ take k columns ++ c ∷ [] = (take_at_read columns k some_column below).1 in
+    let long : length (take k columns) ≡ k = length_front columns k below in
+    let bytes = form (known s) in
+    let one : IsRightForm (column_type c) (column k rows) bytes = record {
+      fits = fits;
+      statistics = known s;
+      held = held;
+      is = refl;
+      typed = cut_typed (column_type c) n (column k rows) s (column_typed columns rows k some_column of below) cut right;
+      right = right;
+    } in
+    let here : IsRightForm (column_type c) (column (0 + length (take k columns)) rows) bytes = let e : k ≡ 0 + length (take k columns) = omega arith in subst (λ (j : ℕ). IsRightForm (column_type c) (column j rows) bytes) e one in
+    subst (λ (cs : List ColumnType). AreDescribed cs rows new) (sym more) (record {
+      forms = before.forms ++ bytes ∷ [];
+      is = appended ∙ ap (λ (l : List ℕ). l ++ bytes_form bytes) before.is ∙ ap (λ (l : List ℕ). flat_map bytes_form before.forms ++ l) (sym (append-nil (bytes_form bytes))) ∙ sym (flat_map-append bytes_form before.forms (bytes ∷ []));
+      right = forms_push 0 (take k columns) c rows before.forms bytes before.right here;
+    })
+  where
+    length_front : (cs : List ColumnType) (j : ℕ) → j < length cs → length (take j cs) ≡ j
+    length_front cs zero h = refl
+    length_front [] (suc j) h = absurd (omega arith)
+    length_front (b ∷ cs) (suc j) h = ap suc (length_front cs j (omega arith))
+
+-- ---- records
+
+filter_more : (h : List ℕ → Option (List Cell)) (line : List ℕ) (lines : List (List ℕ)) → filter_map h (line ∷ lines) ≡ filter_map h (line ∷ []) ++ filter_map h lines
+filter_more h line lines = by_row (h line) refl
+  where
+    by_row : (o : Option (List Cell)) → h line ≡ o → cons_option (h line) (filter_map h lines) ≡ cons_option (h line) [] ++ filter_map h lines
+    by_row None e = rw e refl
+    by_row (Some row) e = rw e refl
+
+-- the rows of one record more
+pub rows_more : (h : List ℕ → Option (List Cell)) (d : ℕ) (text line rest : List ℕ) (old new all : List (List Cell)) → records_of d text ≡ line ∷ records_of d rest → old ++ filter_map h (records_of d text) ≡ all → new ≡ old ++ filter_map h (line ∷ []) → new ++ filter_map h (records_of d rest) ≡ all
+rows_more h d text line rest old new all cut before pushed =
+    ap (λ (l : List (List Cell)). l ++ filter_map h (records_of d rest)) pushed ∙ append_assoc old (filter_map h (line ∷ [])) (filter_map h (records_of d rest))
+    ∙ ap (λ (l : List (List Cell)). old ++ l) (sym (filter_more h line (records_of d rest)) ∙ ap (filter_map h) (sym cut)) ∙ before
+
+-- the rows with this one, if there is one
+abbrev pub with_row : List (List Cell) → Option (List Cell) → List (List Cell)
+with_row old None = old
+with_row old (Some row) = old ++ row ∷ []
+
+pub row_pushed : (h : List ℕ → Option (List Cell)) (line : List ℕ) (o : Option (List Cell)) (old new : List (List Cell)) → h line ≡ o → new ≡ with_row old o → new ≡ old ++ filter_map h (line ∷ [])
+row_pushed h line None old new e is = is ∙ sym (append-nil old) ∙ ap (λ (r : Option (List Cell)). old ++ cons_option r []) (sym e)
+row_pushed h line (Some row) old new e is = is ∙ ap (λ (r : Option (List Cell)). old ++ cons_option r []) (sym e)
+
+-- all columns
+pub all_described : (columns : List ColumnType) (rows : List (List Cell)) (k : ℕ) (output : List ℕ) → length columns ≤ k → AreDescribed (take k columns) rows output → AreDescribed columns rows output
+all_described columns rows k output ended h = subst (λ (cs : List ColumnType). AreDescribed cs rows output) (take_all k columns ended) h
+
+-- the length of a form and the form itself, one after the other
+pub form_pushed : {T E : Type 0} (r : Result T E) (old one two bytes f : List ℕ) (n : ℕ) → one ≡ old ++ to_le_bytes w64 n → n ≡ length bytes → bytes ≡ f → two ≡ (if is_ok r then one ++ bytes else one) → OnOk r (two ≡ old ++ bytes_form f)
+form_pushed (Ok x) old one two bytes f n before count same h =
+    let whole : to_le_bytes w64 n ++ bytes ≡ bytes_form f = ap (λ (m : ℕ). to_le_bytes w64 m ++ bytes) count ∙ ap bytes_form same in
+    h ∙ ap (λ (l : List ℕ). l ++ bytes) before ∙ append_assoc old (to_le_bytes w64 n) bytes ∙ ap (λ (l : List ℕ). old ++ l) whole
+form_pushed (Err e) old one two bytes f n before count same h = tt
+
+-- ---- how many rows
+
+count_one : (o : Option (List Cell)) (rest : List (List Cell)) → length (cons_option o rest) ≡ (if is_some o then 1 + length rest else length rest)
+count_one None rest = refl
+count_one (Some row) rest = let more : suc (length rest) ≡ 1 + length rest = omega arith in more
+
+rows_counted : (h : List ℕ → Option (List Cell)) (records : List (List ℕ)) → length (filter_map h records) ≡ count_by (λ line. is_some (h line)) records
+rows_counted h records = is_count_by (λ (lines : List (List ℕ)). length (filter_map h lines)) (λ line. is_some (h line)) refl (λ line lines. count_one (h line) (filter_map h lines)) records
+
+length_cells : (rows : List (Vec Scalar Global)) → length (map row_cells rows) ≡ length rows
+length_cells [] = refl
+length_cells (row ∷ rows) = ap suc (length_cells rows)
+
+-- as many rows as records that have one
+pub rows_are_counted : (h : List ℕ → Option (List Cell)) (rows : List (Vec Scalar Global)) (records : List (List ℕ)) → map row_cells rows ≡ filter_map h records → length rows ≡ count_by (λ line. is_some (h line)) records
+rows_are_counted h rows records e = sym (length_cells rows) ∙ ap length e ∙ rows_counted h records
+
+-- the cell of a scalar that stands in a row
+pub cell_there : (row : List Scalar) (k : ℕ) (x : Scalar) → k < length row → x ≡ get_or row k x → cell_at (map cell_of row) k ≡ cell_of x
+cell_there [] k x inside is = absurd (omega arith)
+cell_there (r ∷ rs) zero x inside is = ap cell_of (sym is)
+cell_there (r ∷ rs) (suc k) x inside is = cell_there rs k x (omega arith) is

@@ -1,0 +1,9 @@
+pub mod DecodeLaws
+pub mod Decoded
+pub mod DescribeLaws
+pub mod ReadBack
+pub mod ReadColumns
+pub mod RefusedLaws
+pub mod RowLaws
+pub mod SameIndex
+pub mod SearchLaws

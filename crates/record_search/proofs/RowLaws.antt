@@ -1,0 +1,180 @@
+-- The row that is read of a record is the one that its definition computes.
+use Rattle.std.proofs.Common.{◌≡◌, ◌<◌, ◌&&◌, ◌+◌, ℕ, ℤ, zero, suc, List, [], ◌∷◌, Bool, true, false, if◌then◌else◌, Option, None, Some, Result, Ok, Err, IsUtf8, MatchBool, refl, sym, ap, ap₂, ◌∙◌, subst, length, map, arith, get_or, slice_get, nat_lt}
+use Rattle.std.specs.List.{AllByRecursion, filter_map, list_all}
+use Rattle.std.specs.Char.{digit_value, is_digit}
+use Rattle.std.specs.Str.{is_utf8}
+use Rattle.std.specs.Str.Parse.{AllDigits, IsNumeral, signed_digits_value, without_leading_sign}
+use Rattle.std.proofs.lemmas.Bool.{and_from, and_parts, ltb-true, lt-ltb}
+use Rattle.std.proofs.lemmas.Str.{IsUtf8-from_is_utf8, is_utf8-from_IsUtf8}
+use Rattle.hex.specs.Hex.{decode_of}
+use Rattle.hex.specs.declared.error.FromHexError.{FromHexError}
+use Rattle.csv_records.specs.Rows.{Field, rows_of}
+use Rattle.record_rows.specs.Cells.{HasNoCell, IsCell, IsContent, Means, column_type, is_null_field}
+use Rattle.record_rows.specs.Rows.{AreCells, IsLenientNull, IsRow, IsTaken}
+use Rattle.record_rows.specs.Words.{IsIntegerWord}
+use Rattle.record_rows.specs.declared.columns.ColumnType.{ColumnType}
+use Rattle.record_rows.specs.declared.columns.Kind.{Kind}
+use Rattle.record_rows.specs.declared.columns.Kind.TheVariants as kinds
+use Rattle.vortex_dtype.specs.TypeTree.{TypeTree}
+use Rattle.vortex_dtype.specs.declared.nullability.Nullability.{Nullability}
+use Rattle.vortex_dtype.specs.declared.nullability.Nullability.TheVariants.{NonNullable, Nullable}
+use Rattle.vortex_dtype.specs.declared.ptype.PType.{PType}
+use Rattle.vortex_filter.specs.Formula.{cell_at}
+use Rattle.vortex_pvalue.specs.Numbers.{in_range}
+use Rattle.vortex_pvalue.specs.RangeLaws.{in_range_back, in_range_true}
+use Rattle.vortex_statistics.specs.Cells.{Cell, cell_of}
+use Rattle.vortex_value.specs.Values.Content.{Content, null, string, text, whole}
+use Rattle.vortex_value.specs.Values.Scalars.{scalar_content, scalar_type}
+use Rattle.vortex_value.specs.declared.scalars.Scalar.{Scalar}
+use Rattle.record_search.specs.Contents.{bytes_content, cell_before, cells_of, field_content, is_integer_word, is_numeral, only_row, or_null, row_of, word_content}
+use Rattle.record_search.specs.Searched.{AreCellsOf, AreRowsOf}
+
+-- ---- words
+
+digits_to : (ds : List ℕ) → AllDigits 10 ds → list_all (λ c. is_digit c 10) ds ≡ true
+digits_to [] h = refl
+digits_to (c ∷ cs) h = and_from (is_digit c 10) _ (lt-ltb (digit_value c) 10 h.0) (digits_to cs h.1)
+
+digits_from : (ds : List ℕ) → list_all (λ c. is_digit c 10) ds ≡ true → AllDigits 10 ds
+digits_from [] h = tt
+digits_from (c ∷ cs) h = let p = and_parts (is_digit c 10) _ h in (ltb-true (digit_value c) 10 p.0, digits_from cs p.1)
+
+numeral_to : (ds : List ℕ) → IsNumeral 10 ds → is_numeral ds ≡ true
+numeral_to ds h = and_from (nat_lt 0 (length ds)) _ (lt-ltb 0 (length ds) h.0) (digits_to ds h.1)
+
+numeral_from : (ds : List ℕ) → is_numeral ds ≡ true → IsNumeral 10 ds
+numeral_from ds h = let p = and_parts (nat_lt 0 (length ds)) _ h in (ltb-true 0 (length ds) p.0, digits_from ds p.1)
+
+integer_to : (k : PType) (word : List ℕ) (z : ℤ) → IsIntegerWord k word z → is_integer_word k word ≡ true
+integer_to k word z h =
+    and_from (is_utf8 word) _ (is_utf8-from_IsUtf8 word h.text)
+    (and_from (is_numeral (without_leading_sign word)) _ (numeral_to (without_leading_sign word) h.digits) (ap (in_range k) h.value ∙ in_range_true k z h.fits))
+
+integer_from : (k : PType) (word : List ℕ) → is_integer_word k word ≡ true → IsIntegerWord k word (signed_digits_value 10 word)
+integer_from k word h =
+    let p = and_parts (is_utf8 word) _ h in
+    let q = and_parts (is_numeral (without_leading_sign word)) _ p.1 in
+    record { text = IsUtf8-from_is_utf8 word p.0; digits = numeral_from (without_leading_sign word) q.0; value = refl; fits = in_range_back k (signed_digits_value 10 word) q.1 }
+
+chosen_content : (b : Bool) (c d : Content) → (if b then Some c else None) ≡ Some d → (b ≡ true) × (c ≡ d)
+chosen_content true c d e = (refl, cc)
+chosen_content false c d e = absurd cc
+
+bytes_from : (r : Result (List ℕ) FromHexError) (c : Content) → bytes_content r ≡ Some c → (bytes : List ℕ) × (r ≡ Ok bytes) × (c ≡ string bytes)
+bytes_from (Ok bytes) c e = (bytes, refl, cc)
+bytes_from (Err x) c e = absurd cc
+
+-- a word that means a content is it
+word_to : (kind : Kind) (word : List ℕ) (c : Content) → Means kind word c → word_content kind word ≡ Some c
+word_to (kinds.Integer k) word c h = rw (integer_to k word h.0 h.1) (ap (λ (z : ℤ). Some (whole z)) h.1.value ∙ ap (λ (d : Content). Some d) (sym h.2))
+word_to kinds.Utf8 word c h = rw (is_utf8-from_IsUtf8 word h.0) (ap (λ (d : Content). Some d) (sym h.1))
+word_to kinds.Binary word c h = ap bytes_content h.1 ∙ ap (λ (d : Content). Some d) (sym h.2)
+
+word_from : (kind : Kind) (word : List ℕ) (c : Content) → word_content kind word ≡ Some c → Means kind word c
+word_from (kinds.Integer k) word c e =
+    let p = chosen_content (is_integer_word k word) (whole (signed_digits_value 10 word)) c e in
+    (signed_digits_value 10 word, integer_from k word p.0, sym p.1)
+word_from kinds.Utf8 word c e =
+    let p = chosen_content (is_utf8 word) (text word) c e in
+    (IsUtf8-from_is_utf8 word p.0, sym p.1)
+word_from kinds.Binary word c e = bytes_from (decode_of word) c e
+
+-- ---- fields
+
+cell_field : (l : Bool) (column : ColumnType) (f : Field) (c : Content) (b : Bool) → is_null_field column.nullability f ≡ b → MatchBool b (c ≡ null) (Means column.kind f.text c) → field_content l column f ≡ Some c
+cell_field l column f c true e h = rw e (ap (λ (d : Content). Some d) (sym h))
+cell_field l column f c false e h = rw (e, word_to column.kind f.text c h) refl
+
+none_word : (column : ColumnType) (f : Field) (o : Option Content) → word_content column.kind f.text ≡ o → is_null_field column.nullability f ≡ false → HasNoCell column f → o ≡ None
+none_word column f None e other none = refl
+none_word column f (Some c) e other none = absurd (none c (subst (λ (b : Bool). MatchBool b (c ≡ null) (Means column.kind f.text c)) (sym other) (word_from column.kind f.text c e)))
+
+lenient_null : (l : Bool) (n : Nullability) → l ≡ true → n ≡ Nullable → or_null l n None ≡ Some null
+lenient_null true Nullable e h = refl
+lenient_null true NonNullable e h = absurd cc
+lenient_null false n e h = absurd cc
+
+null_field : (l : Bool) (column : ColumnType) (f : Field) (b : Bool) → is_null_field column.nullability f ≡ b → l ≡ true → column.nullability ≡ Nullable → HasNoCell column f → field_content l column f ≡ Some null
+null_field l column f true e asked takes none = rw e refl
+null_field l column f false e asked takes none = rw (e, none_word column f (word_content column.kind f.text) refl e none) (lenient_null l column.nullability asked takes)
+
+-- what is taken of a field is what it is in its column
+pub record IsFieldOf (l : Bool) (column : ColumnType) (f : Field) (x : Scalar) : Type 0 where
+  pub content : field_content l column f ≡ Some (scalar_content x)
+  pub typed : scalar_type x ≡ column_type column
+
+taken_field : (l : Bool) (column : ColumnType) (f : Field) (x : Scalar) (b : Bool) → IsTaken l column f x b → IsFieldOf l column f x
+taken_field l column f x false h = record { content = cell_field l column f (scalar_content x) (is_null_field column.nullability f) refl h.content; typed = h.typed }
+taken_field l column f x true h = record {
+  content = null_field l column f (is_null_field column.nullability f) refl h.asked h.takes h.none ∙ ap (λ (d : Content). Some d) (sym h.content);
+  typed = h.typed;
+}
+
+-- ---- rows
+
+cell_made : (column : ColumnType) (x : Scalar) → scalar_type x ≡ column_type column → cell_of x ≡ record { typed = column_type column; content = scalar_content x }
+cell_made column x e = ap (λ (t : TypeTree). let c : Cell = record { typed = t; content = scalar_content x } in c) e
+
+cells_are : (l : Bool) (cs : List ColumnType) (fs : List Field) (xs : List Scalar) (bs : List Bool) → AreCells l cs fs xs bs → cells_of l cs fs ≡ Some (map cell_of xs)
+cells_are l [] [] [] [] h = refl
+cells_are l [] [] [] (b ∷ bs) h = absurd h
+cells_are l [] [] (x ∷ xs) bs h = absurd h
+cells_are l [] (f ∷ fs) xs bs h = absurd h
+cells_are l (c ∷ cs) [] xs bs h = absurd h
+cells_are l (c ∷ cs) (f ∷ fs) [] bs h = absurd h
+cells_are l (c ∷ cs) (f ∷ fs) (x ∷ xs) [] h = absurd h
+cells_are l (c ∷ cs) (f ∷ fs) (x ∷ xs) (b ∷ bs) h =
+    let one = taken_field l c f x b h.0 in
+    rw (one.content, cells_are l cs fs xs bs h.1) (ap (λ (y : Cell). Some (y ∷ map cell_of xs)) (sym (cell_made c x one.typed)))
+
+pub row_is : (d : ℕ) (l : Bool) (columns : List ColumnType) (line : List ℕ) (row : List Scalar) (n : ℕ) → IsRow d l columns line row n → row_of d l columns line ≡ Some (map cell_of row)
+row_is d l columns line row n h = ap (only_row l columns) h.is ∙ cells_are l columns h.fields row h.flags h.cells
+
+pub no_row : (d : ℕ) (l : Bool) (columns : List ColumnType) (line : List ℕ) → rows_of d line ≡ [] → row_of d l columns line ≡ None
+no_row d l columns line h = ap (only_row l columns) h
+
+-- ---- types of cells
+
+before_is : (column : ColumnType) (o : Option Content) (r : Option (List Cell)) (xs : List Cell) → cell_before column o r ≡ Some xs → (c : Content) × (cells : List Cell) × (r ≡ Some cells) × (xs ≡ record { typed = column_type column; content = c } ∷ cells)
+before_is column (Some c) (Some cells) xs e = (c, cells, refl, cc)
+before_is column (Some c) None xs e = absurd cc
+before_is column None r xs e = absurd cc
+
+cells_typed : (l : Bool) (cs : List ColumnType) (fs : List Field) (xs : List Cell) → cells_of l cs fs ≡ Some xs → AreCellsOf cs xs
+cells_typed l [] [] [] e = tt
+cells_typed l [] [] (x ∷ xs) e = absurd cc
+cells_typed l [] (f ∷ fs) xs e = absurd cc
+cells_typed l (c ∷ cs) [] xs e = absurd cc
+cells_typed l (c ∷ cs) (f ∷ fs) xs e =
+    let p = before_is c (field_content l c f) (cells_of l cs fs) xs e in
+    subst (AreCellsOf (c ∷ cs)) (sym p.3) (refl, cells_typed l cs fs p.1 p.2)
+
+only_typed : (l : Bool) (cs : List ColumnType) (rows : List (List Field)) (xs : List Cell) → only_row l cs rows ≡ Some xs → AreCellsOf cs xs
+only_typed l cs [] xs e = absurd cc
+only_typed l cs (fields ∷ []) xs e = cells_typed l cs fields xs e
+only_typed l cs (fields ∷ more ∷ rest) xs e = absurd cc
+
+rows_typed : (cs : List ColumnType) (h : List ℕ → Option (List Cell)) (records : List (List ℕ)) → ((line : List ℕ) (xs : List Cell) → h line ≡ Some xs → AreCellsOf cs xs) → AreRowsOf cs (filter_map h records)
+rows_typed cs h [] each = tt
+rows_typed cs h (line ∷ lines) each = by_row (rows_typed cs h lines each) (h line) refl
+  where
+    by_row : AreRowsOf cs (filter_map h lines) → (o : Option (List Cell)) → h line ≡ o → AreRowsOf cs (filter_map h (line ∷ lines))
+    by_row rest None e = rw e rest
+    by_row rest (Some xs) e = rw e (each line xs e, rest)
+
+-- each row has a cell of each column's type
+pub rows_are_typed : (d : ℕ) (l : Bool) (columns : List ColumnType) (records : List (List ℕ)) → AreRowsOf columns (filter_map (row_of d l columns) records)
+rows_are_typed d l columns records = rows_typed columns (row_of d l columns) records (λ line xs e. only_typed l columns (rows_of d line) xs e)
+
+-- the cell in a column is of its type
+pub cell_typed : (cs : List ColumnType) (row : List Cell) (k : ℕ) (d : ColumnType) → AreCellsOf cs row → k < length cs → (cell_at row k).typed ≡ column_type (get_or cs k d)
+cell_typed [] row k d h below = absurd (omega arith)
+cell_typed (c ∷ cs) [] k d h below = absurd h
+cell_typed (c ∷ cs) (x ∷ xs) zero d h below = h.0
+cell_typed (c ∷ cs) (x ∷ xs) (suc k) d h below = cell_typed cs xs k d h.1 (omega arith)
+
+pub row_reaches : (cs : List ColumnType) (row : List Cell) (k : ℕ) → AreCellsOf cs row → k < length cs → k < length row
+row_reaches [] row k h below = absurd (omega arith)
+row_reaches (c ∷ cs) [] k h below = absurd h
+row_reaches (c ∷ cs) (x ∷ xs) zero h below = omega arith
+row_reaches (c ∷ cs) (x ∷ xs) (suc k) h below = let rest = row_reaches cs xs k h.1 (omega arith) in omega arith

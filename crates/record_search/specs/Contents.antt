@@ -1,0 +1,71 @@
+-- The row of a record, computed.
+use Rattle.std.specs.Prelude.{◌==◌, ◌&&◌, ℕ, ℤ, List, [], ◌∷◌, length, nat_lt, Bool, true, false, Option, None, Some, Result, Ok, Err, if◌then◌else◌}
+use Rattle.std.specs.List.{list_all}
+use Rattle.std.specs.Str.{is_utf8}
+use Rattle.std.specs.Char.{is_digit}
+use Rattle.std.specs.Str.Parse.{signed_digits_value, without_leading_sign}
+use Rattle.hex.specs.Hex.{decode_of}
+use Rattle.hex.specs.declared.error.FromHexError.{FromHexError}
+use Rattle.csv_records.specs.Rows.{Field, rows_of}
+use Rattle.record_rows.specs.Cells.{column_type, is_null_field}
+use Rattle.record_rows.specs.declared.columns.ColumnType.{ColumnType}
+use Rattle.record_rows.specs.declared.columns.Kind.{Kind}
+use Rattle.record_rows.specs.declared.columns.Kind.TheVariants as kinds
+use Rattle.vortex_dtype.specs.declared.nullability.Nullability.{Nullability}
+use Rattle.vortex_dtype.specs.declared.nullability.Nullability.TheVariants.{NonNullable, Nullable}
+use Rattle.vortex_dtype.specs.declared.ptype.PType.{PType}
+use Rattle.vortex_pvalue.specs.Numbers.{in_range}
+use Rattle.vortex_statistics.specs.Cells.{Cell}
+use Rattle.vortex_value.specs.Values.Content.{Content, null, string, text, whole}
+
+-- one digit or more, and nothing else
+abbrev pub is_numeral : List ℕ → Bool
+is_numeral digits = nat_lt 0 (length digits) && list_all (λ c. is_digit c 10) digits
+
+-- an optional sign and digits, which are a number of the type
+abbrev pub is_integer_word : PType → List ℕ → Bool
+is_integer_word ptype word = is_utf8 word && (is_numeral (without_leading_sign word) && in_range ptype (signed_digits_value 10 word))
+
+abbrev pub bytes_content : Result (List ℕ) FromHexError → Option Content
+bytes_content (Ok bytes) = Some (string bytes)
+bytes_content (Err e) = None
+
+-- what a word is in a column of this kind
+abbrev pub word_content : Kind → List ℕ → Option Content
+word_content (kinds.Integer ptype) word = if is_integer_word ptype word then Some (whole (signed_digits_value 10 word)) else None
+word_content kinds.Utf8 word = if is_utf8 word then Some (text word) else None
+word_content kinds.Binary word = bytes_content (decode_of word)
+
+-- the content, or a null in its place where that is asked
+abbrev pub or_null : Bool → Nullability → Option Content → Option Content
+or_null lenient n (Some c) = Some c
+or_null true Nullable None = Some null
+or_null true NonNullable None = None
+or_null false n None = None
+
+-- what a field is in its column
+abbrev pub field_content : Bool → ColumnType → Field → Option Content
+field_content lenient column f = if is_null_field column.nullability f then Some null else or_null lenient column.nullability (word_content column.kind f.text)
+
+-- a cell before those of the other columns
+abbrev pub cell_before : ColumnType → Option Content → Option (List Cell) → Option (List Cell)
+cell_before column (Some c) (Some cells) = Some (record { typed = column_type column; content = c } ∷ cells)
+cell_before column (Some c) None = None
+cell_before column None cells = None
+
+-- the cells of the fields, of which there are as many as columns
+abbrev pub cells_of : Bool → List ColumnType → List Field → Option (List Cell)
+cells_of lenient [] [] = Some []
+cells_of lenient [] (f ∷ fs) = None
+cells_of lenient (c ∷ cs) [] = None
+cells_of lenient (c ∷ cs) (f ∷ fs) = cell_before c (field_content lenient c f) (cells_of lenient cs fs)
+
+-- the row of a record whose rows by `csv` are these
+abbrev pub only_row : Bool → List ColumnType → List (List Field) → Option (List Cell)
+only_row lenient columns [] = None
+only_row lenient columns (fields ∷ []) = cells_of lenient columns fields
+only_row lenient columns (fields ∷ more ∷ rest) = None
+
+-- the row of a record; none where it has none, as an empty line, or where the columns do not take it
+abbrev pub row_of : ℕ → Bool → List ColumnType → List ℕ → Option (List Cell)
+row_of delimiter lenient columns line = only_row lenient columns (rows_of delimiter line)

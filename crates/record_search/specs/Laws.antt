@@ -1,0 +1,38 @@
+-- Laws of rows and statistics in a search.
+use Rattle.std.specs.Prelude.{◌≡◌, ℕ, List, [], Bool, not, None, Some, is_some, map}
+use Rattle.std.specs.List.{AllPass}
+use Rattle.csv_records.specs.Rows.{rows_of}
+use Rattle.record_rows.specs.Rows.{IsRow}
+use Rattle.record_rows.specs.declared.columns.ColumnType.{ColumnType}
+use Rattle.vortex_filter.specs.Formula.{Formula}
+use Rattle.vortex_statistics.specs.Cells.{cell_of}
+use Rattle.vortex_value.specs.declared.scalars.Scalar.{Scalar}
+use Rattle.zone_index.specs.Form.{index_value}
+use Rattle.zone_index.specs.Records.{is_same}
+use Rattle.zone_index.specs.declared.form.Index.{Index}
+use Rattle.zone_index.specs.declared.records.Decision.TheVariants.{AllMatch, NoneMatch}
+use Rattle.record_search.specs.Contents.{row_of}
+use Rattle.record_search.specs.Searched.{DescribeRows, IsRowIndex, decision_of, has_row, matches_record}
+use Rattle.record_search.specs.declared.schema.Schema.{Schema}
+
+-- the computed row is the one that is read, whatever stands in place of a cell; without rows there is none
+pub record RowsAreRead : Type 0 where
+  pub row : (delimiter : ℕ) (lenient : Bool) (columns : List ColumnType) (line : List ℕ) (row : List Scalar) (refused : ℕ)
+      → IsRow delimiter lenient columns line row refused → row_of delimiter lenient columns line ≡ Some (map cell_of row)
+  pub none : (delimiter : ℕ) (lenient : Bool) (columns : List ColumnType) (line : List ℕ)
+      → rows_of delimiter line ≡ [] → row_of delimiter lenient columns line ≡ None
+
+-- where statistics that are right for records decide that none matches, none does, and where they decide that each does, each
+-- does that has a row
+pub record DecisionsAreRight : Type 0 where
+  pub none : (s : Schema) (f : Formula) (bytes : List ℕ) (records : List (List ℕ))
+      → decision_of s.columns.items f bytes ≡ NoneMatch → DescribeRows s bytes records
+      → AllPass (λ line. not (matches_record s f line)) records
+  pub all : (s : Schema) (f : Formula) (bytes : List ℕ) (records : List (List ℕ))
+      → decision_of s.columns.items f bytes ≡ AllMatch → DescribeRows s bytes records
+      → AllPass (λ line. is_same (matches_record s f line) (has_row s line)) records
+
+-- an index that says the same as one that is right for bytes is right for these, as what is read back of what was written
+abbrev pub IndexesAreReadBack : Type 0
+IndexesAreReadBack = (s : Schema) (written read : Index) (bytes : List ℕ) → index_value read ≡ index_value written
+    → IsRowIndex s written.start written.zones.items bytes → IsRowIndex s read.start read.zones.items bytes

@@ -1,0 +1,6 @@
+pub mod Contents
+pub mod Decoding
+pub mod Laws
+pub mod Refused
+pub mod Searched
+pub mod Words

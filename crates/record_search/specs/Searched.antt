@@ -1,0 +1,135 @@
+-- Which records match, and what statistics say of their rows.
+use Rattle.std.specs.Prelude.{◌≡◌, ◌++◌, ◌<◌, ◌^◌, ℕ, suc, List, [], ◌∷◌, Bool, false, Option, None, Some, Vec, filter_map, if◌then◌else◌, is_some, length, map}
+use Rattle.std.specs.Global.{Global}
+use Rattle.std.specs.List.{AllByRecursion, flat_map}
+use Rattle.csv_records.specs.Records.{records_of}
+use Rattle.record_rows.specs.Cells.{column_type}
+use Rattle.record_rows.specs.declared.columns.ColumnType.{ColumnType}
+use Rattle.vortex_dtype.specs.TypeTree.{TypeTree}
+use Rattle.vortex_filter.specs.Formula.{Formula, is_match}
+use Rattle.vortex_filter.specs.Outcomes.{outcomes}
+use Rattle.vortex_filter.specs.OutcomeSets.{is_only_true}
+use Rattle.vortex_filter.specs.Pruning.{column}
+use Rattle.vortex_filter.specs.declared.outcomes.Outcomes.{Outcomes}
+use Rattle.vortex_statistics.specs.Cells.{Cell, cell_of}
+use Rattle.vortex_statistics.specs.Form.{IsHeldKnown, form}
+use Rattle.vortex_statistics.specs.FormAnswers.{AreTyped}
+use Rattle.vortex_statistics.specs.Statistics.{AreComplete, AreRight, Known, known}
+use Rattle.vortex_statistics.specs.Truncating.{AreTruncated}
+use Rattle.vortex_statistics.specs.declared.column_statistics.ColumnStatistics.{ColumnStatistics}
+use Rattle.vortex_value.specs.declared.scalars.Scalar.{Scalar}
+use Rattle.zone_index.specs.Form.{bytes_form}
+use Rattle.zone_index.specs.Records.{kept_of}
+use Rattle.zone_index.specs.Zones.{IsIndexOf, found_in}
+use Rattle.zone_index.specs.declared.zones.Zone.{Zone}
+use Rattle.zone_index.specs.declared.records.Decision.{Decision}
+use Rattle.zone_index.specs.declared.records.Decision.TheVariants.{AllMatch, NoneMatch, Unknown}
+use Rattle.record_search.specs.Contents.{row_of}
+use Rattle.record_search.specs.Decoding.{columns_in}
+use Rattle.record_search.specs.declared.schema.Schema.{Schema}
+
+-- the row of a record under a schema
+abbrev pub row_under : Schema → List ℕ → Option (List Cell)
+row_under s line = row_of s.delimiter.byte s.is_lenient s.columns.items line
+
+-- whether there is one
+abbrev pub has_row : Schema → List ℕ → Bool
+has_row s line = is_some (row_under s line)
+
+-- the rows of records, in order
+abbrev pub rows_under : Schema → List (List ℕ) → List (List Cell)
+rows_under s records = filter_map (row_under s) records
+
+abbrev pub matches_row : Formula → Option (List Cell) → Bool
+matches_row f None = false
+matches_row f (Some row) = is_match f row
+
+-- whether a record has a row on which the formula is True
+abbrev pub matches_record : Schema → Formula → List ℕ → Bool
+matches_record s f line = matches_row f (row_under s line)
+
+-- ---- statistics
+
+-- the cells of a row that a caller holds
+abbrev pub row_cells : Vec Scalar Global → List Cell
+row_cells row = map cell_of row.items
+
+-- each row has a cell in this column
+abbrev pub ReachTo : ℕ → List (List Cell) → Type 0
+ReachTo k rows = AllByRecursion (λ row. k < length row) rows
+
+-- each cell of a row is of its column's type, from this column on
+abbrev pub AreCellsOf : List ColumnType → List Cell → Type 0
+AreCellsOf [] [] = Unit {0}
+AreCellsOf [] (x ∷ xs) = ⊥
+AreCellsOf (c ∷ cs) [] = ⊥
+AreCellsOf (c ∷ cs) (x ∷ xs) = (x.typed ≡ column_type c) × AreCellsOf cs xs
+
+abbrev pub AreRowsOf : List ColumnType → List (List Cell) → Type 0
+AreRowsOf columns rows = AllByRecursion (AreCellsOf columns) rows
+
+-- the statistics of these cells, whose nulls are counted and whose bounds are values, with bounds cut to so many bytes
+pub record IsCutOf (n : ℕ) (cells : List Cell) (s : ColumnStatistics) : Type 0 where
+  pub whole : ColumnStatistics
+  pub complete : AreComplete (known whole) cells
+  pub cut : AreTruncated n whole s
+
+-- the bytes are the form of statistics of the type that are right for these cells
+pub record IsRightForm (t : TypeTree) (cells : List Cell) (bytes : List ℕ) : Type 0 where
+  pub fits : length bytes < 2 ^ 64
+  pub statistics : Known
+  pub held : IsHeldKnown statistics
+  pub is : bytes ≡ form statistics
+  pub typed : AreTyped t statistics
+  pub right : AreRight statistics cells
+
+-- one such form for each column, from this place of a row on
+abbrev pub AreRightForms : ℕ → List ColumnType → List (List Cell) → List (List ℕ) → Type 0
+AreRightForms k [] rows [] = Unit {0}
+AreRightForms k [] rows (p ∷ ps) = ⊥
+AreRightForms k (c ∷ cs) rows [] = ⊥
+AreRightForms k (c ∷ cs) rows (p ∷ ps) = IsRightForm (column_type c) (column k rows) p × AreRightForms (suc k) cs rows ps
+
+-- the bytes are such forms, each after its length
+pub record AreDescribed (columns : List ColumnType) (rows : List (List Cell)) (bytes : List ℕ) : Type 0 where
+  pub forms : List (List ℕ)
+  pub is : bytes ≡ flat_map bytes_form forms
+  pub right : AreRightForms 0 columns rows forms
+
+-- the bytes are statistics that are right for the rows of these records
+abbrev pub DescribeRows : Schema → List ℕ → List (List ℕ) → Type 0
+DescribeRows s bytes records = AreDescribed s.columns.items (rows_under s records) bytes
+
+-- ---- an index and what is found by it
+
+abbrev pub columns_of : Schema → List ColumnType
+columns_of s = s.columns.items
+
+-- the records of bytes, by the schema's delimiter
+abbrev pub records_under : Schema → List ℕ → List (List ℕ)
+records_under s bytes = records_of s.delimiter.byte bytes
+
+-- the zones are right for the bytes, from a place on: they cover all records, and the statistics of each are right for its rows
+abbrev pub IsRowIndex : Schema → ℕ → List Zone → List ℕ → Type 0
+IsRowIndex s start zones bytes = IsIndexOf s.delimiter.byte (has_row s) (DescribeRows s) start zones bytes
+
+-- the records on whose row the formula is True, whole and in order
+abbrev pub found_rows : Schema → Formula → List ℕ → List ℕ
+found_rows s f bytes = kept_of s.delimiter.byte (matches_record s f) bytes
+
+-- those of these zones
+abbrev pub found_in_zones : Schema → Formula → List ℕ → List Zone → List ℕ
+found_in_zones s f bytes zones = found_in s.delimiter.byte (matches_record s f) bytes zones
+
+-- ---- decisions
+
+abbrev pub decision_by : Outcomes → Decision
+decision_by o = if o.may_be_true then (if is_only_true o then AllMatch else Unknown) else NoneMatch
+
+abbrev pub decision_in : Formula → Option (List Known) → Decision
+decision_in f None = Unknown
+decision_in f (Some statistics) = decision_by (outcomes f statistics)
+
+-- what the statistics that the bytes are decide
+abbrev pub decision_of : List ColumnType → Formula → List ℕ → Decision
+decision_of columns f bytes = decision_in f (columns_in columns bytes)

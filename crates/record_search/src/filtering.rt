@@ -1,0 +1,69 @@
+//! A filter says which records match.
+
+ghost use Rattle.std.specs.Prelude.{◌≡◌};
+ghost use Rattle.record_search.specs.Words.{DescribeRows, RefusesRecord, decision_by, decision_of, formula, has_row, matches_record};
+
+use crate::laws::decisions_are_right;
+use crate::reading::read_statistics;
+use crate::schema::Schema;
+use csv_records::Delimiter;
+use std::alloc::{AllocError, Global};
+use vortex_filter::{Filter, Outcomes};
+use zone_index::{Decision, Matcher, RecordFault, Records};
+
+/// A filter over the rows of a file.
+#[derive(Clone, Copy, Debug)]
+pub struct RowFilter<'a> {
+    /// How its records are read.
+    pub schema: &'a Schema,
+    /// Which rows match.
+    pub filter: &'a Filter,
+}
+
+impl Records for RowFilter<'_> {
+    ghost delimiter = { λ m. m.schema.now.delimiter.byte };
+
+    ghost has_row = { λ m. has_row m.schema.now };
+
+    ghost Describes = { λ m. DescribeRows m.schema.now };
+
+    ghost Refuses = { λ m. RefusesRecord m.schema.now };
+
+    fn delimiter_byte(&self) -> Delimiter {
+        self.schema.delimiter
+    }
+}
+
+impl Matcher for RowFilter<'_> {
+    ghost matches = { λ m. matches_record m.schema.now (formula m.filter.now) };
+
+    ghost decides = { λ m. decision_of m.schema.now.columns.items (formula m.filter.now) };
+
+    fn is_match(&self, alloc: Global, line: &[u8]) -> Result<bool, RecordFault> {
+        match self.schema.row(alloc, 0, line)? {
+            Some(row) => Ok(self.filter.matches(&row)),
+            None => Ok(false),
+        }
+    }
+
+    fn decide(&self, alloc: Global, statistics: &[u8]) -> Result<Decision, AllocError> {
+        decisions_are_right();
+        match read_statistics(alloc, &self.schema.columns, statistics)? {
+            Some(statistics) => Ok(decision_by(self.filter.outcomes(&statistics))),
+            None => Ok(Decision::Unknown),
+        }
+    }
+}
+
+/// What the outcomes of a filter decide.
+fn decision_by(outcomes: Outcomes) -> Decision
+    ensures { result ≡ decision_by outcomes }
+{
+    if !outcomes.may_be_true {
+        Decision::NoneMatch
+    } else if outcomes.is_only_true() {
+        Decision::AllMatch
+    } else {
+        Decision::Unknown
+    }
+}

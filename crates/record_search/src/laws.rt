@@ -1,0 +1,31 @@
+//! The laws of rows and statistics in a search: what holds of all of them, whatever calls gave them.
+//!
+//! These functions do nothing when they run. The contract of each is a law over the definitions in
+//! `specs/`, and its proof is the law's proof.
+
+ghost use Rattle.record_search.specs.Laws.{DecisionsAreRight, IndexesAreReadBack, RowsAreRead};
+
+use vortex_row::laws::{keys_are_apart, values_have_no_typed};
+use vortex_value::laws::{order_is_reversed, order_is_transitive};
+
+/// The row that is computed of a record is the one that `record_rows` reads; a record without one
+/// has none.
+pub fn rows_are_read()
+    ensures { RowsAreRead }
+{}
+
+/// What statistics of a zone decide of a filter is so of each of its records.
+pub fn decisions_are_right()
+    ensures { DecisionsAreRight }
+{
+    keys_are_apart();
+    values_have_no_typed();
+    order_is_reversed();
+    order_is_transitive();
+}
+
+/// An index that says the same as one that is right for bytes is right for these. So is what
+/// `read_index` gives of what `write_index` wrote.
+pub fn indexes_are_read_back()
+    ensures { IndexesAreReadBack }
+{}

@@ -1,0 +1,17 @@
+// SPDX-License-Identifier: Apache-2.0
+// SPDX-FileCopyrightText: Copyright the Vortex contributors; ported to Rattle and changed
+//! A search for the rows of a file of records that a filter matches. By an index with statistics of
+//! the columns, it reads only the zones in which some row may match.
+#![tactic(auto)]
+
+mod describing;
+mod filtering;
+pub mod laws;
+mod reading;
+mod schema;
+mod searching;
+
+pub use filtering::RowFilter;
+pub use reading::read_statistics;
+pub use schema::{Schema, dtype_of};
+pub use searching::{count_rows, find_rows, index_rows};
