@@ -239,7 +239,9 @@ uint32_t doqallin_read_statistics(uint8_t kind, const uint8_t *bytes, size_t byt
  * call has the same answer, and so fits in that room, is tested alone.
  * NO_MEMORY: there is no memory to read the line or to write the answer. If the call itself finds none, the answer is
  * `OutOfMemory`.
- * Nested brackets take stack: at 256 levels, the most that are read, 600 kilobytes were seen, and 20 without any. */
+ * Stack: 28 kilobytes, and more for each level of brackets, or of connectives and parentheses of a filter. At most 256 of these
+ * nest, and else the line is bad. A level takes at most 2.3 kilobytes; of a filter 2.7, and 4.7 in `coerce`. So 0.6 megabytes were
+ * seen at 250 levels, of filters 0.7, and 1.2 in `coerce`. */
 uint32_t doqallin_call(const uint8_t *line, size_t line_length, uint8_t *room, size_t room_length, size_t *count);
 
 #ifdef __cplusplus
