@@ -1,9 +1,14 @@
 # SPDX-License-Identifier: Apache-2.0
 # SPDX-FileCopyrightText: Copyright the Vortex contributors; ported to Rattle and changed
-"""Columns and scalars: keys that sort, casts that never change a value, and bounds that never exclude one.
+"""Columns and scalars: statistics, keys that sort, casts that never change a value, and bounds that never exclude one.
 
 A column is what has Arrow data (`__arrow_c_array__` or `__arrow_c_stream__`, as pyarrow, polars, DuckDB and pandas have), a
 buffer of integers (as a numpy array is), or a list. Arrow data and buffers are read where they lie.
+
+Statistics of a column are its counts of rows and nulls, and bounds. Those of parts give those of the whole, in any order:
+
+>>> statistics(["Bergen", "Moss"]) | statistics(["Oslo", None])
+Statistics('utf8', rows=4, nulls=1, lower='Bergen', upper='Oslo')
 
 Keys of rows sort by their bytes as the rows do, so a store or an index needs no types:
 
@@ -34,6 +39,7 @@ from ._bounds import Kind, ZoneBounds, column_bounds, column_bounds_text, lower_
 from ._casts import cast
 from ._columns import Column
 from ._errors import (
+    BadBytes,
     BadKey,
     BadOffsets,
     BadText,
@@ -61,9 +67,11 @@ from ._keys import row_keys
 from ._library import call, library_version
 from ._reading import column, columns
 from ._scalars import Scalar, scalar
+from ._statistics import Statistics, statistics
 from ._types import DType, dtype
 
 __all__ = [
+    "BadBytes",
     "BadKey",
     "BadOffsets",
     "BadText",
@@ -85,6 +93,7 @@ __all__ = [
     "OutOfMemory",
     "Refused",
     "Scalar",
+    "Statistics",
     "StreamFailed",
     "TooManyRows",
     "TooShort",
@@ -103,6 +112,7 @@ __all__ = [
     "lower_bound_text",
     "row_keys",
     "scalar",
+    "statistics",
     "upper_bound",
     "upper_bound_text",
 ]

@@ -285,6 +285,8 @@ class Reader:
             yield _batch(schema, chunk.structure, chunk)
             count += 1
             self.held.remove(chunk)
+            # So that it is released before the next one comes, if nobody keeps its columns.
+            del chunk
         if not count:
             yield _empty(schema)
 

@@ -7,6 +7,7 @@ from __future__ import annotations
 from typing import Any, TypeVar
 
 __all__ = [
+    "BadBytes",
     "BadKey",
     "BadOffsets",
     "BadText",
@@ -38,7 +39,7 @@ class DoqallinError(Exception):
     __module__ = "doqallin"
 
     place: int | None = None
-    """Where it is, if that is known: the row of a column, or the buffer that is too short."""
+    """Where it is, if that is known: the row of a column, the buffer that is too short, or the byte of bytes."""
 
     def __init_subclass__(cls, **words: Any) -> None:
         super().__init_subclass__(**words)
@@ -144,7 +145,7 @@ class UnknownKind(DoqallinError, TypeError):
 
 
 class KindsDiffer(DoqallinError, TypeError):
-    """A column is of another kind than asked for."""
+    """A column, or statistics, are of another kind than asked for."""
 
 
 class TooManyRows(DoqallinError, ValueError):
@@ -153,6 +154,10 @@ class TooManyRows(DoqallinError, ValueError):
 
 class TooShort(DoqallinError, ValueError):
     """A buffer of a column is too short for its offset and length."""
+
+
+class BadBytes(DoqallinError, ValueError):
+    """Bytes are not of the form that is read. `place` is the first such byte."""
 
 
 class WrongLength(DoqallinError, ValueError):

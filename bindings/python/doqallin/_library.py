@@ -16,6 +16,7 @@ from pathlib import Path
 from typing import Any, TypeVar
 
 from ._errors import (
+    BadBytes,
     BadOffsets,
     DoqallinError,
     LibraryMissing,
@@ -31,7 +32,7 @@ from ._errors import (
 )
 
 GIVEN, NONE, NO_MEMORY, NO_ROOM, NOT_UTF8, NOT_A_NUMBER, BAD_OFFSETS = range(7)
-UNKNOWN_KIND, TOO_MANY_ROWS, TOO_SHORT, WRONG_LENGTH = 7, 8, 9, 12
+UNKNOWN_KIND, TOO_MANY_ROWS, TOO_SHORT, BAD_BYTES, WRONG_LENGTH = 7, 8, 9, 10, 12
 MAX_SIZE: int = 2 ** (8 * ctypes.sizeof(c_size_t)) - 1
 
 _ERRORS: dict[int, tuple[type[DoqallinError], str]] = {
@@ -64,6 +65,20 @@ class Fault(ctypes.Structure):
     column: int
     place: int
     _fields_ = [("column", c_size_t), ("place", c_size_t)]
+
+
+class Parts(ctypes.Structure):
+    _fields_ = [
+        ("row_count", c_uint64),
+        ("null_count", c_uint64),
+        ("lower_length", c_size_t),
+        ("upper_length", c_size_t),
+        ("has_null_count", c_bool),
+        ("has_lower", c_bool),
+        ("lower_is_exact", c_bool),
+        ("has_upper", c_bool),
+        ("upper_is_exact", c_bool),
+    ]
 
 
 _BYTES = (c_char_p, c_size_t)
@@ -113,6 +128,9 @@ column_text = _declare("column_bounds_text", c_uint32, *_COLUMN)
 # Columns. A place that is written is an address, and so is a room.
 _OUT = c_void_p
 _SPACE = (c_void_p, c_size_t)
+column_statistics = _declare("column_statistics", c_uint32, _OUT, c_size_t, *_SPACE, _OUT, _OUT)
+merge_statistics = _declare("merge_statistics", c_uint32, c_uint8, *_BYTES, *_BYTES, *_SPACE, _OUT, _OUT)
+read_statistics = _declare("read_statistics", c_uint32, c_uint8, *_BYTES, *_SPACE, *_SPACE, _OUT, _OUT)
 cast_column = _declare("cast_column", c_uint32, _OUT, c_uint8, *_SPACE, _OUT)
 row_keys = _declare("row_keys", c_uint32, *_SPACE, *_BYTES, *_SPACE, *_SPACE, _OUT, _OUT)
 
@@ -151,6 +169,7 @@ def check_column(status: int, fault: Fault, of: str = "") -> None:
         BAD_OFFSETS: (BadOffsets, f"the offsets of row {place} go down, or past the end of the bytes"),
         TOO_SHORT: (TooShort, f"the {BUFFERS[min(place, 2)]} are too short for offset and length"),
         TOO_MANY_ROWS: (TooManyRows, "64 bits do not count the rows"),
+        BAD_BYTES: (BadBytes, f"byte {place} is not of the form"),
         WRONG_LENGTH: (WrongLength, "there are not as many as there are to be"),
         UNKNOWN_KIND: (UnknownKind, "the call does not take this kind of column"),
     }

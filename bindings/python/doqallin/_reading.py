@@ -4,7 +4,7 @@
 
 from __future__ import annotations
 
-from collections.abc import Mapping, Sequence
+from collections.abc import Generator, Mapping, Sequence
 from typing import Any
 
 from ._arrow import Batch, is_arrow, reading
@@ -40,12 +40,15 @@ def _plain(values: Any, of: str | DType | None) -> Batch:
     return fitted(of_view(view), of)
 
 
-def batches(values: Any, of: str | DType | None = None) -> list[Batch]:
-    """The batches of what a caller has, at least one."""
+def each_batch(values: Any, of: str | DType | None = None) -> Generator[Batch, None, None]:
+    """The batches of what a caller has, at least one. What the caller lets go is released before the next one comes."""
     if not is_arrow(values):
-        return [_plain(values, of)]
+        yield _plain(values, of)
+        return
     with reading(values) as reader:
-        return [fitted(batch, of) if isinstance(batch, Column) else batch for batch in reader.batches()]
+        for batch in reader.batches():
+            yield fitted(batch, of) if isinstance(batch, Column) else batch
+            del batch
 
 
 def column(values: Any, of: str | DType | None = None) -> Column:
@@ -67,7 +70,7 @@ def column(values: Any, of: str | DType | None = None) -> Column:
     Traceback (most recent call last):
     doqallin.UnknownKind: float: floats are left out, since NaN and two zeros have no place in the order of values
     """
-    chunks = batches(values, of)
+    chunks = list(each_batch(values, of))
     found = [chunk for chunk in chunks if isinstance(chunk, Column)]
     if len(found) < len(chunks):
         raise UnknownKind("a struct has many columns: doqallin.columns gives them")
@@ -80,7 +83,7 @@ def columns(table: Any) -> dict[str, Column]:
     >>> columns({"fare": [12, 7], "city": ["Oslo", "Bergen"]})["city"]
     Column('utf8', ['Oslo', 'Bergen'])
     """
-    chunks = batches(table)
+    chunks = list(each_batch(table))
     tables = [chunk for chunk in chunks if isinstance(chunk, dict)]
     if len(tables) < len(chunks):
         raise UnknownKind("this is one column, and no table")

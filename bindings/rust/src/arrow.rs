@@ -59,6 +59,15 @@ impl Kind {
             .contains(&self)
             .then(|| 1 << (self as u8 % 4))
     }
+
+    /// The kind of the same values, with offsets of 64 bits.
+    pub(crate) fn large(self) -> Kind {
+        match self {
+            Kind::Utf8 => Kind::LargeUtf8,
+            Kind::Binary => Kind::LargeBinary,
+            other => other,
+        }
+    }
 }
 
 /// A buffer of a column.
@@ -148,6 +157,36 @@ impl fmt::Display for RowsError {
 }
 
 impl std::error::Error for RowsError {}
+
+/// A value of a column.
+#[derive(Clone, Debug, PartialEq, Eq, Hash, PartialOrd, Ord)]
+pub enum Item {
+    /// An integer of any kind.
+    Integer(i128),
+    /// A truth.
+    Bool(bool),
+    /// A string.
+    Utf8(String),
+    /// Bytes.
+    Binary(Vec<u8>),
+}
+
+impl Item {
+    /// The value that an Arrow array of the kind has as these bytes. A bool is one byte here.
+    pub(crate) fn of(kind: Kind, bytes: &[u8]) -> Item {
+        match kind {
+            Kind::Bool => Item::Bool(bytes != [0]),
+            Kind::Utf8 | Kind::LargeUtf8 => Item::Utf8(String::from_utf8_lossy(bytes).into_owned()),
+            Kind::Binary | Kind::LargeBinary | Kind::Null => Item::Binary(bytes.to_vec()),
+            integer => {
+                let is_negative = integer as u8 >= Kind::I8 as u8 && bytes[bytes.len() - 1] >= 128;
+                let mut whole = [if is_negative { 255 } else { 0 }; 16];
+                whole[..bytes.len()].copy_from_slice(bytes);
+                Item::Integer(i128::from_le_bytes(whole))
+            }
+        }
+    }
+}
 
 /// A column, as Arrow lays it out. It borrows its memory, and nothing is copied on the way in.
 ///

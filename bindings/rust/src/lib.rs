@@ -1,6 +1,6 @@
 // SPDX-License-Identifier: Apache-2.0
 // SPDX-FileCopyrightText: Copyright the Vortex contributors; ported to Rattle and changed
-//! Columns as Arrow lays them out: keys that sort as the rows do, and casts that never change a value. Bounds that never
+//! Columns as Arrow lays them out: statistics, keys that sort as the rows do, and casts that never change a value. Bounds that never
 //! exclude a value, and pruning by these. With the feature `call`, nearly any other call of the library by a line of text.
 //!
 //! The work is done by functions that are proved against their contracts, in Rattle. This crate is their safe face: it
@@ -41,15 +41,17 @@ mod column;
 mod integer;
 mod keys;
 mod raw;
+mod statistics;
 mod truncation;
 mod zone;
 
-pub use arrow::{Buffer, CastError, Column, ColumnFault, Kind, RowsError, cast_column};
+pub use arrow::{Buffer, CastError, Column, ColumnFault, Item, Kind, RowsError, cast_column};
 #[cfg(feature = "call")]
 pub use call::call;
 pub use column::{ColumnError, column_bounds, column_bounds_text};
 pub use integer::{Integer, cast};
 pub use keys::{RowKeys, SortOptions, row_keys};
+pub use statistics::{Statistics, StatisticsError};
 pub use truncation::{lower_bound, lower_bound_text, upper_bound, upper_bound_text};
 pub use zone::{Value, ZoneBounds};
 

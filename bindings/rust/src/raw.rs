@@ -15,6 +15,7 @@ pub const BAD_OFFSETS: u32 = 6;
 pub const UNKNOWN_KIND: u32 = 7;
 pub const TOO_MANY_ROWS: u32 = 8;
 pub const TOO_SHORT: u32 = 9;
+pub const BAD_BYTES: u32 = 10;
 pub const WRONG_LENGTH: u32 = 12;
 
 #[repr(C)]
@@ -44,6 +45,20 @@ pub struct ArrowColumn {
 pub struct Fault {
     pub column: usize,
     pub place: usize,
+}
+
+#[repr(C)]
+#[derive(Default)]
+pub struct Statistics {
+    pub row_count: u64,
+    pub null_count: u64,
+    pub lower_length: usize,
+    pub upper_length: usize,
+    pub has_null_count: bool,
+    pub has_lower: bool,
+    pub lower_is_exact: bool,
+    pub has_upper: bool,
+    pub upper_is_exact: bool,
 }
 
 /// An upper bound of a value at n bytes, into a room.
@@ -131,6 +146,36 @@ unsafe extern "C" {
         upper_room: *mut u8,
         upper_room_length: usize,
         lengths: &mut BoundLengths,
+    ) -> u32;
+    pub fn doqallin_column_statistics(
+        column: &ArrowColumn,
+        max_length: usize,
+        room: *mut u8,
+        room_length: usize,
+        count: &mut usize,
+        fault: &mut Fault,
+    ) -> u32;
+    pub fn doqallin_merge_statistics(
+        kind: u8,
+        one: *const u8,
+        one_length: usize,
+        other: *const u8,
+        other_length: usize,
+        room: *mut u8,
+        room_length: usize,
+        count: &mut usize,
+        fault: &mut Fault,
+    ) -> u32;
+    pub fn doqallin_read_statistics(
+        kind: u8,
+        bytes: *const u8,
+        bytes_length: usize,
+        lower_room: *mut u8,
+        lower_room_length: usize,
+        upper_room: *mut u8,
+        upper_room_length: usize,
+        parts: &mut Statistics,
+        fault: &mut Fault,
     ) -> u32;
     pub fn doqallin_cast_column(
         column: &ArrowColumn,

@@ -6,15 +6,6 @@
 use doqallin::*;
 use std::cmp::Ordering;
 
-/// A value of a column.
-#[derive(Clone, Debug, PartialEq, Eq, PartialOrd, Ord)]
-enum Item {
-    Integer(i128),
-    Bool(bool),
-    Utf8(String),
-    Binary(Vec<u8>),
-}
-
 /// A xorshift generator.
 struct Random(u64);
 
@@ -241,6 +232,162 @@ fn some_layout(random: &mut Random, kind: Kind, most: usize) -> Layout {
     layout(random, kind, rows)
 }
 
+fn plain_upper(value: &[u8], n: usize) -> Option<Vec<u8>> {
+    if value.len() <= n {
+        return Some(value.to_vec());
+    }
+    let mut bound = value[..n].to_vec();
+    let last = bound.iter().rposition(|byte| *byte != 255)?;
+    bound[last] += 1;
+    bound[last + 1..].fill(0);
+    Some(bound)
+}
+
+fn plain_lower_text(value: &str, n: usize) -> &str {
+    &value[..value.floor_char_boundary(n)]
+}
+
+fn plain_upper_text(value: &str, n: usize) -> Option<String> {
+    if value.len() <= n {
+        return Some(value.to_string());
+    }
+    let mut bound = plain_lower_text(value, n).to_string();
+    let last = bound.pop()?;
+    let next = char::from_u32(last as u32 + 1)?;
+    (next.len_utf8() == last.len_utf8()).then(|| {
+        bound.push(next);
+        bound
+    })
+}
+
+/// A bound, and whether it is exact.
+type Bound = Option<(Item, bool)>;
+
+fn cut(item: &Item, n: usize, is_upper: bool) -> Bound {
+    let bound = match item {
+        Item::Utf8(text) if is_upper => Item::Utf8(plain_upper_text(text, n)?),
+        Item::Utf8(text) => Item::Utf8(plain_lower_text(text, n).to_string()),
+        Item::Binary(bytes) if is_upper => Item::Binary(plain_upper(bytes, n)?),
+        Item::Binary(bytes) => Item::Binary(bytes[..n.min(bytes.len())].to_vec()),
+        other => other.clone(),
+    };
+    let is_exact = bound == *item;
+    Some((bound, is_exact))
+}
+
+/// Counts of rows and nulls, and bounds.
+type Known = (u64, Option<u64>, Bound, Bound);
+
+fn plain_statistics(rows: &[Option<Item>], n: usize) -> Known {
+    let values = || rows.iter().flatten();
+    (
+        rows.len() as u64,
+        Some(rows.iter().filter(|row| row.is_none()).count() as u64),
+        values().min().and_then(|least| cut(least, n, false)),
+        values().max().and_then(|greatest| cut(greatest, n, true)),
+    )
+}
+
+fn told(of: &Statistics) -> Known {
+    let bound = |bound: Option<&Item>, is_exact: bool| bound.map(|bound| (bound.clone(), is_exact));
+    (
+        of.row_count(),
+        of.null_count(),
+        bound(of.lower(), of.lower_is_exact()),
+        bound(of.upper(), of.upper_is_exact()),
+    )
+}
+
+#[test]
+fn statistics_of_each_kind() {
+    for kind in KINDS {
+        let mut random = Random(0x1234_5678 + kind as u64);
+        for _ in 0..count() {
+            let made = some_layout(&mut random, kind, 12);
+            let n = random.one_of(&[0, 1, 3, 8, 16, usize::MAX]);
+            let found = Statistics::of(&made.column(), n).unwrap();
+            assert_eq!(
+                told(&found),
+                plain_statistics(&made.rows, n),
+                "{kind:?} {:?} {n}",
+                made.rows
+            );
+            let start = random.below(made.rows.len() + 1);
+            let length = random.below(made.rows.len() - start + 1);
+            let part = made.column().slice(start, length);
+            let found = Statistics::of(&part, n).unwrap();
+            assert_eq!(
+                told(&found),
+                plain_statistics(&made.rows[start..start + length], n)
+            );
+        }
+    }
+}
+
+#[test]
+fn statistics_are_merged_and_read_back() {
+    for kind in KINDS {
+        let mut random = Random(0x2345_6789 + kind as u64);
+        for _ in 0..count() / 10 {
+            let parts: Vec<Layout> = (0..3).map(|_| some_layout(&mut random, kind, 5)).collect();
+            let each: Vec<Statistics> = parts
+                .iter()
+                .map(|part| Statistics::of(&part.column(), usize::MAX).unwrap())
+                .collect();
+            let whole: Vec<Option<Item>> =
+                parts.iter().flat_map(|part| part.rows.clone()).collect();
+            let left = each[0].merge(&each[1]).unwrap().merge(&each[2]).unwrap();
+            let right = each[0].merge(&each[1].merge(&each[2]).unwrap()).unwrap();
+            assert_eq!(left, right);
+            assert_eq!(told(&left), plain_statistics(&whole, usize::MAX));
+            assert_eq!(Statistics::from_bytes(kind, left.as_bytes()), Ok(left));
+        }
+    }
+    let (one, other) = (Column::integers(&[1u8]), Column::bools(&[1], 1));
+    let (one, other) = (
+        Statistics::of(&one, 16).unwrap(),
+        Statistics::of(&other, 16).unwrap(),
+    );
+    assert_eq!(one.merge(&other), Err(StatisticsError::KindsDiffer));
+    let most = [&[1, 1][..], &[255; 8], &[0; 8]].concat();
+    let most = Statistics::from_bytes(Kind::U8, &most).unwrap();
+    assert_eq!(most.merge(&one), Err(StatisticsError::TooManyRows));
+}
+
+#[test]
+fn hostile_statistics() {
+    let mut random = Random(0x3456_789a);
+    let (mut read, mut refused) = (0, 0);
+    for _ in 0..count() {
+        let kind = random.one_of(&KINDS);
+        let made = some_layout(&mut random, kind, 5);
+        let mut bytes = Statistics::of(&made.column(), 3)
+            .unwrap()
+            .as_bytes()
+            .to_vec();
+        let place = random.below(bytes.len());
+        bytes[place] = random.one_of(&[0, 1, 12, 13, 21, 22, 255]);
+        bytes.truncate(bytes.len() - random.one_of(&[0, 0, 1]));
+        match Statistics::from_bytes(kind, &bytes) {
+            Ok(found) => {
+                assert_eq!(found.as_bytes(), bytes);
+                read += 1;
+            }
+            Err(error) => {
+                let StatisticsError::BadBytes(place) = error else {
+                    panic!("{error}")
+                };
+                assert!(place <= bytes.len());
+                refused += 1;
+            }
+        }
+    }
+    assert!(
+        read > count() / 100 && refused > count() / 100,
+        "{read} {refused}"
+    );
+}
+
 macro_rules! casts {
     ($random:expr, $made:expr; $($kind:ident: $to:ty),*) => {$(
         let (least, greatest) = limits(Kind::$kind);
@@ -465,6 +612,8 @@ fn hostile_columns() {
             let column = Column::from_buffers(kind, &made.values, &made.offsets, offset, length)
                 .with_validity(&made.validity);
             let wanted = plain_fault(&made, offset, length);
+            let found = Statistics::of(&column, 16).err();
+            assert_eq!(found, wanted, "{kind:?} {offset} {length}");
             let of_keys = row_keys(&[column], &[SortOptions::default()]).err();
             assert_eq!(of_keys, wanted.map(|fault| RowsError::Column(0, fault)));
             let of_cast = cast_column::<i64>(&column).err();
@@ -486,6 +635,10 @@ fn slices_and_offsets_of_rust() {
     let numbers = [1i32, 2, 3, 4];
     let part = Column::integers(&numbers).slice(1, 3).slice(1, 1);
     assert_eq!(cast_column::<u8>(&part), Ok(vec![3]));
+    let known = Statistics::of(&part, 0).unwrap();
+    assert_eq!(told(&known).3, Some((Item::Integer(3), true)));
+    let known = Statistics::of(&Column::nulls(7), 1).unwrap();
+    assert_eq!(told(&known), (7, Some(7), None, None));
     let options = [SortOptions::default()];
     for column in [
         Column::utf8(b"ab", &[0, 1, 2]),
