@@ -6,7 +6,7 @@ from array import array
 from itertools import accumulate
 
 import doqallin
-from doqallin import Kind, LibraryMissing, ZoneBounds, cast, row_keys, scalar
+from doqallin import Kind, LibraryMissing, ZoneBounds, cast, row_keys, scalar, statistics
 
 
 def seconds(call, calls: int) -> float:
@@ -45,6 +45,7 @@ def columns() -> None:
         assert (made == numbers).all()
         return made
 
+    compare("the statistics of a million numbers, beside numpy's min and max", lambda: statistics(numbers), lambda: (numbers.min(), numbers.max()), 10)
     compare("a cast of a million numbers, beside numpy", lambda: cast(numbers, "i32"), plain_cast, 10)
     compare("the keys of a million numbers, beside numpy's sorting", lambda: row_keys([numbers]), lambda: numbers.argsort(), 1)
 

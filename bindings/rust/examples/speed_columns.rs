@@ -1,6 +1,6 @@
 // SPDX-License-Identifier: Apache-2.0
 // SPDX-FileCopyrightText: Copyright the Vortex contributors; ported to Rattle and changed
-//! Casts and keys of a million rows beside careful plain loops. `speed_columns` shows the times of both, and their ratio.
+//! Statistics, casts and keys of a million rows beside careful plain loops. `speed_columns` shows the times of both, and their ratio.
 //! `speed_columns NAME ours`, `plain` and `none` make the column, and do one of the two or neither: bench/bindings counts what
 //! each takes.
 
@@ -26,26 +26,37 @@ impl Random {
 /// A million rows, of which the columns of each name are made.
 struct Rows {
     wide: Vec<i64>,
+    narrow: Vec<i32>,
     /// One in eight is null.
     validity: Vec<u8>,
     text: Vec<u8>,
     offsets: Vec<i32>,
+    /// The same strings after a beginning of 24 bytes.
+    alike: Vec<u8>,
+    alike_offsets: Vec<i32>,
 }
 
 fn rows() -> Rows {
     let mut random = Random(88_172_645_463_325_252);
     let wide: Vec<i64> = (0..ROWS).map(|_| i64::from(random.next() as i32)).collect();
     let (mut text, mut offsets) = (Vec::new(), vec![0]);
+    let (mut alike, mut alike_offsets) = (Vec::new(), vec![0]);
     for _ in 0..ROWS {
-        let length = 4 + random.next() % 25;
+        let (start, length) = (text.len(), 4 + random.next() % 25);
         text.extend((0..length).map(|_| b'a' + (random.next() % 26) as u8));
         offsets.push(text.len() as i32);
+        alike.extend_from_slice(b"https://www.example.org/");
+        alike.extend_from_slice(&text[start..]);
+        alike_offsets.push(alike.len() as i32);
     }
     Rows {
+        narrow: wide.iter().map(|number| *number as i32).collect(),
         validity: (0..ROWS / 8).map(|_| !(1 << (random.next() % 8))).collect(),
         wide,
         text,
         offsets,
+        alike,
+        alike_offsets,
     }
 }
 
@@ -96,12 +107,77 @@ fn plain_cast(values: &[i64], validity: &[u8]) -> Vec<i32> {
     values.iter().enumerate().map(value).collect()
 }
 
-const NAMES: [&str; 3] = ["cast", "cast with nulls", "keys"];
+/// How many rows are null, and the least and the greatest value of the others.
+fn plain_extremes<T: Copy + Ord>(values: &[T], validity: &[u8]) -> (u64, T, T) {
+    let first = (0..values.len()).find(|row| is_valid(validity, *row));
+    let mut least = values[first.expect("a value")];
+    let (mut greatest, mut nulls) = (least, 0);
+    if validity.is_empty() {
+        for value in values {
+            least = least.min(*value);
+            greatest = greatest.max(*value);
+        }
+        return (0, least, greatest);
+    }
+    for (row, value) in values.iter().enumerate() {
+        if is_valid(validity, row) {
+            least = least.min(*value);
+            greatest = greatest.max(*value);
+        } else {
+            nulls += 1;
+        }
+    }
+    (nulls, least, greatest)
+}
+
+/// The same of strings, in one pass that keeps the slices of both, cut to 16 bytes. The strings are letters.
+fn plain_text_extremes(text: &[u8], offsets: &[i32], validity: &[u8]) -> (u64, String, String) {
+    let value = |row: usize| &text[offsets[row] as usize..offsets[row + 1] as usize];
+    let (mut found, mut nulls) = (None, 0);
+    for row in 0..offsets.len() - 1 {
+        if !is_valid(validity, row) {
+            nulls += 1;
+            continue;
+        }
+        let one = value(row);
+        found = match found {
+            None => Some((one, one)),
+            Some((least, greatest)) if one < least => Some((one, greatest)),
+            Some((least, greatest)) if one > greatest => Some((least, one)),
+            both => both,
+        };
+    }
+    let (least, greatest) = found.expect("a value");
+    let mut upper = greatest[..greatest.len().min(16)].to_vec();
+    if greatest.len() > 16 {
+        upper[15] += 1;
+    }
+    let string = |bytes: &[u8]| String::from_utf8(bytes.to_vec()).expect("letters");
+    (nulls, string(&least[..least.len().min(16)]), string(&upper))
+}
+
+const NAMES: [&str; 10] = [
+    "statistics of i64",
+    "statistics of i64 with nulls",
+    "statistics of i32",
+    "statistics of i32 with nulls",
+    "statistics of strings",
+    "statistics of strings with nulls",
+    "statistics of strings that begin alike",
+    "cast",
+    "cast with nulls",
+    "keys",
+];
 
 fn column<'a>(name: &str, of: &'a Rows) -> Column<'a> {
-    let column = match name {
-        "strings" => Column::utf8(&of.text, &of.offsets),
-        _ => Column::integers(&of.wide),
+    let column = if name.contains("alike") {
+        Column::utf8(&of.alike, &of.alike_offsets)
+    } else if name.contains("strings") {
+        Column::utf8(&of.text, &of.offsets)
+    } else if name.contains("i32") {
+        Column::integers(&of.narrow)
+    } else {
+        Column::integers(&of.wide)
     };
     if name.ends_with("with nulls") {
         column.with_validity(&of.validity)
@@ -110,7 +186,20 @@ fn column<'a>(name: &str, of: &'a Rows) -> Column<'a> {
     }
 }
 
+fn shown(bound: Option<&Item>) -> String {
+    match bound {
+        Some(Item::Integer(number)) => number.to_string(),
+        Some(Item::Utf8(text)) => text.clone(),
+        other => format!("{other:?}"),
+    }
+}
+
 fn ours(name: &str, of: &Rows) -> String {
+    if name.starts_with("statistics") {
+        let known = Statistics::of(&column(name, of), 16).expect("a sound column");
+        let (lower, upper) = (shown(known.lower()), shown(known.upper()));
+        return format!("{:?} null, {lower} to {upper}", known.null_count());
+    }
     if name == "keys" {
         let columns = [column("numbers", of), column("strings", of)];
         let keys = row_keys(&columns, &[SortOptions::default(); 2]).expect("sound columns");
@@ -130,7 +219,26 @@ fn plain(name: &str, of: &Rows) -> String {
     } else {
         &[]
     };
-    format!("{:?}", &plain_cast(&of.wide, validity)[ROWS - 9..])
+    let told = |(nulls, least, greatest): (u64, String, String)| {
+        format!("{:?} null, {least} to {greatest}", Some(nulls))
+    };
+    match name.strip_prefix("statistics of ") {
+        None => format!("{:?}", &plain_cast(&of.wide, validity)[ROWS - 9..]),
+        Some(kind) if kind.contains("alike") => {
+            told(plain_text_extremes(&of.alike, &of.alike_offsets, validity))
+        }
+        Some(kind) if kind.contains("strings") => {
+            told(plain_text_extremes(&of.text, &of.offsets, validity))
+        }
+        Some(kind) if kind.contains("i32") => {
+            let (nulls, least, greatest) = plain_extremes(&of.narrow, validity);
+            told((nulls, least.to_string(), greatest.to_string()))
+        }
+        Some(_) => {
+            let (nulls, least, greatest) = plain_extremes(&of.wide, validity);
+            told((nulls, least.to_string(), greatest.to_string()))
+        }
+    }
 }
 
 /// The seconds of one call: the best of five.
@@ -209,8 +317,8 @@ fn main() {
         }
         return;
     }
+    let made = rows();
     for name in NAMES {
-        let made = rows();
         assert_eq!(ours(name, &made), plain(name, &made), "{name}");
         compare(
             name,
@@ -218,5 +326,5 @@ fn main() {
             seconds(|| plain(name, &made)),
         );
     }
-    sort(&rows());
+    sort(&made);
 }
