@@ -3,7 +3,7 @@
 //! Keys of rows: bytes that sort as the rows do.
 
 use crate::arrow::RawColumns;
-use crate::{Column, RowsError, out_of_memory, raw};
+use crate::{Column, Kind, RowsError, out_of_memory, raw};
 
 /// How a column is sorted.
 #[derive(Clone, Copy, Debug, PartialEq, Eq)]
@@ -54,9 +54,10 @@ pub fn row_keys(columns: &[Column<'_>], options: &[SortOptions]) -> Result<RowKe
     let raws = RawColumns::of(columns);
     let options = option_bytes(options);
     let mut fault = raw::Fault::default();
+    let (rows, length) = likely_room(columns);
     let mut keys = RowKeys {
-        offsets: Vec::new(),
-        bytes: Vec::new(),
+        offsets: vec![0; rows + 1],
+        bytes: vec![0; length],
     };
     loop {
         let mut count = 0;
@@ -76,7 +77,11 @@ pub fn row_keys(columns: &[Column<'_>], options: &[SortOptions]) -> Result<RowKe
             )
         };
         match status {
-            raw::GIVEN => return Ok(keys),
+            raw::GIVEN => {
+                keys.bytes.truncate(count);
+                keys.bytes.shrink_to_fit();
+                return Ok(keys);
+            }
             raw::NO_ROOM => {
                 let rows = columns.first().map_or(0, Column::len);
                 let Some(places) = rows.checked_add(1) else {
@@ -88,6 +93,21 @@ pub fn row_keys(columns: &[Column<'_>], options: &[SortOptions]) -> Result<RowKe
             other => return Err(RowsError::of(other, &fault)),
         }
     }
+}
+
+/// For how many rows the columns have memory, and how many bytes their keys may take. Where these are not enough, the call
+/// says what is.
+fn likely_room(columns: &[Column<'_>]) -> (usize, usize) {
+    let rows = columns.iter().map(Column::rows_in_memory).min();
+    // No count below is above the greatest `isize`.
+    let most = isize::MAX as usize / 66 / columns.len().max(1);
+    let rows = rows.filter(|rows| *rows < most).unwrap_or(0);
+    let of = |column: &Column<'_>| match (column.kind(), column.kind().width()) {
+        (_, Some(width)) => (width + 1) * rows,
+        (Kind::Bool | Kind::Null, _) => rows,
+        _ => column.raw().values_length.min(64 * rows) + 2 * rows,
+    };
+    (rows, columns.iter().map(of).sum())
 }
 
 impl RowKeys {
