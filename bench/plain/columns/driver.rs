@@ -60,10 +60,23 @@ fn data(what: &str, count: usize) -> Data {
         made.bytes.extend_from_slice(&rest.to_le_bytes()[..(chance.next() % 9) as usize]);
         made.offsets.push(made.bytes.len() as u32);
     }
+    if what.ends_with("order") {
+        sort(&mut made);
+    }
     for _ in 0..count.div_ceil(8) {
         made.bits.push((chance.next() | chance.next() | chance.next()) as u8);
     }
     made
+}
+
+/// Puts the strings in order.
+fn sort(made: &mut Data) {
+    let mut strings: Vec<Vec<u8>> = made.offsets.windows(2).map(|ends| made.bytes[ends[0] as usize..ends[1] as usize].to_vec()).collect();
+    strings.sort();
+    made.bytes = strings.concat();
+    for (row, string) in strings.iter().enumerate() {
+        made.offsets[row + 1] = made.offsets[row] + string.len() as u32;
+    }
 }
 
 fn bytes_of<T: Copy>(items: &[T]) -> &[u8] {

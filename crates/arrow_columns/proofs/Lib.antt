@@ -5,3 +5,4 @@ pub mod CellLists
 pub mod OffsetItems
 pub mod RoomSteps
 pub mod RowSteps
+pub mod SpanSteps

@@ -9,5 +9,6 @@ pub mod Integers
 pub mod Kinds
 pub mod Offsets
 pub mod Running
+pub mod Spans
 pub mod Statistics
 pub mod Words

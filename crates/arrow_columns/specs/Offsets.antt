@@ -35,3 +35,7 @@ IsRow width bytes offset i = (offset i ≤ offset (i + 1)) × (offset (i + 1) �
 -- each row is one
 abbrev pub AreRows : OffsetWidth → List ℕ → (ℕ → ℕ) → ℕ → ℕ → Type 0
 AreRows width bytes offset from end = (k : ℕ) → k < end → from ≤ k → IsRow width bytes offset k
+
+-- no offset is below one before it: those up to row k's end are not above the last one
+abbrev pub GoUp : (ℕ → ℕ) → ℕ → ℕ → Type 0
+GoUp offset from end = (k : ℕ) → k < end → from ≤ k → (offset k ≤ offset (k + 1)) × (offset (k + 1) ≤ offset end)

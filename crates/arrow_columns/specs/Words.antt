@@ -1,12 +1,13 @@
 -- The words of this crate's clauses, from one place.
 pub use Rattle.arrow_columns.specs.Bitmaps.{HasBits, bit_of, is_valid}
-pub use Rattle.arrow_columns.specs.Casts.{AreCastTo, IsFirstWithout}
+pub use Rattle.arrow_columns.specs.Casts.{AreCastTo, AreWritten, IsFirstWithout}
 pub use Rattle.arrow_columns.specs.Cells.{cell_at, cells_from}
 pub use Rattle.arrow_columns.specs.Checked.{AreRowsOf}
 pub use Rattle.arrow_columns.specs.Columns.{HasRows, IsByteColumn, boolean_cells, byte_cells, end_of, integer_cells, offset_in}
 pub use Rattle.arrow_columns.specs.Faults.{AreTextRows, IsBooleanFault, IsByteFault, IsFaultOf, IsIntegerFault, IsRowsFault, IsStringFault, IsTextRow}
 pub use Rattle.arrow_columns.specs.Integers.{IsOfKind, integer_of, item_at, width_of}
 pub use Rattle.arrow_columns.specs.Kinds.{integer_kind_at, kind_at}
-pub use Rattle.arrow_columns.specs.Offsets.{AreRows, IsRow, bytes_between, bytes_of_offset, largest_offset, offset_of}
+pub use Rattle.arrow_columns.specs.Offsets.{AreRows, GoUp, IsRow, bytes_between, bytes_of_offset, largest_offset, offset_of}
 pub use Rattle.arrow_columns.specs.Running.{AreGathered}
-pub use Rattle.arrow_columns.specs.Statistics.{AreBooleanStatisticsOf, AreByteStatisticsOf, AreStatisticsOf}
+pub use Rattle.arrow_columns.specs.Spans.{AreBytes, IsSpan, Widens, beginning}
+pub use Rattle.arrow_columns.specs.Statistics.{AreBooleanStatisticsOf, AreByteStatisticsOf, AreStatisticsOf, NotAbove}

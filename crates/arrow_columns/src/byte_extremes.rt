@@ -1,12 +1,11 @@
 //! The loop that gathers the statistics of strings and bytes.
 
 ghost use Rattle.std.specs.Prelude.{[], ◌≡◌, ℕ, ◌<◌, ◌≤◌, ◌-◌, length, slice_index_or};
-ghost use Rattle.std.specs.Cmp.Lexicographic.{slice_cmp};
-ghost use Rattle.std.specs.Ordering.{is_lt, nat_cmp};
 ghost use Rattle.arrow_columns.specs.Words.{AreByteStatisticsOf, AreRows, HasBits, bytes_between, cells_from, offset_of};
 
 use crate::bitmaps::{first_valid, is_row_valid};
-use crate::byte_items::row;
+use crate::byte_items::{read_offset, row};
+use crate::byte_spans::ByteSpan;
 use crate::offsets::Offset;
 use crate::statistics::{ByteExtremes, ByteStatistics};
 
@@ -34,20 +33,12 @@ pub fn statistics_of_byte_rows<const N: usize, T: Offset<N>>(
         };
     }
     let mut null_count = start - from;
-    let mut least = start;
-    let mut greatest = start;
-    let mut low = row::<N, T>(bytes, offsets, start);
-    let mut high = low;
+    let mut span = ByteSpan::of(start, row::<N, T>(bytes, offsets, start));
     for i in start + 1..end {
         if is_row_valid(validity, i, end) {
-            let value = row::<N, T>(bytes, offsets, i);
-            if is_below(value, low) {
-                least = i;
-                low = value;
-            } else if is_below(high, value) {
-                greatest = i;
-                high = value;
-            }
+            let begin = read_offset::<N, T>(offsets, i);
+            let stop = read_offset::<N, T>(offsets, i + 1);
+            span = span.widened(i, bytes, begin, stop);
         } else {
             null_count += 1;
         }
@@ -55,15 +46,8 @@ pub fn statistics_of_byte_rows<const N: usize, T: Offset<N>>(
     ByteStatistics {
         null_count,
         extremes: Some(ByteExtremes {
-            least: least - from,
-            greatest: greatest - from,
+            least: span.least - from,
+            greatest: span.greatest - from,
         }),
     }
-}
-
-/// Whether one is below the other, byte by byte.
-fn is_below(one: &[u8], other: &[u8]) -> bool
-    ensures { result ≡ is_lt (slice_cmp nat_cmp one.now other.now) }
-{
-    one.cmp(other).is_lt()
 }

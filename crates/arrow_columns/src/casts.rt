@@ -3,7 +3,7 @@
 ghost use Rattle.std.specs.Prelude.{[], ◌≡◌, ℕ, ◌+◌, ◌-◌, ◌*◌, ◌<◌, ◌≤◌, IfErr, IsSomeAnd, IsTrue, MatchOption, OnErr, OnOk, Option, Some, drop, if◌then◌else◌, length, pos, slice_get, slice_index_or, unwrap_or, ℤ};
 ghost use Rattle.std.specs.Bool.{OnTrue};
 ghost use Rattle.std.specs.Option.{IfSome};
-ghost use Rattle.arrow_columns.specs.Words.{AreCastTo, HasBits, HasRows, IsFirstWithout, IsOfKind, cell_at, cells_from, end_of, integer_cells, integer_of, is_valid, item_at, width_of};
+ghost use Rattle.arrow_columns.specs.Words.{AreCastTo, AreWritten, HasBits, HasRows, IsFirstWithout, IsOfKind, cell_at, cells_from, end_of, integer_cells, integer_of, is_valid, item_at, width_of};
 
 use crate::bitmaps::is_row_valid;
 use crate::columns::Column;
@@ -86,7 +86,89 @@ fn put<const M: usize>(room: &mut [u8], k: usize, bytes: [u8; M])
     room[start..start + M].copy_from_slice(&bytes);
 }
 
-/// Writes the integers of all rows, and 0 for a null.
+/// Writes the integer of row i, or 0 if it is null.
+#[inline(always)]
+fn write_row<const N: usize, T: Integer<N>, const M: usize, U: Integer<M>>(
+    validity: &[u8],
+    items: &[[u8; N]],
+    from: usize,
+    i: usize,
+    end: usize,
+    room: &mut [u8],
+)
+    requires narrow { M ≤ 8 }
+    requires from { from ≤ i }
+    requires below { i < end }
+    requires items { end ≤ length items.now }
+    requires bits { HasBits validity.now end }
+    requires room { (end - from) * M ≤ length room.old }
+    requires fit { IfSome (cell_at validity.now (λ i. integer_of T.kind (slice_index_or items.now i [])) i) (IsOfKind U.kind) }
+    requires written { AreWritten U.kind M (cell_at validity.now (λ i. integer_of T.kind (slice_index_or items.now i []))) from i room.old }
+    ensures written { AreWritten U.kind M (cell_at validity.now (λ i. integer_of T.kind (slice_index_or items.now i []))) from (i + 1) room.new }
+    ensures rest { drop ((end - from) * M) room.new ≡ drop ((end - from) * M) room.old }
+{
+    let whole = T::of_bytes(items[i]).whole();
+    let bytes = bytes_or_zero::<M, U>(is_row_valid(validity, i, end), whole);
+    put::<M>(room, i - from, bytes);
+}
+
+/// Writes the integers of the rows from a start on, and 0 for a null, row by row.
+fn write_by_rows<const N: usize, T: Integer<N>, const M: usize, U: Integer<M>>(
+    validity: &[u8],
+    items: &[[u8; N]],
+    from: usize,
+    start: usize,
+    end: usize,
+    room: &mut [u8],
+)
+    requires narrow { N ≤ 8 }
+    requires narrow_to { M ≤ 8 }
+    requires from { from ≤ start }
+    requires range { start ≤ end }
+    requires items { end ≤ length items.now }
+    requires bits { HasBits validity.now end }
+    requires room { (end - from) * M ≤ length room.old }
+    requires fit { (k : ℕ) → k < end → from ≤ k → IfSome (cell_at validity.now (λ i. integer_of T.kind (slice_index_or items.now i [])) k) (IsOfKind U.kind) }
+    requires written { AreWritten U.kind M (cell_at validity.now (λ i. integer_of T.kind (slice_index_or items.now i []))) from start room.old }
+    ensures written { AreWritten U.kind M (cell_at validity.now (λ i. integer_of T.kind (slice_index_or items.now i []))) from end room.new }
+    ensures rest { drop ((end - from) * M) room.new ≡ drop ((end - from) * M) room.old }
+{
+    for i in start..end {
+        write_row::<N, T, M, U>(validity, items, from, i, end, room);
+    }
+}
+
+/// The same, with the rows of whole bytes of the bitmap.
+fn write_by_bytes<const N: usize, T: Integer<N>, const M: usize, U: Integer<M>>(
+    validity: &[u8],
+    items: &[[u8; N]],
+    from: usize,
+    first_byte: usize,
+    end_byte: usize,
+    room: &mut [u8],
+)
+    requires narrow { N ≤ 8 }
+    requires narrow_to { M ≤ 8 }
+    requires from { from ≤ 8 * first_byte }
+    requires range { first_byte ≤ end_byte }
+    requires items { 8 * end_byte ≤ length items.now }
+    requires bits { end_byte ≤ length validity.now }
+    requires room { (8 * end_byte - from) * M ≤ length room.old }
+    requires fit { (k : ℕ) → k < 8 * end_byte → from ≤ k → IfSome (cell_at validity.now (λ i. integer_of T.kind (slice_index_or items.now i [])) k) (IsOfKind U.kind) }
+    requires written { AreWritten U.kind M (cell_at validity.now (λ i. integer_of T.kind (slice_index_or items.now i []))) from (8 * first_byte) room.old }
+    ensures written { AreWritten U.kind M (cell_at validity.now (λ i. integer_of T.kind (slice_index_or items.now i []))) from (8 * end_byte) room.new }
+    ensures rest { drop ((8 * end_byte - from) * M) room.new ≡ drop ((8 * end_byte - from) * M) room.old }
+{
+    let end = 8 * end_byte;
+    for b in first_byte..end_byte {
+        for j in 0..8 {
+            write_row::<N, T, M, U>(validity, items, from, 8 * b + j, end, room);
+        }
+    }
+}
+
+/// Writes the integers of all rows, and 0 for a null. Where there is a bitmap, most go by its whole
+/// bytes.
 fn write_rows<const N: usize, T: Integer<N>, const M: usize, U: Integer<M>>(
     validity: &[u8],
     items: &[[u8; N]],
@@ -94,20 +176,24 @@ fn write_rows<const N: usize, T: Integer<N>, const M: usize, U: Integer<M>>(
     end: usize,
     room: &mut [u8],
 )
-    requires narrow { M ≤ 8 }
+    requires narrow { N ≤ 8 }
+    requires narrow_to { M ≤ 8 }
     requires range { from ≤ end }
     requires items { end ≤ length items.now }
     requires bits { HasBits validity.now end }
     requires room { (end - from) * M ≤ length room.old }
     requires fit { (k : ℕ) → k < end → from ≤ k → IfSome (cell_at validity.now (λ i. integer_of T.kind (slice_index_or items.now i [])) k) (IsOfKind U.kind) }
-    ensures written { (k : ℕ) → k < end - from → integer_of U.kind (item_at M room.new k) ≡ unwrap_or (cell_at validity.now (λ i. integer_of T.kind (slice_index_or items.now i [])) (from + k)) (pos 0) }
+    ensures written { AreWritten U.kind M (cell_at validity.now (λ i. integer_of T.kind (slice_index_or items.now i []))) from end room.new }
     ensures rest { drop ((end - from) * M) room.new ≡ drop ((end - from) * M) room.old }
 {
-    for i in from..end {
-        let whole = T::of_bytes(items[i]).whole();
-        let bytes = bytes_or_zero::<M, U>(is_row_valid(validity, i, end), whole);
-        put::<M>(room, i - from, bytes);
+    let first_byte = from / 8 + 1;
+    let end_byte = end / 8;
+    if validity.is_empty() || end_byte <= first_byte {
+        return write_by_rows::<N, T, M, U>(validity, items, from, from, end, room);
     }
+    write_by_rows::<N, T, M, U>(validity, items, from, from, 8 * first_byte, room);
+    write_by_bytes::<N, T, M, U>(validity, items, from, first_byte, end_byte, room);
+    write_by_rows::<N, T, M, U>(validity, items, from, 8 * end_byte, end, room);
 }
 
 /// Casts a column from integers of N bytes to those of M bytes.

@@ -8,6 +8,7 @@ mod bitmaps;
 mod booleans;
 mod byte_extremes;
 mod byte_items;
+mod byte_spans;
 mod casts;
 mod checking;
 mod columns;
@@ -21,6 +22,7 @@ mod reading;
 mod statistics;
 mod tested_rows;
 
+pub use byte_spans::ByteSpan;
 pub use casts::CastFault;
 pub use columns::Column;
 pub use faults::{Buffer, ColumnFault};

@@ -1,14 +1,16 @@
-use Rattle.std.proofs.Common.{[], ◌≡◌, ◌∙◌, ◌-◌, ◌<◌, ◌≤◌, None, Option, Some, List, add-zero, ap, arith, refl, ℕ, slice_index_or, subst, sym}
+use Rattle.std.proofs.Common.{[], ◌≡◌, ◌∙◌, ◌+◌, ◌-◌, ◌<◌, ◌≤◌, None, Option, Some, List, add-zero, ap, arith, refl, ℕ, slice_index_or, slice_range, subst, sym}
 use Rattle.std.specs.Option.{is_none}
 use Rattle.arrow_columns.specs.Cells.{cell_at}
 use Rattle.arrow_columns.specs.Offsets.{bytes_between, offset_of}
 use Rattle.arrow_columns.specs.Running.{IsBestAt, nulls_from}
+use Rattle.arrow_columns.specs.Spans.{IsSpan}
+use Rattle.arrow_columns.specs.declared.byte_spans.ByteSpan.{ByteSpan}
 use Rattle.arrow_columns.specs.Statistics.{NotAbove}
-use Rattle.arrow_columns.proofs.ByteOrder.{below_says, best_first, best_is, best_kept, best_new, best_past, byte_statistics_given, byte_statistics_of_nulls, downward, goes_on, not_below_says, upward}
+use Rattle.arrow_columns.proofs.ByteOrder.{best_first, best_kept, byte_statistics_given, byte_statistics_of_nulls, downward, upward}
 use Rattle.arrow_columns.proofs.CellLists.{all_nulls, count_more, null_cell, valid_cell}
+use Rattle.arrow_columns.proofs.SpanSteps.{best_chosen, between_same}
 use Rattle.arrow_columns.proofs.byte_extremes.statistics_of_byte_rows.Goals as goal
-use Rattle.arrow_columns.proofs.byte_extremes.statistics_of_byte_rows.Goals.{else-is_row_valid, then-is_row_valid+else-is_below+else-is_below-2, then-is_row_valid+else-is_below+then-is_below-2, then-is_row_valid+then-is_below}
-use denote.Bor.{Bor}
+use Rattle.arrow_columns.proofs.byte_extremes.statistics_of_byte_rows.Goals.{else-is_row_valid, then-is_row_valid}
 
 pub returns-then-start-end : goal.returns-then-start-end
 returns-then-start-end g c =
@@ -27,73 +29,60 @@ loop-i-init g c =
     let cell : C start ≡ Some (V start) = valid_cell c.args.validity.now V start (V start) (c.first_valid-start.ensures.valid (omega arith)) refl in
     let nulls : (k : ℕ) → k < start → from ≤ k → C k ≡ None =
     λ k l f. null_cell c.args.validity.now V k (c.first_valid-start.ensures.nulls k l f) in
+    let least : c.of-span.result.least ≡ start = c.of-span.ensures.rows.0 in
+    let greatest : c.of-span.result.greatest ≡ start = c.of-span.ensures.rows.1 in
     record {
       nulls = count_more is_none C from start (start - from) (start - from) (Some (V start)) (omega arith) cell (all_nulls C from (start - from) start (omega arith) nulls) (sym (add-zero _));
       within = omega arith;
-      least = best_first NotAbove upward C V from start (omega arith) cell nulls;
-      greatest = best_first (λ x y. NotAbove y x) downward C V from start (omega arith) cell nulls;
-      low = c.row-low.ensures;
-      high = c.row-low.ensures;
+      span = c.of-span.ensures.span;
+      least = subst (IsBestAt NotAbove C V from (start + 1)) (sym least) (best_first NotAbove upward C V from start (omega arith) cell nulls);
+      greatest = subst (IsBestAt (λ x y. NotAbove y x) C V from (start + 1)) (sym greatest) (best_first (λ x y. NotAbove y x) downward C V from start (omega arith) cell nulls);
+      low = c.of-span.ensures.values.0 ∙ c.row.ensures ∙ ap V (sym least);
+      high = c.of-span.ensures.values.1 ∙ c.row.ensures ∙ ap V (sym greatest);
     }
 
-pub row-value-requires : goal.row-value-requires
-row-value-requires g c = (omega (arith, c.requires.narrow), (omega arith, c.requires.rows c.loop-i.i (omega arith) (omega arith)))
+pub widened-span-requires : goal.widened-span-requires
+widened-span-requires g c =
+    let row = c.requires.rows c.loop-i.i (omega arith) (omega arith) in
+    record {
+      order = omega (arith, row.0, c.read_offset-begin.ensures, c.read_offset-stop.ensures);
+      within = omega (arith, row.1, c.read_offset-stop.ensures);
+      span = c.loop-i.invariant.span;
+    }
 
 pub loop-i-preserved : goal.loop-i-preserved
 loop-i-preserved g c =
-    let V : ℕ → List ℕ = bytes_between c.args.bytes.now (λ i. offset_of g.T.Offset.width (slice_index_or c.args.offsets.now i [])) in
+    let O : ℕ → ℕ = λ i. offset_of g.T.Offset.width (slice_index_or c.args.offsets.now i []) in
+    let V : ℕ → List ℕ = bytes_between c.args.bytes.now O in
     let C : ℕ → Option (List ℕ) = cell_at c.args.validity.now V in
     let from : ℕ = c.args.from in
     let i : ℕ = c.loop-i.i in
-    let least : ℕ = c.loop-i.least in
-    let greatest : ℕ = c.loop-i.greatest in
     let inv = c.loop-i.invariant in
-    let ordered : NotAbove (V least) (V greatest) = best_is NotAbove C V from i least greatest inv.least inv.greatest.from' inv.greatest.before inv.greatest.is in
     elim c.if-is_row_valid.branch [
-      | then-is_row_valid+then-is_below w ↦
+      | then-is_row_valid w ↦
           let cell : C i ≡ Some (V i) = valid_cell c.args.validity.now V i (V i) (sym c.is_row_valid.ensures ∙ w.if-is_row_valid.true) refl in
-          let below : NotAbove (V i) (V least) = below_says _ _ (V i) (V least) w.is_below.result w.is_below.ensures w.row-value.ensures inv.low w.if-is_below.true in
+          let value : slice_range c.args.bytes.now w.read_offset-begin.result w.read_offset-stop.result ≡ V i = between_same c.args.bytes.now O i _ _ w.read_offset-begin.ensures w.read_offset-stop.ensures in
+          let low = best_chosen NotAbove upward C V from i c.loop-i.span.least w.widened-span.result.least _ _ _ inv.least (omega arith) cell value inv.low w.widened-span.ensures.widened.least in
+          let high = best_chosen (λ x y. NotAbove y x) downward C V from i c.loop-i.span.greatest w.widened-span.result.greatest _ _ _ inv.greatest (omega arith) cell value inv.high w.widened-span.ensures.widened.greatest in
           record {
             nulls = count_more is_none C from i c.loop-i.null_count _ (Some (V i)) (omega arith) cell inv.nulls (w.null_count-is ∙ sym (add-zero _));
             within = omega (arith, w.null_count-is, inv.within);
-            least = best_new NotAbove upward C V from i least _ inv.least (omega arith) cell below w.least-is;
-            greatest = best_past (λ x y. NotAbove y x) C V from i greatest _ inv.greatest cell (goes_on (V i) (V least) (V greatest) below ordered) w.greatest-is;
-            low = ap (λ (r : Bor (List ℕ)). r.now) w.low-is ∙ w.row-value.ensures ∙ ap V (sym w.least-is);
-            high = ap (λ (r : Bor (List ℕ)). r.now) w.high-is ∙ inv.high ∙ ap V (sym w.greatest-is);
-          }
-      | then-is_row_valid+else-is_below+then-is_below-2 w ↦
-          let cell : C i ≡ Some (V i) = valid_cell c.args.validity.now V i (V i) (sym c.is_row_valid.ensures ∙ w.if-is_row_valid.true) refl in
-          let not_below : NotAbove (V least) (V i) = not_below_says _ _ (V i) (V least) w.is_below.result w.is_below.ensures w.row-value.ensures inv.low w.if-is_below.false in
-          let above : NotAbove (V greatest) (V i) = below_says _ _ (V greatest) (V i) w.is_below-else-is_below.result w.is_below-else-is_below.ensures inv.high w.row-value.ensures w.if-is_below-2.true in
-          record {
-            nulls = count_more is_none C from i c.loop-i.null_count _ (Some (V i)) (omega arith) cell inv.nulls (w.null_count-is ∙ sym (add-zero _));
-            within = omega (arith, w.null_count-is, inv.within);
-            least = best_past NotAbove C V from i least _ inv.least cell not_below w.least-is;
-            greatest = best_new (λ x y. NotAbove y x) downward C V from i greatest _ inv.greatest (omega arith) cell above w.greatest-is;
-            low = ap (λ (r : Bor (List ℕ)). r.now) w.low-is ∙ inv.low ∙ ap V (sym w.least-is);
-            high = ap (λ (r : Bor (List ℕ)). r.now) w.high-is ∙ w.row-value.ensures ∙ ap V (sym w.greatest-is);
-          }
-      | then-is_row_valid+else-is_below+else-is_below-2 w ↦
-          let cell : C i ≡ Some (V i) = valid_cell c.args.validity.now V i (V i) (sym c.is_row_valid.ensures ∙ w.if-is_row_valid.true) refl in
-          let not_below : NotAbove (V least) (V i) = not_below_says _ _ (V i) (V least) w.is_below.result w.is_below.ensures w.row-value.ensures inv.low w.if-is_below.false in
-          let not_above : NotAbove (V i) (V greatest) = not_below_says _ _ (V greatest) (V i) w.is_below-else-is_below.result w.is_below-else-is_below.ensures inv.high w.row-value.ensures w.if-is_below-2.false in
-          record {
-            nulls = count_more is_none C from i c.loop-i.null_count _ (Some (V i)) (omega arith) cell inv.nulls (w.null_count-is ∙ sym (add-zero _));
-            within = omega (arith, w.null_count-is, inv.within);
-            least = best_past NotAbove C V from i least _ inv.least cell not_below w.least-is;
-            greatest = best_past (λ x y. NotAbove y x) C V from i greatest _ inv.greatest cell not_above w.greatest-is;
-            low = ap (λ (r : Bor (List ℕ)). r.now) w.low-is ∙ inv.low ∙ ap V (sym w.least-is);
-            high = ap (λ (r : Bor (List ℕ)). r.now) w.high-is ∙ inv.high ∙ ap V (sym w.greatest-is);
+            span = subst IsSpan (sym w.span-is) w.widened-span.ensures.span;
+            least = subst (λ (s : ByteSpan). IsBestAt NotAbove C V from (i + 1) s.least) (sym w.span-is) low.0;
+            greatest = subst (λ (s : ByteSpan). IsBestAt (λ x y. NotAbove y x) C V from (i + 1) s.greatest) (sym w.span-is) high.0;
+            low = subst (λ (s : ByteSpan). s.low.now ≡ V s.least) (sym w.span-is) low.1;
+            high = subst (λ (s : ByteSpan). s.high.now ≡ V s.greatest) (sym w.span-is) high.1;
           }
       | else-is_row_valid w ↦
           let cell : C i ≡ None = null_cell c.args.validity.now V i (sym c.is_row_valid.ensures ∙ w.if-is_row_valid.false) in
           record {
             nulls = count_more is_none C from i c.loop-i.null_count _ None (omega arith) cell inv.nulls w.null_count-is;
             within = omega (arith, w.null_count-is, inv.within);
-            least = best_kept NotAbove C V from i least _ inv.least cell w.least-is;
-            greatest = best_kept (λ x y. NotAbove y x) C V from i greatest _ inv.greatest cell w.greatest-is;
-            low = ap (λ (r : Bor (List ℕ)). r.now) w.low-is ∙ inv.low ∙ ap V (sym w.least-is);
-            high = ap (λ (r : Bor (List ℕ)). r.now) w.high-is ∙ inv.high ∙ ap V (sym w.greatest-is);
+            span = subst IsSpan (sym w.span-is) inv.span;
+            least = subst (λ (s : ByteSpan). IsBestAt NotAbove C V from (i + 1) s.least) (sym w.span-is) (best_kept NotAbove C V from i c.loop-i.span.least _ inv.least cell refl);
+            greatest = subst (λ (s : ByteSpan). IsBestAt (λ x y. NotAbove y x) C V from (i + 1) s.greatest) (sym w.span-is) (best_kept (λ x y. NotAbove y x) C V from i c.loop-i.span.greatest _ inv.greatest cell refl);
+            low = subst (λ (s : ByteSpan). s.low.now ≡ V s.least) (sym w.span-is) inv.low;
+            high = subst (λ (s : ByteSpan). s.high.now ≡ V s.greatest) (sym w.span-is) inv.high;
           }
     ]
 
@@ -102,6 +91,6 @@ returns g c =
     let V : ℕ → List ℕ = bytes_between c.args.bytes.now (λ i. offset_of g.T.Offset.width (slice_index_or c.args.offsets.now i [])) in
     let C : ℕ → Option (List ℕ) = cell_at c.args.validity.now V in
     let past : c.loop-i.i ≡ c.args.end = omega arith in
-    byte_statistics_given C V c.args.from (c.args.end - c.args.from) c.args.end _ c.loop-i.least c.loop-i.greatest (omega arith) (c.loop-i.invariant.nulls ∙ ap (λ i. nulls_from C c.args.from (i - c.args.from)) past)
-    (subst (λ i. IsBestAt NotAbove C V c.args.from i c.loop-i.least) past c.loop-i.invariant.least)
-    (subst (λ i. IsBestAt (λ x y. NotAbove y x) C V c.args.from i c.loop-i.greatest) past c.loop-i.invariant.greatest)
+    byte_statistics_given C V c.args.from (c.args.end - c.args.from) c.args.end _ c.loop-i.span.least c.loop-i.span.greatest (omega arith) (c.loop-i.invariant.nulls ∙ ap (λ i. nulls_from C c.args.from (i - c.args.from)) past)
+    (subst (λ i. IsBestAt NotAbove C V c.args.from i c.loop-i.span.least) past c.loop-i.invariant.least)
+    (subst (λ i. IsBestAt (λ x y. NotAbove y x) C V c.args.from i c.loop-i.span.greatest) past c.loop-i.invariant.greatest)

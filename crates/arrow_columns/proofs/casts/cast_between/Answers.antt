@@ -22,14 +22,17 @@ write_rows-requires g c =
     let count : column.length ≡ column.offset + column.length - column.offset = omega arith in (
       omega (arith, c.requires.narrow),
       (
-        c.requires.narrow_to,
+        c.requires.narrow,
         (
-          omega arith,
+          c.requires.narrow_to,
           (
-            omega (arith, within, c.as_chunks.ensures.front_len),
+            omega arith,
             (
-              c.requires.rows.1,
-              (subst (λ k. k * g.row.M ≤ length c.args.room.now) count c.requires.room, c.in-None.ensures),
+              omega (arith, within, c.as_chunks.ensures.front_len),
+              (
+                c.requires.rows.1,
+                (subst (λ k. k * g.row.M ≤ length c.args.room.now) count c.requires.room, c.in-None.ensures),
+              ),
             ),
           ),
         ),
