@@ -1,0 +1,98 @@
+-- Steps of reading the columns that a filter is asked of.
+use Rattle.std.proofs.Common.{◌≡◌, ℕ, ◌+◌, ◌<◌, ◌≤◌, ◌⊎◌, inl, inr, List, [], ◌∷◌, ◌++◌, length, take, get_or, map, refl, sym, subst, ap, ap₂, ◌∙◌, arith, Some, slice_get}
+use Rattle.std.specs.Global.{Global}
+use Rattle.std.specs.Prelude.{slice_index_or, Result, Ok, Err, IsErr, IsErrAnd, IfErr, Vec}
+use Rattle.std.specs.List.{All}
+use Rattle.std.proofs.lemmas.Bool.{cases_lt}
+use Rattle.std.proofs.lemmas.List.{get_or-map, length-map, map-append, take_more}
+use Rattle.std.proofs.lemmas.List.Elements.{All-nil, All-push}
+use Rattle.std.proofs.lemmas.Option.{slice_get-get_or, same_Some}
+use Rattle.arrow_columns.specs.declared.columns.Column.{Column}
+use Rattle.arrow_columns.specs.declared.tested_rows.Rows.{Rows}
+use Rattle.vortex_dtype.specs.TypeOf.{type_of}
+use Rattle.vortex_dtype.specs.TypeTree.{TypeTree, null_type}
+use Rattle.vortex_dtype.specs.declared.types.DType.{DType}
+use Rattle.vortex_value.specs.Values.Content.{Content, null}
+use Rattle.vortex_statistics.specs.Cells.{Cell}
+use Rattle.column_cells.specs.Contents.{HasTexts, contents_of_rows}
+use Rattle.column_filters.specs.Tables.{AreColumnsOf, AreReadFrom, AreSoundBefore, IsFaultAt, IsReadFrom, IsSound, IsTableFault, cell_of_column, cell_of_rows, cells_of_columns, cells_of_rows, rows_in}
+use Rattle.column_filters.specs.declared.faults.MaskFault.{MaskFault}
+use Rattle.column_filters.specs.declared.faults.MaskFault.TheVariants.{NoRoom, OutOfMemory, TypesDiffer, Unreadable, WrongCount, WrongLength}
+
+-- ---- the type at a place
+
+pub typed_at : (types : List DType) (k : ℕ) (u : DType) → k < length types → u ≡ get_or types k u → type_of u ≡ get_or (map type_of types) k null_type
+typed_at types k u l is = ap type_of is ∙ sym (get_or-map type_of types k u null_type l)
+
+pub read_typed : (types : List DType) (k : ℕ) (u : DType) (column : Column) (count : ℕ) (rows : Rows) → k < length types → u ≡ get_or types k u → IsReadFrom column (type_of u) count rows → IsReadFrom column (get_or (map type_of types) k null_type) count rows
+read_typed types k u column count rows l is read = subst (λ t. IsReadFrom column t count rows) (typed_at types k u l is) read
+
+fault_typed : (types : List DType) (k : ℕ) (u : DType) (column : Column) (count : ℕ) (fault : MaskFault) → k < length types → u ≡ get_or types k u → IsFaultAt k column (type_of u) count fault → IsFaultAt k column (get_or (map type_of types) k null_type) count fault
+fault_typed types k u column count fault l is h = subst (λ t. IsFaultAt k column t count fault) (typed_at types k u l is) h
+
+-- ---- columns, one by one
+
+pub read-none : (columns : List Column) (types : List TypeTree) → AreReadFrom columns types 0 []
+read-none columns types = record { cells = λ row. refl; rows = All-nil _ }
+
+pub sound-none : (columns : List Column) (types : List TypeTree) → AreSoundBefore columns types 0
+sound-none columns types j column less got = absurd (omega arith)
+
+-- one more
+
+same-cell : (row : ℕ) (column : Column) (t : TypeTree) (count : ℕ) (rows : Rows) → IsReadFrom column t count rows → cell_of_rows row rows ≡ cell_of_column row column
+same-cell row column t count rows read =
+    let cell : TypeTree → List Content → Cell = λ u xs. record { typed = u; content = slice_index_or xs row null } in
+    ap₂ cell read.typed read.contents
+
+pub read-more : (columns : List Column) (types : List TypeTree) (k : ℕ) (d : Column) (table more : List Rows) (rows : Rows) → k < length columns
+    → AreReadFrom columns types k table → IsReadFrom (get_or columns k d) (get_or types k null_type) (rows_in columns) rows → more ≡ table ++ rows ∷ [] → AreReadFrom columns types (k + 1) more
+read-more columns types k d table more rows here all one e = record {
+  cells = λ row.
+      ap (λ xs. cells_of_rows xs row) e ∙ map-append (cell_of_rows row) table (rows ∷ []) ∙ ap₂ (λ xs x. xs ++ x ∷ []) (all.cells row) (same-cell row (get_or columns k d) (get_or types k null_type) (rows_in columns) rows one)
+      ∙ sym (map-append (cell_of_column row) (take k columns) (get_or columns k d ∷ [])) ∙ ap (λ xs. cells_of_columns xs row) (sym (take_more columns k d here));
+  rows = subst (λ t. All (λ r. (length (contents_of_rows r) ≡ rows_in columns) × HasTexts r) t) (sym e) (All-push (λ r. (length (contents_of_rows r) ≡ rows_in columns) × HasTexts r) table rows all.rows (ap length one.contents ∙ one.sound.even, one.texts));
+}
+
+got-is : (columns : List Column) (k : ℕ) (d other : Column) → k < length columns → slice_get columns k ≡ Some other → get_or columns k d ≡ other
+got-is columns k d other here got = same_Some (get_or columns k d) other (sym (slice_get-get_or columns k d here) ∙ got)
+
+pub sound-more : (columns : List Column) (types : List TypeTree) (k : ℕ) (d : Column) (rows : Rows) → k < length columns → AreSoundBefore columns types k → IsReadFrom (get_or columns k d) (get_or types k null_type) (rows_in columns) rows
+    → AreSoundBefore columns types (k + 1)
+sound-more columns types k d rows here all one j other less got = by_place (cases_lt j k)
+  where
+    by_place : (j < k) ⊎ (k ≤ j) → IsSound other (slice_index_or types j null_type) (rows_in columns)
+    by_place (inl before) = all j other before got
+    by_place (inr after) =
+        let at : j ≡ k = omega arith in
+        let found : get_or columns k d ≡ other = got-is columns k d other here (subst (λ n. slice_get columns n ≡ Some other) at got) in
+        subst (λ c. IsSound c (slice_index_or types j null_type) (rows_in columns)) found (subst (λ n. IsSound (get_or columns k d) (slice_index_or types n null_type) (rows_in columns)) (sym at) one.sound)
+
+-- a fault of a column is one of the table
+
+pub table-fault : (columns : List Column) (types : List TypeTree) (k : ℕ) (d : Column) (fault : MaskFault) → length columns ≡ length types → k < length columns → AreSoundBefore columns types k
+    → IsFaultAt k (get_or columns k d) (get_or types k null_type) (rows_in columns) fault → IsTableFault columns types fault
+table-fault columns types k d OutOfMemory counts here all h = tt
+table-fault columns types k d WrongCount counts here all h = absurd h
+table-fault columns types k d NoRoom counts here all h = absurd h
+table-fault columns types k d (Unreadable place fault) counts here all h = (counts, (k, get_or columns k d, slice_get-get_or columns k d here, all, h))
+table-fault columns types k d (TypesDiffer place) counts here all h = (counts, (k, get_or columns k d, slice_get-get_or columns k d here, all, h))
+table-fault columns types k d (WrongLength place) counts here all h = (counts, (k, get_or columns k d, slice_get-get_or columns k d here, all, h))
+
+pub table-fault-typed : (columns : List Column) (types : List DType) (k : ℕ) (d : Column) (u : DType) (fault : MaskFault) → length columns ≡ length types → k < length columns → u ≡ get_or types k u → AreSoundBefore columns (map type_of types) k
+    → IsFaultAt k (get_or columns k d) (type_of u) (rows_in columns) fault → IsTableFault columns (map type_of types) fault
+table-fault-typed columns types k d u fault counts here is all h =
+    table-fault columns (map type_of types) k d fault (omega (arith, counts, length-map types type_of)) here all (fault_typed types k u (get_or columns k d) (rows_in columns) fault (omega arith) is h)
+
+pub table-refused : (columns : List Column) (types : List TypeTree) (r : Result (Vec Rows Global) MaskFault) (e : MaskFault) → IsErr r × IsErrAnd r (λ f. f ≡ e) → IsTableFault columns types e → IfErr r (λ f. IsTableFault columns types f)
+table-refused columns types (Ok p) e h k = tt
+table-refused columns types (Err f) e h k = subst (IsTableFault columns types) (sym h.1) k
+
+-- all columns are read
+pub columns-of : (columns : List Column) (types : List DType) → length columns ≡ length types → AreSoundBefore columns (map type_of types) (length columns) → AreColumnsOf columns (map type_of types)
+columns-of columns types counts sound = record { counts = counts ∙ sym (length-map types type_of); sound = sound }
+
+pub other-count : (columns : List Column) (types : List DType) → ¬ (length columns ≡ length types) → IsTableFault columns (map type_of types) WrongCount
+other-count columns types differ counts = differ (counts ∙ length-map types type_of)
+
+pub ruleset shown = (read-none, sound-none, columns-of, other-count)

@@ -1,0 +1,5 @@
+mod ColumnSteps
+mod MaskSteps
+mod OpenPieces
+mod RowSteps
+mod ZoneSteps

@@ -1,0 +1,5 @@
+pub mod Examples
+pub mod Masks
+pub mod Tables
+pub mod Words
+pub mod Zones

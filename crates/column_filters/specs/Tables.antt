@@ -1,0 +1,98 @@
+-- Columns of which a filter is asked, and why it cannot be.
+use Rattle.std.specs.Prelude.{◌≡◌, ◌≢◌, ℕ, ◌<◌, List, [], ◌∷◌, length, map, slice_get, slice_index_or, Some, take}
+use Rattle.std.specs.List.{All}
+use Rattle.arrow_columns.specs.Checked.{AreRowsOf}
+use Rattle.arrow_columns.specs.Faults.{IsFaultOf}
+use Rattle.arrow_columns.specs.declared.columns.Column.{Column}
+use Rattle.arrow_columns.specs.declared.tested_rows.Rows.{Rows}
+use Rattle.vortex_dtype.specs.TypeTree.{Same, TypeTree, null_type}
+use Rattle.vortex_value.specs.Values.Content.{null}
+use Rattle.vortex_statistics.specs.Cells.{Cell}
+use Rattle.column_cells.specs.Contents.{HasTexts, contents_of_column, contents_of_rows}
+use Rattle.column_cells.specs.Types.{type_of_column, type_of_rows}
+use Rattle.column_filters.specs.Masks.{mask_length}
+use Rattle.column_filters.specs.declared.faults.MaskFault.{MaskFault}
+use Rattle.column_filters.specs.declared.faults.MaskFault.TheVariants.{NoRoom, OutOfMemory, TypesDiffer, Unreadable, WrongCount, WrongLength}
+
+-- ---- cells
+
+-- the cell of a row of a column
+abbrev pub cell_of_column : ℕ → Column → Cell
+cell_of_column row column = record { typed = type_of_column column; content = slice_index_or (contents_of_column column) row null }
+
+-- the cells of a row of columns
+abbrev pub cells_of_columns : List Column → ℕ → List Cell
+cells_of_columns columns row = map (cell_of_column row) columns
+
+-- the same, of columns that were read
+abbrev pub cell_of_rows : ℕ → Rows → Cell
+cell_of_rows row rows = record { typed = type_of_rows rows; content = slice_index_or (contents_of_rows rows) row null }
+
+abbrev pub cells_of_rows : List Rows → ℕ → List Cell
+cells_of_rows columns row = map (cell_of_rows row) columns
+
+-- ---- reading columns
+
+-- how many rows columns have: as many as the first one says
+abbrev pub rows_in : List Column → ℕ
+rows_in [] = 0
+rows_in (column ∷ columns) = column.length
+
+-- the column can be read, is of the type up to nullability, and has so many rows
+pub record IsSound (column : Column) (t : TypeTree) (count : ℕ) : Type 0 where
+  pub rows : Rows
+  pub readable : AreRowsOf column rows
+  pub typed : Same (type_of_column column) t
+  pub even : length (contents_of_column column) ≡ count
+
+-- this was read of it
+pub record IsReadFrom (column : Column) (t : TypeTree) (count : ℕ) (rows : Rows) : Type 0 where
+  pub sound : IsSound column t count
+  pub typed : type_of_rows rows ≡ type_of_column column
+  pub contents : contents_of_rows rows ≡ contents_of_column column
+  pub texts : HasTexts rows
+
+-- the first columns are sound
+abbrev pub AreSoundBefore : List Column → List TypeTree → ℕ → Type 0
+AreSoundBefore columns types k = (j : ℕ) (column : Column) → j < k → slice_get columns j ≡ Some column → IsSound column (slice_index_or types j null_type) (rows_in columns)
+
+-- each column has so many rows, and strings that are UTF-8
+abbrev pub HaveRows : List Rows → ℕ → Type 0
+HaveRows columns count = All (λ rows. (length (contents_of_rows rows) ≡ count) × HasTexts rows) columns
+
+-- each column has this row, and strings that are UTF-8
+abbrev pub HasRow : List Rows → ℕ → Type 0
+HasRow columns row = All (λ rows. (row < length (contents_of_rows rows)) × HasTexts rows) columns
+
+-- there are as many columns as types, and each is sound
+pub record AreColumnsOf (columns : List Column) (types : List TypeTree) : Type 0 where
+  pub counts : length columns ≡ length types
+  pub sound : AreSoundBefore columns types (length columns)
+
+-- these were read of the first columns
+pub record AreReadFrom (columns : List Column) (types : List TypeTree) (k : ℕ) (read : List Rows) : Type 0 where
+  pub cells : (row : ℕ) → cells_of_rows read row ≡ cells_of_columns (take k columns) row
+  pub rows : HaveRows read (rows_in columns)
+
+-- why a column at a place is not sound: the first reason in this order
+abbrev pub IsFaultAt : ℕ → Column → TypeTree → ℕ → MaskFault → Type 0
+IsFaultAt k column t count OutOfMemory = ⊥
+IsFaultAt k column t count WrongCount = ⊥
+IsFaultAt k column t count NoRoom = ⊥
+IsFaultAt k column t count (Unreadable place fault) = (place ≡ k) × IsFaultOf column fault
+IsFaultAt k column t count (TypesDiffer place) = (place ≡ k) × ((rows : Rows) × AreRowsOf column rows) × ¬ (Same (type_of_column column) t)
+IsFaultAt k column t count (WrongLength place) = (place ≡ k) × ((rows : Rows) × AreRowsOf column rows) × Same (type_of_column column) t × ¬ (length (contents_of_column column) ≡ count)
+
+-- why columns are not those of the types: the first that is not sound, if there are as many as types
+abbrev pub IsTableFault : List Column → List TypeTree → MaskFault → Type 0
+IsTableFault columns types OutOfMemory = Unit {0}
+IsTableFault columns types WrongCount = length columns ≢ length types
+IsTableFault columns types NoRoom = ⊥
+IsTableFault columns types fault =
+    (length columns ≡ length types)
+    × ((k : ℕ) × (column : Column) × (slice_get columns k ≡ Some column) × AreSoundBefore columns types k × IsFaultAt k column (slice_index_or types k null_type) (rows_in columns) fault)
+
+-- why there is no mask of so many bytes: for such a reason, or it is too short for the rows
+abbrev pub IsMaskFault : List Column → List TypeTree → ℕ → MaskFault → Type 0
+IsMaskFault columns types size NoRoom = AreColumnsOf columns types × (size < mask_length (rows_in columns))
+IsMaskFault columns types size fault = IsTableFault columns types fault

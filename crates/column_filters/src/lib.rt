@@ -1,0 +1,18 @@
+// SPDX-License-Identifier: Apache-2.0
+// SPDX-FileCopyrightText: Copyright the Vortex contributors; ported to Rattle and changed
+//! A filter over many rows at once: which rows of columns in Arrow's layout match, and what it can
+//! be on the rows of many zones, by statistics in bytes.
+#![tactic(auto)]
+
+mod bits;
+mod columns;
+mod faults;
+pub mod laws;
+mod masks;
+mod zones;
+
+pub use bits::mask_length;
+pub use columns::{read_columns, row_count_of};
+pub use faults::{MaskFault, ZoneFault};
+pub use masks::{mask_of_columns, write_mask};
+pub use zones::outcomes_of_zones;

@@ -1,0 +1,187 @@
+//! What a filter can be on the rows of zones.
+
+ghost use Rattle.std.specs.Prelude.{◌≡◌, ◌+◌, ◌*◌, ◌<◌, ◌≤◌, ◌↔◌, IfErr, IfOk, IsTrue, MatchResult, OnOk, length, map, if◌then◌else◌};
+ghost use Rattle.column_filters.specs.Words.{AreEnough, AreOutcomes, AreSaid, BadOffsets, IsBadPiece, IsPiece, IsSaid, RefusesZone, RefusesZones, fault_of_piece, formula, known, open_statistics, outcomes_byte, piece_at, type_of};
+
+use crate::faults::ZoneFault;
+use std::alloc::Global;
+use vortex_dtype::DType;
+use vortex_filter::{Filter, Outcomes};
+use vortex_statistics::{ColumnStatistics, StatisticsError};
+
+/// What the filter can be on the rows of each zone: a byte for each, 1 if it can be False, 2 if it
+/// can be Unknown and 4 if it can be True, added up.
+///
+/// A piece is the form in bytes of the statistics of one column in one zone, from its offset to the
+/// next one. Pieces stand zone by zone, one for each type, and an empty piece leaves all cells open.
+///
+/// - `WrongLength` exactly if there are not as many offsets as pieces, and one more.
+/// - `BadOffsets`: the offsets of a piece go down, or past the end.
+/// - `BadBytes`: a piece is no form of statistics of its column's type.
+/// - `HasVariant`: a piece says a bound of a column with variants. Of these three the first piece
+///   decides.
+/// - `OutOfMemory`: for the statistics of a zone.
+///
+/// After a refusal the outcomes may be any bytes.
+#[tactic(auto, using(crate::proofs::ZoneSteps::shown))]
+pub fn outcomes_of_zones(
+    alloc: Global,
+    filter: &Filter,
+    types: &[DType],
+    statistics: &[u8],
+    offsets: &[u64],
+    outcomes: &mut [u8],
+) -> Result<(), ZoneFault>
+    ensures outcomes { OnOk result (AreOutcomes (formula filter.now) (map type_of types.now)
+        statistics.now offsets.now outcomes.new) }
+    ensures refused { IfErr result (RefusesZones (map type_of types.now)
+        statistics.now offsets.now (length outcomes.old)) }
+{
+    if !are_enough(outcomes.len(), types.len(), offsets.len()) {
+        return Err(ZoneFault::WrongLength);
+    }
+    write_outcomes(alloc, filter, types, statistics, offsets, outcomes)
+}
+
+/// Writes what the filter can be on the rows of each zone.
+fn write_outcomes(
+    alloc: Global,
+    filter: &Filter,
+    types: &[DType],
+    statistics: &[u8],
+    offsets: &[u64],
+    outcomes: &mut [u8],
+) -> Result<(), ZoneFault>
+    requires { AreEnough (length outcomes.old) (length types.now) (length offsets.now) }
+    ensures outcomes { OnOk result (AreOutcomes (formula filter.now) (map type_of types.now)
+        statistics.now offsets.now outcomes.new) }
+    ensures refused { IfErr result (RefusesZones (map type_of types.now)
+        statistics.now offsets.now (length outcomes.old)) }
+{
+    let mut read = Vec::with_capacity(alloc, types.len())?;
+    let mut piece = 0;
+    for zone in 0..outcomes.len() {
+        read_zone(alloc, types, statistics, offsets, piece, &mut read)?;
+        outcomes[zone] = byte_of(filter.outcomes(&read));
+        piece += types.len();
+    }
+    Ok(())
+}
+
+/// Whether there are as many offsets as pieces, and one more.
+fn are_enough(zones: usize, columns: usize, offsets: usize) -> bool
+    ensures { IsTrue result ↔ AreEnough zones columns offsets }
+{
+    match zones.checked_mul(columns) {
+        Some(pieces) => offsets > 0 && offsets - 1 == pieces,
+        None => false,
+    }
+}
+
+/// Three bits: whether False, Unknown and True are possible.
+fn byte_of(outcomes: Outcomes) -> u8
+    ensures { result ≡ outcomes_byte outcomes }
+{
+    value_if(outcomes.may_be_false, 1)
+        + value_if(outcomes.may_be_unknown, 2)
+        + value_if(outcomes.may_be_true, 4)
+}
+
+/// The value if that holds, else 0.
+fn value_if(holds: bool, value: u8) -> u8
+    ensures value { result ≡ (if holds then value else 0) }
+    ensures small { result ≤ value }
+{
+    if holds { value } else { 0 }
+}
+
+/// Puts what the pieces from a first one on say of the columns in place of what was there.
+#[tactic(auto, using(crate::proofs::ZoneSteps::shown))]
+fn read_zone(
+    alloc: Global,
+    types: &[DType],
+    statistics: &[u8],
+    offsets: &[u64],
+    first: usize,
+    read: &mut Vec<ColumnStatistics>,
+) -> Result<(), ZoneFault>
+    requires { first + length types.now < length offsets.now }
+    ensures said { OnOk result (AreSaid (map type_of types.now) statistics.now offsets.now first
+        (length types.now) (map known read.new.items)) }
+    ensures refused { IfErr result (RefusesZone (map type_of types.now)
+        statistics.now offsets.now first) }
+{
+    read.clear();
+    for column in 0..types.len() {
+        let said = read_piece(alloc, &types[column], statistics, offsets, first + column)?;
+        read.push(said)?;
+    }
+    Ok(())
+}
+
+/// What a piece says of a column of the type.
+fn read_piece(
+    alloc: Global,
+    dtype: &DType,
+    statistics: &[u8],
+    offsets: &[u64],
+    piece: usize,
+) -> Result<ColumnStatistics, ZoneFault>
+    requires { piece + 1 < length offsets.now }
+    ensures said { IfOk result
+        (λ s. IsSaid (type_of dtype.now) statistics.now offsets.now piece (known s)) }
+    ensures refused { IfErr result
+        (IsBadPiece (type_of dtype.now) statistics.now offsets.now piece) }
+{
+    let bytes = bytes_of_piece(statistics, offsets, piece)?;
+    if bytes.is_empty() {
+        return Ok(open_statistics());
+    }
+    match ColumnStatistics::from_bytes(alloc, dtype, bytes) {
+        Ok(said) => Ok(said),
+        Err(refusal) => Err(fault_of_piece(piece, refusal)),
+    }
+}
+
+/// The fault of a piece that was not read.
+fn fault_of_piece(piece: usize, refusal: StatisticsError) -> ZoneFault
+    ensures { result ≡ fault_of_piece piece refusal }
+{
+    match refusal {
+        StatisticsError::BadBytes { place } => ZoneFault::BadBytes { piece, place },
+        StatisticsError::HasVariant => ZoneFault::HasVariant { piece },
+        StatisticsError::OutOfMemory | StatisticsError::TooManyRows => ZoneFault::OutOfMemory,
+    }
+}
+
+/// The bytes of a piece.
+fn bytes_of_piece<'a>(
+    statistics: &'a [u8],
+    offsets: &[u64],
+    piece: usize,
+) -> Result<&'a [u8], ZoneFault>
+    requires { piece + 1 < length offsets.now }
+    ensures { MatchResult result
+        (λ bytes. IsPiece statistics.now offsets.now piece
+        × (bytes.now ≡ piece_at statistics.now offsets.now piece))
+        (λ e. (e ≡ BadOffsets piece) × ¬ (IsPiece statistics.now offsets.now piece)) }
+{
+    let start = offsets[piece];
+    let end = offsets[piece + 1];
+    if start > end || end > statistics.len() as u64 {
+        return Err(ZoneFault::BadOffsets { piece });
+    }
+    Ok(&statistics[start as usize..end as usize])
+}
+
+/// Statistics that leave all cells open.
+fn open_statistics() -> ColumnStatistics
+    ensures { known result ≡ open_statistics }
+{
+    ColumnStatistics {
+        row_count: u64::MAX,
+        null_count: None,
+        lower: None,
+        upper: None,
+    }
+}
