@@ -1,8 +1,9 @@
 /* SPDX-License-Identifier: Apache-2.0
  * SPDX-FileCopyrightText: Copyright the Vortex contributors; ported to Rattle and changed
  *
- * Doqallin for C: casts that never change a value, bounds of bytes and strings, pruning by these, keys of rows, and statistics of
- * columns. The calls are proved against the contracts in crates/vortex_c and crates/vortex_call. This header is written by hand.
+ * Doqallin for C: casts that never change a value, bounds of bytes and strings, pruning by these, keys of rows, statistics of
+ * columns, and filters. The calls are proved against the contracts in crates/vortex_c and crates/vortex_call. This header is
+ * written by hand.
  *
  * Link with -ldoqallin. One call, doqallin_call, is in a library of its own: link with -ldoqallin_call for it.
  *
@@ -48,6 +49,7 @@ enum {
     DOQALLIN_TOO_MANY_ROWS = 8, /* offset and length of a column, or the rows of two pieces, are together 2^64 or more */
     DOQALLIN_TOO_SHORT = 9,     /* a buffer of a column is too short for its rows */
     DOQALLIN_BAD_BYTES = 10,    /* bytes are not of the form that is read */
+    DOQALLIN_BAD_FILTER = 11,   /* words are no filter */
     DOQALLIN_WRONG_LENGTH = 12, /* numbers of columns, of rows or of options differ that are to be equal */
     DOQALLIN_BAD_OPTIONS = 13   /* a byte stands for no options */
 };
@@ -228,6 +230,86 @@ struct doqallin_statistics_parts {
 uint32_t doqallin_read_statistics(uint8_t kind, const uint8_t *bytes, size_t bytes_length, uint8_t *lower_room,
                                   size_t lower_room_length, uint8_t *upper_room, size_t upper_room_length,
                                   struct doqallin_statistics_parts *parts, struct doqallin_fault *fault);
+
+/* A column that a filter may name: its name, in UTF-8, and its kind. */
+struct doqallin_named_kind {
+    const uint8_t *name;
+    size_t name_length;
+    uint8_t kind;
+};
+
+/* Where words are no filter, and what is wrong there: one of these codes. */
+struct doqallin_mistake {
+    size_t place;
+    uint32_t expected;
+};
+enum {
+    DOQALLIN_EXPECTED_FILTER,    /* one of these had to come: a filter */
+    DOQALLIN_EXPECTED_COLUMN,    /* a column */
+    DOQALLIN_EXPECTED_OPERATOR,  /* an operator */
+    DOQALLIN_EXPECTED_LITERAL,   /* a literal */
+    DOQALLIN_EXPECTED_PREFIX,    /* a string that ends in its only wildcard, % */
+    DOQALLIN_EXPECTED_BACKSLASH, /* a string of one backslash */
+    DOQALLIN_EXPECTED_NULL,      /* null */
+    DOQALLIN_EXPECTED_AND,       /* and */
+    DOQALLIN_EXPECTED_OPENING,   /* ( */
+    DOQALLIN_EXPECTED_CLOSING,   /* ) */
+    DOQALLIN_EXPECTED_COMMA,     /* a comma */
+    DOQALLIN_EXPECTED_END,       /* the end */
+    DOQALLIN_NO_COLUMN,          /* no column has this name */
+    DOQALLIN_TYPES_DIFFER,       /* the literal is of another type than the column */
+    DOQALLIN_NO_LITERAL,         /* no literal but null is of the column's type */
+    DOQALLIN_NUMBER_TOO_LONG,    /* the number is 2^64 or more */
+    DOQALLIN_BAD_TEXT,           /* no token begins here, or it does not end */
+    DOQALLIN_TOO_DEEP            /* more than 256 connectives and parentheses nest */
+};
+
+/* A filter in SQL's words (docs/FILTERS.md), over columns by name and kind, prepared to bytes in their stable form
+ * (docs/FILTER_FORM.md). The calls below take these. If several statuses but GIVEN fit, the first of these comes:
+ * UNKNOWN_KIND, NOT_UTF8: of the columns the first that is of no kind, or has a name that is not UTF-8, is mistake->place.
+ * NOT_UTF8: the words are not, and mistake->place is column_count.
+ * BAD_FILTER: mistake->place is the byte of the words where something else had to come, or their length, and
+ * mistake->expected says what. A filter whose form nests too deep has DOQALLIN_TOO_DEEP at 0: a test with a number that its
+ * column's type lacks nests up to 3 deeper there.
+ * NO_ROOM: *count, which is all that is written, is how many bytes the form has: above room_length. A call without room asks
+ * for it.
+ * GIVEN: the form has the first *count bytes of the room; those after it are as they were.
+ * NO_MEMORY: may come in place of all but GIVEN and NO_ROOM. */
+uint32_t doqallin_prepare_filter(const uint8_t *words, size_t words_length, const struct doqallin_named_kind *columns,
+                                 size_t column_count, uint8_t *room, size_t room_length, size_t *count,
+                                 struct doqallin_mistake *mistake);
+
+/* What a prepared filter can be on the rows of zones, by their statistics: a byte of `outcomes` for each zone. It is 1 if the
+ * filter can be false on a row, plus 2 if it can be unknown, plus 4 if it can be true. A piece is the statistics of one column
+ * in one zone, in their stable form (docs/STATISTICS.md): piece k is the bytes from offsets[k] to offsets[k + 1]. Pieces stand
+ * zone by zone, one for each column that the filter was prepared for. An empty piece leaves all open.
+ * GIVEN: each zone has its byte. Under each other status the outcomes may have any bytes, and the first of these comes:
+ * BAD_BYTES: the filter is no form. fault->column is offsets_length, and fault->place its first byte that no form has there, or
+ * its length if it ends too early.
+ * WRONG_LENGTH: exactly if there are not as many offsets as pieces, and one more. fault->column is offsets_length.
+ * BAD_OFFSETS: an offset of the piece fault->column is below the one before it, or past the end of the statistics.
+ * BAD_BYTES: the piece fault->column is no form of statistics of its column's kind; fault->place is as above, in the piece. Of
+ * the last two the first piece decides.
+ * NO_MEMORY: memory is asked for the filter, and for one zone at a time. */
+uint32_t doqallin_filter_outcomes(const uint8_t *filter, size_t filter_length, const uint8_t *statistics,
+                                  size_t statistics_length, const uint64_t *offsets, size_t offsets_length,
+                                  uint8_t *outcomes, size_t outcomes_length, struct doqallin_fault *fault);
+
+/* Which rows match a prepared filter: a bit for each, 1 if the filter is true of it, from the least significant bit on. The
+ * columns are those that it was prepared for, in their order; strings and bytes may have either width of offsets.
+ * GIVEN: the room begins with the bits of the rows. Those after them in their last byte are 0, and the bytes after it are as
+ * they were. Of the others the first of these comes:
+ * BAD_BYTES: the filter is no form. fault->column is column_count, and fault->place its first byte that no form has there, or
+ * its length if it ends too early.
+ * WRONG_LENGTH: exactly if the columns are not as many as the filter's. fault->column is column_count.
+ * UNKNOWN_KIND, TOO_MANY_ROWS, TOO_SHORT, BAD_OFFSETS, NOT_UTF8: fault->column cannot be read, for what is at fault->place.
+ * UNKNOWN_KIND: fault->column is of another kind than the filter's, and fault->place is 1.
+ * WRONG_LENGTH: fault->column has another number of rows than the first. Of the last three the first column decides.
+ * NO_ROOM: exactly if the room has fewer bytes than (rows + 7) / 8. Here nothing is written.
+ * NO_MEMORY: memory is asked for the filter, for each column, and for values of more than 22 bytes. The bits may then say
+ * anything. */
+uint32_t doqallin_filter_mask(const uint8_t *filter, size_t filter_length, const struct doqallin_column *columns,
+                              size_t column_count, uint8_t *room, size_t room_length, struct doqallin_fault *fault);
 
 /* Nearly any call of the library, by a line of text. In the library doqallin_call.
  * The line has the call's name and what it is given, as the worked cases in crates/scalar_cases/stdin: `cast i32:1000i32 i16`

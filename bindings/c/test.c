@@ -379,6 +379,109 @@ static void read_statistics(void) {
     CHECK(read_as(14, three, 22, ROOM, ROOM) == DOQALLIN_UNKNOWN_KIND && none_read(0));
 }
 
+// A filter over n, an i16, and s, a string; and its form.
+static const struct doqallin_named_kind schema[] = {{(const uint8_t *)"n", 1, DOQALLIN_I16}, {(const uint8_t *)"s", 1, DOQALLIN_UTF8}};
+static struct doqallin_mistake mistake;
+static uint8_t form[64];
+static size_t form_length;
+
+static int at_mistake(size_t place, uint32_t expected) { return mistake.place == place && mistake.expected == expected; }
+
+static uint32_t prepare(const char *words, size_t columns) {
+    fresh();
+    mistake = (struct doqallin_mistake){77, 78};
+    return doqallin_prepare_filter((const uint8_t *)words, strlen(words), schema, columns, room, ROOM, &count, &mistake);
+}
+
+static void prepared_filters(void) {
+    static const uint8_t above_five[] = {1, 0, 0, 0, 0, 0, 0, 0, 1, 21, 5, 0, 0, 0, 0, 0, 0, 0, 0, 5, 13, 5};
+    CHECK(prepare("n > 5", 1) == DOQALLIN_GIVEN && count == 22 && !memcmp(room, above_five, 22) && is_kept(room, 22) && at_mistake(77, 78));
+    CHECK(doqallin_prepare_filter(BYTES("n > 5"), schema, 1, other, 21, &count, &mistake) == DOQALLIN_NO_ROOM && count == 22);
+    CHECK(is_kept(other, 0) && at_mistake(77, 78));
+    CHECK(prepare("n > 'a'", 2) == DOQALLIN_BAD_FILTER && at_mistake(4, DOQALLIN_TYPES_DIFFER) && count == 77 && is_kept(room, 0));
+    CHECK(prepare("n > ", 2) == DOQALLIN_BAD_FILTER && at_mistake(4, DOQALLIN_EXPECTED_LITERAL));
+    CHECK(prepare("n is not", 2) == DOQALLIN_BAD_FILTER && at_mistake(8, DOQALLIN_EXPECTED_NULL));
+    CHECK(prepare("n > 5 or t = 1", 2) == DOQALLIN_BAD_FILTER && at_mistake(9, DOQALLIN_NO_COLUMN));
+    CHECK(prepare("n > 99999999999999999999", 2) == DOQALLIN_BAD_FILTER && at_mistake(4, DOQALLIN_NUMBER_TOO_LONG));
+    CHECK(prepare("n > 5 'a", 2) == DOQALLIN_BAD_FILTER && at_mistake(6, DOQALLIN_BAD_TEXT));
+    CHECK(prepare("n > 5 n", 2) == DOQALLIN_BAD_FILTER && at_mistake(6, DOQALLIN_EXPECTED_END));
+    CHECK(prepare("s = '\xff'", 2) == DOQALLIN_NOT_UTF8 && at_mistake(2, 0) && count == 77 && is_kept(room, 0));
+    struct doqallin_named_kind wrong[] = {schema[0], {(const uint8_t *)"\xff", 1, DOQALLIN_BOOL}};
+    CHECK(doqallin_prepare_filter(BYTES("\xff"), wrong, 2, room, ROOM, &count, &mistake) == DOQALLIN_NOT_UTF8 && at_mistake(1, 0));
+    wrong[0].kind = 14;
+    CHECK(doqallin_prepare_filter(BYTES("\xff"), wrong, 2, room, ROOM, &count, &mistake) == DOQALLIN_UNKNOWN_KIND && at_mistake(0, 0));
+    // 256 levels are read. A number that the type lacks takes two more in the form.
+    char deep[256 * 4 + 12];
+    for (int i = 0; i < 256; i++) memcpy(deep + 4 * i, "not ", 4);
+    memcpy(deep + 1024, "n < 99999", 10);
+    CHECK(prepare(deep, 1) == DOQALLIN_BAD_FILTER && at_mistake(0, DOQALLIN_TOO_DEEP));
+    CHECK(prepare(deep + 8, 1) == DOQALLIN_NO_ROOM && count == 10 + 254 + 1 + 1 + 9 + 1);
+    memcpy(deep + 1024, "not true", 9);
+    CHECK(prepare(deep, 1) == DOQALLIN_BAD_FILTER && at_mistake(1028, DOQALLIN_TOO_DEEP));
+    CHECK(prepare("true", 0) == DOQALLIN_GIVEN && holds(room + 9, count - 9, "\2"));
+}
+
+static void filter_rows(void) {
+    // n is 3, a null, 7 and 9; s is "ab", "", "b" and "abc".
+    static const uint8_t numbers[] = {3, 0, 7, 0, 7, 0, 9, 0}, valid[] = {13}, ends[] = {0, 0, 0, 0, 2, 0, 0, 0, 2, 0, 0, 0, 3, 0, 0, 0, 6, 0, 0, 0};
+    struct doqallin_column two[] = {
+        {DOQALLIN_I16, valid, 1, numbers, 8, ends, 0, 0, 4},
+        {DOQALLIN_UTF8, valid, 0, (const uint8_t *)"abbabc", 6, ends, 20, 0, 4},
+    };
+    CHECK(prepare("n > 5 and s like 'a%'", 2) == DOQALLIN_NO_ROOM && count < sizeof form);
+    CHECK(doqallin_prepare_filter(BYTES("n > 5 and s like 'a%'"), schema, 2, form, sizeof form, &form_length, &mistake) == DOQALLIN_GIVEN);
+    fault = (struct doqallin_fault){77, 78};
+    fresh();
+    CHECK(doqallin_filter_mask(form, form_length, two, 2, room, 1, &fault) == DOQALLIN_GIVEN && holds(room, 1, "\x08") && at_fault(77, 78));
+    CHECK(doqallin_filter_mask(form, form_length, two, 2, other, 0, &fault) == DOQALLIN_NO_ROOM && is_kept(other, 0) && at_fault(77, 78));
+    CHECK(doqallin_filter_mask(form, form_length - 1, two, 2, other, 1, &fault) == DOQALLIN_BAD_BYTES && at_fault(2, form_length - 1));
+    CHECK(doqallin_filter_mask(form, form_length, two, 1, other, 1, &fault) == DOQALLIN_WRONG_LENGTH && at_fault(1, 0));
+    two[0].kind = DOQALLIN_U16;
+    CHECK(doqallin_filter_mask(form, form_length, two, 2, other, 1, &fault) == DOQALLIN_UNKNOWN_KIND && at_fault(0, 1));
+    two[0].kind = 14;
+    CHECK(doqallin_filter_mask(form, form_length, two, 2, other, 1, &fault) == DOQALLIN_UNKNOWN_KIND && at_fault(0, 0));
+    two[0].kind = DOQALLIN_I16;
+    two[1].length = 3;
+    CHECK(doqallin_filter_mask(form, form_length, two, 2, other, 1, &fault) == DOQALLIN_WRONG_LENGTH && at_fault(1, 0));
+    two[1].offset = 2;
+    CHECK(doqallin_filter_mask(form, form_length, two, 2, other, 1, &fault) == DOQALLIN_TOO_SHORT && at_fault(1, 2));
+    CHECK(is_kept(other, 0));
+    // The rows from the third on, of which there are two.
+    two[0].offset = two[1].offset = 2;
+    two[0].length = two[1].length = 2;
+    CHECK(doqallin_filter_mask(form, form_length, two, 2, room, 1, &fault) == DOQALLIN_GIVEN && holds(room, 1, "\x02"));
+    two[0].length = two[1].length = 0;
+    CHECK(doqallin_filter_mask(form, form_length, two, 2, other, 0, &fault) == DOQALLIN_GIVEN);
+}
+
+static void filter_zones(void) {
+    // n from 3 to 5; nothing of s; then n from 6 to 9, and no s but nulls.
+    static const uint8_t low[] = {1, 31, 0, 0, 0, 0, 0, 0, 0, 2, 0, 0, 0, 0, 0, 0, 0, 0, 13, 3, 13, 5};
+    static const uint8_t high[] = {1, 31, 0, 0, 0, 0, 0, 0, 0, 2, 0, 0, 0, 0, 0, 0, 0, 0, 13, 6, 13, 9};
+    static const uint8_t nulls[] = {1, 1, 0, 0, 0, 0, 0, 0, 0, 2, 0, 0, 0, 0, 0, 0, 0, 2};
+    uint8_t known[62];
+    memcpy(known, low, 22);
+    memcpy(known + 22, high, 22);
+    memcpy(known + 44, nulls, 18);
+    uint64_t starts[] = {0, 22, 22, 44, 62};
+    CHECK(doqallin_prepare_filter(BYTES("n > 5 or s = 'a'"), schema, 2, form, sizeof form, &form_length, &mistake) == DOQALLIN_GIVEN);
+    fault = (struct doqallin_fault){77, 78};
+    fresh();
+    CHECK(doqallin_filter_outcomes(form, form_length, known, 62, starts, 5, room, 2, &fault) == DOQALLIN_GIVEN && holds(room, 2, "\7\4") && at_fault(77, 78));
+    CHECK(doqallin_filter_outcomes(form, form_length, known, 62, starts, 3, room, 1, &fault) == DOQALLIN_GIVEN && room[0] == 7);
+    CHECK(doqallin_filter_outcomes(form, form_length, known, 62, starts, 1, room, 0, &fault) == DOQALLIN_GIVEN);
+    CHECK(doqallin_filter_outcomes(form, form_length - 1, known, 62, starts, 5, room, 2, &fault) == DOQALLIN_BAD_BYTES && at_fault(5, form_length - 1));
+    CHECK(doqallin_filter_outcomes(form, form_length, known, 62, starts, 4, room, 2, &fault) == DOQALLIN_WRONG_LENGTH && at_fault(4, 0));
+    CHECK(doqallin_filter_outcomes(form, form_length, known, 62, starts, 0, room, 0, &fault) == DOQALLIN_WRONG_LENGTH && at_fault(0, 0));
+    CHECK(doqallin_filter_outcomes(form, form_length, known, 61, starts, 5, room, 2, &fault) == DOQALLIN_BAD_OFFSETS && at_fault(3, 0));
+    starts[3] = 43;
+    CHECK(doqallin_filter_outcomes(form, form_length, known, 62, starts, 5, room, 2, &fault) == DOQALLIN_BAD_BYTES && at_fault(2, 21));
+    starts[3] = 45;
+    CHECK(doqallin_filter_outcomes(form, form_length, known, 62, starts, 5, room, 2, &fault) == DOQALLIN_BAD_BYTES && at_fault(2, 22));
+    known[1] = 64;
+    CHECK(doqallin_filter_outcomes(form, form_length, known, 62, starts, 5, room, 2, &fault) == DOQALLIN_BAD_BYTES && at_fault(0, 1));
+}
+
 static void calls(void) {
     fresh();
     CHECK(doqallin_call(BYTES("cast i32:1000i32 i16"), room, ROOM, &count) == DOQALLIN_GIVEN && holds(room, count, "i16:1000i16"));
@@ -396,12 +499,17 @@ static void calls(void) {
 
 #define LONG "0123456789012345678901234567"
 
-// The calls that take memory: of bounds at more than 22 bytes, of a line that makes lists, of keys, and of statistics.
+// The form of the filter "b = true", of a column of booleans.
+static const uint8_t is_true[] = {1, 0, 0, 0, 0, 0, 0, 0, 1, 24, 3, 0, 0, 0, 0, 0, 0, 0, 0, 8, 3};
+
+// The calls that take memory: of bounds at more than 22 bytes, of a line that makes lists, of keys, of statistics, and of filters.
 static uint32_t take_memory(int which) {
     static const uint64_t offsets[] = {0, 28};
     static const struct doqallin_column bools = {DOQALLIN_BOOL, (const uint8_t *)"", 0, (const uint8_t *)"\1", 1, (const uint8_t *)"", 0, 0, 1};
     static const uint8_t lowest[] = "\1\3\0\0\0\0\0\0\0\1\0\0\0\0\0\0\0\0\x15" LONG;
     static uint64_t starts[2];
+    static const struct doqallin_named_kind flags[] = {{(const uint8_t *)"b", 1, DOQALLIN_BOOL}};
+    static const uint64_t offsets_of_none[] = {0, 0};
     switch (which) {
     case 0: return doqallin_upper_bound_bytes(BYTES(LONG), 24, room, ROOM, &count);
     case 1: return doqallin_upper_bound_text(BYTES(LONG), 24, room, ROOM, &count);
@@ -412,6 +520,9 @@ static uint32_t take_memory(int which) {
     case 6: return doqallin_column_statistics(&bools, 0, room, ROOM, &count, &fault);
     case 7: return doqallin_merge_statistics(DOQALLIN_I32, three, 22, three, 22, room, ROOM, &count, &fault);
     case 8: return doqallin_read_statistics(DOQALLIN_UTF8, lowest, sizeof lowest, room, ROOM, other, ROOM, &parts, &fault);
+    case 9: return doqallin_prepare_filter(BYTES("b = true"), flags, 1, room, ROOM, &count, &mistake);
+    case 10: return doqallin_filter_mask(is_true, sizeof is_true, &bools, 1, room, 1, &fault);
+    case 11: return doqallin_filter_outcomes(is_true, sizeof is_true, room, 0, offsets_of_none, 2, room, 1, &fault);
     default: exit(2);
     }
 }
@@ -421,13 +532,17 @@ static void say(const char *line) {
     if (write(2, line, strlen(line)) < 0) exit(2);
 }
 
-// Of what was given: 0 if it is the bound, the cast list, the key or the statistics; 3 if it says that the cast found no memory; 1 otherwise.
+// Of what was given: 0 if it is the bound, the cast list, the key, the statistics, the form, the mask or the outcomes; 3 if it says
+// that the cast found no memory; 1 otherwise.
 static int given(int which) {
     if (which == 4) return holds(room, count, "list(i64):[1i64, 2i64]") ? 0 : holds(room, count, "OutOfMemory") ? 3 : 1;
     if (which == 5) return holds(room, count, "\3") ? 0 : 1;
     if (which == 6) return count == 20 && !memcmp(room, "\1\x1f\0\0\0\0\0\0\0\1\0\0\0\0\0\0\0\0\3\3", 20) ? 0 : 1;
     if (which == 7) return count == 22 && !memcmp(room, six, 22) ? 0 : 1;
     if (which == 8) return parts.lower_length == 28 && !memcmp(room, LONG, 28) ? 0 : 1;
+    if (which == 9) return count == sizeof is_true && !memcmp(room, is_true, count) && is_kept(room, count) ? 0 : 1;
+    if (which == 10) return room[0] == 1 && is_kept(room, 1) ? 0 : 1;
+    if (which == 11) return room[0] == 7 && is_kept(room, 1) ? 0 : 1;
     return memcmp(which < 2 ? room : other, "012345678901234567890124", 24) ? 1 : 0;
 }
 
@@ -458,6 +573,9 @@ int main(int argc, char **argv) {
     column_statistics();
     merged_statistics();
     read_statistics();
+    prepared_filters();
+    filter_rows();
+    filter_zones();
     calls();
     printf("%d passed, %d failed\n", passed, failed);
     return failed != 0;

@@ -2,7 +2,9 @@ mod Beginnings
 mod ColumnBounds
 mod ColumnEnds
 mod ColumnOrder
+mod FilterSteps
 mod KeySteps
 mod PartSteps
+mod SqlSteps
 mod Truncations
 mod ZoneAnswers

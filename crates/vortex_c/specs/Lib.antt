@@ -3,6 +3,9 @@ pub mod ColumnAnswers
 pub mod ColumnCasts
 pub mod ColumnFaults
 pub mod Columns
+pub mod FilterSql
+pub mod FilterWords
+pub mod Filters
 pub mod Integers
 pub mod Parts
 pub mod RowKeys

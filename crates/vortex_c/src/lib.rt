@@ -1,6 +1,6 @@
 // SPDX-License-Identifier: Apache-2.0
 // SPDX-FileCopyrightText: Copyright the Vortex contributors; ported to Rattle and changed
-//! Casts, bounds, pruning, keys and statistics for callers from C: the static library `libdoqallin`.
+//! Casts, bounds, pruning, filters, keys and statistics for callers from C: the static library `libdoqallin`.
 //!
 //! Most calls answer a status. Their clauses say what each status means, and what was written.
 #![tactic(auto)]
@@ -9,9 +9,11 @@ mod bounds;
 mod column_casts;
 mod columns;
 mod fault;
+mod filters;
 mod integers;
 mod keys;
 mod parts;
+mod sql;
 mod statistics;
 mod status;
 mod version;

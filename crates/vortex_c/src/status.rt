@@ -33,6 +33,9 @@ pub const TOO_SHORT: u32 = 9;
 /// Bytes are not of the form that is read.
 pub const BAD_BYTES: u32 = 10;
 
+/// Words are no filter.
+pub const BAD_FILTER: u32 = 11;
+
 /// Numbers of columns, of rows or of options differ that are to be equal.
 pub const WRONG_LENGTH: u32 = 12;
 

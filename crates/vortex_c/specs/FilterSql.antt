@@ -1,0 +1,162 @@
+-- What callers are told of filters that are prepared from SQL's words.
+use Rattle.std.specs.Prelude.{◌≡◌, ◌≢◌, ◌⊎◌, ℕ, ◌<◌, List, length, map, slice_get, Some, None, MatchResult, Result, Vec, unwrap_or}
+use Rattle.std.specs.Global.{Global}
+use Rattle.std.specs.Str.{IsUtf8}
+use Rattle.arrow_columns.specs.Kinds.{kind_at}
+use Rattle.column_cells.specs.Types.{type_at}
+use Rattle.filter_form.specs.Form.{CanBeWritten, Prepared, form}
+use Rattle.vortex_dtype.specs.TypeTree.{TypeTree}
+use Rattle.vortex_filter.specs.Columns.{ColumnTree}
+use Rattle.vortex_filter.specs.Faults.{IsPlaced, place_of}
+use Rattle.vortex_filter.specs.Formula.{Formula}
+use Rattle.vortex_filter.specs.Parsing.{IsSql, RefusesSql}
+use Rattle.vortex_filter.specs.declared.sql.error.Expected.{Expected}
+use Rattle.vortex_filter.specs.declared.sql.error.Expected.TheVariants.{And, Backslash, Closing, Column, Comma, End, Filter, Literal, Null, Opening, Operator, Prefix}
+use Rattle.vortex_filter.specs.declared.sql.error.ParseError.{ParseError}
+use Rattle.vortex_filter.specs.declared.sql.error.ParseError.TheVariants as errors
+use Rattle.vortex_c.specs.declared.sql.Mistake.{Mistake}
+use Rattle.vortex_c.specs.declared.sql.NamedKind.{NamedKind}
+use Rattle.vortex_c.specs.declared.sql.SqlFault.{SqlFault}
+use Rattle.vortex_c.specs.declared.sql.SqlFault.TheVariants.{NameNotUtf8, NoFilter, NoForm, NotAKind, NotUtf8, OutOfMemory}
+use Rattle.vortex_c.specs.declared.status.TheConstants.{BAD_FILTER, GIVEN, NO_MEMORY, NO_ROOM, NOT_UTF8, UNKNOWN_KIND}
+
+-- ---- columns by name and kind
+
+-- a column by its name and its type; of no kind, that of nulls
+abbrev pub tree_of_kind : NamedKind → ColumnTree
+tree_of_kind column = record { name = column.name.now; typed = type_at (kind_at column.kind) }
+
+abbrev pub trees_of_kinds : List NamedKind → List ColumnTree
+trees_of_kinds columns = map tree_of_kind columns
+
+abbrev pub types_of_kinds : List NamedKind → List TypeTree
+types_of_kinds columns = map (λ (column : NamedKind). type_at (kind_at column.kind)) columns
+
+-- the code is of a kind, and the name is UTF-8
+pub record IsNamed (column : NamedKind) : Type 0 where
+  pub kind : kind_at column.kind ≢ None
+  pub name : IsUtf8 column.name.now
+
+-- the first columns are so
+abbrev pub AreNamedBefore : List NamedKind → ℕ → Type 0
+AreNamedBefore columns k = (j : ℕ) (column : NamedKind) → j < k → slice_get columns j ≡ Some column → IsNamed column
+
+-- all columns are so
+abbrev pub AreNamed : List NamedKind → Type 0
+AreNamed columns = AreNamedBefore columns (length columns)
+
+-- ---- prepared filters
+
+-- the formula with the types of the columns
+abbrev pub prepared_of : List NamedKind → Formula → Prepared
+prepared_of columns f = record { types = types_of_kinds columns; filter = f }
+
+-- the bytes are the form of the filter that the words are, over these columns
+pub record IsPreparedFrom (words : List ℕ) (columns : List NamedKind) (bytes : List ℕ) : Type 0 where
+  pub named : AreNamed columns
+  pub filter : Formula
+  pub means : IsSql (trees_of_kinds columns) words filter
+  pub written : CanBeWritten (prepared_of columns filter)
+  pub is : bytes ≡ form (prepared_of columns filter)
+
+-- the bytes are the form of what is prepared so, or there is no memory, or it has no form
+abbrev pub WritesForm : Prepared → Result (Vec ℕ Global) SqlFault → Type 0
+WritesForm p r = MatchResult r (λ bytes. CanBeWritten p × (bytes.items ≡ form p)) (λ e. (e ≡ OutOfMemory) ⊎ ((e ≡ NoForm) × ¬ (CanBeWritten p)))
+
+-- such a form has this length
+abbrev pub IsPreparedLength : List ℕ → List NamedKind → ℕ → Type 0
+IsPreparedLength words columns count = (bytes : List ℕ) × IsPreparedFrom words columns bytes × (count ≡ length bytes)
+
+-- there is a form: it is given, or the room for it is too small
+abbrev pub IsPreparedStatus : ℕ → Type 0
+IsPreparedStatus status = (status ≡ GIVEN) ⊎ (status ≡ NO_ROOM)
+
+-- ---- mistakes
+
+-- why a column at a place is not named: the first reason in this order
+abbrev pub IsColumnFault : ℕ → NamedKind → SqlFault → Type 0
+IsColumnFault k column OutOfMemory = Unit {0}
+IsColumnFault k column (NotAKind place) = (place ≡ k) × (kind_at column.kind ≡ None)
+IsColumnFault k column (NameNotUtf8 place) = (place ≡ k) × (kind_at column.kind ≢ None) × ¬ (IsUtf8 column.name.now)
+IsColumnFault k column NotUtf8 = ⊥
+IsColumnFault k column (NoFilter cause) = ⊥
+IsColumnFault k column NoForm = ⊥
+
+-- why some column is not named: the first one that is not
+abbrev pub IsColumnsFault : List NamedKind → SqlFault → Type 0
+IsColumnsFault columns OutOfMemory = Unit {0}
+IsColumnsFault columns fault = (k : ℕ) × (column : NamedKind) × (slice_get columns k ≡ Some column) × AreNamedBefore columns k × IsColumnFault k column fault
+
+-- the fault of words that are refused so
+abbrev pub fault_of_words : ParseError → SqlFault
+fault_of_words errors.OutOfMemory = OutOfMemory
+fault_of_words cause = NoFilter cause
+
+-- why words are no filter over such columns
+abbrev pub IsWordsFault : List ColumnTree → List ℕ → SqlFault → Type 0
+IsWordsFault trees words OutOfMemory = Unit {0}
+IsWordsFault trees words NotUtf8 = ¬ (IsUtf8 words)
+IsWordsFault trees words (NoFilter errors.OutOfMemory) = ⊥
+IsWordsFault trees words (NoFilter cause) = IsUtf8 words × RefusesSql trees words cause × IsPlaced (length words) cause
+IsWordsFault trees words _ = ⊥
+
+-- why there is no form of the filter that the words are
+abbrev pub IsSqlFault : List ℕ → List NamedKind → SqlFault → Type 0
+IsSqlFault words columns OutOfMemory = Unit {0}
+IsSqlFault words columns (NotAKind place) = IsColumnsFault columns (NotAKind place)
+IsSqlFault words columns (NameNotUtf8 place) = IsColumnsFault columns (NameNotUtf8 place)
+IsSqlFault words columns NotUtf8 = AreNamed columns × IsWordsFault (trees_of_kinds columns) words NotUtf8
+IsSqlFault words columns (NoFilter cause) = AreNamed columns × IsWordsFault (trees_of_kinds columns) words (NoFilter cause)
+IsSqlFault words columns NoForm = AreNamed columns × ((f : Formula) × IsSql (trees_of_kinds columns) words f × ¬ (CanBeWritten (prepared_of columns f)))
+
+abbrev pub status_of_sql : SqlFault → ℕ
+status_of_sql OutOfMemory = NO_MEMORY
+status_of_sql (NotAKind column) = UNKNOWN_KIND
+status_of_sql (NameNotUtf8 column) = NOT_UTF8
+status_of_sql NotUtf8 = NOT_UTF8
+status_of_sql (NoFilter cause) = BAD_FILTER
+status_of_sql NoForm = BAD_FILTER
+
+-- what had to come, by its code
+abbrev pub code_of_expected : Expected → ℕ
+code_of_expected Filter = 0
+code_of_expected Column = 1
+code_of_expected Operator = 2
+code_of_expected Literal = 3
+code_of_expected Prefix = 4
+code_of_expected Backslash = 5
+code_of_expected Null = 6
+code_of_expected And = 7
+code_of_expected Opening = 8
+code_of_expected Closing = 9
+code_of_expected Comma = 10
+code_of_expected End = 11
+
+-- what is wrong, by its code
+abbrev pub code_of_mistake : ParseError → ℕ
+code_of_mistake errors.OutOfMemory = 0
+code_of_mistake (errors.Expected place expected) = code_of_expected expected
+code_of_mistake (errors.NoColumn place) = 12
+code_of_mistake (errors.TypesDiffer place) = 13
+code_of_mistake (errors.NoLiteral place) = 14
+code_of_mistake (errors.NumberTooLong place) = 15
+code_of_mistake (errors.BadText place) = 16
+code_of_mistake (errors.TooDeep place) = 17
+
+-- where it is
+abbrev pub place_of_mistake : ParseError → ℕ
+place_of_mistake cause = unwrap_or (place_of cause) 0
+
+-- what is told of it, if this was there before: of words that are not UTF-8 the number of columns
+abbrev pub mistake_of_sql : ℕ → SqlFault → Mistake → Mistake
+mistake_of_sql columns OutOfMemory before = before
+mistake_of_sql columns (NotAKind column) before = record { place = column; expected = 0 }
+mistake_of_sql columns (NameNotUtf8 column) before = record { place = column; expected = 0 }
+mistake_of_sql columns NotUtf8 before = record { place = columns; expected = 0 }
+mistake_of_sql columns (NoFilter cause) before = record { place = place_of_mistake cause; expected = code_of_mistake cause }
+mistake_of_sql columns NoForm before = record { place = 0; expected = 17 }
+
+-- the call with this status prepared nothing for such a reason, and told what
+abbrev pub SaysWhyNotPrepared : List ℕ → List NamedKind → Mistake → Mistake → ℕ → Type 0
+SaysWhyNotPrepared words columns before after status =
+    (reason : SqlFault) × IsSqlFault words columns reason × (status ≡ status_of_sql reason) × (after ≡ mistake_of_sql (length columns) reason before)

@@ -1,0 +1,131 @@
+-- What callers are told of prepared filters, asked of rows and of zones.
+use Rattle.std.specs.Prelude.{◌≡◌, ℕ, List, length}
+use Rattle.arrow_columns.specs.declared.columns.Column.{Column}
+use Rattle.column_filters.specs.Masks.{IsMask, matching}
+use Rattle.column_filters.specs.Tables.{AreColumnsOf, IsMaskFault, cells_of_columns, rows_in}
+use Rattle.column_filters.specs.Zones.{AreOutcomes, RefusesZones}
+use Rattle.column_filters.specs.declared.faults.MaskFault.{MaskFault}
+use Rattle.column_filters.specs.declared.faults.MaskFault.TheVariants as mask
+use Rattle.column_filters.specs.declared.faults.ZoneFault.{ZoneFault}
+use Rattle.column_filters.specs.declared.faults.ZoneFault.TheVariants as zone
+use Rattle.filter_form.specs.Answers.{IsFirstWrong, IsForm}
+use Rattle.filter_form.specs.Form.{HasForm, Prepared, form}
+use Rattle.filter_form.specs.declared.error.FilterFormError.{FilterFormError}
+use Rattle.filter_form.specs.declared.error.FilterFormError.TheVariants.{BadBytes, NoForm, OutOfMemory}
+use Rattle.vortex_c.specs.ColumnFaults.{place_in_column, status_of_column}
+use Rattle.vortex_c.specs.declared.fault.Fault.{Fault}
+use Rattle.vortex_c.specs.declared.filters.RowsFault.{RowsFault}
+use Rattle.vortex_c.specs.declared.filters.RowsFault.TheVariants as rows
+use Rattle.vortex_c.specs.declared.filters.ZonesFault.{ZonesFault}
+use Rattle.vortex_c.specs.declared.filters.ZonesFault.TheVariants as zones
+use Rattle.vortex_c.specs.declared.status.TheConstants.{BAD_BYTES, BAD_OFFSETS, NO_MEMORY, NO_ROOM, UNKNOWN_KIND, WRONG_LENGTH}
+
+-- ---- the form of a filter
+
+-- the bytes are the form of this prepared filter
+pub record IsFormOf (bytes : List ℕ) (p : Prepared) : Type 0 where
+  pub has_form : HasForm p
+  pub is : bytes ≡ form p
+
+-- why bytes are not read as a prepared filter
+abbrev pub IsUnread : List ℕ → FilterFormError → Type 0
+IsUnread bytes OutOfMemory = Unit {0}
+IsUnread bytes NoForm = ⊥
+IsUnread bytes (BadBytes place) = IsFirstWrong IsForm bytes place
+
+abbrev pub status_of_form_fault : FilterFormError → ℕ
+status_of_form_fault OutOfMemory = NO_MEMORY
+status_of_form_fault NoForm = BAD_BYTES
+status_of_form_fault (BadBytes place) = BAD_BYTES
+
+-- told of this column, which is past the last one
+abbrev pub fault_of_form_fault : ℕ → FilterFormError → Fault → Fault
+fault_of_form_fault column OutOfMemory before = before
+fault_of_form_fault column NoForm before = record { column = column; place = 0 }
+fault_of_form_fault column (BadBytes place) before = record { column = column; place = place }
+
+-- ---- rows
+
+-- the bytes are a prepared filter, the columns are those that it speaks of, and the room begins with a bit for each row, which
+-- says whether the filter matches it
+pub record IsFilterMask (bytes : List ℕ) (columns : List Column) (room : List ℕ) : Type 0 where
+  pub filter : Prepared
+  pub is_form : IsFormOf bytes filter
+  pub are_columns : AreColumnsOf columns filter.types
+  pub mask : IsMask (matching filter.filter (cells_of_columns columns)) (rows_in columns) room
+
+-- why there is no mask in a room of so many bytes
+abbrev pub IsRowsFault : List ℕ → List Column → ℕ → RowsFault → Type 0
+IsRowsFault bytes columns size (rows.Unread cause) = IsUnread bytes cause
+IsRowsFault bytes columns size (rows.NoMask cause) = (p : Prepared) × IsFormOf bytes p × IsMaskFault columns p.types size cause
+
+abbrev pub status_of_mask : MaskFault → ℕ
+status_of_mask mask.OutOfMemory = NO_MEMORY
+status_of_mask mask.NoRoom = NO_ROOM
+status_of_mask mask.WrongCount = WRONG_LENGTH
+status_of_mask (mask.Unreadable column fault) = status_of_column fault
+status_of_mask (mask.TypesDiffer column) = UNKNOWN_KIND
+status_of_mask (mask.WrongLength column) = WRONG_LENGTH
+
+-- its column, among so many, and what is wrong there
+abbrev pub fault_of_mask : ℕ → MaskFault → Fault → Fault
+fault_of_mask columns mask.OutOfMemory before = before
+fault_of_mask columns mask.NoRoom before = before
+fault_of_mask columns mask.WrongCount before = record { column = columns; place = 0 }
+fault_of_mask columns (mask.Unreadable column fault) before = record { column = column; place = place_in_column fault }
+fault_of_mask columns (mask.TypesDiffer column) before = record { column = column; place = 1 }
+fault_of_mask columns (mask.WrongLength column) before = record { column = column; place = 0 }
+
+abbrev pub status_of_rows : RowsFault → ℕ
+status_of_rows (rows.Unread cause) = status_of_form_fault cause
+status_of_rows (rows.NoMask cause) = status_of_mask cause
+
+abbrev pub fault_of_rows : ℕ → RowsFault → Fault → Fault
+fault_of_rows columns (rows.Unread cause) before = fault_of_form_fault columns cause before
+fault_of_rows columns (rows.NoMask cause) before = fault_of_mask columns cause before
+
+-- the call with this status wrote no mask for such a reason, and told where
+abbrev pub SaysWhyNoMask : List ℕ → List Column → ℕ → Fault → Fault → ℕ → Type 0
+SaysWhyNoMask bytes columns size before after status =
+    (reason : RowsFault) × IsRowsFault bytes columns size reason × (status ≡ status_of_rows reason) × (after ≡ fault_of_rows (length columns) reason before)
+
+-- ---- zones
+
+-- the bytes are a prepared filter, and the outcomes are what it can be by the statistics of its columns
+pub record AreFilterOutcomes (bytes statistics offsets outcomes : List ℕ) : Type 0 where
+  pub filter : Prepared
+  pub is_form : IsFormOf bytes filter
+  pub are_outcomes : AreOutcomes filter.filter filter.types statistics offsets outcomes
+
+-- why there are no outcomes of so many zones
+abbrev pub IsZonesFault : List ℕ → List ℕ → List ℕ → ℕ → ZonesFault → Type 0
+IsZonesFault bytes statistics offsets count (zones.Unread cause) = IsUnread bytes cause
+IsZonesFault bytes statistics offsets count (zones.NoOutcomes cause) = (p : Prepared) × IsFormOf bytes p × RefusesZones p.types statistics offsets count cause
+
+abbrev pub status_of_piece : ZoneFault → ℕ
+status_of_piece zone.OutOfMemory = NO_MEMORY
+status_of_piece zone.WrongLength = WRONG_LENGTH
+status_of_piece (zone.BadOffsets piece) = BAD_OFFSETS
+status_of_piece (zone.BadBytes piece place) = BAD_BYTES
+status_of_piece (zone.HasVariant piece) = BAD_BYTES
+
+-- its piece, among so many offsets, and the byte of it
+abbrev pub fault_of_pieces : ℕ → ZoneFault → Fault → Fault
+fault_of_pieces offsets zone.OutOfMemory before = before
+fault_of_pieces offsets zone.WrongLength before = record { column = offsets; place = 0 }
+fault_of_pieces offsets (zone.BadOffsets piece) before = record { column = piece; place = 0 }
+fault_of_pieces offsets (zone.BadBytes piece place) before = record { column = piece; place = place }
+fault_of_pieces offsets (zone.HasVariant piece) before = record { column = piece; place = 0 }
+
+abbrev pub status_of_zones : ZonesFault → ℕ
+status_of_zones (zones.Unread cause) = status_of_form_fault cause
+status_of_zones (zones.NoOutcomes cause) = status_of_piece cause
+
+abbrev pub fault_of_zones : ℕ → ZonesFault → Fault → Fault
+fault_of_zones offsets (zones.Unread cause) before = fault_of_form_fault offsets cause before
+fault_of_zones offsets (zones.NoOutcomes cause) before = fault_of_pieces offsets cause before
+
+-- the call with this status found no outcomes for such a reason, and told where
+abbrev pub SaysWhyNoOutcomes : List ℕ → List ℕ → List ℕ → ℕ → Fault → Fault → ℕ → Type 0
+SaysWhyNoOutcomes bytes statistics offsets count before after status =
+    (reason : ZonesFault) × IsZonesFault bytes statistics offsets count reason × (status ≡ status_of_zones reason) × (after ≡ fault_of_zones (length offsets) reason before)

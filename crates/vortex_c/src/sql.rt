@@ -1,0 +1,307 @@
+//! Filters from SQL's words, prepared to bytes.
+
+ghost use Rattle.std.specs.Prelude.{◌≡◌, ◌≢◌, ◌<◌, ◌≤◌, ◌⊎◌, IfErr, IfOk, OnOk, drop, length, map, take};
+ghost use Rattle.vortex_c.specs.FilterWords.{AreNamed, IsColumnFault, IsColumnsFault, IsNamed, IsPreparedFrom, IsPreparedLength, IsPreparedStatus, IsSql, IsSqlFault, IsWordsFault, OutOfMemory, SaysWhyNotPrepared, WritesForm, code_of_expected, code_of_mistake, column_tree, column_trees, fault_of_words, formula, kind_at, mistake_of_sql, parts_of, place_of_mistake, prepared_of, status_of_sql, tree_of_kind, trees_of_kinds, type_at, type_of, types_of_kinds};
+
+use crate::bounds::give;
+use crate::status::{BAD_FILTER, GIVEN, NO_MEMORY, NO_ROOM, NOT_UTF8, UNKNOWN_KIND};
+use arrow_columns::Kind;
+use column_cells::dtype_of;
+use filter_form::{FilterFormError, append_filter};
+use std::alloc::{AllocError, AllocFailed, Global};
+use std::str;
+use vortex_dtype::DType;
+use vortex_filter::{Column as FilterColumn, Expected, Filter, ParseError};
+
+/// A column that a filter may name: its name, and the code of its kind.
+#[derive(Clone, Copy)]
+#[repr(C)]
+pub struct NamedKind<'a> {
+    /// Its name, in UTF-8.
+    pub name: &'a [u8],
+    /// The code of its kind.
+    pub kind: u8,
+}
+
+/// Where words are no filter, and why.
+#[derive(Clone, Copy)]
+#[repr(C)]
+pub struct Mistake {
+    /// Which byte of the words, or which column.
+    pub place: usize,
+    /// The code of what is wrong there.
+    pub expected: u32,
+}
+
+/// Why there is no prepared filter.
+#[derive(Clone, Copy)]
+pub(crate) enum SqlFault {
+    /// An allocation was refused.
+    OutOfMemory,
+    /// The code of this column is of no kind.
+    NotAKind(usize),
+    /// The name of this column is not UTF-8.
+    NameNotUtf8(usize),
+    /// The words are not UTF-8.
+    NotUtf8,
+    /// The words are no filter.
+    NoFilter(ParseError),
+    /// The filter nests too deep to have a form.
+    NoForm,
+}
+
+/// Out of memory, whatever was asked for.
+impl From<AllocError> for SqlFault {
+    ghost use Rattle.vortex_c.specs.declared.sql.SqlFault.TheVariants.{OutOfMemory};
+
+    ghost from_gives = { λ _ e. e ≡ OutOfMemory };
+
+    fn from(_error: AllocError) -> SqlFault {
+        SqlFault::OutOfMemory
+    }
+}
+
+/// Out of memory; what was to be kept is dropped.
+impl<T: Drop> From<AllocFailed<T>> for SqlFault {
+    ghost use Rattle.vortex_c.specs.declared.sql.SqlFault.TheVariants.{OutOfMemory};
+
+    ghost from_gives = { λ _ e. e ≡ OutOfMemory };
+
+    fn from(_error: AllocFailed<T>) -> SqlFault {
+        SqlFault::OutOfMemory
+    }
+}
+
+/// Reads a filter from SQL's words, over columns by name and kind, and writes its stable form with
+/// the types of the columns. The other calls on filters take these bytes.
+///
+/// - `NO_ROOM`: `count` says how many bytes the form has.
+/// - `UNKNOWN_KIND`: the code of a column is of no kind. `mistake.place` is the column.
+/// - `NOT_UTF8`: a name is not UTF-8, and `mistake.place` is its column; or the words are not, and
+///   it is the number of columns.
+/// - `BAD_FILTER`: the words are no filter. `mistake.place` is the byte at which something else had
+///   to come, and `mistake.expected` is the code of what. If the form of the filter nests too deep,
+///   the place is 0.
+/// - `NO_MEMORY`: `mistake` is not written.
+#[unsafe(no_mangle)]
+pub extern "C" fn doqallin_prepare_filter(
+    alloc: Global,
+    words: &[u8],
+    columns: &[NamedKind],
+    room: &mut [u8],
+    count: &mut usize,
+    mistake: &mut Mistake,
+) -> u32
+    ensures given { result ≡ GIVEN
+        → IsPreparedFrom words.now columns.now (take count.new room.new) }
+    ensures needed { IsPreparedStatus result
+        → IsPreparedLength words.now columns.now count.new }
+    ensures within { result ≡ GIVEN → count.new ≤ length room.old }
+    ensures small { result ≡ NO_ROOM → length room.old < count.new }
+    ensures refused { (IsPreparedStatus result)
+        ⊎ (SaysWhyNotPrepared words.now columns.now mistake.old mistake.new result) }
+
+    // What is not said to be written stays.
+    ensures rest { result ≡ GIVEN → drop count.new room.new ≡ drop count.new room.old }
+    ensures kept { result ≢ GIVEN → room.new ≡ room.old }
+    ensures kept_count { (IsPreparedStatus result) ⊎ (count.new ≡ count.old) }
+    ensures kept_mistake { IsPreparedStatus result → mistake.new ≡ mistake.old }
+{
+    match prepare(alloc, words, columns) {
+        Ok(bytes) => give(bytes.as_slice(), room, count),
+        Err(refusal) => tell(refusal, columns.len(), mistake),
+    }
+}
+
+/// The form of the filter that the words are.
+fn prepare(alloc: Global, words: &[u8], columns: &[NamedKind]) -> Result<Vec<u8>, SqlFault>
+    ensures prepared { IfOk result (λ bytes. IsPreparedFrom words.now columns.now bytes.items) }
+    ensures refused { IfErr result (IsSqlFault words.now columns.now) }
+{
+    let filter = filter_of(alloc, words, columns)?;
+    form_of(alloc, &filter, columns)
+}
+
+/// The filter that the words are.
+fn filter_of(alloc: Global, words: &[u8], columns: &[NamedKind]) -> Result<Filter, SqlFault>
+    ensures named { OnOk result (AreNamed columns.now) }
+    ensures read { IfOk result
+        (λ filter. IsSql (trees_of_kinds columns.now) words.now (formula filter)) }
+    ensures refused { IfErr result (IsSqlFault words.now columns.now) }
+{
+    let named = named_columns(alloc, columns)?;
+    parse(alloc, words, &named)
+}
+
+/// The filter that the words are, over these columns.
+#[tactic(auto, using(crate::proofs::SqlSteps::shown))]
+fn parse(alloc: Global, words: &[u8], named: &[FilterColumn]) -> Result<Filter, SqlFault>
+    ensures read { IfOk result
+        (λ filter. IsSql (column_trees named.now) words.now (formula filter)) }
+    ensures refused { IfErr result (IsWordsFault (column_trees named.now) words.now) }
+{
+    let Ok(text) = str::from_utf8(words) else {
+        return Err(SqlFault::NotUtf8);
+    };
+    match Filter::parse(alloc, text, named) {
+        Ok(filter) => Ok(filter),
+        Err(cause) => Err(fault_of_words(cause)),
+    }
+}
+
+/// The fault of words that are refused so.
+fn fault_of_words(cause: ParseError) -> SqlFault
+    ensures { result ≡ fault_of_words cause }
+{
+    match cause {
+        ParseError::OutOfMemory => SqlFault::OutOfMemory,
+        _ => SqlFault::NoFilter(cause),
+    }
+}
+
+/// The columns by name and type.
+#[tactic(auto, using(crate::proofs::SqlSteps::shown))]
+fn named_columns(alloc: Global, columns: &[NamedKind]) -> Result<Vec<FilterColumn>, SqlFault>
+    ensures named { IfOk result (λ named. column_trees named.items ≡ trees_of_kinds columns.now) }
+    ensures all { OnOk result (AreNamed columns.now) }
+    ensures refused { IfErr result (IsColumnsFault columns.now) }
+{
+    let mut named = Vec::with_capacity(alloc, columns.len())?;
+    for place in 0..columns.len() {
+        let column = named_column(alloc, place, columns[place])?;
+        named.push(column)?;
+    }
+    Ok(named)
+}
+
+/// The column at a place, by name and type.
+fn named_column(alloc: Global, place: usize, column: NamedKind) -> Result<FilterColumn, SqlFault>
+    ensures named { IfOk result (λ named. column_tree named ≡ tree_of_kind column.entry) }
+    ensures sound { OnOk result (IsNamed column.entry) }
+    ensures refused { IfErr result (IsColumnFault place column.entry) }
+{
+    let Some(kind) = Kind::from_code(column.kind) else {
+        return Err(SqlFault::NotAKind(place));
+    };
+    let Ok(name) = str::from_utf8(column.name) else {
+        return Err(SqlFault::NameNotUtf8(place));
+    };
+    let name = String::from_str(alloc, name)?;
+    Ok(FilterColumn {
+        name,
+        dtype: dtype_of(kind),
+    })
+}
+
+/// The form of a filter over these columns.
+#[tactic(auto, using(crate::proofs::SqlSteps::shown))]
+fn form_of(alloc: Global, filter: &Filter, columns: &[NamedKind]) -> Result<Vec<u8>, SqlFault>
+    ensures { WritesForm (prepared_of columns.now (formula filter.now)) result }
+{
+    let types = types_of(alloc, columns)?;
+    written(alloc, filter, &types)
+}
+
+/// The form of a filter over columns of these types.
+fn written(alloc: Global, filter: &Filter, types: &[DType]) -> Result<Vec<u8>, SqlFault>
+    ensures { WritesForm (parts_of types.now filter.now) result }
+{
+    let mut bytes = Vec::new(alloc);
+    match append_filter(filter, types, &mut bytes) {
+        Ok(()) => Ok(bytes),
+        Err(FilterFormError::NoForm) => Err(SqlFault::NoForm),
+        Err(_) => Err(SqlFault::OutOfMemory),
+    }
+}
+
+/// The types of columns; of no kind, that of nulls.
+#[tactic(auto, using(crate::proofs::SqlSteps::shown))]
+fn types_of(alloc: Global, columns: &[NamedKind]) -> Result<Vec<DType>, SqlFault>
+    ensures types { IfOk result (λ types. map type_of types.items ≡ types_of_kinds columns.now) }
+    ensures refused { IfErr result (λ refusal. refusal ≡ OutOfMemory) }
+{
+    let mut types = Vec::with_capacity(alloc, columns.len())?;
+    for column in columns {
+        types.push(dtype_at(column.kind))?;
+    }
+    Ok(types)
+}
+
+/// The type of the kind with this code; of no kind, that of nulls.
+fn dtype_at(code: u8) -> DType
+    ensures { type_of result ≡ type_at (kind_at code) }
+{
+    match Kind::from_code(code) {
+        Some(kind) => dtype_of(kind),
+        None => DType::Null,
+    }
+}
+
+/// Tells what is wrong, among so many columns, and gives the status.
+fn tell(refusal: SqlFault, columns: usize, mistake: &mut Mistake) -> u32
+    ensures status { result ≡ status_of_sql refusal }
+    ensures mistake { mistake.new ≡ mistake_of_sql columns refusal mistake.old }
+    ensures not_given { result ≢ GIVEN }
+    ensures not_small { result ≢ NO_ROOM }
+{
+    match refusal {
+        SqlFault::OutOfMemory => NO_MEMORY,
+        SqlFault::NotAKind(column) => wrong(column, 0, mistake, UNKNOWN_KIND),
+        SqlFault::NameNotUtf8(column) => wrong(column, 0, mistake, NOT_UTF8),
+        SqlFault::NotUtf8 => wrong(columns, 0, mistake, NOT_UTF8),
+        SqlFault::NoFilter(cause) => {
+            let (place, expected) = place_and_code(cause);
+            wrong(place, expected, mistake, BAD_FILTER)
+        }
+        SqlFault::NoForm => wrong(0, TOO_DEEP, mistake, BAD_FILTER),
+    }
+}
+
+/// Tells the place and the code, and gives the status back.
+fn wrong(place: usize, expected: u32, mistake: &mut Mistake, status: u32) -> u32
+    ensures status { result ≡ status }
+    ensures mistake { mistake.new ≡ record { place = place; expected = expected } }
+{
+    *mistake = Mistake { place, expected };
+    status
+}
+
+/// The code of what nests too deep.
+const TOO_DEEP: u32 = 17;
+
+/// The place of a mistake, and the code of what is wrong there.
+fn place_and_code(cause: ParseError) -> (usize, u32)
+    ensures place { result.0 ≡ place_of_mistake cause }
+    ensures code { result.1 ≡ code_of_mistake cause }
+{
+    match cause {
+        ParseError::OutOfMemory => (0, 0),
+        ParseError::Expected { place, expected } => (place, code_of_expected(expected)),
+        ParseError::NoColumn { place } => (place, 12),
+        ParseError::TypesDiffer { place } => (place, 13),
+        ParseError::NoLiteral { place } => (place, 14),
+        ParseError::NumberTooLong { place } => (place, 15),
+        ParseError::BadText { place } => (place, 16),
+        ParseError::TooDeep { place } => (place, TOO_DEEP),
+    }
+}
+
+/// The code of what had to come.
+fn code_of_expected(expected: Expected) -> u32
+    ensures { result ≡ code_of_expected expected }
+{
+    match expected {
+        Expected::Filter => 0,
+        Expected::Column => 1,
+        Expected::Operator => 2,
+        Expected::Literal => 3,
+        Expected::Prefix => 4,
+        Expected::Backslash => 5,
+        Expected::Null => 6,
+        Expected::And => 7,
+        Expected::Opening => 8,
+        Expected::Closing => 9,
+        Expected::Comma => 10,
+        Expected::End => 11,
+    }
+}
