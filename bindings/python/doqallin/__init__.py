@@ -1,14 +1,23 @@
 # SPDX-License-Identifier: Apache-2.0
 # SPDX-FileCopyrightText: Copyright the Vortex contributors; ported to Rattle and changed
-"""Columns and scalars: statistics, keys that sort, casts that never change a value, and bounds that never exclude one.
+"""Columns and scalars: statistics, filters that skip what cannot match, keys that sort, and casts that never change a value.
 
 A column is what has Arrow data (`__arrow_c_array__` or `__arrow_c_stream__`, as pyarrow, polars, DuckDB and pandas have), a
 buffer of integers (as a numpy array is), or a list. Arrow data and buffers are read where they lie.
 
 Statistics of a column are its counts of rows and nulls, and bounds. Those of parts give those of the whole, in any order:
 
->>> statistics(["Bergen", "Moss"]) | statistics(["Oslo", None])
+>>> first, second = statistics(["Bergen", "Moss"]), statistics(["Oslo", None])
+>>> first | second
 Statistics('utf8', rows=4, nulls=1, lower='Bergen', upper='Oslo')
+
+A filter, in SQL's words, tells by statistics which parts of a table need not be read, and tests the rows of those that do:
+
+>>> wanted = Filter("city = 'Oslo'", {"city": "utf8?"})
+>>> wanted.prune([{"city": first}, {"city": second}])
+[1]
+>>> wanted.mask({"city": ["Oslo", None]})
+Column('bool', [True, False])
 
 Keys of rows sort by their bytes as the rows do, so a store or an index needs no types:
 
@@ -40,6 +49,7 @@ from ._casts import cast
 from ._columns import Column
 from ._errors import (
     BadBytes,
+    BadFilter,
     BadKey,
     BadOffsets,
     BadText,
@@ -51,6 +61,7 @@ from ._errors import (
     KindsDiffer,
     LibraryMissing,
     NegativeLength,
+    NoColumn,
     NoField,
     NoOrder,
     NotANumber,
@@ -63,6 +74,7 @@ from ._errors import (
     UnknownKind,
     WrongLength,
 )
+from ._filters import Filter, Outcomes, Zones
 from ._keys import row_keys
 from ._library import call, library_version
 from ._reading import column, columns
@@ -72,6 +84,7 @@ from ._types import DType, dtype
 
 __all__ = [
     "BadBytes",
+    "BadFilter",
     "BadKey",
     "BadOffsets",
     "BadText",
@@ -80,17 +93,20 @@ __all__ = [
     "Column",
     "DType",
     "DoqallinError",
+    "Filter",
     "HasVariant",
     "Invalid",
     "Kind",
     "KindsDiffer",
     "LibraryMissing",
     "NegativeLength",
+    "NoColumn",
     "NoField",
     "NoOrder",
     "NotANumber",
     "NotUtf8",
     "OutOfMemory",
+    "Outcomes",
     "Refused",
     "Scalar",
     "Statistics",
@@ -100,6 +116,7 @@ __all__ = [
     "UnknownKind",
     "WrongLength",
     "ZoneBounds",
+    "Zones",
     "call",
     "cast",
     "column",

@@ -8,6 +8,7 @@ from typing import Any, TypeVar
 
 __all__ = [
     "BadBytes",
+    "BadFilter",
     "BadKey",
     "BadOffsets",
     "BadText",
@@ -19,6 +20,7 @@ __all__ = [
     "KindsDiffer",
     "LibraryMissing",
     "NegativeLength",
+    "NoColumn",
     "NoField",
     "NoOrder",
     "NotANumber",
@@ -39,7 +41,7 @@ class DoqallinError(Exception):
     __module__ = "doqallin"
 
     place: int | None = None
-    """Where it is, if that is known: the row of a column, the buffer that is too short, or the byte of bytes."""
+    """Where it is, if that is known: the row of a column, the buffer that is too short, or the byte of bytes or of a text."""
 
     def __init_subclass__(cls, **words: Any) -> None:
         super().__init_subclass__(**words)
@@ -160,8 +162,16 @@ class BadBytes(DoqallinError, ValueError):
     """Bytes are not of the form that is read. `place` is the first such byte."""
 
 
+class BadFilter(DoqallinError, ValueError):
+    """A text is no filter of these columns. `place` is the byte of the text where something else had to come."""
+
+
+class NoColumn(DoqallinError, LookupError):
+    """A table has no column of this name."""
+
+
 class WrongLength(DoqallinError, ValueError):
-    """Columns differ in their rows, or there are not as many options as columns."""
+    """Numbers of columns, rows, options or zones that are to be equal differ."""
 
 
 class StreamFailed(DoqallinError, OSError):

@@ -32,7 +32,7 @@ from ._errors import (
 )
 
 GIVEN, NONE, NO_MEMORY, NO_ROOM, NOT_UTF8, NOT_A_NUMBER, BAD_OFFSETS = range(7)
-UNKNOWN_KIND, TOO_MANY_ROWS, TOO_SHORT, BAD_BYTES, WRONG_LENGTH = 7, 8, 9, 10, 12
+UNKNOWN_KIND, TOO_MANY_ROWS, TOO_SHORT, BAD_BYTES, BAD_FILTER, WRONG_LENGTH = range(7, 13)
 MAX_SIZE: int = 2 ** (8 * ctypes.sizeof(c_size_t)) - 1
 
 _ERRORS: dict[int, tuple[type[DoqallinError], str]] = {
@@ -79,6 +79,16 @@ class Parts(ctypes.Structure):
         ("has_upper", c_bool),
         ("upper_is_exact", c_bool),
     ]
+
+
+class NamedKind(ctypes.Structure):
+    _fields_ = [("name", c_char_p), ("name_length", c_size_t), ("kind", c_uint8)]
+
+
+class Mistake(ctypes.Structure):
+    place: int
+    expected: int
+    _fields_ = [("place", c_size_t), ("expected", c_uint32)]
 
 
 _BYTES = (c_char_p, c_size_t)
@@ -132,6 +142,9 @@ column_statistics = _declare("column_statistics", c_uint32, _OUT, c_size_t, *_SP
 merge_statistics = _declare("merge_statistics", c_uint32, c_uint8, *_BYTES, *_BYTES, *_SPACE, _OUT, _OUT)
 read_statistics = _declare("read_statistics", c_uint32, c_uint8, *_BYTES, *_SPACE, *_SPACE, _OUT, _OUT)
 cast_column = _declare("cast_column", c_uint32, _OUT, c_uint8, *_SPACE, _OUT)
+prepare_filter = _declare("prepare_filter", c_uint32, *_BYTES, *_SPACE, *_SPACE, _OUT, _OUT)
+filter_outcomes = _declare("filter_outcomes", c_uint32, *_BYTES, *_BYTES, *_SPACE, *_SPACE, _OUT)
+filter_mask = _declare("filter_mask", c_uint32, *_BYTES, *_SPACE, *_SPACE, _OUT)
 row_keys = _declare("row_keys", c_uint32, *_SPACE, *_BYTES, *_SPACE, *_SPACE, _OUT, _OUT)
 
 

@@ -1,13 +1,20 @@
 // SPDX-License-Identifier: Apache-2.0
 // SPDX-FileCopyrightText: Copyright the Vortex contributors; ported to Rattle and changed
-//! Columns as Arrow lays them out: statistics, keys that sort as the rows do, and casts that never change a value. Bounds that never
-//! exclude a value, and pruning by these. With the feature `call`, nearly any other call of the library by a line of text.
+//! Columns as Arrow lays them out: statistics, filters that skip what cannot match, keys that sort as the rows do, and casts
+//! that never change a value. Bounds that never exclude a value, and pruning by these. With the feature `call`, nearly any
+//! other call of the library by a line of text.
 //!
 //! The work is done by functions that are proved against their contracts, in Rattle. This crate is their safe face: it
 //! is plain Rust, and not proved.
 //!
 //! ```
-//! use doqallin::{Column, SortOptions, cast_column, row_keys};
+//! use doqallin::{Column, Filter, Kind, SortOptions, Statistics, cast_column, row_keys};
+//!
+//! let zones = [Column::integers(&[3i64, 5]), Column::integers(&[7i64, 90])];
+//! let known = [Statistics::of(&zones[0], 16)?, Statistics::of(&zones[1], 16)?];
+//! let wanted = Filter::parse("fare > 6", &[("fare", Kind::I64)])?;
+//! assert_eq!(wanted.prune([&[Some(&known[0])][..], &[Some(&known[1])]])?, [1]);
+//! assert_eq!(wanted.mask(&[zones[1]])?, [true, true]);
 //!
 //! let (cities, fares) = (Column::utf8(b"osloskien", &[0, 4, 9]), Column::integers(&[12i64, 7]));
 //! let keys = row_keys(&[cities, fares], &[SortOptions::default(); 2])?;
@@ -38,6 +45,7 @@ mod arrow;
 #[cfg(feature = "call")]
 mod call;
 mod column;
+mod filter;
 mod integer;
 mod keys;
 mod raw;
@@ -49,6 +57,7 @@ pub use arrow::{Buffer, CastError, Column, ColumnFault, Item, Kind, RowsError, c
 #[cfg(feature = "call")]
 pub use call::call;
 pub use column::{ColumnError, column_bounds, column_bounds_text};
+pub use filter::{Filter, FilterError, Outcomes};
 pub use integer::{Integer, cast};
 pub use keys::{RowKeys, SortOptions, row_keys};
 pub use statistics::{Statistics, StatisticsError};

@@ -16,6 +16,7 @@ pub const UNKNOWN_KIND: u32 = 7;
 pub const TOO_MANY_ROWS: u32 = 8;
 pub const TOO_SHORT: u32 = 9;
 pub const BAD_BYTES: u32 = 10;
+pub const BAD_FILTER: u32 = 11;
 pub const WRONG_LENGTH: u32 = 12;
 
 #[repr(C)]
@@ -59,6 +60,20 @@ pub struct Statistics {
     pub lower_is_exact: bool,
     pub has_upper: bool,
     pub upper_is_exact: bool,
+}
+
+#[repr(C)]
+pub struct NamedKind {
+    pub name: *const u8,
+    pub name_length: usize,
+    pub kind: u8,
+}
+
+#[repr(C)]
+#[derive(Default)]
+pub struct Mistake {
+    pub place: usize,
+    pub expected: u32,
 }
 
 /// An upper bound of a value at n bytes, into a room.
@@ -194,6 +209,36 @@ unsafe extern "C" {
         room: *mut u8,
         room_length: usize,
         count: &mut usize,
+        fault: &mut Fault,
+    ) -> u32;
+    pub fn doqallin_prepare_filter(
+        text: *const u8,
+        text_length: usize,
+        columns: *const NamedKind,
+        column_count: usize,
+        room: *mut u8,
+        room_length: usize,
+        count: &mut usize,
+        mistake: &mut Mistake,
+    ) -> u32;
+    pub fn doqallin_filter_outcomes(
+        filter: *const u8,
+        filter_length: usize,
+        statistics: *const u8,
+        statistics_length: usize,
+        offsets: *const u64,
+        offsets_length: usize,
+        outcomes: *mut u8,
+        outcomes_length: usize,
+        fault: &mut Fault,
+    ) -> u32;
+    pub fn doqallin_filter_mask(
+        filter: *const u8,
+        filter_length: usize,
+        columns: *const ArrowColumn,
+        column_count: usize,
+        room: *mut u8,
+        room_length: usize,
         fault: &mut Fault,
     ) -> u32;
 }

@@ -614,6 +614,10 @@ fn hostile_columns() {
             let wanted = plain_fault(&made, offset, length);
             let found = Statistics::of(&column, 16).err();
             assert_eq!(found, wanted, "{kind:?} {offset} {length}");
+            let filter = Filter::parse("x is null", &[("x", kind)]).unwrap();
+            let of_mask = filter.mask(&[column]).err();
+            let refused_rows = wanted.map(|fault| FilterError::Rows(RowsError::Column(0, fault)));
+            assert_eq!(of_mask, refused_rows);
             let of_keys = row_keys(&[column], &[SortOptions::default()]).err();
             assert_eq!(of_keys, wanted.map(|fault| RowsError::Column(0, fault)));
             let of_cast = cast_column::<i64>(&column).err();
@@ -628,6 +632,118 @@ fn hostile_columns() {
         let is_refused = refused > 0 || kind == Kind::Null;
         assert!(given > 0 && is_refused, "{kind:?} {given} {refused}");
     }
+}
+
+/// True, false or unknown.
+type Truth = Option<bool>;
+
+/// A comparison of two columns' cells with literals, and what SQL says of it.
+fn plain_truth(row: (Option<i128>, &Option<String>), number: i128, text: &str) -> Truth {
+    let fits = row.0.map(|found| found >= number);
+    let is_text = row.1.as_ref().map(|found| found == text);
+    match (fits, is_text) {
+        (Some(false), _) | (_, Some(false)) => Some(false),
+        (Some(true), Some(true)) => Some(true),
+        _ => None,
+    }
+}
+
+#[test]
+fn filters_of_rows_and_zones() {
+    let mut random = Random(0x89ab_cdef);
+    let (mut skipped, mut whole) = (0, 0);
+    for _ in 0..count() / 4 {
+        let length = random.below(9);
+        let numbers = rows(&mut random, Kind::I16, length);
+        let texts: Vec<Option<Item>> = (0..length)
+            .map(|_| {
+                (!random.one_in(6))
+                    .then(|| Item::Utf8(random.one_of(&["oslo", "moss", ""]).to_string()))
+            })
+            .collect();
+        let (numbers, texts) = (
+            layout(&mut random, Kind::I16, numbers),
+            layout(&mut random, Kind::Utf8, texts),
+        );
+        let number = random.one_of(&[-40_000, -9, 0, 5, 40_000]);
+        let filter = format!("number >= {number} and \"the text\" = 'oslo'");
+        let filter =
+            Filter::parse(&filter, &[("number", Kind::I16), ("the text", Kind::Utf8)]).unwrap();
+        let truth = |row: usize| {
+            let found = match &numbers.rows[row] {
+                Some(Item::Integer(found)) => Some(*found),
+                _ => None,
+            };
+            let text = match &texts.rows[row] {
+                Some(Item::Utf8(text)) => Some(text.clone()),
+                _ => None,
+            };
+            plain_truth((found, &text), number, "oslo")
+        };
+        let truths: Vec<Truth> = (0..length).map(truth).collect();
+        let columns = [numbers.column(), texts.column()];
+        let wanted: Vec<bool> = truths.iter().map(|truth| *truth == Some(true)).collect();
+        assert_eq!(filter.mask(&columns), Ok(wanted));
+        let known = columns.map(|column| Statistics::of(&column, 2).unwrap());
+        let zone = [random.one_in(9), random.one_in(9)];
+        let zone: Vec<Option<&Statistics>> = known
+            .iter()
+            .zip(zone)
+            .map(|(known, hides)| (!hides).then_some(known))
+            .collect();
+        let outcomes = filter.outcomes(&zone).unwrap();
+        for truth in truths {
+            assert!(match truth {
+                Some(true) => outcomes.may_be_true,
+                Some(false) => outcomes.may_be_false,
+                None => outcomes.may_be_unknown,
+            });
+        }
+        let open = filter.outcomes(&[]).unwrap();
+        assert_eq!(open.may_match(), number <= 32_767);
+        let left = [outcomes, open].map(Outcomes::may_match);
+        let left: Vec<usize> = (0..2).filter(|place| left[*place]).collect();
+        assert_eq!(filter.prune([&zone[..], &[]]), Ok(left));
+        skipped += u32::from(!outcomes.may_match());
+        whole += u32::from(outcomes.must_match());
+    }
+    assert!(skipped > 0 && whole > 0, "{skipped} {whole}");
+}
+
+#[test]
+fn mistakes_of_filters() {
+    let columns = [("city", Kind::Utf8)];
+    for text in [
+        "",
+        "city",
+        "city = 1",
+        "town = 'a'",
+        "city = 'a",
+        "city = 'a' and",
+    ] {
+        let error = Filter::parse(text, &columns).unwrap_err();
+        assert!(
+            matches!(error, FilterError::Mistake(place) if place <= text.len()),
+            "{error}"
+        );
+    }
+    let filter = Filter::parse("city = 'a'", &columns).unwrap();
+    let number = Statistics::of(&Column::integers(&[1i64]), 16).unwrap();
+    let bad = FilterError::BadStatistics { zone: 1, column: 0 };
+    assert_eq!(filter.prune([&[][..], &[Some(&number)]]), Err(bad));
+    assert_eq!(
+        filter.outcomes(&[None, None]),
+        Err(FilterError::WrongLength)
+    );
+    assert_eq!(
+        filter.mask(&[]),
+        Err(FilterError::Rows(RowsError::WrongLength))
+    );
+    assert!(error_words(&bad).contains("zone 1"));
+}
+
+fn error_words(error: &dyn std::error::Error) -> String {
+    error.to_string()
 }
 
 #[test]

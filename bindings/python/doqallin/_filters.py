@@ -1,0 +1,219 @@
+# SPDX-License-Identifier: Apache-2.0
+# SPDX-FileCopyrightText: Copyright the Vortex contributors; ported to Rattle and changed
+"""Filters over columns, in SQL's words."""
+
+from __future__ import annotations
+
+import ctypes
+import enum
+from array import array
+from collections.abc import Iterable, Mapping, Sequence
+from contextlib import closing
+from ctypes import byref, c_size_t
+from itertools import accumulate
+from typing import Any, overload
+
+from . import _library
+from ._columns import BOOL, KINDS, Column, buffer_of, code_of, joined
+from ._errors import BadFilter, NoColumn, at
+from ._library import BAD_BYTES, BAD_FILTER, NO_ROOM, Fault, Mistake, NamedKind, check_column, encoded, new_room
+from ._reading import column, each_batch, fitted, raw_columns
+from ._statistics import Statistics
+from ._types import DType
+
+__all__ = ["Filter", "Outcomes", "Zones"]
+
+_MISTAKES = (
+    "expected a filter",
+    "expected a column",
+    "expected an operator",
+    "expected a literal",
+    "expected a string that ends in its only wildcard, %",
+    "expected '\\\\'",
+    "expected null",
+    "expected and",
+    "expected (",
+    "expected )",
+    "expected a comma",
+    "expected the end",
+    "no such column",
+    "a literal of another type than the column",
+    "no literal is of the column's type",
+    "the number is too long",
+    "no token",
+    "nested too deep",
+)
+
+
+class Outcomes(enum.IntFlag):
+    """What a filter can be on the rows of a zone."""
+
+    MAY_BE_FALSE = 1
+    MAY_BE_UNKNOWN = 2
+    MAY_BE_TRUE = 4
+
+
+_OUTCOMES = [Outcomes(number) for number in range(8)]
+
+
+class Zones(Sequence[Mapping[str, Statistics]]):
+    """Zones of a table, each the statistics of its columns by name. A filter reads all of them in one call.
+
+    The columns of a zone that have no statistics leave all open.
+
+    >>> zones = Zones([{"fare": statistics([3, 5])}, {"fare": statistics([7, 90])}])
+    >>> Filter("fare > 6", {"fare": "i64"}).prune(zones)
+    [1]
+    """
+
+    __slots__ = ("_zones", "_packed")
+
+    def __init__(self, zones: Iterable[Mapping[str, Statistics]]) -> None:
+        self._zones = list(zones)
+        self._packed: dict[tuple[str, ...], tuple[bytes, array[int]]] = {}
+
+    @overload
+    def __getitem__(self, place: int) -> Mapping[str, Statistics]: ...
+
+    @overload
+    def __getitem__(self, place: slice) -> Zones: ...
+
+    def __getitem__(self, place: int | slice) -> Any:
+        return Zones(self._zones[place]) if isinstance(place, slice) else self._zones[place]
+
+    def __len__(self) -> int:
+        return len(self._zones)
+
+    def _pieces(self, names: tuple[str, ...]) -> tuple[bytes, array[int]]:
+        """The bytes of the statistics of these columns, zone by zone, and where each piece begins."""
+        if names not in self._packed:
+            pieces = [zone[name]._bytes if name in zone else b"" for zone in self._zones for name in names]
+            self._packed[names] = b"".join(pieces), array("Q", accumulate(map(len, pieces), initial=0))
+        return self._packed[names]
+
+
+class Filter:
+    """A filter of rows, as SQL's WHERE has it: it is true, false or unknown of a row, and a row matches only if it is true.
+
+    `text` is in the words of docs/FILTERS.md: comparisons, `is null`, `in`, `between`, `like 'abc%'`, `starts_with`, `and`,
+    `or`, `not`. `schema` has the kind of each column that it may name: integers, `bool`, `utf8`, `binary`.
+
+    Raises BadFilter with the place of a mistake.
+
+    >>> wanted = Filter("city = 'Oslo' and fare >= 10", {"city": "utf8?", "fare": "u32"})
+    >>> zone = {"city": statistics(["Bergen", "Moss"]), "fare": statistics([3, 12], of="u32")}
+    >>> wanted.may_match(zone), wanted.outcomes(zone)
+    (False, <Outcomes.MAY_BE_FALSE: 1>)
+    >>> list(wanted.mask({"city": ["Oslo", "Oslo", None], "fare": [12, 3, 12]}))
+    [True, False, False]
+    """
+
+    __slots__ = ("text", "schema", "_names", "_codes", "_prepared")
+
+    def __init__(self, text: str, schema: Mapping[str, str | DType]) -> None:
+        self.text = text
+        self.schema = dict(schema)
+        self._names = tuple(self.schema)
+        self._codes = tuple(code_of(of) for of in self.schema.values())
+        self._prepared: dict[tuple[int, ...], bytes] = {}
+        self._bytes(self._codes)
+
+    def _bytes(self, codes: tuple[int, ...]) -> bytes:
+        """The filter, prepared for columns of these kinds."""
+        if codes not in self._prepared:
+            self._prepared[codes] = self._prepare(codes)
+        return self._prepared[codes]
+
+    def _prepare(self, codes: tuple[int, ...]) -> bytes:
+        text, names = encoded(self.text), [encoded(name) for name in self._names]
+        kinds = (NamedKind * max(1, len(names)))(*[NamedKind(name, len(name), code) for name, code in zip(names, codes)])
+        count, mistake = c_size_t(256 + 4 * len(text)), Mistake()
+        status = NO_ROOM
+        while status == NO_ROOM:
+            length = count.value
+            room = new_room(length)
+            status = _library.prepare_filter(text, len(text), kinds, len(names), room, length, byref(count), byref(mistake))
+        if status == BAD_FILTER:
+            raise self._mistake(mistake)
+        check_column(status, Fault())
+        return ctypes.string_at(room, count.value)
+
+    def _mistake(self, mistake: Mistake) -> BadFilter:
+        return at(BadFilter(f"byte {mistake.place} of {self.text!r}: {_MISTAKES[mistake.expected]}"), mistake.place)
+
+    def _of_zones(self, zones: Zones) -> bytes:
+        """A byte for each zone."""
+        prepared = self._bytes(self._codes)
+        data, offsets = zones._pieces(self._names)
+        outcomes, fault = new_room(len(zones)), Fault()
+        status = _library.filter_outcomes(
+            prepared, len(prepared), data, len(data), buffer_of(offsets).address, len(offsets), outcomes, len(zones), byref(fault)
+        )
+        if status == BAD_BYTES and self._names:
+            zone, place = divmod(fault.column, len(self._names))
+            check_column(status, fault, f"zone {zone}, column {self._names[place]!r}: ")
+        check_column(status, fault)
+        return bytes(outcomes)
+
+    def outcomes(self, zone: Mapping[str, Statistics]) -> Outcomes:
+        """What the filter can be on the rows of a zone: the truth of each row is among these."""
+        return _OUTCOMES[self._of_zones(Zones([zone]))[0]]
+
+    def may_match(self, zone: Mapping[str, Statistics]) -> bool:
+        """Whether a row of the zone may match. If not, the zone need not be read."""
+        return bool(self.outcomes(zone) & Outcomes.MAY_BE_TRUE)
+
+    def must_match(self, zone: Mapping[str, Statistics]) -> bool:
+        """Whether each row of the zone matches. If so, no row need be tested."""
+        return not self.outcomes(zone) & (Outcomes.MAY_BE_FALSE | Outcomes.MAY_BE_UNKNOWN)
+
+    def prune(self, zones: Iterable[Mapping[str, Statistics]]) -> list[int]:
+        """The places of the zones that may match, by one call. `Zones` are quickest to ask more than once."""
+        asked = zones if isinstance(zones, Zones) else Zones(zones)
+        return [place for place, outcomes in enumerate(self._of_zones(asked)) if outcomes & 4]
+
+    def outcomes_of(self, zones: Iterable[Mapping[str, Statistics]]) -> list[Outcomes]:
+        """The outcomes of each zone, by one call."""
+        asked = zones if isinstance(zones, Zones) else Zones(zones)
+        return [_OUTCOMES[outcomes] for outcomes in self._of_zones(asked)]
+
+    def mask(self, table: Any) -> Column:
+        """A column of bools: whether each row matches. It takes an Arrow table or record batch, or a dict of columns by name.
+
+        Raises NoColumn if a column of the schema is not there, and KindsDiffer if one is of another kind.
+        """
+        if isinstance(table, Mapping):
+            return self._of_batch({name: column(table[name], of) for name, of in self.schema.items() if name in table})
+        masks = []
+        with closing(each_batch(table)) as each:
+            for batch in each:
+                masks.append(self._of_batch(batch if isinstance(batch, dict) else {name: batch for name in self._names[:1]}))
+                del batch
+        return joined(masks)
+
+    def _of_batch(self, batch: Mapping[str, Column]) -> Column:
+        for name in self._names:
+            if name not in batch:
+                raise NoColumn(f"there is no column {name!r}")
+        each = [fitted(batch[name], of) for name, of in self.schema.items()]
+        prepared, raws, fault = self._bytes(tuple(one._code for one in each)), raw_columns(each), Fault()
+        rows = len(each[0]) if each else 0
+        length = (rows + 7) // 8
+        room = new_room(length)
+        status = _library.filter_mask(prepared, len(prepared), raws, len(each), room, length, byref(fault))
+        check_column(status, fault, f"column {self._names[fault.column]!r}: " if fault.column < len(self._names) else "")
+        return Column._of(BOOL, rows, buffer_of(bytes(room)))
+
+    def __eq__(self, other: object) -> bool:
+        if not isinstance(other, Filter):
+            return NotImplemented
+        return (self.text, self._names, self._codes) == (other.text, other._names, other._codes)
+
+    def __hash__(self) -> int:
+        return hash((self.text, self._names, self._codes))
+
+    def __reduce__(self) -> tuple[Any, ...]:
+        return Filter, (self.text, {name: KINDS[code] for name, code in zip(self._names, self._codes)})
+
+    def __repr__(self) -> str:
+        return f"Filter({self.text!r}, { {name: str(of) for name, of in self.schema.items()} })"

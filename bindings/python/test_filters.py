@@ -1,0 +1,137 @@
+# SPDX-License-Identifier: Apache-2.0
+"""Filters from Python: of rows and of zones, beside SQLite, three-valued logic and all."""
+
+from __future__ import annotations
+
+import pickle
+import random
+import sqlite3
+import unittest
+from typing import Any
+
+import doqallin
+from doqallin import Filter, Outcomes, Zones, column, columns, statistics
+from producer import Chunks, layout, struct_of
+from test_columns import COUNT, Released
+
+SCHEMA = {"n": "i16", "big number": "i64", "truth": "bool", "city": "utf8", "data": "binary"}
+FORMS = {"n": "s", "big number": "l", "truth": "b", "city": "u", "data": "z"}
+WORDS = ["", "Oslo", "Os", "Bergen", "ñ", "O'Hara", "a%b"]
+
+
+def literal(source: random.Random, name: str) -> str:
+    if source.random() < 0.1:
+        return "null"
+    if name in ("n", "big number"):
+        return str(source.choice([0, 1, -1, 5, 100, 32767, 32768, -32769, 2**63 - 1, -(2**63)]))
+    if name == "truth":
+        return source.choice(["true", "false"])
+    if name == "city":
+        return "'" + source.choice(WORDS).replace("'", "''") + "'"
+    return f"x'{source.choice([b'', b'a', bytes([0, 255]), b'ab']).hex()}'"
+
+
+def some_filter(source: random.Random, depth: int) -> str:
+    if depth and source.random() < 0.7:
+        if source.random() < 0.25:
+            return f"not ({some_filter(source, depth - 1)})"
+        return f"({some_filter(source, depth - 1)} {source.choice(['and', 'or'])} {some_filter(source, depth - 1)})"
+    name = source.choice(list(SCHEMA))
+    shown = f'"{name}"'
+    test = source.choice(["compare", "compare", "null", "in", "between", "like", "constant"])
+    negated = source.choice(["", "not "])
+    if test == "null":
+        return f"{shown} is {negated}null"
+    if test == "in":
+        return f"{shown} {negated}in ({', '.join(literal(source, name) for _ in range(source.randrange(4)))})"
+    if test == "between":
+        return f"{shown} {negated}between {literal(source, name)} and {literal(source, name)}"
+    if test == "like":
+        return f"city {negated}like '{source.choice(['', 'O', 'Os', 'ñ', 'B'])}%'"
+    if test == "constant":
+        return source.choice(["true", "false", "null"])
+    return f"{shown} {source.choice(['=', '<>', '!=', '<', '<=', '>', '>='])} {literal(source, name)}"
+
+
+def some_table(source: random.Random, rows: int) -> dict[str, list[Any]]:
+    def value(name: str) -> Any:
+        if source.random() < 0.2:
+            return None
+        if name in ("n", "big number"):
+            return source.choice([0, 1, -1, 5, 100, 32767, -32768])
+        return source.random() < 0.5 if name == "truth" else source.choice(WORDS) if name == "city" else source.choice([b"", b"a", b"\0\xff", b"b"])
+
+    return {name: [value(name) for _ in range(rows)] for name in SCHEMA}
+
+
+class OfFilters(Released):
+    def test_beside_sqlite(self) -> None:
+        source = random.Random(60)
+        store = sqlite3.connect(":memory:")
+        store.execute("pragma case_sensitive_like = on")
+        store.execute('create table t (n integer, "big number" integer, truth integer, city text, data blob)')
+        seen = 0
+        for _ in range(COUNT // 10):
+            table = some_table(source, source.randrange(1, 40))
+            store.execute("delete from t")
+            store.executemany("insert into t values (?, ?, ?, ?, ?)", list(zip(*table.values())))
+            arrow = struct_of(source, tuple(layout(source, FORMS[name], part, name) for name, part in table.items()), len(table["n"]))
+            batch = columns(arrow)
+            cuts = sorted(source.randrange(len(table["n"]) + 1) for _ in range(3))
+            zones = [(start, end) for start, end in zip([0, *cuts], [*cuts, len(table["n"])])]
+            prepared = Zones({name: statistics(one[start:end], 2) for name, one in batch.items() if source.random() < 0.9} for start, end in zones)
+            for _ in range(10):
+                text = some_filter(source, 3)
+                truths = [truth for (truth,) in store.execute(f"select ({text}) from t order by rowid")]
+                found = Filter(text, SCHEMA)
+                self.assertEqual(list(found.mask(batch)), [truth == 1 for truth in truths], text)
+                self.assertEqual(list(found.mask(table)), [truth == 1 for truth in truths], text)
+                all_outcomes = found.outcomes_of(prepared)
+                for (start, end), outcomes, zone in zip(zones, all_outcomes, prepared):
+                    for truth in truths[start:end]:
+                        self.assertIn({0: Outcomes.MAY_BE_FALSE, 1: Outcomes.MAY_BE_TRUE, None: Outcomes.MAY_BE_UNKNOWN}[truth], outcomes, text)
+                    self.assertEqual(found.outcomes(zone), outcomes)
+                    self.assertEqual(found.may_match(zone), Outcomes.MAY_BE_TRUE in outcomes)
+                    self.assertEqual(found.must_match(zone), outcomes in (Outcomes(0), Outcomes.MAY_BE_TRUE))
+                left = found.prune(prepared)
+                self.assertEqual(left, [place for place, outcomes in enumerate(all_outcomes) if Outcomes.MAY_BE_TRUE in outcomes])
+                self.assertEqual(left, found.prune(list(prepared)))
+                seen += len(zones) - len(left)
+            del batch
+        self.assertGreater(seen, COUNT // 10)
+        store.close()
+
+    def test_a_stream_is_masked(self) -> None:
+        source = random.Random(61)
+        parts = [struct_of(source, (layout(source, "l", values, "a"), layout(source, "f", [], "left out")), len(values)) for values in ([1, 5], [], [None, 7])]
+        found = Filter("a > 3", {"a": "i64"})
+        with self.assertRaises(doqallin.UnknownKind):
+            found.mask(Chunks(parts[0], parts))
+        parts = [struct_of(source, (layout(source, "l", values, "a"),), len(values)) for values in ([1, 5], [], [None, 7])]
+        self.assertEqual(found.mask(Chunks(parts[0], parts)).to_list(), [False, True, False, True])
+        self.assertEqual(found.mask([4, 3]).to_list(), [True, False])
+
+    def test_kinds(self) -> None:
+        found = Filter("city = 'Oslo'", {"city": "utf8?"})
+        self.assertEqual(found.mask({"city": [None, None]}).to_list(), [False, False])
+        with self.assertRaises(doqallin.KindsDiffer):
+            found.mask({"city": column([1])})
+        with self.assertRaises(doqallin.NoColumn):
+            found.mask({"town": ["Oslo"]})
+        with self.assertRaises(doqallin.UnknownKind):
+            Filter("x = 1", {"x": "f64"})
+        with self.assertRaises(doqallin.BadBytes):
+            found.may_match({"city": statistics([1])})
+        self.assertEqual(found.outcomes({}), Outcomes(7))
+        self.assertEqual(found.prune([]), [])
+        self.assertEqual(pickle.loads(pickle.dumps(found)), found)
+
+    def test_mistakes(self) -> None:
+        for text in ["", "city", "city = ", "city = 1", "town = 'Oslo'", "city = 'Oslo", "city = 'Oslo' and", "fare >= 'a'", "city like '%a'", "(city = 'a'"]:
+            with self.assertRaises(doqallin.BadFilter, msg=text) as error:
+                Filter(text, {"city": "utf8?", "fare": "u32"})
+            self.assertLessEqual(error.exception.place or 0, len(text.encode()))
+
+
+if __name__ == "__main__":
+    unittest.main()
