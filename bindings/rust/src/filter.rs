@@ -3,14 +3,19 @@
 //! Filters over columns, in SQL's words.
 
 use crate::arrow::RawColumns;
-use crate::{Column, Kind, RowsError, Statistics, out_of_memory, raw};
+use crate::{Column, Kind, Mistake, RowsError, Statistics, out_of_memory, raw};
 use std::fmt;
 
 /// Why there is no filter, or why it cannot be asked.
 #[derive(Clone, Copy, Debug, PartialEq, Eq)]
 pub enum FilterError {
-    /// The text is no filter of these columns: something else had to come at this byte.
-    Mistake(usize),
+    /// The text is no filter of these columns.
+    Mistake {
+        /// The byte at which it is none, or its length.
+        place: usize,
+        /// What is wrong there.
+        mistake: Mistake,
+    },
     /// The statistics of this zone are not of the kind of this column.
     BadStatistics {
         /// The zone.
@@ -20,6 +25,8 @@ pub enum FilterError {
     },
     /// A zone has more statistics than the filter has columns.
     WrongLength,
+    /// This column is of another kind than the filter was prepared for.
+    KindsDiffer(usize),
     /// The columns cannot be read together.
     Rows(RowsError),
 }
@@ -27,7 +34,7 @@ pub enum FilterError {
 impl fmt::Display for FilterError {
     fn fmt(&self, f: &mut fmt::Formatter<'_>) -> fmt::Result {
         match self {
-            FilterError::Mistake(place) => write!(f, "byte {place}: something else had to come"),
+            FilterError::Mistake { place, mistake } => write!(f, "byte {place}: {mistake}"),
             FilterError::BadStatistics { zone, column } => {
                 write!(
                     f,
@@ -35,6 +42,9 @@ impl fmt::Display for FilterError {
                 )
             }
             FilterError::WrongLength => f.write_str("a zone has too many statistics"),
+            FilterError::KindsDiffer(column) => {
+                write!(f, "column {column} is not of the filter's kind")
+            }
             FilterError::Rows(error) => error.fmt(f),
         }
     }
@@ -127,7 +137,12 @@ impl Filter {
                     });
                 }
                 raw::NO_ROOM => room.resize(count, 0),
-                raw::BAD_FILTER => return Err(FilterError::Mistake(mistake.place)),
+                raw::BAD_FILTER => {
+                    return Err(FilterError::Mistake {
+                        place: mistake.place,
+                        mistake: Mistake::of(mistake.expected),
+                    });
+                }
                 raw::NO_MEMORY => out_of_memory(text.len()),
                 other => unreachable!("status {other} of a string"),
             }
@@ -221,6 +236,7 @@ impl Filter {
             raw::GIVEN => Ok((0..rows)
                 .map(|row| room[row / 8] >> (row % 8) & 1 == 1)
                 .collect()),
+            raw::UNKNOWN_KIND if fault.place == 1 => Err(FilterError::KindsDiffer(fault.column)),
             other => Err(FilterError::Rows(RowsError::of(other, &fault))),
         }
     }

@@ -713,19 +713,21 @@ fn filters_of_rows_and_zones() {
 #[test]
 fn mistakes_of_filters() {
     let columns = [("city", Kind::Utf8)];
-    for text in [
-        "",
-        "city",
-        "city = 1",
-        "town = 'a'",
-        "city = 'a",
-        "city = 'a' and",
+    for (text, place, mistake) in [
+        ("", 0, Mistake::ExpectedFilter),
+        ("city", 4, Mistake::ExpectedOperator),
+        ("city = 1", 7, Mistake::TypesDiffer),
+        ("town = 'a'", 0, Mistake::NoColumn),
+        ("city = 'a", 7, Mistake::BadText),
+        ("city = 'a' and", 14, Mistake::ExpectedFilter),
     ] {
         let error = Filter::parse(text, &columns).unwrap_err();
-        assert!(
-            matches!(error, FilterError::Mistake(place) if place <= text.len()),
-            "{error}"
-        );
+        assert_eq!(error, FilterError::Mistake { place, mistake }, "{text}");
+        assert_eq!(error.to_string(), format!("byte {place}: {mistake}"));
+        let text = format!("{text}; city utf8?");
+        if mistake != Mistake::BadText {
+            assert_eq!(text.parse::<Filter>(), Err(error));
+        }
     }
     let filter = Filter::parse("city = 'a'", &columns).unwrap();
     let number = Statistics::of(&Column::integers(&[1i64]), 16).unwrap();
@@ -739,7 +741,36 @@ fn mistakes_of_filters() {
         filter.mask(&[]),
         Err(FilterError::Rows(RowsError::WrongLength))
     );
+    let numbers = Column::integers(&[1i64]);
+    assert_eq!(filter.mask(&[numbers]), Err(FilterError::KindsDiffer(0)));
+    let large = Column::large_utf8(b"ab", &[0, 1, 2]);
+    assert_eq!(filter.mask(&[large]), Ok(vec![true, false]));
     assert!(error_words(&bad).contains("zone 1"));
+}
+
+#[test]
+fn filters_from_one_text() {
+    let text = "\"the; city\" = 'a;, ''b' and n > 1; \"the; city\" large_utf8? , n i16";
+    let columns = [("the; city", Kind::LargeUtf8), ("n", Kind::I16)];
+    let filter = Filter::parse("\"the; city\" = 'a;, ''b' and n > 1", &columns);
+    assert_eq!(text.parse(), filter);
+    assert_eq!("true".parse(), Filter::parse("true", &[]));
+    assert_eq!("true;".parse(), Filter::parse("true", &[]));
+    let mistake = Mistake::ExpectedKind;
+    for (text, place) in [
+        ("true; city", 5),
+        ("true; city text", 5),
+        ("true; a i8,", 11),
+        ("true; a b i8", 5),
+        ("true; \"a i8", 5),
+    ] {
+        let wanted: Result<Filter, FilterError> = Err(FilterError::Mistake { place, mistake });
+        assert_eq!(text.parse(), wanted, "{text}");
+    }
+    for kind in KINDS {
+        let name = format!("{kind:?}").to_lowercase().replace("large", "large_");
+        assert_eq!(name.parse(), Ok(kind));
+    }
 }
 
 fn error_words(error: &dyn std::error::Error) -> String {
