@@ -6,7 +6,7 @@ from array import array
 from itertools import accumulate
 
 import doqallin
-from doqallin import Kind, LibraryMissing, ZoneBounds, cast, row_keys, scalar, statistics
+from doqallin import Filter, Kind, LibraryMissing, ZoneBounds, Zones, cast, row_keys, scalar, statistics
 
 
 def seconds(call, calls: int) -> float:
@@ -50,6 +50,14 @@ def columns() -> None:
     compare("the keys of a million numbers, beside numpy's sorting", lambda: row_keys([numbers]), lambda: numbers.argsort(), 1)
 
 
+def filters() -> None:
+    """A filter over 10,000 zones of two columns."""
+    zones = Zones({"time": statistics([100 * zone, 100 * zone + 120]), "city": statistics([f"Oslo {zone}", f"Oslo {zone + 7}", None])} for zone in range(10_000))
+    wanted = Filter("time between 500000 and 510000 and city >= 'Oslo 5'", {"time": "i64", "city": "utf8?"})
+    left = wanted.prune(zones)
+    print(f"Python, a filter over 10,000 zones, of which {len(left)} are left: {1e3 * seconds(lambda: wanted.prune(zones), 10):.2f} ms")
+
+
 def scalars() -> None:
     """Scalars, by lines of the call."""
     try:
@@ -78,6 +86,7 @@ def main() -> None:
     data = b"".join(values)
     offsets = array("Q", accumulate(map(len, values), initial=0))
     columns()
+    filters()
     scalars()
     compare("a column of a million values", lambda: doqallin.column_bounds(data, offsets, 16), lambda: plain_column(data, offsets, 16), 1)
 
