@@ -418,7 +418,7 @@ static void prepared_filters(void) {
     CHECK(prepare(deep + 8, 1) == DOQALLIN_NO_ROOM && count == 10 + 254 + 1 + 1 + 9 + 1);
     memcpy(deep + 1024, "not true", 9);
     CHECK(prepare(deep, 1) == DOQALLIN_BAD_FILTER && at_mistake(1028, DOQALLIN_TOO_DEEP));
-    CHECK(prepare("true", 0) == DOQALLIN_GIVEN && holds(room + 9, count - 9, "\2"));
+    CHECK(prepare("true", 0) == DOQALLIN_GIVEN && count == 10 && room[9] == 2 && is_kept(room, 10));
 }
 
 static void filter_rows(void) {
