@@ -19,8 +19,9 @@
  * - `malloc`, `realloc` and `free` are of one allocator, and no call comes from a signal handler.
  * Calls on different threads need no lock: nothing is kept from one call to the next.
  *
- * Stack: a call takes at most 4 kilobytes of it, whatever it is given, but for doqallin_call, which says what it takes. That was
- * measured, on x86-64; no contract speaks of stack. */
+ * Stack: a call takes at most 4 kilobytes of it, or 12 of statistics, whatever it is given. That was measured, on x86-64; no
+ * contract speaks of stack. doqallin_call says what it takes. Calls of filters take more for each level that nests in a filter,
+ * at most 256: how much was not measured. */
 #ifndef DOQALLIN_H
 #define DOQALLIN_H
 #include <stdbool.h>

@@ -6,6 +6,7 @@
 
 // What doqallin.h says under Stack.
 #define MOST 4096
+#define MOST_OF_STATISTICS 12288
 #define SIZE ((size_t)1 << 16)
 #define PAINT 0xA5
 
@@ -22,8 +23,16 @@ static void bytes_bounds(void) { doqallin_column_bounds_bytes(value, sizeof valu
 static void text_bounds(void) { doqallin_column_bounds_text(value, sizeof value, starts, 4, n, room, ROOM, other, ROOM, &lengths); }
 static void upper_bound(void) { doqallin_upper_bound_text(value, sizeof value, n, room, ROOM, &count); }
 
-static void (*const calls[])(void) = {cast, keys, bytes_bounds, text_bounds, upper_bound};
+static uint8_t form[ROOM];
+static size_t form_length;
+static struct doqallin_statistics_parts parts;
+static void statistics(void) { doqallin_column_statistics(&two[0], n, room, ROOM, &count, &fault); }
+static void merge(void) { doqallin_merge_statistics(two[0].kind, form, form_length, form, form_length, room, ROOM, &count, &fault); }
+static void read_parts(void) { doqallin_read_statistics(two[0].kind, form, form_length, room, ROOM, other, ROOM, &parts, &fault); }
+
+static void (*const calls[])(void) = {cast, keys, bytes_bounds, text_bounds, upper_bound, statistics, merge, read_parts};
 #define CALLS (sizeof calls / sizeof *calls)
+#define CALLS_OF_STATISTICS 3
 
 static void *run(void *call) {
     (*(void (*const *)(void))call)();
@@ -57,9 +66,10 @@ int main(int argc, char **argv) {
         options[0] = below(4), options[1] = below(4), n = below(40);
         for (size_t i = 0; i < sizeof value; i++) value[i] = below(9) ? 'a' + below(26) : below(256);
         for (int i = 1; i < 4; i++) starts[i] = starts[i - 1] + below(20);
+        if (doqallin_column_statistics(&two[0], n, form, ROOM, &form_length, &fault)) form_length = below(40);
         for (size_t i = 0; i < CALLS; i++) {
             size_t of = used(stack, &calls[i]) - none;
-            CHECK(of <= MOST);
+            CHECK(of <= (i < CALLS - CALLS_OF_STATISTICS ? MOST : MOST_OF_STATISTICS));
             most = of > most ? of : most;
         }
         starts[0] = below(2);
