@@ -27,6 +27,7 @@ use Rattle.column_cells.specs.Contents.{AreBytes, HasTexts, IsLongContent, byte_
 use Rattle.column_cells.specs.Types.{ptype_of_kind, type_at, type_of_column, type_of_rows}
 use Rattle.column_cells.proofs.CellLaws.{all_cells, cell_is, of_value}
 use Rattle.column_cells.proofs.KindRanges.{in_kind, item_bytes}
+use Rattle.vortex_dtype.specs.declared.buffer.TheConstants.{INLINE_BYTES}
 
 -- ---- how many, and the one of a row
 
@@ -94,19 +95,19 @@ integer_in_range kind column row o l b e =
 pub text_valid : (cells : List (Option (List ℕ))) (row : ℕ) (o : Option (List ℕ)) → All (λ cell. IfSome cell (λ bytes. IsUtf8 bytes)) cells → slice_get cells row ≡ Some o → IfSome o (λ bytes. IsUtf8 bytes)
 text_valid cells row o h e = got_holds (λ cell. IfSome cell (λ bytes. IsUtf8 bytes)) cells row o h e
 
-long_text_cell : (o : Option (List ℕ)) → IsSomeAnd o (λ bytes. 22 < length bytes) → IsLongContent (content_or_null text o)
+long_text_cell : (o : Option (List ℕ)) → IsSomeAnd o (λ bytes. INLINE_BYTES < length bytes) → IsLongContent (content_or_null text o)
 long_text_cell (Some bytes) h = h
 long_text_cell None h = h
 
-long_byte_cell : (o : Option (List ℕ)) → IsSomeAnd o (λ bytes. 22 < length bytes) → IsLongContent (content_or_null string o)
+long_byte_cell : (o : Option (List ℕ)) → IsSomeAnd o (λ bytes. INLINE_BYTES < length bytes) → IsLongContent (content_or_null string o)
 long_byte_cell (Some bytes) h = h
 long_byte_cell None h = h
 
-pub long_text : (cells : List (Option (List ℕ))) (row : ℕ) (o : Option (List ℕ)) → slice_get cells row ≡ Some o → IsSomeAnd o (λ bytes. 22 < length bytes)
+pub long_text : (cells : List (Option (List ℕ))) (row : ℕ) (o : Option (List ℕ)) → slice_get cells row ≡ Some o → IsSomeAnd o (λ bytes. INLINE_BYTES < length bytes)
     → IsSomeAnd (slice_get (map (content_or_null text) cells) row) IsLongContent
 long_text cells row o e h = subst (λ c. IsSomeAnd c IsLongContent) (sym (content_got (content_or_null text) cells row o _ e refl)) (long_text_cell o h)
 
-pub long_bytes : (cells : List (Option (List ℕ))) (row : ℕ) (o : Option (List ℕ)) → slice_get cells row ≡ Some o → IsSomeAnd o (λ bytes. 22 < length bytes)
+pub long_bytes : (cells : List (Option (List ℕ))) (row : ℕ) (o : Option (List ℕ)) → slice_get cells row ≡ Some o → IsSomeAnd o (λ bytes. INLINE_BYTES < length bytes)
     → IsSomeAnd (slice_get (map (content_or_null string) cells) row) IsLongContent
 long_bytes cells row o e h = subst (λ c. IsSomeAnd c IsLongContent) (sym (content_got (content_or_null string) cells row o _ e refl)) (long_byte_cell o h)
 

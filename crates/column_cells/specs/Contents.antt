@@ -12,6 +12,7 @@ use Rattle.arrow_columns.specs.declared.offset_width.OffsetWidth.{OffsetWidth}
 use Rattle.arrow_columns.specs.declared.offset_width.OffsetWidth.TheVariants.{Bits32, Bits64}
 use Rattle.arrow_columns.specs.declared.tested_rows.Rows.{Rows}
 use Rattle.arrow_columns.specs.declared.tested_rows.Rows.TheVariants.{Booleans, Bytes, Integers, Nulls, Strings}
+use Rattle.vortex_dtype.specs.declared.buffer.TheConstants.{INLINE_BYTES}
 use Rattle.vortex_value.specs.Values.Content.{Content, null, string, text, truth, whole}
 
 -- the content of a cell
@@ -62,8 +63,8 @@ HasTexts _ = Unit {0}
 
 -- a string, or bytes, that take memory of their own
 abbrev pub IsLongContent : Content → Type 0
-IsLongContent (text bytes) = 22 < length bytes
-IsLongContent (string bytes) = 22 < length bytes
+IsLongContent (text bytes) = INLINE_BYTES < length bytes
+IsLongContent (string bytes) = INLINE_BYTES < length bytes
 IsLongContent _ = ⊥
 
 -- each is a byte

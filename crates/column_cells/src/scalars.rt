@@ -7,7 +7,7 @@ use crate::types::ptype_of;
 use arrow_columns::IntegerKind;
 use std::alloc::Global;
 use std::str;
-use vortex_dtype::{BufferString, ByteBuffer, DType, Nullability, VortexError};
+use vortex_dtype::{BufferString, ByteBuffer, DType, INLINE_BYTES, Nullability, VortexError};
 use vortex_pvalue::PValue;
 use vortex_value::{Scalar, ScalarValue};
 
@@ -52,7 +52,7 @@ pub fn text_scalar(alloc: Global, cell: Option<&[u8]>) -> Result<Scalar, VortexE
     ensures typed { IfOk result (λ x. scalar_type x ≡ utf8_type Nullable) }
     ensures content { IfOk result (λ x. scalar_content x ≡ content_or_null text (option_copied cell.entry)) }
     ensures valid { IfOk result IsValid }
-    ensures refused { IfErr result (λ e. (e ≡ OutOfMemory) × IsSomeAnd (option_copied cell.entry) (λ bytes. 22 < length bytes)) }
+    ensures refused { IfErr result (λ e. (e ≡ OutOfMemory) × IsSomeAnd (option_copied cell.entry) (λ bytes. INLINE_BYTES < length bytes)) }
 {
     match cell {
         Some(bytes) => {
@@ -71,7 +71,7 @@ pub fn byte_scalar(alloc: Global, cell: Option<&[u8]>) -> Result<Scalar, VortexE
     ensures typed { IfOk result (λ x. scalar_type x ≡ binary_type Nullable) }
     ensures content { IfOk result (λ x. scalar_content x ≡ content_or_null string (option_copied cell.entry)) }
     ensures valid { IfOk result IsValid }
-    ensures refused { IfErr result (λ e. (e ≡ OutOfMemory) × IsSomeAnd (option_copied cell.entry) (λ bytes. 22 < length bytes)) }
+    ensures refused { IfErr result (λ e. (e ≡ OutOfMemory) × IsSomeAnd (option_copied cell.entry) (λ bytes. INLINE_BYTES < length bytes)) }
 {
     match cell {
         Some(bytes) => {

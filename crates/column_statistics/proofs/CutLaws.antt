@@ -11,6 +11,7 @@ use Rattle.vortex_statistics.specs.declared.column_statistics.ColumnStatistics.{
 use Rattle.column_statistics.specs.Cells.{HasBoundsIn, IsBoundIn}
 use Rattle.column_statistics.specs.Extremes.{AreWholeOf, IsAmong}
 use Rattle.column_statistics.specs.Faults.{HasLong}
+use Rattle.vortex_dtype.specs.declared.buffer.TheConstants.{INLINE_BYTES}
 
 -- ---- types
 
@@ -43,15 +44,15 @@ cut_typed t n s r h k = record {
 
 -- ---- lengths
 
-long_content : (t : TypeTree) (raw : RawTree) (n : ℕ) → 22 < n → LongAt t raw n → IsLongContent (content raw)
+long_content : (t : TypeTree) (raw : RawTree) (n : ℕ) → INLINE_BYTES < n → LongAt t raw n → IsLongContent (content raw)
 long_content (utf8_type k) (raw_text bs) n l h = omega arith
 long_content (binary_type k) (raw_bytes bs) n l h = omega arith
 long_content t raw n l h = absurd h
 
-long_in : (contents : List Content) (n : ℕ) (b : Option Bound) → IfSome b (IsAmong contents) → 22 < n → IsLong n b → HasLong contents
+long_in : (contents : List Content) (n : ℕ) (b : Option Bound) → IfSome b (IsAmong contents) → INLINE_BYTES < n → IsLong n b → HasLong contents
 long_in contents n None i l h = absurd h
 long_in contents n (Some b) i l h = record { content = scalar_content b.value; among = i; long = long_content (scalar_type b.value) (scalar_raw b.value) n l h }
 
-pub cut_long : (t : TypeTree) (contents : List Content) (n : ℕ) (s : ColumnStatistics) → AreWholeOf t contents s → 22 < n → (IsLong n s.lower ⊎ IsLong n s.upper) → HasLong contents
+pub cut_long : (t : TypeTree) (contents : List Content) (n : ℕ) (s : ColumnStatistics) → AreWholeOf t contents s → INLINE_BYTES < n → (IsLong n s.lower ⊎ IsLong n s.upper) → HasLong contents
 cut_long t contents n s h l (inl k) = long_in contents n s.lower h.lower l k
 cut_long t contents n s h l (inr k) = long_in contents n s.upper h.upper l k

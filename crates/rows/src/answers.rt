@@ -7,7 +7,8 @@ use crate::commands::Side;
 use std::alloc::{AllocError, Global};
 use vortex_array::laws::{bounds_are_computed, bounds_are_unique, items_are_bytes};
 use vortex_array::{
-    ByteBuffer, DType, Nullability, PType, PValue, Scalar, ScalarValue, lower_bound, upper_bound,
+    ByteBuffer, DType, INLINE_BYTES, Nullability, PType, PValue, Scalar, ScalarValue, lower_bound,
+    upper_bound,
 };
 
 /// The number as this `PType`, if that has it: by a cast of its scalar.
@@ -73,7 +74,7 @@ pub fn bound_at(
     value: ByteBuffer,
 ) -> Result<Option<ByteBuffer>, AllocError>
     ensures text { IfOk result (λ given. bound_text given ≡ request_text (bound side length value)) }
-    ensures inline { length ≤ 22 → IsOk result }
+    ensures inline { length ≤ INLINE_BYTES → IsOk result }
 {
     match side {
         Side::Lower => lower_at(alloc, length, value),
@@ -84,7 +85,7 @@ pub fn bound_at(
 /// The bytes if there are at most `length`, else their lower bound.
 fn lower_at(alloc: Global, length: u64, value: ByteBuffer) -> Result<Option<ByteBuffer>, AllocError>
     ensures text { IfOk result (λ given. bound_text given ≡ request_text (bound Lower length value)) }
-    ensures inline { length ≤ 22 → IsOk result }
+    ensures inline { length ≤ INLINE_BYTES → IsOk result }
 {
     bounds_are_computed();
     bounds_are_unique();
@@ -102,7 +103,7 @@ fn lower_at(alloc: Global, length: u64, value: ByteBuffer) -> Result<Option<Byte
 /// The bytes if there are at most `length`, else their upper bound, if there is one.
 fn upper_at(alloc: Global, length: u64, value: ByteBuffer) -> Result<Option<ByteBuffer>, AllocError>
     ensures text { IfOk result (λ given. bound_text given ≡ request_text (bound Upper length value)) }
-    ensures inline { length ≤ 22 → IsOk result }
+    ensures inline { length ≤ INLINE_BYTES → IsOk result }
 {
     bounds_are_computed();
     bounds_are_unique();

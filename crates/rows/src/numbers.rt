@@ -130,7 +130,7 @@ fn number_digits(text: &[u8]) -> (u128, usize)
 /// one is not a digit. At most 44 digits take no memory.
 pub fn hex_named(alloc: Global, word: &[u8]) -> Result<Option<ByteBuffer>, AllocError>
     ensures bytes { IfOk result (λ bytes. bytes ≡ hex_named word.now) }
-    ensures short { length word.now ≤ 44 → IsOk result }
+    ensures short { length word.now ≤ 2 * INLINE_BYTES → IsOk result }
 {
     if word.len() <= 2 * INLINE_BYTES {
         Ok(short_hex(alloc, word))
@@ -141,7 +141,7 @@ pub fn hex_named(alloc: Global, word: &[u8]) -> Result<Option<ByteBuffer>, Alloc
 
 /// The bytes that at most 44 digits represent. Takes no memory.
 fn short_hex(alloc: Global, word: &[u8]) -> Option<ByteBuffer>
-    requires { length word.now ≤ 44 }
+    requires { length word.now ≤ 2 * INLINE_BYTES }
     ensures { result ≡ hex_named word.now }
 {
     let mut room = [0; INLINE_BYTES];

@@ -3,6 +3,7 @@ use Rattle.std.specs.Prelude.{◌≡◌, ℕ, ◌<◌, ◌≤◌, ◌↔◌, ◌
 use Rattle.std.specs.declared.cmp.Ordering.{Ordering}
 use Rattle.std.specs.declared.cmp.Ordering.TheVariants.{Less, Equal}
 use Rattle.vortex_dtype.specs.TypeTree.{TypeTree, Same, nullability_of}
+use Rattle.vortex_dtype.specs.declared.buffer.TheConstants.{INLINE_BYTES}
 use Rattle.vortex_dtype.specs.declared.error.VortexError.{VortexError}
 use Rattle.vortex_dtype.specs.declared.error.VortexError.TheVariants.{OutOfMemory}
 use Rattle.vortex_dtype.specs.declared.nullability.Nullability.{Nullability}
@@ -60,7 +61,7 @@ pub record IsLowerAnswer {V : Type 0} (Best : List ℕ → ℕ → List ℕ → 
   pub bound : IfSome value (λ v. IfOk result (λ given. IsSomeAnd given (λ x. IsLowerOf Best raw (type_at nullable) (bytes v) n x.0 x.1)))
   pub refused : IfErr result (IsOutOfMemoryFor bytes value n)
   pub nullability : IfOk result (HasNullability nullable)
-  pub inline : n ≤ 22 → IsOk result
+  pub inline : n ≤ INLINE_BYTES → IsOk result
 
 -- what `upper_bound` answers: None of None and of a longer value that has no upper bound, else the upper bound of the value at n bytes
 pub record IsUpperAnswer {V : Type 0} (Best : List ℕ → ℕ → List ℕ → Type 0) (HasNone : List ℕ → ℕ → Type 0) (raw : List ℕ → RawTree) (type_at : Nullability → TypeTree) (bytes : V → List ℕ) (value : Option V) (n : ℕ) (nullable : Nullability) (result : Result (Option (Scalar × Bool)) VortexError) : Type 0 where
@@ -70,4 +71,4 @@ pub record IsUpperAnswer {V : Type 0} (Best : List ℕ → ℕ → List ℕ → 
       (λ x. IsUpperOf Best raw (type_at nullable) (bytes v) n x.0 x.1)))
   pub refused : IfErr result (IsOutOfMemoryFor bytes value n)
   pub nullability : IfOk result (HasNullability nullable)
-  pub inline : n ≤ 22 → IsOk result
+  pub inline : n ≤ INLINE_BYTES → IsOk result

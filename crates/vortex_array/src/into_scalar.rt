@@ -6,7 +6,7 @@ ghost use Rattle.vortex_array.specs.Words.{EachValid, IsMadeValid, NonNullable, 
 
 use crate::integers::Integer;
 use std::alloc::Global;
-use vortex_dtype::{BufferString, ByteBuffer, NativeDType, Nullability, VortexError};
+use vortex_dtype::{BufferString, ByteBuffer, INLINE_BYTES, NativeDType, Nullability, VortexError};
 use vortex_value::{Scalar, ScalarValue};
 
 /// A Rust type whose values convert into scalars of its column type.
@@ -79,7 +79,7 @@ impl IntoScalar for &str {
         ensures made { MatchResult result
             (IsMadeValid (utf8_type NonNullable) (raw_text self.now))
             (λ e. e ≡ OutOfMemory) }
-        ensures inline { length self.now ≤ 22 → IsOk result }
+        ensures inline { length self.now ≤ INLINE_BYTES → IsOk result }
     {
         let text = BufferString::from_str(alloc, self)?;
         Ok(Scalar::utf8(text, Nullability::NonNullable))
@@ -94,7 +94,7 @@ impl IntoScalar for String {
         ensures made { MatchResult result
             (IsMadeValid (utf8_type NonNullable) (raw_text (string_bytes self)))
             (λ e. e ≡ OutOfMemory) }
-        ensures inline { length (string_bytes self) ≤ 22 → IsOk result }
+        ensures inline { length (string_bytes self) ≤ INLINE_BYTES → IsOk result }
     {
         let text = BufferString::from_string(self)?;
         Ok(Scalar::utf8(text, Nullability::NonNullable))
@@ -120,7 +120,7 @@ impl IntoScalar for &[u8] {
         ensures made { MatchResult result
             (IsMadeValid (binary_type NonNullable) (raw_bytes self.now))
             (λ e. e ≡ OutOfMemory) }
-        ensures inline { length self.now ≤ 22 → IsOk result }
+        ensures inline { length self.now ≤ INLINE_BYTES → IsOk result }
     {
         let bytes = ByteBuffer::from_slice(alloc, self)?;
         Ok(Scalar::binary(bytes, Nullability::NonNullable))

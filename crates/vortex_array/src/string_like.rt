@@ -92,7 +92,7 @@ impl StringLike for BufferString {
         ensures given { MatchResult result
             (λ next. IsSuccessorOfLength self next × ¬ (IsStuck self))
             (λ e. HandsBack (λ text. text) IsStuck self e) }
-        ensures inline { length self ≤ 22 → IfErr result IsOfNoNext }
+        ensures inline { length self ≤ INLINE_BYTES → IfErr result IsOfNoNext }
     {
         let Some((front, last)) = next_of_length(self.as_str()) else {
             return Err(IncrementError::Last(self));
@@ -147,7 +147,7 @@ fn next_of_length(text: &str) -> Option<(&str, char)>
 /// The string `front` with one more character. At most 22 bytes take no memory.
 fn with_last(alloc: Global, front: &str, last: char) -> Result<BufferString, VortexError>
     ensures given { IfOk result (λ text. text ≡ front.now ++ encode_utf8 last) }
-    ensures inline { length (front.now ++ encode_utf8 last) ≤ 22 → IsOk result }
+    ensures inline { length (front.now ++ encode_utf8 last) ≤ INLINE_BYTES → IsOk result }
 {
     let mut short = ArrayString::<INLINE_BYTES>::new();
     if short.try_push_str(front).is_ok() && short.try_push(last).is_ok() {

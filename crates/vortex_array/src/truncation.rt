@@ -60,7 +60,7 @@ pub trait ScalarTruncation: Drop {
         requires { max_length ≤ length (bytes self) }
         ensures given { GivesOrNoMemory
             (λ bound. IsBestLower (bytes self) max_length (bytes bound)) result }
-        ensures inline { max_length ≤ 22 → IsOk result };
+        ensures inline { max_length ≤ INLINE_BYTES → IsOk result };
 
     /// The best upper bound at `max_length` bytes: above this value. `None` if there is none.
     ///
@@ -71,7 +71,7 @@ pub trait ScalarTruncation: Drop {
             (λ o. MatchOption o (HasNoBestUpper (bytes self) max_length)
             (λ bound. IsBestUpper (bytes self) max_length (bytes bound)))
             (λ e. e ≡ OutOfMemory) }
-        ensures inline { max_length ≤ 22 → IsOk result };
+        ensures inline { max_length ≤ INLINE_BYTES → IsOk result };
 
     /// The type at a nullability has that nullability.
     ghost type_law: { (n : Nullability) → nullability_of (type_at n) ≡ n };
@@ -243,7 +243,7 @@ impl ScalarTruncation for BufferString {
 /// The next bytes of the same length; `None` if each byte is 255. At most 22 bytes take no memory.
 fn next_bytes(alloc: Global, bytes: &[u8]) -> Result<Option<ByteBuffer>, VortexError>
     ensures given { GivesOrNoMemory (λ next. next ≡ next_string bytes.now) result }
-    ensures inline { length bytes.now ≤ 22 → IsOk result }
+    ensures inline { length bytes.now ≤ INLINE_BYTES → IsOk result }
 {
     if let Ok(mut short) = ArrayVec::<u8, INLINE_BYTES>::try_from(bytes) {
         return if increment_bytes(short.as_mut_slice()) {
@@ -264,7 +264,7 @@ fn next_bytes(alloc: Global, bytes: &[u8]) -> Result<Option<ByteBuffer>, VortexE
 /// if that is at most 22.
 fn text_prefix(text: BufferString, max_length: usize) -> Result<BufferString, VortexError>
     ensures given { GivesOrNoMemory (λ r. IsTextLower text max_length r) result }
-    ensures inline { max_length ≤ 22 → IsOk result }
+    ensures inline { max_length ≤ INLINE_BYTES → IsOk result }
 {
     let end = text.as_str().floor_char_boundary(max_length);
     text.slice(0..end)

@@ -9,6 +9,7 @@ use Rattle.vortex_c.specs.Uppers.{bytes_of}
 use Rattle.vortex_c.specs.declared.bounds.Upper.{Upper}
 use Rattle.vortex_c.specs.declared.columns.BoundLengths.{BoundLengths}
 use Rattle.vortex_c.specs.declared.status.TheConstants.{GIVEN, NO_MEMORY, NO_ROOM, NOT_UTF8}
+use Rattle.vortex_dtype.specs.declared.buffer.TheConstants.{INLINE_BYTES}
 
 -- the upper bound, and whether there is one
 shown : (upper : Option (List ℕ)) (h : Bool) → h ≡ is_some upper → some_where h (unwrap_or upper []) ≡ upper
@@ -95,7 +96,7 @@ neither status a b k f g (inr e) = λ h. g (sym e ∙ h)
 -- there is a column, but no memory, or an end that is no string: nothing is written
 pub stopped : (L U : List ℕ → ℕ → List ℕ → Type 0) (H : List ℕ → ℕ → Type 0) (bytes offsets : List ℕ) (n greatest : ℕ) (y lower_room upper_room : List ℕ) (lengths : BoundLengths) (status : ℕ)
     → (status ≡ NO_MEMORY) ⊎ (status ≡ NOT_UTF8) → IsColumn bytes offsets → IsGreatestAt bytes offsets greatest → y ≡ value_at bytes offsets greatest
-    → (n ≤ 22 → status ≢ NO_MEMORY) → (length y ≤ n → status ≢ NO_MEMORY)
+    → (n ≤ INLINE_BYTES → status ≢ NO_MEMORY) → (length y ≤ n → status ≢ NO_MEMORY)
     → AnswersColumn L U H bytes offsets n lower_room upper_room lengths status
 stopped L U H bytes offsets n greatest y lower_room upper_room lengths status stop column is_greatest ey inline whole =
     let no = λ (k : ℕ) (f : NO_MEMORY ≢ k) (g : NOT_UTF8 ≢ k). neither status NO_MEMORY NOT_UTF8 k f g stop in

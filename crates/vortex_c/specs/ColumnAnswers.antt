@@ -3,6 +3,7 @@ use Rattle.std.specs.Prelude.{◌≡◌, ◌≢◌, ℕ, ◌<◌, ◌≤◌, ◌
 use Rattle.vortex_c.specs.Columns.{AreColumnBounds, HasColumnBounds, HasValue, IsColumn, some_where}
 use Rattle.vortex_c.specs.declared.columns.BoundLengths.{BoundLengths}
 use Rattle.vortex_c.specs.declared.status.TheConstants.{GIVEN, NONE, NO_MEMORY, NO_ROOM, NOT_UTF8, BAD_OFFSETS}
+use Rattle.vortex_dtype.specs.declared.buffer.TheConstants.{INLINE_BYTES}
 
 -- what a status says of the column, of the lengths and of the rooms, as these are after the call
 pub record AnswersColumn (BestLower BestUpper : List ℕ → ℕ → List ℕ → Type 0) (HasNoUpper : List ℕ → ℕ → Type 0) (bytes offsets : List ℕ) (n : ℕ) (lower_room upper_room : List ℕ) (lengths : BoundLengths) (status : ℕ) : Type 0 where
@@ -17,7 +18,7 @@ pub record AnswersColumn (BestLower BestUpper : List ℕ → ℕ → List ℕ �
   pub refused : status ≡ BAD_OFFSETS → ¬ (IsColumn bytes offsets)
   pub column : status ≢ BAD_OFFSETS → IsColumn bytes offsets
   -- memory is asked only for more bytes than n, at an n above 22
-  pub inline : n ≤ 22 → status ≢ NO_MEMORY
+  pub inline : n ≤ INLINE_BYTES → status ≢ NO_MEMORY
   pub whole : length bytes ≤ n → status ≢ NO_MEMORY
   -- the lengths are those of the bounds, and a bound has more bytes than its room
   pub small : status ≡ NO_ROOM → (length lower_room < lengths.lower) ⊎ (length upper_room < lengths.upper)

@@ -7,7 +7,7 @@ use crate::status::{GIVEN, NO_MEMORY, NO_ROOM, NONE, NOT_UTF8};
 use std::alloc::Global;
 use std::str;
 use vortex_array::laws::{bounds_are_computed, items_are_bytes};
-use vortex_array::{BufferString, ByteBuffer, ScalarTruncation, VortexError};
+use vortex_array::{BufferString, ByteBuffer, INLINE_BYTES, ScalarTruncation, VortexError};
 
 /// The lower bound of bytes at `max_length` bytes, as how many of the first bytes it has. Takes no
 /// memory.
@@ -157,7 +157,7 @@ pub(crate) fn upper_of_bytes<'a>(
         (λ e. e ≡ OutOfMemory) }
     ensures fits { IfOk result (λ o. IfSome o (λ r. length (bytes_of r) ≤ max_length)) }
     ensures within { IfOk result (λ o. IfSome o (λ r. length (bytes_of r) ≤ length value.now)) }
-    ensures inline { max_length ≤ 22 → IsOk result }
+    ensures inline { max_length ≤ INLINE_BYTES → IsOk result }
     ensures whole { length value.now ≤ max_length → IsOk result }
 {
     if value.len() <= max_length {
@@ -183,7 +183,7 @@ pub(crate) fn upper_of_text<'a>(
     ensures fits { IfOk result (λ o. IfSome o (λ r. length (bytes_of r) ≤ max_length)) }
     ensures within { IfOk result (λ o. IfSome o (λ r. length (bytes_of r) ≤ length text.now)) }
     ensures text { IfOk result (λ o. IfSome o (λ r. IsUtf8 (bytes_of r))) }
-    ensures inline { max_length ≤ 22 → IsOk result }
+    ensures inline { max_length ≤ INLINE_BYTES → IsOk result }
     ensures whole { length text.now ≤ max_length → IsOk result }
 {
     if text.len() <= max_length {

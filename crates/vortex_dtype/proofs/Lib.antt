@@ -1,3 +1,4 @@
 pub mod HeldParts
+mod PartLaws
 pub mod NullableLaws
 pub mod PlaceLaws

@@ -5,6 +5,7 @@ use Rattle.vortex_array.specs.Truncation.{IsLowerAnswer, IsLowerOf, IsTypeOfKind
 use Rattle.vortex_dtype.specs.TypeTree.{TypeTree, nullability_of}
 use Rattle.vortex_dtype.specs.declared.error.VortexError.{VortexError}
 use Rattle.vortex_dtype.specs.declared.nullability.Nullability.{Nullability}
+use Rattle.vortex_dtype.specs.declared.buffer.TheConstants.{INLINE_BYTES}
 use Rattle.vortex_value.specs.Values.RawTree.{RawTree, absent, is_absent}
 use Rattle.vortex_value.specs.Values.Scalars.{scalar_raw, scalar_type}
 use Rattle.vortex_value.specs.declared.scalars.Scalar.{Scalar}
@@ -15,12 +16,12 @@ use Rattle.vortex_statistics.specs.declared.truncating.Side.{Side}
 use Rattle.vortex_statistics.specs.declared.truncating.Side.TheVariants.{Lower, Upper}
 
 -- a length past 22, where up to 22 the call does not fail
-past_inline : (n : ℕ) → (n ≤ 22 → ⊥) → 22 < n
-past_inline n f = by_test (nat_lt 22 n) refl
+past_inline : (n : ℕ) → (n ≤ INLINE_BYTES → ⊥) → INLINE_BYTES < n
+past_inline n f = by_test (nat_lt INLINE_BYTES n) refl
   where
-    by_test : (p : Bool) → nat_lt 22 n ≡ p → 22 < n
-    by_test true e = ltb-true 22 n e
-    by_test false e = absurd (f (ltb-false 22 n e))
+    by_test : (p : Bool) → nat_lt INLINE_BYTES n ≡ p → INLINE_BYTES < n
+    by_test true e = ltb-true INLINE_BYTES n e
+    by_test false e = absurd (f (ltb-false INLINE_BYTES n e))
 
 never_ok : (e : VortexError) → let r : Result (Option (Scalar × Bool)) VortexError = Err e in IsOk r → ⊥
 never_ok e h = false≢true h
@@ -54,10 +55,10 @@ module _ {V : Type 0} (raw : List ℕ → RawTree) (type_at : Nullability → Ty
         by_value None m i = not_absent m
         by_value (Some v) m i = i.bound
 
-    lower_refused : (e : VortexError) → IsLowerAnswer Best raw type_at bytes o n nullable (Err e) → (22 < n) × IsLongRaw raw n b
+    lower_refused : (e : VortexError) → IsLowerAnswer Best raw type_at bytes o n nullable (Err e) → (INLINE_BYTES < n) × IsLongRaw raw n b
     lower_refused e h = by_value o held h
       where
-        by_value : (p : Option V) → MatchOption p (scalar_raw b.value ≡ absent) (λ v. scalar_raw b.value ≡ raw (bytes v)) → IsLowerAnswer Best raw type_at bytes p n nullable (Err e) → (22 < n) × IsLongRaw raw n b
+        by_value : (p : Option V) → MatchOption p (scalar_raw b.value ≡ absent) (λ v. scalar_raw b.value ≡ raw (bytes v)) → IsLowerAnswer Best raw type_at bytes p n nullable (Err e) → (INLINE_BYTES < n) × IsLongRaw raw n b
         by_value None m i = absurd (not_absent m)
         by_value (Some v) m i = (past_inline n (λ k. never_ok e (i.inline k)), (bytes v, m, i.refused.1))
 
@@ -79,10 +80,10 @@ module _ {V : Type 0} (raw : List ℕ → RawTree) (type_at : Nullability → Ty
           by_value None m i = absurd (not_absent m)
           by_value (Some v) m i = (bytes v, m, i.bound)
 
-      upper_refused : (e : VortexError) → IsUpperAnswer Best HasNone raw type_at bytes o n nullable (Err e) → (22 < n) × IsLongRaw raw n b
+      upper_refused : (e : VortexError) → IsUpperAnswer Best HasNone raw type_at bytes o n nullable (Err e) → (INLINE_BYTES < n) × IsLongRaw raw n b
       upper_refused e h = by_value o held h
         where
-          by_value : (p : Option V) → MatchOption p (scalar_raw b.value ≡ absent) (λ v. scalar_raw b.value ≡ raw (bytes v)) → IsUpperAnswer Best HasNone raw type_at bytes p n nullable (Err e) → (22 < n) × IsLongRaw raw n b
+          by_value : (p : Option V) → MatchOption p (scalar_raw b.value ≡ absent) (λ v. scalar_raw b.value ≡ raw (bytes v)) → IsUpperAnswer Best HasNone raw type_at bytes p n nullable (Err e) → (INLINE_BYTES < n) × IsLongRaw raw n b
           by_value None m i = absurd (not_absent m)
           by_value (Some v) m i = (past_inline n (λ k. never_ok e (i.inline k)), (bytes v, m, i.refused.1))
 
@@ -97,6 +98,6 @@ module _ {V : Type 0} (raw : List ℕ → RawTree) (type_at : Nullability → Ty
     cut_none Lower h = absurd (lower_there Below h)
     cut_none Upper h = upper_none Above HasNone h
 
-    pub cut_refused : (side : Side) (e : VortexError) → IsBestAnswer side Below Above HasNone raw type_at bytes o n nullable (Err e) → (22 < n) × IsLongRaw raw n b
+    pub cut_refused : (side : Side) (e : VortexError) → IsBestAnswer side Below Above HasNone raw type_at bytes o n nullable (Err e) → (INLINE_BYTES < n) × IsLongRaw raw n b
     cut_refused Lower e h = lower_refused Below e h
     cut_refused Upper e h = upper_refused Above HasNone e h

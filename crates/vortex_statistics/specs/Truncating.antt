@@ -4,6 +4,7 @@ use Rattle.vortex_array.specs.Strings.{HasNoUpper, IsLower, IsUpper}
 use Rattle.vortex_array.specs.Texts.{HasNoTextUpper, IsTextLower, IsTextUpper}
 use Rattle.vortex_array.specs.Truncation.{IsLowerOf, IsUpperOf}
 use Rattle.vortex_dtype.specs.TypeTree.{TypeTree, binary_type, utf8_type}
+use Rattle.vortex_dtype.specs.declared.buffer.TheConstants.{INLINE_BYTES}
 use Rattle.vortex_value.specs.Values.RawTree.{RawTree, raw_bytes, raw_text}
 use Rattle.vortex_value.specs.Values.Scalars.{scalar_raw, scalar_type}
 use Rattle.vortex_value.specs.declared.scalars.Scalar.{Scalar}
@@ -74,7 +75,7 @@ IsLongRaw raw n b = (bs : List ℕ) × (scalar_raw b.value ≡ raw bs) × (n < l
 
 -- there is no memory for what a cut takes: no cut to 22 bytes or less takes any
 abbrev pub IsOutOfMemoryAt : ℕ → Type 0 → StatisticsError → Type 0
-IsOutOfMemoryAt n Long e = (e ≡ OutOfMemory) × (22 < n) × Long
+IsOutOfMemoryAt n Long e = (e ≡ OutOfMemory) × (INLINE_BYTES < n) × Long
 
 -- no bound that is a string, or bytes, has more than n bytes
 abbrev pub HasShortBounds : ℕ → ColumnStatistics → Type 0

@@ -3,6 +3,7 @@
 use Rattle.std.specs.Prelude.{◌≡◌, ◌≤◌, ⊤, ℕ, ℤ, pos, Option, Some, None, Result, Ok, Err, if◌then◌else◌, length, IsOk, IsOkAnd, IsErrAnd, MatchResult}
 use Rattle.vortex_dtype.specs.PTypes.{same_ptype}
 use Rattle.vortex_dtype.specs.TypeTree.{TypeTree, bool_type, integer_type, utf8_type, binary_type, list_type, fixed_size_list_type}
+use Rattle.vortex_dtype.specs.declared.buffer.TheConstants.{INLINE_BYTES}
 use Rattle.vortex_dtype.specs.declared.error.VortexError.{VortexError}
 use Rattle.vortex_dtype.specs.declared.error.VortexError.TheVariants.{OutOfMemory, WrongKind, OutOfRange, WrongPType, IsNull}
 use Rattle.vortex_dtype.specs.declared.ptype.PType.{PType}
@@ -158,10 +159,10 @@ TakesCopy given (Ok absent) r = IsOkAnd r (λ x. given x ≡ absent)
 TakesCopy given (Ok v) r = MatchResult r (λ x. given x ≡ v) (λ e. e ≡ OutOfMemory)
 TakesCopy given (Err e) r = IsErrAnd r (λ f. f ≡ e)
 
--- a string, or bytes, of at most 22 bytes
+-- a string, or bytes, that a buffer holds inline
 abbrev pub IsShort : RawTree → Type 0
-IsShort (raw_text bs) = length bs ≤ 22
-IsShort (raw_bytes bs) = length bs ≤ 22
+IsShort (raw_text bs) = length bs ≤ INLINE_BYTES
+IsShort (raw_bytes bs) = length bs ≤ INLINE_BYTES
 IsShort _ = ⊥
 
 -- what is taken is answered whatever the memory, if it is short

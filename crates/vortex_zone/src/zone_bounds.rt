@@ -7,8 +7,8 @@ use std::alloc::Global;
 use std::cmp::Ordering;
 use std::marker::Model;
 use vortex_array::{
-    BufferString, ByteBuffer, Nullability, Scalar, ScalarTruncation, VortexError, lower_bound,
-    upper_bound,
+    BufferString, ByteBuffer, INLINE_BYTES, Nullability, Scalar, ScalarTruncation, VortexError,
+    lower_bound, upper_bound,
 };
 use vortex_value::laws::{order_is_reversed, order_is_transitive};
 
@@ -57,7 +57,7 @@ impl ZoneBounds {
         ensures refused { IfSome (refusal least greatest) (λ e. result ≡ Err e) }
         ensures memory { IfNone (refusal least greatest)
             (IfErr result (λ e. (e ≡ OutOfMemory) × IsLongerThan n least greatest)) }
-        ensures inline { n ≤ 22 → IfErr result (λ e. e ≢ OutOfMemory) }
+        ensures inline { n ≤ INLINE_BYTES → IfErr result (λ e. e ≢ OutOfMemory) }
     {
         order_is_reversed();
         order_is_transitive();
@@ -121,7 +121,7 @@ fn of_kind<T: ScalarTruncation>(
     ensures bounds { IfOk result (AreBoundsOfKind T.IsBestLower T.IsBestUpper T.HasNoBestUpper
         T.raw_at (T.type_at NonNullable) least greatest n) }
     ensures refused { IfErr result (Stops T.raw_at least greatest n) }
-    ensures inline { n ≤ 22 → IfErr result (λ e. e ≢ OutOfMemory) }
+    ensures inline { n ≤ INLINE_BYTES → IfErr result (λ e. e ≢ OutOfMemory) }
 {
     let least = T::from_scalar(least)?;
     let greatest = T::from_scalar(greatest)?;

@@ -81,7 +81,7 @@ fn count_characters(text: &str) -> usize
 /// Writes the characters from this place on, as many as are shown at an end.
 fn write_shown<W: Write>(text: &str, from: usize, f: &mut Formatter<W>) -> fmt::Result
     ensures { WritesOnOk W.write_str_gives f.old result
-        (encode_utf8_all (take 5 (drop from (chars text.now)))) f.new }
+        (encode_utf8_all (take SHOWN (drop from (chars text.now)))) f.new }
 {
     for character in text.chars().skip(from).take(SHOWN) {
         f.write_char(character)?;

@@ -8,6 +8,7 @@ use Rattle.vortex_value.specs.Values.Scalars.{scalar_content}
 use Rattle.column_cells.specs.Contents.{HasTexts, IsLongContent, content_or_null, contents_of_rows}
 use Rattle.column_cells.proofs.ContentLaws.{content_got, content_shown, err_all, integer_in_range, long_bytes, long_text, null_content_got, ok_all, row_shown, text_valid}
 use Rattle.column_cells.proofs.cells.scalar_at.Goals as goal
+use Rattle.vortex_dtype.specs.declared.buffer.TheConstants.{INLINE_BYTES}
 
 pub integer_at-requires : goal.integer_at-requires
 integer_at-requires c = row_shown c.args.rows.now (Integers c.in-Integers.rows) c.args.row c.in-Integers.is c.requires.row
@@ -52,7 +53,7 @@ returns-in-Strings-clause-content c =
 pub returns-in-Strings-clause-refused : goal.returns-in-Strings-clause-refused
 returns-in-Strings-clause-refused c =
     let o : Option (List ℕ) = option_copied c.bytes_at.result in
-    err_all c.text_scalar.result (λ e. (e ≡ OutOfMemory) × IsSomeAnd o (λ bytes. 22 < length bytes)) (λ e. (e ≡ OutOfMemory) × IsSomeAnd (slice_get (contents_of_rows c.args.rows.now) c.args.row) IsLongContent)
+    err_all c.text_scalar.result (λ e. (e ≡ OutOfMemory) × IsSomeAnd o (λ bytes. INLINE_BYTES < length bytes)) (λ e. (e ≡ OutOfMemory) × IsSomeAnd (slice_get (contents_of_rows c.args.rows.now) c.args.row) IsLongContent)
     (λ e h. (
       h.0,
       subst (λ r. IsSomeAnd (slice_get (contents_of_rows r) c.args.row) IsLongContent) (sym c.in-Strings.is)
@@ -71,7 +72,7 @@ returns-in-Bytes-clause-content c =
 pub returns-in-Bytes-clause-refused : goal.returns-in-Bytes-clause-refused
 returns-in-Bytes-clause-refused c =
     let o : Option (List ℕ) = option_copied c.bytes_at-in-Bytes.result in
-    err_all c.byte_scalar.result (λ e. (e ≡ OutOfMemory) × IsSomeAnd o (λ bytes. 22 < length bytes)) (λ e. (e ≡ OutOfMemory) × IsSomeAnd (slice_get (contents_of_rows c.args.rows.now) c.args.row) IsLongContent)
+    err_all c.byte_scalar.result (λ e. (e ≡ OutOfMemory) × IsSomeAnd o (λ bytes. INLINE_BYTES < length bytes)) (λ e. (e ≡ OutOfMemory) × IsSomeAnd (slice_get (contents_of_rows c.args.rows.now) c.args.row) IsLongContent)
     (λ e h. (
       h.0,
       subst (λ r. IsSomeAnd (slice_get (contents_of_rows r) c.args.row) IsLongContent) (sym c.in-Bytes.is)

@@ -2,6 +2,7 @@ use Rattle.std.proofs.Common.{◌≤◌, length, length-take-le, subst, sym, ◌
 use Rattle.vortex_array.specs.Strings.{IsString}
 use Rattle.vortex_array.proofs.ScalarBounds.{next_is_upper}
 use Rattle.vortex_array.proofs.truncation.ByteBufferScalarTruncation.upper_bound.Goals as goal
+use Rattle.vortex_dtype.specs.declared.buffer.TheConstants.{INLINE_BYTES}
 
 pub returns : goal.returns
 returns c =
@@ -11,5 +12,5 @@ returns c =
       inline = λ m.
           let l = length-take-le c.args.max_length c.as_slice-2.result.now
           (subst (λ b. c.args.max_length ≤ length b) (sym c.as_slice-2.ensures) c.requires) in
-          c.next_bytes.ensures.inline (subst (λ k. k ≤ 22) (sym l) m);
+          c.next_bytes.ensures.inline (subst (λ k. k ≤ INLINE_BYTES) (sym l) m);
     }
