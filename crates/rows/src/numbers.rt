@@ -1,7 +1,7 @@
 //! The words of a command: a `PType`, a number, or bytes as hexadecimal digits.
 #![tactic(auto, using(crate::proofs::Names::ends, crate::proofs::Names::cuts, crate::proofs::Numerals::digits, crate::proofs::Numerals::some_size, crate::proofs::Numerals::signs, crate::proofs::Numerals::naturals, crate::proofs::Numerals::one_digit_more, crate::proofs::HexWords::sized))]
 
-ghost use Rattle.std.specs.Prelude.{◌≡◌, IfNone, IfOk, IfSome, IsOk, ◌<◌, ◌≤◌, ◌^◌, length};
+ghost use Rattle.std.specs.Prelude.{◌*◌, ◌≡◌, IfNone, IfOk, IfSome, IsOk, ◌<◌, ◌≤◌, ◌^◌, length};
 ghost use Rattle.rows.specs.Words.{FirstSays, FirstSaysNone, IsNameEnd, LeadingDigits, hex_named, natural_named, number_named, ptype_named, size_named};
 
 use hex::{FromHexError, decode, decode_to_slice};
