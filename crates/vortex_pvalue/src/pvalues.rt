@@ -92,7 +92,16 @@ impl PValue {
     pub fn is_zero(&self) -> bool
         ensures { IsTrue result ↔ (whole_of self.now ≡ pos 0) }
     {
-        self.whole() == 0
+        match self {
+            PValue::U8(n) => *n == 0,
+            PValue::U16(n) => *n == 0,
+            PValue::U32(n) => *n == 0,
+            PValue::U64(n) => *n == 0,
+            PValue::I8(n) => *n == 0,
+            PValue::I16(n) => *n == 0,
+            PValue::I32(n) => *n == 0,
+            PValue::I64(n) => *n == 0,
+        }
     }
 
     /// The value's `PType`.
@@ -311,8 +320,19 @@ impl PartialEq for PValue {
 
     ghost laws = { Prim.search (comparing, rules) };
 
+    /// Integers of one `PType`, which are the rule, are compared at their own width.
     fn eq(&self, other: &PValue) -> bool {
-        self.whole() == other.whole()
+        match (self, other) {
+            (PValue::U8(x), PValue::U8(y)) => x == y,
+            (PValue::U16(x), PValue::U16(y)) => x == y,
+            (PValue::U32(x), PValue::U32(y)) => x == y,
+            (PValue::U64(x), PValue::U64(y)) => x == y,
+            (PValue::I8(x), PValue::I8(y)) => x == y,
+            (PValue::I16(x), PValue::I16(y)) => x == y,
+            (PValue::I32(x), PValue::I32(y)) => x == y,
+            (PValue::I64(x), PValue::I64(y)) => x == y,
+            _ => self.whole() == other.whole(),
+        }
     }
 }
 
@@ -325,8 +345,19 @@ impl PartialOrd for PValue {
 
     ghost laws = { Prim.search (comparing, rules) };
 
+    /// Integers of one `PType`, which are the rule, are compared at their own width.
     fn partial_cmp(&self, other: &PValue) -> Option<Ordering> {
-        Some(self.whole().cmp(&other.whole()))
+        Some(match (self, other) {
+            (PValue::U8(x), PValue::U8(y)) => x.cmp(y),
+            (PValue::U16(x), PValue::U16(y)) => x.cmp(y),
+            (PValue::U32(x), PValue::U32(y)) => x.cmp(y),
+            (PValue::U64(x), PValue::U64(y)) => x.cmp(y),
+            (PValue::I8(x), PValue::I8(y)) => x.cmp(y),
+            (PValue::I16(x), PValue::I16(y)) => x.cmp(y),
+            (PValue::I32(x), PValue::I32(y)) => x.cmp(y),
+            (PValue::I64(x), PValue::I64(y)) => x.cmp(y),
+            _ => self.whole().cmp(&other.whole()),
+        })
     }
 }
 
