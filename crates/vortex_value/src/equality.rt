@@ -21,6 +21,7 @@ pub(crate) fn same_types(a: &DType, b: &DType) -> bool
 
 /// Whether the contents of two raw values are equal.
 #[cycle(equality)]
+#[inline(always)]
 fn equal_values(a: &ScalarValue, b: &ScalarValue) -> bool
     ensures { result ≡ equal (content (value_tree a.now)) (content (value_tree b.now)) }
 {
@@ -38,6 +39,7 @@ fn equal_values(a: &ScalarValue, b: &ScalarValue) -> bool
 
 /// Whether the contents of two optional raw values are equal: a null equals a null alone.
 #[cycle(equality)]
+#[inline(always)]
 pub(crate) fn equal_optional(a: Option<&ScalarValue>, b: Option<&ScalarValue>) -> bool
     ensures { result ≡ equal
         (content (lent_raw a.entry)) (content (lent_raw b.entry)) }
