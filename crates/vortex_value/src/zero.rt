@@ -1,8 +1,10 @@
 //! The zero and the default of a type, and whether a scalar is zero.
 #![tactic(auto, using(crate::proofs::ZeroSteps::shown))]
 
-ghost use Rattle.std.specs.Prelude.{◌≡◌, ◌&&◌, [], IfErr, IfOk, IsOk, IsSome, MatchResult, length, option_map, pos};
-ghost use Rattle.vortex_value.specs.Words.{EachFills, FillFields, Fills, FillsFirst, IsFlat, IsTheOneOf, OutOfMemory, as_type_trees, child_filling, content, contents, default_of, dtype_trees, each_zero, fields_zero, filling, fillings, first_of, int_eq, is_nullable, is_some, is_zero_of, lent_raw, of_first, of_inner, places_of, raw_of, scalar_content, scalar_type, type_of, union_tree, value_trees, variants_of, whole_of, zero_of};
+ghost use Rattle.std.specs.Prelude.{◌≡◌, ◌&&◌, [], IfErr, IfOk, IsOk, IsSome, MatchResult, false, length, option_map, pos, unwrap_or};
+ghost use Rattle.vortex_dtype.specs.declared.nullability.Nullability.{Nullability};
+ghost use Rattle.vortex_dtype.specs.declared.ptype.PType.{PType};
+ghost use Rattle.vortex_value.specs.Words.{EachFills, FillFields, Fills, FillsFirst, IsFlat, IsTheOneOf, OutOfMemory, as_type_trees, child_filling, content, contents, default_of, dtype_trees, each_zero, fields_zero, filling, fillings, first_of, int_eq, integer_type, is_nullable, is_some, is_zero_of, lent_raw, of_first, of_inner, places_of, raw_of, scalar_content, scalar_type, type_of, union_tree, value_trees, variants_of, whole_of, zero_of};
 
 use crate::scalars::{Scalar, with_type};
 use crate::storage::{first_variant, storage_of};
@@ -254,9 +256,45 @@ fn is_zero(value: Option<&ScalarValue>, dtype: &DType) -> Option<bool>
     }
 }
 
-/// Whether each element is zero. One is not, if `is_zero` says `None`.
+/// Whether each element is zero. One is not, if `is_zero` says `None`. Integers have a loop of
+/// their own.
 #[cycle(is_zero)]
 fn are_elements_zero(items: &[Option<ScalarValue>], element: &DType) -> bool
+    ensures { result ≡ each_zero (type_of element.now) (contents (value_trees items.now)) }
+{
+    match storage_of(element) {
+        DType::Primitive(_, _) => are_numbers_zero(items),
+        _ => are_parts_zero(items, element),
+    }
+}
+
+/// Whether each element of an integer type is zero: a null is not.
+fn are_numbers_zero(items: &[Option<ScalarValue>]) -> bool
+    ensures { (k : PType) (n : Nullability) → result ≡ each_zero (integer_type k n) (contents (value_trees items.now)) }
+{
+    for item in items {
+        if !is_zero_integer(item.as_ref()) {
+            return false;
+        }
+    }
+    true
+}
+
+/// Whether the value is an integer, and zero.
+#[inline(always)]
+fn is_zero_integer(value: Option<&ScalarValue>) -> bool
+    ensures { (k : PType) (n : Nullability) → result ≡
+        unwrap_or (is_zero_of (integer_type k n) (content (lent_raw value.entry))) false }
+{
+    match value {
+        Some(ScalarValue::Primitive(number)) => is_zero_number(number),
+        _ => false,
+    }
+}
+
+/// Whether each element of any type is zero.
+#[cycle(is_zero)]
+fn are_parts_zero(items: &[Option<ScalarValue>], element: &DType) -> bool
     ensures { result ≡ each_zero (type_of element.now) (contents (value_trees items.now)) }
 {
     for item in items {

@@ -7,8 +7,8 @@ use Rattle.vortex_value.specs.Zero.{each_zero, fields_zero}
 use Rattle.vortex_value.proofs.Lent.{lent_size}
 use Rattle.vortex_value.proofs.zero.+is_zero.Given as goal
 
-abbrev pub invariant-are_elements_zero-loop-item : goal.invariant-are_elements_zero-loop-item
-invariant-are_elements_zero-loop-item l =
+abbrev pub invariant-are_parts_zero-loop-item : goal.invariant-are_parts_zero-loop-item
+invariant-are_parts_zero-loop-item l =
     each_zero (type_of l.element) (contents (value_trees (drop l.item-index l.items))) ≡ each_zero (type_of l.element) (contents (value_trees l.items))
 
 abbrev pub invariant-are_fields_zero-loop-item : goal.invariant-are_fields_zero-loop-item
@@ -20,7 +20,10 @@ abbrev pub decreases-is_zero : goal.decreases-is_zero
 decreases-is_zero l = 3 * lent_size l.value + 1
 
 abbrev pub decreases-are_elements_zero : goal.decreases-are_elements_zero
-decreases-are_elements_zero l = 3 * goal.size-are_elements_zero l + 2
+decreases-are_elements_zero l = 3 * goal.size-are_elements_zero l + 3
+
+abbrev pub decreases-are_parts_zero : goal.decreases-are_parts_zero
+decreases-are_parts_zero l = 3 * goal.size-are_parts_zero l + 2
 
 abbrev pub decreases-are_fields_zero : goal.decreases-are_fields_zero
 decreases-are_fields_zero l = 3 * goal.size-are_fields_zero l + 2
