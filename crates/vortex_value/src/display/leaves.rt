@@ -1,6 +1,6 @@
 //! How truth values, strings and bytes are printed, and what stands between parts.
 
-ghost use Rattle.std.specs.Prelude.{◌≡◌, ◌++◌, codes, drop, length, map, take};
+ghost use Rattle.std.specs.Prelude.{◌≡◌, ◌++◌, IsTrue, codes, drop, encode_utf8, length, map, take};
 ghost use Rattle.vortex_value.specs.Words.{WritesOnOk, before_at, chars, encode_utf8_all, escaped, escaped_char, flat_map, hexadecimal, in_quotes, joined, null_text, shortened, truth_text, two_digits};
 
 use std::fmt::{self, Formatter, Write};
@@ -129,11 +129,36 @@ fn write_escaped_character<W: Write>(character: char, f: &mut Formatter<W>) -> f
     }
 }
 
-/// Writes the characters, each by the escape table.
+/// Whether the character stands for itself in quotes.
+#[inline(always)]
+#[tactic(auto, unfolding(crate::specs::Texts::escaped_char))]
+fn is_kept(character: char) -> bool
+    ensures { IsTrue result → escaped_char character ≡ encode_utf8 character }
+{
+    !matches!(character, '\0'..' ' | '"' | '\\' | '\x7f')
+}
+
+/// Whether each character stands for itself in quotes.
+fn are_kept(text: &str) -> bool
+    ensures { IsTrue result → flat_map escaped_char (chars text.now) ≡ text.now }
+{
+    for character in text.chars() {
+        if !is_kept(character) {
+            return false;
+        }
+    }
+    true
+}
+
+/// Writes the characters, each by the escape table. Mostly nothing is escaped, and they are written
+/// at once.
 fn write_characters<W: Write>(text: &str, f: &mut Formatter<W>) -> fmt::Result
     ensures { WritesOnOk W.write_str_gives f.old result
         (flat_map escaped_char (chars text.now)) f.new }
 {
+    if are_kept(text) {
+        return f.write_str(text);
+    }
     for character in text.chars() {
         write_escaped_character(character, f)?;
     }
