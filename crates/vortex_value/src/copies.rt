@@ -243,7 +243,7 @@ fn copy_child(
 /// A copy of the value in a box, with a function for each variant of a value, as in `push_copy`.
 #[cycle(copies)]
 #[inline(always)]
-fn box_copy(alloc: Global, value: &ScalarValue) -> Result<Box<ScalarValue>, AllocError>
+pub(crate) fn box_copy(alloc: Global, value: &ScalarValue) -> Result<Box<ScalarValue>, AllocError>
     ensures { IfOk result (λ copy. value_tree copy.value ≡ value_tree value.now) }
 {
     match value {
@@ -259,7 +259,7 @@ fn box_copy(alloc: Global, value: &ScalarValue) -> Result<Box<ScalarValue>, Allo
 
 /// The value in a box.
 #[inline(always)]
-fn new_box<T: Drop>(alloc: Global, value: T) -> Result<Box<T>, AllocError>
+pub(crate) fn new_box<T: Drop>(alloc: Global, value: T) -> Result<Box<T>, AllocError>
     ensures { IfOk result (λ made. made.value ≡ value) }
 {
     Ok(Box::new(alloc, value)?)

@@ -58,16 +58,54 @@ pub(super) fn cast_leaf(
 }
 
 /// The value of a union with this id and child.
-pub(super) fn union_of(
-    alloc: Global,
-    type_id: u8,
-    child: Option<ScalarValue>,
-) -> Result<UnionValue, Refusal>
+pub(super) fn union_of(type_id: u8, child: Option<Box<ScalarValue>>) -> UnionValue
+    ensures { union_tree result ≡ raw_union type_id (raw_of (option_map (λ b. b.value) child)) }
+{
+    UnionValue { type_id, child }
+}
+
+/// The value in a box.
+#[inline(always)]
+pub(super) fn box_value(alloc: Global, value: ScalarValue) -> Result<Box<ScalarValue>, Refusal>
     ensures { MatchResult result
-        (λ made. union_tree made ≡ raw_union type_id (raw_of child))
+        (λ made. value_tree made.value ≡ value_tree value)
         (λ e. e ≡ NoMemory) }
 {
-    UnionValue::new(alloc, type_id, child).map_err(|_| Refusal::NoMemory)
+    Ok(copies::new_box(alloc, value)?)
+}
+
+/// The number as a raw value of the target, in a box.
+#[inline(never)]
+pub(super) fn box_number(
+    alloc: Global,
+    number: &PValue,
+    target: &DType,
+) -> Result<Box<ScalarValue>, Refusal>
+    ensures made { Makes (λ b. value_tree b.value) (number_to (whole_of number.now) (type_of target.now)) result }
+    ensures whole { OutOfMemoryOnlyIfMakeable
+        (number_to (whole_of number.now) (type_of target.now)) result }
+{
+    let number = number_in(number, target).ok_or(Refusal::Impossible)?;
+    box_value(alloc, ScalarValue::Primitive(number))
+}
+
+/// A copy of a value without parts in a box, if the cast keeps it as it is.
+#[inline(never)]
+pub(super) fn box_leaf(
+    alloc: Global,
+    value: &ScalarValue,
+    source: &DType,
+    target: &DType,
+) -> Result<Box<ScalarValue>, Refusal>
+    ensures made { Makes (λ b. value_tree b.value) (leaf_to (value_tree value.now)
+        (type_of source.now) (type_of target.now)) result }
+    ensures whole { OutOfMemoryOnlyIfMakeable (leaf_to (value_tree value.now)
+        (type_of source.now) (type_of target.now)) result }
+{
+    if !keeps_its_kind(value, source, target) {
+        return Err(Refusal::Impossible);
+    }
+    Ok(copies::box_copy(alloc, value)?)
 }
 
 /// The number as the target's `PType`, if the target is an integer type that has it.

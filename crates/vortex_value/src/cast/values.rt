@@ -7,12 +7,14 @@
 //! times as many, structs 1.7, maps and unions 1.4. If each value were written to a place that the
 //! caller lends, it would be 1.8, 1.3, 1.3, 1.2 and 1.06 times.
 
+ghost use Rattle.std.specs.Prelude.{option_map};
 ghost use Rattle.vortex_value.specs.Words.{Appends, IsBareTarget, Makes, MakesParts, LeafOutOfMemoryOnlyIfMakeable, FlatNeverOutOfMemory, WholeOutOfMemoryOnlyIfMakeable, bare_to, cast_to, count, dtype_trees, each_to, entries_to, entry_to, fields_to, lent_raw, map_of, map_to, option_copied, parts_to, raw_of, raw_tuple, sized, type_of, union_tree, value_tree, value_trees};
 
 use super::refusals::Refusal;
 use super::rules::{are_as_many, bare_target, takes_null, types_with, would_claim_sorted};
 use super::steps::{
-    cast_leaf, cast_number, push, push_leaf, push_number, union_of, unwrap_extension,
+    box_leaf, box_number, box_value, cast_leaf, cast_number, push, push_leaf, push_number,
+    union_of, unwrap_extension,
 };
 use crate::storage::storage_of;
 use crate::unions::UnionValue;
@@ -221,10 +223,52 @@ fn cast_union(
 {
     match types_with(source, target, union.type_id) {
         Some((from, to)) => {
-            let child = cast_value(alloc, union.child.as_deref(), from, to)?;
-            union_of(alloc, union.type_id, child)
+            let child = cast_child(alloc, union.child.as_deref(), from, to)?;
+            Ok(union_of(union.type_id, child))
         }
         None => Err(Refusal::Impossible),
+    }
+}
+
+/// The child of a union in a box of its own, cast between two types.
+#[cycle(cast)]
+#[inline(always)]
+fn cast_child(
+    alloc: Global,
+    child: Option<&ScalarValue>,
+    source: &DType,
+    target: &DType,
+) -> Result<Option<Box<ScalarValue>>, Refusal>
+    ensures made { Makes (λ c. raw_of (option_map (λ b. b.value) c)) (cast_to (lent_raw child.entry)
+        (type_of source.now) (type_of target.now)) result }
+    ensures whole { WholeOutOfMemoryOnlyIfMakeable (lent_raw child.entry)
+        (type_of source.now) (type_of target.now) result }
+{
+    match child {
+        Some(child) => Ok(Some(box_cast(alloc, child, source, target)?)),
+        None if takes_null(source, target) => Ok(None),
+        None => Err(Refusal::Impossible),
+    }
+}
+
+/// A value that is present, cast into a box of its own. Numbers and strings are made in the box, and
+/// not moved there.
+#[cycle(cast)]
+fn box_cast(
+    alloc: Global,
+    value: &ScalarValue,
+    source: &DType,
+    target: &DType,
+) -> Result<Box<ScalarValue>, Refusal>
+    ensures made { Makes (λ b. value_tree b.value) (cast_to (value_tree value.now)
+        (type_of source.now) (type_of target.now)) result }
+    ensures whole { WholeOutOfMemoryOnlyIfMakeable (value_tree value.now)
+        (type_of source.now) (type_of target.now) result }
+{
+    match (value, bare_target(source, target)) {
+        (ScalarValue::Primitive(number), Some(stored)) => box_number(alloc, number, stored),
+        (ScalarValue::Utf8(_), Some(stored)) => box_leaf(alloc, value, source, stored),
+        _ => box_value(alloc, cast_present(alloc, value, source, target)?),
     }
 }
 

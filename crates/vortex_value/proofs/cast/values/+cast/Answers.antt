@@ -1,16 +1,19 @@
 -- What is made of a part is a part of what is made, and a part that is refused refuses the whole.
-use Rattle.std.proofs.Common.{◌≡◌, Some, Err, inl, inr, length, option_map, refl, sym, ap, ◌∙◌, add-one, arith, rules}
+use Rattle.std.proofs.Common.{◌≡◌, ℕ, List, Some, Err, inl, inr, length, option_map, refl, sym, ap, ◌∙◌, add-one, arith, rules}
 use Rattle.std.proofs.Math.ListN.{drop_of_length-le}
 use Rattle.std.specs.Option.{option_copied}
 use Rattle.vortex_dtype.specs.TypeOf.{map_of, type_of}
 use Rattle.vortex_dtype.specs.declared.types.DType.{the_lemmas}
+use Rattle.vortex_dtype.specs.TypeTree.{TypeTree}
+use Rattle.vortex_pvalue.specs.Whole.{ptype_of, whole_of}
+use Rattle.vortex_pvalue.specs.declared.pvalues.PValue.{PValue}
 use Rattle.vortex_value.specs.Casts.{IsExtension}
-use Rattle.vortex_value.specs.Steps.CastSteps.{IsBareTarget, each_to, entries_to, types_with}
-use Rattle.vortex_value.specs.Values.RawOf.{raw_of, value_trees, value_tree}
-use Rattle.vortex_value.specs.Values.RawTree.{raw_union}
-use Rattle.vortex_value.proofs.CastCode.{all_done, appended, cast_below, entry_at, fields_at, fields_end, flat_storage, made_union, no_entry, no_fields, no_value, none_more, pair_added, parts_at, passed_on, union_at, leaf_child, leaf_of, refused_as, some_union, spares_some, one_added, passed_up}
+use Rattle.vortex_value.specs.Steps.CastSteps.{IsBareTarget, bare_to, cast_to, each_to, entries_to, leaf_to, number_to, types_with}
+use Rattle.vortex_value.specs.Values.RawOf.{value_trees, value_tree}
+use Rattle.vortex_value.specs.Values.RawTree.{raw_integer, raw_text, raw_union}
+use Rattle.vortex_value.proofs.CastCode.{all_done, appended, cast_below, entry_at, fields_at, fields_end, flat_storage, no_entry, no_fields, no_value, none_more, pair_added, parts_at, passed_on, union_at, leaf_child, leaf_of, refused_as, some_union, one_added, passed_up}
 use Rattle.vortex_value.specs.Values.Content.{content}
-use Rattle.vortex_value.specs.declared.values.ScalarValue.{Tuple}
+use Rattle.vortex_value.specs.declared.values.ScalarValue.{ScalarValue, Primitive, Tuple, Utf8, the_lemmas as value_lemmas}
 use Rattle.vortex_value.proofs.ValueSteps.{value_tree-Tuple}
 use Rattle.vortex_value.proofs.cast.values.+cast.Goals as goal
 
@@ -150,7 +153,7 @@ cast_union-returns-in_ok-child-in-Some-clause-made t c =
     let found : types_with u.type_id (type_of c.args.source.now) (type_of c.args.target.now) ≡ Some (from, to) = search rules in
     let at = union_at u (type_of c.args.source.now) (type_of c.args.target.now) from to found in
     let child = rw lent at c.in_ok-child-in-Some.ensures.made in
-    made_union _ u.type_id (raw_of c.in_ok-child-in-Some.child) c.union_of.result c.union_of.ensures (at ∙ ap (option_map (raw_union u.type_id)) child)
+    at ∙ ap (option_map (raw_union u.type_id)) child ∙ ap Some (sym c.union_of.ensures)
 
 pub cast_union-returns-in_err-child-in-Some-clause-whole : goal.cast_union-returns-in_err-child-in-Some-clause-whole
 cast_union-returns-in_err-child-in-Some-clause-whole t c = λ leaf.
@@ -164,16 +167,46 @@ cast_union-returns-in_err-child-in-Some-clause-whole t c = λ leaf.
     let whole = rw lent at c.in_err-child-in-Some.ensures.whole in
     refused_as _ _ _ is (λ memory. some_union u.type_id _ _ at (whole (inr (leaf_child u leaf)) memory))
 
-pub cast_union-returns-in_ok-child-in-Some-clause-whole : goal.cast_union-returns-in_ok-child-in-Some-clause-whole
-cast_union-returns-in_ok-child-in-Some-clause-whole t c = λ leaf.
-    let u = c.args.union.now in
-    let from = type_of c.in-Some.from.now in
-    let to = type_of c.in-Some.to.now in
-    let lent : option_copied c.as_deref.result ≡ option_map (λ b. b.value) u.child = search rules in
-    let found : types_with u.type_id (type_of c.args.source.now) (type_of c.args.target.now) ≡ Some (from, to) = search rules in
-    let at = union_at u (type_of c.args.source.now) (type_of c.args.target.now) from to found in
-    let child = rw lent at c.in_ok-child-in-Some.ensures.made in
-    spares_some _ _ c.union_of.result (at ∙ ap (option_map (raw_union u.type_id)) child)
+number_tree : (v : ScalarValue) (n : PValue) → v ≡ Primitive n → value_tree v ≡ raw_integer (ptype_of n) (whole_of n)
+number_tree v n is = rw is (search (rules, value_lemmas))
+
+number_cast : (v : ScalarValue) (n : PValue) (s t : TypeTree) → v ≡ Primitive n → bare_to (value_tree v) s t ≡ number_to (whole_of n) t
+number_cast v n s t is = rw (number_tree v n is) refl
+
+text_tree : (v : ScalarValue) (text : List ℕ) → v ≡ Utf8 text → value_tree v ≡ raw_text text
+text_tree v text is = rw is (search (rules, value_lemmas))
+
+text_cast : (v : ScalarValue) (text : List ℕ) (s t : TypeTree) → v ≡ Utf8 text → bare_to (value_tree v) s t ≡ leaf_to (value_tree v) s t
+text_cast v text s t is = rw (text_tree v text is) refl
+
+pub box_cast-returns-in-Primitive-Some : goal.box_cast-returns-in-Primitive-Some
+box_cast-returns-in-Primitive-Some t c =
+    let v = c.args.value.now in
+    let n = c.in-Primitive-Some.number in
+    let s = type_of c.args.source.now in
+    let u = type_of c.args.target.now in
+    let stored = type_of c.in-Primitive-Some.stored.now in
+    let bare : IsBareTarget s u (Some c.in-Primitive-Some.stored.now) = rw c.in-Primitive-Some.is-1 at c.bare_target.ensures in
+    let same : cast_to (value_tree v) s u ≡ number_to (whole_of n) stored
+    = cast_below v s u bare.0 ∙ rw (← bare.1) (number_cast v n s stored c.in-Primitive-Some.is-0) in
+    record {
+      made = rw same c.box_number.ensures.made;
+      whole = λ taken. rw same c.box_number.ensures.whole;
+    }
+
+pub box_cast-returns-in-Utf8-Some : goal.box_cast-returns-in-Utf8-Some
+box_cast-returns-in-Utf8-Some t c =
+    let v = c.args.value.now in
+    let s = type_of c.args.source.now in
+    let u = type_of c.args.target.now in
+    let stored = type_of c.in-Utf8-Some.stored.now in
+    let bare : IsBareTarget s u (Some c.in-Utf8-Some.stored.now) = rw c.in-Utf8-Some.is-1 at c.bare_target.ensures in
+    let same : cast_to (value_tree v) s u ≡ leaf_to (value_tree v) s stored
+    = cast_below v s u bare.0 ∙ rw (← bare.1) (text_cast v c.in-Utf8-Some.field-0-0 s stored c.in-Utf8-Some.is-0) in
+    record {
+      made = rw same c.box_leaf.ensures.made;
+      whole = λ taken. rw same c.box_leaf.ensures.whole;
+    }
 
 -- below the extensions of the target
 
