@@ -12,7 +12,7 @@ use Rattle.vortex_filter.specs.declared.sql.token.Placed.{Placed}
 use Rattle.vortex_filter.specs.Columns.{ColumnTree}
 use Rattle.vortex_filter.specs.Faults.{IsPlaced}
 use Rattle.vortex_filter.specs.Formula.{Formula, formula}
-use Rattle.vortex_filter.specs.Parsing.{AllOrdered, types_of, IsSql, IsNoSql, IsReadable, ReadsAs, RefusesSql, depth, nesting, tokens_in}
+use Rattle.vortex_filter.specs.Parsing.{AllOrdered, types_of, IsSqlWithin, IsNoSqlWithin, IsReadable, ReadsAs, RefusesSqlWithin, depth, tokens_in}
 use Rattle.vortex_filter.specs.Printing.{tokens_of}
 use Rattle.vortex_filter.specs.declared.filter.Filter.{Filter}
 use Rattle.vortex_filter.specs.Reading.{Fails, IsFaultAt, IsFaultIn, caused, filter_at}
@@ -47,15 +47,15 @@ pub fault_in : {Y : Type 0} (end : ℕ) (fault : Fault) (e : ParseError) (read :
 fault_in end faults.NoMemory e read at none = subst (λ (e : ParseError). IsFaultIn end read e) (sym at) tt
 fault_in end (faults.At left cause) e read at none = subst (λ (e : ParseError). IsFaultIn end read e) (sym at.2) (caused_in end at.0 cause read at.1 none)
 
-module _ (columns : List ColumnTree) (text : List ℕ) (ps : List Placed) (are : AreItemsOf text (items ps)) where
+module _ (n : ℕ) (columns : List ColumnTree) (text : List ℕ) (ps : List Placed) (are : AreItemsOf text (items ps)) where
   -- a filter that is read of the tokens is the text's
-  pub is_sql : (f : Formula) → filter_at columns nesting (trees ps) ≡ Some f → IsSql columns text f
-  is_sql f e = record { items = items ps; are = are; means = filter_is columns nesting (tokens_in (items ps)) f (sym (ap (filter_at columns nesting) (tokens_are ps)) ∙ e) }
+  pub is_sql : (f : Formula) → filter_at columns n (trees ps) ≡ Some f → IsSqlWithin n columns text f
+  is_sql f e = record { items = items ps; are = are; means = filter_is columns n (tokens_in (items ps)) f (sym (ap (filter_at columns n) (tokens_are ps)) ∙ e) }
 
-  is_no_sql : filter_at columns nesting (trees ps) ≡ None → IsNoSql columns text
-  is_no_sql e = record { items = items ps; are = are; none = no_filter columns nesting (tokens_in (items ps)) (sym (ap (filter_at columns nesting) (tokens_are ps)) ∙ e) }
+  is_no_sql : filter_at columns n (trees ps) ≡ None → IsNoSqlWithin n columns text
+  is_no_sql e = record { items = items ps; are = are; none = no_filter columns n (tokens_in (items ps)) (sym (ap (filter_at columns n) (tokens_are ps)) ∙ e) }
 
-  pub refuses : (end : ℕ) (e : ParseError) → IsFaultIn end (filter_at columns nesting (trees ps)) e → RefusesSql columns text e
+  pub refuses : (end : ℕ) (e : ParseError) → IsFaultIn end (filter_at columns n (trees ps)) e → RefusesSqlWithin n columns text e
   refuses end errors.OutOfMemory h = tt
   refuses end (errors.Expected place expected) h = is_no_sql h.0
   refuses end (errors.NoColumn place) h = is_no_sql h.0
@@ -66,15 +66,15 @@ module _ (columns : List ColumnTree) (text : List ℕ) (ps : List Placed) (are :
   refuses end (errors.BadText place) h = absurd h
 
 -- what the lexer refuses
-pub lexer_refuses : (columns : List ColumnTree) (text : List ℕ) (e : ParseError) → IsRefusal text e → RefusesSql columns text e
-lexer_refuses columns text errors.OutOfMemory h = tt
-lexer_refuses columns text (errors.BadText place) h = h
-lexer_refuses columns text (errors.NumberTooLong place) h = h
-lexer_refuses columns text (errors.Expected place expected) h = absurd h
-lexer_refuses columns text (errors.NoColumn place) h = absurd h
-lexer_refuses columns text (errors.TypesDiffer place) h = absurd h
-lexer_refuses columns text (errors.NoLiteral place) h = absurd h
-lexer_refuses columns text (errors.TooDeep place) h = absurd h
+pub lexer_refuses : (n : ℕ) (columns : List ColumnTree) (text : List ℕ) (e : ParseError) → IsRefusal text e → RefusesSqlWithin n columns text e
+lexer_refuses n columns text errors.OutOfMemory h = tt
+lexer_refuses n columns text (errors.BadText place) h = h
+lexer_refuses n columns text (errors.NumberTooLong place) h = h
+lexer_refuses n columns text (errors.Expected place expected) h = absurd h
+lexer_refuses n columns text (errors.NoColumn place) h = absurd h
+lexer_refuses n columns text (errors.TypesDiffer place) h = absurd h
+lexer_refuses n columns text (errors.NoLiteral place) h = absurd h
+lexer_refuses n columns text (errors.TooDeep place) h = absurd h
 
 pub is_placed : {Y : Type 0} (end : ℕ) (read : Option Y) (e : ParseError) → IsFaultIn end read e → IsPlaced end e
 is_placed end read errors.OutOfMemory h = tt
@@ -99,39 +99,39 @@ only_memory end read f (errors.BadText place) is h = absurd h
 
 -- ---- results
 
-module _ (columns : List ColumnTree) (text : List ℕ) (ps : List Placed) (result : Result Filter ParseError) where
+module _ (n : ℕ) (columns : List ColumnTree) (text : List ℕ) (ps : List Placed) (result : Result Filter ParseError) where
   -- a filter that was read of the tokens, or what was refused of them
   abbrev Given : Type 0
-  Given = IfOk result (λ filter. filter_at columns nesting (trees ps) ≡ Some (formula filter))
+  Given = IfOk result (λ filter. filter_at columns n (trees ps) ≡ Some (formula filter))
 
   abbrev Refused : Type 0
-  Refused = IfErr result (IsFaultIn (length text) (filter_at columns nesting (trees ps)))
+  Refused = IfErr result (IsFaultIn (length text) (filter_at columns n (trees ps)))
 
-pub result_is_sql : (columns : List ColumnTree) (text : List ℕ) (ps : List Placed) → AreItemsOf text (items ps) → (result : Result Filter ParseError) → Given columns text ps result → IfOk result (λ filter. IsSql columns text (formula filter))
-result_is_sql columns text ps are (Ok filter) given = is_sql columns text ps are (formula filter) given
-result_is_sql columns text ps are (Err e) given = tt
+pub result_is_sql : (n : ℕ) (columns : List ColumnTree) (text : List ℕ) (ps : List Placed) → AreItemsOf text (items ps) → (result : Result Filter ParseError) → Given n columns text ps result → IfOk result (λ filter. IsSqlWithin n columns text (formula filter))
+result_is_sql n columns text ps are (Ok filter) given = is_sql n columns text ps are (formula filter) given
+result_is_sql n columns text ps are (Err e) given = tt
 
-pub result_refuses : (columns : List ColumnTree) (text : List ℕ) (ps : List Placed) → AreItemsOf text (items ps) → (result : Result Filter ParseError) → Refused columns text ps result → IfErr result (RefusesSql columns text)
-result_refuses columns text ps are (Ok filter) refused = tt
-result_refuses columns text ps are (Err e) refused = refuses columns text ps are (length text) e refused
+pub result_refuses : (n : ℕ) (columns : List ColumnTree) (text : List ℕ) (ps : List Placed) → AreItemsOf text (items ps) → (result : Result Filter ParseError) → Refused n columns text ps result → IfErr result (RefusesSqlWithin n columns text)
+result_refuses n columns text ps are (Ok filter) refused = tt
+result_refuses n columns text ps are (Err e) refused = refuses n columns text ps are (length text) e refused
 
-pub result_is_placed : (columns : List ColumnTree) (text : List ℕ) (ps : List Placed) (result : Result Filter ParseError) → Refused columns text ps result → IfErr result (IsPlaced (length text))
-result_is_placed columns text ps (Ok filter) refused = tt
-result_is_placed columns text ps (Err e) refused = is_placed (length text) (filter_at columns nesting (trees ps)) e refused
+pub result_is_placed : (n : ℕ) (columns : List ColumnTree) (text : List ℕ) (ps : List Placed) (result : Result Filter ParseError) → Refused n columns text ps result → IfErr result (IsPlaced (length text))
+result_is_placed n columns text ps (Ok filter) refused = tt
+result_is_placed n columns text ps (Err e) refused = is_placed (length text) (filter_at columns n (trees ps)) e refused
 
 same_some : (f g : Formula) (o : Option Formula) → o ≡ Some f → o ≡ Some g → f ≡ g
 same_some f g o a b = let both : Some f ≡ Some g = sym a ∙ b in cc
 
-read_back : (columns : List ColumnTree) (text : List ℕ) (ps : List Placed) (f : Formula) → filter_at columns nesting (trees ps) ≡ Some f → (result : Result Filter ParseError) → Given columns text ps result → Refused columns text ps result → ReadsAs f result
-read_back columns text ps f read (Ok filter) given refused = same_some (formula filter) f (filter_at columns nesting (trees ps)) given read
-read_back columns text ps f read (Err e) given refused = only_memory (length text) (filter_at columns nesting (trees ps)) f e read refused
+read_back : (n : ℕ) (columns : List ColumnTree) (text : List ℕ) (ps : List Placed) (f : Formula) → filter_at columns n (trees ps) ≡ Some f → (result : Result Filter ParseError) → Given n columns text ps result → Refused n columns text ps result → ReadsAs f result
+read_back n columns text ps f read (Ok filter) given refused = same_some (formula filter) f (filter_at columns n (trees ps)) given read
+read_back n columns text ps f read (Err e) given refused = only_memory (length text) (filter_at columns n (trees ps)) f e read refused
 
 -- what is printed is read again
-pub result_reads_back : (columns : List ColumnTree) (names : List (List ℕ)) (text : List ℕ) (ps : List Placed) (f : Formula) → IsReadable columns names f → depth f ≤ 256 → trees ps ≡ tokens_of names f → (result : Result Filter ParseError) → Given columns text ps result → Refused columns text ps result → ReadsAs f result
-result_reads_back columns names text ps f readable deep are result given refused =
-    read_back columns text ps f (ap (filter_at columns nesting) are ∙ filter_read columns nesting (tokens_of names f) f (text_means columns names f readable deep)) result given refused
+pub result_reads_back : (n : ℕ) (columns : List ColumnTree) (names : List (List ℕ)) (text : List ℕ) (ps : List Placed) (f : Formula) → IsReadable columns names f → depth f ≤ n → trees ps ≡ tokens_of names f → (result : Result Filter ParseError) → Given n columns text ps result → Refused n columns text ps result → ReadsAs f result
+result_reads_back n columns names text ps f readable deep are result given refused =
+    read_back n columns text ps f (ap (filter_at columns n) are ∙ filter_read columns n (tokens_of names f) f (text_means columns names f n readable deep)) result given refused
 
 -- what is read fits the columns, where their types have no variants
-pub result_fits : (columns : List ColumnTree) (text : List ℕ) (ps : List Placed) → AllOrdered columns → (result : Result Filter ParseError) → Given columns text ps result → IfOk result (λ filter. FitsColumns (types_of columns) (formula filter))
-result_fits columns text ps ordered (Ok filter) given = filter_fits columns ordered (filter_is columns nesting (trees ps) (formula filter) given)
-result_fits columns text ps ordered (Err e) given = tt
+pub result_fits : (n : ℕ) (columns : List ColumnTree) (text : List ℕ) (ps : List Placed) → AllOrdered columns → (result : Result Filter ParseError) → Given n columns text ps result → IfOk result (λ filter. FitsColumns (types_of columns) (formula filter))
+result_fits n columns text ps ordered (Ok filter) given = filter_fits columns ordered (filter_is columns n (trees ps) (formula filter) given)
+result_fits n columns text ps ordered (Err e) given = tt

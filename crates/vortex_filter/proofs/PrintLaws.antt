@@ -21,7 +21,7 @@ use Rattle.vortex_filter.specs.Columns.{ColumnTree, column_named}
 use Rattle.vortex_filter.specs.Formula.{Formula, constant, comparison, null_test, membership, range, prefix_test, both, either, negation}
 use Rattle.vortex_filter.specs.Grammar.{AreLiterals, one_literal, more_literals, IsTest, in_nothing, in_literals, between_literals, like_pattern, like_escaped, IsCondition, compares, is_null, is_not_null, bare_test, not_test, IsPredicate, says_true, says_false, says_null, on_column, prefix_call, IsFilter, predicate, group, not_filter, one_operand, and_filter, one_conjunction, or_filter}
 use Rattle.vortex_filter.specs.Literals.{LiteralTree, exactly, literal_of, cells_of, member_of, null_cell, truth_cell, number_cell, text_cell, bytes_cell, holds_strings, pattern_prefix, with_byte, is_wildcard}
-use Rattle.vortex_filter.specs.Parsing.{IsValueLiteral, IsLiteral, IsFound, IsReadable, depth, depth_at, nesting}
+use Rattle.vortex_filter.specs.Parsing.{IsValueLiteral, IsLiteral, IsFound, IsReadable, depth, depth_at}
 use Rattle.vortex_filter.specs.Printing.{column_name, column_token, literal_token, literal_tokens, is_special, escaped_byte, prefix_pattern, escape_tokens, prefix_tokens, tokens_at, tokens_of}
 use Rattle.vortex_filter.specs.Tokens.{TokenTree, IsToken, AreTokens, keyword_token, string_token, opening, closing, comma}
 use Rattle.vortex_filter.proofs.TestSteps.{step_escape, step_plain}
@@ -336,8 +336,8 @@ module _ (columns : List ColumnTree) (names : List (List ℕ)) where
   printed (negation (either f g)) r l n h = negation_printed (either f g) (printed (either f g) r) l n h
   printed (negation (negation f)) r l n h = negation_printed (negation f) (printed (negation f) r) l n h
 
-  pub text_means : (f : Formula) → IsReadable columns names f → depth f ≤ 256 → IsFilter columns levels.Or nesting (tokens_of names f) f
-  text_means f r h = (printed f r levels.Or nesting h).means
+  pub text_means : (f : Formula) (n : ℕ) → IsReadable columns names f → depth f ≤ n → IsFilter columns levels.Or n (tokens_of names f) f
+  text_means f n r h = (printed f r levels.Or n h).means
 
-  pub text_tokens : (f : Formula) → IsReadable columns names f → depth f ≤ 256 → AreTokens (tokens_of names f)
-  text_tokens f r h = (printed f r levels.Or nesting h).tokens
+  pub text_tokens : (f : Formula) (n : ℕ) → IsReadable columns names f → depth f ≤ n → AreTokens (tokens_of names f)
+  text_tokens f n r h = (printed f r levels.Or n h).tokens

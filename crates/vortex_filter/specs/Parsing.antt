@@ -19,31 +19,39 @@ use Rattle.vortex_filter.specs.Printing.{column_name, groups_and, groups_or}
 use Rattle.vortex_filter.specs.Texts.{Item, AreItemsOf, IsRefusal}
 use Rattle.vortex_filter.specs.Tokens.{TokenTree}
 
--- how many connectives and parentheses may nest in a text
+-- how many connectives and parentheses may nest in a text, if nobody says
 abbrev pub nesting : ℕ
 nesting = 256
 
 abbrev pub tokens_in : List Item → List TokenTree
 tokens_in items = map (λ (i : Item). i.token) items
 
+-- the text is a filter with this formula, in which at most so many connectives and parentheses nest
+pub record IsSqlWithin (room : ℕ) (columns : List ColumnTree) (sql : List ℕ) (f : Formula) : Type 0 where
+  pub items : List Item
+  pub are : AreItemsOf sql items
+  pub means : IsFilter columns levels.Or room (tokens_in items) f
+
+-- the tokens of the text are no filter in which at most so many nest
+pub record IsNoSqlWithin (room : ℕ) (columns : List ColumnTree) (sql : List ℕ) : Type 0 where
+  pub items : List Item
+  pub are : AreItemsOf sql items
+  pub none : (f : Formula) → IsFilter columns levels.Or room (tokens_in items) f → ⊥
+
+-- when a text in which so many may nest is refused so: memory ran out, or no token begins at a place, or its tokens are no filter
+abbrev pub RefusesSqlWithin : ℕ → List ColumnTree → List ℕ → ParseError → Type 0
+RefusesSqlWithin room columns sql errors.OutOfMemory = Unit {0}
+RefusesSqlWithin room columns sql (errors.BadText place) = IsRefusal sql (errors.BadText place)
+RefusesSqlWithin room columns sql (errors.NumberTooLong place) = IsRefusal sql (errors.NumberTooLong place)
+RefusesSqlWithin room columns sql _ = IsNoSqlWithin room columns sql
+
 -- the text is a filter with this formula
-pub record IsSql (columns : List ColumnTree) (sql : List ℕ) (f : Formula) : Type 0 where
-  pub items : List Item
-  pub are : AreItemsOf sql items
-  pub means : IsFilter columns levels.Or nesting (tokens_in items) f
+abbrev pub IsSql : List ColumnTree → List ℕ → Formula → Type 0
+IsSql = IsSqlWithin nesting
 
--- the tokens of the text are no filter
-pub record IsNoSql (columns : List ColumnTree) (sql : List ℕ) : Type 0 where
-  pub items : List Item
-  pub are : AreItemsOf sql items
-  pub none : (f : Formula) → IsFilter columns levels.Or nesting (tokens_in items) f → ⊥
-
--- when a text is refused so: memory ran out, or no token begins at a place, or its tokens are no filter
+-- when a text is refused so
 abbrev pub RefusesSql : List ColumnTree → List ℕ → ParseError → Type 0
-RefusesSql columns sql errors.OutOfMemory = Unit {0}
-RefusesSql columns sql (errors.BadText place) = IsRefusal sql (errors.BadText place)
-RefusesSql columns sql (errors.NumberTooLong place) = IsRefusal sql (errors.NumberTooLong place)
-RefusesSql columns sql _ = IsNoSql columns sql
+RefusesSql = RefusesSqlWithin nesting
 
 -- the filter with this formula, unless memory ran out
 abbrev pub ReadsAs : Formula → Result Filter ParseError → Type 0

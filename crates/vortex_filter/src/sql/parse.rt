@@ -15,7 +15,7 @@ ghost use Rattle.vortex_filter.specs.Checking.{FitsColumns};
 ghost use Rattle.vortex_filter.specs.Columns.{column_trees};
 ghost use Rattle.vortex_filter.specs.Faults.{IsPlaced};
 ghost use Rattle.vortex_filter.specs.Formula.{Formula, formula};
-ghost use Rattle.vortex_filter.specs.Parsing.{AllOrdered, IsReadable, IsSql, ReadsAs, RefusesSql, depth, nesting, types_of};
+ghost use Rattle.vortex_filter.specs.Parsing.{AllOrdered, IsReadable, IsSql, IsSqlWithin, ReadsAs, RefusesSql, RefusesSqlWithin, depth, depth as text_depth, types_of};
 ghost use Rattle.vortex_filter.specs.Printing.{sql_text};
 ghost use Rattle.vortex_filter.specs.Reading.{IsFaultAt, IsFaultIn, caused, filter_at};
 ghost use Rattle.vortex_filter.specs.Tokens.{trees};
@@ -30,7 +30,7 @@ use filters::filter_of;
 use std::alloc::Global;
 
 impl Filter {
-    /// How many connectives and parentheses may nest in a text that is read.
+    /// How many connectives and parentheses may nest in a text that `parse` reads.
     pub const MAX_DEPTH: usize = 256;
 
     /// The filter that SQL text is, over columns by name and type.
@@ -54,8 +54,32 @@ impl Filter {
         ensures refused { IfErr result (RefusesSql (column_trees columns.now) text.now) }
         ensures placed { IfErr result (IsPlaced (length text.now)) }
     {
+        Filter::parse_within(alloc, text, columns, Filter::MAX_DEPTH)
+    }
+
+    /// As `parse`, but at most `depth` connectives and parentheses may nest.
+    ///
+    /// Each level takes room on the stack, of this call and of all that later walk the filter.
+    /// `TooDeep` if more nest.
+    pub fn parse_within(
+        alloc: Global,
+        text: &str,
+        columns: &[Column],
+        depth: usize,
+    ) -> Result<Filter, ParseError>
+        ensures read { IfOk result (λ filter.
+            IsSqlWithin depth (column_trees columns.now) text.now (formula filter)) }
+        ensures printed { (names : List (List ℕ)) (f : Formula)
+            → IsReadable (column_trees columns.now) names f → text_depth f ≤ depth
+            → text.now ≡ sql_text names f → ReadsAs f result }
+        ensures fits { AllOrdered (column_trees columns.now) → IfOk result (λ filter.
+            FitsColumns (types_of (column_trees columns.now)) (formula filter)) }
+        ensures refused { IfErr result
+            (RefusesSqlWithin depth (column_trees columns.now) text.now) }
+        ensures placed { IfErr result (IsPlaced (length text.now)) }
+    {
         let tokens = lex(alloc, text)?;
-        filter_in(alloc, columns, &tokens, text.len())
+        filter_in(alloc, columns, &tokens, text.len(), depth)
     }
 }
 
@@ -65,14 +89,15 @@ fn filter_in(
     columns: &[Column],
     tokens: &[Placed],
     end: usize,
+    depth: usize,
 ) -> Result<Filter, ParseError>
     requires { AllByRecursion (λ p. p.place ≤ end) tokens.now }
     ensures given { IfOk result (λ filter.
-        filter_at (column_trees columns.now) nesting (trees tokens.now) ≡ Some (formula filter)) }
+        filter_at (column_trees columns.now) depth (trees tokens.now) ≡ Some (formula filter)) }
     ensures refused { IfErr result
-        (IsFaultIn end (filter_at (column_trees columns.now) nesting (trees tokens.now))) }
+        (IsFaultIn end (filter_at (column_trees columns.now) depth (trees tokens.now))) }
 {
-    match filter_of(alloc, columns, tokens, Filter::MAX_DEPTH) {
+    match filter_of(alloc, columns, tokens, depth) {
         Ok(filter) => Ok(filter),
         Err(fault) => Err(placed(fault, tokens, end)),
     }
