@@ -92,7 +92,11 @@ fn coerce_filter(alloc: Global, filter: &Filter, columns: &[DType]) -> Result<Fi
 
 // ---- tests
 
+// Each is a call of its own, so that what it needs on the stack is not taken again at each level of a
+// filter.
+
 #[tactic(auto, using(crate::proofs::CoerceSteps::columns))]
+#[inline(never)]
 fn coerce_null_test(column: usize, columns: &[DType]) -> Result<Filter, FilterError>
     ensures { Coerces (map type_of columns.now) (null_test column) (AreValid []) result }
 {
@@ -103,6 +107,7 @@ fn coerce_null_test(column: usize, columns: &[DType]) -> Result<Filter, FilterEr
 }
 
 #[tactic(auto, using(crate::proofs::CoerceSteps::columns))]
+#[inline(never)]
 fn coerce_comparison(
     alloc: Global,
     column: usize,
@@ -120,6 +125,7 @@ fn coerce_comparison(
 }
 
 #[tactic(auto, using(crate::proofs::CoerceSteps::columns))]
+#[inline(never)]
 fn coerce_membership(
     alloc: Global,
     column: usize,
@@ -136,6 +142,7 @@ fn coerce_membership(
 }
 
 #[tactic(auto, using(crate::proofs::CoerceSteps::columns))]
+#[inline(never)]
 fn coerce_range(
     alloc: Global,
     column: usize,
@@ -154,6 +161,7 @@ fn coerce_range(
 }
 
 #[tactic(auto, using(crate::proofs::CoerceSteps::columns))]
+#[inline(never)]
 fn coerce_prefix(
     alloc: Global,
     column: usize,

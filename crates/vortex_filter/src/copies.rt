@@ -55,7 +55,11 @@ pub(crate) fn copy(alloc: Global, filter: &Filter) -> Result<Filter, FilterError
 
 // ---- tests
 
+// Each is a call of its own, so that what it needs on the stack is not taken again at each level of a
+// filter.
+
 #[tactic(auto, using(crate::proofs::Steps::shown))]
+#[inline(never)]
 fn copy_comparison(
     alloc: Global,
     column: usize,
@@ -73,6 +77,7 @@ fn copy_comparison(
 }
 
 #[tactic(auto, using(crate::proofs::Steps::shown))]
+#[inline(never)]
 fn copy_membership(alloc: Global, column: usize, literals: &[Scalar]) -> Result<Filter, FilterError>
     ensures { Makes (membership column (map cell_of literals.now)) result }
 {
@@ -81,6 +86,7 @@ fn copy_membership(alloc: Global, column: usize, literals: &[Scalar]) -> Result<
 }
 
 #[tactic(auto, using(crate::proofs::Steps::shown))]
+#[inline(never)]
 fn copy_range(
     alloc: Global,
     column: usize,
@@ -104,6 +110,7 @@ fn copy_range(
 }
 
 #[tactic(auto, using(crate::proofs::Steps::shown))]
+#[inline(never)]
 fn copy_prefix(alloc: Global, column: usize, prefix: &Scalar) -> Result<Filter, FilterError>
     ensures { Makes (prefix_test column (cell_of prefix.now)) result }
 {
