@@ -315,17 +315,20 @@ uint32_t doqallin_filter_mask(const uint8_t *filter, size_t filter_length, const
 /* Nearly any call of the library, by a line of text. In the library doqallin_call.
  * The line has the call's name and what it is given, as the worked cases in crates/scalar_cases/stdin: `cast i32:1000i32 i16`
  * answers `i16:1000i16`. A refusal is an answer, as `CannotCast`, and so is `bad line`, to bytes that are no line. An arrow,
- * ` => `, and what follows it is passed over.
+ * ` => `, and what follows it is passed over. The answer is `TooDeep` if more than 32 brackets nest in a type or a value, or more
+ * than 32 connectives and parentheses in a filter.
  * GIVEN: the answer is in the first *count bytes of the room, and is UTF-8; those after it are as they were. No clause says
  * which answer comes: the stored cases are run.
  * NO_ROOM: *count, above room_length, is how many bytes the whole answer has. A room of no bytes asks for it. That the next
  * call has the same answer, and so fits in that room, is tested alone.
  * NO_MEMORY: there is no memory to read the line or to write the answer. If the call itself finds none, the answer is
  * `OutOfMemory`.
- * Stack: 28 kilobytes, and more for each level of brackets, or of connectives and parentheses of a filter. At most 256 of these
- * nest, and else the line is bad. A level takes at most 2.3 kilobytes; of a filter 2.7, and 4.7 in `coerce`. So 0.6 megabytes were
- * seen at 250 levels, of filters 0.7, and 1.2 in `coerce`. */
+ * Stack: 28 kilobytes, and 2.4 more for each level that nests. So no line ends a process on a thread of 128 kilobytes. */
 uint32_t doqallin_call(const uint8_t *line, size_t line_length, uint8_t *room, size_t room_length, size_t *count);
+
+/* The same, for lines that nest at most `depth` deep. */
+uint32_t doqallin_call_within(const uint8_t *line, size_t line_length, size_t depth, uint8_t *room, size_t room_length,
+                              size_t *count);
 
 #ifdef __cplusplus
 }

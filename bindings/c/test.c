@@ -495,6 +495,12 @@ static void calls(void) {
     CHECK(doqallin_call(BYTES(""), room, ROOM, &count) == DOQALLIN_GIVEN && holds(room, count, "bad line"));
     fresh();
     CHECK(doqallin_call(BYTES("clone utf8:\"\xff\""), room, ROOM, &count) == DOQALLIN_GIVEN && holds(room, count, "bad line"));
+    fresh();
+    CHECK(doqallin_call_within(BYTES("zero list(list(u8))"), 2, room, ROOM, &count) == DOQALLIN_GIVEN && holds(room, count, "list(list(u8)):[]"));
+    fresh();
+    CHECK(doqallin_call_within(BYTES("zero list(list(u8))"), 1, room, ROOM, &count) == DOQALLIN_GIVEN && holds(room, count, "TooDeep"));
+    fresh();
+    CHECK(doqallin_call_within(BYTES("zero list(list(u8))"), 1, room, 6, &count) == DOQALLIN_NO_ROOM && count == 7 && is_kept(room, 0));
 }
 
 #define LONG "0123456789012345678901234567"

@@ -2,13 +2,12 @@
 // The stack of each call over random columns, on a thread whose stack is painted before: `test_stack COUNT` makes so many. None
 // may take more than the header says.
 #include "random_columns.h"
-#include <pthread.h>
+#include "painted_stack.h"
 
 // What doqallin.h says under Stack.
 #define MOST 4096
 #define MOST_OF_STATISTICS 12288
 #define SIZE ((size_t)1 << 16)
-#define PAINT 0xA5
 
 static struct doqallin_column two[2];
 static uint8_t options[2], value[64], other[ROOM];
@@ -16,7 +15,6 @@ static uint64_t starts[4];
 static size_t n;
 static struct doqallin_bound_lengths lengths;
 
-static void nothing(void) {}
 static void cast(void) { doqallin_cast_column(&two[0], (uint8_t)(n % 8), room, ROOM, &fault); }
 static void keys(void) { doqallin_row_keys(two, 2, options, 2, places, ROWS + 1, room, ROOM, &count, &fault); }
 static void bytes_bounds(void) { doqallin_column_bounds_bytes(value, sizeof value, starts, 4, n, room, ROOM, other, ROOM, &lengths); }
@@ -39,27 +37,10 @@ static void *run(void *call) {
     return NULL;
 }
 
-// How many bytes of a thread's stack a call changes.
-static size_t used(uint8_t *stack, void (*const *call)(void)) {
-    pthread_attr_t attributes;
-    pthread_t thread;
-    memset(stack, PAINT, SIZE);
-    if (pthread_attr_init(&attributes) || pthread_attr_setstack(&attributes, stack, SIZE)) exit(2);
-    if (pthread_create(&thread, &attributes, run, (void *)call)) exit(2);
-    pthread_join(thread, NULL);
-    pthread_attr_destroy(&attributes);
-    size_t low = 0;
-    while (low < SIZE && stack[low] == PAINT) low++;
-    return SIZE - low;
-}
-
 int main(int argc, char **argv) {
     long columns = begun(argc, argv);
     size_t most = 0;
-    static void (*const empty)(void) = nothing;
-    uint8_t *stack = mmap(NULL, SIZE, PROT_READ | PROT_WRITE, MAP_PRIVATE | MAP_ANONYMOUS, -1, 0);
-    if (stack == MAP_FAILED) return 2;
-    size_t none = used(stack, &empty);
+    uint8_t *stack = new_stack(SIZE);
     for (long k = 0; k < columns; k++) {
         size_t rows = below(ROWS);
         two[0] = some_column(0, rows), two[1] = some_column(3, rows);
@@ -68,7 +49,7 @@ int main(int argc, char **argv) {
         for (int i = 1; i < 4; i++) starts[i] = starts[i - 1] + below(20);
         if (doqallin_column_statistics(&two[0], n, form, ROOM, &form_length, &fault)) form_length = below(40);
         for (size_t i = 0; i < CALLS; i++) {
-            size_t of = used(stack, &calls[i]) - none;
+            size_t of = taken(stack, SIZE, run, (void *)&calls[i]);
             CHECK(of <= (i < CALLS - CALLS_OF_STATISTICS ? MOST : MOST_OF_STATISTICS));
             most = of > most ? of : most;
         }

@@ -156,7 +156,7 @@ class Compared(unittest.TestCase):
 def is_right(line: str) -> bool:
     """Whether the call before an arrow of the line answers what follows it. A string in a line may have an arrow too."""
     parts = line.split(" => ")
-    return any(doqallin.call(" => ".join(parts[:place])) == " => ".join(parts[place:]) for place in range(1, len(parts)))
+    return any(doqallin.call(" => ".join(parts[:place]), depth=256) == " => ".join(parts[place:]) for place in range(1, len(parts)))
 
 
 class Cases(unittest.TestCase):
@@ -170,6 +170,14 @@ class Cases(unittest.TestCase):
         for length in [0, 100, 248, 249, 250, 100_000]:
             text = 'utf8:"' + "a" * length + '"'
             self.assertEqual(doqallin.call(f"clone {text}"), text)
+
+    def test_what_nests_too_deep(self) -> None:
+        for depth in [1, 32, 500]:
+            for line in [lambda n: "zero " + "list(" * n + "u8" + ")" * n, lambda n: "check " + "not " * n + "$1 = 1; i32; i32"]:
+                self.assertNotEqual(doqallin.call(line(depth), depth), "TooDeep")
+                self.assertEqual(doqallin.call(line(depth + 1), depth), "TooDeep")
+        self.assertEqual(doqallin.call("clone " + "list(" * 33 + "u8" + ")" * 33 + ":null"), "TooDeep")
+        self.assertEqual(doqallin.call("zero u8", depth=0), "u8:0u8")
 
     def test_what_is_no_line(self) -> None:
         for line in ["", "cast", "cast i32:1i32", "# cast i32:1i32 i8", "cast i32:1i32 i8\n", "\0"]:

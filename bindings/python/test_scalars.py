@@ -175,6 +175,7 @@ class Refused(unittest.TestCase):
             (doqallin.CannotCast, lambda: scalar("7").cast("u8")),
             (doqallin.NoOrder, lambda: scalar(1, "u8") < scalar(1, "u16")),
             (doqallin.HasVariant, lambda: scalar(scalar(1), "variant").key()),
+            (doqallin.TooDeep, lambda: scalar(None, "list(" * 33 + "u8" + ")" * 32 + ")?")),
             (doqallin.BadKey, lambda: Scalar.from_key(b"\x0d\x80", "i8")),
             (doqallin.BadKey, lambda: Scalar.from_key(b"\x0d\x07\x07", "i8")),
             (TypeError, lambda: scalar([1])),

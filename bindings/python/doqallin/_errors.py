@@ -28,6 +28,7 @@ __all__ = [
     "OutOfMemory",
     "Refused",
     "StreamFailed",
+    "TooDeep",
     "TooManyRows",
     "TooShort",
     "UnknownKind",
@@ -136,6 +137,10 @@ class BadKey(DoqallinError, ValueError):
 
     def __str__(self) -> str:
         return f"no key of the type has byte {self.place}"
+
+
+class TooDeep(DoqallinError, ValueError):
+    """More than 32 brackets nest in a type or a value. `call` takes a line that nests deeper, if it is told how deep."""
 
 
 class Refused(DoqallinError):

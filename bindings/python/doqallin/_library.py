@@ -156,7 +156,7 @@ _Answer = c_char * 256
 def _call() -> Any:
     """The call by a line, in a library of its own."""
     of = _load("libdoqallin_call.so", "tools/build_bindings --call")
-    return _declare("call", c_uint32, *_BYTES, c_void_p, c_size_t, c_void_p, of=of)
+    return _declare("call_within", c_uint32, *_BYTES, c_size_t, c_void_p, c_size_t, c_void_p, of=of)
 
 
 def library_version() -> str:
@@ -226,22 +226,25 @@ def new_offsets(count: int) -> ctypes.Array[c_uint64]:
     return _new(c_uint64, count)
 
 
-def call(line: str) -> str:
+def call(line: str, depth: int = 32) -> str:
     """The answer to a line: the name of a call and what it is given, as in the worked cases of crates/scalar_cases/stdin.
 
-    A refusal is an answer, OutOfMemory among them, and so is `bad line`, to a string that is no line. An arrow, ` => `, and
-    what follows it is passed over. Raises OutOfMemory if there is no memory for the line or for the answer, and
-    LibraryMissing if libdoqallin_call.so was not made.
+    A refusal is an answer, OutOfMemory among them, and so is `bad line`, to a string that is no line. The answer is `TooDeep`
+    if more than `depth` brackets nest in a type or a value, or connectives and parentheses in a filter: each level takes room
+    on the stack, and doqallin.h says how much. An arrow, ` => `, and what follows it is passed over. Raises OutOfMemory if
+    there is no memory for the line or for the answer, and LibraryMissing if libdoqallin_call.so was not made.
 
     >>> call("cast i32:1000i32 i16"), call("cast i32:1000i32 i8")
     ('i16:1000i16', 'CannotCast')
+    >>> call("zero list(list(u8))", depth=1)
+    'TooDeep'
     """
-    text = encoded(line)
+    text, deep = encoded(line), size(depth)
     count = c_size_t()
     written: ctypes.Array[c_char] = _Answer()
-    status = _call()(text, len(text), written, len(written), byref(count))
+    status = _call()(text, len(text), deep, written, len(written), byref(count))
     while status == NO_ROOM:
         written = (c_char * count.value)()
-        status = _call()(text, len(text), written, len(written), byref(count))
+        status = _call()(text, len(text), deep, written, len(written), byref(count))
     check(status)
     return ctypes.string_at(written, count.value).decode()

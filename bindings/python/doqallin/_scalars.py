@@ -8,7 +8,7 @@ import functools
 from collections.abc import Mapping
 from typing import Any
 
-from ._errors import BadKey, BadText, BadType, CannotCast, DoqallinError, HasVariant, Invalid, NoField, NoOrder, NotANumber, OutOfMemory, Refused
+from ._errors import BadKey, BadText, BadType, CannotCast, DoqallinError, HasVariant, Invalid, NoField, NoOrder, NotANumber, OutOfMemory, Refused, TooDeep
 from ._library import call
 from ._types import INTEGERS, DType, Reader, dtype, quoted
 
@@ -37,6 +37,8 @@ def _refusal(answer: str) -> DoqallinError:
         return HasVariant("a variant has no key")
     if name == "OutOfMemory":
         return OutOfMemory("an allocation was refused")
+    if name == "TooDeep":
+        return TooDeep("more than 32 brackets nest")
     return Refused(answer)
 
 

@@ -57,7 +57,7 @@ mod zone;
 
 pub use arrow::{Buffer, CastError, Column, ColumnFault, Item, Kind, RowsError, cast_column};
 #[cfg(feature = "call")]
-pub use call::call;
+pub use call::{call, call_within};
 pub use column::{ColumnError, column_bounds, column_bounds_text};
 pub use filter::{Filter, FilterError, Outcomes};
 pub use integer::{Integer, cast};

@@ -245,9 +245,10 @@ unsafe extern "C" {
 
 #[cfg(feature = "call")]
 unsafe extern "C" {
-    pub fn doqallin_call(
+    pub fn doqallin_call_within(
         line: *const u8,
         line_length: usize,
+        depth: usize,
         room: *mut u8,
         room_length: usize,
         count: &mut usize,

@@ -2,15 +2,18 @@
 // SPDX-FileCopyrightText: Copyright the Vortex contributors; ported to Rattle and changed
 //! The stored worked cases, by `call`.
 
-use doqallin::call;
+use doqallin::{call, call_within};
 use std::fs::read_to_string;
 
 const CASES: &str = concat!(env!("CARGO_MANIFEST_DIR"), "/../../crates/scalar_cases");
 
+/// How deep a stored case may nest.
+const DEPTH: usize = 256;
+
 /// Whether the call before an arrow of the line answers what follows it. A string in a line may have an arrow too.
 fn is_right(line: &str) -> bool {
     line.match_indices(" => ")
-        .any(|(at, arrow)| call(&line[..at]) == line[at + arrow.len()..])
+        .any(|(at, arrow)| call_within(&line[..at], DEPTH) == line[at + arrow.len()..])
 }
 
 #[test]
@@ -30,6 +33,22 @@ fn an_answer_of_any_length() {
         let text = format!("utf8:\"{}\"", "a".repeat(length));
         assert_eq!(call(&format!("clone {text}")), text);
     }
+}
+
+#[test]
+fn what_nests_too_deep() {
+    let lists = |depth| format!("zero {}u8{}", "list(".repeat(depth), ")".repeat(depth));
+    let negations = |depth| format!("check {}$1 = 1; i32; i32", "not ".repeat(depth));
+    for depth in [1, 32, 500] {
+        for line in [&lists as &dyn Fn(usize) -> String, &negations] {
+            assert_ne!(call_within(&line(depth), depth), "TooDeep");
+            assert_eq!(call_within(&line(depth + 1), depth), "TooDeep");
+        }
+    }
+    assert_eq!(call(&negations(32)), "ok");
+    assert_eq!(call(&negations(33)), "TooDeep");
+    assert_eq!(call(&lists(100_000)), "TooDeep");
+    assert_eq!(call_within("zero u8", 0), "u8:0u8");
 }
 
 #[test]

@@ -11,9 +11,6 @@ use vortex_dtype::{BufferString, ByteBuffer, DType, FieldName, Nullability, PTyp
 use vortex_pvalue::PValue;
 use vortex_value::{Scalar, ScalarValue};
 
-/// How many brackets may be open at a time.
-pub const ROOM: u32 = 256;
-
 /// What a call may be given.
 pub trait Inputs: Drop {
     /// Reads the next argument, or arguments, of a line.
@@ -77,7 +74,7 @@ impl<A: Inputs, B: Inputs, C: Inputs, D: Inputs> Inputs for (A, B, C, D) {
 impl Inputs for DType {
     fn read(tokens: &mut Tokens<'_>) -> DType {
         tokens.spaces();
-        read_type(tokens, ROOM)
+        read_type(tokens)
     }
 }
 
@@ -87,7 +84,7 @@ impl Exact for DType {}
 impl Inputs for Scalar {
     fn read(tokens: &mut Tokens<'_>) -> Scalar {
         tokens.spaces();
-        read_scalar(tokens, ROOM)
+        read_scalar(tokens)
     }
 }
 
@@ -101,7 +98,7 @@ impl Borrowed for Scalar {
 impl Inputs for Option<ScalarValue> {
     fn read(tokens: &mut Tokens<'_>) -> Option<ScalarValue> {
         tokens.spaces();
-        read_value(tokens, ROOM)
+        read_value(tokens)
     }
 }
 
@@ -132,7 +129,7 @@ impl Exact for Vec<FieldName> {}
 
 impl Item for Scalar {
     fn read_item(tokens: &mut Tokens<'_>) -> Scalar {
-        read_scalar(tokens, ROOM - 1)
+        read_scalar(tokens)
     }
 }
 
@@ -140,9 +137,9 @@ impl Item for Scalar {
 impl Item for (Scalar, Scalar) {
     fn read_item(tokens: &mut Tokens<'_>) -> (Scalar, Scalar) {
         tokens.expect(b'(');
-        let key = read_scalar(tokens, ROOM - 2);
+        let key = read_scalar(tokens);
         tokens.expect(b',');
-        let value = read_scalar(tokens, ROOM - 2);
+        let value = read_scalar(tokens);
         tokens.expect(b')');
         (key, value)
     }
@@ -150,7 +147,7 @@ impl Item for (Scalar, Scalar) {
 
 impl Item for DType {
     fn read_item(tokens: &mut Tokens<'_>) -> DType {
-        read_type(tokens, ROOM - 1)
+        read_type(tokens)
     }
 }
 
@@ -172,7 +169,7 @@ impl Inputs for Fields {
     fn read(tokens: &mut Tokens<'_>) -> Fields {
         tokens.spaces();
         tokens.expect(b'{');
-        read_fields(tokens, false, b'}', ROOM - 1)
+        read_fields(tokens, false, b'}')
     }
 }
 
@@ -184,7 +181,7 @@ impl Inputs for Variants {
     fn read(tokens: &mut Tokens<'_>) -> Variants {
         tokens.spaces();
         tokens.expect(b'(');
-        Variants(read_fields(tokens, true, b')', ROOM - 1))
+        Variants(read_fields(tokens, true, b')'))
     }
 }
 

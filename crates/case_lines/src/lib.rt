@@ -15,7 +15,7 @@ mod valid;
 mod write;
 
 pub use answers::{Answer, CallResult, WriteAnswer, buffer_bytes, buffer_text, or_none, text_of};
-pub use inputs::{Borrowed, Exact, Inputs, Item, MemoryRoom, ROOM, Variants};
+pub use inputs::{Borrowed, Exact, Inputs, Item, MemoryRoom, Variants};
 pub use line::{Line, LineAnswer, LineResult};
 pub use read::numbers::read_natural;
 pub use read::texts::read_name;

@@ -15,7 +15,7 @@ use vortex_dtype::VortexError;
 pub struct LineAnswer {
     /// What the answer is, as it stands in a line.
     pub text: String,
-    /// Whether the line is not in the language.
+    /// Whether the line is not read: it is not in the language, or nests too deep.
     pub is_bad: bool,
 }
 
@@ -34,7 +34,7 @@ pub struct Line<'a> {
 impl<'a> Line<'a> {
     /// Reads the name of a line's call.
     pub fn new(run: Run<'a>, text: &'a [u8]) -> Line<'a> {
-        let mut tokens = Tokens::of(run.alloc(), text);
+        let mut tokens = Tokens::of(run.alloc(), run.depth(), text);
         Line {
             run,
             text,
@@ -88,7 +88,7 @@ impl<'a> Line<'a> {
 
     /// Whether inputs differ from a second reading of the line, which shares no memory with them.
     fn is_changed<I: Borrowed>(&self, inputs: &I) -> bool {
-        let mut tokens = Tokens::of(self.run.alloc(), self.text);
+        let mut tokens = Tokens::of(self.run.alloc(), self.run.depth(), self.text);
         tokens.word();
         let copy = I::read(&mut tokens);
         !inputs.is_same(&copy)
@@ -127,6 +127,7 @@ fn bad_line(alloc: Global) -> LineResult {
 fn without_call(alloc: Global, reason: NoCall) -> LineResult {
     match reason {
         NoCall::BadLine => bad_line(alloc),
+        NoCall::TooDeep => line_answer(alloc, "TooDeep", true),
         NoCall::Refused(refusal) => refused(alloc, refusal),
     }
 }

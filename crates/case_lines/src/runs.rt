@@ -2,27 +2,38 @@
 
 use std::alloc::Global;
 
+/// How many brackets may nest in a line of the worked cases.
+const DEPTH_OF_CASES: usize = 256;
+
 /// How lines are run. A watched run reports on standard error when a call is made and when it has
 /// answered, and checks that the call left what it borrowed unchanged.
 #[derive(Clone, Copy)]
 pub struct Run<'a> {
     alloc: Global,
+    depth: usize,
     watcher: Option<&'a HostRuntime>,
 }
 
 impl<'a> Run<'a> {
-    /// A run that is not watched.
+    /// A run of worked cases that is not watched.
     pub fn alone(alloc: Global) -> Run<'a> {
+        Run::within(alloc, DEPTH_OF_CASES)
+    }
+
+    /// A run that is not watched, of lines in which so many brackets may nest.
+    pub fn within(alloc: Global, depth: usize) -> Run<'a> {
         Run {
             alloc,
+            depth,
             watcher: None,
         }
     }
 
-    /// A run that reports each call on standard error.
+    /// A run of worked cases that reports each call on standard error.
     pub fn watched(rt: &'a HostRuntime) -> Run<'a> {
         Run {
             alloc: rt.alloc(),
+            depth: DEPTH_OF_CASES,
             watcher: Some(rt),
         }
     }
@@ -30,6 +41,11 @@ impl<'a> Run<'a> {
     /// The allocator that lines are read and answered with.
     pub fn alloc(self) -> Global {
         self.alloc
+    }
+
+    /// How many brackets may nest in a type, in a value and in the text of a filter.
+    pub fn depth(self) -> usize {
+        self.depth
     }
 
     /// Whether this is a watched run.

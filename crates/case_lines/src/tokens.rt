@@ -8,6 +8,8 @@ use vortex_dtype::{Nullability, VortexError};
 enum Fault {
     /// The line is not in the language.
     BadLine,
+    /// More brackets, or levels of a filter, nest than may.
+    TooDeep,
     /// There is no memory for what it holds.
     NoMemory,
 }
@@ -17,19 +19,23 @@ enum Fault {
 pub enum NoCall {
     /// The line is not in the language.
     BadLine,
+    /// More brackets, or levels of a filter, nest than may.
+    TooDeep,
     /// A maker of types refused.
     Refused(VortexError),
 }
 
 /// What is left to read of a line.
 ///
-/// If the line is not in the language, or memory runs out, that fault is kept and nothing is left to
-/// read; what is read from then on means nothing. The first refusal of a maker of types is kept too,
-/// but the line is read on.
+/// If the line is not in the language, nests too deep, or memory runs out, that fault is kept and
+/// nothing is left to read; what is read from then on means nothing. The first refusal of a maker of
+/// types is kept too, but the line is read on.
 #[derive(Drop)]
 pub struct Tokens<'a> {
     /// The allocator that the line is read with.
     pub alloc: Global,
+    /// How many brackets may nest in a type, in a value and in the text of a filter.
+    pub room: usize,
     rest: &'a [u8],
     fault: Option<Fault>,
     refusal: Option<VortexError>,
@@ -37,10 +43,11 @@ pub struct Tokens<'a> {
 }
 
 impl<'a> Tokens<'a> {
-    /// A line that is not read yet.
-    pub fn of(alloc: Global, line: &'a [u8]) -> Tokens<'a> {
+    /// A line that is not read yet, in which so many brackets may nest.
+    pub fn of(alloc: Global, room: usize, line: &'a [u8]) -> Tokens<'a> {
         Tokens {
             alloc,
+            room,
             rest: line,
             fault: None,
             refusal: None,
@@ -71,13 +78,19 @@ impl<'a> Tokens<'a> {
         self.fail(Fault::BadLine);
     }
 
+    /// Marks the line as one that nests too deep.
+    pub fn too_deep(&mut self) {
+        self.fail(Fault::TooDeep);
+    }
+
     /// Reads the arrow and the expected answer, if there are any. Returns why the call is not made, if
-    /// so: the line is bad, or by the first refusal of a maker of types. `AllocError` if there was no
-    /// memory to read the line.
+    /// so: the line is bad, or nests too deep, or by the first refusal of a maker of types. `AllocError`
+    /// if there was no memory to read the line.
     pub fn end(&mut self) -> Result<Option<NoCall>, AllocError> {
         self.read_expected();
         match self.fault {
             Some(Fault::BadLine) => Ok(Some(NoCall::BadLine)),
+            Some(Fault::TooDeep) => Ok(Some(NoCall::TooDeep)),
             Some(Fault::NoMemory) => Err(AllocError),
             None => Ok(self.refusal.take().map(NoCall::Refused)),
         }

@@ -4,7 +4,7 @@
 use crate::answers::FilterAnswer;
 use crate::same::same_filter;
 use case_lines::{
-    Borrowed, Inputs, Line, LineResult, ROOM, Tokens, copy_type, named, read_name, read_named,
+    Borrowed, Inputs, Line, LineResult, Tokens, copy_type, named, read_name, read_named,
     read_type, read_value, same_scalar,
 };
 use statistics_calls::{TypedStatistics, read_statistics, same_statistics};
@@ -97,7 +97,7 @@ trait InColumn: Drop {
 
 impl InColumn for Scalar {
     fn read_in(tokens: &mut Tokens<'_>, dtype: &DType) -> Scalar {
-        let value = read_value(tokens, ROOM);
+        let value = read_value(tokens);
         let dtype = copy_type(tokens, dtype);
         Scalar { dtype, value }
     }
@@ -109,7 +109,7 @@ impl InColumn for Scalar {
 
 impl InColumn for ColumnStatistics {
     fn read_in(tokens: &mut Tokens<'_>, dtype: &DType) -> ColumnStatistics {
-        read_statistics(tokens, dtype, ROOM)
+        read_statistics(tokens, dtype)
     }
 
     fn is_same_as(&self, copy: &ColumnStatistics) -> bool {
@@ -138,7 +138,7 @@ impl<T: InColumn> Inputs for FilterOn<T> {
             if !tokens.has_more(before) {
                 break;
             }
-            let dtype = read_type(tokens, ROOM);
+            let dtype = read_type(tokens);
             tokens.expect(b':');
             let item = T::read_in(tokens, &dtype);
             tokens.push(&mut items, item);
@@ -211,7 +211,7 @@ fn read_columns(tokens: &mut Tokens<'_>) -> Vec<Column> {
         if !tokens.has_more(before) {
             break;
         }
-        let dtype = read_type(tokens, ROOM);
+        let dtype = read_type(tokens);
         push_column(tokens, &mut columns, dtype);
     }
     columns
@@ -227,27 +227,25 @@ fn push_column(tokens: &mut Tokens<'_>, columns: &mut Vec<Column>, dtype: DType)
     tokens.push(columns, Column { name, dtype });
 }
 
-/// The filter of SQL text. Without one the line is bad.
+/// The filter of SQL text. Without one the line is bad, or nests too deep.
 fn parsed(tokens: &mut Tokens<'_>, text: &[u8], columns: &[Column]) -> Filter {
     let alloc = tokens.alloc;
-    match Filter::parse(alloc, str::from_utf8(text).unwrap_or(""), columns) {
-        Ok(filter) => filter,
-        Err(ParseError::OutOfMemory) => {
-            drop(tokens.made::<()>(Err(VortexError::OutOfMemory)));
-            Filter::Constant(Truth::Unknown)
-        }
-        Err(_) => {
-            tokens.bad_line();
-            Filter::Constant(Truth::Unknown)
-        }
+    let text = str::from_utf8(text).unwrap_or("");
+    match Filter::parse_within(alloc, text, columns, tokens.room) {
+        Ok(filter) => return filter,
+        Err(ParseError::OutOfMemory) => drop(tokens.made::<()>(Err(VortexError::OutOfMemory))),
+        Err(ParseError::TooDeep { .. }) => tokens.too_deep(),
+        Err(_) => tokens.bad_line(),
     }
+    Filter::Constant(Truth::Unknown)
 }
 
-/// SQL text, and the columns that it may name.
+/// SQL text, the columns that it may name, and how deep it may nest.
 #[derive(Drop)]
 struct Text {
     text: String,
     columns: Vec<Column>,
+    depth: usize,
 }
 
 impl Inputs for Text {
@@ -264,7 +262,11 @@ impl Inputs for Text {
             let column = read_column(tokens);
             tokens.push(&mut columns, column);
         }
-        Text { text, columns }
+        Text {
+            text,
+            columns,
+            depth: tokens.room,
+        }
     }
 }
 
@@ -292,7 +294,7 @@ fn read_column(tokens: &mut Tokens<'_>) -> Column {
     let copy = String::from_str(tokens.alloc, name.as_str());
     let name = made_string(tokens, copy);
     tokens.spaces();
-    let dtype = read_type(tokens, ROOM);
+    let dtype = read_type(tokens);
     Column { name, dtype }
 }
 
@@ -327,7 +329,7 @@ fn sql_answer<T: Display>(alloc: Global, shown: &T) -> FilterResult {
 }
 
 fn parse(alloc: Global, text: &Text) -> FilterResult {
-    match Filter::parse(alloc, &text.text, &text.columns) {
+    match Filter::parse_within(alloc, &text.text, &text.columns, text.depth) {
         Ok(filter) => sql_answer(alloc, &filter.sql(&text.columns)),
         Err(ParseError::OutOfMemory) => Err(VortexError::OutOfMemory),
         Err(refusal) => Ok(FilterAnswer::TextRefused(refusal)),
@@ -442,7 +444,7 @@ impl Inputs for FilterFor {
             if !tokens.has_more(before) {
                 break;
             }
-            let dtype = read_type(tokens, ROOM);
+            let dtype = read_type(tokens);
             tokens.push(&mut dtypes, dtype);
         }
         let filter = parsed(tokens, text, &columns);

@@ -13,23 +13,23 @@ pub struct TypedStatistics {
 }
 
 /// Reads a type, a colon and statistics, as `i32?:(4 rows, 1 null, 3i32 exact, _)`.
-pub fn read_typed_statistics(tokens: &mut Tokens<'_>, room: u32) -> TypedStatistics {
-    let dtype = read_type(tokens, room);
+pub fn read_typed_statistics(tokens: &mut Tokens<'_>) -> TypedStatistics {
+    let dtype = read_type(tokens);
     tokens.expect(b':');
-    let statistics = read_statistics(tokens, &dtype, room);
+    let statistics = read_statistics(tokens, &dtype);
     TypedStatistics { dtype, statistics }
 }
 
 /// Reads statistics of a column of this type.
-pub fn read_statistics(tokens: &mut Tokens<'_>, dtype: &DType, room: u32) -> ColumnStatistics {
+pub fn read_statistics(tokens: &mut Tokens<'_>, dtype: &DType) -> ColumnStatistics {
     tokens.expect(b'(');
     let row_count = read_count(tokens, b"row", b"rows");
     tokens.expect(b',');
     let null_count = read_null_count(tokens);
     tokens.expect(b',');
-    let lower = read_bound(tokens, dtype, room);
+    let lower = read_bound(tokens, dtype);
     tokens.expect(b',');
-    let upper = read_bound(tokens, dtype, room);
+    let upper = read_bound(tokens, dtype);
     tokens.expect(b')');
     ColumnStatistics {
         row_count,
@@ -58,12 +58,12 @@ fn read_null_count(tokens: &mut Tokens<'_>) -> Option<u64> {
 }
 
 /// Reads a bound, or the underscore for one that is not there.
-fn read_bound(tokens: &mut Tokens<'_>, dtype: &DType, room: u32) -> Option<Bound> {
+fn read_bound(tokens: &mut Tokens<'_>, dtype: &DType) -> Option<Bound> {
     if tokens.takes(b'_') {
         return None;
     }
-    let value = read_value(tokens, room);
-    let dtype = read_bound_type(tokens, dtype, room);
+    let value = read_value(tokens);
+    let dtype = read_bound_type(tokens, dtype);
     let is_exact = tokens.takes_word(b"exact");
     Some(Bound {
         value: Scalar { dtype, value },
@@ -72,9 +72,9 @@ fn read_bound(tokens: &mut Tokens<'_>, dtype: &DType, room: u32) -> Option<Bound
 }
 
 /// Reads a bound's type, after the word `of`; without that word it is the column's.
-fn read_bound_type(tokens: &mut Tokens<'_>, dtype: &DType, room: u32) -> DType {
+fn read_bound_type(tokens: &mut Tokens<'_>, dtype: &DType) -> DType {
     if tokens.takes_word(b"of") {
-        return read_type(tokens, room);
+        return read_type(tokens);
     }
     copy_type(tokens, dtype)
 }

@@ -4,7 +4,7 @@ use crate::answers::statistics::StatisticsAnswer;
 use crate::read::{TypedStatistics, read_typed_statistics};
 use crate::same::same_statistics;
 use case_lines::{
-    Borrowed, Inputs, Line, LineResult, MemoryRoom, ROOM, Tokens, named, read_value, same_raws,
+    Borrowed, Inputs, Line, LineResult, MemoryRoom, Tokens, named, read_value, same_raws,
     same_scalars,
 };
 use std::alloc::Global;
@@ -69,7 +69,7 @@ fn answer_of(line: &mut Line<'_>, call: Call) -> LineResult {
 impl Inputs for TypedStatistics {
     fn read(tokens: &mut Tokens<'_>) -> TypedStatistics {
         tokens.spaces();
-        read_typed_statistics(tokens, ROOM)
+        read_typed_statistics(tokens)
     }
 }
 
@@ -94,7 +94,7 @@ impl Inputs for Values {
             if !tokens.has_more(before) {
                 break;
             }
-            let value = read_value(tokens, ROOM);
+            let value = read_value(tokens);
             tokens.push(&mut values, value);
         }
         Values { dtype, values }

@@ -21,11 +21,18 @@ pub const NO_MEMORY: u32 = 2;
 /// The room is too small: the length that is needed is written, and nothing else.
 pub const NO_ROOM: u32 = 3;
 
+/// How deep a line of `doqallin_call` may nest.
+pub const DEPTH: usize = 32;
+
 /// The answer to a line, as UTF-8, written to the room.
 ///
 /// A line names a call and what it is given, as the worked cases in crates/scalar_cases do. A
 /// refusal is an answer, as `CannotCast`, and so is `bad line`, to bytes that are no line. No clause
 /// says which answer comes: the stored cases are run.
+///
+/// The answer is `TooDeep` if more than `DEPTH` brackets nest in a type or a value, or connectives and
+/// parentheses in a filter. So on a thread of 128 kilobytes no line ends the process: that is tested,
+/// and no contract speaks of stack.
 ///
 /// - `NO_ROOM`: the room is too small. `count` says how many bytes the whole answer has. No clause
 ///   says that the next call has the same answer.
@@ -49,7 +56,31 @@ pub extern "C" fn doqallin_call(
     ensures kept_room { result ≢ GIVEN → room.new ≡ room.old }
     ensures kept_count { result ≡ NO_MEMORY → count.new ≡ count.old }
 {
-    answer_into(alloc, &WorkedCases, line, room, count)
+    doqallin_call_within(alloc, line, DEPTH, room, count)
+}
+
+/// As `doqallin_call`, of lines that may nest as deep as the caller says.
+#[unsafe(no_mangle)]
+pub extern "C" fn doqallin_call_within(
+    alloc: Global,
+    line: &[u8],
+    depth: usize,
+    room: &mut [u8],
+    count: &mut usize,
+) -> u32
+    ensures statuses { (result ≡ GIVEN) ⊎ ((result ≡ NO_MEMORY) ⊎ (result ≡ NO_ROOM)) }
+    ensures told { result ≢ NO_MEMORY → (answer : List ℕ) × IsUtf8 answer
+        × IsTold answer room.old room.new count.new result }
+    ensures within { result ≡ GIVEN → count.new ≤ length room.new }
+    ensures text { result ≡ GIVEN → IsUtf8 (take count.new room.new) }
+    ensures small { result ≡ NO_ROOM → length room.old < count.new }
+
+    // What is not said to be written stays.
+    ensures rest { result ≡ GIVEN → drop count.new room.new ≡ drop count.new room.old }
+    ensures kept_room { result ≢ GIVEN → room.new ≡ room.old }
+    ensures kept_count { result ≡ NO_MEMORY → count.new ≡ count.old }
+{
+    answer_into(alloc, &WorkedCases { depth }, line, room, count)
 }
 
 /// What answers lines.
@@ -62,16 +93,18 @@ trait Answerer {
         ensures { IfOk result (λ text. IsAnswer self.now line.now (string_bytes text)) };
 }
 
-/// The language of the worked cases.
+/// The language of the worked cases, in lines that may nest so deep.
 #[derive(Clone, Copy)]
-struct WorkedCases;
+struct WorkedCases {
+    depth: usize,
+}
 
 impl Answerer for WorkedCases {
     // Which answer comes, no clause says.
     ghost IsAnswer = { λ s line text. ⊤ };
 
     fn answer(&self, alloc: Global, line: &[u8]) -> Result<String, AllocError> {
-        worked_cases::call(alloc, line)
+        worked_cases::call(alloc, self.depth, line)
     }
 }
 

@@ -46,9 +46,10 @@ fn answer(line: &mut Line<'_>) -> LineResult {
     line.bad_line()
 }
 
-/// The written answer of a line's call, or `bad line` if the line is not in the language.
-pub fn call(alloc: Global, line: &[u8]) -> Result<String, AllocError> {
-    Ok(answer_line(Run::alone(alloc), line)?.answer.text)
+/// The written answer of a line's call, `bad line` if the line is not in the language, or `TooDeep` if
+/// more than `depth` brackets nest in a type or a value, or connectives and parentheses in a filter.
+pub fn call(alloc: Global, depth: usize, line: &[u8]) -> Result<String, AllocError> {
+    Ok(answer_line(Run::within(alloc, depth), line)?.answer.text)
 }
 
 /// How a line comes out.

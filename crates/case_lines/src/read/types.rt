@@ -80,21 +80,33 @@ fn head_named(word: &[u8]) -> Option<Head> {
     }
 }
 
-/// How many brackets may open inside one more bracket. Without room for that one the line is bad.
-pub fn within(tokens: &mut Tokens<'_>, room: u32) -> Option<u32>
+/// How many brackets may open inside one more bracket. Without room for that one the line nests too
+/// deep.
+pub fn within(tokens: &mut Tokens<'_>, room: usize) -> Option<usize>
     ensures { IfSome result (λ left. left + 1 ≡ room) }
 {
     let left = room.checked_sub(1);
     if left.is_none() {
-        tokens.bad_line();
+        tokens.too_deep();
     }
     left
 }
 
-/// Reads a type with at most `room` brackets open at a time. `Null` stands for a type that was
-/// refused.
+/// Reads a type. `Null` stands for a type that was refused.
+pub fn read_type(tokens: &mut Tokens<'_>) -> DType {
+    let room = tokens.room;
+    type_within(tokens, room)
+}
+
+/// Reads fields, or variants, which have an id before each name.
+pub fn read_fields(tokens: &mut Tokens<'_>, has_ids: bool, close: u8) -> Fields {
+    let room = tokens.room;
+    fields_within(tokens, has_ids, close, room)
+}
+
+/// Reads a type with at most `room` brackets open at a time.
 #[cycle(types)]
-pub fn read_type(tokens: &mut Tokens<'_>, room: u32) -> DType {
+pub fn type_within(tokens: &mut Tokens<'_>, room: usize) -> DType {
     match read_head(tokens) {
         Head::Null => DType::Null,
         Head::Bool => DType::Bool(tokens.nullability()),
@@ -114,33 +126,33 @@ pub fn read_type(tokens: &mut Tokens<'_>, room: u32) -> DType {
 
 /// Reads the parts of a type, and what closes them.
 #[cycle(types)]
-fn read_parts(tokens: &mut Tokens<'_>, head: Head, room: u32) -> Result<DType, VortexError> {
+fn read_parts(tokens: &mut Tokens<'_>, head: Head, room: usize) -> Result<DType, VortexError> {
     match head {
         Head::FixedSizeList => {
-            let element = read_type(tokens, room);
+            let element = type_within(tokens, room);
             fixed_size_list_of(tokens, element)
         }
         Head::Map => {
-            let key = read_type(tokens, room);
+            let key = type_within(tokens, room);
             tokens.expect(b',');
-            let value = read_type(tokens, room);
+            let value = type_within(tokens, room);
             map_of(tokens, key, value)
         }
         Head::Struct => {
-            let fields = read_fields(tokens, false, b'}', room);
+            let fields = fields_within(tokens, false, b'}', room);
             struct_of(tokens, fields)
         }
         Head::Union => {
-            let fields = read_fields(tokens, true, b')', room);
+            let fields = fields_within(tokens, true, b')', room);
             union_of(tokens, fields)
         }
         Head::Extension => {
             let (id, metadata) = read_extension_head(tokens);
-            let storage = read_type(tokens, room);
+            let storage = type_within(tokens, room);
             extension_of(tokens, id, metadata, storage)
         }
         _ => {
-            let element = read_type(tokens, room);
+            let element = type_within(tokens, room);
             list_of(tokens, element)
         }
     }
@@ -163,9 +175,9 @@ pub fn struct_fields(alloc: Global, fields: Fields) -> Result<StructFields, Vort
     StructFields::new(alloc, fields.names, fields.dtypes)
 }
 
-/// Reads fields, or variants, which have an id before each name.
+/// Reads fields, or variants, with at most `room` brackets open in the type of each.
 #[cycle(types)]
-pub fn read_fields(tokens: &mut Tokens<'_>, has_ids: bool, close: u8, room: u32) -> Fields {
+fn fields_within(tokens: &mut Tokens<'_>, has_ids: bool, close: u8, room: usize) -> Fields {
     let mut fields = Fields {
         names: Vec::new(tokens.alloc),
         dtypes: Vec::new(tokens.alloc),
@@ -176,7 +188,7 @@ pub fn read_fields(tokens: &mut Tokens<'_>, has_ids: bool, close: u8, room: u32)
             break;
         }
         read_field_head(tokens, has_ids, &mut fields);
-        let dtype = read_type(tokens, room);
+        let dtype = type_within(tokens, room);
         tokens.push(&mut fields.dtypes, dtype);
     }
     fields

@@ -2,7 +2,7 @@
 
 use crate::read::numbers::{integer, natural, read_negative};
 use crate::read::texts::{bytes_of_hex, read_text};
-use crate::read::types::{read_type, within};
+use crate::read::types::{type_within, within};
 use crate::tokens::Tokens;
 use std::alloc::Global;
 use vortex_dtype::{DType, VortexError};
@@ -72,9 +72,21 @@ fn read_union_head(tokens: &mut Tokens<'_>, id: u64) -> Head {
     Head::Whole(None)
 }
 
+/// Reads a raw value; `None` is a null.
+pub fn read_value(tokens: &mut Tokens<'_>) -> Option<ScalarValue> {
+    let room = tokens.room;
+    value_within(tokens, room)
+}
+
+/// Reads a scalar. It need not be valid.
+pub fn read_scalar(tokens: &mut Tokens<'_>) -> Scalar {
+    let room = tokens.room;
+    scalar_within(tokens, room)
+}
+
 /// Reads a raw value with at most `room` brackets open at a time; `None` is a null.
 #[cycle(values)]
-pub fn read_value(tokens: &mut Tokens<'_>, room: u32) -> Option<ScalarValue> {
+fn value_within(tokens: &mut Tokens<'_>, room: usize) -> Option<ScalarValue> {
     match read_head(tokens) {
         Head::Whole(value) => value,
         head => {
@@ -86,18 +98,18 @@ pub fn read_value(tokens: &mut Tokens<'_>, room: u32) -> Option<ScalarValue> {
 
 /// Reads the parts of a raw value, and what closes them.
 #[cycle(values)]
-fn read_parts(tokens: &mut Tokens<'_>, head: Head, room: u32) -> Option<ScalarValue> {
+fn read_parts(tokens: &mut Tokens<'_>, head: Head, room: usize) -> Option<ScalarValue> {
     match head {
         Head::Whole(value) => value,
         Head::Tuple => Some(ScalarValue::Tuple(read_tuple(tokens, room))),
         Head::Union(id) => {
-            let child = read_value(tokens, room);
+            let child = value_within(tokens, room);
             tokens.expect(b')');
             let made = union_of(tokens.alloc, id, child);
             tokens.made(made)
         }
         Head::Variant => {
-            let scalar = read_scalar(tokens, room);
+            let scalar = scalar_within(tokens, room);
             tokens.expect(b'>');
             let made = variant_of(tokens.alloc, scalar);
             tokens.made(made)
@@ -106,13 +118,13 @@ fn read_parts(tokens: &mut Tokens<'_>, head: Head, room: u32) -> Option<ScalarVa
 }
 
 #[cycle(values)]
-fn read_tuple(tokens: &mut Tokens<'_>, room: u32) -> Vec<Option<ScalarValue>> {
+fn read_tuple(tokens: &mut Tokens<'_>, room: usize) -> Vec<Option<ScalarValue>> {
     let mut parts = Vec::new(tokens.alloc);
     for before in 0..=tokens.left() {
         if !tokens.has_item(before, b']') {
             break;
         }
-        let part = read_value(tokens, room);
+        let part = value_within(tokens, room);
         tokens.push(&mut parts, part);
     }
     parts
@@ -126,11 +138,11 @@ fn variant_of(alloc: Global, scalar: Scalar) -> Result<ScalarValue, VortexError>
     Ok(ScalarValue::Variant(Box::new(alloc, scalar)?))
 }
 
-/// Reads a scalar. It need not be valid.
+/// Reads a scalar with at most `room` brackets open at a time.
 #[cycle(values)]
-pub fn read_scalar(tokens: &mut Tokens<'_>, room: u32) -> Scalar {
-    let dtype = read_type(tokens, room);
+fn scalar_within(tokens: &mut Tokens<'_>, room: usize) -> Scalar {
+    let dtype = type_within(tokens, room);
     tokens.expect(b':');
-    let value = read_value(tokens, room);
+    let value = value_within(tokens, room);
     Scalar { dtype, value }
 }
