@@ -20,8 +20,8 @@
  * Calls on different threads need no lock: nothing is kept from one call to the next.
  *
  * Stack: a call takes at most 4 kilobytes of it, or 12 of statistics, whatever it is given. That was measured, on x86-64; no
- * contract speaks of stack. doqallin_call says what it takes. Calls of filters take more for each level that nests in a filter,
- * at most 256: how much was not measured. */
+ * contract speaks of stack. doqallin_call says what it takes. Calls of filters take 12 kilobytes, and 1.6 more for each level
+ * that nests. So with a `depth` of 32 none ends a process on a thread of 128 kilobytes. */
 #ifndef DOQALLIN_H
 #define DOQALLIN_H
 #include <stdbool.h>
@@ -262,11 +262,12 @@ enum {
     DOQALLIN_NO_LITERAL,         /* no literal but null is of the column's type */
     DOQALLIN_NUMBER_TOO_LONG,    /* the number is 2^64 or more */
     DOQALLIN_BAD_TEXT,           /* no token begins here, or it does not end */
-    DOQALLIN_TOO_DEEP            /* more than 256 connectives and parentheses nest */
+    DOQALLIN_TOO_DEEP            /* more connectives and parentheses nest than may */
 };
 
 /* A filter in SQL's words (docs/FILTERS.md), over columns by name and kind, prepared to bytes in their stable form
- * (docs/FILTER_FORM.md). The calls below take these. If several statuses but GIVEN fit, the first of these comes:
+ * (docs/FILTER_FORM.md). The calls below take these. At most `depth` connectives and parentheses may nest in the words, and
+ * connectives in the form: 32 suffice for most. If several statuses but GIVEN fit, the first of these comes:
  * UNKNOWN_KIND, NOT_UTF8: of the columns the first that is of no kind, or has a name that is not UTF-8, is mistake->place.
  * NOT_UTF8: the words are not, and mistake->place is column_count.
  * BAD_FILTER: mistake->place is the byte of the words where something else had to come, or their length, and
@@ -277,31 +278,33 @@ enum {
  * GIVEN: the form has the first *count bytes of the room; those after it are as they were.
  * NO_MEMORY: may come in place of all but GIVEN and NO_ROOM. */
 uint32_t doqallin_prepare_filter(const uint8_t *words, size_t words_length, const struct doqallin_named_kind *columns,
-                                 size_t column_count, uint8_t *room, size_t room_length, size_t *count,
+                                 size_t column_count, size_t depth, uint8_t *room, size_t room_length, size_t *count,
                                  struct doqallin_mistake *mistake);
 
 /* What a prepared filter can be on the rows of zones, by their statistics: a byte of `outcomes` for each zone. It is 1 if the
  * filter can be false on a row, plus 2 if it can be unknown, plus 4 if it can be true. A piece is the statistics of one column
  * in one zone, in their stable form (docs/STATISTICS.md): piece k is the bytes from offsets[k] to offsets[k + 1]. Pieces stand
- * zone by zone, one for each column that the filter was prepared for. An empty piece leaves all open.
+ * zone by zone, one for each column that the filter was prepared for. An empty piece leaves all open. `depth` is how many
+ * connectives may nest in the filter: as many as it was prepared with suffice.
  * GIVEN: each zone has its byte. Under each other status the outcomes may have any bytes, and the first of these comes:
- * BAD_BYTES: the filter is no form. fault->column is offsets_length, and fault->place its first byte that no form has there, or
- * its length if it ends too early.
+ * BAD_BYTES: the filter is no form that nests so deep at most. fault->column is offsets_length, and fault->place its first byte
+ * that no such form has there, or its length if it ends too early.
  * WRONG_LENGTH: exactly if there are not as many offsets as pieces, and one more. fault->column is offsets_length.
  * BAD_OFFSETS: an offset of the piece fault->column is below the one before it, or past the end of the statistics.
  * BAD_BYTES: the piece fault->column is no form of statistics of its column's kind; fault->place is as above, in the piece. Of
  * the last two the first piece decides.
  * NO_MEMORY: memory is asked for the filter, and for one zone at a time. */
 uint32_t doqallin_filter_outcomes(const uint8_t *filter, size_t filter_length, const uint8_t *statistics,
-                                  size_t statistics_length, const uint64_t *offsets, size_t offsets_length,
+                                  size_t statistics_length, const uint64_t *offsets, size_t offsets_length, size_t depth,
                                   uint8_t *outcomes, size_t outcomes_length, struct doqallin_fault *fault);
 
 /* Which rows match a prepared filter: a bit for each, 1 if the filter is true of it, from the least significant bit on. The
- * columns are those that it was prepared for, in their order; strings and bytes may have either width of offsets.
+ * columns are those that it was prepared for, in their order; strings and bytes may have either width of offsets. `depth` is as
+ * above. Whoever prepares a filter for the columns that it names alone need pass no others.
  * GIVEN: the room begins with the bits of the rows. Those after them in their last byte are 0, and the bytes after it are as
  * they were. Of the others the first of these comes:
- * BAD_BYTES: the filter is no form. fault->column is column_count, and fault->place its first byte that no form has there, or
- * its length if it ends too early.
+ * BAD_BYTES: the filter is no form that nests so deep at most. fault->column is column_count, and fault->place its first byte
+ * that no such form has there, or its length if it ends too early.
  * WRONG_LENGTH: exactly if the columns are not as many as the filter's. fault->column is column_count.
  * UNKNOWN_KIND, TOO_MANY_ROWS, TOO_SHORT, BAD_OFFSETS, NOT_UTF8: fault->column cannot be read, for what is at fault->place.
  * UNKNOWN_KIND: fault->column is of another kind than the filter's, and fault->place is 1.
@@ -310,7 +313,8 @@ uint32_t doqallin_filter_outcomes(const uint8_t *filter, size_t filter_length, c
  * NO_MEMORY: memory is asked for the filter, for each column, and for values of more than 22 bytes. The bits may then say
  * anything. */
 uint32_t doqallin_filter_mask(const uint8_t *filter, size_t filter_length, const struct doqallin_column *columns,
-                              size_t column_count, uint8_t *room, size_t room_length, struct doqallin_fault *fault);
+                              size_t column_count, size_t depth, uint8_t *room, size_t room_length,
+                              struct doqallin_fault *fault);
 
 /* Nearly any call of the library, by a line of text. In the library doqallin_call.
  * The line has the call's name and what it is given, as the worked cases in crates/scalar_cases/stdin: `cast i32:1000i32 i16`

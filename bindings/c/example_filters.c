@@ -27,7 +27,7 @@ int main(void) {
     uint8_t filter[100];
     size_t filter_length;
     struct doqallin_mistake mistake;
-    if (doqallin_prepare_filter(BYTES("fare > 10"), columns, 1, filter, sizeof filter, &filter_length, &mistake)) return 1;
+    if (doqallin_prepare_filter(BYTES("fare > 10"), columns, 1, 32, filter, sizeof filter, &filter_length, &mistake)) return 1;
 
     // The statistics of the zones, one behind another.
     uint8_t statistics[80];
@@ -38,12 +38,12 @@ int main(void) {
         offsets[zone + 1] = offsets[zone] + length;
     }
     uint8_t outcomes[2];
-    need(doqallin_filter_outcomes(filter, filter_length, statistics, offsets[2], offsets, 3, outcomes, 2, &fault));
+    need(doqallin_filter_outcomes(filter, filter_length, statistics, offsets[2], offsets, 3, 32, outcomes, 2, &fault));
     for (int zone = 0; zone < 2; zone++) {
         printf("zone %d: %s\n", zone, outcomes[zone] & 4 ? "is read" : "is skipped");
         if (!(outcomes[zone] & 4)) continue;
         uint8_t mask;
-        need(doqallin_filter_mask(filter, filter_length, &zones[zone], 1, &mask, 1, &fault));
+        need(doqallin_filter_mask(filter, filter_length, &zones[zone], 1, 32, &mask, 1, &fault));
         for (int row = 0; row < 3; row++)
             if (mask >> row & 1) printf("row %d: %u\n", row, fares[zone][row]);
     }

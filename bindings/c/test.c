@@ -390,13 +390,13 @@ static int at_mistake(size_t place, uint32_t expected) { return mistake.place ==
 static uint32_t prepare(const char *words, size_t columns) {
     fresh();
     mistake = (struct doqallin_mistake){77, 78};
-    return doqallin_prepare_filter((const uint8_t *)words, strlen(words), schema, columns, room, ROOM, &count, &mistake);
+    return doqallin_prepare_filter((const uint8_t *)words, strlen(words), schema, columns, 256, room, ROOM, &count, &mistake);
 }
 
 static void prepared_filters(void) {
     static const uint8_t above_five[] = {1, 0, 0, 0, 0, 0, 0, 0, 1, 21, 5, 0, 0, 0, 0, 0, 0, 0, 0, 5, 13, 5};
     CHECK(prepare("n > 5", 1) == DOQALLIN_GIVEN && count == 22 && !memcmp(room, above_five, 22) && is_kept(room, 22) && at_mistake(77, 78));
-    CHECK(doqallin_prepare_filter(BYTES("n > 5"), schema, 1, other, 21, &count, &mistake) == DOQALLIN_NO_ROOM && count == 22);
+    CHECK(doqallin_prepare_filter(BYTES("n > 5"), schema, 1, 256, other, 21, &count, &mistake) == DOQALLIN_NO_ROOM && count == 22);
     CHECK(is_kept(other, 0) && at_mistake(77, 78));
     CHECK(prepare("n > 'a'", 2) == DOQALLIN_BAD_FILTER && at_mistake(4, DOQALLIN_TYPES_DIFFER) && count == 77 && is_kept(room, 0));
     CHECK(prepare("n > ", 2) == DOQALLIN_BAD_FILTER && at_mistake(4, DOQALLIN_EXPECTED_LITERAL));
@@ -407,9 +407,9 @@ static void prepared_filters(void) {
     CHECK(prepare("n > 5 n", 2) == DOQALLIN_BAD_FILTER && at_mistake(6, DOQALLIN_EXPECTED_END));
     CHECK(prepare("s = '\xff'", 2) == DOQALLIN_NOT_UTF8 && at_mistake(2, 0) && count == 77 && is_kept(room, 0));
     struct doqallin_named_kind wrong[] = {schema[0], {(const uint8_t *)"\xff", 1, DOQALLIN_BOOL}};
-    CHECK(doqallin_prepare_filter(BYTES("\xff"), wrong, 2, room, ROOM, &count, &mistake) == DOQALLIN_NOT_UTF8 && at_mistake(1, 0));
+    CHECK(doqallin_prepare_filter(BYTES("\xff"), wrong, 2, 256, room, ROOM, &count, &mistake) == DOQALLIN_NOT_UTF8 && at_mistake(1, 0));
     wrong[0].kind = 14;
-    CHECK(doqallin_prepare_filter(BYTES("\xff"), wrong, 2, room, ROOM, &count, &mistake) == DOQALLIN_UNKNOWN_KIND && at_mistake(0, 0));
+    CHECK(doqallin_prepare_filter(BYTES("\xff"), wrong, 2, 256, room, ROOM, &count, &mistake) == DOQALLIN_UNKNOWN_KIND && at_mistake(0, 0));
     // 256 levels are read. A number that the type lacks takes two more in the form.
     char deep[256 * 4 + 12];
     for (int i = 0; i < 256; i++) memcpy(deep + 4 * i, "not ", 4);
@@ -419,6 +419,9 @@ static void prepared_filters(void) {
     memcpy(deep + 1024, "not true", 9);
     CHECK(prepare(deep, 1) == DOQALLIN_BAD_FILTER && at_mistake(1028, DOQALLIN_TOO_DEEP));
     CHECK(prepare("true", 0) == DOQALLIN_GIVEN && count == 10 && room[9] == 2 && is_kept(room, 10));
+    // With one level less the same words nest too deep.
+    CHECK(doqallin_prepare_filter(BYTES("not (not true)"), schema, 0, 3, room, ROOM, &count, &mistake) == DOQALLIN_GIVEN && count == 12);
+    CHECK(doqallin_prepare_filter(BYTES("not (not true)"), schema, 0, 2, room, ROOM, &count, &mistake) == DOQALLIN_BAD_FILTER && at_mistake(9, DOQALLIN_TOO_DEEP));
 }
 
 static void filter_rows(void) {
@@ -429,29 +432,31 @@ static void filter_rows(void) {
         {DOQALLIN_UTF8, valid, 0, (const uint8_t *)"abbabc", 6, ends, 20, 0, 4},
     };
     CHECK(prepare("n > 5 and s like 'a%'", 2) == DOQALLIN_NO_ROOM && count < sizeof form);
-    CHECK(doqallin_prepare_filter(BYTES("n > 5 and s like 'a%'"), schema, 2, form, sizeof form, &form_length, &mistake) == DOQALLIN_GIVEN);
+    CHECK(doqallin_prepare_filter(BYTES("n > 5 and s like 'a%'"), schema, 2, 256, form, sizeof form, &form_length, &mistake) == DOQALLIN_GIVEN);
     fault = (struct doqallin_fault){77, 78};
     fresh();
-    CHECK(doqallin_filter_mask(form, form_length, two, 2, room, 1, &fault) == DOQALLIN_GIVEN && holds(room, 1, "\x08") && at_fault(77, 78));
-    CHECK(doqallin_filter_mask(form, form_length, two, 2, other, 0, &fault) == DOQALLIN_NO_ROOM && is_kept(other, 0) && at_fault(77, 78));
-    CHECK(doqallin_filter_mask(form, form_length - 1, two, 2, other, 1, &fault) == DOQALLIN_BAD_BYTES && at_fault(2, form_length - 1));
-    CHECK(doqallin_filter_mask(form, form_length, two, 1, other, 1, &fault) == DOQALLIN_WRONG_LENGTH && at_fault(1, 0));
+    CHECK(doqallin_filter_mask(form, form_length, two, 2, 32, room, 1, &fault) == DOQALLIN_GIVEN && holds(room, 1, "\x08") && at_fault(77, 78));
+    CHECK(doqallin_filter_mask(form, form_length, two, 2, 32, other, 0, &fault) == DOQALLIN_NO_ROOM && is_kept(other, 0) && at_fault(77, 78));
+    CHECK(doqallin_filter_mask(form, form_length, two, 2, 1, room, 1, &fault) == DOQALLIN_GIVEN && holds(room, 1, "\x08"));
+    CHECK(doqallin_filter_mask(form, form_length, two, 2, 0, other, 1, &fault) == DOQALLIN_BAD_BYTES && at_fault(2, 11));
+    CHECK(doqallin_filter_mask(form, form_length - 1, two, 2, 32, other, 1, &fault) == DOQALLIN_BAD_BYTES && at_fault(2, form_length - 1));
+    CHECK(doqallin_filter_mask(form, form_length, two, 1, 32, other, 1, &fault) == DOQALLIN_WRONG_LENGTH && at_fault(1, 0));
     two[0].kind = DOQALLIN_U16;
-    CHECK(doqallin_filter_mask(form, form_length, two, 2, other, 1, &fault) == DOQALLIN_UNKNOWN_KIND && at_fault(0, 1));
+    CHECK(doqallin_filter_mask(form, form_length, two, 2, 32, other, 1, &fault) == DOQALLIN_UNKNOWN_KIND && at_fault(0, 1));
     two[0].kind = 14;
-    CHECK(doqallin_filter_mask(form, form_length, two, 2, other, 1, &fault) == DOQALLIN_UNKNOWN_KIND && at_fault(0, 0));
+    CHECK(doqallin_filter_mask(form, form_length, two, 2, 32, other, 1, &fault) == DOQALLIN_UNKNOWN_KIND && at_fault(0, 0));
     two[0].kind = DOQALLIN_I16;
     two[1].length = 3;
-    CHECK(doqallin_filter_mask(form, form_length, two, 2, other, 1, &fault) == DOQALLIN_WRONG_LENGTH && at_fault(1, 0));
+    CHECK(doqallin_filter_mask(form, form_length, two, 2, 32, other, 1, &fault) == DOQALLIN_WRONG_LENGTH && at_fault(1, 0));
     two[1].offset = 2;
-    CHECK(doqallin_filter_mask(form, form_length, two, 2, other, 1, &fault) == DOQALLIN_TOO_SHORT && at_fault(1, 2));
+    CHECK(doqallin_filter_mask(form, form_length, two, 2, 32, other, 1, &fault) == DOQALLIN_TOO_SHORT && at_fault(1, 2));
     CHECK(is_kept(other, 0));
     // The rows from the third on, of which there are two.
     two[0].offset = two[1].offset = 2;
     two[0].length = two[1].length = 2;
-    CHECK(doqallin_filter_mask(form, form_length, two, 2, room, 1, &fault) == DOQALLIN_GIVEN && holds(room, 1, "\x02"));
+    CHECK(doqallin_filter_mask(form, form_length, two, 2, 32, room, 1, &fault) == DOQALLIN_GIVEN && holds(room, 1, "\x02"));
     two[0].length = two[1].length = 0;
-    CHECK(doqallin_filter_mask(form, form_length, two, 2, other, 0, &fault) == DOQALLIN_GIVEN);
+    CHECK(doqallin_filter_mask(form, form_length, two, 2, 32, other, 0, &fault) == DOQALLIN_GIVEN);
 }
 
 static void filter_zones(void) {
@@ -464,22 +469,23 @@ static void filter_zones(void) {
     memcpy(known + 22, high, 22);
     memcpy(known + 44, nulls, 18);
     uint64_t starts[] = {0, 22, 22, 44, 62};
-    CHECK(doqallin_prepare_filter(BYTES("n > 5 or s = 'a'"), schema, 2, form, sizeof form, &form_length, &mistake) == DOQALLIN_GIVEN);
+    CHECK(doqallin_prepare_filter(BYTES("n > 5 or s = 'a'"), schema, 2, 256, form, sizeof form, &form_length, &mistake) == DOQALLIN_GIVEN);
     fault = (struct doqallin_fault){77, 78};
     fresh();
-    CHECK(doqallin_filter_outcomes(form, form_length, known, 62, starts, 5, room, 2, &fault) == DOQALLIN_GIVEN && holds(room, 2, "\7\4") && at_fault(77, 78));
-    CHECK(doqallin_filter_outcomes(form, form_length, known, 62, starts, 3, room, 1, &fault) == DOQALLIN_GIVEN && room[0] == 7);
-    CHECK(doqallin_filter_outcomes(form, form_length, known, 62, starts, 1, room, 0, &fault) == DOQALLIN_GIVEN);
-    CHECK(doqallin_filter_outcomes(form, form_length - 1, known, 62, starts, 5, room, 2, &fault) == DOQALLIN_BAD_BYTES && at_fault(5, form_length - 1));
-    CHECK(doqallin_filter_outcomes(form, form_length, known, 62, starts, 4, room, 2, &fault) == DOQALLIN_WRONG_LENGTH && at_fault(4, 0));
-    CHECK(doqallin_filter_outcomes(form, form_length, known, 62, starts, 0, room, 0, &fault) == DOQALLIN_WRONG_LENGTH && at_fault(0, 0));
-    CHECK(doqallin_filter_outcomes(form, form_length, known, 61, starts, 5, room, 2, &fault) == DOQALLIN_BAD_OFFSETS && at_fault(3, 0));
+    CHECK(doqallin_filter_outcomes(form, form_length, known, 62, starts, 5, 32, room, 2, &fault) == DOQALLIN_GIVEN && holds(room, 2, "\7\4") && at_fault(77, 78));
+    CHECK(doqallin_filter_outcomes(form, form_length, known, 62, starts, 3, 32, room, 1, &fault) == DOQALLIN_GIVEN && room[0] == 7);
+    CHECK(doqallin_filter_outcomes(form, form_length, known, 62, starts, 1, 32, room, 0, &fault) == DOQALLIN_GIVEN);
+    CHECK(doqallin_filter_outcomes(form, form_length, known, 62, starts, 5, 0, other, 2, &fault) == DOQALLIN_BAD_BYTES && at_fault(5, 11));
+    CHECK(doqallin_filter_outcomes(form, form_length - 1, known, 62, starts, 5, 32, room, 2, &fault) == DOQALLIN_BAD_BYTES && at_fault(5, form_length - 1));
+    CHECK(doqallin_filter_outcomes(form, form_length, known, 62, starts, 4, 32, room, 2, &fault) == DOQALLIN_WRONG_LENGTH && at_fault(4, 0));
+    CHECK(doqallin_filter_outcomes(form, form_length, known, 62, starts, 0, 32, room, 0, &fault) == DOQALLIN_WRONG_LENGTH && at_fault(0, 0));
+    CHECK(doqallin_filter_outcomes(form, form_length, known, 61, starts, 5, 32, room, 2, &fault) == DOQALLIN_BAD_OFFSETS && at_fault(3, 0));
     starts[3] = 43;
-    CHECK(doqallin_filter_outcomes(form, form_length, known, 62, starts, 5, room, 2, &fault) == DOQALLIN_BAD_BYTES && at_fault(2, 21));
+    CHECK(doqallin_filter_outcomes(form, form_length, known, 62, starts, 5, 32, room, 2, &fault) == DOQALLIN_BAD_BYTES && at_fault(2, 21));
     starts[3] = 45;
-    CHECK(doqallin_filter_outcomes(form, form_length, known, 62, starts, 5, room, 2, &fault) == DOQALLIN_BAD_BYTES && at_fault(2, 22));
+    CHECK(doqallin_filter_outcomes(form, form_length, known, 62, starts, 5, 32, room, 2, &fault) == DOQALLIN_BAD_BYTES && at_fault(2, 22));
     known[1] = 64;
-    CHECK(doqallin_filter_outcomes(form, form_length, known, 62, starts, 5, room, 2, &fault) == DOQALLIN_BAD_BYTES && at_fault(0, 1));
+    CHECK(doqallin_filter_outcomes(form, form_length, known, 62, starts, 5, 32, room, 2, &fault) == DOQALLIN_BAD_BYTES && at_fault(0, 1));
 }
 
 static void calls(void) {
@@ -526,9 +532,9 @@ static uint32_t take_memory(int which) {
     case 6: return doqallin_column_statistics(&bools, 0, room, ROOM, &count, &fault);
     case 7: return doqallin_merge_statistics(DOQALLIN_I32, three, 22, three, 22, room, ROOM, &count, &fault);
     case 8: return doqallin_read_statistics(DOQALLIN_UTF8, lowest, sizeof lowest, room, ROOM, other, ROOM, &parts, &fault);
-    case 9: return doqallin_prepare_filter(BYTES("b = true"), flags, 1, room, ROOM, &count, &mistake);
-    case 10: return doqallin_filter_mask(is_true, sizeof is_true, &bools, 1, room, 1, &fault);
-    case 11: return doqallin_filter_outcomes(is_true, sizeof is_true, room, 0, offsets_of_none, 2, room, 1, &fault);
+    case 9: return doqallin_prepare_filter(BYTES("b = true"), flags, 1, 256, room, ROOM, &count, &mistake);
+    case 10: return doqallin_filter_mask(is_true, sizeof is_true, &bools, 1, 32, room, 1, &fault);
+    case 11: return doqallin_filter_outcomes(is_true, sizeof is_true, room, 0, offsets_of_none, 2, 32, room, 1, &fault);
     default: exit(2);
     }
 }

@@ -55,14 +55,14 @@ static void prepare(const uint8_t *kinds) {
     struct doqallin_mistake mistake = {77, 78};
     const uint8_t *text = exactly(6, (const uint8_t *)words, at);
     fresh();
-    CHECK(doqallin_prepare_filter(text, at, named, 2, room, 0, &form_length, &mistake) == DOQALLIN_NO_ROOM && is_kept(0, 0));
-    CHECK(doqallin_prepare_filter(text, at, named, 2, room, form_length, &count, &mistake) == DOQALLIN_GIVEN);
+    CHECK(doqallin_prepare_filter(text, at, named, 2, 256, room, 0, &form_length, &mistake) == DOQALLIN_NO_ROOM && is_kept(0, 0));
+    CHECK(doqallin_prepare_filter(text, at, named, 2, 256, room, form_length, &count, &mistake) == DOQALLIN_GIVEN);
     CHECK(count == form_length && is_kept(form_length, 0) && mistake.place == 77 && mistake.expected == 78);
     memcpy(form, room, form_length);
     // Cut short it is no filter, or another one.
     size_t less = below(at);
     text = exactly(6, (const uint8_t *)words, less);
-    uint32_t status = doqallin_prepare_filter(text, less, named, 2, room, ROOM, &count, &mistake);
+    uint32_t status = doqallin_prepare_filter(text, less, named, 2, 256, room, ROOM, &count, &mistake);
     CHECK(!status || (status == DOQALLIN_BAD_FILTER && mistake.place <= less && mistake.expected <= DOQALLIN_TOO_DEEP));
 }
 
@@ -87,18 +87,18 @@ static uint32_t of_mask(const struct doqallin_column *two, const uint8_t *kinds)
     const uint8_t *filter = exactly(6, form, form_length);
     fresh();
     if (status) {
-        CHECK(doqallin_filter_mask(filter, form_length, two, 2, room, ROOM, &fault) == status);
+        CHECK(doqallin_filter_mask(filter, form_length, two, 2, 256, room, ROOM, &fault) == status);
         CHECK(fault.column == where.column && fault.place == where.place && is_kept(0, 0));
         return status;
     }
     size_t rows = two[0].length, length = (rows + 7) / 8;
     memset(wanted, 0, length);
     for (size_t row = 0; row < rows; row++) wanted[row / 8] |= (truth_at(two, row) == YES) << row % 8;
-    CHECK(doqallin_filter_mask(filter, form_length, two, 2, room, length, &fault) == DOQALLIN_GIVEN);
+    CHECK(doqallin_filter_mask(filter, form_length, two, 2, 256, room, length, &fault) == DOQALLIN_GIVEN);
     CHECK(!memcmp(room, wanted, length) && is_kept(length, 0) && fault.column == 77);
     fresh();
-    if (length) CHECK(doqallin_filter_mask(filter, form_length, two, 2, room, length - 1, &fault) == DOQALLIN_NO_ROOM && is_kept(0, 0));
-    CHECK(doqallin_filter_mask(filter, form_length, two, 1, room, ROOM, &fault) == DOQALLIN_WRONG_LENGTH && fault.column == 1 && is_kept(0, 0));
+    if (length) CHECK(doqallin_filter_mask(filter, form_length, two, 2, 256, room, length - 1, &fault) == DOQALLIN_NO_ROOM && is_kept(0, 0));
+    CHECK(doqallin_filter_mask(filter, form_length, two, 1, 256, room, ROOM, &fault) == DOQALLIN_WRONG_LENGTH && fault.column == 1 && is_kept(0, 0));
     return status;
 }
 
@@ -114,10 +114,10 @@ static void of_zones(const struct doqallin_column *two) {
     offsets[3] = offsets[4] = offsets[2];
     const uint8_t *filter = exactly(6, form, form_length), *bytes = exactly(7, pieces, offsets[4]);
     fresh();
-    CHECK(doqallin_filter_outcomes(filter, form_length, bytes, offsets[4], offsets, 5, zones, 2, &fault) == DOQALLIN_GIVEN && fault.column == 77);
+    CHECK(doqallin_filter_outcomes(filter, form_length, bytes, offsets[4], offsets, 5, 256, zones, 2, &fault) == DOQALLIN_GIVEN && fault.column == 77);
     CHECK(zones[0] < 8 && zones[1] < 8);
     for (size_t row = 0; row < two[0].length; row++) CHECK(zones[0] & zones[1] & 1 << truth_at(two, row));
-    CHECK(doqallin_filter_outcomes(filter, form_length, bytes, offsets[4], offsets, 5, zones, 1, &fault) == DOQALLIN_WRONG_LENGTH && fault.column == 5);
+    CHECK(doqallin_filter_outcomes(filter, form_length, bytes, offsets[4], offsets, 5, 256, zones, 1, &fault) == DOQALLIN_WRONG_LENGTH && fault.column == 5);
 }
 
 static size_t change(uint8_t *bytes, size_t length) {
@@ -133,10 +133,10 @@ static uint32_t of_any_bytes(const struct doqallin_column *two) {
     const uint8_t *filter = exactly(6, form, length), *bytes = exactly(7, pieces, end);
     size_t many = below(4);
     fresh();
-    uint32_t status = doqallin_filter_mask(filter, length, two, 2, room, ROOM, &fault);
+    uint32_t status = doqallin_filter_mask(filter, length, two, 2, 256, room, ROOM, &fault);
     CHECK(!status || status == DOQALLIN_BAD_BYTES || status == DOQALLIN_WRONG_LENGTH || status == DOQALLIN_UNKNOWN_KIND);
     CHECK(status != DOQALLIN_BAD_BYTES || (fault.column == 2 && fault.place <= length));
-    uint32_t told = doqallin_filter_outcomes(filter, length, bytes, end, offsets, below(8) ? 5 : below(6), zones, below(8) ? 2 : many % 3, &fault);
+    uint32_t told = doqallin_filter_outcomes(filter, length, bytes, end, offsets, below(8) ? 5 : below(6), 256, zones, below(8) ? 2 : many % 3, &fault);
     CHECK(!told || told == DOQALLIN_BAD_BYTES || told == DOQALLIN_WRONG_LENGTH || told == DOQALLIN_BAD_OFFSETS);
     return told;
 }

@@ -132,6 +132,17 @@ class OfFilters(Released):
                 Filter(text, {"city": "utf8?", "fare": "u32"})
             self.assertLessEqual(error.exception.place or 0, len(text.encode()))
 
+    def test_nests(self) -> None:
+        for depth in [0, 1, 32, 500]:
+            wanted = Filter("not " * depth + "n = 1", {"n": "i64"}, depth)
+            self.assertEqual(list(wanted.mask({"n": [1, 2]})), [depth % 2 == 0, depth % 2 == 1])
+            self.assertEqual(pickle.loads(pickle.dumps(wanted)).depth, depth)
+            with self.assertRaises(doqallin.BadFilter) as error:
+                Filter("not " * (depth + 1) + "n = 1", {"n": "i64"}, depth)
+            self.assertEqual(error.exception.place, 4 * (depth + 1))
+        with self.assertRaises(doqallin.BadFilter):
+            Filter("not " * 33 + "n = 1", {"n": "i64"})
+
 
 if __name__ == "__main__":
     unittest.main()

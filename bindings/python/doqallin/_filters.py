@@ -16,7 +16,7 @@ from typing import Any, overload
 from . import _library
 from ._columns import BOOL, KINDS, Column, buffer_of, code_of, joined
 from ._errors import BadFilter, NoColumn, at
-from ._library import BAD_BYTES, BAD_FILTER, NO_ROOM, Fault, Mistake, NamedKind, check_column, encoded, new_room
+from ._library import BAD_BYTES, BAD_FILTER, MAX_SIZE, NO_ROOM, Fault, Mistake, NamedKind, check_column, encoded, new_room, size
 from ._reading import column, each_batch, fitted, raw_columns
 from ._statistics import Statistics
 from ._types import DType
@@ -98,7 +98,8 @@ class Filter:
     `text` is in the words of docs/FILTERS.md: comparisons, `is null`, `in`, `between`, `like 'abc%'`, `starts_with`, `and`,
     `or`, `not`. `schema` has the kind of each column that it may name: integers, `bool`, `utf8`, `binary`.
 
-    Raises BadFilter with the place of a mistake.
+    Raises BadFilter with the place of a mistake. More than `depth` connectives and parentheses that nest are one: each level
+    takes room on the stack.
 
     >>> wanted = Filter("city = 'Oslo' and fare >= 10", {"city": "utf8?", "fare": "u32"})
     >>> zone = {"city": statistics(["Bergen", "Moss"]), "fare": statistics([3, 12], of="u32")}
@@ -108,10 +109,10 @@ class Filter:
     [True, False, False]
     """
 
-    __slots__ = ("text", "schema", "_names", "_codes", "_prepared")
+    __slots__ = ("text", "schema", "depth", "_names", "_codes", "_prepared")
 
-    def __init__(self, text: str, schema: Mapping[str, str | DType]) -> None:
-        self.text = text
+    def __init__(self, text: str, schema: Mapping[str, str | DType], depth: int = 32) -> None:
+        self.text, self.depth = text, depth
         self.schema = dict(schema)
         self._names = tuple(self.schema)
         self._codes = tuple(code_of(of) for of in self.schema.values())
@@ -127,12 +128,12 @@ class Filter:
     def _prepare(self, codes: tuple[int, ...]) -> bytes:
         text, names = encoded(self.text), [encoded(name) for name in self._names]
         kinds = (NamedKind * max(1, len(names)))(*[NamedKind(name, len(name), code) for name, code in zip(names, codes)])
-        count, mistake = c_size_t(256 + 4 * len(text)), Mistake()
+        count, mistake, deep = c_size_t(256 + 4 * len(text)), Mistake(), size(self.depth)
         status = NO_ROOM
         while status == NO_ROOM:
             length = count.value
             room = new_room(length)
-            status = _library.prepare_filter(text, len(text), kinds, len(names), room, length, byref(count), byref(mistake))
+            status = _library.prepare_filter(text, len(text), kinds, len(names), deep, room, length, byref(count), byref(mistake))
         if status == BAD_FILTER:
             raise self._mistake(mistake)
         check_column(status, Fault())
@@ -147,7 +148,7 @@ class Filter:
         data, offsets = zones._pieces(self._names)
         outcomes, fault = new_room(len(zones)), Fault()
         status = _library.filter_outcomes(
-            prepared, len(prepared), data, len(data), buffer_of(offsets).address, len(offsets), outcomes, len(zones), byref(fault)
+            prepared, len(prepared), data, len(data), buffer_of(offsets).address, len(offsets), MAX_SIZE, outcomes, len(zones), byref(fault)
         )
         if status == BAD_BYTES and self._names:
             zone, place = divmod(fault.column, len(self._names))
@@ -200,7 +201,7 @@ class Filter:
         rows = len(each[0]) if each else 0
         length = (rows + 7) // 8
         room = new_room(length)
-        status = _library.filter_mask(prepared, len(prepared), raws, len(each), room, length, byref(fault))
+        status = _library.filter_mask(prepared, len(prepared), raws, len(each), MAX_SIZE, room, length, byref(fault))
         check_column(status, fault, f"column {self._names[fault.column]!r}: " if fault.column < len(self._names) else "")
         return Column._of(BOOL, rows, buffer_of(bytes(room)))
 
@@ -213,7 +214,7 @@ class Filter:
         return hash((self.text, self._names, self._codes))
 
     def __reduce__(self) -> tuple[Any, ...]:
-        return Filter, (self.text, {name: KINDS[code] for name, code in zip(self._names, self._codes)})
+        return Filter, (self.text, {name: KINDS[code] for name, code in zip(self._names, self._codes)}, self.depth)
 
     def __repr__(self) -> str:
         return f"Filter({self.text!r}, { {name: str(of) for name, of in self.schema.items()} })"

@@ -142,9 +142,9 @@ column_statistics = _declare("column_statistics", c_uint32, _OUT, c_size_t, *_SP
 merge_statistics = _declare("merge_statistics", c_uint32, c_uint8, *_BYTES, *_BYTES, *_SPACE, _OUT, _OUT)
 read_statistics = _declare("read_statistics", c_uint32, c_uint8, *_BYTES, *_SPACE, *_SPACE, _OUT, _OUT)
 cast_column = _declare("cast_column", c_uint32, _OUT, c_uint8, *_SPACE, _OUT)
-prepare_filter = _declare("prepare_filter", c_uint32, *_BYTES, *_SPACE, *_SPACE, _OUT, _OUT)
-filter_outcomes = _declare("filter_outcomes", c_uint32, *_BYTES, *_BYTES, *_SPACE, *_SPACE, _OUT)
-filter_mask = _declare("filter_mask", c_uint32, *_BYTES, *_SPACE, *_SPACE, _OUT)
+prepare_filter = _declare("prepare_filter", c_uint32, *_BYTES, *_SPACE, c_size_t, *_SPACE, _OUT, _OUT)
+filter_outcomes = _declare("filter_outcomes", c_uint32, *_BYTES, *_BYTES, *_SPACE, c_size_t, *_SPACE, _OUT)
+filter_mask = _declare("filter_mask", c_uint32, *_BYTES, *_SPACE, c_size_t, *_SPACE, _OUT)
 row_keys = _declare("row_keys", c_uint32, *_SPACE, *_BYTES, *_SPACE, *_SPACE, _OUT, _OUT)
 
 

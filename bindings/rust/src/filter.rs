@@ -6,6 +6,12 @@ use crate::arrow::RawColumns;
 use crate::{Column, Kind, Mistake, RowsError, Statistics, out_of_memory, raw};
 use std::fmt;
 
+/// How deep a filter may nest, if nobody says.
+const DEPTH: usize = 32;
+
+/// What `parse` prepared nests no deeper than it was told, so it is read whole.
+const WHOLE: usize = usize::MAX;
+
 /// Why there is no filter, or why it cannot be asked.
 #[derive(Clone, Copy, Debug, PartialEq, Eq)]
 pub enum FilterError {
@@ -105,7 +111,18 @@ pub struct Filter {
 
 impl Filter {
     /// Reads a filter, in the words of docs/FILTERS.md, over columns of these names and kinds.
+    ///
+    /// At most 32 connectives and parentheses may nest: each level takes room on the stack.
     pub fn parse(text: &str, columns: &[(&str, Kind)]) -> Result<Filter, FilterError> {
+        Filter::parse_within(text, columns, DEPTH)
+    }
+
+    /// As [`Filter::parse`], for a text in which at most `depth` connectives and parentheses nest.
+    pub fn parse_within(
+        text: &str,
+        columns: &[(&str, Kind)],
+        depth: usize,
+    ) -> Result<Filter, FilterError> {
         let named = |(name, kind): &(&str, Kind)| raw::NamedKind {
             name: name.as_ptr(),
             name_length: name.len(),
@@ -122,6 +139,7 @@ impl Filter {
                     text.len(),
                     kinds.as_ptr(),
                     kinds.len(),
+                    depth,
                     room.as_mut_ptr(),
                     room.len(),
                     &mut count,
@@ -182,6 +200,7 @@ impl Filter {
                 bytes.len(),
                 offsets.as_ptr(),
                 offsets.len(),
+                WHOLE,
                 outcomes.as_mut_ptr(),
                 outcomes.len(),
                 &mut fault,
@@ -227,6 +246,7 @@ impl Filter {
                 self.bytes.len(),
                 raws.columns.as_ptr(),
                 raws.columns.len(),
+                WHOLE,
                 room.as_mut_ptr(),
                 room.len(),
                 &mut fault,

@@ -749,6 +749,28 @@ fn mistakes_of_filters() {
 }
 
 #[test]
+fn filters_that_nest() {
+    let column = Column::integers(&[1i64, 2]);
+    let text = |depth: usize| format!("{}n = 1", "not ".repeat(depth));
+    let schema = [("n", Kind::I64)];
+    for depth in [0, 1, 32, 500] {
+        let place = 4 * (depth + 1);
+        let mistake = Mistake::TooDeep;
+        let error = FilterError::Mistake { place, mistake };
+        assert_eq!(
+            Filter::parse_within(&text(depth + 1), &schema, depth),
+            Err(error)
+        );
+        let filter = Filter::parse_within(&text(depth), &schema, depth).unwrap();
+        let is_even = depth % 2 == 0;
+        assert_eq!(filter.mask(&[column]), Ok(vec![is_even, !is_even]));
+        assert!(filter.outcomes(&[None]).unwrap().may_match());
+    }
+    assert!(Filter::parse(&text(32), &schema).is_ok());
+    assert!(Filter::parse(&text(33), &schema).is_err());
+}
+
+#[test]
 fn filters_from_one_text() {
     let text = "\"the; city\" = 'a;, ''b' and n > 1; \"the; city\" large_utf8? , n i16";
     let columns = [("the; city", Kind::LargeUtf8), ("n", Kind::I16)];

@@ -6,7 +6,7 @@ use Rattle.vortex_filter.specs.Formula.{Formula, constant}
 use Rattle.vortex_filter.specs.declared.truth.Truth.TheVariants.{True}
 use Rattle.vortex_row.proofs.ReaderSteps.{take-then}
 use Rattle.filter_form.specs.Answers.{IsFirstWrong, IsForm, ReadsAs}
-use Rattle.filter_form.specs.Form.{FormsAreApart, HasForm, IsPlain, Prepared, form, nesting, node_bytes, prepared, type_bytes}
+use Rattle.filter_form.specs.Form.{FormsAreApart, HasForm, IsPlain, Prepared, form, node_bytes, prepared, type_bytes}
 use Rattle.filter_form.specs.Lists.{AreListed, listed}
 use Rattle.filter_form.specs.Steps.{IsNode, IsNodeForm}
 use Rattle.filter_form.specs.declared.error.FilterFormError.{FilterFormError}
@@ -30,11 +30,11 @@ abbrev prepared_of : List TypeTree → Formula → Prepared
 prepared_of ts f = record { types = ts; filter = f }
 
 pub forms_apart : FormsAreApart
-forms_apart p q xs ys h g e =
+forms_apart m n p q xs ys h g e =
     let w = first_same 1 1 ((listed type_bytes p.types ++ node_bytes p.filter) ++ xs) ((listed type_bytes q.types ++ node_bytes q.filter) ++ ys) e in
     let v = columns_apart.apart p.types q.types (node_bytes p.filter ++ xs) (node_bytes q.filter ++ ys) h.types g.types
     (sym (append_assoc (listed type_bytes p.types) (node_bytes p.filter) xs) ∙ w.1 ∙ append_assoc (listed type_bytes q.types) (node_bytes q.filter) ys) in
-    let u = node_apart nesting nesting p.filter q.filter xs ys h.filter g.filter v.1 in
+    let u = node_apart m n p.filter q.filter xs ys h.filter g.filter v.1 in
     (ap₂ prepared_of v.0 u.0, u.1)
 
 -- ---- after the version
@@ -42,8 +42,8 @@ forms_apart p q xs ys h g e =
 abbrev Columns : List ℕ → Type 0
 Columns = IsFormOf (listed type_bytes) (AreListed IsPlain)
 
-form_goes_on : GoesOn (1 ∷ []) IsForm (Then Columns (IsNodeForm nesting))
-form_goes_on = record {
+form_goes_on : (n : ℕ) → GoesOn (1 ∷ []) (IsForm n) (Then Columns (IsNodeForm n))
+form_goes_on n = record {
   join = λ q r. record {
     value = prepared_of r.is_first.value r.is_second.value;
     is_one = record { types = r.is_first.is_one; filter = r.is_second.is_one };
@@ -57,7 +57,7 @@ form_goes_on = record {
           first = listed type_bytes p.types;
           second = node_bytes p.filter;
           is_first = form_of (listed type_bytes) (AreListed IsPlain) p.types h.is_one.types;
-          is_second = form_of node_bytes (IsNode nesting) p.filter h.is_one.filter;
+          is_second = form_of node_bytes (IsNode n) p.filter h.is_one.filter;
           is = refl;
         },
         w.1,
@@ -67,14 +67,14 @@ form_goes_on = record {
 no_columns : AreListed IsPlain []
 no_columns = record { fit = omega arith; each = tt }
 
-some_form : (s : List ℕ) × IsForm s
-some_form = (form (prepared_of [] (constant True)), form_of form HasForm (prepared_of [] (constant True)) (record { types = no_columns; filter = tt }))
+some_form : (n : ℕ) → (s : List ℕ) × IsForm n s
+some_form n = (form (prepared_of [] (constant True)), form_of form (HasForm n) (prepared_of [] (constant True)) (record { types = no_columns; filter = tt }))
 
 -- another version
-pub version_stuck : (old now : List ℕ) → now ≡ old → ((bs : List ℕ) → old ≢ 1 ∷ bs) → IsStuck IsForm old now
-version_stuck old now same other = subst (IsStuck IsForm old) (sym same) (stuck_here IsForm old some_form (none old other))
+pub version_stuck : (n : ℕ) (old now : List ℕ) → now ≡ old → ((bs : List ℕ) → old ≢ 1 ∷ bs) → IsStuck (IsForm n) old now
+version_stuck n old now same other = subst (IsStuck (IsForm n) old) (sym same) (stuck_here (IsForm n) old (some_form n) (none old other))
   where
-    none : (old : List ℕ) → ((bs : List ℕ) → old ≢ 1 ∷ bs) → NoneHere IsForm old
+    none : (old : List ℕ) → ((bs : List ℕ) → old ≢ 1 ∷ bs) → NoneHere (IsForm n) old
     none [] other s [] rest h alike e = let f : [] ≡ form h.value ++ rest = e ∙ ap (λ xs. xs ++ rest) h.is in absurd (cc)
     none [] other s (z ∷ zs) rest h alike e = alike
     none (b ∷ old) other s [] rest h alike e = alike
@@ -83,15 +83,15 @@ version_stuck old now same other = subst (IsStuck IsForm old) (sym same) (stuck_
         let w = first_same z 1 zs ((listed type_bytes p.types ++ node_bytes p.filter) ++ rest) (e ∙ ap (λ xs. xs ++ rest) h.is) in
         other old (ap (λ c. c ∷ old) (alike ∙ w.0))
 
-pub columns_stuck : (old mid now : List ℕ) → old ≡ 1 ∷ mid → IsStuck Columns mid now → IsStuck IsForm old now
-columns_stuck old mid now e stuck = first_stuck (1 ∷ []) IsForm Columns (IsNodeForm nesting) old mid now form_goes_on (some_node nesting) e stuck
+pub columns_stuck : (n : ℕ) (old mid now : List ℕ) → old ≡ 1 ∷ mid → IsStuck Columns mid now → IsStuck (IsForm n) old now
+columns_stuck n old mid now e stuck = first_stuck (1 ∷ []) (IsForm n) Columns (IsNodeForm n) old mid now (form_goes_on n) (some_node n) e stuck
 
-pub filter_stuck : (ts : List TypeTree) (old mid here now : List ℕ) → old ≡ 1 ∷ mid → HasRead (listed type_bytes) (AreListed IsPlain) ts mid here → IsStuck (IsNodeForm nesting) here now → IsStuck IsForm old now
-filter_stuck ts old mid here now e h stuck = second_stuck (listed type_bytes) (AreListed IsPlain) (1 ∷ []) IsForm (IsNodeForm nesting) ts old mid here now columns_apart form_goes_on e h stuck
+pub filter_stuck : (n : ℕ) (ts : List TypeTree) (old mid here now : List ℕ) → old ≡ 1 ∷ mid → HasRead (listed type_bytes) (AreListed IsPlain) ts mid here → IsStuck (IsNodeForm n) here now → IsStuck (IsForm n) old now
+filter_stuck n ts old mid here now e h stuck = second_stuck (listed type_bytes) (AreListed IsPlain) (1 ∷ []) (IsForm n) (IsNodeForm n) ts old mid here now columns_apart (form_goes_on n) e h stuck
 
-pub form_read : (ts : List TypeTree) (f : Formula) (old mid here now : List ℕ) → old ≡ 1 ∷ mid → HasRead (listed type_bytes) (AreListed IsPlain) ts mid here → HasRead node_bytes (IsNode nesting) f here now
-    → HasRead form HasForm (prepared_of ts f) old now
-form_read ts f old mid here now e h g = record {
+pub form_read : (n : ℕ) (ts : List TypeTree) (f : Formula) (old mid here now : List ℕ) → old ≡ 1 ∷ mid → HasRead (listed type_bytes) (AreListed IsPlain) ts mid here → HasRead node_bytes (IsNode n) f here now
+    → HasRead form (HasForm n) (prepared_of ts f) old now
+form_read n ts f old mid here now e h g = record {
   is_one = record { types = h.is_one; filter = g.is_one };
   is = e ∙ ap (λ xs. 1 ∷ xs) (h.is ∙ ap (λ xs. listed type_bytes ts ++ xs) g.is ∙ sym (append_assoc (listed type_bytes ts) (node_bytes f) now));
 }
@@ -134,34 +134,34 @@ place_of done bytes now left place split rest is =
     let count : place ≡ length done = omega arith in
     (count, omega arith, ap₂ drop count split ∙ drop_front done now)
 
-pub wrong_at : (bytes now : List ℕ) (left place : ℕ) → length now ≡ left → place ≡ length bytes - left → IsStuck IsForm bytes now → IsFirstWrong IsForm bytes place
-wrong_at bytes now left place rest is stuck =
+pub wrong_at : (n : ℕ) (bytes now : List ℕ) (left place : ℕ) → length now ≡ left → place ≡ length bytes - left → IsStuck (IsForm n) bytes now → IsFirstWrong (IsForm n) bytes place
+wrong_at n bytes now left place rest is stuck =
     let w = place_of stuck.done bytes now left place stuck.split rest is in
-    stuck_wrong IsForm bytes place w.1 (subst (IsStuck IsForm bytes) (sym w.2) stuck)
+    stuck_wrong (IsForm n) bytes place w.1 (subst (IsStuck (IsForm n) bytes) (sym w.2) stuck)
 
 -- bytes after a form
-pub wrong_after : (p : Prepared) (bytes now : List ℕ) (left place : ℕ) → length now ≡ left → place ≡ length bytes - left → HasRead form HasForm p bytes now → place < length bytes → IsFirstWrong IsForm bytes place
-wrong_after p bytes now left place rest is h less =
+pub wrong_after : (n : ℕ) (p : Prepared) (bytes now : List ℕ) (left place : ℕ) → length now ≡ left → place ≡ length bytes - left → HasRead form (HasForm n) p bytes now → place < length bytes → IsFirstWrong (IsForm n) bytes place
+wrong_after n p bytes now left place rest is h less =
     let w = place_of (form p) bytes now left place h.is rest is in
     let done : take place bytes ≡ form p = same_ends (take place bytes) (form p) now (ap (λ xs. take place bytes ++ xs) (sym w.2) ∙ sym (take-then place bytes) ∙ h.is) in
     let (b, more, at) = at_end place bytes less in
     let next = inside place bytes b more at in
     record {
       within = w.1;
-      before = record { more = []; is_one = subst IsForm (sym done ∙ sym (append-nil (take place bytes))) (form_of form HasForm p h.is_one) };
+      before = record { more = []; is_one = subst (IsForm n) (sym done ∙ sym (append-nil (take place bytes))) (form_of form (HasForm n) p h.is_one) };
       wrong = λ _ go.
-          let v = forms_apart p go.is_one.value (b ∷ go.more) [] h.is_one go.is_one.is_one
+          let v = forms_apart n n p go.is_one.value (b ∷ go.more) [] h.is_one go.is_one.is_one
           (ap (λ xs. xs ++ b ∷ go.more) (sym done) ∙ sym (append_assoc (take place bytes) (b ∷ []) go.more) ∙ ap (λ xs. xs ++ go.more) (sym next.1) ∙ go.is_one.is ∙ sym (append-nil (form go.is_one.value))) in
           absurd (cc (v.1));
       none = λ one.
-          let v = forms_apart p one.value now [] h.is_one one.is_one (sym h.is ∙ one.is ∙ sym (append-nil (form one.value))) in
+          let v = forms_apart n n p one.value now [] h.is_one one.is_one (sym h.is ∙ one.is ∙ sym (append-nil (form one.value))) in
           let f : b ∷ more ≡ [] = sym at ∙ w.2 ∙ v.1 in
           cc;
     }
 
 -- nothing is left after the whole form
-pub whole_read : (p : Prepared) (bytes now : List ℕ) (left place : ℕ) → length now ≡ left → place ≡ length bytes - left → HasRead form HasForm p bytes now → length bytes ≤ place → bytes ≡ form p
-whole_read p bytes now left place rest is h more =
+pub whole_read : (n : ℕ) (p : Prepared) (bytes now : List ℕ) (left place : ℕ) → length now ≡ left → place ≡ length bytes - left → HasRead form (HasForm n) p bytes now → length bytes ≤ place → bytes ≡ form p
+whole_read n p bytes now left place rest is h more =
     let w = place_of (form p) bytes now left place h.is rest is in
     let long : length bytes ≡ length (form p) + length now = ap length h.is ∙ length-append (form p) now in
     let empty : length now ≡ 0 = omega arith in
@@ -172,34 +172,34 @@ whole_read p bytes now left place rest is h more =
     none (x ∷ xs) e = absurd (omega arith)
 
 -- one form, one prepared filter
-pub same_form : (p q : Prepared) → HasForm p → HasForm q → form p ≡ form q → p ≡ q
-same_form p q h g e = (forms_apart p q [] [] h g (ap (λ xs. xs ++ []) e)).0
+pub same_form : (n : ℕ) (p q : Prepared) → HasForm n p → HasForm n q → form p ≡ form q → p ≡ q
+same_form n p q h g e = (forms_apart n n p q [] [] h g (ap (λ xs. xs ++ []) e)).0
 
 -- ---- what reading answers
 
-module _ (p : PreparedFilter) (bytes now : List ℕ) (left taken : ℕ) (rest : length now ≡ left) (is : taken ≡ length bytes - left) (h : HasRead form HasForm (prepared p) bytes now) where
+module _ (n : ℕ) (p : PreparedFilter) (bytes now : List ℕ) (left taken : ℕ) (rest : length now ≡ left) (is : taken ≡ length bytes - left) (h : HasRead form (HasForm n) (prepared p) bytes now) where
   abbrev Answers : Result PreparedFilter FilterFormError → Type 0
   Answers r = MatchResult r (λ q. (q ≡ p) × (length bytes ≤ taken)) (λ e. (e ≡ BadBytes taken) × (taken < length bytes))
 
-  pub ok_read : (r : Result PreparedFilter FilterFormError) → Answers r → IfOk r (λ q. HasForm (prepared q) × (bytes ≡ form (prepared q)))
-  ok_read (Ok q) a = subst (λ q. HasForm (prepared q) × (bytes ≡ form (prepared q))) (sym a.0) (h.is_one, whole_read (prepared p) bytes now left taken rest is h a.1)
+  pub ok_read : (r : Result PreparedFilter FilterFormError) → Answers r → IfOk r (λ q. HasForm n (prepared q) × (bytes ≡ form (prepared q)))
+  ok_read (Ok q) a = subst (λ q. HasForm n (prepared q) × (bytes ≡ form (prepared q))) (sym a.0) (h.is_one, whole_read n (prepared p) bytes now left taken rest is h a.1)
   ok_read (Err e) a = tt
 
-  pub ok_whole : (r : Result PreparedFilter FilterFormError) → Answers r → (q : Prepared) → HasForm q → bytes ≡ form q → ReadsAs q r
-  ok_whole (Ok x) a q g e = ap prepared a.0 ∙ same_form (prepared p) q h.is_one g (sym (whole_read (prepared p) bytes now left taken rest is h a.1) ∙ e)
-  ok_whole (Err d) a q g e = absurd ((wrong_after (prepared p) bytes now left taken rest is h a.1).none (record { value = q; is_one = g; is = e }))
+  pub ok_whole : (r : Result PreparedFilter FilterFormError) → Answers r → (q : Prepared) → HasForm n q → bytes ≡ form q → ReadsAs q r
+  ok_whole (Ok x) a q g e = ap prepared a.0 ∙ same_form n (prepared p) q h.is_one g (sym (whole_read n (prepared p) bytes now left taken rest is h a.1) ∙ e)
+  ok_whole (Err d) a q g e = absurd ((wrong_after n (prepared p) bytes now left taken rest is h a.1).none (record { value = q; is_one = g; is = e }))
 
-  pub ok_bad : (r : Result PreparedFilter FilterFormError) → Answers r → (place : ℕ) → r ≡ Err (BadBytes place) → IsFirstWrong IsForm bytes place
+  pub ok_bad : (r : Result PreparedFilter FilterFormError) → Answers r → (place : ℕ) → r ≡ Err (BadBytes place) → IsFirstWrong (IsForm n) bytes place
   ok_bad (Ok x) a place e = absurd (cc)
-  ok_bad (Err d) a place e = let same : taken ≡ place = (let f = a.0 in cc) in subst (IsFirstWrong IsForm bytes) same (wrong_after (prepared p) bytes now left taken rest is h a.1)
+  ok_bad (Err d) a place e = let same : taken ≡ place = (let f = a.0 in cc) in subst (IsFirstWrong (IsForm n) bytes) same (wrong_after n (prepared p) bytes now left taken rest is h a.1)
 
   pub ok_refused : (r : Result PreparedFilter FilterFormError) → Answers r → IfErr r (λ e. (e ≡ OutOfMemory) ⊎ ((place : ℕ) × (e ≡ BadBytes place)))
   ok_refused (Ok x) a = tt
   ok_refused (Err d) a = inr (taken, a.0)
 
 -- where the bytes are stuck
-pub bad_whole : (bytes : List ℕ) (place : ℕ) → IsFirstWrong IsForm bytes place → (q : Prepared) → HasForm q → bytes ≡ form q → BadBytes place ≡ OutOfMemory
-bad_whole bytes place w q g e = absurd (w.none (record { value = q; is_one = g; is = e }))
+pub bad_whole : (n : ℕ) (bytes : List ℕ) (place : ℕ) → IsFirstWrong (IsForm n) bytes place → (q : Prepared) → HasForm n q → bytes ≡ form q → BadBytes place ≡ OutOfMemory
+bad_whole n bytes place w q g e = absurd (w.none (record { value = q; is_one = g; is = e }))
 
-pub bad_bad : (bytes : List ℕ) (at : ℕ) → IsFirstWrong IsForm bytes at → (r : Result PreparedFilter FilterFormError) → r ≡ Err (BadBytes at) → (place : ℕ) → r ≡ Err (BadBytes place) → IsFirstWrong IsForm bytes place
-bad_bad bytes at w r here place e = let same : at ≡ place = cc in subst (IsFirstWrong IsForm bytes) same w
+pub bad_bad : (n : ℕ) (bytes : List ℕ) (at : ℕ) → IsFirstWrong (IsForm n) bytes at → (r : Result PreparedFilter FilterFormError) → r ≡ Err (BadBytes at) → (place : ℕ) → r ≡ Err (BadBytes place) → IsFirstWrong (IsForm n) bytes place
+bad_bad n bytes at w r here place e = let same : at ≡ place = cc in subst (IsFirstWrong (IsForm n) bytes) same w

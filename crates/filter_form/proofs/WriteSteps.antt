@@ -6,7 +6,7 @@ use Rattle.vortex_dtype.specs.TypeTree.{TypeTree}
 use Rattle.vortex_row.specs.Keys.{key}
 use Rattle.vortex_statistics.specs.Cells.{Cell}
 use Rattle.vortex_filter.specs.Formula.{Formula}
-use Rattle.filter_form.specs.Form.{CanBeWritten, IsPlain, IsPlainCell, Nests, Prepared, form, literal_bytes, nesting, node_bytes, type_byte, type_bytes}
+use Rattle.filter_form.specs.Form.{CanBeWritten, IsPlain, IsPlainCell, Nests, Prepared, form, literal_bytes, node_bytes, type_byte, type_bytes}
 use Rattle.filter_form.specs.Lists.{AreListed, listed}
 use Rattle.filter_form.specs.Steps.{Begins, IsRefused, Writes}
 use Rattle.filter_form.specs.declared.error.FilterFormError.{FilterFormError}
@@ -60,11 +60,11 @@ node_written n P xs f g r old now e to from is w = subst (λ k. Writes (Nests Is
 
 -- ---- the whole
 
-pub form_written : (p : Prepared) (r : Result Unit FilterFormError) (old mid here now : List ℕ) → mid ≡ old ++ 1 ∷ [] → AreListed IsPlain p.types × (here ≡ mid ++ listed type_bytes p.types)
-    → Writes (Nests IsPlainCell nesting p.filter) (node_bytes p.filter) r here now → Writes (CanBeWritten p) (form p) r old now
-form_written p r old mid here now version types w =
+pub form_written : (n : ℕ) (p : Prepared) (r : Result Unit FilterFormError) (old mid here now : List ℕ) → mid ≡ old ++ 1 ∷ [] → AreListed IsPlain p.types × (here ≡ mid ++ listed type_bytes p.types)
+    → Writes (Nests IsPlainCell n p.filter) (node_bytes p.filter) r here now → Writes (CanBeWritten n p) (form p) r old now
+form_written n p r old mid here now version types w =
     let at : here ≡ old ++ 1 ∷ listed type_bytes p.types = types.1 ∙ ap (λ xs. xs ++ listed type_bytes p.types) version ∙ append_assoc old (1 ∷ []) (listed type_bytes p.types) in
-    then_written (Nests IsPlainCell nesting p.filter) (CanBeWritten p) (1 ∷ listed type_bytes p.types) (node_bytes p.filter) r old here now (λ f. record { types = types.0; filter = f }) (λ a. a.filter) at w
+    then_written (Nests IsPlainCell n p.filter) (CanBeWritten n p) (1 ∷ listed type_bytes p.types) (node_bytes p.filter) r old here now (λ f. record { types = types.0; filter = f }) (λ a. a.filter) at w
 
 -- what writing answers, clause by clause
 pub appended_of : (P : Type 0) (bytes : List ℕ) (r : Result Unit FilterFormError) (old now : List ℕ) → Writes P bytes r old now → OnOk r (now ≡ old ++ bytes)

@@ -7,9 +7,9 @@ use Rattle.filter_form.specs.declared.error.FilterFormError.{FilterFormError}
 use Rattle.filter_form.specs.declared.error.FilterFormError.TheVariants.{OutOfMemory}
 use Rattle.filter_form.specs.declared.prepared.PreparedFilter.{PreparedFilter}
 
--- the form of a prepared filter
-abbrev pub IsForm : List ℕ → Type 0
-IsForm = IsFormOf form HasForm
+-- the form of a prepared filter in which at most n connectives nest
+abbrev pub IsForm : ℕ → List ℕ → Type 0
+IsForm n = IsFormOf form (HasForm n)
 
 -- The bytes are none of the strings, and this is the place of the first byte that none has: those before begin one, and with
 -- it they begin none. If the bytes end too early, it is the place after them.

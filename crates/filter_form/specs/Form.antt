@@ -124,10 +124,6 @@ Nests P (suc n) (negation f) = Nests P n f
 
 -- ---- prepared filters
 
--- how many connectives may nest
-abbrev pub nesting : ℕ
-nesting = 256
-
 -- what contracts see of a prepared filter: the types of its columns, and its formula
 pub record Prepared : Type 0 where
   pub types : List TypeTree
@@ -144,16 +140,16 @@ prepared p = parts_of p.columns.items p.filter
 abbrev pub form : Prepared → List ℕ
 form p = 1 ∷ (listed type_bytes p.types ++ node_bytes p.filter)
 
--- the columns and the literals are of types that have bytes, and the filter does not nest too deep
-pub record CanBeWritten (p : Prepared) : Type 0 where
+-- the columns and the literals are of types that have bytes, and at most n connectives nest
+pub record CanBeWritten (n : ℕ) (p : Prepared) : Type 0 where
   pub types : AreListed IsPlain p.types
-  pub filter : Nests IsPlainCell nesting p.filter
+  pub filter : Nests IsPlainCell n p.filter
 
 -- the same, and each literal is a value of its type
-pub record HasForm (p : Prepared) : Type 0 where
+pub record HasForm (n : ℕ) (p : Prepared) : Type 0 where
   pub types : AreListed IsPlain p.types
-  pub filter : Nests IsLiteral nesting p.filter
+  pub filter : Nests IsLiteral n p.filter
 
 -- What begins with the forms of two prepared filters has the same types, the same formula, and one rest.
 abbrev pub FormsAreApart : Type 0
-FormsAreApart = (p q : Prepared) (xs ys : List ℕ) → HasForm p → HasForm q → form p ++ xs ≡ form q ++ ys → (p ≡ q) × (xs ≡ ys)
+FormsAreApart = (m n : ℕ) (p q : Prepared) (xs ys : List ℕ) → HasForm m p → HasForm n q → form p ++ xs ≡ form q ++ ys → (p ≡ q) × (xs ≡ ys)

@@ -14,21 +14,26 @@ use crate::writing::VERSION;
 use std::alloc::Global;
 use vortex_filter::{CompareOperator, Filter};
 
-/// The prepared filter that has this form.
+/// The prepared filter that has this form, in which at most `depth` connectives nest.
 ///
-/// `BadBytes` if the bytes are not, whole, the form of a prepared filter: its place is that of the
-/// first byte that no form has there, or of the end if they end too early. `OutOfMemory` may come in
+/// `BadBytes` if the bytes are not, whole, the form of such a filter: its place is that of the first
+/// byte that no such form has there, or of the end if they end too early. `OutOfMemory` may come in
 /// place of each answer.
-pub fn read_filter(alloc: Global, bytes: &[u8]) -> Result<PreparedFilter, FilterFormError>
-    ensures read { IfOk result (λ p. HasForm (prepared p) × (bytes.now ≡ form (prepared p))) }
-    ensures whole { (p : Prepared) → HasForm p → bytes.now ≡ form p → ReadsAs p result }
+pub fn read_filter(
+    alloc: Global,
+    depth: usize,
+    bytes: &[u8],
+) -> Result<PreparedFilter, FilterFormError>
+    ensures read { IfOk result
+        (λ p. HasForm depth (prepared p) × (bytes.now ≡ form (prepared p))) }
+    ensures whole { (p : Prepared) → HasForm depth p → bytes.now ≡ form p → ReadsAs p result }
     ensures bad { (place : ℕ) → result ≡ Err (BadBytes place)
-        → IsFirstWrong IsForm bytes.now place }
+        → IsFirstWrong (IsForm depth) bytes.now place }
     ensures refused { IfErr result (λ e. (e ≡ OutOfMemory)
         ⊎ ((place : ℕ) × (e ≡ BadBytes place))) }
 {
     let mut reader = Reader { rest: bytes };
-    let answer = read_form(alloc, &mut reader);
+    let answer = read_form(alloc, depth, &mut reader);
     let taken = bytes.len().saturating_sub(reader.rest.len());
     match answer {
         Ok(prepared) => whole_or_bad(prepared, taken, bytes.len()),
@@ -55,12 +60,16 @@ fn whole_or_bad(
 }
 
 /// The prepared filter with whose form the bytes begin.
-fn read_form(alloc: Global, reader: &mut Reader<'_>) -> Result<PreparedFilter, Fault>
-    ensures { Reads form HasForm prepared result (left reader.old) (left reader.new) }
+fn read_form(
+    alloc: Global,
+    depth: usize,
+    reader: &mut Reader<'_>,
+) -> Result<PreparedFilter, Fault>
+    ensures { Reads form (HasForm depth) prepared result (left reader.old) (left reader.new) }
 {
     read_version(reader)?;
     let columns = read_types(alloc, reader)?;
-    match read_node(alloc, Filter::MAX_DEPTH, reader) {
+    match read_node(alloc, depth, reader) {
         Ok(filter) => Ok(PreparedFilter { columns, filter }),
         Err(fault) => {
             drop(columns);

@@ -18,23 +18,24 @@ pub(crate) const VERSION: u8 = 1;
 /// Appends the form of the filter over columns of these types, and nothing else.
 ///
 /// `NoForm` only if a column or a literal is of a type other than integers, bool, strings, bytes and
-/// nulls, or if more than `Filter::MAX_DEPTH` connectives nest. Such a filter is never written.
+/// nulls, or if more than `depth` connectives nest. Such a filter is never written.
 /// `OutOfMemory` is the only other refusal. After a refusal `out` has the bytes that it had. The
 /// literals need not be valid for their types.
 pub fn append_filter(
     filter: &Filter,
     columns: &[DType],
+    depth: usize,
     out: &mut Vec<u8>,
 ) -> Result<(), FilterFormError>
     ensures appended { OnOk result
         (out.new.items ≡ out.old.items ++ form (parts_of columns.now filter.now)) }
-    ensures written { OnOk result (CanBeWritten (parts_of columns.now filter.now)) }
-    ensures no_form { result ≡ Err NoForm → ¬ (CanBeWritten (parts_of columns.now filter.now)) }
+    ensures written { OnOk result (CanBeWritten depth (parts_of columns.now filter.now)) }
+    ensures no_form { result ≡ Err NoForm → ¬ (CanBeWritten depth (parts_of columns.now filter.now)) }
     ensures refused { IfErr result (λ e. (e ≡ NoForm) ⊎ (e ≡ OutOfMemory)) }
     ensures unchanged { OnErr result (out.new.items ≡ out.old.items) }
 {
     let start = out.len();
-    let appended = append_form(filter, columns, out);
+    let appended = append_form(filter, columns, depth, out);
     if appended.is_err() {
         out.truncate(start);
     }
@@ -42,29 +43,35 @@ pub fn append_filter(
 }
 
 /// Appends the form. After a refusal a part of it may stand there.
-fn append_form(filter: &Filter, columns: &[DType], out: &mut Vec<u8>) -> Result<(), FilterFormError>
+fn append_form(
+    filter: &Filter,
+    columns: &[DType],
+    depth: usize,
+    out: &mut Vec<u8>,
+) -> Result<(), FilterFormError>
     ensures appended { OnOk result
         (out.new.items ≡ out.old.items ++ form (parts_of columns.now filter.now)) }
-    ensures written { OnOk result (CanBeWritten (parts_of columns.now filter.now)) }
-    ensures no_form { result ≡ Err NoForm → ¬ (CanBeWritten (parts_of columns.now filter.now)) }
+    ensures written { OnOk result (CanBeWritten depth (parts_of columns.now filter.now)) }
+    ensures no_form { result ≡ Err NoForm → ¬ (CanBeWritten depth (parts_of columns.now filter.now)) }
     ensures refused { IfErr result (λ e. (e ≡ NoForm) ⊎ (e ≡ OutOfMemory)) }
     ensures begun { (more : List ℕ) × (out.new.items ≡ out.old.items ++ more) }
 {
-    append_parts(filter, columns, out)
+    append_parts(filter, columns, depth, out)
 }
 
 /// Appends the version, the types and the filter.
 fn append_parts(
     filter: &Filter,
     columns: &[DType],
+    depth: usize,
     out: &mut Vec<u8>,
 ) -> Result<(), FilterFormError>
-    ensures { Writes (CanBeWritten (parts_of columns.now filter.now))
+    ensures { Writes (CanBeWritten depth (parts_of columns.now filter.now))
         (form (parts_of columns.now filter.now)) result out.old.items out.new.items }
 {
     append_byte(VERSION, out)?;
     append_types(columns, out)?;
-    append_node(filter, Filter::MAX_DEPTH, out)
+    append_node(filter, depth, out)
 }
 
 /// Appends these bytes.

@@ -15,7 +15,7 @@ use Rattle.vortex_dtype.specs.declared.types.DType.{DType}
 use Rattle.vortex_filter.specs.Columns.{ColumnTree, column_tree, column_trees}
 use Rattle.vortex_filter.specs.Faults.{IsPlaced}
 use Rattle.vortex_filter.specs.Formula.{Formula, formula}
-use Rattle.vortex_filter.specs.Parsing.{IsSql, RefusesSql}
+use Rattle.vortex_filter.specs.Parsing.{IsSqlWithin, RefusesSqlWithin}
 use Rattle.vortex_filter.specs.declared.column.Column.{Column}
 use Rattle.vortex_filter.specs.declared.filter.Filter.{Filter}
 use Rattle.vortex_filter.specs.declared.sql.error.ParseError.{ParseError}
@@ -81,42 +81,42 @@ types-all columns k types h all = all ∙ ap types_of_kinds (take_all k columns 
 
 -- ---- words
 
-pub words-fault : (trees : List ColumnTree) (words : List ℕ) (e : ParseError) → IsUtf8 words → RefusesSql trees words e → IsPlaced (length words) e → IsWordsFault trees words (fault_of_words e)
-words-fault trees words errors.OutOfMemory u r p = tt
-words-fault trees words (errors.Expected place expected) u r p = (u, r, p)
-words-fault trees words (errors.NoColumn place) u r p = (u, r, p)
-words-fault trees words (errors.TypesDiffer place) u r p = (u, r, p)
-words-fault trees words (errors.NoLiteral place) u r p = (u, r, p)
-words-fault trees words (errors.NumberTooLong place) u r p = (u, r, p)
-words-fault trees words (errors.BadText place) u r p = (u, r, p)
-words-fault trees words (errors.TooDeep place) u r p = (u, r, p)
+pub words-fault : (n : ℕ) (trees : List ColumnTree) (words : List ℕ) (e : ParseError) → IsUtf8 words → RefusesSqlWithin n trees words e → IsPlaced (length words) e → IsWordsFault n trees words (fault_of_words e)
+words-fault n trees words errors.OutOfMemory u r p = tt
+words-fault n trees words (errors.Expected place expected) u r p = (u, r, p)
+words-fault n trees words (errors.NoColumn place) u r p = (u, r, p)
+words-fault n trees words (errors.TypesDiffer place) u r p = (u, r, p)
+words-fault n trees words (errors.NoLiteral place) u r p = (u, r, p)
+words-fault n trees words (errors.NumberTooLong place) u r p = (u, r, p)
+words-fault n trees words (errors.BadText place) u r p = (u, r, p)
+words-fault n trees words (errors.TooDeep place) u r p = (u, r, p)
 
-of-columns : (words : List ℕ) (columns : List NamedKind) (e : SqlFault) → IsColumnsFault columns e → IsSqlFault words columns e
-of-columns words columns OutOfMemory h = tt
-of-columns words columns (NotAKind place) h = h
-of-columns words columns (NameNotUtf8 place) h = h
-of-columns words columns NotUtf8 h = absurd h.4
-of-columns words columns (NoFilter cause) h = absurd h.4
-of-columns words columns NoForm h = absurd h.4
+of-columns : (n : ℕ) (words : List ℕ) (columns : List NamedKind) (e : SqlFault) → IsColumnsFault columns e → IsSqlFault n words columns e
+of-columns n words columns OutOfMemory h = tt
+of-columns n words columns (NotAKind place) h = h
+of-columns n words columns (NameNotUtf8 place) h = h
+of-columns n words columns NotUtf8 h = absurd h.4
+of-columns n words columns (NoFilter cause) h = absurd h.4
+of-columns n words columns NoForm h = absurd h.4
 
-of-words : (words : List ℕ) (columns : List NamedKind) (e : SqlFault) → AreNamed columns → IsWordsFault (trees_of_kinds columns) words e → IsSqlFault words columns e
-of-words words columns OutOfMemory all h = tt
-of-words words columns (NotAKind place) all h = absurd h
-of-words words columns (NameNotUtf8 place) all h = absurd h
-of-words words columns NotUtf8 all h = (all, h)
-of-words words columns (NoFilter cause) all h = (all, h)
-of-words words columns NoForm all h = absurd h
+of-words : (n : ℕ) (words : List ℕ) (columns : List NamedKind) (e : SqlFault) → AreNamed columns → IsWordsFault n (trees_of_kinds columns) words e → IsSqlFault n words columns e
+of-words n words columns OutOfMemory all h = tt
+of-words n words columns (NotAKind place) all h = absurd h
+of-words n words columns (NameNotUtf8 place) all h = absurd h
+of-words n words columns NotUtf8 all h = (all, h)
+of-words n words columns (NoFilter cause) all h = (all, h)
+of-words n words columns NoForm all h = absurd h
 
-pub named-refused : (words : List ℕ) (columns : List NamedKind) (r : Result Filter SqlFault) (e : SqlFault) → IsErr r × IsErrAnd r (λ f. f ≡ e) → IsColumnsFault columns e → IfErr r (IsSqlFault words columns)
-named-refused words columns (Ok x) e h k = tt
-named-refused words columns (Err f) e h k = subst (IsSqlFault words columns) (sym h.1) (of-columns words columns e k)
+pub named-refused : (n : ℕ) (words : List ℕ) (columns : List NamedKind) (r : Result Filter SqlFault) (e : SqlFault) → IsErr r × IsErrAnd r (λ f. f ≡ e) → IsColumnsFault columns e → IfErr r (IsSqlFault n words columns)
+named-refused n words columns (Ok x) e h k = tt
+named-refused n words columns (Err f) e h k = subst (IsSqlFault n words columns) (sym h.1) (of-columns n words columns e k)
 
-pub words-refused : (words : List ℕ) (columns : List NamedKind) (trees : List ColumnTree) (r : Result Filter SqlFault) → trees ≡ trees_of_kinds columns → AreNamed columns → IfErr r (IsWordsFault trees words) → IfErr r (IsSqlFault words columns)
-words-refused words columns trees (Ok x) is all h = tt
-words-refused words columns trees (Err e) is all h = of-words words columns e all (subst (λ ts. IsWordsFault ts words e) is h)
+pub words-refused : (n : ℕ) (words : List ℕ) (columns : List NamedKind) (trees : List ColumnTree) (r : Result Filter SqlFault) → trees ≡ trees_of_kinds columns → AreNamed columns → IfErr r (IsWordsFault n trees words) → IfErr r (IsSqlFault n words columns)
+words-refused n words columns trees (Ok x) is all h = tt
+words-refused n words columns trees (Err e) is all h = of-words n words columns e all (subst (λ ts. IsWordsFault n ts words e) is h)
 
-pub words-read : (words : List ℕ) (columns : List NamedKind) (trees : List ColumnTree) (r : Result Filter SqlFault) → trees ≡ trees_of_kinds columns → IfOk r (λ filter. IsSql trees words (formula filter)) → IfOk r (λ filter. IsSql (trees_of_kinds columns) words (formula filter))
-words-read words columns trees r is h = subst (λ ts. IfOk r (λ filter. IsSql ts words (formula filter))) is h
+pub words-read : (n : ℕ) (words : List ℕ) (columns : List NamedKind) (trees : List ColumnTree) (r : Result Filter SqlFault) → trees ≡ trees_of_kinds columns → IfOk r (λ filter. IsSqlWithin n trees words (formula filter)) → IfOk r (λ filter. IsSqlWithin n (trees_of_kinds columns) words (formula filter))
+words-read n words columns trees r is h = subst (λ ts. IfOk r (λ filter. IsSqlWithin n ts words (formula filter))) is h
 
 pub filter-named : (r : Result Filter SqlFault) (P : Type 0) → P → OnOk r P
 filter-named (Ok x) P h = h
@@ -124,27 +124,27 @@ filter-named (Err e) P h = tt
 
 -- ---- forms
 
-pub form-along : (types : List DType) (columns : List NamedKind) (filter : Filter) (r : Result (Vec ℕ Global) SqlFault) → map type_of types ≡ types_of_kinds columns → WritesForm (parts_of types filter) r → WritesForm (prepared_of columns (formula filter)) r
-form-along types columns filter r is h =
+pub form-along : (n : ℕ) (types : List DType) (columns : List NamedKind) (filter : Filter) (r : Result (Vec ℕ Global) SqlFault) → map type_of types ≡ types_of_kinds columns → WritesForm n (parts_of types filter) r → WritesForm n (prepared_of columns (formula filter)) r
+form-along n types columns filter r is h =
     let prepared_with : List TypeTree → Prepared = λ ts. record { types = ts; filter = formula filter } in
-    subst (λ p. WritesForm p r) (ap prepared_with is) h
+    subst (λ p. WritesForm n p r) (ap prepared_with is) h
 
-pub form-refused : (p : Prepared) (r : Result (Vec ℕ Global) SqlFault) (e : SqlFault) → IsErr r × IsErrAnd r (λ f. f ≡ e) → e ≡ OutOfMemory → WritesForm p r
-form-refused p (Ok x) e h is = absurd h.1
-form-refused p (Err f) e h is = inl (h.1 ∙ is)
+pub form-refused : (n : ℕ) (p : Prepared) (r : Result (Vec ℕ Global) SqlFault) (e : SqlFault) → IsErr r × IsErrAnd r (λ f. f ≡ e) → e ≡ OutOfMemory → WritesForm n p r
+form-refused n p (Ok x) e h is = absurd h.1
+form-refused n p (Err f) e h is = inl (h.1 ∙ is)
 
-pub prepared-from : (words : List ℕ) (columns : List NamedKind) (f : Formula) (r : Result (Vec ℕ Global) SqlFault) → AreNamed columns → IsSql (trees_of_kinds columns) words f → WritesForm (prepared_of columns f) r → IfOk r (λ bytes. IsPreparedFrom words columns bytes.items)
-prepared-from words columns f (Ok bytes) all means h = record { named = all; filter = f; means = means; written = h.0; is = h.1 }
-prepared-from words columns f (Err e) all means h = tt
+pub prepared-from : (n : ℕ) (words : List ℕ) (columns : List NamedKind) (f : Formula) (r : Result (Vec ℕ Global) SqlFault) → AreNamed columns → IsSqlWithin n (trees_of_kinds columns) words f → WritesForm n (prepared_of columns f) r → IfOk r (λ bytes. IsPreparedFrom n words columns bytes.items)
+prepared-from n words columns f (Ok bytes) all means h = record { named = all; filter = f; means = means; written = h.0; is = h.1 }
+prepared-from n words columns f (Err e) all means h = tt
 
-pub form-fault : (words : List ℕ) (columns : List NamedKind) (f : Formula) (r : Result (Vec ℕ Global) SqlFault) → AreNamed columns → IsSql (trees_of_kinds columns) words f → WritesForm (prepared_of columns f) r → IfErr r (IsSqlFault words columns)
-form-fault words columns f (Ok bytes) all means h = tt
-form-fault words columns f (Err e) all means (inl none) = subst (IsSqlFault words columns) (sym none) tt
-form-fault words columns f (Err e) all means (inr deep) = subst (IsSqlFault words columns) (sym deep.0) (all, (f, means, deep.1))
+pub form-fault : (n : ℕ) (words : List ℕ) (columns : List NamedKind) (f : Formula) (r : Result (Vec ℕ Global) SqlFault) → AreNamed columns → IsSqlWithin n (trees_of_kinds columns) words f → WritesForm n (prepared_of columns f) r → IfErr r (IsSqlFault n words columns)
+form-fault n words columns f (Ok bytes) all means h = tt
+form-fault n words columns f (Err e) all means (inl none) = subst (IsSqlFault n words columns) (sym none) tt
+form-fault n words columns f (Err e) all means (inr deep) = subst (IsSqlFault n words columns) (sym deep.0) (all, (f, means, deep.1))
 
-pub filter-refused : (words : List ℕ) (columns : List NamedKind) (r : Result (Vec ℕ Global) SqlFault) (e : SqlFault) → IsErr r × IsErrAnd r (λ f. f ≡ e) → IsSqlFault words columns e → IfErr r (IsSqlFault words columns)
-filter-refused words columns (Ok x) e h k = tt
-filter-refused words columns (Err f) e h k = subst (IsSqlFault words columns) (sym h.1) k
+pub filter-refused : (n : ℕ) (words : List ℕ) (columns : List NamedKind) (r : Result (Vec ℕ Global) SqlFault) (e : SqlFault) → IsErr r × IsErrAnd r (λ f. f ≡ e) → IsSqlFault n words columns e → IfErr r (IsSqlFault n words columns)
+filter-refused n words columns (Ok x) e h k = tt
+filter-refused n words columns (Err f) e h k = subst (IsSqlFault n words columns) (sym h.1) k
 
 pub not-prepared : (status : ℕ) → status ≢ GIVEN → status ≢ NO_ROOM → IsPreparedStatus status → ⊥
 not-prepared status given room (inl h) = given h

@@ -9,7 +9,7 @@ use Rattle.vortex_dtype.specs.TypeTree.{TypeTree}
 use Rattle.vortex_filter.specs.Columns.{ColumnTree}
 use Rattle.vortex_filter.specs.Faults.{IsPlaced, place_of}
 use Rattle.vortex_filter.specs.Formula.{Formula}
-use Rattle.vortex_filter.specs.Parsing.{IsSql, RefusesSql}
+use Rattle.vortex_filter.specs.Parsing.{IsSqlWithin, RefusesSqlWithin}
 use Rattle.vortex_filter.specs.declared.sql.error.Expected.{Expected}
 use Rattle.vortex_filter.specs.declared.sql.error.Expected.TheVariants.{And, Backslash, Closing, Column, Comma, End, Filter, Literal, Null, Opening, Operator, Prefix}
 use Rattle.vortex_filter.specs.declared.sql.error.ParseError.{ParseError}
@@ -51,21 +51,22 @@ AreNamed columns = AreNamedBefore columns (length columns)
 abbrev pub prepared_of : List NamedKind → Formula → Prepared
 prepared_of columns f = record { types = types_of_kinds columns; filter = f }
 
--- the bytes are the form of the filter that the words are, over these columns
-pub record IsPreparedFrom (words : List ℕ) (columns : List NamedKind) (bytes : List ℕ) : Type 0 where
+-- the bytes are the form of the filter that the words are, over these columns; in both at most n connectives nest, and in the
+-- words parentheses too
+pub record IsPreparedFrom (n : ℕ) (words : List ℕ) (columns : List NamedKind) (bytes : List ℕ) : Type 0 where
   pub named : AreNamed columns
   pub filter : Formula
-  pub means : IsSql (trees_of_kinds columns) words filter
-  pub written : CanBeWritten (prepared_of columns filter)
+  pub means : IsSqlWithin n (trees_of_kinds columns) words filter
+  pub written : CanBeWritten n (prepared_of columns filter)
   pub is : bytes ≡ form (prepared_of columns filter)
 
 -- the bytes are the form of what is prepared so, or there is no memory, or it has no form
-abbrev pub WritesForm : Prepared → Result (Vec ℕ Global) SqlFault → Type 0
-WritesForm p r = MatchResult r (λ bytes. CanBeWritten p × (bytes.items ≡ form p)) (λ e. (e ≡ OutOfMemory) ⊎ ((e ≡ NoForm) × ¬ (CanBeWritten p)))
+abbrev pub WritesForm : ℕ → Prepared → Result (Vec ℕ Global) SqlFault → Type 0
+WritesForm n p r = MatchResult r (λ bytes. CanBeWritten n p × (bytes.items ≡ form p)) (λ e. (e ≡ OutOfMemory) ⊎ ((e ≡ NoForm) × ¬ (CanBeWritten n p)))
 
 -- such a form has this length
-abbrev pub IsPreparedLength : List ℕ → List NamedKind → ℕ → Type 0
-IsPreparedLength words columns count = (bytes : List ℕ) × IsPreparedFrom words columns bytes × (count ≡ length bytes)
+abbrev pub IsPreparedLength : ℕ → List ℕ → List NamedKind → ℕ → Type 0
+IsPreparedLength n words columns count = (bytes : List ℕ) × IsPreparedFrom n words columns bytes × (count ≡ length bytes)
 
 -- there is a form: it is given, or the room for it is too small
 abbrev pub IsPreparedStatus : ℕ → Type 0
@@ -93,21 +94,21 @@ fault_of_words errors.OutOfMemory = OutOfMemory
 fault_of_words cause = NoFilter cause
 
 -- why words are no filter over such columns
-abbrev pub IsWordsFault : List ColumnTree → List ℕ → SqlFault → Type 0
-IsWordsFault trees words OutOfMemory = Unit {0}
-IsWordsFault trees words NotUtf8 = ¬ (IsUtf8 words)
-IsWordsFault trees words (NoFilter errors.OutOfMemory) = ⊥
-IsWordsFault trees words (NoFilter cause) = IsUtf8 words × RefusesSql trees words cause × IsPlaced (length words) cause
-IsWordsFault trees words _ = ⊥
+abbrev pub IsWordsFault : ℕ → List ColumnTree → List ℕ → SqlFault → Type 0
+IsWordsFault n trees words OutOfMemory = Unit {0}
+IsWordsFault n trees words NotUtf8 = ¬ (IsUtf8 words)
+IsWordsFault n trees words (NoFilter errors.OutOfMemory) = ⊥
+IsWordsFault n trees words (NoFilter cause) = IsUtf8 words × RefusesSqlWithin n trees words cause × IsPlaced (length words) cause
+IsWordsFault n trees words _ = ⊥
 
 -- why there is no form of the filter that the words are
-abbrev pub IsSqlFault : List ℕ → List NamedKind → SqlFault → Type 0
-IsSqlFault words columns OutOfMemory = Unit {0}
-IsSqlFault words columns (NotAKind place) = IsColumnsFault columns (NotAKind place)
-IsSqlFault words columns (NameNotUtf8 place) = IsColumnsFault columns (NameNotUtf8 place)
-IsSqlFault words columns NotUtf8 = AreNamed columns × IsWordsFault (trees_of_kinds columns) words NotUtf8
-IsSqlFault words columns (NoFilter cause) = AreNamed columns × IsWordsFault (trees_of_kinds columns) words (NoFilter cause)
-IsSqlFault words columns NoForm = AreNamed columns × ((f : Formula) × IsSql (trees_of_kinds columns) words f × ¬ (CanBeWritten (prepared_of columns f)))
+abbrev pub IsSqlFault : ℕ → List ℕ → List NamedKind → SqlFault → Type 0
+IsSqlFault n words columns OutOfMemory = Unit {0}
+IsSqlFault n words columns (NotAKind place) = IsColumnsFault columns (NotAKind place)
+IsSqlFault n words columns (NameNotUtf8 place) = IsColumnsFault columns (NameNotUtf8 place)
+IsSqlFault n words columns NotUtf8 = AreNamed columns × IsWordsFault n (trees_of_kinds columns) words NotUtf8
+IsSqlFault n words columns (NoFilter cause) = AreNamed columns × IsWordsFault n (trees_of_kinds columns) words (NoFilter cause)
+IsSqlFault n words columns NoForm = AreNamed columns × ((f : Formula) × IsSqlWithin n (trees_of_kinds columns) words f × ¬ (CanBeWritten n (prepared_of columns f)))
 
 abbrev pub status_of_sql : SqlFault → ℕ
 status_of_sql OutOfMemory = NO_MEMORY
@@ -157,6 +158,6 @@ mistake_of_sql columns (NoFilter cause) before = record { place = place_of_mista
 mistake_of_sql columns NoForm before = record { place = 0; expected = 17 }
 
 -- the call with this status prepared nothing for such a reason, and told what
-abbrev pub SaysWhyNotPrepared : List ℕ → List NamedKind → Mistake → Mistake → ℕ → Type 0
-SaysWhyNotPrepared words columns before after status =
-    (reason : SqlFault) × IsSqlFault words columns reason × (status ≡ status_of_sql reason) × (after ≡ mistake_of_sql (length columns) reason before)
+abbrev pub SaysWhyNotPrepared : ℕ → List ℕ → List NamedKind → Mistake → Mistake → ℕ → Type 0
+SaysWhyNotPrepared n words columns before after status =
+    (reason : SqlFault) × IsSqlFault n words columns reason × (status ≡ status_of_sql reason) × (after ≡ mistake_of_sql (length columns) reason before)

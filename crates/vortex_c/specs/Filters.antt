@@ -22,16 +22,16 @@ use Rattle.vortex_c.specs.declared.status.TheConstants.{BAD_BYTES, BAD_OFFSETS, 
 
 -- ---- the form of a filter
 
--- the bytes are the form of this prepared filter
-pub record IsFormOf (bytes : List ℕ) (p : Prepared) : Type 0 where
-  pub has_form : HasForm p
+-- the bytes are the form of this prepared filter, in which at most n connectives nest
+pub record IsFormOf (n : ℕ) (bytes : List ℕ) (p : Prepared) : Type 0 where
+  pub has_form : HasForm n p
   pub is : bytes ≡ form p
 
--- why bytes are not read as a prepared filter
-abbrev pub IsUnread : List ℕ → FilterFormError → Type 0
-IsUnread bytes OutOfMemory = Unit {0}
-IsUnread bytes NoForm = ⊥
-IsUnread bytes (BadBytes place) = IsFirstWrong IsForm bytes place
+-- why bytes are not read as such a filter
+abbrev pub IsUnread : ℕ → List ℕ → FilterFormError → Type 0
+IsUnread n bytes OutOfMemory = Unit {0}
+IsUnread n bytes NoForm = ⊥
+IsUnread n bytes (BadBytes place) = IsFirstWrong (IsForm n) bytes place
 
 abbrev pub status_of_form_fault : FilterFormError → ℕ
 status_of_form_fault OutOfMemory = NO_MEMORY
@@ -46,18 +46,18 @@ fault_of_form_fault column (BadBytes place) before = record { column = column; p
 
 -- ---- rows
 
--- the bytes are a prepared filter, the columns are those that it speaks of, and the room begins with a bit for each row, which
+-- the bytes are a prepared filter in which at most n connectives nest, the columns are those that it speaks of, and the room begins with a bit for each row, which
 -- says whether the filter matches it
-pub record IsFilterMask (bytes : List ℕ) (columns : List Column) (room : List ℕ) : Type 0 where
+pub record IsFilterMask (n : ℕ) (bytes : List ℕ) (columns : List Column) (room : List ℕ) : Type 0 where
   pub filter : Prepared
-  pub is_form : IsFormOf bytes filter
+  pub is_form : IsFormOf n bytes filter
   pub are_columns : AreColumnsOf columns filter.types
   pub mask : IsMask (matching filter.filter (cells_of_columns columns)) (rows_in columns) room
 
 -- why there is no mask in a room of so many bytes
-abbrev pub IsRowsFault : List ℕ → List Column → ℕ → RowsFault → Type 0
-IsRowsFault bytes columns size (rows.Unread cause) = IsUnread bytes cause
-IsRowsFault bytes columns size (rows.NoMask cause) = (p : Prepared) × IsFormOf bytes p × IsMaskFault columns p.types size cause
+abbrev pub IsRowsFault : ℕ → List ℕ → List Column → ℕ → RowsFault → Type 0
+IsRowsFault n bytes columns size (rows.Unread cause) = IsUnread n bytes cause
+IsRowsFault n bytes columns size (rows.NoMask cause) = (p : Prepared) × IsFormOf n bytes p × IsMaskFault columns p.types size cause
 
 abbrev pub status_of_mask : MaskFault → ℕ
 status_of_mask mask.OutOfMemory = NO_MEMORY
@@ -85,22 +85,22 @@ fault_of_rows columns (rows.Unread cause) before = fault_of_form_fault columns c
 fault_of_rows columns (rows.NoMask cause) before = fault_of_mask columns cause before
 
 -- the call with this status wrote no mask for such a reason, and told where
-abbrev pub SaysWhyNoMask : List ℕ → List Column → ℕ → Fault → Fault → ℕ → Type 0
-SaysWhyNoMask bytes columns size before after status =
-    (reason : RowsFault) × IsRowsFault bytes columns size reason × (status ≡ status_of_rows reason) × (after ≡ fault_of_rows (length columns) reason before)
+abbrev pub SaysWhyNoMask : ℕ → List ℕ → List Column → ℕ → Fault → Fault → ℕ → Type 0
+SaysWhyNoMask n bytes columns size before after status =
+    (reason : RowsFault) × IsRowsFault n bytes columns size reason × (status ≡ status_of_rows reason) × (after ≡ fault_of_rows (length columns) reason before)
 
 -- ---- zones
 
--- the bytes are a prepared filter, and the outcomes are what it can be by the statistics of its columns
-pub record AreFilterOutcomes (bytes statistics offsets outcomes : List ℕ) : Type 0 where
+-- the bytes are a prepared filter in which at most n connectives nest, and the outcomes are what it can be by the statistics of its columns
+pub record AreFilterOutcomes (n : ℕ) (bytes statistics offsets outcomes : List ℕ) : Type 0 where
   pub filter : Prepared
-  pub is_form : IsFormOf bytes filter
+  pub is_form : IsFormOf n bytes filter
   pub are_outcomes : AreOutcomes filter.filter filter.types statistics offsets outcomes
 
 -- why there are no outcomes of so many zones
-abbrev pub IsZonesFault : List ℕ → List ℕ → List ℕ → ℕ → ZonesFault → Type 0
-IsZonesFault bytes statistics offsets count (zones.Unread cause) = IsUnread bytes cause
-IsZonesFault bytes statistics offsets count (zones.NoOutcomes cause) = (p : Prepared) × IsFormOf bytes p × RefusesZones p.types statistics offsets count cause
+abbrev pub IsZonesFault : ℕ → List ℕ → List ℕ → List ℕ → ℕ → ZonesFault → Type 0
+IsZonesFault n bytes statistics offsets count (zones.Unread cause) = IsUnread n bytes cause
+IsZonesFault n bytes statistics offsets count (zones.NoOutcomes cause) = (p : Prepared) × IsFormOf n bytes p × RefusesZones p.types statistics offsets count cause
 
 abbrev pub status_of_piece : ZoneFault → ℕ
 status_of_piece zone.OutOfMemory = NO_MEMORY
@@ -126,6 +126,6 @@ fault_of_zones offsets (zones.Unread cause) before = fault_of_form_fault offsets
 fault_of_zones offsets (zones.NoOutcomes cause) before = fault_of_pieces offsets cause before
 
 -- the call with this status found no outcomes for such a reason, and told where
-abbrev pub SaysWhyNoOutcomes : List ℕ → List ℕ → List ℕ → ℕ → Fault → Fault → ℕ → Type 0
-SaysWhyNoOutcomes bytes statistics offsets count before after status =
-    (reason : ZonesFault) × IsZonesFault bytes statistics offsets count reason × (status ≡ status_of_zones reason) × (after ≡ fault_of_zones (length offsets) reason before)
+abbrev pub SaysWhyNoOutcomes : ℕ → List ℕ → List ℕ → List ℕ → ℕ → Fault → Fault → ℕ → Type 0
+SaysWhyNoOutcomes n bytes statistics offsets count before after status =
+    (reason : ZonesFault) × IsZonesFault n bytes statistics offsets count reason × (status ≡ status_of_zones reason) × (after ≡ fault_of_zones (length offsets) reason before)

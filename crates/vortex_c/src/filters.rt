@@ -34,7 +34,7 @@ pub(crate) enum ZonesFault {
 /// on. The columns are those that it was prepared for, in their order. Memory is asked for the
 /// filter, for the columns, and for strings and bytes above 22 bytes.
 ///
-/// - `BAD_BYTES`: the filter is no form. `fault` has the number of columns, and the first byte that
+/// - `BAD_BYTES`: the filter is no form in which at most `depth` connectives nest. `fault` has the number of columns, and the first byte that
 ///   none has there.
 /// - `WRONG_LENGTH`: there are not as many columns as the filter has, and `fault` has their number;
 ///   or a column has another number of rows than the first.
@@ -47,13 +47,14 @@ pub extern "C" fn doqallin_filter_mask(
     alloc: Global,
     filter: &[u8],
     columns: &[Column],
+    depth: usize,
     room: &mut [u8],
     fault: &mut Fault,
 ) -> u32
-    ensures given { result ≡ GIVEN → IsFilterMask filter.now columns.now room.new }
+    ensures given { result ≡ GIVEN → IsFilterMask depth filter.now columns.now room.new }
     ensures within { result ≡ GIVEN → mask_length (rows_in columns.now) ≤ length room.old }
     ensures refused { result ≢ GIVEN
-        → SaysWhyNoMask filter.now columns.now (length room.old) fault.old fault.new result }
+        → SaysWhyNoMask depth filter.now columns.now (length room.old) fault.old fault.new result }
 
     // What is not said to be written stays.
     ensures rest { drop (mask_length (rows_in columns.now)) room.new
@@ -61,7 +62,7 @@ pub extern "C" fn doqallin_filter_mask(
     ensures kept { result ≢ GIVEN → result ≢ NO_MEMORY → room.new ≡ room.old }
     ensures kept_fault { result ≡ GIVEN → fault.new ≡ fault.old }
 {
-    match write_rows(alloc, filter, columns, room) {
+    match write_rows(alloc, filter, columns, depth, room) {
         Ok(()) => GIVEN,
         Err(refusal) => tell_rows(refusal, columns.len(), fault),
     }
@@ -72,17 +73,18 @@ fn write_rows(
     alloc: Global,
     filter: &[u8],
     columns: &[Column],
+    depth: usize,
     room: &mut [u8],
 ) -> Result<(), RowsFault>
-    ensures mask { OnOk result (IsFilterMask filter.now columns.now room.new) }
+    ensures mask { OnOk result (IsFilterMask depth filter.now columns.now room.new) }
     ensures within { OnOk result (mask_length (rows_in columns.now) ≤ length room.old) }
-    ensures refused { IfErr result (IsRowsFault filter.now columns.now (length room.old)) }
+    ensures refused { IfErr result (IsRowsFault depth filter.now columns.now (length room.old)) }
     ensures rest { drop (mask_length (rows_in columns.now)) room.new
         ≡ drop (mask_length (rows_in columns.now)) room.old }
     ensures kept { IfErr result
         (λ refusal. status_of_rows refusal ≢ NO_MEMORY → room.new ≡ room.old) }
 {
-    match read_filter(alloc, filter) {
+    match read_filter(alloc, depth, filter) {
         Ok(prepared) => mask_by(alloc, &prepared, columns, room),
         Err(cause) => Err(RowsFault::Unread(cause)),
     }
@@ -95,11 +97,11 @@ fn mask_by(
     columns: &[Column],
     room: &mut [u8],
 ) -> Result<(), RowsFault>
-    ensures mask { (bytes : List ℕ) → IsFormOf bytes (prepared filter.now)
-        → OnOk result (IsFilterMask bytes columns.now room.new) }
+    ensures mask { (n : ℕ) (bytes : List ℕ) → IsFormOf n bytes (prepared filter.now)
+        → OnOk result (IsFilterMask n bytes columns.now room.new) }
     ensures within { OnOk result (mask_length (rows_in columns.now) ≤ length room.old) }
-    ensures refused { (bytes : List ℕ) → IsFormOf bytes (prepared filter.now)
-        → IfErr result (IsRowsFault bytes columns.now (length room.old)) }
+    ensures refused { (n : ℕ) (bytes : List ℕ) → IsFormOf n bytes (prepared filter.now)
+        → IfErr result (IsRowsFault n bytes columns.now (length room.old)) }
     ensures rest { drop (mask_length (rows_in columns.now)) room.new
         ≡ drop (mask_length (rows_in columns.now)) room.old }
     ensures kept { IfErr result
@@ -121,8 +123,8 @@ fn mask_by(
 /// After another status than `GIVEN` the outcomes may be any bytes.
 ///
 /// - `BAD_BYTES`: a piece is no form of statistics of its column's kind. `fault.column` is the
-///   piece, and `fault.place` its first byte that none has there. If the filter is no form,
-///   `fault.column` is the number of offsets.
+///   piece, and `fault.place` its first byte that none has there. If the filter is no form in which
+///   at most `depth` connectives nest, `fault.column` is the number of offsets.
 /// - `WRONG_LENGTH`: there are not as many offsets as pieces, and one more. `fault.column` is their
 ///   number.
 /// - `BAD_OFFSETS`: the offsets of the piece `fault.column` go down, or past the end.
@@ -133,16 +135,17 @@ pub extern "C" fn doqallin_filter_outcomes(
     filter: &[u8],
     statistics: &[u8],
     offsets: &[u64],
+    depth: usize,
     outcomes: &mut [u8],
     fault: &mut Fault,
 ) -> u32
     ensures given { result ≡ GIVEN
-        → AreFilterOutcomes filter.now statistics.now offsets.now outcomes.new }
-    ensures refused { result ≢ GIVEN → SaysWhyNoOutcomes filter.now statistics.now offsets.now
+        → AreFilterOutcomes depth filter.now statistics.now offsets.now outcomes.new }
+    ensures refused { result ≢ GIVEN → SaysWhyNoOutcomes depth filter.now statistics.now offsets.now
         (length outcomes.old) fault.old fault.new result }
     ensures kept_fault { result ≡ GIVEN → fault.new ≡ fault.old }
 {
-    match write_zones(alloc, filter, statistics, offsets, outcomes) {
+    match write_zones(alloc, filter, statistics, offsets, depth, outcomes) {
         Ok(()) => GIVEN,
         Err(refusal) => tell_zones(refusal, offsets.len(), fault),
     }
@@ -154,14 +157,15 @@ fn write_zones(
     filter: &[u8],
     statistics: &[u8],
     offsets: &[u64],
+    depth: usize,
     outcomes: &mut [u8],
 ) -> Result<(), ZonesFault>
     ensures outcomes { OnOk result
-        (AreFilterOutcomes filter.now statistics.now offsets.now outcomes.new) }
+        (AreFilterOutcomes depth filter.now statistics.now offsets.now outcomes.new) }
     ensures refused { IfErr result
-        (IsZonesFault filter.now statistics.now offsets.now (length outcomes.old)) }
+        (IsZonesFault depth filter.now statistics.now offsets.now (length outcomes.old)) }
 {
-    match read_filter(alloc, filter) {
+    match read_filter(alloc, depth, filter) {
         Ok(prepared) => outcomes_by(alloc, &prepared, statistics, offsets, outcomes),
         Err(cause) => Err(ZonesFault::Unread(cause)),
     }
@@ -175,11 +179,11 @@ fn outcomes_by(
     offsets: &[u64],
     outcomes: &mut [u8],
 ) -> Result<(), ZonesFault>
-    ensures outcomes { (bytes : List ℕ) → IsFormOf bytes (prepared filter.now)
-        → OnOk result (AreFilterOutcomes bytes statistics.now offsets.now outcomes.new) }
-    ensures refused { (bytes : List ℕ) → IsFormOf bytes (prepared filter.now)
+    ensures outcomes { (n : ℕ) (bytes : List ℕ) → IsFormOf n bytes (prepared filter.now)
+        → OnOk result (AreFilterOutcomes n bytes statistics.now offsets.now outcomes.new) }
+    ensures refused { (n : ℕ) (bytes : List ℕ) → IsFormOf n bytes (prepared filter.now)
         → IfErr result
-        (IsZonesFault bytes statistics.now offsets.now (length outcomes.old)) }
+        (IsZonesFault n bytes statistics.now offsets.now (length outcomes.old)) }
 {
     match outcomes_of_zones(
         alloc,

@@ -1,7 +1,7 @@
 //! Filters from SQL's words, prepared to bytes.
 
 ghost use Rattle.std.specs.Prelude.{◌≡◌, ◌≢◌, ◌<◌, ◌≤◌, ◌⊎◌, IfErr, IfOk, OnOk, drop, length, map, take};
-ghost use Rattle.vortex_c.specs.FilterWords.{AreNamed, IsColumnFault, IsColumnsFault, IsNamed, IsPreparedFrom, IsPreparedLength, IsPreparedStatus, IsSql, IsSqlFault, IsWordsFault, OutOfMemory, SaysWhyNotPrepared, WritesForm, code_of_expected, code_of_mistake, column_tree, column_trees, fault_of_words, formula, kind_at, mistake_of_sql, parts_of, place_of_mistake, prepared_of, status_of_sql, tree_of_kind, trees_of_kinds, type_at, type_of, types_of_kinds};
+ghost use Rattle.vortex_c.specs.FilterWords.{AreNamed, IsColumnFault, IsColumnsFault, IsNamed, IsPreparedFrom, IsPreparedLength, IsPreparedStatus, IsSqlFault, IsSqlWithin, IsWordsFault, OutOfMemory, SaysWhyNotPrepared, WritesForm, code_of_expected, code_of_mistake, column_tree, column_trees, fault_of_words, formula, kind_at, mistake_of_sql, parts_of, place_of_mistake, prepared_of, status_of_sql, tree_of_kind, trees_of_kinds, type_at, type_of, types_of_kinds};
 
 use crate::bounds::give;
 use crate::status::{BAD_FILTER, GIVEN, NO_MEMORY, NO_ROOM, NOT_UTF8, UNKNOWN_KIND};
@@ -73,7 +73,8 @@ impl<T: Drop> From<AllocFailed<T>> for SqlFault {
 }
 
 /// Reads a filter from SQL's words, over columns by name and kind, and writes its stable form with
-/// the types of the columns. The other calls on filters take these bytes.
+/// the types of the columns. The other calls on filters take these bytes. At most `depth` connectives
+/// and parentheses may nest in the words, and at most `depth` connectives in the form.
 ///
 /// - `NO_ROOM`: `count` says how many bytes the form has.
 /// - `UNKNOWN_KIND`: the code of a column is of no kind. `mistake.place` is the column.
@@ -88,18 +89,19 @@ pub extern "C" fn doqallin_prepare_filter(
     alloc: Global,
     words: &[u8],
     columns: &[NamedKind],
+    depth: usize,
     room: &mut [u8],
     count: &mut usize,
     mistake: &mut Mistake,
 ) -> u32
     ensures given { result ≡ GIVEN
-        → IsPreparedFrom words.now columns.now (take count.new room.new) }
+        → IsPreparedFrom depth words.now columns.now (take count.new room.new) }
     ensures needed { IsPreparedStatus result
-        → IsPreparedLength words.now columns.now count.new }
+        → IsPreparedLength depth words.now columns.now count.new }
     ensures within { result ≡ GIVEN → count.new ≤ length room.old }
     ensures small { result ≡ NO_ROOM → length room.old < count.new }
     ensures refused { (IsPreparedStatus result)
-        ⊎ (SaysWhyNotPrepared words.now columns.now mistake.old mistake.new result) }
+        ⊎ (SaysWhyNotPrepared depth words.now columns.now mistake.old mistake.new result) }
 
     // What is not said to be written stays.
     ensures rest { result ≡ GIVEN → drop count.new room.new ≡ drop count.new room.old }
@@ -107,43 +109,58 @@ pub extern "C" fn doqallin_prepare_filter(
     ensures kept_count { (IsPreparedStatus result) ⊎ (count.new ≡ count.old) }
     ensures kept_mistake { IsPreparedStatus result → mistake.new ≡ mistake.old }
 {
-    match prepare(alloc, words, columns) {
+    match prepare(alloc, words, columns, depth) {
         Ok(bytes) => give(bytes.as_slice(), room, count),
         Err(refusal) => tell(refusal, columns.len(), mistake),
     }
 }
 
 /// The form of the filter that the words are.
-fn prepare(alloc: Global, words: &[u8], columns: &[NamedKind]) -> Result<Vec<u8>, SqlFault>
-    ensures prepared { IfOk result (λ bytes. IsPreparedFrom words.now columns.now bytes.items) }
-    ensures refused { IfErr result (IsSqlFault words.now columns.now) }
+fn prepare(
+    alloc: Global,
+    words: &[u8],
+    columns: &[NamedKind],
+    depth: usize,
+) -> Result<Vec<u8>, SqlFault>
+    ensures prepared { IfOk result (λ bytes. IsPreparedFrom depth words.now columns.now bytes.items) }
+    ensures refused { IfErr result (IsSqlFault depth words.now columns.now) }
 {
-    let filter = filter_of(alloc, words, columns)?;
-    form_of(alloc, &filter, columns)
+    let filter = filter_of(alloc, words, columns, depth)?;
+    form_of(alloc, &filter, columns, depth)
 }
 
 /// The filter that the words are.
-fn filter_of(alloc: Global, words: &[u8], columns: &[NamedKind]) -> Result<Filter, SqlFault>
+fn filter_of(
+    alloc: Global,
+    words: &[u8],
+    columns: &[NamedKind],
+    depth: usize,
+) -> Result<Filter, SqlFault>
     ensures named { OnOk result (AreNamed columns.now) }
     ensures read { IfOk result
-        (λ filter. IsSql (trees_of_kinds columns.now) words.now (formula filter)) }
-    ensures refused { IfErr result (IsSqlFault words.now columns.now) }
+        (λ filter. IsSqlWithin depth (trees_of_kinds columns.now) words.now (formula filter)) }
+    ensures refused { IfErr result (IsSqlFault depth words.now columns.now) }
 {
     let named = named_columns(alloc, columns)?;
-    parse(alloc, words, &named)
+    parse(alloc, words, &named, depth)
 }
 
 /// The filter that the words are, over these columns.
 #[tactic(auto, using(crate::proofs::SqlSteps::shown))]
-fn parse(alloc: Global, words: &[u8], named: &[FilterColumn]) -> Result<Filter, SqlFault>
+fn parse(
+    alloc: Global,
+    words: &[u8],
+    named: &[FilterColumn],
+    depth: usize,
+) -> Result<Filter, SqlFault>
     ensures read { IfOk result
-        (λ filter. IsSql (column_trees named.now) words.now (formula filter)) }
-    ensures refused { IfErr result (IsWordsFault (column_trees named.now) words.now) }
+        (λ filter. IsSqlWithin depth (column_trees named.now) words.now (formula filter)) }
+    ensures refused { IfErr result (IsWordsFault depth (column_trees named.now) words.now) }
 {
     let Ok(text) = str::from_utf8(words) else {
         return Err(SqlFault::NotUtf8);
     };
-    match Filter::parse(alloc, text, named) {
+    match Filter::parse_within(alloc, text, named, depth) {
         Ok(filter) => Ok(filter),
         Err(cause) => Err(fault_of_words(cause)),
     }
@@ -195,19 +212,29 @@ fn named_column(alloc: Global, place: usize, column: NamedKind) -> Result<Filter
 
 /// The form of a filter over these columns.
 #[tactic(auto, using(crate::proofs::SqlSteps::shown))]
-fn form_of(alloc: Global, filter: &Filter, columns: &[NamedKind]) -> Result<Vec<u8>, SqlFault>
-    ensures { WritesForm (prepared_of columns.now (formula filter.now)) result }
+fn form_of(
+    alloc: Global,
+    filter: &Filter,
+    columns: &[NamedKind],
+    depth: usize,
+) -> Result<Vec<u8>, SqlFault>
+    ensures { WritesForm depth (prepared_of columns.now (formula filter.now)) result }
 {
     let types = types_of(alloc, columns)?;
-    written(alloc, filter, &types)
+    written(alloc, filter, &types, depth)
 }
 
 /// The form of a filter over columns of these types.
-fn written(alloc: Global, filter: &Filter, types: &[DType]) -> Result<Vec<u8>, SqlFault>
-    ensures { WritesForm (parts_of types.now filter.now) result }
+fn written(
+    alloc: Global,
+    filter: &Filter,
+    types: &[DType],
+    depth: usize,
+) -> Result<Vec<u8>, SqlFault>
+    ensures { WritesForm depth (parts_of types.now filter.now) result }
 {
     let mut bytes = Vec::new(alloc);
-    match append_filter(filter, types, &mut bytes) {
+    match append_filter(filter, types, depth, &mut bytes) {
         Ok(()) => Ok(bytes),
         Err(FilterFormError::NoForm) => Err(SqlFault::NoForm),
         Err(_) => Err(SqlFault::OutOfMemory),

@@ -7,9 +7,9 @@ pub returns : goal.returns
 returns c =
     let p = parts_of c.args.columns.now c.args.filter.now in
     record {
-      appended = appended_of (CanBeWritten p) (form p) c.append_parts.result _ _ c.append_parts.ensures;
-      written = allowed_of (CanBeWritten p) (form p) c.append_parts.result _ _ c.append_parts.ensures;
-      no_form = no_form_of (CanBeWritten p) (form p) c.append_parts.result _ _ c.append_parts.ensures;
-      refused = refused_of (CanBeWritten p) (form p) c.append_parts.result _ _ c.append_parts.ensures;
-      begun = begun_of (CanBeWritten p) (form p) c.append_parts.result _ _ c.append_parts.ensures;
+      appended = appended_of (CanBeWritten c.args.depth p) (form p) c.append_parts.result _ _ c.append_parts.ensures;
+      written = allowed_of (CanBeWritten c.args.depth p) (form p) c.append_parts.result _ _ c.append_parts.ensures;
+      no_form = no_form_of (CanBeWritten c.args.depth p) (form p) c.append_parts.result _ _ c.append_parts.ensures;
+      refused = refused_of (CanBeWritten c.args.depth p) (form p) c.append_parts.result _ _ c.append_parts.ensures;
+      begun = begun_of (CanBeWritten c.args.depth p) (form p) c.append_parts.result _ _ c.append_parts.ensures;
     }

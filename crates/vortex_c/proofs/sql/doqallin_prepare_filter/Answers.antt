@@ -6,7 +6,7 @@ use Rattle.vortex_c.proofs.sql.doqallin_prepare_filter.Goals as goal
 
 pub returns-in-Ok-clause-given : goal.returns-in-Ok-clause-given
 returns-in-Ok-clause-given c =
-    λ given. given-so (IsPreparedFrom c.args.words.now c.args.columns.now) c.as_slice.result.now _ _ (subst (IsPreparedFrom c.args.words.now c.args.columns.now) (sym c.as_slice.ensures.value) c.in-Ok.ensures.prepared) c.give.ensures.count (c.give.ensures.given given)
+    λ given. given-so (IsPreparedFrom c.args.depth c.args.words.now c.args.columns.now) c.as_slice.result.now _ _ (subst (IsPreparedFrom c.args.depth c.args.words.now c.args.columns.now) (sym c.as_slice.ensures.value) c.in-Ok.ensures.prepared) c.give.ensures.count (c.give.ensures.given given)
 
 pub returns-in-Ok-clause-needed : goal.returns-in-Ok-clause-needed
 returns-in-Ok-clause-needed c = λ _. (c.in-Ok.bytes.items, c.in-Ok.ensures.prepared, c.give.ensures.count ∙ ap length c.as_slice.ensures.value)

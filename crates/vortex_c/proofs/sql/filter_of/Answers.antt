@@ -5,13 +5,13 @@ use Rattle.vortex_c.proofs.SqlSteps.{filter-named, named-refused, words-read, wo
 use Rattle.vortex_c.proofs.sql.filter_of.Goals as goal
 
 pub returns-in_err-named-clause-refused : goal.returns-in_err-named-clause-refused
-returns-in_err-named-clause-refused c = named-refused c.args.words.now c.args.columns.now _ _ c.from_residual.ensures c.in_err-named.ensures.refused
+returns-in_err-named-clause-refused c = named-refused c.args.depth c.args.words.now c.args.columns.now _ _ c.from_residual.ensures c.in_err-named.ensures.refused
 
 pub returns-clause-named : goal.returns-clause-named
 returns-clause-named c = filter-named _ _ c.in_ok-named.ensures.all
 
 pub returns-clause-read : goal.returns-clause-read
-returns-clause-read c = words-read c.args.words.now c.args.columns.now _ _ (ap column_trees c.deref.ensures.value ∙ c.in_ok-named.ensures.named) c.parse.ensures.read
+returns-clause-read c = words-read c.args.depth c.args.words.now c.args.columns.now _ _ (ap column_trees c.deref.ensures.value ∙ c.in_ok-named.ensures.named) c.parse.ensures.read
 
 pub returns-clause-refused : goal.returns-clause-refused
-returns-clause-refused c = words-refused c.args.words.now c.args.columns.now _ _ (ap column_trees c.deref.ensures.value ∙ c.in_ok-named.ensures.named) c.in_ok-named.ensures.all c.parse.ensures.refused
+returns-clause-refused c = words-refused c.args.depth c.args.words.now c.args.columns.now _ _ (ap column_trees c.deref.ensures.value ∙ c.in_ok-named.ensures.named) c.in_ok-named.ensures.all c.parse.ensures.refused

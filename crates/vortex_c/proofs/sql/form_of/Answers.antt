@@ -7,7 +7,7 @@ use Rattle.vortex_c.proofs.SqlSteps.{form-along, form-refused}
 use Rattle.vortex_c.proofs.sql.form_of.Goals as goal
 
 pub returns : goal.returns
-returns c = form-along c.deref.result.now c.args.columns.now c.args.filter.now _ (ap (map type_of) c.deref.ensures.value ∙ c.in_ok-types.ensures.types) c.written.ensures
+returns c = form-along c.args.depth c.deref.result.now c.args.columns.now c.args.filter.now _ (ap (map type_of) c.deref.ensures.value ∙ c.in_ok-types.ensures.types) c.written.ensures
 
 pub returns-in_err-types : goal.returns-in_err-types
-returns-in_err-types c = form-refused (prepared_of c.args.columns.now (formula c.args.filter.now)) _ _ c.from_residual.ensures c.in_err-types.ensures.refused
+returns-in_err-types c = form-refused c.args.depth (prepared_of c.args.columns.now (formula c.args.filter.now)) _ _ c.from_residual.ensures c.in_err-types.ensures.refused
