@@ -10,14 +10,14 @@ use Rattle.vortex_filter.specs.declared.sql.parse.fault.Fault.{Fault}
 use Rattle.vortex_filter.specs.declared.sql.parse.fault.Fault.TheVariants as faults
 use Rattle.vortex_filter.specs.declared.sql.token.Placed.{Placed}
 use Rattle.vortex_filter.specs.Columns.{ColumnTree}
-use Rattle.vortex_filter.specs.Faults.{IsPlaced}
 use Rattle.vortex_filter.specs.Formula.{Formula, formula}
 use Rattle.vortex_filter.specs.Parsing.{AllOrdered, types_of, IsSqlWithin, IsNoSqlWithin, IsReadable, ReadsAs, RefusesSqlWithin, depth, tokens_in}
 use Rattle.vortex_filter.specs.Printing.{tokens_of}
 use Rattle.vortex_filter.specs.declared.filter.Filter.{Filter}
-use Rattle.vortex_filter.specs.Reading.{Fails, IsFaultAt, IsFaultIn, caused, filter_at}
+use Rattle.vortex_filter.specs.Mistakes.{IsFaultIn, error_of, filter_mistake}
+use Rattle.vortex_filter.specs.Reading.{filter_at}
 use Rattle.vortex_filter.specs.Texts.{Item, AreItemsOf, IsRefusal, items}
-use Rattle.vortex_filter.specs.Tokens.{trees, token_tree}
+use Rattle.vortex_filter.specs.Tokens.{TokenTree, trees, token_tree}
 use Rattle.vortex_filter.specs.Checking.{FitsColumns}
 use Rattle.vortex_filter.proofs.FitLaws.{filter_fits}
 use Rattle.vortex_filter.proofs.PrintLaws.{text_means}
@@ -35,35 +35,43 @@ tokens_are : (ps : List Placed) → trees ps ≡ tokens_in (items ps)
 tokens_are [] = refl
 tokens_are (p ∷ ps) = ap (λ ts. token_tree p.token ∷ ts) (tokens_are ps)
 
-caused_in : {Y : Type 0} (end place : ℕ) (cause : Cause) (read : Option Y) → place ≤ end → read ≡ None → IsFaultIn end read (caused place cause)
-caused_in end place (causes.Expected expected) read within none = (none, within)
-caused_in end place causes.NoColumn read within none = (none, within)
-caused_in end place causes.TypesDiffer read within none = (none, within)
-caused_in end place causes.NoLiteral read within none = (none, within)
-caused_in end place causes.TooDeep read within none = (none, within)
+-- what is wrong with tokens is nothing that the lexer tells
+never_lexed : (is : List Item) (end : ℕ) (mistake : Fault) (place : ℕ) → errors.NumberTooLong place ≡ error_of is end mistake → ⊥
+never_lexed is end faults.NoMemory place e = absurd cc
+never_lexed is end (faults.At left (causes.Expected what)) place e = absurd cc
+never_lexed is end (faults.At left causes.NoColumn) place e = absurd cc
+never_lexed is end (faults.At left causes.TypesDiffer) place e = absurd cc
+never_lexed is end (faults.At left causes.NoLiteral) place e = absurd cc
+never_lexed is end (faults.At left causes.TooDeep) place e = absurd cc
 
--- a fault among the tokens is one of the text
-pub fault_in : {Y : Type 0} (end : ℕ) (fault : Fault) (e : ParseError) (read : Option Y) → IsFaultAt end fault e → Fails fault read → IsFaultIn end read e
-fault_in end faults.NoMemory e read at none = subst (λ (e : ParseError). IsFaultIn end read e) (sym at) tt
-fault_in end (faults.At left cause) e read at none = subst (λ (e : ParseError). IsFaultIn end read e) (sym at.2) (caused_in end at.0 cause read at.1 none)
+never_bad : (is : List Item) (end : ℕ) (mistake : Fault) (place : ℕ) → errors.BadText place ≡ error_of is end mistake → ⊥
+never_bad is end faults.NoMemory place e = absurd cc
+never_bad is end (faults.At left (causes.Expected what)) place e = absurd cc
+never_bad is end (faults.At left causes.NoColumn) place e = absurd cc
+never_bad is end (faults.At left causes.TypesDiffer) place e = absurd cc
+never_bad is end (faults.At left causes.NoLiteral) place e = absurd cc
+never_bad is end (faults.At left causes.TooDeep) place e = absurd cc
 
 module _ (n : ℕ) (columns : List ColumnTree) (text : List ℕ) (ps : List Placed) (are : AreItemsOf text (items ps)) where
   -- a filter that is read of the tokens is the text's
   pub is_sql : (f : Formula) → filter_at columns n (trees ps) ≡ Some f → IsSqlWithin n columns text f
   is_sql f e = record { items = items ps; are = are; means = filter_is columns n (tokens_in (items ps)) f (sym (ap (filter_at columns n) (tokens_are ps)) ∙ e) }
 
-  is_no_sql : filter_at columns n (trees ps) ≡ None → IsNoSqlWithin n columns text
-  is_no_sql e = record { items = items ps; are = are; none = no_filter columns n (tokens_in (items ps)) (sym (ap (filter_at columns n) (tokens_are ps)) ∙ e) }
+  abbrev Told : ParseError → Type 0
+  Told e = (filter_at columns n (trees ps) ≡ None) × (e ≡ error_of (items ps) (length text) (filter_mistake columns n (trees ps)))
 
-  pub refuses : (end : ℕ) (e : ParseError) → IsFaultIn end (filter_at columns n (trees ps)) e → RefusesSqlWithin n columns text e
-  refuses end errors.OutOfMemory h = tt
-  refuses end (errors.Expected place expected) h = is_no_sql h.0
-  refuses end (errors.NoColumn place) h = is_no_sql h.0
-  refuses end (errors.TypesDiffer place) h = is_no_sql h.0
-  refuses end (errors.NoLiteral place) h = is_no_sql h.0
-  refuses end (errors.TooDeep place) h = is_no_sql h.0
-  refuses end (errors.NumberTooLong place) h = absurd h
-  refuses end (errors.BadText place) h = absurd h
+  is_no_sql : (e : ParseError) → Told e → IsNoSqlWithin n columns text e
+  is_no_sql e h = record { items = items ps; are = are; none = no_filter columns n (tokens_in (items ps)) (sym (ap (filter_at columns n) (tokens_are ps)) ∙ h.0); told = h.1 ∙ ap (λ (ts : List TokenTree). error_of (items ps) (length text) (filter_mistake columns n ts)) (tokens_are ps) }
+
+  pub refuses : (e : ParseError) → IsFaultIn (items ps) (length text) (filter_at columns n (trees ps)) (filter_mistake columns n (trees ps)) e → RefusesSqlWithin n columns text e
+  refuses errors.OutOfMemory h = tt
+  refuses (errors.Expected place what) h = is_no_sql _ h
+  refuses (errors.NoColumn place) h = is_no_sql _ h
+  refuses (errors.TypesDiffer place) h = is_no_sql _ h
+  refuses (errors.NoLiteral place) h = is_no_sql _ h
+  refuses (errors.TooDeep place) h = is_no_sql _ h
+  refuses (errors.NumberTooLong place) h = absurd (never_lexed (items ps) (length text) (filter_mistake columns n (trees ps)) place h.1)
+  refuses (errors.BadText place) h = absurd (never_bad (items ps) (length text) (filter_mistake columns n (trees ps)) place h.1)
 
 -- what the lexer refuses
 pub lexer_refuses : (n : ℕ) (columns : List ColumnTree) (text : List ℕ) (e : ParseError) → IsRefusal text e → RefusesSqlWithin n columns text e
@@ -76,26 +84,16 @@ lexer_refuses n columns text (errors.TypesDiffer place) h = absurd h
 lexer_refuses n columns text (errors.NoLiteral place) h = absurd h
 lexer_refuses n columns text (errors.TooDeep place) h = absurd h
 
-pub is_placed : {Y : Type 0} (end : ℕ) (read : Option Y) (e : ParseError) → IsFaultIn end read e → IsPlaced end e
-is_placed end read errors.OutOfMemory h = tt
-is_placed end read (errors.Expected place expected) h = h.1
-is_placed end read (errors.NoColumn place) h = h.1
-is_placed end read (errors.TypesDiffer place) h = h.1
-is_placed end read (errors.NoLiteral place) h = h.1
-is_placed end read (errors.TooDeep place) h = h.1
-is_placed end read (errors.NumberTooLong place) h = absurd h
-is_placed end read (errors.BadText place) h = absurd h
-
 -- nothing is refused where a filter is read, but for want of memory
-pub only_memory : (end : ℕ) (read : Option Formula) (f : Formula) (e : ParseError) → read ≡ Some f → IsFaultIn end read e → e ≡ errors.OutOfMemory
-only_memory end read f errors.OutOfMemory is h = refl
-only_memory end read f (errors.Expected place expected) is h = let both : None ≡ Some f = sym h.0 ∙ is in absurd cc
-only_memory end read f (errors.NoColumn place) is h = let both : None ≡ Some f = sym h.0 ∙ is in absurd cc
-only_memory end read f (errors.TypesDiffer place) is h = let both : None ≡ Some f = sym h.0 ∙ is in absurd cc
-only_memory end read f (errors.NoLiteral place) is h = let both : None ≡ Some f = sym h.0 ∙ is in absurd cc
-only_memory end read f (errors.TooDeep place) is h = let both : None ≡ Some f = sym h.0 ∙ is in absurd cc
-only_memory end read f (errors.NumberTooLong place) is h = absurd h
-only_memory end read f (errors.BadText place) is h = absurd h
+pub only_memory : (is : List Item) (end : ℕ) (read : Option Formula) (mistake : Fault) (f : Formula) (e : ParseError) → read ≡ Some f → IsFaultIn is end read mistake e → e ≡ errors.OutOfMemory
+only_memory is end read mistake f errors.OutOfMemory said h = refl
+only_memory is end read mistake f (errors.Expected place what) said h = let both : None ≡ Some f = sym h.0 ∙ said in absurd cc
+only_memory is end read mistake f (errors.NoColumn place) said h = let both : None ≡ Some f = sym h.0 ∙ said in absurd cc
+only_memory is end read mistake f (errors.TypesDiffer place) said h = let both : None ≡ Some f = sym h.0 ∙ said in absurd cc
+only_memory is end read mistake f (errors.NoLiteral place) said h = let both : None ≡ Some f = sym h.0 ∙ said in absurd cc
+only_memory is end read mistake f (errors.TooDeep place) said h = let both : None ≡ Some f = sym h.0 ∙ said in absurd cc
+only_memory is end read mistake f (errors.NumberTooLong place) said h = let both : None ≡ Some f = sym h.0 ∙ said in absurd cc
+only_memory is end read mistake f (errors.BadText place) said h = let both : None ≡ Some f = sym h.0 ∙ said in absurd cc
 
 -- ---- results
 
@@ -105,7 +103,7 @@ module _ (n : ℕ) (columns : List ColumnTree) (text : List ℕ) (ps : List Plac
   Given = IfOk result (λ filter. filter_at columns n (trees ps) ≡ Some (formula filter))
 
   abbrev Refused : Type 0
-  Refused = IfErr result (IsFaultIn (length text) (filter_at columns n (trees ps)))
+  Refused = IfErr result (IsFaultIn (items ps) (length text) (filter_at columns n (trees ps)) (filter_mistake columns n (trees ps)))
 
 pub result_is_sql : (n : ℕ) (columns : List ColumnTree) (text : List ℕ) (ps : List Placed) → AreItemsOf text (items ps) → (result : Result Filter ParseError) → Given n columns text ps result → IfOk result (λ filter. IsSqlWithin n columns text (formula filter))
 result_is_sql n columns text ps are (Ok filter) given = is_sql n columns text ps are (formula filter) given
@@ -113,18 +111,14 @@ result_is_sql n columns text ps are (Err e) given = tt
 
 pub result_refuses : (n : ℕ) (columns : List ColumnTree) (text : List ℕ) (ps : List Placed) → AreItemsOf text (items ps) → (result : Result Filter ParseError) → Refused n columns text ps result → IfErr result (RefusesSqlWithin n columns text)
 result_refuses n columns text ps are (Ok filter) refused = tt
-result_refuses n columns text ps are (Err e) refused = refuses n columns text ps are (length text) e refused
-
-pub result_is_placed : (n : ℕ) (columns : List ColumnTree) (text : List ℕ) (ps : List Placed) (result : Result Filter ParseError) → Refused n columns text ps result → IfErr result (IsPlaced (length text))
-result_is_placed n columns text ps (Ok filter) refused = tt
-result_is_placed n columns text ps (Err e) refused = is_placed (length text) (filter_at columns n (trees ps)) e refused
+result_refuses n columns text ps are (Err e) refused = refuses n columns text ps are e refused
 
 same_some : (f g : Formula) (o : Option Formula) → o ≡ Some f → o ≡ Some g → f ≡ g
 same_some f g o a b = let both : Some f ≡ Some g = sym a ∙ b in cc
 
 read_back : (n : ℕ) (columns : List ColumnTree) (text : List ℕ) (ps : List Placed) (f : Formula) → filter_at columns n (trees ps) ≡ Some f → (result : Result Filter ParseError) → Given n columns text ps result → Refused n columns text ps result → ReadsAs f result
 read_back n columns text ps f read (Ok filter) given refused = same_some (formula filter) f (filter_at columns n (trees ps)) given read
-read_back n columns text ps f read (Err e) given refused = only_memory (length text) (filter_at columns n (trees ps)) f e read refused
+read_back n columns text ps f read (Err e) given refused = only_memory (items ps) (length text) (filter_at columns n (trees ps)) (filter_mistake columns n (trees ps)) f e read refused
 
 -- what is printed is read again
 pub result_reads_back : (n : ℕ) (columns : List ColumnTree) (names : List (List ℕ)) (text : List ℕ) (ps : List Placed) (f : Formula) → IsReadable columns names f → depth f ≤ n → trees ps ≡ tokens_of names f → (result : Result Filter ParseError) → Given n columns text ps result → Refused n columns text ps result → ReadsAs f result

@@ -9,6 +9,7 @@ use Rattle.vortex_filter.specs.Columns.{ColumnTree}
 use Rattle.vortex_filter.specs.Formula.{Formula, both, either, negation}
 use Rattle.vortex_filter.specs.Tokens.{TokenTree, keyword_token, name_token, integer_token, string_token, bytes_token, operator_token, opening, closing, comma, verbatim}
 use Rattle.vortex_filter.specs.Grammar.{IsPredicate, IsFilter, predicate, group, not_filter, one_operand, and_filter, one_conjunction, or_filter}
+use Rattle.vortex_filter.specs.Mistakes.{predicate_mistake}
 use Rattle.vortex_filter.specs.Reading.{Read, after_keyword, same_keyword, after_opening, after_closing, reads, read_at, disjunction_of, conjunction_of, operand_of, or_from, and_from, operand_from, group_of, continued, joined, negated, closed, closed_by, predicate_at, filter_at, ended, ended_read}
 use Rattle.vortex_filter.proofs.Words.{keyword_came, keyword_comes, opening_came, opening_comes, opening_is_no_word, closing_came, closing_comes, some_is, MayFollow, ends, closes, or_after_and, or_after_operand, and_after_operand, no_or, no_and, follows_and, follows_operand}
 use Rattle.vortex_filter.proofs.PredicateLaws.{predicate_reads}
@@ -23,20 +24,20 @@ pub filter_reads : (columns : List ColumnTree) {l : Level} {n : ℕ} {ts : List 
 unfolding read_at
 filter_reads columns (predicate {n} {ts} {f} d) rest follows =
     let p = predicate_reads columns d rest follows in
-    predicate_is (predicate_at columns) n (ts ++ rest) p.no_not p.no_opening ∙ p.gives
+    (predicate_is (predicate_at columns) (predicate_mistake columns) n (ts ++ rest) p.no_not p.no_opening).0 ∙ p.gives
 filter_reads columns (group {n} {ts} {f} d) rest follows =
     let inner : disjunction_of (predicate_at columns) (reads (predicate_at columns) n) (ts ++ closing ∷ rest) ≡ Some (f, closing ∷ rest) = filter_reads columns d (closing ∷ rest) closes in
-    rw append_assoc (group_is (predicate_at columns) (suc n) (opening ∷ (ts ++ closing ∷ rest)) (ts ++ closing ∷ rest) n f (closing ∷ rest) rest (opening_is_no_word (ts ++ closing ∷ rest)) (opening_comes (ts ++ closing ∷ rest)) refl inner (closing_comes rest))
+    rw append_assoc (group_is (predicate_at columns) (predicate_mistake columns) (suc n) (opening ∷ (ts ++ closing ∷ rest)) (ts ++ closing ∷ rest) n f (closing ∷ rest) rest (opening_is_no_word (ts ++ closing ∷ rest)) (opening_comes (ts ++ closing ∷ rest)) refl inner (closing_comes rest))
 filter_reads columns (not_filter {n} {ts} {f} d) rest follows =
-    negated_is (predicate_at columns) (suc n) (keyword_token Not ∷ (ts ++ rest)) (ts ++ rest) n f (negation f) rest (sym (keyword_comes Not (ts ++ rest))) refl (filter_reads columns d rest follows) refl
+    negated_is (predicate_at columns) (predicate_mistake columns) (suc n) (keyword_token Not ∷ (ts ++ rest)) (ts ++ rest) n f (negation f) rest (sym (keyword_comes Not (ts ++ rest))) refl (filter_reads columns d rest follows) refl
 filter_reads columns (one_operand {n} {ts} {f} d) rest follows =
-    and_alone (predicate_at columns) n (ts ++ rest) f rest (filter_reads columns d rest (follows_operand follows)) (no_and follows)
+    and_alone (predicate_at columns) (predicate_mistake columns) n (ts ++ rest) f rest (filter_reads columns d rest (follows_operand follows)) (no_and follows)
 filter_reads columns (and_filter {n} {ts} {us} {f} {g} d e) rest follows =
-    rw append_assoc (and_joined (predicate_at columns) (suc n) (ts ++ keyword_token And ∷ (us ++ rest)) f (keyword_token And ∷ (us ++ rest)) (us ++ rest) n g (both f g) rest (filter_reads columns d (keyword_token And ∷ (us ++ rest)) and_after_operand) (sym (keyword_comes And (us ++ rest))) refl (filter_reads columns e rest follows) refl)
+    rw append_assoc (and_joined (predicate_at columns) (predicate_mistake columns) (suc n) (ts ++ keyword_token And ∷ (us ++ rest)) f (keyword_token And ∷ (us ++ rest)) (us ++ rest) n g (both f g) rest (filter_reads columns d (keyword_token And ∷ (us ++ rest)) and_after_operand) (sym (keyword_comes And (us ++ rest))) refl (filter_reads columns e rest follows) refl)
 filter_reads columns (one_conjunction {n} {ts} {f} d) rest follows =
-    or_alone (predicate_at columns) n (ts ++ rest) f rest (filter_reads columns d rest (follows_and follows)) (no_or follows)
+    or_alone (predicate_at columns) (predicate_mistake columns) n (ts ++ rest) f rest (filter_reads columns d rest (follows_and follows)) (no_or follows)
 filter_reads columns (or_filter {n} {ts} {us} {f} {g} d e) rest follows =
-    rw append_assoc (or_joined (predicate_at columns) (suc n) (ts ++ keyword_token Or ∷ (us ++ rest)) f (keyword_token Or ∷ (us ++ rest)) (us ++ rest) n g (either f g) rest (filter_reads columns d (keyword_token Or ∷ (us ++ rest)) or_after_and) (sym (keyword_comes Or (us ++ rest))) refl (filter_reads columns e rest follows) refl)
+    rw append_assoc (or_joined (predicate_at columns) (predicate_mistake columns) (suc n) (ts ++ keyword_token Or ∷ (us ++ rest)) f (keyword_token Or ∷ (us ++ rest)) (us ++ rest) n g (either f g) rest (filter_reads columns d (keyword_token Or ∷ (us ++ rest)) or_after_and) (sym (keyword_comes Or (us ++ rest))) refl (filter_reads columns e rest follows) refl)
 
 -- ---- what is read is in the grammar
 

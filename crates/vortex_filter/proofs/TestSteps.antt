@@ -1,18 +1,21 @@
 -- What reading gives of literals in parentheses and of prefixes, step by step, as the code goes.
 use Rattle.std.proofs.Common.{◌==◌, ◌&&◌, ◌≡◌, ℕ, ◌<◌, ◌≤◌, ◌+◌, zero, suc, Bool, true, false, cond, List, [], ◌∷◌, ◌++◌, length, map, Option, Some, None, refl, sym, ap, subst, ◌∙◌, append_assoc, arith, IsUtf8}
-use Rattle.std.specs.Prelude.{IfNone}
+use Rattle.std.specs.Prelude.{IfNone, Result, Ok, Err}
 use Rattle.std.specs.Str.{bytes_eq, is_utf8}
 use Rattle.std.proofs.lemmas.List.{append-nil, length-map}
 use Rattle.std.proofs.lemmas.Str.{IsUtf8-from_is_utf8, is_utf8-from_IsUtf8}
-use Rattle.vortex_dtype.specs.TypeTree.{TypeTree}
+use Rattle.vortex_dtype.specs.TypeTree.{TypeTree, utf8_type}
 use Rattle.vortex_statistics.specs.Cells.{Cell}
+use Rattle.vortex_filter.specs.declared.sql.error.Expected.TheVariants as expects
+use Rattle.vortex_filter.specs.declared.sql.parse.fault.Cause.TheVariants as causes
 use Rattle.vortex_filter.specs.declared.sql.parse.fault.Fault.{Fault}
 use Rattle.vortex_filter.specs.declared.sql.parse.fault.Fault.TheVariants as faults
 use Rattle.vortex_filter.specs.declared.sql.token.Placed.{Placed}
-use Rattle.vortex_filter.specs.Formula.{Formula}
-use Rattle.vortex_filter.specs.Literals.{LiteralTree, literal_of, cells_of, string_literal, pattern_prefix, with_byte, is_wildcard}
+use Rattle.vortex_filter.specs.Formula.{Formula, prefix_test}
+use Rattle.vortex_filter.specs.Literals.{LiteralTree, exactly, literal_of, cells_of, string_literal, text_cell, pattern_prefix, with_byte, is_wildcard}
 use Rattle.vortex_filter.specs.Tokens.{TokenTree, token_tree, trees, string_token, closing, comma}
-use Rattle.vortex_filter.specs.Reading.{Fails, literal_at, literal_then, preceded, more_cells, cells_at, with_front, with_bytes, ending, after_comma, after_closing, text_prefix, prefix_from}
+use Rattle.vortex_filter.specs.Mistakes.{Fails, Gives, behind_literal, cells_mistake, expected, literal_mistake, more_mistake, text_cause, other_type}
+use Rattle.vortex_filter.specs.Reading.{literal_at, literal_then, preceded, more_cells, cells_at, with_front, with_bytes, ending, after_comma, after_closing, text_prefix, prefix_from}
 use Rattle.vortex_filter.proofs.ReadSteps.{fails_on}
 
 some_is : {A : Type 0} (x y : A) → Some x ≡ Some y → x ≡ y
@@ -63,8 +66,35 @@ unfolding literal_at cells_at
 cells_fail t [] e = refl
 cells_fail t (x ∷ ts) e = none_said (literal_of t x) ts (more_cells t ts) e
 
-pub cells_left_fail : (e : Fault) (t : TypeTree) (ts : List TokenTree) → Fails e (literal_at t ts) → Fails e (cells_at t ts)
-cells_left_fail e t ts failed = fails_on e _ _ (cells_fail t ts) failed
+cells_wrong : (t : TypeTree) (ts : List TokenTree) → literal_at t ts ≡ None → cells_mistake t ts ≡ literal_mistake t ts
+unfolding cells_mistake
+cells_wrong t ts e = rw e refl
+
+pub cells_left_fail : (e : Fault) (t : TypeTree) (ts : List TokenTree) → Fails e (literal_at t ts) (literal_mistake t ts) → Fails e (cells_at t ts) (cells_mistake t ts)
+cells_left_fail e t ts failed = fails_on e _ _ _ _ (λ none. (cells_fail t ts none, cells_wrong t ts none)) failed
+
+-- behind the first literal
+pub cells_wrong_behind : (t : TypeTree) (ts : List TokenTree) (l : LiteralTree) (us : List TokenTree) → literal_at t ts ≡ Some (l, us) → cells_mistake t ts ≡ more_mistake t us
+unfolding cells_mistake
+cells_wrong_behind t ts l us e = rw e refl
+
+-- what is wrong behind a comma
+wrong_of_token : (t : TypeTree) (x : TokenTree) (us : List TokenTree) (l : LiteralTree) → literal_of t x ≡ Some l → more_mistake t (comma ∷ x ∷ us) ≡ more_mistake t us
+unfolding more_mistake
+wrong_of_token t x us l said = rw said refl
+
+wrong_goes_on : (t : TypeTree) (ts us : List TokenTree) (l : LiteralTree) → literal_at t ts ≡ Some (l, us) → more_mistake t (comma ∷ ts) ≡ more_mistake t us
+wrong_goes_on t ts us l e = let c = literal_came t ts l us e in ap (λ (r : List TokenTree). more_mistake t (comma ∷ r)) c.whole ∙ wrong_of_token t c.token us l c.says
+
+no_literal_said : (t : TypeTree) (x : TokenTree) (ts : List TokenTree) (o : Option LiteralTree) → literal_of t x ≡ o → literal_then o ts ≡ None → more_mistake t (comma ∷ x ∷ ts) ≡ literal_mistake t (x ∷ ts)
+unfolding more_mistake
+no_literal_said t x ts None said e = rw said refl
+no_literal_said t x ts (Some l) said e = absurd cc
+
+wrong_here : (t : TypeTree) (ts : List TokenTree) → literal_at t ts ≡ None → more_mistake t (comma ∷ ts) ≡ literal_mistake t ts
+unfolding literal_at more_mistake
+wrong_here t [] e = refl
+wrong_here t (x ∷ ts) e = no_literal_said t x ts (literal_of t x) refl e
 
 front_cells : (l : LiteralTree) (r : Option (List Cell × List TokenTree)) → preceded (Some l) r ≡ with_front (cells_of (l ∷ [])) r
 front_cells l None = refl
@@ -82,7 +112,10 @@ two_fronts : (front more : List Cell) (r : Option (List Cell × List TokenTree))
 two_fronts front more None = refl
 two_fronts front more (Some x) = ap (λ (cs : List Cell). Some (cs, x.1)) (sym (append_assoc front more x.0))
 
-module _ (t : TypeTree) (front : List Cell) (ts : List TokenTree) (total : Option (List Cell × List TokenTree)) (so_far : with_front front (more_cells t ts) ≡ total) where
+module _ (t : TypeTree) (front : List Cell) (ts : List TokenTree) (total : Option (List Cell × List TokenTree)) (so_far : with_front front (more_cells t ts) ≡ total) (wrong : Fault) (mistake : more_mistake t ts ≡ wrong) where
+  pub wrong_on : (us : List TokenTree) (l : LiteralTree) (vs : List TokenTree) → Some us ≡ after_comma ts → literal_at t us ≡ Some (l, vs) → more_mistake t vs ≡ wrong
+  wrong_on us l vs word read = sym (wrong_goes_on t us vs l read) ∙ sym (ap (more_mistake t) (comma_came ts us word)) ∙ mistake
+
   pub goes_on : (us : List TokenTree) (l : LiteralTree) (vs : List TokenTree) (fronts : List Cell) → Some us ≡ after_comma ts → literal_at t us ≡ Some (l, vs) → fronts ≡ front ++ cells_of (l ∷ []) → with_front fronts (more_cells t vs) ≡ total
   goes_on us l vs fronts word read made =
       let one : more_cells t ts ≡ with_front (cells_of (l ∷ [])) (more_cells t vs) = ap (more_cells t) (comma_came ts us word) ∙ comma_more t us ∙ cells_begin t us l vs read in
@@ -93,8 +126,11 @@ module _ (t : TypeTree) (front : List Cell) (ts : List TokenTree) (total : Optio
       let one : more_cells t ts ≡ None = ap (more_cells t) (comma_came ts us word) ∙ comma_more t us ∙ cells_fail t us none in
       sym so_far ∙ ap (with_front front) one
 
-  pub literal_fails : (e : Fault) (us : List TokenTree) → Some us ≡ after_comma ts → Fails e (literal_at t us) → Fails e total
-  literal_fails e us word failed = fails_on e _ _ (none_ends us word) failed
+  wrong_ends : (us : List TokenTree) → Some us ≡ after_comma ts → literal_at t us ≡ None → wrong ≡ literal_mistake t us
+  wrong_ends us word none = sym mistake ∙ ap (more_mistake t) (comma_came ts us word) ∙ wrong_here t us none
+
+  pub literal_fails : (e : Fault) (us : List TokenTree) → Some us ≡ after_comma ts → Fails e (literal_at t us) (literal_mistake t us) → Fails e total wrong
+  literal_fails e us word failed = fails_on e _ _ _ _ (λ none. (none_ends us word none, wrong_ends us word none)) failed
 
 no_end : (t : TypeTree) (ts : List TokenTree) → None ≡ after_comma ts → after_closing ts ≡ None → more_cells t ts ≡ None
 unfolding after_comma after_closing more_cells
@@ -108,12 +144,18 @@ unfolding after_closing more_cells
 closed_cells t (closing ∷ ts) us e = let rest : ts ≡ us = some_is ts us e in ap (λ (r : List TokenTree). Some ([], r)) rest
 closed_cells t _ us e = absurd cc
 
-module _ (t : TypeTree) (front : List Cell) (ts : List TokenTree) (total : Option (List Cell × List TokenTree)) (so_far : with_front front (more_cells t ts) ≡ total) where
+no_comma : (t : TypeTree) (ts : List TokenTree) → None ≡ after_comma ts → more_mistake t ts ≡ expected ts expects.Closing
+unfolding after_comma more_mistake
+no_comma t [] c = refl
+no_comma t (comma ∷ ts) c = absurd cc
+no_comma t (_ ∷ ts) c = refl
+
+module _ (t : TypeTree) (front : List Cell) (ts : List TokenTree) (total : Option (List Cell × List TokenTree)) (so_far : with_front front (more_cells t ts) ≡ total) (wrong : Fault) (mistake : more_mistake t ts ≡ wrong) where
   not_ended : None ≡ after_comma ts → after_closing ts ≡ None → total ≡ None
   not_ended c d = sym so_far ∙ ap (with_front front) (no_end t ts c d)
 
-  pub end_fails : (e : Fault) → None ≡ after_comma ts → Fails e (after_closing ts) → Fails e total
-  end_fails e c failed = fails_on e _ _ (not_ended c) failed
+  pub end_fails : (e : Fault) → None ≡ after_comma ts → Fails e (after_closing ts) (expected ts expects.Closing) → Fails e total wrong
+  end_fails e c failed = fails_on e _ _ _ _ (λ none. (not_ended c none, sym mistake ∙ no_comma t ts c)) failed
 
   pub ends : (us : List TokenTree) → after_closing ts ≡ Some us → total ≡ Some (front, us)
   ends us e = sym so_far ∙ ap (with_front front) (closed_cells t ts us e) ∙ ap (λ (cs : List Cell). Some (cs, us)) (append-nil front)
@@ -146,8 +188,36 @@ module _ (k : ℕ) (t : TypeTree) (bs : List ℕ) where
   unfolding text_prefix literal_of
   text_none utf8 said = rw (is_utf8-from_IsUtf8 bs utf8, said) refl
 
-  pub text_fails : (e : Fault) → IsUtf8 bs → Fails e (string_literal t bs) → Fails e (text_prefix k t bs)
-  text_fails e utf8 failed = fails_on e _ _ (text_none utf8) failed
+  text_wrong : (left : ℕ) → IsUtf8 bs → faults.At left (text_cause t bs) ≡ faults.At left (other_type t)
+  text_wrong left utf8 = rw (is_utf8-from_IsUtf8 bs utf8) refl
+
+  pub text_fails : (e : Fault) (left : ℕ) → IsUtf8 bs → Fails e (string_literal t bs) (faults.At left (other_type t)) → Fails e (text_prefix k t bs) (faults.At left (text_cause t bs))
+  text_fails e left utf8 failed = fails_on e _ _ _ _ (λ none. (text_none utf8 none, text_wrong left utf8)) failed
+
+  no_string_by : (left : ℕ) (b : Bool) → is_utf8 bs ≡ b → (IsUtf8 bs → ⊥) → faults.At left (text_cause t bs) ≡ faults.At left (causes.Expected expects.Prefix)
+  no_string_by left true is other = absurd (other (IsUtf8-from_is_utf8 bs is))
+  no_string_by left false is other = rw is refl
+
+  -- bytes that are no string are told as no prefix
+  pub no_string : (left : ℕ) → (IsUtf8 bs → ⊥) → (text_prefix k t bs ≡ None) × (faults.At left (text_cause t bs) ≡ faults.At left (causes.Expected expects.Prefix))
+  no_string left other = (no_text other, no_string_by left (is_utf8 bs) refl other)
+
+string_is : (t : TypeTree) (bs : List ℕ) (l : LiteralTree) → string_literal t bs ≡ Some l → l ≡ exactly (text_cell bs)
+string_is (utf8_type n) bs l e = let made : LiteralTree = exactly (text_cell bs) in sym (some_is made l e)
+string_is _ bs l e = absurd cc
+
+same_prefix : (k : ℕ) (bs : List ℕ) (l : LiteralTree) → l ≡ exactly (text_cell bs) → prefix_from k l ≡ Some (prefix_test k (text_cell bs))
+same_prefix k bs l e = ap (prefix_from k) e
+
+-- what is read is told as it is, whatever mistake there could be
+read_told : {X Y : Type 0} (view : X → Y) (r : Result X Fault) (read : Option Y) (y : Y) (m n : Fault) → read ≡ Some y → Gives view r read m → Gives view r read n
+read_told view (Ok x) read y m n is given = given
+read_told view (Err faults.NoMemory) read y m n is given = tt
+read_told view (Err (faults.At left cause)) read y m n is given = let clash : None ≡ Some y = sym given.0 ∙ is in absurd cc
+
+-- a string is a prefix
+pub string_prefix : {X : Type 0} (view : X → Formula) (r : Result X Fault) (k : ℕ) (t : TypeTree) (bs : List ℕ) (l : LiteralTree) (m n : Fault) → string_literal t bs ≡ Some l → Gives view r (prefix_from k l) m → Gives view r (prefix_from k l) n
+string_prefix view r k t bs l m n said given = read_told view r (prefix_from k l) (prefix_test k (text_cell bs)) m n (same_prefix k bs l (string_is t bs l said)) given
 
 -- ---- patterns
 

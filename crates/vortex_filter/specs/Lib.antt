@@ -15,6 +15,7 @@ pub mod Grammar
 pub mod Lexing
 pub mod Literals
 pub mod Makes
+pub mod Mistakes
 pub mod Operators
 pub mod Orders
 pub mod OutcomeSets

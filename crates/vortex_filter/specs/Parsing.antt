@@ -15,6 +15,7 @@ use Rattle.vortex_filter.specs.Columns.{ColumnTree, column_named}
 use Rattle.vortex_filter.specs.Formula.{Formula, formula, constant, comparison, null_test, membership, range, prefix_test, both, either, negation}
 use Rattle.vortex_filter.specs.Grammar.{IsFilter}
 use Rattle.vortex_filter.specs.Literals.{null_cell, truth_cell, number_cell, text_cell, bytes_cell, holds_strings}
+use Rattle.vortex_filter.specs.Mistakes.{error_of, filter_mistake}
 use Rattle.vortex_filter.specs.Printing.{column_name, groups_and, groups_or}
 use Rattle.vortex_filter.specs.Texts.{Item, AreItemsOf, IsRefusal}
 use Rattle.vortex_filter.specs.Tokens.{TokenTree}
@@ -32,18 +33,19 @@ pub record IsSqlWithin (room : ℕ) (columns : List ColumnTree) (sql : List ℕ)
   pub are : AreItemsOf sql items
   pub means : IsFilter columns levels.Or room (tokens_in items) f
 
--- the tokens of the text are no filter in which at most so many nest
-pub record IsNoSqlWithin (room : ℕ) (columns : List ColumnTree) (sql : List ℕ) : Type 0 where
+-- the tokens of the text are no filter in which at most so many nest, and e tells the first mistake, at its place
+pub record IsNoSqlWithin (room : ℕ) (columns : List ColumnTree) (sql : List ℕ) (e : ParseError) : Type 0 where
   pub items : List Item
   pub are : AreItemsOf sql items
   pub none : (f : Formula) → IsFilter columns levels.Or room (tokens_in items) f → ⊥
+  pub told : e ≡ error_of items (length sql) (filter_mistake columns room (tokens_in items))
 
 -- when a text in which so many may nest is refused so: memory ran out, or no token begins at a place, or its tokens are no filter
 abbrev pub RefusesSqlWithin : ℕ → List ColumnTree → List ℕ → ParseError → Type 0
 RefusesSqlWithin room columns sql errors.OutOfMemory = Unit {0}
 RefusesSqlWithin room columns sql (errors.BadText place) = IsRefusal sql (errors.BadText place)
 RefusesSqlWithin room columns sql (errors.NumberTooLong place) = IsRefusal sql (errors.NumberTooLong place)
-RefusesSqlWithin room columns sql _ = IsNoSqlWithin room columns sql
+RefusesSqlWithin room columns sql e = IsNoSqlWithin room columns sql e
 
 -- the text is a filter with this formula
 abbrev pub IsSql : List ColumnTree → List ℕ → Formula → Type 0

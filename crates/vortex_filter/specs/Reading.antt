@@ -1,15 +1,9 @@
 -- Reading tokens from the front, as the private functions of the parser do: what is read, and what follows it.
-use Rattle.std.specs.Prelude.{◌≡◌, ◌≤◌, ◌==◌, ◌++◌, ℕ, zero, suc, Bool, true, false, List, [], ◌∷◌, Option, Some, None, Result, Ok, Err, option_and_then, if◌then◌else◌}
+use Rattle.std.specs.Prelude.{◌==◌, ◌++◌, ℕ, zero, suc, Bool, true, false, List, [], ◌∷◌, Option, Some, None, option_and_then, if◌then◌else◌}
 use Rattle.std.specs.Str.{bytes_eq, is_utf8}
 use Rattle.vortex_dtype.specs.TypeTree.{TypeTree}
 use Rattle.vortex_statistics.specs.Cells.{Cell}
 use Rattle.vortex_filter.specs.declared.operator.CompareOperator.{CompareOperator}
-use Rattle.vortex_filter.specs.declared.sql.error.ParseError.{ParseError}
-use Rattle.vortex_filter.specs.declared.sql.error.ParseError.TheVariants as errors
-use Rattle.vortex_filter.specs.declared.sql.parse.fault.Cause.{Cause}
-use Rattle.vortex_filter.specs.declared.sql.parse.fault.Cause.TheVariants as causes
-use Rattle.vortex_filter.specs.declared.sql.parse.fault.Fault.{Fault}
-use Rattle.vortex_filter.specs.declared.sql.parse.fault.Fault.TheVariants as faults
 use Rattle.vortex_filter.specs.declared.sql.print.Level.{Level}
 use Rattle.vortex_filter.specs.declared.sql.print.Level.TheVariants as levels
 use Rattle.vortex_filter.specs.declared.sql.token.Keyword.{Keyword}
@@ -21,19 +15,8 @@ use Rattle.vortex_filter.specs.Formula.{Formula, constant, null_test, membership
 use Rattle.vortex_filter.specs.Literals.{LiteralTree, exactly, lacking, literal_of, comparison_of, range_of, cells_of, member_of, holds_strings, pattern_prefix}
 use Rattle.vortex_filter.specs.Tokens.{TokenTree, keyword_token, name_token, string_token, operator_token, opening, closing, comma}
 
--- ---- what a function gave, and what reading gives
-
--- what fails for want of memory says nothing, and else nothing is read
-abbrev pub Fails : {Y : Type 0} → Fault → Option Y → Type 0
-Fails faults.NoMemory read = Unit {0}
-Fails (faults.At left cause) read = read ≡ None
-
--- what a function returned, seen by view, is what reading gives; what fails gives nothing, unless memory ran out
-abbrev pub Gives : {X Y : Type 0} → (X → Y) → Result X Fault → Option Y → Type 0
-Gives view (Ok x) read = read ≡ Some (view x)
-Gives view (Err e) read = Fails e read
-
 infixl 10 ◌>>=◌
+-- what is read next, if something was
 abbrev pub ◌>>=◌ : {A B : Type 0} → Option A → (A → Option B) → Option B
 o >>= f = option_and_then f o
 
@@ -298,29 +281,3 @@ ended_read (Some x) = ended x.0 x.1
 -- the filter that all of the tokens are, within which at most n connectives and parentheses nest
 unfoldable pub filter_at : List ColumnTree → ℕ → List TokenTree → Option Formula
 filter_at columns n ts = ended_read (disjunction_of (predicate_at columns) (reads (predicate_at columns) n) ts)
-
--- ---- faults of a text
-
--- the error of a fault at a place
-abbrev pub caused : ℕ → Cause → ParseError
-caused place (causes.Expected expected) = errors.Expected place expected
-caused place causes.NoColumn = errors.NoColumn place
-caused place causes.TypesDiffer = errors.TypesDiffer place
-caused place causes.NoLiteral = errors.NoLiteral place
-caused place causes.TooDeep = errors.TooDeep place
-
--- the error of a fault in a text of this length
-abbrev pub IsFaultAt : ℕ → Fault → ParseError → Type 0
-IsFaultAt end faults.NoMemory e = e ≡ errors.OutOfMemory
-IsFaultAt end (faults.At left cause) e = (place : ℕ) × (place ≤ end) × (e ≡ caused place cause)
-
--- an error that came for want of memory, or with a place in a text of this length where nothing is read of its tokens
-abbrev pub IsFaultIn : {Y : Type 0} → ℕ → Option Y → ParseError → Type 0
-IsFaultIn end read errors.OutOfMemory = Unit {0}
-IsFaultIn end read (errors.Expected place expected) = (read ≡ None) × (place ≤ end)
-IsFaultIn end read (errors.NoColumn place) = (read ≡ None) × (place ≤ end)
-IsFaultIn end read (errors.TypesDiffer place) = (read ≡ None) × (place ≤ end)
-IsFaultIn end read (errors.NoLiteral place) = (read ≡ None) × (place ≤ end)
-IsFaultIn end read (errors.TooDeep place) = (read ≡ None) × (place ≤ end)
-IsFaultIn end read (errors.NumberTooLong place) = ⊥
-IsFaultIn end read (errors.BadText place) = ⊥

@@ -1,18 +1,28 @@
 -- Worked cases of SQL text, each a theorem.
-use Rattle.std.specs.Prelude.{◌≡◌, ⊤, true, false, pos, negsuc, [], ◌∷◌, refl, codes, Ok, Err}
+use Rattle.std.specs.Prelude.{◌≡◌, ⊤, true, false, pos, negsuc, List, [], ◌∷◌, refl, codes, Ok, Err}
 use Rattle.std.specs.Fmt.{digits}
 use Rattle.hex.specs.Hex.{decode_pairs, encode_with}
-use Rattle.vortex_dtype.specs.TypeTree.{null_type}
+use Rattle.vortex_dtype.specs.TypeTree.{integer_type, null_type}
+use Rattle.vortex_dtype.specs.declared.nullability.Nullability.TheVariants.{Nullable}
+use Rattle.vortex_dtype.specs.declared.ptype.PType.TheVariants.{I32}
 use Rattle.vortex_statistics.specs.Cells.{Cell}
 use Rattle.vortex_value.specs.Values.Content.{Content, null, whole, text, string}
 use Rattle.vortex_filter.specs.declared.operator.CompareOperator.TheVariants.{NotEq, Gte, Lt, Eq}
 use Rattle.vortex_filter.specs.declared.sql.lex.Fault.TheVariants.{BadText, NumberTooLong}
-use Rattle.vortex_filter.specs.declared.sql.token.Keyword.TheVariants.{And}
+use Rattle.vortex_filter.specs.declared.sql.error.Expected.TheVariants as expects
+use Rattle.vortex_filter.specs.declared.sql.parse.fault.Cause.TheVariants as causes
+use Rattle.vortex_filter.specs.declared.sql.parse.fault.Fault.TheVariants as faults
+use Rattle.vortex_filter.specs.declared.sql.token.Keyword.TheVariants.{And, In, Not, Or}
+use Rattle.vortex_filter.specs.declared.sql.token.Keyword.TheVariants as keywords
 use Rattle.vortex_filter.specs.declared.truth.Truth.TheVariants.{True, Unknown}
 use Rattle.vortex_filter.specs.Formula.{Formula, constant, comparison, null_test, membership, range, prefix_test, both, either, negation}
 use Rattle.vortex_filter.specs.Lexing.{bytes_at, integer_at, mark_of, parameter_at, signed_at, token_at, unquoted_at, word_at}
-use Rattle.vortex_filter.specs.Tokens.{bytes_token, integer_token, keyword_named, keyword_token, name_token, operator_token, string_token}
+use Rattle.vortex_filter.specs.Tokens.{bytes_token, closing, integer_token, keyword_named, keyword_token, name_token, opening, operator_token, string_token}
 use Rattle.vortex_filter.specs.Printing.{sql_text}
+use Rattle.vortex_filter.specs.Columns.{ColumnTree, column_named, numbered_place}
+use Rattle.vortex_filter.specs.Literals.{literal_of, pattern_prefix}
+use Rattle.vortex_filter.specs.Mistakes.{cells_mistake, condition_mistake, conjunction_mistake, disjunction_mistake, escape_mistake, filter_mistake, group_mistake, like_mistake, literal_mistake, members_mistake, mistake_at, mistakes, more_mistake, operand_mistake, predicate_mistake, test_mistake}
+use Rattle.vortex_filter.specs.Reading.{after_closing, after_comma, after_keyword, after_opening, and_from, cells_at, comparison_at, condition_at, conjunction_of, constant_at, disjunction_of, escape_at, group_of, like_at, literal_at, members_at, more_cells, name_at, operand_from, operand_of, operator_at, or_from, predicate_at, read_at, reads, string_at, test_at, text_prefix}
 
 -- what the proofs compute by
 unfoldable on_texts : ⊤
@@ -79,3 +89,37 @@ pub prefixes :
     × (sql_text [] (prefix_test 0 (cell (string (97 ∷ 255 ∷ [])))) ≡ codes "starts_with(\"$1\", x'61ff')")
 unfolding on_texts
 prefixes = (refl, refl, refl)
+
+-- Mistakes, by how many tokens are left.
+
+abbrev pub one_column : List ColumnTree
+one_column = record { name = codes "a"; typed = integer_type I32 Nullable } ∷ []
+
+-- what the proofs compute by
+unfoldable on_mistakes : ⊤
+unfolding after_closing after_comma after_keyword after_opening and_from cells_at cells_mistake column_named comparison_at condition_at condition_mistake conjunction_mistake conjunction_of constant_at disjunction_mistake disjunction_of escape_at escape_mistake filter_mistake group_mistake group_of like_at like_mistake literal_at literal_mistake literal_of members_at members_mistake mistake_at mistakes more_cells more_mistake name_at numbered_place operand_from operand_mistake operand_of operator_at or_from pattern_prefix predicate_at predicate_mistake read_at reads string_at test_at test_mistake text_prefix
+on_mistakes = tt
+
+-- a 3
+pub no_operator : filter_mistake one_column 9 (name_token (codes "a") ∷ integer_token false 3 ∷ []) ≡ faults.At 1 (causes.Expected expects.Operator)
+unfolding on_mistakes
+no_operator = refl
+
+-- a in (1 2), and: true or b = 1
+pub mistakes_behind :
+    (filter_mistake one_column 9 (name_token (codes "a") ∷ keyword_token In ∷ opening ∷ integer_token false 1 ∷ integer_token false 2 ∷ closing ∷ []) ≡ faults.At 2 (causes.Expected expects.Closing))
+    × (filter_mistake one_column 9 (keyword_token keywords.True ∷ keyword_token Or ∷ name_token (codes "b") ∷ operator_token Eq ∷ integer_token false 1 ∷ []) ≡ faults.At 3 causes.NoColumn)
+unfolding on_mistakes
+mistakes_behind = (refl, refl)
+
+-- (a = 1, and: a = 'x'
+pub mistakes_at_last :
+    (filter_mistake one_column 9 (opening ∷ name_token (codes "a") ∷ operator_token Eq ∷ integer_token false 1 ∷ []) ≡ faults.At 0 (causes.Expected expects.Closing))
+    × (filter_mistake one_column 9 (name_token (codes "a") ∷ operator_token Eq ∷ string_token (codes "x") ∷ []) ≡ faults.At 1 causes.TypesDiffer)
+unfolding on_mistakes
+mistakes_at_last = (refl, refl)
+
+-- not not true, where one may nest
+pub too_deep_there : filter_mistake one_column 1 (keyword_token Not ∷ keyword_token Not ∷ keyword_token keywords.True ∷ []) ≡ faults.At 1 causes.TooDeep
+unfolding on_mistakes
+too_deep_there = refl

@@ -17,7 +17,9 @@ ghost use Rattle.vortex_filter.specs.Faults.{IsPlaced};
 ghost use Rattle.vortex_filter.specs.Formula.{Formula, formula};
 ghost use Rattle.vortex_filter.specs.Parsing.{AllOrdered, IsReadable, IsSql, IsSqlWithin, ReadsAs, RefusesSql, RefusesSqlWithin, depth, depth as text_depth, types_of};
 ghost use Rattle.vortex_filter.specs.Printing.{sql_text};
-ghost use Rattle.vortex_filter.specs.Reading.{IsFaultAt, IsFaultIn, caused, filter_at};
+ghost use Rattle.vortex_filter.specs.Mistakes.{IsFaultIn, caused, error_of, filter_mistake, place_where};
+ghost use Rattle.vortex_filter.specs.Reading.{filter_at};
+ghost use Rattle.vortex_filter.specs.Texts.{items};
 ghost use Rattle.vortex_filter.specs.Tokens.{trees};
 
 use crate::column::Column;
@@ -95,7 +97,10 @@ fn filter_in(
     ensures given { IfOk result (λ filter.
         filter_at (column_trees columns.now) depth (trees tokens.now) ≡ Some (formula filter)) }
     ensures refused { IfErr result
-        (IsFaultIn end (filter_at (column_trees columns.now) depth (trees tokens.now))) }
+        (IsFaultIn (items tokens.now) end
+        (filter_at (column_trees columns.now) depth (trees tokens.now))
+        (filter_mistake (column_trees columns.now) depth (trees tokens.now))) }
+    ensures placed { IfErr result (IsPlaced end) }
 {
     match filter_of(alloc, columns, tokens, depth) {
         Ok(filter) => Ok(filter),
@@ -106,7 +111,8 @@ fn filter_in(
 /// The error for a fault among the tokens of a text of this length.
 fn placed(fault: Fault, tokens: &[Placed], end: usize) -> ParseError
     requires { AllByRecursion (λ p. p.place ≤ end) tokens.now }
-    ensures { IsFaultAt end fault result }
+    ensures error { result ≡ error_of (items tokens.now) end fault }
+    ensures placed { IsPlaced end result }
 {
     match fault {
         Fault::NoMemory => ParseError::OutOfMemory,
@@ -131,7 +137,8 @@ fn caused(place: usize, cause: Cause) -> ParseError
 #[tactic(auto, using(crate::proofs::ParseSteps::places))]
 fn place_at(tokens: &[Placed], left: usize, end: usize) -> usize
     requires { AllByRecursion (λ p. p.place ≤ end) tokens.now }
-    ensures { result ≤ end }
+    ensures place { result ≡ place_where (items tokens.now) end left }
+    ensures within { result ≤ end }
 {
     match tokens.get(tokens.len().saturating_sub(left)) {
         Some(placed) => placed.place,

@@ -7,7 +7,7 @@ ghost use Rattle.std.specs.Str.{bytes_eq};
 ghost use Rattle.std.specs.String.{string_bytes};
 ghost use Rattle.vortex_dtype.specs.TypeOf.{type_of};
 ghost use Rattle.vortex_filter.specs.declared.column.Column.{Column};
-ghost use Rattle.vortex_filter.specs.Reading.{Gives};
+ghost use Rattle.vortex_filter.specs.Mistakes.{Gives};
 ghost use Rattle.vortex_filter.specs.Columns.{column_named, column_trees, digits_number, named_place, numbered_place, or_numbered, typed_place};
 
 use crate::column::Column;
@@ -51,7 +51,7 @@ pub(crate) fn expect_column<'a>(
     left: usize,
 ) -> Result<Found<'a>, Fault>
     ensures { Gives (λ x. (x.place, type_of x.dtype.now)) result
-        (column_named (column_trees columns.now) name.now) }
+        (column_named (column_trees columns.now) name.now) (Fault.At left Cause.NoColumn) }
 {
     match column_named(columns, name) {
         Some(column) => Ok(column),

@@ -7,7 +7,8 @@ ghost use Rattle.vortex_statistics.specs.Cells.{cell_of};
 ghost use Rattle.vortex_filter.specs.Formula.{formula};
 ghost use Rattle.vortex_filter.specs.Literals.{is_wildcard, pattern_prefix, with_byte};
 ghost use Rattle.vortex_filter.specs.Tokens.{trees};
-ghost use Rattle.vortex_filter.specs.Reading.{Gives, ending, with_front, cells_at, comparison_at, condition_at, escape_at, like_at, members_at, more_cells, null_test_at, range_at, test_at, text_prefix};
+ghost use Rattle.vortex_filter.specs.Mistakes.{Gives, cells_mistake, condition_mistake, escape_mistake, like_mistake, literal_mistake, members_mistake, more_mistake, null_test_mistake, range_mistake, test_mistake, text_cause};
+ghost use Rattle.vortex_filter.specs.Reading.{ending, with_front, cells_at, comparison_at, condition_at, escape_at, like_at, members_at, more_cells, null_test_at, range_at, test_at, text_prefix};
 
 use crate::filter::Filter;
 use crate::operator::CompareOperator;
@@ -20,7 +21,7 @@ use crate::sql::parse::formulas::{
 use crate::sql::parse::literals::{literal_at, string_literal};
 use crate::sql::parse::tokens::{
     after_closing, after_comma, after_keyword, expect_closing, expect_keyword, expect_opening,
-    expect_string, expected, operator_at,
+    expect_string, expected, operator_at, tokens_left,
 };
 use crate::sql::token::{Keyword, Placed};
 use std::alloc::Global;
@@ -28,14 +29,15 @@ use vortex_dtype::DType;
 use vortex_value::Scalar;
 
 /// What follows the column's name.
-#[tactic(auto, unfolding(crate::specs::Reading::condition_at))]
+#[tactic(auto, unfolding(crate::specs::Reading::condition_at, crate::specs::Mistakes::condition_mistake))]
 pub(crate) fn condition<'a>(
     alloc: Global,
     column: Found<'_>,
     rest: &'a [Placed],
 ) -> Result<(Box<Filter>, &'a [Placed]), Fault>
     ensures { Gives (λ x. (formula x.0.value, trees x.1.now)) result
-        (condition_at column.entry.place (type_of column.entry.dtype.now) (trees rest.now)) }
+        (condition_at column.entry.place (type_of column.entry.dtype.now) (trees rest.now))
+        (condition_mistake (type_of column.entry.dtype.now) (trees rest.now)) }
 {
     if let Some((operator, after)) = operator_at(rest) {
         return compared(alloc, column, operator, after);
@@ -59,17 +61,18 @@ fn compared<'a>(
     rest: &'a [Placed],
 ) -> Result<(Box<Filter>, &'a [Placed]), Fault>
     ensures { Gives (λ x. (formula x.0.value, trees x.1.now)) result
-        (comparison_at column.entry.place (type_of column.entry.dtype.now) operator (trees rest.now)) }
+        (comparison_at column.entry.place (type_of column.entry.dtype.now) operator (trees rest.now))
+        (literal_mistake (type_of column.entry.dtype.now) (trees rest.now)) }
 {
     let (literal, rest) = literal_at(alloc, column.dtype, rest)?;
     Ok((comparison(alloc, column.place, operator, literal)?, rest))
 }
 
 /// What follows `is`: `null` or `not null`.
-#[tactic(auto, unfolding(crate::specs::Reading::null_test_at))]
+#[tactic(auto, unfolding(crate::specs::Reading::null_test_at, crate::specs::Mistakes::null_test_mistake))]
 fn is_null(alloc: Global, column: usize, rest: &[Placed]) -> Result<(Box<Filter>, &[Placed]), Fault>
     ensures { Gives (λ x. (formula x.0.value, trees x.1.now)) result
-        (null_test_at column (trees rest.now)) }
+        (null_test_at column (trees rest.now)) (null_test_mistake (trees rest.now)) }
 {
     let Some(after) = after_keyword(rest, Keyword::Not) else {
         let rest = expect_keyword(rest, Keyword::Null, Expected::Null)?;
@@ -81,14 +84,15 @@ fn is_null(alloc: Global, column: usize, rest: &[Placed]) -> Result<(Box<Filter>
 }
 
 /// `in`, `between` or `like`, and what follows.
-#[tactic(auto, unfolding(crate::specs::Reading::test_at))]
+#[tactic(auto, unfolding(crate::specs::Reading::test_at, crate::specs::Mistakes::test_mistake))]
 fn test<'a>(
     alloc: Global,
     column: Found<'_>,
     rest: &'a [Placed],
 ) -> Result<(Box<Filter>, &'a [Placed]), Fault>
     ensures { Gives (λ x. (formula x.0.value, trees x.1.now)) result
-        (test_at column.entry.place (type_of column.entry.dtype.now) (trees rest.now)) }
+        (test_at column.entry.place (type_of column.entry.dtype.now) (trees rest.now))
+        (test_mistake (type_of column.entry.dtype.now) (trees rest.now)) }
 {
     if let Some(after) = after_keyword(rest, Keyword::In) {
         return members(alloc, column, after);
@@ -101,14 +105,15 @@ fn test<'a>(
 }
 
 /// What follows `between`: two literals with `and` between them.
-#[tactic(auto, unfolding(crate::specs::Reading::range_at))]
+#[tactic(auto, unfolding(crate::specs::Reading::range_at, crate::specs::Mistakes::range_mistake))]
 fn between<'a>(
     alloc: Global,
     column: Found<'_>,
     rest: &'a [Placed],
 ) -> Result<(Box<Filter>, &'a [Placed]), Fault>
     ensures { Gives (λ x. (formula x.0.value, trees x.1.now)) result
-        (range_at column.entry.place (type_of column.entry.dtype.now) (trees rest.now)) }
+        (range_at column.entry.place (type_of column.entry.dtype.now) (trees rest.now))
+        (range_mistake (type_of column.entry.dtype.now) (trees rest.now)) }
 {
     let (lower, rest) = literal_at(alloc, column.dtype, rest)?;
     let rest = expect_keyword(rest, Keyword::And, Expected::And)?;
@@ -117,14 +122,15 @@ fn between<'a>(
 }
 
 /// What follows `in`: literals in parentheses.
-#[tactic(auto, unfolding(crate::specs::Reading::members_at))]
+#[tactic(auto, unfolding(crate::specs::Reading::members_at, crate::specs::Mistakes::members_mistake))]
 fn members<'a>(
     alloc: Global,
     column: Found<'_>,
     rest: &'a [Placed],
 ) -> Result<(Box<Filter>, &'a [Placed]), Fault>
     ensures { Gives (λ x. (formula x.0.value, trees x.1.now)) result
-        (members_at column.entry.place (type_of column.entry.dtype.now) (trees rest.now)) }
+        (members_at column.entry.place (type_of column.entry.dtype.now) (trees rest.now))
+        (members_mistake (type_of column.entry.dtype.now) (trees rest.now)) }
 {
     let rest = expect_opening(rest)?;
     if let Some(after) = after_closing(rest) {
@@ -142,7 +148,8 @@ fn cells<'a>(
     rest: &'a [Placed],
 ) -> Result<(Vec<Scalar>, &'a [Placed]), Fault>
     ensures { Gives (λ x. (map cell_of x.0.items, trees x.1.now)) result
-        (cells_at (type_of dtype.now) (trees rest.now)) }
+        (cells_at (type_of dtype.now) (trees rest.now))
+        (cells_mistake (type_of dtype.now) (trees rest.now)) }
 {
     let (literal, rest) = literal_at(alloc, dtype, rest)?;
     let literals = with_literal(Vec::new(alloc), literal)?;
@@ -157,7 +164,8 @@ fn more_cells<'a>(
     rest: &'a [Placed],
 ) -> Result<(Vec<Scalar>, &'a [Placed]), Fault>
     ensures { Gives (λ x. (map cell_of x.0.items, trees x.1.now)) result
-        (with_front (map cell_of literals.items) (more_cells (type_of dtype.now) (trees rest.now))) }
+        (with_front (map cell_of literals.items) (more_cells (type_of dtype.now) (trees rest.now)))
+        (more_mistake (type_of dtype.now) (trees rest.now)) }
 {
     let mut literals = literals;
     let mut rest = rest;
@@ -171,16 +179,17 @@ fn more_cells<'a>(
 }
 
 /// What follows `like`: the pattern of a prefix.
-#[tactic(auto, unfolding(crate::specs::Reading::like_at))]
+#[tactic(auto, unfolding(crate::specs::Reading::like_at, crate::specs::Mistakes::like_mistake))]
 fn like<'a>(
     alloc: Global,
     column: Found<'_>,
     rest: &'a [Placed],
 ) -> Result<(Box<Filter>, &'a [Placed]), Fault>
     ensures { Gives (λ x. (formula x.0.value, trees x.1.now)) result
-        (like_at column.entry.place (type_of column.entry.dtype.now) (trees rest.now)) }
+        (like_at column.entry.place (type_of column.entry.dtype.now) (trees rest.now))
+        (like_mistake (type_of column.entry.dtype.now) (trees rest.now)) }
 {
-    let left = rest.len();
+    let left = tokens_left(rest);
     let (pattern, rest) = expect_string(rest, Expected::Prefix)?;
     let (escapes, rest) = escape_at(rest)?;
     let bytes = pattern_prefix(alloc, pattern.as_bytes(), escapes, left)?;
@@ -188,9 +197,10 @@ fn like<'a>(
 }
 
 /// Whether `escape '\\'` comes next, and what follows.
-#[tactic(auto, unfolding(crate::specs::Reading::escape_at))]
+#[tactic(auto, unfolding(crate::specs::Reading::escape_at, crate::specs::Mistakes::escape_mistake))]
 fn escape_at(rest: &[Placed]) -> Result<(bool, &[Placed]), Fault>
-    ensures { Gives (λ x. (x.0, trees x.1.now)) result (escape_at (trees rest.now)) }
+    ensures { Gives (λ x. (x.0, trees x.1.now)) result (escape_at (trees rest.now))
+        (escape_mistake (trees rest.now)) }
 {
     let Some(after) = after_keyword(rest, Keyword::Escape) else {
         return Ok((false, rest));
@@ -210,7 +220,8 @@ fn pattern_prefix(
     escapes: bool,
     left: usize,
 ) -> Result<Vec<u8>, Fault>
-    ensures { Gives (λ v. v.items) result (pattern_prefix escapes pattern.now) }
+    ensures { Gives (λ v. v.items) result (pattern_prefix escapes pattern.now)
+        (Fault.At left (Cause.Expected Expected.Prefix)) }
 {
     let mut prefix = Vec::new(alloc);
     let mut rest = pattern;
@@ -274,7 +285,8 @@ fn text_prefix(
     left: usize,
 ) -> Result<Box<Filter>, Fault>
     ensures { Gives (λ f. formula f.value) result
-        (text_prefix column.entry.place (type_of column.entry.dtype.now) bytes.items) }
+        (text_prefix column.entry.place (type_of column.entry.dtype.now) bytes.items)
+        (Fault.At left (text_cause (type_of column.entry.dtype.now) bytes.items)) }
 {
     let Ok(text) = str::from_utf8(bytes.as_slice()) else {
         return Err(Fault::At(left, Cause::Expected(Expected::Prefix)));

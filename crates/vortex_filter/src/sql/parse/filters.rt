@@ -4,7 +4,8 @@ ghost use Rattle.std.specs.Prelude.{◌≡◌, suc, MatchResult};
 ghost use Rattle.vortex_filter.specs.Columns.{column_trees};
 ghost use Rattle.vortex_filter.specs.Formula.{formula};
 ghost use Rattle.vortex_filter.specs.Tokens.{trees};
-ghost use Rattle.vortex_filter.specs.Reading.{Gives, conjunction_of, disjunction_of, filter_at, operand_of, predicate_at, reads};
+ghost use Rattle.vortex_filter.specs.Mistakes.{Gives, conjunction_mistake, disjunction_mistake, filter_mistake, mistakes, operand_mistake, predicate_mistake, too_deep};
+ghost use Rattle.vortex_filter.specs.Reading.{conjunction_of, disjunction_of, filter_at, operand_of, predicate_at, reads};
 
 use crate::column::Column;
 use crate::filter::Filter;
@@ -12,16 +13,19 @@ use crate::sql::error::Expected;
 use crate::sql::parse::fault::{Cause, Fault};
 use crate::sql::parse::formulas::{both, either, negation};
 use crate::sql::parse::predicates::predicate;
-use crate::sql::parse::tokens::{after_closing, after_keyword, after_opening, expected};
+use crate::sql::parse::tokens::{
+    after_closing, after_keyword, after_opening, expected, tokens_left,
+};
 use crate::sql::token::{Keyword, Placed};
 use std::alloc::Global;
 
 /// How deep what comes next may nest.
 fn deeper(rest: &[Placed], depth: usize) -> Result<usize, Fault>
-    ensures { MatchResult result (λ d. depth ≡ suc d) (λ e. depth ≡ 0) }
+    ensures { MatchResult result (λ d. depth ≡ suc d)
+        (λ e. (depth ≡ 0) × (e ≡ too_deep (trees rest.now))) }
 {
     match depth {
-        0 => Err(Fault::At(rest.len(), Cause::TooDeep)),
+        0 => Err(Fault::At(tokens_left(rest), Cause::TooDeep)),
         _ => Ok(depth - 1),
     }
 }
@@ -34,7 +38,8 @@ pub(crate) fn disjunction<'a>(
     rest: &'a [Placed],
     depth: usize,
 ) -> Result<(Box<Filter>, &'a [Placed]), Fault>
-    ensures { Gives (λ x. (formula x.0.value, trees x.1.now)) result (disjunction_of (predicate_at (column_trees columns.now)) (reads (predicate_at (column_trees columns.now)) depth) (trees rest.now)) }
+    ensures { Gives (λ x. (formula x.0.value, trees x.1.now)) result (disjunction_of (predicate_at (column_trees columns.now)) (reads (predicate_at (column_trees columns.now)) depth) (trees rest.now))
+        (disjunction_mistake (predicate_at (column_trees columns.now)) (predicate_mistake (column_trees columns.now)) (reads (predicate_at (column_trees columns.now)) depth) (mistakes (predicate_at (column_trees columns.now)) (predicate_mistake (column_trees columns.now)) depth) (trees rest.now)) }
 {
     let (left, rest) = conjunction(alloc, columns, rest, depth)?;
     let Some(after) = after_keyword(rest, Keyword::Or) else {
@@ -53,7 +58,8 @@ fn conjunction<'a>(
     rest: &'a [Placed],
     depth: usize,
 ) -> Result<(Box<Filter>, &'a [Placed]), Fault>
-    ensures { Gives (λ x. (formula x.0.value, trees x.1.now)) result (conjunction_of (predicate_at (column_trees columns.now)) (reads (predicate_at (column_trees columns.now)) depth) (trees rest.now)) }
+    ensures { Gives (λ x. (formula x.0.value, trees x.1.now)) result (conjunction_of (predicate_at (column_trees columns.now)) (reads (predicate_at (column_trees columns.now)) depth) (trees rest.now))
+        (conjunction_mistake (predicate_at (column_trees columns.now)) (predicate_mistake (column_trees columns.now)) (reads (predicate_at (column_trees columns.now)) depth) (mistakes (predicate_at (column_trees columns.now)) (predicate_mistake (column_trees columns.now)) depth) (trees rest.now)) }
 {
     let (left, rest) = operand(alloc, columns, rest, depth)?;
     let Some(after) = after_keyword(rest, Keyword::And) else {
@@ -72,7 +78,8 @@ fn operand<'a>(
     rest: &'a [Placed],
     depth: usize,
 ) -> Result<(Box<Filter>, &'a [Placed]), Fault>
-    ensures { Gives (λ x. (formula x.0.value, trees x.1.now)) result (operand_of (predicate_at (column_trees columns.now)) (reads (predicate_at (column_trees columns.now)) depth) (trees rest.now)) }
+    ensures { Gives (λ x. (formula x.0.value, trees x.1.now)) result (operand_of (predicate_at (column_trees columns.now)) (reads (predicate_at (column_trees columns.now)) depth) (trees rest.now))
+        (operand_mistake (predicate_at (column_trees columns.now)) (predicate_mistake (column_trees columns.now)) (reads (predicate_at (column_trees columns.now)) depth) (mistakes (predicate_at (column_trees columns.now)) (predicate_mistake (column_trees columns.now)) depth) (trees rest.now)) }
 {
     if let Some(after) = after_keyword(rest, Keyword::Not) {
         let depth = deeper(after, depth)?;
@@ -91,14 +98,15 @@ fn operand<'a>(
 }
 
 /// The filter that all of the tokens are.
-#[tactic(auto, unfolding(crate::specs::Reading::filter_at))]
+#[tactic(auto, unfolding(crate::specs::Reading::filter_at, crate::specs::Mistakes::filter_mistake))]
 pub(crate) fn filter_of(
     alloc: Global,
     columns: &[Column],
     tokens: &[Placed],
     depth: usize,
 ) -> Result<Filter, Fault>
-    ensures { Gives formula result (filter_at (column_trees columns.now) depth (trees tokens.now)) }
+    ensures { Gives formula result (filter_at (column_trees columns.now) depth (trees tokens.now))
+        (filter_mistake (column_trees columns.now) depth (trees tokens.now)) }
 {
     let (filter, rest) = disjunction(alloc, columns, tokens, depth)?;
     match rest {

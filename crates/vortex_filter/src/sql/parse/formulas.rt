@@ -4,7 +4,8 @@ ghost use Rattle.std.specs.Prelude.{◌≡◌, ◌++◌, [], ◌∷◌, IfErr, I
 ghost use Rattle.vortex_statistics.specs.Cells.{cell_of};
 ghost use Rattle.vortex_filter.specs.Formula.{both, constant, either, formula, membership, negation, null_test};
 ghost use Rattle.vortex_filter.specs.Literals.{always, cells_of, comparison_of, exactly, lacking, literal_tree, member_of, never, range_of};
-ghost use Rattle.vortex_filter.specs.Reading.{Gives, prefix_from};
+ghost use Rattle.vortex_filter.specs.Mistakes.{Gives};
+ghost use Rattle.vortex_filter.specs.Reading.{prefix_from};
 ghost use Rattle.vortex_filter.specs.declared.sql.parse.fault.Fault.TheVariants.{NoMemory};
 
 use crate::filter::Filter;
@@ -251,7 +252,8 @@ pub(crate) fn prefix(
     literal: Literal,
     left: usize,
 ) -> Result<Box<Filter>, Fault>
-    ensures { Gives (λ f. formula f.value) result (prefix_from column (literal_tree literal)) }
+    ensures { Gives (λ f. formula f.value) result (prefix_from column (literal_tree literal))
+        (Fault.At left (Cause.Expected Expected.Prefix)) }
 {
     match literal {
         Literal::Exactly(prefix) => boxed(alloc, Filter::StartsWith { column, prefix }),

@@ -1,13 +1,15 @@
 //! Literals in the type of a column.
 
-ghost use Rattle.std.specs.Prelude.{◌≡◌, Some};
+ghost use Rattle.std.specs.Prelude.{◌≡◌, IfErr, IfOk};
 ghost use Rattle.vortex_dtype.specs.TypeOf.{type_of};
-ghost use Rattle.vortex_filter.specs.Tokens.{token_tree, trees};
+ghost use Rattle.vortex_filter.specs.Tokens.{keyword_token, token_tree, trees};
 ghost use Rattle.vortex_filter.specs.Literals.{bytes_literal, exactly, integer_literal, keyword_literal, literal_of, literal_tree, null_cell, number_said, signed, string_literal, truth_literal};
-ghost use Rattle.vortex_filter.specs.Reading.{Gives, literal_at};
+ghost use Rattle.vortex_filter.specs.Mistakes.{Gives, literal_cause, literal_mistake, other_type};
+ghost use Rattle.vortex_filter.specs.Reading.{literal_at};
 
 use crate::sql::error::Expected;
 use crate::sql::parse::fault::{Cause, Fault};
+use crate::sql::parse::tokens::{expected, tokens_left};
 use crate::sql::token::{Keyword, Placed, Token};
 use std::alloc::Global;
 use vortex_dtype::{BufferString, ByteBuffer, DType, Nullability, PType};
@@ -24,26 +26,28 @@ pub(crate) enum Literal {
 }
 
 /// The literal that comes next, in a column of the type, and what follows it.
-#[tactic(auto, unfolding(crate::specs::Reading::literal_at))]
+#[tactic(auto, unfolding(crate::specs::Reading::literal_at, crate::specs::Mistakes::literal_mistake))]
 pub(crate) fn literal_at<'a>(
     alloc: Global,
     dtype: &DType,
     rest: &'a [Placed],
 ) -> Result<(Literal, &'a [Placed]), Fault>
     ensures { Gives (λ x. (literal_tree x.0, trees x.1.now)) result
-        (literal_at (type_of dtype.now) (trees rest.now)) }
+        (literal_at (type_of dtype.now) (trees rest.now))
+        (literal_mistake (type_of dtype.now) (trees rest.now)) }
 {
     let [first, after @ ..] = rest else {
-        return Err(Fault::At(0, Cause::Expected(Expected::Literal)));
+        return Err(expected(rest, Expected::Literal));
     };
-    let literal = literal_of(alloc, dtype, &first.token, rest.len())?;
+    let literal = literal_of(alloc, dtype, &first.token, tokens_left(rest))?;
     Ok((literal, after))
 }
 
 /// What the token says as a literal, where so many tokens are left.
 #[tactic(auto, unfolding(crate::specs::Literals::literal_of))]
 fn literal_of(alloc: Global, dtype: &DType, token: &Token, left: usize) -> Result<Literal, Fault>
-    ensures { Gives literal_tree result (literal_of (type_of dtype.now) (token_tree token.now)) }
+    ensures { Gives literal_tree result (literal_of (type_of dtype.now) (token_tree token.now))
+        (Fault.At left (literal_cause (type_of dtype.now) (token_tree token.now))) }
 {
     match token {
         Token::Keyword(keyword) => keyword_literal(alloc, dtype, *keyword, left),
@@ -66,7 +70,8 @@ fn keyword_literal(
     keyword: Keyword,
     left: usize,
 ) -> Result<Literal, Fault>
-    ensures { Gives literal_tree result (keyword_literal (type_of dtype.now) keyword) }
+    ensures { Gives literal_tree result (keyword_literal (type_of dtype.now) keyword)
+        (Fault.At left (literal_cause (type_of dtype.now) (keyword_token keyword))) }
 {
     match keyword {
         Keyword::Null => null_literal(alloc, dtype),
@@ -78,7 +83,8 @@ fn keyword_literal(
 
 /// The null of any type.
 fn null_literal(alloc: Global, dtype: &DType) -> Result<Literal, Fault>
-    ensures { Gives literal_tree result (Some (exactly (null_cell (type_of dtype.now)))) }
+    ensures made { IfOk result (λ l. literal_tree l ≡ exactly (null_cell (type_of dtype.now))) }
+    ensures refused { IfErr result (λ e. e ≡ Fault.NoMemory) }
 {
     let dtype = dtype.clone(alloc)?.as_nullable();
     Ok(Literal::Exactly(Scalar { dtype, value: None }))
@@ -86,7 +92,8 @@ fn null_literal(alloc: Global, dtype: &DType) -> Result<Literal, Fault>
 
 /// A truth value, in a column of truth values.
 fn truth_literal(dtype: &DType, truth: bool, left: usize) -> Result<Literal, Fault>
-    ensures { Gives literal_tree result (truth_literal (type_of dtype.now) truth) }
+    ensures { Gives literal_tree result (truth_literal (type_of dtype.now) truth)
+        (Fault.At left (other_type (type_of dtype.now))) }
 {
     match dtype {
         DType::Bool(_) => Ok(Literal::Exactly(Scalar::bool(truth, Nullability::NonNullable))),
@@ -102,7 +109,8 @@ fn integer_literal(
     left: usize,
 ) -> Result<Literal, Fault>
     ensures { Gives literal_tree result
-        (integer_literal (type_of dtype.now) is_negative magnitude) }
+        (integer_literal (type_of dtype.now) is_negative magnitude)
+        (Fault.At left (other_type (type_of dtype.now))) }
 {
     match dtype {
         DType::Primitive(ptype, _) => Ok(number_said(*ptype, is_negative, magnitude)),
@@ -145,7 +153,8 @@ pub(crate) fn string_literal(
     text: &str,
     left: usize,
 ) -> Result<Literal, Fault>
-    ensures { Gives literal_tree result (string_literal (type_of dtype.now) text.now) }
+    ensures { Gives literal_tree result (string_literal (type_of dtype.now) text.now)
+        (Fault.At left (other_type (type_of dtype.now))) }
 {
     match dtype {
         DType::Utf8(_) => {
@@ -158,7 +167,8 @@ pub(crate) fn string_literal(
 
 /// Bytes, in a column of bytes.
 fn bytes_literal(alloc: Global, dtype: &DType, bytes: &[u8], left: usize) -> Result<Literal, Fault>
-    ensures { Gives literal_tree result (bytes_literal (type_of dtype.now) bytes.now) }
+    ensures { Gives literal_tree result (bytes_literal (type_of dtype.now) bytes.now)
+        (Fault.At left (other_type (type_of dtype.now))) }
 {
     match dtype {
         DType::Binary(_) => {
@@ -170,7 +180,9 @@ fn bytes_literal(alloc: Global, dtype: &DType, bytes: &[u8], left: usize) -> Res
 }
 
 /// Why a literal of another kind is none of the type: whether the type has literals.
-fn other_type(dtype: &DType) -> Cause {
+fn other_type(dtype: &DType) -> Cause
+    ensures { result ≡ other_type (type_of dtype.now) }
+{
     match dtype {
         DType::Bool(_) | DType::Primitive(_, _) | DType::Utf8(_) | DType::Binary(_) => {
             Cause::TypesDiffer

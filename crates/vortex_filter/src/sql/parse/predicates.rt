@@ -6,7 +6,8 @@ ghost use Rattle.vortex_filter.specs.Columns.{column_trees};
 ghost use Rattle.vortex_filter.specs.Formula.{formula};
 ghost use Rattle.vortex_filter.specs.Literals.{holds_strings, literal_tree};
 ghost use Rattle.vortex_filter.specs.Tokens.{trees};
-ghost use Rattle.vortex_filter.specs.Reading.{Gives, constant_at, predicate_at, prefix_call_at, prefix_of};
+ghost use Rattle.vortex_filter.specs.Mistakes.{Gives, expected, predicate_mistake, prefix_call_mistake, prefix_cause};
+ghost use Rattle.vortex_filter.specs.Reading.{constant_at, predicate_at, prefix_call_at, prefix_of};
 
 use crate::column::Column;
 use crate::filter::Filter;
@@ -18,6 +19,7 @@ use crate::sql::parse::formulas::{constant, prefix};
 use crate::sql::parse::literals::{Literal, literal_at};
 use crate::sql::parse::tokens::{
     after_keyword, expect_closing, expect_comma, expect_name, expect_opening, expected, name_at,
+    tokens_left,
 };
 use crate::sql::token::{Keyword, Placed, Token};
 use crate::truth::Truth;
@@ -25,17 +27,18 @@ use std::alloc::Global;
 use vortex_dtype::DType;
 
 /// A test of a column, `starts_with` or a constant, and what follows.
-#[tactic(auto, unfolding(crate::specs::Reading::predicate_at))]
+#[tactic(auto, unfolding(crate::specs::Reading::predicate_at, crate::specs::Mistakes::predicate_mistake))]
 pub(crate) fn predicate<'a>(
     alloc: Global,
     columns: &[Column],
     rest: &'a [Placed],
 ) -> Result<(Box<Filter>, &'a [Placed]), Fault>
     ensures { Gives (λ x. (formula x.0.value, trees x.1.now)) result
-        (predicate_at (column_trees columns.now) (trees rest.now)) }
+        (predicate_at (column_trees columns.now) (trees rest.now))
+        (predicate_mistake (column_trees columns.now) (trees rest.now)) }
 {
     if let Some((name, after)) = name_at(rest) {
-        let column = expect_column(columns, name, rest.len())?;
+        let column = expect_column(columns, name, tokens_left(rest))?;
         return condition(alloc, column, after);
     }
     let Some(after) = after_keyword(rest, Keyword::StartsWith) else {
@@ -45,22 +48,26 @@ pub(crate) fn predicate<'a>(
 }
 
 /// What follows `starts_with`: a column and a literal in parentheses.
-#[tactic(auto, unfolding(crate::specs::Reading::prefix_call_at))]
+#[tactic(auto, unfolding(crate::specs::Reading::prefix_call_at, crate::specs::Mistakes::prefix_call_mistake))]
 fn prefix_call<'a>(
     alloc: Global,
     columns: &[Column],
     rest: &'a [Placed],
 ) -> Result<(Box<Filter>, &'a [Placed]), Fault>
     ensures { Gives (λ x. (formula x.0.value, trees x.1.now)) result
-        (prefix_call_at (column_trees columns.now) (trees rest.now)) }
+        (prefix_call_at (column_trees columns.now) (trees rest.now))
+        (prefix_call_mistake (column_trees columns.now) (trees rest.now)) }
 {
     let named = expect_opening(rest)?;
     let (name, rest) = expect_name(named)?;
-    let column = expect_column(columns, name, named.len())?;
+    let column = expect_column(columns, name, tokens_left(named))?;
     let written = expect_comma(rest)?;
     let (literal, rest) = literal_at(alloc, column.dtype, written)?;
     let rest = expect_closing(rest)?;
-    Ok((prefix_of(alloc, column, literal, written.len())?, rest))
+    Ok((
+        prefix_of(alloc, column, literal, tokens_left(written))?,
+        rest,
+    ))
 }
 
 /// Whether the column begins with the literal, where so many tokens are left.
@@ -72,7 +79,8 @@ fn prefix_of(
     left: usize,
 ) -> Result<Box<Filter>, Fault>
     ensures { Gives (λ f. formula f.value) result
-        (prefix_of (column.entry.place, type_of column.entry.dtype.now) (literal_tree literal)) }
+        (prefix_of (column.entry.place, type_of column.entry.dtype.now) (literal_tree literal))
+        (Fault.At left (prefix_cause (type_of column.entry.dtype.now))) }
 {
     if holds_strings(column.dtype) {
         return prefix(alloc, column.place, literal, left);
@@ -92,10 +100,10 @@ fn holds_strings(dtype: &DType) -> bool
 #[tactic(auto, unfolding(crate::specs::Reading::constant_at))]
 fn constant_at(alloc: Global, rest: &[Placed]) -> Result<(Box<Filter>, &[Placed]), Fault>
     ensures { Gives (λ x. (formula x.0.value, trees x.1.now)) result
-        (constant_at (trees rest.now)) }
+        (constant_at (trees rest.now)) (expected (trees rest.now) Expected.Filter) }
 {
     let [first, after @ ..] = rest else {
-        return Err(Fault::At(0, Cause::Expected(Expected::Filter)));
+        return Err(expected(rest, Expected::Filter));
     };
     let truth = match &first.token {
         Token::Keyword(Keyword::True) => Truth::True,

@@ -4,18 +4,27 @@ ghost use Rattle.std.specs.Prelude.{◌≡◌, length};
 ghost use Rattle.std.specs.Option.{option_map};
 ghost use Rattle.std.specs.String.{string_bytes};
 ghost use Rattle.vortex_filter.specs.Tokens.{token_tree, trees};
-ghost use Rattle.vortex_filter.specs.Reading.{Gives, after_closing, after_comma, after_keyword, after_opening, is_keyword, name_at, operator_at, string_at};
+ghost use Rattle.vortex_filter.specs.Mistakes.{Gives, expected};
+ghost use Rattle.vortex_filter.specs.Reading.{after_closing, after_comma, after_keyword, after_opening, is_keyword, name_at, operator_at, string_at};
 
 use crate::operator::CompareOperator;
 use crate::sql::error::Expected;
 use crate::sql::parse::fault::{Cause, Fault};
 use crate::sql::token::{Keyword, Placed, Token};
 
+/// How many tokens are left.
+#[tactic(auto, using(crate::proofs::ReadSteps::counts))]
+pub(crate) fn tokens_left(rest: &[Placed]) -> usize
+    ensures { result ≡ length (trees rest.now) }
+{
+    rest.len()
+}
+
 /// The fault that something else had to come next.
 pub(crate) fn expected(rest: &[Placed], what: Expected) -> Fault
-    ensures { result ≡ Fault.At (length rest.now) (Cause.Expected what) }
+    ensures { result ≡ expected (trees rest.now) what }
 {
-    Fault::At(rest.len(), Cause::Expected(what))
+    Fault::At(tokens_left(rest), Cause::Expected(what))
 }
 
 /// Whether the token is this keyword.
@@ -129,7 +138,8 @@ pub(crate) fn expect_keyword(
     keyword: Keyword,
     what: Expected,
 ) -> Result<&[Placed], Fault>
-    ensures { Gives (λ r. trees r.now) result (after_keyword keyword (trees rest.now)) }
+    ensures { Gives (λ r. trees r.now) result (after_keyword keyword (trees rest.now))
+        (expected (trees rest.now) what) }
 {
     match after_keyword(rest, keyword) {
         Some(after) => Ok(after),
@@ -139,7 +149,8 @@ pub(crate) fn expect_keyword(
 
 /// What follows an opening parenthesis, which has to come next.
 pub(crate) fn expect_opening(rest: &[Placed]) -> Result<&[Placed], Fault>
-    ensures { Gives (λ r. trees r.now) result (after_opening (trees rest.now)) }
+    ensures { Gives (λ r. trees r.now) result (after_opening (trees rest.now))
+        (expected (trees rest.now) Expected.Opening) }
 {
     match after_opening(rest) {
         Some(after) => Ok(after),
@@ -149,7 +160,8 @@ pub(crate) fn expect_opening(rest: &[Placed]) -> Result<&[Placed], Fault>
 
 /// What follows a closing parenthesis, which has to come next.
 pub(crate) fn expect_closing(rest: &[Placed]) -> Result<&[Placed], Fault>
-    ensures { Gives (λ r. trees r.now) result (after_closing (trees rest.now)) }
+    ensures { Gives (λ r. trees r.now) result (after_closing (trees rest.now))
+        (expected (trees rest.now) Expected.Closing) }
 {
     match after_closing(rest) {
         Some(after) => Ok(after),
@@ -159,7 +171,8 @@ pub(crate) fn expect_closing(rest: &[Placed]) -> Result<&[Placed], Fault>
 
 /// What follows a comma, which has to come next.
 pub(crate) fn expect_comma(rest: &[Placed]) -> Result<&[Placed], Fault>
-    ensures { Gives (λ r. trees r.now) result (after_comma (trees rest.now)) }
+    ensures { Gives (λ r. trees r.now) result (after_comma (trees rest.now))
+        (expected (trees rest.now) Expected.Comma) }
 {
     match after_comma(rest) {
         Some(after) => Ok(after),
@@ -169,7 +182,8 @@ pub(crate) fn expect_comma(rest: &[Placed]) -> Result<&[Placed], Fault>
 
 /// The string that has to come next, and what follows it.
 pub(crate) fn expect_string(rest: &[Placed], what: Expected) -> Result<(&str, &[Placed]), Fault>
-    ensures { Gives (λ x. (x.0.now, trees x.1.now)) result (string_at (trees rest.now)) }
+    ensures { Gives (λ x. (x.0.now, trees x.1.now)) result (string_at (trees rest.now))
+        (expected (trees rest.now) what) }
 {
     match string_at(rest) {
         Some(found) => Ok(found),
@@ -179,7 +193,8 @@ pub(crate) fn expect_string(rest: &[Placed], what: Expected) -> Result<(&str, &[
 
 /// The name that has to come next, and what follows it.
 pub(crate) fn expect_name(rest: &[Placed]) -> Result<(&str, &[Placed]), Fault>
-    ensures { Gives (λ x. (x.0.now, trees x.1.now)) result (name_at (trees rest.now)) }
+    ensures { Gives (λ x. (x.0.now, trees x.1.now)) result (name_at (trees rest.now))
+        (expected (trees rest.now) Expected.Column) }
 {
     match name_at(rest) {
         Some(found) => Ok(found),

@@ -1,11 +1,8 @@
 -- The first literal, and those behind it.
-use Rattle.std.proofs.Common.{◌≡◌, map, ap, ◌∙◌, sym}
 use Rattle.std.proofs.lemmas.Result.{err_from_is_err_and}
 use Rattle.vortex_dtype.specs.TypeOf.{type_of}
-use Rattle.vortex_statistics.specs.Cells.{Cell, cell_of}
 use Rattle.vortex_filter.specs.Tokens.{trees}
-use Rattle.vortex_filter.specs.Reading.{with_front, more_cells}
-use Rattle.vortex_filter.proofs.TestSteps.{cells_left_fail, cells_begin}
+use Rattle.vortex_filter.proofs.TestSteps.{cells_left_fail, cells_begin, cells_wrong_behind}
 use Rattle.vortex_filter.proofs.sql.parse.conditions.cells.Goals as goal
 
 pub returns-in_err-literal : goal.returns-in_err-literal
@@ -17,4 +14,5 @@ pub returns : goal.returns
 returns c =
     let begun = cells_begin (type_of c.args.dtype.now) (trees c.args.rest.now) _ (trees c.in_ok-literal.rest.now) c.in_ok-literal.ensures in
     let made = rw c.new.ensures.items at c.in_ok-literals.ensures.made in
-    rw (begun, ← made) c.more_cells.ensures
+    let wrong = cells_wrong_behind (type_of c.args.dtype.now) (trees c.args.rest.now) _ (trees c.in_ok-literal.rest.now) c.in_ok-literal.ensures in
+    rw (begun, ← made, wrong) c.more_cells.ensures

@@ -1,9 +1,9 @@
 -- The first two bytes of the pattern decide.
-use Rattle.std.proofs.Common.{◌≡◌, ◌∷◌, ◌∙◌, List, ℕ, ap, sym}
+use Rattle.std.proofs.Common.{◌∙◌, List, ℕ, ap, sym}
 use Rattle.std.proofs.lemmas.List.{nil_from_length}
 use Rattle.vortex_filter.specs.Literals.{pattern_prefix, with_byte}
 use Rattle.vortex_filter.specs.Reading.{ending}
-use Rattle.vortex_filter.proofs.TestSteps.{none_if, step_none, step_one, step_escape, step_wild, step_plain, pattern_of_none, pattern_of_one, pattern_of_two}
+use Rattle.vortex_filter.proofs.TestSteps.{none_if, step_escape, step_wild, step_plain, pattern_of_none, pattern_of_one, pattern_of_two}
 use Rattle.vortex_filter.proofs.sql.parse.conditions.prefix_byte.Goals as goal
 
 pub returns-in_err-first-clause-none : goal.returns-in_err-first-clause-none

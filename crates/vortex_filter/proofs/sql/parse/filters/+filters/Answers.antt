@@ -1,82 +1,84 @@
 -- Each step of the code is a step of reading.
 use Rattle.std.proofs.lemmas.Result.{err_from_is_err_and}
 use Rattle.vortex_filter.specs.Tokens.{trees}
-use Rattle.vortex_filter.specs.Formula.{formula}
 use Rattle.vortex_filter.specs.Columns.{column_trees}
+use Rattle.vortex_filter.specs.Mistakes.{predicate_mistake}
 use Rattle.vortex_filter.specs.Reading.{predicate_at}
-use Rattle.vortex_filter.proofs.ReadSteps.{fails_none, or_left_fails, or_alone, or_too_deep, or_right_fails, or_joined, and_left_fails, and_alone, and_too_deep, and_right_fails, and_joined, not_too_deep, not_fails, negated_is, group_too_deep, group_fails, not_closed, group_is, predicate_is}
+use Rattle.vortex_filter.proofs.ReadSteps.{or_left_fails, or_alone, or_too_deep, or_right_fails, or_joined, and_left_fails, and_alone, and_too_deep, and_right_fails, and_joined, not_too_deep, not_fails, negated_is, group_too_deep, group_fails, not_closed, group_is, predicate_is}
 use Rattle.vortex_filter.proofs.sql.parse.filters.+filters.Goals as goal
 
 pub disjunction-returns-in_err-left : goal.disjunction-returns-in_err-left
 disjunction-returns-in_err-left t c =
     let p = err_from_is_err_and c.from_residual.result c.from_residual.ensures.1 in
-    rw (p.1, p.2) (or_left_fails (predicate_at (column_trees c.args.columns.now)) c.args.depth (trees c.args.rest.now) _ c.in_err-left.ensures)
+    rw (p.1, p.2) (or_left_fails (predicate_at (column_trees c.args.columns.now)) (predicate_mistake (column_trees c.args.columns.now)) c.args.depth (trees c.args.rest.now) _ c.in_err-left.ensures)
 
 pub disjunction-returns-in_default : goal.disjunction-returns-in_default
-disjunction-returns-in_default t c = or_alone (predicate_at (column_trees c.args.columns.now)) c.args.depth (trees c.args.rest.now) _ _ c.in_ok-left.ensures c.in_default.ensures
+disjunction-returns-in_default t c = or_alone (predicate_at (column_trees c.args.columns.now)) (predicate_mistake (column_trees c.args.columns.now)) c.args.depth (trees c.args.rest.now) _ _ c.in_ok-left.ensures c.in_default.ensures
 
 pub disjunction-returns-in_err-depth : goal.disjunction-returns-in_err-depth
 disjunction-returns-in_err-depth t c =
     let p = err_from_is_err_and c.from_residual-in_err-depth.result c.from_residual-in_err-depth.ensures.1 in
-    rw (p.1, p.2) (fails_none _ _ (or_too_deep (predicate_at (column_trees c.args.columns.now)) c.args.depth (trees c.args.rest.now) _ _ _ c.in_ok-left.ensures c.in-Some.ensures c.in_err-depth.ensures))
+    rw (p.1, p.2) (or_too_deep (predicate_at (column_trees c.args.columns.now)) (predicate_mistake (column_trees c.args.columns.now)) c.args.depth (trees c.args.rest.now) _ _ _ _ c.in_ok-left.ensures c.in-Some.ensures c.in_err-depth.ensures)
 
 pub disjunction-returns-in_err-right : goal.disjunction-returns-in_err-right
 disjunction-returns-in_err-right t c =
     let p = err_from_is_err_and c.from_residual-in_err-right.result c.from_residual-in_err-right.ensures.1 in
-    rw (p.1, p.2) (or_right_fails (predicate_at (column_trees c.args.columns.now)) c.args.depth (trees c.args.rest.now) _ _ _ _ _ c.in_ok-left.ensures c.in-Some.ensures c.in_ok-depth.ensures c.in_err-right.ensures)
+    rw (p.1, p.2) (or_right_fails (predicate_at (column_trees c.args.columns.now)) (predicate_mistake (column_trees c.args.columns.now)) c.args.depth (trees c.args.rest.now) _ _ _ _ _ c.in_ok-left.ensures c.in-Some.ensures c.in_ok-depth.ensures c.in_err-right.ensures)
 
 pub disjunction-returns : goal.disjunction-returns
-disjunction-returns t c = or_joined (predicate_at (column_trees c.args.columns.now)) c.args.depth (trees c.args.rest.now) _ _ _ _ _ _ _ c.in_ok-left.ensures c.in-Some.ensures c.in_ok-depth.ensures c.in_ok-right.ensures c.in_ok-either.ensures.made
+disjunction-returns t c = or_joined (predicate_at (column_trees c.args.columns.now)) (predicate_mistake (column_trees c.args.columns.now)) c.args.depth (trees c.args.rest.now) _ _ _ _ _ _ _ c.in_ok-left.ensures c.in-Some.ensures c.in_ok-depth.ensures c.in_ok-right.ensures c.in_ok-either.ensures.made
 
 pub conjunction-returns-in_err-left : goal.conjunction-returns-in_err-left
 conjunction-returns-in_err-left t c =
     let p = err_from_is_err_and c.from_residual.result c.from_residual.ensures.1 in
-    rw (p.1, p.2) (and_left_fails (predicate_at (column_trees c.args.columns.now)) c.args.depth (trees c.args.rest.now) _ c.in_err-left.ensures)
+    rw (p.1, p.2) (and_left_fails (predicate_at (column_trees c.args.columns.now)) (predicate_mistake (column_trees c.args.columns.now)) c.args.depth (trees c.args.rest.now) _ c.in_err-left.ensures)
 
 pub conjunction-returns-in_default : goal.conjunction-returns-in_default
-conjunction-returns-in_default t c = and_alone (predicate_at (column_trees c.args.columns.now)) c.args.depth (trees c.args.rest.now) _ _ c.in_ok-left.ensures c.in_default.ensures
+conjunction-returns-in_default t c = and_alone (predicate_at (column_trees c.args.columns.now)) (predicate_mistake (column_trees c.args.columns.now)) c.args.depth (trees c.args.rest.now) _ _ c.in_ok-left.ensures c.in_default.ensures
 
 pub conjunction-returns-in_err-depth : goal.conjunction-returns-in_err-depth
 conjunction-returns-in_err-depth t c =
     let p = err_from_is_err_and c.from_residual-in_err-depth.result c.from_residual-in_err-depth.ensures.1 in
-    rw (p.1, p.2) (fails_none _ _ (and_too_deep (predicate_at (column_trees c.args.columns.now)) c.args.depth (trees c.args.rest.now) _ _ _ c.in_ok-left.ensures c.in-Some.ensures c.in_err-depth.ensures))
+    rw (p.1, p.2) (and_too_deep (predicate_at (column_trees c.args.columns.now)) (predicate_mistake (column_trees c.args.columns.now)) c.args.depth (trees c.args.rest.now) _ _ _ _ c.in_ok-left.ensures c.in-Some.ensures c.in_err-depth.ensures)
 
 pub conjunction-returns-in_err-right : goal.conjunction-returns-in_err-right
 conjunction-returns-in_err-right t c =
     let p = err_from_is_err_and c.from_residual-in_err-right.result c.from_residual-in_err-right.ensures.1 in
-    rw (p.1, p.2) (and_right_fails (predicate_at (column_trees c.args.columns.now)) c.args.depth (trees c.args.rest.now) _ _ _ _ _ c.in_ok-left.ensures c.in-Some.ensures c.in_ok-depth.ensures c.in_err-right.ensures)
+    rw (p.1, p.2) (and_right_fails (predicate_at (column_trees c.args.columns.now)) (predicate_mistake (column_trees c.args.columns.now)) c.args.depth (trees c.args.rest.now) _ _ _ _ _ c.in_ok-left.ensures c.in-Some.ensures c.in_ok-depth.ensures c.in_err-right.ensures)
 
 pub conjunction-returns : goal.conjunction-returns
-conjunction-returns t c = and_joined (predicate_at (column_trees c.args.columns.now)) c.args.depth (trees c.args.rest.now) _ _ _ _ _ _ _ c.in_ok-left.ensures c.in-Some.ensures c.in_ok-depth.ensures c.in_ok-right.ensures c.in_ok-both.ensures.made
+conjunction-returns t c = and_joined (predicate_at (column_trees c.args.columns.now)) (predicate_mistake (column_trees c.args.columns.now)) c.args.depth (trees c.args.rest.now) _ _ _ _ _ _ _ c.in_ok-left.ensures c.in-Some.ensures c.in_ok-depth.ensures c.in_ok-right.ensures c.in_ok-both.ensures.made
 
 pub operand-returns-in_err-depth : goal.operand-returns-in_err-depth
 operand-returns-in_err-depth t c =
     let p = err_from_is_err_and c.from_residual.result c.from_residual.ensures.1 in
-    rw (p.1, p.2) (fails_none _ _ (not_too_deep (predicate_at (column_trees c.args.columns.now)) c.args.depth (trees c.args.rest.now) _ c.in-Some.ensures c.in_err-depth.ensures))
+    rw (p.1, p.2) (not_too_deep (predicate_at (column_trees c.args.columns.now)) (predicate_mistake (column_trees c.args.columns.now)) c.args.depth (trees c.args.rest.now) _ _ c.in-Some.ensures c.in_err-depth.ensures)
 
 pub operand-returns-in_err-inner : goal.operand-returns-in_err-inner
 operand-returns-in_err-inner t c =
     let p = err_from_is_err_and c.from_residual-in_err-inner.result c.from_residual-in_err-inner.ensures.1 in
-    rw (p.1, p.2) (not_fails (predicate_at (column_trees c.args.columns.now)) c.args.depth (trees c.args.rest.now) _ _ _ c.in-Some.ensures c.in_ok-depth.ensures c.in_err-inner.ensures)
+    rw (p.1, p.2) (not_fails (predicate_at (column_trees c.args.columns.now)) (predicate_mistake (column_trees c.args.columns.now)) c.args.depth (trees c.args.rest.now) _ _ _ c.in-Some.ensures c.in_ok-depth.ensures c.in_err-inner.ensures)
 
 pub operand-returns-in-Some : goal.operand-returns-in-Some
-operand-returns-in-Some t c = negated_is (predicate_at (column_trees c.args.columns.now)) c.args.depth (trees c.args.rest.now) _ _ _ _ _ c.in-Some.ensures c.in_ok-depth.ensures c.in_ok-inner.ensures c.in_ok-negation.ensures.made
+operand-returns-in-Some t c = negated_is (predicate_at (column_trees c.args.columns.now)) (predicate_mistake (column_trees c.args.columns.now)) c.args.depth (trees c.args.rest.now) _ _ _ _ _ c.in-Some.ensures c.in_ok-depth.ensures c.in_ok-inner.ensures c.in_ok-negation.ensures.made
 
 pub operand-returns-in_err-depth-2 : goal.operand-returns-in_err-depth-2
 operand-returns-in_err-depth-2 t c =
     let p = err_from_is_err_and c.from_residual-in_err-depth-2.result c.from_residual-in_err-depth-2.ensures.1 in
-    rw (p.1, p.2) (fails_none _ _ (group_too_deep (predicate_at (column_trees c.args.columns.now)) c.args.depth (trees c.args.rest.now) _ c.in_default.ensures c.in-Some-after_opening.ensures c.in_err-depth-2.ensures))
+    rw (p.1, p.2) (group_too_deep (predicate_at (column_trees c.args.columns.now)) (predicate_mistake (column_trees c.args.columns.now)) c.args.depth (trees c.args.rest.now) _ _ c.in_default.ensures c.in-Some-after_opening.ensures c.in_err-depth-2.ensures)
 
 pub operand-returns-in_err-inner-2 : goal.operand-returns-in_err-inner-2
 operand-returns-in_err-inner-2 t c =
     let p = err_from_is_err_and c.from_residual-in_err-inner-2.result c.from_residual-in_err-inner-2.ensures.1 in
-    rw (p.1, p.2) (group_fails (predicate_at (column_trees c.args.columns.now)) c.args.depth (trees c.args.rest.now) _ _ _ c.in_default.ensures c.in-Some-after_opening.ensures c.in_ok-depth-2.ensures c.in_err-inner-2.ensures)
+    rw (p.1, p.2) (group_fails (predicate_at (column_trees c.args.columns.now)) (predicate_mistake (column_trees c.args.columns.now)) c.args.depth (trees c.args.rest.now) _ _ _ c.in_default.ensures c.in-Some-after_opening.ensures c.in_ok-depth-2.ensures c.in_err-inner-2.ensures)
 
 pub operand-returns-in_default-after_closing : goal.operand-returns-in_default-after_closing
-operand-returns-in_default-after_closing t c = fails_none _ _ (not_closed (predicate_at (column_trees c.args.columns.now)) c.args.depth (trees c.args.rest.now) _ _ _ _ c.in_default.ensures c.in-Some-after_opening.ensures c.in_ok-depth-2.ensures c.in_ok-inner-2.ensures c.in_default-after_closing.ensures)
+operand-returns-in_default-after_closing t c = not_closed (predicate_at (column_trees c.args.columns.now)) (predicate_mistake (column_trees c.args.columns.now)) c.args.depth (trees c.args.rest.now) _ _ _ _ _ c.in_default.ensures c.in-Some-after_opening.ensures c.in_ok-depth-2.ensures c.in_ok-inner-2.ensures c.in_default-after_closing.ensures c.expected.ensures
 
 pub operand-returns-in-Some-after_opening : goal.operand-returns-in-Some-after_opening
-operand-returns-in-Some-after_opening t c = group_is (predicate_at (column_trees c.args.columns.now)) c.args.depth (trees c.args.rest.now) _ _ _ _ _ c.in_default.ensures c.in-Some-after_opening.ensures c.in_ok-depth-2.ensures c.in_ok-inner-2.ensures c.in-Some-after_closing.ensures
+operand-returns-in-Some-after_opening t c = group_is (predicate_at (column_trees c.args.columns.now)) (predicate_mistake (column_trees c.args.columns.now)) c.args.depth (trees c.args.rest.now) _ _ _ _ _ c.in_default.ensures c.in-Some-after_opening.ensures c.in_ok-depth-2.ensures c.in_ok-inner-2.ensures c.in-Some-after_closing.ensures
 
 pub operand-returns : goal.operand-returns
-operand-returns t c = rw (predicate_is (predicate_at (column_trees c.args.columns.now)) c.args.depth (trees c.args.rest.now) c.in_default.ensures c.in_default-after_opening.ensures) c.predicate.ensures
+operand-returns t c =
+    let pair = predicate_is (predicate_at (column_trees c.args.columns.now)) (predicate_mistake (column_trees c.args.columns.now)) c.args.depth (trees c.args.rest.now) c.in_default.ensures c.in_default-after_opening.ensures in
+    rw (pair.0, pair.1) c.predicate.ensures
