@@ -1,8 +1,9 @@
 -- Values told apart by the numbers of their first bytes.
-use Rattle.std.proofs.Common.{◌≡◌, ◌≢◌, ◌∙◌, ◌==◌, ℕ, zero, suc, ◌+◌, ◌-◌, ◌*◌, ◌%◌, ◌^◌, ◌<◌, ◌≤◌, ◌⊎◌, inl, inr, Bool, true, false, List, [], ◌∷◌, ◌++◌, add-zero, ap, arith, drop, length, nat_cmp, Option, Some, Ordering, Less, Equal, Greater, refl, slice_index, slice_range, subst, sym, take}
+use Rattle.std.proofs.Common.{◌≡◌, ◌∙◌, ◌==◌, ℕ, zero, suc, ◌+◌, ◌-◌, ◌*◌, ◌%◌, ◌^◌, ◌<◌, ◌≤◌, ◌⊎◌, inl, inr, Bool, true, false, List, [], ◌∷◌, ◌++◌, add-zero, ap, arith, drop, length, nat_cmp, Option, Some, Less, Equal, Greater, refl, slice_index, slice_range, subst, sym, take}
 use Rattle.std.proofs.Math.Nat.{mul-le-mul_right}
 use Rattle.std.proofs.Math.Seq.{take-add}
 use Rattle.std.proofs.lemmas.Bool.{eqb-true}
+use Rattle.std.proofs.lemmas.Cmp.{nat_list_cmp_total}
 use Rattle.std.proofs.lemmas.List.{drop-drop, drop-take, get_or-drop, length-take}
 use Rattle.std.proofs.lemmas.Nat.{and_mask, mod-mul-add, pow-add}
 use Rattle.std.specs.Bool.{OnTrue}
@@ -10,10 +11,10 @@ use Rattle.std.specs.Cmp.{nat_cmp_is}
 use Rattle.std.specs.Cmp.Lexicographic.{slice_cmp}
 use Rattle.std.specs.Int.{from_be_bytes, w64}
 use Rattle.std.specs.Int.Bits.{bit_and}
-use Rattle.std.specs.Ordering.{ordering_then}
+use Rattle.std.specs.Ordering.{is_lt, ordering_reverse, ordering_then}
 use Rattle.arrow_columns.specs.Offsets.{bytes_between}
 use Rattle.arrow_columns.specs.Running.{IsBestAt}
-use Rattle.arrow_columns.specs.Spans.{AreBytes, BeginAlike, Keeps, Widens, beginning}
+use Rattle.arrow_columns.specs.Spans.{AreBytes, Keeps, Widens, beginning}
 use Rattle.arrow_columns.specs.Statistics.{NotAbove}
 use Rattle.arrow_columns.specs.declared.byte_spans.ByteSpan.{ByteSpan}
 use Rattle.arrow_columns.proofs.ByteOrder.{Ranks, best_new, best_past, goes_on}
@@ -63,28 +64,19 @@ first_same x y xs ys e = ap (λ o. ordering_then o (slice_cmp nat_cmp xs ys)) (s
 first_less : (x y : ℕ) (xs ys : List ℕ) → x < y → slice_cmp nat_cmp (x ∷ xs) (y ∷ ys) ≡ Less
 first_less x y xs ys l = ap (λ o. ordering_then o (slice_cmp nat_cmp xs ys)) (sym (nat_cmp_is x y Less l))
 
-less_is : (o : Ordering) → o ≡ Less → o ≢ Greater
-less_is o e = λ f. cc
-
-empty : (y : List ℕ) → NotAbove [] y
-empty [] = λ e. cc
-empty (y ∷ ys) = λ e. cc
-
-carried : (o p : Ordering) → o ≡ p → p ≢ Greater → o ≢ Greater
-carried o p e h = λ f. h (sym e ∙ f)
-
-told_here : (n : ℕ) (x y : List ℕ) → AreBytes y → beginning n x < beginning n y → NotAbove x y
+told_here : (n : ℕ) (x y : List ℕ) → AreBytes y → beginning n x < beginning n y → slice_cmp nat_cmp x y ≡ Less
 told_here zero x y b h = absurd (omega arith)
-told_here (suc n) [] y b h = empty y
+told_here (suc n) [] [] b h = absurd (omega arith)
+told_here (suc n) [] (y ∷ ys) b h = refl
 told_here (suc n) (x ∷ xs) [] b h = absurd (omega arith)
 told_here (suc n) (x ∷ xs) (y ∷ ys) b h =
     elim (compared x y) [
-      | inl l ↦ less_is _ (first_less x y xs ys l)
+      | inl l ↦ first_less x y xs ys l
       | inr q ↦
           elim q [
             | inl e ↦
                 let same : x * 256 ^ n ≡ y * 256 ^ n = ap (λ k. k * 256 ^ n) e in
-                carried _ _ (first_same x y xs ys e) (told_here n xs ys (bytes_rest y ys b) (omega (arith, same, h)))
+                first_same x y xs ys e ∙ told_here n xs ys (bytes_rest y ys b) (omega (arith, same, h))
             | inr g ↦
                 let more : y * 256 ^ n + beginning n ys < x * 256 ^ n + beginning n xs = above (256 ^ n) x y (beginning n xs) (beginning n ys) (small n ys (bytes_rest y ys b)) g in
                 absurd (omega (arith, more, h))
@@ -92,14 +84,24 @@ told_here (suc n) (x ∷ xs) (y ∷ ys) b h =
     ]
 
 -- after a common beginning
-pub told : (s n : ℕ) (x y : List ℕ) → AreBytes y → take s x ≡ take s y → beginning n (drop s x) < beginning n (drop s y) → NotAbove x y
+told : (s n : ℕ) (x y : List ℕ) → AreBytes y → take s x ≡ take s y → beginning n (drop s x) < beginning n (drop s y) → slice_cmp nat_cmp x y ≡ Less
 told zero n x y b e h = told_here n x y b h
-told (suc s) n [] y b e h = empty y
+told (suc s) n [] [] b e h = absurd (omega (arith, none n, h))
+told (suc s) n [] (y ∷ ys) b e h = refl
 told (suc s) n (x ∷ xs) [] b e h = absurd (omega (arith, none n, h))
 told (suc s) n (x ∷ xs) (y ∷ ys) b e h =
     let first : x ≡ y = ap (λ l. slice_index l 0) e in
     let rest : take s xs ≡ take s ys = ap (drop 1) e in
-    carried _ _ (first_same x y xs ys first) (told s n xs ys (bytes_rest y ys b) rest h)
+    first_same x y xs ys first ∙ told s n xs ys (bytes_rest y ys b) rest h
+
+-- what the numbers of the next bytes tell
+pub below_by_word : (s v w : ℕ) (x y : List ℕ) → AreBytes y → take s x ≡ take s y → v ≡ beginning 8 (drop s x) → w ≡ beginning 8 (drop s y) → v < w → true ≡ is_lt (slice_cmp nat_cmp x y)
+below_by_word s v w x y b e p q h = sym (ap is_lt (told s 8 x y b e (omega (arith, p, q, h))))
+
+pub above_by_word : (s v w : ℕ) (x y : List ℕ) → AreBytes x → take s x ≡ take s y → v ≡ beginning 8 (drop s x) → w ≡ beginning 8 (drop s y) → w < v → false ≡ is_lt (slice_cmp nat_cmp x y)
+above_by_word s v w x y b e p q h =
+    let back : slice_cmp nat_cmp x y ≡ Greater = nat_list_cmp_total.antisymm x y ∙ ap ordering_reverse (told s 8 y x b (sym e) (omega (arith, p, q, h))) in
+    sym (ap is_lt back)
 
 -- equal numbers are of equal bytes
 same_bytes : (n : ℕ) (xs ys : List ℕ) → AreBytes xs → AreBytes ys → n ≤ length xs → n ≤ length ys → beginning n xs ≡ beginning n ys → take n xs ≡ take n ys
@@ -212,24 +214,6 @@ word_of_some n count xs word result b w few many r =
           let whole : result ≡ word = omega (arith, left) in
           whole ∙ w ∙ sym (enough 8 n xs m)
     ]
-
--- what a span says of a value that begins alike
-
-pub above_low : (low high value : List ℕ) (words low_word high_word word : ℕ) → BeginAlike low high words low_word high_word → AreBytes value
-    → take (8 * words) value ≡ take (8 * words) low → word ≡ beginning 8 (drop (8 * words) value) → low_word < word → NotAbove low value
-above_low low high value words low_word high_word word s b e w l = told (8 * words) 8 low value b (sym e) (omega (arith, s.low_next, w, l))
-
-pub below_low : (low high value : List ℕ) (words low_word high_word word : ℕ) → BeginAlike low high words low_word high_word → AreBytes low
-    → take (8 * words) value ≡ take (8 * words) low → word ≡ beginning 8 (drop (8 * words) value) → word < low_word → NotAbove value low
-below_low low high value words low_word high_word word s b e w l = told (8 * words) 8 value low b e (omega (arith, s.low_next, w, l))
-
-pub below_high : (low high value : List ℕ) (words low_word high_word word : ℕ) → BeginAlike low high words low_word high_word → AreBytes high
-    → take (8 * words) value ≡ take (8 * words) low → word ≡ beginning 8 (drop (8 * words) value) → word < high_word → NotAbove value high
-below_high low high value words low_word high_word word s b e w l = told (8 * words) 8 value high b (e ∙ s.alike) (omega (arith, s.high_next, w, l))
-
-pub above_high : (low high value : List ℕ) (words low_word high_word word : ℕ) → BeginAlike low high words low_word high_word → AreBytes value
-    → take (8 * words) value ≡ take (8 * words) low → word ≡ beginning 8 (drop (8 * words) value) → high_word < word → NotAbove high value
-above_high low high value words low_word high_word word s b e w l = told (8 * words) 8 high value b (sym (e ∙ s.alike)) (omega (arith, s.high_next, w, l))
 
 -- a span with one more row
 

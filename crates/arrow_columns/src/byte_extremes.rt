@@ -38,7 +38,7 @@ pub fn statistics_of_byte_rows<const N: usize, T: Offset<N>>(
         if is_row_valid(validity, i, end) {
             let begin = read_offset::<N, T>(offsets, i);
             let stop = read_offset::<N, T>(offsets, i + 1);
-            span = span.widened(i, bytes, begin, stop);
+            span.widen(i, bytes, begin, stop);
         } else {
             null_count += 1;
         }

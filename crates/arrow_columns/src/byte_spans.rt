@@ -55,69 +55,44 @@ impl<'a> ByteSpan<'a> {
         }
     }
 
-    /// The span with one more row, whose value is the bytes from `begin` to `stop`.
+    /// Takes in one more row, whose value is the bytes from `begin` to `stop`.
     #[inline(always)]
-    pub fn widened(self, row: usize, bytes: &'a [u8], begin: usize, stop: usize) -> ByteSpan<'a>
+    pub fn widen(&mut self, row: usize, bytes: &'a [u8], begin: usize, stop: usize)
         requires order { begin ≤ stop }
         requires within { stop ≤ length bytes.now }
-        requires span { IsSpan self }
-        ensures span { IsSpan result }
-        ensures widened { Widens (slice_range bytes.now begin stop) row self.entry result }
+        requires span { IsSpan self.old }
+        ensures span { IsSpan self.new }
+        ensures widened { Widens (slice_range bytes.now begin stop) row self.old self.new }
     {
         let value = &bytes[begin..stop];
         if !begins_alike(value, self.low, self.words) {
-            return self.widened_by_all(row, value);
+            self.widen_by_all(row, value);
+            return;
         }
         let word = word_between(bytes, begin + 8 * self.words, stop);
-        if self.low_word < word && word < self.high_word {
-            items_are_bytes(value);
-            items_are_bytes(self.high);
-            return self;
+        if is_below_by_word(value, word, self.low, self.low_word, self.words) {
+            self.least = row;
+            self.low = value;
+            self.low_word = word;
+        } else if is_below_by_word(self.high, self.high_word, value, word, self.words) {
+            self.greatest = row;
+            self.high = value;
+            self.high_word = word;
         }
-        self.widened_by_word(row, value, word)
-    }
-
-    /// The same with a value that begins alike, by the number of its next eight bytes.
-    fn widened_by_word(self, row: usize, value: &'a [u8], word: u64) -> ByteSpan<'a>
-        requires span { IsSpan self }
-        requires long { 8 * self.words ≤ length value.now }
-        requires alike { take (8 * self.words) value.now ≡ take (8 * self.words) self.low.now }
-        requires word { word ≡ beginning 8 (drop (8 * self.words) value.now) }
-        ensures span { IsSpan result }
-        ensures widened { Widens value.now row self.entry result }
-    {
-        items_are_bytes(value);
-        items_are_bytes(self.low);
-        let mut wider = self;
-        if word < self.low_word {
-            wider.least = row;
-            wider.low = value;
-            wider.low_word = word;
-            return wider;
-        }
-        if self.high_word < word {
-            wider.greatest = row;
-            wider.high = value;
-            wider.high_word = word;
-            return wider;
-        }
-        self.widened_by_all(row, value)
     }
 
     /// The same with any value, by all of its bytes.
     #[inline(never)]
-    fn widened_by_all(self, row: usize, value: &'a [u8]) -> ByteSpan<'a>
-        requires { IsSpan self }
-        ensures span { IsSpan result }
-        ensures widened { Widens value.now row self.entry result }
+    fn widen_by_all(&mut self, row: usize, value: &'a [u8])
+        requires { IsSpan self.old }
+        ensures span { IsSpan self.new }
+        ensures widened { Widens value.now row self.old self.new }
     {
         if is_below(value, self.low) {
-            return ByteSpan::between(row, value, self.greatest, self.high);
+            *self = ByteSpan::between(row, value, self.greatest, self.high);
+        } else if is_below(self.high, value) {
+            *self = ByteSpan::between(self.least, self.low, row, value);
         }
-        if is_below(self.high, value) {
-            return ByteSpan::between(self.least, self.low, row, value);
-        }
-        self
     }
 }
 
@@ -132,6 +107,26 @@ fn is_below(one: &[u8], other: &[u8]) -> bool
     ensures { result ≡ is_lt (slice_cmp nat_cmp one.now other.now) }
 {
     one.cmp(other).is_lt()
+}
+
+/// Whether one is below the other, if both begin with so many words: by the numbers of the eight
+/// bytes after these, and by all bytes only if these are equal.
+#[inline(always)]
+fn is_below_by_word(one: &[u8], one_word: u64, other: &[u8], other_word: u64, _words: usize) -> bool
+    requires alike { take (8 * _words) one.now ≡ take (8 * _words) other.now }
+    requires one { one_word ≡ beginning 8 (drop (8 * _words) one.now) }
+    requires other { other_word ≡ beginning 8 (drop (8 * _words) other.now) }
+    ensures { result ≡ is_lt (slice_cmp nat_cmp one.now other.now) }
+{
+    items_are_bytes(one);
+    items_are_bytes(other);
+    if one_word < other_word {
+        return true;
+    }
+    if other_word < one_word {
+        return false;
+    }
+    is_below(one, other)
 }
 
 /// How many words of eight bytes both begin with.

@@ -41,15 +41,6 @@ loop-i-init g c =
       high = c.of-span.ensures.values.1 ∙ c.row.ensures ∙ ap V (sym greatest);
     }
 
-pub widened-span-requires : goal.widened-span-requires
-widened-span-requires g c =
-    let row = c.requires.rows c.loop-i.i (omega arith) (omega arith) in
-    record {
-      order = omega (arith, row.0, c.read_offset-begin.ensures, c.read_offset-stop.ensures);
-      within = omega (arith, row.1, c.read_offset-stop.ensures);
-      span = c.loop-i.invariant.span;
-    }
-
 pub loop-i-preserved : goal.loop-i-preserved
 loop-i-preserved g c =
     let O : ℕ → ℕ = λ i. offset_of g.T.Offset.width (slice_index_or c.args.offsets.now i []) in
@@ -62,12 +53,12 @@ loop-i-preserved g c =
       | then-is_row_valid w ↦
           let cell : C i ≡ Some (V i) = valid_cell c.args.validity.now V i (V i) (sym c.is_row_valid.ensures ∙ w.if-is_row_valid.true) refl in
           let value : slice_range c.args.bytes.now w.read_offset-begin.result w.read_offset-stop.result ≡ V i = between_same c.args.bytes.now O i _ _ w.read_offset-begin.ensures w.read_offset-stop.ensures in
-          let low = best_chosen NotAbove upward C V from i c.loop-i.span.least w.widened-span.result.least _ _ _ inv.least (omega arith) cell value inv.low w.widened-span.ensures.widened.least in
-          let high = best_chosen (λ x y. NotAbove y x) downward C V from i c.loop-i.span.greatest w.widened-span.result.greatest _ _ _ inv.greatest (omega arith) cell value inv.high w.widened-span.ensures.widened.greatest in
+          let low = best_chosen NotAbove upward C V from i c.loop-i.span.least w.widen.new.self.least _ _ _ inv.least (omega arith) cell value inv.low w.widen.ensures.widened.least in
+          let high = best_chosen (λ x y. NotAbove y x) downward C V from i c.loop-i.span.greatest w.widen.new.self.greatest _ _ _ inv.greatest (omega arith) cell value inv.high w.widen.ensures.widened.greatest in
           record {
             nulls = count_more is_none C from i c.loop-i.null_count _ (Some (V i)) (omega arith) cell inv.nulls (w.null_count-is ∙ sym (add-zero _));
             within = omega (arith, w.null_count-is, inv.within);
-            span = subst IsSpan (sym w.span-is) w.widened-span.ensures.span;
+            span = subst IsSpan (sym w.span-is) w.widen.ensures.span;
             least = subst (λ (s : ByteSpan). IsBestAt NotAbove C V from (i + 1) s.least) (sym w.span-is) low.0;
             greatest = subst (λ (s : ByteSpan). IsBestAt (λ x y. NotAbove y x) C V from (i + 1) s.greatest) (sym w.span-is) high.0;
             low = subst (λ (s : ByteSpan). s.low.now ≡ V s.least) (sym w.span-is) low.1;
