@@ -1,5 +1,6 @@
 // SPDX-License-Identifier: Apache-2.0
-//! The calls of arrow_columns beside careful plain loops on the same columns: `driver WHO WHAT COUNT RUNS` answers and times one.
+//! The calls of arrow_columns beside careful plain loops on the same columns: `driver WHO WHAT COUNT RUNS` answers and times one of
+//! them, `ours` or `plain`, or `both` by turns.
 use std::env;
 use std::hint::black_box;
 use std::time::Instant;
@@ -23,6 +24,7 @@ unsafe extern "C" {
 
 const I32: u8 = 6;
 const I64: u8 = 7;
+const UTF8: u8 = 9;
 const BINARY: u8 = 11;
 
 /// Numbers that look random.
@@ -57,7 +59,11 @@ fn data(what: &str, count: usize) -> Data {
         made.narrow.push(number as i32);
         made.bytes.extend_from_slice(begin);
         let rest = chance.next();
-        made.bytes.extend_from_slice(&rest.to_le_bytes()[..(chance.next() % 9) as usize]);
+        if what.contains("letters") {
+            made.bytes.extend((0..4 + rest % 25).map(|_| b'a' + (chance.next() % 26) as u8));
+        } else {
+            made.bytes.extend_from_slice(&rest.to_le_bytes()[..(chance.next() % 9) as usize]);
+        }
         made.offsets.push(made.bytes.len() as u32);
     }
     if what.ends_with("order") {
@@ -167,7 +173,7 @@ extern "Rust" fn measured(call: &mut dyn FnMut()) {
 
 fn main() {
     let words: Vec<String> = env::args().collect();
-    let (ours, what) = (words[1] == "ours", words[2].as_str());
+    let (who, what) = (words[1].as_str(), words[2].as_str());
     let (count, runs): (usize, u32) = (words[3].parse().unwrap(), words[4].parse().unwrap());
     let data = data(what, count);
     let bits = what.ends_with("nulls").then_some(data.bits.as_slice());
@@ -175,14 +181,17 @@ fn main() {
     let (code, values) = match kind {
         "i64" | "cast" => (I64, bytes_of(&data.wide)),
         "i32" => (I32, bytes_of(&data.narrow)),
+        _ if what.contains("letters") => (UTF8, data.bytes.as_slice()),
         _ => (BINARY, data.bytes.as_slice()),
     };
     let column = Column { kind: code, validity: bits.unwrap_or(&[]), values, offsets: bytes_of(&data.offsets), offset: 0, length: count };
     let mut room = vec![0i32; count];
     let mut out = [0u64; 3];
     let mut status = 0;
-    let mut best = f64::INFINITY;
-    for _ in 0..runs {
+    let turns: Vec<bool> = [true, false].into_iter().filter(|ours| who != if *ours { "plain" } else { "ours" }).collect();
+    let mut best = vec![f64::INFINITY; turns.len()];
+    for turn in (0..turns.len()).cycle().take(turns.len() * runs as usize) {
+        let ours = turns[turn];
         let start = Instant::now();
         measured(&mut || match (ours, kind) {
             (true, "cast") => status = unsafe { columns_cast(&column, I32, room.as_mut_ptr().cast(), 4 * count) },
@@ -203,9 +212,11 @@ fn main() {
                 out = [nulls, extremes.map_or(0, |e| e.0 as u64), extremes.map_or(0, |e| e.1 as u64)];
             }
         });
-        best = best.min(start.elapsed().as_secs_f64());
+        best[turn] = best[turn].min(start.elapsed().as_secs_f64());
     }
     let sum = black_box(&room).iter().fold(0u64, |sum, value| sum.wrapping_mul(31).wrapping_add(*value as u64));
     println!("{status} {out:?} {sum}");
-    eprintln!("{:.3}", best * 1e9 / count as f64);
+    for seconds in best {
+        eprintln!("{:.3}", seconds * 1e9 / count as f64);
+    }
 }
