@@ -4,7 +4,6 @@ use Rattle.std.specs.Prelude.{slice_index, slice_range}
 use Rattle.std.proofs.lemmas.List.{drop_at, get_or-set_same, get_or-set_other, length-take-le, take-take, take_at}
 use Rattle.std.proofs.lemmas.Bool.{cases_lt}
 use Rattle.std.proofs.lemmas.Slice.{between_is}
-use Rattle.vortex_value.specs.Size.{capped}
 use Rattle.vortex_row.specs.Slots.{HasSlot, Writes}
 use Rattle.column_keys.specs.Keys.{AreRowKeys, key_of_row, keys_length}
 use Rattle.column_keys.specs.Tables.{HasRow, HaveRows, options_of, table_of}
@@ -34,13 +33,6 @@ row-slot columns row count place room less is long = let next = length-next colu
 
 pub length-more : (columns : List KeyColumn) (row : ℕ) → keys_length (options_of columns) (table_of columns) (row + 1) ≡ keys_length (options_of columns) (table_of columns) row + length (key_of_row (options_of columns) (table_of columns) row)
 length-more columns row = let one : row + 1 ≡ suc row = omega arith in ap (keys_length (options_of columns) (table_of columns)) one
-
-pub total-more : (columns : List KeyColumn) (row total more now : ℕ) → total ≡ capped (keys_length (options_of columns) (table_of columns) row) → more ≡ capped (length (key_of_row (options_of columns) (table_of columns) row)) → now ≡ capped (total + more)
-    → now ≡ capped (keys_length (options_of columns) (table_of columns) (row + 1))
-total-more columns row total more now e f is = counted_on total more now (keys_length (options_of columns) (table_of columns) row) (length (key_of_row (options_of columns) (table_of columns) row)) e f is ∙ ap capped (sym (length-more columns row))
-  where
-    counted_on : (total more now n k : ℕ) → total ≡ capped n → more ≡ capped k → now ≡ capped (total + more) → now ≡ capped (n + k)
-    counted_on total more now n k e f is = omega arith
 
 pub place-more : (columns : List KeyColumn) (row place next : ℕ) → place ≡ keys_length (options_of columns) (table_of columns) row → next ≡ place + length (key_of_row (options_of columns) (table_of columns) row)
     → next ≡ keys_length (options_of columns) (table_of columns) (row + 1)

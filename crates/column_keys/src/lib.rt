@@ -5,6 +5,7 @@
 
 mod columns;
 mod faults;
+mod lengths;
 mod rows;
 mod table;
 mod values;

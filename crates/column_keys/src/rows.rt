@@ -1,23 +1,10 @@
 //! The key of one row.
 
-ghost use Rattle.std.specs.Prelude.{◌≡◌, length};
-ghost use Rattle.column_keys.specs.Words.{HasRow, HasSlot, Writes, capped, key_of_row, options_of, table_of};
+ghost use Rattle.column_keys.specs.Words.{HasRow, HasSlot, Writes, key_of_row, options_of, table_of};
 
 use crate::columns::KeyColumn;
 use crate::values::value_at;
-use vortex_row::{plain_key_length, write_plain_key};
-
-/// How many bytes the key of a row has. It is the greatest `usize` if the key has more.
-pub(crate) fn row_key_length(columns: &[KeyColumn], row: usize) -> usize
-    requires { HasRow columns.now row }
-    ensures { result ≡ capped (length (key_of_row (options_of columns.now) (table_of columns.now) row)) }
-{
-    let mut total = 0usize;
-    for column in columns {
-        total = total.saturating_add(plain_key_length(value_at(&column.rows, row)));
-    }
-    total
-}
+use vortex_row::write_plain_key;
 
 /// Writes the key of a row from this place on, and answers the place after it.
 pub(crate) fn write_row(columns: &[KeyColumn], row: usize, start: usize, room: &mut [u8]) -> usize

@@ -4,7 +4,8 @@ ghost use Rattle.std.specs.Prelude.{◌≡◌, ◌+◌, ◌<◌, drop, length};
 ghost use Rattle.column_keys.specs.Words.{AreRowKeys, HaveRows, capped, keys_length, options_of, table_of};
 
 use crate::columns::KeyColumn;
-use crate::rows::{row_key_length, write_row};
+use crate::lengths::column_keys_length;
+use crate::rows::write_row;
 
 /// How many bytes the keys of the first rows have together. It is the greatest `usize` if they have
 /// more.
@@ -14,8 +15,8 @@ pub fn row_keys_length(columns: &[KeyColumn], row_count: usize) -> usize
     ensures { result ≡ capped (keys_length (options_of columns.now) (table_of columns.now) row_count) }
 {
     let mut total = 0usize;
-    for row in 0..row_count {
-        total = total.saturating_add(row_key_length(columns, row));
+    for column in columns {
+        total = total.saturating_add(column_keys_length(&column.rows, row_count));
     }
     total
 }
