@@ -10,7 +10,7 @@ from array import array
 from collections.abc import Iterable, Mapping, Sequence
 from contextlib import closing
 from ctypes import byref, c_size_t
-from itertools import accumulate
+from itertools import accumulate, compress
 from typing import Any, overload
 
 from . import _library
@@ -54,6 +54,8 @@ class Outcomes(enum.IntFlag):
 
 
 _OUTCOMES = [Outcomes(number) for number in range(8)]
+# By a byte of outcomes, whether the filter can be true.
+_MAY_BE_TRUE = bytes(outcomes >> 2 & 1 for outcomes in range(256))
 
 
 class Zones(Sequence[Mapping[str, Statistics]]):
@@ -171,7 +173,8 @@ class Filter:
     def prune(self, zones: Iterable[Mapping[str, Statistics]]) -> list[int]:
         """The places of the zones that may match, by one call. `Zones` are quickest to ask more than once."""
         asked = zones if isinstance(zones, Zones) else Zones(zones)
-        return [place for place, outcomes in enumerate(self._of_zones(asked)) if outcomes & 4]
+        outcomes = self._of_zones(asked)
+        return list(compress(range(len(outcomes)), outcomes.translate(_MAY_BE_TRUE)))
 
     def outcomes_of(self, zones: Iterable[Mapping[str, Statistics]]) -> list[Outcomes]:
         """The outcomes of each zone, by one call."""
