@@ -7,6 +7,7 @@ use crate::bounds::{
     lower_length_of_bytes, lower_length_of_text, slice_of, upper_of_bytes, upper_of_text,
 };
 use crate::status::{BAD_OFFSETS, GIVEN, NO_MEMORY, NO_ROOM, NONE, NOT_UTF8};
+use arrow_columns::ByteSpan;
 use std::alloc::Global;
 use std::str;
 
@@ -169,17 +170,14 @@ fn find_extremes(bytes: &[u8], offsets: &[u64]) -> Extremes
     ensures least { IsLeastAt bytes.now offsets.now result.least }
     ensures greatest { IsGreatestAt bytes.now offsets.now result.greatest }
 {
-    let mut least = 0;
-    let mut greatest = 0;
+    let mut span = ByteSpan::of(0, value_of(bytes, offsets, 0));
     for k in 1..offsets.len() - 1 {
-        let value = value_of(bytes, offsets, k);
-        if value.cmp(value_of(bytes, offsets, least)).is_lt() {
-            least = k;
-        } else if value.cmp(value_of(bytes, offsets, greatest)).is_gt() {
-            greatest = k;
-        }
+        span.widen(k, bytes, offsets[k] as usize, offsets[k + 1] as usize);
     }
-    Extremes { least, greatest }
+    Extremes {
+        least: span.least,
+        greatest: span.greatest,
+    }
 }
 
 /// Writes both bounds to their rooms, and their lengths; only the lengths if a room is too small.

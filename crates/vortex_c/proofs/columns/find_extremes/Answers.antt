@@ -1,49 +1,51 @@
-use Rattle.std.proofs.Common.{arith, inl, inr}
+use Rattle.std.proofs.Common.{◌∙◌, ◌<◌, List, ap, arith, refl, subst, sym, ℕ}
+use Rattle.arrow_columns.proofs.ByteOrder.{downward, upward}
+use Rattle.vortex_array.specs.Strings.{NotAbove}
 use Rattle.vortex_c.specs.Columns.{value_at}
-use Rattle.vortex_c.proofs.ColumnOrder.{greatest_kept, greatest_so_far, least_so_far, only_value, only_value_back}
+use Rattle.vortex_c.proofs.ColumnOrder.{best_so_far, only_value, only_value_back}
 use Rattle.vortex_c.proofs.columns.find_extremes.Goals as goal
-use Rattle.vortex_c.proofs.columns.find_extremes.Goals.{else-is_lt+else-is_gt, else-is_lt+then-is_gt, then-is_lt}
 
 pub loop-k-init : goal.loop-k-init
-loop-k-init c = record {
-  least_is = omega arith;
-  greatest_is = omega arith;
-  least_of = only_value (value_at c.args.bytes.now c.args.offsets.now);
-  greatest_of = only_value_back (value_at c.args.bytes.now c.args.offsets.now);
-}
+loop-k-init c =
+    let V : ℕ → List ℕ = value_at c.args.bytes.now c.args.offsets.now in
+    let least = c.of-span.ensures.rows.0 in
+    let greatest = c.of-span.ensures.rows.1 in
+    record {
+      span = c.of-span.ensures.span;
+      least_is = omega (arith, least);
+      greatest_is = omega (arith, greatest);
+      low = c.of-span.ensures.values.0 ∙ c.value_of.ensures ∙ ap V (sym least);
+      high = c.of-span.ensures.values.1 ∙ c.value_of.ensures ∙ ap V (sym greatest);
+      least_of = subst (λ i. (j : ℕ) → j < 1 → NotAbove (V i) (V j)) (sym least) (only_value V);
+      greatest_of = subst (λ i. (j : ℕ) → j < 1 → NotAbove (V j) (V i)) (sym greatest) (only_value_back V);
+    }
 
 pub loop-k-preserved : goal.loop-k-preserved
-loop-k-preserved c = record {
-  least_is = elim c.if-is_lt.branch [
-    | then-is_lt w ↦ omega (arith, w.least-is)
-    | else-is_lt+then-is_gt w ↦ omega (arith, w.least-is, c.loop-k.invariant.least_is)
-    | else-is_lt+else-is_gt w ↦ omega (arith, w.least-is, c.loop-k.invariant.least_is)
-  ];
-  greatest_is = elim c.if-is_lt.branch [
-    | then-is_lt w ↦ omega (arith, w.greatest-is, c.loop-k.invariant.greatest_is)
-    | else-is_lt+then-is_gt w ↦ omega (arith, w.greatest-is)
-    | else-is_lt+else-is_gt w ↦ omega (arith, w.greatest-is, c.loop-k.invariant.greatest_is)
-  ];
-  least_of =
-      least_so_far (value_at c.args.bytes.now c.args.offsets.now) c.loop-k.k c.loop-k.least c.if-is_lt.least _ _ _ _
-      c.value_of-value.ensures c.value_of.ensures c.cmp.ensures c.is_lt.ensures c.loop-k.invariant.least_of
-      (elim c.if-is_lt.branch [
-        | then-is_lt w ↦ inl (w.if-is_lt.true, w.least-is)
-        | else-is_lt+then-is_gt w ↦ inr (w.if-is_lt.false, w.least-is)
-        | else-is_lt+else-is_gt w ↦ inr (w.if-is_lt.false, w.least-is)
-      ]);
-  greatest_of = elim c.if-is_lt.branch [
-    | then-is_lt w ↦
-        greatest_kept (value_at c.args.bytes.now c.args.offsets.now) c.loop-k.k c.loop-k.least c.loop-k.greatest c.if-is_lt.greatest _ _ _ _
-        c.value_of-value.ensures c.value_of.ensures c.cmp.ensures c.is_lt.ensures
-        w.if-is_lt.true c.loop-k.invariant.least_is c.loop-k.invariant.greatest_of w.greatest-is
-    | else-is_lt+then-is_gt w ↦
-        greatest_so_far (value_at c.args.bytes.now c.args.offsets.now) c.loop-k.k c.loop-k.greatest c.if-is_lt.greatest _ _ _ _
-        c.value_of-value.ensures w.value_of-else-is_lt.ensures w.cmp-else-is_lt.ensures w.is_gt.ensures c.loop-k.invariant.greatest_of
-        (inl (w.if-is_gt.true, w.greatest-is))
-    | else-is_lt+else-is_gt w ↦
-        greatest_so_far (value_at c.args.bytes.now c.args.offsets.now) c.loop-k.k c.loop-k.greatest c.if-is_lt.greatest _ _ _ _
-        c.value_of-value.ensures w.value_of-else-is_lt.ensures w.cmp-else-is_lt.ensures w.is_gt.ensures c.loop-k.invariant.greatest_of
-        (inr (w.if-is_gt.false, w.greatest-is))
-  ];
-}
+loop-k-preserved c =
+    let V : ℕ → List ℕ = value_at c.args.bytes.now c.args.offsets.now in
+    let inv = c.loop-k.invariant in
+    let low = best_so_far NotAbove upward V c.loop-k.k c.loop-k.span.least c.widen.new.self.least _ _ _ refl inv.low c.widen.ensures.widened.least inv.least_is inv.least_of in
+    let high = best_so_far (λ x y. NotAbove y x) downward V c.loop-k.k c.loop-k.span.greatest c.widen.new.self.greatest _ _ _ refl inv.high c.widen.ensures.widened.greatest inv.greatest_is inv.greatest_of in
+    record {
+      span = c.widen.ensures.span;
+      least_is = low.0;
+      greatest_is = high.0;
+      low = low.1;
+      high = high.1;
+      least_of = low.2;
+      greatest_of = high.2;
+    }
+
+pub returns-clause-least : goal.returns-clause-least
+returns-clause-least c =
+    let inv = c.loop-k.invariant in (
+      omega (arith, inv.least_is),
+      λ j l. inv.least_of j (omega (arith, l)),
+    )
+
+pub returns-clause-greatest : goal.returns-clause-greatest
+returns-clause-greatest c =
+    let inv = c.loop-k.invariant in (
+      omega (arith, inv.greatest_is),
+      λ j l. inv.greatest_of j (omega (arith, l)),
+    )
