@@ -4,8 +4,8 @@
 use crate::answers::FilterAnswer;
 use crate::same::same_filter;
 use case_lines::{
-    Borrowed, Inputs, Line, LineResult, Tokens, copy_type, named, read_name, read_named,
-    read_type, read_value, same_scalar,
+    Borrowed, Inputs, Line, LineResult, Tokens, copy_type, named, read_name, read_named, read_type,
+    read_value, same_scalar,
 };
 use statistics_calls::{TypedStatistics, read_statistics, same_statistics};
 use std::alloc::{AllocError, Global};

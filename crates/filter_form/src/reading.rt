@@ -60,11 +60,7 @@ fn whole_or_bad(
 }
 
 /// The prepared filter with whose form the bytes begin.
-fn read_form(
-    alloc: Global,
-    depth: usize,
-    reader: &mut Reader<'_>,
-) -> Result<PreparedFilter, Fault>
+fn read_form(alloc: Global, depth: usize, reader: &mut Reader<'_>) -> Result<PreparedFilter, Fault>
     ensures { Reads form (HasForm depth) prepared result (left reader.old) (left reader.new) }
 {
     read_version(reader)?;

@@ -30,5 +30,5 @@ pub part-again : (whole again bytes seen : List ℕ) (start count a e from : ℕ
 part-again whole again bytes seen start count a e from fits ordered within is-part is-whole is-seen is-from =
     let size : length (take (e - a) (drop a bytes)) ≡ e - a = length-take-le (e - a) (drop a bytes) (omega (arith, length-drop a bytes)) in
     let part : slice_range bytes a e ≡ slice_range whole (start + a) (start + a + (e - a)) =
-        ap (λ b. slice_range b a e) is-part ∙ part-part whole start count a e fits ordered (subst (λ b. e ≤ length b) is-part within) in
+    ap (λ b. slice_range b a e) is-part ∙ part-part whole start count a e fits ordered (subst (λ b. e ≤ length b) is-part within) in
     rw (is-whole, is-seen, is-from, size) (sym part)

@@ -17,9 +17,10 @@ loop-after-smaller c = is_smaller (type_of c.args.dtype.now) c.loop-after.rest.n
 
 pub loop-after-preserved : goal.loop-after-preserved
 loop-after-preserved c =
-    let front = map cell_of c.loop-after.literals.items in
-    ( goes_on (type_of c.args.dtype.now) front (trees c.loop-after.rest.now) _ c.loop-after.invariant.0 _ c.loop-after.invariant.1 _ _ _ _ c.in-Some.ensures c.in_ok-literal.ensures c.in_ok-literals.ensures.made
-    , wrong_on (type_of c.args.dtype.now) front (trees c.loop-after.rest.now) _ c.loop-after.invariant.0 _ c.loop-after.invariant.1 _ _ _ c.in-Some.ensures c.in_ok-literal.ensures )
+    let front = map cell_of c.loop-after.literals.items in (
+      goes_on (type_of c.args.dtype.now) front (trees c.loop-after.rest.now) _ c.loop-after.invariant.0 _ c.loop-after.invariant.1 _ _ _ _ c.in-Some.ensures c.in_ok-literal.ensures c.in_ok-literals.ensures.made,
+      wrong_on (type_of c.args.dtype.now) front (trees c.loop-after.rest.now) _ c.loop-after.invariant.0 _ c.loop-after.invariant.1 _ _ _ c.in-Some.ensures c.in_ok-literal.ensures,
+    )
 
 pub returns-in_err-rest : goal.returns-in_err-rest
 returns-in_err-rest c =
