@@ -1,4 +1,1 @@
-pub mod Faults
-pub mod Rows
-pub mod Words
-pub mod ZoneBytes
+pub mod Numbers

@@ -1,58 +1,235 @@
 //! Why the program stops.
 
-ghost use Rattle.std.specs.Prelude.{◌≡◌};
-ghost use Rattle.zone_map.specs.Words.{Memory, NotUtf8, Stream, fault_of};
-
-use line_zones::ZonesError;
-use rows::{RowsError, fault_line};
-use std::alloc::AllocError;
+use crate::columns::NamedColumn;
+use std::alloc::{AllocError, AllocFailed, Global};
 use std::fmt::{self, Display, Formatter, Write};
+use std::{io, str};
+use vortex_filter::ParseError;
+use zone_index::{Cause, Fault as SearchFault, FormFault};
 
-/// Why the program stopped.
-#[derive(Debug, Drop)]
+/// Why the program stopped: what it says on standard error.
+#[derive(Drop)]
 pub enum Fault {
-    /// A read or a write failed, or no memory was left.
-    Stream(RowsError),
-    /// The line with this number, counted from 1, is the first that is not UTF-8.
-    NotUtf8 { number: usize },
+    /// A text that is always the same.
+    Fixed(&'static str),
+    /// A text that was made.
+    Made(String),
 }
 
-/// A stream failed, or no memory was left.
-impl From<RowsError> for Fault {
-    ghost from_gives = { λ error fault. fault ≡ Stream error };
+/// What is said if no memory is left.
+const NO_MEMORY: &str = "out of memory";
 
-    fn from(error: RowsError) -> Fault {
-        Fault::Stream(error)
-    }
-}
-
-/// Out of memory.
-impl From<AllocError> for Fault {
-    ghost from_gives = { λ _ fault. fault ≡ Stream Memory };
-
-    fn from(_error: AllocError) -> Fault {
-        Fault::Stream(RowsError::Memory)
-    }
-}
-
-/// A line is not UTF-8, or no memory was left.
-impl From<ZonesError> for Fault {
-    ghost from_gives = { λ error fault. fault ≡ fault_of error };
-
-    fn from(error: ZonesError) -> Fault {
-        match error {
-            ZonesError::NotUtf8 { number } => Fault::NotUtf8 { number },
-            ZonesError::Memory => Fault::Stream(RowsError::Memory),
+impl Fault {
+    /// The fault of a text, if there was memory for it.
+    pub fn made(text: Result<String, AllocError>) -> Fault {
+        match text {
+            Ok(text) => Fault::Made(text),
+            Err(_) => Fault::Fixed(NO_MEMORY),
         }
     }
+
+    /// The fault of a file with this name.
+    pub fn of_file(alloc: Global, name: &str, fault: FileFault) -> Fault {
+        Fault::made(format!(in alloc; "{name}: {fault}"))
+    }
 }
 
-/// What the program says of the fault.
+impl From<AllocError> for Fault {
+    fn from(_error: AllocError) -> Fault {
+        Fault::Fixed(NO_MEMORY)
+    }
+}
+
+impl<T: Drop> From<AllocFailed<T>> for Fault {
+    fn from(_error: AllocFailed<T>) -> Fault {
+        Fault::Fixed(NO_MEMORY)
+    }
+}
+
+/// Without the place of a record that has no row.
+impl From<SearchFault> for Fault {
+    fn from(fault: SearchFault) -> Fault {
+        Fault::Fixed(search_fault_text(&fault))
+    }
+}
+
+/// What a fault of a search says.
+pub fn search_fault_text(fault: &SearchFault) -> &'static str {
+    match fault {
+        SearchFault::Read => "read failed",
+        SearchFault::Write => "write failed",
+        SearchFault::CutShort => "the file is shorter than its index says",
+        SearchFault::TooFar => "the file is too long",
+        SearchFault::Memory => NO_MEMORY,
+        SearchFault::Refused(_) => "a record has no row",
+    }
+}
+
+/// The text.
 impl Display for Fault {
     fn fmt<W: Write>(&self, f: &mut Formatter<W>) -> fmt::Result {
         match self {
-            Fault::Stream(error) => f.write_str(fault_line(error)),
-            Fault::NotUtf8 { number } => write!(f, "line {number} is not UTF-8"),
+            Fault::Fixed(text) => f.write_str(text),
+            Fault::Made(text) => f.write_str(text),
         }
     }
+}
+
+/// What is wrong with a file, or with its index.
+#[derive(Clone, Copy)]
+pub enum FileFault {
+    /// It cannot be opened, read or written.
+    System(io::Error),
+    /// It has no index.
+    NoIndex,
+    /// It is empty, and has no header.
+    NoHeader,
+    /// It has changed since it was indexed.
+    Changed,
+    /// It changed while it was read.
+    Changing,
+    /// It is an index that is damaged or of another version.
+    BadIndex(FormFault),
+    /// It is an index that this program did not write.
+    OtherIndex,
+}
+
+/// What is wrong, and what helps.
+impl Display for FileFault {
+    fn fmt<W: Write>(&self, f: &mut Formatter<W>) -> fmt::Result {
+        match self {
+            FileFault::System(error) => write!(f, "{error}"),
+            FileFault::NoIndex => f.write_str("there is no index; `zone_map index` makes one"),
+            FileFault::NoHeader => f.write_str("the file is empty, and has no header"),
+            FileFault::Changed => f.write_str(
+                "the file has changed since it was indexed; index it again, or say --grown \
+                or --append if it was only appended to",
+            ),
+            FileFault::Changing => f.write_str("the file changed while it was read"),
+            FileFault::BadIndex(fault) => f.write_str(form_fault_text(*fault)),
+            FileFault::OtherIndex => {
+                f.write_str("the index is not one of this program; index the file again")
+            }
+        }
+    }
+}
+
+/// What is wrong with the bytes of an index, and what helps.
+fn form_fault_text(fault: FormFault) -> &'static str {
+    match fault {
+        FormFault::Magic => "this is no index; remove it, and index the file again",
+        FormFault::Version => {
+            "the index is of another version than this program reads; index the file again"
+        }
+        FormFault::Short | FormFault::Damaged | FormFault::Trailing => {
+            "the index is damaged; index the file again"
+        }
+    }
+}
+
+/// A filter that is wrong.
+#[derive(Clone, Copy)]
+pub struct BadFilter<'a> {
+    /// The filter.
+    pub text: &'a str,
+    /// The columns that it is over.
+    pub columns: &'a str,
+    /// What is wrong.
+    pub error: ParseError,
+}
+
+/// The line of the filter that is wrong, and below it what is wrong, at its place.
+impl Display for BadFilter<'_> {
+    fn fmt<W: Write>(&self, f: &mut Formatter<W>) -> fmt::Result {
+        let Some(place) = self.error.place() else {
+            return write!(f, "{}", self.error);
+        };
+        write_pointed(f, self.text, place)?;
+        write!(f, "^ {}", self.error)?;
+        match self.error {
+            ParseError::NoColumn { place: _ } => write!(f, "\nthe columns are {}", self.columns),
+            _ => Ok(()),
+        }
+    }
+}
+
+/// Writes the line of a text that has this place, and on the next line a blank for each character
+/// before it.
+fn write_pointed<W: Write>(f: &mut Formatter<W>, text: &str, place: usize) -> fmt::Result {
+    let (before, after) = text.split_at_checked(place).unwrap_or((text, ""));
+    let before = before.rsplit_once('\n').map_or(before, |parts| parts.1);
+    let after = after.split_once('\n').map_or(after, |parts| parts.0);
+    writeln!(f, "{before}{after}")?;
+    for letter in before.chars() {
+        f.write_str(if letter == '\t' { "\t" } else { " " })?;
+    }
+    Ok(())
+}
+
+/// A record without a row.
+#[derive(Clone, Copy)]
+pub struct BadRecord<'a> {
+    /// Where it stands.
+    pub place: RecordPlace<'a>,
+    /// The columns.
+    pub columns: &'a [NamedColumn],
+    /// Why it has none.
+    pub cause: &'a Cause,
+}
+
+/// Where a record stands.
+#[derive(Clone, Copy)]
+pub enum RecordPlace<'a> {
+    /// In this line of a file, counted from 1.
+    Line { file: &'a str, line: u64 },
+    /// At this byte of what was read, counted from 0.
+    Byte(u64),
+}
+
+/// Why a record has no row, and where it stands.
+impl Display for BadRecord<'_> {
+    fn fmt<W: Write>(&self, f: &mut Formatter<W>) -> fmt::Result {
+        match self.place {
+            RecordPlace::Line { file, line } => write!(f, "{file}:{line}: ")?,
+            RecordPlace::Byte(place) => write!(f, "byte {place}: ")?,
+        }
+        match self.cause {
+            Cause::Word { column, word } => write_bad_word(f, self.columns, *column, word),
+            Cause::FieldCount => write!(
+                f,
+                "the record has fewer fields than the {} columns, or more",
+                self.columns.len()
+            ),
+            Cause::LoneReturn => {
+                f.write_str("a carriage return inside of a record, without a line feed")
+            }
+        }
+    }
+}
+
+/// Writes which column does not take a word, by its place from 0 on and its name.
+fn write_bad_word<W: Write>(
+    f: &mut Formatter<W>,
+    columns: &[NamedColumn],
+    column: u64,
+    word: &[u8],
+) -> fmt::Result {
+    write!(f, "column {}", column.saturating_add(1))?;
+    if let Some(named) = columns.get(column as usize) {
+        write!(f, ", {},", named.name)?;
+    }
+    f.write_str(" does not take ")?;
+    write_word(f, word)
+}
+
+/// Writes a word: as text in quotes where it is UTF-8, else as hexadecimal digits.
+fn write_word<W: Write>(f: &mut Formatter<W>, word: &[u8]) -> fmt::Result {
+    if let Ok(text) = str::from_utf8(word) {
+        return write!(f, "{text:?}");
+    }
+    f.write_str("x'")?;
+    for byte in word {
+        write!(f, "{byte:02x}")?;
+    }
+    f.write_str("'")
 }

@@ -1,0 +1,204 @@
+//! Columns: their names and kinds, as words and as a text.
+
+use crate::faults::Fault;
+use record_rows::{ColumnType, Kind};
+use std::alloc::{AllocError, Global};
+use std::fmt::Write;
+use vortex_dtype::{Nullability, PType};
+
+/// A column with its name.
+#[derive(Drop)]
+pub struct NamedColumn {
+    /// Its name.
+    pub name: String,
+    /// What it takes.
+    pub column: ColumnType,
+}
+
+/// The columns that a text lists, as `id i64, "first name" utf8?`.
+pub fn columns_in(alloc: Global, text: &str) -> Result<Vec<NamedColumn>, Fault> {
+    let mut columns = Vec::new(alloc);
+    let mut part = String::new(alloc);
+    for piece in text.split(',') {
+        add_piece(alloc, piece, &mut part, &mut columns)?;
+    }
+    if part.is_empty() {
+        Ok(columns)
+    } else {
+        Err(columns_fault(alloc, &part))
+    }
+}
+
+/// Adds what stands between two commas. The part so far is a column if it has no open quotes.
+fn add_piece(
+    alloc: Global,
+    piece: &str,
+    part: &mut String,
+    columns: &mut Vec<NamedColumn>,
+) -> Result<(), Fault> {
+    part.push_str(piece)?;
+    if has_open_quote(part) {
+        part.push(',')?;
+    } else {
+        add_column(alloc, part.trim(), columns)?;
+        part.clear();
+    }
+    Ok(())
+}
+
+/// Whether a text ends inside of quotes.
+fn has_open_quote(text: &str) -> bool {
+    let mut is_open = false;
+    for byte in text.bytes() {
+        if byte == b'"' {
+            is_open = !is_open;
+        }
+    }
+    is_open
+}
+
+/// Adds the column that a text is, if none has its name.
+fn add_column(alloc: Global, text: &str, columns: &mut Vec<NamedColumn>) -> Result<(), Fault> {
+    match column_in(alloc, text)? {
+        Some(column) => {
+            if stands_in(columns, &column.name) {
+                return Err(two_columns_fault(alloc, &column.name));
+            }
+            columns.push(column)?;
+            Ok(())
+        }
+        None => Err(columns_fault(alloc, text)),
+    }
+}
+
+/// Whether a column has this name.
+pub fn stands_in(columns: &[NamedColumn], name: &str) -> bool {
+    columns.iter().any(|column| column.name.as_str() == name)
+}
+
+/// The fault of a text that is no column.
+fn columns_fault(alloc: Global, text: &str) -> Fault {
+    Fault::made(format!(in alloc;
+        "--columns: {text:?} is no column: a name and a kind, as 'city utf8?'"
+    ))
+}
+
+/// The fault of a name that two columns have.
+fn two_columns_fault(alloc: Global, name: &str) -> Fault {
+    Fault::made(format!(in alloc; "--columns: two columns have the name {name:?}"))
+}
+
+/// The column that a name and a kind are.
+fn column_in(alloc: Global, text: &str) -> Result<Option<NamedColumn>, AllocError> {
+    let Some((name, word)) = text.rsplit_once(' ') else {
+        return Ok(None);
+    };
+    let Some(column) = column_of(word) else {
+        return Ok(None);
+    };
+    match name_in(alloc, name.trim())? {
+        Some(name) => Ok(Some(NamedColumn { name, column })),
+        None => Ok(None),
+    }
+}
+
+/// The name that a text is: as it stands, or in quotes with a quote doubled. None is empty or has a
+/// line feed.
+fn name_in(alloc: Global, text: &str) -> Result<Option<String>, AllocError> {
+    let name = match text.strip_prefix('"') {
+        Some(rest) => match rest.strip_suffix('"') {
+            Some(inner) => inner.replace(alloc, "\"\"", "\"")?,
+            None => return Ok(None),
+        },
+        None => String::from_str(alloc, text)?,
+    };
+    if is_name(&name) {
+        Ok(Some(name))
+    } else {
+        Ok(None)
+    }
+}
+
+/// Whether a column may have this name.
+pub fn is_name(text: &str) -> bool {
+    !text.is_empty() && text.bytes().all(|byte| byte != b'\n')
+}
+
+/// The columns as a text that `columns_in` reads.
+pub fn columns_text(alloc: Global, columns: &[NamedColumn]) -> Result<String, AllocError> {
+    let mut text = String::new(alloc);
+    for (place, named) in columns.iter().enumerate() {
+        if place > 0 {
+            text.push_str(", ")?;
+        }
+        push_name(&mut text, &named.name)?;
+        text.push(' ')?;
+        push_kind(&mut text, named.column)?;
+    }
+    Ok(text)
+}
+
+/// Appends a name, in quotes unless it has letters, digits, `_` and `$` alone.
+fn push_name(text: &mut String, name: &str) -> Result<(), AllocError> {
+    if name.bytes().all(|byte| byte.is_ascii_alphanumeric() || byte == b'_' || byte == b'$') {
+        text.push_str(name)?;
+        return Ok(());
+    }
+    text.push('"')?;
+    for letter in name.chars() {
+        if letter == '"' {
+            text.push('"')?;
+        }
+        text.push(letter)?;
+    }
+    text.push('"')?;
+    Ok(())
+}
+
+/// Appends a kind, with `?` behind it if the column takes nulls.
+pub fn push_kind(text: &mut String, column: ColumnType) -> Result<(), AllocError> {
+    let word = kind_word(column.kind);
+    match column.nullability {
+        Nullability::Nullable => write!(text, "{word}?")?,
+        Nullability::NonNullable => write!(text, "{word}")?,
+    }
+    Ok(())
+}
+
+/// The word for a kind.
+fn kind_word(kind: Kind) -> &'static str {
+    match kind {
+        Kind::Integer(PType::I8) => "i8",
+        Kind::Integer(PType::I16) => "i16",
+        Kind::Integer(PType::I32) => "i32",
+        Kind::Integer(PType::I64) => "i64",
+        Kind::Integer(PType::U8) => "u8",
+        Kind::Integer(PType::U16) => "u16",
+        Kind::Integer(PType::U32) => "u32",
+        Kind::Integer(PType::U64) => "u64",
+        Kind::Utf8 => "utf8",
+        Kind::Binary => "binary",
+    }
+}
+
+/// The type that a kind says, with `?` behind it for one that takes nulls.
+pub fn column_of(text: &str) -> Option<ColumnType> {
+    let (word, nullability) = match text.strip_suffix('?') {
+        Some(word) => (word, Nullability::Nullable),
+        None => (text, Nullability::NonNullable),
+    };
+    let kind = match word {
+        "i8" => Kind::Integer(PType::I8),
+        "i16" => Kind::Integer(PType::I16),
+        "i32" => Kind::Integer(PType::I32),
+        "i64" => Kind::Integer(PType::I64),
+        "u8" => Kind::Integer(PType::U8),
+        "u16" => Kind::Integer(PType::U16),
+        "u32" => Kind::Integer(PType::U32),
+        "u64" => Kind::Integer(PType::U64),
+        "utf8" => Kind::Utf8,
+        "binary" => Kind::Binary,
+        _ => return None,
+    };
+    Some(ColumnType { kind, nullability })
+}

@@ -1,0 +1,110 @@
+//! Files and their indexes.
+
+use crate::faults::{Fault, FileFault};
+use std::alloc::{AllocError, Global};
+use std::fs::{self, File, Metadata};
+use std::io::{self, BufReader, Read, Seek, SeekFrom, Write};
+use std::time::UNIX_EPOCH;
+use zone_index::{Fault as SearchFault, Index, write_index};
+
+/// How long a file is, and when it was changed last.
+#[derive(Clone, Copy, PartialEq, Eq)]
+pub struct Stamp {
+    /// Its bytes.
+    pub length: u64,
+    /// Nanoseconds since 1970, as far as 64 bits count.
+    pub changed: u64,
+}
+
+/// The name of the index of a file.
+pub fn index_name(alloc: Global, file: &str) -> Result<String, AllocError> {
+    with_ending(alloc, file, ".zones")
+}
+
+/// A name with this behind it.
+fn with_ending(alloc: Global, name: &str, ending: &str) -> Result<String, AllocError> {
+    format!(in alloc; "{name}{ending}")
+}
+
+/// Opens a file.
+pub fn open_file(rt: &HostRuntime, name: &str) -> Result<File, Fault> {
+    match File::open(rt, name) {
+        Ok(file) => Ok(file),
+        Err(error) => Err(Fault::of_file(rt.alloc(), name, FileFault::System(error))),
+    }
+}
+
+/// The reader, through a buffer.
+pub fn buffered<R: Read + Drop>(alloc: Global, reader: R) -> Result<BufReader<R>, Fault> {
+    match BufReader::new(alloc, reader) {
+        Ok(reader) => Ok(reader),
+        Err(_) => Err(Fault::from(AllocError)),
+    }
+}
+
+/// A file from this place on, through a buffer.
+pub fn from_place<R: Read + Seek + Drop>(
+    alloc: Global,
+    file: R,
+    place: u64,
+) -> Result<BufReader<R>, Fault> {
+    let file = at_place(file, place)?;
+    buffered(alloc, file)
+}
+
+/// A file from this place on.
+pub fn at_place<R: Seek + Drop>(mut file: R, place: u64) -> Result<R, Fault> {
+    match file.seek(SeekFrom::Start(place)) {
+        Ok(_) => Ok(file),
+        Err(_) => Err(Fault::from(SearchFault::Read)),
+    }
+}
+
+/// When a file was changed last.
+fn changed(metadata: &Metadata) -> u64 {
+    let Ok(time) = metadata.modified() else {
+        return 0;
+    };
+    match time.duration_since(UNIX_EPOCH) {
+        Ok(since) => u64::try_from(since.as_nanos()).unwrap_or(u64::MAX),
+        Err(_) => 0,
+    }
+}
+
+/// How long an open file is, and when it was changed last.
+pub fn stamp_of(alloc: Global, name: &str, file: &File) -> Result<Stamp, Fault> {
+    match file.metadata() {
+        Ok(metadata) => Ok(Stamp {
+            length: metadata.len(),
+            changed: changed(&metadata),
+        }),
+        Err(error) => Err(Fault::of_file(alloc, name, FileFault::System(error))),
+    }
+}
+
+/// Writes an index beside its file.
+pub fn save(rt: &HostRuntime, file: &str, index: &Index) -> Result<(), Fault> {
+    let bytes = write_index(rt.alloc(), index)?;
+    let name = index_name(rt.alloc(), file)?;
+    save_bytes(rt, &name, &bytes)
+}
+
+/// Writes a file: first one of another name, which then takes this name.
+fn save_bytes(rt: &HostRuntime, name: &str, bytes: &[u8]) -> Result<(), Fault> {
+    let temporary = with_ending(rt.alloc(), name, ".new")?;
+    match save_as(rt, &temporary, name, bytes) {
+        Ok(()) => Ok(()),
+        Err(error) => {
+            let _ = fs::remove_file(rt, temporary.as_str());
+            Err(Fault::of_file(rt.alloc(), name, FileFault::System(error)))
+        }
+    }
+}
+
+/// Writes and syncs a file, and then gives it its name.
+fn save_as(rt: &HostRuntime, temporary: &str, name: &str, bytes: &[u8]) -> io::Result<()> {
+    let mut output = File::create(rt, temporary)?;
+    output.write_all(bytes)?;
+    output.sync_all()?;
+    fs::rename(rt, temporary, name)
+}

@@ -1,0 +1,103 @@
+//! Files that grew since they were indexed.
+
+use crate::faults::{Fault, FileFault};
+use crate::files::stamp_of;
+use csv_records::{Place, place_after_line};
+use record_search::{Schema, index_rows};
+use std::alloc::Global;
+use std::fs::File;
+use zone_index::{Fault as SearchFault, Index, Zone, fill_from};
+
+/// Where the last zone ends.
+pub fn end_of(start: u64, zones: &[Zone]) -> u64 {
+    match zones.last() {
+        Some(zone) => zone.first.saturating_add(zone.length),
+        None => start,
+    }
+}
+
+/// Where a file was indexed to that is said to have only grown.
+///
+/// `Changed` if it is shorter now, if its last zone is another, or if the index ends inside of a
+/// record.
+pub fn grown_end(
+    rt: &HostRuntime,
+    name: &str,
+    index: &Index,
+    schema: &Schema,
+    file: &mut File,
+) -> Result<u64, Fault> {
+    let now = stamp_of(rt.alloc(), name, file)?;
+    let end = end_of(index.start, &index.zones);
+    if now.length < end {
+        return Err(Fault::of_file(rt.alloc(), name, FileFault::Changed));
+    }
+    let is_same = match index.zones.last() {
+        Some(zone) => is_same_zone(rt.alloc(), schema, zone, file)?,
+        None => true,
+    };
+    if is_same && (now.length == end || ends_record(rt.alloc(), index, schema, file)?) {
+        Ok(end)
+    } else {
+        Err(Fault::of_file(rt.alloc(), name, FileFault::Changed))
+    }
+}
+
+/// The bytes of a file from this place on, so many.
+fn bytes_at(
+    alloc: Global,
+    file: &mut File,
+    first: u64,
+    length: u64,
+) -> Result<Vec<u8>, SearchFault> {
+    if first > u64::MAX - length {
+        return Err(SearchFault::TooFar);
+    }
+    let mut text = vec![in alloc; 0u8; length as usize]?;
+    fill_from(file, first, &mut text)?;
+    Ok(text)
+}
+
+/// Whether a zone has the records, rows and statistics that the index has of it.
+fn is_same_zone(
+    alloc: Global,
+    schema: &Schema,
+    zone: &Zone,
+    file: &mut File,
+) -> Result<bool, SearchFault> {
+    let text = bytes_at(alloc, file, zone.first, zone.length)?;
+    let size = zone.records.max(1);
+    match index_rows(alloc, schema, size, zone.first, &mut text.as_slice()) {
+        Ok(zones) => Ok(is_only_zone(&zones, zone)),
+        Err(SearchFault::Refused(_)) => Ok(false),
+        Err(fault) => Err(fault),
+    }
+}
+
+/// Whether there is this zone alone.
+fn is_only_zone(zones: &[Zone], zone: &Zone) -> bool {
+    match zones {
+        [only] => {
+            only.length == zone.length
+                && only.rows == zone.rows
+                && only.statistics.as_slice() == zone.statistics.as_slice()
+        }
+        _ => false,
+    }
+}
+
+/// Whether a record may start where an index ends.
+fn ends_record(
+    alloc: Global,
+    index: &Index,
+    schema: &Schema,
+    file: &mut File,
+) -> Result<bool, SearchFault> {
+    let (first, length) = match index.zones.last() {
+        Some(zone) => (zone.first, zone.length),
+        None => (0, index.start),
+    };
+    let text = bytes_at(alloc, file, first, length)?;
+    let place = place_after_line(schema.delimiter, Place::Fresh, &text);
+    Ok(place == Place::Fresh)
+}

@@ -1,0 +1,188 @@
+//! An index is made, or extended.
+
+use crate::columns::columns_text;
+use crate::commands::IndexRequest;
+use crate::faults::{Fault, FileFault};
+use crate::files::{at_place, buffered, from_place, open_file, save, stamp_of};
+use crate::grown::{end_of, grown_end};
+use crate::leniency::nulls_made;
+use crate::loading::{Loaded, load_there};
+use crate::places::located;
+use crate::preparing::{Prepared, prepare};
+use crate::setup::{Numbers, Setup};
+use crate::watching::Watched;
+use record_search::{Schema, index_rows};
+use std::alloc::Global;
+use std::fs::File;
+use std::process::ExitCode;
+use zone_index::{Index, Zone};
+
+/// An index that is to have the zones from a place on.
+#[derive(Drop)]
+struct Unfinished {
+    /// The index, with the zones before the place.
+    loaded: Loaded,
+    /// The place.
+    place: u64,
+}
+
+/// Writes the index of a file.
+pub fn index_file(rt: &HostRuntime, request: &IndexRequest<'_>) -> Result<ExitCode, Fault> {
+    if request.file == "-" {
+        return Err(Fault::Fixed("an index is of a file, and not of standard input"));
+    }
+    let mut file = open_file(rt, request.file)?;
+    let unfinished = begun(rt, request, &mut file)?;
+    finish(rt, request.file, &file, unfinished)?;
+    Ok(ExitCode::SUCCESS)
+}
+
+/// The index that a request begins with.
+fn begun(
+    rt: &HostRuntime,
+    request: &IndexRequest<'_>,
+    file: &mut File,
+) -> Result<Unfinished, Fault> {
+    if request.appends {
+        extended(rt, request.file, file)
+    } else {
+        made(rt, request, file)
+    }
+}
+
+/// The index of a file, before any zone.
+fn made(rt: &HostRuntime, request: &IndexRequest<'_>, file: &File) -> Result<Unfinished, Fault> {
+    let mut reader = from_place(rt.alloc(), file, 0)?;
+    let prepared = prepare(rt.alloc(), &request.reading, &mut reader)?;
+    if request.reading.has_header && prepared.start == 0 {
+        return Err(Fault::of_file(rt.alloc(), request.file, FileFault::NoHeader));
+    }
+    let Prepared {
+        setup,
+        start,
+        first: _,
+    } = prepared;
+    let setup = with_sizes(setup, request);
+    if request.reading.columns.is_none() {
+        let text = columns_text(rt.alloc(), &setup.columns)?;
+        let _ = eprintln!(rt; "columns {text}");
+    }
+    Ok(Unfinished {
+        loaded: without_zones(rt.alloc(), setup, start)?,
+        place: start,
+    })
+}
+
+/// A setup with what a request says of zones and bounds.
+fn with_sizes(setup: Setup, request: &IndexRequest<'_>) -> Setup {
+    let Setup { numbers, columns } = setup;
+    Setup {
+        numbers: Numbers {
+            bound_length: request.bound_length,
+            zone_rows: request.rows,
+            ..numbers
+        },
+        columns,
+    }
+}
+
+/// An index without zones, of a file whose header has so many bytes.
+fn without_zones(alloc: Global, setup: Setup, start: u64) -> Result<Loaded, Fault> {
+    let index = Index {
+        file_length: 0,
+        changed: 0,
+        setup: setup.to_text(alloc)?.into_bytes(),
+        start,
+        zones: Vec::new(alloc),
+    };
+    Ok(Loaded { index, setup })
+}
+
+/// The index of a file that grew, with the zones that are full.
+fn extended(rt: &HostRuntime, name: &str, file: &mut File) -> Result<Unfinished, Fault> {
+    let mut loaded = load_there(rt, name)?;
+    let end = grown_by(rt, name, &loaded, file)?;
+    let place = open_place(&mut loaded.index, loaded.setup.numbers.zone_rows, end);
+    Ok(Unfinished { loaded, place })
+}
+
+/// Where a file was indexed to that only grew.
+fn grown_by(rt: &HostRuntime, name: &str, loaded: &Loaded, file: &mut File) -> Result<u64, Fault> {
+    let schema = loaded.setup.schema(rt.alloc())?;
+    grown_end(rt, name, &loaded.index, &schema, file)
+}
+
+/// Where the next zone begins, without a last one of fewer records, which is taken away.
+fn open_place(index: &mut Index, zone_rows: u64, end: u64) -> u64 {
+    let Some(zone) = index.zones.last() else {
+        return end;
+    };
+    if zone.records >= zone_rows {
+        return end;
+    }
+    let place = zone.first;
+    index.zones.pop();
+    place
+}
+
+/// Adds the zones of the rest of a file to an index, and writes it.
+fn finish(rt: &HostRuntime, name: &str, file: &File, unfinished: Unfinished) -> Result<(), Fault> {
+    let Unfinished { mut loaded, place } = unfinished;
+    let schema = loaded.setup.schema(rt.alloc())?;
+    add_zones(rt, name, file, &schema, place, &mut loaded)?;
+    save(rt, name, &loaded.index)?;
+    tell_nulls(rt, name, &schema, place)
+}
+
+/// Adds the zones of a file from this place on, and what the file is then.
+fn add_zones(
+    rt: &HostRuntime,
+    name: &str,
+    file: &File,
+    schema: &Schema,
+    place: u64,
+    loaded: &mut Loaded,
+) -> Result<(), Fault> {
+    let before = stamp_of(rt.alloc(), name, file)?;
+    let left = before.length.saturating_sub(place);
+    let mut zones = zones_from(rt, name, file, schema, place, left, &loaded.setup)?;
+    let after = stamp_of(rt.alloc(), name, file)?;
+    if before != after || end_of(place, &zones) != before.length {
+        return Err(Fault::of_file(rt.alloc(), name, FileFault::Changing));
+    }
+    loaded.index.zones.append(&mut zones)?;
+    loaded.index.file_length = before.length;
+    loaded.index.changed = before.changed;
+    Ok(())
+}
+
+/// The zones of a file from this place on, of which so many bytes are left.
+fn zones_from(
+    rt: &HostRuntime,
+    name: &str,
+    file: &File,
+    schema: &Schema,
+    place: u64,
+    left: u64,
+    setup: &Setup,
+) -> Result<Vec<Zone>, Fault> {
+    let file = at_place(file, place)?;
+    let mut reader = buffered(rt.alloc(), Watched::telling(file, rt.stderr(), left))?;
+    let size = setup.numbers.zone_rows.max(1);
+    match index_rows(rt.alloc(), schema, size, place, &mut reader) {
+        Ok(zones) => {
+            reader.get_ref().end();
+            Ok(zones)
+        }
+        Err(fault) => Err(located(rt, Some(name), &setup.columns, &fault)),
+    }
+}
+
+/// Tells on standard error how many fields from a place on were taken as nulls, if that may be.
+fn tell_nulls(rt: &HostRuntime, name: &str, schema: &Schema, place: u64) -> Result<(), Fault> {
+    if schema.is_lenient {
+        let made = nulls_made(rt, name, schema, place)?;
+        let _ = eprintln!(rt; "{made} fields were taken as nulls");
+    }
+    Ok(())
+}

@@ -1,0 +1,65 @@
+//! Where a record stands that has no row.
+
+use crate::columns::NamedColumn;
+use crate::faults::{BadRecord, Fault, RecordPlace, search_fault_text};
+use std::fs::File;
+use std::io::{self, Read};
+use zone_index::Fault as SearchFault;
+
+/// How many bytes are read at a time.
+const PIECE: usize = 65536;
+
+/// The fault of a search in a file, or in standard input without a file's name. Of a record it tells
+/// the line in the file, and the column.
+pub fn located(
+    rt: &HostRuntime,
+    file: Option<&str>,
+    columns: &[NamedColumn],
+    fault: &SearchFault,
+) -> Fault {
+    match fault {
+        SearchFault::Refused(refusal) => {
+            let bad = BadRecord {
+                place: record_place(rt, file, refusal.place),
+                columns,
+                cause: &refusal.cause,
+            };
+            Fault::made(format!(in rt.alloc(); "{bad}"))
+        }
+        _ => Fault::Fixed(search_fault_text(fault)),
+    }
+}
+
+/// The line that has this byte, of a file that can be read again.
+fn record_place<'a>(rt: &HostRuntime, file: Option<&'a str>, byte: u64) -> RecordPlace<'a> {
+    let Some(file) = file else {
+        return RecordPlace::Byte(byte);
+    };
+    match line_feeds(rt, file, byte) {
+        Ok(feeds) => RecordPlace::Line {
+            file,
+            line: feeds.saturating_add(1),
+        },
+        Err(_) => RecordPlace::Byte(byte),
+    }
+}
+
+/// How many line feeds stand before this byte of a file.
+fn line_feeds(rt: &HostRuntime, file: &str, place: u64) -> io::Result<u64> {
+    let mut reader = File::open(rt, file)?.take(place);
+    let mut piece = vec![in rt.alloc(); 0u8; PIECE]?;
+    let mut feeds = 0u64;
+    for _ in 0..u64::MAX {
+        let count = reader.read(&mut piece)?;
+        if count == 0 {
+            break;
+        }
+        feeds = feeds.saturating_add(feeds_in(&piece[..count]));
+    }
+    Ok(feeds)
+}
+
+/// How many line feeds a text has.
+fn feeds_in(text: &[u8]) -> u64 {
+    text.iter().filter(|byte| **byte == b'\n').count() as u64
+}

@@ -1,0 +1,120 @@
+//! Zones are shown.
+
+use crate::columns::{NamedColumn, columns_text};
+use crate::faults::Fault;
+use crate::loading::{Loaded, load_there};
+use crate::streams::{flushed, output};
+use record_rows::ColumnType;
+use record_search::read_statistics;
+use std::alloc::{AllocError, Global};
+use std::fmt::Write as WriteText;
+use std::io::Write;
+use std::process::ExitCode;
+use vortex_statistics::{Bound, ColumnStatistics};
+use zone_index::{Fault as SearchFault, Zone};
+
+/// Writes what an index is of, and each zone: its place, its bytes, records and rows, and the bounds
+/// of its columns.
+pub fn show(rt: &HostRuntime, file: &str) -> Result<ExitCode, Fault> {
+    let loaded = load_there(rt, file)?;
+    let schema = loaded.setup.schema(rt.alloc())?;
+    let mut writer = output(rt)?;
+    let done = show_zones(rt.alloc(), &loaded, &schema.columns, &mut writer);
+    flushed(done, &mut writer)?;
+    Ok(ExitCode::SUCCESS)
+}
+
+/// Writes an index.
+fn show_zones<W: Write>(
+    alloc: Global,
+    loaded: &Loaded,
+    types: &[ColumnType],
+    writer: &mut W,
+) -> Result<(), SearchFault> {
+    write_text(&heading(alloc, loaded)?, writer)?;
+    for (place, zone) in loaded.index.zones.iter().enumerate() {
+        let number = place.saturating_add(1);
+        write_text(
+            &zone_text(alloc, number, zone, types, &loaded.setup.columns)?,
+            writer,
+        )?;
+    }
+    Ok(())
+}
+
+/// Writes a text.
+fn write_text<W: Write>(text: &str, writer: &mut W) -> Result<(), SearchFault> {
+    match writer.write_all(text.as_bytes()) {
+        Ok(()) => Ok(()),
+        Err(_) => Err(SearchFault::Write),
+    }
+}
+
+/// The line of the whole file.
+fn heading(alloc: Global, loaded: &Loaded) -> Result<String, AllocError> {
+    let columns = columns_text(alloc, &loaded.setup.columns)?;
+    let length = loaded.index.file_length;
+    let count = loaded.index.zones.len();
+    let rows = loaded.setup.numbers.zone_rows;
+    format!(in alloc; "{length} bytes, {count} zones of {rows} records, columns {columns}\n")
+}
+
+/// The lines of a zone.
+fn zone_text(
+    alloc: Global,
+    number: usize,
+    zone: &Zone,
+    types: &[ColumnType],
+    columns: &[NamedColumn],
+) -> Result<String, AllocError> {
+    let Zone {
+        first,
+        length,
+        records,
+        rows,
+        statistics,
+    } = zone;
+    let mut text = String::new(alloc);
+    writeln!(
+        text,
+        "zone {number}: byte {first}, {length} bytes, {records} records, {rows} rows"
+    )?;
+    push_columns(alloc, types, columns, statistics, &mut text)?;
+    Ok(text)
+}
+
+/// Appends the lines of the columns, if these are their statistics.
+fn push_columns(
+    alloc: Global,
+    types: &[ColumnType],
+    columns: &[NamedColumn],
+    statistics: &[u8],
+    text: &mut String,
+) -> Result<(), AllocError> {
+    if let Some(statistics) = read_statistics(alloc, types, statistics)? {
+        for (named, known) in columns.iter().zip(statistics.iter()) {
+            push_column(text, &named.name, known)?;
+        }
+    }
+    Ok(())
+}
+
+/// Appends the line of a column: its nulls and its bounds.
+fn push_column(text: &mut String, name: &str, known: &ColumnStatistics) -> Result<(), AllocError> {
+    write!(text, "  {name}:")?;
+    if let Some(nulls) = known.null_count {
+        write!(text, " {nulls} null,")?;
+    }
+    push_bound(text, "from", &known.lower)?;
+    push_bound(text, "to", &known.upper)?;
+    text.push('\n')
+}
+
+/// Appends a bound.
+fn push_bound(text: &mut String, word: &str, bound: &Option<Bound>) -> Result<(), AllocError> {
+    match bound {
+        Some(bound) => write!(text, " {word} {}", bound.value)?,
+        None => write!(text, " {word} ?")?,
+    }
+    Ok(())
+}

@@ -1,0 +1,140 @@
+//! Files without an index and standard input are searched whole.
+
+use crate::answering::answer_rest;
+use crate::columns::{NamedColumn, columns_text};
+use crate::commands::SearchRequest;
+use crate::faults::Fault;
+use crate::loading::Sought;
+use crate::numbering::Position;
+use crate::places::located;
+use crate::preparing::{Prepared, prepare};
+use crate::setup::{NO_DELIMITER, Numbers, Setup};
+use record_rows::{ColumnType, Kind};
+use std::alloc::Global;
+use std::io::{BufRead, BufWriter, Read, Stdout, Write};
+use vortex_dtype::Nullability;
+use zone_index::Fault as SearchFault;
+
+/// Answers a search of a whole stream, and says how many rows match.
+pub fn search_stream<B: BufRead>(
+    rt: &HostRuntime,
+    request: &SearchRequest<'_>,
+    file: Option<&str>,
+    reader: &mut B,
+) -> Result<u64, Fault> {
+    let Prepared {
+        setup,
+        start,
+        first,
+    } = prepare(rt.alloc(), &request.reading, reader)?;
+    let position = Position::first_row(start);
+    let mut rest = first.as_slice().chain(reader);
+    let sought = sought_in(rt, request, setup)?;
+    match answer_stream(rt, request, &sought, position, &mut rest) {
+        Ok(found) => Ok(found),
+        Err(fault) => Err(located(rt, file, &sought.setup.columns, &fault)),
+    }
+}
+
+/// Answers a search of all that a stream has left, on standard output.
+fn answer_stream<B: BufRead>(
+    rt: &HostRuntime,
+    request: &SearchRequest<'_>,
+    sought: &Sought,
+    position: Position,
+    reader: &mut B,
+) -> Result<u64, SearchFault> {
+    let mut writer = output(rt)?;
+    let matcher = sought.matcher();
+    let found = answer_rest(
+        rt.alloc(),
+        request.wanted,
+        position,
+        &matcher,
+        reader,
+        &mut writer,
+    );
+    flushed(found, &mut writer)
+}
+
+/// What is sought. If nothing is said of how records are read and the filter is none of the guessed
+/// columns, it may be one of whole lines, by the name `line`.
+fn sought_in(rt: &HostRuntime, request: &SearchRequest<'_>, setup: Setup) -> Result<Sought, Fault> {
+    match Sought::from_text(rt.alloc(), setup, request.filter) {
+        Ok(sought) => {
+            tell_columns(rt, request, &sought.setup);
+            Ok(sought)
+        }
+        Err(fault) => {
+            if request.reading.is_said() {
+                return Err(fault);
+            }
+            match sought_in_lines(rt.alloc(), request.filter) {
+                Ok(sought) => {
+                    drop(fault);
+                    Ok(sought)
+                }
+                Err(other) => {
+                    drop(other);
+                    Err(fault)
+                }
+            }
+        }
+    }
+}
+
+/// What is sought in whole lines.
+fn sought_in_lines(alloc: Global, filter: &str) -> Result<Sought, Fault> {
+    let lines = lines_setup(alloc)?;
+    Sought::from_text(alloc, lines, filter)
+}
+
+/// Tells on standard error how records are read, if that is wanted and was guessed.
+fn tell_columns(rt: &HostRuntime, request: &SearchRequest<'_>, setup: &Setup) {
+    if request.tells && request.reading.columns.is_none() {
+        if let Ok(text) = columns_text(rt.alloc(), &setup.columns) {
+            let _ = eprintln!(rt; "columns {text}");
+        }
+    }
+}
+
+/// Whole lines as one column.
+fn lines_setup(alloc: Global) -> Result<Setup, Fault> {
+    let line = NamedColumn {
+        name: String::from_str(alloc, "line")?,
+        column: ColumnType {
+            kind: Kind::Utf8,
+            nullability: Nullability::NonNullable,
+        },
+    };
+    let numbers = Numbers {
+        delimiter: NO_DELIMITER,
+        is_lenient: false,
+        bound_length: 0,
+        zone_rows: 0,
+    };
+    let columns = vec![in alloc; line]?;
+    Ok(Setup { numbers, columns })
+}
+
+/// Standard output, through a buffer.
+pub fn output(rt: &HostRuntime) -> Result<BufWriter<Stdout>, SearchFault> {
+    match BufWriter::new(rt.alloc(), rt.stdout()) {
+        Ok(writer) => Ok(writer),
+        Err(_) => Err(SearchFault::Memory),
+    }
+}
+
+/// What was done, once the buffer is written, which is written after a fault, too.
+pub fn flushed<T: Drop>(
+    done: Result<T, SearchFault>,
+    writer: &mut BufWriter<Stdout>,
+) -> Result<T, SearchFault> {
+    match writer.flush() {
+        Ok(()) => done,
+        Err(_) => {
+            drop(done);
+            Err(SearchFault::Write)
+        }
+    }
+}
