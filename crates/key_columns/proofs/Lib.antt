@@ -1,0 +1,10 @@
+mod BitSteps
+mod CellSteps
+mod ColumnSteps
+mod GivenSteps
+mod LawSteps
+mod NumberSteps
+mod RowLaws
+mod StringSteps
+mod TypeSteps
+mod WriteSteps

@@ -1,0 +1,49 @@
+-- One integer more.
+use Rattle.std.proofs.Common.{arith, ◌≡◌, length, subst, sym, ◌∙◌}
+use Rattle.vortex_dtype.specs.TypeTree.{integer_type}
+use Rattle.vortex_dtype.specs.declared.nullability.Nullability.TheVariants.{Nullable}
+use Rattle.vortex_value.specs.Validity.{Valid}
+use Rattle.vortex_value.specs.Values.Scalars.{scalar_content, scalar_raw}
+use Rattle.column_cells.specs.Types.{ptype_of_kind}
+use Rattle.key_columns.specs.Cells.{rows_in}
+use Rattle.key_columns.specs.Layout.{is_present}
+use Rattle.key_columns.proofs.BitSteps.{bit-clear, bits-done, bits-more, bits-none}
+use Rattle.key_columns.proofs.NumberSteps.{integers-done, integers-more, integers-none, number-fits, number-room}
+use Rattle.key_columns.proofs.WriteSteps.{memory-alone, same-cell}
+use Rattle.key_columns.proofs.writing.write_integers.Goals as goal
+
+pub loop-row-init : goal.loop-row-init
+loop-row-init c = (bits-none is_present c.args.keys.now c.args.validity.now c.requires.clear, integers-none c.args.kind c.args.keys.now c.args.values.now)
+
+pub put_bit-requires-clause-clear : goal.put_bit-requires-clause-clear
+put_bit-requires-clause-clear c = bit-clear is_present c.args.keys.now c.loop-row.row c.loop-row.validity c.loop-row.invariant.0
+
+pub number_or_zero-requires : goal.number_or_zero-requires
+number_or_zero-requires c =
+    let raw = scalar_raw c.in_ok-cell.cell in
+    subst (λ p. Valid (integer_type p Nullable) raw) (sym c.ptype_of-ptype.ensures) (subst (λ t. Valid t raw) c.requires.of_kind c.in_ok-cell.ensures.value.valid)
+
+pub put_number-requires : goal.put_number-requires
+put_number-requires c =
+    number-room c.args.kind _ c.loop-row.row (rows_in c.args.keys.now) (length c.loop-row.values) (c.number_or_zero.ensures.typed ∙ c.ptype_of-ptype.ensures) (omega (arith, c.loop-row-test.true, c.key_count-row-end.ensures)) (omega (arith, c.requires.values, c.loop-row.auto.values))
+
+pub loop-row-preserved : goal.loop-row-preserved
+loop-row-preserved c =
+    let keys = c.args.keys.now in
+    let d = scalar_content c.in_ok-cell.cell in
+    let raw = scalar_raw c.in_ok-cell.cell in
+    let same = same-cell c.keys_are_apart.ensures c.values_have_no_typed.ensures keys c.loop-row.row d c.requires.typed c.in_ok-cell.ensures.cell in
+    let fits = number-fits (ptype_of_kind c.args.kind) raw (subst (λ t. Valid t raw) c.requires.of_kind c.in_ok-cell.ensures.value.valid) in (
+      bits-more is_present keys c.loop-row.row c.loop-row.validity c.put_bit.new.bitmap d _ same c.loop-row.invariant.0 c.is_present.ensures c.put_bit.ensures.bit c.put_bit.ensures.others,
+      integers-more c.args.kind keys c.loop-row.row c.loop-row.values c.put_number.new.values d _ _ same c.loop-row.invariant.1 (c.number_or_zero.ensures.typed ∙ c.ptype_of-ptype.ensures) c.number_or_zero.ensures.number fits c.put_number.ensures.item c.put_number.ensures.before,
+    )
+
+pub returns-clause-present : goal.returns-clause-present
+returns-clause-present c = let at : c.loop-row.row ≡ rows_in c.args.keys.now = omega (arith, c.key_count-row-end.ensures) in bits-done is_present c.args.keys.now c.loop-row.row c.loop-row.validity at c.loop-row.invariant.0
+
+pub returns-clause-written : goal.returns-clause-written
+returns-clause-written c = let at : c.loop-row.row ≡ rows_in c.args.keys.now = omega (arith, c.key_count-row-end.ensures) in integers-done c.args.kind c.args.keys.now c.loop-row.row c.loop-row.values at c.loop-row.invariant.1
+
+pub returns-in_err-cell-clause-refused : goal.returns-in_err-cell-clause-refused
+returns-in_err-cell-clause-refused c =
+    memory-alone c.keys_are_apart.ensures c.values_have_no_typed.ensures c.args.keys.now c.loop-row.row c.requires.cells.0 _ _ c.requires.typed c.requires.cells.1 (omega (arith, c.loop-row-test.true, c.key_count-row-end.ensures)) c.from_residual.ensures c.in_err-cell.ensures.fault
