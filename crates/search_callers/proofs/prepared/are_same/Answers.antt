@@ -5,8 +5,8 @@ use Rattle.filter_form.specs.Form.{form}
 use Rattle.search_callers.proofs.prepared.are_same.Goals as goal
 
 pub returns : goal.returns
-returns c = λ p q has has' one other.
+returns c = λ m n p q has has' one other.
     let equal = slice_eq-Decides Decides-eqb c.args.one.now c.args.other.now c.eq.result c.eq.ensures in (
-      (λ same. (c.forms_are_apart.ensures p q [] [] has has' (ap (λ xs. xs ++ []) (sym one ∙ equal.0 same ∙ other))).0),
+      (λ same. (c.forms_are_apart.ensures m n p q [] [] has has' (ap (λ xs. xs ++ []) (sym one ∙ equal.0 same ∙ other))).0),
       (λ is. equal.1 (one ∙ ap form is ∙ sym other)),
     )
