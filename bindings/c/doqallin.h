@@ -20,8 +20,8 @@
  * Calls on different threads need no lock: nothing is kept from one call to the next.
  *
  * Stack: a call takes at most 4 kilobytes of it, or 12 of statistics, whatever it is given. That was measured, on x86-64; no
- * contract speaks of stack. doqallin_call says what it takes. Calls of filters take 12 kilobytes, and 1.6 more for each level
- * that nests. So with a `depth` of 32 none ends a process on a thread of 128 kilobytes. */
+ * contract speaks of stack. doqallin_call says what it takes. Calls of filters take more for each level that nests, of
+ * which `depth` is the greatest number: with 32 none ends a process on a thread of 128 kilobytes. */
 #ifndef DOQALLIN_H
 #define DOQALLIN_H
 #include <stdbool.h>
@@ -181,6 +181,26 @@ uint32_t doqallin_row_keys(const struct doqallin_column *columns, size_t column_
                            size_t options_length, uint64_t *offsets_room, size_t offsets_room_length, uint8_t *room,
                            size_t room_length, size_t *count, struct doqallin_fault *fault);
 
+/* One column of the rows whose keys these are, in Arrow's layout: the column `which` of columns of these kinds, by their codes, each
+ * with its byte of options, as doqallin_row_keys has them. The key of row k goes from offsets[k] to offsets[k + 1], so that n rows
+ * have n + 1 offsets; no rows may have none. Keys may come from anywhere: each is tested first.
+ * GIVEN: validity_room has a bit for each row, 0 for a null, in its first (n + 7) / 8 bytes. values_room begins with the *count
+ * bytes of the values: items of the kind, 0 for a null; bits of booleans; or the bytes of all strings, none for a null. Of strings
+ * and bytes offsets_room begins with n + 1 offsets, of 64 bits each, also for the kinds with offsets of 32 bits; of other kinds it
+ * is not written. What follows stays as it was.
+ * NO_ROOM: a room is too short. *count, which is all that is written, says how many bytes the values have.
+ * WRONG_LENGTH: the options are not as many as the kinds, or there is no column `which`. fault->column is the number of kinds.
+ * BAD_OPTIONS: the byte of fault->column is above 3. UNKNOWN_KIND: the code of fault->column is of no kind.
+ * BAD_OFFSETS: the offsets of the key fault->place go down, or past the end of the bytes.
+ * BAD_BYTES: a key is of no row of the kinds. fault->place is the first of all bytes that none has there, or the end of a key that
+ * ends too early. Of these two the first key decides.
+ * NO_MEMORY: memory is asked for each column, and for the values of a row. The rooms may then have any bytes. */
+uint32_t doqallin_column_of_row_keys(const uint8_t *kinds, size_t kinds_length, const uint8_t *options, size_t options_length,
+                                     const uint64_t *offsets, size_t offsets_length, const uint8_t *bytes, size_t bytes_length,
+                                     size_t which, uint8_t *validity_room, size_t validity_room_length, uint8_t *values_room,
+                                     size_t values_room_length, uint64_t *offsets_room, size_t offsets_room_length,
+                                     size_t *count, struct doqallin_fault *fault);
+
 /* The statistics of a column in their stable form (docs/STATISTICS.md): its counts, and its least and its greatest value. If
  * these are strings or bytes, they are cut to max_length bytes: then they are bounds, and no values.
  * GIVEN: the form has the first *count bytes of the room; those after it are as they were.
@@ -327,7 +347,7 @@ uint32_t doqallin_filter_mask(const uint8_t *filter, size_t filter_length, const
  * call has the same answer, and so fits in that room, is tested alone.
  * NO_MEMORY: there is no memory to read the line or to write the answer. If the call itself finds none, the answer is
  * `OutOfMemory`.
- * Stack: 28 kilobytes, and 2.4 more for each level that nests. So no line ends a process on a thread of 128 kilobytes. */
+ * Stack: 28 kilobytes, and 2.8 more for each level that nests. So no line ends a process on a thread of 128 kilobytes. */
 uint32_t doqallin_call(const uint8_t *line, size_t line_length, uint8_t *room, size_t room_length, size_t *count);
 
 /* The same, for lines that nest at most `depth` deep. */

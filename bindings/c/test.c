@@ -251,6 +251,58 @@ static void row_keys(void) {
     CHECK(doqallin_row_keys(two, 0, BYTES(""), starts, 3, room, ROOM, &count, &fault) == DOQALLIN_GIVEN && count == 0 && starts[0] == 0);
 }
 
+// The column `which` of keys of these kinds, into rooms of `values` and `starts` bytes and offsets; and that nothing but a fault is
+// written.
+static uint64_t starts[3];
+
+static uint32_t back(const char *kinds, const char *options, const uint64_t *offsets, size_t ends, const char *keys, size_t length, size_t which, size_t bits, size_t values, size_t places) {
+    fresh();
+    starts[0] = starts[1] = starts[2] = 9;
+    return doqallin_column_of_row_keys((const uint8_t *)kinds, strlen(kinds), (const uint8_t *)options, strlen(options), offsets, ends, (const uint8_t *)keys, length, which, other, bits, room, values, starts, places, &count, &fault);
+}
+
+static int no_column(void) { return count == 77 && is_kept(room, 0) && is_kept(other, 0) && starts[0] == 9 && starts[1] == 9 && starts[2] == 9; }
+
+static void columns_of_keys(void) {
+    // The keys of the rows (-1, "a") and (7, null), as above: of an i16, and of a string by greater ones first.
+    static const uint64_t offsets[] = {0, 5, 8}, down[] = {0, 5, 4}, past[] = {0, 5, 9}, short_of[] = {0, 5, 7};
+    static const char keys[] = "\x0b\xfe\xea\x9e\xff\x0d\x07\xff", no_text[] = "\x0b\xfe\xea\x7f\xff\x0d\x07\xff", more[] = "\x0b\xfe\xea\x9e\xff\x0d\x07\xff\x0d";
+    fault = (struct doqallin_fault){77, 78};
+    CHECK(back("\5\x0a", "\4\1", offsets, 3, keys, 8, 0, ROOM, ROOM, 3) == DOQALLIN_BAD_OPTIONS && at_fault(0, 0) && no_column());
+    fault = (struct doqallin_fault){77, 78};
+    CHECK(back("\5\x0a", "\2\1", offsets, 3, keys, 8, 0, ROOM, ROOM, 0) == DOQALLIN_GIVEN && at_fault(77, 78));
+    CHECK(count == 4 && !memcmp(room, "\xff\xff\7\0", 4) && is_kept(room, 4) && other[0] == 3 && is_kept(other, 1) && starts[0] == 9);
+    for (int kind = 9; kind <= 10; kind++) {
+        const char kinds[] = {5, (char)kind, 0};
+        CHECK(back(kinds, "\2\1", offsets, 3, keys, 8, 1, 1, ROOM, 3) == DOQALLIN_GIVEN && at_fault(77, 78));
+        CHECK(count == 1 && holds(room, count, "a") && other[0] == 1 && is_kept(other, 1));
+        CHECK(starts[0] == 0 && starts[1] == 1 && starts[2] == 1);
+    }
+    CHECK(back("\5\x0a", "\2\1", offsets, 3, keys, 8, 0, 1, 3, 0) == DOQALLIN_NO_ROOM && count == 4 && at_fault(77, 78));
+    count = 77;
+    CHECK(no_column());
+    CHECK(back("\5\x0a", "\2\1", offsets, 3, keys, 8, 0, 0, 4, 0) == DOQALLIN_NO_ROOM && count == 4);
+    CHECK(back("\5\x0a", "\2\1", offsets, 3, keys, 8, 1, 1, 1, 2) == DOQALLIN_NO_ROOM && count == 1);
+    CHECK(back("\5\x0a", "\2\1", offsets, 3, keys, 8, 1, 1, 0, 3) == DOQALLIN_NO_ROOM && count == 1);
+    CHECK(back("\5\x0a", "\2", offsets, 3, keys, 8, 0, 1, 4, 0) == DOQALLIN_WRONG_LENGTH && at_fault(2, 0) && no_column());
+    CHECK(back("\5\x0a", "\2\1", offsets, 3, keys, 8, 2, 1, 4, 0) == DOQALLIN_WRONG_LENGTH && at_fault(2, 0) && no_column());
+    CHECK(back("\5\x0e", "\2\1", offsets, 3, keys, 8, 0, 1, 4, 0) == DOQALLIN_UNKNOWN_KIND && at_fault(1, 0) && no_column());
+    CHECK(back("\5\x0e", "\2\4", offsets, 3, keys, 8, 0, 1, 4, 0) == DOQALLIN_BAD_OPTIONS && at_fault(1, 0) && no_column());
+    CHECK(back("\5\x0a", "\2\1", down, 3, keys, 8, 0, 1, 4, 0) == DOQALLIN_BAD_OFFSETS && at_fault(0, 1) && no_column());
+    CHECK(back("\5\x0a", "\2\1", past, 3, keys, 8, 0, 1, 4, 0) == DOQALLIN_BAD_OFFSETS && at_fault(0, 1) && no_column());
+    // A byte that no text has, the end of a key that is too short, one byte after a key, and a number that no i8 is.
+    CHECK(back("\5\x0a", "\2\1", offsets, 3, no_text, 8, 0, 1, 4, 0) == DOQALLIN_BAD_BYTES && at_fault(0, 3) && no_column());
+    CHECK(back("\5\x0a", "\2\1", short_of, 3, keys, 8, 0, 1, 4, 0) == DOQALLIN_BAD_BYTES && at_fault(0, 7) && no_column());
+    CHECK(back("\5\x0a", "\2\1", past, 3, more, 9, 1, 1, ROOM, 3) == DOQALLIN_BAD_BYTES && at_fault(0, 8) && no_column());
+    CHECK(back("\4", "\2", offsets, 2, "\x0e\1\0\0\0", 5, 0, 1, 4, 0) == DOQALLIN_BAD_BYTES && at_fault(0, 0) && no_column());
+    CHECK(back("\4", "\2", offsets, 2, "\x0d\x80\0\0\0", 5, 0, 1, 4, 0) == DOQALLIN_BAD_BYTES && at_fault(0, 1) && no_column());
+    // No rows, and only nulls.
+    fault = (struct doqallin_fault){77, 78};
+    CHECK(back("\5\x0a", "\2\1", offsets, 1, keys, 8, 0, 0, 0, 0) == DOQALLIN_GIVEN && count == 0 && is_kept(other, 0));
+    CHECK(back("\x0a", "\2", offsets, 0, keys, 0, 0, 0, 0, 1) == DOQALLIN_GIVEN && count == 0 && starts[0] == 0 && starts[1] == 9);
+    CHECK(back("\x0d", "\2", short_of + 3, 0, keys, 0, 0, 0, 0, 0) == DOQALLIN_GIVEN && count == 0 && at_fault(77, 78));
+}
+
 // The statistics of 2, null and 5 as i32, of two such pieces, and of "apple" and "banana" at three bytes.
 static const uint8_t three[] = "\1\x1f\0\0\0\0\0\0\0\3\0\0\0\0\0\0\0\1\x0d\2\x0d\5";
 static const uint8_t six[] = "\1\x1f\0\0\0\0\0\0\0\6\0\0\0\0\0\0\0\2\x0d\2\x0d\5";
@@ -514,14 +566,14 @@ static void calls(void) {
 // The form of the filter "b = true", of a column of booleans.
 static const uint8_t is_true[] = {1, 0, 0, 0, 0, 0, 0, 0, 1, 24, 3, 0, 0, 0, 0, 0, 0, 0, 0, 8, 3};
 
-// The calls that take memory: of bounds at more than 22 bytes, of a line that makes lists, of keys, of statistics, and of filters.
+// The calls that take memory: of bounds at more than 22 bytes, of a line that makes lists, of keys, of statistics, of filters, and of
+// columns of keys.
 static uint32_t take_memory(int which) {
     static const uint64_t offsets[] = {0, 28};
     static const struct doqallin_column bools = {DOQALLIN_BOOL, (const uint8_t *)"", 0, (const uint8_t *)"\1", 1, (const uint8_t *)"", 0, 0, 1};
     static const uint8_t lowest[] = "\1\3\0\0\0\0\0\0\0\1\0\0\0\0\0\0\0\0\x15" LONG;
-    static uint64_t starts[2];
     static const struct doqallin_named_kind flags[] = {{(const uint8_t *)"b", 1, DOQALLIN_BOOL}};
-    static const uint64_t offsets_of_none[] = {0, 0};
+    static const uint64_t offsets_of_none[] = {0, 0}, ends_of_key[] = {0, 30};
     switch (which) {
     case 0: return doqallin_upper_bound_bytes(BYTES(LONG), 24, room, ROOM, &count);
     case 1: return doqallin_upper_bound_text(BYTES(LONG), 24, room, ROOM, &count);
@@ -535,6 +587,7 @@ static uint32_t take_memory(int which) {
     case 9: return doqallin_prepare_filter(BYTES("b = true"), flags, 1, 256, room, ROOM, &count, &mistake);
     case 10: return doqallin_filter_mask(is_true, sizeof is_true, &bools, 1, 32, room, 1, &fault);
     case 11: return doqallin_filter_outcomes(is_true, sizeof is_true, room, 0, offsets_of_none, 2, 32, room, 1, &fault);
+    case 12: return doqallin_column_of_row_keys(BYTES("\x09"), BYTES("\2"), ends_of_key, 2, BYTES("\x15" LONG "\0"), 0, other, ROOM, room, ROOM, starts, 3, &count, &fault);
     default: exit(2);
     }
 }
@@ -554,6 +607,7 @@ static int given(int which) {
     if (which == 8) return parts.lower_length == 28 && !memcmp(room, LONG, 28) ? 0 : 1;
     if (which == 9) return count == sizeof is_true && !memcmp(room, is_true, count) && is_kept(room, count) ? 0 : 1;
     if (which == 10) return room[0] == 1 && is_kept(room, 1) ? 0 : 1;
+    if (which == 12) return holds(room, count, LONG) && other[0] == 1 && is_kept(other, 1) && starts[1] == 28 ? 0 : 1;
     if (which == 11) return room[0] == 7 && is_kept(room, 1) ? 0 : 1;
     return memcmp(which < 2 ? room : other, "012345678901234567890124", 24) ? 1 : 0;
 }
@@ -568,9 +622,9 @@ static int memory(int which) {
     uint32_t status = take_memory(which);
     say("answered\n");
     if (mallinfo2().uordblks != before) return 1;
-    // Without memory the byte of a mask, or of outcomes, may be any.
-    size_t any = which == 10 || which == 11;
-    if (status == DOQALLIN_NO_MEMORY) return count == 77 && lengths_kept() && is_kept(room, any) && is_kept(other, 0) ? 3 : 1;
+    // Without memory the byte of a mask, or of outcomes, may be any, and so may a column of keys.
+    size_t any = which == 10 || which == 11 ? 1 : which == 12 ? 28 : 0;
+    if (status == DOQALLIN_NO_MEMORY) return count == 77 && lengths_kept() && is_kept(room, any) && is_kept(other, which == 12) ? 3 : 1;
     return status == DOQALLIN_GIVEN ? given(which) : 1;
 }
 
@@ -584,6 +638,7 @@ int main(int argc, char **argv) {
     zones();
     columns();
     row_keys();
+    columns_of_keys();
     column_statistics();
     merged_statistics();
     read_statistics();

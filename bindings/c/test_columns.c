@@ -1,5 +1,5 @@
 // SPDX-License-Identifier: Apache-2.0
-// Casts, keys and bounds of random columns, beside plain C: `test_columns COUNT` makes so many, with a page behind each buffer
+// Casts, keys, columns of keys and bounds of random columns, beside plain C: `test_columns COUNT` makes so many, with a page behind each buffer
 // that nobody may read, and `test_columns COUNT malloc` with memory of its own for each.
 #include "random_columns.h"
 
@@ -45,6 +45,8 @@ static uint32_t plain_keys(const struct doqallin_column *two, const uint8_t *opt
     return DOQALLIN_GIVEN;
 }
 
+static uint32_t of_back(const struct doqallin_column *two, const uint8_t *options, size_t rows, size_t end);
+
 static uint32_t of_keys(const struct doqallin_column *two) {
     uint8_t options[] = {below(50) ? below(4) : 4, below(4)};
     struct doqallin_fault where;
@@ -64,7 +66,73 @@ static uint32_t of_keys(const struct doqallin_column *two) {
     size_t less = end ? below(end) : 0;
     CHECK(doqallin_row_keys(two, 2, options, 2, places, end ? rows + 1 : rows, room, less, &count, &fault) == DOQALLIN_NO_ROOM);
     CHECK(count == end && fault.column == 77 && is_kept(0, 0));
-    return status;
+    return of_back(two, options, rows, end);
+}
+
+// Whether the first bytes of the rooms are this column from a bitmap and values of its own: nulls as 0, false or no bytes.
+static uint8_t bitmap[ROWS / 8 + 2];
+
+static int is_column(const struct doqallin_column *of, size_t rows) {
+    uint64_t at = 0;
+    for (size_t row = 0; row < rows; row++) {
+        int valid = is_valid(of, row);
+        if (is_bit(bitmap, row) != valid) return 0;
+        if (of->kind < DOQALLIN_BOOL) {
+            __int128 number = valid ? number_at(of, row) : 0;
+            if (memcmp(room + (row << of->kind % 4), &number, (size_t)1 << of->kind % 4)) return 0;
+        } else if (of->kind == DOQALLIN_BOOL) {
+            if (is_bit(room, row) != (valid && is_bit(of->values, of->offset + row))) return 0;
+        } else if (of->kind < DOQALLIN_NULL) {
+            uint64_t start = valid ? start_of(of, row) : 0, size = valid ? start_of(of, row + 1) - start : 0;
+            if (places[row] != at || places[row + 1] != at + size || memcmp(room + at, of->values + start, size)) return 0;
+            at += size;
+        }
+    }
+    for (size_t row = rows; row < (rows + 7) / 8 * 8; row++)
+        if (is_bit(bitmap, row) || (of->kind == DOQALLIN_BOOL && is_bit(room, row))) return 0;
+    size_t bits = (rows + 7) / 8, size = of->kind < DOQALLIN_BOOL ? rows << of->kind % 4 : of->kind == DOQALLIN_BOOL ? bits : of->kind == DOQALLIN_NULL ? 0 : at;
+    int has_offsets = of->kind > DOQALLIN_BOOL && of->kind < DOQALLIN_NULL;
+    return count == size && bitmap[bits] == 'q' && is_kept(size, has_offsets ? rows + 1 : 0) && (!has_offsets || places[0] == 0);
+}
+
+static uint32_t column_back(const uint8_t *kinds, const uint8_t *options, const uint64_t *starts, size_t rows, const uint8_t *keys, size_t length, size_t which, size_t size) {
+    fresh();
+    memset(bitmap, 'q', sizeof bitmap);
+    return doqallin_column_of_row_keys(kinds, 2, options, 2, starts, rows + 1, keys, length, which, bitmap, sizeof bitmap, room, size, places, ROWS + 2, &count, &fault);
+}
+
+// The columns of the keys in `wanted` are those of the rows. With a byte changed, keys are told as wrong, or give columns whose keys
+// they are.
+static uint32_t of_back(const struct doqallin_column *two, const uint8_t *options, size_t rows, size_t end) {
+    static uint8_t made[2][2][ROOM], offsets[2][8 * (ROWS + 2)], again[ROOM];
+    uint8_t kinds[] = {two[0].kind, two[1].kind}, keys[ROOM];
+    memcpy(keys, exactly(6, wanted, end), end);
+    for (size_t which = 0; which < 2; which++) {
+        CHECK(column_back(kinds, options, ends, rows, exactly(6, keys, end), end, which, ROOM) == DOQALLIN_GIVEN && fault.column == 77);
+        CHECK(is_column(&two[which], rows));
+        size_t size = count;
+        if (!size) continue;
+        CHECK(column_back(kinds, options, ends, rows, exactly(6, keys, end), end, which, below(size)) == DOQALLIN_NO_ROOM);
+        CHECK(count == size && fault.column == 77 && is_kept(0, 0) && bitmap[0] == 'q');
+    }
+    if (!end) return DOQALLIN_GIVEN;
+    keys[below(end)] ^= (uint8_t)(1 << below(8));
+    struct doqallin_column read[2];
+    for (size_t which = 0; which < 2; which++) {
+        uint32_t status = column_back(kinds, options, ends, rows, exactly(6, keys, end), end, which, ROOM);
+        if (status) {
+            CHECK(status == DOQALLIN_BAD_BYTES && fault.column == 0 && fault.place <= end && count == 77 && is_kept(0, 0) && bitmap[0] == 'q');
+            return status;
+        }
+        memcpy(made[which][0], bitmap, sizeof bitmap);
+        memcpy(made[which][1], room, ROOM);
+        memcpy(offsets[which], places, 8 * (rows + 1));
+        uint8_t kind = kinds[which] == DOQALLIN_UTF8 || kinds[which] == DOQALLIN_BINARY ? kinds[which] + 1 : kinds[which];
+        read[which] = (struct doqallin_column){kind, made[which][0], (rows + 7) / 8, made[which][1], count, offsets[which], 8 * (rows + 1), 0, rows};
+    }
+    CHECK(doqallin_row_keys(read, 2, options, 2, places, rows + 1, again, ROOM, &count, &fault) == DOQALLIN_GIVEN);
+    CHECK(count == end && !memcmp(again, keys, end) && !memcmp(places, ends, 8 * rows + 8));
+    return DOQALLIN_GIVEN;
 }
 
 #define TEXT_ROOM 40
@@ -133,6 +201,6 @@ int main(int argc, char **argv) {
         seen[of_bounds()]++;
     }
     static const uint32_t all[] = {DOQALLIN_GIVEN, DOQALLIN_NONE, DOQALLIN_NO_ROOM, DOQALLIN_NOT_UTF8, DOQALLIN_BAD_OFFSETS, DOQALLIN_UNKNOWN_KIND,
-                                   DOQALLIN_TOO_MANY_ROWS, DOQALLIN_TOO_SHORT, DOQALLIN_WRONG_LENGTH, DOQALLIN_BAD_OPTIONS};
+                                   DOQALLIN_TOO_MANY_ROWS, DOQALLIN_TOO_SHORT, DOQALLIN_WRONG_LENGTH, DOQALLIN_BAD_OPTIONS, DOQALLIN_BAD_BYTES};
     return ended(columns, seen, all, sizeof all / sizeof *all);
 }

@@ -28,7 +28,15 @@ static void statistics(void) { doqallin_column_statistics(&two[0], n, room, ROOM
 static void merge(void) { doqallin_merge_statistics(two[0].kind, form, form_length, form, form_length, room, ROOM, &count, &fault); }
 static void read_parts(void) { doqallin_read_statistics(two[0].kind, form, form_length, room, ROOM, other, ROOM, &parts, &fault); }
 
-static void (*const calls[])(void) = {cast, keys, bytes_bounds, text_bounds, upper_bound, statistics, merge, read_parts};
+static uint8_t row_keys[ROOM];
+static uint64_t row_ends[ROWS + 2];
+static size_t keys_length, rows_of_keys;
+static void back(void) {
+    const uint8_t kinds[] = {two[0].kind, two[1].kind};
+    doqallin_column_of_row_keys(kinds, 2, options, 2, row_ends, rows_of_keys + 1, row_keys, keys_length, n % 2, other, ROOM, room, ROOM, places, ROWS + 2, &count, &fault);
+}
+
+static void (*const calls[])(void) = {cast, keys, back, bytes_bounds, text_bounds, upper_bound, statistics, merge, read_parts};
 #define CALLS (sizeof calls / sizeof *calls)
 #define CALLS_OF_STATISTICS 3
 
@@ -47,6 +55,8 @@ int main(int argc, char **argv) {
         options[0] = below(4), options[1] = below(4), n = below(40);
         for (size_t i = 0; i < sizeof value; i++) value[i] = below(9) ? 'a' + below(26) : below(256);
         for (int i = 1; i < 4; i++) starts[i] = starts[i - 1] + below(20);
+        rows_of_keys = rows;
+        if (doqallin_row_keys(two, 2, options, 2, row_ends, ROWS + 2, row_keys, ROOM, &keys_length, &fault)) keys_length = 0;
         if (doqallin_column_statistics(&two[0], n, form, ROOM, &form_length, &fault)) form_length = below(40);
         for (size_t i = 0; i < CALLS; i++) {
             size_t of = taken(stack, SIZE, run, (void *)&calls[i]);

@@ -21,7 +21,7 @@ from typing import Any
 
 import doqallin
 import producer
-from doqallin import Column, cast, column, columns, row_keys
+from doqallin import Column, cast, column, columns, from_row_keys, row_keys
 from producer import Chunks, Layout, layout, struct_of
 from test_doqallin import some_bytes, some_text
 
@@ -399,6 +399,10 @@ class OfKeys(Released):
             told = [key_layout.Options(*option) for option in options]
             self.assertEqual(keys.to_list(), [key_layout.row_key(row, told) for row in whole])
             self.assertEqual((keys.kind, keys.null_count, keys[1:].to_list()), ("binary", 0, keys.to_list()[1:]))
+            back = from_row_keys(keys, [KINDS[form] for form in forms], descending=descending, nulls_first=nulls_first)
+            self.assertEqual([one.to_list() for one in back], values)
+            part = from_row_keys(keys[1:], [KINDS[form] for form in forms], descending=descending, nulls_first=nulls_first)
+            self.assertEqual([one.to_list() for one in part], [each[1:] for each in values])
 
     def test_keys_in_a_store(self) -> None:
         source = random.Random(51)
@@ -439,9 +443,28 @@ class OfKeys(Released):
             row_keys([[1], [1, 2]])
         with self.assertRaises(doqallin.WrongLength):
             row_keys([[1]], descending=[True, False])
+        narrow = layout(random.Random(52), "z", list(row_keys({"a": [2, 1], "b": ["x", None]})))
+        self.assertEqual(from_row_keys(narrow, ["i8", "utf8"])[0].to_list(), [2, 1])
+        with self.assertRaises(doqallin.KindsDiffer):
+            from_row_keys([None, b"\x0c"], ["i64"])
+        for keys, kinds, place in [([b"\x0c", b"\x0d\x80"], ["i8"], 2), ([b"\x0c\x0c"], ["i8"], 1), ([b""], ["i8"], 0)]:
+            with self.assertRaises(doqallin.BadBytes) as error:
+                from_row_keys(keys, kinds)
+            self.assertEqual(error.exception.place, place)
         for no_table in ("ab", [1], 7, column([1])):
             with self.assertRaises((doqallin.UnknownKind, TypeError)):
                 row_keys(no_table)
+
+    def test_hostile_keys(self) -> None:
+        source = random.Random(53)
+        for _ in range(COUNT):
+            kinds = [source.choice(list(KINDS.values())) for _ in range(2)]
+            keys = [source.randbytes(source.randrange(5)) for _ in range(2)]
+            try:
+                back = from_row_keys(keys, kinds)
+            except doqallin.BadBytes:
+                continue
+            self.assertEqual(list(row_keys(back)), keys)
 
 
 if __name__ == "__main__":

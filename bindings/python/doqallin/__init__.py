@@ -76,7 +76,7 @@ from ._errors import (
     WrongLength,
 )
 from ._filters import Filter, Outcomes, Zones
-from ._keys import row_keys
+from ._keys import from_row_keys, row_keys
 from ._library import call, library_version
 from ._reading import column, columns
 from ._scalars import Scalar, scalar
@@ -126,6 +126,7 @@ __all__ = [
     "column_bounds_text",
     "columns",
     "dtype",
+    "from_row_keys",
     "library_version",
     "lower_bound",
     "lower_bound_text",

@@ -5,18 +5,20 @@
 from __future__ import annotations
 
 import ctypes
-from collections.abc import Mapping, Sequence
+from array import array
+from collections.abc import Iterable, Mapping, Sequence
 from ctypes import byref, c_size_t
 from typing import Any
 
 from . import _library
 from ._arrow import is_arrow
-from ._columns import BOOL, EMPTY, LARGE_BINARY, NULL, WIDTHS, Buffer, Column
-from ._errors import WrongLength
+from ._columns import BINARY, BOOL, CODES, EMPTY, LARGE_BINARY, LARGE_UTF8, NULL, UTF8, WIDTHS, Buffer, Column, buffer_of, code_of
+from ._errors import KindsDiffer, WrongLength
 from ._library import NO_ROOM, Fault, check_column, new_offsets, new_room
 from ._reading import column, columns, raw_columns
+from ._types import DType
 
-__all__ = ["row_keys"]
+__all__ = ["from_row_keys", "row_keys"]
 
 
 def _options(count: int, descending: bool | Sequence[bool], nulls_first: bool | Sequence[bool]) -> bytes:
@@ -66,3 +68,68 @@ def row_keys(
     check_column(status, fault, f"column {fault.column}: ")
     keys = Buffer(ctypes.addressof(room), count.value, room) if count.value else EMPTY
     return Column._of(LARGE_BINARY, rows, keys, Buffer(ctypes.addressof(offsets), 8 * (rows + 1), offsets))
+
+
+def _offsets_of(keys: Column) -> Buffer:
+    """Offsets of 64 bits, the first that of the first row."""
+    if not len(keys):
+        return buffer_of(array("Q", [0]))
+    item = ctypes.c_uint32 if keys._code == BINARY else ctypes.c_uint64
+    at = keys._offsets.address + ctypes.sizeof(item) * keys._offset
+    if keys._code == LARGE_BINARY and at % 8 == 0:
+        return Buffer(at, len(keys) + 1, keys._offsets.owner)
+    return buffer_of(array("Q", list((item * (len(keys) + 1)).from_address(at))))
+
+
+def from_row_keys(
+    keys: Any, kinds: Iterable[str | DType], *, descending: bool | Sequence[bool] = False, nulls_first: bool | Sequence[bool] = True
+) -> list[Column]:
+    """The columns of the rows whose keys these are, by the options that the keys were made with.
+
+    Raises BadBytes with the first byte that no key of the kinds has there. Keys from anywhere are safe to read.
+
+    >>> from_row_keys(row_keys([["b", None], [1, 2]]), ["utf8?", "i64"])
+    [Column('utf8', ['b', None]), Column('i64', [1, 2])]
+    """
+    one = column(keys, "binary")
+    if one.null_count:
+        raise KindsDiffer("a null is no key")
+    codes = bytes(code_of(of) for of in kinds)
+    options = _options(len(codes), descending, nulls_first)
+    return [_column_of(one, codes, options, which) for which in range(len(codes))]
+
+
+def _column_of(keys: Column, codes: bytes, options: bytes, which: int) -> Column:
+    rows, code = len(keys), codes[which]
+    is_text = code in (UTF8, CODES["binary"])
+    bitmap = (rows + 7) // 8
+    most = keys._values.length if is_text else bitmap if code == BOOL else WIDTHS[code] * rows if code < BOOL else 0
+    validity, values, offsets = new_room(bitmap), new_room(most), new_offsets(rows + 1)
+    places, count, fault = _offsets_of(keys), c_size_t(), Fault()
+    status = _library.column_of_row_keys(
+        codes,
+        len(codes),
+        options,
+        len(options),
+        places.address,
+        rows + 1,
+        keys._values.address,
+        keys._values.length,
+        which,
+        validity,
+        bitmap,
+        values,
+        most,
+        offsets,
+        rows + 1,
+        byref(count),
+        byref(fault),
+    )
+    check_column(status, fault)
+    if code == NULL:
+        return Column._of(NULL, rows)
+    nulls = Buffer(ctypes.addressof(validity), bitmap, validity) if bitmap else EMPTY
+    made = Buffer(ctypes.addressof(values), count.value, values) if count.value else EMPTY
+    large = LARGE_UTF8 if code == UTF8 else LARGE_BINARY
+    ends = Buffer(ctypes.addressof(offsets), 8 * (rows + 1), offsets) if is_text else EMPTY
+    return Column._of(large if is_text else code, rows, made, ends, nulls)

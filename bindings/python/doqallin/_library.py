@@ -146,6 +146,9 @@ prepare_filter = _declare("prepare_filter", c_uint32, *_BYTES, *_SPACE, c_size_t
 filter_outcomes = _declare("filter_outcomes", c_uint32, *_BYTES, *_BYTES, *_SPACE, c_size_t, *_SPACE, _OUT)
 filter_mask = _declare("filter_mask", c_uint32, *_BYTES, *_SPACE, c_size_t, *_SPACE, _OUT)
 row_keys = _declare("row_keys", c_uint32, *_SPACE, *_BYTES, *_SPACE, *_SPACE, _OUT, _OUT)
+column_of_row_keys = _declare(
+    "column_of_row_keys", c_uint32, *_BYTES, *_BYTES, *_SPACE, *_SPACE, c_size_t, *_SPACE, *_SPACE, *_SPACE, _OUT, _OUT
+)
 
 
 # Most answers have room in this.

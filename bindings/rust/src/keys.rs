@@ -3,7 +3,8 @@
 //! Keys of rows: bytes that sort as the rows do.
 
 use crate::arrow::RawColumns;
-use crate::{Column, Kind, RowsError, out_of_memory, raw};
+use crate::{Column, Item, Kind, RowsError, out_of_memory, raw};
+use std::fmt;
 
 /// How a column is sorted.
 #[derive(Clone, Copy, Debug, PartialEq, Eq)]
@@ -28,6 +29,31 @@ fn option_bytes(options: &[SortOptions]) -> Vec<u8> {
     let byte = |of: &SortOptions| u8::from(of.descending) | u8::from(of.nulls_first) << 1;
     options.iter().map(byte).collect()
 }
+
+/// Why bytes are no keys of rows.
+#[derive(Clone, Copy, Debug, PartialEq, Eq)]
+pub enum KeysError {
+    /// No key of the kinds has this byte, the first such one.
+    BadBytes(usize),
+    /// The offsets of this key go down, or past the end of the bytes.
+    BadOffsets(usize),
+    /// There is no such column, or there are not as many options as kinds.
+    WrongLength,
+}
+
+impl fmt::Display for KeysError {
+    fn fmt(&self, f: &mut fmt::Formatter<'_>) -> fmt::Result {
+        match self {
+            KeysError::BadBytes(place) => write!(f, "no key of the kinds has byte {place}"),
+            KeysError::BadOffsets(row) => {
+                write!(f, "the offsets of key {row} go down, or past the end")
+            }
+            KeysError::WrongLength => f.write_str("there are not as many as there are to be"),
+        }
+    }
+}
+
+impl std::error::Error for KeysError {}
 
 /// The keys of rows, in the memory of one Arrow array of bytes.
 #[derive(Clone, Debug, PartialEq, Eq)]
@@ -111,6 +137,12 @@ fn likely_room(columns: &[Column<'_>]) -> (usize, usize) {
 }
 
 impl RowKeys {
+    /// Keys that came from elsewhere. Key k is the bytes from `offsets[k]` to `offsets[k + 1]`; nothing is tested.
+    #[must_use]
+    pub fn from_parts(offsets: Vec<u64>, bytes: Vec<u8>) -> RowKeys {
+        RowKeys { offsets, bytes }
+    }
+
     /// How many keys there are.
     #[must_use]
     pub fn len(&self) -> usize {
@@ -140,6 +172,63 @@ impl RowKeys {
     pub fn parts(&self) -> (&[u64], &[u8]) {
         (&self.offsets, &self.bytes)
     }
+
+    /// The column `which` of the rows whose keys these are, by the options that the keys were made with.
+    ///
+    /// ```
+    /// use doqallin::{Column, Item, Kind, SortOptions, row_keys};
+    ///
+    /// let numbers = Column::integers(&[3i64, 0]).with_validity(&[1]);
+    /// let keys = row_keys(&[numbers], &[SortOptions::default()])?;
+    /// let back = keys.column(&[Kind::I64], &[SortOptions::default()], 0)?;
+    /// assert_eq!((back.get(0), back.get(1)), (Some(Item::Integer(3)), None));
+    /// # Ok::<(), Box<dyn std::error::Error>>(())
+    /// ```
+    pub fn column(
+        &self,
+        kinds: &[Kind],
+        options: &[SortOptions],
+        which: usize,
+    ) -> Result<OwnedColumn, KeysError> {
+        let kind = kinds.get(which).ok_or(KeysError::WrongLength)?.large();
+        let codes: Vec<u8> = kinds.iter().map(|kind| *kind as u8).collect();
+        let options = option_bytes(options);
+        let mut made = OwnedColumn::room_for(kind, self.len(), self.bytes.len());
+        let (mut count, mut fault) = (0, raw::Fault::default());
+        // SAFETY: each pointer and length are of one slice; the rooms, `count` and `fault` are places of their own.
+        let status = unsafe {
+            raw::doqallin_column_of_row_keys(
+                codes.as_ptr(),
+                codes.len(),
+                options.as_ptr(),
+                options.len(),
+                self.offsets.as_ptr(),
+                self.offsets.len(),
+                self.bytes.as_ptr(),
+                self.bytes.len(),
+                which,
+                made.validity.as_mut_ptr(),
+                made.validity.len(),
+                made.values.as_mut_ptr(),
+                made.values.len(),
+                made.offsets.as_mut_ptr(),
+                made.offsets.len(),
+                &mut count,
+                &mut fault,
+            )
+        };
+        match status {
+            raw::GIVEN => {
+                made.values.truncate(count);
+                Ok(made)
+            }
+            raw::BAD_BYTES => Err(KeysError::BadBytes(fault.place)),
+            raw::BAD_OFFSETS => Err(KeysError::BadOffsets(fault.place)),
+            raw::WRONG_LENGTH => Err(KeysError::WrongLength),
+            raw::NO_MEMORY => out_of_memory(self.bytes.len()),
+            other => unreachable!("status {other}: the rooms suffice"),
+        }
+    }
 }
 
 impl<'a> IntoIterator for &'a RowKeys {
@@ -148,5 +237,76 @@ impl<'a> IntoIterator for &'a RowKeys {
 
     fn into_iter(self) -> Self::IntoIter {
         Box::new(self.iter())
+    }
+}
+
+/// A column that was made of keys: a bitmap of the rows that are not null, the values, and offsets of strings and bytes.
+#[derive(Clone, Debug, PartialEq, Eq)]
+pub struct OwnedColumn {
+    kind: Kind,
+    length: usize,
+    validity: Vec<u8>,
+    values: Vec<u8>,
+    offsets: Vec<u64>,
+}
+
+impl OwnedColumn {
+    /// Room for a column of so many rows, whose strings have at most so many bytes together.
+    fn room_for(kind: Kind, length: usize, bytes: usize) -> OwnedColumn {
+        let bitmap = length.div_ceil(8);
+        let (values, offsets) = match (kind, kind.width()) {
+            (_, Some(width)) => (width * length, 0),
+            (Kind::Bool, _) => (bitmap, 0),
+            (Kind::Null, _) => (0, 0),
+            _ => (bytes, length + 1),
+        };
+        OwnedColumn {
+            kind,
+            length,
+            validity: vec![0; bitmap],
+            values: vec![0; values],
+            offsets: vec![0; offsets],
+        }
+    }
+
+    /// The kind. Strings and bytes have offsets of 64 bits.
+    #[must_use]
+    pub fn kind(&self) -> Kind {
+        self.kind
+    }
+
+    /// How many rows it has.
+    #[must_use]
+    pub fn len(&self) -> usize {
+        self.length
+    }
+
+    /// Whether it has no rows.
+    #[must_use]
+    pub fn is_empty(&self) -> bool {
+        self.length == 0
+    }
+
+    /// The bitmap of validity, the values and the offsets.
+    #[must_use]
+    pub fn parts(&self) -> (&[u8], &[u8], &[u64]) {
+        (&self.validity, &self.values, &self.offsets)
+    }
+
+    /// The value of a row. `None` if it is null, or if there is no such row.
+    #[must_use]
+    pub fn get(&self, row: usize) -> Option<Item> {
+        let bit = |bitmap: &[u8]| bitmap[row / 8] >> (row % 8) & 1 == 1;
+        if row >= self.length || self.kind == Kind::Null || !bit(&self.validity) {
+            return None;
+        }
+        Some(match (self.kind, self.kind.width()) {
+            (kind, Some(width)) => Item::of(kind, &self.values[row * width..][..width]),
+            (Kind::Bool, _) => Item::Bool(bit(&self.values)),
+            (kind, _) => {
+                let (start, end) = (self.offsets[row] as usize, self.offsets[row + 1] as usize);
+                Item::of(kind, &self.values[start..end])
+            }
+        })
     }
 }

@@ -61,7 +61,7 @@ pub use call::{call, call_within};
 pub use column::{ColumnError, column_bounds, column_bounds_text};
 pub use filter::{Filter, FilterError, Outcomes};
 pub use integer::{Integer, cast};
-pub use keys::{RowKeys, SortOptions, row_keys};
+pub use keys::{KeysError, OwnedColumn, RowKeys, SortOptions, row_keys};
 pub use mistake::Mistake;
 pub use statistics::{Statistics, StatisticsError};
 pub use truncation::{lower_bound, lower_bound_text, upper_bound, upper_bound_text};

@@ -211,6 +211,25 @@ unsafe extern "C" {
         count: &mut usize,
         fault: &mut Fault,
     ) -> u32;
+    pub fn doqallin_column_of_row_keys(
+        kinds: *const u8,
+        kinds_length: usize,
+        options: *const u8,
+        options_length: usize,
+        offsets: *const u64,
+        offsets_length: usize,
+        bytes: *const u8,
+        bytes_length: usize,
+        which: usize,
+        validity_room: *mut u8,
+        validity_room_length: usize,
+        values_room: *mut u8,
+        values_room_length: usize,
+        offsets_room: *mut u64,
+        offsets_room_length: usize,
+        count: &mut usize,
+        fault: &mut Fault,
+    ) -> u32;
     pub fn doqallin_prepare_filter(
         text: *const u8,
         text_length: usize,

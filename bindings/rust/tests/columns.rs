@@ -479,7 +479,7 @@ fn plain_key(row: &[Option<Item>], options: &[SortOptions]) -> Vec<u8> {
 }
 
 #[test]
-fn keys_sort_as_rows() {
+fn keys_sort_as_rows_and_come_back() {
     let mut random = Random(0x5678_9abc);
     for _ in 0..count() {
         let (width, length) = (1 + random.below(3), random.below(7));
@@ -521,7 +521,52 @@ fn keys_sort_as_rows() {
             let wanted = plain_key(&row(place), &options);
             assert_eq!(keys.get(place), Some(&wanted[..]), "{:?}", row(place));
         }
+        for (which, part) in made.iter().enumerate() {
+            let back = keys.column(&kinds, &options, which).unwrap();
+            assert_eq!(
+                (0..length).map(|place| back.get(place)).collect::<Vec<_>>(),
+                part.rows
+            );
+        }
     }
+}
+
+#[test]
+fn hostile_keys() {
+    let mut random = Random(0x6789_abcd);
+    let mut read = 0;
+    for _ in 0..count() {
+        let kind = random.one_of(&KINDS);
+        let bytes: Vec<u8> = (0..random.below(8))
+            .map(|_| random.one_of(&[0, 1, 2, 12, 13, 21, 22, 97, 255]))
+            .collect();
+        let offsets: Vec<u64> = (0..random.below(4))
+            .map(|_| random.below(9) as u64)
+            .collect();
+        let are_sound = offsets
+            .windows(2)
+            .all(|pair| pair[0] <= pair[1] && pair[1] <= bytes.len() as u64);
+        let keys = RowKeys::from_parts(offsets, bytes);
+        match keys.column(&[kind], &[SortOptions::default()], 0) {
+            Ok(back) => {
+                assert!(are_sound && back.len() == keys.len());
+                read += 1;
+            }
+            Err(KeysError::BadOffsets(_)) => assert!(!are_sound),
+            Err(KeysError::BadBytes(place)) => assert!(place <= keys.parts().1.len()),
+            Err(error) => panic!("{error}"),
+        }
+    }
+    assert!(read > count() / 100, "{read}");
+    let keys = RowKeys::from_parts(vec![0], Vec::new());
+    assert_eq!(
+        keys.column(&[Kind::U8], &[], 0),
+        Err(KeysError::WrongLength)
+    );
+    assert_eq!(
+        keys.column(&[Kind::U8], &[SortOptions::default()], 1),
+        Err(KeysError::WrongLength)
+    );
 }
 
 #[test]

@@ -7,6 +7,8 @@ pub mod FilterSql
 pub mod FilterWords
 pub mod Filters
 pub mod Integers
+pub mod KeyColumns
+pub mod KeyWords
 pub mod Parts
 pub mod RowKeys
 pub mod Statistics

@@ -12,6 +12,7 @@ mod fault;
 mod filters;
 mod integers;
 mod keys;
+mod keys_back;
 mod parts;
 mod sql;
 mod statistics;

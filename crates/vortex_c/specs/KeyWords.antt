@@ -1,0 +1,5 @@
+-- The words of the clauses of columns of keys, from one place.
+pub use Rattle.key_columns.specs.Answers.{IsColumnOfKeys, offsets_length_at}
+pub use Rattle.key_columns.specs.Cells.{key_count}
+pub use Rattle.key_columns.specs.Layout.{bitmap_length}
+pub use Rattle.vortex_c.specs.KeyColumns.{SaysWhyNoColumn, count_of_column, fault_of_keys, status_of_keys}
