@@ -6,10 +6,10 @@ use Rattle.csv_records.specs.Rows.{Field}
 use Rattle.vortex_dtype.specs.declared.nullability.Nullability.{Nullability}
 use Rattle.vortex_dtype.specs.declared.nullability.Nullability.TheVariants.{NonNullable, Nullable}
 use Rattle.vortex_dtype.specs.declared.ptype.PType.{PType}
-use Rattle.vortex_value.specs.Values.Content.{Content, null}
+use Rattle.vortex_value.specs.Values.Content.{Content, null, string, text, whole}
 use Rattle.vortex_value.specs.Values.Scalars.{IsValid, scalar_content, scalar_type}
 use Rattle.vortex_value.specs.declared.scalars.Scalar.{Scalar}
-use Rattle.record_rows.specs.Cells.{HasNoCell, HasNoValue, IsBinaryCell, IsCell, IsContent, IsIntegerCell, IsTextCell, IsValueCell, Means, column_type, is_null_field, type_by}
+use Rattle.record_rows.specs.Cells.{HasMeaning, HasNoCell, HasNoMeaning, HasNoValue, IsBinaryCell, IsCell, IsContent, IsIntegerCell, IsTextCell, IsValueCell, Means, column_type, is_null_field, type_by}
 use Rattle.record_rows.specs.Words.{IsIntegerWord}
 use Rattle.record_rows.specs.declared.columns.ColumnType.{ColumnType}
 use Rattle.record_rows.specs.declared.columns.Kind.{Kind}
@@ -61,13 +61,29 @@ pub binary_value : {E : Type 0} (column : ColumnType) (word : List ℕ) (r : Res
 binary_value column word (Ok o) e h = binary_one column word o e h
 binary_value column word (Err x) e h = tt
 
+-- ---- words that mean something
+
+pub integer_means : (kind : Kind) (p : PType) (word : List ℕ) (z : ℤ) → kind ≡ kinds.Integer p → IsIntegerWord p word z → HasMeaning kind word
+integer_means kind p word z e h = (whole z, subst (λ (k : Kind). Means k word (whole z)) (sym e) (z, h, refl))
+
+pub text_means : (kind : Kind) (word : List ℕ) → kind ≡ kinds.Utf8 → IsUtf8 word → HasMeaning kind word
+text_means kind word e h = (text word, subst (λ (k : Kind). Means k word (text word)) (sym e) (h, refl))
+
+binary_meaning : (kind : Kind) (word : List ℕ) (b : Bool) → kind ≡ kinds.Binary → MatchBool b ((bytes : List ℕ) × (decode_of word ≡ Ok bytes)) ((bytes : List ℕ) → ¬ (decode_of word ≡ Ok bytes)) → MatchBool b (HasMeaning kind word) (HasNoMeaning kind word)
+binary_meaning kind word true e h = (string h.0, subst (λ (k : Kind). Means k word (string h.0)) (sym e) (h.0, h.1, refl))
+binary_meaning kind word false e h = binary_none kind word e h
+
+pub binary_meanings : {E : Type 0} (kind : Kind) (word : List ℕ) (r : Result Bool E) → kind ≡ kinds.Binary → IfOk r (λ b. MatchBool b ((bytes : List ℕ) × (decode_of word ≡ Ok bytes)) ((bytes : List ℕ) → ¬ (decode_of word ≡ Ok bytes))) → IfOk r (λ b. MatchBool b (HasMeaning kind word) (HasNoMeaning kind word))
+binary_meanings kind word (Ok b) e h = binary_meaning kind word b e h
+binary_meanings kind word (Err x) e h = tt
+
 -- ---- nulls
 
 pub null_takes : (n : Nullability) (f : Field) → is_null_field n f ≡ true → n ≡ Nullable
 null_takes Nullable f h = refl
 null_takes NonNullable f h = absurd cc
 
-null_content : (column : ColumnType) (f : Field) (c : Content) → is_null_field column.nullability f ≡ true → c ≡ null → IsContent column f c
+pub null_content : (column : ColumnType) (f : Field) (c : Content) → is_null_field column.nullability f ≡ true → c ≡ null → IsContent column f c
 null_content column f c e h = rw e h
 
 pub null_cell : (column : ColumnType) (f : Field) (x : Scalar) → is_null_field column.nullability f ≡ true → scalar_type x ≡ column_type column → scalar_content x ≡ null → IsValid x → IsCell column f x

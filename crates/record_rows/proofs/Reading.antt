@@ -1,8 +1,9 @@
 -- Fields are read one after another.
-use Rattle.std.proofs.Common.{◌≡◌, ◌≢◌, ◌==◌, true, ◌≤◌, ◌<◌, ◌+◌, ℕ, List, [], ◌∷◌, ◌++◌, Bool, false, cond, refl, sym, ap, ◌∙◌, subst, length, take, get_or, arith, take_all}
+use Rattle.std.proofs.Common.{◌≡◌, ◌≢◌, ◌==◌, true, ◌≤◌, ◌<◌, ◌+◌, ℕ, suc, List, [], ◌∷◌, ◌++◌, Bool, false, Option, None, Some, Result, Ok, Err, cond, refl, sym, ap, ◌∙◌, subst, length, take, get_or, arith, take_all}
+use Rattle.std.specs.Prelude.{IfOk, MatchOption}
 use Rattle.std.proofs.lemmas.Grind.{take_at_read}
 use Rattle.std.proofs.lemmas.List.Sums.{sum_by_push}
-use Rattle.std.proofs.lemmas.List.{get_or_default}
+use Rattle.std.proofs.lemmas.List.{get_or_default, length-take-le}
 use denote.Ref.{Bor}
 use Rattle.std.specs.List.{onto_first}
 use Rattle.csv.specs.declared.parser.State.TheVariants as st
@@ -12,7 +13,7 @@ use Rattle.csv_records.specs.declared.fields.Follows.TheVariants.{Another, Nothi
 use Rattle.csv_records.specs.Records.{is_whole}
 use Rattle.csv_records.specs.Rows.{Field, field_rows, is_whole_from, rows_of}
 use Rattle.vortex_value.specs.declared.scalars.Scalar.{Scalar}
-use Rattle.record_rows.specs.Rows.{AreCells, HasFields, IsRow, IsTaken, PushesCell, Refuses, RefusesFields, RefusesWord, refused_of}
+use Rattle.record_rows.specs.Rows.{AreCells, AreCellsIn, HasFields, IsRow, IsRowIn, IsTakenIf, IsTested, PushesCell, Refuses, RefusesFields, RefusesWord, is_wanted, refused_of}
 use Rattle.record_rows.specs.declared.columns.ColumnType.{ColumnType}
 use Rattle.record_rows.specs.declared.rows.RowFault.{RowFault}
 use Rattle.record_rows.specs.declared.rows.RowFault.TheVariants as faults
@@ -30,67 +31,83 @@ front_row : (fs row : List Field) (rows : List (List Field)) → with_front fs (
 front_row [] row rows = refl
 front_row (f ∷ fs) row rows = ap (onto_first f) (front_row fs row rows)
 
-cells_push : (l : Bool) (cs : List ColumnType) (fs : List Field) (xs : List Scalar) (bs : List Bool) (c : ColumnType) (f : Field) (x : Scalar) (b : Bool) → AreCells l cs fs xs bs → IsTaken l c f x b → AreCells l (cs ++ c ∷ []) (fs ++ f ∷ []) (xs ++ x ∷ []) (bs ++ b ∷ [])
-cells_push l [] [] [] [] c f x b h k = (k, tt)
-cells_push l [] [] [] (a ∷ bs) c f x b h k = absurd h
-cells_push l [] [] (y ∷ xs) bs c f x b h k = absurd h
-cells_push l [] (g ∷ fs) xs bs c f x b h k = absurd h
-cells_push l (e ∷ cs) [] xs bs c f x b h k = absurd h
-cells_push l (e ∷ cs) (g ∷ fs) [] bs c f x b h k = absurd h
-cells_push l (e ∷ cs) (g ∷ fs) (y ∷ xs) [] c f x b h k = absurd h
-cells_push l (e ∷ cs) (g ∷ fs) (y ∷ xs) (a ∷ bs) c f x b h k = (h.0, cells_push l cs fs xs bs c f x b h.1 k)
+cells_push : (w : List Bool) (k j : ℕ) (l : Bool) (cs : List ColumnType) (fs : List Field) (xs : List Scalar) (bs : List Bool) (c : ColumnType) (f : Field) (x : Scalar) (b : Bool) → j ≡ k + length cs → AreCellsIn w k l cs fs xs bs → IsTakenIf (is_wanted w j) l c f x b → AreCellsIn w k l (cs ++ c ∷ []) (fs ++ f ∷ []) (xs ++ x ∷ []) (bs ++ b ∷ [])
+cells_push w k j l [] [] [] [] c f x b e h t = let same : j ≡ k = omega (arith, e) in (subst (λ (n : ℕ). IsTakenIf (is_wanted w n) l c f x b) same t, tt)
+cells_push w k j l [] [] [] (a ∷ bs) c f x b e h t = absurd h
+cells_push w k j l [] [] (y ∷ xs) bs c f x b e h t = absurd h
+cells_push w k j l [] (g ∷ fs) xs bs c f x b e h t = absurd h
+cells_push w k j l (d ∷ cs) [] xs bs c f x b e h t = absurd h
+cells_push w k j l (d ∷ cs) (g ∷ fs) [] bs c f x b e h t = absurd h
+cells_push w k j l (d ∷ cs) (g ∷ fs) (y ∷ xs) [] c f x b e h t = absurd h
+cells_push w k j l (d ∷ cs) (g ∷ fs) (y ∷ xs) (a ∷ bs) c f x b e h t = (h.0, cells_push w (suc k) j l cs fs xs bs c f x b (omega (arith, e)) h.1 t)
+
+-- where each cell is wanted, they are cells
+all_cells : (k : ℕ) (l : Bool) (cs : List ColumnType) (fs : List Field) (xs : List Scalar) (bs : List Bool) → AreCellsIn [] k l cs fs xs bs → AreCells l cs fs xs bs
+all_cells k l [] [] [] [] h = tt
+all_cells k l [] [] [] (b ∷ bs) h = absurd h
+all_cells k l [] [] (x ∷ xs) bs h = absurd h
+all_cells k l [] (f ∷ fs) xs bs h = absurd h
+all_cells k l (c ∷ cs) [] xs bs h = absurd h
+all_cells k l (c ∷ cs) (f ∷ fs) [] bs h = absurd h
+all_cells k l (c ∷ cs) (f ∷ fs) (x ∷ xs) [] h = absurd h
+all_cells k l (c ∷ cs) (f ∷ fs) (x ∷ xs) (b ∷ bs) h = (h.0, all_cells (suc k) l cs fs xs bs h.1)
+
+-- a scalar that may be any
+pub pushes_untaken : (w : Bool) (l : Bool) (column : ColumnType) (f : Field) (x : Scalar) (old new : List Scalar) (b : Bool) → w ≡ false → IsTested l column f b → new ≡ old ++ x ∷ [] → PushesCell w l column f old new b
+pushes_untaken w l column f x old new b e h pushed = record { cell = x; is = subst (λ (t : Bool). IsTakenIf t l column f x b) (sym e) h; pushed = pushed }
 
 refused_push : (bs : List Bool) (b : Bool) (old new : ℕ) → old ≡ refused_of bs → new ≡ old + cond b 1 0 → new ≡ refused_of (bs ++ b ∷ [])
 refused_push bs b old new before here = here ∙ ap (λ (n : ℕ). n + cond b 1 0) before ∙ sym (sum_by_push (λ (a : Bool). cond a 1 0) bs b)
 
 -- the fields so far are the cells of the columns so far, and those of the rest follow them
-pub record Begun (d : ℕ) (l : Bool) (columns : List ColumnType) (bytes : List ℕ) (i : ℕ) (rest : List ℕ) (row : List Scalar) (refused : ℕ) : Type 0 where
+pub record Begun (w : List Bool) (d : ℕ) (l : Bool) (columns : List ColumnType) (bytes : List ℕ) (i : ℕ) (rest : List ℕ) (row : List Scalar) (refused : ℕ) : Type 0 where
   pub fields : List Field
   pub flags : List Bool
   pub rows : field_rows d bytes ≡ with_front fields (field_rows d rest)
-  pub cells : AreCells l (take i columns) fields row flags
+  pub cells : AreCellsIn w 0 l (take i columns) fields row flags
   pub whole : is_whole_from d st.StartField bytes ≡ is_whole_from d st.StartField rest
   pub count : refused ≡ refused_of flags
 
-pub begun : (d : ℕ) (l : Bool) (columns : List ColumnType) (bytes : List ℕ) (row : List Scalar) → row ≡ [] → Begun d l columns bytes 0 bytes row 0
-begun d l columns bytes row none = record { fields = []; flags = []; rows = refl; cells = subst (λ (xs : List Scalar). AreCells l [] [] xs []) (sym none) tt; whole = refl; count = refl }
+pub begun : (w : List Bool) (d : ℕ) (l : Bool) (columns : List ColumnType) (bytes : List ℕ) (row : List Scalar) → row ≡ [] → Begun w d l columns bytes 0 bytes row 0
+begun w d l columns bytes row none = record { fields = []; flags = []; rows = refl; cells = subst (λ (xs : List Scalar). AreCellsIn w 0 l [] [] xs []) (sym none) tt; whole = refl; count = refl }
 
-more_cells : (l : Bool) (columns : List ColumnType) (i : ℕ) (fs : List Field) (f : Field) (d0 : ColumnType) (old new : List Scalar) (bs : List Bool) (b : Bool) → i < length columns → AreCells l (take i columns) fs old bs → PushesCell l (get_or columns i d0) f old new b
-    → AreCells l (take (i + 1) columns) (fs ++ f ∷ []) new (bs ++ b ∷ [])
-more_cells l columns i fs f d0 old new bs b inside before push =
+more_cells : (w : List Bool) (l : Bool) (columns : List ColumnType) (i : ℕ) (fs : List Field) (f : Field) (d0 : ColumnType) (old new : List Scalar) (bs : List Bool) (b : Bool) → i < length columns → AreCellsIn w 0 l (take i columns) fs old bs → PushesCell (is_wanted w i) l (get_or columns i d0) f old new b
+    → AreCellsIn w 0 l (take (i + 1) columns) (fs ++ f ∷ []) new (bs ++ b ∷ [])
+more_cells w l columns i fs f d0 old new bs b inside before push =
     let column = get_or columns i d0 in
     let at : take (i + 1) columns ≡ take i columns ++ column ∷ [] = (take_at_read columns i d0 inside).1 in
-    subst (λ (cs : List ColumnType). AreCells l cs (fs ++ f ∷ []) new (bs ++ b ∷ [])) (sym at)
-    (subst (λ (xs : List Scalar). AreCells l (take i columns ++ column ∷ []) (fs ++ f ∷ []) xs (bs ++ b ∷ [])) (sym push.pushed) (cells_push l (take i columns) fs old bs column f push.cell b before push.is))
+    let count : length (take i columns) ≡ i = length-take-le i columns (omega arith) in
+    subst (λ (cs : List ColumnType). AreCellsIn w 0 l cs (fs ++ f ∷ []) new (bs ++ b ∷ [])) (sym at)
+    (subst (λ (xs : List Scalar). AreCellsIn w 0 l (take i columns ++ column ∷ []) (fs ++ f ∷ []) xs (bs ++ b ∷ [])) (sym push.pushed) (cells_push w 0 i l (take i columns) fs old bs column f push.cell b (omega (arith, count)) before push.is))
 
 -- a field that another follows
-pub more : (d : ℕ) (l : Bool) (columns : List ColumnType) (bytes rest : List ℕ) (next : Bor (List ℕ)) (i : ℕ) (d0 : ColumnType) (w : List ℕ) (f : Field) (o : Follows) (old new : List Scalar) (b : Bool) (n m : ℕ) → i < length columns → Begun d l columns bytes i rest old n
-    → IsCut d st.StartField [] false rest f o → o ≡ Another next → w ≡ f.text → PushesCell l (get_or columns i d0) (record { text = w; is_quoted = f.is_quoted }) old new b → m ≡ n + cond b 1 0 → Begun d l columns bytes (i + 1) next.now new m
-more d l columns bytes rest next i d0 w f o old new b n m inside h cut_is o_is w_is pushes counted =
+pub more : (w : List Bool) (d : ℕ) (l : Bool) (columns : List ColumnType) (bytes rest : List ℕ) (next : Bor (List ℕ)) (i : ℕ) (d0 : ColumnType) (word : List ℕ) (f : Field) (o : Follows) (old new : List Scalar) (b : Bool) (n m : ℕ) → i < length columns → Begun w d l columns bytes i rest old n
+    → IsCut d st.StartField [] false rest f o → o ≡ Another next → word ≡ f.text → PushesCell (is_wanted w i) l (get_or columns i d0) (record { text = word; is_quoted = f.is_quoted }) old new b → m ≡ n + cond b 1 0 → Begun w d l columns bytes (i + 1) next.now new m
+more w d l columns bytes rest next i d0 word f o old new b n m inside h cut_is o_is word_is pushes counted =
     let cut : IsFollowed d st.StartField [] false rest f next.now = subst (IsCut d st.StartField [] false rest f) o_is cut_is in
-    let push : PushesCell l (get_or columns i d0) f old new b = subst (λ (t : List ℕ). PushesCell l (get_or columns i d0) (record { text = t; is_quoted = f.is_quoted }) old new b) w_is pushes in
+    let push : PushesCell (is_wanted w i) l (get_or columns i d0) f old new b = subst (λ (t : List ℕ). PushesCell (is_wanted w i) l (get_or columns i d0) (record { text = t; is_quoted = f.is_quoted }) old new b) word_is pushes in
     record {
       fields = h.fields ++ f ∷ [];
       flags = h.flags ++ b ∷ [];
       rows = h.rows ∙ ap (with_front h.fields) cut.rows ∙ sym (front_push h.fields f (field_rows d next.now));
-      cells = more_cells l columns i h.fields f d0 old new h.flags b inside h.cells push;
+      cells = more_cells w l columns i h.fields f d0 old new h.flags b inside h.cells push;
       whole = h.whole ∙ cut.whole;
       count = refused_push h.flags b n m h.count counted;
     }
 
 -- the last one
-pub last : (d : ℕ) (l : Bool) (columns : List ColumnType) (bytes rest : List ℕ) (i : ℕ) (d0 : ColumnType) (w : List ℕ) (f : Field) (o : Follows) (old new : List Scalar) (b : Bool) (n m : ℕ) → i < length columns → i + 1 ≡ length columns → Begun d l columns bytes i rest old n
-    → IsCut d st.StartField [] false rest f o → o ≡ Nothing → w ≡ f.text → PushesCell l (get_or columns i d0) (record { text = w; is_quoted = f.is_quoted }) old new b → m ≡ n + cond b 1 0 → HasFields d l columns bytes new m
-last d l columns bytes rest i d0 w f o old new b n m inside all h cut_is o_is w_is pushes counted =
+pub last : (w : List Bool) (d : ℕ) (l : Bool) (columns : List ColumnType) (bytes rest : List ℕ) (i : ℕ) (d0 : ColumnType) (word : List ℕ) (f : Field) (o : Follows) (old new : List Scalar) (b : Bool) (n m : ℕ) → i < length columns → i + 1 ≡ length columns → Begun w d l columns bytes i rest old n
+    → IsCut d st.StartField [] false rest f o → o ≡ Nothing → word ≡ f.text → PushesCell (is_wanted w i) l (get_or columns i d0) (record { text = word; is_quoted = f.is_quoted }) old new b → m ≡ n + cond b 1 0 → HasFields w d l columns bytes new m
+last w d l columns bytes rest i d0 word f o old new b n m inside all h cut_is o_is word_is pushes counted =
     let cut : IsLast d st.StartField [] false rest f = subst (IsCut d st.StartField [] false rest f) o_is cut_is in
-    let push : PushesCell l (get_or columns i d0) f old new b = subst (λ (t : List ℕ). PushesCell l (get_or columns i d0) (record { text = t; is_quoted = f.is_quoted }) old new b) w_is pushes in
-    let cells = more_cells l columns i h.fields f d0 old new h.flags b inside h.cells push in
+    let push : PushesCell (is_wanted w i) l (get_or columns i d0) f old new b = subst (λ (t : List ℕ). PushesCell (is_wanted w i) l (get_or columns i d0) (record { text = t; is_quoted = f.is_quoted }) old new b) word_is pushes in
+    let cells = more_cells w l columns i h.fields f d0 old new h.flags b inside h.cells push in
     let here : take (i + 1) columns ≡ columns = take_all (i + 1) columns (omega arith) in
     record {
       fields = h.fields ++ f ∷ [];
       flags = h.flags ++ b ∷ [];
       is = h.rows ∙ ap (with_front h.fields) cut.rows ∙ front_row h.fields (f ∷ []) [];
-      cells = subst (λ (cs : List ColumnType). AreCells l cs (h.fields ++ f ∷ []) new (h.flags ++ b ∷ [])) here cells;
+      cells = subst (λ (cs : List ColumnType). AreCellsIn w 0 l cs (h.fields ++ f ∷ []) new (h.flags ++ b ∷ [])) here cells;
       count = refused_push h.flags b n m h.count counted;
     }
 
@@ -118,8 +135,17 @@ not_both e = absurd cc
 pub not_empty : (xs : List ℕ) (b : Bool) → b ≡ (length xs == 0) → b ≡ false → xs ≢ []
 not_empty xs b is other none = not_both (sym (ap (λ (l : List ℕ). length l == 0) none) ∙ sym is ∙ other)
 
-pub is_row : (d : ℕ) (l : Bool) (columns : List ColumnType) (line start : List ℕ) (row : List Scalar) (n : ℕ) → rows_of d line ≡ field_rows d start → HasFields d l columns start row n → IsRow d l columns line row n
-is_row d l columns line start row n same h = record { fields = h.fields; flags = h.flags; is = same ∙ h.is; cells = h.cells; count = h.count }
+pub is_row : (w : List Bool) (d : ℕ) (l : Bool) (columns : List ColumnType) (line start : List ℕ) (row : List Scalar) (n : ℕ) → rows_of d line ≡ field_rows d start → HasFields w d l columns start row n → IsRowIn w d l columns line row n
+is_row w d l columns line start row n same h = record { fields = h.fields; flags = h.flags; is = same ∙ h.is; cells = h.cells; count = h.count }
+
+-- a row of which each cell is wanted
+pub is_whole_row : (d : ℕ) (l : Bool) (columns : List ColumnType) (line : List ℕ) (row : List Scalar) (n : ℕ) → IsRowIn [] d l columns line row n → IsRow d l columns line row n
+is_whole_row d l columns line row n h = record { fields = h.fields; flags = h.flags; is = h.is; cells = all_cells 0 l columns h.fields row h.flags h.cells; count = h.count }
+
+pub whole_rows : {E : Type 0} (d : ℕ) (l : Bool) (columns : List ColumnType) (line : List ℕ) (row : List Scalar) (r : Result (Option ℕ) E) → IfOk r (λ o. MatchOption o (rows_of d line ≡ []) (IsRowIn [] d l columns line row)) → IfOk r (λ o. MatchOption o (rows_of d line ≡ []) (IsRow d l columns line row))
+whole_rows d l columns line row (Ok None) h = h
+whole_rows d l columns line row (Ok (Some n)) h = is_whole_row d l columns line row n h
+whole_rows d l columns line row (Err e) h = tt
 
 pub refused_row : (d : ℕ) (l : Bool) (columns : List ColumnType) (line start : List ℕ) (fault : RowFault) → is_whole d line ≡ is_whole_from d st.StartField start → RefusesFields d l columns start fault → Refuses d l columns line fault
 refused_row d l columns line start faults.Memory same h = tt

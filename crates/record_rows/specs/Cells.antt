@@ -48,6 +48,17 @@ pub record IsCell (column : ColumnType) (f : Field) (x : Scalar) : Type 0 where
 abbrev pub HasNoCell : ColumnType → Field → Type 0
 HasNoCell column f = (c : Content) → ¬ (IsContent column f c)
 
+-- the column takes the field
+abbrev pub HasCell : ColumnType → Field → Type 0
+HasCell column f = (c : Content) × IsContent column f c
+
+-- the word is a value of the kind
+abbrev pub HasMeaning : Kind → List ℕ → Type 0
+HasMeaning kind word = (c : Content) × Means kind word c
+
+abbrev pub HasNoMeaning : Kind → List ℕ → Type 0
+HasNoMeaning kind word = (c : Content) → ¬ (Means kind word c)
+
 -- x is the cell of a word, which is no null
 pub record IsValueCell (column : ColumnType) (word : List ℕ) (x : Scalar) : Type 0 where
   pub typed : scalar_type x ≡ column_type column

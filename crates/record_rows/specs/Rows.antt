@@ -1,5 +1,5 @@
 -- The row of a record.
-use Rattle.std.specs.Prelude.{◌≡◌, ◌<◌, ◌⊎◌, ◌++◌, ℕ, List, [], ◌∷◌, Bool, false, true, count_by, length, slice_index_or}
+use Rattle.std.specs.Prelude.{◌≡◌, ◌<◌, ◌⊎◌, ◌++◌, ℕ, suc, List, [], ◌∷◌, Bool, false, true, count_by, length, slice_index_or}
 use Rattle.csv_records.specs.Rows.{Field, field_rows, is_whole_from, rows_of}
 use Rattle.csv_records.specs.Records.{is_whole}
 use Rattle.csv.specs.declared.parser.State.TheVariants as st
@@ -7,7 +7,7 @@ use Rattle.vortex_dtype.specs.declared.nullability.Nullability.TheVariants.{NonN
 use Rattle.vortex_value.specs.Values.Content.{null}
 use Rattle.vortex_value.specs.Values.Scalars.{IsValid, scalar_content, scalar_type}
 use Rattle.vortex_value.specs.declared.scalars.Scalar.{Scalar}
-use Rattle.record_rows.specs.Cells.{HasNoCell, IsCell, column_type}
+use Rattle.record_rows.specs.Cells.{HasCell, HasNoCell, IsCell, column_type}
 use Rattle.record_rows.specs.declared.columns.ColumnType.{ColumnType}
 use Rattle.record_rows.specs.declared.rows.RowFault.{RowFault}
 use Rattle.record_rows.specs.declared.rows.RowFault.TheVariants as faults
@@ -49,18 +49,53 @@ pub record IsRow (delimiter : ℕ) (lenient : Bool) (columns : List ColumnType) 
   pub cells : AreCells lenient columns fields row flags
   pub count : refused ≡ refused_of flags
 
+-- ---- rows of which some cells are wanted
+
+-- whether the cell of column k is: each is that the list does not say to be none
+abbrev pub is_wanted : List Bool → ℕ → Bool
+is_wanted wanted k = slice_index_or wanted k true
+
+-- the column takes the field, or a null may stand in place of its cell
+abbrev pub IsTested : Bool → ColumnType → Field → Bool → Type 0
+IsTested lenient column f false = HasCell column f
+IsTested lenient column f true = (lenient ≡ true) × HasNoCell column f × (column.nullability ≡ Nullable)
+
+-- x is taken of the field if its cell is wanted; else x may be any, and the field is one that the column takes
+abbrev pub IsTakenIf : Bool → Bool → ColumnType → Field → Scalar → Bool → Type 0
+IsTakenIf true lenient column f x flag = IsTaken lenient column f x flag
+IsTakenIf false lenient column f x flag = IsTested lenient column f flag
+
+-- the same as AreCells, of the columns from k on, where each scalar is as far of its field as its cell is wanted
+abbrev pub AreCellsIn : List Bool → ℕ → Bool → List ColumnType → List Field → List Scalar → List Bool → Type 0
+AreCellsIn wanted k lenient [] [] [] [] = Unit {0}
+AreCellsIn wanted k lenient [] [] [] (b ∷ bs) = ⊥
+AreCellsIn wanted k lenient [] [] (x ∷ xs) bs = ⊥
+AreCellsIn wanted k lenient [] (f ∷ fs) xs bs = ⊥
+AreCellsIn wanted k lenient (c ∷ cs) [] xs bs = ⊥
+AreCellsIn wanted k lenient (c ∷ cs) (f ∷ fs) [] bs = ⊥
+AreCellsIn wanted k lenient (c ∷ cs) (f ∷ fs) (x ∷ xs) [] = ⊥
+AreCellsIn wanted k lenient (c ∷ cs) (f ∷ fs) (x ∷ xs) (b ∷ bs) = IsTakenIf (is_wanted wanted k) lenient c f x b × AreCellsIn wanted (suc k) lenient cs fs xs bs
+
+-- the record has one row, these are its cells where they are wanted, and so many nulls stand in place of one
+pub record IsRowIn (wanted : List Bool) (delimiter : ℕ) (lenient : Bool) (columns : List ColumnType) (line : List ℕ) (row : List Scalar) (refused : ℕ) : Type 0 where
+  pub fields : List Field
+  pub flags : List Bool
+  pub is : rows_of delimiter line ≡ fields ∷ []
+  pub cells : AreCellsIn wanted 0 lenient columns fields row flags
+  pub count : refused ≡ refused_of flags
+
 -- the fields of a text are this row; the text begins where a field does
-pub record HasFields (delimiter : ℕ) (lenient : Bool) (columns : List ColumnType) (bytes : List ℕ) (row : List Scalar) (refused : ℕ) : Type 0 where
+pub record HasFields (wanted : List Bool) (delimiter : ℕ) (lenient : Bool) (columns : List ColumnType) (bytes : List ℕ) (row : List Scalar) (refused : ℕ) : Type 0 where
   pub fields : List Field
   pub flags : List Bool
   pub is : field_rows delimiter bytes ≡ fields ∷ []
-  pub cells : AreCells lenient columns fields row flags
+  pub cells : AreCellsIn wanted 0 lenient columns fields row flags
   pub count : refused ≡ refused_of flags
 
 -- one more, that of this field
-pub record PushesCell (lenient : Bool) (column : ColumnType) (f : Field) (old new : List Scalar) (flag : Bool) : Type 0 where
+pub record PushesCell (wanted : Bool) (lenient : Bool) (column : ColumnType) (f : Field) (old new : List Scalar) (flag : Bool) : Type 0 where
   pub cell : Scalar
-  pub is : IsTaken lenient column f cell flag
+  pub is : IsTakenIf wanted lenient column f cell flag
   pub pushed : new ≡ old ++ cell ∷ []
 
 -- ---- refusals

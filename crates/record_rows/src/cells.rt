@@ -1,18 +1,19 @@
 //! A field is the cell of its column.
 
-ghost use Rattle.std.specs.Prelude.{◌≡◌, ℕ, ℤ, List, IfOk, IsUtf8, MatchOption};
+ghost use Rattle.std.specs.Prelude.{◌≡◌, ℕ, ℤ, List, IfOk, IsUtf8, MatchBool, MatchOption};
 ghost use Rattle.hex.specs.Hex.{decode_of};
 ghost use Rattle.vortex_dtype.specs.declared.nullability.Nullability.TheVariants.{Nullable};
 ghost use Rattle.vortex_dtype.specs.TypeOf.{type_of};
 ghost use Rattle.vortex_value.specs.Values.Content.{null};
 ghost use Rattle.vortex_value.specs.Values.Scalars.{IsValid, scalar_content, scalar_type};
-ghost use Rattle.record_rows.specs.Cells.{HasNoCell, HasNoValue, IsBinaryCell, IsCell, IsIntegerCell, IsTextCell, IsValueCell, column_type, is_null_field};
+ghost use Rattle.record_rows.specs.Cells.{HasCell, HasMeaning, HasNoCell, HasNoMeaning, HasNoValue, IsBinaryCell, IsCell, IsIntegerCell, IsTextCell, IsValueCell, column_type, is_null_field};
 ghost use Rattle.record_rows.specs.Words.{IsIntegerWord};
 
 use crate::columns::{ColumnType, Kind};
 use crate::words::integer_of;
 use hex::{FromHexError, decode};
 use std::alloc::{AllocError, Global};
+use std::str;
 use vortex_dtype::{ByteBuffer, DType, Nullability, PType};
 use vortex_value::Scalar;
 
@@ -31,6 +32,55 @@ pub(crate) fn cell_of(
         return Ok(Some(null_of(column)));
     }
     value_of(alloc, column, word)
+}
+
+/// Whether its column takes a field.
+pub(crate) fn is_taken(
+    alloc: Global,
+    column: ColumnType,
+    word: &[u8],
+    is_quoted: bool,
+) -> Result<bool, AllocError>
+    ensures { IfOk result (λ taken. MatchBool taken
+        (HasCell column (record { text = word.now; is_quoted = is_quoted }))
+        (HasNoCell column (record { text = word.now; is_quoted = is_quoted }))) }
+{
+    if is_null(column.nullability, word, is_quoted) {
+        return Ok(true);
+    }
+    has_meaning(alloc, column.kind, word)
+}
+
+/// Whether a word is a value of this kind.
+fn has_meaning(alloc: Global, kind: Kind, word: &[u8]) -> Result<bool, AllocError>
+    ensures { IfOk result (λ has. MatchBool has (HasMeaning kind word.now) (HasNoMeaning kind word.now)) }
+{
+    match kind {
+        Kind::Integer(ptype) => match integer_of(word, ptype) {
+            Some(_) => Ok(true),
+            None => Ok(false),
+        },
+        Kind::Utf8 => match str::from_utf8(word) {
+            Ok(_) => Ok(true),
+            Err(_) => Ok(false),
+        },
+        Kind::Binary => is_hexadecimal(alloc, word),
+    }
+}
+
+/// Whether a word is hexadecimal digits, two for a byte.
+fn is_hexadecimal(alloc: Global, word: &[u8]) -> Result<bool, AllocError>
+    ensures { IfOk result (λ is. MatchBool is ((bytes : List ℕ) × (decode_of word.now ≡ Ok bytes))
+        ((bytes : List ℕ) → ¬ (decode_of word.now ≡ Ok bytes))) }
+{
+    match decode(alloc, word) {
+        Ok(bytes) => {
+            drop(bytes);
+            Ok(true)
+        }
+        Err(FromHexError::OutOfMemory) => Err(AllocError),
+        Err(_) => Ok(false),
+    }
 }
 
 /// Whether a field is a null.

@@ -11,5 +11,5 @@ mod texts;
 mod words;
 
 pub use columns::{ColumnType, Kind};
-pub use rows::{RowFault, read_row};
+pub use rows::{RowFault, read_cells, read_row};
 pub use texts::{csv_rows, is_whole_record, may_cut, split_records};

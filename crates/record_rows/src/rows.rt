@@ -3,14 +3,14 @@
 ghost use Rattle.std.specs.Prelude.{◌≡◌, ◌+◌, ◌-◌, ◌<◌, ◌^◌, [], IfErr, IfOk, MatchOption, false, true, if◌then◌else◌};
 ghost use Rattle.csv_records.specs.Rows.{rows_of};
 ghost use Rattle.vortex_dtype.specs.declared.nullability.Nullability.TheVariants.{Nullable};
-ghost use Rattle.record_rows.specs.Rows.{HasFields, IsRow, IsStrict, IsWordFault, PushesCell, Refuses, RefusesFields, RefusesWord};
+ghost use Rattle.record_rows.specs.Rows.{HasFields, IsRow, IsRowIn, IsStrict, IsTested, IsWordFault, PushesCell, Refuses, RefusesFields, RefusesWord, is_wanted};
 ghost use Rattle.record_rows.specs.declared.rows.RowFault.TheVariants.{Memory};
 
-use crate::cells::{cell_of, null_of};
+use crate::cells::{cell_of, is_taken, null_of};
 use crate::columns::ColumnType;
 use csv_records::{CutField, Delimiter, Follows, cut_field, row_start};
 use std::alloc::{AllocError, AllocFailed, Global};
-use vortex_dtype::Nullability;
+use vortex_dtype::{DType, Nullability};
 use vortex_value::Scalar;
 
 /// Why a record has no row under the columns.
@@ -59,12 +59,32 @@ pub fn read_row(
         (IsRow delimiter.byte is_lenient columns.now line.now row.new.items)) }
     ensures refused { IfErr result (Refuses delimiter.byte is_lenient columns.now line.now) }
 {
+    read_cells(alloc, delimiter, is_lenient, columns, &[], line, row)
+}
+
+/// The same, if only some cells are wanted: those of the columns at whose place the list has no
+/// `false`. The fields of the other columns are tested and refused alike, and scalars without
+/// meaning stand in place of their cells. So these take no memory.
+pub fn read_cells(
+    alloc: Global,
+    delimiter: Delimiter,
+    is_lenient: bool,
+    columns: &[ColumnType],
+    wanted: &[bool],
+    line: &[u8],
+    row: &mut Vec<Scalar>,
+) -> Result<Option<usize>, RowFault>
+    ensures row { IfOk result (λ refused. MatchOption refused
+        (rows_of delimiter.byte line.now ≡ [])
+        (IsRowIn wanted.now delimiter.byte is_lenient columns.now line.now row.new.items)) }
+    ensures refused { IfErr result (Refuses delimiter.byte is_lenient columns.now line.now) }
+{
     row.clear();
     let start = row_start(line);
     if start.is_empty() {
         return Ok(None);
     }
-    let refused = read_fields(alloc, delimiter, is_lenient, columns, start, row)?;
+    let refused = read_fields(alloc, delimiter, is_lenient, columns, wanted, start, row)?;
     Ok(Some(refused))
 }
 
@@ -74,12 +94,13 @@ fn read_fields(
     delimiter: Delimiter,
     is_lenient: bool,
     columns: &[ColumnType],
+    wanted: &[bool],
     text: &[u8],
     row: &mut Vec<Scalar>,
 ) -> Result<usize, RowFault>
     requires { row.old.items ≡ [] }
     ensures fields { IfOk result
-        (HasFields delimiter.byte is_lenient columns.now text.now row.new.items) }
+        (HasFields wanted.now delimiter.byte is_lenient columns.now text.now row.new.items) }
     ensures refused { IfErr result (RefusesFields delimiter.byte is_lenient columns.now text.now) }
 {
     let mut refused = 0;
@@ -88,7 +109,17 @@ fn read_fields(
     for (place, column) in columns.iter().enumerate() {
         let cut = cut_field(delimiter, rest, &mut buffer)?;
         let word = word_of(&cut, &buffer);
-        let flag = push_cell(alloc, *column, place, word, cut.is_quoted, is_lenient, row)?;
+        let keeps = is_wanted(wanted, place);
+        let flag = push_cell(
+            alloc,
+            *column,
+            place,
+            word,
+            cut.is_quoted,
+            is_lenient,
+            keeps,
+            row,
+        )?;
         refused = one_more(refused, flag);
         match cut.follows {
             Follows::Another(next) => rest = next,
@@ -119,8 +150,70 @@ fn one_more(count: usize, flag: bool) -> usize
     if flag { count + 1 } else { count }
 }
 
-/// Adds the cell of a field, or a null in its place, and says which.
+/// Whether the cell of a column is wanted.
+fn is_wanted(wanted: &[bool], place: usize) -> bool
+    ensures { result ≡ is_wanted wanted.now place }
+{
+    if place < wanted.len() {
+        wanted[place]
+    } else {
+        true
+    }
+}
+
+/// Adds the cell of a field if it is wanted, and says whether a null stands in its place.
 fn push_cell(
+    alloc: Global,
+    column: ColumnType,
+    place: usize,
+    word: &[u8],
+    is_quoted: bool,
+    is_lenient: bool,
+    keeps: bool,
+    row: &mut Vec<Scalar>,
+) -> Result<bool, RowFault>
+    ensures cell { IfOk result (PushesCell keeps is_lenient column
+        (record { text = word.now; is_quoted = is_quoted }) row.old.items row.new.items) }
+    ensures refused { IfErr result (RefusesWord is_lenient column place
+        (record { text = word.now; is_quoted = is_quoted })) }
+{
+    if keeps {
+        push_taken(alloc, column, place, word, is_quoted, is_lenient, row)
+    } else {
+        let flag = test_field(alloc, column, place, word, is_quoted, is_lenient)?;
+        row.push(Scalar {
+            dtype: DType::Null,
+            value: None,
+        })?;
+        Ok(flag)
+    }
+}
+
+/// Whether a null is to stand in place of the cell of a field.
+fn test_field(
+    alloc: Global,
+    column: ColumnType,
+    place: usize,
+    word: &[u8],
+    is_quoted: bool,
+    is_lenient: bool,
+) -> Result<bool, RowFault>
+    ensures tested { IfOk result (IsTested is_lenient column
+        (record { text = word.now; is_quoted = is_quoted })) }
+    ensures refused { IfErr result (RefusesWord is_lenient column place
+        (record { text = word.now; is_quoted = is_quoted })) }
+{
+    if is_taken(alloc, column, word, is_quoted)? {
+        Ok(false)
+    } else if may_be_null(is_lenient, column) {
+        Ok(true)
+    } else {
+        Err(word_fault(alloc, place, word))
+    }
+}
+
+/// Adds the cell of a field, or a null in its place, and says which.
+fn push_taken(
     alloc: Global,
     column: ColumnType,
     place: usize,
@@ -129,7 +222,7 @@ fn push_cell(
     is_lenient: bool,
     row: &mut Vec<Scalar>,
 ) -> Result<bool, RowFault>
-    ensures cell { IfOk result (PushesCell is_lenient column
+    ensures cell { IfOk result (PushesCell true is_lenient column
         (record { text = word.now; is_quoted = is_quoted }) row.old.items row.new.items) }
     ensures refused { IfErr result (RefusesWord is_lenient column place
         (record { text = word.now; is_quoted = is_quoted })) }

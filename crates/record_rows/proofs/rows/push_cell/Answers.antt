@@ -1,20 +1,8 @@
--- One cell more, or a null in its place.
-use Rattle.std.proofs.Common.{refl}
+-- A scalar in place of a cell that is not wanted.
+use Rattle.record_rows.proofs.Reading.{pushes_untaken}
 use Rattle.record_rows.proofs.rows.push_cell.Goals as goal
 
-pub returns-in_ok-push-in-Some-clause-cell : goal.returns-in_ok-push-in-Some-clause-cell
-returns-in_ok-push-in-Some-clause-cell c = record { cell = c.in-Some.cell; is = rw c.in-Some.is at c.in_ok-cell.ensures; pushed = c.in_ok-push-in-Some.ensures.items }
-
-pub returns-in_ok-push-in-None-clause-cell : goal.returns-in_ok-push-in-None-clause-cell
-returns-in_ok-push-in-None-clause-cell c = record {
-  cell = c.null_of-cell.result;
-  is = record {
-    asked = c.if-not-may_be_null.ensures.asked refl;
-    none = rw c.in-None.is at c.in_ok-cell.ensures;
-    takes = c.if-not-may_be_null.ensures.takes refl;
-    typed = c.null_of-cell.ensures.typed;
-    content = c.null_of-cell.ensures.content;
-    valid = c.null_of-cell.ensures.valid;
-  };
-  pushed = c.in_ok-push-in-None.ensures.items;
-}
+pub returns-in_ok-push-clause-cell : goal.returns-in_ok-push-clause-cell
+returns-in_ok-push-clause-cell c =
+    pushes_untaken c.args.keeps c.args.is_lenient c.args.column (record { text = c.args.word.now; is_quoted = c.args.is_quoted }) _ c.args.row.now.items c.push.new.self.items c.in_ok-flag.flag
+    c.if-keeps.false c.in_ok-flag.ensures.tested c.in_ok-push.ensures.items

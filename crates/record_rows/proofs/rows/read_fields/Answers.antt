@@ -12,16 +12,16 @@ returns-in_err-flag-clause-refused c =
 pub returns-then-place-columns-clause-fields : goal.returns-then-place-columns-clause-fields
 returns-then-place-columns-clause-fields c =
     let text = cond c.in_ok-cut.cut.is_quoted c.cut_field.new.buffer.items c.in_ok-cut.cut.bare.now in
-    last c.args.delimiter.byte c.args.is_lenient c.args.columns.now c.args.text.now c.loop-place.rest.now c.loop-place.place _ c.word_of-word.result.now (record { text = text; is_quoted = c.in_ok-cut.cut.is_quoted }) c.in_ok-cut.cut.follows _ _ c.in_ok-flag.flag c.loop-place.refused c.one_more-refused.result (search rules) (search rules) c.loop-place.invariant.0
-    c.in_ok-cut.ensures c.in-Nothing.is (c.word_of-word.ensures ∙ ap (λ (l : List ℕ). cond c.in_ok-cut.cut.is_quoted l c.in_ok-cut.cut.bare.now) c.deref.ensures.value) c.in_ok-flag.ensures.cell c.one_more-refused.ensures
+    last c.args.wanted.now c.args.delimiter.byte c.args.is_lenient c.args.columns.now c.args.text.now c.loop-place.rest.now c.loop-place.place _ c.word_of-word.result.now (record { text = text; is_quoted = c.in_ok-cut.cut.is_quoted }) c.in_ok-cut.cut.follows _ _ c.in_ok-flag.flag c.loop-place.refused c.one_more-refused.result (search rules) (search rules) c.loop-place.invariant.0
+    c.in_ok-cut.ensures c.in-Nothing.is (c.word_of-word.ensures ∙ ap (λ (l : List ℕ). cond c.in_ok-cut.cut.is_quoted l c.in_ok-cut.cut.bare.now) c.deref.ensures.value) (rw c.is_wanted-keeps.ensures at c.in_ok-flag.ensures.cell) c.one_more-refused.ensures
 
 pub loop-place-preserved : goal.loop-place-preserved
 loop-place-preserved c = (
   let text = cond c.in_ok-cut.cut.is_quoted c.cut_field.new.buffer.items c.in_ok-cut.cut.bare.now in
-      more c.args.delimiter.byte c.args.is_lenient c.args.columns.now c.args.text.now c.loop-place.rest.now c.in-Another.next c.loop-place.place _ c.word_of-word.result.now (record { text = text; is_quoted = c.in_ok-cut.cut.is_quoted }) c.in_ok-cut.cut.follows _ _ c.in_ok-flag.flag c.loop-place.refused c.one_more-refused.result (search rules) c.loop-place.invariant.0
-      c.in_ok-cut.ensures c.in-Another.is (c.word_of-word.ensures ∙ ap (λ (l : List ℕ). cond c.in_ok-cut.cut.is_quoted l c.in_ok-cut.cut.bare.now) c.deref.ensures.value) c.in_ok-flag.ensures.cell c.one_more-refused.ensures,
+      more c.args.wanted.now c.args.delimiter.byte c.args.is_lenient c.args.columns.now c.args.text.now c.loop-place.rest.now c.in-Another.next c.loop-place.place _ c.word_of-word.result.now (record { text = text; is_quoted = c.in_ok-cut.cut.is_quoted }) c.in_ok-cut.cut.follows _ _ c.in_ok-flag.flag c.loop-place.refused c.one_more-refused.result (search rules) c.loop-place.invariant.0
+      c.in_ok-cut.ensures c.in-Another.is (c.word_of-word.ensures ∙ ap (λ (l : List ℕ). cond c.in_ok-cut.cut.is_quoted l c.in_ok-cut.cut.bare.now) c.deref.ensures.value) (rw c.is_wanted-keeps.ensures at c.in_ok-flag.ensures.cell) c.one_more-refused.ensures,
   omega (arith, one_at_most c.in_ok-flag.flag, c.one_more-refused.ensures),
 )
 
 pub loop-place-init : goal.loop-place-init
-loop-place-init c = (begun c.args.delimiter.byte c.args.is_lenient c.args.columns.now c.args.text.now c.args.row.now.items c.requires, omega arith)
+loop-place-init c = (begun c.args.wanted.now c.args.delimiter.byte c.args.is_lenient c.args.columns.now c.args.text.now c.args.row.now.items c.requires, omega arith)
