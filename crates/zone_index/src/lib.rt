@@ -10,6 +10,7 @@ mod counting;
 mod faults;
 mod form;
 mod indexing;
+mod lines;
 mod read_at;
 mod records;
 mod search;

@@ -7,6 +7,7 @@ ghost use Rattle.zone_index.specs.Taking.{IsTaken};
 ghost use Rattle.zone_index.specs.declared.faults.Fault.TheVariants.{Write as WriteFault};
 
 use crate::faults::Fault;
+use crate::lines::read_line;
 use csv_records::{Delimiter, Place, place_after_line};
 use std::io::BufRead;
 
@@ -31,7 +32,7 @@ pub fn take_records<B: BufRead>(
     let mut taken = 0;
     for _ in 0..u64::MAX {
         let before = text.len();
-        match reader.read_until(b'\n', text) {
+        match read_line(reader, text) {
             Ok(0) => return Ok(()),
             Ok(_) => {}
             Err(_) => return Err(Fault::Read),

@@ -11,23 +11,23 @@ returns-in-Ok-eq0-clause-taken g c = λ bytes is.
 
 pub returns-in-Ok-eq0-clause-ended : goal.returns-in-Ok-eq0-clause-ended
 returns-in-Ok-eq0-clause-ended g c = λ bytes is none.
-    (stays c.args.delimiter.byte bytes c.loop.text.items c.read_until.new.buf.items _ _ (state_at c.loop.place) (c.loop.invariant.0 bytes is) c.in-Ok-eq0.ensures.bytes c.in-Ok-eq0.ensures.rest (c.in-Ok-eq0.ensures.end c.in-Ok-eq0.field-0-test)).1 none
+    (stays c.args.delimiter.byte bytes c.loop.text.items c.read_line.new.text.items _ _ (state_at c.loop.place) (c.loop.invariant.0 bytes is) c.in-Ok-eq0.ensures.bytes c.in-Ok-eq0.ensures.rest (c.in-Ok-eq0.ensures.end c.in-Ok-eq0.field-0-test)).1 none
 
 pub returns-then-taken-size-clause-taken : goal.returns-then-taken-size-clause-taken
 returns-then-taken-size-clause-taken g c = λ bytes is.
     let d = c.args.delimiter.byte in
-    let more = c.read_until.new.buf.items in
+    let more = c.read_line.new.text.items in
     let start : c.len-before.result ≡ length c.loop.text.items = omega (arith, c.loop.text.ok) in
-    let t = taking_more d bytes c.loop.text.items more _ _ (g.B.Read.remaining c.read_until.new.self) (state_at c.loop.place) (state_at c.place_after_line-place.result) (c.loop.invariant.0 bytes is) c.in-Ok.ensures.bytes c.in-Ok.ensures.rest
+    let t = taking_more d bytes c.loop.text.items more _ _ (g.B.Read.remaining c.read_line.new.reader) (state_at c.loop.place) (state_at c.place_after_line-place.result) (c.loop.invariant.0 bytes is) c.in-Ok.ensures.bytes c.in-Ok.ensures.rest
     (take_rest c.deref.result.now c.len-before.result ∙ ap (λ (l : List ℕ). drop c.len-before.result l) c.deref.ensures.value ∙ ap (λ (n : ℕ). drop n more) start) c.place_after_line-place.ensures in
     taken d bytes more _ (state_at c.place_after_line-place.result) t (inl (one_started c.loop.taken c.args.size (is_start (state_at c.place_after_line-place.result)) c.loop.invariant.1 (sym c.counted-taken.ensures ∙ c.if-taken-size.true)))
 
 pub loop-preserved : goal.loop-preserved
 loop-preserved g c = (
   λ bytes is.
-      let more = c.read_until.new.buf.items in
+      let more = c.read_line.new.text.items in
       let start : c.len-before.result ≡ length c.loop.text.items = omega (arith, c.loop.text.ok) in
-      taking_more c.args.delimiter.byte bytes c.loop.text.items more _ _ (g.B.Read.remaining c.read_until.new.self) (state_at c.loop.place) (state_at c.place_after_line-place.result) (c.loop.invariant.0 bytes is) c.in-Ok.ensures.bytes c.in-Ok.ensures.rest
+      taking_more c.args.delimiter.byte bytes c.loop.text.items more _ _ (g.B.Read.remaining c.read_line.new.reader) (state_at c.loop.place) (state_at c.place_after_line-place.result) (c.loop.invariant.0 bytes is) c.in-Ok.ensures.bytes c.in-Ok.ensures.rest
       (take_rest c.deref.result.now c.len-before.result ∙ ap (λ (l : List ℕ). drop c.len-before.result l) c.deref.ensures.value ∙ ap (λ (n : ℕ). drop n more) start) c.place_after_line-place.ensures,
   stays_below c.loop.taken c.args.size c.counted-taken.result (is_start (state_at c.place_after_line-place.result)) c.loop.invariant.1 c.counted-taken.ensures c.if-taken-size.false,
 )
