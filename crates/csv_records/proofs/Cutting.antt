@@ -1,5 +1,5 @@
 -- Records, line by line.
-use Rattle.std.proofs.Common.{◌≡◌, ◌≢◌, ◌≤◌, ◌<◌, ◌+◌, ◌-◌, ℕ, suc, List, [], ◌∷◌, ◌++◌, ◌==◌, ◌&&◌, Bool, true, false, Option, None, Some, refl, sym, ap, ◌∙◌, subst, length, take, drop, get_or, arith, add-one, append_assoc, append-nil, drop-cons, take_all}
+use Rattle.std.proofs.Common.{◌≡◌, ◌≢◌, ◌≤◌, ◌<◌, ◌+◌, ◌-◌, ℕ, suc, List, [], ◌∷◌, ◌++◌, ◌==◌, ◌&&◌, ◌||◌, Bool, true, false, Option, None, Some, refl, sym, ap, ◌∙◌, subst, length, take, drop, get_or, arith, add-one, append_assoc, append-nil, drop-cons, take_all}
 use Rattle.std.proofs.lemmas.Bool.{eq-eqb, eqb-true, ne_eqb}
 use Rattle.std.proofs.lemmas.Grind.{take_at_read}
 use Rattle.std.proofs.lemmas.List.{drop_all, drop-drop, get_or-take, length-take, length-drop, take-append-drop, take_rest}
@@ -8,13 +8,13 @@ use Rattle.std.specs.List.{onto_first}
 use Rattle.csv.specs.Machine.{step}
 use Rattle.csv.specs.declared.parser.State.{State}
 use Rattle.csv.specs.declared.parser.State.TheVariants as st
-use Rattle.memchr.specs.Find.{NoneBefore, Nowhere, Passes, is_byte}
+use Rattle.memchr.specs.Find.{NoneBefore, Nowhere, Passes, is_byte, is_byte2}
 use Rattle.csv_records.specs.Records.{is_start, records_from, records_of, state_at}
 use Rattle.csv_records.specs.Rows.{config_of, rows_of, state_after}
 use Rattle.csv_records.specs.declared.places.Place.{Place}
 use Rattle.csv_records.specs.declared.places.Place.TheVariants.{Fresh, AfterReturn, FieldStart, Bare, Quoted, AfterQuote}
 use Rattle.csv_records.proofs.RowCuts.{rows_are_cut}
-use Rattle.csv_records.proofs.Walking.{state_after-append}
+use Rattle.csv_records.proofs.Walking.{plain_leads, state_after-append}
 
 -- bytes before the first of the parts
 abbrev pub onto_all : List ℕ → List (List ℕ) → List (List ℕ)
@@ -167,5 +167,32 @@ next_feed text end feed h = record { found = subst (λ (xs : List ℕ). FoundIn 
 pub only_rest : (d : ℕ) (text xs : List ℕ) (end : ℕ) (s : State) → xs ≡ drop end text → Nowhere (Passes (is_byte 10) xs) 0 (length xs) → Passed d text end s → 0 < length text → records_of d text ≡ text ∷ []
 only_rest d text xs end s same nowhere h some =
     only d text end s (subst (λ (ys : List ℕ). Nowhere (Passes (is_byte 10) ys) 0 (length ys)) same nowhere) some h
+
+or_first : (a b : Bool) → a ≡ true → (a || b) ≡ true
+or_first true b e = refl
+or_first false b e = absurd cc
+
+or_second : (a b : Bool) → b ≡ true → (a || b) ≡ true
+or_second true b e = refl
+or_second false b e = e
+
+-- the first line ends the record if it has no quote
+pub plain_ended : (d : ℕ) (text : List ℕ) (place end : ℕ) → d ≢ 10 → end ≡ place + 1 → NoneBefore (Passes (is_byte2 10 34) text) 0 (length text) place → get_or text place 0 ≡ 10 → Ended d text end
+plain_ended d text place end other is first feed =
+    let front = take place text in
+    let inside : place < length text = first.high in
+    let long = length-take place text in
+    let whole : take (place + 1) text ≡ front ++ 10 ∷ [] = (take_at_read text place 0 inside).1 ∙ ap (λ b. front ++ b ∷ []) feed in
+    let quotes : (k : ℕ) → k < length front → get_or front k 0 ≢ 34 = λ k below e. first.before k (omega arith) (omega (arith, long, below))
+    (or_second (get_or text k 0 == 10) (get_or text k 0 == 34) (eq-eqb (get_or text k 0) 34 (sym (get_or-take place text k 0 (omega (arith, long, below))) ∙ e))) in
+    let leads : st.StartRecord ≡ state_after d st.StartRecord (take (place + 1) text) = sym (ap (state_after d st.StartRecord) whole ∙ plain_leads d st.StartRecord front refl other quotes) in
+    let next : IsNextFeed text 0 place = record {
+      found = (
+        record { low = omega arith; high = inside; before = λ k low below p. first.before k low below (or_first (get_or text k 0 == 10) (get_or text k 0 == 34) p) },
+        eq-eqb (get_or text place 0) 10 feed,
+      );
+    } in
+    let same : 0 + place + 1 ≡ end = omega (arith, is) in
+    subst (Ended d text) same (ended d text (take (place + 1) text) 0 place Fresh Fresh next refl leads refl (passed_none d text))
 
 pub ruleset cutting = (take_all, append-nil, take_rest, take-append-drop)

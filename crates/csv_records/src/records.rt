@@ -5,7 +5,7 @@ ghost use Rattle.csv_records.specs.Words.{records_of, rows_of};
 
 use crate::delimiter::Delimiter;
 use crate::places::{Place, place_after_line};
-use memchr::memchr;
+use memchr::{memchr, memchr2};
 
 /// The first record, with its line feed, and what follows.
 #[tactic(auto, using(crate::proofs::Cutting::cutting))]
@@ -19,6 +19,9 @@ pub fn cut_record(delimiter: Delimiter, text: &[u8]) -> (&[u8], &[u8])
     ensures parts { text.now ≡ result.0.now ++ result.1.now }
     ensures shorter { length result.1.now < length text.now }
 {
+    if let Some(end) = plain_end(delimiter, text) {
+        return (&text[..end], &text[end..]);
+    }
     match record_end(delimiter, text) {
         Some(end) => (&text[..end], &text[end..]),
         None => (text, &[]),
@@ -45,4 +48,20 @@ fn record_end(delimiter: Delimiter, text: &[u8]) -> Option<usize>
         end = next;
     }
     None
+}
+
+/// The place behind the first line feed, if no quote stands before it: the first record ends there.
+fn plain_end(delimiter: Delimiter, text: &[u8]) -> Option<usize>
+    ensures within { IfSome result (λ end. (0 < end) × (end ≤ length text.now)) }
+    ensures cut { IfSome result (λ end. records_of delimiter.byte text.now ≡
+        take end text.now ∷ records_of delimiter.byte (drop end text.now)) }
+    ensures rows { IfSome result (λ end. rows_of delimiter.byte text.now ≡
+        rows_of delimiter.byte (take end text.now) ++ rows_of delimiter.byte (drop end text.now)) }
+{
+    let place = memchr2(b'\n', b'"', text)?;
+    if text[place] == b'\n' {
+        Some(place + 1)
+    } else {
+        None
+    }
 }
