@@ -1,6 +1,7 @@
 pub mod DecodeLaws
 pub mod Decoded
 pub mod DescribeLaws
+pub mod NamedLaws
 pub mod ReadBack
 pub mod ReadColumns
 pub mod RefusedLaws

@@ -81,7 +81,7 @@ word_from kinds.Binary word c e = bytes_from (decode_of word) c e
 
 -- ---- fields
 
-cell_field : (l : Bool) (column : ColumnType) (f : Field) (c : Content) (b : Bool) → is_null_field column.nullability f ≡ b → MatchBool b (c ≡ null) (Means column.kind f.text c) → field_content l column f ≡ Some c
+pub cell_field : (l : Bool) (column : ColumnType) (f : Field) (c : Content) (b : Bool) → is_null_field column.nullability f ≡ b → MatchBool b (c ≡ null) (Means column.kind f.text c) → field_content l column f ≡ Some c
 cell_field l column f c true e h = rw e (ap (λ (d : Content). Some d) (sym h))
 cell_field l column f c false e h = rw (e, word_to column.kind f.text c h) refl
 
@@ -94,7 +94,7 @@ lenient_null true Nullable e h = refl
 lenient_null true NonNullable e h = absurd cc
 lenient_null false n e h = absurd cc
 
-null_field : (l : Bool) (column : ColumnType) (f : Field) (b : Bool) → is_null_field column.nullability f ≡ b → l ≡ true → column.nullability ≡ Nullable → HasNoCell column f → field_content l column f ≡ Some null
+pub null_field : (l : Bool) (column : ColumnType) (f : Field) (b : Bool) → is_null_field column.nullability f ≡ b → l ≡ true → column.nullability ≡ Nullable → HasNoCell column f → field_content l column f ≡ Some null
 null_field l column f true e asked takes none = rw e refl
 null_field l column f false e asked takes none = rw (e, none_word column f (word_content column.kind f.text) refl e none) (lenient_null l column.nullability asked takes)
 
@@ -103,7 +103,7 @@ pub record IsFieldOf (l : Bool) (column : ColumnType) (f : Field) (x : Scalar) :
   pub content : field_content l column f ≡ Some (scalar_content x)
   pub typed : scalar_type x ≡ column_type column
 
-taken_field : (l : Bool) (column : ColumnType) (f : Field) (x : Scalar) (b : Bool) → IsTaken l column f x b → IsFieldOf l column f x
+pub taken_field : (l : Bool) (column : ColumnType) (f : Field) (x : Scalar) (b : Bool) → IsTaken l column f x b → IsFieldOf l column f x
 taken_field l column f x false h = record { content = cell_field l column f (scalar_content x) (is_null_field column.nullability f) refl h.content; typed = h.typed }
 taken_field l column f x true h = record {
   content = null_field l column f (is_null_field column.nullability f) refl h.asked h.takes h.none ∙ ap (λ (d : Content). Some d) (sym h.content);
@@ -112,7 +112,7 @@ taken_field l column f x true h = record {
 
 -- ---- rows
 
-cell_made : (column : ColumnType) (x : Scalar) → scalar_type x ≡ column_type column → cell_of x ≡ record { typed = column_type column; content = scalar_content x }
+pub cell_made : (column : ColumnType) (x : Scalar) → scalar_type x ≡ column_type column → cell_of x ≡ record { typed = column_type column; content = scalar_content x }
 cell_made column x e = ap (λ (t : TypeTree). let c : Cell = record { typed = t; content = scalar_content x } in c) e
 
 cells_are : (l : Bool) (cs : List ColumnType) (fs : List Field) (xs : List Scalar) (bs : List Bool) → AreCells l cs fs xs bs → cells_of l cs fs ≡ Some (map cell_of xs)

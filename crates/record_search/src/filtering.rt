@@ -4,12 +4,16 @@ ghost use Rattle.std.specs.Prelude.{◌≡◌};
 ghost use Rattle.record_search.specs.Words.{DescribeRows, RefusesRecord, decision_by, decision_of, formula, has_row, matches_record};
 
 use crate::laws::decisions_are_right;
+use crate::naming::mark_columns;
 use crate::reading::read_statistics;
 use crate::schema::Schema;
 use csv_records::Delimiter;
 use std::alloc::{AllocError, Global};
 use vortex_filter::{Filter, Outcomes};
 use zone_index::{Decision, Matcher, RecordFault, Records};
+
+/// Of how many columns it is known whether a filter names them. Others are read as if it did.
+const COLUMNS: usize = 64;
 
 /// A filter over the rows of a file.
 #[derive(Clone, Copy, Debug)]
@@ -40,7 +44,9 @@ impl Matcher for RowFilter<'_> {
     ghost decides = { λ m. decision_of m.schema.now.columns.items (formula m.filter.now) };
 
     fn is_match(&self, alloc: Global, line: &[u8]) -> Result<bool, RecordFault> {
-        match self.schema.row(alloc, 0, line)? {
+        let mut wanted = [false; COLUMNS];
+        mark_columns(self.filter, &mut wanted);
+        match self.schema.cells(alloc, 0, &wanted, line)? {
             Some(row) => Ok(self.filter.matches(&row)),
             None => Ok(false),
         }

@@ -7,6 +7,7 @@
 mod describing;
 mod filtering;
 pub mod laws;
+mod naming;
 mod reading;
 mod schema;
 mod searching;

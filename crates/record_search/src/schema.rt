@@ -3,10 +3,10 @@
 ghost use Rattle.std.specs.Prelude.{◌≡◌, IfErr, IfOk, option_map};
 ghost use Rattle.vortex_dtype.specs.TypeOf.{type_of};
 ghost use Rattle.record_rows.specs.Cells.{column_type};
-ghost use Rattle.record_search.specs.Words.{IfRecordRefused, RefusesRecord, TellsRecord, fault_at_place, row_cells, row_under};
+ghost use Rattle.record_search.specs.Words.{AgreeAsRows, IfRecordRefused, RefusesRecord, TellsRecord, fault_at_place, row_cells, row_under};
 
 use csv_records::Delimiter;
-use record_rows::{ColumnType, Kind, RowFault, read_row};
+use record_rows::{ColumnType, Kind, RowFault, read_cells, read_row};
 use std::alloc::Global;
 use vortex_dtype::DType;
 use vortex_value::Scalar;
@@ -37,12 +37,41 @@ impl Schema {
         ensures row { IfOk result (λ row. option_map row_cells row ≡ row_under self.now line.now) }
         ensures refused { IfErr result (IfRecordRefused (TellsRecord (RefusesRecord self.now) place line.now)) }
     {
-        let mut row = Vec::new(alloc);
+        let mut row = Vec::with_capacity(alloc, self.columns.len())?;
         match read_row(
             alloc,
             self.delimiter,
             self.is_lenient,
             &self.columns,
+            line,
+            &mut row,
+        ) {
+            Ok(Some(_)) => Ok(Some(row)),
+            Ok(None) => Ok(None),
+            Err(fault) => Err(record_fault(place, fault)),
+        }
+    }
+
+    /// The same, of which only some cells are wanted: those of the columns at whose place the list
+    /// has no `false`.
+    pub(crate) fn cells(
+        &self,
+        alloc: Global,
+        place: u64,
+        wanted: &[bool],
+        line: &[u8],
+    ) -> Result<Option<Vec<Scalar>>, RecordFault>
+        ensures row { IfOk result (λ row.
+            AgreeAsRows wanted.now (option_map row_cells row) (row_under self.now line.now)) }
+        ensures refused { IfErr result (IfRecordRefused (TellsRecord (RefusesRecord self.now) place line.now)) }
+    {
+        let mut row = Vec::with_capacity(alloc, self.columns.len())?;
+        match read_cells(
+            alloc,
+            self.delimiter,
+            self.is_lenient,
+            &self.columns,
+            wanted,
             line,
             &mut row,
         ) {
