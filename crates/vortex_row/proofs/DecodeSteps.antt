@@ -10,7 +10,7 @@ use Rattle.vortex_value.specs.Values.RawTree.{RawTree, absent, raw_bool, raw_int
 use Rattle.vortex_value.specs.Values.Scalars.{IsMadeOf, scalar_raw, scalar_type}
 use Rattle.vortex_value.specs.declared.scalars.Scalar.{Scalar}
 use Rattle.vortex_row.specs.Columns.{key_with, null_byte}
-use Rattle.vortex_row.specs.Decoded.{BeginsWithKey, DecodesTo, IsDecoded, IsFirstBad, IsKeyOf, IsValueOf, MayBegin}
+use Rattle.vortex_row.specs.Decoded.{BeginsWithKey, DecodesInto, DecodesTo, IsDecoded, IsFirstBad, IsKeyOf, IsValueOf, MayBegin}
 use Rattle.vortex_row.specs.Held.{AreBytes}
 use Rattle.vortex_row.specs.Keys.{inverted, key}
 use Rattle.vortex_row.specs.ColumnReading.{HasColumn, IsColumnKey, IsRefusal}
@@ -251,6 +251,20 @@ pub answers-bad : (o : SortOptions) (t : TypeTree) (bytes : List ℕ) (r : Resul
     → IsFirstBad (IsKeyOf o t) (UnionsHaveVariants t) bytes place
 answers-bad o t bytes (Ok p) none ids h place e = absurd (cc)
 answers-bad o t bytes (Err e) none ids h place is = let same : e ≡ BadKey place = cc in bad-place o t bytes e none ids h place same
+
+-- the same of a scalar that stands already
+
+pub into-whole : (o : SortOptions) (t : TypeTree) (bytes : List ℕ) (x : Scalar) (r : Result ℕ RowError) → OneValue
+    → MatchResult r (λ n. (scalar_type x ≡ t) × HasColumn o t (scalar_raw x) bytes n) (λ e. IsRefusal (HasValues t) (IsColumnKey o t) bytes e) → (v : RawTree) (rest : List ℕ) → HasNoVariant t → BeginsWithKey o t bytes v rest
+    → DecodesInto o t v x r
+into-whole o t bytes x (Ok n) one h v rest none begins = whole-ok o t bytes x n one none h.0 h.1 v rest begins
+into-whole o t bytes x (Err e) one h v rest none begins = whole-bad (HasValues t) o t bytes e none h v rest begins
+
+pub into-bad : (o : SortOptions) (t : TypeTree) (bytes : List ℕ) (x : Scalar) (r : Result ℕ RowError) → HasNoVariant t → HasByteIds t
+    → MatchResult r (λ n. (scalar_type x ≡ t) × HasColumn o t (scalar_raw x) bytes n) (λ e. IsRefusal (HasValues t) (IsColumnKey o t) bytes e) → (place : ℕ) → r ≡ Err (BadKey place)
+    → IsFirstBad (IsKeyOf o t) (UnionsHaveVariants t) bytes place
+into-bad o t bytes x (Ok n) none ids h place e = absurd (cc)
+into-bad o t bytes x (Err e) none ids h place is = let same : e ≡ BadKey place = cc in bad-place o t bytes e none ids h place same
 
 pub ruleset nulls = (column-null, other-null, no-null_there)
 

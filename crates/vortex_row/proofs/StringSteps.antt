@@ -106,9 +106,9 @@ plain-found bs word end bytes h plain e is =
       is = plain-bytes bs end h plain e ∙ ap₂ (λ s n. escaped s ++ drop n bs) (sym is) (sym long);
     }
 
-pub plain-read : (d : Bool) (word bs old now : List ℕ) → d ≡ false → HasString IsAny word bs (drop (length word + 1) bs) → old ≡ inverted d bs → now ≡ drop (length word + 1) old → HasString IsAny word old now
+pub plain-read : {IsOne : List ℕ → Type 0} (d : Bool) (word bs old now : List ℕ) → d ≡ false → HasString IsOne word bs (drop (length word + 1) bs) → old ≡ inverted d bs → now ≡ drop (length word + 1) old → HasString IsOne word old now
 plain-read true word bs old now e h f g = absurd (cc)
-plain-read false word bs old now e h f g = record { kind = tt; bytes = h.bytes; is = f ∙ h.is ∙ ap (λ xs. escaped word ++ xs) (sym (g ∙ ap (drop (length word + 1)) f)) }
+plain-read false word bs old now e h f g = record { kind = h.kind; bytes = h.bytes; is = f ∙ h.is ∙ ap (λ xs. escaped word ++ xs) (sym (g ∙ ap (drop (length word + 1)) f)) }
 
 escaped-longer : (bs : List ℕ) → length bs + 1 ≤ length (escaped bs)
 escaped-longer [] = omega arith
@@ -116,7 +116,7 @@ escaped-longer (zero ∷ bs) = let rest = escaped-longer bs in omega arith
 escaped-longer (suc zero ∷ bs) = let rest = escaped-longer bs in omega arith
 escaped-longer (suc (suc b) ∷ bs) = let rest = escaped-longer bs in omega arith
 
-pub plain-within : (d : Bool) (word bs now : List ℕ) → HasString IsAny word bs now → length word + 1 ≤ length (inverted d bs)
+pub plain-within : {IsOne : List ℕ → Type 0} (d : Bool) (word bs now : List ℕ) → HasString IsOne word bs now → length word + 1 ≤ length (inverted d bs)
 plain-within d word bs now h =
     let more = escaped-longer word in
     let all = ap length h.is in
@@ -154,6 +154,12 @@ no-string old now stuck text =
 
 pub text-read : (bs old now : List ℕ) → HasString IsAny bs old now → IsUtf8 bs → HasString IsUtf8 bs old now
 text-read bs old now h utf8 = record { kind = utf8; bytes = h.bytes; is = h.is }
+
+-- a plain string that is one
+pub plain-text : (word text bs : List ℕ) → HasString IsAny word bs (drop (length word + 1) bs) → text ≡ word → IsUtf8 word → HasString IsUtf8 text bs (drop (length text + 1) bs)
+plain-text word text bs h e utf8 = subst (λ w. HasString IsUtf8 w bs (drop (length w + 1) bs)) (sym e) (text-read word bs (drop (length word + 1) bs) h utf8)
+
+pub ruleset texts = (plain-text)
 
 pub ruleset bytes = (half-stuck_at, escape-stuck, byte-missing)
 

@@ -68,6 +68,10 @@ pub record IsFirstBad (IsOne : List ℕ → Type 0) (has_values : Type 0) (bytes
 abbrev pub DecodesTo : SortOptions → TypeTree → RawTree → Result (Scalar × ℕ) RowError → Type 0
 DecodesTo o t v r = MatchResult r (λ p. IsMadeOf t v p.0 × (p.1 ≡ length (key_with o (content v)))) (λ e. e ≡ OutOfMemory)
 
+-- the same of a scalar that stands already
+abbrev pub DecodesInto : SortOptions → TypeTree → RawTree → Scalar → Result ℕ RowError → Type 0
+DecodesInto o t v x r = MatchResult r (λ n. IsMadeOf t v x × (n ≡ length (key_with o (content v)))) (λ e. e ≡ OutOfMemory)
+
 -- as many scalars as the types, each of its type and its value
 abbrev pub AreMadeOf : TypeTrees → List RawTree → List Scalar → Type 0
 AreMadeOf no_types [] [] = Unit {0}

@@ -8,14 +8,14 @@ mod texts;
 mod values;
 
 ghost use Rattle.std.specs.Prelude.{◌≡◌, ◌≢◌, ◌↔◌, ◌⊎◌, ℕ, List, Err, IfErr, IfOk, OnOk, length};
-ghost use Rattle.vortex_row.specs.Decoded.{BeginsWithKey, BeginsWithRow, DecodesRowTo, DecodesTo, IsDecoded, IsDecodedRow, IsFirstBad, IsKeyOf, IsRowKeyOf};
+ghost use Rattle.vortex_row.specs.Decoded.{BeginsWithKey, BeginsWithRow, DecodesInto, DecodesRowTo, DecodesTo, IsDecoded, IsDecodedRow, IsFirstBad, IsKeyOf, IsRowKeyOf};
 ghost use Rattle.vortex_row.specs.Words.{AllHaveVariants, BadKey, HasNoVariant, HasVariant, HaveNoVariant, OutOfMemory, RawTree, UnionsHaveVariants, WrongLength, dtype_trees, type_of};
 
 use crate::error::RowError;
 use crate::options::SortOptions;
 use crate::rows::expect_length;
 use crate::variants::{expect_no_variant, expect_no_variants};
-use columns::{decode_column, decode_columns};
+use columns::{decode_column, decode_column_into, decode_columns};
 use std::alloc::Global;
 use vortex_dtype::DType;
 use vortex_value::Scalar;
@@ -51,6 +51,36 @@ pub fn decode_key(
     expect_no_variant(dtype)?;
     one_value();
     decode_column(alloc, dtype, options, bytes)
+}
+
+/// Puts the scalar that `decode_key` gives in the place of this one, and answers how many bytes the
+/// key has. It spares the moves of a result, and a copy of the type if this one has it already.
+///
+/// Each refusal comes as from `decode_key`. After one the scalar may be any.
+#[tactic(auto, using(crate::proofs::DecodeSteps::answers))]
+pub fn decode_key_into(
+    alloc: Global,
+    dtype: &DType,
+    options: SortOptions,
+    bytes: &[u8],
+    scalar: &mut Scalar,
+) -> Result<usize, RowError>
+    ensures decoded { IfOk result
+        (λ n. IsDecoded options (type_of dtype.now) bytes.now scalar.new n) }
+    ensures whole { (v : RawTree) (rest : List ℕ) → HasNoVariant (type_of dtype.now)
+        → BeginsWithKey options (type_of dtype.now) bytes.now v rest
+        → DecodesInto options (type_of dtype.now) v scalar.new result }
+    ensures ordered { OnOk result (HasNoVariant (type_of dtype.now)) }
+    ensures variant { (result ≡ Err HasVariant) ↔ ¬ (HasNoVariant (type_of dtype.now)) }
+    ensures bad { (place : ℕ) → result ≡ Err (BadKey place)
+        → IsFirstBad (IsKeyOf options (type_of dtype.now))
+        (UnionsHaveVariants (type_of dtype.now)) bytes.now place }
+    ensures refused { IfErr result (λ e. (e ≡ HasVariant) ⊎ ((e ≡ OutOfMemory)
+        ⊎ ((place : ℕ) × (e ≡ BadKey place)))) }
+{
+    expect_no_variant(dtype)?;
+    one_value();
+    decode_column_into(alloc, dtype, options, bytes, scalar)
 }
 
 /// The scalars of the types that the bytes begin with the key of the row of, in columns that are

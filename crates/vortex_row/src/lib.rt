@@ -16,7 +16,7 @@ mod rows;
 mod slots;
 mod variants;
 
-pub use decode::{decode_key, decode_row_key};
+pub use decode::{decode_key, decode_key_into, decode_row_key};
 pub use error::RowError;
 pub use keys::{append_key, compare_keys, key_length};
 pub use options::SortOptions;

@@ -61,14 +61,27 @@ fn have_variant(dtypes: &[DType]) -> bool
     false
 }
 
+/// Whether the type has parts or is a variant. If not, no call has to look into it.
+#[inline(always)]
+fn may_hold_variant(dtype: &DType) -> bool
+    ensures none { result ≡ false → has_variant (type_of dtype.now) ≡ false }
+    ensures ids { result ≡ false → HasByteIds (type_of dtype.now) }
+{
+    match dtype {
+        DType::Bool(_) | DType::Primitive(_, _) | DType::Utf8(_) | DType::Binary(_) => false,
+        _ => true,
+    }
+}
+
 /// `HasVariant` exactly if a variant stands in the type, at any depth.
 #[tactic(auto, using(crate::proofs::VariantSteps::decided))]
+#[inline(always)]
 pub(crate) fn expect_no_variant(dtype: &DType) -> Result<(), RowError>
     ensures ordered { OnOk result (HasNoVariant (type_of dtype.now)) }
     ensures ids { OnOk result (HasByteIds (type_of dtype.now)) }
     ensures refused { IfErr result (λ e. (e ≡ HasVariant) × ¬ (HasNoVariant (type_of dtype.now))) }
 {
-    if holds_variant(dtype) {
+    if may_hold_variant(dtype) && holds_variant(dtype) {
         return Err(RowError::HasVariant);
     }
     Ok(())

@@ -3,9 +3,9 @@
 ghost use Rattle.std.specs.Prelude.{◌≡◌, ◌≢◌, ◌≤◌, ◌∷◌, ℕ, List, MatchResult, false, length, true};
 ghost use Rattle.vortex_row.specs.ColumnReading.{AreColumnKeys, HasColumn, HasColumnAt, HasRow, IsColumnKey, IsRefusal, IsRefusalAt};
 ghost use Rattle.vortex_row.specs.Reading.{AllHaveValues, HasValues};
-ghost use Rattle.vortex_row.specs.Words.{IsMadeOf, IsNullable, OutOfMemory, absent, dtype_trees, null_byte, raw_of, scalar_raw, scalar_type, type_of};
+ghost use Rattle.vortex_row.specs.Words.{IsNullable, OutOfMemory, absent, dtype_trees, null_byte, raw_of, scalar_raw, scalar_type, type_of};
 
-use super::values::read_value;
+use super::values::read_into;
 use crate::error::RowError;
 use crate::options::SortOptions;
 use crate::reader::{Fault, Reader, bytes_from};
@@ -34,48 +34,87 @@ fn begins_with_null(dtype: &DType, options: SortOptions, bytes: &[u8]) -> bool
     }
 }
 
-/// The value of the type that the bytes begin with the key of, and how many bytes that has.
+/// Puts the value of the type that the bytes begin with the key of in this place. How many bytes that
+/// key has.
 #[tactic(auto, using(crate::proofs::DecodeSteps::shown))]
+#[inline(always)]
 fn read_column(
     alloc: Global,
     dtype: &DType,
     options: SortOptions,
     bytes: &[u8],
-) -> Result<(Option<ScalarValue>, usize), RowError>
+    place: &mut Option<ScalarValue>,
+) -> Result<usize, RowError>
     ensures { MatchResult result
-        (λ p. HasColumn options (type_of dtype.now) (raw_of p.0) bytes.now p.1)
+        (λ n. HasColumn options (type_of dtype.now) (raw_of place.new) bytes.now n)
         (λ e. IsRefusal (HasValues (type_of dtype.now))
         (IsColumnKey options (type_of dtype.now)) bytes.now e) }
 {
     if begins_with_null(dtype, options, bytes) {
-        return Ok((None, 1));
+        *place = None;
+        return Ok(1);
     }
     let mut reader = Reader {
         rest: bytes,
         invert: options.descending,
     };
-    let answer = read_value(alloc, dtype, &mut reader);
+    let answer = read_into(alloc, dtype, &mut reader, place);
     let taken = bytes.len().saturating_sub(reader.rest.len());
     match answer {
-        Ok(value) => Ok((Some(value), taken)),
+        Ok(()) => Ok(taken),
         Err(Fault::NoMemory) => Err(RowError::OutOfMemory),
         Err(Fault::Bad) => Err(RowError::BadKey { place: taken }),
     }
 }
 
-/// The scalar of the type with this value. `OutOfMemory` if its type finds no memory.
-fn scalar_of(alloc: Global, dtype: &DType, value: Option<ScalarValue>) -> Result<Scalar, RowError>
-    ensures { MatchResult result
-        (IsMadeOf (type_of dtype.now) (raw_of value))
-        (λ e. e ≡ OutOfMemory) }
+/// Whether the two are one type without parts. False says nothing.
+#[inline(always)]
+fn are_one_leaf(a: &DType, b: &DType) -> bool
+    ensures { result ≡ true → type_of a.now ≡ type_of b.now }
+{
+    match (a, b) {
+        (DType::Bool(m), DType::Bool(n))
+        | (DType::Utf8(m), DType::Utf8(n))
+        | (DType::Binary(m), DType::Binary(n)) => m == n,
+        (DType::Primitive(k, m), DType::Primitive(l, n)) => k == l && m == n,
+        _ => false,
+    }
+}
+
+/// A copy of the type. `OutOfMemory` if it finds no memory.
+fn copied(alloc: Global, dtype: &DType) -> Result<DType, RowError>
+    ensures { MatchResult result (λ t. type_of t ≡ type_of dtype.now) (λ e. e ≡ OutOfMemory) }
 {
     match dtype.clone(alloc) {
-        Ok(dtype) => Ok(Scalar { dtype, value }),
+        Ok(dtype) => Ok(dtype),
         Err(error) => {
-            drop((error, value));
+            drop(error);
             Err(RowError::OutOfMemory)
         }
     }
+}
+
+/// Puts the scalar of the type that the bytes begin with the key of in the place of this one, whose
+/// type is not made again if it is that one. How many bytes that key has.
+#[tactic(auto, using(crate::proofs::DecodeSteps::shown))]
+pub(super) fn decode_column_into(
+    alloc: Global,
+    dtype: &DType,
+    options: SortOptions,
+    bytes: &[u8],
+    scalar: &mut Scalar,
+) -> Result<usize, RowError>
+    ensures { MatchResult result
+        (λ n. (scalar_type scalar.new ≡ type_of dtype.now)
+        × HasColumn options (type_of dtype.now) (scalar_raw scalar.new) bytes.now n)
+        (λ e. IsRefusal (HasValues (type_of dtype.now))
+        (IsColumnKey options (type_of dtype.now)) bytes.now e) }
+{
+    let taken = read_column(alloc, dtype, options, bytes, &mut scalar.value)?;
+    if !are_one_leaf(&scalar.dtype, dtype) {
+        scalar.dtype = copied(alloc, dtype)?;
+    }
+    Ok(taken)
 }
 
 /// The scalar of the type that the bytes begin with the key of, and how many bytes that has.
@@ -92,8 +131,17 @@ pub(super) fn decode_column(
         (λ e. IsRefusal (HasValues (type_of dtype.now))
         (IsColumnKey options (type_of dtype.now)) bytes.now e) }
 {
-    let (value, taken) = read_column(alloc, dtype, options, bytes)?;
-    Ok((scalar_of(alloc, dtype, value)?, taken))
+    let mut scalar = Scalar {
+        dtype: DType::Null,
+        value: None,
+    };
+    match decode_column_into(alloc, dtype, options, bytes, &mut scalar) {
+        Ok(taken) => Ok((scalar, taken)),
+        Err(error) => {
+            drop(scalar);
+            Err(error)
+        }
+    }
 }
 
 /// The scalar of the type that the bytes from a place on begin with the key of, and the place after

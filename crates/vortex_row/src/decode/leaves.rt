@@ -1,7 +1,7 @@
 //! Values without parts from their keys.
 
-ghost use Rattle.vortex_row.specs.Reading.{IsPresent, Reads, left};
-ghost use Rattle.vortex_row.specs.Words.{NonNullable, binary_type, bool_type, integer_type, utf8_type, value_tree};
+ghost use Rattle.vortex_row.specs.Reading.{IsPresent, Reads, ReadsInto, left};
+ghost use Rattle.vortex_row.specs.Words.{NonNullable, binary_type, bool_type, integer_type, raw_of, utf8_type, value_tree};
 
 use super::numbers::read_number;
 use super::strings::{read_bytes, read_text};
@@ -64,4 +64,36 @@ pub(super) fn read_binary(alloc: Global, reader: &mut Reader<'_>) -> Result<Scal
 {
     reader.take(STRING)?;
     Ok(ScalarValue::Binary(read_bytes(alloc, reader)?))
+}
+
+/// Puts a number of the kind in this place.
+#[inline(always)]
+pub(super) fn put_number(
+    ptype: PType,
+    reader: &mut Reader<'_>,
+    place: &mut Option<ScalarValue>,
+) -> Result<(), Fault>
+    ensures { ReadsInto (Unit {0}) (IsPresent (integer_type ptype NonNullable)) result
+        (raw_of place.new) (left reader.old) (left reader.new) }
+{
+    let number = read_number(ptype, reader)?;
+    *place = Some(ScalarValue::Primitive(number));
+    Ok(())
+}
+
+/// Puts a text in this place.
+#[tactic(auto, using(crate::proofs::LeafSteps::shown))]
+#[inline(always)]
+pub(super) fn put_text(
+    alloc: Global,
+    reader: &mut Reader<'_>,
+    place: &mut Option<ScalarValue>,
+) -> Result<(), Fault>
+    ensures { ReadsInto (Unit {0}) (IsPresent (utf8_type NonNullable)) result
+        (raw_of place.new) (left reader.old) (left reader.new) }
+{
+    reader.take(TEXT)?;
+    let text = read_text(alloc, reader)?;
+    *place = Some(ScalarValue::Utf8(text));
+    Ok(())
 }

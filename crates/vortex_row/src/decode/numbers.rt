@@ -141,8 +141,8 @@ fn inverted_word(invert: bool, word: u64) -> u64
     if invert { !word } else { word }
 }
 
-/// The number of so many bytes, as `magnitude_by_bytes`, from one word. `None` says nothing: it
-/// comes near the end of the bytes, and for bytes that are refused.
+/// The number of so many bytes, as `magnitude_by_bytes`, from one word if there is one. `None` says
+/// nothing: it comes for bytes that are refused.
 #[inline(always)]
 fn magnitude_at_once(bytes: &[u8], invert: bool, width: u8, limit: u64) -> Option<u64>
     requires { width ≤ 8 }
@@ -152,7 +152,9 @@ fn magnitude_at_once(bytes: &[u8], invert: bool, width: u8, limit: u64) -> Optio
     if width == 0 {
         return Some(0);
     }
-    let word = first_word(bytes)?;
+    let Some(word) = first_word(bytes) else {
+        return magnitude_by_bytes(bytes, invert, width, limit).ok();
+    };
     let word = inverted_word(invert, word);
     let number = word >> (8 * (8 - width));
     if number <= limit && number >> (8 * (width - 1)) > 0 {
@@ -208,8 +210,8 @@ fn number_of(ptype: PType, below: bool, distance: u64) -> Option<PValue>
     PValue::from_whole(whole_number(below, distance), ptype)
 }
 
-/// A number of the kind, and how many bytes its key has, from one word. `None` says nothing: it
-/// comes near the end of the bytes, and for bytes that are refused.
+/// A number of the kind, and how many bytes its key has, from one word if there is one. `None` says
+/// nothing: it comes for bytes that are refused.
 #[inline(always)]
 fn number_at_once(ptype: PType, bytes: &[u8], invert: bool) -> Option<(PValue, usize)>
     ensures { IfSome result (λ p. (p.1 ≤ length bytes.now)

@@ -10,6 +10,7 @@ use super::texts::first_bad;
 use crate::reader::{Fault, Reader, bytes_to, inverted_if};
 use memchr::{memchr, memchr2};
 use std::alloc::Global;
+use std::str;
 use vortex_dtype::{BufferString, ByteBuffer};
 
 /// The string whose escaped form the bytes begin with, if no byte of it is written as two. `None`
@@ -24,6 +25,26 @@ fn plain_string(bytes: &[u8]) -> Option<&[u8]>
     } else {
         None
     }
+}
+
+/// The text whose escaped form the bytes begin with, if no byte of it is written as two. `None` says
+/// nothing.
+#[tactic(auto, using(crate::proofs::StringSteps::texts))]
+fn plain_text(bytes: &[u8]) -> Option<&str>
+    ensures { IfSome result (λ text. HasString IsUtf8 text.now bytes.now
+        (drop (length text.now + 1) bytes.now)) }
+{
+    match str::from_utf8(plain_string(bytes)?) {
+        Ok(text) => Some(text),
+        Err(_) => None,
+    }
+}
+
+/// A buffer of this text.
+fn text_of(alloc: Global, text: &str) -> Result<BufferString, Fault>
+    ensures { MatchResult result (λ buffer. buffer ≡ text.now) (λ e. e ≡ NoMemory) }
+{
+    BufferString::from_str(alloc, text).map_err(|_| Fault::NoMemory)
 }
 
 /// A buffer of these bytes.
@@ -133,9 +154,10 @@ fn read_valid(alloc: Global, reader: &mut Reader<'_>) -> Result<BufferString, Fa
     }
 }
 
-/// A text.
+/// A text, byte by byte.
 #[tactic(auto, using(crate::proofs::StringSteps::strings))]
-pub(super) fn read_text(alloc: Global, reader: &mut Reader<'_>) -> Result<BufferString, Fault>
+#[inline(never)]
+fn text_by_bytes(alloc: Global, reader: &mut Reader<'_>) -> Result<BufferString, Fault>
     ensures { MatchResult result
         (λ text. HasString IsUtf8 text (left reader.old) (left reader.new))
         (λ e. e ≡ Bad
@@ -150,4 +172,21 @@ pub(super) fn read_text(alloc: Global, reader: &mut Reader<'_>) -> Result<Buffer
         }
         answer => answer,
     }
+}
+
+/// A text.
+pub(super) fn read_text(alloc: Global, reader: &mut Reader<'_>) -> Result<BufferString, Fault>
+    ensures { MatchResult result
+        (λ text. HasString IsUtf8 text (left reader.old) (left reader.new))
+        (λ e. e ≡ Bad
+        → IsStuck (Unit {0}) (IsEscaped IsUtf8) (left reader.old) (left reader.new)) }
+{
+    if !reader.invert {
+        if let Some(text) = plain_text(reader.rest) {
+            let buffer = text_of(alloc, text)?;
+            reader.advance(text.len() + 1);
+            return Ok(buffer);
+        }
+    }
+    text_by_bytes(alloc, reader)
 }

@@ -2,11 +2,11 @@
 //! cannot be.
 
 ghost use Rattle.std.specs.Prelude.{◌≡◌, ◌≢◌, ◌++◌, ◌∷◌, ◌<◌, [], ℕ, List, MatchOption, MatchResult, Some, false, option_map, true};
-ghost use Rattle.vortex_row.specs.Reading.{AllHaveValues, HasRead, HasValues, IsChild, IsPresent, IsStuck, Puts, Reads, entry_type, left};
+ghost use Rattle.vortex_row.specs.Reading.{AllHaveValues, HasRead, HasValues, IsChild, IsPresent, IsStuck, Puts, Reads, ReadsInto, entry_type, left};
 ghost use Rattle.vortex_row.specs.Words.{IsNullable, NonNullable, Valid, absent, as_type_trees, dtype_trees, fixed_size_list_type, integer_type, list_type, map_of, map_type, raw_of, raw_union, struct_type, type_of, type_with, union_tree, union_type, value_tree, variants_of};
 ghost use Rattle.vortex_row.specs.declared.reader.Fault.TheVariants.{Bad, NoMemory};
 
-use super::leaves::{read_binary, read_primitive, read_truth, read_utf8};
+use super::leaves::{put_number, put_text, read_binary, read_primitive, read_truth, read_utf8};
 use super::numbers::read_number;
 use crate::reader::{Fault, Reader};
 use std::alloc::Global;
@@ -173,6 +173,40 @@ pub(super) fn read_value(
         DType::Extension(extension) => read_value(alloc, extension.storage_dtype(), reader),
         DType::Null | DType::Variant(_) => Err(Fault::Bad),
     }
+}
+
+/// Puts a value of the type that is no null in this place. Numbers and texts are put there at once,
+/// which spares the moves of a result.
+#[inline(always)]
+pub(super) fn read_into(
+    alloc: Global,
+    dtype: &DType,
+    reader: &mut Reader<'_>,
+    place: &mut Option<ScalarValue>,
+) -> Result<(), Fault>
+    ensures { ReadsInto (HasValues (type_of dtype.now)) (IsPresent (type_of dtype.now)) result
+        (raw_of place.new) (left reader.old) (left reader.new) }
+{
+    match dtype {
+        DType::Primitive(ptype, _) => put_number(*ptype, reader, place),
+        DType::Utf8(_) => put_text(alloc, reader, place),
+        _ => put_value(alloc, dtype, reader, place),
+    }
+}
+
+/// Puts a value of the type that is no null in this place.
+#[inline(never)]
+fn put_value(
+    alloc: Global,
+    dtype: &DType,
+    reader: &mut Reader<'_>,
+    place: &mut Option<ScalarValue>,
+) -> Result<(), Fault>
+    ensures { ReadsInto (HasValues (type_of dtype.now)) (IsPresent (type_of dtype.now)) result
+        (raw_of place.new) (left reader.old) (left reader.new) }
+{
+    *place = Some(read_value(alloc, dtype, reader)?);
+    Ok(())
 }
 
 /// A list of elements of this type.

@@ -8,12 +8,12 @@ use Rattle.vortex_row.proofs.ByteLaws.{inverted-length}
 
 pub returns-in-Ok : goal.returns-in-Ok
 returns-in-Ok c =
-    column-value c.args.options (type_of c.args.dtype.now) _ c.args.bytes.now (left c.read_value-answer.new.reader) c.saturating_sub-taken.result (length c.read_value-answer.new.reader.rest.now) (λ k. (c.type_inv.bytes k).fits) c.in-Ok.ensures
-    (inverted-length c.read_value-answer.new.reader.invert c.read_value-answer.new.reader.rest.now) c.saturating_sub-taken.ensures
+    column-value c.args.options (type_of c.args.dtype.now) _ c.args.bytes.now (left c.read_into-answer.new.reader) c.saturating_sub-taken.result (length c.read_into-answer.new.reader.rest.now) (λ k. (c.type_inv.bytes k).fits) c.in-Ok.ensures
+    (inverted-length c.read_into-answer.new.reader.invert c.read_into-answer.new.reader.rest.now) c.saturating_sub-taken.ensures
 
 pub returns-in-Err-Bad : goal.returns-in-Err-Bad
 returns-in-Err-Bad c =
-    let refused = rw c.in-Err-Bad.is at c.read_value-answer.ensures in
-    column-refused (HasValues (type_of c.args.dtype.now)) c.args.options (type_of c.args.dtype.now) c.args.bytes.now (left c.read_value-answer.new.reader) (length c.read_value-answer.new.reader.rest.now) c.saturating_sub-taken.result
+    let refused = rw c.in-Err-Bad.is at c.read_into-answer.ensures in
+    column-refused (HasValues (type_of c.args.dtype.now)) c.args.options (type_of c.args.dtype.now) c.args.bytes.now (left c.read_into-answer.new.reader) (length c.read_into-answer.new.reader.rest.now) c.saturating_sub-taken.result
     (λ k. (c.type_inv.bytes k).fits) (c.begins_with_null.ensures.other c.if-begins_with_null.false) (refused (search rules))
-    (inverted-length c.read_value-answer.new.reader.invert c.read_value-answer.new.reader.rest.now) c.saturating_sub-taken.ensures
+    (inverted-length c.read_into-answer.new.reader.invert c.read_into-answer.new.reader.rest.now) c.saturating_sub-taken.ensures

@@ -8,10 +8,10 @@ use Rattle.vortex_row.proofs.ByteLaws.{inverted-length}
 pub returns-then-number-width-gt0 : goal.returns-then-number-width-gt0
 returns-then-number-width-gt0 c =
     let long = inverted-length c.args.invert c.args.bytes.now in
-    let there = c.in_ok-word.ensures.0 in
+    let there = c.in-Some.ensures.0 in
     let some = c.if-width-eq0.false in
-    let word : c.in_ok-word.word < 2 ^ 64 = search rules in
+    let word : c.in-Some.word < 2 ^ 64 = search rules in
     let turned : c.inverted_word-word.result < 2 ^ 64 = search rules in
     word-magnitude c.args.width c.args.limit (inverted c.args.invert c.args.bytes.now) c.inverted_word-word.result _ (omega arith) c.requires (omega arith) turned
-    (word-inverted c.args.invert c.args.bytes.now c.in_ok-word.word c.inverted_word-word.result word c.in_ok-word.ensures.1 c.inverted_word-word.ensures.inverted c.inverted_word-word.ensures.same) refl
+    (word-inverted c.args.invert c.args.bytes.now c.in-Some.word c.inverted_word-word.result word c.in-Some.ensures.1 c.inverted_word-word.ensures.inverted c.inverted_word-word.ensures.same) refl
     c.if-number-limit.true c.if-number-width-gt0.true
