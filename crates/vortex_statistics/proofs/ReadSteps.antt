@@ -1,5 +1,6 @@
 -- What is read of a form, part by part, and where its bytes are wrong.
-use Rattle.std.proofs.Common.{◌≡◌, inl, inr, ℕ, zero, suc, ◌+◌, ◌<◌, ◌≤◌, Bool, true, false, List, [], ◌∷◌, ◌++◌, length, length-append, drop, get_or, Option, Some, None, IfOk, IfErr, Ok, Err, Result, refl, sym, ap, subst, ◌∙◌, arith}
+use Rattle.std.proofs.Common.{◌≡◌, inl, inr, ℕ, zero, suc, ◌+◌, ◌<◌, ◌≤◌, Bool, true, false, List, [], ◌∷◌, ◌++◌, length, length-append, drop, get_or, Option, Some, None, IfErr, Ok, Err, Result, refl, sym, ap, subst, ◌∙◌, arith}
+use Rattle.std.specs.Prelude.{OnOk}
 use Rattle.std.proofs.Math.Nat.{suc-add, zero-add}
 use Rattle.std.proofs.Math.Seq.{drop-nil}
 use Rattle.std.proofs.lemmas.Bool.{false≢true}
@@ -14,7 +15,7 @@ use Rattle.vortex_row.specs.Keys.{key}
 use Rattle.vortex_row.specs.Laws.{KeysAreApart, ValuesHaveNoTyped}
 use Rattle.vortex_row.specs.declared.options.SortOptions.{SortOptions}
 use Rattle.vortex_statistics.specs.Form.{AreOf, IsBoundOf, IsFormOf, bound_bytes, count_bytes, form, known_count_bytes}
-use Rattle.vortex_statistics.specs.FormAnswers.{HasValues, IsFirstWrong, ReadsAs, ReadsRight, SaysBound}
+use Rattle.vortex_statistics.specs.FormAnswers.{HasValues, IsFirstWrong, ReadsInto, ReadsRight, SaysBound}
 use Rattle.vortex_statistics.specs.FormSteps.{AreBoundKeys, IsBadBound, IsBadForm, IsBoundKey, IsBoundReadAt, IsCountsRead, IsRefusal, IsWrongStart, ascending, counts_length, either_there, flags_byte, flags_of, has_bound, is_there, state_at, state_of}
 use Rattle.vortex_statistics.specs.Statistics.{Known, KnownBound, known, known_bound}
 use Rattle.vortex_statistics.specs.declared.column_statistics.ColumnStatistics.{ColumnStatistics}
@@ -175,14 +176,25 @@ ordered_in t None None g h e = absurd (false≢true e)
 ordered_in t None (Some b) g h e = h.ordered
 ordered_in t (Some a) b g h e = g.ordered
 
-pub reads_as : KeysAreApart → ValuesHaveNoTyped → (t : TypeTree) (bytes : List ℕ) (r : Result ColumnStatistics StatisticsError) → IfOk r (λ x. AreOf t (known x) × (bytes ≡ form (known x))) → IfErr r (IsBadForm t bytes)
-    → (s : Known) → AreOf t s → bytes ≡ form s → ReadsAs s r
-reads_as apart untyped t bytes (Ok x) h g s of is = read_back apart untyped t (known x) s h.0 of (sym h.1 ∙ is)
-reads_as apart untyped t bytes (Err e) h (inl w) s of is =
+pub reads_into : KeysAreApart → ValuesHaveNoTyped → (t : TypeTree) (bytes : List ℕ) (x : ColumnStatistics) (r : Result Unit StatisticsError) → OnOk r (AreOf t (known x) × (bytes ≡ form (known x))) → IfErr r (IsBadForm t bytes)
+    → (s : Known) → AreOf t s → bytes ≡ form s → ReadsInto s (known x) r
+reads_into apart untyped t bytes x (Ok u) h g s of is = read_back apart untyped t (known x) s h.0 of (sym h.1 ∙ is)
+reads_into apart untyped t bytes x (Err e) h (inl w) s of is =
     absurd (w.1 (ordered_in t s.lower s.upper of.lower of.upper (flags_say (flags_of s) bytes _ (is ∙ form-head s) w.2)))
-reads_as apart untyped t bytes (Err e) h (inr (inl memory)) s of is = memory.0
-reads_as apart untyped t bytes (Err e) h (inr (inr w)) s of is = absurd (w.2.none (record { statistics = s; of_type = of; is = is }))
+reads_into apart untyped t bytes x (Err e) h (inr (inl memory)) s of is = memory.0
+reads_into apart untyped t bytes x (Err e) h (inr (inr w)) s of is = absurd (w.2.none (record { statistics = s; of_type = of; is = is }))
 
-pub right_read : KeysAreApart → ValuesHaveNoTyped → (t : TypeTree) (bytes : List ℕ) (r : Result ColumnStatistics StatisticsError) → IfOk r (λ x. AreOf t (known x) × (bytes ≡ form (known x))) → IfOk r (λ x. ReadsRight t bytes (known x))
-right_read apart untyped t bytes (Ok x) h = reads_right apart untyped t bytes (known x) h.0 h.1
-right_read apart untyped t bytes (Err e) h = tt
+pub right_into : KeysAreApart → ValuesHaveNoTyped → (t : TypeTree) (bytes : List ℕ) (x : ColumnStatistics) (r : Result Unit StatisticsError) → OnOk r (AreOf t (known x) × (bytes ≡ form (known x))) → OnOk r (ReadsRight t bytes (known x))
+right_into apart untyped t bytes x (Ok u) h = reads_right apart untyped t bytes (known x) h.0 h.1
+right_into apart untyped t bytes x (Err e) h = tt
+
+-- a refusal that is passed on
+
+abbrev not_given : StatisticsError → Result ColumnStatistics StatisticsError
+not_given e = Err e
+
+abbrev not_read : StatisticsError → Result Unit StatisticsError
+not_read e = Err e
+
+pub passed_on : (e f : StatisticsError) → not_given e ≡ not_given f → not_read e ≡ not_read f
+passed_on e f h = let same : e ≡ f = cc in ap not_read same

@@ -49,6 +49,10 @@ pub record HasValues (t : TypeTree) : Type 0 where
 abbrev pub ReadsAs : Known → Result ColumnStatistics StatisticsError → Type 0
 ReadsAs s r = MatchResult r (λ t. known t ≡ s) (λ e. e ≡ OutOfMemory)
 
+-- the same of statistics that stand already, and now say this
+abbrev pub ReadsInto : Known → Known → Result Unit StatisticsError → Type 0
+ReadsInto s now r = MatchResult r (λ u. now ≡ s) (λ e. e ≡ OutOfMemory)
+
 -- the cell with its content as one of the type
 abbrev pub retyped : TypeTree → Cell → Cell
 retyped t x = record { typed = t; content = x.content }

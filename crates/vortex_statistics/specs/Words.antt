@@ -14,7 +14,7 @@ pub use Rattle.vortex_row.specs.Steps.{Appends, HasRoom}
 pub use Rattle.vortex_statistics.specs.Cells.{Cell, cell_of, cell_of_ref, cell_order, is_null_cell, order_from_above}
 pub use Rattle.vortex_statistics.specs.Changes.{after, change_by, change_of, exact_bound, lower_change, replaces, replacing, upper_change}
 pub use Rattle.vortex_statistics.specs.Form.{AreOf, FormsAreApart, IsFormOf, IsHeldBound, IsHeldKnown, bound_bytes, bound_flags, count_bytes, flags, form, known_count_bytes}
-pub use Rattle.vortex_statistics.specs.FormAnswers.{HasValues, IsFirstWrong, ReadsAs, ReadsRight, SaysBound}
+pub use Rattle.vortex_statistics.specs.FormAnswers.{HasValues, IsFirstWrong, ReadsAs, ReadsInto, ReadsRight, SaysBound}
 pub use Rattle.vortex_statistics.specs.FormSteps.{AreBoundKeys, AreBoundsRead, HasNoVariantIn, HasNoVariants, IsBadBound, IsBadForm, IsBoundKey, IsBoundRead, IsBoundReadAt, IsCountsRead, IsRefusal, IsWrongStart, ascending, counts_length, flags_byte, has_bound, is_there, state_at, state_bits}
 pub use Rattle.vortex_statistics.specs.Kinds.{IsBestAnswer, IsCutAt, IsTruncated, kind_of}
 pub use Rattle.vortex_statistics.specs.Loosening.{LooserBoundsAreRight}

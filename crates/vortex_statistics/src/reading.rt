@@ -1,18 +1,18 @@
 //! Statistics from their form in bytes.
 
-ghost use Rattle.std.specs.Prelude.{◌≡◌, ◌≢◌, ◌++◌, ◌∷◌, ◌+◌, ◌<◌, ◌≤◌, ◌^◌, ◌↔◌, ◌⊎◌, ℕ, List, [], Err, IfErr, IfOk, MatchOption, OnOk, drop, length, option_map, true};
+ghost use Rattle.std.specs.Prelude.{◌≡◌, ◌≢◌, ◌++◌, ◌∷◌, ◌+◌, ◌<◌, ◌≤◌, ◌^◌, ◌↔◌, ◌⊎◌, ℕ, List, [], Err, IfErr, IfOk, MatchOption, OnOk, Some, drop, length, option_map, true};
 ghost use Rattle.vortex_statistics.specs.Statistics.{Known};
-ghost use Rattle.vortex_statistics.specs.Words.{AreBoundKeys, AreBoundsRead, AreOf, BadBytes, HasNoVariant, HasValues, HasVariant, IsBadBound, IsBadForm, IsBoundKey, IsBoundRead, IsBoundReadAt, IsCountsRead, IsFirstWrong, IsFormOf, IsRefusal, IsWrongStart, OutOfMemory, ReadsAs, ReadsRight, SaysBound, UnionsHaveVariants, count_bytes, counts_length, flags_byte, form, has_bound, is_there, known, known_bound, state_at, type_of};
+ghost use Rattle.vortex_statistics.specs.Words.{AreBoundKeys, AreBoundsRead, AreOf, BadBytes, HasNoVariant, HasValues, HasVariant, IsBadBound, IsBadForm, IsBoundKey, IsBoundRead, IsBoundReadAt, IsCountsRead, IsFirstWrong, IsFormOf, IsRefusal, IsWrongStart, OutOfMemory, ReadsAs, ReadsInto, ReadsRight, SaysBound, UnionsHaveVariants, count_bytes, counts_length, flags_byte, form, has_bound, is_there, known, known_bound, state_at, type_of};
 
 use crate::column_statistics::{Bound, ColumnStatistics};
 use crate::error::StatisticsError;
 use crate::flags::{BoundState, Flags, flags_from};
 use crate::writing::{VERSION, ascending, expect_keys};
 use std::alloc::Global;
-use vortex_array::DType;
 use vortex_array::laws::items_are_bytes;
+use vortex_array::{DType, Scalar};
 use vortex_row::laws::{keys_are_apart, values_have_no_typed};
-use vortex_row::{RowError, decode_key};
+use vortex_row::{RowError, decode_key_into};
 
 impl ColumnStatistics {
     /// The statistics that have this form, of a column of the type. Their bounds are scalars of the
@@ -43,20 +43,57 @@ impl ColumnStatistics {
             ⊎ (((e ≡ OutOfMemory) × SaysBound bytes.now)
             ⊎ ((place : ℕ) × (e ≡ BadBytes place)))) }
     {
+        let mut statistics = ColumnStatistics::empty();
+        match statistics.read_from_bytes(alloc, dtype, bytes) {
+            Ok(()) => Ok(statistics),
+            Err(refusal) => {
+                drop(statistics);
+                Err(refusal)
+            }
+        }
+    }
+
+    /// Puts what `from_bytes` gives in the place of these statistics. It spares the moves of a
+    /// result, and a bound that stands here keeps its type if it is this one: so the statistics of
+    /// many pieces of one column are best read into the same place.
+    ///
+    /// Each refusal comes as from `from_bytes`. After one the statistics may say anything.
+    pub fn read_from_bytes(
+        &mut self,
+        alloc: Global,
+        dtype: &DType,
+        bytes: &[u8],
+    ) -> Result<(), StatisticsError>
+        ensures read { OnOk result (AreOf (type_of dtype.now) (known self.new)
+            × (bytes.now ≡ form (known self.new))) }
+        ensures whole { (s : Known) → AreOf (type_of dtype.now) s → bytes.now ≡ form s
+            → ReadsInto s (known self.new) result }
+        ensures right { OnOk result
+            (ReadsRight (type_of dtype.now) bytes.now (known self.new)) }
+        ensures variant { (result ≡ Err HasVariant)
+            ↔ (¬ (HasNoVariant (type_of dtype.now)) × SaysBound bytes.now) }
+        ensures bad { (place : ℕ) → result ≡ Err (BadBytes place)
+            → IsFirstWrong (IsFormOf (type_of dtype.now))
+            (SaysBound bytes.now → HasValues (type_of dtype.now)) bytes.now place }
+        ensures refused { IfErr result (λ e. (e ≡ HasVariant)
+            ⊎ (((e ≡ OutOfMemory) × SaysBound bytes.now)
+            ⊎ ((place : ℕ) × (e ≡ BadBytes place)))) }
+    {
         keys_are_apart();
         values_have_no_typed();
-        read_form(alloc, dtype, bytes)
+        read_form(alloc, dtype, bytes, self)
     }
 }
 
-/// The statistics that have this form.
+/// Puts the statistics that have this form in the place of these.
 fn read_form(
     alloc: Global,
     dtype: &DType,
     bytes: &[u8],
-) -> Result<ColumnStatistics, StatisticsError>
-    ensures read { IfOk result (λ s. AreOf (type_of dtype.now) (known s)
-        × (bytes.now ≡ form (known s))) }
+    statistics: &mut ColumnStatistics,
+) -> Result<(), StatisticsError>
+    ensures read { OnOk result (AreOf (type_of dtype.now) (known statistics.new)
+        × (bytes.now ≡ form (known statistics.new))) }
     ensures refused { IfErr result (IsBadForm (type_of dtype.now) bytes.now) }
     ensures ordered { result ≢ Err HasVariant → SaysBound bytes.now
         → HasNoVariant (type_of dtype.now) }
@@ -67,13 +104,16 @@ fn read_form(
     let flags = read_flags(bytes)?;
     expect_keys_of(flags, dtype)?;
     let counts = read_counts(flags.has_null_count, bytes)?;
-    let (lower, upper) = read_bounds(alloc, dtype, flags, bytes, counts.end)?;
-    Ok(ColumnStatistics {
-        row_count: counts.row_count,
-        null_count: counts.null_count,
+    let ColumnStatistics {
+        row_count,
+        null_count,
         lower,
         upper,
-    })
+    } = statistics;
+    *row_count = counts.row_count;
+    *null_count = counts.null_count;
+    read_bounds(alloc, dtype, flags, bytes, counts.end, lower, upper)?;
+    Ok(())
 }
 
 /// `HasVariant` exactly if the flags say a bound, and a variant stands in the type.
@@ -152,18 +192,20 @@ fn read_counts(has_null_count: bool, bytes: &[u8]) -> Result<Counts, StatisticsE
     })
 }
 
-/// Both bounds, after which the bytes end.
+/// Puts both bounds in the places of these; after them the bytes end.
 fn read_bounds(
     alloc: Global,
     dtype: &DType,
     flags: Flags,
     bytes: &[u8],
     place: usize,
-) -> Result<(Option<Bound>, Option<Bound>), StatisticsError>
+    lower: &mut Option<Bound>,
+    upper: &mut Option<Bound>,
+) -> Result<(), StatisticsError>
     requires within { place ≤ length bytes.now }
     requires ordered { has_bound flags ≡ true → HasNoVariant (type_of dtype.now) }
-    ensures read { IfOk result (λ bounds. AreBoundsRead (type_of dtype.now) flags
-        (option_map known_bound bounds.0) (option_map known_bound bounds.1)
+    ensures read { OnOk result (AreBoundsRead (type_of dtype.now) flags
+        (option_map known_bound lower.new) (option_map known_bound upper.new)
         (drop place bytes.now)) }
     ensures refused { IfErr result (IsRefusal
         (AreBoundKeys (type_of dtype.now) flags.lower flags.upper) (has_bound flags ≡ true)
@@ -172,61 +214,60 @@ fn read_bounds(
 {
     keys_are_apart();
     values_have_no_typed();
-    let (lower, next) = read_bound(alloc, dtype, flags.lower, bytes, place)?;
-    match read_last_bound(alloc, dtype, flags.upper, bytes, next) {
-        Ok(upper) => Ok((lower, upper)),
-        Err(cause) => {
-            drop(lower);
-            Err(cause)
-        }
-    }
+    let next = read_bound(alloc, dtype, flags.lower, bytes, place, lower)?;
+    read_last_bound(alloc, dtype, flags.upper, bytes, next, upper)?;
+    Ok(())
 }
 
-/// A bound, after which the bytes end.
+/// Puts a bound in the place of this one; after it the bytes end.
 fn read_last_bound(
     alloc: Global,
     dtype: &DType,
     state: BoundState,
     bytes: &[u8],
     place: usize,
-) -> Result<Option<Bound>, StatisticsError>
+    bound: &mut Option<Bound>,
+) -> Result<(), StatisticsError>
     requires within { place ≤ length bytes.now }
     requires ordered { is_there state ≡ true → HasNoVariant (type_of dtype.now) }
-    ensures read { IfOk result (λ bound. IsBoundRead (type_of dtype.now) state
-        (option_map known_bound bound) (drop place bytes.now) []) }
+    ensures read { OnOk result (IsBoundRead (type_of dtype.now) state
+        (option_map known_bound bound.new) (drop place bytes.now) []) }
     ensures refused { IfErr result (IsRefusal (IsBoundKey (type_of dtype.now) state) (is_there state ≡ true)
         (is_there state ≡ true → UnionsHaveVariants (type_of dtype.now))
         place (drop place bytes.now)) }
 {
     keys_are_apart();
     values_have_no_typed();
-    let (bound, end) = read_bound(alloc, dtype, state, bytes, place)?;
+    let end = read_bound(alloc, dtype, state, bytes, place, bound)?;
     if end < bytes.len() {
-        drop(bound);
         return Err(StatisticsError::BadBytes { place: end });
     }
-    Ok(bound)
+    Ok(())
 }
 
-/// A bound from a place on, if there is one, and the place after it.
+/// Puts a bound from a place on, if there is one, in the place of this one. The place after it.
 fn read_bound(
     alloc: Global,
     dtype: &DType,
     state: BoundState,
     bytes: &[u8],
     place: usize,
-) -> Result<(Option<Bound>, usize), StatisticsError>
+    bound: &mut Option<Bound>,
+) -> Result<usize, StatisticsError>
     requires within { place ≤ length bytes.now }
     requires ordered { is_there state ≡ true → HasNoVariant (type_of dtype.now) }
-    ensures read { IfOk result (λ p. IsBoundReadAt (type_of dtype.now) state
-        (option_map known_bound p.0) bytes.now place p.1) }
+    ensures read { IfOk result (λ next. IsBoundReadAt (type_of dtype.now) state
+        (option_map known_bound bound.new) bytes.now place next) }
     ensures refused { IfErr result
         (IsBadBound (type_of dtype.now) state place (drop place bytes.now)) }
 {
     match state {
-        BoundState::Missing => Ok((None, place)),
-        BoundState::Inexact => read_value(alloc, dtype, false, bytes, place),
-        BoundState::Exact => read_value(alloc, dtype, true, bytes, place),
+        BoundState::Missing => {
+            *bound = None;
+            Ok(place)
+        }
+        BoundState::Inexact => read_there(alloc, dtype, false, bytes, place, bound),
+        BoundState::Exact => read_there(alloc, dtype, true, bytes, place, bound),
     }
 }
 
@@ -238,7 +279,59 @@ fn bytes_from(bytes: &[u8], place: usize) -> &[u8]
     &bytes[place..]
 }
 
-/// A bound that is there, from a place on, and the place after it.
+/// Puts a bound that is there, from a place on, in the place of this one. The place after it.
+#[inline(always)]
+fn read_there(
+    alloc: Global,
+    dtype: &DType,
+    is_exact: bool,
+    bytes: &[u8],
+    place: usize,
+    bound: &mut Option<Bound>,
+) -> Result<usize, StatisticsError>
+    requires within { place ≤ length bytes.now }
+    requires ordered { HasNoVariant (type_of dtype.now) }
+    ensures read { IfOk result (λ next. IsBoundReadAt (type_of dtype.now) (state_at is_exact)
+        (option_map known_bound bound.new) bytes.now place next) }
+    ensures refused { IfErr result
+        (IsBadBound (type_of dtype.now) (state_at is_exact) place (drop place bytes.now)) }
+{
+    match bound {
+        Some(bound) => read_value(alloc, dtype, is_exact, bytes, place, bound),
+        None => read_first(alloc, dtype, is_exact, bytes, place, bound),
+    }
+}
+
+/// Puts a bound that is there, from a place on, where none is. The place after it.
+#[inline(never)]
+fn read_first(
+    alloc: Global,
+    dtype: &DType,
+    is_exact: bool,
+    bytes: &[u8],
+    place: usize,
+    bound: &mut Option<Bound>,
+) -> Result<usize, StatisticsError>
+    requires within { place ≤ length bytes.now }
+    requires ordered { HasNoVariant (type_of dtype.now) }
+    ensures read { IfOk result (λ next. IsBoundReadAt (type_of dtype.now) (state_at is_exact)
+        (option_map known_bound bound.new) bytes.now place next) }
+    ensures refused { IfErr result
+        (IsBadBound (type_of dtype.now) (state_at is_exact) place (drop place bytes.now)) }
+{
+    let mut first = Bound {
+        value: Scalar {
+            dtype: DType::Null,
+            value: None,
+        },
+        is_exact,
+    };
+    let end = read_value(alloc, dtype, is_exact, bytes, place, &mut first)?;
+    *bound = Some(first);
+    Ok(end)
+}
+
+/// Puts a bound that is there, from a place on, over this one. The place after it.
 #[tactic(auto, using(crate::proofs::ReadSteps::states))]
 fn read_value(
     alloc: Global,
@@ -246,16 +339,24 @@ fn read_value(
     is_exact: bool,
     bytes: &[u8],
     place: usize,
-) -> Result<(Option<Bound>, usize), StatisticsError>
+    bound: &mut Bound,
+) -> Result<usize, StatisticsError>
     requires within { place ≤ length bytes.now }
     requires ordered { HasNoVariant (type_of dtype.now) }
-    ensures read { IfOk result (λ p. IsBoundReadAt (type_of dtype.now) (state_at is_exact)
-        (option_map known_bound p.0) bytes.now place p.1) }
+    ensures read { IfOk result (λ next. IsBoundReadAt (type_of dtype.now) (state_at is_exact)
+        (Some (known_bound bound.new)) bytes.now place next) }
     ensures refused { IfErr result
         (IsBadBound (type_of dtype.now) (state_at is_exact) place (drop place bytes.now)) }
 {
-    match decode_key(alloc, dtype, ascending(), bytes_from(bytes, place)) {
-        Ok((value, length)) => Ok((Some(Bound { value, is_exact }), place + length)),
+    bound.is_exact = is_exact;
+    match decode_key_into(
+        alloc,
+        dtype,
+        ascending(),
+        bytes_from(bytes, place),
+        &mut bound.value,
+    ) {
+        Ok(length) => Ok(place + length),
         Err(RowError::BadKey { place: bad }) => {
             Err(StatisticsError::BadBytes { place: place + bad })
         }

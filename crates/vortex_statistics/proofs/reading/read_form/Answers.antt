@@ -24,9 +24,9 @@ returns-in_err-counts-clause-refused c =
     let is : c.from_residual-in_err-counts.result ≡ Err c.in_err-counts.field-0.0 = search rules in
     rw is (counts_refused (type_of c.args.dtype.now) c.args.bytes.now c.in_ok-flags.flags c.in_err-counts.field-0.0 c.items_are_bytes.ensures c.in_ok-flags.ensures.read c.in_ok-expect_keys_of.ensures.ordered why.0 why.1)
 
-pub returns-in_err-lower-clause-refused : goal.returns-in_err-lower-clause-refused
-returns-in_err-lower-clause-refused c =
+pub returns-in_err-read_bounds-clause-refused : goal.returns-in_err-read_bounds-clause-refused
+returns-in_err-read_bounds-clause-refused c =
     let counts = c.in_ok-counts.ensures.read in
-    let is : c.from_residual-in_err-lower.result ≡ Err c.in_err-lower.field-0.0 = search rules in
-    rw is (bounds_refused (type_of c.args.dtype.now) c.args.bytes.now c.in_ok-flags.flags c.in_ok-counts.counts.row_count c.in_ok-counts.counts.null_count c.in_ok-counts.counts.end c.in_err-lower.field-0.0
-    c.in_ok-flags.ensures.read counts.0 counts.1 c.in_err-lower.ensures.refused)
+    let is : c.from_residual-in_err-read_bounds.result ≡ Err c.in_err-read_bounds.field-0.0 = search rules in
+    rw is (bounds_refused (type_of c.args.dtype.now) c.args.bytes.now c.in_ok-flags.flags c.in_ok-counts.counts.row_count c.in_ok-counts.counts.null_count c.in_ok-counts.counts.end c.in_err-read_bounds.field-0.0
+    c.in_ok-flags.ensures.read counts.0 counts.1 c.in_err-read_bounds.ensures.refused)

@@ -12,7 +12,7 @@ overflow_add-result-in-Err-BadKey c =
 
 pub returns-in-Ok-clause-read : goal.returns-in-Ok-clause-read
 returns-in-Ok-clause-read c =
-    key_read c.ascending.result (type_of c.args.dtype.now) c.args.is_exact c.in-Ok.value c.args.bytes.now c.args.place c.in-Ok.length c.ascending.ensures c.requires.ordered c.requires.within (rw c.bytes_from.ensures at c.in-Ok.ensures.decoded)
+    key_read c.ascending.result (type_of c.args.dtype.now) c.args.is_exact c.decode_key_into.new.scalar c.args.bytes.now c.args.place c.in-Ok.length c.ascending.ensures c.requires.ordered c.requires.within (rw c.bytes_from.ensures at c.in-Ok.ensures.decoded)
 
 pub returns-in-Err-BadKey-clause-refused : goal.returns-in-Err-BadKey-clause-refused
 returns-in-Err-BadKey-clause-refused c =

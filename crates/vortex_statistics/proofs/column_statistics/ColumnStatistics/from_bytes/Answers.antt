@@ -1,11 +1,7 @@
--- What is read is what was written, and right for what that was right for.
-use Rattle.vortex_dtype.specs.TypeOf.{type_of}
-use Rattle.vortex_statistics.proofs.ReadSteps.{reads_as, right_read}
+-- The refusal is that of the reading.
+use Rattle.vortex_statistics.proofs.ReadSteps.{passed_on}
+use Rattle.vortex_statistics.specs.declared.error.StatisticsError.TheVariants.{BadBytes}
 use Rattle.vortex_statistics.proofs.column_statistics.ColumnStatistics.from_bytes.Goals as goal
 
-pub returns-clause-whole : goal.returns-clause-whole
-returns-clause-whole c =
-    reads_as c.keys_are_apart.ensures c.values_have_no_typed.ensures (type_of c.args.dtype.now) c.args.bytes.now c.read_form.result c.read_form.ensures.read c.read_form.ensures.refused
-
-pub returns-clause-right : goal.returns-clause-right
-returns-clause-right c = right_read c.keys_are_apart.ensures c.values_have_no_typed.ensures (type_of c.args.dtype.now) c.args.bytes.now c.read_form.result c.read_form.ensures.read
+pub returns-in-Err-clause-bad : goal.returns-in-Err-clause-bad
+returns-in-Err-clause-bad c = λ place e. c.in-Err.ensures.bad place (passed_on c.in-Err.refusal (BadBytes place) e)
