@@ -1,4 +1,5 @@
 pub mod BitCounts
+pub mod BitWrites
 pub mod BufferItems
 pub mod ByteOrder
 pub mod CellLists

@@ -1,6 +1,6 @@
 //! Bitmaps.
 
-ghost use Rattle.std.specs.Prelude.{◌≡◌, ℕ, ◌<◌, ◌≤◌, ◌*◌, false, true, length};
+ghost use Rattle.std.specs.Prelude.{◌≡◌, ◌≢◌, ℕ, ◌<◌, ◌≤◌, ◌*◌, ◌/◌, drop, false, true, length};
 ghost use Rattle.arrow_columns.specs.Words.{HasBits, bit_of, is_valid};
 
 /// Whether bit i is set.
@@ -9,6 +9,19 @@ pub fn is_set(bitmap: &[u8], i: usize) -> bool
     ensures { result ≡ bit_of bitmap.now i }
 {
     bitmap[i / 8] >> (i % 8) & 1 == 1
+}
+
+/// Writes bit i, which is 0. The other bits stay.
+pub fn put_bit(bitmap: &mut [u8], i: usize, is_set: bool)
+    requires within { i < 8 * length bitmap.old }
+    requires clear { bit_of bitmap.old i ≡ false }
+    ensures bit { bit_of bitmap.new i ≡ is_set }
+    ensures others { (other : ℕ) → other ≢ i → bit_of bitmap.new other ≡ bit_of bitmap.old other }
+    ensures rest { (k : ℕ) → i / 8 < k → drop k bitmap.new ≡ drop k bitmap.old }
+{
+    if is_set {
+        bitmap[i / 8] |= 1 << (i % 8);
+    }
 }
 
 /// Whether row i, which is below the end, is no null.

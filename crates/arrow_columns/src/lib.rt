@@ -22,6 +22,7 @@ mod reading;
 mod statistics;
 mod tested_rows;
 
+pub use bitmaps::put_bit;
 pub use byte_spans::ByteSpan;
 pub use casts::CastFault;
 pub use columns::Column;

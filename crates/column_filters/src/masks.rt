@@ -3,10 +3,10 @@
 ghost use Rattle.std.specs.Prelude.{◌≡◌, ◌≢◌, ◌<◌, ◌≤◌, IfErr, IfOk, OnOk, drop, length, map};
 ghost use Rattle.column_filters.specs.Words.{AreColumnsOf, HasRow, HasTexts, HaveRows, IsMask, IsMaskFault, OutOfMemory, cell_of, cell_of_rows, cells_of_columns, cells_of_rows, contents_of_rows, formula, is_match, mask_length, matching, rows_in, type_of};
 
-use crate::bits::{clear_bits, mask_length, put_bit};
+use crate::bits::{clear_bits, mask_length};
 use crate::columns::{read_columns, row_count_of};
 use crate::faults::MaskFault;
-use arrow_columns::{Column, Rows};
+use arrow_columns::{Column, Rows, put_bit};
 use column_cells::scalar_at;
 use std::alloc::Global;
 use vortex_dtype::DType;

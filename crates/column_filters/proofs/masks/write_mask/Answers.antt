@@ -15,7 +15,7 @@ loop-row-init c = (
 
 pub loop-row-preserved : goal.loop-row-preserved
 loop-row-preserved c = (
-  marked-more (matching (formula c.args.filter.now) (cells_of_rows c.args.columns.now)) c.args.count c.loop-row.row c.loop-row.mask c.put_bit.new.mask _ c.loop-row.invariant.0 c.in_ok-matches.ensures.value c.put_bit.ensures.bit c.put_bit.ensures.others,
+  marked-more (matching (formula c.args.filter.now) (cells_of_rows c.args.columns.now)) c.args.count c.loop-row.row c.loop-row.mask c.put_bit.new.bitmap _ c.loop-row.invariant.0 c.in_ok-matches.ensures.value c.put_bit.ensures.bit c.put_bit.ensures.others,
   c.put_bit.ensures.rest _ (omega (arith, c.loop-row-test.true)) ∙ c.loop-row.invariant.1,
 )
 
