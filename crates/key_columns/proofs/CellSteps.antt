@@ -1,20 +1,20 @@
 -- What a row has in a column, by what its key decodes to.
-use Rattle.std.proofs.Common.{◌≡◌, ◌≢◌, ◌∙◌, ℕ, ◌+◌, ◌<◌, ◌≤◌, inl, inr, List, [], ◌++◌, length, map, get_or, append-nil, refl, sym, subst, ap, arith}
+use Rattle.std.proofs.Common.{◌≡◌, ◌≢◌, ◌∙◌, ℕ, ◌+◌, ◌<◌, inl, inr, List, [], ◌++◌, length, map, get_or, append-nil, refl, sym, subst, ap, arith}
 use Rattle.std.specs.Prelude.{Result, Ok, Err, IsErr, IsErrAnd, IfErr, slice_index}
 use Rattle.std.proofs.lemmas.List.{get_or-map, length-append, length-map, nil_from_length}
 use Rattle.vortex_dtype.specs.TypeOf.{type_of}
-use Rattle.vortex_dtype.specs.TypeTree.{TypeTrees, null_type}
+use Rattle.vortex_dtype.specs.TypeTree.{TypeTrees}
 use Rattle.vortex_value.specs.Values.Content.{content}
-use Rattle.vortex_value.specs.Values.RawTree.{RawTree, absent}
+use Rattle.vortex_value.specs.Values.RawTree.{absent}
 use Rattle.vortex_value.specs.Values.Scalars.{scalar_content, scalar_raw}
 use Rattle.vortex_value.specs.declared.scalars.Scalar.{Scalar}
 use Rattle.vortex_value.specs.TypesWithin.{AllHaveVariants}
-use Rattle.vortex_row.specs.Decoded.{AreValuesOf, BeginsWithRow, IsDecodedRow, IsFirstBad, IsRowKeyOf, IsValueOf, values_key}
+use Rattle.vortex_row.specs.Decoded.{BeginsWithRow, IsDecodedRow, IsFirstBad, IsRowKeyOf, IsValueOf, values_key}
 use Rattle.vortex_row.specs.declared.options.SortOptions.{SortOptions}
-use Rattle.key_columns.specs.Cells.{AreTyped, HasCell, IsCellAt, IsPlaced, key_at, type_in, types_in}
-use Rattle.key_columns.specs.Faults.{GoesOnAfter, IsFaultAt, IsRowFault, IsWrongKey}
+use Rattle.key_columns.specs.Cells.{AreTyped, HasCell, IsPlaced, key_at, type_in, types_in}
+use Rattle.key_columns.specs.Faults.{GoesOnAfter, IsRowFault, IsWrongKey}
 use Rattle.key_columns.specs.declared.faults.KeysFault.{KeysFault}
-use Rattle.key_columns.specs.declared.faults.KeysFault.TheVariants.{BadBytes, BadOffsets, OutOfMemory}
+use Rattle.key_columns.specs.declared.faults.KeysFault.TheVariants.{BadBytes, BadOffsets}
 use Rattle.key_columns.specs.declared.keys.RowKeys.{RowKeys}
 use Rattle.key_columns.proofs.RowLaws.{value-there, values-count}
 

@@ -1,7 +1,6 @@
 -- All cells of a column, and the column that is written of them.
-use Rattle.std.proofs.Common.{◌≡◌, ◌≢◌, ◌∙◌, ℕ, zero, suc, ℤ, ◌+◌, ◌*◌, ◌<◌, ◌≤◌, ◌⊎◌, inl, inr, List, [], ◌∷◌, ◌++◌, length, map, get_or, replicate, refl, sym, subst, ap, ap₂, arith, Bool, true, false, ◌==◌, ◌||◌, if◌then◌else◌, Option, Some, None}
-use Rattle.std.specs.Prelude.{Result, Ok, Err, IsErr, IsErrAnd, IfErr, IfOk, OnOk, slice_index}
-use Rattle.std.specs.List.{range_with_len}
+use Rattle.std.proofs.Common.{◌≡◌, ◌∙◌, ℕ, ◌+◌, ◌<◌, ◌≤◌, ◌⊎◌, inl, inr, List, [], ◌∷◌, ◌++◌, length, map, get_or, replicate, refl, sym, subst, ap, arith, Bool, true, false, ◌==◌, ◌||◌, if◌then◌else◌, Some, None}
+use Rattle.std.specs.Prelude.{Result, Ok, Err, IsErr, IsErrAnd, IfErr, slice_index}
 use Rattle.std.proofs.lemmas.Bool.{cases_lt}
 use Rattle.std.proofs.lemmas.Bool.Decides.{nat_tests}
 use Rattle.std.proofs.lemmas.List.{ext_get_or, get_or-map, get_or-replicate, get_or_append_left, get_or_push, length-append, length-map, length-replicate}
@@ -23,10 +22,9 @@ use Rattle.vortex_value.specs.Size.{capped}
 use Rattle.vortex_value.specs.Validity.{Valid}
 use Rattle.vortex_value.specs.Values.Content.{Content, content, null, sequence, string, tagged, text, truth, typed as typed_child, whole}
 use Rattle.vortex_value.specs.Values.RawTree.{RawTree, absent, raw_bool, raw_bytes, raw_integer, raw_text, raw_tuple, raw_union, raw_variant}
-use Rattle.vortex_row.specs.Decoded.{IsValueOf}
 use Rattle.key_columns.specs.Cells.{AreCells, AreTyped, HasCell, rows_in, type_in}
 use Rattle.key_columns.specs.Faults.{IsRowFault, Refuses}
-use Rattle.key_columns.specs.Layout.{AreBits, AreIntegers, AreStrings, AreValuesAt, IsColumnOf, bitmap_length, bytes_in, bytes_length, contents_in, is_present, number_in, truth_in, values_length}
+use Rattle.key_columns.specs.Layout.{AreBits, AreIntegers, AreStrings, IsColumnOf, bitmap_length, bytes_in, bytes_length, is_present, number_in, truth_in}
 use Rattle.key_columns.specs.declared.faults.KeysFault.{KeysFault}
 use Rattle.key_columns.specs.declared.faults.KeysFault.TheVariants.{BadBytes, BadOffsets, BadOptions, NoRoom, OutOfMemory, UnknownKind, WrongLength}
 use Rattle.key_columns.specs.declared.keys.RowKeys.{RowKeys}
@@ -77,9 +75,23 @@ refused-by keys row total (NoRoom n) l all why = absurd why
 refused-by keys row total (BadOffsets k) l all why = record { row = row; within = l; before = λ k less. (get_or all.cells k null, all.each k less); cause = why }
 refused-by keys row total (BadBytes k) l all why = record { row = row; within = l; before = λ k less. (get_or all.cells k null, all.each k less); cause = why }
 
-pub keys-refused : (keys : RowKeys) (row total : ℕ) (r : Result ℕ KeysFault) (e : KeysFault) → IsErr r × IsErrAnd r (λ f. f ≡ e) → row < rows_in keys → AreCellsBefore keys row total → IsRowFault keys row e → IfErr r (Refuses keys)
-keys-refused keys row total (Ok n) e h l all why = tt
+pub keys-refused : {X : Type 0} (keys : RowKeys) (row total : ℕ) (r : Result X KeysFault) (e : KeysFault) → IsErr r × IsErrAnd r (λ f. f ≡ e) → row < rows_in keys → AreCellsBefore keys row total → IsRowFault keys row e → IfErr r (Refuses keys)
+keys-refused keys row total (Ok x) e h l all why = tt
 keys-refused keys row total (Err f) e h l all why = subst (Refuses keys) (sym h.1) (refused-by keys row total e l all why)
+
+-- ---- the cells so far, whatever they are
+
+abbrev pub AreSomeBefore : RowKeys → ℕ → Type 0
+AreSomeBefore keys row = (total : ℕ) × AreCellsBefore keys row total
+
+pub some-none : (keys : RowKeys) → AreSomeBefore keys 0
+some-none keys = (0, cells-none keys)
+
+pub some-more : (keys : RowKeys) (row : ℕ) (d : Content) → AreSomeBefore keys row → HasCell keys row d → AreSomeBefore keys (row + 1)
+some-more keys row d some has = (capped (some.0 + length (bytes_in d)), cells-more keys row some.0 (length (bytes_in d)) (capped (some.0 + length (bytes_in d))) d some.1 has refl refl)
+
+pub some-done : (keys : RowKeys) (row : ℕ) → row ≡ rows_in keys → AreSomeBefore keys row → (cells : List Content) × AreCells keys cells
+some-done keys row at some = let all = cells-done keys row some.0 at some.1 in (all.0, all.1)
 
 -- ---- what cells of a type are
 
@@ -225,11 +237,6 @@ byte-contents keys cells validity values offsets typed is are room bits all =
         let has = value-of keys i (get_or cells i null) typed (are.each i l) in
         let fits = fits-bytes has.0 (subst (λ t. Valid t has.0) is has.1) (ap is_present (sym has.2) ∙ present) in
         ap string (all.strings i l ∙ ap bytes_in has.2) ∙ fits ∙ sym has.2
-
--- both parts of a column were written
-pub both-written : {P Q R : Type 0} (r : Result Unit KeysFault) → (P → Q → R) → OnOk r P → OnOk r Q → OnOk r R
-both-written (Ok u) f p q = f p q
-both-written (Err e) f p q = tt
 
 -- the kinds with offsets
 abbrev pub HasStrings : Kind → Type 0

@@ -1,5 +1,5 @@
 -- From kinds and options as they come to types, and from the keys' cells to what is answered.
-use Rattle.std.proofs.Common.{◌≡◌, ◌∙◌, ℕ, ◌-◌, ◌^◌, ◌<◌, ◌≤◌, ◌⊎◌, List, [], ◌∷◌, length, map, take, get_or, refl, sym, subst, ap, arith, Option, Some, None}
+use Rattle.std.proofs.Common.{◌≡◌, ◌∙◌, ℕ, ◌-◌, ◌^◌, ◌<◌, ◌⊎◌, List, [], ◌∷◌, length, map, take, get_or, sym, subst, ap, arith, Option, Some, None}
 use Rattle.std.specs.Prelude.{Result, Ok, Err, IsErr, IsErrAnd, IfErr, slice_index}
 use Rattle.std.proofs.lemmas.List.{get_or-map, length-map}
 use Rattle.arrow_columns.specs.Kinds.{kind_at}
@@ -8,17 +8,15 @@ use Rattle.arrow_columns.specs.declared.kinds.Kind.TheVariants.{Binary, Boolean,
 use Rattle.column_cells.specs.Types.{type_at, type_of_kind}
 use Rattle.column_keys.specs.Tables.{options_in}
 use Rattle.vortex_dtype.specs.TypeOf.{as_type_trees, type_of}
-use Rattle.vortex_dtype.specs.TypeTree.{TypeTree, null_type}
-use Rattle.vortex_dtype.specs.declared.types.DType.{DType}
+use Rattle.vortex_dtype.specs.TypeTree.{null_type}
 use Rattle.vortex_value.specs.Size.{capped}
 use Rattle.vortex_value.specs.TypesWithin.{AllHaveVariants, HasNoVariant, HaveNoVariant, UnionsHaveVariants}
 use Rattle.vortex_value.specs.Values.Content.{Content}
-use Rattle.vortex_row.specs.declared.options.SortOptions.{SortOptions}
-use Rattle.key_columns.specs.Answers.{AreCellsBy, HasCells, IsColumnOfKeys, IsRefusal, LacksRoom}
+use Rattle.key_columns.specs.Answers.{AreCellsBy, IsColumnOfKeys, IsRefusal, LacksRoom}
 use Rattle.key_columns.specs.Cells.{AreCells, AreCellsOf, AreTyped, key_count, type_in, types_in}
 use Rattle.key_columns.specs.Faults.{IsFirstFault, Refuses}
-use Rattle.key_columns.specs.Layout.{IsColumnOf, bitmap_length, bytes_length, offsets_length, values_length}
-use Rattle.key_columns.specs.Types.{IsTypesFault, type_at_code, types_of_codes}
+use Rattle.key_columns.specs.Layout.{IsColumnOf, bitmap_length, offsets_length, values_length}
+use Rattle.key_columns.specs.Types.{HasTypes, IsTypesFault, type_at_code, types_of_codes}
 use Rattle.key_columns.specs.declared.faults.KeysFault.{KeysFault}
 use Rattle.key_columns.specs.declared.faults.KeysFault.TheVariants.{BadBytes, BadOffsets, BadOptions, NoRoom, OutOfMemory, UnknownKind, WrongLength}
 use Rattle.key_columns.specs.declared.keys.RowKeys.{RowKeys}
@@ -45,7 +43,7 @@ filled-kind (Some Binary) = tt
 filled-kind (Some LargeBinary) = tt
 filled-kind (Some Null) = tt
 
-plain-codes : (codes : List ℕ) → HaveNoVariant (as_type_trees (types_of_codes codes))
+pub plain-codes : (codes : List ℕ) → HaveNoVariant (as_type_trees (types_of_codes codes))
 plain-codes [] = tt
 plain-codes (code ∷ codes) = (plain-kind (kind_at code), plain-codes codes)
 
@@ -57,22 +55,21 @@ filled-codes (code ∷ codes) = (filled-kind (kind_at code), filled-codes codes)
 pub record AreReadFrom (codes bytes : List ℕ) (keys : RowKeys) : Type 0 where
   pub types : map type_of keys.dtypes.now ≡ types_of_codes codes
   pub options' : keys.options.now ≡ map options_in bytes
-  pub counts : length bytes ≡ length codes
-  pub within : keys.which < length codes
+  pub sound : HasTypes codes bytes keys.which
 
 pub typed : (codes bytes : List ℕ) (keys : RowKeys) → AreReadFrom codes bytes keys → AreTyped keys
 typed codes bytes keys read =
     let many : length keys.dtypes.now ≡ length codes = sym (length-map keys.dtypes.now type_of) ∙ ap length read.types ∙ length-map codes type_at_code in
-    let few : length keys.options.now ≡ length codes = ap length read.options' ∙ length-map bytes options_in ∙ read.counts in
+    let few : length keys.options.now ≡ length codes = ap length read.options' ∙ length-map bytes options_in ∙ read.sound.column.0 in
     record {
       counts = many ∙ sym few;
-      within = omega (arith, read.within, many);
+      within = omega (arith, read.sound.column.1, many);
       plain = subst (λ ts. HaveNoVariant (as_type_trees ts)) (sym read.types) (plain-codes codes);
       filled = subst (λ ts. AllHaveVariants (as_type_trees ts)) (sym read.types) (filled-codes codes);
     }
 
 pub of-kind : (codes bytes : List ℕ) (keys : RowKeys) (kind : Kind) → AreReadFrom codes bytes keys → kind_at (slice_index codes keys.which) ≡ Some kind → type_in keys ≡ type_of_kind kind
-of-kind codes bytes keys kind read is = ap (λ ts. get_or ts keys.which null_type) read.types ∙ get_or-map type_at_code codes keys.which 0 null_type read.within ∙ ap type_at is
+of-kind codes bytes keys kind read is = ap (λ ts. get_or ts keys.which null_type) read.types ∙ get_or-map type_at_code codes keys.which 0 null_type read.sound.column.1 ∙ ap type_at is
 
 pub cells-by : (codes bytes : List ℕ) (keys : RowKeys) (cells : List Content) → AreReadFrom codes bytes keys → AreCells keys cells → AreCellsBy codes bytes keys.which keys.bytes.now keys.offsets.now cells
 cells-by codes bytes keys cells read are =
@@ -124,8 +121,8 @@ keys-refused codes bytes keys v n p WrongLength read h = absurd h.cause
 keys-refused codes bytes keys v n p (UnknownKind k) read h = absurd h.cause
 keys-refused codes bytes keys v n p (BadOptions k) read h = absurd h.cause
 keys-refused codes bytes keys v n p (NoRoom k) read h = absurd h.cause
-keys-refused codes bytes keys v n p (BadOffsets k) read h = first-by codes bytes keys (BadOffsets k) read h
-keys-refused codes bytes keys v n p (BadBytes k) read h = first-by codes bytes keys (BadBytes k) read h
+keys-refused codes bytes keys v n p (BadOffsets k) read h = (read.sound, first-by codes bytes keys (BadOffsets k) read h)
+keys-refused codes bytes keys v n p (BadBytes k) read h = (read.sound, first-by codes bytes keys (BadBytes k) read h)
 
 -- a refusal that is passed on
 pub passed-on : (r : Result ℕ KeysFault) (e : KeysFault) (P : KeysFault → Type 0) → IsErr r × IsErrAnd r (λ f. f ≡ e) → P e → IfErr r P

@@ -4,16 +4,15 @@ use Rattle.std.specs.Prelude.{slice_index, slice_range}
 use Rattle.std.proofs.lemmas.List.{ext_get_or, get_or-map}
 use Rattle.vortex_dtype.specs.TypeOf.{as_type_trees}
 use Rattle.vortex_dtype.specs.TypeTree.{TypeTree}
-use Rattle.vortex_value.specs.TypesWithin.{HaveNoVariant}
 use Rattle.vortex_value.specs.Values.Content.{Content, content, null}
-use Rattle.vortex_value.specs.Values.RawTree.{RawTree, absent}
+use Rattle.vortex_value.specs.Values.RawTree.{RawTree}
 use Rattle.vortex_row.specs.Columns.{row_key}
-use Rattle.vortex_row.specs.Decoded.{AreValuesOf, BeginsWithRow, values_key}
+use Rattle.vortex_row.specs.Decoded.{AreValuesOf, values_key}
 use Rattle.vortex_row.specs.Laws.{KeysAreApart, ValuesHaveNoTyped}
 use Rattle.vortex_row.specs.declared.options.SortOptions.{SortOptions}
-use Rattle.column_keys.specs.Keys.{AreRowKeys, key_of_row, row_of}
-use Rattle.key_columns.specs.Cells.{AreCellsOf, IsCellAt, IsCellOf, IsPlaced, key_at, key_count}
-use Rattle.key_columns.specs.Laws.{AreColumnsOf, ColumnsComeBack, IsContentOf}
+use Rattle.column_keys.specs.Keys.{AreRowKeys, row_of}
+use Rattle.key_columns.specs.Cells.{AreCellsOf, IsCellAt, key_at, key_count}
+use Rattle.key_columns.specs.Laws.{AreColumnsOf, ColumnsComeBack}
 use Rattle.key_columns.proofs.RowLaws.{content-there, one-content}
 
 -- the values of a row

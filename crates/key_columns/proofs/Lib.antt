@@ -1,9 +1,10 @@
 mod BitSteps
 mod CellSteps
 mod ColumnSteps
-mod GivenSteps
+pub mod GivenSteps
 mod LawSteps
 mod NumberSteps
+mod ReadSteps
 mod RowLaws
 mod StringSteps
 mod TypeSteps

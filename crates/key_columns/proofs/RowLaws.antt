@@ -1,24 +1,19 @@
--- What a row has in a column is one content, and its key is refused for no reason.
-use Rattle.std.proofs.Common.{◌≡◌, ◌≢◌, ◌∙◌, ℕ, zero, suc, ◌+◌, ◌<◌, ◌≤◌, ◌⊎◌, inl, inr, List, [], ◌∷◌, ◌++◌, length, map, get_or, append-nil, refl, sym, subst, ap, ap₂, arith}
+-- What a row has in a column is one content.
+use Rattle.std.proofs.Common.{◌≡◌, ◌∙◌, ℕ, zero, suc, ◌<◌, List, [], ◌∷◌, ◌++◌, length, map, get_or, refl, sym, ap, arith}
 use Rattle.std.specs.List.{All}
-use Rattle.std.proofs.lemmas.List.{get_or-map, length-map}
+use Rattle.std.proofs.lemmas.List.{length-map}
 use Rattle.std.proofs.lemmas.List.Elements.{All-cons, All-nil}
-use Rattle.std.specs.Prelude.{slice_index}
-use Rattle.vortex_dtype.specs.TypeOf.{as_type_trees, dtype_trees, type_of}
-use Rattle.vortex_dtype.specs.TypeTree.{TypeTree, TypeTrees, null_type}
+use Rattle.vortex_dtype.specs.TypeOf.{as_type_trees, type_of}
+use Rattle.vortex_dtype.specs.TypeTree.{TypeTree, null_type}
 use Rattle.vortex_value.specs.Equality.{HasNoTyped}
 use Rattle.vortex_value.specs.TypesWithin.{HaveNoVariant}
 use Rattle.vortex_value.specs.Values.Content.{Content, content, null}
 use Rattle.vortex_value.specs.Values.RawTree.{RawTree, absent}
-use Rattle.vortex_row.specs.Columns.{row_key}
-use Rattle.vortex_row.specs.Decoded.{AreValuesOf, BeginsWithRow, IsFirstBad, IsRowKeyOf, IsValueOf, values_key}
+use Rattle.vortex_row.specs.Decoded.{AreValuesOf, IsValueOf, values_key}
 use Rattle.vortex_row.specs.Held.{IsHeld}
 use Rattle.vortex_row.specs.Laws.{KeysAreApart, ValuesHaveNoTyped}
 use Rattle.vortex_row.specs.declared.options.SortOptions.{SortOptions}
-use Rattle.key_columns.specs.Cells.{AreTyped, HasCell, IsCellAt, IsCellOf, key_at, types_in}
-use Rattle.key_columns.specs.Faults.{GoesOnAfter, IsFaultAt, IsRowFault, IsWrongKey}
-use Rattle.key_columns.specs.declared.faults.KeysFault.{KeysFault}
-use Rattle.key_columns.specs.declared.faults.KeysFault.TheVariants.{BadBytes, BadOffsets, BadOptions, NoRoom, OutOfMemory, UnknownKind, WrongLength}
+use Rattle.key_columns.specs.Cells.{AreTyped, HasCell, IsCellOf, key_at}
 use Rattle.key_columns.specs.declared.keys.RowKeys.{RowKeys}
 
 -- ---- values of types
@@ -72,27 +67,3 @@ types-counts keys typed = length-map keys.dtypes.now type_of ∙ typed.counts
 pub one-cell : KeysAreApart → ValuesHaveNoTyped → (keys : RowKeys) (row : ℕ) (c d : Content) → AreTyped keys → HasCell keys row c → HasCell keys row d → c ≡ d
 one-cell apart law keys row c d typed one other =
     one-content apart law (map type_of keys.dtypes.now) keys.options.now keys.which (key_at keys.bytes.now keys.offsets.now row) c d (types-counts keys typed) typed.plain one.cell other.cell
-
--- ---- a key is refused for want of memory alone
-
-key-right : KeysAreApart → ValuesHaveNoTyped → (types : List TypeTree) (os : List SortOptions) (which : ℕ) (key : List ℕ) (c : Content) (p : ℕ) → length types ≡ length os → HaveNoVariant (as_type_trees types)
-    → IsCellOf os (as_type_trees types) which key c → ¬ (IsWrongKey os (as_type_trees types) key p)
-key-right apart law types os which key c p counts plain cell (inl bad) =
-    let begins : BeginsWithRow os (as_type_trees types) key cell.values [] = record { values = cell.row.values; is = cell.row.is } in
-    let whole : IsRowKeyOf os (as_type_trees types) key = record { values = cell.values; begins = begins } in
-    bad.no_key key [] whole (sym (append-nil key))
-key-right apart law types os which key c p counts plain cell (inr after) =
-    let begins = after.is_one.begins in
-    let short : after.key ≡ values_key os after.is_one.values = begins.is ∙ append-nil (values_key os after.is_one.values) in
-    let both : values_key os after.is_one.values ++ after.rest ≡ values_key os cell.values ++ [] = ap (λ k. k ++ after.rest) (sym short) ∙ sym after.is ∙ cell.row.is in
-    after.more (rows-apart apart law types os after.is_one.values cell.values after.rest [] counts plain begins.values cell.row.values both).1
-
-pub only-memory : KeysAreApart → ValuesHaveNoTyped → (keys : RowKeys) (row : ℕ) (c : Content) (e : KeysFault) → AreTyped keys → HasCell keys row c → IsRowFault keys row e → e ≡ OutOfMemory
-only-memory apart law keys row c OutOfMemory typed has why = refl
-only-memory apart law keys row c WrongLength typed has why = absurd why
-only-memory apart law keys row c (UnknownKind k) typed has why = absurd why
-only-memory apart law keys row c (BadOptions k) typed has why = absurd why
-only-memory apart law keys row c (NoRoom n) typed has why = absurd why
-only-memory apart law keys row c (BadOffsets at) typed has why = absurd (why.1 has.placed)
-only-memory apart law keys row c (BadBytes place) typed has why =
-    absurd (key-right apart law (map type_of keys.dtypes.now) keys.options.now keys.which (key_at keys.bytes.now keys.offsets.now row) c why.1.0 (types-counts keys typed) typed.plain has.cell why.1.2)

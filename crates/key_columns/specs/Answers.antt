@@ -9,9 +9,9 @@ use Rattle.vortex_value.specs.Values.Content.{Content}
 use Rattle.key_columns.specs.Cells.{AreCellsOf, key_count}
 use Rattle.key_columns.specs.Faults.{IsFirstFault}
 use Rattle.key_columns.specs.Layout.{IsColumnOf, bitmap_length, offsets_length, values_length}
-use Rattle.key_columns.specs.Types.{IsTypesFault, types_of_codes}
+use Rattle.key_columns.specs.Types.{HasTypes, IsTypesFault, types_of_codes}
 use Rattle.key_columns.specs.declared.faults.KeysFault.{KeysFault}
-use Rattle.key_columns.specs.declared.faults.KeysFault.TheVariants.{BadBytes, BadOffsets, BadOptions, NoRoom, OutOfMemory, UnknownKind, WrongLength}
+use Rattle.key_columns.specs.declared.faults.KeysFault.TheVariants.{BadBytes, BadOffsets, NoRoom, OutOfMemory}
 
 -- what the column has in all rows, by the codes of the kinds and the bytes of options
 abbrev pub AreCellsBy : List ℕ → List ℕ → ℕ → List ℕ → List ℕ → List Content → Type 0
@@ -49,7 +49,7 @@ pub record LacksRoom (codes options : List ℕ) (which : ℕ) (bytes offsets : L
 -- why keys give no column in rooms of these sizes: the first reason in this order
 abbrev pub IsRefusal : List ℕ → List ℕ → ℕ → List ℕ → List ℕ → ℕ → ℕ → ℕ → KeysFault → Type 0
 IsRefusal codes options which bytes offsets v n p OutOfMemory = Unit {0}
-IsRefusal codes options which bytes offsets v n p (BadOffsets row) = IsFirstFault (map options_in options) (as_type_trees (types_of_codes codes)) which bytes offsets (BadOffsets row)
-IsRefusal codes options which bytes offsets v n p (BadBytes place) = IsFirstFault (map options_in options) (as_type_trees (types_of_codes codes)) which bytes offsets (BadBytes place)
-IsRefusal codes options which bytes offsets v n p (NoRoom count) = LacksRoom codes options which bytes offsets v n p count
+IsRefusal codes options which bytes offsets v n p (BadOffsets row) = HasTypes codes options which × IsFirstFault (map options_in options) (as_type_trees (types_of_codes codes)) which bytes offsets (BadOffsets row)
+IsRefusal codes options which bytes offsets v n p (BadBytes place) = HasTypes codes options which × IsFirstFault (map options_in options) (as_type_trees (types_of_codes codes)) which bytes offsets (BadBytes place)
+IsRefusal codes options which bytes offsets v n p (NoRoom count) = HasTypes codes options which × LacksRoom codes options which bytes offsets v n p count
 IsRefusal codes options which bytes offsets v n p fault = IsTypesFault codes options which fault

@@ -1,5 +1,5 @@
 -- Worked cases of the definitions, each a theorem.
-use Rattle.std.specs.Prelude.{◌≡◌, ℕ, pos, negsuc, true, false, List, [], ◌∷◌, map, refl}
+use Rattle.std.specs.Prelude.{◌≡◌, ℕ, pos, negsuc, true, false, List, [], ◌∷◌, refl}
 use Rattle.arrow_columns.specs.declared.kinds.IntegerKind.TheVariants.{I16}
 use Rattle.arrow_columns.specs.declared.kinds.Kind.TheVariants.{Boolean, Integer, Null, Utf8}
 use Rattle.vortex_dtype.specs.TypeTree.{integer_type, null_type, utf8_type}
@@ -7,9 +7,9 @@ use Rattle.vortex_dtype.specs.declared.nullability.Nullability.TheVariants.{Null
 use Rattle.vortex_dtype.specs.declared.ptype.PType.TheVariants as types
 use Rattle.vortex_row.specs.Columns.{row_key}
 use Rattle.vortex_row.specs.declared.options.SortOptions.{SortOptions}
-use Rattle.vortex_value.specs.Values.Content.{Content, null, text, truth, whole}
+use Rattle.vortex_value.specs.Values.Content.{null, text, truth, whole}
 use Rattle.key_columns.specs.Cells.{key_at, key_count}
-use Rattle.key_columns.specs.Layout.{bytes_length, contents_in, offsets_length, values_length}
+use Rattle.key_columns.specs.Layout.{contents_in, offsets_length, values_length}
 use Rattle.key_columns.specs.Types.{types_of_codes}
 
 -- the keys of the rows (-1, "a") and (7, null), the strings by greater ones first and nulls last

@@ -6,7 +6,7 @@ use Rattle.vortex_row.specs.Decoded.{IsFirstBad, IsRowKeyOf}
 use Rattle.vortex_row.specs.declared.options.SortOptions.{SortOptions}
 use Rattle.key_columns.specs.Cells.{IsCellAt, IsPlaced, key_at, key_count, types_in}
 use Rattle.key_columns.specs.declared.faults.KeysFault.{KeysFault}
-use Rattle.key_columns.specs.declared.faults.KeysFault.TheVariants.{BadBytes, BadOffsets, BadOptions, OutOfMemory, UnknownKind, WrongLength}
+use Rattle.key_columns.specs.declared.faults.KeysFault.TheVariants.{BadBytes, BadOffsets, OutOfMemory}
 use Rattle.key_columns.specs.declared.keys.RowKeys.{RowKeys}
 
 -- the bytes go on after one of these, which is so long

@@ -1,5 +1,5 @@
 -- A column in Arrow's layout with offsets of 64 bits, and how cells are written in it.
-use Rattle.std.specs.Prelude.{◌≡◌, ℕ, zero, suc, ℤ, pos, ◌+◌, ◌*◌, ◌/◌, ◌<◌, ◌≤◌, Bool, true, false, List, [], ◌∷◌, length, map, replicate, slice_index, slice_index_or, slice_range}
+use Rattle.std.specs.Prelude.{◌≡◌, ℕ, ℤ, pos, ◌+◌, ◌*◌, ◌/◌, ◌<◌, ◌≤◌, Bool, true, false, List, [], ◌∷◌, length, map, replicate, slice_index, slice_index_or, slice_range}
 use Rattle.arrow_columns.specs.Bitmaps.{bit_of}
 use Rattle.arrow_columns.specs.Cells.{cells_from}
 use Rattle.arrow_columns.specs.Integers.{integer_of, item_at, width_of}
@@ -53,6 +53,12 @@ values_length (Integer kind) cells = length cells * width_of kind
 values_length Boolean cells = bitmap_length (length cells)
 values_length Null cells = 0
 values_length kind cells = bytes_length cells
+
+-- how many bytes the values of a column of so many rows have, whatever they are: none if they are strings or bytes
+abbrev pub fixed_length : Kind → ℕ → ℕ
+fixed_length (Integer kind) count = count * width_of kind
+fixed_length Boolean count = bitmap_length count
+fixed_length kind count = 0
 
 -- how many offsets a column of so many rows has
 abbrev pub offsets_length : Kind → ℕ → ℕ

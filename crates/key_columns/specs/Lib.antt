@@ -4,5 +4,6 @@ pub mod Examples
 pub mod Faults
 pub mod Laws
 pub mod Layout
+pub mod Read
 pub mod Types
 pub mod Words

@@ -3,7 +3,7 @@ use Rattle.std.specs.Prelude.{◌≡◌, ◌≢◌, ℕ, ◌<◌, ◌≤◌, ◌
 use Rattle.arrow_columns.specs.Kinds.{kind_at}
 use Rattle.column_cells.specs.Types.{type_at}
 use Rattle.key_columns.specs.declared.faults.KeysFault.{KeysFault}
-use Rattle.key_columns.specs.declared.faults.KeysFault.TheVariants.{BadBytes, BadOffsets, BadOptions, OutOfMemory, UnknownKind, WrongLength}
+use Rattle.key_columns.specs.declared.faults.KeysFault.TheVariants.{BadOptions, OutOfMemory, UnknownKind, WrongLength}
 use Rattle.vortex_dtype.specs.TypeTree.{TypeTree}
 
 -- the type of the kind with this code; of no kind, that of nulls
@@ -52,3 +52,9 @@ IsTypesFault codes bytes which WrongLength = (length bytes ≢ length codes) ⊎
 IsTypesFault codes bytes which (BadOptions k) = HasColumn codes bytes which × IsFirstBadOptions bytes k
 IsTypesFault codes bytes which (UnknownKind k) = HasColumn codes bytes which × AreOptions bytes (length bytes) × IsFirstUnknown codes k
 IsTypesFault codes bytes which _ = ⊥
+
+-- the codes are of kinds and the bytes stand for options, as many as each other, and there is a column of this number
+pub record HasTypes (codes bytes : List ℕ) (which : ℕ) : Type 0 where
+  pub column : HasColumn codes bytes which
+  pub options' : AreOptions bytes (length bytes)
+  pub kinds : AreKinds codes (length codes)

@@ -10,7 +10,6 @@ pub use Rattle.vortex_dtype.specs.declared.nullability.Nullability.TheVariants.{
 pub use Rattle.vortex_pvalue.specs.Bytes.{bytes_of}
 pub use Rattle.vortex_pvalue.specs.Whole.{ptype_of, whole_of}
 pub use Rattle.vortex_row.specs.Decoded.{IsValueOf}
-pub use Rattle.vortex_row.specs.Slots.{HasSlot, Writes}
 pub use Rattle.vortex_value.specs.Size.{capped}
 pub use Rattle.vortex_value.specs.Validity.{Valid}
 pub use Rattle.vortex_value.specs.Values.Content.{Content}
@@ -20,6 +19,6 @@ pub use Rattle.key_columns.specs.Answers.{IsColumnOfKeys, IsRefusal, offsets_len
 pub use Rattle.key_columns.specs.Cells.{AreCells, AreCellsOf, AreTyped, HasCell, IsPlaced, key_at, key_count, rows_in, type_in, types_in}
 pub use Rattle.key_columns.specs.Faults.{IsRowFault, Refuses, RefusesKeys}
 pub use Rattle.key_columns.specs.Laws.{ColumnsComeBack}
-pub use Rattle.key_columns.specs.Layout.{AreBits, AreIntegers, AreStrings, IsColumnOf, bitmap_length, bytes_in, bytes_length, contents_in, is_present, number_in, offsets_length, truth_in, values_length}
-pub use Rattle.key_columns.specs.Types.{AreKinds, AreOptions, IsKindsFault, IsOptionsFault, IsTypesFault, type_at_code, types_of_codes}
+pub use Rattle.key_columns.specs.Layout.{AreBits, AreIntegers, AreStrings, IsColumnOf, bitmap_length, bytes_in, bytes_length, contents_in, fixed_length, is_present, number_in, offsets_length, truth_in, values_length}
+pub use Rattle.key_columns.specs.Types.{AreKinds, AreOptions, HasTypes, IsKindsFault, IsOptionsFault, IsTypesFault, type_at_code, types_of_codes}
 pub use Rattle.key_columns.specs.declared.faults.KeysFault.TheVariants.{BadBytes, BadOffsets, BadOptions, OutOfMemory, UnknownKind, WrongLength}

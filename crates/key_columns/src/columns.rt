@@ -1,12 +1,12 @@
 //! The column that keys of rows give.
 
-ghost use Rattle.std.specs.Prelude.{◌≡◌, ◌≢◌, ◌≤◌, IfErr, IfOk, drop, length};
-ghost use Rattle.key_columns.specs.Words.{IsColumnOfKeys, IsRefusal, OutOfMemory, bitmap_length, key_count, offsets_length_at};
+ghost use Rattle.std.specs.Prelude.{◌≡◌, ◌≢◌, ◌≤◌, IfErr, IfOk, OnOk, drop, length};
+ghost use Rattle.key_columns.specs.Words.{HasTypes, IsColumnOfKeys, IsRefusal, OutOfMemory, bitmap_length, key_count, offsets_length_at};
 
 use crate::faults::KeysFault;
 use crate::keys::{RowKeys, key_count};
 use crate::types::read_types;
-use crate::writing::{bitmap_length, check_keys, offsets_length, values_length, write_column};
+use crate::writing::{bitmap_length, fixed_length, offsets_length, read_column, values_length};
 use std::alloc::Global;
 
 /// Writes one column of the rows that keys were made of, in Arrow's layout: a bit for each row, 0
@@ -35,6 +35,7 @@ pub fn column_of_keys(
 ) -> Result<usize, KeysFault>
     ensures column { IfOk result (λ count. IsColumnOfKeys kinds.now options.now which
         bytes.now offsets.now count validity_room.new values_room.new offsets_room.new) }
+    ensures sound { OnOk result (HasTypes kinds.now options.now which) }
     ensures fits { IfOk result (λ count. (count ≤ length values_room.old)
         × (bitmap_length (key_count offsets.now) ≤ length validity_room.old)
         × (offsets_length_at kinds.now which offsets.now ≤ length offsets_room.old)) }
@@ -59,25 +60,24 @@ pub fn column_of_keys(
         bytes,
         which,
     };
-    let string_bytes = check_keys(alloc, &keys)?;
     let rows = key_count(offsets);
     let bits = bitmap_length(rows);
-    let count = values_length(types.kind, rows, string_bytes);
     let places = offsets_length(types.kind, rows);
+    let room = values_room.len().min(usize::MAX - 1);
     if validity_room.len() < bits
-        || values_room.len() < count
-        || count == usize::MAX
         || offsets_room.len() < places
+        || room < fixed_length(types.kind, rows)
     {
+        let count = values_length(alloc, &keys, types.kind)?;
         return Err(KeysFault::NoRoom { count });
     }
-    write_column(
-        alloc,
-        &keys,
-        types.kind,
-        &mut validity_room[..bits],
-        &mut values_room[..count],
-        &mut offsets_room[..places],
-    )?;
+    let column = read_column(alloc, &keys, types.kind, room)?;
+    let count = column.count;
+    if room < count {
+        return Err(KeysFault::NoRoom { count });
+    }
+    validity_room[..bits].copy_from_slice(&column.validity);
+    values_room[..count].copy_from_slice(&column.values);
+    offsets_room[..places].copy_from_slice(&column.offsets);
     Ok(count)
 }

@@ -3,10 +3,10 @@
 //! A column in Arrow's layout, read back from the keys of rows.
 #![tactic(auto)]
 
-mod bits;
 mod cells;
 mod columns;
 mod faults;
+mod items;
 mod keys;
 pub mod laws;
 mod types;

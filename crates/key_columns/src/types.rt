@@ -1,7 +1,7 @@
 //! What keys are keys of: the types of columns, and how each is sorted.
 
 ghost use Rattle.std.specs.Prelude.{◌≡◌, ◌<◌, IfErr, IfOk, OnOk, Some, length, map, slice_index};
-ghost use Rattle.key_columns.specs.Words.{AreKinds, AreOptions, IsKindsFault, IsOptionsFault, IsTypesFault, kind_at, options_in, type_at_code, type_of, types_of_codes};
+ghost use Rattle.key_columns.specs.Words.{AreKinds, AreOptions, HasTypes, IsKindsFault, IsOptionsFault, IsTypesFault, kind_at, options_in, type_at_code, type_of, types_of_codes};
 
 use crate::faults::KeysFault;
 use arrow_columns::Kind;
@@ -37,8 +37,7 @@ pub(crate) fn read_types(
         (λ types. map type_of types.dtypes.items ≡ types_of_codes kinds.now) }
     ensures options { IfOk result (λ types. types.options.items ≡ map options_in options.now) }
     ensures kind { IfOk result (λ types. kind_at (slice_index kinds.now which) ≡ Some types.kind) }
-    ensures counts { OnOk result
-        ((length options.now ≡ length kinds.now) × (which < length kinds.now)) }
+    ensures sound { OnOk result (HasTypes kinds.now options.now which) }
     ensures fault { IfErr result (IsTypesFault kinds.now options.now which) }
 {
     if options.len() != kinds.len() || which >= kinds.len() {

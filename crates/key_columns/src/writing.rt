@@ -1,35 +1,29 @@
-//! The steps from keys to a column: all keys are tested, and then the column is written.
+//! The steps from keys to a column: each key is read once, tested, and written into buffers.
 
-ghost use Rattle.std.specs.Prelude.{◌≡◌, ◌*◌, ◌+◌, ◌<◌, ◌≤◌, ℕ, List, IfErr, IfOk, OnOk, false, length};
-ghost use Rattle.key_columns.specs.Words.{AreBits, AreCells, AreIntegers, AreStrings, AreTyped, Content, IsColumnOf, Nullable, OutOfMemory, Refuses, bit_of, bitmap_length, bool_type, bytes_length, capped, integer_type, is_present, offsets_length, ptype_of_kind, rows_in, truth_in, type_in, type_of_kind, values_length, width_of};
+ghost use Rattle.std.specs.Prelude.{◌≡◌, ◌*◌, ◌<◌, ◌≤◌, [], List, IfErr, IfOk, OnOk, length, replicate};
+ghost use Rattle.key_columns.specs.Read.{AreClear, IsReadColumn, IsReadInto};
+ghost use Rattle.key_columns.specs.Words.{AreBits, AreCells, AreIntegers, AreStrings, AreTyped, Content, Nullable, Refuses, bitmap_length, bytes_length, capped, fixed_length, integer_type, is_present, offsets_length, ptype_of_kind, rows_in, truth_in, type_in, type_of_kind, values_length, width_of};
 
-use crate::bits::{clear_bits, put_bit, put_bytes, put_number};
 use crate::cells::{bytes_or_none, is_present, number_or_zero, truth_or_false};
 use crate::faults::KeysFault;
+use crate::items::{put_bytes, put_number};
 use crate::keys::{RowKeys, key_count, read_cell};
-use arrow_columns::{IntegerKind, Kind};
+use arrow_columns::{IntegerKind, Kind, put_bit};
 use column_cells::ptype_of;
 use std::alloc::Global;
 use vortex_row::laws::{keys_are_apart, values_have_no_typed};
 
-/// Tests all keys, and counts the bytes of the strings that the column has. It is the greatest
-/// `usize` if there are more.
-///
-/// The first key with a fault says it: `BadOffsets` if its offsets go down or past the end of the
-/// bytes, and `BadBytes` if it is no key of a row of the types. `OutOfMemory` may come in place of
-/// these.
-pub(crate) fn check_keys(alloc: Global, keys: &RowKeys) -> Result<usize, KeysFault>
-    requires { AreTyped keys.now }
-    ensures cells { IfOk result (λ total. (cells : List Content) × AreCells keys.now cells
-        × (total ≡ capped (bytes_length cells))) }
-    ensures fault { IfErr result (Refuses keys.now) }
-{
-    let mut total = 0usize;
-    for row in 0..key_count(keys.offsets) {
-        let cell = read_cell(alloc, keys, row)?;
-        total = total.saturating_add(bytes_or_none(&cell).len());
-    }
-    Ok(total)
+/// A column in buffers of its own.
+#[derive(Drop)]
+pub(crate) struct ReadColumn {
+    /// A bit for each row, 0 for a null.
+    pub(crate) validity: Vec<u8>,
+    /// The values: 0, false or an empty string for a null.
+    pub(crate) values: Vec<u8>,
+    /// Of strings or bytes: where each begins, and where the last one ends. Else none.
+    pub(crate) offsets: Vec<u64>,
+    /// How many bytes the values have, if they are kept or not.
+    pub(crate) count: usize,
 }
 
 /// How many bytes a bitmap of so many rows has.
@@ -39,17 +33,15 @@ pub(crate) fn bitmap_length(count: usize) -> usize
     count.div_ceil(8)
 }
 
-/// How many bytes the values of a column of so many rows have, whose strings have so many bytes. It
-/// is the greatest `usize` if there are more.
-pub(crate) fn values_length(kind: Kind, count: usize, string_bytes: usize) -> usize
-    ensures { (cells : List Content) → length cells ≡ count → string_bytes ≡ capped (bytes_length cells)
-        → result ≡ capped (values_length kind cells) }
+/// How many bytes the values of a column of so many rows have, whatever they are: none if they are
+/// strings or bytes. It is the greatest `usize` if there are more.
+pub(crate) fn fixed_length(kind: Kind, count: usize) -> usize
+    ensures { result ≡ capped (fixed_length kind count) }
 {
     match kind {
         Kind::Integer(kind) => count.saturating_mul(kind.width()),
         Kind::Boolean => bitmap_length(count),
-        Kind::Utf8 | Kind::LargeUtf8 | Kind::Binary | Kind::LargeBinary => string_bytes,
-        Kind::Null => 0,
+        Kind::Utf8 | Kind::LargeUtf8 | Kind::Binary | Kind::LargeBinary | Kind::Null => 0,
     }
 }
 
@@ -64,37 +56,119 @@ pub(crate) fn offsets_length(kind: Kind, count: usize) -> usize
     }
 }
 
-/// Writes the column that keys give, which `check_keys` tested: a bit for each row, 0 for a null,
-/// and the values, 0, false or an empty string for a null. Only a column of strings or bytes has
-/// offsets, of 64 bits each.
+/// Tests all keys, and counts the bytes of the strings that the column has. It is the greatest
+/// `usize` if there are more.
 ///
-/// `OutOfMemory` is its only refusal. The rooms may then have any bytes.
-pub(crate) fn write_column(
+/// The first key with a fault says it: `BadOffsets` if its offsets go down or past the end of the
+/// bytes, and `BadBytes` if it is no key of a row of the types. `OutOfMemory` may come in place of
+/// these.
+fn check_keys(alloc: Global, keys: &RowKeys) -> Result<usize, KeysFault>
+    requires { AreTyped keys.now }
+    ensures cells { IfOk result (λ total. (cells : List Content) × AreCells keys.now cells
+        × (total ≡ capped (bytes_length cells))) }
+    ensures fault { IfErr result (Refuses keys.now) }
+{
+    let mut total = 0usize;
+    for row in 0..key_count(keys.offsets) {
+        let cell = read_cell(alloc, keys, row)?;
+        total = total.saturating_add(bytes_or_none(&cell).len());
+    }
+    Ok(total)
+}
+
+/// Tests all keys as `check_keys` does, and counts the bytes of all values that the column has. It is
+/// the greatest `usize` if there are more.
+pub(crate) fn values_length(alloc: Global, keys: &RowKeys, kind: Kind) -> Result<usize, KeysFault>
+    requires { AreTyped keys.now }
+    ensures cells { IfOk result (λ count. (cells : List Content) × AreCells keys.now cells
+        × (count ≡ capped (values_length kind cells))) }
+    ensures fault { IfErr result (Refuses keys.now) }
+{
+    let string_bytes = check_keys(alloc, keys)?;
+    match kind {
+        Kind::Utf8 | Kind::LargeUtf8 | Kind::Binary | Kind::LargeBinary => Ok(string_bytes),
+        Kind::Integer(_) | Kind::Boolean | Kind::Null => {
+            Ok(fixed_length(kind, key_count(keys.offsets)))
+        }
+    }
+}
+
+/// Reads the column that keys give: a bit for each row, 0 for a null, and the values, 0, false or an
+/// empty string for a null. Only a column of strings or bytes has offsets, of 64 bits each. Strings
+/// are kept as long as they have no more bytes than the room.
+///
+/// The first key with a fault says it, as by `check_keys`.
+pub(crate) fn read_column(
     alloc: Global,
     keys: &RowKeys,
     kind: Kind,
-    validity: &mut [u8],
-    values: &mut [u8],
-    offsets: &mut [u64],
-) -> Result<(), KeysFault>
+    room: usize,
+) -> Result<ReadColumn, KeysFault>
     requires typed { AreTyped keys.now }
     requires of_kind { type_in keys.now ≡ type_of_kind kind }
-    requires validity { bitmap_length (rows_in keys.now) ≡ length validity.old }
-    requires cells { (cells : List Content) × AreCells keys.now cells
-        × (length values.old ≡ values_length kind cells) }
-    requires offsets { offsets_length kind (rows_in keys.now) ≡ length offsets.old }
-    ensures column { OnOk result ((cells : List Content) → AreCells keys.now cells
-        → IsColumnOf kind cells validity.new values.new offsets.new) }
-    ensures refused { IfErr result (λ e. e ≡ OutOfMemory) }
+    requires room { room < usize.MAX }
+    requires fixed { fixed_length kind (rows_in keys.now) ≤ room }
+    ensures read { IfOk result (IsReadColumn keys.now kind room) }
+    ensures fault { IfErr result (Refuses keys.now) }
 {
-    clear_bits(validity);
+    let rows = key_count(keys.offsets);
+    let mut validity = vec![in alloc; 0; bitmap_length(rows)]?;
+    let mut values = vec![in alloc; 0; fixed_length(kind, rows)]?;
+    let mut offsets = vec![in alloc; 0; offsets_length(kind, rows)]?;
+    let count = write_column(
+        alloc,
+        keys,
+        kind,
+        room,
+        &mut validity,
+        &mut values,
+        &mut offsets,
+    )?;
+    Ok(ReadColumn {
+        validity,
+        values,
+        offsets,
+        count,
+    })
+}
+
+/// Writes the column that keys give into buffers of zeros, and answers how many bytes the values
+/// have.
+fn write_column(
+    alloc: Global,
+    keys: &RowKeys,
+    kind: Kind,
+    room: usize,
+    validity: &mut [u8],
+    values: &mut Vec<u8>,
+    offsets: &mut [u64],
+) -> Result<usize, KeysFault>
+    requires typed { AreTyped keys.now }
+    requires of_kind { type_in keys.now ≡ type_of_kind kind }
+    requires room { room < usize.MAX }
+    requires validity { AreClear (rows_in keys.now) validity.old }
+    requires values { values.old.items ≡ replicate (fixed_length kind (rows_in keys.now)) 0 }
+    requires offsets { offsets_length kind (rows_in keys.now) ≡ length offsets.old }
+    ensures read { IfOk result (λ count. IsReadInto keys.now kind room count
+        validity.new values.new.items offsets.new) }
+    ensures fault { IfErr result (Refuses keys.now) }
+{
     match kind {
-        Kind::Integer(kind) => write_integers(alloc, keys, kind, validity, values),
-        Kind::Boolean => write_booleans(alloc, keys, validity, values),
-        Kind::Utf8 | Kind::LargeUtf8 | Kind::Binary | Kind::LargeBinary => {
-            write_strings(alloc, keys, validity, values, offsets)
+        Kind::Integer(kind) => {
+            write_integers(alloc, keys, kind, validity, values)?;
+            Ok(values.len())
         }
-        Kind::Null => Ok(()),
+        Kind::Boolean => {
+            write_booleans(alloc, keys, validity, values)?;
+            Ok(values.len())
+        }
+        Kind::Utf8 | Kind::LargeUtf8 | Kind::Binary | Kind::LargeBinary => {
+            write_strings(alloc, keys, room, validity, values, offsets)
+        }
+        Kind::Null => {
+            check_keys(alloc, keys)?;
+            Ok(0)
+        }
     }
 }
 
@@ -108,15 +182,11 @@ fn write_integers(
 ) -> Result<(), KeysFault>
     requires typed { AreTyped keys.now }
     requires of_kind { type_in keys.now ≡ integer_type (ptype_of_kind kind) Nullable }
-    requires validity { bitmap_length (rows_in keys.now) ≤ length validity.old }
-    requires clear { (i : ℕ) → bit_of validity.old i ≡ false }
-    requires cells { (cells : List Content) × AreCells keys.now cells }
+    requires validity { AreClear (rows_in keys.now) validity.old }
     requires values { rows_in keys.now * width_of kind ≤ length values.old }
-    ensures present { OnOk result ((cells : List Content) → AreCells keys.now cells
-        → AreBits is_present cells validity.new) }
-    ensures written { OnOk result ((cells : List Content) → AreCells keys.now cells
-        → AreIntegers kind cells values.new) }
-    ensures refused { IfErr result (λ e. e ≡ OutOfMemory) }
+    ensures read { OnOk result ((cells : List Content) × AreCells keys.now cells
+        × AreBits is_present cells validity.new × AreIntegers kind cells values.new) }
+    ensures fault { IfErr result (Refuses keys.now) }
 {
     keys_are_apart();
     values_have_no_typed();
@@ -137,19 +207,14 @@ fn write_booleans(
     values: &mut [u8],
 ) -> Result<(), KeysFault>
     requires typed { AreTyped keys.now }
-    requires validity { bitmap_length (rows_in keys.now) ≤ length validity.old }
-    requires clear { (i : ℕ) → bit_of validity.old i ≡ false }
-    requires cells { (cells : List Content) × AreCells keys.now cells }
-    requires values { bitmap_length (rows_in keys.now) ≤ length values.old }
-    ensures present { OnOk result ((cells : List Content) → AreCells keys.now cells
-        → AreBits is_present cells validity.new) }
-    ensures written { OnOk result ((cells : List Content) → AreCells keys.now cells
-        → AreBits truth_in cells values.new) }
-    ensures refused { IfErr result (λ e. e ≡ OutOfMemory) }
+    requires validity { AreClear (rows_in keys.now) validity.old }
+    requires values { AreClear (rows_in keys.now) values.old }
+    ensures read { OnOk result ((cells : List Content) × AreCells keys.now cells
+        × AreBits is_present cells validity.new × AreBits truth_in cells values.new) }
+    ensures fault { IfErr result (Refuses keys.now) }
 {
     keys_are_apart();
     values_have_no_typed();
-    clear_bits(values);
     for row in 0..key_count(keys.offsets) {
         let cell = read_cell(alloc, keys, row)?;
         put_bit(validity, row, is_present(&cell));
@@ -159,35 +224,40 @@ fn write_booleans(
 }
 
 /// Writes the strings, or bytes, one after the other, and where each begins and ends. That of a null
-/// is empty.
+/// is empty. Answers how many bytes they have: the greatest `usize` if there are more. Once they have
+/// more than the room, no more are kept.
 fn write_strings(
     alloc: Global,
     keys: &RowKeys,
+    room: usize,
     validity: &mut [u8],
-    values: &mut [u8],
+    values: &mut Vec<u8>,
     offsets: &mut [u64],
-) -> Result<(), KeysFault>
+) -> Result<usize, KeysFault>
     requires typed { AreTyped keys.now }
-    requires validity { bitmap_length (rows_in keys.now) ≤ length validity.old }
-    requires clear { (i : ℕ) → bit_of validity.old i ≡ false }
-    requires cells { (cells : List Content) × AreCells keys.now cells
-        × (bytes_length cells ≤ length values.old) }
+    requires room { room < usize.MAX }
+    requires validity { AreClear (rows_in keys.now) validity.old }
+    requires values { values.old.items ≡ [] }
     requires offsets { rows_in keys.now < length offsets.old }
-    ensures present { OnOk result ((cells : List Content) → AreCells keys.now cells
-        → AreBits is_present cells validity.new) }
-    ensures written { OnOk result ((cells : List Content) → AreCells keys.now cells
-        → AreStrings cells values.new offsets.new) }
-    ensures refused { IfErr result (λ e. e ≡ OutOfMemory) }
+    ensures read { IfOk result (λ total. (cells : List Content) × AreCells keys.now cells
+        × (total ≡ capped (bytes_length cells)) × AreBits is_present cells validity.new
+        × (total ≤ room → (length values.new.items ≡ total)
+        × AreStrings cells values.new.items offsets.new)) }
+    ensures fault { IfErr result (Refuses keys.now) }
 {
     keys_are_apart();
     values_have_no_typed();
     offsets[0] = 0;
-    let mut place = 0;
+    let mut total = 0usize;
     for row in 0..key_count(keys.offsets) {
         let cell = read_cell(alloc, keys, row)?;
         put_bit(validity, row, is_present(&cell));
-        place = put_bytes(values, place, bytes_or_none(&cell));
-        offsets[row + 1] = place as u64;
+        let bytes = bytes_or_none(&cell);
+        total = total.saturating_add(bytes.len());
+        let kept = put_bytes(values, bytes, total <= room);
+        drop(cell);
+        kept?;
+        offsets[row + 1] = total as u64;
     }
-    Ok(())
+    Ok(total)
 }

@@ -12,7 +12,7 @@ use std::alloc::Global;
 
 /// The column `which` of the rows whose keys these are: a bit for each row, 0 for a null, and the
 /// values, 0, false or an empty string for a null. A column of strings or bytes has offsets, of 64
-/// bits each. Memory is asked for the columns, and for the values of a row.
+/// bits each. Memory is asked for the columns, for the values of a row, and for what is written.
 ///
 /// The keys are those of `doqallin_row_keys` for columns of these kinds and options. The key of row
 /// k goes from offset k to the next. Each is tested, so that they may come from anywhere.

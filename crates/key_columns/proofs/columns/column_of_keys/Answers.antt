@@ -4,12 +4,12 @@ use Rattle.vortex_dtype.specs.TypeOf.{type_of}
 use Rattle.key_columns.proofs.GivenSteps.{typed}
 use Rattle.key_columns.proofs.columns.column_of_keys.Goals as goal
 
-pub check_keys-requires : goal.check_keys-requires
-check_keys-requires c =
+pub values_length-requires : goal.values_length-requires
+values_length-requires c =
     typed c.args.kinds.now c.args.options.now _
-    (record { types = ap (map type_of) c.deref.ensures.value ∙ c.in_ok-types.ensures.types; options' = c.deref-2.ensures.value ∙ c.in_ok-types.ensures.options; counts = c.in_ok-types.ensures.counts.0; within = c.in_ok-types.ensures.counts.1 })
+    (record { types = ap (map type_of) c.deref.ensures.value ∙ c.in_ok-types.ensures.types; options' = c.deref-2.ensures.value ∙ c.in_ok-types.ensures.options; sound = c.in_ok-types.ensures.sound })
 
-pub write_column-requires-clause-typed : goal.write_column-requires-clause-typed
-write_column-requires-clause-typed c =
+pub read_column-requires-clause-typed : goal.read_column-requires-clause-typed
+read_column-requires-clause-typed c =
     typed c.args.kinds.now c.args.options.now _
-    (record { types = ap (map type_of) c.deref.ensures.value ∙ c.in_ok-types.ensures.types; options' = c.deref-2.ensures.value ∙ c.in_ok-types.ensures.options; counts = c.in_ok-types.ensures.counts.0; within = c.in_ok-types.ensures.counts.1 })
+    (record { types = ap (map type_of) c.deref.ensures.value ∙ c.in_ok-types.ensures.types; options' = c.deref-2.ensures.value ∙ c.in_ok-types.ensures.options; sound = c.in_ok-types.ensures.sound })

@@ -1,6 +1,5 @@
 -- One byte of options more, or the first that stands for none.
-use Rattle.std.proofs.Common.{arith}
-use Rattle.key_columns.proofs.TypeSteps.{options-more, options-none, read-more}
+use Rattle.key_columns.proofs.TypeSteps.{options-more, read-more}
 use Rattle.key_columns.proofs.types.read_options.Goals as goal
 
 pub loop-column-preserved : goal.loop-column-preserved

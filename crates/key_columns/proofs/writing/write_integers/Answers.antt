@@ -9,14 +9,19 @@ use Rattle.key_columns.specs.Cells.{rows_in}
 use Rattle.key_columns.specs.Layout.{is_present}
 use Rattle.key_columns.proofs.BitSteps.{bit-clear, bits-done, bits-more, bits-none}
 use Rattle.key_columns.proofs.NumberSteps.{integers-done, integers-more, integers-none, number-fits, number-room}
-use Rattle.key_columns.proofs.WriteSteps.{memory-alone, same-cell}
+use Rattle.key_columns.proofs.ColumnSteps.{keys-refused, some-done, some-more, some-none}
+use Rattle.key_columns.proofs.WriteSteps.{same-cell}
 use Rattle.key_columns.proofs.writing.write_integers.Goals as goal
 
 pub loop-row-init : goal.loop-row-init
-loop-row-init c = (bits-none is_present c.args.keys.now c.args.validity.now c.requires.clear, integers-none c.args.kind c.args.keys.now c.args.values.now)
+loop-row-init c = record {
+  cells = some-none c.args.keys.now;
+  bits = bits-none is_present c.args.keys.now c.args.validity.now c.requires.validity.zeros;
+  integers = integers-none c.args.kind c.args.keys.now c.args.values.now;
+}
 
 pub put_bit-requires-clause-clear : goal.put_bit-requires-clause-clear
-put_bit-requires-clause-clear c = bit-clear is_present c.args.keys.now c.loop-row.row c.loop-row.validity c.loop-row.invariant.0
+put_bit-requires-clause-clear c = bit-clear is_present c.args.keys.now c.loop-row.row c.loop-row.validity c.loop-row.invariant.bits
 
 pub number_or_zero-requires : goal.number_or_zero-requires
 number_or_zero-requires c =
@@ -33,17 +38,19 @@ loop-row-preserved c =
     let d = scalar_content c.in_ok-cell.cell in
     let raw = scalar_raw c.in_ok-cell.cell in
     let same = same-cell c.keys_are_apart.ensures c.values_have_no_typed.ensures keys c.loop-row.row d c.requires.typed c.in_ok-cell.ensures.cell in
-    let fits = number-fits (ptype_of_kind c.args.kind) raw (subst (λ t. Valid t raw) c.requires.of_kind c.in_ok-cell.ensures.value.valid) in (
-      bits-more is_present keys c.loop-row.row c.loop-row.validity c.put_bit.new.bitmap d _ same c.loop-row.invariant.0 c.is_present.ensures c.put_bit.ensures.bit c.put_bit.ensures.others,
-      integers-more c.args.kind keys c.loop-row.row c.loop-row.values c.put_number.new.values d _ _ same c.loop-row.invariant.1 (c.number_or_zero.ensures.typed ∙ c.ptype_of-ptype.ensures) c.number_or_zero.ensures.number fits c.put_number.ensures.item c.put_number.ensures.before,
-    )
+    let fits = number-fits (ptype_of_kind c.args.kind) raw (subst (λ t. Valid t raw) c.requires.of_kind c.in_ok-cell.ensures.value.valid) in
+    record {
+      cells = some-more keys c.loop-row.row d c.loop-row.invariant.cells c.in_ok-cell.ensures.cell;
+      bits = bits-more is_present keys c.loop-row.row c.loop-row.validity c.put_bit.new.bitmap d _ same c.loop-row.invariant.bits c.is_present.ensures c.put_bit.ensures.bit c.put_bit.ensures.others;
+      integers = integers-more c.args.kind keys c.loop-row.row c.loop-row.values c.put_number.new.values d _ _ same c.loop-row.invariant.integers (c.number_or_zero.ensures.typed ∙ c.ptype_of-ptype.ensures) c.number_or_zero.ensures.number fits c.put_number.ensures.item c.put_number.ensures.before;
+    }
 
-pub returns-clause-present : goal.returns-clause-present
-returns-clause-present c = let at : c.loop-row.row ≡ rows_in c.args.keys.now = omega (arith, c.key_count-row-end.ensures) in bits-done is_present c.args.keys.now c.loop-row.row c.loop-row.validity at c.loop-row.invariant.0
+pub returns-clause-read : goal.returns-clause-read
+returns-clause-read c =
+    let at : c.loop-row.row ≡ rows_in c.args.keys.now = omega (arith, c.key_count-row-end.ensures) in
+    let some = some-done c.args.keys.now c.loop-row.row at c.loop-row.invariant.cells in
+    (some.0, some.1, bits-done is_present c.args.keys.now c.loop-row.row c.loop-row.validity at c.loop-row.invariant.bits some.0 some.1, integers-done c.args.kind c.args.keys.now c.loop-row.row c.loop-row.values at c.loop-row.invariant.integers some.0 some.1)
 
-pub returns-clause-written : goal.returns-clause-written
-returns-clause-written c = let at : c.loop-row.row ≡ rows_in c.args.keys.now = omega (arith, c.key_count-row-end.ensures) in integers-done c.args.kind c.args.keys.now c.loop-row.row c.loop-row.values at c.loop-row.invariant.1
-
-pub returns-in_err-cell-clause-refused : goal.returns-in_err-cell-clause-refused
-returns-in_err-cell-clause-refused c =
-    memory-alone c.keys_are_apart.ensures c.values_have_no_typed.ensures c.args.keys.now c.loop-row.row c.requires.cells.0 _ _ c.requires.typed c.requires.cells.1 (omega (arith, c.loop-row-test.true, c.key_count-row-end.ensures)) c.from_residual.ensures c.in_err-cell.ensures.fault
+pub returns-in_err-cell-clause-fault : goal.returns-in_err-cell-clause-fault
+returns-in_err-cell-clause-fault c =
+    keys-refused c.args.keys.now c.loop-row.row c.loop-row.invariant.cells.0 _ _ c.from_residual.ensures (omega (arith, c.loop-row-test.true, c.key_count-row-end.ensures)) c.loop-row.invariant.cells.1 c.in_err-cell.ensures.fault

@@ -1,9 +1,9 @@
 -- The integers before stay.
-use Rattle.std.proofs.Common.{◌≡◌, ◌∙◌, ◌+◌, ◌-◌, ◌*◌, ◌≤◌, ℕ, ap, arith, length, rules, subst, sym}
+use Rattle.std.proofs.Common.{◌≡◌, ◌∙◌, ◌*◌, ℕ, ap, arith}
 use Rattle.vortex_dtype.specs.PTypes.{byte_width_of}
 use Rattle.vortex_pvalue.specs.Whole.{ptype_of}
 use Rattle.key_columns.proofs.NumberSteps.{below-item, item-kept, next-item}
-use Rattle.key_columns.proofs.bits.put_number.Goals as goal
+use Rattle.key_columns.proofs.items.put_number.Goals as goal
 
 pub returns-clause-before : goal.returns-clause-before
 returns-clause-before c =
