@@ -1,15 +1,13 @@
 -- Steps of reading the statistics of zones.
-use Rattle.std.proofs.Common.{◌≡◌, ◌≢◌, ℕ, suc, ◌+◌, ◌*◌, ◌<◌, ◌≤◌, ◌⊎◌, inl, inr, List, [], ◌∷◌, ◌++◌, length, map, get_or, refl, sym, subst, ap, ◌∙◌, arith}
+use Rattle.std.proofs.Common.{◌≡◌, ◌≢◌, ℕ, zero, suc, ◌+◌, ◌*◌, ◌<◌, ◌≤◌, ◌⊎◌, inl, inr, List, [], ◌∷◌, ◌++◌, drop, length, map, take, get_or, refl, sym, subst, ap, ◌∙◌, arith}
 use Rattle.std.specs.Prelude.{Err, IfErr, IsErr, IsErrAnd, Ok, Result}
 use Rattle.std.proofs.Math.ListN.{set}
 use Rattle.std.proofs.Math.Nat.{mul-le-mul_right, suc-mul}
-use Rattle.std.proofs.Math.Seq.{get_or-append_seam}
 use Rattle.std.proofs.lemmas.Bool.{cases_lt}
-use Rattle.std.proofs.lemmas.List.{get_or-set_other, get_or-set_same, get_or_append_left, length-append, length-map, map-append}
+use Rattle.std.proofs.lemmas.List.{get_or-set_other, get_or-set_same, length-map, map-set}
 use Rattle.vortex_dtype.specs.TypeOf.{type_of}
 use Rattle.vortex_dtype.specs.TypeTree.{TypeTree, null_type}
 use Rattle.vortex_dtype.specs.declared.types.DType.{DType}
-use Rattle.vortex_value.specs.TypesWithin.{HasNoVariant}
 use Rattle.vortex_statistics.specs.Form.{AreOf, IsFormOf, form}
 use Rattle.vortex_statistics.specs.FormAnswers.{HasValues, IsFirstWrong, SaysBound}
 use Rattle.vortex_statistics.specs.Statistics.{Known, known}
@@ -19,7 +17,7 @@ use Rattle.vortex_statistics.specs.declared.error.StatisticsError.TheVariants as
 use Rattle.vortex_filter.specs.Formula.{Formula}
 use Rattle.vortex_filter.specs.Outcomes.{outcomes}
 use Rattle.column_filters.proofs.ColumnSteps.{typed_at}
-use Rattle.column_filters.specs.Zones.{AreEnough, AreOutcomes, AreSaid, AreSaidBefore, IsBadPiece, IsOutcome, IsPiece, IsSaid, RefusesZone, RefusesZones, Says, fault_of_piece, open_statistics, outcomes_byte, piece_at}
+use Rattle.column_filters.specs.Zones.{AreEnough, AreOutcomes, AreSaid, AreSaidBefore, IsBadPiece, IsOutcome, IsPiece, IsSaid, RefusesZone, RefusesZones, SayVariant, Says, fault_of_piece, open_statistics, outcomes_byte, piece_at}
 use Rattle.column_filters.specs.declared.faults.ZoneFault.{ZoneFault}
 use Rattle.column_filters.specs.declared.faults.ZoneFault.TheVariants.{BadBytes, BadOffsets, HasVariant, OutOfMemory, WrongLength}
 
@@ -34,62 +32,75 @@ pub said_form : (t : TypeTree) (bytes offsets part : List ℕ) (p : ℕ) (s : Kn
 said_form t bytes offsets [] p s piece is some w = absurd (omega arith)
 said_form t bytes offsets (b ∷ part) p s piece is some w = record { piece = piece; says = subst (λ xs. Says t xs s) is w }
 
-pub bad_offsets : (t : TypeTree) (bytes offsets : List ℕ) (p : ℕ) (r : Result ColumnStatistics ZoneFault) (e : ZoneFault) → IsErr r × IsErrAnd r (λ f. f ≡ e) → (e ≡ BadOffsets p) × ¬ (IsPiece bytes offsets p) → IfErr r (IsBadPiece t bytes offsets p)
+pub bad_offsets : (t : TypeTree) (bytes offsets : List ℕ) (p : ℕ) (r : Result Unit ZoneFault) (e : ZoneFault) → IsErr r × IsErrAnd r (λ f. f ≡ e) → (e ≡ BadOffsets p) × ¬ (IsPiece bytes offsets p) → IfErr r (IsBadPiece t bytes offsets p)
 bad_offsets t bytes offsets p (Ok x) e h w = tt
 bad_offsets t bytes offsets p (Err f) e h w = subst (IsBadPiece t bytes offsets p) (sym (h.1 ∙ w.0)) (refl, w.1)
 
+abbrev refused_as : StatisticsError → Result Unit StatisticsError
+refused_as e = Err e
+
 -- a form that is refused
-pub bad_form : (t : TypeTree) (bytes offsets part : List ℕ) (p : ℕ) (e : StatisticsError) → IsPiece bytes offsets p → part ≡ piece_at bytes offsets p → 0 < length part → (e ≡ refusals.HasVariant → ¬ (HasNoVariant t) × SaysBound part)
-    → ((place : ℕ) → e ≡ refusals.BadBytes place → IsFirstWrong (IsFormOf t) (SaysBound part → HasValues t) part place) → IsBadPiece t bytes offsets p (fault_of_piece p e)
-bad_form t bytes offsets part p refusals.OutOfMemory piece is some variant bad = tt
-bad_form t bytes offsets part p refusals.TooManyRows piece is some variant bad = tt
-bad_form t bytes offsets part p refusals.HasVariant piece is some variant bad = let why = variant refl in (refl, piece, why.0, subst SaysBound is why.1)
-bad_form t bytes offsets part p (refusals.BadBytes place) piece is some variant bad =
+pub bad_form : (t : TypeTree) (bytes offsets part : List ℕ) (p : ℕ) (e : StatisticsError) → IsPiece bytes offsets p → part ≡ piece_at bytes offsets p → 0 < length part
+    → (refused_as e ≡ refused_as refusals.HasVariant → SayVariant t part) → (SayVariant t part → refused_as e ≡ refused_as refusals.HasVariant)
+    → ((place : ℕ) → refused_as e ≡ refused_as (refusals.BadBytes place) → IsFirstWrong (IsFormOf t) (SaysBound part → HasValues t) part place) → IsBadPiece t bytes offsets p (fault_of_piece p e)
+bad_form t bytes offsets part p refusals.OutOfMemory piece is some variant other bad = tt
+bad_form t bytes offsets part p refusals.TooManyRows piece is some variant other bad = tt
+bad_form t bytes offsets part p refusals.HasVariant piece is some variant other bad = (refl, piece, subst (SayVariant t) is (variant refl))
+bad_form t bytes offsets part p (refusals.BadBytes place) piece is some variant other bad =
     let there : piece_at bytes offsets p ≢ [] = λ e. some_bytes (ap length (is ∙ e)) in
-    (refl, piece, there, subst (λ xs. IsFirstWrong (IsFormOf t) (SaysBound xs → HasValues t) xs place) is (bad place refl))
+    let none : ¬ (SayVariant t part) = λ said. no_variant (other said) in
+    (refl, piece, there, subst (λ xs. ¬ (SayVariant t xs)) is none, subst (λ xs. IsFirstWrong (IsFormOf t) (SaysBound xs → HasValues t) xs place) is (bad place refl))
   where
     some_bytes : length part ≡ 0 → ⊥
     some_bytes none = omega arith
 
+    no_variant : refused_as (refusals.BadBytes place) ≡ refused_as refusals.HasVariant → ⊥
+    no_variant e = cc
+
 -- ---- the pieces of a zone
 
-pub said_none : (types : List TypeTree) (bytes offsets : List ℕ) (p : ℕ) → AreSaid types bytes offsets p 0 []
-said_none types bytes offsets p = record { all = refl; each = λ k l. absurd (omega arith) }
+-- each of the first columns has what its piece says
+abbrev pub AreSaidSoFar : List TypeTree → List ℕ → List ℕ → ℕ → ℕ → List Known → Type 0
+AreSaidSoFar types bytes offsets p count said = (k : ℕ) → k < count → IsSaid (get_or types k null_type) bytes offsets (p + k) (get_or said k open_statistics)
 
-pub said_empty : (columns : List DType) (bytes offsets : List ℕ) (p : ℕ) (read : List ColumnStatistics) → read ≡ [] → AreSaid (map type_of columns) bytes offsets p 0 (map known read)
-said_empty columns bytes offsets p read none = subst (λ xs. AreSaid (map type_of columns) bytes offsets p 0 (map known xs)) (sym none) (said_none (map type_of columns) bytes offsets p)
+pub so_far-none : (types : List TypeTree) (bytes offsets : List ℕ) (p : ℕ) (said : List Known) → AreSaidSoFar types bytes offsets p 0 said
+so_far-none types bytes offsets p said k l = absurd (omega arith)
 
-said_further : (types : List TypeTree) (bytes offsets : List ℕ) (p k : ℕ) (said : List Known) (s : Known) → AreSaid types bytes offsets p k said → IsSaid (get_or types k null_type) bytes offsets (p + k) s → AreSaid types bytes offsets p (k + 1) (said ++ s ∷ [])
-said_further types bytes offsets p k said s all one = record { all = omega (arith, all.all, length-append said (s ∷ [])); each = λ j l. by_place j (cases_lt j k) l }
+so_far-set : (types : List TypeTree) (bytes offsets : List ℕ) (p k : ℕ) (said : List Known) (s : Known) → k < length said → AreSaidSoFar types bytes offsets p k said → IsSaid (get_or types k null_type) bytes offsets (p + k) s
+    → AreSaidSoFar types bytes offsets p (k + 1) (set said k s)
+so_far-set types bytes offsets p k said s here all one j l = by_place (cases_lt j k)
   where
-    by_place : (j : ℕ) → (j < k) ⊎ (k ≤ j) → j < k + 1 → IsSaid (get_or types j null_type) bytes offsets (p + j) (get_or (said ++ s ∷ []) j open_statistics)
-    by_place j (inl before) l =
-        subst (λ x. IsSaid (get_or types j null_type) bytes offsets (p + j) x) (sym (get_or_append_left said (s ∷ []) open_statistics j (omega (arith, all.all)))) (all.each j before)
-    by_place j (inr after) l =
+    by_place : (j < k) ⊎ (k ≤ j) → IsSaid (get_or types j null_type) bytes offsets (p + j) (get_or (set said k s) j open_statistics)
+    by_place (inl before) = subst (λ x. IsSaid (get_or types j null_type) bytes offsets (p + j) x) (sym (get_or-set_other said k j s open_statistics (λ e. omega arith))) (all j before)
+    by_place (inr after) =
         let at : k ≡ j = omega arith in
-        let last : s ≡ get_or (said ++ s ∷ []) k open_statistics = sym (ap (λ i. get_or (said ++ s ∷ []) i open_statistics) (sym all.all) ∙ get_or-append_seam said s [] open_statistics) in
-        subst (λ i. IsSaid (get_or types i null_type) bytes offsets (p + i) (get_or (said ++ s ∷ []) i open_statistics)) at (subst (λ x. IsSaid (get_or types k null_type) bytes offsets (p + k) x) last one)
+        subst (λ i. IsSaid (get_or types i null_type) bytes offsets (p + i) (get_or (set said k s) i open_statistics)) at
+        (subst (λ x. IsSaid (get_or types k null_type) bytes offsets (p + k) x) (sym (get_or-set_same said k s open_statistics here)) one)
 
-pub said_more : (columns : List DType) (bytes offsets : List ℕ) (p k : ℕ) (d : DType) (read more : List ColumnStatistics) (s : ColumnStatistics) → k < length columns → d ≡ get_or columns k d → AreSaid (map type_of columns) bytes offsets p k (map known read)
-    → IsSaid (type_of d) bytes offsets (p + k) (known s) → more ≡ read ++ s ∷ [] → AreSaid (map type_of columns) bytes offsets p (k + 1) (map known more)
-said_more columns bytes offsets p k d read more s l is all one e =
-    subst (AreSaid (map type_of columns) bytes offsets p (k + 1)) (sym (ap (map known) e ∙ map-append known read (s ∷ [])))
-    (said_further (map type_of columns) bytes offsets p k (map known read) (known s) all (subst (λ t. IsSaid t bytes offsets (p + k) (known s)) (typed_at columns k d l is) one))
+pub so_far-more : (columns : List DType) (bytes offsets : List ℕ) (p k : ℕ) (d : DType) (read more : List ColumnStatistics) (s : ColumnStatistics) → k < length columns → length read ≡ length columns → d ≡ get_or columns k d
+    → AreSaidSoFar (map type_of columns) bytes offsets p k (map known read) → IsSaid (type_of d) bytes offsets (p + k) (known s) → more ≡ set read k s → AreSaidSoFar (map type_of columns) bytes offsets p (k + 1) (map known more)
+so_far-more columns bytes offsets p k d read more s l long is all one e =
+    subst (AreSaidSoFar (map type_of columns) bytes offsets p (k + 1)) (sym (ap (map known) e ∙ map-set known read k s))
+    (so_far-set (map type_of columns) bytes offsets p k (map known read) (known s) (omega (arith, long, length-map read known)) all (subst (λ t. IsSaid t bytes offsets (p + k) (known s)) (typed_at columns k d l is) one))
+
+pub all_said : (columns : List DType) (bytes offsets : List ℕ) (p k : ℕ) (read : List ColumnStatistics) → length columns ≤ k → length read ≡ length columns → AreSaidSoFar (map type_of columns) bytes offsets p k (map known read)
+    → AreSaid (map type_of columns) bytes offsets p (length columns) (map known read)
+all_said columns bytes offsets p k read end long all = record { all = length-map read known ∙ long; each = λ j l. all j (omega (arith, end)) }
 
 -- each of the pieces says something
 pub said_before : (types : List TypeTree) (bytes offsets : List ℕ) (p k : ℕ) (said : List Known) → AreSaid types bytes offsets p k said → AreSaidBefore types bytes offsets p k
 said_before types bytes offsets p k said all j l = (get_or said j open_statistics, all.each j l)
 
-zone_refused_by : (types : List TypeTree) (bytes offsets : List ℕ) (p k : ℕ) (said : List Known) (e : ZoneFault) → k < length types → AreSaid types bytes offsets p k said → IsBadPiece (get_or types k null_type) bytes offsets (p + k) e
+zone_refused_by : (types : List TypeTree) (bytes offsets : List ℕ) (p k : ℕ) (said : List Known) (e : ZoneFault) → k < length types → AreSaidSoFar types bytes offsets p k said → IsBadPiece (get_or types k null_type) bytes offsets (p + k) e
     → RefusesZone types bytes offsets p e
 zone_refused_by types bytes offsets p k said OutOfMemory l all bad = tt
 zone_refused_by types bytes offsets p k said WrongLength l all bad = absurd bad
-zone_refused_by types bytes offsets p k said (BadOffsets piece) l all bad = record { column = k; within = l; before = said_before types bytes offsets p k said all; cause = bad }
-zone_refused_by types bytes offsets p k said (BadBytes piece place) l all bad = record { column = k; within = l; before = said_before types bytes offsets p k said all; cause = bad }
-zone_refused_by types bytes offsets p k said (HasVariant piece) l all bad = record { column = k; within = l; before = said_before types bytes offsets p k said all; cause = bad }
+zone_refused_by types bytes offsets p k said (BadOffsets piece) l all bad = record { column = k; within = l; before = λ j less. (get_or said j open_statistics, all j less); cause = bad }
+zone_refused_by types bytes offsets p k said (BadBytes piece place) l all bad = record { column = k; within = l; before = λ j less. (get_or said j open_statistics, all j less); cause = bad }
+zone_refused_by types bytes offsets p k said (HasVariant piece) l all bad = record { column = k; within = l; before = λ j less. (get_or said j open_statistics, all j less); cause = bad }
 
 pub zone_refused : (columns : List DType) (bytes offsets : List ℕ) (p k : ℕ) (d : DType) (read : List ColumnStatistics) (r : Result Unit ZoneFault) (e : ZoneFault) → IsErr r × IsErrAnd r (λ f. f ≡ e) → k < length columns → d ≡ get_or columns k d
-    → AreSaid (map type_of columns) bytes offsets p k (map known read) → IsBadPiece (type_of d) bytes offsets (p + k) e → IfErr r (RefusesZone (map type_of columns) bytes offsets p)
+    → AreSaidSoFar (map type_of columns) bytes offsets p k (map known read) → IsBadPiece (type_of d) bytes offsets (p + k) e → IfErr r (RefusesZone (map type_of columns) bytes offsets p)
 zone_refused columns bytes offsets p k d read (Ok u) e h l is all bad = tt
 zone_refused columns bytes offsets p k d read (Err f) e h l is all bad =
     subst (RefusesZone (map type_of columns) bytes offsets p) (sym h.1)
@@ -177,4 +188,13 @@ pub memory_refused : (types : List TypeTree) (bytes offsets : List ℕ) (zones :
 memory_refused types bytes offsets zones (Ok u) e h is = tt
 memory_refused types bytes offsets zones (Err f) e h is = subst (RefusesZones types bytes offsets zones) (sym (h.1 ∙ is)) tt
 
-pub ruleset shown = (said_empty, not_enough)
+-- what a slice of a whole list gives back to it
+pub lent_back : {A : Type 0} (n : ℕ) (now old : List A) → length now ≡ length old → n ≡ length old → take n (now ++ drop (length now) old) ≡ now
+lent_back zero [] [] same all = refl
+lent_back (suc n) [] [] same all = absurd (omega arith)
+lent_back n [] (y ∷ old) same all = absurd (omega arith)
+lent_back n (x ∷ now) [] same all = absurd (omega arith)
+lent_back zero (x ∷ now) (y ∷ old) same all = absurd (omega arith)
+lent_back (suc n) (x ∷ now) (y ∷ old) same all = ap (λ xs. x ∷ xs) (lent_back n now old (omega arith) (omega arith))
+
+pub ruleset shown = (so_far-none, not_enough)

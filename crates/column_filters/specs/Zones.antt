@@ -77,14 +77,18 @@ fault_of_piece piece refusals.HasVariant = HasVariant piece
 fault_of_piece piece refusals.OutOfMemory = OutOfMemory
 fault_of_piece piece refusals.TooManyRows = OutOfMemory
 
--- why a piece says nothing of a column of the type
+-- the bytes say a bound of a type in which a variant stands
+abbrev pub SayVariant : TypeTree → List ℕ → Type 0
+SayVariant t part = (¬ (HasNoVariant t)) × SaysBound part
+
+-- why a piece says nothing of a column of the type: if it says a bound of one with a variant, just that
 abbrev pub IsBadPiece : TypeTree → List ℕ → List ℕ → ℕ → ZoneFault → Type 0
 IsBadPiece t bytes offsets p OutOfMemory = Unit {0}
 IsBadPiece t bytes offsets p WrongLength = ⊥
 IsBadPiece t bytes offsets p (BadOffsets piece) = (piece ≡ p) × ¬ (IsPiece bytes offsets p)
 IsBadPiece t bytes offsets p (BadBytes piece place) =
-    (piece ≡ p) × IsPiece bytes offsets p × (piece_at bytes offsets p ≢ []) × IsFirstWrong (IsFormOf t) (SaysBound (piece_at bytes offsets p) → HasValues t) (piece_at bytes offsets p) place
-IsBadPiece t bytes offsets p (HasVariant piece) = (piece ≡ p) × IsPiece bytes offsets p × ¬ (HasNoVariant t) × SaysBound (piece_at bytes offsets p)
+    (piece ≡ p) × IsPiece bytes offsets p × (piece_at bytes offsets p ≢ []) × (¬ (SayVariant t (piece_at bytes offsets p))) × IsFirstWrong (IsFormOf t) (SaysBound (piece_at bytes offsets p) → HasValues t) (piece_at bytes offsets p) place
+IsBadPiece t bytes offsets p (HasVariant piece) = (piece ≡ p) × IsPiece bytes offsets p × SayVariant t (piece_at bytes offsets p)
 
 -- each of so many pieces, from p on, says something
 abbrev pub AreSaidBefore : List TypeTree → List ℕ → List ℕ → ℕ → ℕ → Type 0

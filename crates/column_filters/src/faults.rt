@@ -32,8 +32,8 @@ pub enum ZoneFault {
     WrongLength,
     /// The offsets of the piece go down, or past the end of the statistics.
     BadOffsets { piece: usize },
-    /// The piece is no form of statistics of its column's type: the place in it of the first byte
-    /// that none has there.
+    /// The piece is no form of statistics of its column's type, and says no bound of one with a
+    /// variant: the place in it of the first byte that none has there.
     BadBytes { piece: usize, place: usize },
     /// The piece says a bound of a column in whose type a variant stands.
     HasVariant { piece: usize },

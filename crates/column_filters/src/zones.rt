@@ -1,6 +1,7 @@
 //! What a filter can be on the rows of zones.
 
 ghost use Rattle.std.specs.Prelude.{◌≡◌, ◌+◌, ◌*◌, ◌<◌, ◌≤◌, ◌↔◌, IfErr, IfOk, IsTrue, MatchResult, OnOk, length, map, if◌then◌else◌};
+ghost use Rattle.column_filters.specs.declared.faults.ZoneFault.TheVariants.{OutOfMemory};
 ghost use Rattle.column_filters.specs.Words.{AreEnough, AreOutcomes, AreSaid, BadOffsets, IsBadPiece, IsPiece, IsSaid, RefusesZone, RefusesZones, fault_of_piece, formula, known, open_statistics, outcomes_byte, piece_at, type_of};
 
 use crate::faults::ZoneFault;
@@ -17,9 +18,9 @@ use vortex_statistics::{ColumnStatistics, StatisticsError};
 ///
 /// - `WrongLength` exactly if there are not as many offsets as pieces, and one more.
 /// - `BadOffsets`: the offsets of a piece go down, or past the end.
-/// - `BadBytes`: a piece is no form of statistics of its column's type.
-/// - `HasVariant`: a piece says a bound of a column with variants. Of these three the first piece
-///   decides.
+/// - `HasVariant`: a piece says a bound of a column with variants.
+/// - `BadBytes`: another piece is no form of statistics of its column's type. Of these three the
+///   first piece decides.
 /// - `OutOfMemory`: for the statistics of a zone.
 ///
 /// After a refusal the outcomes may be any bytes.
@@ -43,7 +44,8 @@ pub fn outcomes_of_zones(
     write_outcomes(alloc, filter, types, statistics, offsets, outcomes)
 }
 
-/// Writes what the filter can be on the rows of each zone.
+/// Writes what the filter can be on the rows of each zone. The statistics of all zones are read into
+/// the same places, one for each column.
 fn write_outcomes(
     alloc: Global,
     filter: &Filter,
@@ -58,14 +60,33 @@ fn write_outcomes(
     ensures refused { IfErr result (RefusesZones (map type_of types.now)
         statistics.now offsets.now (length outcomes.old)) }
 {
-    let mut read = Vec::with_capacity(alloc, types.len())?;
+    let mut read = open_columns(alloc, types.len())?;
     let mut piece = 0;
     for zone in 0..outcomes.len() {
-        read_zone(alloc, types, statistics, offsets, piece, &mut read)?;
+        read_zone(
+            alloc,
+            types,
+            statistics,
+            offsets,
+            piece,
+            read.as_mut_slice(),
+        )?;
         outcomes[zone] = byte_of(filter.outcomes(&read));
         piece += types.len();
     }
     Ok(())
+}
+
+/// Open statistics of so many columns.
+fn open_columns(alloc: Global, count: usize) -> Result<Vec<ColumnStatistics>, ZoneFault>
+    ensures made { IfOk result (λ read. length read.items ≡ count) }
+    ensures refused { IfErr result (λ e. e ≡ OutOfMemory) }
+{
+    let mut columns = Vec::with_capacity(alloc, count)?;
+    for column in 0..count {
+        columns.push(open_statistics())?;
+    }
+    Ok(columns)
 }
 
 /// Whether there are as many offsets as pieces, and one more.
@@ -103,42 +124,51 @@ fn read_zone(
     statistics: &[u8],
     offsets: &[u64],
     first: usize,
-    read: &mut Vec<ColumnStatistics>,
+    read: &mut [ColumnStatistics],
 ) -> Result<(), ZoneFault>
-    requires { first + length types.now < length offsets.now }
+    requires there { first + length types.now < length offsets.now }
+    requires columns { length read.old ≡ length types.now }
     ensures said { OnOk result (AreSaid (map type_of types.now) statistics.now offsets.now first
-        (length types.now) (map known read.new.items)) }
+        (length types.now) (map known read.new)) }
     ensures refused { IfErr result (RefusesZone (map type_of types.now)
         statistics.now offsets.now first) }
 {
-    read.clear();
     for column in 0..types.len() {
-        let said = read_piece(alloc, &types[column], statistics, offsets, first + column)?;
-        read.push(said)?;
+        let place = &mut read[column];
+        read_piece(
+            alloc,
+            &types[column],
+            statistics,
+            offsets,
+            first + column,
+            place,
+        )?;
     }
     Ok(())
 }
 
-/// What a piece says of a column of the type.
+/// Puts what a piece says of a column of the type in place of what was there.
 fn read_piece(
     alloc: Global,
     dtype: &DType,
     statistics: &[u8],
     offsets: &[u64],
     piece: usize,
-) -> Result<ColumnStatistics, ZoneFault>
+    read: &mut ColumnStatistics,
+) -> Result<(), ZoneFault>
     requires { piece + 1 < length offsets.now }
-    ensures said { IfOk result
-        (λ s. IsSaid (type_of dtype.now) statistics.now offsets.now piece (known s)) }
+    ensures said { OnOk result
+        (IsSaid (type_of dtype.now) statistics.now offsets.now piece (known read.new)) }
     ensures refused { IfErr result
         (IsBadPiece (type_of dtype.now) statistics.now offsets.now piece) }
 {
     let bytes = bytes_of_piece(statistics, offsets, piece)?;
     if bytes.is_empty() {
-        return Ok(open_statistics());
+        *read = open_statistics();
+        return Ok(());
     }
-    match ColumnStatistics::from_bytes(alloc, dtype, bytes) {
-        Ok(said) => Ok(said),
+    match read.read_from_bytes(alloc, dtype, bytes) {
+        Ok(()) => Ok(()),
         Err(refusal) => Err(fault_of_piece(piece, refusal)),
     }
 }

@@ -6,4 +6,4 @@ use Rattle.column_filters.proofs.ZoneSteps.{AreOutcomesBefore}
 use Rattle.column_filters.proofs.zones.write_outcomes.Given as goal
 
 abbrev pub invariant-loop-zone : goal.invariant-loop-zone
-invariant-loop-zone l = (l.piece ≡ l.zone * length l.types) × AreOutcomesBefore (formula l.filter) (map type_of l.types) l.statistics l.offsets l.zone l.outcomes
+invariant-loop-zone l = (length l.read.items ≡ length l.types) × (l.piece ≡ l.zone * length l.types) × AreOutcomesBefore (formula l.filter) (map type_of l.types) l.statistics l.offsets l.zone l.outcomes
