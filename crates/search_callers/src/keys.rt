@@ -1,0 +1,51 @@
+//! Columns that are read back from the keys of their rows.
+
+ghost use Rattle.std.specs.Prelude.{◌≡◌, ℕ, ◌+◌, ◌<◌, List, [], IfOk, Some, length, map, slice_index, slice_index_or, take};
+ghost use Rattle.arrow_columns.specs.Kinds.{kind_at};
+ghost use Rattle.arrow_columns.specs.declared.kinds.Kind.{Kind};
+ghost use Rattle.vortex_value.specs.Values.Content.{Content};
+ghost use Rattle.column_keys.specs.Keys.{AreRowKeys};
+ghost use Rattle.column_keys.specs.Tables.{options_in};
+ghost use Rattle.key_columns.specs.Laws.{AreColumnsOf};
+ghost use Rattle.key_columns.specs.Layout.{IsColumnOf, bitmap_length, offsets_length};
+ghost use Rattle.key_columns.specs.Types.{types_of_codes};
+
+use key_columns::laws::columns_come_back;
+use key_columns::{KeysFault, column_of_keys};
+use std::alloc::Global;
+
+/// Reads a column back as `column_of_keys` does. If the keys are those of a table's rows, then the
+/// rooms begin with the column of the table, cell for cell.
+pub fn read_back(
+    alloc: Global,
+    kinds: &[u8],
+    options: &[u8],
+    offsets: &[u64],
+    bytes: &[u8],
+    which: usize,
+    validity_room: &mut [u8],
+    values_room: &mut [u8],
+    offsets_room: &mut [u64],
+) -> Result<usize, KeysFault>
+    ensures { IfOk result (λ count. (table : List (List Content)) (rows : ℕ)
+        → AreColumnsOf (types_of_codes kinds.now) rows table
+        → AreRowKeys (map options_in options.now) table rows offsets.now bytes.now
+        → length offsets.now ≡ rows + 1 → which < length table
+        → (kind : Kind) × (kind_at (slice_index kinds.now which) ≡ Some kind)
+        × IsColumnOf kind (slice_index_or table which [])
+        (take (bitmap_length rows) validity_room.new) (take count values_room.new)
+        (take (offsets_length kind rows) offsets_room.new)) }
+{
+    columns_come_back();
+    column_of_keys(
+        alloc,
+        kinds,
+        options,
+        offsets,
+        bytes,
+        which,
+        validity_room,
+        values_room,
+        offsets_room,
+    )
+}
