@@ -9,6 +9,7 @@ pub mod CopySteps
 pub mod HashSteps
 pub mod Inner
 pub mod ItemMakers
+pub mod Leaves
 pub mod Lent
 pub mod ListMakers
 pub mod MakerLaws

@@ -18,17 +18,43 @@
 //! stores.
 #![tactic(auto, using(crate::proofs::CastCode::shown))]
 
-ghost use Rattle.vortex_value.specs.Words.{AnswersCast, IsMadeOf, IsValid, IsValidRef, as_nullable, ref_raw, ref_type, scalar_raw, scalar_type, type_of};
+ghost use Rattle.std.specs.Prelude.{◌≡◌, MatchResult, None, Some};
+ghost use Rattle.vortex_value.specs.Words.{AnswersCast, IsMadeOf, IsValid, IsValidRef, as_nullable, integer_type, number_to, ref_raw, ref_type, scalar_raw, scalar_type, type_of, whole_of};
 
 use crate::refs::ScalarRef;
 use crate::scalars::{Scalar, with_type};
+use crate::values::ScalarValue;
 use std::alloc::Global;
-use vortex_dtype::{DType, VortexError};
+use vortex_dtype::{DType, Nullability, PType, VortexError};
+use vortex_pvalue::PValue;
 
 mod refusals;
 mod rules;
 mod steps;
 mod values;
+
+/// The number as a scalar of this type of integers, if that has it. Without it a cast of a number
+/// would compare two types and copy one.
+#[inline(always)]
+fn cast_integer(
+    number: &PValue,
+    ptype: PType,
+    nullability: Nullability,
+) -> Result<Scalar, VortexError>
+    ensures { MatchResult result
+        (λ made. (scalar_type made ≡ integer_type ptype nullability)
+        × (number_to (whole_of number.now) (integer_type ptype nullability) ≡ Some (scalar_raw made)))
+        (λ e. (e ≡ VortexError.CannotCast)
+        × (number_to (whole_of number.now) (integer_type ptype nullability) ≡ None)) }
+{
+    match PValue::from_whole(number.whole(), ptype) {
+        Some(number) => Ok(Scalar {
+            dtype: DType::Primitive(ptype, nullability),
+            value: Some(ScalarValue::Primitive(number)),
+        }),
+        None => Err(VortexError::CannotCast),
+    }
+}
 
 impl Scalar {
     /// The one scalar of the target type with this scalar's content.
@@ -37,6 +63,7 @@ impl Scalar {
     /// value of the content. `OutOfMemory` never for a target of nulls, truth values or integers.
     /// From an extension it comes only if the cast is possible, and so for a value that is no list,
     /// map or struct and no union of one. There is no other refusal. Ports `Scalar::cast`.
+    #[inline(always)]
     pub fn cast(&self, alloc: Global, target: &DType) -> Result<Scalar, VortexError>
         requires { IsValid self.now }
         ensures { AnswersCast (scalar_type self.now) (type_of target.now) (scalar_raw self.now) result }
@@ -63,7 +90,22 @@ impl Scalar {
 impl ScalarRef<'_> {
     /// The one scalar of the target type with this one's content. It answers and refuses as
     /// `Scalar::cast` does. Of this port alone: a view casts what it lends by it, without a copy.
+    #[inline(always)]
     pub fn cast(&self, alloc: Global, target: &DType) -> Result<Scalar, VortexError>
+        requires { IsValidRef self.now }
+        ensures { AnswersCast (ref_type self.now) (type_of target.now) (ref_raw self.now) result }
+    {
+        match (self.dtype(), self.value(), target) {
+            (DType::Primitive(_, _), Some(value), DType::Primitive(ptype, nullability)) => {
+                cast_integer(value.as_primitive(), *ptype, *nullability)
+            }
+            _ => self.cast_any(alloc, target),
+        }
+    }
+
+    /// The cast of any scalar.
+    #[inline(never)]
+    fn cast_any(&self, alloc: Global, target: &DType) -> Result<Scalar, VortexError>
         requires { IsValidRef self.now }
         ensures { AnswersCast (ref_type self.now) (type_of target.now) (ref_raw self.now) result }
     {

@@ -39,9 +39,22 @@ fn size(value: Option<&ScalarValue>, dtype: &DType) -> usize
     }
 }
 
-/// The sizes of the elements of a list, together.
+/// The sizes of the elements of a list, together. Truth values and integers take the same each, a
+/// null too, and none is looked at.
 #[cycle(size)]
 fn size_of_elements(items: &[Option<ScalarValue>], element: &DType) -> usize
+    ensures { result ≡ capped (elements_size (type_of element.now) (value_trees items.now)) }
+{
+    match storage_of(element) {
+        DType::Bool(_) => items.len(),
+        DType::Primitive(ptype, _) => items.len().saturating_mul(ptype.byte_width()),
+        _ => size_of_parts(items, element),
+    }
+}
+
+/// The sizes of the elements of a list of any type, together.
+#[cycle(size)]
+fn size_of_parts(items: &[Option<ScalarValue>], element: &DType) -> usize
     ensures { result ≡ capped (elements_size (type_of element.now) (value_trees items.now)) }
 {
     let mut total = 0usize;

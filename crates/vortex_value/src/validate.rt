@@ -2,7 +2,7 @@
 #![tactic(auto, using(crate::proofs::ValidSteps::shown))]
 
 ghost use Rattle.std.specs.Prelude.{◌≡◌, ◌≢◌, ◌↔◌, Bool, Err, List, Option, IfErr, IsOk, IsTrue, false, option_map, true};
-ghost use Rattle.vortex_value.specs.Words.{Checks, Found, Global, HasPath, IsFlat, NonNullable, Refuses, Shows, Valid, as_type_trees, breaches, breaches_at, breaches_of_entry, child_breaches, dtype_trees, element_breaches, entry_breaches, field_breaches, here, is_leaf, is_some, lent_raw, map_of, raw_of, raw_tuple, type_of, type_with, under, value_tree, value_trees, variant_tree, variant_type, variants_of};
+ghost use Rattle.vortex_value.specs.Words.{Checks, Found, Global, HasPath, IsFlat, NonNullable, Refuses, Shows, Valid, as_type_trees, breaches, breaches_at, breaches_of_entry, child_breaches, dtype_trees, element_breaches, entry_breaches, field_breaches, here, integer_type, is_leaf, is_some, lent_raw, map_of, raw_of, raw_tuple, type_of, type_with, under, value_tree, value_trees, variant_tree, variant_type, variants_of};
 
 use crate::scalars::Scalar;
 use crate::storage::{storage_of, variant_with};
@@ -10,7 +10,9 @@ use crate::unions::UnionValue;
 use crate::values::ScalarValue;
 use std::alloc::Global;
 use std::mem;
-use vortex_dtype::{Breach, DType, MapDType, Path, Step, UnionVariants, VortexError};
+use vortex_dtype::{
+    Breach, DType, MapDType, Nullability, PType, Path, Step, UnionVariants, VortexError,
+};
 
 /// Why a raw value is not valid.
 #[derive(Drop)]
@@ -185,9 +187,58 @@ fn check_value(value: &ScalarValue, dtype: &DType, trace: &mut Trace) -> bool
     }
 }
 
-/// Whether the elements of a list are valid, in order.
+/// Whether the elements of a list are valid, in order. Integers have a loop of their own.
 #[cycle(validity)]
 fn check_elements(items: &[Option<ScalarValue>], element: &DType, trace: &mut Trace) -> bool
+    ensures { Checks trace.old.alloc result trace.new
+        (element_breaches (type_of element.now) 0 (value_trees items.now)) }
+{
+    match element {
+        DType::Primitive(ptype, nullability) => check_numbers(items, *ptype, *nullability, trace),
+        _ => check_parts(items, element, trace),
+    }
+}
+
+/// Whether the elements of a list of integers are valid, in order.
+fn check_numbers(
+    items: &[Option<ScalarValue>],
+    ptype: PType,
+    nullability: Nullability,
+    trace: &mut Trace,
+) -> bool
+    ensures { Checks trace.old.alloc result trace.new
+        (element_breaches (integer_type ptype nullability) 0 (value_trees items.now)) }
+{
+    for (index, item) in items.iter().enumerate() {
+        if !check_number(item.as_ref(), ptype, nullability, trace) {
+            return trace.refuse_in_part(Step::Element(index));
+        }
+    }
+    true
+}
+
+/// Whether a raw value, or a null, is valid for this type of integers.
+#[inline(always)]
+fn check_number(
+    value: Option<&ScalarValue>,
+    ptype: PType,
+    nullability: Nullability,
+    trace: &mut Trace,
+) -> bool
+    ensures { Checks trace.old.alloc result trace.new
+        (breaches (integer_type ptype nullability) (lent_raw value.entry)) }
+{
+    match value {
+        Some(ScalarValue::Primitive(number)) if number.ptype() == ptype => true,
+        Some(_) => trace.refuse(Breach::WrongValue),
+        None if nullability == Nullability::Nullable => true,
+        None => trace.refuse(Breach::NullNotAllowed),
+    }
+}
+
+/// Whether the elements of a list of any type are valid, in order.
+#[cycle(validity)]
+fn check_parts(items: &[Option<ScalarValue>], element: &DType, trace: &mut Trace) -> bool
     ensures { Checks trace.old.alloc result trace.new
         (element_breaches (type_of element.now) 0 (value_trees items.now)) }
 {

@@ -108,13 +108,15 @@ pub(super) fn box_leaf(
     Ok(copies::box_copy(alloc, value)?)
 }
 
-/// The number as the target's `PType`, if the target is an integer type that has it.
+/// The number as the target's `PType`, if the target is an integer type that has it. A number of
+/// just that `PType` is not looked at.
 #[inline(always)]
 fn number_in(number: &PValue, target: &DType) -> Option<PValue>
     ensures { option_map (λ n. raw_integer (ptype_of n) (whole_of n)) result
         ≡ number_to (whole_of number.now) (type_of target.now) }
 {
     match target {
+        DType::Primitive(ptype, _) if number.ptype() == *ptype => Some(*number),
         DType::Primitive(ptype, _) => PValue::from_whole(number.whole(), *ptype),
         _ => None,
     }

@@ -6,8 +6,8 @@ use Rattle.vortex_value.specs.Size.{capped, elements_size, entries_size, fields_
 use Rattle.vortex_value.proofs.Lent.{lent_size}
 use Rattle.vortex_value.proofs.size.+size.Given as goal
 
-abbrev pub invariant-size_of_elements-loop-item : goal.invariant-size_of_elements-loop-item
-invariant-size_of_elements-loop-item l =
+abbrev pub invariant-size_of_parts-loop-item : goal.invariant-size_of_parts-loop-item
+invariant-size_of_parts-loop-item l =
     (capped l.total ≡ l.total) × (capped (l.total + elements_size (type_of l.element) (value_trees (drop l.item-index l.items))) ≡ capped (elements_size (type_of l.element) (value_trees l.items)))
 
 abbrev pub invariant-size_of_entries-loop-item : goal.invariant-size_of_entries-loop-item
@@ -22,7 +22,10 @@ abbrev pub decreases-size : goal.decreases-size
 decreases-size l = 3 * lent_size l.value + 1
 
 abbrev pub decreases-size_of_elements : goal.decreases-size_of_elements
-decreases-size_of_elements l = 3 * goal.size-size_of_elements l + 2
+decreases-size_of_elements l = 3 * goal.size-size_of_elements l + 3
+
+abbrev pub decreases-size_of_parts : goal.decreases-size_of_parts
+decreases-size_of_parts l = 3 * goal.size-size_of_parts l + 2
 
 abbrev pub decreases-size_of_entries : goal.decreases-size_of_entries
 decreases-size_of_entries l = 3 * goal.size-size_of_entries l + 2

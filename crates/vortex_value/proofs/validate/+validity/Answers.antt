@@ -9,8 +9,8 @@ use Rattle.vortex_value.proofs.ValueSteps.{value_tree-Tuple}
 use Rattle.vortex_dtype.specs.Lemmas.TypeLevels.{type_of-Struct}
 use Rattle.vortex_value.proofs.validate.+validity.Goals as goal
 
-pub check_elements-returns-then-not-check : goal.check_elements-returns-then-not-check
-check_elements-returns-then-not-check t c =
+pub check_parts-returns-then-not-check : goal.check_parts-returns-then-not-check
+check_parts-returns-then-not-check t c =
     let path = c.args.trace.now.alloc in
     let e = type_of c.args.element.now in
     let i = c.loop-index.index in
