@@ -5,7 +5,7 @@ use Rattle.std.specs.List.{AllByRecursion, filter, slice_get}
 use Rattle.std.specs.Option.{IsSomeAnd}
 use Rattle.std.proofs.lemmas.Bool.{false≢true}
 use Rattle.std.proofs.lemmas.Bool.Decides.{nat_tests}
-use Rattle.std.proofs.lemmas.List.{take_all}
+use Rattle.std.proofs.lemmas.List.{map-append, take_all}
 use Rattle.std.proofs.lemmas.Result.{err_from_is_err_and}
 use Rattle.vortex_dtype.specs.TypeOf.{type_of}
 use Rattle.vortex_dtype.specs.TypeTree.{TypeTree, IsFlat, Same, as_nullable, binary_type, integer_type, utf8_type}
@@ -41,7 +41,7 @@ use Rattle.vortex_filter.specs.Checking.{AllFit, Demand, FitsColumns, HoldsStrin
 use Rattle.vortex_filter.specs.Coerces.{Coerces, CoercesLiteral, CoercesLiterals, CoercesTest, GivesOrdered, Pushes, RefusesLiterals, all_left_out, integer_in, lacks_of, number_in, side_of, with_cell}
 use Rattle.vortex_filter.specs.Coercing.{IsCoercible, by_column, coerced, coerced_cell, coerced_comparison, coerced_range, for_values, kept_cells, lacks, lacks_number, membership_of, side}
 use Rattle.vortex_filter.specs.Formula.{Formula, constant, comparison, null_test, membership, range, prefix_test, both, either, negation, formula, truth}
-use Rattle.vortex_filter.specs.FilterLiterals.{AreValid, literals_of}
+use Rattle.vortex_filter.specs.FilterLiterals.{AreValid, exactly_of, literals_of}
 use Rattle.vortex_filter.specs.Makes.{Makes, OfParts}
 use Rattle.vortex_filter.specs.Operators.{holds}
 use Rattle.vortex_filter.specs.Rows.{IsRowOf, content_truth}
@@ -49,47 +49,15 @@ use Rattle.vortex_row.specs.Variants.{has_variant}
 use Rattle.vortex_filter.proofs.CheckLaws.{fit_both, fit_one, refuses_behind, refuses_front, refuses_one, strings_test}
 use Rattle.vortex_filter.proofs.CoerceLaws.{NullableIsSame, coerced_fits, coerced_truth}
 use Rattle.vortex_filter.proofs.FitProofs.{coerced_itself}
+use Rattle.vortex_filter.proofs.LiteralSteps.{constant_valid, copy_valid, literals-And, literals-Between, literals-Compare, literals-Constant, literals-In, literals-IsNull, literals-Not, literals-Or, literals-StartsWith, valid_left, valid_right, valid_same, valid_with}
 use Rattle.vortex_filter.proofs.Steps.{formula-And, formula-Between, formula-Compare, formula-Constant, formula-In, formula-IsNull, formula-Not, formula-Or, formula-StartsWith}
 use Rattle.vortex_row.proofs.VariantSteps.{none-from_test, test-from_none}
 
--- ---- literals
-
-pub literals-Constant : (t : Truth) → literals_of (Constant t) ≡ []
-literals-Constant t = search (rules, the_lemmas)
-
-pub literals-Compare : (k : ℕ) (op : CompareOperator) (x : Scalar) → literals_of (Compare k op x) ≡ x ∷ []
-literals-Compare k op x = search (rules, the_lemmas)
-
-pub literals-IsNull : (k : ℕ) → literals_of (IsNull k) ≡ []
-literals-IsNull k = search (rules, the_lemmas)
-
-pub literals-In : (k : ℕ) (xs : Vec Scalar Global) → literals_of (In k xs) ≡ xs.items
-literals-In k xs = search (rules, the_lemmas)
-
-pub literals-Between : (k : ℕ) (x y : Scalar) → literals_of (Between k x y) ≡ x ∷ y ∷ []
-literals-Between k x y = search (rules, the_lemmas)
-
-pub literals-StartsWith : (k : ℕ) (p : Scalar) → literals_of (StartsWith k p) ≡ p ∷ []
-literals-StartsWith k p = search (rules, the_lemmas)
-
-pub literals-And : (f g : Box Filter Global) → literals_of (And f g) ≡ literals_of f.value ++ literals_of g.value
-literals-And f g = search (rules, the_lemmas)
-
-pub literals-Or : (f g : Box Filter Global) → literals_of (Or f g) ≡ literals_of f.value ++ literals_of g.value
-literals-Or f g = search (rules, the_lemmas)
-
-pub literals-Not : (f : Box Filter Global) → literals_of (Not f) ≡ literals_of f.value
-literals-Not f = search (rules, the_lemmas)
-
-valid_left : (ls rs : List Scalar) → AreValid (ls ++ rs) → AreValid ls
-valid_left [] rs v = tt
-valid_left (l ∷ ls) rs v = (v.0, valid_left ls rs v.1)
-
-valid_right : (ls rs : List Scalar) → AreValid (ls ++ rs) → AreValid rs
-valid_right [] rs v = v
-valid_right (l ∷ ls) rs v = valid_right ls rs v.1
-
 -- ---- connectives
+
+-- the literals of s are those of both parts, if both were made
+abbrev Joins : Result Filter FilterError → Result Filter FilterError → Result Filter FilterError → Type 0
+Joins l r s = OfParts (λ a b. IfOk s (λ x. literals_of x ≡ literals_of a ++ literals_of b)) (λ e. s ≡ Err e) l r
 
 module _ (columns : List TypeTree) (join : Formula → Formula → Formula) (f g : Formula) (ls rs : List Scalar)
     (parts : tests (join f g) ≡ tests f ++ tests g) (made : coerced columns (join f g) ≡ join (coerced columns f) (coerced columns g)) where
@@ -100,58 +68,65 @@ module _ (columns : List TypeTree) (join : Formula → Formula → Formula) (f g
       there (inl o) = inl o
       there (inr p) = inr (λ v. subst (λ ts. RefusesFirst IsCoercible columns ts e) (sym parts) (p v))
 
-  made_here : (a b : Filter) (s : Result Filter FilterError) → (formula a ≡ coerced columns f) × AllFit IsCoercible columns (tests f) → (formula b ≡ coerced columns g) × AllFit IsCoercible columns (tests g)
-      → Makes (join (formula a) (formula b)) s → Coerces columns (join f g) (AreValid (ls ++ rs)) s
-  made_here a b (Ok x) h k w = (w ∙ ap₂ join h.0 k.0 ∙ sym made, subst (AllFit IsCoercible columns) (sym parts) (fit_both IsCoercible columns (tests f) (tests g) h.1 k.1))
-  made_here a b (Err e) h k w = inl w
+  made_here : (a b : Filter) (s : Result Filter FilterError) → Coerces columns f (AreValid ls) (Ok a) → Coerces columns g (AreValid rs) (Ok b)
+      → Makes (join (formula a) (formula b)) s → IfOk s (λ x. literals_of x ≡ literals_of a ++ literals_of b) → Coerces columns (join f g) (AreValid (ls ++ rs)) s
+  made_here a b (Ok x) h k w m = (
+    w ∙ ap₂ join h.0 k.0 ∙ sym made,
+    subst (AllFit IsCoercible columns) (sym parts) (fit_both IsCoercible columns (tests f) (tests g) h.1 k.1),
+    λ v. valid_with (literals_of x) (literals_of a) (literals_of b) m (h.2 (valid_left ls rs v)) (k.2 (valid_right ls rs v)),
+  )
+  made_here a b (Err e) h k w m = inl w
 
   joined_coerces : (l r s : Result Filter FilterError) → Coerces columns f (AreValid ls) l → Coerces columns g (AreValid rs) r
-      → OfParts (λ a b. Makes (join (formula a) (formula b)) s) (λ e. s ≡ Err e) l (answer_behind (capped (length (tests f))) r) → Coerces columns (join f g) (AreValid (ls ++ rs)) s
-  joined_coerces (Err e) r s (inl o) k w = refused_here e (inl o) s w
-  joined_coerces (Err e) r s (inr p) k w = refused_here e (inr (λ v. refuses_front IsCoercible columns (tests f) (tests g) e (p (valid_left ls rs v)))) s w
-  joined_coerces (Ok a) (Err e) s h (inl o) w = refused_here (behind (capped (length (tests f))) e) (inl (ap (behind (capped (length (tests f)))) o)) s w
-  joined_coerces (Ok a) (Err e) s h (inr p) w =
+      → OfParts (λ a b. Makes (join (formula a) (formula b)) s) (λ e. s ≡ Err e) l (answer_behind (capped (length (tests f))) r)
+      → Joins l (answer_behind (capped (length (tests f))) r) s → Coerces columns (join f g) (AreValid (ls ++ rs)) s
+  joined_coerces (Err e) r s (inl o) k w m = refused_here e (inl o) s w
+  joined_coerces (Err e) r s (inr p) k w m = refused_here e (inr (λ v. refuses_front IsCoercible columns (tests f) (tests g) e (p (valid_left ls rs v)))) s w
+  joined_coerces (Ok a) (Err e) s h (inl o) w m = refused_here (behind (capped (length (tests f))) e) (inl (ap (behind (capped (length (tests f)))) o)) s w
+  joined_coerces (Ok a) (Err e) s h (inr p) w m =
       refused_here (behind (capped (length (tests f))) e) (inr (λ v. refuses_behind IsCoercible columns (tests f) (tests g) (capped (length (tests f))) e refl h.1 (p (valid_right ls rs v)))) s w
-  joined_coerces (Ok a) (Ok b) s h k w = made_here a b s h k w
+  joined_coerces (Ok a) (Ok b) s h k w m = made_here a b s h k w m
 
 pub both_coerces : (columns : List TypeTree) (f g : Formula) (ls rs : List Scalar) (l r m s : Result Filter FilterError) → Coerces columns f (AreValid ls) l → Coerces columns g (AreValid rs) r
-    → m ≡ answer_behind (capped (length (tests f))) r → OfParts (λ a b. Makes (both (formula a) (formula b)) s) (λ e. s ≡ Err e) l m → Coerces columns (both f g) (AreValid (ls ++ rs)) s
-both_coerces columns f g ls rs l r m s h k e w = joined_coerces columns both f g ls rs refl refl l r s h k (subst (OfParts (λ a b. Makes (both (formula a) (formula b)) s) (λ d. s ≡ Err d) l) e w)
+    → m ≡ answer_behind (capped (length (tests f))) r → OfParts (λ a b. Makes (both (formula a) (formula b)) s) (λ e. s ≡ Err e) l m → Joins l m s → Coerces columns (both f g) (AreValid (ls ++ rs)) s
+both_coerces columns f g ls rs l r m s h k e w j =
+    joined_coerces columns both f g ls rs refl refl l r s h k (subst (OfParts (λ a b. Makes (both (formula a) (formula b)) s) (λ d. s ≡ Err d) l) e w) (subst (λ q. Joins l q s) e j)
 
 pub either_coerces : (columns : List TypeTree) (f g : Formula) (ls rs : List Scalar) (l r m s : Result Filter FilterError) → Coerces columns f (AreValid ls) l → Coerces columns g (AreValid rs) r
-    → m ≡ answer_behind (capped (length (tests f))) r → OfParts (λ a b. Makes (either (formula a) (formula b)) s) (λ e. s ≡ Err e) l m → Coerces columns (either f g) (AreValid (ls ++ rs)) s
-either_coerces columns f g ls rs l r m s h k e w = joined_coerces columns either f g ls rs refl refl l r s h k (subst (OfParts (λ a b. Makes (either (formula a) (formula b)) s) (λ d. s ≡ Err d) l) e w)
+    → m ≡ answer_behind (capped (length (tests f))) r → OfParts (λ a b. Makes (either (formula a) (formula b)) s) (λ e. s ≡ Err e) l m → Joins l m s → Coerces columns (either f g) (AreValid (ls ++ rs)) s
+either_coerces columns f g ls rs l r m s h k e w j =
+    joined_coerces columns either f g ls rs refl refl l r s h k (subst (OfParts (λ a b. Makes (either (formula a) (formula b)) s) (λ d. s ≡ Err d) l) e w) (subst (λ q. Joins l q s) e j)
 
 module _ (columns : List TypeTree) (F : Filter) (f g : Box Filter Global) (a a' b : Filter) (l r m s : Result Filter FilterError) where
   -- both, as the code borrows its parts
   pub both_at : F ≡ And f g → a ≡ f.value → a' ≡ f.value → b ≡ g.value → Coerces columns (formula a) (AreValid (literals_of a)) l → Coerces columns (formula b) (AreValid (literals_of b)) r
-      → m ≡ answer_behind (capped (length (tests (formula a')))) r → OfParts (λ x y. Makes (both (formula x) (formula y)) s) (λ e. s ≡ Err e) l m → Coerces columns (formula F) (AreValid (literals_of F)) s
-  both_at q da da' db h k e w =
+      → m ≡ answer_behind (capped (length (tests (formula a')))) r → OfParts (λ x y. Makes (both (formula x) (formula y)) s) (λ e. s ≡ Err e) l m → Joins l m s → Coerces columns (formula F) (AreValid (literals_of F)) s
+  both_at q da da' db h k e w j =
       subst (λ x. Coerces columns (formula x) (AreValid (literals_of x)) s) (sym q)
       (subst (λ p. Coerces columns p (AreValid (literals_of (And f g))) s) (sym (formula-And f g))
       (subst (λ vs. Coerces columns (both (formula f.value) (formula g.value)) (AreValid vs) s) (sym (literals-And f g))
       (both_coerces columns (formula f.value) (formula g.value) (literals_of f.value) (literals_of g.value) l r m s
       (subst (λ x. Coerces columns (formula x) (AreValid (literals_of x)) l) da h) (subst (λ x. Coerces columns (formula x) (AreValid (literals_of x)) r) db k)
-      (e ∙ ap (λ x. answer_behind (capped (length (tests (formula x)))) r) da') w)))
+      (e ∙ ap (λ x. answer_behind (capped (length (tests (formula x)))) r) da') w j)))
 
   pub either_at : F ≡ Or f g → a ≡ f.value → a' ≡ f.value → b ≡ g.value → Coerces columns (formula a) (AreValid (literals_of a)) l → Coerces columns (formula b) (AreValid (literals_of b)) r
-      → m ≡ answer_behind (capped (length (tests (formula a')))) r → OfParts (λ x y. Makes (either (formula x) (formula y)) s) (λ e. s ≡ Err e) l m → Coerces columns (formula F) (AreValid (literals_of F)) s
-  either_at q da da' db h k e w =
+      → m ≡ answer_behind (capped (length (tests (formula a')))) r → OfParts (λ x y. Makes (either (formula x) (formula y)) s) (λ e. s ≡ Err e) l m → Joins l m s → Coerces columns (formula F) (AreValid (literals_of F)) s
+  either_at q da da' db h k e w j =
       subst (λ x. Coerces columns (formula x) (AreValid (literals_of x)) s) (sym q)
       (subst (λ p. Coerces columns p (AreValid (literals_of (Or f g))) s) (sym (formula-Or f g))
       (subst (λ vs. Coerces columns (either (formula f.value) (formula g.value)) (AreValid vs) s) (sym (literals-Or f g))
       (either_coerces columns (formula f.value) (formula g.value) (literals_of f.value) (literals_of g.value) l r m s
       (subst (λ x. Coerces columns (formula x) (AreValid (literals_of x)) l) da h) (subst (λ x. Coerces columns (formula x) (AreValid (literals_of x)) r) db k)
-      (e ∙ ap (λ x. answer_behind (capped (length (tests (formula x)))) r) da') w)))
+      (e ∙ ap (λ x. answer_behind (capped (length (tests (formula x)))) r) da') w j)))
 
 pub negation_coerces : (columns : List TypeTree) (f : Formula) (ls : List Scalar) (l s : Result Filter FilterError) → Coerces columns f (AreValid ls) l → MatchResult l (λ a. Makes (negation (formula a)) s) (λ e. s ≡ Err e)
-    → Coerces columns (negation f) (AreValid ls) s
-negation_coerces columns f ls (Err e) s h w = subst (Coerces columns (negation f) (AreValid ls)) (sym w) h
-negation_coerces columns f ls (Ok a) (Ok x) h w = (w ∙ ap negation h.0, h.1)
-negation_coerces columns f ls (Ok a) (Err e) h w = inl w
+    → MatchResult l (λ a. IfOk s (λ x. literals_of x ≡ literals_of a)) (λ e. s ≡ Err e) → Coerces columns (negation f) (AreValid ls) s
+negation_coerces columns f ls (Err e) s h w m = subst (Coerces columns (negation f) (AreValid ls)) (sym w) h
+negation_coerces columns f ls (Ok a) (Ok x) h w m = (w ∙ ap negation h.0, h.1, λ v. valid_same (literals_of x) (literals_of a) m (h.2 v))
+negation_coerces columns f ls (Ok a) (Err e) h w m = inl w
 
-pub constant_coerces : (columns : List TypeTree) (t : Truth) (g : Filter) → formula g ≡ constant t → Coerces columns (constant t) (AreValid []) (Ok g)
-constant_coerces columns t g e = (e, tt)
+pub constant_coerces : (columns : List TypeTree) (t : Truth) → Coerces columns (constant t) (AreValid []) (Ok (Constant t))
+constant_coerces columns t = (formula-Constant t, tt, λ v. constant_valid t)
 
 pub ruleset shown = (both_coerces, either_coerces, negation_coerces, constant_coerces, formula-Constant, formula-Compare, formula-IsNull, formula-In, formula-Between, formula-StartsWith, formula-And, formula-Or, formula-Not, literals-Constant, literals-Compare, literals-IsNull, literals-In, literals-Between, literals-StartsWith, literals-And, literals-Or, literals-Not)
 
@@ -160,7 +135,7 @@ pub ruleset shown = (both_coerces, either_coerces, negation_coerces, constant_co
 module _ (columns : List TypeTree) (f : Formula) (k : ℕ) (d : Demand) (g : TypeTree → Formula) (vs : List Scalar)
     (one : tests f ≡ record { column = k; demand = d } ∷ []) (made : coerced columns f ≡ by_column (slice_get columns k) f g) where
   test_coerces : (t : TypeTree) (r : Result Filter FilterError) → slice_get columns k ≡ Some t → IsOrderedFor d t → CoercesTest t d (g t) (AreValid vs) k r → Coerces columns f (AreValid vs) r
-  test_coerces t (Ok x) e o h = (h.0 ∙ sym (made ∙ ap (λ c. by_column c f g) e), subst (AllFit IsCoercible columns) (sym one) (fit_one IsCoercible columns k d t e o h.1))
+  test_coerces t (Ok x) e o h = (h.0 ∙ sym (made ∙ ap (λ c. by_column c f g) e), subst (AllFit IsCoercible columns) (sym one) (fit_one IsCoercible columns k d t e o h.1), h.2)
   test_coerces t (Err x) e o (inl m) = inl m
   test_coerces t (Err x) e o (inr p) =
       inr (λ v. subst (λ ts. RefusesFirst IsCoercible columns ts x) (sym one) (subst (RefusesFirst IsCoercible columns (record { column = k; demand = d } ∷ [])) (sym p.0)
@@ -209,8 +184,8 @@ module _ (columns : List TypeTree) (k : ℕ) (e : FilterError) (vs : List Scalar
   pub prefix_refused : (p : Cell) → NoOrdered columns k e → Coerces columns (prefix_test k p) (AreValid vs) (Err e)
   prefix_refused p h = test_refused columns (prefix_test k p) k (beginning p) (λ t. prefix_test k (coerced_cell t p)) vs refl refl e (λ t o. o) h
 
-pub null_there : (columns : List TypeTree) (k : ℕ) (t : TypeTree) (f : Filter) → Some t ≡ slice_get columns k → formula f ≡ null_test k → Coerces columns (null_test k) (AreValid []) (Ok f)
-null_there columns k t f e h = (h, (record { dtype = t; there = sym e; ordered = tt; suits = tt }, tt))
+pub null_there : (columns : List TypeTree) (k : ℕ) (t : TypeTree) → Some t ≡ slice_get columns k → Coerces columns (null_test k) (AreValid []) (Ok (IsNull k))
+null_there columns k t e = (formula-IsNull k, (record { dtype = t; there = sym e; ordered = tt; suits = tt }, tt), λ v. valid_same (literals_of (IsNull k)) [] (literals-IsNull k) tt)
 
 pub null_absent : (columns : List TypeTree) (k : ℕ) → None ≡ slice_get columns k → Coerces columns (null_test k) (AreValid []) (Err (NoColumn 0 k))
 null_absent columns k e = inr (λ v. refuses_one IsCoercible columns k nothing (NoColumn 0 k) (refl, refl, sym e))
@@ -237,14 +212,22 @@ pub ruleset levels = (type_of-List, type_of-FixedSizeList, type_of-Map, type_of-
 -- ---- comparisons
 
 module _ (t : TypeTree) (k : ℕ) (op : CompareOperator) (x : Cell) where
-  pub lacking_comparison : (vs : List Scalar) (b : Bool) (r : Result Filter FilterError) → lacks t x ≡ true → b ≡ holds op (side x.content) → Makes (for_values b k) r → CoercesTest t (comparing (x ∷ [])) (coerced_comparison t k op x) (AreValid vs) k r
-  lacking_comparison vs b (Ok g) l e m =
-      (m ∙ ap (λ c. for_values c k) e ∙ sym (ap (λ c. cond c (for_values (holds op (side x.content)) k) (comparison k op (coerced_cell t x))) l), (inr (inl l), tt))
-  lacking_comparison vs b (Err e) l h m = inl m
+  pub lacking_comparison : (vs : List Scalar) (b : Bool) (r : Result Filter FilterError) → lacks t x ≡ true → b ≡ holds op (side x.content) → Makes (for_values b k) r → IfOk r (λ g. literals_of g ≡ [])
+      → CoercesTest t (comparing (x ∷ [])) (coerced_comparison t k op x) (AreValid vs) k r
+  lacking_comparison vs b (Ok g) l e m n = (
+    m ∙ ap (λ c. for_values c k) e ∙ sym (ap (λ c. cond c (for_values (holds op (side x.content)) k) (comparison k op (coerced_cell t x))) l),
+    (inr (inl l), tt),
+    λ v. valid_same (literals_of g) [] n tt,
+  )
+  lacking_comparison vs b (Err e) l h m n = inl m
 
-  pub kept_comparison : (vs : List Scalar) (y : Scalar) → lacks t x ≡ false → (cell_of y ≡ coerced_cell t x) × IsCoercible t x → CoercesTest t (comparing (x ∷ [])) (coerced_comparison t k op x) (AreValid vs) k (Ok (Compare k op y))
-  kept_comparison vs y l h =
-      (formula-Compare k op y ∙ ap (comparison k op) h.0 ∙ sym (ap (λ c. cond c (for_values (holds op (side x.content)) k) (comparison k op (coerced_cell t x))) l), (h.1, tt))
+  pub kept_comparison : (v y : Scalar) → lacks t x ≡ false → (cell_of y ≡ coerced_cell t x) × IsCoercible t x × (IsValid v → IsValid y)
+      → CoercesTest t (comparing (x ∷ [])) (coerced_comparison t k op x) (AreValid (v ∷ [])) k (Ok (Compare k op y))
+  kept_comparison v y l h = (
+    formula-Compare k op y ∙ ap (comparison k op) h.0 ∙ sym (ap (λ c. cond c (for_values (holds op (side x.content)) k) (comparison k op (coerced_cell t x))) l),
+    (h.1, tt),
+    λ w. valid_same (literals_of (Compare k op y)) (y ∷ []) (literals-Compare k op y) (h.2 w.0, tt),
+  )
 
   pub refused_comparison : (v : Scalar) (e : FilterError) → RefusesLiterals k (IsCoercible t x) (IsValid v) e → CoercesTest t (comparing (x ∷ [])) (coerced_comparison t k op x) (AreValid (v ∷ [])) k (Err e)
   refused_comparison v e (inl o) = inl o
@@ -272,16 +255,22 @@ member_form k [] (x ∷ xs) = refl
 member_form k (y ∷ ks) xs = refl
 
 module _ (t : TypeTree) (k : ℕ) (xs : List Cell) (vs : List Scalar) where
-  pub none_kept : (ys : List Scalar) (r : Result Filter FilterError) → (map cell_of ys ≡ kept_cells t xs) × AllByRecursion (IsCoercible t) xs → all_left_out (map cell_of ys) xs ≡ true → Makes (for_values false k) r
-      → CoercesTest t (comparing xs) (membership_of k (kept_cells t xs) xs) (AreValid vs) k r
-  none_kept ys (Ok g) h e m =
-      (m ∙ sym (ap (λ c. cond c (for_values false k) (membership k (map cell_of ys))) e) ∙ sym (member_form k (map cell_of ys) xs) ∙ ap (λ zs. membership_of k zs xs) h.0, h.1)
-  none_kept ys (Err d) h e m = inl m
+  pub none_kept : (ys : List Scalar) (r : Result Filter FilterError) → (map cell_of ys ≡ kept_cells t xs) × AllByRecursion (IsCoercible t) xs × (AreValid vs → AreValid ys) → all_left_out (map cell_of ys) xs ≡ true → Makes (for_values false k) r
+      → IfOk r (λ g. literals_of g ≡ []) → CoercesTest t (comparing xs) (membership_of k (kept_cells t xs) xs) (AreValid vs) k r
+  none_kept ys (Ok g) h e m n = (
+    m ∙ sym (ap (λ c. cond c (for_values false k) (membership k (map cell_of ys))) e) ∙ sym (member_form k (map cell_of ys) xs) ∙ ap (λ zs. membership_of k zs xs) h.0,
+    h.1,
+    λ v. valid_same (literals_of g) [] n tt,
+  )
+  none_kept ys (Err d) h e m n = inl m
 
-  pub some_kept : (ys : Vec Scalar Global) → (map cell_of ys.items ≡ kept_cells t xs) × AllByRecursion (IsCoercible t) xs → all_left_out (map cell_of ys.items) xs ≡ false
+  pub some_kept : (ys : Vec Scalar Global) → (map cell_of ys.items ≡ kept_cells t xs) × AllByRecursion (IsCoercible t) xs × (AreValid vs → AreValid ys.items) → all_left_out (map cell_of ys.items) xs ≡ false
       → CoercesTest t (comparing xs) (membership_of k (kept_cells t xs) xs) (AreValid vs) k (Ok (In k ys))
-  some_kept ys h e =
-      (formula-In k ys ∙ sym (ap (λ c. cond c (for_values false k) (membership k (map cell_of ys.items))) e) ∙ sym (member_form k (map cell_of ys.items) xs) ∙ ap (λ zs. membership_of k zs xs) h.0, h.1)
+  some_kept ys h e = (
+    formula-In k ys ∙ sym (ap (λ c. cond c (for_values false k) (membership k (map cell_of ys.items))) e) ∙ sym (member_form k (map cell_of ys.items) xs) ∙ ap (λ zs. membership_of k zs xs) h.0,
+    h.1,
+    λ v. valid_same (literals_of (In k ys)) ys.items (literals-In k ys) (h.2 v),
+  )
 
   pub refused_membership : (e : FilterError) → RefusesLiterals k (AllByRecursion (IsCoercible t) xs) (AreValid vs) e → CoercesTest t (comparing xs) (membership_of k (kept_cells t xs) xs) (AreValid vs) k (Err e)
   refused_membership e h = h
@@ -323,18 +312,22 @@ module _ (t : TypeTree) (k : ℕ) (x y : Cell) where
     second_refused e (inl o) = inl o
     second_refused e (inr p) = inr (p.0, λ a s. p.1 a.1 s.1)
 
-    made_range : (a b : Filter) (s : Result Filter FilterError) → (lacks t x || lacks t y) ≡ true → (formula a ≡ coerced_comparison t k Gte x) × Suits IsCoercible (comparing (x ∷ [])) t
-        → (formula b ≡ coerced_comparison t k Lte y) × Suits IsCoercible (comparing (y ∷ [])) t → Makes (both (formula a) (formula b)) s → CoercesTest t (comparing (x ∷ y ∷ [])) (coerced_range t k x y) (AreValid (v ∷ w ∷ [])) k s
-    made_range a b (Ok g) e h m q =
-        (q ∙ ap₂ both h.0 m.0 ∙ sym (ap (λ c. cond c (both (coerced_comparison t k Gte x) (coerced_comparison t k Lte y)) (range k (coerced_cell t x) (coerced_cell t y))) e), (h.1.0, m.1))
-    made_range a b (Err d) e h m q = inl q
+    made_range : (a b : Filter) (s : Result Filter FilterError) → (lacks t x || lacks t y) ≡ true → CoercesTest t (comparing (x ∷ [])) (coerced_comparison t k Gte x) (AreValid (v ∷ [])) k (Ok a)
+        → CoercesTest t (comparing (y ∷ [])) (coerced_comparison t k Lte y) (AreValid (w ∷ [])) k (Ok b) → Makes (both (formula a) (formula b)) s → IfOk s (λ g. literals_of g ≡ literals_of a ++ literals_of b)
+        → CoercesTest t (comparing (x ∷ y ∷ [])) (coerced_range t k x y) (AreValid (v ∷ w ∷ [])) k s
+    made_range a b (Ok g) e h m q n = (
+      q ∙ ap₂ both h.0 m.0 ∙ sym (ap (λ c. cond c (both (coerced_comparison t k Gte x) (coerced_comparison t k Lte y)) (range k (coerced_cell t x) (coerced_cell t y))) e),
+      (h.1.0, m.1),
+      λ z. valid_with (literals_of g) (literals_of a) (literals_of b) n (h.2 (z.0, tt)) (m.2 z.1),
+    )
+    made_range a b (Err d) e h m q n = inl q
 
     pub lacking_range : (l r s : Result Filter FilterError) → (lacks t x || lacks t y) ≡ true → CoercesTest t (comparing (x ∷ [])) (coerced_comparison t k Gte x) (AreValid (v ∷ [])) k l
-        → CoercesTest t (comparing (y ∷ [])) (coerced_comparison t k Lte y) (AreValid (w ∷ [])) k r → OfParts (λ a b. Makes (both (formula a) (formula b)) s) (λ e. s ≡ Err e) l r
+        → CoercesTest t (comparing (y ∷ [])) (coerced_comparison t k Lte y) (AreValid (w ∷ [])) k r → OfParts (λ a b. Makes (both (formula a) (formula b)) s) (λ e. s ≡ Err e) l r → Joins l r s
         → CoercesTest t (comparing (x ∷ y ∷ [])) (coerced_range t k x y) (AreValid (v ∷ w ∷ [])) k s
-    lacking_range (Err e) r s lk h m q = refused_range e (coerced_range t k x y) (first_refused e h) s q
-    lacking_range (Ok a) (Err e) s lk h m q = refused_range e (coerced_range t k x y) (second_refused e m) s q
-    lacking_range (Ok a) (Ok b) s lk h m q = made_range a b s lk h m q
+    lacking_range (Err e) r s lk h m q n = refused_range e (coerced_range t k x y) (first_refused e h) s q
+    lacking_range (Ok a) (Err e) s lk h m q n = refused_range e (coerced_range t k x y) (second_refused e m) s q
+    lacking_range (Ok a) (Ok b) s lk h m q n = made_range a b s lk h m q n
 
     pub refused_lower : (e : FilterError) (f : Formula) → RefusesLiterals k (IsCoercible t x) (IsValid v) e → CoercesTest t (comparing (x ∷ y ∷ [])) f (AreValid (v ∷ w ∷ [])) k (Err e)
     refused_lower e f (inl o) = inl o
@@ -344,9 +337,13 @@ module _ (t : TypeTree) (k : ℕ) (x y : Cell) where
     refused_upper e f (inl o) = inl o
     refused_upper e f (inr p) = inr (p.0, λ a s. p.1 a.1.0 s.1.0)
 
-  pub kept_ends : (vs : List Scalar) (a b : Scalar) → (cell_of a ≡ coerced_cell t x) × IsCoercible t x → (cell_of b ≡ coerced_cell t y) × IsCoercible t y
-      → CoercesTest t (comparing (x ∷ y ∷ [])) (range k (coerced_cell t x) (coerced_cell t y)) (AreValid vs) k (Ok (Between k a b))
-  kept_ends vs a b h m = (formula-Between k a b ∙ ap₂ (range k) h.0 m.0, (h.1, (m.1, tt)))
+  pub kept_ends : (v w a b : Scalar) → (cell_of a ≡ coerced_cell t x) × IsCoercible t x × (IsValid v → IsValid a) → (cell_of b ≡ coerced_cell t y) × IsCoercible t y × (IsValid w → IsValid b)
+      → CoercesTest t (comparing (x ∷ y ∷ [])) (range k (coerced_cell t x) (coerced_cell t y)) (AreValid (v ∷ w ∷ [])) k (Ok (Between k a b))
+  kept_ends v w a b h m = (
+    formula-Between k a b ∙ ap₂ (range k) h.0 m.0,
+    (h.1, (m.1, tt)),
+    λ z. valid_same (literals_of (Between k a b)) (a ∷ b ∷ []) (literals-Between k a b) (h.2 z.0, (m.2 z.1.0, tt)),
+  )
 
 pub ruleset ranges = (lower_there, upper_there, kept_range, lacking_range, refused_lower, refused_upper, kept_ends)
 
@@ -365,8 +362,13 @@ module _ (t : TypeTree) (k : ℕ) (p : Cell) where
   pub no_strings : (f : Formula) (vs : List Scalar) → holds_strings t ≡ false → CoercesTest t (beginning p) f (AreValid vs) k (Err (TypesDiffer 0 k))
   no_strings f vs e = inr (refl, λ a s. (strings_test t).1 e s.0)
 
-  pub kept_prefix : (vs : List Scalar) (y : Scalar) → holds_strings t ≡ true → (cell_of y ≡ coerced_cell t p) × IsCoercible t p → CoercesTest t (beginning p) (prefix_test k (coerced_cell t p)) (AreValid vs) k (Ok (StartsWith k y))
-  kept_prefix vs y e h = (formula-StartsWith k y ∙ ap (prefix_test k) h.0, ((strings_test t).0 e, h.1))
+  pub kept_prefix : (v y : Scalar) → holds_strings t ≡ true → (cell_of y ≡ coerced_cell t p) × IsCoercible t p × (IsValid v → IsValid y)
+      → CoercesTest t (beginning p) (prefix_test k (coerced_cell t p)) (AreValid (v ∷ [])) k (Ok (StartsWith k y))
+  kept_prefix v y e h = (
+    formula-StartsWith k y ∙ ap (prefix_test k) h.0,
+    ((strings_test t).0 e, h.1),
+    λ w. valid_same (literals_of (StartsWith k y)) (y ∷ []) (literals-StartsWith k y) (h.2 w.0, tt),
+  )
 
   pub refused_prefix : (v : Scalar) (e : FilterError) (f : Formula) → RefusesLiterals k (IsCoercible t p) (IsValid v) e → CoercesTest t (beginning p) f (AreValid (v ∷ [])) k (Err e)
   refused_prefix v e f (inl o) = inl o
@@ -380,9 +382,11 @@ abbrev cell_from : TypeTree → Content → Cell
 cell_from t c = record { typed = t; content = c }
 
 module _ (t : TypeTree) (k : ℕ) (l : Scalar) where
-  pub copied_literal : (r : Result Scalar FilterError) → same_type t (scalar_type l) ≡ true → MatchResult r (λ y. cell_of y ≡ cell_of l) (λ e. e ≡ OutOfMemory) → CoercesLiteral t (cell_of l) (IsValid l) k r
-  copied_literal (Ok y) e h = (h ∙ sym (ap (λ b. cond b (cell_of l) (cell_from (as_nullable t) (scalar_content l))) e), inl ((same_type-Decides t (scalar_type l)).0 e))
-  copied_literal (Err d) e h = inl h
+  pub copied_literal : (r : Result Scalar FilterError) → same_type t (scalar_type l) ≡ true → MatchResult r (λ y. cell_of y ≡ cell_of l) (λ e. e ≡ OutOfMemory) → IfOk r (λ y. exactly_of y ≡ exactly_of l)
+      → CoercesLiteral t (cell_of l) (IsValid l) k r
+  copied_literal (Ok y) e h m =
+      (h ∙ sym (ap (λ b. cond b (cell_of l) (cell_from (as_nullable t) (scalar_content l))) e), inl ((same_type-Decides t (scalar_type l)).0 e), copy_valid l y m)
+  copied_literal (Err d) e h m = inl h
 
   pub invalid_literal : (b : Bool) → IsTrue b ↔ IsValid l → b ≡ false → CoercesLiteral t (cell_of l) (IsValid l) k (Err (TypesDiffer 0 k))
   invalid_literal b h e = inr (refl, λ v. absurd (false≢true (sym e ∙ h.1 v)))
@@ -394,7 +398,7 @@ module _ (t : TypeTree) (k : ℕ) (l : Scalar) where
 
   pub cast_made : (u : TypeTree) (y : Scalar) → u ≡ as_nullable t → same_type t (scalar_type l) ≡ false → AnswersCast (scalar_type l) u (scalar_raw l) (Ok y) → CoercesLiteral t (cell_of l) (IsValid l) k (Ok y)
   cast_made u y q e a =
-      (ap₂ cell_from (a.one.typed ∙ q) a.one.same ∙ sym (ap (λ b. cond b (cell_of l) (cell_from (as_nullable t) (scalar_content l))) e), inr (inr (subst (λ s. CanCast (scalar_type l) s (scalar_content l)) q a.succeeds_only)))
+      (ap₂ cell_from (a.one.typed ∙ q) a.one.same ∙ sym (ap (λ b. cond b (cell_of l) (cell_from (as_nullable t) (scalar_content l))) e), inr (inr (subst (λ s. CanCast (scalar_type l) s (scalar_content l)) q a.succeeds_only)), λ v. a.one.valid)
 
   not_possible : (u : TypeTree) (p : Type 0) (e : VortexError) → e ≢ why.OutOfMemory → RefusesCast u p e → ¬ p
   not_possible u p why.CannotCast n h = h
@@ -409,13 +413,17 @@ module _ (t : TypeTree) (k : ℕ) (l : Scalar) where
 
 -- ---- several literals
 
-module _ (t : TypeTree) (k : ℕ) (x : Cell) (v : Scalar) (ks : List Cell) where
-  pub lacking_pushed : lacks t x ≡ true → (ks ≡ with_cell t x ks) × IsCoercible t x
-  lacking_pushed e = (sym (ap (λ b. cond b ks (ks ++ coerced_cell t x ∷ [])) e), inr (inl e))
+module _ (t : TypeTree) (k : ℕ) (x : Cell) (v : Scalar) (zs : List Scalar) where
+  pub lacking_pushed : lacks t x ≡ true → (map cell_of zs ≡ with_cell t x (map cell_of zs)) × IsCoercible t x × (IsValid v → AreValid zs → AreValid zs)
+  lacking_pushed e = (sym (ap (λ b. cond b (map cell_of zs) (map cell_of zs ++ coerced_cell t x ∷ [])) e), inr (inl e), λ a b. b)
 
-  pub kept_pushed : (y : Scalar) (after : List Cell) (r : Result (Unit {0}) FilterError) → lacks t x ≡ false → (cell_of y ≡ coerced_cell t x) × IsCoercible t x
-      → MatchResult r (λ _. after ≡ ks ++ cell_of y ∷ []) (λ e. e ≡ OutOfMemory) → Pushes t x (IsValid v) k ks after r
-  kept_pushed y after (Ok u) e h p = (p ∙ ap (λ c. ks ++ c ∷ []) h.0 ∙ sym (ap (λ b. cond b ks (ks ++ coerced_cell t x ∷ [])) e), h.1)
+  pub kept_pushed : (y : Scalar) (after : List Scalar) (r : Result (Unit {0}) FilterError) → lacks t x ≡ false → (cell_of y ≡ coerced_cell t x) × IsCoercible t x × (IsValid v → IsValid y)
+      → MatchResult r (λ _. after ≡ zs ++ y ∷ []) (λ e. e ≡ OutOfMemory) → Pushes t x (IsValid v) k zs after r
+  kept_pushed y after (Ok u) e h p = (
+    ap (map cell_of) p ∙ map-append cell_of zs (y ∷ []) ∙ ap (λ c. map cell_of zs ++ c ∷ []) h.0 ∙ sym (ap (λ b. cond b (map cell_of zs) (map cell_of zs ++ coerced_cell t x ∷ [])) e),
+    h.1,
+    λ a b. valid_with after zs (y ∷ []) p b (h.2 a, tt),
+  )
   kept_pushed y after (Err d) e h p = inl p
 
 pub ruleset pushes = (lacking_pushed, kept_pushed)
@@ -425,7 +433,7 @@ at_place P [] i d h a = absurd (omega arith)
 at_place P (x ∷ xs) zero d h a = a.0
 at_place P (x ∷ xs) (suc i) d h a = at_place P xs i d (omega arith) a.1
 
-valid_at : (xs : List Scalar) (i : ℕ) (d : Scalar) → i < length xs → AreValid xs → IsValid (get_or xs i d)
+pub valid_at : (xs : List Scalar) (i : ℕ) (d : Scalar) → i < length xs → AreValid xs → IsValid (get_or xs i d)
 valid_at [] i d h a = absurd (omega arith)
 valid_at (x ∷ xs) zero d h a = a.0
 valid_at (x ∷ xs) (suc i) d h a = valid_at xs i d (omega arith) a.1
@@ -540,6 +548,10 @@ module _ (columns : List TypeTree) (f : Formula) (vs : List Scalar) where
   pub unchanged_coerced : (r : Result Filter FilterError) → Coerces columns f (AreValid vs) r → FitsColumns columns f → IfOk r (λ g. formula g ≡ f)
   unchanged_coerced (Ok g) h i = h.0 ∙ coerced_itself columns f i
   unchanged_coerced (Err e) h i = tt
+
+  pub valid_coerced : (r : Result Filter FilterError) → Coerces columns f (AreValid vs) r → AreValid vs → IfOk r (λ g. AreValid (literals_of g))
+  valid_coerced (Ok g) h v = h.2 v
+  valid_coerced (Err e) h v = tt
 
   pub only_coerced : (r : Result Filter FilterError) → Coerces columns f (AreValid vs) r → OnOk r (AllFit IsCoercible columns (tests f))
   only_coerced (Ok g) h = h.1

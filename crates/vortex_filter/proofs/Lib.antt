@@ -14,6 +14,8 @@ pub mod Exactness
 pub mod FitLaws
 pub mod FitProofs
 pub mod Lexed
+pub mod LiteralLaws
+pub mod LiteralSteps
 pub mod Loops
 pub mod MakeSteps
 pub mod Occurrence

@@ -13,6 +13,7 @@ use Rattle.vortex_dtype.specs.declared.types.DType.{DType}
 use Rattle.vortex_pvalue.specs.Numbers.{in_range}
 use Rattle.vortex_value.specs.TypesWithin.{HasNoVariant}
 use Rattle.vortex_value.specs.Values.Content.{Content, whole}
+use Rattle.vortex_value.specs.Values.Scalars.{IsValid}
 use Rattle.vortex_value.specs.declared.scalars.Scalar.{Scalar}
 use Rattle.vortex_statistics.specs.Cells.{Cell, cell_of}
 use Rattle.vortex_filter.specs.declared.error.FilterError.{FilterError}
@@ -20,13 +21,14 @@ use Rattle.vortex_filter.specs.declared.error.FilterError.TheVariants.{OutOfMemo
 use Rattle.vortex_filter.specs.declared.filter.Filter.{Filter}
 use Rattle.vortex_filter.specs.Checking.{AllFit, Demand, RefusesFirst, Suits, tests}
 use Rattle.vortex_filter.specs.Coercing.{IsCoercible, coerced, coerced_cell, kept_cells, lacks}
+use Rattle.vortex_filter.specs.FilterLiterals.{AreValid, literals_of}
 use Rattle.vortex_filter.specs.Formula.{Formula, formula}
 
--- a filter, if each literal can be made one of its column's type; else it is out of memory, or, if the literals are valid,
--- the first test is refused that has one which cannot
+-- a filter, if each literal can be made one of its column's type, with valid literals if these are; else it is out of memory,
+-- or, if the literals are valid, the first test is refused that has one which cannot
 abbrev pub Coerces : List TypeTree → Formula → Type 0 → Result Filter FilterError → Type 0
 Coerces columns f valid r =
-    MatchResult r (λ g. (formula g ≡ coerced columns f) × AllFit IsCoercible columns (tests f)) (λ e. (e ≡ OutOfMemory) ⊎ (valid → RefusesFirst IsCoercible columns (tests f) e))
+    MatchResult r (λ g. (formula g ≡ coerced columns f) × AllFit IsCoercible columns (tests f) × (valid → AreValid (literals_of g))) (λ e. (e ≡ OutOfMemory) ⊎ (valid → RefusesFirst IsCoercible columns (tests f) e))
 
 -- the refusal of a column k whose literals have not the property, if they are valid
 abbrev pub RefusesLiterals : ℕ → Type 0 → Type 0 → FilterError → Type 0
@@ -34,23 +36,23 @@ RefusesLiterals k property valid e = (e ≡ OutOfMemory) ⊎ ((e ≡ TypesDiffer
 
 -- the same for one test of column k, of the type t
 abbrev pub CoercesTest : TypeTree → Demand → Formula → Type 0 → ℕ → Result Filter FilterError → Type 0
-CoercesTest t d f valid k r = MatchResult r (λ g. (formula g ≡ f) × Suits IsCoercible d t) (RefusesLiterals k (Suits IsCoercible d t) valid)
+CoercesTest t d f valid k r = MatchResult r (λ g. (formula g ≡ f) × Suits IsCoercible d t × (valid → AreValid (literals_of g))) (RefusesLiterals k (Suits IsCoercible d t) valid)
 
 -- the same for one literal that the type does not lack
 abbrev pub CoercesLiteral : TypeTree → Cell → Type 0 → ℕ → Result Scalar FilterError → Type 0
-CoercesLiteral t x valid k r = MatchResult r (λ y. (cell_of y ≡ coerced_cell t x) × IsCoercible t x) (RefusesLiterals k (IsCoercible t x) valid)
+CoercesLiteral t x valid k r = MatchResult r (λ y. (cell_of y ≡ coerced_cell t x) × IsCoercible t x × (valid → IsValid y)) (RefusesLiterals k (IsCoercible t x) valid)
 
 -- the same for several literals, of which those that the type lacks are left out
 abbrev pub CoercesLiterals : TypeTree → List Cell → Type 0 → ℕ → Result (Vec Scalar Global) FilterError → Type 0
-CoercesLiterals t xs valid k r = MatchResult r (λ ys. (map cell_of ys.items ≡ kept_cells t xs) × AllByRecursion (IsCoercible t) xs) (RefusesLiterals k (AllByRecursion (IsCoercible t) xs) valid)
+CoercesLiterals t xs valid k r = MatchResult r (λ ys. (map cell_of ys.items ≡ kept_cells t xs) × AllByRecursion (IsCoercible t) xs × (valid → AreValid ys.items)) (RefusesLiterals k (AllByRecursion (IsCoercible t) xs) valid)
 
 -- the cells with one more, unless the type lacks it
 abbrev pub with_cell : TypeTree → Cell → List Cell → List Cell
 with_cell t x ks = if lacks t x then ks else ks ++ coerced_cell t x ∷ []
 
 -- one literal more is kept, unless the type lacks it
-abbrev pub Pushes : TypeTree → Cell → Type 0 → ℕ → List Cell → List Cell → Result (Unit {0}) FilterError → Type 0
-Pushes t x valid k before after r = MatchResult r (λ _. (after ≡ with_cell t x before) × IsCoercible t x) (RefusesLiterals k (IsCoercible t x) valid)
+abbrev pub Pushes : TypeTree → Cell → Type 0 → ℕ → List Scalar → List Scalar → Result (Unit {0}) FilterError → Type 0
+Pushes t x valid k before after r = MatchResult r (λ _. (map cell_of after ≡ with_cell t x (map cell_of before)) × IsCoercible t x × (valid → AreValid before → AreValid after)) (RefusesLiterals k (IsCoercible t x) valid)
 
 -- the type of a column whose values have an order; else the column is not there, or a variant stands in its type
 abbrev pub GivesOrdered : List TypeTree → ℕ → Result (Bor DType) FilterError → Type 0

@@ -1,10 +1,17 @@
 -- The literals of a filter, as scalars.
-use Rattle.std.specs.Prelude.{List, [], ◌∷◌, ◌++◌}
+use Rattle.std.specs.Prelude.{◌≡◌, List, [], ◌∷◌, ◌++◌, map, IfOk, IfSome, Result}
 use Rattle.std.specs.List.{AllByRecursion}
-use Rattle.vortex_value.specs.Values.Scalars.{IsValid}
+use Rattle.vortex_dtype.specs.TypeTree.{TypeTree}
+use Rattle.vortex_value.specs.Values.RawTree.{RawTree}
+use Rattle.vortex_value.specs.Values.Scalars.{IsValid, scalar_raw, scalar_type}
 use Rattle.vortex_value.specs.declared.scalars.Scalar.{Scalar}
+use Rattle.vortex_filter.specs.declared.error.FilterError.{FilterError}
 use Rattle.vortex_filter.specs.declared.filter.Filter.{Filter, fold-Filter}
 use Rattle.vortex_filter.specs.declared.filter.Filter.TheOpen.{Filter-F}
+use Rattle.vortex_filter.specs.declared.simplify.Residual.{Residual}
+use Rattle.vortex_filter.specs.declared.sql.parse.literals.Literal.{Literal}
+use Rattle.vortex_filter.specs.declared.sql.parse.literals.Literal.TheVariants as said
+use Rattle.vortex_filter.specs.Formula.{formula}
 
 -- the literals of a variant, from those of its parts
 abbrev pub literals_step : Filter-F (List Scalar) → List Scalar
@@ -22,6 +29,35 @@ literals_step (Filter-F.Not f) = f.value
 abbrev pub literals_of : Filter → List Scalar
 literals_of = fold-Filter (List Scalar) literals_step
 
+-- the scalar that a literal in a text is; a number that the type lacks is none
+abbrev pub scalars_of : Literal → List Scalar
+scalars_of (said.Exactly x) = x ∷ []
+scalars_of (said.Lacking is_below) = []
+
+-- ---- validity
+
 -- each of the scalars is valid for its type
 abbrev pub AreValid : List Scalar → Type 0
 AreValid xs = AllByRecursion IsValid xs
+
+-- if a filter was made, its literals are valid
+abbrev pub MakesValid : Result Filter FilterError → Type 0
+MakesValid r = IfOk r (λ g. AreValid (literals_of g))
+
+-- if something stands in the filter's place, its literals are valid
+abbrev pub LeavesValid : Residual → Type 0
+LeavesValid r = IfSome r.change MakesValid
+
+-- ---- copies
+
+-- the type and the raw value of a scalar, with the `PType` of each integer
+abbrev pub exactly_of : Scalar → TypeTree × RawTree
+exactly_of x = (scalar_type x, scalar_raw x)
+
+-- if a filter was made, its literals are these scalars, each with its type and its raw value
+abbrev pub MakesCopies : List Scalar → Result Filter FilterError → Type 0
+MakesCopies xs r = IfOk r (λ g. map exactly_of (literals_of g) ≡ map exactly_of xs)
+
+-- Filters of one formula, each with valid literals, have the same literals: each with its type and its raw value.
+abbrev pub FormulasSayLiterals : Type 0
+FormulasSayLiterals = (f g : Filter) → AreValid (literals_of f) → AreValid (literals_of g) → formula f ≡ formula g → map exactly_of (literals_of f) ≡ map exactly_of (literals_of g)

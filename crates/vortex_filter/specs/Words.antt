@@ -16,6 +16,7 @@ pub use Rattle.vortex_filter.specs.CheckSteps.{answer_behind, answer_of_both, be
 pub use Rattle.vortex_filter.specs.Checking.{FitsColumns, IsOfType, RefusesFirst, tests}
 pub use Rattle.vortex_filter.specs.Exactness.{ComparisonsAreExact, ComparisonsOccur, PrefixesAreExact}
 pub use Rattle.vortex_filter.specs.Faults.{IsPlaced}
+pub use Rattle.vortex_filter.specs.FilterLiterals.{AreValid, FormulasSayLiterals, exactly_of, literals_of}
 pub use Rattle.vortex_filter.specs.FitLaws.{FittingComparesContents, UnknownForNulls, UnknownWithoutOrder}
 pub use Rattle.vortex_filter.specs.Formula.{Formula, both, cell_at, compare_truth, comparison, constant, either, formula, is_match, lent_cell, member_truth, membership, negation, null_test, null_truth, prefix_test, range, range_truth, truth}
 pub use Rattle.vortex_filter.specs.Lexing.{Gives, fault_at, quoted_at, quoted_token, view}

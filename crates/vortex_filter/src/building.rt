@@ -1,6 +1,7 @@
 //! Filters that are made of filters.
 
-ghost use Rattle.std.specs.Prelude.{◌≡◌, IfErr, IfOk};
+ghost use Rattle.std.specs.Prelude.{◌≡◌, ◌++◌, IfErr, IfOk};
+ghost use Rattle.vortex_filter.specs.FilterLiterals.{literals_of};
 ghost use Rattle.vortex_filter.specs.Words.{OutOfMemory, both, either, formula, negation};
 
 use crate::error::FilterError;
@@ -13,6 +14,8 @@ impl Filter {
     /// `OutOfMemory` is its only refusal.
     pub fn and(alloc: Global, left: Filter, right: Filter) -> Result<Filter, FilterError>
         ensures made { IfOk result (λ f. formula f ≡ both (formula left) (formula right)) }
+        ensures literals { IfOk result (λ f.
+            literals_of f ≡ literals_of left ++ literals_of right) }
         ensures refused { IfErr result (λ e. e ≡ OutOfMemory) }
     {
         let (left, right) = boxed_pair(alloc, left, right)?;
@@ -24,6 +27,8 @@ impl Filter {
     /// `OutOfMemory` is its only refusal.
     pub fn or(alloc: Global, left: Filter, right: Filter) -> Result<Filter, FilterError>
         ensures made { IfOk result (λ f. formula f ≡ either (formula left) (formula right)) }
+        ensures literals { IfOk result (λ f.
+            literals_of f ≡ literals_of left ++ literals_of right) }
         ensures refused { IfErr result (λ e. e ≡ OutOfMemory) }
     {
         let (left, right) = boxed_pair(alloc, left, right)?;
@@ -35,6 +40,7 @@ impl Filter {
     /// `OutOfMemory` is its only refusal.
     pub fn not(alloc: Global, filter: Filter) -> Result<Filter, FilterError>
         ensures made { IfOk result (λ f. formula f ≡ negation (formula filter)) }
+        ensures literals { IfOk result (λ f. literals_of f ≡ literals_of filter) }
         ensures refused { IfErr result (λ e. e ≡ OutOfMemory) }
     {
         Ok(Filter::Not(Box::new(alloc, filter)?))

@@ -34,7 +34,8 @@ impl Filter {
     ///
     /// It is refused for the first test, in reading order, with a literal that cannot be cast, or
     /// whose column is not there or has values without an order. A literal that is not valid for its
-    /// own type counts as one that cannot be cast. `OutOfMemory` may come in place of each answer.
+    /// own type counts as one that cannot be cast. Of valid literals it makes valid ones.
+    /// `OutOfMemory` may come in place of each answer.
     /// It borrows the filter: casts are new scalars anyway, and so nothing is lost if it is refused.
     pub fn coerce(&self, alloc: Global, columns: &[DType]) -> Result<Filter, FilterError>
         ensures value { IfOk result (λ made.
@@ -46,6 +47,8 @@ impl Filter {
             → truth (formula made) row ≡ content_truth (formula self.now) row) }
         ensures unchanged { FitsColumns (map type_of columns.now) (formula self.now)
             → IfOk result (λ made. formula made ≡ formula self.now) }
+        ensures valid { AreValid (literals_of self.now) → IfOk result (λ made.
+            AreValid (literals_of made)) }
         ensures only { OnOk result
             (AllFit IsCoercible (map type_of columns.now) (tests (formula self.now))) }
         ensures refused { AreValid (literals_of self.now) → IfErr result (λ e. (e ≡ OutOfMemory)
@@ -336,7 +339,8 @@ fn prefix_in(
 
 /// A filter with one truth for each value of the column, and Unknown for a null.
 fn for_values(alloc: Global, holds: bool, column: usize) -> Result<Filter, FilterError>
-    ensures { Makes (for_values holds column) result }
+    ensures made { Makes (for_values holds column) result }
+    ensures literals { IfOk result (λ f. literals_of f ≡ []) }
 {
     let is_null = Ok(Filter::IsNull { column });
     let unknown = Ok(Filter::Constant(Truth::Unknown));
@@ -376,7 +380,7 @@ fn push_cast(
     kept: &mut Vec<Scalar>,
 ) -> Result<(), FilterError>
     ensures { Pushes (type_of dtype.now) (cell_of literal.now) (IsValid literal.now) column
-        (map cell_of kept.old.items) (map cell_of kept.new.items) result }
+        kept.old.items kept.new.items result }
 {
     if lacks(dtype, literal) {
         return Ok(());
@@ -389,7 +393,7 @@ fn push_cast(
 
 fn push(made: Scalar, kept: &mut Vec<Scalar>) -> Result<(), FilterError>
     ensures { MatchResult result
-        (λ _. map cell_of kept.new.items ≡ map cell_of kept.old.items ++ cell_of made ∷ [])
+        (λ _. kept.new.items ≡ kept.old.items ++ made ∷ [])
         (λ e. e ≡ OutOfMemory) }
 {
     match kept.push(made) {

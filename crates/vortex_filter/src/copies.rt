@@ -1,6 +1,7 @@
 //! Copies of filters, and filters made of parts, in memory of their own.
 
-ghost use Rattle.std.specs.Prelude.{◌≡◌, Err, IfErr, IfOk, MatchResult, map};
+ghost use Rattle.std.specs.Prelude.{◌≡◌, ◌++◌, ◌∷◌, [], Err, IfErr, IfOk, MatchResult, map};
+ghost use Rattle.vortex_filter.specs.FilterLiterals.{AreValid, MakesCopies, exactly_of, literals_of};
 ghost use Rattle.vortex_filter.specs.Makes.{Makes, MakesUnlessBare, OfParts};
 ghost use Rattle.vortex_filter.specs.Words.{IsBare, OutOfMemory, both, cell_of, comparison, either, formula, membership, negation, prefix_test, range};
 
@@ -13,8 +14,14 @@ use vortex_value::Scalar;
 impl Filter {
     /// A copy with memory of its own. `OutOfMemory` is its only refusal, and comes neither of a
     /// constant nor of a test for null.
+    #[tactic(auto, using(crate::proofs::LiteralSteps::copies_valid))]
     pub fn clone(&self, alloc: Global) -> Result<Filter, FilterError>
         ensures copied { IfOk result (λ copy. formula copy ≡ formula self.now) }
+        // Of each literal, the `PType` of a raw integer included.
+        ensures exactly { IfOk result (λ copy.
+            map exactly_of (literals_of copy) ≡ map exactly_of (literals_of self.now)) }
+        ensures valid { AreValid (literals_of self.now) → IfOk result (λ copy.
+            AreValid (literals_of copy)) }
         ensures refused { IfErr result (λ e. (e ≡ OutOfMemory) × ¬ (IsBare (formula self.now))) }
     {
         copy(alloc, self)
@@ -22,9 +29,10 @@ impl Filter {
 }
 
 /// A copy of a filter. That of a constant or a test for null takes no memory.
-#[tactic(auto, using(crate::proofs::MakeSteps::shown))]
+#[tactic(auto, using(crate::proofs::MakeSteps::shown, crate::proofs::LiteralSteps::copied))]
 pub(crate) fn copy(alloc: Global, filter: &Filter) -> Result<Filter, FilterError>
-    ensures { MakesUnlessBare (formula filter.now) result }
+    ensures made { MakesUnlessBare (formula filter.now) result }
+    ensures exactly { MakesCopies (literals_of filter.now) result }
 {
     match filter {
         Filter::Constant(truth) => Ok(Filter::Constant(*truth)),
@@ -58,7 +66,7 @@ pub(crate) fn copy(alloc: Global, filter: &Filter) -> Result<Filter, FilterError
 // Each is a call of its own, so that what it needs on the stack is not taken again at each level of a
 // filter.
 
-#[tactic(auto, using(crate::proofs::Steps::shown))]
+#[tactic(auto, using(crate::proofs::Steps::shown, crate::proofs::LiteralSteps::literals))]
 #[inline(never)]
 fn copy_comparison(
     alloc: Global,
@@ -66,7 +74,8 @@ fn copy_comparison(
     operator: CompareOperator,
     literal: &Scalar,
 ) -> Result<Filter, FilterError>
-    ensures { Makes (comparison column operator (cell_of literal.now)) result }
+    ensures made { Makes (comparison column operator (cell_of literal.now)) result }
+    ensures exactly { MakesCopies (literal.now ∷ []) result }
 {
     let literal = copy_scalar(alloc, literal)?;
     Ok(Filter::Compare {
@@ -76,16 +85,17 @@ fn copy_comparison(
     })
 }
 
-#[tactic(auto, using(crate::proofs::Steps::shown))]
+#[tactic(auto, using(crate::proofs::Steps::shown, crate::proofs::LiteralSteps::literals))]
 #[inline(never)]
 fn copy_membership(alloc: Global, column: usize, literals: &[Scalar]) -> Result<Filter, FilterError>
-    ensures { Makes (membership column (map cell_of literals.now)) result }
+    ensures made { Makes (membership column (map cell_of literals.now)) result }
+    ensures exactly { MakesCopies literals.now result }
 {
     let literals = copy_scalars(alloc, literals)?;
     Ok(Filter::In { column, literals })
 }
 
-#[tactic(auto, using(crate::proofs::Steps::shown))]
+#[tactic(auto, using(crate::proofs::Steps::shown, crate::proofs::LiteralSteps::literals))]
 #[inline(never)]
 fn copy_range(
     alloc: Global,
@@ -93,7 +103,8 @@ fn copy_range(
     lower: &Scalar,
     upper: &Scalar,
 ) -> Result<Filter, FilterError>
-    ensures { Makes (range column (cell_of lower.now) (cell_of upper.now)) result }
+    ensures made { Makes (range column (cell_of lower.now) (cell_of upper.now)) result }
+    ensures exactly { MakesCopies (lower.now ∷ upper.now ∷ []) result }
 {
     let lower = copy_scalar(alloc, lower)?;
     match copy_scalar(alloc, upper) {
@@ -109,21 +120,23 @@ fn copy_range(
     }
 }
 
-#[tactic(auto, using(crate::proofs::Steps::shown))]
+#[tactic(auto, using(crate::proofs::Steps::shown, crate::proofs::LiteralSteps::literals))]
 #[inline(never)]
 fn copy_prefix(alloc: Global, column: usize, prefix: &Scalar) -> Result<Filter, FilterError>
-    ensures { Makes (prefix_test column (cell_of prefix.now)) result }
+    ensures made { Makes (prefix_test column (cell_of prefix.now)) result }
+    ensures exactly { MakesCopies (prefix.now ∷ []) result }
 {
     let prefix = copy_scalar(alloc, prefix)?;
     Ok(Filter::StartsWith { column, prefix })
 }
 
 /// A copy of a scalar.
-#[tactic(auto, using(crate::proofs::MakeSteps::copied_cell))]
+#[tactic(auto, using(crate::proofs::MakeSteps::copied_cell, crate::proofs::LiteralSteps::copied_exactly))]
 pub(crate) fn copy_scalar(alloc: Global, scalar: &Scalar) -> Result<Scalar, FilterError>
-    ensures { MatchResult result
+    ensures made { MatchResult result
         (λ copy. cell_of copy ≡ cell_of scalar.now)
         (λ e. e ≡ OutOfMemory) }
+    ensures exactly { IfOk result (λ copy. exactly_of copy ≡ exactly_of scalar.now) }
 {
     match scalar.clone(alloc) {
         Ok(copy) => Ok(copy),
@@ -136,9 +149,11 @@ pub(crate) fn copy_scalar(alloc: Global, scalar: &Scalar) -> Result<Scalar, Filt
 
 /// Copies of the scalars, in order.
 fn copy_scalars(alloc: Global, scalars: &[Scalar]) -> Result<Vec<Scalar>, FilterError>
-    ensures { MatchResult result
+    ensures made { MatchResult result
         (λ copies. map cell_of copies.items ≡ map cell_of scalars.now)
         (λ e. e ≡ OutOfMemory) }
+    ensures exactly { IfOk result (λ copies.
+        map exactly_of copies.items ≡ map exactly_of scalars.now) }
 {
     let mut copies = Vec::with_capacity(alloc, scalars.len())?;
     for scalar in scalars {
@@ -150,13 +165,16 @@ fn copy_scalars(alloc: Global, scalars: &[Scalar]) -> Result<Vec<Scalar>, Filter
 // ---- parts
 
 /// Both parts together, if both were made; else the refusal of the first that was not.
-#[tactic(auto, using(crate::proofs::Steps::shown))]
+#[tactic(auto, using(crate::proofs::Steps::shown, crate::proofs::LiteralSteps::literals))]
 pub(crate) fn conjoin(
     alloc: Global,
     left: Result<Filter, FilterError>,
     right: Result<Filter, FilterError>,
 ) -> Result<Filter, FilterError>
-    ensures { OfParts (λ f g. Makes (both (formula f) (formula g)) result)
+    ensures made { OfParts (λ f g. Makes (both (formula f) (formula g)) result)
+        (λ e. result ≡ Err e) left right }
+    ensures literals { OfParts
+        (λ f g. IfOk result (λ h. literals_of h ≡ literals_of f ++ literals_of g))
         (λ e. result ≡ Err e) left right }
 {
     match boxed_parts(alloc, left, right) {
@@ -166,13 +184,16 @@ pub(crate) fn conjoin(
 }
 
 /// One part or the other, if both were made; else the refusal of the first that was not.
-#[tactic(auto, using(crate::proofs::Steps::shown))]
+#[tactic(auto, using(crate::proofs::Steps::shown, crate::proofs::LiteralSteps::literals))]
 pub(crate) fn disjoin(
     alloc: Global,
     left: Result<Filter, FilterError>,
     right: Result<Filter, FilterError>,
 ) -> Result<Filter, FilterError>
-    ensures { OfParts (λ f g. Makes (either (formula f) (formula g)) result)
+    ensures made { OfParts (λ f g. Makes (either (formula f) (formula g)) result)
+        (λ e. result ≡ Err e) left right }
+    ensures literals { OfParts
+        (λ f g. IfOk result (λ h. literals_of h ≡ literals_of f ++ literals_of g))
         (λ e. result ≡ Err e) left right }
 {
     match boxed_parts(alloc, left, right) {
@@ -182,13 +203,16 @@ pub(crate) fn disjoin(
 }
 
 /// The part negated, if it was made.
-#[tactic(auto, using(crate::proofs::Steps::shown))]
+#[tactic(auto, using(crate::proofs::Steps::shown, crate::proofs::LiteralSteps::literals))]
 pub(crate) fn negate(
     alloc: Global,
     inner: Result<Filter, FilterError>,
 ) -> Result<Filter, FilterError>
-    ensures { MatchResult inner
+    ensures made { MatchResult inner
         (λ f. Makes (negation (formula f)) result)
+        (λ e. result ≡ Err e) }
+    ensures literals { MatchResult inner
+        (λ f. IfOk result (λ h. literals_of h ≡ literals_of f))
         (λ e. result ≡ Err e) }
 {
     match inner {

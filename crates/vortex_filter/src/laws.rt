@@ -3,10 +3,10 @@
 //! These functions do nothing when they run. The contract of each is a law over the definitions in
 //! `specs/`, and its proof is the law's proof.
 
-ghost use Rattle.vortex_filter.specs.Words.{ComparisonsAreExact, ComparisonsOccur, FittingComparesContents, PrefixesAreExact, SearchesFindAll, UnknownForNulls, UnknownWithoutOrder, ZonesAreSearched};
+ghost use Rattle.vortex_filter.specs.Words.{ComparisonsAreExact, ComparisonsOccur, FittingComparesContents, FormulasSayLiterals, PrefixesAreExact, SearchesFindAll, UnknownForNulls, UnknownWithoutOrder, ZonesAreSearched};
 
 use vortex_dtype::laws::nullable_is_the_same;
-use vortex_value::laws::{order_is_reversed, order_is_transitive};
+use vortex_value::laws::{one_value, order_is_reversed, order_is_transitive};
 
 /// Between two bounds without parts, a comparison has just the outcomes that it has on the cells
 /// which the statistics allow: none is claimed that cannot happen.
@@ -60,4 +60,12 @@ pub fn fitting_filters_compare_contents()
     ensures { FittingComparesContents }
 {
     nullable_is_the_same();
+}
+
+/// Filters of one formula, each with valid literals, have the same literals: each with its type and
+/// its raw value, the `PType` of an integer included.
+pub fn formulas_say_literals()
+    ensures { FormulasSayLiterals }
+{
+    one_value();
 }

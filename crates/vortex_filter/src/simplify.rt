@@ -1,6 +1,7 @@
 //! What is left of a filter on the rows of a zone, by the zone's statistics.
 
 ghost use Rattle.std.specs.Prelude.{◌≡◌, ◌≤◌, ◌&&◌, ◌||◌, Err, IfErr, IfOk, IsOkAnd, List, MatchOption, is_none, is_some, map};
+ghost use Rattle.vortex_filter.specs.FilterLiterals.{AreValid, LeavesValid, MakesValid, literals_of};
 ghost use Rattle.vortex_filter.specs.Makes.{IsResidual, MakesUnlessBare, OfParts, is_made_false, is_made_true, settled};
 ghost use Rattle.vortex_filter.specs.Words.{IsBare, OutOfMemory, SameOnRows, both, conjunction, constant, disjunction, either, formula, is_constant, known, negation, only, outcomes, residual, same_truths, size, sole};
 ghost use Rattle.vortex_statistics.specs.Statistics.{Known};
@@ -35,6 +36,8 @@ impl Filter {
         ensures smaller { IfOk result (λ left. size (formula left) ≤ size (formula self.now)) }
         ensures decided { (t : Truth) → outcomes (formula self.now) (map known statistics.now) ≡ only t
             → IsOkAnd result (λ left. formula left ≡ constant t) }
+        ensures valid { AreValid (literals_of self.now) → IfOk result (λ left.
+            AreValid (literals_of left)) }
         ensures refused { IfErr result (λ e. (e ≡ OutOfMemory)
             × ¬ (IsBare (residual (map known statistics.now) (formula self.now)))) }
     {
@@ -55,9 +58,10 @@ struct Residual {
 /// What is left of a filter. Each part is visited once, and takes no memory while it stays as it
 /// is.
 #[cycle(residual)]
-#[tactic(auto, using(crate::proofs::SimplifySteps::shown))]
+#[tactic(auto, using(crate::proofs::SimplifySteps::shown, crate::proofs::LiteralSteps::left, crate::proofs::LiteralSteps::parts))]
 fn residual_of(alloc: Global, filter: &Filter, statistics: &[ColumnStatistics]) -> Residual
-    ensures { IsResidual (map known statistics.now) (formula filter.now) result }
+    ensures left { IsResidual (map known statistics.now) (formula filter.now) result }
+    ensures valid { AreValid (literals_of filter.now) → LeavesValid result }
 {
     match filter {
         Filter::And(left, right) => {
@@ -104,7 +108,7 @@ fn settled(outcomes: Outcomes) -> Residual
 }
 
 /// What is left of both filters together.
-#[tactic(auto, using(crate::proofs::SimplifySteps::pairs))]
+#[tactic(auto, using(crate::proofs::SimplifySteps::pairs, crate::proofs::LiteralSteps::left))]
 fn conjoined(
     alloc: Global,
     left: &Filter,
@@ -112,9 +116,11 @@ fn conjoined(
     right: &Filter,
     back: Residual,
 ) -> Residual
-    ensures { (ss : List Known) → IsResidual ss (formula left.now) front
+    ensures left { (ss : List Known) → IsResidual ss (formula left.now) front
         → IsResidual ss (formula right.now) back
         → IsResidual ss (both (formula left.now) (formula right.now)) result }
+    ensures valid { AreValid (literals_of left.now) → LeavesValid front
+        → AreValid (literals_of right.now) → LeavesValid back → LeavesValid result }
 {
     let outcomes = front.outcomes.and(back.outcomes);
     if are_settled(outcomes, &front, &back) {
@@ -128,7 +134,7 @@ fn conjoined(
 }
 
 /// What is left of one filter or the other.
-#[tactic(auto, using(crate::proofs::SimplifySteps::pairs))]
+#[tactic(auto, using(crate::proofs::SimplifySteps::pairs, crate::proofs::LiteralSteps::left))]
 fn disjoined(
     alloc: Global,
     left: &Filter,
@@ -136,9 +142,11 @@ fn disjoined(
     right: &Filter,
     back: Residual,
 ) -> Residual
-    ensures { (ss : List Known) → IsResidual ss (formula left.now) front
+    ensures left { (ss : List Known) → IsResidual ss (formula left.now) front
         → IsResidual ss (formula right.now) back
         → IsResidual ss (either (formula left.now) (formula right.now)) result }
+    ensures valid { AreValid (literals_of left.now) → LeavesValid front
+        → AreValid (literals_of right.now) → LeavesValid back → LeavesValid result }
 {
     let outcomes = front.outcomes.or(back.outcomes);
     if are_settled(outcomes, &front, &back) {
@@ -152,9 +160,12 @@ fn disjoined(
 }
 
 /// What is left of a filter that is negated.
+#[tactic(auto, using(crate::proofs::LiteralSteps::left))]
 fn negated(alloc: Global, inner: &Filter, residual: Residual) -> Residual
-    ensures { (ss : List Known) → IsResidual ss (formula inner.now) residual
+    ensures left { (ss : List Known) → IsResidual ss (formula inner.now) residual
         → IsResidual ss (negation (formula inner.now)) result }
+    ensures valid { AreValid (literals_of inner.now) → LeavesValid residual
+        → LeavesValid result }
 {
     let outcomes = residual.outcomes.negate();
     if sole(outcomes).is_some() || residual.change.is_none() {
@@ -174,9 +185,12 @@ fn are_settled(outcomes: Outcomes, front: &Residual, back: &Residual) -> bool
 }
 
 /// The filter that is left: what stands in its place, or else a copy.
+#[tactic(auto, using(crate::proofs::LiteralSteps::left))]
 fn left_filter(alloc: Global, filter: &Filter, residual: Residual) -> Result<Filter, FilterError>
-    ensures { MatchOption residual.change
+    ensures left { MatchOption residual.change
         (MakesUnlessBare (formula filter.now) result) (λ made. result ≡ made) }
+    ensures valid { AreValid (literals_of filter.now) → LeavesValid residual
+        → MakesValid result }
 {
     match residual.change {
         Some(made) => made,
@@ -201,14 +215,15 @@ fn sole(outcomes: Outcomes) -> Option<Truth>
 }
 
 /// Both filters together, without a True; else the refusal of the first that was not made.
-#[tactic(auto, using(crate::proofs::SimplifySteps::left_out))]
+#[tactic(auto, using(crate::proofs::SimplifySteps::left_out, crate::proofs::LiteralSteps::left))]
 fn without_true(
     alloc: Global,
     left: Result<Filter, FilterError>,
     right: Result<Filter, FilterError>,
 ) -> Result<Filter, FilterError>
-    ensures { OfParts (λ f g. MakesUnlessBare (conjunction (formula f) (formula g)) result)
+    ensures made { OfParts (λ f g. MakesUnlessBare (conjunction (formula f) (formula g)) result)
         (λ e. result ≡ Err e) left right }
+    ensures valid { MakesValid left → MakesValid right → MakesValid result }
 {
     if is_true(&left) {
         drop(left);
@@ -222,14 +237,15 @@ fn without_true(
 }
 
 /// One filter or the other, without a False; else the refusal of the first that was not made.
-#[tactic(auto, using(crate::proofs::SimplifySteps::left_out))]
+#[tactic(auto, using(crate::proofs::SimplifySteps::left_out, crate::proofs::LiteralSteps::left))]
 fn without_false(
     alloc: Global,
     left: Result<Filter, FilterError>,
     right: Result<Filter, FilterError>,
 ) -> Result<Filter, FilterError>
-    ensures { OfParts (λ f g. MakesUnlessBare (disjunction (formula f) (formula g)) result)
+    ensures made { OfParts (λ f g. MakesUnlessBare (disjunction (formula f) (formula g)) result)
         (λ e. result ≡ Err e) left right }
+    ensures valid { MakesValid left → MakesValid right → MakesValid result }
 {
     if is_false(&left) {
         drop(left);

@@ -14,6 +14,7 @@ ghost use Rattle.std.specs.List.{AllByRecursion};
 ghost use Rattle.vortex_filter.specs.Checking.{FitsColumns};
 ghost use Rattle.vortex_filter.specs.Columns.{column_trees};
 ghost use Rattle.vortex_filter.specs.Faults.{IsPlaced};
+ghost use Rattle.vortex_filter.specs.FilterLiterals.{AreValid, literals_of};
 ghost use Rattle.vortex_filter.specs.Formula.{Formula, formula};
 ghost use Rattle.vortex_filter.specs.Parsing.{AllOrdered, IsReadable, IsSql, IsSqlWithin, ReadsAs, RefusesSql, RefusesSqlWithin, depth, depth as text_depth, types_of};
 ghost use Rattle.vortex_filter.specs.Printing.{sql_text};
@@ -53,6 +54,8 @@ impl Filter {
         // It fits the columns, if no variant stands in their types.
         ensures fits { AllOrdered (column_trees columns.now) → IfOk result (λ filter.
             FitsColumns (types_of (column_trees columns.now)) (formula filter)) }
+        // Each literal is valid for its type, so its raw integers are of the type too.
+        ensures valid { IfOk result (λ filter. AreValid (literals_of filter)) }
         ensures refused { IfErr result (RefusesSql (column_trees columns.now) text.now) }
         ensures placed { IfErr result (IsPlaced (length text.now)) }
     {
@@ -76,6 +79,7 @@ impl Filter {
             → text.now ≡ sql_text names f → ReadsAs f result }
         ensures fits { AllOrdered (column_trees columns.now) → IfOk result (λ filter.
             FitsColumns (types_of (column_trees columns.now)) (formula filter)) }
+        ensures valid { IfOk result (λ filter. AreValid (literals_of filter)) }
         ensures refused { IfErr result
             (RefusesSqlWithin depth (column_trees columns.now) text.now) }
         ensures placed { IfErr result (IsPlaced (length text.now)) }
@@ -96,6 +100,7 @@ fn filter_in(
     requires { AllByRecursion (λ p. p.place ≤ end) tokens.now }
     ensures given { IfOk result (λ filter.
         filter_at (column_trees columns.now) depth (trees tokens.now) ≡ Some (formula filter)) }
+    ensures valid { IfOk result (λ filter. AreValid (literals_of filter)) }
     ensures refused { IfErr result
         (IsFaultIn (items tokens.now) end
         (filter_at (column_trees columns.now) depth (trees tokens.now))

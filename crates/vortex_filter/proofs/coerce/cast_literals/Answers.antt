@@ -1,12 +1,17 @@
-use Rattle.std.proofs.Common.{map, refl, arith}
+use Rattle.std.proofs.Common.{◌<◌, length, map, refl, subst, sym, arith}
 use Rattle.vortex_dtype.specs.TypeOf.{type_of}
+use Rattle.vortex_value.specs.Values.Scalars.{IsValid}
 use Rattle.vortex_statistics.specs.Cells.{cell_of}
-use Rattle.vortex_filter.proofs.CoerceSteps.{item_refused, kept_step, kept_whole, passed_literals}
+use Rattle.vortex_filter.proofs.CoerceSteps.{item_refused, kept_step, kept_whole, passed_literals, valid_at}
 use Rattle.vortex_filter.proofs.coerce.cast_literals.Goals as goal
 
 pub loop-literal-preserved : goal.loop-literal-preserved
 loop-literal-preserved c =
-    kept_step (type_of c.args.dtype.now) c.args.literals.now c.loop-literal.literal-index c.literal-item.result (map cell_of c.loop-literal.kept.items) (map cell_of c.push_cast.new.kept.items) (omega arith) c.literal-item.is c.loop-literal.invariant c.in_ok-push_cast.ensures
+    let pushed = c.in_ok-push_cast.ensures in
+    let before : c.loop-literal.literal-index < length c.args.literals.now = omega arith in (
+      kept_step (type_of c.args.dtype.now) c.args.literals.now c.loop-literal.literal-index c.literal-item.result (map cell_of c.loop-literal.kept.items) (map cell_of c.push_cast.new.kept.items) before c.literal-item.is c.loop-literal.invariant.0 (pushed.0, pushed.1),
+      λ v. pushed.2 (subst IsValid (sym c.literal-item.is) (valid_at c.args.literals.now c.loop-literal.literal-index c.literal-item.result before v)) (c.loop-literal.invariant.1 v),
+    )
 
 pub returns-in_err-push_cast : goal.returns-in_err-push_cast
 returns-in_err-push_cast c =
@@ -14,4 +19,6 @@ returns-in_err-push_cast c =
     (item_refused (type_of c.args.dtype.now) c.args.column c.args.literals.now c.loop-literal.literal-index c.literal-item.result c.in_err-push_cast.field-0.0 (omega arith) c.literal-item.is c.in_err-push_cast.ensures)
 
 pub returns : goal.returns
-returns c = kept_whole (type_of c.args.dtype.now) c.args.literals.now c.loop-literal.literal-index (map cell_of c.loop-literal.kept.items) (omega arith) c.loop-literal.invariant
+returns c =
+    let whole = kept_whole (type_of c.args.dtype.now) c.args.literals.now c.loop-literal.literal-index (map cell_of c.loop-literal.kept.items) (omega arith) c.loop-literal.invariant.0 in
+    (whole.0, whole.1, c.loop-literal.invariant.1)

@@ -1,4 +1,4 @@
-use Rattle.std.proofs.Common.{[], ◌∷◌, sym, ◌∙◌}
+use Rattle.std.proofs.Common.{sym, ◌∙◌}
 use Rattle.vortex_dtype.specs.TypeOf.{type_of}
 use Rattle.vortex_statistics.specs.Cells.{cell_of}
 use Rattle.vortex_filter.specs.Formula.{prefix_test}
@@ -7,7 +7,7 @@ use Rattle.vortex_filter.proofs.coerce.prefix_in.Goals as goal
 
 pub returns-in-Ok : goal.returns-in-Ok
 returns-in-Ok c =
-    kept_prefix (type_of c.args.dtype.now) c.args.column (cell_of c.args.prefix.now) (c.args.prefix.now ∷ []) c.in-Ok.prefix (sym c.holds_strings.ensures ∙ c.if-holds_strings.true) c.in-Ok.ensures
+    kept_prefix (type_of c.args.dtype.now) c.args.column (cell_of c.args.prefix.now) c.args.prefix.now c.in-Ok.prefix (sym c.holds_strings.ensures ∙ c.if-holds_strings.true) c.in-Ok.ensures
 
 pub returns-in-Err : goal.returns-in-Err
 returns-in-Err c =

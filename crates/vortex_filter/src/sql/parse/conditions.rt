@@ -1,9 +1,10 @@
 //! Tests of a column.
 
-ghost use Rattle.std.specs.Prelude.{◌≡◌, ◌==◌, ◌&&◌, ◌<◌, ◌∷◌, [], IfNone, IfSome, length, map};
+ghost use Rattle.std.specs.Prelude.{◌≡◌, ◌==◌, ◌&&◌, ◌<◌, ◌∷◌, [], IfNone, IfOk, IfSome, length, map};
 ghost use Rattle.std.specs.Str.{bytes_eq};
 ghost use Rattle.vortex_dtype.specs.TypeOf.{type_of};
 ghost use Rattle.vortex_statistics.specs.Cells.{cell_of};
+ghost use Rattle.vortex_filter.specs.FilterLiterals.{AreValid, literals_of};
 ghost use Rattle.vortex_filter.specs.Formula.{formula};
 ghost use Rattle.vortex_filter.specs.Literals.{is_wildcard, pattern_prefix, with_byte};
 ghost use Rattle.vortex_filter.specs.Tokens.{trees};
@@ -29,15 +30,16 @@ use vortex_dtype::DType;
 use vortex_value::Scalar;
 
 /// What follows the column's name.
-#[tactic(auto, unfolding(crate::specs::Reading::condition_at, crate::specs::Mistakes::condition_mistake))]
+#[tactic(auto, unfolding(crate::specs::Reading::condition_at, crate::specs::Mistakes::condition_mistake), using(crate::proofs::LiteralSteps::valid))]
 pub(crate) fn condition<'a>(
     alloc: Global,
     column: Found<'_>,
     rest: &'a [Placed],
 ) -> Result<(Box<Filter>, &'a [Placed]), Fault>
-    ensures { Gives (λ x. (formula x.0.value, trees x.1.now)) result
+    ensures read { Gives (λ x. (formula x.0.value, trees x.1.now)) result
         (condition_at column.entry.place (type_of column.entry.dtype.now) (trees rest.now))
         (condition_mistake (type_of column.entry.dtype.now) (trees rest.now)) }
+    ensures valid { IfOk result (λ x. AreValid (literals_of x.0.value)) }
 {
     if let Some((operator, after)) = operator_at(rest) {
         return compared(alloc, column, operator, after);
@@ -53,26 +55,28 @@ pub(crate) fn condition<'a>(
 }
 
 /// A comparison with the literal that comes next.
-#[tactic(auto, unfolding(crate::specs::Reading::comparison_at))]
+#[tactic(auto, unfolding(crate::specs::Reading::comparison_at), using(crate::proofs::LiteralSteps::valid))]
 fn compared<'a>(
     alloc: Global,
     column: Found<'_>,
     operator: CompareOperator,
     rest: &'a [Placed],
 ) -> Result<(Box<Filter>, &'a [Placed]), Fault>
-    ensures { Gives (λ x. (formula x.0.value, trees x.1.now)) result
+    ensures read { Gives (λ x. (formula x.0.value, trees x.1.now)) result
         (comparison_at column.entry.place (type_of column.entry.dtype.now) operator (trees rest.now))
         (literal_mistake (type_of column.entry.dtype.now) (trees rest.now)) }
+    ensures valid { IfOk result (λ x. AreValid (literals_of x.0.value)) }
 {
     let (literal, rest) = literal_at(alloc, column.dtype, rest)?;
     Ok((comparison(alloc, column.place, operator, literal)?, rest))
 }
 
 /// What follows `is`: `null` or `not null`.
-#[tactic(auto, unfolding(crate::specs::Reading::null_test_at, crate::specs::Mistakes::null_test_mistake))]
+#[tactic(auto, unfolding(crate::specs::Reading::null_test_at, crate::specs::Mistakes::null_test_mistake), using(crate::proofs::LiteralSteps::valid))]
 fn is_null(alloc: Global, column: usize, rest: &[Placed]) -> Result<(Box<Filter>, &[Placed]), Fault>
-    ensures { Gives (λ x. (formula x.0.value, trees x.1.now)) result
+    ensures read { Gives (λ x. (formula x.0.value, trees x.1.now)) result
         (null_test_at column (trees rest.now)) (null_test_mistake (trees rest.now)) }
+    ensures valid { IfOk result (λ x. AreValid (literals_of x.0.value)) }
 {
     let Some(after) = after_keyword(rest, Keyword::Not) else {
         let rest = expect_keyword(rest, Keyword::Null, Expected::Null)?;
@@ -90,9 +94,10 @@ fn test<'a>(
     column: Found<'_>,
     rest: &'a [Placed],
 ) -> Result<(Box<Filter>, &'a [Placed]), Fault>
-    ensures { Gives (λ x. (formula x.0.value, trees x.1.now)) result
+    ensures read { Gives (λ x. (formula x.0.value, trees x.1.now)) result
         (test_at column.entry.place (type_of column.entry.dtype.now) (trees rest.now))
         (test_mistake (type_of column.entry.dtype.now) (trees rest.now)) }
+    ensures valid { IfOk result (λ x. AreValid (literals_of x.0.value)) }
 {
     if let Some(after) = after_keyword(rest, Keyword::In) {
         return members(alloc, column, after);
@@ -105,15 +110,16 @@ fn test<'a>(
 }
 
 /// What follows `between`: two literals with `and` between them.
-#[tactic(auto, unfolding(crate::specs::Reading::range_at, crate::specs::Mistakes::range_mistake))]
+#[tactic(auto, unfolding(crate::specs::Reading::range_at, crate::specs::Mistakes::range_mistake), using(crate::proofs::LiteralSteps::valid))]
 fn between<'a>(
     alloc: Global,
     column: Found<'_>,
     rest: &'a [Placed],
 ) -> Result<(Box<Filter>, &'a [Placed]), Fault>
-    ensures { Gives (λ x. (formula x.0.value, trees x.1.now)) result
+    ensures read { Gives (λ x. (formula x.0.value, trees x.1.now)) result
         (range_at column.entry.place (type_of column.entry.dtype.now) (trees rest.now))
         (range_mistake (type_of column.entry.dtype.now) (trees rest.now)) }
+    ensures valid { IfOk result (λ x. AreValid (literals_of x.0.value)) }
 {
     let (lower, rest) = literal_at(alloc, column.dtype, rest)?;
     let rest = expect_keyword(rest, Keyword::And, Expected::And)?;
@@ -122,15 +128,16 @@ fn between<'a>(
 }
 
 /// What follows `in`: literals in parentheses.
-#[tactic(auto, unfolding(crate::specs::Reading::members_at, crate::specs::Mistakes::members_mistake))]
+#[tactic(auto, unfolding(crate::specs::Reading::members_at, crate::specs::Mistakes::members_mistake), using(crate::proofs::LiteralSteps::valid))]
 fn members<'a>(
     alloc: Global,
     column: Found<'_>,
     rest: &'a [Placed],
 ) -> Result<(Box<Filter>, &'a [Placed]), Fault>
-    ensures { Gives (λ x. (formula x.0.value, trees x.1.now)) result
+    ensures read { Gives (λ x. (formula x.0.value, trees x.1.now)) result
         (members_at column.entry.place (type_of column.entry.dtype.now) (trees rest.now))
         (members_mistake (type_of column.entry.dtype.now) (trees rest.now)) }
+    ensures valid { IfOk result (λ x. AreValid (literals_of x.0.value)) }
 {
     let rest = expect_opening(rest)?;
     if let Some(after) = after_closing(rest) {
@@ -142,14 +149,16 @@ fn members<'a>(
 
 /// One literal or more with commas between them, to the closing parenthesis. Those that the type
 /// lacks are left out.
+#[tactic(auto, using(crate::proofs::LiteralSteps::valid))]
 fn cells<'a>(
     alloc: Global,
     dtype: &DType,
     rest: &'a [Placed],
 ) -> Result<(Vec<Scalar>, &'a [Placed]), Fault>
-    ensures { Gives (λ x. (map cell_of x.0.items, trees x.1.now)) result
+    ensures read { Gives (λ x. (map cell_of x.0.items, trees x.1.now)) result
         (cells_at (type_of dtype.now) (trees rest.now))
         (cells_mistake (type_of dtype.now) (trees rest.now)) }
+    ensures valid { IfOk result (λ x. AreValid x.0.items) }
 {
     let (literal, rest) = literal_at(alloc, dtype, rest)?;
     let literals = with_literal(Vec::new(alloc), literal)?;
@@ -163,9 +172,10 @@ fn more_cells<'a>(
     literals: Vec<Scalar>,
     rest: &'a [Placed],
 ) -> Result<(Vec<Scalar>, &'a [Placed]), Fault>
-    ensures { Gives (λ x. (map cell_of x.0.items, trees x.1.now)) result
+    ensures read { Gives (λ x. (map cell_of x.0.items, trees x.1.now)) result
         (with_front (map cell_of literals.items) (more_cells (type_of dtype.now) (trees rest.now)))
         (more_mistake (type_of dtype.now) (trees rest.now)) }
+    ensures valid { AreValid literals.items → IfOk result (λ x. AreValid x.0.items) }
 {
     let mut literals = literals;
     let mut rest = rest;
@@ -185,9 +195,10 @@ fn like<'a>(
     column: Found<'_>,
     rest: &'a [Placed],
 ) -> Result<(Box<Filter>, &'a [Placed]), Fault>
-    ensures { Gives (λ x. (formula x.0.value, trees x.1.now)) result
+    ensures read { Gives (λ x. (formula x.0.value, trees x.1.now)) result
         (like_at column.entry.place (type_of column.entry.dtype.now) (trees rest.now))
         (like_mistake (type_of column.entry.dtype.now) (trees rest.now)) }
+    ensures valid { IfOk result (λ x. AreValid (literals_of x.0.value)) }
 {
     let left = tokens_left(rest);
     let (pattern, rest) = expect_string(rest, Expected::Prefix)?;
@@ -277,16 +288,17 @@ fn is_wildcard(byte: u8) -> bool
 }
 
 /// Whether the column begins with these bytes of a string, where so many tokens are left.
-#[tactic(auto, unfolding(crate::specs::Reading::text_prefix))]
+#[tactic(auto, unfolding(crate::specs::Reading::text_prefix), using(crate::proofs::LiteralSteps::valid))]
 fn text_prefix(
     alloc: Global,
     column: Found<'_>,
     bytes: Vec<u8>,
     left: usize,
 ) -> Result<Box<Filter>, Fault>
-    ensures { Gives (λ f. formula f.value) result
+    ensures read { Gives (λ f. formula f.value) result
         (text_prefix column.entry.place (type_of column.entry.dtype.now) bytes.items)
         (Fault.At left (text_cause (type_of column.entry.dtype.now) bytes.items)) }
+    ensures valid { IfOk result (λ f. AreValid (literals_of f.value)) }
 {
     let Ok(text) = str::from_utf8(bytes.as_slice()) else {
         return Err(Fault::At(left, Cause::Expected(Expected::Prefix)));

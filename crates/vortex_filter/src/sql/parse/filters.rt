@@ -1,7 +1,8 @@
 //! Filters with connectives.
 
-ghost use Rattle.std.specs.Prelude.{◌≡◌, suc, MatchResult};
+ghost use Rattle.std.specs.Prelude.{◌≡◌, suc, IfOk, MatchResult};
 ghost use Rattle.vortex_filter.specs.Columns.{column_trees};
+ghost use Rattle.vortex_filter.specs.FilterLiterals.{AreValid, literals_of};
 ghost use Rattle.vortex_filter.specs.Formula.{formula};
 ghost use Rattle.vortex_filter.specs.Tokens.{trees};
 ghost use Rattle.vortex_filter.specs.Mistakes.{Gives, conjunction_mistake, disjunction_mistake, filter_mistake, mistakes, operand_mistake, predicate_mistake, too_deep};
@@ -31,6 +32,7 @@ fn deeper(rest: &[Placed], depth: usize) -> Result<usize, Fault>
 }
 
 /// Filters with `or` between them, and what follows.
+#[tactic(auto, using(crate::proofs::LiteralSteps::valid))]
 #[cycle(filters)]
 pub(crate) fn disjunction<'a>(
     alloc: Global,
@@ -38,8 +40,9 @@ pub(crate) fn disjunction<'a>(
     rest: &'a [Placed],
     depth: usize,
 ) -> Result<(Box<Filter>, &'a [Placed]), Fault>
-    ensures { Gives (λ x. (formula x.0.value, trees x.1.now)) result (disjunction_of (predicate_at (column_trees columns.now)) (reads (predicate_at (column_trees columns.now)) depth) (trees rest.now))
+    ensures read { Gives (λ x. (formula x.0.value, trees x.1.now)) result (disjunction_of (predicate_at (column_trees columns.now)) (reads (predicate_at (column_trees columns.now)) depth) (trees rest.now))
         (disjunction_mistake (predicate_at (column_trees columns.now)) (predicate_mistake (column_trees columns.now)) (reads (predicate_at (column_trees columns.now)) depth) (mistakes (predicate_at (column_trees columns.now)) (predicate_mistake (column_trees columns.now)) depth) (trees rest.now)) }
+    ensures valid { IfOk result (λ x. AreValid (literals_of x.0.value)) }
 {
     let (left, rest) = conjunction(alloc, columns, rest, depth)?;
     let Some(after) = after_keyword(rest, Keyword::Or) else {
@@ -51,6 +54,7 @@ pub(crate) fn disjunction<'a>(
 }
 
 /// Filters with `and` between them, and what follows.
+#[tactic(auto, using(crate::proofs::LiteralSteps::valid))]
 #[cycle(filters)]
 fn conjunction<'a>(
     alloc: Global,
@@ -58,8 +62,9 @@ fn conjunction<'a>(
     rest: &'a [Placed],
     depth: usize,
 ) -> Result<(Box<Filter>, &'a [Placed]), Fault>
-    ensures { Gives (λ x. (formula x.0.value, trees x.1.now)) result (conjunction_of (predicate_at (column_trees columns.now)) (reads (predicate_at (column_trees columns.now)) depth) (trees rest.now))
+    ensures read { Gives (λ x. (formula x.0.value, trees x.1.now)) result (conjunction_of (predicate_at (column_trees columns.now)) (reads (predicate_at (column_trees columns.now)) depth) (trees rest.now))
         (conjunction_mistake (predicate_at (column_trees columns.now)) (predicate_mistake (column_trees columns.now)) (reads (predicate_at (column_trees columns.now)) depth) (mistakes (predicate_at (column_trees columns.now)) (predicate_mistake (column_trees columns.now)) depth) (trees rest.now)) }
+    ensures valid { IfOk result (λ x. AreValid (literals_of x.0.value)) }
 {
     let (left, rest) = operand(alloc, columns, rest, depth)?;
     let Some(after) = after_keyword(rest, Keyword::And) else {
@@ -71,6 +76,7 @@ fn conjunction<'a>(
 }
 
 /// A predicate, a filter in parentheses or one after `not`, and what follows.
+#[tactic(auto, using(crate::proofs::LiteralSteps::valid))]
 #[cycle(filters)]
 fn operand<'a>(
     alloc: Global,
@@ -78,8 +84,9 @@ fn operand<'a>(
     rest: &'a [Placed],
     depth: usize,
 ) -> Result<(Box<Filter>, &'a [Placed]), Fault>
-    ensures { Gives (λ x. (formula x.0.value, trees x.1.now)) result (operand_of (predicate_at (column_trees columns.now)) (reads (predicate_at (column_trees columns.now)) depth) (trees rest.now))
+    ensures read { Gives (λ x. (formula x.0.value, trees x.1.now)) result (operand_of (predicate_at (column_trees columns.now)) (reads (predicate_at (column_trees columns.now)) depth) (trees rest.now))
         (operand_mistake (predicate_at (column_trees columns.now)) (predicate_mistake (column_trees columns.now)) (reads (predicate_at (column_trees columns.now)) depth) (mistakes (predicate_at (column_trees columns.now)) (predicate_mistake (column_trees columns.now)) depth) (trees rest.now)) }
+    ensures valid { IfOk result (λ x. AreValid (literals_of x.0.value)) }
 {
     if let Some(after) = after_keyword(rest, Keyword::Not) {
         let depth = deeper(after, depth)?;
@@ -105,8 +112,9 @@ pub(crate) fn filter_of(
     tokens: &[Placed],
     depth: usize,
 ) -> Result<Filter, Fault>
-    ensures { Gives formula result (filter_at (column_trees columns.now) depth (trees tokens.now))
+    ensures read { Gives formula result (filter_at (column_trees columns.now) depth (trees tokens.now))
         (filter_mistake (column_trees columns.now) depth (trees tokens.now)) }
+    ensures valid { IfOk result (λ filter. AreValid (literals_of filter)) }
 {
     let (filter, rest) = disjunction(alloc, columns, tokens, depth)?;
     match rest {

@@ -2,6 +2,7 @@
 
 ghost use Rattle.std.specs.Prelude.{◌≡◌, ◌++◌, [], ◌∷◌, IfErr, IfOk, map};
 ghost use Rattle.vortex_statistics.specs.Cells.{cell_of};
+ghost use Rattle.vortex_filter.specs.FilterLiterals.{literals_of, scalars_of};
 ghost use Rattle.vortex_filter.specs.Formula.{both, constant, either, formula, membership, negation, null_test};
 ghost use Rattle.vortex_filter.specs.Literals.{always, cells_of, comparison_of, exactly, lacking, literal_tree, member_of, never, range_of};
 ghost use Rattle.vortex_filter.specs.Mistakes.{Gives};
@@ -22,6 +23,7 @@ use vortex_value::Scalar;
 pub(crate) fn boxed(alloc: Global, filter: Filter) -> Result<Box<Filter>, Fault>
     ensures made { IfOk result (λ f. formula f.value ≡ formula filter) }
     ensures refused { IfErr result (λ e. e ≡ NoMemory) }
+    ensures literals { IfOk result (λ f. literals_of f.value ≡ literals_of filter) }
 {
     Ok(Box::new(alloc, filter)?)
 }
@@ -34,6 +36,7 @@ pub(crate) fn either(
 ) -> Result<Box<Filter>, Fault>
     ensures made { IfOk result (λ f. formula f.value ≡ either (formula left.value) (formula right.value)) }
     ensures refused { IfErr result (λ e. e ≡ NoMemory) }
+    ensures literals { IfOk result (λ f. literals_of f.value ≡ literals_of left.value ++ literals_of right.value) }
 {
     boxed(alloc, Filter::Or(left, right))
 }
@@ -46,6 +49,7 @@ pub(crate) fn both(
 ) -> Result<Box<Filter>, Fault>
     ensures made { IfOk result (λ f. formula f.value ≡ both (formula left.value) (formula right.value)) }
     ensures refused { IfErr result (λ e. e ≡ NoMemory) }
+    ensures literals { IfOk result (λ f. literals_of f.value ≡ literals_of left.value ++ literals_of right.value) }
 {
     boxed(alloc, Filter::And(left, right))
 }
@@ -54,6 +58,7 @@ pub(crate) fn both(
 pub(crate) fn negation(alloc: Global, inner: Box<Filter>) -> Result<Box<Filter>, Fault>
     ensures made { IfOk result (λ f. formula f.value ≡ negation (formula inner.value)) }
     ensures refused { IfErr result (λ e. e ≡ NoMemory) }
+    ensures literals { IfOk result (λ f. literals_of f.value ≡ literals_of inner.value) }
 {
     boxed(alloc, Filter::Not(inner))
 }
@@ -62,6 +67,7 @@ pub(crate) fn negation(alloc: Global, inner: Box<Filter>) -> Result<Box<Filter>,
 pub(crate) fn constant(alloc: Global, truth: Truth) -> Result<Box<Filter>, Fault>
     ensures made { IfOk result (λ f. formula f.value ≡ constant truth) }
     ensures refused { IfErr result (λ e. e ≡ NoMemory) }
+    ensures literals { IfOk result (λ f. literals_of f.value ≡ []) }
 {
     boxed(alloc, Filter::Constant(truth))
 }
@@ -70,6 +76,7 @@ pub(crate) fn constant(alloc: Global, truth: Truth) -> Result<Box<Filter>, Fault
 pub(crate) fn null_test(alloc: Global, column: usize) -> Result<Box<Filter>, Fault>
     ensures made { IfOk result (λ f. formula f.value ≡ null_test column) }
     ensures refused { IfErr result (λ e. e ≡ NoMemory) }
+    ensures literals { IfOk result (λ f. literals_of f.value ≡ []) }
 {
     boxed(alloc, Filter::IsNull { column })
 }
@@ -78,6 +85,7 @@ pub(crate) fn null_test(alloc: Global, column: usize) -> Result<Box<Filter>, Fau
 fn never(alloc: Global, column: usize) -> Result<Box<Filter>, Fault>
     ensures made { IfOk result (λ f. formula f.value ≡ never column) }
     ensures refused { IfErr result (λ e. e ≡ NoMemory) }
+    ensures literals { IfOk result (λ f. literals_of f.value ≡ []) }
 {
     let test = null_test(alloc, column)?;
     let unknown = constant(alloc, Truth::Unknown)?;
@@ -88,6 +96,7 @@ fn never(alloc: Global, column: usize) -> Result<Box<Filter>, Fault>
 fn always(alloc: Global, column: usize) -> Result<Box<Filter>, Fault>
     ensures made { IfOk result (λ f. formula f.value ≡ always column) }
     ensures refused { IfErr result (λ e. e ≡ NoMemory) }
+    ensures literals { IfOk result (λ f. literals_of f.value ≡ []) }
 {
     let test = null_test(alloc, column)?;
     let test = negation(alloc, test)?;
@@ -104,6 +113,7 @@ fn comparison_to_lacking(
 ) -> Result<Box<Filter>, Fault>
     ensures made { IfOk result (λ f. formula f.value ≡ comparison_of column operator (lacking is_below)) }
     ensures refused { IfErr result (λ e. e ≡ NoMemory) }
+    ensures literals { IfOk result (λ f. literals_of f.value ≡ []) }
 {
     let order = if is_below {
         Ordering::Greater
@@ -126,6 +136,7 @@ pub(crate) fn comparison(
 ) -> Result<Box<Filter>, Fault>
     ensures made { IfOk result (λ f. formula f.value ≡ comparison_of column operator (literal_tree literal)) }
     ensures refused { IfErr result (λ e. e ≡ NoMemory) }
+    ensures literals { IfOk result (λ f. literals_of f.value ≡ scalars_of literal) }
 {
     match literal {
         Literal::Exactly(literal) => boxed(
@@ -150,6 +161,7 @@ fn halves(
     ensures made { IfOk result (λ f. formula f.value
         ≡ both (comparison_of column CompareOperator.Gte (literal_tree lower)) (comparison_of column CompareOperator.Lte (literal_tree upper))) }
     ensures refused { IfErr result (λ e. e ≡ NoMemory) }
+    ensures literals { IfOk result (λ f. literals_of f.value ≡ scalars_of lower ++ scalars_of upper) }
 {
     let lower = comparison(alloc, column, CompareOperator::Gte, lower)?;
     let upper = comparison(alloc, column, CompareOperator::Lte, upper)?;
@@ -165,6 +177,7 @@ pub(crate) fn range(
 ) -> Result<Box<Filter>, Fault>
     ensures made { IfOk result (λ f. formula f.value ≡ range_of column (literal_tree lower) (literal_tree upper)) }
     ensures refused { IfErr result (λ e. e ≡ NoMemory) }
+    ensures literals { IfOk result (λ f. literals_of f.value ≡ scalars_of lower ++ scalars_of upper) }
 {
     match lower {
         Literal::Exactly(lower) => range_from(alloc, column, lower, upper),
@@ -183,6 +196,7 @@ fn range_from(
 ) -> Result<Box<Filter>, Fault>
     ensures made { IfOk result (λ f. formula f.value ≡ range_of column (exactly (cell_of lower)) (literal_tree upper)) }
     ensures refused { IfErr result (λ e. e ≡ NoMemory) }
+    ensures literals { IfOk result (λ f. literals_of f.value ≡ lower ∷ scalars_of upper) }
 {
     match upper {
         Literal::Exactly(upper) => boxed(
@@ -210,6 +224,7 @@ pub(crate) fn member(
 ) -> Result<Box<Filter>, Fault>
     ensures made { IfOk result (λ f. formula f.value ≡ member_of column (map cell_of literals.items)) }
     ensures refused { IfErr result (λ e. e ≡ NoMemory) }
+    ensures literals { IfOk result (λ f. literals_of f.value ≡ literals.items) }
 {
     if literals.is_empty() {
         drop(literals);
@@ -222,6 +237,7 @@ pub(crate) fn member(
 pub(crate) fn member_of_none(alloc: Global, column: usize) -> Result<Box<Filter>, Fault>
     ensures made { IfOk result (λ f. formula f.value ≡ membership column []) }
     ensures refused { IfErr result (λ e. e ≡ NoMemory) }
+    ensures literals { IfOk result (λ f. literals_of f.value ≡ []) }
 {
     let literals = Vec::new(alloc);
     boxed(alloc, Filter::In { column, literals })
@@ -235,6 +251,7 @@ pub(crate) fn with_literal(
     ensures made { IfOk result (λ v. map cell_of v.items
         ≡ map cell_of literals.items ++ cells_of (literal_tree literal ∷ [])) }
     ensures refused { IfErr result (λ e. e ≡ NoMemory) }
+    ensures literals { IfOk result (λ v. v.items ≡ literals.items ++ scalars_of literal) }
 {
     match literal {
         Literal::Exactly(literal) => {
@@ -252,8 +269,9 @@ pub(crate) fn prefix(
     literal: Literal,
     left: usize,
 ) -> Result<Box<Filter>, Fault>
-    ensures { Gives (λ f. formula f.value) result (prefix_from column (literal_tree literal))
+    ensures read { Gives (λ f. formula f.value) result (prefix_from column (literal_tree literal))
         (Fault.At left (Cause.Expected Expected.Prefix)) }
+    ensures literals { IfOk result (λ f. literals_of f.value ≡ scalars_of literal) }
 {
     match literal {
         Literal::Exactly(prefix) => boxed(alloc, Filter::StartsWith { column, prefix }),

@@ -2,6 +2,7 @@
 
 ghost use Rattle.std.specs.Prelude.{◌≡◌, IfErr, IfOk};
 ghost use Rattle.vortex_dtype.specs.TypeOf.{type_of};
+ghost use Rattle.vortex_filter.specs.FilterLiterals.{AreValid, scalars_of};
 ghost use Rattle.vortex_filter.specs.Tokens.{keyword_token, token_tree, trees};
 ghost use Rattle.vortex_filter.specs.Literals.{bytes_literal, exactly, integer_literal, keyword_literal, literal_of, literal_tree, null_cell, number_said, signed, string_literal, truth_literal};
 ghost use Rattle.vortex_filter.specs.Mistakes.{Gives, literal_cause, literal_mistake, other_type};
@@ -32,9 +33,10 @@ pub(crate) fn literal_at<'a>(
     dtype: &DType,
     rest: &'a [Placed],
 ) -> Result<(Literal, &'a [Placed]), Fault>
-    ensures { Gives (λ x. (literal_tree x.0, trees x.1.now)) result
+    ensures read { Gives (λ x. (literal_tree x.0, trees x.1.now)) result
         (literal_at (type_of dtype.now) (trees rest.now))
         (literal_mistake (type_of dtype.now) (trees rest.now)) }
+    ensures valid { IfOk result (λ x. AreValid (scalars_of x.0)) }
 {
     let [first, after @ ..] = rest else {
         return Err(expected(rest, Expected::Literal));
@@ -46,8 +48,9 @@ pub(crate) fn literal_at<'a>(
 /// What the token says as a literal, where so many tokens are left.
 #[tactic(auto, unfolding(crate::specs::Literals::literal_of))]
 fn literal_of(alloc: Global, dtype: &DType, token: &Token, left: usize) -> Result<Literal, Fault>
-    ensures { Gives literal_tree result (literal_of (type_of dtype.now) (token_tree token.now))
+    ensures read { Gives literal_tree result (literal_of (type_of dtype.now) (token_tree token.now))
         (Fault.At left (literal_cause (type_of dtype.now) (token_tree token.now))) }
+    ensures valid { IfOk result (λ l. AreValid (scalars_of l)) }
 {
     match token {
         Token::Keyword(keyword) => keyword_literal(alloc, dtype, *keyword, left),
@@ -70,8 +73,9 @@ fn keyword_literal(
     keyword: Keyword,
     left: usize,
 ) -> Result<Literal, Fault>
-    ensures { Gives literal_tree result (keyword_literal (type_of dtype.now) keyword)
+    ensures read { Gives literal_tree result (keyword_literal (type_of dtype.now) keyword)
         (Fault.At left (literal_cause (type_of dtype.now) (keyword_token keyword))) }
+    ensures valid { IfOk result (λ l. AreValid (scalars_of l)) }
 {
     match keyword {
         Keyword::Null => null_literal(alloc, dtype),
@@ -85,15 +89,17 @@ fn keyword_literal(
 fn null_literal(alloc: Global, dtype: &DType) -> Result<Literal, Fault>
     ensures made { IfOk result (λ l. literal_tree l ≡ exactly (null_cell (type_of dtype.now))) }
     ensures refused { IfErr result (λ e. e ≡ Fault.NoMemory) }
+    ensures valid { IfOk result (λ l. AreValid (scalars_of l)) }
 {
-    let dtype = dtype.clone(alloc)?.as_nullable();
-    Ok(Literal::Exactly(Scalar { dtype, value: None }))
+    let copy = dtype.clone(alloc)?;
+    Ok(Literal::Exactly(Scalar::null(copy.as_nullable())))
 }
 
 /// A truth value, in a column of truth values.
 fn truth_literal(dtype: &DType, truth: bool, left: usize) -> Result<Literal, Fault>
-    ensures { Gives literal_tree result (truth_literal (type_of dtype.now) truth)
+    ensures read { Gives literal_tree result (truth_literal (type_of dtype.now) truth)
         (Fault.At left (other_type (type_of dtype.now))) }
+    ensures valid { IfOk result (λ l. AreValid (scalars_of l)) }
 {
     match dtype {
         DType::Bool(_) => Ok(Literal::Exactly(Scalar::bool(truth, Nullability::NonNullable))),
@@ -108,9 +114,10 @@ fn integer_literal(
     magnitude: u64,
     left: usize,
 ) -> Result<Literal, Fault>
-    ensures { Gives literal_tree result
+    ensures read { Gives literal_tree result
         (integer_literal (type_of dtype.now) is_negative magnitude)
         (Fault.At left (other_type (type_of dtype.now))) }
+    ensures valid { IfOk result (λ l. AreValid (scalars_of l)) }
 {
     match dtype {
         DType::Primitive(ptype, _) => Ok(number_said(*ptype, is_negative, magnitude)),
@@ -120,8 +127,9 @@ fn integer_literal(
 
 /// A number in a column of this integer type.
 fn number_said(ptype: PType, is_negative: bool, magnitude: u64) -> Literal
-    ensures { literal_tree result
+    ensures said { literal_tree result
         ≡ number_said ptype is_negative (signed is_negative magnitude) }
+    ensures valid { AreValid (scalars_of result) }
 {
     let number = signed(is_negative, magnitude);
     match PValue::from_whole(number, ptype) {
@@ -153,8 +161,9 @@ pub(crate) fn string_literal(
     text: &str,
     left: usize,
 ) -> Result<Literal, Fault>
-    ensures { Gives literal_tree result (string_literal (type_of dtype.now) text.now)
+    ensures read { Gives literal_tree result (string_literal (type_of dtype.now) text.now)
         (Fault.At left (other_type (type_of dtype.now))) }
+    ensures valid { IfOk result (λ l. AreValid (scalars_of l)) }
 {
     match dtype {
         DType::Utf8(_) => {
@@ -167,8 +176,9 @@ pub(crate) fn string_literal(
 
 /// Bytes, in a column of bytes.
 fn bytes_literal(alloc: Global, dtype: &DType, bytes: &[u8], left: usize) -> Result<Literal, Fault>
-    ensures { Gives literal_tree result (bytes_literal (type_of dtype.now) bytes.now)
+    ensures read { Gives literal_tree result (bytes_literal (type_of dtype.now) bytes.now)
         (Fault.At left (other_type (type_of dtype.now))) }
+    ensures valid { IfOk result (λ l. AreValid (scalars_of l)) }
 {
     match dtype {
         DType::Binary(_) => {

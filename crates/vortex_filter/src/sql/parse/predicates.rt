@@ -1,8 +1,9 @@
 //! Filters without connectives.
 
-ghost use Rattle.std.specs.Prelude.{◌≡◌};
+ghost use Rattle.std.specs.Prelude.{◌≡◌, IfOk};
 ghost use Rattle.vortex_dtype.specs.TypeOf.{type_of};
 ghost use Rattle.vortex_filter.specs.Columns.{column_trees};
+ghost use Rattle.vortex_filter.specs.FilterLiterals.{AreValid, literals_of, scalars_of};
 ghost use Rattle.vortex_filter.specs.Formula.{formula};
 ghost use Rattle.vortex_filter.specs.Literals.{holds_strings, literal_tree};
 ghost use Rattle.vortex_filter.specs.Tokens.{trees};
@@ -33,9 +34,10 @@ pub(crate) fn predicate<'a>(
     columns: &[Column],
     rest: &'a [Placed],
 ) -> Result<(Box<Filter>, &'a [Placed]), Fault>
-    ensures { Gives (λ x. (formula x.0.value, trees x.1.now)) result
+    ensures read { Gives (λ x. (formula x.0.value, trees x.1.now)) result
         (predicate_at (column_trees columns.now) (trees rest.now))
         (predicate_mistake (column_trees columns.now) (trees rest.now)) }
+    ensures valid { IfOk result (λ x. AreValid (literals_of x.0.value)) }
 {
     if let Some((name, after)) = name_at(rest) {
         let column = expect_column(columns, name, tokens_left(rest))?;
@@ -48,15 +50,16 @@ pub(crate) fn predicate<'a>(
 }
 
 /// What follows `starts_with`: a column and a literal in parentheses.
-#[tactic(auto, unfolding(crate::specs::Reading::prefix_call_at, crate::specs::Mistakes::prefix_call_mistake))]
+#[tactic(auto, unfolding(crate::specs::Reading::prefix_call_at, crate::specs::Mistakes::prefix_call_mistake), using(crate::proofs::LiteralSteps::valid))]
 fn prefix_call<'a>(
     alloc: Global,
     columns: &[Column],
     rest: &'a [Placed],
 ) -> Result<(Box<Filter>, &'a [Placed]), Fault>
-    ensures { Gives (λ x. (formula x.0.value, trees x.1.now)) result
+    ensures read { Gives (λ x. (formula x.0.value, trees x.1.now)) result
         (prefix_call_at (column_trees columns.now) (trees rest.now))
         (prefix_call_mistake (column_trees columns.now) (trees rest.now)) }
+    ensures valid { IfOk result (λ x. AreValid (literals_of x.0.value)) }
 {
     let named = expect_opening(rest)?;
     let (name, rest) = expect_name(named)?;
@@ -78,9 +81,10 @@ fn prefix_of(
     literal: Literal,
     left: usize,
 ) -> Result<Box<Filter>, Fault>
-    ensures { Gives (λ f. formula f.value) result
+    ensures read { Gives (λ f. formula f.value) result
         (prefix_of (column.entry.place, type_of column.entry.dtype.now) (literal_tree literal))
         (Fault.At left (prefix_cause (type_of column.entry.dtype.now))) }
+    ensures literals { IfOk result (λ f. literals_of f.value ≡ scalars_of literal) }
 {
     if holds_strings(column.dtype) {
         return prefix(alloc, column.place, literal, left);
@@ -97,10 +101,11 @@ fn holds_strings(dtype: &DType) -> bool
 }
 
 /// `true`, `false` or `null`.
-#[tactic(auto, unfolding(crate::specs::Reading::constant_at))]
+#[tactic(auto, unfolding(crate::specs::Reading::constant_at), using(crate::proofs::LiteralSteps::valid))]
 fn constant_at(alloc: Global, rest: &[Placed]) -> Result<(Box<Filter>, &[Placed]), Fault>
-    ensures { Gives (λ x. (formula x.0.value, trees x.1.now)) result
+    ensures read { Gives (λ x. (formula x.0.value, trees x.1.now)) result
         (constant_at (trees rest.now)) (expected (trees rest.now) Expected.Filter) }
+    ensures valid { IfOk result (λ x. AreValid (literals_of x.0.value)) }
 {
     let [first, after @ ..] = rest else {
         return Err(expected(rest, Expected::Filter));

@@ -8,11 +8,12 @@ use Rattle.vortex_filter.proofs.filter.Filter.simplify.Goals as goal
 
 pub returns : goal.returns
 returns c =
-    let made = filter_left (map known c.args.statistics.now) (formula c.args.self.now) c.residual_of.result c.left_filter.result c.residual_of.ensures c.left_filter.ensures in
+    let made = filter_left (map known c.args.statistics.now) (formula c.args.self.now) c.residual_of.result c.left_filter.result c.residual_of.ensures.left c.left_filter.ensures.left in
     record {
       value = value_left (map known c.args.statistics.now) (formula c.args.self.now) c.left_filter.result made;
       same = same_left (from_below c.order_is_reversed.ensures.contents c.order_is_transitive.ensures.contents) (map known c.args.statistics.now) (formula c.args.self.now) c.left_filter.result made;
       smaller = smaller_left (map known c.args.statistics.now) (formula c.args.self.now) c.left_filter.result made;
       decided = decided_left (map known c.args.statistics.now) (formula c.args.self.now) c.left_filter.result made;
+      valid = λ v. c.left_filter.ensures.valid v (c.residual_of.ensures.valid v);
       refused = refused_left (residual (map known c.args.statistics.now) (formula c.args.self.now)) c.left_filter.result made;
     }
