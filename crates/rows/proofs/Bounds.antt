@@ -9,7 +9,7 @@ use Rattle.vortex_array.specs.Truncation.{IsBoundOf, IsLowerOf, IsUpperOf}
 use Rattle.vortex_dtype.specs.TypeTree.{TypeTree}
 use Rattle.vortex_value.specs.Values.RawKinds.{IsBytesValue}
 use Rattle.vortex_value.specs.Values.RawTree.{RawTree, raw_bytes}
-use Rattle.vortex_value.specs.Values.Scalars.{scalar_raw}
+use Rattle.vortex_value.specs.Values.Scalars.{scalar_raw, scalar_type}
 use Rattle.vortex_value.specs.declared.scalars.Scalar.{Scalar}
 use Rattle.rows.specs.Grammar.{bound}
 use Rattle.rows.specs.Rows.{bound_text, request_text}
@@ -41,6 +41,17 @@ has_bytes v r e = subst IsBytesValue (sym e) tt
 same_bytes : {Best : List ℕ → ℕ → List ℕ → Type 0} (t : TypeTree) (b : List ℕ) (n : ℕ) (y : Scalar) (cut : Bool) (r : List ℕ)
     → (h : IsBoundOf Best raw_bytes t b n y cut) → scalar_raw y ≡ raw_bytes r → h.bytes ≡ r
 same_bytes t b n y cut r h e = ap bytes_in (sym h.made.value ∙ e)
+
+-- the scalar that is given is of the type that was asked for
+pub lower_typed : (o : Option (Scalar × Bool)) (x : Scalar × Bool) (t : TypeTree) (b : List ℕ) (n : ℕ) → o ≡ Some x → IsSomeAnd o (λ p. IsLowerOf IsLower raw_bytes t b n p.0 p.1) → scalar_type x.0 ≡ t
+lower_typed o x t b n e h =
+    let given : IsLowerOf IsLower raw_bytes t b n x.0 x.1 = is_given o x _ e h in
+    given.bound.made.typed
+
+pub upper_typed : (N : Type 0) (o : Option (Scalar × Bool)) (x : Scalar × Bool) (t : TypeTree) (b : List ℕ) (n : ℕ) → o ≡ Some x → MatchOption o N (λ p. IsUpperOf IsUpper raw_bytes t b n p.0 p.1) → scalar_type x.0 ≡ t
+upper_typed N o x t b n e h =
+    let given : IsUpperOf IsUpper raw_bytes t b n x.0 x.1 = is_match o x N _ e h in
+    given.bound.made.typed
 
 pub lower_text : (t : TypeTree) (b : List ℕ) (n : ℕ) (y : Scalar) (cut : Bool) (r : List ℕ) → BoundsAreComputed → BoundsAreUnique → IsString b
     → IsLowerOf IsLower raw_bytes t b n y cut → scalar_raw y ≡ raw_bytes r → encode_lower r ≡ request_text (bound Lower n b)

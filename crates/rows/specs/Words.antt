@@ -3,7 +3,7 @@ pub use Rattle.std.specs.Fmt.{signed_decimal}
 pub use Rattle.std.specs.Io.KnownBytes.{Appends, IsAtEnd}
 pub use Rattle.hex.specs.Hex.{encode_lower}
 pub use Rattle.vortex_dtype.specs.PTypes.{ptype_text}
-pub use Rattle.vortex_dtype.specs.TypeTree.{integer_type}
+pub use Rattle.vortex_dtype.specs.TypeTree.{binary_type, integer_type}
 pub use Rattle.vortex_dtype.specs.declared.nullability.Nullability.TheVariants.{NonNullable}
 pub use Rattle.vortex_pvalue.specs.Conversions.{IsNumber}
 pub use Rattle.vortex_pvalue.specs.Numbers.{InRange}

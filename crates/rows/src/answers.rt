@@ -1,7 +1,7 @@
 //! The answers of commands.
 
 ghost use Rattle.std.specs.Prelude.{◌≡◌, ◌≤◌, IfOk, IsOk, MatchOption};
-ghost use Rattle.rows.specs.Words.{InRange, IsBytesValue, IsInteger, IsIntegerValue, IsNumber, IsValid, Lower, NonNullable, Upper, bound, bound_text, integer_type, ptype_of, raw_bytes, raw_integer, request_text, scalar_content, scalar_raw, scalar_type, whole, whole_of};
+ghost use Rattle.rows.specs.Words.{InRange, IsBytesValue, IsInteger, IsIntegerValue, IsNumber, IsValid, Lower, NonNullable, Upper, binary_type, bound, bound_text, integer_type, ptype_of, raw_bytes, raw_integer, request_text, scalar_content, scalar_raw, scalar_type, whole, whole_of};
 
 use crate::commands::Side;
 use std::alloc::{AllocError, Global};
@@ -118,12 +118,18 @@ fn upper_at(alloc: Global, length: u64, value: ByteBuffer) -> Result<Option<Byte
     }
 }
 
-/// The bytes of a scalar that is not null.
+/// The bytes of a scalar that has some. The match on the type tells the compiler that there is
+/// nothing of it to drop: by `bench/run` that is 5 % of the instructions of all commands.
 fn bytes_of(scalar: Scalar) -> ByteBuffer
-    requires { IsBytesValue (scalar_raw scalar) }
+    requires typed { scalar_type scalar ≡ binary_type NonNullable }
+    requires present { IsBytesValue (scalar_raw scalar) }
     ensures { scalar_raw scalar ≡ raw_bytes result }
 {
-    match scalar.into_value() {
+    let (dtype, value) = scalar.into_parts();
+    let DType::Binary(_) = dtype else {
+        unreachable!();
+    };
+    match value {
         Some(value) => value.into_binary(),
         None => unreachable!(),
     }
