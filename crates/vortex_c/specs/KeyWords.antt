@@ -2,4 +2,5 @@
 pub use Rattle.key_columns.specs.Answers.{IsColumnOfKeys, offsets_length_at}
 pub use Rattle.key_columns.specs.Cells.{key_count}
 pub use Rattle.key_columns.specs.Layout.{bitmap_length}
+pub use Rattle.key_columns.specs.Types.{HasTypes}
 pub use Rattle.vortex_c.specs.KeyColumns.{SaysWhyNoColumn, count_of_column, fault_of_keys, status_of_keys}

@@ -1,7 +1,7 @@
 //! A column of the keys of rows.
 
 ghost use Rattle.std.specs.Prelude.{◌≡◌, ◌≢◌, ◌≤◌, ◌⊎◌, drop, length};
-ghost use Rattle.vortex_c.specs.KeyWords.{IsColumnOfKeys, SaysWhyNoColumn, bitmap_length, count_of_column, fault_of_keys, key_count, offsets_length_at, status_of_keys};
+ghost use Rattle.vortex_c.specs.KeyWords.{HasTypes, IsColumnOfKeys, SaysWhyNoColumn, bitmap_length, count_of_column, fault_of_keys, key_count, offsets_length_at, status_of_keys};
 
 use crate::fault::{Fault, at};
 use crate::status::{
@@ -42,6 +42,7 @@ pub extern "C" fn doqallin_column_of_row_keys(
 ) -> u32
     ensures column { result ≡ GIVEN → IsColumnOfKeys kinds.now options.now which
         bytes.now offsets.now count.new validity_room.new values_room.new offsets_room.new }
+    ensures sound { result ≡ GIVEN → HasTypes kinds.now options.now which }
     ensures fits { result ≡ GIVEN → (count.new ≤ length values_room.old)
         × (bitmap_length (key_count offsets.now) ≤ length validity_room.old)
         × (offsets_length_at kinds.now which offsets.now ≤ length offsets_room.old) }
