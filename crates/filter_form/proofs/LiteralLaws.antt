@@ -1,12 +1,13 @@
 -- Literals: what begins with two of them, and where the key of one does not go on.
 use Rattle.std.proofs.Common.{◌≡◌, ◌⊎◌, inl, inr, ℕ, zero, suc, ◌<◌, ◌≤◌, List, [], ◌∷◌, ◌++◌, length, length-append, take, drop, refl, sym, subst, ap, ap₂, ◌∙◌, append_assoc, append-nil, arith}
-use Rattle.std.specs.Prelude.{Err, Ok, Result}
+use Rattle.std.specs.Prelude.{Err, IfOk, Ok, Result}
 use Rattle.vortex_dtype.specs.TypeTree.{TypeTree, null_type, bool_type, integer_type, utf8_type, binary_type}
 use Rattle.vortex_value.specs.Equality.{HasNoTyped}
 use Rattle.vortex_value.specs.TypesWithin.{UnionsHaveVariants}
+use Rattle.vortex_value.specs.Validity.{Valid}
 use Rattle.vortex_value.specs.Values.Content.{Content, content}
 use Rattle.vortex_value.specs.Values.RawTree.{absent}
-use Rattle.vortex_value.specs.Values.Scalars.{scalar_content, scalar_raw, scalar_type}
+use Rattle.vortex_value.specs.Values.Scalars.{IsValid, scalar_content, scalar_raw, scalar_type}
 use Rattle.vortex_value.specs.declared.scalars.Scalar.{Scalar}
 use Rattle.vortex_row.specs.Decoded.{IsDecoded, IsFirstBad, IsKeyOf, IsValueOf}
 use Rattle.vortex_row.specs.Held.{IsHeld}
@@ -192,3 +193,8 @@ key_came o t bytes x n e h =
 pub literal_answer : (t : TypeTree) (r : Result Scalar Fault) (old mid now : List ℕ) → HasRead type_bytes IsPlain t old mid → ReadsKey t r mid now → Reads literal_bytes IsLiteral cell_of r old now
 literal_answer t (Ok x) old mid now h g = literal_read t x (cell_of x) old mid now refl refl h g.0 g.1 g.2
 literal_answer t (Err e) old mid now h g = λ bad. key_stuck t old mid now h (g bad)
+
+-- a value that was read is valid for its type
+pub key_valid : (t : TypeTree) (r : Result Scalar Fault) (old now : List ℕ) → ReadsKey t r old now → IfOk r IsValid
+key_valid t (Ok x) old now h = subst (λ (s : TypeTree). Valid s (scalar_raw x)) (sym h.0) h.1.valid
+key_valid t (Err e) old now h = tt

@@ -1,11 +1,12 @@
 -- The words of this crate's clauses, from one place.
 pub use Rattle.vortex_dtype.specs.TypeOf.{type_of}
 pub use Rattle.vortex_value.specs.TypesWithin.{HasNoVariant}
-pub use Rattle.vortex_value.specs.Values.Scalars.{scalar_content, scalar_type}
+pub use Rattle.vortex_value.specs.Values.Scalars.{IsValid, scalar_content, scalar_type}
 pub use Rattle.vortex_row.specs.Held.{AreBytes}
 pub use Rattle.vortex_row.specs.Keys.{key}
 pub use Rattle.vortex_statistics.specs.Cells.{cell_of}
 pub use Rattle.vortex_statistics.specs.FormSteps.{ascending}
+pub use Rattle.vortex_filter.specs.FilterLiterals.{AreValid, literals_of}
 pub use Rattle.vortex_filter.specs.Formula.{formula}
 pub use Rattle.filter_form.specs.Answers.{IsFirstWrong, IsForm, ReadsAs}
 pub use Rattle.filter_form.specs.Form.{CanBeWritten, FormsAreApart, HasForm, IsLiteral, IsPlain, IsPlainCell, Nests, Prepared, form, integer_code, literal_bytes, node_bytes, null_code, operator_byte, parts_of, prepared, truth_byte, type_byte, type_bytes}

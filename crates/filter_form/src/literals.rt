@@ -1,8 +1,8 @@
 //! Literals: the byte of a type, and the key of a value.
 
-ghost use Rattle.std.specs.Prelude.{◌≡◌, ◌++◌, IfErr, OnErr, OnOk, map};
+ghost use Rattle.std.specs.Prelude.{◌≡◌, ◌++◌, IfErr, IfOk, OnErr, OnOk, map};
 ghost use Rattle.std.specs.List.{AllByRecursion};
-ghost use Rattle.filter_form.specs.Words.{AreListed, AreSo, HasNoVariant, IsFound, IsLiteral, IsPlain, IsPlainCell, OutOfMemory, Reads, ReadsKey, Writes, ascending, cell_of, each_bytes, key, left, listed, literal_bytes, scalar_content, scalar_type, type_of};
+ghost use Rattle.filter_form.specs.Words.{AreListed, AreSo, AreValid, HasNoVariant, IsFound, IsLiteral, IsPlain, IsPlainCell, IsValid, OutOfMemory, Reads, ReadsKey, Writes, ascending, cell_of, each_bytes, key, left, listed, literal_bytes, scalar_content, scalar_type, type_of};
 
 use crate::error::FilterFormError;
 use crate::places::{append_place, read_place};
@@ -63,7 +63,8 @@ fn read_value(alloc: Global, dtype: &DType, reader: &mut Reader<'_>) -> Result<S
 
 /// The next literal.
 pub(crate) fn read_literal(alloc: Global, reader: &mut Reader<'_>) -> Result<Scalar, Fault>
-    ensures { Reads literal_bytes IsLiteral cell_of result (left reader.old) (left reader.new) }
+    ensures read { Reads literal_bytes IsLiteral cell_of result (left reader.old) (left reader.new) }
+    ensures valid { IfOk result IsValid }
 {
     let dtype = read_type(reader)?;
     read_value(alloc, &dtype, reader)
@@ -71,8 +72,9 @@ pub(crate) fn read_literal(alloc: Global, reader: &mut Reader<'_>) -> Result<Sca
 
 /// So many literals.
 fn read_so_many(alloc: Global, count: usize, reader: &mut Reader<'_>) -> Result<Vec<Scalar>, Fault>
-    ensures { Reads (each_bytes literal_bytes) (AreSo count IsLiteral)
+    ensures read { Reads (each_bytes literal_bytes) (AreSo count IsLiteral)
         (λ v. map cell_of v.items) result (left reader.old) (left reader.new) }
+    ensures valid { IfOk result (λ v. AreValid v.items) }
 {
     let mut literals = Vec::new(alloc);
     for taken in 0..count {
@@ -84,8 +86,9 @@ fn read_so_many(alloc: Global, count: usize, reader: &mut Reader<'_>) -> Result<
 
 /// The next literals: how many there are, and each.
 pub(crate) fn read_literals(alloc: Global, reader: &mut Reader<'_>) -> Result<Vec<Scalar>, Fault>
-    ensures { Reads (listed literal_bytes) (AreListed IsLiteral)
+    ensures read { Reads (listed literal_bytes) (AreListed IsLiteral)
         (λ v. map cell_of v.items) result (left reader.old) (left reader.new) }
+    ensures valid { IfOk result (λ v. AreValid v.items) }
 {
     let count = read_place(reader)?;
     read_so_many(alloc, count, reader)

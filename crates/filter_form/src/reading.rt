@@ -1,7 +1,7 @@
 //! A prepared filter from its form in bytes.
 
 ghost use Rattle.std.specs.Prelude.{◌≡◌, ◌≢◌, ◌∷◌, ◌⊎◌, ◌<◌, ◌≤◌, ℕ, List, Err, IfErr, IfOk, MatchResult};
-ghost use Rattle.filter_form.specs.Words.{BadBytes, HasForm, IsFirstWrong, IsForm, IsNode, OutOfMemory, Prepared, Reads, ReadsAs, ReadsBehind, ReadsBoth, form, formula, left, node_bytes, operator_byte, prepared};
+ghost use Rattle.filter_form.specs.Words.{AreValid, BadBytes, HasForm, IsFirstWrong, IsForm, IsNode, OutOfMemory, Prepared, Reads, ReadsAs, ReadsBehind, ReadsBoth, form, formula, left, literals_of, node_bytes, operator_byte, prepared};
 
 use crate::error::FilterFormError;
 use crate::heads::{Head, read_head};
@@ -18,7 +18,7 @@ use vortex_filter::{CompareOperator, Filter};
 ///
 /// `BadBytes` if the bytes are not, whole, the form of such a filter: its place is that of the first
 /// byte that no such form has there, or of the end if they end too early. `OutOfMemory` may come in
-/// place of each answer.
+/// place of each answer. Each literal of the filter is valid for its type.
 pub fn read_filter(
     alloc: Global,
     depth: usize,
@@ -26,6 +26,7 @@ pub fn read_filter(
 ) -> Result<PreparedFilter, FilterFormError>
     ensures read { IfOk result
         (λ p. HasForm depth (prepared p) × (bytes.now ≡ form (prepared p))) }
+    ensures valid { IfOk result (λ p. AreValid (literals_of p.filter)) }
     ensures whole { (p : Prepared) → HasForm depth p → bytes.now ≡ form p → ReadsAs p result }
     ensures bad { (place : ℕ) → result ≡ Err (BadBytes place)
         → IsFirstWrong (IsForm depth) bytes.now place }
@@ -61,7 +62,8 @@ fn whole_or_bad(
 
 /// The prepared filter with whose form the bytes begin.
 fn read_form(alloc: Global, depth: usize, reader: &mut Reader<'_>) -> Result<PreparedFilter, Fault>
-    ensures { Reads form (HasForm depth) prepared result (left reader.old) (left reader.new) }
+    ensures read { Reads form (HasForm depth) prepared result (left reader.old) (left reader.new) }
+    ensures valid { IfOk result (λ p. AreValid (literals_of p.filter)) }
 {
     read_version(reader)?;
     let columns = read_types(alloc, reader)?;
@@ -90,9 +92,11 @@ fn read_version(reader: &mut Reader<'_>) -> Result<(), Fault>
 
 /// The next filter, in which at most so many connectives nest.
 #[cycle(filters)]
+#[tactic(auto, using(vortex_filter::proofs::LiteralSteps::valid))]
 fn read_node(alloc: Global, depth: usize, reader: &mut Reader<'_>) -> Result<Filter, Fault>
-    ensures { Reads node_bytes (IsNode depth) formula
+    ensures read { Reads node_bytes (IsNode depth) formula
         result (left reader.old) (left reader.new) }
+    ensures valid { IfOk result (λ f. AreValid (literals_of f)) }
 {
     let head = read_head(depth, reader)?;
     match head {
@@ -119,9 +123,11 @@ fn read_node(alloc: Global, depth: usize, reader: &mut Reader<'_>) -> Result<Fil
 
 /// The next filter, in a box.
 #[cycle(filters)]
+#[tactic(auto, using(vortex_filter::proofs::LiteralSteps::valid))]
 fn read_part(alloc: Global, depth: usize, reader: &mut Reader<'_>) -> Result<Box<Filter>, Fault>
-    ensures { Reads node_bytes (IsNode depth) (λ part. formula part.value)
+    ensures read { Reads node_bytes (IsNode depth) (λ part. formula part.value)
         result (left reader.old) (left reader.new) }
+    ensures valid { IfOk result (λ part. AreValid (literals_of part.value)) }
 {
     let filter = read_node(alloc, depth, reader)?;
     Ok(Box::new(alloc, filter)?)
@@ -129,12 +135,15 @@ fn read_part(alloc: Global, depth: usize, reader: &mut Reader<'_>) -> Result<Box
 
 /// The next two filters, in boxes.
 #[cycle(filters)]
+#[tactic(auto, using(vortex_filter::proofs::LiteralSteps::valid))]
 fn read_parts(
     alloc: Global,
     depth: usize,
     reader: &mut Reader<'_>,
 ) -> Result<(Box<Filter>, Box<Filter>), Fault>
-    ensures { ReadsBoth depth result (left reader.old) (left reader.new) }
+    ensures read { ReadsBoth depth result (left reader.old) (left reader.new) }
+    ensures valid { IfOk result (λ parts. AreValid (literals_of parts.0.value)
+        × AreValid (literals_of parts.1.value)) }
 {
     let left = read_part(alloc, depth, reader)?;
     match read_part(alloc, depth, reader) {
@@ -149,13 +158,15 @@ fn read_parts(
 // ---- tests
 
 /// A comparison, after its first byte.
+#[tactic(auto, using(vortex_filter::proofs::LiteralSteps::valid))]
 fn read_comparison(
     alloc: Global,
     operator: CompareOperator,
     reader: &mut Reader<'_>,
 ) -> Result<Filter, Fault>
-    ensures { (n : ℕ) → ReadsBehind (operator_byte operator) n
+    ensures read { (n : ℕ) → ReadsBehind (operator_byte operator) n
         result (left reader.old) (left reader.new) }
+    ensures valid { IfOk result (λ f. AreValid (literals_of f)) }
 {
     let column = read_place(reader)?;
     let literal = read_literal(alloc, reader)?;
@@ -167,16 +178,20 @@ fn read_comparison(
 }
 
 /// A test for null, after its first byte.
+#[tactic(auto, using(vortex_filter::proofs::LiteralSteps::valid))]
 fn read_null_test(reader: &mut Reader<'_>) -> Result<Filter, Fault>
-    ensures { (n : ℕ) → ReadsBehind 9 n result (left reader.old) (left reader.new) }
+    ensures read { (n : ℕ) → ReadsBehind 9 n result (left reader.old) (left reader.new) }
+    ensures valid { IfOk result (λ f. AreValid (literals_of f)) }
 {
     let column = read_place(reader)?;
     Ok(Filter::IsNull { column })
 }
 
 /// Whether a cell is equal to one of several literals, after its first byte.
+#[tactic(auto, using(vortex_filter::proofs::LiteralSteps::valid))]
 fn read_membership(alloc: Global, reader: &mut Reader<'_>) -> Result<Filter, Fault>
-    ensures { (n : ℕ) → ReadsBehind 10 n result (left reader.old) (left reader.new) }
+    ensures read { (n : ℕ) → ReadsBehind 10 n result (left reader.old) (left reader.new) }
+    ensures valid { IfOk result (λ f. AreValid (literals_of f)) }
 {
     let column = read_place(reader)?;
     let literals = read_literals(alloc, reader)?;
@@ -184,8 +199,10 @@ fn read_membership(alloc: Global, reader: &mut Reader<'_>) -> Result<Filter, Fau
 }
 
 /// Whether a cell is from one literal up to another, after its first byte.
+#[tactic(auto, using(vortex_filter::proofs::LiteralSteps::valid))]
 fn read_range(alloc: Global, reader: &mut Reader<'_>) -> Result<Filter, Fault>
-    ensures { (n : ℕ) → ReadsBehind 11 n result (left reader.old) (left reader.new) }
+    ensures read { (n : ℕ) → ReadsBehind 11 n result (left reader.old) (left reader.new) }
+    ensures valid { IfOk result (λ f. AreValid (literals_of f)) }
 {
     let column = read_place(reader)?;
     let lower = read_literal(alloc, reader)?;
@@ -203,8 +220,10 @@ fn read_range(alloc: Global, reader: &mut Reader<'_>) -> Result<Filter, Fault>
 }
 
 /// Whether a cell begins with a literal, after its first byte.
+#[tactic(auto, using(vortex_filter::proofs::LiteralSteps::valid))]
 fn read_prefix(alloc: Global, reader: &mut Reader<'_>) -> Result<Filter, Fault>
-    ensures { (n : ℕ) → ReadsBehind 12 n result (left reader.old) (left reader.new) }
+    ensures read { (n : ℕ) → ReadsBehind 12 n result (left reader.old) (left reader.new) }
+    ensures valid { IfOk result (λ f. AreValid (literals_of f)) }
 {
     let column = read_place(reader)?;
     let prefix = read_literal(alloc, reader)?;

@@ -8,8 +8,8 @@ use Rattle.filter_form.proofs.PlaceLaws.{places_apart}
 use Rattle.filter_form.proofs.ReadSteps.{passed_on}
 use Rattle.filter_form.proofs.literals.read_literals.Goals as goal
 
-pub returns-in_err-count : goal.returns-in_err-count
-returns-in_err-count c = passed_on (listed literal_bytes) (AreListed IsLiteral) _ _ _ _ _ c.from_residual.ensures (λ bad. count_stuck literal_bytes IsLiteral _ null_literal _ _ (c.in_err-count.ensures bad))
+pub returns-in_err-count-clause-read : goal.returns-in_err-count-clause-read
+returns-in_err-count-clause-read c = passed_on (listed literal_bytes) (AreListed IsLiteral) _ _ _ _ _ c.from_residual.ensures (λ bad. count_stuck literal_bytes IsLiteral _ null_literal _ _ (c.in_err-count.ensures bad))
 
-pub returns : goal.returns
-returns c = list_answer places_apart literal_bytes IsLiteral cell_of c.in_ok-count.count c.read_so_many.result _ _ _ c.in_ok-count.ensures c.read_so_many.ensures
+pub returns-clause-read : goal.returns-clause-read
+returns-clause-read c = list_answer places_apart literal_bytes IsLiteral cell_of c.in_ok-count.count c.read_so_many.result _ _ _ c.in_ok-count.ensures c.read_so_many.ensures.read

@@ -8,11 +8,11 @@ use Rattle.vortex_filter.proofs.Steps.{formula-In}
 use Rattle.filter_form.proofs.ReadSteps.{membership_literals_stuck, membership_place_stuck, membership_read, passed_on}
 use Rattle.filter_form.proofs.reading.read_membership.Goals as goal
 
-pub returns-in_err-column : goal.returns-in_err-column
-returns-in_err-column c = λ n. passed_on node_bytes (IsNode n) formula _ _ _ _ c.from_residual.ensures (λ bad. membership_place_stuck n _ _ (c.in_err-column.ensures bad))
+pub returns-in_err-column-clause-read : goal.returns-in_err-column-clause-read
+returns-in_err-column-clause-read c = λ n. passed_on node_bytes (IsNode n) formula _ _ _ _ c.from_residual.ensures (λ bad. membership_place_stuck n _ _ (c.in_err-column.ensures bad))
 
-pub returns-in_err-literals : goal.returns-in_err-literals
-returns-in_err-literals c = λ n. passed_on node_bytes (IsNode n) formula _ _ _ _ c.from_residual-in_err-literals.ensures (λ bad. membership_literals_stuck n c.in_ok-column.column _ _ _ c.in_ok-column.ensures (c.in_err-literals.ensures bad))
+pub returns-in_err-literals-clause-read : goal.returns-in_err-literals-clause-read
+returns-in_err-literals-clause-read c = λ n. passed_on node_bytes (IsNode n) formula _ _ _ _ c.from_residual-in_err-literals.ensures (λ bad. membership_literals_stuck n c.in_ok-column.column _ _ _ c.in_ok-column.ensures (c.in_err-literals.ensures.read bad))
 
-pub returns : goal.returns
-returns c = λ n. membership_read n c.in_ok-column.column (map cell_of c.in_ok-literals.literals.items) _ _ _ _ (formula-In c.in_ok-column.column c.in_ok-literals.literals) c.in_ok-column.ensures c.in_ok-literals.ensures
+pub returns-clause-read : goal.returns-clause-read
+returns-clause-read c = λ n. membership_read n c.in_ok-column.column (map cell_of c.in_ok-literals.literals.items) _ _ _ _ (formula-In c.in_ok-column.column c.in_ok-literals.literals) c.in_ok-column.ensures c.in_ok-literals.ensures.read
