@@ -28,8 +28,8 @@ pub(crate) fn integer_of(word: &[u8], ptype: PType) -> Option<PValue>
     PValue::from_whole(number, ptype)
 }
 
-/// The number that a word of decimal digits alone is, if it is short. It takes a quarter of the
-/// instructions that `parse` takes.
+/// The number that a word of decimal digits alone is, if it is short. It takes a third of the
+/// instructions that `parse` to an i128 takes.
 fn short_number(word: &[u8]) -> Option<u64>
     ensures text { IfSome result (λ _. IsUtf8 word.now) }
     ensures digits { IfSome result (λ _. IsNumeral 10 (without_leading_sign word.now)) }
