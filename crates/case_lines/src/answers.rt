@@ -68,6 +68,11 @@ pub fn or_none(answer: Option<Answer>) -> Answer {
     answer.unwrap_or(Answer::None)
 }
 
+/// The answer for an optional scalar.
+pub fn scalar_or_none(made: Result<Option<Scalar>, VortexError>) -> CallResult {
+    Ok(or_none(made?.map(Answer::Scalar)))
+}
+
 /// The `Display` of a value. `OutOfMemory` is its only refusal.
 pub fn text_of<T: Display>(alloc: Global, shown: &T) -> CallResult {
     match format!(in alloc; "{shown}") {

@@ -1,9 +1,11 @@
 //! Reads what stands in a line.
 
+pub mod lists;
 pub mod numbers;
 pub mod texts;
 pub mod types;
 pub mod values;
+pub mod words;
 
 use crate::tokens::Tokens;
 

@@ -1,7 +1,7 @@
 //! Inputs that a call requires to be valid.
 
-ghost use Rattle.std.specs.Prelude.{◌≡◌, IfOk, IsOk, OnOk};
-ghost use Rattle.case_lines.specs.Words.{IsValid};
+ghost use Rattle.std.specs.Prelude.{OnOk};
+ghost use Rattle.case_lines.specs.Words.{All, IsValid, IsValidEntry};
 
 use std::alloc::Global;
 use vortex_dtype::VortexError;
@@ -14,17 +14,23 @@ pub fn validate(alloc: Global, scalar: &Scalar) -> Result<(), VortexError>
     Scalar::validate(alloc, scalar.dtype(), scalar.value())
 }
 
-/// The inputs of a call, if they are valid. Else they are dropped here by one call: a drop at an
-/// early exit of the caller would be written out there, and is dear to prove.
-pub fn where_valid<T: Drop>(inputs: T, validity: Result<(), VortexError>) -> Result<T, VortexError>
-    ensures same { IfOk result (λ kept. kept ≡ inputs) }
-    ensures valid { OnOk result (IsOk validity) }
+/// Refuses the first scalar that is not valid.
+pub fn validate_all(alloc: Global, scalars: &[Scalar]) -> Result<(), VortexError>
+    ensures { OnOk result (All IsValid scalars.now) }
 {
-    match validity {
-        Ok(()) => Ok(inputs),
-        Err(refusal) => {
-            drop(inputs);
-            Err(refusal)
-        }
+    for scalar in scalars {
+        validate(alloc, scalar)?;
     }
+    Ok(())
+}
+
+/// Refuses the first key or value that is not valid.
+pub fn validate_entries(alloc: Global, entries: &[(Scalar, Scalar)]) -> Result<(), VortexError>
+    ensures { OnOk result (All IsValidEntry entries.now) }
+{
+    for entry in entries {
+        validate(alloc, &entry.0)?;
+        validate(alloc, &entry.1)?;
+    }
+    Ok(())
 }

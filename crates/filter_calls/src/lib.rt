@@ -4,12 +4,13 @@
 #![tactic(auto)]
 
 mod answers;
+mod filter_inputs;
 mod filters;
 mod same;
 
-use case_lines::{Line, LineResult};
+use case_lines::Line;
 
-/// The answer of the line's call, if it is one of these.
-pub fn answer(line: &mut Line<'_>) -> Option<LineResult> {
-    filters::answer_line(line)
+/// Answers the line if it names one of these calls.
+pub fn answer(line: &mut Line<'_>) {
+    filters::answer(line);
 }

@@ -1,7 +1,9 @@
-//! Exact sameness of filters, to see whether a call changed what it borrowed.
+//! Exact sameness of what calls of filters borrow, to see whether a call changed what it borrowed.
 
 use case_lines::{same_scalar, same_scalars};
-use vortex_filter::Filter;
+use statistics_calls::same_statistics;
+use vortex_filter::{Column, Filter};
+use vortex_statistics::ColumnStatistics;
 
 /// Whether two filters are exactly the same.
 pub fn same_filter(a: &Filter, b: &Filter) -> bool {
@@ -62,4 +64,17 @@ fn same_test(a: &Filter, b: &Filter) -> bool {
         ) => x == y && same_scalar(prefix, copy),
         _ => false,
     }
+}
+
+/// Whether two slices have exactly the same statistics.
+pub fn same_zones(a: &[ColumnStatistics], b: &[ColumnStatistics]) -> bool {
+    a.len() == b.len() && a.iter().zip(b).all(|(x, y)| same_statistics(x, y))
+}
+
+/// Whether two slices have the same columns.
+pub fn same_columns(a: &[Column], b: &[Column]) -> bool {
+    a.len() == b.len()
+        && a.iter()
+            .zip(b)
+            .all(|(x, y)| x.name == y.name && x.dtype == y.dtype)
 }

@@ -1,77 +1,94 @@
 //! Calls that make, copy or slice buffers.
 
 use crate::recorder::fed;
-use case_lines::{Answer, CallResult, Line, LineResult, buffer_bytes, buffer_text, named};
+use case_lines::{Answer, CallResult, Given, Input, Line, Named, buffer_bytes, buffer_text};
 use std::alloc::Global;
+use std::mem::replace;
 use vortex_dtype::{BufferString, ByteBuffer, VortexError};
 
 #[derive(Clone, Copy)]
 enum Call {
-    EmptyBytes,
     Bytes,
-    BytesOfVec,
     SliceBytes,
     EqualSlice,
     HashSlice,
     CloneBytes,
     CloneBytesTwice,
-    EmptyText,
-    BufferText,
-    TextOfString,
+    Text,
     SliceText,
     CloneText,
 }
 
-const CALLS: [(&str, Call); 13] = [
-    ("empty_bytes", Call::EmptyBytes),
-    ("bytes", Call::Bytes),
-    ("bytes_of_vec", Call::BytesOfVec),
-    ("slice_bytes", Call::SliceBytes),
-    ("equal_slice", Call::EqualSlice),
-    ("hash_slice", Call::HashSlice),
-    ("clone_bytes", Call::CloneBytes),
-    ("clone_bytes_twice", Call::CloneBytesTwice),
-    ("empty_text", Call::EmptyText),
-    ("buffer_text", Call::BufferText),
-    ("text_of_string", Call::TextOfString),
-    ("slice_text", Call::SliceText),
-    ("clone_text", Call::CloneText),
+const CALLS: [Named<Call, Input>; 9] = [
+    ("bytes", Call::Bytes, &[Input::Text]),
+    ("slice_bytes", Call::SliceBytes, &[Input::Bytes]),
+    (
+        "equal_slice",
+        Call::EqualSlice,
+        &[Input::Bytes, Input::SecondBytes],
+    ),
+    (
+        "hash_slice",
+        Call::HashSlice,
+        &[Input::Bytes, Input::SecondBytes],
+    ),
+    ("clone_bytes", Call::CloneBytes, &[Input::Bytes]),
+    ("clone_bytes_twice", Call::CloneBytesTwice, &[Input::Bytes]),
+    ("buffer_text", Call::Text, &[Input::Text]),
+    ("slice_text", Call::SliceText, &[Input::Text]),
+    ("clone_text", Call::CloneText, &[Input::Text]),
 ];
 
-/// The answer of the line's call, if it is one of these.
-pub fn answer_line(line: &mut Line<'_>) -> Option<LineResult> {
-    let call = named(&CALLS, line.name())?;
-    Some(answer_of(line, call))
+#[derive(Clone, Copy)]
+enum Maker {
+    EmptyBytes,
+    BytesOfVec,
+    EmptyText,
+    TextOfString,
 }
 
-fn answer_of(line: &mut Line<'_>, call: Call) -> LineResult {
+const MAKERS: [Named<Maker, Input>; 4] = [
+    ("empty_bytes", Maker::EmptyBytes, &[]),
+    ("bytes_of_vec", Maker::BytesOfVec, &[Input::TypeIds]),
+    ("empty_text", Maker::EmptyText, &[]),
+    ("text_of_string", Maker::TextOfString, &[Input::String]),
+];
+
+/// Answers the line if it names one of these calls.
+pub fn answer(line: &mut Line<'_>) {
+    line.lend(&CALLS, answer_of);
+    line.give(&MAKERS, made_by);
+}
+
+fn answer_of(alloc: Global, call: Call, given: &Given) -> CallResult {
+    let bytes = &given.bytes;
+    let text = &given.text;
     match call {
-        Call::EmptyBytes => line.taking(empty_bytes),
-        Call::Bytes => line.borrowing(bytes_of_text),
-        Call::BytesOfVec => line.taking(bytes_of_vec),
-        Call::SliceBytes => line.borrowing(slice_bytes),
-        Call::EqualSlice => line.borrowing(equal_slice),
-        Call::HashSlice => line.borrowing(hash_slice),
-        Call::CloneBytes => line.borrowing(clone_bytes),
-        Call::CloneBytesTwice => line.borrowing(clone_bytes_twice),
-        Call::EmptyText => line.taking(empty_text),
-        Call::BufferText => line.borrowing(text_of_lent),
-        Call::TextOfString => line.taking(text_of_string),
-        Call::SliceText => line.borrowing(slice_text),
-        Call::CloneText => line.borrowing(clone_text),
+        Call::Bytes => ByteBuffer::from_slice(alloc, text.as_str().as_bytes()).map(buffer_bytes),
+        Call::SliceBytes => slice_bytes(bytes),
+        Call::EqualSlice => equal_slice(bytes, &given.second_bytes),
+        Call::HashSlice => hash_slice(bytes, &given.second_bytes),
+        Call::CloneBytes => bytes.clone().map(buffer_bytes),
+        Call::CloneBytesTwice => clone_bytes_twice(bytes),
+        Call::Text => BufferString::from_str(alloc, text.as_str()).map(buffer_text),
+        Call::SliceText => slice_text(text),
+        Call::CloneText => text.clone().map(buffer_text),
     }
 }
 
-fn empty_bytes(alloc: Global, _nothing: ()) -> CallResult {
-    Ok(buffer_bytes(ByteBuffer::empty(alloc)?))
-}
-
-fn bytes_of_text(alloc: Global, text: &BufferString) -> CallResult {
-    Ok(buffer_bytes(ByteBuffer::from_slice(alloc, text.as_str().as_bytes())?))
-}
-
-fn bytes_of_vec(_alloc: Global, items: Vec<u8>) -> CallResult {
-    Ok(buffer_bytes(ByteBuffer::from_vec(items)?))
+fn made_by(alloc: Global, call: Maker, given: &mut Given) -> CallResult {
+    match call {
+        Maker::EmptyBytes => ByteBuffer::empty(alloc).map(buffer_bytes),
+        Maker::BytesOfVec => {
+            let bytes = replace(&mut given.fields.type_ids, Vec::new(alloc));
+            ByteBuffer::from_vec(bytes).map(buffer_bytes)
+        }
+        Maker::EmptyText => BufferString::empty(alloc).map(buffer_text),
+        Maker::TextOfString => {
+            let string = replace(&mut given.string, String::new(alloc));
+            BufferString::from_string(string).map(buffer_text)
+        }
+    }
 }
 
 /// The slice of all bytes but the first, if there is one.
@@ -82,13 +99,13 @@ fn without_first(value: &ByteBuffer) -> Result<Option<ByteBuffer>, VortexError> 
     Ok(Some(value.slice(1..value.len())?))
 }
 
-fn slice_bytes(_alloc: Global, value: &ByteBuffer) -> CallResult {
+fn slice_bytes(value: &ByteBuffer) -> CallResult {
     Ok(without_first(value)?.map_or(Answer::Unmet, buffer_bytes))
 }
 
 /// Whether the slice of the first buffer without its first byte equals the second buffer. That holds
 /// its bytes as `from_slice` makes them, if they are at most 22.
-fn equal_slice(_alloc: Global, (whole, part): &(ByteBuffer, ByteBuffer)) -> CallResult {
+fn equal_slice(whole: &ByteBuffer, part: &ByteBuffer) -> CallResult {
     Ok(match without_first(whole)? {
         Some(slice) => Answer::Truth(slice == *part),
         None => Answer::Unmet,
@@ -96,42 +113,22 @@ fn equal_slice(_alloc: Global, (whole, part): &(ByteBuffer, ByteBuffer)) -> Call
 }
 
 /// Whether that slice feeds a hasher what the second buffer feeds.
-fn hash_slice(_alloc: Global, (whole, part): &(ByteBuffer, ByteBuffer)) -> CallResult {
+fn hash_slice(whole: &ByteBuffer, part: &ByteBuffer) -> CallResult {
     Ok(match without_first(whole)? {
         Some(slice) => Answer::SameFeed(fed(&slice) == fed(part)),
         None => Answer::Unmet,
     })
 }
 
-fn clone_bytes(_alloc: Global, value: &ByteBuffer) -> CallResult {
-    Ok(buffer_bytes(value.clone()?))
-}
-
-fn clone_bytes_twice(_alloc: Global, value: &ByteBuffer) -> CallResult {
+fn clone_bytes_twice(value: &ByteBuffer) -> CallResult {
     let copy = value.clone()?;
     let second = copy.clone();
     drop(copy);
     Ok(buffer_bytes(second?))
 }
 
-fn empty_text(alloc: Global, _nothing: ()) -> CallResult {
-    Ok(buffer_text(BufferString::empty(alloc)?))
-}
-
-fn text_of_lent(alloc: Global, text: &BufferString) -> CallResult {
-    Ok(buffer_text(BufferString::from_str(alloc, text.as_str())?))
-}
-
-fn text_of_string(_alloc: Global, text: String) -> CallResult {
-    Ok(buffer_text(BufferString::from_string(text)?))
-}
-
-fn clone_text(_alloc: Global, text: &BufferString) -> CallResult {
-    Ok(buffer_text(text.clone()?))
-}
-
 /// The slice of a string without its first byte, if that is a whole character.
-fn slice_text(_alloc: Global, text: &BufferString) -> CallResult {
+fn slice_text(text: &BufferString) -> CallResult {
     if text.as_str().is_char_boundary(1) {
         Ok(buffer_text(text.slice(1..text.len())?))
     } else {

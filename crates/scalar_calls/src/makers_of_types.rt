@@ -1,154 +1,119 @@
-//! Calls that make or copy types and their parts.
+//! Calls that make types.
 
-use case_lines::{Answer, CallResult, Fields, Line, LineResult, Variants, named, struct_fields};
+use case_lines::{
+    Answer, CallResult, Fields, Given, Input, Line, Named, struct_fields, take_fields, take_type,
+};
 use std::alloc::Global;
 use vortex_dtype::{
-    BufferString, ByteBuffer, DType, ExtDType, FieldName, MapDType, NativeDType, Nullability,
-    StructFields, UnionVariants, VortexError,
+    BufferString, ByteBuffer, DType, ExtDType, MapDType, NativeDType, Nullability, StructFields,
+    UnionVariants, VortexError,
 };
 use vortex_value::Scalar;
 
 #[derive(Clone, Copy)]
 enum Call {
-    CloneName,
-    CloneType,
-    CloneParts,
-    StructType,
+    AsNullable,
+    Struct,
     CloneFields,
-    UnionType,
-    UnionVariants,
+    Union,
     MapParts,
-    MapType,
-    ExtensionType,
+    Map,
+    Extension,
     ListOfRust,
     ListsOfRust,
     TextOfRust,
     NullOfRust,
 }
 
-const CALLS: [(&str, Call); 14] = [
-    ("clone_name", Call::CloneName),
-    ("clone_type", Call::CloneType),
-    ("clone_parts", Call::CloneParts),
-    ("struct_type", Call::StructType),
-    ("clone_fields", Call::CloneFields),
-    ("union_type", Call::UnionType),
-    ("union_variants", Call::UnionVariants),
-    ("map_parts", Call::MapParts),
-    ("map_type", Call::MapType),
-    ("extension_type", Call::ExtensionType),
-    ("list_of_rust", Call::ListOfRust),
-    ("lists_of_rust", Call::ListsOfRust),
-    ("text_of_rust", Call::TextOfRust),
-    ("null_of_rust", Call::NullOfRust),
+const CALLS: [Named<Call, Input>; 12] = [
+    ("as_nullable", Call::AsNullable, &[Input::Type]),
+    ("struct_type", Call::Struct, &[Input::Fields]),
+    ("clone_fields", Call::CloneFields, &[Input::Fields]),
+    ("union_type", Call::Union, &[Input::Variants]),
+    // The names, types and ids may differ in number.
+    (
+        "union_variants",
+        Call::Union,
+        &[Input::Names, Input::Types, Input::TypeIds],
+    ),
+    (
+        "map_parts",
+        Call::MapParts,
+        &[Input::Type, Input::SecondType],
+    ),
+    (
+        "map_type",
+        Call::Map,
+        &[Input::Type, Input::SecondType, Input::Nullability],
+    ),
+    (
+        "extension_type",
+        Call::Extension,
+        &[Input::Type, Input::SecondType],
+    ),
+    ("list_of_rust", Call::ListOfRust, &[]),
+    ("lists_of_rust", Call::ListsOfRust, &[]),
+    ("text_of_rust", Call::TextOfRust, &[]),
+    ("null_of_rust", Call::NullOfRust, &[]),
 ];
 
-/// The answer of the line's call, if it is one of these.
-pub fn answer_line(line: &mut Line<'_>) -> Option<LineResult> {
-    let call = named(&CALLS, line.name())?;
-    Some(answer_of(line, call))
+/// Answers the line if it names one of these calls.
+pub fn answer(line: &mut Line<'_>) {
+    line.give(&CALLS, answer_of);
 }
 
-fn answer_of(line: &mut Line<'_>, call: Call) -> LineResult {
+fn answer_of(alloc: Global, call: Call, given: &mut Given) -> CallResult {
     match call {
-        Call::CloneName => line.borrowing(clone_name),
-        Call::CloneType => line.borrowing(clone_type),
-        Call::CloneParts => line.borrowing(clone_parts),
-        Call::StructType => line.taking(struct_type),
-        Call::CloneFields => line.taking(clone_fields),
-        Call::UnionType => line.taking(union_type),
-        Call::UnionVariants => line.taking(union_variants),
-        Call::MapParts => line.taking(map_parts),
-        Call::MapType => line.taking(map_type),
-        Call::ExtensionType => line.taking(extension_type),
-        Call::ListOfRust => line.taking(type_of_rust::<Vec<Option<i32>>>),
-        Call::ListsOfRust => line.taking(type_of_rust::<Vec<Option<Vec<Option<i32>>>>>),
-        Call::TextOfRust => line.taking(type_of_rust::<String>),
-        Call::NullOfRust => line.taking(null_of_rust),
+        Call::AsNullable => Ok(Answer::Type(take_type(&mut given.dtype).as_nullable())),
+        Call::Struct => struct_type(struct_fields(alloc, take_fields(&mut given.fields, alloc))),
+        Call::CloneFields => clone_fields(alloc, take_fields(&mut given.fields, alloc)),
+        Call::Union => union_type(alloc, take_fields(&mut given.fields, alloc)),
+        Call::MapParts | Call::Map => map_type(alloc, call, given),
+        Call::Extension => extension_type(alloc, given),
+        Call::ListOfRust => Vec::<Option<i32>>::dtype(alloc).map(Answer::Type),
+        Call::ListsOfRust => Vec::<Option<Vec<Option<i32>>>>::dtype(alloc).map(Answer::Type),
+        Call::TextOfRust => String::dtype(alloc).map(Answer::Type),
+        Call::NullOfRust => Scalar::null_native::<Vec<Option<i32>>>(alloc).map(Answer::Scalar),
     }
 }
 
-/// Whether a copy of the first name equals it.
-fn clone_name(alloc: Global, names: &Vec<FieldName>) -> CallResult {
-    match names.first() {
-        Some(name) => Ok(Answer::Truth(name.clone(alloc)? == *name)),
-        None => Ok(Answer::None),
-    }
-}
-
-fn clone_type(alloc: Global, dtype: &DType) -> CallResult {
-    Ok(Answer::Type(dtype.clone(alloc)?))
-}
-
-/// A type made of copies of another's parts.
-fn clone_parts(alloc: Global, dtype: &DType) -> CallResult {
-    Ok(Answer::Type(match dtype {
-        DType::Map(map, n) => DType::Map(map.clone(alloc)?, *n),
-        DType::Struct(fields, n) => DType::Struct(fields.clone(alloc)?, *n),
-        DType::Union(variants, n) => DType::Union(variants.clone(alloc)?, *n),
-        DType::Extension(extension) => DType::Extension(extension.clone(alloc)?),
-        _ => return Err(VortexError::WrongKind),
-    }))
-}
-
-fn struct_type(alloc: Global, fields: Fields) -> CallResult {
-    Ok(struct_answer(struct_fields(alloc, fields)?))
+fn struct_type(fields: Result<StructFields, VortexError>) -> CallResult {
+    Ok(Answer::Type(DType::Struct(fields?, Nullability::NonNullable)))
 }
 
 fn clone_fields(alloc: Global, fields: Fields) -> CallResult {
     let fields = struct_fields(alloc, fields)?;
     let copy = fields.clone(alloc);
     drop(fields);
-    Ok(struct_answer(copy?))
+    struct_type(copy)
 }
 
-fn struct_answer(fields: StructFields) -> Answer {
-    Answer::Type(DType::Struct(fields, Nullability::NonNullable))
-}
-
-fn union_type(alloc: Global, Variants(fields): Variants) -> CallResult {
+fn union_type(alloc: Global, fields: Fields) -> CallResult {
     let variants = UnionVariants::try_new(alloc, fields.names, fields.dtypes, fields.type_ids)?;
     Ok(Answer::Type(DType::Union(variants, Nullability::NonNullable)))
 }
 
-/// The union type of these names, types and ids, which may differ in number.
-fn union_variants(
-    alloc: Global,
-    (names, dtypes, type_ids): (Vec<FieldName>, Vec<DType>, Vec<u8>),
-) -> CallResult {
-    union_type(
-        alloc,
-        Variants(Fields {
-            names,
-            dtypes,
-            type_ids,
-        }),
-    )
-}
-
-fn map_parts(alloc: Global, (key, value): (DType, DType)) -> CallResult {
-    let map = MapDType::try_new(alloc, key, value, true)?;
-    Ok(Answer::Type(DType::Map(map, Nullability::NonNullable)))
-}
-
-fn map_type(alloc: Global, (key, value, n): (DType, DType, Nullability)) -> CallResult {
-    Ok(Answer::Type(DType::map(alloc, key, value, true, n)?))
-}
-
-/// An extension with the id and the metadata of another, over this storage type.
-fn extension_type(alloc: Global, (like, storage): (DType, DType)) -> CallResult {
-    let head = extension_head(&like);
-    drop(like);
-    match head {
-        Ok((id, metadata)) => {
-            let made = ExtDType::new(alloc, id, metadata, storage);
-            Ok(Answer::Type(DType::Extension(made?)))
+fn map_type(alloc: Global, call: Call, given: &mut Given) -> CallResult {
+    let key = take_type(&mut given.dtype);
+    let value = take_type(&mut given.second_dtype);
+    Ok(Answer::Type(match call {
+        Call::MapParts => {
+            DType::Map(
+                MapDType::try_new(alloc, key, value, true)?,
+                Nullability::NonNullable,
+            )
         }
-        Err(refusal) => {
-            drop(storage);
-            Err(refusal)
-        }
-    }
+        _ => DType::map(alloc, key, value, true, given.nullability)?,
+    }))
+}
+
+/// An extension with the id and the metadata of the first type, over the second.
+fn extension_type(alloc: Global, given: &mut Given) -> CallResult {
+    let (id, metadata) = extension_head(&given.dtype)?;
+    let storage = take_type(&mut given.second_dtype);
+    ExtDType::new(alloc, id, metadata, storage)
+        .map(DType::Extension)
+        .map(Answer::Type)
 }
 
 /// Copies of the id and the metadata of an extension type.
@@ -162,12 +127,4 @@ fn extension_head(dtype: &DType) -> Result<(BufferString, ByteBuffer), VortexErr
             Err(refusal)
         }
     }
-}
-
-fn type_of_rust<T: NativeDType>(alloc: Global, _nothing: ()) -> CallResult {
-    Ok(Answer::Type(T::dtype(alloc)?))
-}
-
-fn null_of_rust(alloc: Global, _nothing: ()) -> CallResult {
-    Ok(Answer::Scalar(Scalar::null_native::<Vec<Option<i32>>>(alloc)?))
 }

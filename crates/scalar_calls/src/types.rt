@@ -1,70 +1,65 @@
-//! Calls of types.
+//! Calls that borrow types.
 
 use crate::recorder::fed;
-use case_lines::{Answer, CallResult, Line, LineResult, named, or_none};
+use case_lines::{Answer, CallResult, Given, Input, Line, Named, or_none, scalar_or_none};
 use std::alloc::Global;
-use vortex_dtype::{BufferString, DType, FieldName, VortexError};
+use vortex_dtype::{DType, FieldName, VortexError};
 use vortex_value::Scalar;
 
 #[derive(Clone, Copy)]
 enum Call {
     Same,
-    EqualTypes,
-    HashTypes,
-    AsNullable,
+    Equal,
+    Hash,
     Project,
     Find,
     Zero,
     Default,
+    CloneName,
+    Clone,
+    CloneParts,
 }
 
-const CALLS: [(&str, Call); 8] = [
-    ("same", Call::Same),
-    ("equal_types", Call::EqualTypes),
-    ("hash_types", Call::HashTypes),
-    ("as_nullable", Call::AsNullable),
-    ("project", Call::Project),
-    ("find", Call::Find),
-    ("zero", Call::Zero),
-    ("default", Call::Default),
+const CALLS: [Named<Call, Input>; 10] = [
+    ("same", Call::Same, &[Input::Type, Input::SecondType]),
+    (
+        "equal_types",
+        Call::Equal,
+        &[Input::Type, Input::SecondType],
+    ),
+    ("hash_types", Call::Hash, &[Input::Type, Input::SecondType]),
+    ("project", Call::Project, &[Input::Type, Input::Names]),
+    ("find", Call::Find, &[Input::Type, Input::Text]),
+    ("zero", Call::Zero, &[Input::Type]),
+    ("default", Call::Default, &[Input::Type]),
+    ("clone_name", Call::CloneName, &[Input::Names]),
+    ("clone_type", Call::Clone, &[Input::Type]),
+    ("clone_parts", Call::CloneParts, &[Input::Type]),
 ];
 
-/// The answer of the line's call, if it is one of these.
-pub fn answer_line(line: &mut Line<'_>) -> Option<LineResult> {
-    let call = named(&CALLS, line.name())?;
-    Some(answer_of(line, call))
+/// Answers the line if it names one of these calls.
+pub fn answer(line: &mut Line<'_>) {
+    line.lend(&CALLS, answer_of);
 }
 
-fn answer_of(line: &mut Line<'_>, call: Call) -> LineResult {
+fn answer_of(alloc: Global, call: Call, given: &Given) -> CallResult {
+    let dtype = &given.dtype;
+    let second = &given.second_dtype;
     match call {
-        Call::Same => line.borrowing(same),
-        Call::EqualTypes => line.borrowing(equal_types),
-        Call::HashTypes => line.borrowing(hash_types),
-        Call::AsNullable => line.taking(as_nullable),
-        Call::Project => line.borrowing(project),
-        Call::Find => line.borrowing(find),
-        Call::Zero => line.borrowing(zero),
-        Call::Default => line.borrowing(default),
+        Call::Same => Ok(Answer::Truth(dtype.eq_ignore_nullability(second))),
+        Call::Equal => Ok(Answer::Truth(dtype == second)),
+        Call::Hash => Ok(Answer::SameFeed(fed(dtype) == fed(second))),
+        Call::Project => project(alloc, dtype, &given.fields.names),
+        Call::Find => find(dtype, given.text.as_str()),
+        Call::Zero => scalar_or_none(Scalar::zero_value(alloc, dtype)),
+        Call::Default => scalar_or_none(Scalar::default_value(alloc, dtype)),
+        Call::CloneName => clone_name(alloc, &given.fields.names),
+        Call::Clone => dtype.clone(alloc).map(Answer::Type),
+        Call::CloneParts => clone_parts(alloc, dtype),
     }
 }
 
-fn same(_alloc: Global, (x, y): &(DType, DType)) -> CallResult {
-    Ok(Answer::Truth(x.eq_ignore_nullability(y)))
-}
-
-fn equal_types(_alloc: Global, (x, y): &(DType, DType)) -> CallResult {
-    Ok(Answer::Truth(x == y))
-}
-
-fn hash_types(_alloc: Global, (x, y): &(DType, DType)) -> CallResult {
-    Ok(Answer::SameFeed(fed(x) == fed(y)))
-}
-
-fn as_nullable(_alloc: Global, dtype: DType) -> CallResult {
-    Ok(Answer::Type(dtype.as_nullable()))
-}
-
-fn project(alloc: Global, (dtype, names): &(DType, Vec<FieldName>)) -> CallResult {
+fn project(alloc: Global, dtype: &DType, names: &[FieldName]) -> CallResult {
     match dtype {
         DType::Struct(fields, n) => {
             Ok(Answer::Type(DType::Struct(fields.project(alloc, names)?, *n)))
@@ -73,17 +68,28 @@ fn project(alloc: Global, (dtype, names): &(DType, Vec<FieldName>)) -> CallResul
     }
 }
 
-fn find(_alloc: Global, (dtype, name): &(DType, BufferString)) -> CallResult {
+fn find(dtype: &DType, name: &str) -> CallResult {
     match dtype {
-        DType::Struct(fields, _) => Ok(or_none(fields.find(name.as_str()).map(Answer::Number))),
+        DType::Struct(fields, _) => Ok(or_none(fields.find(name).map(Answer::Number))),
         _ => Err(VortexError::WrongKind),
     }
 }
 
-fn zero(alloc: Global, dtype: &DType) -> CallResult {
-    Ok(or_none(Scalar::zero_value(alloc, dtype)?.map(Answer::Scalar)))
+/// Whether a copy of the first name equals it.
+fn clone_name(alloc: Global, names: &[FieldName]) -> CallResult {
+    match names.first() {
+        Some(name) => Ok(Answer::Truth(name.clone(alloc)? == *name)),
+        None => Ok(Answer::None),
+    }
 }
 
-fn default(alloc: Global, dtype: &DType) -> CallResult {
-    Ok(or_none(Scalar::default_value(alloc, dtype)?.map(Answer::Scalar)))
+/// A type made of copies of another's parts.
+fn clone_parts(alloc: Global, dtype: &DType) -> CallResult {
+    Ok(Answer::Type(match dtype {
+        DType::Map(map, n) => DType::Map(map.clone(alloc)?, *n),
+        DType::Struct(fields, n) => DType::Struct(fields.clone(alloc)?, *n),
+        DType::Union(variants, n) => DType::Union(variants.clone(alloc)?, *n),
+        DType::Extension(extension) => DType::Extension(extension.clone(alloc)?),
+        _ => return Err(VortexError::WrongKind),
+    }))
 }

@@ -1,174 +1,117 @@
-//! Calls of keys: of scalars, of rows, and back.
+//! Calls of keys: of scalars, of rows, of plain values, and back.
 
 use crate::answers::keys::KeyAnswer;
-use case_lines::{
-    Borrowed, Exact, Inputs, Item, Line, LineResult, MemoryRoom, Tokens, named, same_scalars,
-};
+use crate::key_inputs::{Input, KeyInputs};
+use crate::plain_values::plain_of;
+use case_lines::{Line, Named};
 use std::alloc::{AllocError, Global};
 use std::cmp::Ordering;
-use vortex_dtype::{ByteBuffer, DType, VortexError};
+use std::mem::replace;
+use vortex_dtype::{DType, VortexError};
 use vortex_row::{
-    RowEncoder, RowError, SortOptions, append_key, append_row_key, compare_keys, decode_key,
-    decode_row_key, key_length,
+    RowEncoder, RowError, SortOptions, append_key, append_plain_key, append_row_key, compare_keys,
+    decode_key, decode_row_key, has_variant, key_length, plain_key_length,
 };
 use vortex_value::{Scalar, ScalarRef, ScalarValue};
 
 #[derive(Clone, Copy)]
 enum Call {
     Key,
-    KeyInRoom,
-    KeyLength,
+    Length,
     FromKey,
-    RowKey,
-    RowKeyInRoom,
-    FromRowKey,
-    RowEncoder,
-    CompareKeys,
+    PlainKey,
+    PlainLength,
+    HasVariant,
+    Compare,
     SortedByKeys,
     SortedByOrder,
 }
 
-const CALLS: [(&str, Call); 11] = [
-    ("key", Call::Key),
-    ("key_in_room", Call::KeyInRoom),
-    ("key_length", Call::KeyLength),
-    ("from_key", Call::FromKey),
-    ("row_key", Call::RowKey),
-    ("row_key_in_room", Call::RowKeyInRoom),
-    ("from_row_key", Call::FromRowKey),
-    ("row_encoder", Call::RowEncoder),
-    ("compare_keys", Call::CompareKeys),
-    ("sorted_by_keys", Call::SortedByKeys),
-    ("sorted_by_order", Call::SortedByOrder),
+const CALLS: [Named<Call, Input>; 9] = [
+    ("key", Call::Key, &[Input::Scalar, Input::Sorting]),
+    ("key_length", Call::Length, &[Input::Scalar]),
+    (
+        "from_key",
+        Call::FromKey,
+        &[Input::Type, Input::Bytes, Input::Sorting],
+    ),
+    (
+        "plain_key",
+        Call::PlainKey,
+        &[Input::Scalar, Input::Sorting],
+    ),
+    ("plain_key_length", Call::PlainLength, &[Input::Scalar]),
+    ("has_variant", Call::HasVariant, &[Input::Type]),
+    (
+        "compare_keys",
+        Call::Compare,
+        &[Input::Bytes, Input::SecondBytes],
+    ),
+    ("sorted_by_keys", Call::SortedByKeys, &[Input::Scalar]),
+    ("sorted_by_order", Call::SortedByOrder, &[Input::Scalar]),
 ];
 
-/// The answer of the line's call, if it is one of these.
-pub fn answer_line(line: &mut Line<'_>) -> Option<LineResult> {
-    let call = named(&CALLS, line.name())?;
-    Some(answer_of(line, call))
+/// What is asked of the columns of rows.
+#[derive(Clone, Copy)]
+enum OfRows {
+    Key,
+    FromKey,
+    Encoder,
 }
 
-fn answer_of(line: &mut Line<'_>, call: Call) -> LineResult {
-    match call {
-        Call::Key => line.borrowing(key),
-        Call::KeyInRoom => line.taking(key_in_room),
-        Call::KeyLength => line.borrowing(length),
-        Call::FromKey => line.borrowing(from_key),
-        Call::RowKey => line.borrowing(row_key),
-        Call::RowKeyInRoom => line.taking(row_key_in_room),
-        Call::FromRowKey => line.borrowing(from_row_key),
-        Call::RowEncoder => line.borrowing(row_encoder),
-        Call::CompareKeys => line.borrowing(compare),
-        Call::SortedByKeys => line.borrowing(sorted_by_keys),
-        Call::SortedByOrder => line.borrowing(sorted_by_order),
-    }
+const OF_ROWS: [Named<OfRows, Input>; 3] = [
+    ("row_key", OfRows::Key, &[Input::Row]),
+    (
+        "from_row_key",
+        OfRows::FromKey,
+        &[Input::Columns, Input::Bytes],
+    ),
+    (
+        "row_encoder",
+        OfRows::Encoder,
+        &[Input::Columns, Input::Rows],
+    ),
+];
+
+/// The keys that are appended where there is room.
+#[derive(Clone, Copy)]
+enum InRoom {
+    Key,
+    PlainKey,
+    /// The key of a row of one column.
+    RowKey,
 }
 
-/// How a column is sorted.
-#[derive(Clone, Copy, PartialEq)]
-pub struct Sorting(pub SortOptions);
+const IN_ROOM: [Named<InRoom, Input>; 3] = [
+    (
+        "key_in_room",
+        InRoom::Key,
+        &[Input::Scalar, Input::Sorting, Input::Room],
+    ),
+    (
+        "plain_key_in_room",
+        InRoom::PlainKey,
+        &[Input::Scalar, Input::Sorting, Input::Room],
+    ),
+    (
+        "row_key_in_room",
+        InRoom::RowKey,
+        &[Input::Scalar, Input::Sorting, Input::Room],
+    ),
+];
 
-impl Inputs for Sorting {
-    fn read(tokens: &mut Tokens<'_>) -> Sorting {
-        Sorting(read_options(tokens))
-    }
-}
-
-impl Exact for Sorting {}
-
-/// Reads `desc` for descending, and `nulls_last`; either may be missing.
-fn read_options(tokens: &mut Tokens<'_>) -> SortOptions {
-    let descending = tokens.takes_word(b"desc");
-    let nulls_first = !tokens.takes_word(b"nulls_last");
-    SortOptions {
-        descending,
-        nulls_first,
-    }
-}
-
-/// Reads columns with semicolons between them: what each has, and how each is sorted. An underscore
-/// stands for what is missing.
-fn read_columns<T: Item>(tokens: &mut Tokens<'_>) -> (Vec<T>, Vec<SortOptions>) {
-    let mut contents = Vec::new(tokens.alloc);
-    let mut options = Vec::new(tokens.alloc);
-    for _ in 0..=tokens.left() {
-        tokens.spaces();
-        if !tokens.takes(b'_') {
-            let content = T::read_item(tokens);
-            tokens.push(&mut contents, content);
-        }
-        if !tokens.takes(b'_') {
-            let sorting = read_options(tokens);
-            tokens.push(&mut options, sorting);
-        }
-        if !tokens.takes(b';') {
-            break;
-        }
-    }
-    (contents, options)
-}
-
-/// A row of scalars, and how their columns are sorted.
-#[derive(Drop)]
-struct Row {
-    scalars: Vec<Scalar>,
-    options: Vec<SortOptions>,
-}
-
-impl Inputs for Row {
-    fn read(tokens: &mut Tokens<'_>) -> Row {
-        let (scalars, options) = read_columns(tokens);
-        Row { scalars, options }
-    }
-}
-
-impl Borrowed for Row {
-    fn is_same(&self, copy: &Row) -> bool {
-        same_scalars(&self.scalars, &copy.scalars) && self.options == copy.options
-    }
-}
-
-/// The types of columns, and how they are sorted.
-#[derive(Drop)]
-struct Columns {
-    dtypes: Vec<DType>,
-    options: Vec<SortOptions>,
-}
-
-impl Inputs for Columns {
-    fn read(tokens: &mut Tokens<'_>) -> Columns {
-        let (dtypes, options) = read_columns(tokens);
-        Columns { dtypes, options }
-    }
-}
-
-impl Borrowed for Columns {
-    fn is_same(&self, copy: &Columns) -> bool {
-        self.dtypes == copy.dtypes && self.options == copy.options
-    }
-}
-
-/// The scalars of rows, one row after another.
-#[derive(Drop)]
-struct Rows(Vec<Scalar>);
-
-impl Inputs for Rows {
-    fn read(tokens: &mut Tokens<'_>) -> Rows {
-        Rows(Vec::read(tokens))
-    }
-}
-
-impl Borrowed for Rows {
-    fn is_same(&self, copy: &Rows) -> bool {
-        same_scalars(&self.0, &copy.0)
-    }
+/// Answers the line if it names one of these calls.
+pub fn answer(line: &mut Line<'_>) {
+    line.lend(&CALLS, answer_of);
+    line.lend(&OF_ROWS, of_rows);
+    line.give(&IN_ROOM, in_room);
 }
 
 /// An answer, or the refusal that all calls have.
-pub type KeyResult = Result<KeyAnswer, VortexError>;
+type KeyResult = Result<KeyAnswer, VortexError>;
 
 /// A key, or its refusal. `Changed` if a refusal left a part of the key.
-pub fn key_answer(outcome: Result<(), RowError>, key: Vec<u8>) -> KeyResult {
+fn key_answer(outcome: Result<(), RowError>, key: Vec<u8>) -> KeyResult {
     match outcome {
         Ok(()) => Ok(KeyAnswer::Key(key)),
         Err(_) if !key.is_empty() => Ok(KeyAnswer::Changed),
@@ -184,33 +127,76 @@ fn refused(refusal: RowError) -> KeyResult {
     }
 }
 
-fn key(alloc: Global, (scalar, sorting): &(Scalar, Sorting)) -> KeyResult {
+fn answer_of(alloc: Global, call: Call, given: &KeyInputs) -> KeyResult {
+    let scalar = &given.scalar;
+    match call {
+        Call::Key => key(alloc, scalar, given.sorting),
+        Call::Length => Ok(KeyAnswer::Length(key_length(ScalarRef::of(scalar)))),
+        Call::FromKey => {
+            match decode_key(alloc, &given.dtype, given.sorting, given.bytes.as_slice()) {
+                Ok(decoded) => Ok(KeyAnswer::Decoded(decoded)),
+                Err(refusal) => refused(refusal),
+            }
+        }
+        Call::PlainKey => plain_key(alloc, scalar, given.sorting),
+        Call::PlainLength => Ok(plain_length(scalar)),
+        Call::HasVariant => Ok(KeyAnswer::Truth(has_variant(&given.dtype))),
+        Call::Compare => {
+            let order = compare_keys(given.bytes.as_slice(), given.second_bytes.as_slice());
+            Ok(KeyAnswer::Order(order))
+        }
+        Call::SortedByKeys => sorted_by_keys(alloc, scalar),
+        Call::SortedByOrder => sorted_by_order(alloc, scalar),
+    }
+}
+
+fn key(alloc: Global, scalar: &Scalar, options: SortOptions) -> KeyResult {
     let mut key = Vec::new(alloc);
-    let outcome = append_key(ScalarRef::of(scalar), sorting.0, &mut key);
+    let outcome = append_key(ScalarRef::of(scalar), options, &mut key);
     key_answer(outcome, key)
 }
 
-/// The key, appended where there is room.
-fn key_in_room(
-    _alloc: Global,
-    (scalar, sorting, MemoryRoom(mut key)): (Scalar, Sorting, MemoryRoom),
-) -> KeyResult {
-    let outcome = append_key(ScalarRef::of(&scalar), sorting.0, &mut key);
-    drop(scalar);
+fn plain_key(alloc: Global, scalar: &Scalar, options: SortOptions) -> KeyResult {
+    let Some(value) = plain_of(scalar) else {
+        return Ok(KeyAnswer::NotPlain);
+    };
+    let mut key = Vec::new(alloc);
+    let outcome = append_plain_key(value, options, &mut key);
     key_answer(outcome, key)
 }
 
-fn length(_alloc: Global, scalar: &Scalar) -> KeyResult {
-    Ok(KeyAnswer::Length(key_length(ScalarRef::of(scalar))))
+fn plain_length(scalar: &Scalar) -> KeyAnswer {
+    match plain_of(scalar) {
+        Some(value) => KeyAnswer::Length(plain_key_length(value)),
+        None => KeyAnswer::NotPlain,
+    }
 }
 
-fn from_key(
-    alloc: Global,
-    ((dtype, bytes), sorting): &((DType, ByteBuffer), Sorting),
-) -> KeyResult {
-    match decode_key(alloc, dtype, sorting.0, bytes.as_slice()) {
-        Ok(decoded) => Ok(KeyAnswer::Decoded(decoded)),
-        Err(refusal) => refused(refusal),
+fn in_room(alloc: Global, call: InRoom, given: &mut KeyInputs) -> KeyResult {
+    let mut key = replace(&mut given.room, Vec::new(alloc));
+    let lent = ScalarRef::of(&given.scalar);
+    let outcome = match call {
+        InRoom::Key => append_key(lent, given.sorting, &mut key),
+        InRoom::PlainKey => match plain_of(&given.scalar) {
+            Some(value) => append_plain_key(value, given.sorting, &mut key),
+            None => return Ok(KeyAnswer::NotPlain),
+        },
+        InRoom::RowKey => append_row_key(&[lent], &[given.sorting], &mut key),
+    };
+    key_answer(outcome, key)
+}
+
+fn of_rows(alloc: Global, call: OfRows, given: &KeyInputs) -> KeyResult {
+    match call {
+        OfRows::Key => row_key(alloc, &given.scalars, &given.options),
+        OfRows::FromKey => {
+            let bytes = given.bytes.as_slice();
+            match decode_row_key(alloc, &given.dtypes, &given.options, bytes) {
+                Ok(decoded) => Ok(KeyAnswer::DecodedRow(decoded)),
+                Err(refusal) => refused(refusal),
+            }
+        }
+        OfRows::Encoder => row_encoder(alloc, given),
     }
 }
 
@@ -222,40 +208,23 @@ fn lent(alloc: Global, scalars: &[Scalar]) -> Result<Vec<ScalarRef<'_>>, AllocEr
         .collect(alloc)
 }
 
-fn row_key(alloc: Global, row: &Row) -> KeyResult {
-    let values = lent(alloc, &row.scalars)?;
+fn row_key(alloc: Global, scalars: &[Scalar], options: &[SortOptions]) -> KeyResult {
+    let values = lent(alloc, scalars)?;
     let mut key = Vec::new(alloc);
-    let outcome = append_row_key(&values, &row.options, &mut key);
+    let outcome = append_row_key(&values, options, &mut key);
     key_answer(outcome, key)
-}
-
-/// The key of a row of one column, appended where there is room.
-fn row_key_in_room(
-    _alloc: Global,
-    (scalar, sorting, MemoryRoom(mut key)): (Scalar, Sorting, MemoryRoom),
-) -> KeyResult {
-    let outcome = append_row_key(&[ScalarRef::of(&scalar)], &[sorting.0], &mut key);
-    drop(scalar);
-    key_answer(outcome, key)
-}
-
-fn from_row_key(alloc: Global, (columns, bytes): &(Columns, ByteBuffer)) -> KeyResult {
-    match decode_row_key(alloc, &columns.dtypes, &columns.options, bytes.as_slice()) {
-        Ok(decoded) => Ok(KeyAnswer::DecodedRow(decoded)),
-        Err(refusal) => refused(refusal),
-    }
 }
 
 /// The keys of rows, one row after another. Each row is lent just before its key is made, so that
 /// the memory of its scalars is read once.
-fn row_encoder(alloc: Global, (columns, rows): &(Columns, Rows)) -> KeyResult {
-    let encoder = match RowEncoder::try_new(&columns.dtypes, &columns.options) {
+fn row_encoder(alloc: Global, given: &KeyInputs) -> KeyResult {
+    let encoder = match RowEncoder::try_new(&given.dtypes, &given.options) {
         Ok(encoder) => encoder,
         Err(refusal) => return refused(refusal),
     };
     let mut keys = Vec::new(alloc);
     let mut row = Vec::new(alloc);
-    for scalars in rows.0.chunks(columns.dtypes.len().max(1)) {
+    for scalars in given.scalars.chunks(given.dtypes.len().max(1)) {
         row.clear();
         for scalar in scalars {
             row.push(ScalarRef::of(scalar))?;
@@ -265,10 +234,6 @@ fn row_encoder(alloc: Global, (columns, rows): &(Columns, Rows)) -> KeyResult {
         }
     }
     Ok(KeyAnswer::Key(keys))
-}
-
-fn compare(_alloc: Global, (x, y): &(ByteBuffer, ByteBuffer)) -> KeyResult {
-    Ok(KeyAnswer::Order(compare_keys(x.as_slice(), y.as_slice())))
 }
 
 /// The elements of a list, lent; of any other scalar none.

@@ -5,23 +5,20 @@
 #![tactic(auto)]
 
 mod answers;
+mod key_inputs;
 mod keys;
-mod plain_keys;
+mod plain_values;
 mod read;
 mod same;
 mod statistics;
+mod statistics_inputs;
 
-use case_lines::{Line, LineResult};
-pub use read::{TypedStatistics, read_statistics};
+use case_lines::Line;
+pub use read::{read_statistics, read_typed_statistics};
 pub use same::same_statistics;
 
-/// The answer of the line's call, if it is one of these.
-pub fn answer(line: &mut Line<'_>) -> Option<LineResult> {
-    if let Some(answer) = keys::answer_line(line) {
-        return Some(answer);
-    }
-    if let Some(answer) = plain_keys::answer_line(line) {
-        return Some(answer);
-    }
-    statistics::answer_line(line)
+/// Answers the line if it names one of these calls.
+pub fn answer(line: &mut Line<'_>) {
+    keys::answer(line);
+    statistics::answer(line);
 }

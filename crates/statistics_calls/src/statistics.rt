@@ -1,181 +1,82 @@
 //! Calls of statistics of columns.
 
 use crate::answers::statistics::StatisticsAnswer;
-use crate::read::{TypedStatistics, read_typed_statistics};
-use crate::same::same_statistics;
-use case_lines::{
-    Borrowed, Inputs, Line, LineResult, MemoryRoom, Tokens, named, read_value, same_raws,
-    same_scalars,
-};
+use crate::read::TypedStatistics;
+use crate::statistics_inputs::{Input, StatisticsInputs};
+use case_lines::{Line, Named, take_type};
 use std::alloc::Global;
-use vortex_dtype::{ByteBuffer, DType, VortexError};
+use std::mem::replace;
+use vortex_dtype::{DType, VortexError};
 use vortex_statistics::{ColumnStatistics, StatisticsError};
-use vortex_value::{Scalar, ScalarRef, ScalarValue};
+use vortex_value::{ScalarRef, ScalarValue};
 
 #[derive(Clone, Copy)]
 enum Call {
     Statistics,
-    StatisticsOf,
-    ConstantStatistics,
+    Of,
+    OfConstant,
+    MayBeNull,
+    MayBeValue,
+    Bytes,
+    FromBytes,
+}
+
+const CALLS: [Named<Call, Input>; 7] = [
+    (
+        "statistics",
+        Call::Statistics,
+        &[Input::Type, Input::Values],
+    ),
+    ("statistics_of", Call::Of, &[Input::Type, Input::Scalars]),
+    (
+        "constant_statistics",
+        Call::OfConstant,
+        &[Input::Scalar, Input::Number],
+    ),
+    ("may_be_null", Call::MayBeNull, &[Input::Column]),
+    ("may_be_value", Call::MayBeValue, &[Input::Column]),
+    ("statistics_bytes", Call::Bytes, &[Input::Column]),
+    (
+        "from_statistics_bytes",
+        Call::FromBytes,
+        &[Input::Type, Input::Bytes],
+    ),
+];
+
+/// The calls that take statistics.
+#[derive(Clone, Copy)]
+enum Taking {
     Observe,
     Merge,
     MergeAll,
     Truncate,
-    MayBeNull,
-    MayBeValue,
-    StatisticsBytes,
-    StatisticsBytesInRoom,
-    FromStatisticsBytes,
+    BytesInRoom,
 }
 
-const CALLS: [(&str, Call); 12] = [
-    ("statistics", Call::Statistics),
-    ("statistics_of", Call::StatisticsOf),
-    ("constant_statistics", Call::ConstantStatistics),
-    ("observe", Call::Observe),
-    ("merge", Call::Merge),
-    ("merge_all", Call::MergeAll),
-    ("truncate", Call::Truncate),
-    ("may_be_null", Call::MayBeNull),
-    ("may_be_value", Call::MayBeValue),
-    ("statistics_bytes", Call::StatisticsBytes),
-    ("statistics_bytes_in_room", Call::StatisticsBytesInRoom),
-    ("from_statistics_bytes", Call::FromStatisticsBytes),
+const TAKING: [Named<Taking, Input>; 5] = [
+    (
+        "observe",
+        Taking::Observe,
+        &[Input::Column, Input::NextCell],
+    ),
+    ("merge", Taking::Merge, &[Input::Column, Input::NextPiece]),
+    ("merge_all", Taking::MergeAll, &[Input::Pieces]),
+    (
+        "truncate",
+        Taking::Truncate,
+        &[Input::Column, Input::Number],
+    ),
+    (
+        "statistics_bytes_in_room",
+        Taking::BytesInRoom,
+        &[Input::Column, Input::Room],
+    ),
 ];
 
-/// The answer of the line's call, if it is one of these.
-pub fn answer_line(line: &mut Line<'_>) -> Option<LineResult> {
-    let call = named(&CALLS, line.name())?;
-    Some(answer_of(line, call))
-}
-
-fn answer_of(line: &mut Line<'_>, call: Call) -> LineResult {
-    match call {
-        Call::Statistics => line.borrowing(statistics),
-        Call::StatisticsOf => line.borrowing(statistics_of),
-        Call::ConstantStatistics => line.borrowing(constant_statistics),
-        Call::Observe => line.taking(observe),
-        Call::Merge => line.taking(merge),
-        Call::MergeAll => line.taking(merge_all),
-        Call::Truncate => line.taking(truncate),
-        Call::MayBeNull => line.borrowing(may_be_null),
-        Call::MayBeValue => line.borrowing(may_be_value),
-        Call::StatisticsBytes => line.borrowing(statistics_bytes),
-        Call::StatisticsBytesInRoom => line.taking(statistics_bytes_in_room),
-        Call::FromStatisticsBytes => line.borrowing(from_statistics_bytes),
-    }
-}
-
-impl Inputs for TypedStatistics {
-    fn read(tokens: &mut Tokens<'_>) -> TypedStatistics {
-        tokens.spaces();
-        read_typed_statistics(tokens)
-    }
-}
-
-impl Borrowed for TypedStatistics {
-    fn is_same(&self, copy: &TypedStatistics) -> bool {
-        self.dtype == copy.dtype && same_statistics(&self.statistics, &copy.statistics)
-    }
-}
-
-/// A type, and raw values of it, with commas between them.
-#[derive(Drop)]
-struct Values {
-    dtype: DType,
-    values: Vec<Option<ScalarValue>>,
-}
-
-impl Inputs for Values {
-    fn read(tokens: &mut Tokens<'_>) -> Values {
-        let dtype = DType::read(tokens);
-        let mut values = Vec::new(tokens.alloc);
-        for before in 0..=tokens.left() {
-            if !tokens.has_more(before) {
-                break;
-            }
-            let value = read_value(tokens);
-            tokens.push(&mut values, value);
-        }
-        Values { dtype, values }
-    }
-}
-
-impl Borrowed for Values {
-    fn is_same(&self, copy: &Values) -> bool {
-        self.dtype == copy.dtype && same_raws(&self.values, &copy.values)
-    }
-}
-
-/// Scalars of any types, in brackets.
-#[derive(Drop)]
-struct Cells(Vec<Scalar>);
-
-impl Inputs for Cells {
-    fn read(tokens: &mut Tokens<'_>) -> Cells {
-        Cells(Vec::read(tokens))
-    }
-}
-
-impl Borrowed for Cells {
-    fn is_same(&self, copy: &Cells) -> bool {
-        same_scalars(&self.0, &copy.0)
-    }
-}
-
-/// Statistics, and the next cell.
-#[derive(Drop)]
-struct NextCell {
-    column: TypedStatistics,
-    cell: Scalar,
-}
-
-impl Inputs for NextCell {
-    fn read(tokens: &mut Tokens<'_>) -> NextCell {
-        let column = TypedStatistics::read(tokens);
-        tokens.expect(b';');
-        let cell = Scalar::read(tokens);
-        NextCell { column, cell }
-    }
-}
-
-/// The statistics of two pieces, and the type of the first.
-#[derive(Drop)]
-struct TwoPieces {
-    first: TypedStatistics,
-    second: ColumnStatistics,
-}
-
-impl Inputs for TwoPieces {
-    fn read(tokens: &mut Tokens<'_>) -> TwoPieces {
-        let first = TypedStatistics::read(tokens);
-        tokens.expect(b';');
-        let second = TypedStatistics::read(tokens).statistics;
-        TwoPieces { first, second }
-    }
-}
-
-/// The statistics of all pieces, and the type of the first.
-#[derive(Drop)]
-struct Pieces {
-    dtype: DType,
-    pieces: Vec<ColumnStatistics>,
-}
-
-impl Inputs for Pieces {
-    fn read(tokens: &mut Tokens<'_>) -> Pieces {
-        let TypedStatistics { dtype, statistics } = TypedStatistics::read(tokens);
-        let mut pieces = Vec::new(tokens.alloc);
-        tokens.push(&mut pieces, statistics);
-        for _ in 0..=tokens.left() {
-            if !tokens.takes(b';') {
-                break;
-            }
-            let piece = TypedStatistics::read(tokens).statistics;
-            tokens.push(&mut pieces, piece);
-        }
-        Pieces { dtype, pieces }
-    }
+/// Answers the line if it names one of these calls.
+pub fn answer(line: &mut Line<'_>) {
+    line.lend(&CALLS, answer_of);
+    line.give(&TAKING, answer_taking);
 }
 
 /// An answer, or the refusal that all calls have.
@@ -202,12 +103,40 @@ fn refused(refusal: StatisticsError) -> StatisticsResult {
     }
 }
 
-/// The statistics of values, observed one by one.
-fn statistics(alloc: Global, column: &Values) -> StatisticsResult {
-    let made = observed(alloc, &column.dtype, &column.values);
-    column_answer(column.dtype.clone(alloc)?, made)
+fn answer_of(alloc: Global, call: Call, given: &StatisticsInputs) -> StatisticsResult {
+    match call {
+        Call::Statistics => {
+            let dtype = given.dtype.clone(alloc)?;
+            column_answer(dtype, observed(alloc, &given.dtype, &given.values))
+        }
+        Call::Of => {
+            let dtype = given.dtype.clone(alloc)?;
+            column_answer(dtype, ColumnStatistics::of(alloc, &given.scalars))
+        }
+        Call::OfConstant => {
+            let dtype = given.scalar.dtype.clone(alloc)?;
+            let made = ColumnStatistics::of_constant(alloc, &given.scalar, given.number);
+            column_answer(dtype, made)
+        }
+        Call::FromBytes => {
+            let dtype = given.dtype.clone(alloc)?;
+            let bytes = given.bytes.as_slice();
+            column_answer(
+                dtype,
+                ColumnStatistics::from_bytes(alloc, &given.dtype, bytes),
+            )
+        }
+        Call::MayBeNull => Ok(StatisticsAnswer::Truth(given.statistics.may_be_null())),
+        Call::MayBeValue => Ok(StatisticsAnswer::Truth(given.statistics.may_be_value())),
+        Call::Bytes => {
+            let mut bytes = Vec::new(alloc);
+            let outcome = given.statistics.append_bytes(&mut bytes);
+            bytes_answer(outcome, bytes)
+        }
+    }
 }
 
+/// The statistics of values, observed one by one.
 fn observed(
     alloc: Global,
     dtype: &DType,
@@ -220,50 +149,45 @@ fn observed(
     Ok(statistics)
 }
 
-/// The statistics of scalars of any types, all at once.
-fn statistics_of(alloc: Global, (dtype, cells): &(DType, Cells)) -> StatisticsResult {
-    let dtype = dtype.clone(alloc)?;
-    column_answer(dtype, ColumnStatistics::of(alloc, &cells.0))
-}
-
-fn constant_statistics(alloc: Global, (value, rows): &(Scalar, u64)) -> StatisticsResult {
-    let dtype = value.dtype.clone(alloc)?;
-    column_answer(dtype, ColumnStatistics::of_constant(alloc, value, *rows))
-}
-
-fn observe(alloc: Global, inputs: NextCell) -> StatisticsResult {
-    let NextCell { mut column, cell } = inputs;
-    let outcome = column.statistics.observe(alloc, ScalarRef::of(&cell));
-    drop(cell);
-    match outcome {
-        Ok(()) => Ok(StatisticsAnswer::Statistics(column)),
-        Err(refusal) => {
-            drop(column);
-            refused(refusal)
+fn answer_taking(alloc: Global, call: Taking, given: &mut StatisticsInputs) -> StatisticsResult {
+    let made = match call {
+        Taking::Observe => observe(alloc, given),
+        Taking::Merge => {
+            let first = take_statistics(&mut given.statistics);
+            first.merge(take_statistics(&mut given.second))
         }
-    }
+        Taking::MergeAll => {
+            ColumnStatistics::merge_all(replace(&mut given.pieces, Vec::new(alloc)))
+        }
+        Taking::Truncate => {
+            take_statistics(&mut given.statistics).truncate(alloc, given.number as usize)
+        }
+        Taking::BytesInRoom => return bytes_in_room(alloc, given),
+    };
+    column_answer(take_type(&mut given.dtype), made)
 }
 
-fn merge(_alloc: Global, pieces: TwoPieces) -> StatisticsResult {
-    let TwoPieces { first, second } = pieces;
-    column_answer(first.dtype, first.statistics.merge(second))
+/// Takes statistics from their place.
+fn take_statistics(place: &mut ColumnStatistics) -> ColumnStatistics {
+    replace(place, ColumnStatistics::empty())
 }
 
-fn merge_all(_alloc: Global, pieces: Pieces) -> StatisticsResult {
-    let Pieces { dtype, pieces } = pieces;
-    column_answer(dtype, ColumnStatistics::merge_all(pieces))
+/// The statistics with one cell more.
+fn observe(
+    alloc: Global,
+    given: &mut StatisticsInputs,
+) -> Result<ColumnStatistics, StatisticsError> {
+    given
+        .statistics
+        .observe(alloc, ScalarRef::of(&given.scalar))?;
+    Ok(take_statistics(&mut given.statistics))
 }
 
-fn truncate(alloc: Global, (column, length): (TypedStatistics, usize)) -> StatisticsResult {
-    column_answer(column.dtype, column.statistics.truncate(alloc, length))
-}
-
-fn may_be_null(_alloc: Global, column: &TypedStatistics) -> StatisticsResult {
-    Ok(StatisticsAnswer::Truth(column.statistics.may_be_null()))
-}
-
-fn may_be_value(_alloc: Global, column: &TypedStatistics) -> StatisticsResult {
-    Ok(StatisticsAnswer::Truth(column.statistics.may_be_value()))
+/// The form in bytes, appended where there is room.
+fn bytes_in_room(alloc: Global, given: &mut StatisticsInputs) -> StatisticsResult {
+    let mut bytes = replace(&mut given.room, Vec::new(alloc));
+    let outcome = given.statistics.append_bytes(&mut bytes);
+    bytes_answer(outcome, bytes)
 }
 
 /// The form in bytes, or its refusal. `Changed` if a refusal left a part of it.
@@ -273,25 +197,4 @@ fn bytes_answer(outcome: Result<(), StatisticsError>, bytes: Vec<u8>) -> Statist
         Err(_) if !bytes.is_empty() => Ok(StatisticsAnswer::Changed),
         Err(refusal) => refused(refusal),
     }
-}
-
-fn statistics_bytes(alloc: Global, column: &TypedStatistics) -> StatisticsResult {
-    let mut bytes = Vec::new(alloc);
-    let outcome = column.statistics.append_bytes(&mut bytes);
-    bytes_answer(outcome, bytes)
-}
-
-/// The form in bytes, appended where there is room.
-fn statistics_bytes_in_room(
-    _alloc: Global,
-    (column, MemoryRoom(mut bytes)): (TypedStatistics, MemoryRoom),
-) -> StatisticsResult {
-    let outcome = column.statistics.append_bytes(&mut bytes);
-    drop(column);
-    bytes_answer(outcome, bytes)
-}
-
-fn from_statistics_bytes(alloc: Global, (dtype, bytes): &(DType, ByteBuffer)) -> StatisticsResult {
-    let made = ColumnStatistics::from_bytes(alloc, dtype, bytes.as_slice());
-    column_answer(dtype.clone(alloc)?, made)
 }

@@ -1,7 +1,7 @@
 //! One line: its call's answer, compared with the answer that stands in it.
 
 use crate::lines::push_number;
-use case_lines::{Line, LineAnswer, LineResult, Run};
+use case_lines::{Line, LineAnswer, Run};
 use std::alloc::{AllocError, Global};
 
 /// The answer to a line, and the answer that stands in the line, if there is one.
@@ -11,39 +11,17 @@ struct AnsweredLine<'a> {
     expected: Option<&'a [u8]>,
 }
 
-/// Answers a line, which need not be UTF-8.
+/// Answers a line, which need not be UTF-8, by the crate that has a call of its name.
 fn answer_line<'a>(run: Run<'a>, line: &'a [u8]) -> Result<AnsweredLine<'a>, AllocError> {
     let mut line = Line::new(run, line);
-    let answer = answer(&mut line);
+    scalar_calls::answer(&mut line);
+    statistics_calls::answer(&mut line);
+    filter_calls::answer(&mut line);
     let expected = line.expected();
-    drop(line);
     Ok(AnsweredLine {
-        answer: answer?,
+        answer: line.into_answer()?,
         expected,
     })
-}
-
-/// The answer of the line's call, by the crate that has a call of that name.
-fn answer(line: &mut Line<'_>) -> LineResult {
-    if !line.is_utf8() {
-        return line.bad_line();
-    }
-    if let Some(answer) = scalar_calls::answer(line) {
-        return answer;
-    }
-    if let Some(answer) = view_calls::answer(line) {
-        return answer;
-    }
-    if let Some(answer) = array_calls::answer(line) {
-        return answer;
-    }
-    if let Some(answer) = statistics_calls::answer(line) {
-        return answer;
-    }
-    if let Some(answer) = filter_calls::answer(line) {
-        return answer;
-    }
-    line.bad_line()
 }
 
 /// The written answer of a line's call, `bad line` if the line is not in the language, or `TooDeep` if

@@ -40,3 +40,12 @@ pub fn read_negative(tokens: &mut Tokens<'_>) -> Option<PValue> {
         _ => integer(tokens.word(), true),
     }
 }
+
+/// Reads an integer and its `PType`.
+pub fn read_integer(tokens: &mut Tokens<'_>) -> PValue {
+    let number = match tokens.peek() {
+        Some(b'-') => read_negative(tokens),
+        _ => integer(tokens.word(), false),
+    };
+    tokens.or_bad(number, PValue::U8(0))
+}

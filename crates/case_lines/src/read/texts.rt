@@ -37,11 +37,24 @@ fn made_text(tokens: &mut Tokens<'_>, bytes: Result<ByteBuffer, VortexError>) ->
 }
 
 /// The empty string, which stands for one that could not be read.
-fn no_text(alloc: Global) -> BufferString {
+pub fn no_text(alloc: Global) -> BufferString {
     match BufferString::empty(alloc) {
         Ok(text) => text,
         Err(_) => unreachable!(),
     }
+}
+
+/// No bytes, which stand for bytes that could not be read.
+pub fn no_bytes(alloc: Global) -> ByteBuffer {
+    no_text(alloc).into_inner()
+}
+
+/// Reads a string in quotes, into memory of its own.
+pub fn read_string(tokens: &mut Tokens<'_>) -> String {
+    let text = read_text(tokens);
+    let copy = String::from_str(tokens.alloc, text.as_str());
+    let made = tokens.made(copy.map_err(VortexError::from));
+    made.unwrap_or(String::new(tokens.alloc))
 }
 
 /// Reads what follows a backslash, and adds the escaped character.
@@ -120,6 +133,17 @@ pub fn bytes_of_hex(tokens: &mut Tokens<'_>, digits: &[u8]) -> ByteBuffer {
     };
     match tokens.made(made) {
         Some(bytes) => bytes,
-        None => no_text(tokens.alloc).into_inner(),
+        None => no_bytes(tokens.alloc),
+    }
+}
+
+/// Reads bytes in hexadecimal, after an `x`.
+pub fn read_bytes(tokens: &mut Tokens<'_>) -> ByteBuffer {
+    match tokens.word() {
+        [b'x', digits @ ..] => bytes_of_hex(tokens, digits),
+        _ => {
+            tokens.bad_line();
+            no_bytes(tokens.alloc)
+        }
     }
 }

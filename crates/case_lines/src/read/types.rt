@@ -98,10 +98,18 @@ pub fn read_type(tokens: &mut Tokens<'_>) -> DType {
     type_within(tokens, room)
 }
 
-/// Reads fields, or variants, which have an id before each name.
-pub fn read_fields(tokens: &mut Tokens<'_>, has_ids: bool, close: u8) -> Fields {
+/// Reads the fields of a struct type, in braces.
+pub fn read_struct_fields(tokens: &mut Tokens<'_>) -> Fields {
+    tokens.expect(b'{');
     let room = tokens.room;
-    fields_within(tokens, has_ids, close, room)
+    fields_within(tokens, false, b'}', room)
+}
+
+/// Reads the variants of a union type, in parentheses.
+pub fn read_variants(tokens: &mut Tokens<'_>) -> Fields {
+    tokens.expect(b'(');
+    let room = tokens.room;
+    fields_within(tokens, true, b')', room)
 }
 
 /// Reads a type with at most `room` brackets open at a time.
@@ -166,6 +174,15 @@ pub struct Fields {
     pub type_ids: Vec<u8>,
 }
 
+/// No fields.
+pub fn no_fields(alloc: Global) -> Fields {
+    Fields {
+        names: Vec::new(alloc),
+        dtypes: Vec::new(alloc),
+        type_ids: Vec::new(alloc),
+    }
+}
+
 /// The fields of a struct type.
 pub fn struct_fields(alloc: Global, fields: Fields) -> Result<StructFields, VortexError> {
     if fields.names.len() != fields.dtypes.len() {
@@ -178,11 +195,7 @@ pub fn struct_fields(alloc: Global, fields: Fields) -> Result<StructFields, Vort
 /// Reads fields, or variants, with at most `room` brackets open in the type of each.
 #[cycle(types)]
 fn fields_within(tokens: &mut Tokens<'_>, has_ids: bool, close: u8, room: usize) -> Fields {
-    let mut fields = Fields {
-        names: Vec::new(tokens.alloc),
-        dtypes: Vec::new(tokens.alloc),
-        type_ids: Vec::new(tokens.alloc),
-    };
+    let mut fields = no_fields(tokens.alloc);
     for before in 0..=tokens.left() {
         if !tokens.has_item(before, close) {
             break;

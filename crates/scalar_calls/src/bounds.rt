@@ -1,11 +1,10 @@
 //! Calls of bounds by truncation, of zones, and of increments of strings.
 
-ghost use Rattle.std.specs.Prelude.{OnOk};
-ghost use Rattle.array_calls.specs.Words.{IsValid};
+ghost use Rattle.scalar_calls.specs.Words.{IsValid};
 
 use case_lines::{
-    Answer, CallResult, Exact, Inputs, Line, LineResult, Tokens, buffer_bytes, buffer_text, named,
-    or_none, read_named, validate, where_valid,
+    Answer, CallResult, Given, Input, Line, Named, TextType, buffer_bytes, buffer_text, or_none,
+    take_scalar, validate,
 };
 use std::alloc::Global;
 use vortex_array::{IncrementError, ScalarTruncation, StringLike, lower_bound, upper_bound};
@@ -17,37 +16,18 @@ use vortex_zone::ZoneBounds;
 enum Call {
     TruncatedBytes,
     TruncatedText,
-    Increment,
     MayContain,
 }
 
-const CALLS: [(&str, Call); 4] = [
-    ("truncated_bytes", Call::TruncatedBytes),
-    ("truncated_text", Call::TruncatedText),
-    ("increment", Call::Increment),
-    ("may_contain", Call::MayContain),
+const CALLS: [Named<Call, Input>; 3] = [
+    ("truncated_bytes", Call::TruncatedBytes, &[Input::Scalar]),
+    ("truncated_text", Call::TruncatedText, &[Input::Scalar]),
+    (
+        "may_contain",
+        Call::MayContain,
+        &[Input::Scalar, Input::Second, Input::Number, Input::Third],
+    ),
 ];
-
-/// The answer of the line's call, if it is one of these.
-pub fn answer_line(line: &mut Line<'_>) -> Option<LineResult> {
-    if let Some(side) = named(&SIDES, line.name()) {
-        return Some(answer_side(line, side));
-    }
-    let call = named(&CALLS, line.name())?;
-    Some(answer_of(line, call))
-}
-
-fn answer_of(line: &mut Line<'_>, call: Call) -> LineResult {
-    match call {
-        Call::TruncatedBytes => line.taking(truncated_bytes),
-        Call::TruncatedText => line.taking(truncated_text),
-        Call::Increment => line.borrowing(increment),
-        Call::MayContain => line.taking(may_contain),
-    }
-}
-
-/// A scalar, the greatest length of its bound in bytes, and the bound's nullability.
-type Truncated = (Scalar, usize, Nullability);
 
 /// Which bound, and by which call: the function, or the trait's own method.
 #[derive(Clone, Copy)]
@@ -58,36 +38,60 @@ enum Side {
     OwnUpper,
 }
 
-const SIDES: [(&str, Side); 4] = [
-    ("lower", Side::Lower),
-    ("upper", Side::Upper),
-    ("own_lower", Side::OwnLower),
-    ("own_upper", Side::OwnUpper),
+const SIDES: [Named<Side, Input>; 4] = [
+    (
+        "lower",
+        Side::Lower,
+        &[Input::Scalar, Input::Number, Input::Nullability],
+    ),
+    (
+        "upper",
+        Side::Upper,
+        &[Input::Scalar, Input::Number, Input::Nullability],
+    ),
+    (
+        "own_lower",
+        Side::OwnLower,
+        &[Input::Scalar, Input::Number, Input::Nullability],
+    ),
+    (
+        "own_upper",
+        Side::OwnUpper,
+        &[Input::Scalar, Input::Number, Input::Nullability],
+    ),
 ];
 
-fn answer_side(line: &mut Line<'_>, side: Side) -> LineResult {
-    line.taking(|alloc: Global, inputs: Truncated| bound(alloc, side, inputs))
+const INCREMENT: [Named<(), Input>; 1] = [("increment", (), &[Input::TextType, Input::Text])];
+
+/// Answers the line if it names one of these calls.
+pub fn answer(line: &mut Line<'_>) {
+    line.give(&CALLS, answer_of);
+    line.give(&SIDES, bound);
+    line.lend(&INCREMENT, increment);
+}
+
+fn answer_of(alloc: Global, call: Call, given: &mut Given) -> CallResult {
+    match call {
+        Call::TruncatedBytes => {
+            let bytes = ByteBuffer::from_scalar(take_scalar(&mut given.scalar))?;
+            Ok(or_none(bytes.map(buffer_bytes)))
+        }
+        Call::TruncatedText => {
+            let text = BufferString::from_scalar(take_scalar(&mut given.scalar))?;
+            Ok(or_none(text.map(buffer_text)))
+        }
+        Call::MayContain => may_contain(alloc, given),
+    }
 }
 
 /// A bound of a scalar's bytes or string.
-fn bound(alloc: Global, side: Side, inputs: Truncated) -> CallResult {
-    let (scalar, length, nullability) = inputs;
+fn bound(alloc: Global, side: Side, given: &mut Given) -> CallResult {
+    let (length, n) = (given.number, given.nullability);
+    let scalar = take_scalar(&mut given.scalar);
     if scalar.dtype().is_binary() {
-        bound_of(
-            alloc,
-            side,
-            ByteBuffer::from_scalar(scalar)?,
-            length,
-            nullability,
-        )
+        bound_of(alloc, side, ByteBuffer::from_scalar(scalar)?, length, n)
     } else {
-        bound_of(
-            alloc,
-            side,
-            BufferString::from_scalar(scalar)?,
-            length,
-            nullability,
-        )
+        bound_of(alloc, side, BufferString::from_scalar(scalar)?, length, n)
     }
 }
 
@@ -140,38 +144,10 @@ fn scalar_of<T: ScalarTruncation>(bound: T, nullability: Nullability) -> Answer 
     Answer::Scalar(bound.into_scalar(nullability))
 }
 
-fn truncated_bytes(_alloc: Global, scalar: Scalar) -> CallResult {
-    Ok(or_none(ByteBuffer::from_scalar(scalar)?.map(buffer_bytes)))
-}
-
-fn truncated_text(_alloc: Global, scalar: Scalar) -> CallResult {
-    Ok(or_none(BufferString::from_scalar(scalar)?.map(buffer_text)))
-}
-
-/// The types of strings that can be incremented.
-#[derive(Clone, Copy, PartialEq)]
-enum TextType {
-    String,
-    Buffer,
-}
-
-const TEXT_TYPES: [(&str, TextType); 2] = [
-    ("string", TextType::String),
-    ("buffer_string", TextType::Buffer),
-];
-
-impl Inputs for TextType {
-    fn read(tokens: &mut Tokens<'_>) -> TextType {
-        tokens.spaces();
-        read_named(tokens, &TEXT_TYPES, TextType::String)
-    }
-}
-
-impl Exact for TextType {}
-
 /// The successor of a string. If there is none, the call must hand the string back as it was.
-fn increment(alloc: Global, (text_type, text): &(TextType, BufferString)) -> CallResult {
-    match text_type {
+fn increment(alloc: Global, _call: (), given: &Given) -> CallResult {
+    let text = &given.text;
+    match given.text_type {
         TextType::String => string_incremented(String::from_str(alloc, text.as_str())?, text),
         TextType::Buffer => buffer_incremented(text.clone()?, text),
     }
@@ -211,35 +187,15 @@ fn no_memory(is_same: bool) -> CallResult {
     }
 }
 
-/// Whether a zone may contain `value`, by bounds of `length` bytes of its least and greatest value.
-fn may_contain(
-    alloc: Global,
-    (least, greatest, length, value): (Scalar, Scalar, usize, Scalar),
-) -> CallResult {
-    let validity = validate_three(alloc, &least, &greatest, &value);
-    let (least, greatest, value) = where_valid((least, greatest, value), validity)?;
-    let answer = match ZoneBounds::of(alloc, least, greatest, length) {
-        Ok(bounds) => Ok(zone_answer(bounds, &value)),
-        Err(refusal) => Err(refusal),
-    };
-    drop(value);
-    answer
-}
-
-/// Refuses the first scalar that is not valid.
-fn validate_three(
-    alloc: Global,
-    least: &Scalar,
-    greatest: &Scalar,
-    value: &Scalar,
-) -> Result<(), VortexError>
-    ensures least { OnOk result (IsValid least.now) }
-    ensures greatest { OnOk result (IsValid greatest.now) }
-    ensures value { OnOk result (IsValid value.now) }
-{
-    validate(alloc, least)?;
-    validate(alloc, greatest)?;
-    validate(alloc, value)
+/// Whether a zone may contain the third scalar, by bounds of so many bytes of its least and greatest.
+fn may_contain(alloc: Global, given: &mut Given) -> CallResult {
+    validate(alloc, &given.scalar)?;
+    validate(alloc, &given.second)?;
+    validate(alloc, &given.third)?;
+    let least = take_scalar(&mut given.scalar);
+    let greatest = take_scalar(&mut given.second);
+    let bounds = ZoneBounds::of(alloc, least, greatest, given.number)?;
+    Ok(zone_answer(bounds, &given.third))
 }
 
 /// Whether a zone of these bounds may contain the value.

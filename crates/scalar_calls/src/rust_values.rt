@@ -1,8 +1,8 @@
 //! Calls that convert scalars to Rust values, and Rust values to scalars.
 
 use case_lines::{
-    Answer, CallResult, Exact, Inputs, Line, LineResult, Output, Tokens, WriteAnswer, buffer_bytes,
-    buffer_text, named, ptype_named,
+    Answer, CallResult, Given, Input, Line, Named, Output, RustLeaf, RustType, WriteAnswer,
+    buffer_bytes, buffer_text, take_scalar,
 };
 use std::alloc::Global;
 use vortex_array::{FromScalar, IntoScalar};
@@ -15,101 +15,37 @@ enum Call {
     Take,
     Give,
     TryFrom,
-    TryFromOwned,
     GiveLent,
     GiveOptional,
 }
 
-const CALLS: [(&str, Call); 6] = [
-    ("take", Call::Take),
-    ("give", Call::Give),
-    ("try_from", Call::TryFrom),
-    ("try_from_owned", Call::TryFromOwned),
-    ("give_lent", Call::GiveLent),
-    ("give_optional", Call::GiveOptional),
+const CALLS: [Named<Call, Input>; 5] = [
+    ("take", Call::Take, &[Input::RustType, Input::Scalar]),
+    ("give", Call::Give, &[Input::RustType, Input::Scalar]),
+    ("try_from", Call::TryFrom, &[Input::RustType, Input::Scalar]),
+    ("give_lent", Call::GiveLent, &[Input::Value]),
+    ("give_optional", Call::GiveOptional, &[Input::Value]),
 ];
 
-/// The answer of the line's call, if it is one of these.
-pub fn answer_line(line: &mut Line<'_>) -> Option<LineResult> {
-    let call = named(&CALLS, line.name())?;
-    Some(answer_of(line, call))
+const TRY_FROM_OWNED: [Named<(), Input>; 1] = [(
+    "try_from_owned",
+    (),
+    &[Input::RustType, Input::Scalar],
+)];
+
+/// Answers the line if it names one of these calls.
+pub fn answer(line: &mut Line<'_>) {
+    line.lend(&CALLS, answer_of);
+    line.give(&TRY_FROM_OWNED, try_from_owned);
 }
 
-fn answer_of(line: &mut Line<'_>, call: Call) -> LineResult {
+fn answer_of(alloc: Global, call: Call, given: &Given) -> CallResult {
     match call {
-        Call::Take => line.borrowing(take),
-        Call::Give => line.borrowing(give),
-        Call::TryFrom => line.borrowing(try_from),
-        Call::TryFromOwned => line.taking(try_from_owned),
-        Call::GiveLent => line.borrowing(give_lent),
-        Call::GiveOptional => line.borrowing(give_optional),
-    }
-}
-
-/// A Rust type: a leaf, which may be an `Option`, inside so many vectors.
-#[derive(Clone, Copy, PartialEq)]
-struct RustType {
-    vectors: u32,
-    is_optional: bool,
-    leaf: RustLeaf,
-}
-
-/// How deep vectors may nest.
-const MOST_VECTORS: u32 = 3;
-
-/// The Rust types that contain no other.
-#[derive(Clone, Copy, PartialEq)]
-enum RustLeaf {
-    Bool,
-    Number(PType),
-    Usize,
-    Text,
-    Buffer,
-    Bytes,
-}
-
-const LEAVES: [(&str, RustLeaf); 5] = [
-    ("bool", RustLeaf::Bool),
-    ("usize", RustLeaf::Usize),
-    ("string", RustLeaf::Text),
-    ("buffer_string", RustLeaf::Buffer),
-    ("bytes", RustLeaf::Bytes),
-];
-
-impl Inputs for RustType {
-    fn read(tokens: &mut Tokens<'_>) -> RustType {
-        let mut vectors = 0u32;
-        let mut word = rust_word(tokens);
-        for _ in 0..MOST_VECTORS {
-            if word == b"vec".as_slice() {
-                vectors = vectors.saturating_add(1);
-                word = rust_word(tokens);
-            }
-        }
-        let is_optional = word == b"option".as_slice();
-        if is_optional {
-            word = rust_word(tokens);
-        }
-        RustType {
-            vectors,
-            is_optional,
-            leaf: tokens.or_bad(leaf_named(word), RustLeaf::Bool),
-        }
-    }
-}
-
-impl Exact for RustType {}
-
-/// Takes a word of a Rust type.
-fn rust_word<'a>(tokens: &mut Tokens<'a>) -> &'a [u8] {
-    tokens.spaces();
-    tokens.word()
-}
-
-fn leaf_named(word: &[u8]) -> Option<RustLeaf> {
-    match named(&LEAVES, word) {
-        None => ptype_named(word).map(RustLeaf::Number),
-        leaf => leaf,
+        Call::Take => through_traits(alloc, false, given.rust, &given.scalar),
+        Call::Give => through_traits(alloc, true, given.rust, &given.scalar),
+        Call::TryFrom => try_from(alloc, given.rust, &given.scalar),
+        Call::GiveLent => give_lent(alloc, given.value.as_ref()),
+        Call::GiveOptional => give_optional(alloc, given.value.as_ref()),
     }
 }
 
@@ -119,14 +55,6 @@ struct Asked {
     gives: bool,
     /// How deep the vectors of the Rust type nest.
     vectors: u32,
-}
-
-fn take(alloc: Global, (rust, scalar): &(RustType, Scalar)) -> CallResult {
-    through_traits(alloc, false, *rust, scalar)
-}
-
-fn give(alloc: Global, (rust, scalar): &(RustType, Scalar)) -> CallResult {
-    through_traits(alloc, true, *rust, scalar)
 }
 
 /// What `FromScalar` answers, or if it `gives`, the scalar that `IntoScalar` makes of that.
@@ -212,7 +140,7 @@ fn converted<T: Answers>(alloc: Global, outcome: Result<T, VortexError>) -> Call
 }
 
 /// What `TryFrom<&Scalar>` answers. It has no `String` and no vectors.
-fn try_from(alloc: Global, (rust, scalar): &(RustType, Scalar)) -> CallResult {
+fn try_from(alloc: Global, rust: RustType, scalar: &Scalar) -> CallResult {
     match (rust.vectors, rust.leaf, rust.is_optional) {
         (0, RustLeaf::Bool, false) => converted(alloc, bool::try_from(scalar)),
         (0, RustLeaf::Bool, true) => converted(alloc, Option::<bool>::try_from(scalar)),
@@ -255,7 +183,9 @@ fn try_optional_number(alloc: Global, scalar: &Scalar, ptype: PType) -> CallResu
 }
 
 /// What `TryFrom<Scalar>` answers. It has booleans and buffers alone.
-fn try_from_owned(alloc: Global, (rust, scalar): (RustType, Scalar)) -> CallResult {
+fn try_from_owned(alloc: Global, _call: (), given: &mut Given) -> CallResult {
+    let rust = given.rust;
+    let scalar = take_scalar(&mut given.scalar);
     match (rust.vectors, rust.leaf, rust.is_optional) {
         (0, RustLeaf::Bool, false) => converted(alloc, bool::try_from(scalar)),
         (0, RustLeaf::Bool, true) => converted(alloc, Option::<bool>::try_from(scalar)),
@@ -271,7 +201,7 @@ fn try_from_owned(alloc: Global, (rust, scalar): (RustType, Scalar)) -> CallResu
 }
 
 /// The scalar of a lent string, or of lent bytes.
-fn give_lent(alloc: Global, value: &Option<ScalarValue>) -> CallResult {
+fn give_lent(alloc: Global, value: Option<&ScalarValue>) -> CallResult {
     match value {
         Some(ScalarValue::Utf8(text)) => given(alloc, text.as_str()),
         Some(ScalarValue::Binary(bytes)) => given(alloc, bytes.as_slice()),
@@ -280,7 +210,7 @@ fn give_lent(alloc: Global, value: &Option<ScalarValue>) -> CallResult {
 }
 
 /// The scalar of an optional lent string, or of optional lent bytes; a null stands for no string.
-fn give_optional(alloc: Global, value: &Option<ScalarValue>) -> CallResult {
+fn give_optional(alloc: Global, value: Option<&ScalarValue>) -> CallResult {
     match value {
         Some(ScalarValue::Utf8(text)) => given(alloc, Some(text.as_str())),
         Some(ScalarValue::Binary(bytes)) => given(alloc, Some(bytes.as_slice())),

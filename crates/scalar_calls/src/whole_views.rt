@@ -1,11 +1,8 @@
 //! Calls of whole views: how they are made and printed, their length and order.
 
-ghost use Rattle.view_calls.specs.Words.{IsValid};
+ghost use Rattle.scalar_calls.specs.Words.{IsValid};
 
-use case_lines::{
-    Answer, CallResult, Exact, Inputs, Line, LineResult, Tokens, named, or_none, read_named,
-    text_of, validate,
-};
+use case_lines::{Answer, CallResult, Given, Input, Line, Named, View, or_none, text_of, validate};
 use std::alloc::Global;
 use std::cmp::Ordering;
 use vortex_dtype::{DType, VortexError};
@@ -19,77 +16,64 @@ use vortex_views::{
 enum Call {
     View,
     TryView,
-    ViewText,
+}
+
+const CALLS: [Named<Call, Input>; 2] = [
+    ("view", Call::View, &[Input::View, Input::Scalar]),
+    ("try_view", Call::TryView, &[Input::View, Input::Scalar]),
+];
+
+/// What is asked of the views of valid scalars.
+#[derive(Clone, Copy)]
+enum OfValid {
+    Text,
     Len,
     IsEmpty,
     IsNull,
-    ViewOrder,
+    Order,
 }
 
-const CALLS: [(&str, Call); 7] = [
-    ("view", Call::View),
-    ("try_view", Call::TryView),
-    ("view_text", Call::ViewText),
-    ("len", Call::Len),
-    ("is_empty", Call::IsEmpty),
-    ("is_null", Call::IsNull),
-    ("view_order", Call::ViewOrder),
+const OF_VALID: [Named<OfValid, Input>; 5] = [
+    ("view_text", OfValid::Text, &[Input::Scalar]),
+    ("len", OfValid::Len, &[Input::Scalar]),
+    ("is_empty", OfValid::IsEmpty, &[Input::Scalar]),
+    ("is_null", OfValid::IsNull, &[Input::Scalar]),
+    (
+        "view_order",
+        OfValid::Order,
+        &[Input::Scalar, Input::Second],
+    ),
 ];
 
-/// The answer of the line's call, if it is one of these.
-pub fn answer_line(line: &mut Line<'_>) -> Option<LineResult> {
-    let call = named(&CALLS, line.name())?;
-    Some(answer_of(line, call))
+/// Answers the line if it names one of these calls.
+pub fn answer(line: &mut Line<'_>) {
+    line.lend(&CALLS, answer_of);
+    line.lend(&OF_VALID, of_valid);
 }
 
-fn answer_of(line: &mut Line<'_>, call: Call) -> LineResult {
+fn answer_of(alloc: Global, call: Call, given: &Given) -> CallResult {
     match call {
-        Call::View => line.borrowing(scalar_of_view),
-        Call::TryView => line.borrowing(try_view),
-        Call::ViewText => line.borrowing(text),
-        Call::Len => line.borrowing(length),
-        Call::IsEmpty => line.borrowing(is_empty),
-        Call::IsNull => line.borrowing(is_null),
-        Call::ViewOrder => line.borrowing(view_order),
+        Call::View => scalar_of_view(alloc, given.view, &given.scalar),
+        Call::TryView => try_view(alloc, given.view, &given.scalar),
     }
 }
 
-/// The views that a line can name.
-#[derive(Clone, Copy, PartialEq)]
-enum View {
-    Bool,
-    Utf8,
-    Binary,
-    Primitive,
-    List,
-    Map,
-    Union,
-    Struct,
-    Extension,
-}
-
-impl Inputs for View {
-    fn read(tokens: &mut Tokens<'_>) -> View {
-        const VIEWS: [(&str, View); 9] = [
-            ("BoolScalar", View::Bool),
-            ("Utf8Scalar", View::Utf8),
-            ("BinaryScalar", View::Binary),
-            ("PrimitiveScalar", View::Primitive),
-            ("ListScalar", View::List),
-            ("MapScalar", View::Map),
-            ("UnionScalar", View::Union),
-            ("StructScalar", View::Struct),
-            ("ExtScalar", View::Extension),
-        ];
-        tokens.spaces();
-        read_named(tokens, &VIEWS, View::Bool)
+fn of_valid(alloc: Global, call: OfValid, given: &Given) -> CallResult {
+    let scalar = &given.scalar;
+    let second = &given.second;
+    validate(alloc, scalar)?;
+    validate(alloc, second)?;
+    match call {
+        OfValid::Text => text(alloc, scalar),
+        OfValid::Len => Ok(or_none(length(scalar)?.map(Answer::Number))),
+        OfValid::IsEmpty => Ok(or_none(is_empty(scalar)?.map(Answer::Truth))),
+        OfValid::IsNull => is_null(scalar).map(Answer::Truth),
+        OfValid::Order => Ok(or_none(order_of_views(scalar, second)?.map(Answer::Order))),
     }
 }
-
-impl Exact for View {}
 
 /// The scalar that a view was made of, by `try_new`.
-fn scalar_of_view(alloc: Global, (view, scalar): &(View, Scalar)) -> CallResult {
+fn scalar_of_view(alloc: Global, view: View, scalar: &Scalar) -> CallResult {
     let dtype = scalar.dtype();
     let value = scalar.value();
     Ok(Answer::Scalar(match view {
@@ -97,7 +81,7 @@ fn scalar_of_view(alloc: Global, (view, scalar): &(View, Scalar)) -> CallResult 
         View::Primitive => Scalar::from(PrimitiveScalar::try_new(alloc, dtype, value)?),
         View::Struct | View::Extension => return Ok(Answer::Unmet),
         view => {
-            let dtype = view_type(alloc, *view, scalar)?;
+            let dtype = view_type(alloc, view, scalar)?;
             ScalarRef::from_parts(dtype, value).to_scalar(alloc)?
         }
     }))
@@ -118,7 +102,7 @@ fn view_type<'a>(alloc: Global, view: View, scalar: &'a Scalar) -> Result<&'a DT
 }
 
 /// The `Display` of the view that `TryFrom<&Scalar>` gives.
-fn try_view(alloc: Global, (view, scalar): &(View, Scalar)) -> CallResult {
+fn try_view(alloc: Global, view: View, scalar: &Scalar) -> CallResult {
     match view {
         View::Bool => text_of(alloc, &BoolScalar::try_from(scalar)?),
         View::Utf8 => text_of(alloc, &Utf8Scalar::try_from(scalar)?),
@@ -133,8 +117,9 @@ fn try_view(alloc: Global, (view, scalar): &(View, Scalar)) -> CallResult {
 }
 
 /// The `Display` of the view that `Downcast` gives.
-fn text(alloc: Global, scalar: &Scalar) -> CallResult {
-    validate(alloc, scalar)?;
+fn text(alloc: Global, scalar: &Scalar) -> CallResult
+    requires { IsValid scalar.now }
+{
     match scalar.dtype() {
         DType::Bool(_) => text_of(alloc, &scalar.as_bool()),
         DType::Primitive(_, _) => text_of(alloc, &scalar.as_primitive()),
@@ -160,46 +145,41 @@ fn text_with_parts(alloc: Global, scalar: &Scalar) -> CallResult
 }
 
 /// The number of bytes, elements or entries.
-fn length(alloc: Global, scalar: &Scalar) -> CallResult {
-    validate(alloc, scalar)?;
-    let length = match scalar.dtype() {
+fn length(scalar: &Scalar) -> Result<Option<usize>, VortexError>
+    requires { IsValid scalar.now }
+{
+    Ok(match scalar.dtype() {
         DType::Utf8(_) => scalar.as_utf8().len(),
         DType::Binary(_) => scalar.as_binary().len(),
         DType::List(_, _) | DType::FixedSizeList(_, _, _) => Some(scalar.as_list().len()),
         DType::Map(_, _) => Some(scalar.as_map().len()),
         _ => return Err(VortexError::WrongKind),
-    };
-    Ok(or_none(length.map(Answer::Number)))
+    })
 }
 
-fn is_empty(alloc: Global, scalar: &Scalar) -> CallResult {
-    validate(alloc, scalar)?;
-    let is_empty = match scalar.dtype() {
+fn is_empty(scalar: &Scalar) -> Result<Option<bool>, VortexError>
+    requires { IsValid scalar.now }
+{
+    Ok(match scalar.dtype() {
         DType::Utf8(_) => scalar.as_utf8().is_empty(),
         DType::Binary(_) => scalar.as_binary().is_empty(),
         DType::List(_, _) | DType::FixedSizeList(_, _, _) => Some(scalar.as_list().is_empty()),
         DType::Map(_, _) => Some(scalar.as_map().is_empty()),
         _ => return Err(VortexError::WrongKind),
-    };
-    Ok(or_none(is_empty.map(Answer::Truth)))
+    })
 }
 
-fn is_null(alloc: Global, scalar: &Scalar) -> CallResult {
-    validate(alloc, scalar)?;
-    Ok(Answer::Truth(match scalar.dtype() {
+fn is_null(scalar: &Scalar) -> Result<bool, VortexError>
+    requires { IsValid scalar.now }
+{
+    Ok(match scalar.dtype() {
         DType::List(_, _) | DType::FixedSizeList(_, _, _) => scalar.as_list().is_null(),
         DType::Map(_, _) => scalar.as_map().is_null(),
         DType::Struct(_, _) => scalar.as_struct().is_null(),
         DType::Union(_, _) => scalar.as_union().is_null(),
         DType::Variant(_) => scalar.as_variant().is_null(),
         _ => return Err(VortexError::WrongKind),
-    }))
-}
-
-fn view_order(alloc: Global, (first, second): &(Scalar, Scalar)) -> CallResult {
-    validate(alloc, first)?;
-    validate(alloc, second)?;
-    Ok(or_none(order_of_views(first, second)?.map(Answer::Order)))
+    })
 }
 
 /// The order of two views. `WrongKind` if they are not of one kind that has an order.

@@ -3,7 +3,7 @@ use Rattle.std.specs.List.{All}
 use Rattle.std.proofs.lemmas.List.{take_all}
 use Rattle.std.proofs.lemmas.List.Elements.{All-more}
 use Rattle.vortex_value.specs.Values.Scalars.{IsValid}
-use Rattle.scalar_calls.proofs.makers.validate_all.Goals as goal
+use Rattle.case_lines.proofs.valid.validate_all.Goals as goal
 
 pub loop-scalar-preserved : goal.loop-scalar-preserved
 loop-scalar-preserved c =

@@ -1,2 +1,0 @@
--- The words that clauses cite, passed on from one place.
-pub use Rattle.vortex_value.specs.Values.Scalars.{IsValid}
