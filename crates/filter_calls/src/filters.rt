@@ -2,11 +2,11 @@
 
 use crate::answers::FilterAnswer;
 use crate::filter_inputs::{FilterInputs, Input};
-use case_lines::{Line, Named, take_scalar};
+use case_lines::{Line, Named, put, take_scalar};
 use std::alloc::Global;
 use std::fmt::Display;
 use vortex_dtype::VortexError;
-use vortex_filter::{Filter, FilterError, ParseError};
+use vortex_filter::{Column, Filter, FilterError, ParseError};
 
 /// What is asked of a filter on rows or zones.
 #[derive(Clone, Copy)]
@@ -132,9 +132,16 @@ fn answer_of(alloc: Global, call: Call, given: &FilterInputs) -> FilterResult {
         Call::Not => negation(alloc, filter),
     };
     match made {
-        Ok(filter) => sql_answer(alloc, &filter),
+        Ok(filter) => made_answer(alloc, filter),
         Err(refusal) => refused(refusal),
     }
+}
+
+/// A filter that was made, as SQL text.
+fn made_answer(alloc: Global, filter: Filter) -> FilterResult {
+    let answer = sql_answer(alloc, &filter);
+    drop(filter);
+    answer
 }
 
 fn fits(checked: Result<(), FilterError>) -> FilterResult {
@@ -162,10 +169,17 @@ fn sql_answer<T: Display>(alloc: Global, shown: &T) -> FilterResult {
 
 fn parse(alloc: Global, given: &FilterInputs) -> FilterResult {
     match Filter::parse_within(alloc, &given.text, &given.columns, given.depth) {
-        Ok(filter) => sql_answer(alloc, &filter.sql(&given.columns)),
+        Ok(filter) => parsed_answer(alloc, filter, &given.columns),
         Err(ParseError::OutOfMemory) => Err(VortexError::OutOfMemory),
         Err(refusal) => Ok(FilterAnswer::TextRefused(refusal)),
     }
+}
+
+/// A filter that was read, as SQL text with the names of its columns.
+fn parsed_answer(alloc: Global, filter: Filter, columns: &[Column]) -> FilterResult {
+    let answer = sql_answer(alloc, &filter.sql(columns));
+    drop(filter);
+    answer
 }
 
 /// The filter `and` itself.
@@ -197,11 +211,12 @@ fn copies(alloc: Global, filter: &Filter) -> Result<(Filter, Filter), FilterErro
 }
 
 fn comparison(_alloc: Global, call: Compare, given: &mut FilterInputs) -> FilterResult {
-    given.filter = Filter::Compare {
+    let filter = Filter::Compare {
         column: 0,
         operator: given.operator,
         literal: take_scalar(&mut given.literal),
     };
+    put(&mut given.filter, filter);
     Ok(match call {
         Compare::Cell => FilterAnswer::Truth(given.filter.truth(&given.cells)),
         Compare::Zone => FilterAnswer::Outcomes(given.filter.outcomes(&given.zones)),
