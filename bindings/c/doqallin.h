@@ -19,7 +19,7 @@
  * - `malloc`, `realloc` and `free` are of one allocator, and no call comes from a signal handler.
  * Calls on different threads need no lock: nothing is kept from one call to the next.
  *
- * Stack: a call takes at most 4 kilobytes of it, or 12 of statistics, whatever it is given. That was measured, on x86-64; no
+ * Stack: a call takes at most 5 kilobytes of it, or 12 of statistics, whatever it is given. That was measured, on x86-64; no
  * contract speaks of stack. doqallin_call says what it takes. Calls of filters take more for each level that nests, of
  * which `depth` is the greatest number: with 32 none ends a process on a thread of 128 kilobytes. */
 #ifndef DOQALLIN_H
