@@ -251,8 +251,8 @@ fn cast_child(
     }
 }
 
-/// A value that is present, cast into a box of its own. Numbers and strings are made in the box, and
-/// not moved there.
+/// A value that is present, cast into a box of its own. Numbers, strings and tuples are made in the
+/// box, and not moved there.
 #[cycle(cast)]
 fn box_cast(
     alloc: Global,
@@ -268,8 +268,25 @@ fn box_cast(
     match (value, bare_target(source, target)) {
         (ScalarValue::Primitive(number), Some(stored)) => box_number(alloc, number, stored),
         (ScalarValue::Utf8(_), Some(stored)) => box_leaf(alloc, value, source, stored),
+        (ScalarValue::Tuple(parts), Some(stored)) => box_tuple(alloc, parts, source, stored),
         _ => box_value(alloc, cast_present(alloc, value, source, target)?),
     }
+}
+
+/// What a tuple of these parts becomes, in a box.
+#[cycle(cast)]
+#[inline(never)]
+fn box_tuple(
+    alloc: Global,
+    parts: &[Option<ScalarValue>],
+    source: &DType,
+    target: &DType,
+) -> Result<Box<ScalarValue>, Refusal>
+    ensures { Makes (λ b. value_tree b.value) (bare_to (raw_tuple (value_trees parts.now))
+        (type_of source.now) (type_of target.now)) result }
+{
+    let parts = cast_parts(alloc, parts, source, target)?;
+    box_value(alloc, ScalarValue::Tuple(parts))
 }
 
 /// The parts of a tuple, cast as elements, entries or fields.

@@ -10,7 +10,7 @@ use Rattle.vortex_pvalue.specs.declared.pvalues.PValue.{PValue}
 use Rattle.vortex_value.specs.Casts.{IsExtension}
 use Rattle.vortex_value.specs.Steps.CastSteps.{IsBareTarget, bare_to, cast_to, each_to, entries_to, leaf_to, number_to, types_with}
 use Rattle.vortex_value.specs.Values.RawOf.{value_trees, value_tree}
-use Rattle.vortex_value.specs.Values.RawTree.{raw_integer, raw_text, raw_union}
+use Rattle.vortex_value.specs.Values.RawTree.{raw_integer, raw_text, raw_tuple, raw_union}
 use Rattle.vortex_value.proofs.CastCode.{all_done, appended, cast_below, entry_at, fields_at, fields_end, flat_storage, no_entry, no_fields, no_value, none_more, pair_added, parts_at, passed_on, union_at, leaf_child, leaf_of, refused_as, some_union, one_added, passed_up}
 use Rattle.vortex_value.specs.Values.Content.{content}
 use Rattle.vortex_value.specs.declared.values.ScalarValue.{ScalarValue, Primitive, Tuple, Utf8, the_lemmas as value_lemmas}
@@ -207,6 +207,17 @@ box_cast-returns-in-Utf8-Some t c =
       made = rw same c.box_leaf.ensures.made;
       whole = λ taken. rw same c.box_leaf.ensures.whole;
     }
+
+pub box_cast-returns-in-Tuple-Some-clause-made : goal.box_cast-returns-in-Tuple-Some-clause-made
+box_cast-returns-in-Tuple-Some-clause-made t c =
+    let v = c.args.value.now in
+    let s = type_of c.args.source.now in
+    let u = type_of c.args.target.now in
+    let bare : IsBareTarget s u (Some c.in-Tuple-Some.stored.now) = rw c.in-Tuple-Some.is-1 at c.bare_target.ensures in
+    let tree : value_tree v ≡ raw_tuple (value_trees c.in-Tuple-Some.parts.items) = rw c.in-Tuple-Some.is-0 (value_tree-Tuple c.in-Tuple-Some.parts) in
+    let same : cast_to (value_tree v) s u ≡ bare_to (raw_tuple (value_trees c.in-Tuple-Some.parts.items)) s (type_of c.in-Tuple-Some.stored.now)
+    = cast_below v s u bare.0 ∙ rw (← bare.1, tree) refl in
+    rw same (rw c.deref.ensures.value at c.box_tuple.ensures)
 
 -- below the extensions of the target
 
