@@ -12,13 +12,16 @@
 #![tactic(auto, using(crate::proofs::ValueSteps::shown))]
 
 ghost use Rattle.std.specs.Prelude.{◌≡◌, ◌<◌, IfOk, MatchResult, None, Some, false, map, option_map};
-ghost use Rattle.vortex_value.specs.Words.{Adds, IsFlat, OutOfMemory, TakesNoMemory, absent, binary_type, bool_type, integer_type, is_none, lent_raw, null_type, option_copied, ptype_of, raw_bool, raw_bytes, raw_integer, raw_of, raw_text, raw_tuple, raw_variant, type_of, union_tree, utf8_type, value_tree, value_trees, variant_tree, vec_capacity, vec_len, whole_of};
+ghost use Rattle.vortex_dtype.specs.TypeOf.{struct_type_of};
+ghost use Rattle.vortex_value.specs.Words.{Adds, IsFlat, OutOfMemory, TakesNoMemory, absent, binary_type, bool_type, fields_of, integer_type, is_none, lent_raw, null_type, option_copied, ptype_of, raw_bool, raw_bytes, raw_integer, raw_of, raw_text, raw_tuple, raw_variant, type_of, union_tree, utf8_type, value_tree, value_trees, variant_tree, vec_capacity, vec_len, whole_of};
 
 use crate::scalars::{Scalar, with_type};
 use crate::unions::UnionValue;
 use crate::values::ScalarValue;
 use std::alloc::{AllocError, Global};
-use vortex_dtype::{BufferString, ByteBuffer, DType, Nullability, PType, VortexError};
+use vortex_dtype::{
+    BufferString, ByteBuffer, DType, Nullability, PType, StructFields, VortexError,
+};
 use vortex_pvalue::PValue;
 
 /// A copy of the raw value. Truth values and integers take no memory.
@@ -321,6 +324,7 @@ fn box_variant(alloc: Global, scalar: &Scalar) -> Result<Box<ScalarValue>, Alloc
 /// A copy of the scalar in a box. A value without parts that is of just its type costs no
 /// recursion. Each variant has a function of its own, as in `push_copy`.
 #[cycle(copies)]
+#[tactic(auto, using(crate::proofs::ValueSteps::shown, crate::proofs::CopySteps::fields))]
 #[inline(always)]
 pub(crate) fn copy_boxed(alloc: Global, scalar: &Scalar) -> Result<Box<Scalar>, AllocError>
     ensures { IfOk result (λ copy. variant_tree copy.value ≡ variant_tree scalar.now) }
@@ -344,6 +348,12 @@ pub(crate) fn copy_boxed(alloc: Global, scalar: &Scalar) -> Result<Box<Scalar>, 
             alloc,
             *nullability,
             bytes,
+        ),
+        (DType::Struct(fields, nullability), Some(ScalarValue::Tuple(values))) => boxed_fields(
+            alloc,
+            values,
+            fields,
+            *nullability,
         ),
         (dtype, Some(ScalarValue::Tuple(values))) => boxed_tuple(alloc, values, dtype),
         _ => boxed_scalar(alloc, scalar),
@@ -420,6 +430,24 @@ fn boxed_bytes(
     new_box(alloc, Scalar { dtype, value })
 }
 
+/// A copy of the fields of a struct with their type in a box. Its type is a count more, and no walk.
+#[cycle(copies)]
+#[tactic(auto, using(crate::proofs::ValueSteps::shown, crate::proofs::CopySteps::fields))]
+#[inline(never)]
+fn boxed_fields(
+    alloc: Global,
+    values: &[Option<ScalarValue>],
+    fields: &StructFields,
+    nullability: Nullability,
+) -> Result<Box<Scalar>, AllocError>
+    ensures { IfOk result (λ made. variant_tree made.value
+        ≡ raw_variant (struct_type_of (fields_of fields.now) nullability) (raw_tuple (value_trees values.now))) }
+{
+    let fields = fields.clone(alloc).map_err(|_| AllocError)?;
+    let parts = copy_tuple(alloc, values)?;
+    boxed_parts(alloc, DType::Struct(fields, nullability), parts)
+}
+
 /// A copy of the parts with their type in a box.
 #[cycle(copies)]
 #[inline(never)]
@@ -431,30 +459,23 @@ fn boxed_tuple(
     ensures { IfOk result (λ made. variant_tree made.value
         ≡ raw_variant (type_of dtype.now) (raw_tuple (value_trees values.now))) }
 {
-    boxed_parts(alloc, dtype, copy_tuple(alloc, values)?)
+    let dtype = dtype.clone(alloc).map_err(|_| AllocError)?;
+    let parts = copy_tuple(alloc, values)?;
+    boxed_parts(alloc, dtype, parts)
 }
 
-/// The parts with a copy of their type in a box. A `?` would write the drop of the parts out,
-/// variant by variant.
+/// The parts with their type in a box.
 #[inline(always)]
 fn boxed_parts(
     alloc: Global,
-    dtype: &DType,
+    dtype: DType,
     parts: Vec<Option<ScalarValue>>,
 ) -> Result<Box<Scalar>, AllocError>
     ensures { IfOk result (λ made. variant_tree made.value
-        ≡ raw_variant (type_of dtype.now) (raw_tuple (value_trees parts.items))) }
+        ≡ raw_variant (type_of dtype) (raw_tuple (value_trees parts.items))) }
 {
-    match dtype.clone(alloc) {
-        Ok(dtype) => {
-            let value = Some(ScalarValue::Tuple(parts));
-            new_box(alloc, Scalar { dtype, value })
-        }
-        Err(_) => {
-            drop(parts);
-            Err(AllocError)
-        }
-    }
+    let value = Some(ScalarValue::Tuple(parts));
+    new_box(alloc, Scalar { dtype, value })
 }
 
 /// A copy of any scalar in a box.
