@@ -2,7 +2,7 @@
 use Rattle.std.proofs.Common.{◌≡◌, List, [], ◌∷◌, ◌++◌, map, Option, Some, option_map, Result, Ok, Err, IfOk, Vec, Global, refl, ap, ◌∙◌}
 use Rattle.vortex_dtype.specs.TypeOf.{type_of}
 use Rattle.vortex_dtype.specs.TypeTree.{TypeTree}
-use Rattle.vortex_dtype.specs.Lemmas.TypeLevels.{type_of-Struct}
+use Rattle.vortex_dtype.specs.Lemmas.TypeLevels.{type_of-List, type_of-Struct}
 use Rattle.vortex_dtype.specs.declared.types.DType.{DType}
 use Rattle.vortex_value.specs.Values.RawOf.{as_raw_trees, raw_of, value_tree, value_trees, variant_tree}
 use Rattle.vortex_value.specs.Values.RawTree.{raw_tuple, raw_variant}
@@ -31,5 +31,5 @@ pub given_as : {A E : Type 0} {P Q : A → Type 0} (r : Result A E) → ((x : A)
 given_as (Ok x) f h = f x h
 given_as (Err e) f h = tt
 
--- the type of a struct by its fields
-pub ruleset fields = (type_of-Struct)
+-- the types of lists and structs by those of their parts
+pub ruleset levels = (type_of-List, type_of-Struct)

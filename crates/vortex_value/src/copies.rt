@@ -13,6 +13,7 @@
 
 ghost use Rattle.std.specs.Prelude.{◌≡◌, ◌<◌, IfOk, MatchResult, None, Some, false, map, option_map};
 ghost use Rattle.vortex_dtype.specs.TypeOf.{struct_type_of};
+ghost use Rattle.vortex_dtype.specs.TypeTree.{list_type};
 ghost use Rattle.vortex_value.specs.Words.{Adds, IsFlat, OutOfMemory, TakesNoMemory, absent, binary_type, bool_type, fields_of, integer_type, is_none, lent_raw, null_type, option_copied, ptype_of, raw_bool, raw_bytes, raw_integer, raw_of, raw_text, raw_tuple, raw_variant, type_of, union_tree, utf8_type, value_tree, value_trees, variant_tree, vec_capacity, vec_len, whole_of};
 
 use crate::scalars::{Scalar, with_type};
@@ -324,7 +325,7 @@ fn box_variant(alloc: Global, scalar: &Scalar) -> Result<Box<ScalarValue>, Alloc
 /// A copy of the scalar in a box. A value without parts that is of just its type costs no
 /// recursion. Each variant has a function of its own, as in `push_copy`.
 #[cycle(copies)]
-#[tactic(auto, using(crate::proofs::ValueSteps::shown, crate::proofs::CopySteps::fields))]
+#[tactic(auto, using(crate::proofs::ValueSteps::shown, crate::proofs::CopySteps::levels))]
 #[inline(always)]
 pub(crate) fn copy_boxed(alloc: Global, scalar: &Scalar) -> Result<Box<Scalar>, AllocError>
     ensures { IfOk result (λ copy. variant_tree copy.value ≡ variant_tree scalar.now) }
@@ -348,6 +349,12 @@ pub(crate) fn copy_boxed(alloc: Global, scalar: &Scalar) -> Result<Box<Scalar>, 
             alloc,
             *nullability,
             bytes,
+        ),
+        (DType::List(element, nullability), Some(ScalarValue::Tuple(values))) => boxed_elements(
+            alloc,
+            values,
+            element,
+            *nullability,
         ),
         (DType::Struct(fields, nullability), Some(ScalarValue::Tuple(values))) => boxed_fields(
             alloc,
@@ -430,9 +437,40 @@ fn boxed_bytes(
     new_box(alloc, Scalar { dtype, value })
 }
 
+/// A copy of the elements of a list with their type in a box.
+#[cycle(copies)]
+#[tactic(auto, using(crate::proofs::ValueSteps::shown, crate::proofs::CopySteps::levels))]
+#[inline(never)]
+fn boxed_elements(
+    alloc: Global,
+    values: &[Option<ScalarValue>],
+    element: &DType,
+    nullability: Nullability,
+) -> Result<Box<Scalar>, AllocError>
+    ensures { IfOk result (λ made. variant_tree made.value
+        ≡ raw_variant (list_type (type_of element.now) nullability) (raw_tuple (value_trees values.now))) }
+{
+    let element = box_type(alloc, element)?;
+    let parts = copy_tuple(alloc, values)?;
+    boxed_parts(alloc, DType::List(element, nullability), parts)
+}
+
+/// A copy of a type in a box. A type of integers goes through no result.
+#[inline(always)]
+fn box_type(alloc: Global, dtype: &DType) -> Result<Box<DType>, AllocError>
+    ensures { IfOk result (λ made. type_of made.value ≡ type_of dtype.now) }
+{
+    match dtype {
+        DType::Primitive(ptype, nullability) => {
+            new_box(alloc, DType::Primitive(*ptype, *nullability))
+        }
+        _ => new_box(alloc, dtype.clone(alloc).map_err(|_| AllocError)?),
+    }
+}
+
 /// A copy of the fields of a struct with their type in a box. Its type is a count more, and no walk.
 #[cycle(copies)]
-#[tactic(auto, using(crate::proofs::ValueSteps::shown, crate::proofs::CopySteps::fields))]
+#[tactic(auto, using(crate::proofs::ValueSteps::shown, crate::proofs::CopySteps::levels))]
 #[inline(never)]
 fn boxed_fields(
     alloc: Global,

@@ -57,6 +57,9 @@ decreases-copy_boxed l = 5 * goal.size-copy_boxed l + 2
 abbrev pub decreases-boxed_tuple : goal.decreases-boxed_tuple
 decreases-boxed_tuple l = 5 * goal.size-boxed_tuple l + 3
 
+abbrev pub decreases-boxed_elements : goal.decreases-boxed_elements
+decreases-boxed_elements l = 5 * goal.size-boxed_elements l + 3
+
 abbrev pub decreases-boxed_fields : goal.decreases-boxed_fields
 decreases-boxed_fields l = 5 * goal.size-boxed_fields l + 3
 
