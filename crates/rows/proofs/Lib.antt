@@ -1,10 +1,12 @@
+pub mod Beginnings
 pub mod Bounds
 pub mod Castings
 pub mod Cuts
+pub mod DigitPairs
+pub mod DigitTables
+pub mod HexWords
 pub mod KnownReads
 pub mod Names
 pub mod Numerals
 pub mod Operands
 pub mod Places
-pub mod Beginnings
-pub mod HexWords

@@ -1,4 +1,5 @@
 pub mod Commands
+pub mod Digits
 pub mod FaultTexts
 pub mod Fronts
 pub mod Grammar

@@ -7,6 +7,7 @@
 mod answers;
 mod commands;
 mod faults;
+mod hexadecimal;
 mod input;
 mod numbers;
 mod output;

@@ -1,12 +1,10 @@
-//! The words of a command: a `PType`, a number, or bytes as hexadecimal digits.
-#![tactic(auto, using(crate::proofs::Names::ends, crate::proofs::Names::cuts, crate::proofs::Numerals::digits, crate::proofs::Numerals::some_size, crate::proofs::Numerals::signs, crate::proofs::Numerals::naturals, crate::proofs::Numerals::one_digit_more, crate::proofs::HexWords::sized))]
+//! The words of a command: a `PType` or a number.
+#![tactic(auto, using(crate::proofs::Names::ends, crate::proofs::Names::cuts, crate::proofs::Numerals::digits, crate::proofs::Numerals::some_size, crate::proofs::Numerals::signs, crate::proofs::Numerals::naturals, crate::proofs::Numerals::one_digit_more))]
 
-ghost use Rattle.std.specs.Prelude.{◌*◌, ◌≡◌, IfNone, IfOk, IfSome, IsOk, ◌<◌, ◌≤◌, ◌^◌, length};
-ghost use Rattle.rows.specs.Words.{FirstSays, FirstSaysNone, IsNameEnd, LeadingDigits, hex_named, natural_named, number_named, ptype_named, size_named};
+ghost use Rattle.std.specs.Prelude.{◌≡◌, IfNone, IfSome, ◌<◌, ◌^◌};
+ghost use Rattle.rows.specs.Words.{FirstSays, FirstSaysNone, IsNameEnd, LeadingDigits, natural_named, number_named, ptype_named, size_named};
 
-use hex::{FromHexError, decode, decode_to_slice};
-use std::alloc::{AllocError, Global};
-use vortex_array::{ByteBuffer, INLINE_BYTES, PType};
+use vortex_array::PType;
 
 /// How many digits always fit 64 bits. A number has at most one more.
 const SURE_DIGITS: usize = 19;
@@ -124,44 +122,4 @@ fn number_digits(text: &[u8]) -> (u128, usize)
         return (number * 10 + u128::from(text[count] - b'0'), count + 1);
     }
     (number, count)
-}
-
-/// The bytes that the hexadecimal digits represent, two a byte. `None` if their number is odd, or
-/// one is not a digit. At most 44 digits take no memory.
-pub fn hex_named(alloc: Global, word: &[u8]) -> Result<Option<ByteBuffer>, AllocError>
-    ensures bytes { IfOk result (λ bytes. bytes ≡ hex_named word.now) }
-    ensures short { length word.now ≤ 2 * INLINE_BYTES → IsOk result }
-{
-    if word.len() <= 2 * INLINE_BYTES {
-        Ok(short_hex(alloc, word))
-    } else {
-        long_hex(alloc, word)
-    }
-}
-
-/// The bytes that at most 44 digits represent. Takes no memory.
-fn short_hex(alloc: Global, word: &[u8]) -> Option<ByteBuffer>
-    requires { length word.now ≤ 2 * INLINE_BYTES }
-    ensures { result ≡ hex_named word.now }
-{
-    let mut room = [0; INLINE_BYTES];
-    let bytes = &mut room[..word.len() / 2];
-    decode_to_slice(word, bytes).ok()?;
-    match ByteBuffer::from_slice(alloc, bytes) {
-        Ok(value) => Some(value),
-        Err(_) => unreachable!(),
-    }
-}
-
-/// The bytes that the digits represent, by way of a vector.
-fn long_hex(alloc: Global, word: &[u8]) -> Result<Option<ByteBuffer>, AllocError>
-    ensures { IfOk result (λ bytes. bytes ≡ hex_named word.now) }
-{
-    let bytes = match decode(alloc, word) {
-        Ok(bytes) => bytes,
-        Err(FromHexError::OutOfMemory) => return Err(AllocError),
-        Err(_) => return Ok(None),
-    };
-    let value = ByteBuffer::from_vec(bytes).map_err(|_| AllocError)?;
-    Ok(Some(value))
 }

@@ -6,8 +6,8 @@ ghost use Rattle.rows.specs.Words.{Appends, IsAtEnd, bound_request, cast, hex_na
 use crate::answers::{bound_at, number_in_ptype};
 use crate::commands::{Command, Side, command_in};
 use crate::faults::RowsError;
+use crate::hexadecimal::hex_named;
 use crate::input::read_all;
-use crate::numbers::hex_named;
 use crate::output::write_out;
 use crate::print::{push_bad_line, push_number, push_string};
 use crate::words::first_line;
