@@ -10,3 +10,4 @@ pub mod Names
 pub mod Numerals
 pub mod Operands
 pub mod Places
+pub mod Streaming

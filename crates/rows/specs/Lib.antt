@@ -6,4 +6,5 @@ pub mod Grammar
 pub mod Lines
 pub mod Reading
 pub mod Rows
+pub mod Streams
 pub mod Words

@@ -22,5 +22,6 @@ unfoldable pub use Rattle.rows.specs.Grammar.{natural_named, number_named, ptype
 pub use Rattle.rows.specs.Lines.{lines_of, words_of}
 pub use Rattle.rows.specs.Reading.{GaveSome}
 pub use Rattle.rows.specs.Rows.{bound_text, cast_text, request_text, row_text, rows_of}
+pub use Rattle.rows.specs.Streams.{GoesOn}
 pub use Rattle.rows.specs.declared.commands.Side.TheVariants.{Lower, Upper}
 pub use Rattle.rows.specs.declared.faults.RowsError.TheVariants.{Memory}

@@ -8,10 +8,10 @@ use std::alloc::Global;
 use std::io::Read;
 
 /// How many bytes one read asks for.
-const PIECE: usize = 4096;
+pub const PIECE: usize = 4096;
 
 /// How many reads are made at most, with the one that meets the end.
-const READS: u32 = 1_048_576;
+pub const READS: u32 = 1_048_576;
 
 /// Reads to the end, in pieces of 4,096 bytes at most.
 ///

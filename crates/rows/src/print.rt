@@ -32,6 +32,7 @@ pub fn push_string(output: &mut Vec<u8>, bytes: Option<ByteBuffer>) -> Result<()
 }
 
 /// Appends the row of a line that is not a command.
+#[inline(always)]
 pub fn push_bad_line(output: &mut Vec<u8>) -> Result<(), AllocError>
     ensures { OnOk result (output.new.items ≡ output.old.items ++ (codes "bad line" ++ 10 ∷ [])) }
 {

@@ -1,16 +1,17 @@
 //! The whole program: from the input to the rows that are written.
 
 ghost use Rattle.std.specs.Prelude.{◌≡◌, ◌≢◌, ◌++◌, ◌∷◌, [], Some, IfErr, IfOk, IfSome, OnOk};
-ghost use Rattle.rows.specs.Words.{Appends, IsAtEnd, bound_request, cast, hex_named, ptype_of, request_in, request_text, row_text, rows_of, whole_of};
+ghost use Rattle.rows.specs.Words.{Appends, GoesOn, IsAtEnd, bound_request, cast, hex_named, ptype_of, request_in, request_text, row_text, rows_of, whole_of};
 
 use crate::answers::{bound_at, number_in_ptype};
 use crate::commands::{Command, Side, command_in};
 use crate::faults::RowsError;
 use crate::hexadecimal::hex_named;
-use crate::input::read_all;
+use crate::input::{PIECE, READS};
 use crate::output::write_out;
 use crate::print::{push_bad_line, push_number, push_string};
 use crate::words::first_line;
+use memchr::memrchr;
 use std::alloc::{AllocError, Global};
 use std::io::{Read, Write};
 use vortex_array::{PType, PValue};
@@ -32,23 +33,63 @@ pub fn run<R: Read, W: Write>(
     // After a fault other than one of the writer, nothing was written.
     ensures untouched { IfErr result (λ e. e ≢ RowsError.Write → writer.new ≡ writer.old) }
 {
-    let input = read_all(alloc, reader)?;
-    let output = rows(alloc, &input)?;
+    let output = rows(alloc, reader)?;
     write_out(writer, &output)
 }
 
-/// The rows of all lines.
-fn rows(alloc: Global, input: &[u8]) -> Result<Vec<u8>, AllocError>
-    ensures { IfOk result (λ output. output.items ≡ rows_of input.now) }
+/// The rows of all lines that the reader gives. They are made as it is read, so that of the input
+/// only the line that has not ended is kept.
+fn rows<R: Read>(alloc: Global, reader: &mut R) -> Result<Vec<u8>, RowsError>
+    ensures rows { IfOk result
+        (λ output. IfSome (R.remaining reader.old) (λ input. output.items ≡ rows_of input)) }
+    ensures end { OnOk result (IsAtEnd (R.remaining reader.new)) }
+    ensures fault { IfErr result (λ e. e ≢ RowsError.Write) }
 {
     let mut output = Vec::new(alloc);
-    let mut rest = input;
+    let mut pending = Vec::new(alloc);
+    let mut piece = [0u8; PIECE];
+    for _turn in 0..READS {
+        let count = reader.read(&mut piece).map_err(|_| RowsError::Read)?;
+        if count == 0 {
+            push_rows(alloc, &mut output, &pending)?;
+            return Ok(output);
+        }
+        push_piece(alloc, &mut output, &mut pending, &piece[..count])?;
+    }
+    Err(RowsError::Read)
+}
+
+/// Appends the rows of what is pending and of the piece, up to its last line feed. What follows that
+/// is pending then.
+fn push_piece(
+    alloc: Global,
+    output: &mut Vec<u8>,
+    pending: &mut Vec<u8>,
+    piece: &[u8],
+) -> Result<(), AllocError>
+    ensures { OnOk result (GoesOn output.old.items pending.old.items piece.now
+        output.new.items pending.new.items) }
+{
+    let Some(end) = memrchr(b'\n', piece) else {
+        return pending.extend_from_slice(piece);
+    };
+    pending.extend_from_slice(&piece[..end + 1])?;
+    push_rows(alloc, output, pending)?;
+    pending.clear();
+    pending.extend_from_slice(&piece[end + 1..])
+}
+
+/// Appends the rows of all lines of a text.
+fn push_rows(alloc: Global, output: &mut Vec<u8>, text: &[u8]) -> Result<(), AllocError>
+    ensures { OnOk result (output.new.items ≡ output.old.items ++ rows_of text.now) }
+{
+    let mut rest = text;
     while !rest.is_empty() {
         let (line, after) = first_line(rest);
-        push_row(alloc, &mut output, line)?;
+        push_row(alloc, output, line)?;
         rest = after;
     }
-    Ok(output)
+    Ok(())
 }
 
 /// Appends the row of a line.

@@ -1,10 +1,6 @@
--- What was written so far and what the rest gives are what all gives.
-use Rattle.std.proofs.Common.{◌≡◌, ◌++◌, length}
-use Rattle.rows.specs.Rows.{rows_of}
+-- The rows so far, and those of what is pending and of what is left, are those of all.
+use Rattle.rows.proofs.Streaming.{IsAnswered}
 use Rattle.rows.proofs.program.rows.Given as goal
 
-abbrev pub invariant-loop-rest : goal.invariant-loop-rest
-invariant-loop-rest l = l.output.items ++ rows_of l.rest ≡ rows_of l.input
-
-abbrev pub decreases-loop-rest : goal.decreases-loop-rest
-decreases-loop-rest l = length l.rest
+abbrev pub invariant-loop-turn : goal.invariant-loop-turn
+invariant-loop-turn g l = IsAnswered (g.R.Read.remaining l.initial.reader) (g.R.Read.remaining l.reader) l.output.items l.pending.items
