@@ -1,7 +1,7 @@
 -- Pairs of hexadecimal digits that are read into just the room that they need.
-use Rattle.std.proofs.Common.{◌≡◌, ◌≢◌, ℕ, zero, suc, ◌+◌, ◌*◌, ◌/◌, ◌%◌, ◌<◌, ◌≤◌, ◌==◌, Bool, true, false, Option, None, Some, Result, Ok, Err, List, length, slice_index, slice_set, take, drop, sym, ap, ◌∙◌, subst, refl, arith}
+use Rattle.std.proofs.Common.{◌≡◌, ℕ, ◌+◌, ◌*◌, ◌/◌, ◌%◌, ◌<◌, ◌≤◌, Option, None, Some, Result, Ok, Err, List, length, slice_index, slice_set, take, drop, refl, arith}
 use Rattle.std.specs.Prelude.{MatchResult}
-use Rattle.hex.specs.Hex.{decode_pairs, decode_sized, digit_or_error, hex_digit_value, pair_value, value_at, ◌>>=◌}
+use Rattle.hex.specs.Hex.{decode_pairs, decode_sized, hex_digit_value, pair_value}
 use Rattle.hex.specs.declared.error.FromHexError.{FromHexError}
 use Rattle.hex.specs.declared.error.FromHexError.TheVariants.{InvalidHexCharacter}
 use Rattle.hex.proofs.Pairs.{prepend, decode_done, decode_err, decode_sized-pairs, decode_step}
