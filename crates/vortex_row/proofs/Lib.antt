@@ -3,6 +3,7 @@ pub mod ByteLaws
 pub mod ColumnLaws
 pub mod DecodeSteps
 pub mod EncodeSteps
+pub mod FewBytes
 pub mod KeyLaws
 pub mod KeySteps
 pub mod LeafSteps

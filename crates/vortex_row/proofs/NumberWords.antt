@@ -48,7 +48,7 @@ word-inverted true bs word turned h e up down =
 
 -- the first bytes of a word
 
-worth-most : (n : ℕ) (bs : List ℕ) → AreBytes bs → worth n bs < scaled (length bs) (n + 1)
+pub worth-most : (n : ℕ) (bs : List ℕ) → AreBytes bs → worth n bs < scaled (length bs) (n + 1)
 worth-most n [] h = omega arith
 worth-most n (b ∷ bs) h =
     let small = bytes_first b bs h in

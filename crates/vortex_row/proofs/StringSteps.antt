@@ -1,9 +1,11 @@
 -- Steps of the reading of a string, byte by byte.
-use Rattle.std.proofs.Common.{◌≡◌, ◌≢◌, ℕ, zero, suc, ◌+◌, ◌<◌, ◌≤◌, ◌==◌, ◌||◌, inl, inr, Bool, true, false, List, [], ◌∷◌, ◌++◌, IsUtf8, length, length-append, take, drop, get_or, refl, sym, subst, ap, ap₂, ◌∙◌, append_assoc, append-nil, arith}
+use Rattle.std.proofs.Common.{◌≡◌, ◌≢◌, ℕ, zero, suc, ◌+◌, ◌<◌, ◌≤◌, ◌==◌, ◌||◌, inl, inr, Bool, true, false, List, [], ◌∷◌, ◌++◌, IsAscii, IsUtf8, length, length-append, take, drop, get_or, refl, sym, subst, ap, ap₂, ◌∙◌, append_assoc, append-nil, arith}
+use Rattle.std.proofs.lemmas.Str.{IsUtf8-from_ascii}
+use Rattle.std.proofs.lemmas.Str.Ascii.{IsAscii-cons}
 use Rattle.vortex_row.specs.Held.{AreBytes}
 use Rattle.vortex_row.specs.Keys.{escape, escaped, inverted}
 use Rattle.vortex_row.specs.Reading.{BeginsWithOne, ContinueWith, IsStuck}
-use Rattle.vortex_row.specs.Strings.{HasString, IsAny, IsEscaped, IsHalfEscaped}
+use Rattle.vortex_row.specs.Strings.{AreCharacters, HasString, IsAny, IsEscaped, IsHalfEscaped}
 use Rattle.vortex_value.specs.Values.Content.{string}
 use Rattle.vortex_row.proofs.ApartLaws.{key-apart}
 use Rattle.vortex_row.proofs.ByteLaws.{bytes_first, bytes_rest, inverted-length}
@@ -158,6 +160,17 @@ text-read bs old now h utf8 = record { kind = utf8; bytes = h.bytes; is = h.is }
 -- a plain string that is one
 pub plain-text : (word text bs : List ℕ) → HasString IsAny word bs (drop (length word + 1) bs) → text ≡ word → IsUtf8 word → HasString IsUtf8 text bs (drop (length text + 1) bs)
 plain-text word text bs h e utf8 = subst (λ w. HasString IsUtf8 w bs (drop (length w + 1) bs)) (sym e) (text-read word bs (drop (length word + 1) bs) h utf8)
+
+-- a text of ASCII alone
+
+pub ascii-before : (bs : List ℕ) (end : ℕ) → AreCharacters bs end → IsAscii (take end bs)
+ascii-before bs zero h = λ i. omega arith
+ascii-before [] (suc end) h = λ i. omega arith
+ascii-before (b ∷ bs) (suc end) h = IsAscii-cons b (take end bs) (h 0 (omega arith)).1 (ascii-before bs end (λ k less. h (suc k) (omega arith)))
+
+pub ascii-found : (bs word : List ℕ) (end : ℕ) → AreBytes bs → end < length bs → AreCharacters bs end → get_or bs end 0 ≡ 0 → word ≡ take end bs → HasString IsUtf8 word bs (drop (length word + 1) bs)
+ascii-found bs word end bytes h plain e is =
+    text-read word bs (drop (length word + 1) bs) (plain-found bs word end bytes h (λ k less. (plain k less).0) e is) (subst IsUtf8 (sym is) (IsUtf8-from_ascii (take end bs) (ascii-before bs end plain)))
 
 pub ruleset texts = (plain-text)
 

@@ -1,5 +1,5 @@
 -- What comes after the first byte of the key of a string, and what may come next within a text.
-use Rattle.std.specs.Prelude.{◌≡◌, ℕ, zero, suc, ◌<◌, ◌≤◌, ◌==◌, cond, ◌⊎◌, List, [], ◌∷◌, ◌++◌, IsUtf8}
+use Rattle.std.specs.Prelude.{◌≡◌, ℕ, zero, suc, ◌<◌, ◌≤◌, ◌==◌, cond, ◌⊎◌, List, [], ◌∷◌, ◌++◌, IsUtf8, get_or}
 use Rattle.vortex_row.specs.Held.{AreBytes}
 use Rattle.vortex_row.specs.Keys.{escaped}
 use Rattle.vortex_row.specs.declared.decode.texts.Next.{Next}
@@ -30,6 +30,10 @@ pub record HasString (IsOne : List ℕ → Type 0) (string old now : List ℕ) :
   pub kind : IsOne string
   pub bytes : AreBytes string
   pub is : old ≡ escaped string ++ now
+
+-- each byte before the place is a character of ASCII above 1
+abbrev pub AreCharacters : List ℕ → ℕ → Type 0
+AreCharacters bs place = (k : ℕ) → k < place → (2 ≤ get_or bs k 0) × (get_or bs k 0 < 128)
 
 -- any string
 abbrev pub IsAny : List ℕ → Type 0

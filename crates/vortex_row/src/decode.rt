@@ -58,6 +58,7 @@ pub fn decode_key(
 ///
 /// Each refusal comes as from `decode_key`. After one the scalar may be any.
 #[tactic(auto, using(crate::proofs::DecodeSteps::answers))]
+#[inline(always)]
 pub fn decode_key_into(
     alloc: Global,
     dtype: &DType,

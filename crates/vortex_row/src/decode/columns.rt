@@ -29,7 +29,7 @@ fn begins_with_null(dtype: &DType, options: SortOptions, bytes: &[u8]) -> bool
         → (bs : List ℕ) → bytes.now ≢ null_byte options.nulls_first ∷ bs }
 {
     match bytes {
-        [first, ..] => dtype.is_nullable() && *first == null_byte(options.nulls_first),
+        [first, ..] => *first == null_byte(options.nulls_first) && dtype.is_nullable(),
         [] => false,
     }
 }
@@ -94,9 +94,19 @@ fn copied(alloc: Global, dtype: &DType) -> Result<DType, RowError>
     }
 }
 
+/// Puts a copy of the type in this place. `OutOfMemory` if it finds no memory.
+#[inline(never)]
+fn put_type(alloc: Global, dtype: &DType, place: &mut DType) -> Result<(), RowError>
+    ensures { MatchResult result (λ _. type_of place.new ≡ type_of dtype.now) (λ e. e ≡ OutOfMemory) }
+{
+    *place = copied(alloc, dtype)?;
+    Ok(())
+}
+
 /// Puts the scalar of the type that the bytes begin with the key of in the place of this one, whose
 /// type is not made again if it is that one. How many bytes that key has.
 #[tactic(auto, using(crate::proofs::DecodeSteps::shown))]
+#[inline(never)]
 pub(super) fn decode_column_into(
     alloc: Global,
     dtype: &DType,
@@ -112,7 +122,7 @@ pub(super) fn decode_column_into(
 {
     let taken = read_column(alloc, dtype, options, bytes, &mut scalar.value)?;
     if !are_one_leaf(&scalar.dtype, dtype) {
-        scalar.dtype = copied(alloc, dtype)?;
+        put_type(alloc, dtype, &mut scalar.dtype)?;
     }
     Ok(taken)
 }

@@ -141,23 +141,45 @@ fn inverted_word(invert: bool, word: u64) -> u64
     if invert { !word } else { word }
 }
 
-/// The number of so many bytes, as `magnitude_by_bytes`, from one word if there is one. `None` says
-/// nothing: it comes for bytes that are refused.
+/// The number of so many bytes, the highest first, if they are there and do not begin with 0. `None`
+/// says nothing.
 #[inline(always)]
-fn magnitude_at_once(bytes: &[u8], invert: bool, width: u8, limit: u64) -> Option<u64>
+fn magnitude_of_few(bytes: &[u8], invert: bool, width: u8) -> Option<u64>
     requires { width ≤ 8 }
     ensures { IfSome result
-        (λ number. HasMagnitude width limit (inverted invert bytes.now) number) }
+        (λ number. HasMagnitude width u64.MAX (inverted invert bytes.now) number) }
+{
+    if bytes.len() < width as usize {
+        return None;
+    }
+    let mut number = 0u64;
+    for taken in 0..width {
+        let longer = number * 256 + u64::from(inverted_if(invert, bytes[taken as usize]));
+        if longer == 0 {
+            return None;
+        }
+        number = longer;
+    }
+    Some(number)
+}
+
+/// The number of so many bytes, as `magnitude_by_bytes` without a limit, at once if there are eight.
+/// `None` says nothing: it comes for bytes that are refused.
+#[inline(always)]
+fn magnitude_at_once(bytes: &[u8], invert: bool, width: u8) -> Option<u64>
+    requires { width ≤ 8 }
+    ensures { IfSome result
+        (λ number. HasMagnitude width u64.MAX (inverted invert bytes.now) number) }
 {
     if width == 0 {
         return Some(0);
     }
     let Some(word) = first_word(bytes) else {
-        return magnitude_by_bytes(bytes, invert, width, limit).ok();
+        return magnitude_of_few(bytes, invert, width);
     };
     let word = inverted_word(invert, word);
     let number = word >> (8 * (8 - width));
-    if number <= limit && number >> (8 * (width - 1)) > 0 {
+    if number >> (8 * (width - 1)) > 0 {
         Some(number)
     } else {
         None
@@ -210,6 +232,21 @@ fn number_of(ptype: PType, below: bool, distance: u64) -> Option<PValue>
     PValue::from_whole(whole_number(below, distance), ptype)
 }
 
+/// As `number_of`, without numbers of 128 bits for the commonest kind.
+#[inline(always)]
+fn common_number_of(ptype: PType, below: bool, distance: u64) -> Option<PValue>
+    requires { below ≡ true → 0 < distance }
+    ensures { MatchOption result (¬ (InRange ptype (whole_at below distance)))
+        (IsNumber ptype (whole_at below distance)) }
+{
+    match ptype {
+        PType::I64 if !below && distance <= 0x7fff_ffff_ffff_ffff => {
+            Some(PValue::I64(distance as i64))
+        }
+        _ => number_of(ptype, below, distance),
+    }
+}
+
 /// A number of the kind, and how many bytes its key has, from one word if there is one. `None` says
 /// nothing: it comes for bytes that are refused.
 #[inline(always)]
@@ -222,8 +259,8 @@ fn number_at_once(ptype: PType, bytes: &[u8], invert: bool) -> Option<(PValue, u
     let head = inverted_if(invert, *bytes.first()?);
     let (below, width) = side_of(head)?;
     let rest = bytes_from(bytes, 1);
-    let distance = magnitude_at_once(rest, inverted_again(invert, below), width, u64::MAX)?;
-    let number = number_of(ptype, below, distance)?;
+    let distance = magnitude_at_once(rest, inverted_again(invert, below), width)?;
+    let number = common_number_of(ptype, below, distance)?;
     Some((number, 1 + usize::from(width)))
 }
 

@@ -1,8 +1,8 @@
 //! Strings from their keys.
 
-ghost use Rattle.std.specs.Prelude.{◌≡◌, ◌+◌, ◌++◌, ◌∷◌, IfSome, MatchOption, MatchResult, IsUtf8, drop, length};
+ghost use Rattle.std.specs.Prelude.{◌≡◌, ◌+◌, ◌++◌, ◌∷◌, ◌<◌, IfSome, MatchOption, MatchResult, IsAscii, IsUtf8, drop, length};
 ghost use Rattle.vortex_row.specs.Reading.{BeginsWithOne, IsStuck, left};
-ghost use Rattle.vortex_row.specs.Strings.{HasString, IsAny, IsEscaped, IsHalfEscaped};
+ghost use Rattle.vortex_row.specs.Strings.{AreCharacters, HasString, IsAny, IsEscaped, IsHalfEscaped};
 ghost use Rattle.vortex_row.specs.Words.{escape};
 ghost use Rattle.vortex_row.specs.declared.reader.Fault.TheVariants.{Bad, NoMemory};
 
@@ -12,6 +12,9 @@ use memchr::{memchr, memchr2};
 use std::alloc::Global;
 use std::str;
 use vortex_dtype::{BufferString, ByteBuffer};
+
+/// In fewer bytes than this the end of a text is looked for byte by byte.
+const SHORT: usize = 32;
 
 /// The string whose escaped form the bytes begin with, if no byte of it is written as two. `None`
 /// says nothing.
@@ -27,13 +30,58 @@ fn plain_string(bytes: &[u8]) -> Option<&[u8]>
     }
 }
 
+/// The place of the first byte that is no character of ASCII above 1.
+#[inline(always)]
+fn ascii_end(bytes: &[u8]) -> Option<usize>
+    ensures within { IfSome result (λ end. end < length bytes.now) }
+    ensures plain { IfSome result (λ end. AreCharacters bytes.now end) }
+{
+    for place in 0..bytes.len() {
+        if bytes[place] < 2 || bytes[place] > 127 {
+            return Some(place);
+        }
+    }
+    None
+}
+
+/// The text of these bytes.
+#[inline(always)]
+fn ascii(bytes: &[u8]) -> &str
+    requires { IsAscii bytes.now }
+    ensures { result.now ≡ bytes.now }
+{
+    // Bytes of ASCII are UTF-8.
+    unsafe { str::from_utf8_unchecked(bytes) }
+}
+
+/// The text whose escaped form the bytes begin with, if it has characters of ASCII above 1 alone.
+/// `None` says nothing.
+#[inline(always)]
+fn ascii_text(bytes: &[u8]) -> Option<&str>
+    ensures { IfSome result (λ text. HasString IsUtf8 text.now bytes.now
+        (drop (length text.now + 1) bytes.now)) }
+{
+    let end = ascii_end(bytes)?;
+    if bytes[end] == 0 {
+        Some(ascii(bytes_to(bytes, end)))
+    } else {
+        None
+    }
+}
+
 /// The text whose escaped form the bytes begin with, if no byte of it is written as two. `None` says
 /// nothing.
 #[tactic(auto, using(crate::proofs::StringSteps::texts))]
+#[inline(always)]
 fn plain_text(bytes: &[u8]) -> Option<&str>
     ensures { IfSome result (λ text. HasString IsUtf8 text.now bytes.now
         (drop (length text.now + 1) bytes.now)) }
 {
+    if bytes.len() < SHORT {
+        if let Some(text) = ascii_text(bytes) {
+            return Some(text);
+        }
+    }
     match str::from_utf8(plain_string(bytes)?) {
         Ok(text) => Some(text),
         Err(_) => None,
@@ -175,6 +223,7 @@ fn text_by_bytes(alloc: Global, reader: &mut Reader<'_>) -> Result<BufferString,
 }
 
 /// A text.
+#[inline(always)]
 pub(super) fn read_text(alloc: Global, reader: &mut Reader<'_>) -> Result<BufferString, Fault>
     ensures { MatchResult result
         (λ text. HasString IsUtf8 text (left reader.old) (left reader.new))

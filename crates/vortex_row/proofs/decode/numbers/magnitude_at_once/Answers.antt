@@ -12,6 +12,6 @@ returns-then-number-width-gt0 c =
     let some = c.if-width-eq0.false in
     let word : c.in-Some.word < 2 ^ 64 = search rules in
     let turned : c.inverted_word-word.result < 2 ^ 64 = search rules in
-    word-magnitude c.args.width c.args.limit (inverted c.args.invert c.args.bytes.now) c.inverted_word-word.result _ (omega arith) c.requires (omega arith) turned
+    word-magnitude c.args.width _ (inverted c.args.invert c.args.bytes.now) c.inverted_word-word.result _ (omega arith) c.requires (omega arith) turned
     (word-inverted c.args.invert c.args.bytes.now c.in-Some.word c.inverted_word-word.result word c.in-Some.ensures.1 c.inverted_word-word.ensures.inverted c.inverted_word-word.ensures.same) refl
-    c.if-number-limit.true c.if-number-width-gt0.true
+    (omega arith) c.if-number-width-gt0.true

@@ -4,8 +4,8 @@ use Rattle.vortex_row.specs.Bytes.{inverted_byte}
 use Rattle.vortex_row.proofs.NumberForms.{number-at_once, side-away}
 use Rattle.vortex_row.proofs.decode.numbers.number_at_once.Goals as goal
 
-pub number_of-requires : goal.number_of-requires
-number_of-requires c = side-away c.inverted_if-head.result c.in_ok-below.below c.in_ok-below.width _ c.in_ok-distance.distance _ c.in_ok-below.ensures c.in_ok-distance.ensures
+pub common_number_of-requires : goal.common_number_of-requires
+common_number_of-requires c = side-away c.inverted_if-head.result c.in_ok-below.below c.in_ok-below.width _ c.in_ok-distance.distance _ c.in_ok-below.ensures c.in_ok-distance.ensures
 
 pub returns : goal.returns
 returns c =
