@@ -1,10 +1,12 @@
 //! How a value compares with a bound.
 
-ghost use Rattle.std.specs.Prelude.{◌≡◌, true};
+ghost use Rattle.std.specs.Prelude.{◌≡◌, Some, true};
+ghost use Rattle.std.specs.Ordering.{int_cmp};
+ghost use Rattle.vortex_value.specs.Words.{whole_of};
 ghost use Rattle.vortex_statistics.specs.Words.{cell_of, cell_of_ref, cell_order, same_type, type_of};
 
 use std::cmp::Ordering;
-use vortex_array::{DType, Scalar, ScalarRef, ScalarValue};
+use vortex_array::{DType, PValue, Scalar, ScalarRef, ScalarValue};
 
 /// How two scalars compare: what `Scalar::partial_cmp` says, sooner for integers, strings and bytes.
 /// Of this port alone: filters compare by it.
@@ -21,11 +23,33 @@ pub fn compare_scalars(a: &Scalar, b: &Scalar) -> Option<Ordering>
 pub(crate) fn compare(a: ScalarRef<'_>, b: ScalarRef<'_>) -> Option<Ordering>
     ensures { result ≡ cell_order (cell_of_ref a.entry) (cell_of_ref b.entry) }
 {
-    if !are_one_plain_type(a.dtype(), b.dtype()) {
+    match (a.value(), b.value()) {
+        (Some(ScalarValue::Primitive(x)), Some(ScalarValue::Primitive(y)))
+            if are_of_one_kind(a.dtype(), b.dtype()) => { compare_numbers(x, y) }
+        _ => compare_texts(a, b),
+    }
+}
+
+/// How two integers compare. Those of the commonest kind are compared without a call.
+#[inline(always)]
+fn compare_numbers(x: &PValue, y: &PValue) -> Option<Ordering>
+    ensures { result ≡ Some (int_cmp (whole_of x.now) (whole_of y.now)) }
+{
+    match (x, y) {
+        (PValue::I64(x), PValue::I64(y)) => Some(x.cmp(y)),
+        _ => x.partial_cmp(y),
+    }
+}
+
+/// How two scalars compare. Strings and bytes are compared here.
+#[inline(always)]
+fn compare_texts(a: ScalarRef<'_>, b: ScalarRef<'_>) -> Option<Ordering>
+    ensures { result ≡ cell_order (cell_of_ref a.entry) (cell_of_ref b.entry) }
+{
+    if !are_one_text_type(a.dtype(), b.dtype()) {
         return compare_any(a, b);
     }
     match (a.value(), b.value()) {
-        (Some(ScalarValue::Primitive(x)), Some(ScalarValue::Primitive(y))) => x.partial_cmp(y),
         (Some(ScalarValue::Utf8(x)), Some(ScalarValue::Utf8(y))) => Some(x.cmp(y)),
         (Some(ScalarValue::Binary(x)), Some(ScalarValue::Binary(y))) => Some(x.cmp(y)),
         _ => compare_any(a, b),
@@ -40,16 +64,24 @@ fn compare_any(a: ScalarRef<'_>, b: ScalarRef<'_>) -> Option<Ordering>
     a.partial_cmp(&b)
 }
 
-/// Whether both types are one of integers, or of strings, or of bytes, up to nullability. If so,
-/// they are the same.
+/// Whether both types are one of integers, up to nullability. If so, they are the same.
 #[inline(always)]
-fn are_one_plain_type(a: &DType, b: &DType) -> bool
+fn are_of_one_kind(a: &DType, b: &DType) -> bool
     ensures { result ≡ true → same_type (type_of a.now) (type_of b.now) ≡ true }
 {
     match (a, b) {
         (DType::Primitive(j, _), DType::Primitive(k, _)) => *j == *k,
-        (DType::Utf8(_), DType::Utf8(_)) => true,
-        (DType::Binary(_), DType::Binary(_)) => true,
         _ => false,
     }
+}
+
+/// Whether both types are of strings, or both of bytes, up to nullability. If so, they are the same.
+#[inline(always)]
+fn are_one_text_type(a: &DType, b: &DType) -> bool
+    ensures { result ≡ true → same_type (type_of a.now) (type_of b.now) ≡ true }
+{
+    matches!(
+        (a, b),
+        (DType::Utf8(_), DType::Utf8(_)) | (DType::Binary(_), DType::Binary(_))
+    )
 }

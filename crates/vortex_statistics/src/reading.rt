@@ -116,13 +116,24 @@ fn read_form(
     Ok(())
 }
 
+/// Whether the type has no parts and is no variant. False says nothing.
+#[inline(always)]
+fn is_leaf(dtype: &DType) -> bool
+    ensures { result ≡ true → HasNoVariant (type_of dtype.now) }
+{
+    matches!(
+        dtype,
+        DType::Bool(_) | DType::Primitive(_, _) | DType::Utf8(_) | DType::Binary(_)
+    )
+}
+
 /// `HasVariant` exactly if the flags say a bound, and a variant stands in the type.
 fn expect_keys_of(flags: Flags, dtype: &DType) -> Result<(), StatisticsError>
     ensures ordered { OnOk result (has_bound flags ≡ true → HasNoVariant (type_of dtype.now)) }
     ensures refused { IfErr result (λ e. (e ≡ HasVariant) × (has_bound flags ≡ true)
         × ¬ (HasNoVariant (type_of dtype.now))) }
 {
-    if flags.has_bound() {
+    if flags.has_bound() && !is_leaf(dtype) {
         expect_keys(dtype)
     } else {
         Ok(())
@@ -246,6 +257,7 @@ fn read_last_bound(
 }
 
 /// Puts a bound from a place on, if there is one, in the place of this one. The place after it.
+#[inline(always)]
 fn read_bound(
     alloc: Global,
     dtype: &DType,
@@ -266,8 +278,14 @@ fn read_bound(
             *bound = None;
             Ok(place)
         }
-        BoundState::Inexact => read_there(alloc, dtype, false, bytes, place, bound),
-        BoundState::Exact => read_there(alloc, dtype, true, bytes, place, bound),
+        BoundState::Inexact | BoundState::Exact => read_there(
+            alloc,
+            dtype,
+            matches!(state, BoundState::Exact),
+            bytes,
+            place,
+            bound,
+        ),
     }
 }
 
