@@ -1,6 +1,6 @@
 //! How the values of a zone can stand to a literal.
 
-ghost use Rattle.std.specs.Prelude.{◌≡◌, option_map};
+ghost use Rattle.std.specs.Prelude.{◌≡◌, Some, false, option_map, true};
 ghost use Rattle.vortex_filter.specs.Words.{bound_order, cell_of, cell_order, is_plain, is_plain_bound, known, known_bound, may_fail, may_hold, option_copied, order_from_above, orders, orders_between, rules_out, settles};
 
 use crate::operator::CompareOperator;
@@ -28,13 +28,32 @@ impl Orders {
     {
         let lower = order_of_lower(statistics.lower.as_ref(), literal);
         let upper = order_of_upper(statistics.upper.as_ref(), literal);
-        Orders::between(
-            rules_out(statistics.lower.as_ref(), lower)
-                || rules_out(statistics.upper.as_ref(), upper),
-            settles(statistics.lower.as_ref(), lower) || settles(statistics.upper.as_ref(), upper),
-            lower,
-            upper,
-        )
+        match (lower, upper) {
+            (Some(lower), Some(upper)) if is_plain_bound(statistics.lower.as_ref()) => {
+                Orders::of_both(lower, upper)
+            }
+            _ => Orders::between(
+                rules_out(statistics.lower.as_ref(), lower)
+                    || rules_out(statistics.upper.as_ref(), upper),
+                settles(statistics.lower.as_ref(), lower)
+                    || settles(statistics.upper.as_ref(), upper),
+                lower,
+                upper,
+            ),
+        }
+    }
+
+    /// By how both bounds stand to the literal, each from its own side, if each value compares with
+    /// it.
+    fn of_both(lower: Ordering, upper: Ordering) -> Orders
+        ensures { result ≡ orders_between false true (Some lower) (Some upper) }
+    {
+        Orders {
+            less: !lower.is_ge(),
+            equal: !(lower.is_gt() || upper.is_gt()),
+            greater: !upper.is_ge(),
+            incomparable: false,
+        }
     }
 
     /// By whether no value compares with the literal or each does, and by how the bounds stand to
