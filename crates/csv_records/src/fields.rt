@@ -5,7 +5,8 @@ ghost use Rattle.csv.specs.declared.parser.State.TheVariants.{AfterQuote, InFiel
 ghost use Rattle.csv_records.specs.Words.{AreBare, BeginsBare, HasNoFront, IsCut, field_rows, is_line_end, is_whole, is_whole_from, rows_of};
 
 use crate::delimiter::Delimiter;
-use memchr::{memchr, memchr3};
+use crate::ends::first_end;
+use memchr::memchr;
 use std::alloc::AllocError;
 
 /// The first field of a text that begins where a field does.
@@ -109,7 +110,7 @@ fn bare_end(delimiter: Delimiter, text: &[u8]) -> usize
     ensures joins { AreBare delimiter.byte (take result text.now) }
     ensures ends { HasNoFront delimiter.byte (drop result text.now) }
 {
-    match memchr3(delimiter.byte, b'\r', b'\n', text) {
+    match first_end(delimiter, text) {
         Some(end) => end,
         None => text.len(),
     }

@@ -5,6 +5,7 @@
 #![tactic(auto)]
 
 mod delimiter;
+mod ends;
 mod fields;
 pub mod laws;
 mod places;
