@@ -66,8 +66,9 @@ binary_value column word (Err x) e h = tt
 pub integer_means : (kind : Kind) (p : PType) (word : List ℕ) (z : ℤ) → kind ≡ kinds.Integer p → IsIntegerWord p word z → HasMeaning kind word
 integer_means kind p word z e h = (whole z, subst (λ (k : Kind). Means k word (whole z)) (sym e) (z, h, refl))
 
-pub text_means : (kind : Kind) (word : List ℕ) → kind ≡ kinds.Utf8 → IsUtf8 word → HasMeaning kind word
-text_means kind word e h = (text word, subst (λ (k : Kind). Means k word (text word)) (sym e) (h, refl))
+pub text_meaning : (kind : Kind) (word : List ℕ) (b : Bool) → kind ≡ kinds.Utf8 → MatchBool b (IsUtf8 word) (¬ (IsUtf8 word)) → MatchBool b (HasMeaning kind word) (HasNoMeaning kind word)
+text_meaning kind word true e h = (text word, subst (λ (k : Kind). Means k word (text word)) (sym e) (h, refl))
+text_meaning kind word false e h = text_none kind word e h
 
 binary_meaning : (kind : Kind) (word : List ℕ) (b : Bool) → kind ≡ kinds.Binary → MatchBool b ((bytes : List ℕ) × (decode_of word ≡ Ok bytes)) ((bytes : List ℕ) → ¬ (decode_of word ≡ Ok bytes)) → MatchBool b (HasMeaning kind word) (HasNoMeaning kind word)
 binary_meaning kind word true e h = (string h.0, subst (λ (k : Kind). Means k word (string h.0)) (sym e) (h.0, h.1, refl))

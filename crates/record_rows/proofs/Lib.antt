@@ -1,3 +1,4 @@
+mod AsciiMarks
 pub mod CellLaws
 mod CsvReads
 pub mod Reading

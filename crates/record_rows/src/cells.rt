@@ -9,11 +9,11 @@ ghost use Rattle.vortex_value.specs.Values.Scalars.{IsValid, scalar_content, sca
 ghost use Rattle.record_rows.specs.Cells.{HasCell, HasMeaning, HasNoCell, HasNoMeaning, HasNoValue, IsBinaryCell, IsCell, IsIntegerCell, IsTextCell, IsValueCell, column_type, is_null_field};
 ghost use Rattle.record_rows.specs.Words.{IsIntegerWord};
 
+use crate::ascii::is_text;
 use crate::columns::{ColumnType, Kind};
 use crate::words::integer_of;
 use hex::{FromHexError, decode};
 use std::alloc::{AllocError, Global};
-use std::str;
 use vortex_dtype::{ByteBuffer, DType, Nullability, PType};
 use vortex_value::Scalar;
 
@@ -60,10 +60,7 @@ fn has_meaning(alloc: Global, kind: Kind, word: &[u8]) -> Result<bool, AllocErro
             Some(_) => Ok(true),
             None => Ok(false),
         },
-        Kind::Utf8 => match str::from_utf8(word) {
-            Ok(_) => Ok(true),
-            Err(_) => Ok(false),
-        },
+        Kind::Utf8 => Ok(is_text(word)),
         Kind::Binary => is_hexadecimal(alloc, word),
     }
 }

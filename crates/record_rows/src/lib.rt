@@ -4,6 +4,7 @@
 //! many records: their records and rows, and where one may be cut.
 #![tactic(auto)]
 
+mod ascii;
 mod cells;
 mod columns;
 mod rows;
