@@ -1,6 +1,6 @@
 -- Fields are read one after another.
-use Rattle.std.proofs.Common.{◌≡◌, ◌≢◌, ◌==◌, true, ◌≤◌, ◌<◌, ◌+◌, ℕ, suc, List, [], ◌∷◌, ◌++◌, Bool, false, Option, None, Some, Result, Ok, Err, cond, refl, sym, ap, ◌∙◌, subst, length, take, get_or, arith, take_all}
-use Rattle.std.specs.Prelude.{IfOk, MatchOption}
+use Rattle.std.proofs.Common.{◌≡◌, ◌≢◌, ◌==◌, true, ◌≤◌, ◌<◌, ◌+◌, ℕ, suc, List, [], ◌∷◌, ◌++◌, Bool, false, Option, None, Some, Result, Ok, Err, cond, refl, sym, ap, ◌∙◌, subst, length, length-append, take, get_or, arith, take_all}
+use Rattle.std.specs.Prelude.{IfOk, MatchOption, OnOk, is_ok}
 use Rattle.std.proofs.lemmas.Grind.{take_at_read}
 use Rattle.std.proofs.lemmas.List.Sums.{sum_by_push}
 use Rattle.std.proofs.lemmas.List.{get_or_default, length-take-le}
@@ -126,6 +126,18 @@ refused d l columns bytes i d0 f (faults.Word at found) inside h =
     }
 refused d l columns bytes i d0 f faults.FieldCount inside h = absurd h
 refused d l columns bytes i d0 f faults.LoneReturn inside h = absurd h
+
+-- ---- the scalar at a place
+
+pub stands_at : {X : Type 0} (xs : List X) (i : ℕ) → i < length xs → (x : X) × (take (i + 1) xs ≡ take i xs ++ x ∷ [])
+stands_at [] i inside = absurd (omega arith)
+stands_at (x ∷ xs) i inside = (get_or (x ∷ xs) i x, (take_at_read (x ∷ xs) i x inside).1)
+
+pub put_behind : {A E X : Type 0} (r : Result A E) (old new : List X) (i : ℕ) (x : X) → new ≡ cond (is_ok r) (old ++ x ∷ []) old → length old ≡ i → OnOk r ((y : X) × (take (i + 1) new ≡ take i old ++ y ∷ []))
+put_behind {X = X} (Ok a) old new i x is long =
+    let count : length new ≡ length old + 1 = ap length is ∙ length-append old (x ∷ []) in
+    (x, take_all (i + 1) new (omega (arith, count, long)) ∙ is ∙ ap (λ (l : List X). l ++ x ∷ []) (sym (take_all i old (omega (arith, long)))))
+put_behind {X = X} (Err e) old new i x is long = tt
 
 -- ---- the row of a record
 

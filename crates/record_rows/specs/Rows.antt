@@ -1,5 +1,5 @@
 -- The row of a record.
-use Rattle.std.specs.Prelude.{◌≡◌, ◌<◌, ◌⊎◌, ◌++◌, ℕ, suc, List, [], ◌∷◌, Bool, false, true, count_by, length, slice_index_or}
+use Rattle.std.specs.Prelude.{◌≡◌, ◌<◌, ◌≤◌, ◌⊎◌, ◌++◌, ℕ, suc, List, [], ◌∷◌, Bool, false, true, count_by, length, slice_index_or}
 use Rattle.csv_records.specs.Rows.{Field, field_rows, is_whole_from, rows_of}
 use Rattle.csv_records.specs.Records.{is_whole}
 use Rattle.csv.specs.declared.parser.State.TheVariants as st
@@ -97,6 +97,11 @@ pub record PushesCell (wanted : Bool) (lenient : Bool) (column : ColumnType) (f 
   pub cell : Scalar
   pub is : IsTakenIf wanted lenient column f cell flag
   pub pushed : new ≡ old ++ cell ∷ []
+
+-- the row reaches past this place, and it grew at most so far
+pub record ReachesPast (place : ℕ) (old new : List Scalar) : Type 0 where
+  pub reaches : place < length new
+  pub grown : (n : ℕ) → length old ≤ n → place < n → length new ≤ n
 
 -- ---- refusals
 

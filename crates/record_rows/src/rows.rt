@@ -1,9 +1,9 @@
 //! The row of a record.
 
-ghost use Rattle.std.specs.Prelude.{◌≡◌, ◌+◌, ◌-◌, ◌<◌, ◌^◌, [], IfErr, IfOk, MatchOption, false, true, if◌then◌else◌};
+ghost use Rattle.std.specs.Prelude.{◌≡◌, ◌∷◌, ◌++◌, ◌+◌, ◌-◌, ◌<◌, ◌≤◌, ◌^◌, [], IfErr, IfOk, MatchOption, OnOk, false, length, take, true, if◌then◌else◌};
 ghost use Rattle.csv_records.specs.Rows.{rows_of};
 ghost use Rattle.vortex_dtype.specs.declared.nullability.Nullability.TheVariants.{Nullable};
-ghost use Rattle.record_rows.specs.Rows.{HasFields, IsRow, IsRowIn, IsStrict, IsTested, IsWordFault, PushesCell, Refuses, RefusesFields, RefusesWord, is_wanted};
+ghost use Rattle.record_rows.specs.Rows.{HasFields, IsRow, IsRowIn, IsStrict, IsTested, IsWordFault, PushesCell, ReachesPast, Refuses, RefusesFields, RefusesWord, is_wanted};
 ghost use Rattle.record_rows.specs.declared.rows.RowFault.TheVariants.{Memory};
 
 use crate::cells::{cell_of, is_taken, null_of};
@@ -59,12 +59,14 @@ pub fn read_row(
         (IsRow delimiter.byte is_lenient columns.now line.now row.new.items)) }
     ensures refused { IfErr result (Refuses delimiter.byte is_lenient columns.now line.now) }
 {
+    row.clear();
     read_cells(alloc, delimiter, is_lenient, columns, &[], line, row)
 }
 
 /// The same, if only some cells are wanted: those of the columns at whose place the list has no
 /// `false`. The fields of the other columns are tested and refused alike, and scalars without
-/// meaning stand in place of their cells. So these take no memory.
+/// meaning stand in place of their cells. So these take no memory, nor a step if the row is that of
+/// another record.
 pub fn read_cells(
     alloc: Global,
     delimiter: Delimiter,
@@ -79,11 +81,11 @@ pub fn read_cells(
         (IsRowIn wanted.now delimiter.byte is_lenient columns.now line.now row.new.items)) }
     ensures refused { IfErr result (Refuses delimiter.byte is_lenient columns.now line.now) }
 {
-    row.clear();
     let start = row_start(line);
     if start.is_empty() {
         return Ok(None);
     }
+    row.truncate(columns.len());
     let refused = read_fields(alloc, delimiter, is_lenient, columns, wanted, start, row)?;
     Ok(Some(refused))
 }
@@ -98,7 +100,7 @@ fn read_fields(
     text: &[u8],
     row: &mut Vec<Scalar>,
 ) -> Result<usize, RowFault>
-    requires { row.old.items ≡ [] }
+    requires { length row.old.items ≤ length columns.now }
     ensures fields { IfOk result
         (HasFields wanted.now delimiter.byte is_lenient columns.now text.now row.new.items) }
     ensures refused { IfErr result (RefusesFields delimiter.byte is_lenient columns.now text.now) }
@@ -110,7 +112,7 @@ fn read_fields(
         let cut = cut_field(delimiter, rest, &mut buffer)?;
         let word = word_of(&cut, &buffer);
         let keeps = is_wanted(wanted, place);
-        let flag = push_cell(
+        let flag = put_cell(
             alloc,
             *column,
             place,
@@ -161,8 +163,9 @@ fn is_wanted(wanted: &[bool], place: usize) -> bool
     }
 }
 
-/// Adds the cell of a field if it is wanted, and says whether a null stands in its place.
-fn push_cell(
+/// Puts the cell of a field at its place if it is wanted, and says whether a null stands there
+/// instead. Else any scalar stands there, as one of an earlier record.
+fn put_cell(
     alloc: Global,
     column: ColumnType,
     place: usize,
@@ -172,19 +175,19 @@ fn push_cell(
     keeps: bool,
     row: &mut Vec<Scalar>,
 ) -> Result<bool, RowFault>
+    requires { place ≤ length row.old.items }
     ensures cell { IfOk result (PushesCell keeps is_lenient column
-        (record { text = word.now; is_quoted = is_quoted }) row.old.items row.new.items) }
+        (record { text = word.now; is_quoted = is_quoted })
+        (take place row.old.items) (take (place + 1) row.new.items)) }
+    ensures reaches { OnOk result (ReachesPast place row.old.items row.new.items) }
     ensures refused { IfErr result (RefusesWord is_lenient column place
         (record { text = word.now; is_quoted = is_quoted })) }
 {
     if keeps {
-        push_taken(alloc, column, place, word, is_quoted, is_lenient, row)
+        put_taken(alloc, column, place, word, is_quoted, is_lenient, row)
     } else {
         let flag = test_field(alloc, column, place, word, is_quoted, is_lenient)?;
-        row.push(Scalar {
-            dtype: DType::Null,
-            value: None,
-        })?;
+        fill_at(row, place)?;
         Ok(flag)
     }
 }
@@ -212,8 +215,8 @@ fn test_field(
     }
 }
 
-/// Adds the cell of a field, or a null in its place, and says which.
-fn push_taken(
+/// Puts the cell of a field at its place, or a null, and says which.
+fn put_taken(
     alloc: Global,
     column: ColumnType,
     place: usize,
@@ -222,14 +225,17 @@ fn push_taken(
     is_lenient: bool,
     row: &mut Vec<Scalar>,
 ) -> Result<bool, RowFault>
+    requires { place ≤ length row.old.items }
     ensures cell { IfOk result (PushesCell true is_lenient column
-        (record { text = word.now; is_quoted = is_quoted }) row.old.items row.new.items) }
+        (record { text = word.now; is_quoted = is_quoted })
+        (take place row.old.items) (take (place + 1) row.new.items)) }
+    ensures reaches { OnOk result (ReachesPast place row.old.items row.new.items) }
     ensures refused { IfErr result (RefusesWord is_lenient column place
         (record { text = word.now; is_quoted = is_quoted })) }
 {
     match cell_of(alloc, column, word, is_quoted)? {
         Some(cell) => {
-            row.push(cell)?;
+            put_at(row, place, cell)?;
             Ok(false)
         }
         None => {
@@ -237,9 +243,40 @@ fn push_taken(
                 return Err(word_fault(alloc, place, word));
             }
             let cell = null_of(column);
-            row.push(cell)?;
+            put_at(row, place, cell)?;
             Ok(true)
         }
+    }
+}
+
+/// Puts a cell at its place: where another stands, or behind the last.
+fn put_at(row: &mut Vec<Scalar>, place: usize, cell: Scalar) -> Result<(), AllocFailed<Scalar>>
+    requires { place ≤ length row.old.items }
+    ensures put { OnOk result (take (place + 1) row.new.items ≡ take place row.old.items ++ cell ∷ []) }
+    ensures reaches { OnOk result (ReachesPast place row.old.items row.new.items) }
+{
+    if place < row.len() {
+        row[place] = cell;
+        Ok(())
+    } else {
+        row.push(cell)
+    }
+}
+
+/// Sees that some scalar stands at a place.
+fn fill_at(row: &mut Vec<Scalar>, place: usize) -> Result<(), AllocFailed<Scalar>>
+    requires { place ≤ length row.old.items }
+    ensures put { OnOk result ((cell : Scalar) × (take (place + 1) row.new.items ≡
+        take place row.old.items ++ cell ∷ [])) }
+    ensures reaches { OnOk result (ReachesPast place row.old.items row.new.items) }
+{
+    if place < row.len() {
+        Ok(())
+    } else {
+        row.push(Scalar {
+            dtype: DType::Null,
+            value: None,
+        })
     }
 }
 

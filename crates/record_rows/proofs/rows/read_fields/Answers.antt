@@ -1,6 +1,8 @@
 -- A field more, the last one, and a word that is refused.
-use Rattle.std.proofs.Common.{rules, arith, ap, ◌∙◌, cond, List, ℕ}
+use Rattle.std.proofs.Common.{◌≡◌, ◌<◌, ◌≤◌, ◌+◌, rules, arith, ap, ◌∙◌, cond, subst, refl, List, [], ℕ, length, take, take_all}
 use Rattle.std.proofs.lemmas.Result.{err_from_is_err_and}
+use Rattle.vortex_value.specs.declared.scalars.Scalar.{Scalar}
+use Rattle.record_rows.specs.Rows.{HasFields}
 use Rattle.record_rows.proofs.Reading.{begun, last, more, one_at_most, refused}
 use Rattle.record_rows.proofs.rows.read_fields.Goals as goal
 
@@ -12,16 +14,28 @@ returns-in_err-flag-clause-refused c =
 pub returns-then-place-columns-clause-fields : goal.returns-then-place-columns-clause-fields
 returns-then-place-columns-clause-fields c =
     let text = cond c.in_ok-cut.cut.is_quoted c.cut_field.new.buffer.items c.in_ok-cut.cut.bare.now in
-    last c.args.wanted.now c.args.delimiter.byte c.args.is_lenient c.args.columns.now c.args.text.now c.loop-place.rest.now c.loop-place.place _ c.word_of-word.result.now (record { text = text; is_quoted = c.in_ok-cut.cut.is_quoted }) c.in_ok-cut.cut.follows _ _ c.in_ok-flag.flag c.loop-place.refused c.one_more-refused.result (search rules) (search rules) c.loop-place.invariant.0
-    c.in_ok-cut.ensures c.in-Nothing.is (c.word_of-word.ensures ∙ ap (λ (l : List ℕ). cond c.in_ok-cut.cut.is_quoted l c.in_ok-cut.cut.bare.now) c.deref.ensures.value) (rw c.is_wanted-keeps.ensures at c.in_ok-flag.ensures.cell) c.one_more-refused.ensures
+    let place = c.loop-place.place in
+    let row = c.put_cell.new.row.items in
+    let inside : place < length c.args.columns.now = search rules in
+    let all : place + 1 ≡ length c.args.columns.now = search rules in
+    let long : length row ≤ place + 1 = c.in_ok-flag.ensures.reaches.grown (place + 1) (omega (arith, all, c.loop-place.invariant.3)) (omega arith) in
+    subst (λ (xs : List Scalar). HasFields c.args.wanted.now c.args.delimiter.byte c.args.is_lenient c.args.columns.now c.args.text.now xs c.one_more-refused.result) (take_all (place + 1) row long)
+    (last c.args.wanted.now c.args.delimiter.byte c.args.is_lenient c.args.columns.now c.args.text.now c.loop-place.rest.now place _ c.word_of-word.result.now (record { text = text; is_quoted = c.in_ok-cut.cut.is_quoted }) c.in_ok-cut.cut.follows (take place c.loop-place.row.items) (take (place + 1) row) c.in_ok-flag.flag c.loop-place.refused c.one_more-refused.result inside all c.loop-place.invariant.0
+    c.in_ok-cut.ensures c.in-Nothing.is (c.word_of-word.ensures ∙ ap (λ (l : List ℕ). cond c.in_ok-cut.cut.is_quoted l c.in_ok-cut.cut.bare.now) c.deref.ensures.value) (rw c.is_wanted-keeps.ensures at c.in_ok-flag.ensures.cell) c.one_more-refused.ensures)
 
 pub loop-place-preserved : goal.loop-place-preserved
-loop-place-preserved c = (
-  let text = cond c.in_ok-cut.cut.is_quoted c.cut_field.new.buffer.items c.in_ok-cut.cut.bare.now in
-      more c.args.wanted.now c.args.delimiter.byte c.args.is_lenient c.args.columns.now c.args.text.now c.loop-place.rest.now c.in-Another.next c.loop-place.place _ c.word_of-word.result.now (record { text = text; is_quoted = c.in_ok-cut.cut.is_quoted }) c.in_ok-cut.cut.follows _ _ c.in_ok-flag.flag c.loop-place.refused c.one_more-refused.result (search rules) c.loop-place.invariant.0
-      c.in_ok-cut.ensures c.in-Another.is (c.word_of-word.ensures ∙ ap (λ (l : List ℕ). cond c.in_ok-cut.cut.is_quoted l c.in_ok-cut.cut.bare.now) c.deref.ensures.value) (rw c.is_wanted-keeps.ensures at c.in_ok-flag.ensures.cell) c.one_more-refused.ensures,
-  omega (arith, one_at_most c.in_ok-flag.flag, c.one_more-refused.ensures),
-)
+loop-place-preserved c =
+    let text = cond c.in_ok-cut.cut.is_quoted c.cut_field.new.buffer.items c.in_ok-cut.cut.bare.now in
+    let place = c.loop-place.place in
+    let row = c.put_cell.new.row.items in
+    let inside : place < length c.args.columns.now = search rules in
+    let reach = c.in_ok-flag.ensures.reaches in (
+      more c.args.wanted.now c.args.delimiter.byte c.args.is_lenient c.args.columns.now c.args.text.now c.loop-place.rest.now c.in-Another.next place _ c.word_of-word.result.now (record { text = text; is_quoted = c.in_ok-cut.cut.is_quoted }) c.in_ok-cut.cut.follows (take place c.loop-place.row.items) (take (place + 1) row) c.in_ok-flag.flag c.loop-place.refused c.one_more-refused.result inside c.loop-place.invariant.0
+          c.in_ok-cut.ensures c.in-Another.is (c.word_of-word.ensures ∙ ap (λ (l : List ℕ). cond c.in_ok-cut.cut.is_quoted l c.in_ok-cut.cut.bare.now) c.deref.ensures.value) (rw c.is_wanted-keeps.ensures at c.in_ok-flag.ensures.cell) c.one_more-refused.ensures,
+      omega (arith, one_at_most c.in_ok-flag.flag, c.one_more-refused.ensures),
+      omega (arith, reach.reaches),
+      reach.grown (length c.args.columns.now) c.loop-place.invariant.3 inside,
+    )
 
 pub loop-place-init : goal.loop-place-init
-loop-place-init c = (begun c.args.wanted.now c.args.delimiter.byte c.args.is_lenient c.args.columns.now c.args.text.now c.args.row.now.items c.requires, omega arith)
+loop-place-init c = (begun c.args.wanted.now c.args.delimiter.byte c.args.is_lenient c.args.columns.now c.args.text.now [] refl, omega arith, omega arith, c.requires)
