@@ -63,8 +63,9 @@ binary_value column word (Err x) e h = tt
 
 -- ---- words that mean something
 
-pub integer_means : (kind : Kind) (p : PType) (word : List ℕ) (z : ℤ) → kind ≡ kinds.Integer p → IsIntegerWord p word z → HasMeaning kind word
-integer_means kind p word z e h = (whole z, subst (λ (k : Kind). Means k word (whole z)) (sym e) (z, h, refl))
+pub integer_meaning : (kind : Kind) (p : PType) (word : List ℕ) (b : Bool) → kind ≡ kinds.Integer p → MatchBool b ((z : ℤ) × IsIntegerWord p word z) ((z : ℤ) → ¬ (IsIntegerWord p word z)) → MatchBool b (HasMeaning kind word) (HasNoMeaning kind word)
+integer_meaning kind p word true e h = (whole h.0, subst (λ (k : Kind). Means k word (whole h.0)) (sym e) (h.0, h.1, refl))
+integer_meaning kind p word false e h = integer_none p kind word e h
 
 pub text_meaning : (kind : Kind) (word : List ℕ) (b : Bool) → kind ≡ kinds.Utf8 → MatchBool b (IsUtf8 word) (¬ (IsUtf8 word)) → MatchBool b (HasMeaning kind word) (HasNoMeaning kind word)
 text_meaning kind word true e h = (text word, subst (λ (k : Kind). Means k word (text word)) (sym e) (h, refl))

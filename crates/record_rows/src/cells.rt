@@ -11,7 +11,7 @@ ghost use Rattle.record_rows.specs.Words.{IsIntegerWord};
 
 use crate::ascii::is_text;
 use crate::columns::{ColumnType, Kind};
-use crate::words::integer_of;
+use crate::words::{integer_of, is_integer};
 use hex::{FromHexError, decode};
 use std::alloc::{AllocError, Global};
 use vortex_dtype::{ByteBuffer, DType, Nullability, PType};
@@ -56,10 +56,7 @@ fn has_meaning(alloc: Global, kind: Kind, word: &[u8]) -> Result<bool, AllocErro
     ensures { IfOk result (λ has. MatchBool has (HasMeaning kind word.now) (HasNoMeaning kind word.now)) }
 {
     match kind {
-        Kind::Integer(ptype) => match integer_of(word, ptype) {
-            Some(_) => Ok(true),
-            None => Ok(false),
-        },
+        Kind::Integer(ptype) => Ok(is_integer(word, ptype)),
         Kind::Utf8 => Ok(is_text(word)),
         Kind::Binary => is_hexadecimal(alloc, word),
     }

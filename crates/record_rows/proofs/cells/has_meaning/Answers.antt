@@ -1,11 +1,9 @@
 -- A word of each kind means something, or nothing.
-use Rattle.record_rows.proofs.CellLaws.{binary_meanings, integer_means, text_meaning}
+use Rattle.record_rows.proofs.CellLaws.{binary_meanings, integer_meaning, text_meaning}
 use Rattle.record_rows.proofs.cells.has_meaning.Goals as goal
 
-pub returns-in-Some : goal.returns-in-Some
-returns-in-Some c =
-    let h = c.in-Some.ensures in
-    integer_means c.args.kind c.in-Integer.ptype c.args.word.now h.0 c.in-Integer.is h.1
+pub returns-in-Integer : goal.returns-in-Integer
+returns-in-Integer c = integer_meaning c.args.kind c.in-Integer.ptype c.args.word.now c.is_integer.result c.in-Integer.is c.is_integer.ensures
 
 pub returns-in-Utf8 : goal.returns-in-Utf8
 returns-in-Utf8 c = text_meaning c.args.kind c.args.word.now c.is_text.result c.in-Utf8.is c.is_text.ensures
