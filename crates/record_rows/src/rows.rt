@@ -65,8 +65,8 @@ pub fn read_row(
 
 /// The same, if only some cells are wanted: those of the columns at whose place the list has no
 /// `false`. The fields of the other columns are tested and refused alike, and scalars without
-/// meaning stand in place of their cells. So these take no memory, nor a step if the row is that of
-/// another record.
+/// meaning stand in place of their cells. So these take no memory. The row of another record may be
+/// given: its scalars then stand there, and cost nothing.
 pub fn read_cells(
     alloc: Global,
     delimiter: Delimiter,
