@@ -9,6 +9,7 @@ use Rattle.csv.specs.Machine.{step}
 use Rattle.csv.specs.declared.parser.State.{State}
 use Rattle.csv.specs.declared.parser.State.TheVariants as st
 use Rattle.memchr.specs.Find.{NoneBefore, Nowhere, Passes, is_byte, is_byte2}
+use Rattle.csv_records.specs.Lemmas.RecordLaws.{EndsRecord}
 use Rattle.csv_records.specs.Records.{is_start, records_from, records_of, state_at}
 use Rattle.csv_records.specs.Rows.{config_of, rows_of, state_after}
 use Rattle.csv_records.specs.declared.places.Place.{Place}
@@ -176,16 +177,27 @@ or_second : (a b : Bool) → b ≡ true → (a || b) ≡ true
 or_second true b e = refl
 or_second false b e = e
 
+-- a line without a quote, and where it leads
+plain_line : (d : ℕ) (text : List ℕ) (place : ℕ) → d ≢ 10 → NoneBefore (Passes (is_byte2 10 34) text) 0 (length text) place → get_or text place 0 ≡ 10
+    → (take (place + 1) text ≡ take place text ++ 10 ∷ []) × (state_after d st.StartRecord (take (place + 1) text) ≡ st.StartRecord)
+plain_line d text place other first feed =
+    let front = take place text in
+    let long = length-take place text in
+    let whole : take (place + 1) text ≡ front ++ 10 ∷ [] = (take_at_read text place 0 first.high).1 ∙ ap (λ b. front ++ b ∷ []) feed in
+    let quotes : (k : ℕ) → k < length front → get_or front k 0 ≢ 34 = λ k below e. first.before k (omega arith) (omega (arith, first.high, long, below))
+    (or_second (get_or text k 0 == 10) (get_or text k 0 == 34) (eq-eqb (get_or text k 0) 34 (sym (get_or-take place text k 0 (omega (arith, first.high, long, below))) ∙ e))) in
+    (whole, ap (state_after d st.StartRecord) whole ∙ plain_leads d st.StartRecord front refl other quotes)
+
+pub plain_ends : (d : ℕ) (text : List ℕ) (place end : ℕ) → d ≢ 10 → end ≡ place + 1 → NoneBefore (Passes (is_byte2 10 34) text) 0 (length text) place → get_or text place 0 ≡ 10 → EndsRecord d (take end text)
+plain_ends d text place end other is first feed =
+    let line = plain_line d text place other first feed in
+    subst (λ (n : ℕ). EndsRecord d (take n text)) (sym is) (record { front = take place text; is = line.0; start = line.1 })
+
 -- the first line ends the record if it has no quote
 pub plain_ended : (d : ℕ) (text : List ℕ) (place end : ℕ) → d ≢ 10 → end ≡ place + 1 → NoneBefore (Passes (is_byte2 10 34) text) 0 (length text) place → get_or text place 0 ≡ 10 → Ended d text end
 plain_ended d text place end other is first feed =
-    let front = take place text in
     let inside : place < length text = first.high in
-    let long = length-take place text in
-    let whole : take (place + 1) text ≡ front ++ 10 ∷ [] = (take_at_read text place 0 inside).1 ∙ ap (λ b. front ++ b ∷ []) feed in
-    let quotes : (k : ℕ) → k < length front → get_or front k 0 ≢ 34 = λ k below e. first.before k (omega arith) (omega (arith, long, below))
-    (or_second (get_or text k 0 == 10) (get_or text k 0 == 34) (eq-eqb (get_or text k 0) 34 (sym (get_or-take place text k 0 (omega (arith, long, below))) ∙ e))) in
-    let leads : st.StartRecord ≡ state_after d st.StartRecord (take (place + 1) text) = sym (ap (state_after d st.StartRecord) whole ∙ plain_leads d st.StartRecord front refl other quotes) in
+    let leads : st.StartRecord ≡ state_after d st.StartRecord (take (place + 1) text) = sym (plain_line d text place other first feed).1 in
     let next : IsNextFeed text 0 place = record {
       found = (
         record { low = omega arith; high = inside; before = λ k low below p. first.before k low below (or_first (get_or text k 0 == 10) (get_or text k 0 == 34) p) },

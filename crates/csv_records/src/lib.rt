@@ -14,4 +14,4 @@ mod records;
 pub use delimiter::Delimiter;
 pub use fields::{CutField, Follows, cut_field, row_start};
 pub use places::{Place, place_after_line};
-pub use records::cut_record;
+pub use records::{cut_record, plain_end};

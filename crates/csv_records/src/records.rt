@@ -1,7 +1,7 @@
 //! Records are cut from the front of a text.
 
 ghost use Rattle.std.specs.Prelude.{◌≡◌, ◌∷◌, ◌++◌, ◌<◌, ◌≤◌, [], IfNone, IfSome, drop, length, take};
-ghost use Rattle.csv_records.specs.Words.{records_of, rows_of};
+ghost use Rattle.csv_records.specs.Words.{EndsRecord, records_of, rows_of};
 
 use crate::delimiter::Delimiter;
 use crate::places::{Place, place_after_line};
@@ -51,8 +51,10 @@ fn record_end(delimiter: Delimiter, text: &[u8]) -> Option<usize>
 }
 
 /// The place behind the first line feed, if no quote stands before it: the first record ends there.
-fn plain_end(delimiter: Delimiter, text: &[u8]) -> Option<usize>
+pub fn plain_end(delimiter: Delimiter, text: &[u8]) -> Option<usize>
     ensures within { IfSome result (λ end. (0 < end) × (end ≤ length text.now)) }
+    // Whatever stands behind it: it ends with its line feed, and another record may start there.
+    ensures ends { IfSome result (λ end. EndsRecord delimiter.byte (take end text.now)) }
     ensures cut { IfSome result (λ end. records_of delimiter.byte text.now ≡
         take end text.now ∷ records_of delimiter.byte (drop end text.now)) }
     ensures rows { IfSome result (λ end. rows_of delimiter.byte text.now ≡

@@ -1,14 +1,19 @@
 -- A line more is taken.
-use Rattle.std.proofs.Common.{◌≡◌, ◌≢◌, ◌<◌, ◌+◌, ◌⊎◌, inl, inr, ℕ, List, [], ◌∷◌, ◌++◌, ◌==◌, Bool, true, false, Option, Some, IfSome, refl, sym, ap, ◌∙◌, subst, cond, length, drop, arith, append_assoc, append-nil, drop_at}
+use Rattle.std.proofs.Common.{◌≡◌, ◌≢◌, ◌<◌, ◌≤◌, ◌+◌, ◌-◌, ◌⊎◌, inl, inr, ℕ, List, [], ◌∷◌, ◌++◌, ◌==◌, Bool, true, false, Option, None, Some, IfSome, refl, sym, ap, ◌∙◌, subst, cond, length, take, drop, arith, append_assoc, append-nil, drop_at}
 use Rattle.std.proofs.lemmas.Bool.{eqb-true}
-use Rattle.std.specs.Io.KnownBytes.{IsAtEnd}
+use Rattle.std.proofs.KnownBytes.{starts_with_rest}
+use Rattle.std.specs.Io.{StartsWith, appended_bytes}
+use Rattle.std.specs.Io.KnownBytes.{Consumes, IsAtEnd}
 use Rattle.std.specs.Io.BufRead.{take_through, drop_through, DropsThrough}
 use Rattle.csv.specs.declared.parser.State.{State}
 use Rattle.csv.specs.declared.parser.State.TheVariants as st
 use Rattle.csv_records.specs.Lemmas.RecordLaws.{EndsRecord, records_of-append, start_is, state_after-append}
-use Rattle.csv_records.specs.Records.{is_start, records_of}
+use Rattle.csv_records.specs.Records.{is_start, records_of, state_at}
 use Rattle.csv_records.specs.Rows.{state_after}
-use Rattle.zone_index.specs.Taking.{IsTaken}
+use Rattle.csv_records.specs.declared.places.Place.{Place}
+use Rattle.csv_records.specs.declared.places.Place.TheVariants.{Fresh}
+use Rattle.zone_index.specs.Taking.{AreWhole, IsTaken}
+use lib.Seq.{take-add}
 
 through_step : (x : ℕ) (xs : List ℕ) (b : Bool) → (x == 10) ≡ b → take_through 10 xs ++ drop_through 10 xs ≡ xs → take_through 10 (x ∷ xs) ++ drop_through 10 (x ∷ xs) ≡ x ∷ xs
 through_step x xs true e h = rw e refl
@@ -119,10 +124,77 @@ stays d bytes text more old new s t given drops at_end =
       λ none. all ∙ none,
     )
 
-pub one_started : (taken size : ℕ) (b : Bool) → taken < size → taken + (cond b 1 0) ≡ size → b ≡ true
-one_started taken size true below e = refl
-one_started taken size false below e = absurd (omega arith)
+pub stays_below : (taken size mid n : ℕ) (b : Bool) → taken < size → mid ≡ taken + (cond b 1 0) → n ≤ size - mid → mid + n ≢ size → mid + n < size
+stays_below taken size mid n true below e few other = omega arith
+stays_below taken size mid n false below e few other = omega arith
 
-pub stays_below : (taken size now : ℕ) (b : Bool) → taken < size → now ≡ taken + (cond b 1 0) → now ≢ size → now < size
-stays_below taken size now true below e other = omega arith
-stays_below taken size now false below e other = omega arith
+-- ---- records without quotes
+
+whole_both : (d : ℕ) (xs ys : List ℕ) → EndsRecord d xs → EndsRecord d ys → EndsRecord d (xs ++ ys)
+whole_both d xs ys g h = record {
+  front = xs ++ h.front;
+  is = ap (λ (l : List ℕ). xs ++ l) h.is ∙ sym (append_assoc xs h.front (10 ∷ []));
+  start = state_after-append d st.StartRecord xs ys ∙ ap (λ (r : State). state_after d r ys) g.start ∙ h.start;
+}
+
+-- a record more
+pub whole_more : (d : ℕ) (bytes line : List ℕ) (end n : ℕ) → line ≡ drop end bytes → AreWhole d st.StartRecord (take end bytes) → EndsRecord d (take n line) → AreWhole d st.StartRecord (take (end + n) bytes)
+whole_more d bytes line end n same before h =
+    let here : EndsRecord d (take n (drop end bytes)) = subst (λ (l : List ℕ). EndsRecord d (take n l)) same h in
+    let parts : take (end + n) bytes ≡ take end bytes ++ take n (drop end bytes) = take-add end n bytes in
+    let all : EndsRecord d (take end bytes ++ take n (drop end bytes)) = elim before [
+      | inl none ↦ subst (EndsRecord d) (ap (λ (l : List ℕ). l ++ take n (drop end bytes)) (sym none)) here
+      | inr g ↦ whole_both d (take end bytes) (take n (drop end bytes)) g.1 here
+    ] in
+    inr (refl, subst (EndsRecord d) (sym parts) all)
+
+-- these records follow what was taken
+pub taking_plain : (d : ℕ) (bytes text more : List ℕ) (old new : Option (List ℕ)) (s : State) → Taking d bytes text old s → StartsWith more text → Consumes old new (appended_bytes text more) → AreWhole d s (appended_bytes text more) → Taking d bytes more new s
+taking_plain d bytes text more old new s t appends consumes whole =
+    by_left new (subst (λ (o : Option (List ℕ)). Consumes o new front) t.is consumes)
+  where
+    front : List ℕ
+    front = appended_bytes text more
+
+    more_is : more ≡ text ++ front
+    more_is = starts_with_rest more text appends
+
+    leads : (s ≡ st.StartRecord) × EndsRecord d front → state_after d s front ≡ s
+    leads h = ap (λ (r : State). state_after d r front) h.0 ∙ h.1.start ∙ sym h.0
+
+    state : AreWhole d s front → state_after d s front ≡ s
+    state (inl none) = ap (state_after d s) none
+    state (inr h) = leads h
+
+    ends : (rest : List ℕ) → t.rest ≡ front ++ rest → AreWhole d s front → (more ≡ []) ⊎ EndsWithFeed more ⊎ (rest ≡ [])
+    ends rest is (inr h) = inr (inl (subst EndsWithFeed (sym more_is) (feed_after text front (h.1.front, h.1.is))))
+    ends rest is (inl none) =
+        let same : more ≡ text = more_is ∙ ap (λ (l : List ℕ). text ++ l) none ∙ append-nil text in
+        let left : t.rest ≡ rest = is ∙ ap (λ (l : List ℕ). l ++ rest) none in
+        elim t.ends [
+          | inl nothing ↦ inl (same ∙ nothing)
+          | inr others ↦ elim others [
+            | inl feed ↦ inr (inl (subst EndsWithFeed (sym same) feed))
+            | inr done ↦ inr (inr (sym left ∙ done))
+          ]
+        ]
+
+    by_left : (o : Option (List ℕ)) → Consumes (Some t.rest) o front → Taking d bytes more o s
+    by_left None h = absurd h
+    by_left (Some rest) h = record {
+      rest = rest;
+      is = refl;
+      parts = t.parts ∙ ap (λ (l : List ℕ). text ++ l) h ∙ sym (append_assoc text front rest) ∙ ap (λ (l : List ℕ). l ++ rest) (sym more_is);
+      state = ap (state_after d st.StartRecord) more_is ∙ state_after-append d st.StartRecord text front ∙ ap (λ (r : State). state_after d r front) t.state ∙ state whole;
+      ends = ends rest h whole;
+    }
+
+-- a record may start where as many were taken as were asked for
+pub full_start : (taken size mid n : ℕ) (p : Place) → taken < size → mid ≡ taken + (cond (is_start (state_at p)) 1 0) → (0 < n → p ≡ Fresh) → mid + n ≡ size → is_start (state_at p) ≡ true
+full_start taken size mid n p below counted fresh e = by_start (is_start (state_at p)) refl
+  where
+    by_start : (b : Bool) → is_start (state_at p) ≡ b → is_start (state_at p) ≡ true
+    by_start true is = is
+    by_start false is =
+        let same : mid ≡ taken = counted ∙ ap (λ (b : Bool). taken + (cond b 1 0)) is ∙ omega arith in
+        ap (λ (q : Place). is_start (state_at q)) (fresh (omega (arith, same)))

@@ -1,5 +1,8 @@
 -- Whole records are taken from the front of a stream.
-use Rattle.std.specs.Prelude.{◌≡◌, ℕ, List, ◌++◌, Option, Some}
+use Rattle.std.specs.Prelude.{◌≡◌, ◌⊎◌, ℕ, List, [], ◌++◌, Option, Some}
+use Rattle.csv.specs.declared.parser.State.{State}
+use Rattle.csv.specs.declared.parser.State.TheVariants as st
+use Rattle.csv_records.specs.Lemmas.RecordLaws.{EndsRecord}
 use Rattle.csv_records.specs.Records.{records_of}
 
 -- the text was taken from the front of the bytes, whole records of it, and the rest is left
@@ -8,3 +11,7 @@ pub record IsTaken (delimiter : ℕ) (bytes text : List ℕ) (left : Option (Lis
   pub is : left ≡ Some rest
   pub parts : bytes ≡ text ++ rest
   pub records : records_of delimiter bytes ≡ records_of delimiter text ++ records_of delimiter rest
+
+-- no bytes, or whole records, after a place where one may start; another may start behind them
+abbrev pub AreWhole : ℕ → State → List ℕ → Type 0
+AreWhole delimiter s bytes = (bytes ≡ []) ⊎ ((s ≡ st.StartRecord) × EndsRecord delimiter bytes)

@@ -1,15 +1,18 @@
 //! Zones of whole records are read from a stream.
 
-ghost use Rattle.std.specs.Prelude.{◌≡◌, ◌≢◌, ◌<◌, ◌+◌, ◌-◌, ◌^◌, ℕ, List, [], Some, IfErr, OnOk, if◌then◌else◌};
+ghost use Rattle.std.specs.Prelude.{◌≡◌, ◌≢◌, ◌<◌, ◌≤◌, ◌+◌, ◌-◌, ◌^◌, ℕ, List, [], Some, IfErr, IfOk, OnOk, length, take, if◌then◌else◌};
+ghost use Rattle.std.specs.Io.{StartsWith, appended_bytes};
+ghost use Rattle.std.specs.Io.KnownBytes.{Consumes};
 ghost use Rattle.csv_records.specs.Records.{is_start, state_at};
+ghost use Rattle.csv_records.specs.declared.places.Place.TheVariants.{Fresh};
 ghost use Rattle.zone_index.specs.Faults.{IsOfReading};
-ghost use Rattle.zone_index.specs.Taking.{IsTaken};
-ghost use Rattle.zone_index.specs.declared.faults.Fault.TheVariants.{Write as WriteFault};
+ghost use Rattle.zone_index.specs.Taking.{AreWhole, IsTaken};
+ghost use Rattle.zone_index.specs.declared.faults.Fault.TheVariants.{Read as ReadFault, Write as WriteFault};
 
 use crate::faults::Fault;
 use crate::lines::read_line;
-use csv_records::{Delimiter, Place, place_after_line};
-use std::io::BufRead;
+use csv_records::{Delimiter, Place, place_after_line, plain_end};
+use std::io::{self, BufRead, ErrorKind};
 
 /// Reads so many whole records, or all that are left.
 pub fn take_records<B: BufRead>(
@@ -39,6 +42,7 @@ pub fn take_records<B: BufRead>(
         }
         place = place_after_line(delimiter, place, &text[before..]);
         taken = counted(taken, place);
+        taken += take_plain(delimiter, place, size - taken, text, reader)?;
         if taken == size {
             return Ok(());
         }
@@ -55,4 +59,82 @@ fn counted(taken: u64, place: Place) -> u64
         Place::Fresh => taken + 1,
         _ => taken,
     }
+}
+
+/// Takes the records without a quote that the reader has at hand, up to so many, where one may start
+/// here. Says how many they are.
+fn take_plain<B: BufRead>(
+    delimiter: Delimiter,
+    place: Place,
+    most: u64,
+    text: &mut Vec<u8>,
+    reader: &mut B,
+) -> Result<u64, Fault>
+    ensures few { IfOk result (λ n. n ≤ most) }
+    ensures fresh { IfOk result (λ n. 0 < n → place ≡ Fresh) }
+    ensures appends { OnOk result (StartsWith text.new.items text.old.items) }
+    ensures bytes { OnOk result (Consumes (B.remaining reader.old) (B.remaining reader.new)
+        (appended_bytes text.old.items text.new.items)) }
+    ensures whole { OnOk result (AreWhole delimiter.byte (state_at place)
+        (appended_bytes text.old.items text.new.items)) }
+    ensures why { IfErr result (λ fault. fault ≡ ReadFault) }
+{
+    match place {
+        Place::Fresh => match append_plain(delimiter, most, text, reader) {
+            Ok(count) => Ok(count),
+            Err(_) => Err(Fault::Read),
+        },
+        _ => Ok(0),
+    }
+}
+
+/// Appends the records without a quote that the reader has at hand, up to so many, and says how many
+/// they are.
+fn append_plain<B: BufRead>(
+    delimiter: Delimiter,
+    most: u64,
+    text: &mut Vec<u8>,
+    reader: &mut B,
+) -> io::Result<u64>
+    ensures few { IfOk result (λ n. n ≤ most) }
+    ensures appends { StartsWith text.new.items text.old.items }
+    ensures bytes { Consumes (B.remaining reader.old) (B.remaining reader.new)
+        (appended_bytes text.old.items text.new.items) }
+    ensures whole { AreWhole delimiter.byte (state_at Fresh) (appended_bytes text.old.items text.new.items) }
+{
+    let available = match reader.fill_buf() {
+        Ok(available) => available,
+        Err(error) => {
+            return if error.kind() == ErrorKind::Interrupted {
+                Ok(0)
+            } else {
+                Err(error)
+            };
+        }
+    };
+    let (end, count) = plain_front(delimiter, most, available);
+    text.extend_from_slice(&available[..end])?;
+    reader.consume(end);
+    Ok(count)
+}
+
+/// How many bytes the first records have, up to so many and to the first that has a quote or no line
+/// feed, and how many these are.
+fn plain_front(delimiter: Delimiter, most: u64, bytes: &[u8]) -> (usize, u64)
+    ensures within { result.0 ≤ length bytes.now }
+    ensures few { result.1 ≤ most }
+    ensures whole { AreWhole delimiter.byte (state_at Fresh) (take result.0 bytes.now) }
+{
+    let mut end = 0;
+    let mut count = 0;
+    while count < most {
+        match plain_end(delimiter, &bytes[end..]) {
+            Some(length) => {
+                end += length;
+                count += 1;
+            }
+            None => return (end, count),
+        }
+    }
+    (end, count)
 }

@@ -1,5 +1,5 @@
 -- Nothing more, or bytes up to a line feed.
-use Rattle.std.proofs.Common.{◌≡◌, ◌≢◌, ◌-◌, All, Ok, take, drop, refl, sym, ap, subst, ◌∙◌, rules, arith, eq-eqb, eqb-true, get_or, get_or-take, length, le_refl, length-take-le, drop_of_length-le, []}
+use Rattle.std.proofs.Common.{◌≡◌, ◌≢◌, ◌-◌, All, Ok, take, drop, sym, ap, subst, ◌∙◌, rules, arith, eq-eqb, eqb-true, get_or, get_or-take, length, le_refl, length-take-le, drop_of_length-le, []}
 use Rattle.std.proofs.lemmas.List.Elements.{All-more}
 use Rattle.std.specs.Io.{StopsAt, IsEmptyOrEndsWith}
 use Rattle.std.specs.Io.KnownBytes.{Consumes}

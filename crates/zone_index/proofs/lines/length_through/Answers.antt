@@ -1,5 +1,5 @@
 -- No byte before the first line feed is one.
-use Rattle.std.proofs.Common.{◌≡◌, ◌≢◌, ◌<◌, ◌≤◌, ◌+◌, ◌-◌, ◌==◌, ℕ, List, All, true, arith, eq-eqb, get_or, get_or-take, length, take, subst, sym, ap, ◌∙◌, min}
+use Rattle.std.proofs.Common.{◌≢◌, ◌<◌, ◌≤◌, ◌+◌, ◌-◌, ℕ, List, All, arith, eq-eqb, get_or, get_or-take, length, take, sym, ◌∙◌}
 use Rattle.std.proofs.lemmas.List.{get_or_default, length-take}
 use Rattle.memchr.specs.Find.{Nowhere, Passes, is_byte}
 use Rattle.zone_index.proofs.lines.length_through.Goals as goal
