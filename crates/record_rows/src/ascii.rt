@@ -41,7 +41,7 @@ fn is_ascii(word: &[u8]) -> bool
     are_ascii(word, last)
 }
 
-/// The same, a byte at a time.
+/// Whether each byte of a short word is of ASCII.
 fn is_short_ascii(word: &[u8]) -> bool
     ensures { result ≡ true → IsAscii word.now }
 {
