@@ -52,6 +52,7 @@ pub fn row_start(line: &[u8]) -> &[u8]
 
 /// Cuts the first field of a text that begins where a field does. The bytes of one in quotes go to
 /// the buffer, without the quotes around them and with one quote for two.
+#[inline(always)]
 pub fn cut_field<'a>(
     delimiter: Delimiter,
     text: &'a [u8],
