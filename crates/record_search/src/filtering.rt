@@ -10,6 +10,7 @@ use crate::schema::Schema;
 use csv_records::Delimiter;
 use std::alloc::{AllocError, Global};
 use vortex_filter::{Filter, Outcomes};
+use vortex_value::Scalar;
 use zone_index::{Decision, Matcher, RecordFault, Records};
 
 /// Of how many columns it is known whether a filter names them. Others are read as if it did.
@@ -43,12 +44,25 @@ impl Matcher for RowFilter<'_> {
 
     ghost decides = { λ m. decision_of m.schema.now.columns.items (formula m.filter.now) };
 
-    fn is_match(&self, alloc: Global, line: &[u8]) -> Result<bool, RecordFault> {
+    type Scratch = Vec<Scalar>;
+
+    fn scratch(&self, alloc: Global) -> Vec<Scalar> {
+        Vec::new(alloc)
+    }
+
+    fn is_match(
+        &self,
+        alloc: Global,
+        scratch: &mut Vec<Scalar>,
+        line: &[u8],
+    ) -> Result<bool, RecordFault> {
         let mut wanted = [false; COLUMNS];
         mark_columns(self.filter, &mut wanted);
-        match self.schema.cells(alloc, 0, &wanted, line)? {
-            Some(row) => Ok(self.filter.matches(&row)),
-            None => Ok(false),
+        let has_row = self.schema.cells(alloc, 0, &wanted, line, scratch)?;
+        if has_row {
+            Ok(self.filter.matches(scratch))
+        } else {
+            Ok(false)
         }
     }
 

@@ -1,9 +1,9 @@
 //! How the records of a file are read as rows.
 
-ghost use Rattle.std.specs.Prelude.{◌≡◌, IfErr, IfOk, option_map};
+ghost use Rattle.std.specs.Prelude.{◌≡◌, None, Some, IfErr, IfOk, if◌then◌else◌, map, option_map};
 ghost use Rattle.vortex_dtype.specs.TypeOf.{type_of};
 ghost use Rattle.record_rows.specs.Cells.{column_type};
-ghost use Rattle.record_search.specs.Words.{AgreeAsRows, IfRecordRefused, RefusesRecord, TellsRecord, fault_at_place, row_cells, row_under};
+ghost use Rattle.record_search.specs.Words.{AgreeAsRows, IfRecordRefused, RefusesRecord, TellsRecord, cell_of, fault_at_place, row_cells, row_under};
 
 use csv_records::Delimiter;
 use record_rows::{ColumnType, Kind, RowFault, read_cells, read_row};
@@ -52,20 +52,20 @@ impl Schema {
         }
     }
 
-    /// The same, of which only some cells are wanted: those of the columns at whose place the list
-    /// has no `false`.
+    /// Reads the same into a vector that is used again, and says whether there is a row. Only some
+    /// cells are wanted: those of the columns at whose place the list has no `false`.
     pub(crate) fn cells(
         &self,
         alloc: Global,
         place: u64,
         wanted: &[bool],
         line: &[u8],
-    ) -> Result<Option<Vec<Scalar>>, RecordFault>
-        ensures row { IfOk result (λ row.
-            AgreeAsRows wanted.now (option_map row_cells row) (row_under self.now line.now)) }
+        row: &mut Vec<Scalar>,
+    ) -> Result<bool, RecordFault>
+        ensures row { IfOk result (λ has. AgreeAsRows wanted.now
+            (if has then Some (map cell_of row.new.items) else None) (row_under self.now line.now)) }
         ensures refused { IfErr result (IfRecordRefused (TellsRecord (RefusesRecord self.now) place line.now)) }
     {
-        let mut row = Vec::with_capacity(alloc, self.columns.len())?;
         match read_cells(
             alloc,
             self.delimiter,
@@ -73,17 +73,17 @@ impl Schema {
             &self.columns,
             wanted,
             line,
-            &mut row,
+            row,
         ) {
-            Ok(Some(_)) => Ok(Some(row)),
-            Ok(None) => Ok(None),
+            Ok(Some(_)) => Ok(true),
+            Ok(None) => Ok(false),
             Err(fault) => Err(record_fault(place, fault)),
         }
     }
 }
 
 /// The fault of a record that stands at this place.
-fn record_fault(place: u64, fault: RowFault) -> RecordFault
+pub(crate) fn record_fault(place: u64, fault: RowFault) -> RecordFault
     ensures { result ≡ fault_at_place place fault }
 {
     let cause = match fault {

@@ -95,11 +95,12 @@ pub(crate) fn count_in<M: Matcher>(
         (records_of (M.delimiter matcher.now) text.now))) }
 {
     let mut hits = 0u64;
+    let mut scratch = matcher.scratch(alloc);
     let mut rest = text;
     while !rest.is_empty() {
         let place = first.saturating_add((text.len() - rest.len()) as u64);
         let (line, after) = cut_record(matcher.delimiter_byte(), rest);
-        let hit = is_hit(alloc, place, line, matcher)?;
+        let hit = is_hit(alloc, place, line, matcher, &mut scratch)?;
         hits = one_more(hits, hit);
         rest = after;
     }

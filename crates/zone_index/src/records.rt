@@ -72,8 +72,19 @@ pub trait Matcher: Records {
     // What statistics decide.
     ghost decides: { Self → List ℕ → Decision };
 
+    /// Room that is used again from record to record. What stands in it does not matter.
+    type Scratch: Drop;
+
+    /// Such room, with nothing in it.
+    fn scratch(&self, alloc: Global) -> Self::Scratch;
+
     /// Whether a record has a row, which matches. `Refused` with the place 0.
-    fn is_match(&self, alloc: Global, line: &[u8]) -> Result<bool, RecordFault>
+    fn is_match(
+        &self,
+        alloc: Global,
+        scratch: &mut Self::Scratch,
+        line: &[u8],
+    ) -> Result<bool, RecordFault>
         ensures hit { IfOk result (λ hit. hit ≡ matches self.now line.now) }
         ensures refused { IfErr result (IfRecordRefused (TellsRecord (Self.Refuses self.now) 0 line.now)) };
 

@@ -215,11 +215,12 @@ pub(crate) fn kept_in<M: Matcher>(
 {
     let mut kept = Vec::new(alloc);
     let mut hits = 0u64;
+    let mut scratch = matcher.scratch(alloc);
     let mut rest = text;
     while !rest.is_empty() {
         let place = first.saturating_add((text.len() - rest.len()) as u64);
         let (line, after) = cut_record(matcher.delimiter_byte(), rest);
-        if is_hit(alloc, place, line, matcher)? {
+        if is_hit(alloc, place, line, matcher, &mut scratch)? {
             kept.extend_from_slice(line)?;
             hits += 1;
         }
@@ -234,12 +235,13 @@ pub(crate) fn is_hit<M: Matcher>(
     place: u64,
     line: &[u8],
     matcher: &M,
+    scratch: &mut M::Scratch,
 ) -> Result<bool, Fault>
     ensures hit { IfOk result (λ hit. hit ≡ M.matches matcher.now line.now) }
     ensures why { IfErr result IsOfRecord }
     ensures refused { IfErr result (IfRefused (TellsRecord (M.Refuses matcher.now) place line.now)) }
 {
-    match matcher.is_match(alloc, line) {
+    match matcher.is_match(alloc, scratch, line) {
         Ok(hit) => Ok(hit),
         Err(fault) => Err(fault.at(place)),
     }

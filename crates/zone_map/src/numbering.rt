@@ -179,11 +179,12 @@ fn numbered_in<M: Matcher>(
     let mut output = Vec::new(alloc);
     let mut hits = 0u64;
     let mut next = number;
+    let mut scratch = matcher.scratch(alloc);
     let mut rest = text;
     while !rest.is_empty() {
         let (line, after) = cut_record(matcher.delimiter_byte(), rest);
         let place = first.saturating_add((text.len() - rest.len()) as u64);
-        if is_hit(alloc, place, line, matcher)? {
+        if is_hit(alloc, place, line, matcher, &mut scratch)? {
             push_numbered(alloc, next, line, &mut output)?;
             hits += 1;
         }
@@ -225,10 +226,11 @@ fn is_hit<M: Matcher>(
     place: u64,
     line: &[u8],
     matcher: &M,
+    scratch: &mut M::Scratch,
 ) -> Result<bool, SearchFault>
     ensures { IfOk result (λ hit. hit ≡ M.matches matcher.now line.now) }
 {
-    match matcher.is_match(alloc, line) {
+    match matcher.is_match(alloc, scratch, line) {
         Ok(hit) => Ok(hit),
         Err(RecordFault::Memory) => Err(SearchFault::Memory),
         Err(RecordFault::Refused(refusal)) => {
