@@ -6,9 +6,9 @@
 //! It stands beside `vortex_c`, since it holds the whole language of the worked cases.
 #![tactic(auto)]
 
-ghost use Rattle.std.specs.Prelude.{◌≡◌, ◌≢◌, ◌≤◌, ◌<◌, ◌⊎◌, List, ℕ, IfOk, IsUtf8, ⊤, drop, length, take};
+ghost use Rattle.std.specs.Prelude.{◌≡◌, ◌≢◌, ◌⊎◌, List, ℕ, IfOk, IsUtf8, ⊤};
 ghost use Rattle.std.specs.String.{string_bytes};
-ghost use Rattle.vortex_call.specs.Answers.{IsTold};
+ghost use Rattle.vortex_call.specs.Answers.{AnswersLine, IsTold};
 
 use std::alloc::{AllocError, Global};
 
@@ -44,17 +44,7 @@ pub extern "C" fn doqallin_call(
     room: &mut [u8],
     count: &mut usize,
 ) -> u32
-    ensures statuses { (result ≡ GIVEN) ⊎ ((result ≡ NO_MEMORY) ⊎ (result ≡ NO_ROOM)) }
-    ensures told { result ≢ NO_MEMORY → (answer : List ℕ) × IsUtf8 answer
-        × IsTold answer room.old room.new count.new result }
-    ensures within { result ≡ GIVEN → count.new ≤ length room.new }
-    ensures text { result ≡ GIVEN → IsUtf8 (take count.new room.new) }
-    ensures small { result ≡ NO_ROOM → length room.old < count.new }
-
-    // What is not said to be written stays.
-    ensures rest { result ≡ GIVEN → drop count.new room.new ≡ drop count.new room.old }
-    ensures kept_room { result ≢ GIVEN → room.new ≡ room.old }
-    ensures kept_count { result ≡ NO_MEMORY → count.new ≡ count.old }
+    ensures { AnswersLine room.old room.new count.old count.new result }
 {
     doqallin_call_within(alloc, line, DEPTH, room, count)
 }
@@ -68,17 +58,7 @@ pub extern "C" fn doqallin_call_within(
     room: &mut [u8],
     count: &mut usize,
 ) -> u32
-    ensures statuses { (result ≡ GIVEN) ⊎ ((result ≡ NO_MEMORY) ⊎ (result ≡ NO_ROOM)) }
-    ensures told { result ≢ NO_MEMORY → (answer : List ℕ) × IsUtf8 answer
-        × IsTold answer room.old room.new count.new result }
-    ensures within { result ≡ GIVEN → count.new ≤ length room.new }
-    ensures text { result ≡ GIVEN → IsUtf8 (take count.new room.new) }
-    ensures small { result ≡ NO_ROOM → length room.old < count.new }
-
-    // What is not said to be written stays.
-    ensures rest { result ≡ GIVEN → drop count.new room.new ≡ drop count.new room.old }
-    ensures kept_room { result ≢ GIVEN → room.new ≡ room.old }
-    ensures kept_count { result ≡ NO_MEMORY → count.new ≡ count.old }
+    ensures { AnswersLine room.old room.new count.old count.new result }
 {
     answer_into(alloc, &WorkedCases { depth }, line, room, count)
 }
