@@ -194,7 +194,8 @@ uint32_t doqallin_row_keys(const struct doqallin_column *columns, size_t column_
  * BAD_OFFSETS: the offsets of the key fault->place go down, or past the end of the bytes.
  * BAD_BYTES: a key is of no row of the kinds. fault->place is the first of all bytes that none has there, or the end of a key that
  * ends too early. Of these two the first key decides.
- * NO_MEMORY: memory is asked for each column, for the values of a row, and for what is written. The rooms may then have any bytes. */
+ * NO_MEMORY: memory is asked for each column, for the values of a row, and for what is written.
+ * Under each status but GIVEN the rooms stay as they were. */
 uint32_t doqallin_column_of_row_keys(const uint8_t *kinds, size_t kinds_length, const uint8_t *options, size_t options_length,
                                      const uint64_t *offsets, size_t offsets_length, const uint8_t *bytes, size_t bytes_length,
                                      size_t which, uint8_t *validity_room, size_t validity_room_length, uint8_t *values_room,

@@ -1,7 +1,7 @@
 //! The column that keys of rows give.
 
-ghost use Rattle.std.specs.Prelude.{◌≡◌, ◌≢◌, ◌≤◌, IfErr, IfOk, OnOk, drop, length};
-ghost use Rattle.key_columns.specs.Words.{HasTypes, IsColumnOfKeys, IsRefusal, OutOfMemory, bitmap_length, key_count, offsets_length_at};
+ghost use Rattle.std.specs.Prelude.{◌≡◌, ◌≤◌, IfErr, IfOk, OnErr, OnOk, drop, length};
+ghost use Rattle.key_columns.specs.Words.{HasTypes, IsColumnOfKeys, IsRefusal, bitmap_length, key_count, offsets_length_at};
 
 use crate::faults::KeysFault;
 use crate::keys::{RowKeys, key_count};
@@ -21,7 +21,7 @@ use std::alloc::Global;
 /// - `BadOffsets` or `BadBytes` for the first key that is none of the kinds.
 /// - `NoRoom` if a room is too short, with the bytes that the values have.
 ///
-/// `OutOfMemory` may come in place of these, and then the rooms may have any bytes.
+/// `OutOfMemory` may come in place of these. The rooms are written only once all memory is there.
 pub fn column_of_keys(
     alloc: Global,
     kinds: &[u8],
@@ -48,9 +48,8 @@ pub fn column_of_keys(
         ≡ drop (bitmap_length (key_count offsets.now)) validity_room.old }
     ensures rest_offsets { drop (offsets_length_at kinds.now which offsets.now) offsets_room.new
         ≡ drop (offsets_length_at kinds.now which offsets.now) offsets_room.old }
-    ensures kept { IfErr result (λ e. e ≢ OutOfMemory
-        → (validity_room.new ≡ validity_room.old) × (values_room.new ≡ values_room.old)
-        × (offsets_room.new ≡ offsets_room.old)) }
+    ensures kept { OnErr result ((validity_room.new ≡ validity_room.old)
+        × (values_room.new ≡ values_room.old) × (offsets_room.new ≡ offsets_room.old)) }
 {
     let types = read_types(alloc, kinds, options, which)?;
     let keys = RowKeys {

@@ -25,7 +25,9 @@ use std::alloc::Global;
 /// - `UNKNOWN_KIND`: a code is of no kind.
 /// - `BAD_OFFSETS`: the offsets of the key `fault.place` go down, or past the end.
 /// - `BAD_BYTES`: `fault.place` is the first of all bytes that no key of a row has there.
-/// - `NO_MEMORY`: `count` and `fault` are not written, and the rooms may have any bytes.
+/// - `NO_MEMORY`: `count` and `fault` are not written.
+///
+/// Under each status but `GIVEN` the rooms stay as they were.
 #[unsafe(no_mangle)]
 pub extern "C" fn doqallin_column_of_row_keys(
     alloc: Global,
@@ -57,9 +59,8 @@ pub extern "C" fn doqallin_column_of_row_keys(
         ≡ drop (bitmap_length (key_count offsets.now)) validity_room.old }
     ensures rest_offsets { drop (offsets_length_at kinds.now which offsets.now) offsets_room.new
         ≡ drop (offsets_length_at kinds.now which offsets.now) offsets_room.old }
-    ensures kept { result ≢ GIVEN → result ≢ NO_MEMORY
-        → (validity_room.new ≡ validity_room.old) × (values_room.new ≡ values_room.old)
-        × (offsets_room.new ≡ offsets_room.old) }
+    ensures kept { result ≢ GIVEN → (validity_room.new ≡ validity_room.old)
+        × (values_room.new ≡ values_room.old) × (offsets_room.new ≡ offsets_room.old) }
     ensures kept_fault { result ≡ GIVEN → fault.new ≡ fault.old }
 {
     match column_of_keys(
