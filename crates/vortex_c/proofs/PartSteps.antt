@@ -1,5 +1,5 @@
 -- Steps of the exports for statistics.
-use Rattle.std.proofs.Common.{◌≡◌, ◌∙◌, ℕ, Bool, true, List, length, take, Option, Some, None, is_some, option_map, unwrap_or, ap, refl, subst, sym}
+use Rattle.std.proofs.Common.{◌≡◌, ◌≢◌, ◌∙◌, ◌<◌, ◌≤◌, ℕ, Bool, true, List, drop, length, take, Option, Some, None, is_some, option_map, unwrap_or, ap, inl, inr, refl, subst, sym}
 use Rattle.arrow_columns.specs.declared.kinds.Kind.{Kind}
 use Rattle.arrow_columns.specs.declared.kinds.Kind.TheVariants.{Binary, Boolean, Integer, LargeBinary, LargeUtf8, Null, Utf8}
 use Rattle.vortex_value.specs.Values.Content.{Content, null, sequence, string, tagged, text, truth, typed, whole}
@@ -8,16 +8,40 @@ use Rattle.vortex_statistics.specs.Statistics.{Known, KnownBound, known_bound}
 use Rattle.vortex_statistics.specs.declared.column_statistics.Bound.{Bound}
 use Rattle.column_statistics.specs.Items.{IsItemOf}
 use Rattle.vortex_c.specs.Parts.{AreParts, IsBoundTold, IsCountTold, IsValueTold}
-use Rattle.vortex_c.specs.Statistics.{IsLengthOf}
+use Rattle.vortex_c.specs.FormAnswers.{AnswersForm, HasAnswer}
 use Rattle.vortex_c.specs.declared.parts.StatisticsParts.{StatisticsParts}
+use Rattle.vortex_c.specs.declared.status.TheConstants.{GIVEN, NO_ROOM}
 
 -- ---- a form in a room
 
-pub form_given : (Is : List ℕ → Type 0) (bytes slice room : List ℕ) (count : ℕ) → Is bytes → slice ≡ bytes → count ≡ length slice → take (length slice) room ≡ slice → Is (take count room)
+form_given : (Is : List ℕ → Type 0) (bytes slice room : List ℕ) (count : ℕ) → Is bytes → slice ≡ bytes → count ≡ length slice → take (length slice) room ≡ slice → Is (take count room)
 form_given Is bytes slice room count h e n t = subst Is (sym (ap (λ k. take k room) n ∙ t ∙ e)) h
 
-pub form_long : (Is : List ℕ → Type 0) (bytes slice : List ℕ) (count : ℕ) → Is bytes → slice ≡ bytes → count ≡ length slice → IsLengthOf Is count
-form_long Is bytes slice count h e n = (bytes, h, n ∙ ap length e)
+-- what giving bytes that are so comes to
+pub form_answered : (Is : List ℕ → Type 0) (bytes slice room_before room_after : List ℕ) (before after status : ℕ) → Is bytes → slice ≡ bytes → HasAnswer status → after ≡ length slice
+    → (status ≡ GIVEN → length slice ≤ length room_before) → (status ≡ GIVEN → take (length slice) room_after ≡ slice) → (status ≡ GIVEN → drop (length slice) room_after ≡ drop (length slice) room_before)
+    → (status ≡ NO_ROOM → length room_before < length slice) → (status ≢ GIVEN → room_after ≡ room_before) → AnswersForm Is room_before room_after before after status
+form_answered Is bytes slice room_before room_after before after status h e has n within begins rest small kept = record {
+  given = λ g. form_given Is bytes slice room_after after h e n (begins g);
+  within = λ g. subst (λ k. k ≤ length room_before) (sym n) (within g);
+  needed = λ _. (bytes, h, n ∙ ap length e);
+  small = λ g. subst (λ k. length room_before < k) (sym n) (small g);
+  rest = λ g. subst (λ k. drop k room_after ≡ drop k room_before) (sym n) (rest g);
+  kept_room = kept;
+  kept_count = inl has;
+}
+
+-- what giving nothing comes to
+pub form_unanswered : (Is : List ℕ → Type 0) (room : List ℕ) (count status : ℕ) → ¬ (HasAnswer status) → AnswersForm Is room room count count status
+form_unanswered Is room count status missing = record {
+  given = λ g. absurd (missing (inl g));
+  within = λ g. absurd (missing (inl g));
+  needed = λ has. absurd (missing has);
+  small = λ g. absurd (missing (inr g));
+  rest = λ _. refl;
+  kept_room = λ _. refl;
+  kept_count = inr refl;
+}
 
 -- ---- parts
 

@@ -1,5 +1,5 @@
 -- Steps of preparing a filter.
-use Rattle.std.proofs.Common.{◌≡◌, ◌≢◌, ℕ, ◌+◌, ◌<◌, ◌≤◌, ◌⊎◌, inl, inr, List, [], ◌∷◌, ◌++◌, length, take, get_or, map, sym, subst, ap, ap₂, ◌∙◌, arith, Some, slice_get}
+use Rattle.std.proofs.Common.{◌≡◌, ℕ, ◌+◌, ◌<◌, ◌≤◌, ◌⊎◌, inl, inr, List, [], ◌∷◌, ◌++◌, length, take, get_or, map, sym, subst, ap, ap₂, ◌∙◌, arith, Some, slice_get}
 use Rattle.std.specs.Global.{Global}
 use Rattle.std.specs.Prelude.{Err, IfErr, IfOk, IsErr, IsErrAnd, Ok, OnOk, Result, Vec}
 use Rattle.std.specs.Str.{IsUtf8}
@@ -20,10 +20,9 @@ use Rattle.vortex_filter.specs.declared.column.Column.{Column}
 use Rattle.vortex_filter.specs.declared.filter.Filter.{Filter}
 use Rattle.vortex_filter.specs.declared.sql.error.ParseError.{ParseError}
 use Rattle.vortex_filter.specs.declared.sql.error.ParseError.TheVariants as errors
-use Rattle.vortex_c.specs.FilterSql.{AreNamed, AreNamedBefore, IsColumnFault, IsColumnsFault, IsNamed, IsPreparedFrom, IsPreparedStatus, IsSqlFault, IsWordsFault, WritesForm, fault_of_words, prepared_of, tree_of_kind, trees_of_kinds, types_of_kinds}
+use Rattle.vortex_c.specs.FilterSql.{AreNamed, AreNamedBefore, IsColumnFault, IsColumnsFault, IsNamed, IsPreparedFrom, IsSqlFault, IsWordsFault, WritesForm, fault_of_words, prepared_of, tree_of_kind, trees_of_kinds, types_of_kinds}
 use Rattle.vortex_c.specs.declared.sql.NamedKind.{NamedKind}
 use Rattle.vortex_c.specs.declared.sql.SqlFault.{SqlFault}
-use Rattle.vortex_c.specs.declared.status.TheConstants.{GIVEN, NO_ROOM}
 use Rattle.vortex_c.specs.declared.sql.SqlFault.TheVariants.{NameNotUtf8, NoFilter, NoForm, NotAKind, NotUtf8, OutOfMemory}
 
 -- ---- columns, one by one
@@ -145,13 +144,5 @@ form-fault n words columns f (Err e) all means (inr deep) = subst (IsSqlFault n 
 pub filter-refused : (n : ℕ) (words : List ℕ) (columns : List NamedKind) (r : Result (Vec ℕ Global) SqlFault) (e : SqlFault) → IsErr r × IsErrAnd r (λ f. f ≡ e) → IsSqlFault n words columns e → IfErr r (IsSqlFault n words columns)
 filter-refused n words columns (Ok x) e h k = tt
 filter-refused n words columns (Err f) e h k = subst (IsSqlFault n words columns) (sym h.1) k
-
-pub not-prepared : (status : ℕ) → status ≢ GIVEN → status ≢ NO_ROOM → IsPreparedStatus status → ⊥
-not-prepared status given room (inl h) = given h
-not-prepared status given room (inr h) = room h
-
--- what is given is so
-pub given-so : (P : List ℕ → Type 0) (bound room : List ℕ) (count : ℕ) → P bound → count ≡ length bound → take (length bound) room ≡ bound → P (take count room)
-given-so P bound room count h counted given = subst P (sym (ap (λ n. take n room) counted ∙ given)) h
 
 pub ruleset shown = (named-before-none, trees-all, types-all, words-fault, form-along)

@@ -18,7 +18,7 @@ use Rattle.vortex_c.specs.declared.sql.Mistake.{Mistake}
 use Rattle.vortex_c.specs.declared.sql.NamedKind.{NamedKind}
 use Rattle.vortex_c.specs.declared.sql.SqlFault.{SqlFault}
 use Rattle.vortex_c.specs.declared.sql.SqlFault.TheVariants.{NameNotUtf8, NoFilter, NoForm, NotAKind, NotUtf8, OutOfMemory}
-use Rattle.vortex_c.specs.declared.status.TheConstants.{BAD_FILTER, GIVEN, NO_MEMORY, NO_ROOM, NOT_UTF8, UNKNOWN_KIND}
+use Rattle.vortex_c.specs.declared.status.TheConstants.{BAD_FILTER, NO_MEMORY, NOT_UTF8, UNKNOWN_KIND}
 
 -- ---- columns by name and kind
 
@@ -63,14 +63,6 @@ pub record IsPreparedFrom (n : ℕ) (words : List ℕ) (columns : List NamedKind
 -- the bytes are the form of what is prepared so, or there is no memory, or it has no form
 abbrev pub WritesForm : ℕ → Prepared → Result (Vec ℕ Global) SqlFault → Type 0
 WritesForm n p r = MatchResult r (λ bytes. CanBeWritten n p × (bytes.items ≡ form p)) (λ e. (e ≡ OutOfMemory) ⊎ ((e ≡ NoForm) × ¬ (CanBeWritten n p)))
-
--- such a form has this length
-abbrev pub IsPreparedLength : ℕ → List ℕ → List NamedKind → ℕ → Type 0
-IsPreparedLength n words columns count = (bytes : List ℕ) × IsPreparedFrom n words columns bytes × (count ≡ length bytes)
-
--- there is a form: it is given, or the room for it is too small
-abbrev pub IsPreparedStatus : ℕ → Type 0
-IsPreparedStatus status = (status ≡ GIVEN) ⊎ (status ≡ NO_ROOM)
 
 -- ---- mistakes
 

@@ -6,6 +6,7 @@ pub mod Columns
 pub mod FilterSql
 pub mod FilterWords
 pub mod Filters
+pub mod FormAnswers
 pub mod Integers
 pub mod KeyColumns
 pub mod KeyWords

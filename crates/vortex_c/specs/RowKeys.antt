@@ -1,5 +1,5 @@
 -- What callers are told of the keys of rows.
-use Rattle.std.specs.Prelude.{◌≡◌, ℕ, ◌⊎◌, List, map, take}
+use Rattle.std.specs.Prelude.{ℕ, List, map, take}
 use Rattle.arrow_columns.specs.declared.columns.Column.{Column}
 use Rattle.vortex_value.specs.Size.{capped}
 use Rattle.column_keys.specs.Keys.{AreRowKeys, keys_length}
@@ -8,7 +8,7 @@ use Rattle.column_keys.specs.declared.faults.TableFault.{TableFault}
 use Rattle.column_keys.specs.declared.faults.TableFault.TheVariants.{BadOptions, OutOfMemory, Unreadable, WrongCount, WrongLength}
 use Rattle.vortex_c.specs.ColumnFaults.{place_in_column, status_of_column}
 use Rattle.vortex_c.specs.declared.fault.Fault.{Fault}
-use Rattle.vortex_c.specs.declared.status.TheConstants.{BAD_OPTIONS, GIVEN, NO_MEMORY, NO_ROOM, WRONG_LENGTH}
+use Rattle.vortex_c.specs.declared.status.TheConstants.{BAD_OPTIONS, NO_MEMORY, WRONG_LENGTH}
 
 -- the status of a table that has no keys
 abbrev pub status_of_table : TableFault → ℕ
@@ -25,10 +25,6 @@ fault_of_table columns WrongCount before = record { column = columns; place = 0 
 fault_of_table columns (Unreadable column fault) before = record { column = column; place = place_in_column fault }
 fault_of_table columns (BadOptions column) before = record { column = column; place = 0 }
 fault_of_table columns (WrongLength column) before = record { column = column; place = 0 }
-
--- the columns have keys: they are given, or the room for them is too small
-abbrev pub HaveKeys : ℕ → Type 0
-HaveKeys status = (status ≡ GIVEN) ⊎ (status ≡ NO_ROOM)
 
 -- how many bytes the keys of all rows have
 abbrev pub all_keys_length : List ℕ → List Column → ℕ

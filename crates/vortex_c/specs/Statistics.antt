@@ -1,5 +1,5 @@
 -- What callers are told of the statistics of columns, in their stable form.
-use Rattle.std.specs.Prelude.{◌≡◌, ◌⊎◌, ℕ, List, length, Some, None}
+use Rattle.std.specs.Prelude.{◌≡◌, ◌⊎◌, ℕ, List, Some, None}
 use Rattle.arrow_columns.specs.Kinds.{kind_at}
 use Rattle.arrow_columns.specs.declared.columns.Column.{Column}
 use Rattle.arrow_columns.specs.declared.kinds.Kind.{Kind}
@@ -11,15 +11,7 @@ use Rattle.column_statistics.specs.declared.faults.StatisticsFault.{StatisticsFa
 use Rattle.column_statistics.specs.declared.faults.StatisticsFault.TheVariants as column
 use Rattle.vortex_c.specs.ColumnFaults.{place_in_column, status_of_column}
 use Rattle.vortex_c.specs.declared.fault.Fault.{Fault}
-use Rattle.vortex_c.specs.declared.status.TheConstants.{BAD_BYTES, GIVEN, NO_MEMORY, NO_ROOM, TOO_MANY_ROWS, UNKNOWN_KIND}
-
--- there is an answer: it is given, or the room for it is too small
-abbrev pub HasAnswer : ℕ → Type 0
-HasAnswer status = (status ≡ GIVEN) ⊎ (status ≡ NO_ROOM)
-
--- some bytes that are so have this length
-abbrev pub IsLengthOf : (List ℕ → Type 0) → ℕ → Type 0
-IsLengthOf Is count = (bytes : List ℕ) × Is bytes × (count ≡ length bytes)
+use Rattle.vortex_c.specs.declared.status.TheConstants.{BAD_BYTES, NO_MEMORY, TOO_MANY_ROWS, UNKNOWN_KIND}
 
 -- the code is of no kind, which is told of column 0
 abbrev pub SaysNoKind : ℕ → Fault → ℕ → Type 0

@@ -24,10 +24,11 @@ pub use Rattle.vortex_c.specs.ColumnAnswers.{AnswersColumn, KeepsTheRest}
 pub use Rattle.vortex_c.specs.ColumnCasts.{IsCastRefusal, IsColumnCast, SaysWhyNoCast, fault_of_cast, status_of_cast}
 pub use Rattle.vortex_c.specs.ColumnFaults.{place_in_column, status_of_column}
 pub use Rattle.vortex_c.specs.Columns.{AreEndsText, HasEndNoText, HasValue, IsColumn, IsGreatestAt, IsLeastAt, some_where, value_at}
+pub use Rattle.vortex_c.specs.FormAnswers.{AnswersForm, HasAnswer}
 pub use Rattle.vortex_c.specs.Integers.{IsCastOf, IsInteger, IsNotCast, number_in, ptype_at}
 pub use Rattle.vortex_c.specs.Parts.{AreParts, ArePartsAt, IsBoundTold, SaysWhyNotRead, fault_of_read, status_of_read}
-pub use Rattle.vortex_c.specs.RowKeys.{AreAllKeys, HaveKeys, all_keys_length, fault_of_table, status_of_table}
-pub use Rattle.vortex_c.specs.Statistics.{HasAnswer, IsLengthOf, IsMergedAt, SaysWhyNoForm, SaysWhyNotMerged, fault_of_form, fault_of_merge, status_of_form, status_of_merge}
+pub use Rattle.vortex_c.specs.RowKeys.{AreAllKeys, all_keys_length, fault_of_table, status_of_table}
+pub use Rattle.vortex_c.specs.Statistics.{IsMergedAt, SaysWhyNoForm, SaysWhyNotMerged, fault_of_form, fault_of_merge, status_of_form, status_of_merge}
 pub use Rattle.vortex_c.specs.UpperAnswers.{AnswersUpper}
 pub use Rattle.vortex_c.specs.Uppers.{bytes_of}
 pub use Rattle.vortex_c.specs.Zones.{IsAnswerOfZones, may_hold_bytes}

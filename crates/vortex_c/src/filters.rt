@@ -34,8 +34,8 @@ pub(crate) enum ZonesFault {
 /// on. The columns are those that it was prepared for, in their order. Memory is asked for the
 /// filter, for the columns, and for strings and bytes above 22 bytes.
 ///
-/// - `BAD_BYTES`: the filter is no form in which at most `depth` connectives nest. `fault` has the number of columns, and the first byte that
-///   none has there.
+/// - `BAD_BYTES`: the filter is no form in which at most `depth` connectives nest. `fault` has the
+///   number of columns, and the first byte that none has there.
 /// - `WRONG_LENGTH`: there are not as many columns as the filter has, and `fault` has their number;
 ///   or a column has another number of rows than the first.
 /// - `UNKNOWN_KIND`: the kind of a column is none, or with place 1 is not the filter's.

@@ -1,7 +1,7 @@
 //! The keys of the rows of columns.
 
 ghost use Rattle.std.specs.Prelude.{◌≡◌, ◌≢◌, ◌+◌, ◌<◌, ◌≤◌, ◌⊎◌, drop, length};
-ghost use Rattle.vortex_c.specs.Words.{AreAllKeys, AreSoundBefore, HaveKeys, IsTableFault, TableFault, all_keys_length, fault_of_table, rows_in, status_of_table};
+ghost use Rattle.vortex_c.specs.Words.{AreAllKeys, AreSoundBefore, HasAnswer, IsTableFault, TableFault, all_keys_length, fault_of_table, rows_in, status_of_table};
 
 use crate::fault::{Fault, at, place_in_column, status_of_column};
 use crate::status::{BAD_OPTIONS, GIVEN, NO_MEMORY, NO_ROOM, WRONG_LENGTH};
@@ -36,17 +36,17 @@ pub extern "C" fn doqallin_row_keys(
 ) -> u32
     ensures keys { result ≡ GIVEN
         → AreAllKeys options.now columns.now offsets.new room.new count.new }
-    ensures counted { HaveKeys result → count.new ≡ all_keys_length options.now columns.now }
+    ensures counted { HasAnswer result → count.new ≡ all_keys_length options.now columns.now }
     ensures small { result ≡ NO_ROOM → (length room.old < count.new)
         ⊎ ((count.new ≡ usize.MAX) ⊎ (length offsets.old ≤ rows_in columns.now)) }
     ensures large { result ≡ GIVEN → (count.new ≤ length room.old)
         × (rows_in columns.now < length offsets.old) }
 
     // What has keys: as many options as columns, and each column sound.
-    ensures options { HaveKeys result → length options.now ≡ length columns.now }
-    ensures sound { HaveKeys result
+    ensures options { HasAnswer result → length options.now ≡ length columns.now }
+    ensures sound { HasAnswer result
         → AreSoundBefore columns.now options.now (length columns.now) }
-    ensures refused { (HaveKeys result) ⊎ ((refusal : TableFault)
+    ensures refused { (HasAnswer result) ⊎ ((refusal : TableFault)
         × IsTableFault columns.now options.now refusal
         × (result ≡ status_of_table refusal)
         × (fault.new ≡ fault_of_table (length columns.now) refusal fault.old)) }
@@ -56,8 +56,8 @@ pub extern "C" fn doqallin_row_keys(
     ensures rest_offsets { result ≡ GIVEN → drop (rows_in columns.now + 1) offsets.new
         ≡ drop (rows_in columns.now + 1) offsets.old }
     ensures kept { result ≢ GIVEN → (room.new ≡ room.old) × (offsets.new ≡ offsets.old) }
-    ensures kept_count { (HaveKeys result) ⊎ (count.new ≡ count.old) }
-    ensures kept_fault { HaveKeys result → fault.new ≡ fault.old }
+    ensures kept_count { (HasAnswer result) ⊎ (count.new ≡ count.old) }
+    ensures kept_fault { HasAnswer result → fault.new ≡ fault.old }
 {
     let table = match read_columns(alloc, columns, options) {
         Ok(table) => table,

@@ -1,7 +1,7 @@
 //! Filters from SQL's words, prepared to bytes.
 
-ghost use Rattle.std.specs.Prelude.{◌≡◌, ◌≢◌, ◌<◌, ◌≤◌, ◌⊎◌, IfErr, IfOk, OnOk, drop, length, map, take};
-ghost use Rattle.vortex_c.specs.FilterWords.{AreNamed, IsColumnFault, IsColumnsFault, IsNamed, IsPreparedFrom, IsPreparedLength, IsPreparedStatus, IsSqlFault, IsSqlWithin, IsWordsFault, OutOfMemory, SaysWhyNotPrepared, WritesForm, code_of_expected, code_of_mistake, column_tree, column_trees, fault_of_words, formula, kind_at, mistake_of_sql, parts_of, place_of_mistake, prepared_of, status_of_sql, tree_of_kind, trees_of_kinds, type_at, type_of, types_of_kinds};
+ghost use Rattle.std.specs.Prelude.{◌≡◌, ◌⊎◌, IfErr, IfOk, OnOk, map};
+ghost use Rattle.vortex_c.specs.FilterWords.{AnswersForm, AreNamed, HasAnswer, IsColumnFault, IsColumnsFault, IsNamed, IsPreparedFrom, IsSqlFault, IsSqlWithin, IsWordsFault, OutOfMemory, SaysWhyNotPrepared, WritesForm, code_of_expected, code_of_mistake, column_tree, column_trees, fault_of_words, formula, kind_at, mistake_of_sql, parts_of, place_of_mistake, prepared_of, status_of_sql, tree_of_kind, trees_of_kinds, type_at, type_of, types_of_kinds};
 
 use crate::bounds::give;
 use crate::status::{BAD_FILTER, GIVEN, NO_MEMORY, NO_ROOM, NOT_UTF8, UNKNOWN_KIND};
@@ -94,20 +94,11 @@ pub extern "C" fn doqallin_prepare_filter(
     count: &mut usize,
     mistake: &mut Mistake,
 ) -> u32
-    ensures given { result ≡ GIVEN
-        → IsPreparedFrom depth words.now columns.now (take count.new room.new) }
-    ensures needed { IsPreparedStatus result
-        → IsPreparedLength depth words.now columns.now count.new }
-    ensures within { result ≡ GIVEN → count.new ≤ length room.old }
-    ensures small { result ≡ NO_ROOM → length room.old < count.new }
-    ensures refused { (IsPreparedStatus result)
+    ensures answer { AnswersForm (IsPreparedFrom depth words.now columns.now)
+        room.old room.new count.old count.new result }
+    ensures refused { (HasAnswer result)
         ⊎ (SaysWhyNotPrepared depth words.now columns.now mistake.old mistake.new result) }
-
-    // What is not said to be written stays.
-    ensures rest { result ≡ GIVEN → drop count.new room.new ≡ drop count.new room.old }
-    ensures kept { result ≢ GIVEN → room.new ≡ room.old }
-    ensures kept_count { (IsPreparedStatus result) ⊎ (count.new ≡ count.old) }
-    ensures kept_mistake { IsPreparedStatus result → mistake.new ≡ mistake.old }
+    ensures kept_mistake { HasAnswer result → mistake.new ≡ mistake.old }
 {
     match prepare(alloc, words, columns, depth) {
         Ok(bytes) => give(bytes.as_slice(), room, count),
@@ -268,8 +259,7 @@ fn dtype_at(code: u8) -> DType
 fn tell(refusal: SqlFault, columns: usize, mistake: &mut Mistake) -> u32
     ensures status { result ≡ status_of_sql refusal }
     ensures mistake { mistake.new ≡ mistake_of_sql columns refusal mistake.old }
-    ensures not_given { result ≢ GIVEN }
-    ensures not_small { result ≢ NO_ROOM }
+    ensures refused { ¬ (HasAnswer result) }
 {
     match refusal {
         SqlFault::OutOfMemory => NO_MEMORY,

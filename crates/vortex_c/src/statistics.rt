@@ -1,7 +1,7 @@
 //! The statistics of columns, in their stable form.
 
-ghost use Rattle.std.specs.Prelude.{◌≡◌, ◌≢◌, ◌<◌, ◌≤◌, ◌⊎◌, drop, length, take};
-ghost use Rattle.vortex_c.specs.Words.{HasAnswer, IsColumnForm, IsLengthOf, IsMergedAt, SaysWhyNoForm, SaysWhyNotMerged, fault_of_form, fault_of_merge, status_of_form, status_of_merge};
+ghost use Rattle.std.specs.Prelude.{◌≡◌, ◌⊎◌};
+ghost use Rattle.vortex_c.specs.Words.{AnswersForm, HasAnswer, IsColumnForm, IsMergedAt, SaysWhyNoForm, SaysWhyNotMerged, fault_of_form, fault_of_merge, status_of_form, status_of_merge};
 
 use crate::bounds::give;
 use crate::fault::{Fault, at, place_in_column, status_of_column};
@@ -26,19 +26,10 @@ pub extern "C" fn doqallin_column_statistics(
     count: &mut usize,
     fault: &mut Fault,
 ) -> u32
-    ensures given { result ≡ GIVEN
-        → IsColumnForm column.now max_length (take count.new room.new) }
-    ensures within { result ≡ GIVEN → count.new ≤ length room.old }
-    ensures small { result ≡ NO_ROOM → length room.old < count.new }
-    ensures needed { result ≡ NO_ROOM
-        → IsLengthOf (IsColumnForm column.now max_length) count.new }
+    ensures answer { AnswersForm (IsColumnForm column.now max_length)
+        room.old room.new count.old count.new result }
     ensures refused { (HasAnswer result)
         ⊎ SaysWhyNoForm column.now fault.old fault.new result }
-
-    // What is not said to be written stays.
-    ensures rest { result ≡ GIVEN → drop count.new room.new ≡ drop count.new room.old }
-    ensures kept { result ≢ GIVEN → room.new ≡ room.old }
-    ensures kept_count { (HasAnswer result) ⊎ (count.new ≡ count.old) }
     ensures kept_fault { HasAnswer result → fault.new ≡ fault.old }
 {
     match column_form(alloc, *column, max_length) {
@@ -80,19 +71,10 @@ pub extern "C" fn doqallin_merge_statistics(
     count: &mut usize,
     fault: &mut Fault,
 ) -> u32
-    ensures given { result ≡ GIVEN
-        → IsMergedAt kind one.now other.now (take count.new room.new) }
-    ensures within { result ≡ GIVEN → count.new ≤ length room.old }
-    ensures small { result ≡ NO_ROOM → length room.old < count.new }
-    ensures needed { result ≡ NO_ROOM
-        → IsLengthOf (IsMergedAt kind one.now other.now) count.new }
+    ensures answer { AnswersForm (IsMergedAt kind one.now other.now)
+        room.old room.new count.old count.new result }
     ensures refused { (HasAnswer result)
         ⊎ SaysWhyNotMerged kind one.now other.now fault.old fault.new result }
-
-    // What is not said to be written stays.
-    ensures rest { result ≡ GIVEN → drop count.new room.new ≡ drop count.new room.old }
-    ensures kept { result ≢ GIVEN → room.new ≡ room.old }
-    ensures kept_count { (HasAnswer result) ⊎ (count.new ≡ count.old) }
     ensures kept_fault { HasAnswer result → fault.new ≡ fault.old }
 {
     let Some(kind) = Kind::from_code(kind) else {
