@@ -26,6 +26,9 @@ abbrev pub IsTaken : Bool → ColumnType → Field → Scalar → Bool → Type 
 IsTaken lenient column f x false = IsCell column f x
 IsTaken lenient column f x true = IsLenientNull lenient column f x
 
+abbrev pub StandsFor : Bool → ColumnType → Field → Scalar → Type 0
+StandsFor lenient column f x = (flag : Bool) × IsTaken lenient column f x flag
+
 -- each scalar is of its field in its column, each flag tells whether it stands in place of a cell, and there are as many of each
 abbrev pub AreCells : Bool → List ColumnType → List Field → List Scalar → List Bool → Type 0
 AreCells lenient [] [] [] [] = Unit {0}

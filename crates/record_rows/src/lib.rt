@@ -12,5 +12,6 @@ mod texts;
 mod words;
 
 pub use columns::{ColumnType, Kind};
-pub use rows::{RowFault, read_cells, read_row};
+pub use rows::{RowFault, read_cells, read_row, take_field};
 pub use texts::{csv_rows, is_whole_record, may_cut, split_records};
+pub use words::integer_of;

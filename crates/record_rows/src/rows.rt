@@ -3,7 +3,7 @@
 ghost use Rattle.std.specs.Prelude.{◌≡◌, ◌∷◌, ◌++◌, ◌+◌, ◌-◌, ◌<◌, ◌≤◌, ◌^◌, [], IfErr, IfOk, MatchOption, OnOk, false, length, take, true, if◌then◌else◌};
 ghost use Rattle.csv_records.specs.Rows.{rows_of};
 ghost use Rattle.vortex_dtype.specs.declared.nullability.Nullability.TheVariants.{Nullable};
-ghost use Rattle.record_rows.specs.Rows.{HasFields, IsRow, IsRowIn, IsStrict, IsTested, IsWordFault, PushesCell, ReachesPast, Refuses, RefusesFields, RefusesWord, is_wanted};
+ghost use Rattle.record_rows.specs.Rows.{HasFields, IsRow, IsRowIn, IsStrict, IsTested, IsWordFault, PushesCell, ReachesPast, Refuses, RefusesFields, RefusesWord, StandsFor, is_wanted};
 ghost use Rattle.record_rows.specs.declared.rows.RowFault.TheVariants.{Memory};
 
 use crate::cells::{cell_of, is_taken, null_of};
@@ -299,5 +299,30 @@ fn word_fault(alloc: Global, column: usize, word: &[u8]) -> RowFault
     match Vec::from_slice(alloc, word) {
         Ok(word) => RowFault::Word { column, word },
         Err(_) => RowFault::Memory,
+    }
+}
+
+/// The cell of a field, or a null in its place.
+pub fn take_field(
+    alloc: Global,
+    is_lenient: bool,
+    column: ColumnType,
+    place: usize,
+    word: &[u8],
+    is_quoted: bool,
+) -> Result<Scalar, RowFault>
+    ensures cell { IfOk result (StandsFor is_lenient column
+        (record { text = word.now; is_quoted = is_quoted })) }
+    ensures refused { IfErr result (RefusesWord is_lenient column place
+        (record { text = word.now; is_quoted = is_quoted })) }
+{
+    match cell_of(alloc, column, word, is_quoted)? {
+        Some(cell) => Ok(cell),
+        None => {
+            if !may_be_null(is_lenient, column) {
+                return Err(word_fault(alloc, place, word));
+            }
+            Ok(null_of(column))
+        }
     }
 }

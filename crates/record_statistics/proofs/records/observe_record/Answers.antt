@@ -1,0 +1,16 @@
+-- The row of a record is observed, and why there is none.
+use Rattle.std.proofs.lemmas.Result.{err_from_is_err_and}
+use Rattle.record_rows.proofs.Reading.{not_empty, refused_row}
+use Rattle.record_statistics.proofs.Fields.{observed_line}
+use Rattle.record_statistics.proofs.records.observe_record.Goals as goal
+
+pub returns-in_err-observe_fields-clause-refused : goal.returns-in_err-observe_fields-clause-refused
+returns-in_err-observe_fields-clause-refused c =
+    let p = err_from_is_err_and c.from_residual.result c.from_residual.ensures.1 in
+    rw (p.1, p.2) (refused_row c.args.delimiter.byte c.args.is_lenient c.args.columns.now c.args.line.now c.row_start-start.result.now c.in_err-observe_fields.field-0.0
+    (c.row_start-start.ensures.whole (not_empty c.row_start-start.result.now c.is_empty.result c.is_empty.ensures c.if-is_empty.false) c.args.delimiter.byte) c.in_err-observe_fields.ensures.refused)
+
+pub returns-clause-observed : goal.returns-clause-observed
+returns-clause-observed c =
+    observed_line c.args.delimiter.byte c.args.is_lenient c.args.columns.now c.args.line.now c.row_start-start.result.now c.args.statistics.now c.observe_fields.new.statistics
+    (c.row_start-start.ensures.row (not_empty c.row_start-start.result.now c.is_empty.result c.is_empty.ensures c.if-is_empty.false) c.args.delimiter.byte) c.in_ok-observe_fields.ensures.fields

@@ -1,0 +1,101 @@
+-- The statistics of columns and one record more.
+use Rattle.std.specs.Prelude.{◌≡◌, ◌⊎◌, ◌<◌, ℕ, ℤ, List, [], ◌∷◌, Bool, true, Option, Some, IsUtf8, length, map}
+use Rattle.std.specs.List.{AllByRecursion}
+use Rattle.std.specs.declared.cmp.Ordering.{Ordering}
+use Rattle.std.specs.declared.cmp.Ordering.TheVariants.{Equal, Less}
+use Rattle.csv_records.specs.Rows.{Field, field_rows, rows_of}
+use Rattle.record_rows.specs.Cells.{HasNoCell, IsContent, Means, column_type}
+use Rattle.record_rows.specs.Words.{IsIntegerWord}
+use Rattle.record_rows.specs.declared.columns.ColumnType.{ColumnType}
+use Rattle.vortex_dtype.specs.TypeTree.{integer_type, utf8_type}
+use Rattle.vortex_dtype.specs.declared.nullability.Nullability.{Nullability}
+use Rattle.vortex_dtype.specs.declared.nullability.Nullability.TheVariants.{Nullable}
+use Rattle.vortex_dtype.specs.declared.ptype.PType.{PType}
+use Rattle.vortex_pvalue.specs.Whole.{whole_of}
+use Rattle.vortex_pvalue.specs.declared.pvalues.PValue.{PValue}
+use Rattle.vortex_statistics.specs.Cells.{Cell, cell_order, order_from_above}
+use Rattle.vortex_statistics.specs.Observing.{IsCompleteWith}
+use Rattle.vortex_statistics.specs.Statistics.{Known, KnownBound, known, may_be_value}
+use Rattle.vortex_statistics.specs.declared.column_statistics.ColumnStatistics.{ColumnStatistics}
+use Rattle.vortex_value.specs.Values.Content.{Content, null, text, whole}
+
+-- ---- the cells of a record
+
+-- the content of a field, or a null in its place, as is asked
+abbrev pub IsTakenAs : Bool → ColumnType → Field → Content → Type 0
+IsTakenAs lenient column f c = IsContent column f c ⊎ ((lenient ≡ true) × HasNoCell column f × (column.nullability ≡ Nullable) × (c ≡ null))
+
+-- the cell of a column with this content
+abbrev pub cell_in : ColumnType → Content → Cell
+cell_in column c = record { typed = column_type column; content = c }
+
+-- t is complete for the cells of s and that of a field
+abbrev pub ObservesField : Bool → ColumnType → Field → Known → Known → Type 0
+ObservesField lenient column f s t = (c : Content) × IsTakenAs lenient column f c × IsCompleteWith s (cell_in column c) t
+
+-- a column at a record: its field there and the content of this, and its statistics before and after
+pub record Step : Type 0 where
+  pub column : ColumnType
+  pub field : Field
+  pub content : Content
+  pub old : ColumnStatistics
+  pub new : ColumnStatistics
+
+-- the content is that of the field, and the statistics are complete with it
+abbrev pub IsStep : Bool → Step → Type 0
+IsStep lenient s = IsTakenAs lenient s.column s.field s.content × IsCompleteWith (known s.old) (cell_in s.column s.content) (known s.new)
+
+-- these fields are observed, each by the statistics of its column
+pub record AreFieldsObserved (lenient : Bool) (columns : List ColumnType) (fields : List Field) (old new : List ColumnStatistics) : Type 0 where
+  pub steps : List Step
+  pub fields_are : fields ≡ map (λ s. s.field) steps
+  pub columns_are : columns ≡ map (λ s. s.column) steps
+  pub old_are : old ≡ map (λ s. s.old) steps
+  pub new_are : new ≡ map (λ s. s.new) steps
+  pub each : AllByRecursion (IsStep lenient) steps
+
+-- the text has one row, which is observed; it begins where a field does
+abbrev pub AreObserved : ℕ → Bool → List ColumnType → List ℕ → List ColumnStatistics → List ColumnStatistics → Type 0
+AreObserved delimiter lenient columns bytes old new = (fields : List Field) × (field_rows delimiter bytes ≡ fields ∷ []) × AreFieldsObserved lenient columns fields old new
+
+-- the record has one row, which is observed
+abbrev pub IsObserved : ℕ → Bool → List ColumnType → List ℕ → List ColumnStatistics → List ColumnStatistics → Type 0
+IsObserved delimiter lenient columns line old new = (fields : List Field) × (rows_of delimiter line ≡ fields ∷ []) × AreFieldsObserved lenient columns fields old new
+
+-- ---- values that change no bound
+
+-- the cell compares with the bound and is not past it in this order; it is equal to it only if it is exact
+abbrev pub Keeps : (Cell → Cell → Option Ordering) → KnownBound → Cell → Type 0
+Keeps cmp b x = (cmp b.value x ≡ Some Less) ⊎ ((cmp b.value x ≡ Some Equal) × (b.is_exact ≡ true))
+
+abbrev pub KeepsBoth : KnownBound → KnownBound → Cell → Type 0
+KeepsBoth lower upper x = Keeps cell_order lower x × Keeps order_from_above upper x
+
+-- the word is a number of the type, between the bounds
+abbrev pub IsIntegerInside : PType → List ℕ → KnownBound → KnownBound → Type 0
+IsIntegerInside ptype word lower upper = (z : ℤ) × IsIntegerWord ptype word z × ((n : Nullability) → KeepsBoth lower upper (record { typed = integer_type ptype n; content = whole z }))
+
+-- the word is a string, between the bounds
+abbrev pub IsTextInside : List ℕ → KnownBound → KnownBound → Type 0
+IsTextInside word lower upper = IsUtf8 word × ((n : Nullability) → KeepsBoth lower upper (record { typed = utf8_type n; content = text word }))
+
+-- there are both bounds, and the cell is between them
+abbrev pub IsBetween : Option KnownBound → Option KnownBound → Cell → Type 0
+IsBetween (Some lower) (Some upper) x = KeepsBoth lower upper x
+IsBetween _ _ x = ⊥
+
+-- the word has bytes and a meaning in the column, and its cell changes no bound
+pub record IsInside (column : ColumnType) (word : List ℕ) (s : Known) : Type 0 where
+  pub some : 0 < length word
+  pub valued : may_be_value s ≡ true
+  pub content : Content
+  pub means : Means column.kind word content
+  pub between : IsBetween s.lower s.upper (cell_in column content)
+
+-- the bound is this number of the type
+abbrev pub IsNumberBound : PType → PValue → KnownBound → Type 0
+IsNumberBound ptype number b = (n : Nullability) × (b.value ≡ record { typed = integer_type ptype n; content = whole (whole_of number) })
+
+-- the bound is this string
+abbrev pub IsTextBound : List ℕ → KnownBound → Type 0
+IsTextBound bytes b = (n : Nullability) × (b.value ≡ record { typed = utf8_type n; content = text bytes })
