@@ -1,12 +1,10 @@
 -- Statistics of columns are gathered, and their forms joined.
-use Rattle.std.proofs.Common.{◌≡◌, ◌<◌, ◌≤◌, ◌+◌, ◌^◌, ◌++◌, ◌⊎◌, inl, inr, ℕ, zero, suc, List, [], ◌∷◌, Bool, true, false, if◌then◌else◌, Option, None, Some, Result, Ok, Err, Vec, IfSome, Ordering, Contains, refl, sym, ap, ap₂, ◌∙◌, subst, length, map, take, arith, get_or, append_assoc, append-nil, option_map, take_all, is_some, count_by}
-use Rattle.std.specs.Global.{Global}
+use Rattle.std.proofs.Common.{◌≡◌, ◌<◌, ◌≤◌, ◌+◌, ◌^◌, ◌++◌, ◌⊎◌, inl, inr, ℕ, zero, suc, List, [], ◌∷◌, Bool, true, false, if◌then◌else◌, Option, None, Some, Result, Ok, Err, IfSome, Ordering, Contains, refl, sym, ap, ◌∙◌, subst, length, take, arith, get_or, append_assoc, append-nil, option_map, take_all, is_some, count_by}
 use Rattle.std.specs.Int.{to_le_bytes, w64}
 use Rattle.std.specs.List.{AllByRecursion, cons_option, filter_map, flat_map}
 use Rattle.std.specs.Prelude.{OnOk}
 use Rattle.std.specs.Result.{is_ok}
 use Rattle.std.proofs.lemmas.Grind.{flat_map-append, take_at_read}
-use Rattle.std.proofs.lemmas.List.{map-append}
 use Rattle.std.proofs.lemmas.List.Recursion.{is_count_by}
 use Rattle.csv_records.specs.Records.{records_of}
 use Rattle.record_rows.specs.Cells.{column_type}
@@ -14,9 +12,8 @@ use Rattle.record_rows.specs.declared.columns.ColumnType.{ColumnType}
 use Rattle.record_rows.specs.declared.columns.Kind.TheVariants as kinds
 use Rattle.vortex_dtype.specs.TypeTree.{Same, TypeTree}
 use Rattle.vortex_dtype.specs.declared.nullability.Nullability.TheVariants.{NonNullable}
-use Rattle.vortex_filter.specs.Formula.{cell_at}
 use Rattle.vortex_filter.specs.Pruning.{column}
-use Rattle.vortex_statistics.specs.Cells.{Cell, HasValue, IsUpTo, cell_of, cell_order, order_from_above}
+use Rattle.vortex_statistics.specs.Cells.{Cell, IsUpTo, cell_order, order_from_above}
 use Rattle.vortex_statistics.specs.Form.{IsHeldKnown, form}
 use Rattle.vortex_statistics.specs.FormAnswers.{AreTyped}
 use Rattle.vortex_statistics.specs.Statistics.{AreComplete, AreRight, IsLowerBound, IsUpperBound, Known, KnownBound, known, known_bound}
@@ -26,45 +23,11 @@ use Rattle.vortex_statistics.specs.declared.column_statistics.ColumnStatistics.{
 use Rattle.vortex_value.specs.Equality.{same_type}
 use Rattle.vortex_value.specs.Lemmas.EqualityLaws.{same_type-Decides}
 use Rattle.vortex_value.specs.Order.{order}
-use Rattle.vortex_value.specs.declared.scalars.Scalar.{Scalar}
 use Rattle.zone_index.specs.Form.{bytes_form}
-use Rattle.record_search.specs.Searched.{AreCellsOf, AreDescribed, AreRightForms, AreRowsOf, IsCutOf, IsRightForm, ReachTo, row_cells}
-use Rattle.record_search.proofs.RowLaws.{cell_typed, row_reaches}
+use Rattle.record_search.specs.Searched.{AreCellsOf, AreDescribed, AreRightForms, AreRowsOf, IsCutOf, IsRightForm}
+use Rattle.record_search.proofs.RowLaws.{cell_typed}
 
 -- ---- columns
-
--- one row more
-pub column_more : (k : ℕ) (rows : List (Vec Scalar Global)) (i : ℕ) (row : Vec Scalar Global) → i < length rows → row ≡ get_or rows i row → column k (map row_cells (take (i + 1) rows)) ≡ column k (map row_cells (take i rows)) ++ cell_at (row_cells row) k ∷ []
-column_more k rows i row inside is =
-    let cell : Vec Scalar Global → Cell = λ r. cell_at (row_cells r) k in
-    ap (λ (rs : List (Vec Scalar Global)). column k (map row_cells rs)) ((take_at_read rows i row inside).1 ∙ ap (λ (r : Vec Scalar Global). take i rows ++ r ∷ []) (sym is))
-    ∙ ap (column k) (map-append row_cells (take i rows) (row ∷ []))
-    ∙ map-append (λ (cells : List Cell). cell_at cells k) (map row_cells (take i rows)) (row_cells row ∷ [])
-
-pub complete_more : (k : ℕ) (rows : List (Vec Scalar Global)) (i : ℕ) (row : Vec Scalar Global) (s t : Known) → i < length rows → row ≡ get_or rows i row → AreComplete s (column k (map row_cells (take i rows)))
-    → ((cells : List Cell) → AreComplete s cells → AreComplete t (cells ++ cell_at (row_cells row) k ∷ [])) → AreComplete t (column k (map row_cells (take (i + 1) rows)))
-complete_more k rows i row s t inside is before more = subst (AreComplete t) (sym (column_more k rows i row inside is)) (more (column k (map row_cells (take i rows))) before)
-
-reach_map : (k : ℕ) (rows : List (Vec Scalar Global)) (i : ℕ) (d : Vec Scalar Global) → ReachTo k (map row_cells rows) → i < length rows → k < length (row_cells (get_or rows i d))
-reach_map k [] i d h inside = absurd (omega arith)
-reach_map k (r ∷ rs) zero d h inside = h.0
-reach_map k (r ∷ rs) (suc i) d h inside = reach_map k rs i d h.1 (omega arith)
-
--- the row at hand has a cell in this column
-pub reaches : (k : ℕ) (rows : List (Vec Scalar Global)) (i : ℕ) (row : Vec Scalar Global) (view : List Scalar) → ReachTo k (map row_cells rows) → i < length rows → row ≡ get_or rows i row → view ≡ row.items → k < length view
-reaches k rows i row view h inside is same =
-    let far : k < length (row_cells row) = subst (λ (r : Vec Scalar Global). k < length (row_cells r)) (sym is) (reach_map k rows i row h inside) in
-    let long : length (map cell_of row.items) ≡ length row.items = length_map row.items in
-    let here : length view ≡ length row.items = ap length same in
-    omega arith
-  where
-    length_map : (xs : List Scalar) → length (map cell_of xs) ≡ length xs
-    length_map [] = refl
-    length_map (x ∷ xs) = ap suc (length_map xs)
-
-pub all_reach : (cs : List ColumnType) (rows : List (List Cell)) (k : ℕ) → AreRowsOf cs rows → k < length cs → ReachTo k rows
-all_reach cs [] k h below = tt
-all_reach cs (row ∷ rows) k h below = (row_reaches cs row k h.0 below, all_reach cs rows k h.1 below)
 
 column_typed : (cs : List ColumnType) (rows : List (List Cell)) (k : ℕ) (d : ColumnType) → AreRowsOf cs rows → k < length cs → AllByRecursion (λ x. x.typed ≡ column_type (get_or cs k d)) (column k rows)
 column_typed cs [] k d h below = tt
@@ -207,19 +170,6 @@ count_one : (o : Option (List Cell)) (rest : List (List Cell)) → length (cons_
 count_one None rest = refl
 count_one (Some row) rest = let more : suc (length rest) ≡ 1 + length rest = omega arith in more
 
-rows_counted : (h : List ℕ → Option (List Cell)) (records : List (List ℕ)) → length (filter_map h records) ≡ count_by (λ line. is_some (h line)) records
-rows_counted h records = is_count_by (λ (lines : List (List ℕ)). length (filter_map h lines)) (λ line. is_some (h line)) refl (λ line lines. count_one (h line) (filter_map h lines)) records
-
-length_cells : (rows : List (Vec Scalar Global)) → length (map row_cells rows) ≡ length rows
-length_cells [] = refl
-length_cells (row ∷ rows) = ap suc (length_cells rows)
-
 -- as many rows as records that have one
-pub rows_are_counted : (h : List ℕ → Option (List Cell)) (rows : List (Vec Scalar Global)) (records : List (List ℕ)) → map row_cells rows ≡ filter_map h records → length rows ≡ count_by (λ line. is_some (h line)) records
-rows_are_counted h rows records e = sym (length_cells rows) ∙ ap length e ∙ rows_counted h records
-
--- the cell of a scalar that stands in a row
-pub cell_there : (row : List Scalar) (k : ℕ) (x : Scalar) → k < length row → x ≡ get_or row k x → cell_at (map cell_of row) k ≡ cell_of x
-cell_there [] k x inside is = absurd (omega arith)
-cell_there (r ∷ rs) zero x inside is = ap cell_of (sym is)
-cell_there (r ∷ rs) (suc k) x inside is = cell_there rs k x (omega arith) is
+pub rows_counted : (h : List ℕ → Option (List Cell)) (records : List (List ℕ)) → length (filter_map h records) ≡ count_by (λ line. is_some (h line)) records
+rows_counted h records = is_count_by (λ (lines : List (List ℕ)). length (filter_map h lines)) (λ line. is_some (h line)) refl (λ line lines. count_one (h line) (filter_map h lines)) records

@@ -2,6 +2,7 @@ pub mod DecodeLaws
 pub mod Decoded
 pub mod DescribeLaws
 pub mod NamedLaws
+pub mod ObserveLaws
 pub mod ReadBack
 pub mod ReadColumns
 pub mod RefusedLaws

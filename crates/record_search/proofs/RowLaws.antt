@@ -172,9 +172,3 @@ cell_typed [] row k d h below = absurd (omega arith)
 cell_typed (c ∷ cs) [] k d h below = absurd h
 cell_typed (c ∷ cs) (x ∷ xs) zero d h below = h.0
 cell_typed (c ∷ cs) (x ∷ xs) (suc k) d h below = cell_typed cs xs k d h.1 (omega arith)
-
-pub row_reaches : (cs : List ColumnType) (row : List Cell) (k : ℕ) → AreCellsOf cs row → k < length cs → k < length row
-row_reaches [] row k h below = absurd (omega arith)
-row_reaches (c ∷ cs) [] k h below = absurd h
-row_reaches (c ∷ cs) (x ∷ xs) zero h below = omega arith
-row_reaches (c ∷ cs) (x ∷ xs) (suc k) h below = let rest = row_reaches cs xs k h.1 (omega arith) in omega arith

@@ -1,5 +1,5 @@
 -- Which records match, and what statistics say of their rows.
-use Rattle.std.specs.Prelude.{◌≡◌, ◌++◌, ◌<◌, ◌^◌, ℕ, suc, List, [], ◌∷◌, Bool, false, Option, None, Some, Vec, filter_map, if◌then◌else◌, is_some, length, map}
+use Rattle.std.specs.Prelude.{◌≡◌, ◌++◌, ◌<◌, ◌^◌, ℕ, suc, List, [], ◌∷◌, Bool, false, true, Option, None, Some, Vec, filter_map, if◌then◌else◌, is_some, length, map}
 use Rattle.std.specs.Global.{Global}
 use Rattle.std.specs.List.{AllByRecursion, flat_map}
 use Rattle.csv_records.specs.Records.{records_of}
@@ -14,6 +14,7 @@ use Rattle.vortex_filter.specs.declared.outcomes.Outcomes.{Outcomes}
 use Rattle.vortex_statistics.specs.Cells.{Cell, cell_of}
 use Rattle.vortex_statistics.specs.Form.{IsHeldKnown, form}
 use Rattle.vortex_statistics.specs.FormAnswers.{AreTyped}
+use Rattle.vortex_statistics.specs.Observing.{IsCompleteWith}
 use Rattle.vortex_statistics.specs.Statistics.{AreComplete, AreRight, Known, known}
 use Rattle.vortex_statistics.specs.Truncating.{AreTruncated}
 use Rattle.vortex_statistics.specs.declared.column_statistics.ColumnStatistics.{ColumnStatistics}
@@ -54,10 +55,6 @@ matches_record s f line = matches_row f (row_under s line)
 abbrev pub row_cells : Vec Scalar Global → List Cell
 row_cells row = map cell_of row.items
 
--- each row has a cell in this column
-abbrev pub ReachTo : ℕ → List (List Cell) → Type 0
-ReachTo k rows = AllByRecursion (λ row. k < length row) rows
-
 -- each cell of a row is of its column's type, from this column on
 abbrev pub AreCellsOf : List ColumnType → List Cell → Type 0
 AreCellsOf [] [] = Unit {0}
@@ -68,11 +65,41 @@ AreCellsOf (c ∷ cs) (x ∷ xs) = (x.typed ≡ column_type c) × AreCellsOf cs 
 abbrev pub AreRowsOf : List ColumnType → List (List Cell) → Type 0
 AreRowsOf columns rows = AllByRecursion (AreCellsOf columns) rows
 
+-- the statistics of each column, from this place on, are complete for its cells in the rows
+abbrev pub AreAllComplete : ℕ → List (List Cell) → List ColumnStatistics → Type 0
+AreAllComplete k rows [] = Unit {0}
+AreAllComplete k rows (s ∷ ss) = AreComplete (known s) (column k rows) × AreAllComplete (suc k) rows ss
+
+-- each of the new statistics is complete for the cells of the old one and one more: that of its column in a row
+abbrev pub AreAllWith : List ColumnStatistics → List Cell → List ColumnStatistics → Type 0
+AreAllWith [] [] [] = Unit {0}
+AreAllWith [] [] (t ∷ ts) = ⊥
+AreAllWith [] (x ∷ xs) ts = ⊥
+AreAllWith (s ∷ ss) [] ts = ⊥
+AreAllWith (s ∷ ss) (x ∷ xs) [] = ⊥
+AreAllWith (s ∷ ss) (x ∷ xs) (t ∷ ts) = IsCompleteWith (known s) x (known t) × AreAllWith ss xs ts
+
+-- the row of a record is observed if it has one; else the statistics are as they were
+abbrev pub ObservesRow : Bool → Option (List Cell) → List ColumnStatistics → List ColumnStatistics → Type 0
+ObservesRow true (Some cells) old new = AreAllWith old cells new
+ObservesRow true None old new = ⊥
+ObservesRow false (Some cells) old new = ⊥
+ObservesRow false None old new = new ≡ old
+
 -- the statistics of these cells, whose nulls are counted and whose bounds are values, with bounds cut to so many bytes
 pub record IsCutOf (n : ℕ) (cells : List Cell) (s : ColumnStatistics) : Type 0 where
   pub whole : ColumnStatistics
   pub complete : AreComplete (known whole) cells
   pub cut : AreTruncated n whole s
+
+-- the form of statistics with bounds cut to so many bytes is appended, after its length; they are right where the whole ones are
+pub record PushesCut (n : ℕ) (s : ColumnStatistics) (old new : List ℕ) : Type 0 where
+  pub cut : ColumnStatistics
+  pub truncated : AreTruncated n s cut
+  pub right : (cells : List Cell) → AreRight (known s) cells → AreRight (known cut) cells
+  pub held : IsHeldKnown (known cut)
+  pub fits : length (form (known cut)) < 2 ^ 64
+  pub appended : new ≡ old ++ bytes_form (form (known cut))
 
 -- the bytes are the form of statistics of the type that are right for these cells
 pub record IsRightForm (t : TypeTree) (cells : List Cell) (bytes : List ℕ) : Type 0 where

@@ -1,11 +1,9 @@
 -- The words of this crate's clauses, from one place.
 pub use Rattle.record_rows.specs.Cells.{column_type}
-pub use Rattle.vortex_filter.specs.Formula.{cell_at, formula}
-pub use Rattle.vortex_filter.specs.Pruning.{column}
-pub use Rattle.vortex_statistics.specs.Cells.{cell_of}
+pub use Rattle.vortex_filter.specs.Formula.{formula}
+pub use Rattle.vortex_statistics.specs.Cells.{Cell, cell_of}
 pub use Rattle.vortex_statistics.specs.Form.{IsHeldKnown, form}
-pub use Rattle.vortex_statistics.specs.Observing.{IsCompleteWith}
-pub use Rattle.vortex_statistics.specs.Statistics.{AreRight, known}
+pub use Rattle.vortex_statistics.specs.Statistics.{known}
 pub use Rattle.zone_index.specs.Asking.{Asks}
 pub use Rattle.zone_index.specs.Faults.{IfRecordRefused, IfRefused, TellsOneOf, TellsRecord}
 pub use Rattle.zone_index.specs.Form.{bytes_form}
@@ -14,4 +12,4 @@ pub use Rattle.zone_index.specs.declared.faults.Fault.TheVariants.{CutShort, Too
 pub use Rattle.record_search.specs.Decoding.{columns_in, piece_in, statistics_in}
 pub use Rattle.record_search.specs.Named.{AgreeAsRows, with_columns}
 pub use Rattle.record_search.specs.Refused.{RefusesRecord, fault_at_place}
-pub use Rattle.record_search.specs.Searched.{AreDescribed, AreRowsOf, DescribeRows, IsCutOf, IsRowIndex, ReachTo, columns_of, decision_by, decision_of, found_in_zones, found_rows, has_row, matches_record, records_under, row_cells, row_under, rows_under}
+pub use Rattle.record_search.specs.Searched.{AreAllComplete, AreDescribed, AreRowsOf, DescribeRows, IsRowIndex, ObservesRow, PushesCut, columns_of, decision_by, decision_of, found_in_zones, found_rows, has_row, matches_record, records_under, row_cells, row_under, rows_under}

@@ -1,15 +1,15 @@
 //! The rows of a zone are described.
 
-ghost use Rattle.std.specs.Prelude.{◌≡◌, ◌++◌, ◌∷◌, ◌<◌, ◌^◌, [], IfErr, IfOk, OnOk, length, map};
+ghost use Rattle.std.specs.Prelude.{◌≡◌, ◌++◌, ◌<◌, ◌^◌, List, [], IfErr, IfOk, OnOk, length};
 ghost use Rattle.std.specs.Int.{to_le_bytes, w64};
 ghost use Rattle.csv_records.specs.Records.{records_of};
-ghost use Rattle.record_search.specs.Words.{AreDescribed, AreRight, AreRowsOf, DescribeRows, IfRecordRefused, IsCompleteWith, IsCutOf, IsHeldKnown, ReachTo, RefusesRecord, TellsOneOf, TellsRecord, bytes_form, cell_at, cell_of, column, form, has_row, known, row_cells, rows_under};
+ghost use Rattle.record_search.specs.Words.{AreAllComplete, AreDescribed, AreRowsOf, Cell, DescribeRows, IfRecordRefused, IsHeldKnown, ObservesRow, PushesCut, RefusesRecord, TellsOneOf, TellsRecord, bytes_form, form, has_row, known, row_under, rows_under};
 
-use crate::schema::Schema;
+use crate::schema::{Schema, record_fault};
 use csv_records::{Delimiter, cut_record};
+use record_statistics::observe_record;
 use std::alloc::{AllocError, Global};
 use vortex_statistics::ColumnStatistics;
-use vortex_value::{Scalar, ScalarRef};
 use zone_index::{Described, Describer, RecordFault, Records};
 
 impl Records for Schema {
@@ -28,111 +28,119 @@ impl Records for Schema {
 
 impl Describer for Schema {
     fn describe(&self, alloc: Global, text: &[u8]) -> Result<Described, RecordFault> {
-        let (records, rows) = read_rows(alloc, self, text)?;
-        let statistics = forms_of(alloc, self, &rows)?;
+        let mut columns = empty_statistics(alloc, self.columns.len())?;
+        let (records, rows) = observe_text(alloc, self, text, &mut columns)?;
+        let statistics = forms_of(alloc, self, columns)?;
         Ok(Described {
             records,
-            rows: rows.len() as u64,
+            rows,
             statistics,
         })
     }
 }
 
-/// How many records a text has, and the rows of those that have one.
-fn read_rows(
+/// The statistics of no rows, for so many columns.
+fn empty_statistics(alloc: Global, count: usize) -> Result<Vec<ColumnStatistics>, AllocError>
+    ensures { IfOk result (λ all. (length all.items ≡ count) × AreAllComplete 0 [] all.items) }
+{
+    let mut all = Vec::with_capacity(alloc, count)?;
+    for _ in 0..count {
+        all.push(ColumnStatistics::empty())?;
+    }
+    Ok(all)
+}
+
+/// Observes the rows of a text, and says how many records it has, and how many of them a row.
+fn observe_text(
     alloc: Global,
     schema: &Schema,
     text: &[u8],
-) -> Result<(u64, Vec<Vec<Scalar>>), RecordFault>
+    statistics: &mut [ColumnStatistics],
+) -> Result<(u64, u64), RecordFault>
+    requires many { length statistics.old ≡ length schema.now.columns.items }
+    requires fresh { AreAllComplete 0 [] statistics.old }
     ensures records { IfOk result (λ read. read.0 ≡
         length (records_of schema.now.delimiter.byte text.now)) }
-    ensures rows { IfOk result (λ read. map row_cells read.1.items ≡
-        rows_under schema.now (records_of schema.now.delimiter.byte text.now)) }
+    ensures rows { IfOk result (λ read. read.1 ≡
+        length (rows_under schema.now (records_of schema.now.delimiter.byte text.now))) }
+    ensures complete { OnOk result (AreAllComplete 0
+        (rows_under schema.now (records_of schema.now.delimiter.byte text.now)) statistics.new) }
+    ensures length { length statistics.new ≡ length statistics.old }
     ensures refused { IfErr result (IfRecordRefused (TellsOneOf (RefusesRecord schema.now) 0
         (records_of schema.now.delimiter.byte text.now))) }
 {
     let mut records = 0u64;
-    let mut rows: Vec<Vec<Scalar>> = Vec::new(alloc);
+    let mut rows = 0u64;
+    let mut buffer = Vec::new(alloc);
     let mut rest = text;
     while !rest.is_empty() {
         let place = (text.len() - rest.len()) as u64;
         let (line, after) = cut_record(schema.delimiter, rest);
-        push_row(alloc, schema, place, line, &mut rows)?;
+        let has_row = observe_line(alloc, schema, place, line, &mut buffer, statistics)?;
         records += 1;
+        rows += u64::from(has_row);
         rest = after;
     }
     Ok((records, rows))
 }
 
-/// Adds the row of a record, which begins at this place, if it has one.
-fn push_row(
+/// Observes the row of a record, which begins at this place, and says whether it has one.
+fn observe_line(
     alloc: Global,
     schema: &Schema,
     place: u64,
     line: &[u8],
-    rows: &mut Vec<Vec<Scalar>>,
-) -> Result<(), RecordFault>
-    ensures row { OnOk result (map row_cells rows.new.items ≡
-        map row_cells rows.old.items ++ rows_under schema.now (line.now ∷ [])) }
+    buffer: &mut Vec<u8>,
+    statistics: &mut [ColumnStatistics],
+) -> Result<bool, RecordFault>
+    requires { length statistics.old ≡ length schema.now.columns.items }
+    ensures observed { IfOk result (λ has. ObservesRow has (row_under schema.now line.now)
+        statistics.old statistics.new) }
+    ensures length { length statistics.new ≡ length statistics.old }
     ensures refused { IfErr result (IfRecordRefused (TellsRecord (RefusesRecord schema.now) place line.now)) }
 {
-    match schema.row(alloc, place, line)? {
-        Some(row) => {
-            rows.push(row)?;
-            Ok(())
-        }
-        None => Ok(()),
+    match observe_record(
+        alloc,
+        schema.delimiter,
+        schema.is_lenient,
+        &schema.columns,
+        line,
+        buffer,
+        statistics,
+    ) {
+        Ok(has_row) => Ok(has_row),
+        Err(fault) => Err(record_fault(place, fault)),
     }
 }
 
-/// The forms of the statistics of each column, each after its length.
-fn forms_of(alloc: Global, schema: &Schema, rows: &[Vec<Scalar>]) -> Result<Vec<u8>, AllocError>
-    requires { AreRowsOf schema.now.columns.items (map row_cells rows.now) }
-    ensures { IfOk result (λ bytes. AreDescribed schema.now.columns.items
-        (map row_cells rows.now) bytes.items) }
+/// The forms of the statistics of each column, their bounds cut, each after its length.
+fn forms_of(
+    alloc: Global,
+    schema: &Schema,
+    statistics: Vec<ColumnStatistics>,
+) -> Result<Vec<u8>, AllocError>
+    requires { length statistics.items ≡ length schema.now.columns.items }
+    ensures { IfOk result (λ bytes. (rows : List (List Cell)) → AreRowsOf schema.now.columns.items rows
+        → AreAllComplete 0 rows statistics.items → AreDescribed schema.now.columns.items rows bytes.items) }
 {
     let mut output = Vec::new(alloc);
-    for place in 0..schema.columns.len() {
-        let statistics = statistics_of(alloc, rows, place, schema.bound_length)?;
-        push_form(alloc, &statistics, &mut output)?;
+    for column in statistics {
+        push_cut(alloc, column, schema.bound_length, &mut output)?;
     }
     Ok(output)
 }
 
-/// The statistics of the column at this place, its bounds cut to so many bytes.
-fn statistics_of(
+/// Appends the form of statistics after its length, their bounds cut to so many bytes.
+fn push_cut(
     alloc: Global,
-    rows: &[Vec<Scalar>],
-    place: usize,
+    statistics: ColumnStatistics,
     length: usize,
-) -> Result<ColumnStatistics, AllocError>
-    requires { ReachTo place (map row_cells rows.now) }
-    ensures cut { IfOk result (IsCutOf length (column place (map row_cells rows.now))) }
-    ensures right { IfOk result (λ s. AreRight (known s) (column place (map row_cells rows.now))) }
-{
-    let mut statistics = ColumnStatistics::empty();
-    for row in rows {
-        observe_cell(alloc, row, place, &mut statistics)?;
-    }
-    match statistics.truncate(alloc, length) {
-        Ok(statistics) => Ok(statistics),
-        Err(_) => Err(AllocError),
-    }
-}
-
-/// Counts the cell of one row more.
-fn observe_cell(
-    alloc: Global,
-    row: &[Scalar],
-    place: usize,
-    statistics: &mut ColumnStatistics,
+    output: &mut Vec<u8>,
 ) -> Result<(), AllocError>
-    requires { place < length row.now }
-    ensures { OnOk result (IsCompleteWith (known statistics.old)
-        (cell_at (map cell_of row.now) place) (known statistics.new)) }
+    ensures { OnOk result (PushesCut length statistics output.old.items output.new.items) }
 {
-    match statistics.observe(alloc, ScalarRef::of(&row[place])) {
-        Ok(()) => Ok(()),
+    match statistics.truncate(alloc, length) {
+        Ok(cut) => push_form(alloc, &cut, output),
         Err(_) => Err(AllocError),
     }
 }

@@ -1,7 +1,11 @@
--- The columns so far are described.
-use Rattle.std.proofs.Common.{map, take}
-use Rattle.record_search.specs.Searched.{AreDescribed, row_cells}
+-- The columns so far are described, for any rows that their statistics are complete for.
+use Rattle.std.proofs.Common.{◌≡◌, ◌++◌, length}
+use Rattle.std.specs.Vec.Iter.{into_iter_items, into_iter_len}
+use Rattle.record_search.proofs.ObserveLaws.{AreFormsOf}
 use Rattle.record_search.proofs.describing.forms_of.Given as goal
 
-abbrev pub invariant-loop-place : goal.invariant-loop-place
-invariant-loop-place l = AreDescribed (take l.place l.schema.columns.items) (map row_cells l.rows) l.output.items
+abbrev pub invariant-loop-column : goal.invariant-loop-column
+invariant-loop-column l =
+    (l.yielded ++ into_iter_items l.column-iterator ≡ into_iter_items l.initial.column-iterator)
+    × AreFormsOf l.schema.columns.items l.yielded l.output.items
+    × (into_iter_len l.column-iterator ≡ length (into_iter_items l.column-iterator))

@@ -1,0 +1,187 @@
+-- The rows of records are observed, one after another.
+use Rattle.std.proofs.Common.{◌≡◌, ◌<◌, ◌≤◌, ◌+◌, ◌^◌, ◌++◌, ◌⊎◌, inl, inr, ℕ, zero, suc, List, [], ◌∷◌, Bool, true, false, Option, None, Some, Result, Ok, Err, MatchBool, refl, sym, ap, ◌∙◌, subst, length, map, take, drop, arith, append_assoc, append-nil, length-append, take_at}
+use Rattle.std.specs.Int.{from_bool}
+use Rattle.std.specs.List.{AllByRecursion, filter_map}
+use Rattle.std.specs.Prelude.{OnOk}
+use Rattle.csv_records.specs.Records.{records_of}
+use Rattle.std.proofs.lemmas.List.{map-append}
+use Rattle.csv_records.specs.Rows.{Field, rows_of}
+use Rattle.record_rows.specs.Cells.{is_null_field}
+use Rattle.record_rows.specs.declared.columns.ColumnType.{ColumnType}
+use Rattle.record_statistics.specs.Observed.{AreFieldsObserved, IsObserved, IsStep, IsTakenAs, Step, cell_in}
+use Rattle.vortex_filter.specs.Formula.{cell_at}
+use Rattle.vortex_filter.specs.Pruning.{column}
+use Rattle.vortex_statistics.specs.Cells.{Cell}
+use Rattle.vortex_statistics.specs.Form.{IsHeldKnown, form}
+use Rattle.vortex_statistics.specs.Statistics.{AreComplete, AreRight, known}
+use Rattle.vortex_statistics.specs.Truncating.{AreTruncated}
+use Rattle.vortex_statistics.specs.declared.column_statistics.ColumnStatistics.{ColumnStatistics}
+use Rattle.vortex_value.specs.Values.Content.{Content}
+use Rattle.zone_index.specs.Form.{bytes_form}
+use Rattle.record_search.specs.Contents.{cells_of, field_content, only_row, row_of}
+use Rattle.record_search.specs.Searched.{AreAllComplete, AreAllWith, AreDescribed, AreRowsOf, ObservesRow, PushesCut}
+use Rattle.record_search.proofs.DescribeLaws.{all_described, described_more, none_described, row_pushed, rows_more}
+use Rattle.record_search.proofs.RowLaws.{cell_field, no_row, null_field}
+
+-- ---- the row of a record
+
+abbrev step_cell : Step → Cell
+step_cell s = cell_in s.column s.content
+
+content_taken : (l : Bool) (column : ColumnType) (f : Field) (c : Content) → IsTakenAs l column f c → field_content l column f ≡ Some c
+content_taken l column f c (inl h) = cell_field l column f c (is_null_field column.nullability f) refl h
+content_taken l column f c (inr h) = null_field l column f (is_null_field column.nullability f) refl h.0 h.2 h.1 ∙ ap (λ (d : Content). Some d) (sym h.3)
+
+step_cells : (l : Bool) (steps : List Step) → AllByRecursion (IsStep l) steps → cells_of l (map (λ s. s.column) steps) (map (λ s. s.field) steps) ≡ Some (map step_cell steps)
+step_cells l [] h = refl
+step_cells l (s ∷ steps) h = rw (content_taken l s.column s.field s.content h.0.0, step_cells l steps h.1) refl
+
+steps_with : (l : Bool) (steps : List Step) → AllByRecursion (IsStep l) steps → AreAllWith (map (λ s. s.old) steps) (map step_cell steps) (map (λ s. s.new) steps)
+steps_with l [] h = tt
+steps_with l (s ∷ steps) h = (h.0.1, steps_with l steps h.1)
+
+fields_observed : (l : Bool) (columns : List ColumnType) (fields : List Field) (old new : List ColumnStatistics) (h : AreFieldsObserved l columns fields old new) → (cells_of l columns fields ≡ Some (map step_cell h.steps)) × AreAllWith old (map step_cell h.steps) new
+fields_observed l columns fields old new h = (
+  ap (λ (cs : List ColumnType). cells_of l cs fields) h.columns_are ∙ ap (cells_of l (map (λ (s : Step). s.column) h.steps)) h.fields_are ∙ step_cells l h.steps h.each,
+  subst (λ (xs : List ColumnStatistics). AreAllWith xs (map step_cell h.steps) new) (sym h.old_are) (subst (λ (xs : List ColumnStatistics). AreAllWith (map (λ (s : Step). s.old) h.steps) (map step_cell h.steps) xs) (sym h.new_are) (steps_with l h.steps h.each)),
+)
+
+-- what was observed of a record is its row
+pub row_observed : (d : ℕ) (l : Bool) (columns : List ColumnType) (line : List ℕ) (old new : List ColumnStatistics) (has : Bool) → MatchBool has (IsObserved d l columns line old new) ((rows_of d line ≡ []) × (new ≡ old)) → ObservesRow has (row_of d l columns line) old new
+row_observed d l columns line old new true h =
+    let p = fields_observed l columns h.0 old new h.2 in
+    rw (ap (only_row l columns) h.1 ∙ p.0) p.1
+row_observed d l columns line old new false h = rw (no_row d l columns line h.0) h.1
+
+-- ---- one row more
+
+cell_behind : (front : List Cell) (x : Cell) (xs : List Cell) (k : ℕ) → length front ≡ k → cell_at (front ++ x ∷ xs) k ≡ x
+cell_behind [] x xs zero e = refl
+cell_behind [] x xs (suc k) e = absurd (omega (arith, e))
+cell_behind (y ∷ front) x xs zero e = absurd (omega (arith, e))
+cell_behind (y ∷ front) x xs (suc k) e = cell_behind front x xs k (omega (arith, e))
+
+complete_from : (k : ℕ) (rows : List (List Cell)) (row front xs : List Cell) (ss ts : List ColumnStatistics) → row ≡ front ++ xs → length front ≡ k → AreAllComplete k rows ss → AreAllWith ss xs ts → AreAllComplete k (rows ++ row ∷ []) ts
+complete_from k rows row front [] [] [] is long h w = tt
+complete_from k rows row front [] [] (t ∷ ts) is long h w = absurd w
+complete_from k rows row front (x ∷ xs) [] ts is long h w = absurd w
+complete_from k rows row front [] (s ∷ ss) ts is long h w = absurd w
+complete_from k rows row front (x ∷ xs) (s ∷ ss) [] is long h w = absurd w
+complete_from k rows row front (x ∷ xs) (s ∷ ss) (t ∷ ts) is long h w =
+    let here : cell_at row k ≡ x = ap (λ (r : List Cell). cell_at r k) is ∙ cell_behind front x xs k long in
+    let cells : column k (rows ++ row ∷ []) ≡ column k rows ++ x ∷ [] = map-append (λ (r : List Cell). cell_at r k) rows (row ∷ []) ∙ ap (λ (c : Cell). column k rows ++ c ∷ []) here in (
+      subst (AreComplete (known t)) (sym cells) (w.0 (column k rows) h.0),
+      complete_from (suc k) rows row (front ++ x ∷ []) xs ss ts (is ∙ sym (append_assoc front (x ∷ []) xs)) (length-push front x k long) h.1 w.1,
+    )
+  where
+    length-push : (front : List Cell) (x : Cell) (k : ℕ) → length front ≡ k → length (front ++ x ∷ []) ≡ suc k
+    length-push [] x k long = omega (arith, long)
+    length-push (y ∷ front) x zero long = absurd (omega (arith, long))
+    length-push (y ∷ front) x (suc k) long = ap suc (length-push front x k (omega (arith, long)))
+
+pub complete_with : (rows : List (List Cell)) (row : List Cell) (ss ts : List ColumnStatistics) → AreAllComplete 0 rows ss → AreAllWith ss row ts → AreAllComplete 0 (rows ++ row ∷ []) ts
+complete_with rows row ss ts h w = complete_from 0 rows row [] row ss ts refl refl h w
+
+-- ---- one record more
+
+-- the rows that were seen and those of the rest are all, and the statistics are complete for those that were seen
+pub record Seen (h : List ℕ → Option (List Cell)) (d : ℕ) (text rest : List ℕ) (rows : ℕ) (statistics : List ColumnStatistics) : Type 0 where
+  pub seen : List (List Cell)
+  pub all : seen ++ filter_map h (records_of d rest) ≡ filter_map h (records_of d text)
+  pub count : rows ≡ length seen
+  pub complete : AreAllComplete 0 seen statistics
+
+-- one row at most
+pub at_most_one : (b : Bool) (n : ℕ) → n ≡ from_bool b → n ≤ 1
+at_most_one true n is = omega (arith, is)
+at_most_one false n is = omega (arith, is)
+
+pub seen_none : (h : List ℕ → Option (List Cell)) (d : ℕ) (text : List ℕ) (statistics : List ColumnStatistics) → AreAllComplete 0 [] statistics → Seen h d text text 0 statistics
+seen_none h d text statistics none = record { seen = []; all = refl; count = refl; complete = none }
+
+pub seen_more : (h : List ℕ → Option (List Cell)) (d : ℕ) (text whole line rest : List ℕ) (rows more : ℕ) (has : Bool) (old new : List ColumnStatistics) → records_of d whole ≡ line ∷ records_of d rest → Seen h d text whole rows old → ObservesRow has (h line) old new → more ≡ rows + from_bool has
+    → Seen h d text rest more new
+seen_more h d text whole line rest rows more has old new cut s observes counted = by_row has (h line) refl observes counted
+  where
+    by_row : (b : Bool) (o : Option (List Cell)) → h line ≡ o → ObservesRow b o old new → more ≡ rows + from_bool b → Seen h d text rest more new
+    by_row true (Some cells) e w n = record {
+      seen = s.seen ++ cells ∷ [];
+      all = rows_more h d whole line rest s.seen (s.seen ++ cells ∷ []) (filter_map h (records_of d text)) cut s.all (row_pushed h line (Some cells) s.seen (s.seen ++ cells ∷ []) e refl);
+      count = omega (arith, n, s.count, length-append s.seen (cells ∷ []));
+      complete = complete_with s.seen cells old new s.complete w;
+    }
+    by_row false None e w n = record {
+      seen = s.seen;
+      all = rows_more h d whole line rest s.seen s.seen (filter_map h (records_of d text)) cut s.all (row_pushed h line None s.seen s.seen e refl);
+      count = omega (arith, n, s.count);
+      complete = subst (AreAllComplete 0 s.seen) (sym w) s.complete;
+    }
+    by_row true None e w n = absurd w
+    by_row false (Some cells) e w n = absurd w
+
+-- ---- all records
+
+-- behind the last record all rows were seen
+pub seen_all : (h : List ℕ → Option (List Cell)) (d : ℕ) (text rest : List ℕ) (rows : ℕ) (statistics : List ColumnStatistics) → rest ≡ [] → Seen h d text rest rows statistics → (rows ≡ length (filter_map h (records_of d text))) × AreAllComplete 0 (filter_map h (records_of d text)) statistics
+seen_all h d text rest rows statistics none s =
+    let same : s.seen ≡ filter_map h (records_of d text) = sym (append-nil s.seen) ∙ ap (λ (l : List ℕ). s.seen ++ filter_map h (records_of d l)) (sym none) ∙ s.all in (
+      s.count ∙ ap length same,
+      subst (λ (l : List (List Cell)). AreAllComplete 0 l statistics) same s.complete,
+    )
+
+-- a text with no bytes is empty
+pub no_bytes : (text : List ℕ) → length text ≡ 0 → text ≡ []
+no_bytes [] none = refl
+no_bytes (b ∷ text) none = absurd (omega arith)
+
+-- ---- the statistics of no rows
+
+none_from : (k : ℕ) (ss : List ColumnStatistics) (t : ColumnStatistics) → AreAllComplete k [] ss → AreComplete (known t) [] → AreAllComplete k [] (ss ++ t ∷ [])
+none_from k [] t h new = (new, tt)
+none_from k (s ∷ ss) t h new = (h.0, none_from (suc k) ss t h.1 new)
+
+pub none_more : (ss : List ColumnStatistics) (t : ColumnStatistics) → AreAllComplete 0 [] ss → AreComplete (known t) [] → AreAllComplete 0 [] (ss ++ t ∷ [])
+none_more ss t h new = none_from 0 ss t h new
+
+-- ---- their forms
+
+complete_split : (k : ℕ) (rows : List (List Cell)) (ss : List ColumnStatistics) (s : ColumnStatistics) → AreAllComplete k rows (ss ++ s ∷ []) → AreAllComplete k rows ss × AreComplete (known s) (column (k + length ss) rows)
+complete_split k rows [] s h = let e : k ≡ k + 0 = omega arith in (tt, subst (λ (j : ℕ). AreComplete (known s) (column j rows)) e h.0)
+complete_split k rows (r ∷ ss) s h =
+    let p = complete_split (suc k) rows ss s h.1 in
+    let e : suc k + length ss ≡ k + suc (length ss) = omega arith in
+    ((h.0, p.0), subst (λ (j : ℕ). AreComplete (known s) (column j rows)) e p.1)
+
+-- the forms of the first columns' statistics describe these, for any rows that the statistics are complete for
+abbrev pub AreFormsOf : List ColumnType → List ColumnStatistics → List ℕ → Type 0
+AreFormsOf columns ss output = (rows : List (List Cell)) → AreRowsOf columns rows → AreAllComplete 0 rows ss → AreDescribed (take (length ss) columns) rows output
+
+pub no_forms : (columns : List ColumnType) (output : List ℕ) → output ≡ [] → AreFormsOf columns [] output
+no_forms columns output e rows are all = none_described columns rows output e
+
+pub form_more : (columns : List ColumnType) (n : ℕ) (ss : List ColumnStatistics) (s : ColumnStatistics) (output new : List ℕ) → length ss < length columns → AreFormsOf columns ss output → PushesCut n s output new → AreFormsOf columns (ss ++ s ∷ []) new
+form_more columns n ss s output new below before pushed rows are all =
+    let p = complete_split 0 rows ss s all in
+    let k = length ss in
+    let at : 0 + k ≡ k = omega arith in
+    let long : k + 1 ≡ length (ss ++ s ∷ []) = omega (arith, length-append ss (s ∷ [])) in
+    let complete : AreComplete (known s) (column k rows) = subst (λ (j : ℕ). AreComplete (known s) (column j rows)) at p.1 in
+    subst (λ (j : ℕ). AreDescribed (take j columns) rows new) long
+    (described_more columns rows k n pushed.cut output new below are (before rows are p.0) (record { whole = s; complete = complete; cut = pushed.truncated }) (pushed.right (column k rows) complete.right) pushed.held pushed.fits pushed.appended)
+
+-- what is pushed, if it is
+pub cut_pushed : {T E : Type 0} (r : Result T E) (n : ℕ) (s cut : ColumnStatistics) (old new : List ℕ) → AreTruncated n s cut → ((cells : List Cell) → AreRight (known s) cells → AreRight (known cut) cells)
+    → OnOk r (new ≡ old ++ bytes_form (form (known cut))) → OnOk r (IsHeldKnown (known cut)) → OnOk r (length (form (known cut)) < 2 ^ 64) → OnOk r (PushesCut n s old new)
+cut_pushed (Ok x) n s cut old new truncated right appended held fits = record { cut = cut; truncated = truncated; right = right; held = held; fits = fits; appended = appended }
+cut_pushed (Err e) n s cut old new truncated right appended held fits = tt
+
+pub all_forms : (columns : List ColumnType) (ss : List ColumnStatistics) (output : List ℕ) → length ss ≡ length columns → AreFormsOf columns ss output → (rows : List (List Cell)) → AreRowsOf columns rows → AreAllComplete 0 rows ss → AreDescribed columns rows output
+all_forms columns ss output same h rows are all = all_described columns rows (length ss) output (omega (arith, same)) (h rows are all)
+
+pub nothing_left : (ss : List ColumnStatistics) → length ss ≡ 0 → ss ≡ []
+nothing_left [] h = refl
+nothing_left (s ∷ ss) h = absurd (omega arith)
+
+-- what a vector holds once it was lent as a slice, which is now this
+pub lent_back : (size : ℕ) (now old : List ColumnStatistics) → length now ≡ size → take size (now ++ drop (length now) old) ≡ now
+lent_back size now old e = take_at now (drop (length now) old) size e

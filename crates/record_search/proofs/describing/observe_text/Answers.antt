@@ -1,0 +1,41 @@
+-- A record more, and one that is refused.
+use Rattle.std.proofs.Common.{◌≡◌, ◌∙◌, ◌+◌, ◌-◌, ◌^◌, ℕ, arith, ap, length, min, rules}
+use Rattle.std.proofs.lemmas.Result.{err_from_is_err_and}
+use Rattle.zone_index.proofs.Refusing.{reached_more, reached_none, refused_in_text}
+use Rattle.record_search.specs.Refused.{RefusesRecord}
+use Rattle.record_search.specs.Searched.{row_under}
+use Rattle.record_search.proofs.ObserveLaws.{at_most_one, no_bytes, seen_all, seen_more, seen_none}
+use Rattle.record_search.proofs.describing.observe_text.Goals as goal
+
+pub loop-rest-init : goal.loop-rest-init
+loop-rest-init c = (search rules, seen_none _ _ _ _ c.requires.fresh, search rules, search rules, search rules, reached_none _ _)
+
+pub loop-rest-preserved : goal.loop-rest-preserved
+loop-rest-preserved c =
+    let s = c.args.schema.now in
+    let cut = c.cut_record.ensures.records in
+    let count = ap length cut in
+    let one = at_most_one c.in_ok-has_row.has_row c.from-rows.result c.from-rows.ensures in (
+      omega (arith, c.loop-rest.invariant.0, count),
+      seen_more (row_under s) s.delimiter.byte c.args.text.now c.loop-rest.rest.now c.cut_record.result.0.now c.cut_record.result.1.now c.loop-rest.rows (c.loop-rest.rows + c.from-rows.result) c.in_ok-has_row.has_row c.loop-rest.statistics c.observe_line.new.statistics cut c.loop-rest.invariant.1 c.in_ok-has_row.ensures.observed (ap (λ (n : ℕ). c.loop-rest.rows + n) c.from-rows.ensures),
+      omega (arith, c.loop-rest.invariant.2, c.cut_record.ensures.shorter),
+      omega (arith, c.loop-rest.invariant.3, one),
+      c.in_ok-has_row.ensures.length ∙ c.loop-rest.invariant.4,
+      reached_more s.delimiter.byte c.args.text.now c.loop-rest.rest.now c.cut_record.result.0.now c.cut_record.result.1.now c.loop-rest.invariant.5 cut c.cut_record.ensures.parts,
+    )
+
+pub returns-in_err-has_row-clause-refused : goal.returns-in_err-has_row-clause-refused
+returns-in_err-has_row-clause-refused c =
+    let s = c.args.schema.now in
+    let p = err_from_is_err_and c.from_residual.result c.from_residual.ensures.1 in
+    rw (p.1, p.2) (refused_in_text (RefusesRecord s) s.delimiter.byte _ c.args.text.now c.loop-rest.rest.now c.cut_record.result.0.now c.cut_record.result.1.now c.in_err-has_row.field-0.0 c.loop-rest.invariant.5 c.cut_record.ensures.records (search rules) c.in_err-has_row.ensures.refused)
+
+pub returns-clause-rows : goal.returns-clause-rows
+returns-clause-rows c =
+    let s = c.args.schema.now in
+    (seen_all (row_under s) s.delimiter.byte c.args.text.now c.loop-rest.rest.now c.loop-rest.rows c.loop-rest.statistics (no_bytes c.loop-rest.rest.now (search rules)) c.loop-rest.invariant.1).0
+
+pub returns-clause-complete : goal.returns-clause-complete
+returns-clause-complete c =
+    let s = c.args.schema.now in
+    (seen_all (row_under s) s.delimiter.byte c.args.text.now c.loop-rest.rest.now c.loop-rest.rows c.loop-rest.statistics (no_bytes c.loop-rest.rest.now (search rules)) c.loop-rest.invariant.1).1

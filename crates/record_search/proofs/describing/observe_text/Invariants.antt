@@ -1,0 +1,19 @@
+-- The records so far and those of the rest are all; the statistics are complete for the rows of the former.
+use Rattle.std.proofs.Common.{◌≡◌, ◌≤◌, ◌+◌, length}
+use Rattle.csv_records.specs.Records.{records_of}
+use Rattle.zone_index.proofs.Refusing.{IsReached}
+use Rattle.record_search.specs.Searched.{row_under}
+use Rattle.record_search.proofs.ObserveLaws.{Seen}
+use Rattle.record_search.proofs.describing.observe_text.Given as goal
+
+abbrev pub invariant-loop-rest : goal.invariant-loop-rest
+invariant-loop-rest l =
+    (l.records + length (records_of l.schema.delimiter.byte l.rest) ≡ length (records_of l.schema.delimiter.byte l.text))
+    × Seen (row_under l.schema) l.schema.delimiter.byte l.text l.rest l.rows l.statistics
+    × (l.records + length l.rest ≤ length l.text)
+    × (l.rows ≤ l.records)
+    × (length l.statistics ≡ length l.initial.statistics)
+    × IsReached l.schema.delimiter.byte l.text l.rest
+
+abbrev pub decreases-loop-rest : goal.decreases-loop-rest
+decreases-loop-rest l = length l.rest
