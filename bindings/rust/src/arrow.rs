@@ -418,7 +418,7 @@ pub fn cast_column<T: Integer>(column: &Column<'_>) -> Result<Vec<T>, CastError>
     } else {
         0
     };
-    let mut made = vec![T::ZERO; rows];
+    let mut made = Vec::<T>::with_capacity(rows);
     let mut fault = raw::Fault::default();
     // SAFETY: the column's pointers and lengths are of slices, and the room and `fault` are places of their own.
     let status = unsafe {
@@ -426,12 +426,16 @@ pub fn cast_column<T: Integer>(column: &Column<'_>) -> Result<Vec<T>, CastError>
             &column.raw(),
             T::KIND,
             made.as_mut_ptr().cast(),
-            size_of_val(&made[..]),
+            rows * size_of::<T>(),
             &mut fault,
         )
     };
     match status {
-        raw::GIVEN => Ok(made),
+        raw::GIVEN => {
+            // SAFETY: the call has written a number for each row, and reads no byte of the room.
+            unsafe { made.set_len(rows) };
+            Ok(made)
+        }
         raw::NONE => Err(CastError::NoValue(fault.place)),
         other => Err(CastError::Column(ColumnFault::of(other, fault.place))),
     }

@@ -7,7 +7,6 @@ use crate::raw;
 pub(crate) mod sealed {
     pub trait Bits: Copy {
         const KIND: u8;
-        const ZERO: Self;
         fn to_bits(self) -> u64;
         fn from_bits(bits: u64) -> Self;
     }
@@ -20,7 +19,6 @@ macro_rules! integers {
     ($($kind:literal: $integer:ty, $widest:ty;)*) => {$(
         impl sealed::Bits for $integer {
             const KIND: u8 = $kind;
-            const ZERO: $integer = 0;
 
             fn to_bits(self) -> u64 {
                 <$widest>::from(self) as u64
