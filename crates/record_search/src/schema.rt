@@ -52,8 +52,8 @@ impl Schema {
         }
     }
 
-    /// Reads the same into a vector that is used again, and says whether there is a row. Only some
-    /// cells are wanted: those of the columns at whose place the list has no `false`.
+    /// Reads the row of a record into a vector that is used again, and says whether there is one. Only
+    /// some cells are wanted: those of the columns at whose place the list has no `false`.
     pub(crate) fn cells(
         &self,
         alloc: Global,

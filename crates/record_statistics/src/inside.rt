@@ -33,7 +33,7 @@ pub(crate) fn is_inside(column: ColumnType, word: &[u8], statistics: &ColumnStat
     }
 }
 
-/// The same of integers of a type.
+/// Whether a word is an integer of the type that lies within both bounds, and changes neither.
 fn is_integer_inside(ptype: PType, word: &[u8], lower: &Bound, upper: &Bound) -> bool
     ensures { result ≡ true → IsIntegerInside ptype word.now (known_bound lower.now) (known_bound upper.now) }
 {
@@ -50,7 +50,7 @@ fn is_integer_inside(ptype: PType, word: &[u8], lower: &Bound, upper: &Bound) ->
         && is_kept(number.partial_cmp(greatest), upper.is_exact)
 }
 
-/// The same of strings.
+/// Whether a word is a string that lies within both bounds, and changes neither.
 fn is_text_inside(word: &[u8], lower: &Bound, upper: &Bound) -> bool
     ensures { result ≡ true → IsTextInside word.now (known_bound lower.now) (known_bound upper.now) }
 {

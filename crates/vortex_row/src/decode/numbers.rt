@@ -232,7 +232,7 @@ fn number_of(ptype: PType, below: bool, distance: u64) -> Option<PValue>
     PValue::from_whole(whole_number(below, distance), ptype)
 }
 
-/// As `number_of`, without numbers of 128 bits for the commonest kind.
+/// The number of a kind at a distance from 0, without 128 bits for the commonest kind.
 #[inline(always)]
 fn common_number_of(ptype: PType, below: bool, distance: u64) -> Option<PValue>
     requires { below ≡ true → 0 < distance }
