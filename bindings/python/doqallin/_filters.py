@@ -6,6 +6,7 @@ from __future__ import annotations
 
 import ctypes
 import enum
+import re
 from array import array
 from collections.abc import Iterable, Mapping, Sequence
 from contextlib import closing
@@ -94,6 +95,13 @@ class Zones(Sequence[Mapping[str, Statistics]]):
         return self._packed[names]
 
 
+def _places(mask: bytes) -> list[int]:
+    """The places of the bytes that are 1. Few are searched for, which takes an eighth of what a look at each byte does."""
+    if 8 * mask.count(1) > len(mask):
+        return list(compress(range(len(mask)), mask))
+    return [found.start() for found in re.finditer(b"\x01", mask)]
+
+
 class Filter:
     """A filter of rows, as SQL's WHERE has it: it is true, false or unknown of a row, and a row matches only if it is true.
 
@@ -174,7 +182,7 @@ class Filter:
         """The places of the zones that may match, by one call. `Zones` are quickest to ask more than once."""
         asked = zones if isinstance(zones, Zones) else Zones(zones)
         outcomes = self._of_zones(asked)
-        return list(compress(range(len(outcomes)), outcomes.translate(_MAY_BE_TRUE)))
+        return _places(outcomes.translate(_MAY_BE_TRUE))
 
     def outcomes_of(self, zones: Iterable[Mapping[str, Statistics]]) -> list[Outcomes]:
         """The outcomes of each zone, by one call."""
