@@ -66,7 +66,8 @@ fn long_hex(alloc: Global, word: &[u8]) -> Result<Option<ByteBuffer>, AllocError
 
 /// Reads two digits into each byte. `None` if there are not just as many, or one is not a digit.
 ///
-/// By a table: `hex::decode_to_slice` compares each digit with the ends of three ranges.
+/// By a table. By `hex::decode_to_slice`, which compares each digit with the ends of three ranges,
+/// lines of all commands take a fifth more instructions.
 #[inline(always)]
 fn read_digits(word: &[u8], bytes: &mut [u8]) -> Option<()>
     ensures { MatchResult (decode_sized word.now (length bytes.old))
