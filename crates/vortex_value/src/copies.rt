@@ -9,6 +9,9 @@
 //! written to a place that the caller lends, it would be 1.2 times for integers, and 1.1 for lists,
 //! structs and maps. If only unions, variants and boxes were made first and then moved, it would be
 //! 1.5 times for unions and 1.9 for variants.
+//!
+//! Lists and structs within variants copy their own types. If they did so by the copy of any type, a
+//! copy of variants would take 1.07 times the instructions.
 #![tactic(auto, using(crate::proofs::ValueSteps::shown))]
 
 ghost use Rattle.std.specs.Prelude.{◌≡◌, ◌<◌, IfOk, MatchResult, None, Some, false, map, option_map};
