@@ -1,12 +1,13 @@
 pub mod Answering
 pub mod Asking
 pub mod Begun
-pub mod Fields
+pub mod BlockLaws
+pub mod FieldLaws
 pub mod Filling
 pub mod Finding
-pub mod Forms
-pub mod Loop
+pub mod FormLaws
+pub mod ReadSteps
 pub mod Refusing
 pub mod Rests
 pub mod TakeMore
-pub mod Writing
+pub mod WriteSteps

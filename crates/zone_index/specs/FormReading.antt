@@ -1,5 +1,5 @@
 -- Reading the form from left to right, with the first fault that is met.
-use Rattle.std.specs.Prelude.{◌≡◌, ◌-◌, ℕ, zero, suc, List, [], ◌∷◌, length, take, drop, Result, Ok, Err, nat_lt, ◌==◌, if◌then◌else◌}
+use Rattle.std.specs.Prelude.{◌≡◌, ◌+◌, ℕ, zero, suc, Bool, true, false, List, [], ◌∷◌, ◌++◌, length, take, drop, Result, Ok, Err, nat_lt, ◌==◌, if◌then◌else◌}
 use Rattle.std.specs.Int.{Width, w32, w64, byte_len, from_le_bytes}
 use Rattle.std.specs.Str.{bytes_eq}
 use Rattle.sha2.specs.Sha256.{sha256}
@@ -8,7 +8,7 @@ use Rattle.zone_index.specs.declared.form.FormFault.{FormFault}
 use Rattle.zone_index.specs.declared.form.FormFault.TheVariants.{Short, Magic, Version, Damaged, Trailing}
 use Rattle.zone_index.specs.declared.form.ReadError.{ReadError}
 use Rattle.zone_index.specs.declared.form.ReadError.TheVariants as errors
-use Rattle.zone_index.specs.Form.{IndexValue, ZoneValue}
+use Rattle.zone_index.specs.Form.{BlockValue, IndexValue, RootValue, ZoneValue, is_wanted, with_statistics, with_unread}
 
 infixl 10 ◌>>=◌
 -- what reads on, if nothing was wrong so far
@@ -30,27 +30,15 @@ Gives view (Err e) read = Fails e read
 abbrev pub number_at : Width → List ℕ → Result (ℕ × List ℕ) FormFault
 number_at w bytes = if nat_lt (length bytes) (byte_len w) then Err Short else Ok (from_le_bytes w (take (byte_len w) bytes), drop (byte_len w) bytes)
 
+-- so many bytes
+abbrev pub front_at : ℕ → List ℕ → Result (List ℕ × List ℕ) FormFault
+front_at n bytes = if nat_lt (length bytes) n then Err Short else Ok (take n bytes, drop n bytes)
+
 -- a length, and that many bytes
 unfoldable pub bytes_at : List ℕ → Result (List ℕ × List ℕ) FormFault
 bytes_at bytes = do
   n ← number_at w64 bytes
-  if nat_lt (length n.1) n.0 then Err Short else Ok (take n.0 n.1, drop n.0 n.1)
-
-unfoldable pub zone_at : List ℕ → Result (ZoneValue × List ℕ) FormFault
-zone_at bytes = do
-  first ← number_at w64 bytes
-  len ← number_at w64 first.1
-  records ← number_at w64 len.1
-  rows ← number_at w64 records.1
-  statistics ← bytes_at rows.1
-  Ok (record { first = first.0; length = len.0; records = records.0; rows = rows.0; statistics = statistics.0 }, statistics.1)
-
-unfoldable pub zones_at : ℕ → List ℕ → Result (List ZoneValue × List ℕ) FormFault
-zones_at zero bytes = Ok ([], bytes)
-zones_at (suc n) bytes = do
-  first ← zone_at bytes
-  others ← zones_at n first.1
-  Ok (first.0 ∷ others.0, others.1)
+  front_at n.0 n.1
 
 -- what follows a number that must be this one
 abbrev pub known_at : FormFault → ℕ → List ℕ → Result (List ℕ) FormFault
@@ -58,28 +46,100 @@ known_at fault n bytes = do
   x ← number_at w32 bytes
   if x.0 == n then Ok x.1 else Err fault
 
--- what stands before the digest, which must be that of these bytes
-unfoldable pub signed_at : List ℕ → Result (List ℕ) FormFault
-signed_at bytes =
-    if nat_lt (length bytes) 32 then Err Short
-    else if bytes_eq (sha256 (take (length bytes - 32) bytes)) (drop (length bytes - 32) bytes) then Ok (take (length bytes - 32) bytes)
-    else Err Damaged
+-- ---- the root
 
--- all that is signed
-unfoldable pub content_at : List ℕ → Result IndexValue FormFault
-content_at bytes = do
+unfoldable pub zone_at : List ℕ → Result (ZoneValue × List ℕ) FormFault
+zone_at bytes = do
+  first ← number_at w64 bytes
+  len ← number_at w64 first.1
+  records ← number_at w64 len.1
+  rows ← number_at w64 records.1
+  Ok (record { first = first.0; length = len.0; records = records.0; rows = rows.0; statistics = [] }, rows.1)
+
+unfoldable pub block_at : List ℕ → Result (BlockValue × List ℕ) FormFault
+block_at bytes = do
+  len ← number_at w64 bytes
+  digest ← front_at 32 len.1
+  Ok (record { length = len.0; digest = digest.0 }, digest.1)
+
+-- so many, one after another
+unfoldable pub many_at : {A : Type 0} → (List ℕ → Result (A × List ℕ) FormFault) → ℕ → List ℕ → Result (List A × List ℕ) FormFault
+many_at one_at zero bytes = Ok ([], bytes)
+many_at one_at (suc n) bytes = do
+  first ← one_at bytes
+  others ← many_at one_at n first.1
+  Ok (first.0 ∷ others.0, others.1)
+
+-- how many, and these
+unfoldable pub counted_at : {A : Type 0} → (List ℕ → Result (A × List ℕ) FormFault) → List ℕ → Result (List A × List ℕ) FormFault
+counted_at one_at bytes = do
+  n ← number_at w64 bytes
+  many_at one_at n.0 n.1
+
+-- what is said of the file
+unfoldable pub file_at : List ℕ → Result (IndexValue × List ℕ) FormFault
+file_at bytes = do
   file_length ← number_at w64 bytes
   changed ← number_at w64 file_length.1
   start ← number_at w64 changed.1
   setup ← bytes_at start.1
-  n ← number_at w64 setup.1
-  zones ← zones_at n.0 n.1
-  if length zones.1 == 0 then Ok (record { file_length = file_length.0; changed = changed.0; setup = setup.0; start = start.0; zones = zones.0 }) else Err Trailing
+  Ok (record { file_length = file_length.0; changed = changed.0; setup = setup.0; start = start.0; zones = [] }, setup.1)
 
--- all of the bytes
-unfoldable pub index_at : List ℕ → Result IndexValue FormFault
-index_at bytes = do
+-- all that is signed
+unfoldable pub content_at : List ℕ → Result RootValue FormFault
+content_at bytes = do
+  file ← file_at bytes
+  zones ← counted_at zone_at file.1
+  blocks ← counted_at block_at zones.1
+  if length blocks.1 == 0 then Ok (record { index = record (file.0) { zones = zones.0 }; blocks = blocks.0 }) else Err Trailing
+
+-- what stands before a digest, which must be its own, and what follows that
+unfoldable pub signed_at : List ℕ → Result (List ℕ × List ℕ) FormFault
+signed_at bytes = do
+  content ← bytes_at bytes
+  digest ← front_at 32 content.1
+  if bytes_eq (sha256 content.0) digest.0 then Ok (content.0, digest.1) else Err Damaged
+
+-- the root, and the bytes of the blocks
+unfoldable pub root_at : List ℕ → Result (RootValue × List ℕ) FormFault
+root_at bytes = do
   after_magic ← known_at Magic MAGIC bytes
   after_version ← known_at Version VERSION after_magic
-  content ← signed_at after_version
-  content_at content
+  signed ← signed_at after_version
+  root ← content_at signed.0
+  Ok (root, signed.1)
+
+-- ---- the blocks
+
+-- a length and that many bytes, as they stand
+unfoldable pub piece_at : List ℕ → Result (List ℕ × List ℕ) FormFault
+piece_at bytes = do
+  n ← number_at w64 bytes
+  if nat_lt (length n.1) n.0 then Err Short else Ok (take (8 + n.0) bytes, drop (8 + n.0) bytes)
+
+-- pieces and nothing else, one for each of these, to which it is given
+unfoldable pub dealt_at : {A : Type 0} → (A → List ℕ → A) → List A → List ℕ → Result (List A) FormFault
+dealt_at give [] bytes = if length bytes == 0 then Ok [] else Err Trailing
+dealt_at give (x ∷ xs) bytes = do
+  piece ← piece_at bytes
+  others ← dealt_at give xs piece.1
+  Ok (give x piece.0 ∷ others)
+
+-- the zones with a piece more, if the bytes of a wanted block have this digest
+unfoldable pub added_at : Bool → (ℕ → List ℕ) → BlockValue → List ZoneValue → List ℕ → Result (List ZoneValue) FormFault
+added_at true unread b zones block = if bytes_eq (sha256 block) b.digest then dealt_at with_statistics zones block else Err Damaged
+added_at false unread b zones block = Ok (with_unread unread zones)
+
+-- the zones with the pieces of all blocks, from this place on
+unfoldable pub blocks_at : List Bool → (ℕ → List ℕ) → ℕ → List BlockValue → List ZoneValue → List ℕ → Result (List ZoneValue) FormFault
+blocks_at wanted unread k [] zones bytes = if length bytes == 0 then Ok zones else Err Trailing
+blocks_at wanted unread k (b ∷ bs) zones bytes = do
+  block ← front_at b.length bytes
+  more ← added_at (is_wanted wanted k) unread b zones block.0
+  blocks_at wanted unread (suc k) bs more block.1
+
+-- the index of a root, with what its blocks say
+abbrev pub index_at : List Bool → (ℕ → List ℕ) → RootValue → List ℕ → Result IndexValue FormFault
+index_at wanted unread r bytes = do
+  zones ← blocks_at wanted unread 0 r.blocks r.index.zones bytes
+  Ok (record (r.index) { zones = zones })

@@ -6,25 +6,32 @@
 //! the traits `Records`, `Describer` and `Matcher`.
 #![tactic(auto)]
 
+mod blocks;
 mod counting;
 mod faults;
+mod fields;
 mod form;
 mod indexing;
 mod lines;
 mod read_at;
+mod reading;
 mod records;
 mod search;
 mod streaming;
 mod taking;
+mod writing;
 mod zones;
 
+pub use blocks::Unread;
 pub use counting::count;
 pub use faults::{Cause, Fault, RecordFault, Refusal};
-pub use form::{FormFault, Index, MAGIC, ReadError, VERSION, read_index, write_index};
+pub use form::{Block, FormFault, Index, MAGIC, ReadError, Root, VERSION, WriteError};
 pub use indexing::index_records;
 pub use read_at::{Asked, Logged, ReadAt, fill_from};
+pub use reading::{read_blocks, read_root};
 pub use records::{Decision, Described, Describer, Matcher, Records};
 pub use search::{Tally, find};
 pub use streaming::{count_rest, find_rest};
 pub use taking::take_records;
+pub use writing::write_index;
 pub use zones::{Way, Zone};

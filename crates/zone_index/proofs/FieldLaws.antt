@@ -11,7 +11,7 @@ use Rattle.zone_index.specs.declared.form.FormFault.TheVariants.{Damaged, Short}
 use Rattle.sha2.specs.Sha256.{sha256}
 use Rattle.sha2.proofs.Facts256.{length-sha256}
 use Rattle.zone_index.specs.Form.{bytes_form}
-use Rattle.zone_index.specs.FormReading.{◌>>=◌, bytes_at, known_at, number_at, signed_at}
+use Rattle.zone_index.specs.FormReading.{◌>>=◌, bytes_at, front_at, known_at, number_at, piece_at, signed_at}
 
 abbrev pub IsBytes : List ℕ → Type 0
 IsBytes bytes = (i : ℕ) → get_or bytes i 0 < 256
@@ -41,6 +41,10 @@ done x = Ok x
 
 pub ok_is : {A : Type 0} (x y : A) → done x ≡ done y → x ≡ y
 ok_is x y e = cc
+
+pub not_both : {A : Type 0} (r : Result A FormFault) (f : FormFault) (x : A) → r ≡ Err f → r ≡ Ok x → ⊥
+not_both (Ok y) f x e g = absurd cc
+not_both (Err h) f x e g = absurd cc
 
 -- what a reader took from the front
 pub record Takes (bytes text rest : List ℕ) : Type 0 where
@@ -108,61 +112,113 @@ known_takes fault n bytes rest fits e =
 pub known_again : (fault : FormFault) (n : ℕ) (rest : List ℕ) → n < 2 ^ 32 → known_at fault n (to_le_bytes w32 n ++ rest) ≡ Ok rest
 known_again fault n rest lt = rw (number_again w32 (2 ^ 32) wide32 n rest lt, eq-eqb n n refl) refl
 
+-- ---- so many bytes
+
+pub front_takes : (n : ℕ) (bytes x rest : List ℕ) → IsBytes bytes → front_at n bytes ≡ Ok (x, rest) → Takes bytes x rest × (length x ≡ n) × IsBytes x
+front_takes n bytes x rest fits e =
+    let g = guard_ok (ltb (length bytes) n) Short (take n bytes, drop n bytes) (x, rest) e in
+    let long : n ≤ length bytes = ltb-false _ _ g.0 in
+    let x-is : take n bytes ≡ x = ap (λ (p : List ℕ × List ℕ). p.0) g.1 in
+    let rest-is : drop n bytes ≡ rest = ap (λ (p : List ℕ × List ℕ). p.1) g.1 in
+    let parts : bytes ≡ x ++ rest = sym (take-append-drop n bytes) ∙ ap (λ (l : List ℕ). l ++ drop n bytes) x-is ∙ ap (λ (l : List ℕ). x ++ l) rest-is in
+    (record { parts = parts; rest_fits = subst IsBytes rest-is (IsBytes-drop n bytes fits) }, ap length (sym x-is) ∙ length-take-le n bytes long, subst IsBytes x-is (IsBytes-take n bytes fits))
+
+pub front_again : (n : ℕ) (x rest : List ℕ) → length x ≡ n → front_at n (x ++ rest) ≡ Ok (x, rest)
+front_again n x rest is =
+    let long : ltb (length (x ++ rest)) n ≡ false = le-ltb _ _ (omega (arith, length-append x rest)) in
+    rw (long, take_at x rest n is, drop_at x rest n is) refl
+
 -- ---- bytes
 
-pub bytes_takes : (bytes x rest : List ℕ) → IsBytes bytes → bytes_at bytes ≡ Ok (x, rest) → Takes bytes (bytes_form x) rest
+pub bytes_takes : (bytes x rest : List ℕ) → IsBytes bytes → bytes_at bytes ≡ Ok (x, rest) → Takes bytes (bytes_form x) rest × IsBytes x
 unfolding bytes_at
 bytes_takes bytes x rest fits e =
-    let a = bind_ok (number_at w64 bytes) (λ n. cond (ltb (length n.1) n.0) (Err Short) (Ok (take n.0 n.1, drop n.0 n.1))) (x, rest) e in
+    let a = bind_ok (number_at w64 bytes) (λ n. front_at n.0 n.1) (x, rest) e in
     let n : ℕ = a.0.0 in
     let r : List ℕ = a.0.1 in
-    let g = guard_ok (ltb (length r) n) Short (take n r, drop n r) (x, rest) a.2 in
     let t = number_takes w64 (2 ^ 64) wide64 bytes n r fits a.1 in
-    let long : n ≤ length r = ltb-false _ _ g.0 in
-    let x-is : take n r ≡ x = ap (λ (p : List ℕ × List ℕ). p.0) g.1 in
-    let rest-is : drop n r ≡ rest = ap (λ (p : List ℕ × List ℕ). p.1) g.1 in
-    let n-is : n ≡ length x = sym (length-take-le n r long) ∙ ap length x-is in
-    let parts : r ≡ x ++ rest = sym (take-append-drop n r) ∙ ap (λ (l : List ℕ). l ++ drop n r) x-is ∙ ap (λ (l : List ℕ). x ++ l) rest-is in
-    let second : Takes r x rest = record { parts = parts; rest_fits = subst IsBytes rest-is (IsBytes-drop n r t.0.rest_fits) } in
-    subst (λ (m : ℕ). Takes bytes (to_le_bytes w64 m ++ x) rest) n-is (Takes-then bytes (to_le_bytes w64 n) r x rest t.0 second)
+    let second = front_takes n r x rest t.0.rest_fits a.2 in
+    (subst (λ (m : ℕ). Takes bytes (to_le_bytes w64 m ++ x) rest) (sym second.1) (Takes-then bytes (to_le_bytes w64 n) r x rest t.0 second.0), second.2)
 
 pub bytes_again : (x rest : List ℕ) → length x < 2 ^ 64 → bytes_at (bytes_form x ++ rest) ≡ Ok (x, rest)
 unfolding bytes_at
 bytes_again x rest lt =
     let n = length x in
-    let long : ltb (length (x ++ rest)) n ≡ false = le-ltb _ _ (omega (arith, length-append x rest)) in
-    ap bytes_at (append_assoc (to_le_bytes w64 n) x rest) ∙ rw (number_again w64 (2 ^ 64) wide64 n (x ++ rest) lt, long, take_at x rest n refl, drop_at x rest n refl) refl
+    ap bytes_at (append_assoc (to_le_bytes w64 n) x rest) ∙ rw (number_again w64 (2 ^ 64) wide64 n (x ++ rest) lt) (front_again n x rest refl)
+
+-- ---- pieces
+
+-- a piece after its length
+pub record IsPiece (form : List ℕ) : Type 0 where
+  pub piece : List ℕ
+  pub is : form ≡ bytes_form piece
+  pub fits : length piece < 2 ^ 64
+
+form_long : (p : List ℕ) → length (bytes_form p) ≡ 8 + length p
+form_long p = length-append (to_le_bytes w64 (length p)) p
+
+pub piece_again : (p rest : List ℕ) → length p < 2 ^ 64 → piece_at (bytes_form p ++ rest) ≡ Ok (bytes_form p, rest)
+unfolding piece_at
+piece_again p rest lt =
+    let n = length p in
+    let whole = bytes_form p ++ rest in
+    let is : number_at w64 whole ≡ Ok (n, p ++ rest) = ap (number_at w64) (append_assoc (to_le_bytes w64 n) p rest) ∙ number_again w64 (2 ^ 64) wide64 n (p ++ rest) lt in
+    let long : ltb (length (p ++ rest)) n ≡ false = le-ltb _ _ (omega (arith, length-append p rest)) in
+    rw (is, long, take_at (bytes_form p) rest (8 + n) (form_long p), drop_at (bytes_form p) rest (8 + n) (form_long p)) refl
+
+pub piece_takes : (bytes x rest : List ℕ) → IsBytes bytes → piece_at bytes ≡ Ok (x, rest) → Takes bytes x rest × IsPiece x
+unfolding piece_at
+piece_takes bytes x rest fits e =
+    let a = bind_ok (number_at w64 bytes) (λ n. cond (ltb (length n.1) n.0) (Err Short) (Ok (take (8 + n.0) bytes, drop (8 + n.0) bytes))) (x, rest) e in
+    let n : ℕ = a.0.0 in
+    let r : List ℕ = a.0.1 in
+    let g = guard_ok (ltb (length r) n) Short (take (8 + n) bytes, drop (8 + n) bytes) (x, rest) a.2 in
+    let t = number_takes w64 (2 ^ 64) wide64 bytes n r fits a.1 in
+    let long : n ≤ length r = ltb-false _ _ g.0 in
+    let p : List ℕ = take n r in
+    let n-is : length p ≡ n = length-take-le n r long in
+    let form : to_le_bytes w64 n ++ p ≡ bytes_form p = ap (λ (m : ℕ). to_le_bytes w64 m ++ p) (sym n-is) in
+    let parts : bytes ≡ bytes_form p ++ drop n r = t.0.parts ∙ ap (λ (l : List ℕ). to_le_bytes w64 n ++ l) (sym (take-append-drop n r)) ∙ sym (append_assoc (to_le_bytes w64 n) p (drop n r)) ∙ ap (λ (l : List ℕ). l ++ drop n r) form in
+    let eight : length (bytes_form p) ≡ 8 + n = form_long p ∙ ap (λ (m : ℕ). 8 + m) n-is in
+    let x-is : x ≡ bytes_form p = sym (ap (λ (q : List ℕ × List ℕ). q.0) g.1) ∙ ap (take (8 + n)) parts ∙ take_at (bytes_form p) (drop n r) (8 + n) eight in
+    let rest-is : rest ≡ drop n r = sym (ap (λ (q : List ℕ × List ℕ). q.1) g.1) ∙ ap (drop (8 + n)) parts ∙ drop_at (bytes_form p) (drop n r) (8 + n) eight in (
+      record {
+        parts = parts ∙ ap (λ (l : List ℕ). l ++ drop n r) (sym x-is) ∙ ap (λ (l : List ℕ). x ++ l) (sym rest-is);
+        rest_fits = subst IsBytes (sym rest-is) (IsBytes-drop n r t.0.rest_fits);
+      },
+      record { piece = p; is = x-is; fits = omega (arith, t.1) },
+    )
 
 -- ---- the digest
 
-two_guards : {A : Type 0} (a b : Bool) (d e : FormFault) (x y : A) → cond a (Err d) (cond b (Ok x) (Err e)) ≡ Ok y → (b ≡ true) × (x ≡ y)
-two_guards true b d e x y h = absurd cc
-two_guards false true d e x y h = (refl, cc)
-two_guards false false d e x y h = absurd cc
+abbrev checked : List ℕ → List ℕ × List ℕ → Result (List ℕ × List ℕ) FormFault
+checked content d = cond (bytes_eq (sha256 content) d.0) (Ok (content, d.1)) (Err Damaged)
 
-pub record Signed (bytes content : List ℕ) : Type 0 where
-  pub parts : bytes ≡ content ++ sha256 content
+pub record Signed (bytes content rest : List ℕ) : Type 0 where
+  pub takes : Takes bytes (bytes_form content ++ sha256 content) rest
   pub fits : IsBytes content
 
-pub signed_takes : (bytes content : List ℕ) → IsBytes bytes → signed_at bytes ≡ Ok content → Signed bytes content
+pub signed_takes : (bytes content rest : List ℕ) → IsBytes bytes → signed_at bytes ≡ Ok (content, rest) → Signed bytes content rest
 unfolding signed_at
-signed_takes bytes content fits e =
-    let n = length bytes - 32 in
-    let g = two_guards (ltb (length bytes) 32) (bytes_eq (sha256 (take n bytes)) (drop n bytes)) Short Damaged (take n bytes) content e in
-    let same : sha256 (take n bytes) ≡ drop n bytes = (bytes_eq-Decides (sha256 (take n bytes)) (drop n bytes)).0 g.0 in
-    let whole : bytes ≡ take n bytes ++ sha256 (take n bytes) = sym (take-append-drop n bytes) ∙ ap (λ (l : List ℕ). take n bytes ++ l) (sym same) in
+signed_takes bytes content rest fits e =
+    let a = bind_ok (bytes_at bytes) (λ c. front_at 32 c.1 >>= λ d. checked c.0 d) (content, rest) e in
+    let b = bind_ok (front_at 32 a.0.1) (λ d. checked a.0.0 d) (content, rest) a.2 in
+    let g = guard_known (bytes_eq (sha256 a.0.0) b.0.0) Damaged (a.0.0, b.0.1) (content, rest) b.2 in
+    let same : sha256 a.0.0 ≡ b.0.0 = (bytes_eq-Decides (sha256 a.0.0) b.0.0).0 g.0 in
+    let t = bytes_takes bytes a.0.0 a.0.1 fits a.1 in
+    let u = front_takes 32 a.0.1 b.0.0 b.0.1 t.0.rest_fits b.1 in
+    let whole = Takes-then bytes (bytes_form a.0.0) a.0.1 b.0.0 b.0.1 t.0 u.0 in
+    let content-is : a.0.0 ≡ content = ap (λ (p : List ℕ × List ℕ). p.0) g.1 in
+    let rest-is : b.0.1 ≡ rest = ap (λ (p : List ℕ × List ℕ). p.1) g.1 in
+    let here : Takes bytes (bytes_form a.0.0 ++ sha256 a.0.0) b.0.1 = subst (λ (l : List ℕ). Takes bytes (bytes_form a.0.0 ++ l) b.0.1) (sym same) whole in
     record {
-      parts = whole ∙ ap (λ (l : List ℕ). l ++ sha256 l) g.1;
-      fits = subst IsBytes g.1 (IsBytes-take n bytes fits);
+      takes = subst (λ (r : List ℕ). Takes bytes (bytes_form content ++ sha256 content) r) rest-is (subst (λ (c : List ℕ). Takes bytes (bytes_form c ++ sha256 c) b.0.1) content-is here);
+      fits = subst IsBytes content-is t.1;
     }
 
-pub signed_again : (content : List ℕ) → signed_at (content ++ sha256 content) ≡ Ok content
+pub signed_again : (content rest : List ℕ) → length content < 2 ^ 64 → signed_at ((bytes_form content ++ sha256 content) ++ rest) ≡ Ok (content, rest)
 unfolding signed_at
-signed_again content =
+signed_again content rest lt =
     let digest = sha256 content in
-    let bytes = content ++ digest in
-    let all : length bytes ≡ length content + 32 = length-append content digest ∙ ap (λ n. length content + n) (length-sha256 content) in
-    let n-is : length bytes - 32 ≡ length content = omega arith in
-    let long : ltb (length bytes) 32 ≡ false = le-ltb _ _ (omega arith) in
     let same : bytes_eq digest digest ≡ true = (bytes_eq-Decides digest digest).1 refl in
-    rw (long, n-is, take_at content digest (length content) refl, drop_at content digest (length content) refl, same) refl
+    ap signed_at (append_assoc (bytes_form content) digest rest) ∙ rw (bytes_again content (digest ++ rest) lt, front_again 32 digest rest (length-sha256 content), same) refl

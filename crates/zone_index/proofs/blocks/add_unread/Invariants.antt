@@ -1,0 +1,7 @@
+-- What was passed has a piece more, and what is to come gets one.
+use Rattle.std.proofs.Common.{◌≡◌, ◌++◌, map, take, drop}
+use Rattle.zone_index.specs.Form.{with_unread, zone_value, zone_values}
+use Rattle.zone_index.proofs.blocks.add_unread.Given as goal
+
+abbrev pub invariant-loop-zone : goal.invariant-loop-zone
+invariant-loop-zone g l = map zone_value (take l.zone-index l.zones) ++ with_unread (g.U.Unread.piece l.unread) (map zone_value (drop l.zone-index l.zones)) ≡ with_unread (g.U.Unread.piece l.unread) (zone_values l.initial.zones)

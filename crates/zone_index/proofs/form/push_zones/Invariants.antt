@@ -1,8 +1,0 @@
--- The zones so far were written.
-use Rattle.std.proofs.Common.{◌≡◌, ◌++◌, take}
-use Rattle.std.specs.List.{flat_map}
-use Rattle.zone_index.specs.Form.{zone_form, zone_values}
-use Rattle.zone_index.proofs.form.push_zones.Given as goal
-
-abbrev pub invariant-loop-zone : goal.invariant-loop-zone
-invariant-loop-zone l = l.output.items ≡ l.initial.output.items ++ flat_map zone_form (zone_values (take l.zone-index l.zones))

@@ -1,0 +1,104 @@
+//! The blocks of an index: pieces of the statistics of its zones.
+
+ghost use Rattle.std.specs.Prelude.{◌≡◌, ◌++◌, ℕ, List, OnOk, map};
+ghost use Rattle.zone_index.specs.Form.{block_value, bytes_form, is_wanted, with_statistics, with_unread, zone_values};
+ghost use Rattle.zone_index.specs.FormReading.{Gives, added_at, blocks_at, dealt_at};
+
+use crate::fields::{front_in, piece_in};
+use crate::form::{Block, FormFault, ReadError};
+use crate::zones::Zone;
+use sha2::{Digest, Sha256};
+use std::alloc::AllocError;
+
+/// What stands in place of a piece that is not read.
+pub trait Unread {
+    // The piece of a zone with so many rows.
+    ghost piece: { Self → ℕ → List ℕ };
+
+    /// Appends the piece of a zone with so many rows, after its length.
+    fn append_piece(&self, rows: u64, output: &mut Vec<u8>) -> Result<(), AllocError>
+        ensures { OnOk result (output.new.items ≡
+            output.old.items ++ bytes_form (piece self.now rows)) };
+}
+
+/// Adds to each zone the pieces that blocks have of it: these bytes.
+pub(crate) fn add_blocks<U: Unread>(
+    zones: &mut [Zone],
+    blocks: &[Block],
+    bytes: &[u8],
+    wanted: &[bool],
+    unread: &U,
+) -> Result<(), ReadError>
+    ensures { Gives (λ _. zone_values zones.new) result (blocks_at wanted.now (U.piece unread.now) 0
+        (map block_value blocks.now) (zone_values zones.old) bytes.now) }
+{
+    let mut rest = bytes;
+    for (place, block) in blocks.iter().enumerate() {
+        let (front, after) = front_in(block.length, rest)?;
+        add_block(zones, block, front, is_wanted(wanted, place), unread)?;
+        rest = after;
+    }
+    if rest.is_empty() {
+        Ok(())
+    } else {
+        Err(ReadError::Fault(FormFault::Trailing))
+    }
+}
+
+/// Whether a block is wanted.
+fn is_wanted(wanted: &[bool], place: usize) -> bool
+    ensures { result ≡ is_wanted wanted.now place }
+{
+    place >= wanted.len() || wanted[place]
+}
+
+/// Adds to each zone the piece that a block has of it, or what stands for it.
+#[tactic(auto, unfolding(crate::specs::FormReading::added_at))]
+fn add_block<U: Unread>(
+    zones: &mut [Zone],
+    block: &Block,
+    bytes: &[u8],
+    is_wanted: bool,
+    unread: &U,
+) -> Result<(), ReadError>
+    ensures { Gives (λ _. zone_values zones.new) result (added_at is_wanted (U.piece unread.now)
+        (block_value block.now) (zone_values zones.old) bytes.now) }
+{
+    if !is_wanted {
+        add_unread(zones, unread)?;
+        return Ok(());
+    }
+    if Sha256::digest(bytes).as_slice() != block.digest.as_slice() {
+        return Err(ReadError::Fault(FormFault::Damaged));
+    }
+    add_pieces(zones, bytes)
+}
+
+/// Adds to each zone what stands for a piece of it.
+fn add_unread<U: Unread>(zones: &mut [Zone], unread: &U) -> Result<(), AllocError>
+    ensures { OnOk result (zone_values zones.new ≡
+        with_unread (U.piece unread.now) (zone_values zones.old)) }
+{
+    for zone in zones.iter_mut() {
+        unread.append_piece(zone.rows, &mut zone.statistics)?;
+    }
+    Ok(())
+}
+
+/// Adds to each zone the piece that these bytes have of it.
+fn add_pieces(zones: &mut [Zone], bytes: &[u8]) -> Result<(), ReadError>
+    ensures { Gives (λ _. zone_values zones.new) result
+        (dealt_at with_statistics (zone_values zones.old) bytes.now) }
+{
+    let mut rest = bytes;
+    for zone in zones.iter_mut() {
+        let (piece, after) = piece_in(rest)?;
+        zone.statistics.extend_from_slice(piece)?;
+        rest = after;
+    }
+    if rest.is_empty() {
+        Ok(())
+    } else {
+        Err(ReadError::Fault(FormFault::Trailing))
+    }
+}

@@ -1,0 +1,77 @@
+//! Fields of an index in bytes.
+
+ghost use Rattle.std.specs.Int.{w32, w64};
+ghost use Rattle.zone_index.specs.FormReading.{Gives, bytes_at, front_at, known_at, number_at, piece_at};
+
+use crate::form::{FormFault, ReadError};
+
+/// The number in the first four bytes, and what follows them.
+fn u32_at(bytes: &[u8]) -> Result<(u32, &[u8]), ReadError>
+    ensures { Gives (λ x. (x.0, x.1.now)) result (number_at w32 bytes.now) }
+{
+    if bytes.len() < 4 {
+        return Err(ReadError::Fault(FormFault::Short));
+    }
+    let (front, rest) = bytes.split_at(4);
+    let number = u32::from_le_bytes([front[0], front[1], front[2], front[3]]);
+    Ok((number, rest))
+}
+
+/// The number in the first eight bytes, and what follows them.
+pub(crate) fn u64_at(bytes: &[u8]) -> Result<(u64, &[u8]), ReadError>
+    ensures { Gives (λ x. (x.0, x.1.now)) result (number_at w64 bytes.now) }
+{
+    if bytes.len() < 8 {
+        return Err(ReadError::Fault(FormFault::Short));
+    }
+    let (front, rest) = bytes.split_at(8);
+    let number = u64::from_le_bytes([
+        front[0], front[1], front[2], front[3], front[4], front[5], front[6], front[7],
+    ]);
+    Ok((number, rest))
+}
+
+/// What follows the number, if it is this one.
+pub(crate) fn after_known(fault: FormFault, number: u32, bytes: &[u8]) -> Result<&[u8], ReadError>
+    ensures { Gives (λ x. x.now) result (known_at fault number bytes.now) }
+{
+    let (found, rest) = u32_at(bytes)?;
+    if found == number {
+        Ok(rest)
+    } else {
+        Err(ReadError::Fault(fault))
+    }
+}
+
+/// So many bytes, and what follows them.
+pub(crate) fn front_in(count: u64, bytes: &[u8]) -> Result<(&[u8], &[u8]), ReadError>
+    ensures { Gives (λ x. (x.0.now, x.1.now)) result (front_at count bytes.now) }
+{
+    let count = count as usize;
+    if bytes.len() < count {
+        return Err(ReadError::Fault(FormFault::Short));
+    }
+    Ok(bytes.split_at(count))
+}
+
+/// As many bytes as a number before them says, and what follows them.
+#[tactic(auto, unfolding(crate::specs::FormReading::bytes_at))]
+pub(crate) fn bytes_in(bytes: &[u8]) -> Result<(&[u8], &[u8]), ReadError>
+    ensures { Gives (λ x. (x.0.now, x.1.now)) result (bytes_at bytes.now) }
+{
+    let (count, rest) = u64_at(bytes)?;
+    front_in(count, rest)
+}
+
+/// The same, and the number stays before the bytes.
+#[tactic(auto, unfolding(crate::specs::FormReading::piece_at))]
+pub(crate) fn piece_in(bytes: &[u8]) -> Result<(&[u8], &[u8]), ReadError>
+    ensures { Gives (λ x. (x.0.now, x.1.now)) result (piece_at bytes.now) }
+{
+    let (count, rest) = u64_at(bytes)?;
+    let count = count as usize;
+    if rest.len() < count {
+        return Err(ReadError::Fault(FormFault::Short));
+    }
+    Ok(bytes.split_at(8 + count))
+}
