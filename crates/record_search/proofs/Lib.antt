@@ -1,11 +1,11 @@
 pub mod DecodeLaws
 pub mod Decoded
 pub mod DescribeLaws
+pub mod LessIndex
 pub mod NamedLaws
 pub mod ObserveLaws
 pub mod ReadBack
 pub mod ReadColumns
 pub mod RefusedLaws
 pub mod RowLaws
-pub mod SameIndex
 pub mod SearchLaws

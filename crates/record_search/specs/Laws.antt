@@ -7,12 +7,13 @@ use Rattle.record_rows.specs.declared.columns.ColumnType.{ColumnType}
 use Rattle.vortex_filter.specs.Formula.{Formula}
 use Rattle.vortex_statistics.specs.Cells.{cell_of}
 use Rattle.vortex_value.specs.declared.scalars.Scalar.{Scalar}
-use Rattle.zone_index.specs.Form.{index_value}
+use Rattle.vortex_statistics.specs.Form.{form}
+use Rattle.zone_index.specs.Form.{FitsForm, index_value, wanted_of}
 use Rattle.zone_index.specs.Records.{is_same}
 use Rattle.zone_index.specs.declared.form.Index.{Index}
 use Rattle.zone_index.specs.declared.records.Decision.TheVariants.{AllMatch, NoneMatch}
 use Rattle.record_search.specs.Contents.{row_of}
-use Rattle.record_search.specs.Searched.{DescribeRows, IsRowIndex, decision_of, has_row, matches_record}
+use Rattle.record_search.specs.Searched.{DescribeRows, IsRowIndex, decision_of, has_row, matches_record, rows_alone}
 use Rattle.record_search.specs.declared.schema.Schema.{Schema}
 
 -- the computed row is the one that is read, whatever stands in place of a cell; without rows there is none
@@ -32,7 +33,8 @@ pub record DecisionsAreRight : Type 0 where
       → decision_of s.columns.items f bytes ≡ AllMatch → DescribeRows s bytes records
       → AllPass (λ line. is_same (matches_record s f line) (has_row s line)) records
 
--- an index that says the same as one that is right for bytes is right for these, as what is read back of what was written
+-- what is read back of an index that was written is right for the bytes for which the index is, whichever columns are wanted
 abbrev pub IndexesAreReadBack : Type 0
-IndexesAreReadBack = (s : Schema) (written read : Index) (bytes : List ℕ) → index_value read ≡ index_value written
+IndexesAreReadBack = (s : Schema) (n : ℕ) (pieces : List (List (List ℕ))) (wanted : List Bool) (written read : Index) (bytes : List ℕ) → FitsForm n (index_value written) pieces
+    → index_value read ≡ wanted_of wanted (λ rows. form (rows_alone rows)) (index_value written) pieces
     → IsRowIndex s written.start written.zones.items bytes → IsRowIndex s read.start read.zones.items bytes

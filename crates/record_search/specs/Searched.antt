@@ -110,6 +110,10 @@ pub record IsRightForm (t : TypeTree) (cells : List Cell) (bytes : List ℕ) : T
   pub typed : AreTyped t statistics
   pub right : AreRight statistics cells
 
+-- statistics that say how many rows there are, and no more
+abbrev pub rows_alone : ℕ → Known
+rows_alone rows = record { row_count = rows; null_count = None; lower = None; upper = None }
+
 -- one such form for each column, from this place of a row on
 abbrev pub AreRightForms : ℕ → List ColumnType → List (List Cell) → List (List ℕ) → Type 0
 AreRightForms k [] rows [] = Unit {0}

@@ -4,7 +4,7 @@ ghost use Rattle.std.specs.Prelude.{◌≡◌};
 ghost use Rattle.record_search.specs.Words.{DescribeRows, RefusesRecord, decision_by, decision_of, formula, has_row, matches_record};
 
 use crate::laws::decisions_are_right;
-use crate::naming::mark_columns;
+use crate::naming::named_columns;
 use crate::reading::read_statistics;
 use crate::schema::Schema;
 use csv_records::Delimiter;
@@ -12,9 +12,6 @@ use std::alloc::{AllocError, Global};
 use vortex_filter::{Filter, Outcomes};
 use vortex_value::Scalar;
 use zone_index::{Decision, Matcher, RecordFault, Records};
-
-/// Of how many columns it is known whether a filter names them. Others are read as if it did.
-const COLUMNS: usize = 64;
 
 /// A filter over the rows of a file.
 #[derive(Clone, Copy, Debug)]
@@ -56,8 +53,7 @@ impl Matcher for RowFilter<'_> {
         scratch: &mut Vec<Scalar>,
         line: &[u8],
     ) -> Result<bool, RecordFault> {
-        let mut wanted = [false; COLUMNS];
-        mark_columns(self.filter, &mut wanted);
+        let wanted = named_columns(self.filter);
         let has_row = self.schema.cells(alloc, 0, &wanted, line, scratch)?;
         if has_row {
             Ok(self.filter.matches(scratch))

@@ -24,8 +24,8 @@ pub fn decisions_are_right()
     order_is_transitive();
 }
 
-/// An index that says the same as one that is right for bytes is right for these. So is what
-/// `read_index` gives of what `write_index` wrote.
+/// What is read back of an index that was written is right for each file for which the index is, if
+/// statistics that say the number of rows alone stand in place of those that are not wanted.
 pub fn indexes_are_read_back()
     ensures { IndexesAreReadBack }
 {}

@@ -11,8 +11,11 @@ mod naming;
 mod reading;
 mod schema;
 mod searching;
+mod unread;
 
 pub use filtering::RowFilter;
+pub use naming::{NAMED_COLUMNS, named_columns};
 pub use reading::read_statistics;
 pub use schema::{Schema, dtype_of};
 pub use searching::{count_rows, find_rows, index_rows};
+pub use unread::RowsAlone;

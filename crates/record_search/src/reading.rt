@@ -17,7 +17,7 @@ pub fn read_statistics(
     ensures { IfOk result (λ read. option_map (λ v. map known v.items) read ≡
         columns_in columns.now bytes.now) }
 {
-    let mut all = Vec::new(alloc);
+    let mut all = Vec::with_capacity(alloc, columns.len())?;
     let mut rest = bytes;
     for column in columns {
         let Some((piece, after)) = cut_piece(rest) else {

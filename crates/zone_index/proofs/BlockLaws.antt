@@ -128,7 +128,7 @@ more_wanted wanted unread k n (z ∷ zs) [] is same h = absurd (omega (arith, sa
 more_wanted wanted unread k n (z ∷ zs) ([] ∷ pieces) is same h = absurd (omega (arith, h.0.count))
 more_wanted wanted unread k n (z ∷ zs) ((p ∷ ps) ∷ pieces) is same h =
     ap₂ (λ (y : ZoneValue) (l : List ZoneValue). y ∷ l) (one_more z p (wanted_pieces wanted (suc k) (unread z.rows) ps) ∙ ap (λ (b : Bool). with_statistics z (flat_map bytes_form (cond b p (unread z.rows) ∷ wanted_pieces wanted (suc k) (unread z.rows) ps))) (sym is))
-        (more_wanted wanted unread k n zs pieces is (omega (arith, same)) h.1)
+    (more_wanted wanted unread k n zs pieces is (omega (arith, same)) h.1)
 
 more_unread : (wanted : List Bool) (unread : ℕ → List ℕ) (k n : ℕ) (zs : List ZoneValue) (pieces : List (List (List ℕ))) → is_wanted wanted k ≡ false → length pieces ≡ length zs → AllByRecursion (Row (suc n)) pieces
     → more wanted unread (suc k) (with_unread unread zs) (others pieces) ≡ more wanted unread k zs pieces
@@ -138,8 +138,8 @@ more_unread wanted unread k n (z ∷ zs) [] is same h = absurd (omega (arith, sa
 more_unread wanted unread k n (z ∷ zs) ([] ∷ pieces) is same h = absurd (omega (arith, h.0.count))
 more_unread wanted unread k n (z ∷ zs) ((p ∷ ps) ∷ pieces) is same h =
     ap₂ (λ (y : ZoneValue) (l : List ZoneValue). y ∷ l)
-        (one_more z (unread z.rows) (wanted_pieces wanted (suc k) (unread z.rows) ps) ∙ ap (λ (b : Bool). with_statistics z (flat_map bytes_form (cond b p (unread z.rows) ∷ wanted_pieces wanted (suc k) (unread z.rows) ps))) (sym is))
-        (more_unread wanted unread k n zs pieces is (omega (arith, same)) h.1)
+    (one_more z (unread z.rows) (wanted_pieces wanted (suc k) (unread z.rows) ps) ∙ ap (λ (b : Bool). with_statistics z (flat_map bytes_form (cond b p (unread z.rows) ∷ wanted_pieces wanted (suc k) (unread z.rows) ps))) (sym is))
+    (more_unread wanted unread k n zs pieces is (omega (arith, same)) h.1)
 
 dealt_long : {A : Type 0} (give : A → List ℕ → A) (ps : List (List ℕ)) (xs : List A) → length ps ≡ length xs → length (dealt give ps xs) ≡ length xs
 dealt_long give [] [] same = refl

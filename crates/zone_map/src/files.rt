@@ -5,7 +5,7 @@ use std::alloc::{AllocError, Global};
 use std::fs::{self, File, Metadata};
 use std::io::{self, BufReader, Read, Seek, SeekFrom, Write};
 use std::time::UNIX_EPOCH;
-use zone_index::{Fault as SearchFault, Index, write_index};
+use zone_index::{Fault as SearchFault, Index, WriteError, write_index};
 
 /// How long a file is, and when it was changed last.
 #[derive(Clone, Copy, PartialEq, Eq)]
@@ -82,11 +82,14 @@ pub fn stamp_of(alloc: Global, name: &str, file: &File) -> Result<Stamp, Fault> 
     }
 }
 
-/// Writes an index beside its file.
-pub fn save(rt: &HostRuntime, file: &str, index: &Index) -> Result<(), Fault> {
-    let bytes = write_index(rt.alloc(), index)?;
+/// Writes an index of so many columns beside its file.
+pub fn save(rt: &HostRuntime, file: &str, columns: usize, index: &Index) -> Result<(), Fault> {
     let name = index_name(rt.alloc(), file)?;
-    save_bytes(rt, &name, &bytes)
+    match write_index(rt.alloc(), columns, index) {
+        Ok(bytes) => save_bytes(rt, &name, &bytes),
+        Err(WriteError::Memory) => Err(Fault::from(AllocError)),
+        Err(WriteError::Pieces) => Err(Fault::of_file(rt.alloc(), &name, FileFault::OtherIndex)),
+    }
 }
 
 /// Writes a file: first one of another name, which then takes this name.

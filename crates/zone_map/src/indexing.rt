@@ -130,7 +130,7 @@ fn finish(rt: &HostRuntime, name: &str, file: &File, unfinished: Unfinished) -> 
     let Unfinished { mut loaded, place } = unfinished;
     let schema = loaded.setup.schema(rt.alloc())?;
     add_zones(rt, name, file, &schema, place, &mut loaded)?;
-    save(rt, name, &loaded.index)?;
+    save(rt, name, loaded.setup.columns.len(), &loaded.index)?;
     tell_nulls(rt, name, &schema, place)
 }
 

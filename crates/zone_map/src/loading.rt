@@ -1,15 +1,16 @@
 //! An index is loaded, and a filter read over its columns.
 
 use crate::columns::columns_text;
+use crate::commands::SearchRequest;
 use crate::faults::{BadFilter, Fault, FileFault};
 use crate::files::index_name;
 use crate::setup::Setup;
-use record_search::{RowFilter, Schema};
+use record_search::{RowFilter, RowsAlone, Schema, named_columns};
 use std::alloc::{AllocError, Global};
 use std::fs;
 use std::io::ErrorKind;
 use vortex_filter::{Filter, ParseError};
-use zone_index::{Index, ReadError, read_index};
+use zone_index::{Index, ReadError, Root, read_blocks, read_root};
 
 /// An index, and how its file is read.
 #[derive(Drop)]
@@ -20,47 +21,109 @@ pub struct Loaded {
     pub setup: Setup,
 }
 
-/// The index of a file, if there is one.
-pub fn load(rt: &HostRuntime, file: &str) -> Result<Option<Loaded>, Fault> {
+/// The index of a file that has one.
+pub fn load_there(rt: &HostRuntime, file: &str) -> Result<Loaded, Fault> {
     let name = index_name(rt.alloc(), file)?;
-    match fs::read(rt, name.as_str()) {
-        Ok(bytes) => {
-            let loaded = loaded_in(rt.alloc(), &name, &bytes)?;
-            Ok(Some(loaded))
-        }
-        Err(error) if error.kind() == ErrorKind::NotFound => Ok(None),
-        Err(error) => Err(Fault::of_file(rt.alloc(), &name, FileFault::System(error))),
+    match bytes_of(rt, &name)? {
+        Some(bytes) => loaded_in(rt.alloc(), &name, &bytes),
+        None => Err(Fault::of_file(rt.alloc(), file, FileFault::NoIndex)),
     }
 }
 
-/// The index of a file that has one.
-pub fn load_there(rt: &HostRuntime, file: &str) -> Result<Loaded, Fault> {
-    match load(rt, file)? {
-        Some(loaded) => Ok(loaded),
-        None => Err(Fault::of_file(rt.alloc(), file, FileFault::NoIndex)),
+/// The bytes of a file, if it is there.
+fn bytes_of(rt: &HostRuntime, name: &str) -> Result<Option<Vec<u8>>, Fault> {
+    match fs::read(rt, name) {
+        Ok(bytes) => Ok(Some(bytes)),
+        Err(error) if error.kind() == ErrorKind::NotFound => Ok(None),
+        Err(error) => Err(Fault::of_file(rt.alloc(), name, FileFault::System(error))),
     }
 }
 
 /// The index that these bytes are, which a file of this name has.
 fn loaded_in(alloc: Global, name: &str, bytes: &[u8]) -> Result<Loaded, Fault> {
-    match read_index(alloc, bytes) {
-        Ok(index) => with_setup(alloc, name, index),
-        Err(ReadError::Memory) => Err(Fault::from(AllocError)),
-        Err(ReadError::Fault(fault)) => Err(Fault::of_file(
-            alloc,
-            name,
-            FileFault::BadIndex(fault),
-        )),
+    let (root, blocks) = root_in(alloc, name, bytes)?;
+    let setup = setup_of(alloc, name, &root)?;
+    let index = index_in(alloc, name, root, blocks, &[])?;
+    Ok(Loaded { index, setup })
+}
+
+/// The root of the index that these bytes are, and the bytes of its blocks.
+fn root_in<'a>(alloc: Global, name: &str, bytes: &'a [u8]) -> Result<(Root, &'a [u8]), Fault> {
+    match read_root(alloc, bytes) {
+        Ok(read) => Ok(read),
+        Err(error) => Err(bad_index(alloc, name, error)),
     }
 }
 
-/// An index with what it keeps beside its zones, if this program wrote that.
-fn with_setup(alloc: Global, name: &str, index: Index) -> Result<Loaded, Fault> {
-    match Setup::from_text(alloc, &index.setup) {
-        Ok(Some(setup)) => Ok(Loaded { index, setup }),
+/// The index of a root, with the statistics of the columns that are wanted.
+fn index_in(
+    alloc: Global,
+    name: &str,
+    root: Root,
+    blocks: &[u8],
+    wanted: &[bool],
+) -> Result<Index, Fault> {
+    match read_blocks(root, blocks, wanted, &RowsAlone) {
+        Ok(index) => Ok(index),
+        Err(error) => Err(bad_index(alloc, name, error)),
+    }
+}
+
+/// The fault of an index that was not read.
+fn bad_index(alloc: Global, name: &str, error: ReadError) -> Fault {
+    match error {
+        ReadError::Memory => Fault::from(AllocError),
+        ReadError::Fault(fault) => Fault::of_file(alloc, name, FileFault::BadIndex(fault)),
+    }
+}
+
+/// What an index keeps beside its zones, if this program wrote that.
+fn setup_of(alloc: Global, name: &str, root: &Root) -> Result<Setup, Fault> {
+    match Setup::from_text(alloc, &root.index.setup) {
+        Ok(Some(setup)) => Ok(setup),
         Ok(None) => Err(Fault::of_file(alloc, name, FileFault::OtherIndex)),
         Err(error) => Err(Fault::from(error)),
     }
+}
+
+/// An index, and what is sought by it.
+#[derive(Drop)]
+pub struct Searched {
+    /// The index.
+    pub index: Index,
+    /// What is sought.
+    pub sought: Sought,
+}
+
+/// The index of the file of a request, if there is one, and what the request seeks.
+///
+/// It has the statistics of the columns that the filter names. Where the file may have grown it has
+/// all, since the last zone is compared with them.
+pub fn load(rt: &HostRuntime, request: &SearchRequest<'_>) -> Result<Option<Searched>, Fault> {
+    let name = index_name(rt.alloc(), request.file)?;
+    match bytes_of(rt, &name)? {
+        Some(bytes) => {
+            let searched = searched_in(rt.alloc(), request, &name, &bytes)?;
+            Ok(Some(searched))
+        }
+        None => Ok(None),
+    }
+}
+
+/// The index that these bytes are, which a file of this name has, and what a request seeks.
+fn searched_in(
+    alloc: Global,
+    request: &SearchRequest<'_>,
+    name: &str,
+    bytes: &[u8],
+) -> Result<Searched, Fault> {
+    let (root, blocks) = root_in(alloc, name, bytes)?;
+    let setup = setup_of(alloc, name, &root)?;
+    let sought = Sought::from_text(alloc, setup, request.filter)?;
+    let named = named_columns(&sought.filter);
+    let wanted: &[bool] = if request.may_have_grown { &[] } else { &named };
+    let index = index_in(alloc, name, root, blocks, wanted)?;
+    Ok(Searched { index, sought })
 }
 
 /// What is sought: how records are rows, and which rows match.

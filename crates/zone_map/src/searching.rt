@@ -5,7 +5,7 @@ use crate::commands::{SearchRequest, Wanted};
 use crate::faults::{Fault, FileFault};
 use crate::files::{Stamp, buffered, from_place, open_file, stamp_of};
 use crate::grown::grown_end;
-use crate::loading::{Loaded, Sought, load};
+use crate::loading::{Searched, Sought, load};
 use crate::numbering::Position;
 use crate::places::located;
 use crate::streams::{flushed, output, search_stream};
@@ -48,8 +48,8 @@ fn search_file(rt: &HostRuntime, request: &SearchRequest<'_>) -> Result<u64, Fau
         let file = open_file(rt, request.file)?;
         return search_whole(rt, request, Some(request.file), file);
     }
-    match load(rt, request.file)? {
-        Some(loaded) => search_indexed(rt, request, loaded),
+    match load(rt, request)? {
+        Some(searched) => search_indexed(rt, request, searched),
         None => {
             let file = open_file(rt, request.file)?;
             advise(rt, request.file);
@@ -85,10 +85,9 @@ fn search_whole<R: Read + Drop>(
 fn search_indexed(
     rt: &HostRuntime,
     request: &SearchRequest<'_>,
-    loaded: Loaded,
+    searched: Searched,
 ) -> Result<u64, Fault> {
-    let Loaded { index, setup } = loaded;
-    let sought = Sought::from_text(rt.alloc(), setup, request.filter)?;
+    let Searched { index, sought } = searched;
     let file = open_file(rt, request.file)?;
     search_opened(rt, request, &index, &sought, file)
 }

@@ -1,20 +1,20 @@
-use Rattle.std.proofs.Common.{◌≡◌, ℕ, List, Result, Ok, Err, IfOk, ◌∙◌}
+use Rattle.std.proofs.Common.{◌≡◌, ◌∙◌, ℕ, List, Bool, Result, Ok, Err, IfOk, ap, subst, sym}
+use Rattle.vortex_statistics.specs.Form.{form}
 use Rattle.record_search.specs.Laws.{IndexesAreReadBack}
-use Rattle.record_search.specs.Searched.{IsRowIndex}
+use Rattle.record_search.specs.Searched.{IsRowIndex, rows_alone}
 use Rattle.record_search.specs.declared.schema.Schema.{Schema}
-use Rattle.zone_index.specs.Form.{index_value}
-use Rattle.zone_index.specs.FormReading.{Gives}
+use Rattle.zone_index.specs.Form.{FitsForm, IndexValue, index_form, index_value, wanted_of}
 use Rattle.zone_index.specs.declared.form.Index.{Index}
 use Rattle.zone_index.specs.declared.form.ReadError.{ReadError}
 use Rattle.search_callers.proofs.indexes.there_and_back.Goals as goal
 
-right-again : (given : Index) (read : Result Index ReadError) → IndexesAreReadBack → Gives index_value read (Ok (index_value given))
-    → IfOk read (λ kept. (s : Schema) (bytes : List ℕ) → IsRowIndex s given.start given.zones.items bytes → IsRowIndex s kept.start kept.zones.items bytes)
-right-again given (Ok kept) law gives =
-    let same : index_value kept ≡ index_value given = cc in
-    λ s bytes right. law s given kept bytes same right
-right-again given (Err e) law gives = tt
+right-again : (n : ℕ) (given : Index) (wanted : List Bool) (bytes : List ℕ) (read : Result Index ReadError) → IndexesAreReadBack → (pieces : List (List (List ℕ))) × FitsForm n (index_value given) pieces × (bytes ≡ index_form n (index_value given) pieces)
+    → IfOk read (λ kept. (m : ℕ) (x : IndexValue) (pieces : List (List (List ℕ))) → FitsForm m x pieces → bytes ≡ index_form m x pieces → index_value kept ≡ wanted_of wanted (λ rows. form (rows_alone rows)) x pieces)
+    → IfOk read (λ kept. (s : Schema) (file : List ℕ) → IsRowIndex s given.start given.zones.items file → IsRowIndex s kept.start kept.zones.items file)
+right-again n given wanted bytes (Ok kept) law written read = λ s file right. law s n written.0 wanted given kept file written.1 (read n (index_value given) written.0 written.1 written.2) right
+right-again n given wanted bytes (Err e) law written read = tt
 
 pub returns : goal.returns
-returns c = right-again c.args.index.now c.read_index.result c.indexes_are_read_back.ensures
-    (c.read_index.ensures.only (index_value c.args.index.now) c.requires (c.deref.ensures.value ∙ c.in_ok-bytes.ensures))
+returns c =
+    right-again c.args.columns c.args.index.now c.args.wanted.now c.in_ok-bytes.bytes.items c.read_wanted.result c.indexes_are_read_back.ensures c.in_ok-bytes.ensures.written
+    (subst (λ (b : List ℕ). IfOk c.read_wanted.result (λ kept. (m : ℕ) (x : IndexValue) (pieces : List (List (List ℕ))) → FitsForm m x pieces → b ≡ index_form m x pieces → index_value kept ≡ wanted_of c.args.wanted.now (λ rows. form (rows_alone rows)) x pieces)) c.deref.ensures.value c.read_wanted.ensures)

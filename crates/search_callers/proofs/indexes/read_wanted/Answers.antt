@@ -1,0 +1,22 @@
+-- What was written is read.
+use Rattle.std.proofs.Common.{◌≡◌, ℕ, List, Bool, Result, Ok, Err, IfOk}
+use Rattle.vortex_statistics.specs.Form.{form}
+use Rattle.record_search.specs.Searched.{rows_alone}
+use Rattle.zone_index.specs.Form.{FitsForm, IndexValue, index_form, index_value, wanted_of}
+use Rattle.zone_index.specs.FormReading.{Gives}
+use Rattle.zone_index.specs.declared.form.Index.{Index}
+use Rattle.zone_index.specs.declared.form.ReadError.{ReadError}
+use Rattle.search_callers.proofs.indexes.read_wanted.Goals as goal
+
+is_value : (x : IndexValue) (read : Result Index ReadError) → Gives index_value read (Ok x) → IfOk read (λ kept. index_value kept ≡ x)
+is_value x (Ok kept) gives = cc
+is_value x (Err e) gives = tt
+
+wanted_back : (wanted : List Bool) (bytes : List ℕ) (read : Result Index ReadError)
+    → ((n : ℕ) (x : IndexValue) (pieces : List (List (List ℕ))) → FitsForm n x pieces → bytes ≡ index_form n x pieces → Gives index_value read (Ok (wanted_of wanted (λ rows. form (rows_alone rows)) x pieces)))
+    → IfOk read (λ kept. (n : ℕ) (x : IndexValue) (pieces : List (List (List ℕ))) → FitsForm n x pieces → bytes ≡ index_form n x pieces → index_value kept ≡ wanted_of wanted (λ rows. form (rows_alone rows)) x pieces)
+wanted_back wanted bytes (Ok kept) h = λ n x pieces fits e. is_value (wanted_of wanted (λ rows. form (rows_alone rows)) x pieces) (Ok kept) (h n x pieces fits e)
+wanted_back wanted bytes (Err e) h = tt
+
+pub returns : goal.returns
+returns c = wanted_back c.args.wanted.now c.args.bytes.now c.read_blocks.result (λ n x pieces fits e. let root = c.in_ok-root.ensures.only n x pieces fits e in c.read_blocks.ensures.only n x pieces fits root.0 root.1)
