@@ -5,7 +5,7 @@ use crate::commands::SearchRequest;
 use crate::faults::{BadFilter, Fault, FileFault};
 use crate::files::index_name;
 use crate::setup::Setup;
-use record_search::{RowFilter, RowsAlone, Schema, named_columns};
+use record_search::{NAMED_COLUMNS, RowFilter, RowsAlone, Schema, named_columns};
 use std::alloc::{AllocError, Global};
 use std::fs;
 use std::io::ErrorKind;
@@ -120,10 +120,18 @@ fn searched_in(
     let (root, blocks) = root_in(alloc, name, bytes)?;
     let setup = setup_of(alloc, name, &root)?;
     let sought = Sought::from_text(alloc, setup, request.filter)?;
-    let named = named_columns(&sought.filter);
-    let wanted: &[bool] = if request.may_have_grown { &[] } else { &named };
-    let index = index_in(alloc, name, root, blocks, wanted)?;
+    let wanted = columns_wanted(request, &sought.filter);
+    let index = index_in(alloc, name, root, blocks, &wanted)?;
     Ok(Searched { index, sought })
+}
+
+/// The columns whose statistics a request wants: all where the file may have grown.
+fn columns_wanted(request: &SearchRequest<'_>, filter: &Filter) -> [bool; NAMED_COLUMNS] {
+    if request.may_have_grown {
+        [true; NAMED_COLUMNS]
+    } else {
+        named_columns(filter)
+    }
 }
 
 /// What is sought: how records are rows, and which rows match.
