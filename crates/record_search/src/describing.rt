@@ -40,7 +40,10 @@ impl Describer for Schema {
 }
 
 /// The statistics of no rows, for so many columns.
-fn empty_statistics(alloc: Global, count: usize) -> Result<Vec<ColumnStatistics>, AllocError>
+pub(crate) fn empty_statistics(
+    alloc: Global,
+    count: usize,
+) -> Result<Vec<ColumnStatistics>, AllocError>
     ensures { IfOk result (λ all. (length all.items ≡ count) × AreAllComplete 0 [] all.items) }
 {
     let mut all = Vec::with_capacity(alloc, count)?;

@@ -1,8 +1,9 @@
 //! Statistics of columns are read back.
 
-ghost use Rattle.std.specs.Prelude.{◌≡◌, IfOk, map, option_map};
+ghost use Rattle.std.specs.Prelude.{◌≡◌, IfOk, None, Some, if◌then◌else◌, length, map, option_map};
 ghost use Rattle.record_search.specs.Words.{columns_in, known, piece_in, statistics_in};
 
+use crate::describing::empty_statistics;
 use crate::schema::dtype_of;
 use record_rows::ColumnType;
 use std::alloc::{AllocError, Global};
@@ -17,23 +18,38 @@ pub fn read_statistics(
     ensures { IfOk result (λ read. option_map (λ v. map known v.items) read ≡
         columns_in columns.now bytes.now) }
 {
-    let mut all = Vec::with_capacity(alloc, columns.len())?;
-    let mut rest = bytes;
-    for column in columns {
-        let Some((piece, after)) = cut_piece(rest) else {
-            return Ok(None);
-        };
-        let Some(statistics) = read_column(alloc, *column, piece)? else {
-            return Ok(None);
-        };
-        all.push(statistics)?;
-        rest = after;
-    }
-    if rest.is_empty() {
+    let mut all = empty_statistics(alloc, columns.len())?;
+    if read_all(alloc, columns, bytes, &mut all)? {
         Ok(Some(all))
     } else {
         Ok(None)
     }
+}
+
+/// Puts the statistics of each column in the place of these. Whether the bytes are their forms; if
+/// not, these may say anything.
+fn read_all(
+    alloc: Global,
+    columns: &[ColumnType],
+    bytes: &[u8],
+    all: &mut [ColumnStatistics],
+) -> Result<bool, AllocError>
+    requires { length all.old ≡ length columns.now }
+    ensures { IfOk result (λ is. (if is then Some (map known all.new) else None) ≡
+        columns_in columns.now bytes.now) }
+{
+    let mut rest = bytes;
+    for place in 0..columns.len() {
+        let Some((piece, after)) = cut_piece(rest) else {
+            return Ok(false);
+        };
+        let is_form = read_column(alloc, columns[place], piece, &mut all[place])?;
+        if !is_form {
+            return Ok(false);
+        }
+        rest = after;
+    }
+    Ok(rest.is_empty())
 }
 
 /// The bytes after their length, and what follows them.
@@ -53,19 +69,22 @@ fn cut_piece(bytes: &[u8]) -> Option<(&[u8], &[u8])>
     Some(rest.split_at(length))
 }
 
-/// The statistics of a column, where the bytes are their form.
+/// Puts the statistics of a column in the place of these, which spares the moves of a result. Whether
+/// the bytes are their form; if not, these may say anything.
 fn read_column(
     alloc: Global,
     column: ColumnType,
     bytes: &[u8],
-) -> Result<Option<ColumnStatistics>, AllocError>
-    ensures { IfOk result (λ read. option_map known read ≡ statistics_in column bytes.now) }
+    statistics: &mut ColumnStatistics,
+) -> Result<bool, AllocError>
+    ensures { IfOk result (λ is. (if is then Some (known statistics.new) else None) ≡
+        statistics_in column bytes.now) }
 {
-    match ColumnStatistics::from_bytes(alloc, &dtype_of(column), bytes) {
-        Ok(statistics) => Ok(Some(statistics)),
+    match statistics.read_from_bytes(alloc, &dtype_of(column), bytes) {
+        Ok(()) => Ok(true),
         Err(error) => match error {
             StatisticsError::OutOfMemory => Err(AllocError),
-            _ => Ok(None),
+            _ => Ok(false),
         },
     }
 }
