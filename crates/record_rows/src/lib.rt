@@ -11,6 +11,7 @@ mod rows;
 mod texts;
 mod words;
 
+pub use ascii::is_text;
 pub use columns::{ColumnType, Kind};
 pub use rows::{RowFault, read_cells, read_row, take_field};
 pub use texts::{csv_rows, is_whole_record, may_cut, split_records};
