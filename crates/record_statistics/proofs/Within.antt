@@ -1,9 +1,9 @@
--- Values that change no bound.
-use Rattle.std.proofs.Common.{◌≡◌, ◌<◌, ◌+◌, ◌^◌, ◌&&◌, ◌⊎◌, inl, inr, ℕ, ℤ, List, [], ◌∷◌, ◌++◌, Bool, true, false, ◌==◌, Option, None, Some, Ordering, refl, sym, ap, ◌∙◌, subst, length, arith}
+-- Words whose cells are observed without a scalar of them.
+use Rattle.std.proofs.Common.{◌≡◌, ◌≢◌, ◌<◌, ◌+◌, ◌^◌, ◌&&◌, inl, inr, ℕ, ℤ, List, [], ◌∷◌, ◌++◌, Bool, true, false, ◌==◌, Option, Some, Ordering, refl, sym, ap, ◌∙◌, subst, length, arith, rules}
 use Rattle.std.proofs.lemmas.Bool.{ne_eqb}
-use Rattle.std.specs.Cmp.Lexicographic.{slice_cmp}
-use Rattle.std.specs.Ordering.{int_cmp, nat_cmp}
-use Rattle.std.specs.declared.cmp.Ordering.TheVariants.{Equal, Less}
+use Rattle.std.proofs.lemmas.Cmp.{int_ranked}
+use Rattle.std.specs.Ordering.{int_cmp}
+use Rattle.std.specs.declared.cmp.Ordering.TheVariants.{Equal, Greater, Less}
 use Rattle.csv_records.specs.Rows.{Field}
 use Rattle.record_rows.specs.Cells.{IsContent, Means, column_type, is_null_field}
 use Rattle.record_rows.specs.Rows.{IsTaken, StandsFor}
@@ -14,10 +14,12 @@ use Rattle.vortex_dtype.specs.TypeTree.{Same, TypeTree, integer_type, utf8_type}
 use Rattle.vortex_dtype.specs.declared.nullability.Nullability.{Nullability}
 use Rattle.vortex_dtype.specs.declared.nullability.Nullability.TheVariants.{NonNullable, Nullable}
 use Rattle.vortex_dtype.specs.declared.ptype.PType.{PType}
+use Rattle.vortex_dtype.specs.declared.types.DType.{the_lemmas as dtype_lemmas}
+use Rattle.vortex_dtype.specs.declared.types.DType.TheVariants as dtypes
 use Rattle.vortex_pvalue.specs.Whole.{whole_of}
 use Rattle.vortex_pvalue.specs.declared.pvalues.PValue.{PValue}
 use Rattle.vortex_statistics.specs.Cells.{Cell, cell_of, cell_order, is_null_cell, is_null_content, order_from_above}
-use Rattle.vortex_statistics.specs.Observing.{IsCompleteWith, bound_after, is_below_some, observed}
+use Rattle.vortex_statistics.specs.Observing.{IsCompleteWith, bound_after, bound_at, bound_with, is_below_some, observed}
 use Rattle.vortex_statistics.specs.Statistics.{AreComplete, Known, KnownBound, may_be_value}
 use Rattle.vortex_statistics.proofs.ObserveLaws.{observed_complete}
 use Rattle.vortex_value.specs.Equality.{same_type}
@@ -26,7 +28,9 @@ use Rattle.vortex_value.specs.Order.{IsReversed, IsTransitive, order}
 use Rattle.vortex_value.specs.Values.Content.{Content, text, whole}
 use Rattle.vortex_value.specs.Values.Scalars.{scalar_content, scalar_type}
 use Rattle.vortex_value.specs.declared.scalars.Scalar.{Scalar}
-use Rattle.record_statistics.specs.Observed.{IsBetween, IsInside, IsIntegerInside, IsNumberBound, IsTakenAs, IsTextBound, IsTextInside, Keeps, ObservesField, cell_in}
+use Rattle.vortex_value.specs.declared.values.ScalarValue.{the_lemmas as value_lemmas}
+use Rattle.vortex_value.specs.declared.values.ScalarValue.TheVariants as values
+use Rattle.record_statistics.specs.Observed.{IsTakenAs, IsTextInside, Keeps, ObservesField, ObservesWord, RaisesTo, TakesCell, TakesInteger, TakesWord, cell_in}
 
 -- ---- orders
 
@@ -36,42 +40,42 @@ same_true s t h = (same_type-Decides s t).1 h
 number_order : (p : PType) (n m : Nullability) (a z : ℤ) → cell_order (record { typed = integer_type p n; content = whole a }) (record { typed = integer_type p m; content = whole z }) ≡ Some (int_cmp a z)
 number_order p n m a z = rw (same_true (integer_type p n) (integer_type p m) refl) refl
 
-text_order : (n m : Nullability) (bs cs : List ℕ) → cell_order (record { typed = utf8_type n; content = text bs }) (record { typed = utf8_type m; content = text cs }) ≡ Some (slice_cmp nat_cmp bs cs)
-text_order n m bs cs = refl
-
-keeps_by : (cmp : Cell → Cell → Option Ordering) (b : KnownBound) (x : Cell) (o : Option Ordering) → cmp b.value x ≡ o → (o ≡ Some Less) ⊎ ((o ≡ Some Equal) × (b.is_exact ≡ true)) → Keeps cmp b x
-keeps_by cmp b x o e (inl less) = inl (e ∙ less)
-keeps_by cmp b x o e (inr same) = inr (e ∙ same.0, same.1)
-
-pub keeps_lower_number : (p : PType) (b : KnownBound) (a v : PValue) (z : ℤ) (o : Option Ordering) → IsNumberBound p a b → whole_of v ≡ z → o ≡ Some (int_cmp (whole_of a) (whole_of v)) → (o ≡ Some Less) ⊎ ((o ≡ Some Equal) × (b.is_exact ≡ true)) → (n : Nullability)
-    → Keeps cell_order b (record { typed = integer_type p n; content = whole z })
-keeps_lower_number p b a v z o h is order_is kept n =
-    let x : Cell = record { typed = integer_type p n; content = whole z } in
-    keeps_by cell_order b x o (ap (λ (y : Cell). cell_order y x) h.1 ∙ number_order p h.0 n (whole_of a) z ∙ ap (λ (w : ℤ). Some (int_cmp (whole_of a) w)) (sym is) ∙ sym order_is) kept
-
-pub keeps_upper_number : (p : PType) (b : KnownBound) (a v : PValue) (z : ℤ) (o : Option Ordering) → IsNumberBound p a b → whole_of v ≡ z → o ≡ Some (int_cmp (whole_of v) (whole_of a)) → (o ≡ Some Less) ⊎ ((o ≡ Some Equal) × (b.is_exact ≡ true)) → (n : Nullability)
-    → Keeps order_from_above b (record { typed = integer_type p n; content = whole z })
-keeps_upper_number p b a v z o h is order_is kept n =
-    let x : Cell = record { typed = integer_type p n; content = whole z } in
-    keeps_by order_from_above b x o (ap (λ (y : Cell). cell_order x y) h.1 ∙ number_order p n h.0 z (whole_of a) ∙ ap (λ (w : ℤ). Some (int_cmp w (whole_of a))) (sym is) ∙ sym order_is) kept
-
-pub keeps_lower_text : (b : KnownBound) (bs word : List ℕ) (o : Ordering) → IsTextBound bs b → o ≡ slice_cmp nat_cmp bs word → (Some o ≡ Some Less) ⊎ ((Some o ≡ Some Equal) × (b.is_exact ≡ true)) → (n : Nullability)
-    → Keeps cell_order b (record { typed = utf8_type n; content = text word })
-keeps_lower_text b bs word o h order_is kept n =
-    let x : Cell = record { typed = utf8_type n; content = text word } in
-    keeps_by cell_order b x (Some o) (ap (λ (y : Cell). cell_order y x) h.1 ∙ text_order h.0 n bs word ∙ ap (λ (w : Ordering). Some w) (sym order_is)) kept
-
-pub keeps_upper_text : (b : KnownBound) (bs word : List ℕ) (o : Ordering) → IsTextBound bs b → o ≡ slice_cmp nat_cmp word bs → (Some o ≡ Some Less) ⊎ ((Some o ≡ Some Equal) × (b.is_exact ≡ true)) → (n : Nullability)
-    → Keeps order_from_above b (record { typed = utf8_type n; content = text word })
-keeps_upper_text b bs word o h order_is kept n =
-    let x : Cell = record { typed = utf8_type n; content = text word } in
-    keeps_by order_from_above b x (Some o) (ap (λ (y : Cell). cell_order x y) h.1 ∙ text_order n h.0 word bs ∙ ap (λ (w : Ordering). Some w) (sym order_is)) kept
-
--- ---- one cell more
-
 stays : (cmp : Cell → Cell → Option Ordering) (b : KnownBound) (x : Cell) → Keeps cmp b x → bound_after cmp (Some b) x ≡ Some b
 stays cmp b x (inl less) = rw less refl
 stays cmp b x (inr same) = rw same.0 (ap (λ (e : Bool). let k : KnownBound = record { value = b.value; is_exact = e } in Some k) (sym same.1))
+
+-- ---- the upper bound after a number
+
+abbrev pub number_cell : PType → Nullability → PValue → Cell
+number_cell p n v = record { typed = integer_type p n; content = whole (whole_of v) }
+
+pub number_scalar : (p : PType) (n : Nullability) (v : PValue) (x : Scalar) → x.dtype ≡ dtypes.Primitive p n → x.value ≡ Some (values.Primitive v) → cell_of x ≡ number_cell p n v
+number_scalar p n v x typed is = rw (typed, is) (search (rules, dtype_lemmas, value_lemmas))
+
+from_above : (p : PType) (n : Nullability) (a v : PValue) → order_from_above (number_cell p n a) (number_cell p n v) ≡ Some (int_cmp (whole_of v) (whole_of a))
+from_above p n a v = number_order p n n (whole_of v) (whole_of a)
+
+at_number : (p : PType) (n : Nullability) (a v : PValue) (old : KnownBound) (o : Ordering) → old.value ≡ number_cell p n a → int_cmp (whole_of v) (whole_of a) ≡ o → bound_after order_from_above (Some old) (number_cell p n v) ≡ bound_with (Some o) old (number_cell p n v)
+at_number p n a v old o is order_is =
+    let x : Cell = number_cell p n v in
+    ap (λ (r : Option Ordering). bound_with r old x) (ap (λ (c : Cell). order_from_above c x) is ∙ from_above p n a v ∙ ap (λ (r : Ordering). Some r) order_is)
+
+raised_by : (p : PType) (n : Nullability) (a v : PValue) (o : Ordering) (old new : KnownBound) → old.value ≡ number_cell p n a → int_cmp (whole_of v) (whole_of a) ≡ o → o ≢ Less → new ≡ record { value = number_cell p n v; is_exact = true } → RaisesTo v p n old new
+raised_by p n a v Less old new is order_is above same = absurd (above refl)
+raised_by p n a v Equal old new is order_is above same =
+    let z : whole_of v ≡ whole_of a = int_ranked (whole_of v) (whole_of a) Equal (sym order_is) in
+    let cell : old.value ≡ number_cell p n v = is ∙ ap (λ (w : ℤ). let c : Cell = record { typed = integer_type p n; content = whole w } in c) (sym z) in
+    at_number p n a v old Equal is order_is ∙ ap (λ (c : Cell). let b : KnownBound = record { value = c; is_exact = true } in Some b) cell ∙ ap (λ (b : KnownBound). Some b) (sym same)
+raised_by p n a v Greater old new is order_is above same =
+    let x : Cell = number_cell p n v in
+    let itself : bound_at x ≡ Some (record { value = x; is_exact = true }) = rw (number_order p n n (whole_of v) (whole_of v)) refl in
+    at_number p n a v old Greater is order_is ∙ itself ∙ ap (λ (b : KnownBound). Some b) (sym same)
+
+pub raised : (p : PType) (n : Nullability) (a v : PValue) (o : Option Ordering) (old new : KnownBound) → old.value ≡ number_cell p n a → o ≡ Some (int_cmp (whole_of v) (whole_of a)) → o ≢ Some Less → new ≡ record { value = number_cell p n v; is_exact = true } → RaisesTo v p n old new
+raised p n a v o old new is order_is past same =
+    raised_by p n a v (int_cmp (whole_of v) (whole_of a)) old new is refl (λ less. past (order_is ∙ ap (λ (r : Ordering). Some r) less)) same
+
+-- ---- one cell more
 
 not_below : (s : Known) (b : KnownBound) (x : Cell) → s.lower ≡ Some b → Keeps cell_order b x → is_below_some s x ≡ false
 not_below s b x is (inl less) = rw (is, less) (never b.is_exact)
@@ -81,23 +85,21 @@ not_below s b x is (inl less) = rw (is, less) (never b.is_exact)
     never false = refl
 not_below s b x is (inr same) = rw (is, same.0, same.1) refl
 
--- the statistics count one more
-abbrev pub with_count : Known → Known
-with_count s = record { row_count = s.row_count + 1; null_count = s.null_count; lower = s.lower; upper = s.upper }
+-- the statistics count one more, and this is the upper bound
+abbrev pub with_upper : Known → KnownBound → Known
+with_upper s b = record { row_count = s.row_count + 1; null_count = s.null_count; lower = s.lower; upper = Some b }
 
-unchanged : (s : Known) (lower upper : Option KnownBound) (x : Cell) → s.lower ≡ lower → s.upper ≡ upper → is_null_cell x ≡ false → may_be_value s ≡ true → IsBetween lower upper x → observed s x ≡ with_count s
-unchanged s (Some l) (Some u) x lower_is upper_is there valued between =
-    let low : bound_after cell_order s.lower x ≡ s.lower = rw lower_is (stays cell_order l x between.0) in
-    let high : bound_after order_from_above s.upper x ≡ s.upper = rw upper_is (stays order_from_above u x between.1) in
-    rw (there, valued, not_below s l x lower_is between.0, low, high) refl
-unchanged s None upper x lower_is upper_is there valued between = absurd between
-unchanged s (Some l) None x lower_is upper_is there valued between = absurd between
+taken : (s : Known) (l u v : KnownBound) (x : Cell) → s.lower ≡ Some l → s.upper ≡ Some u → is_null_cell x ≡ false → may_be_value s ≡ true → TakesCell l u v x → observed s x ≡ with_upper s v
+taken s l u v x lower_is upper_is there valued h =
+    let low : bound_after cell_order s.lower x ≡ s.lower = rw lower_is (stays cell_order l x h.0) in
+    let high : bound_after order_from_above s.upper x ≡ Some v = rw upper_is h.1 in
+    rw (there, valued, not_below s l x lower_is h.0, low, high) refl
 
-pub counted : IsReversed order → IsTransitive order → (s t : Known) (x : Cell) → s.row_count + 1 < 2 ^ 64 → is_null_cell x ≡ false → may_be_value s ≡ true → IsBetween s.lower s.upper x → t ≡ with_count s → IsCompleteWith s x t
-counted reversed transitive s t x fits there valued between is = λ cells h.
-    subst (λ (k : Known). AreComplete k (cells ++ x ∷ [])) (unchanged s s.lower s.upper x refl refl there valued between ∙ sym is) (observed_complete reversed transitive s cells x fits h)
+counted : IsReversed order → IsTransitive order → (s t : Known) (l u v : KnownBound) (x : Cell) → s.row_count + 1 < 2 ^ 64 → s.lower ≡ Some l → s.upper ≡ Some u → is_null_cell x ≡ false → may_be_value s ≡ true → TakesCell l u v x → t ≡ with_upper s v → IsCompleteWith s x t
+counted reversed transitive s t l u v x fits lower_is upper_is there valued h is = λ cells complete.
+    subst (λ (k : Known). AreComplete k (cells ++ x ∷ [])) (taken s l u v x lower_is upper_is there valued h ∙ sym is) (observed_complete reversed transitive s cells x fits complete)
 
--- ---- a field that changes no bound
+-- ---- a word that is observed in place
 
 some_field : (n : Nullability) (word : List ℕ) (q : Bool) → 0 < length word → is_null_field n (record { text = word; is_quoted = q }) ≡ false
 some_field Nullable word q h = rw (ne_eqb (length word) 0 (λ e. omega (arith, h, e))) refl
@@ -108,28 +110,18 @@ no_null (kinds.Integer k) word c h = ap is_null_content h.2
 no_null kinds.Utf8 word c h = ap is_null_content h.1
 no_null kinds.Binary word c h = ap is_null_content h.2
 
-pub inside_observed : IsReversed order → IsTransitive order → (l : Bool) (column : ColumnType) (word : List ℕ) (q : Bool) (s t : Known) → IsInside column word s → s.row_count + 1 < 2 ^ 64 → t ≡ with_count s → ObservesField l column (record { text = word; is_quoted = q }) s t
-inside_observed reversed transitive l column word q s t h fits is =
-    let content : IsContent column (record { text = word; is_quoted = q }) h.content = rw (some_field column.nullability word q h.some) h.means in
-    (h.content, inl content, counted reversed transitive s t (cell_in column h.content) fits (no_null column.kind word h.content h.means) h.valued h.between is)
+pub word_observed : IsReversed order → IsTransitive order → (column : ColumnType) (word : List ℕ) (s t : Known) (l u v : KnownBound) → 0 < length word → s.row_count + 1 < 2 ^ 64 → s.lower ≡ Some l → s.upper ≡ Some u → may_be_value s ≡ true → TakesWord column word l u v → t ≡ with_upper s v → ObservesWord column word s t
+word_observed reversed transitive column word s t l u v some fits lower_is upper_is valued h is = λ lenient q.
+    let content : IsContent column (record { text = word; is_quoted = q }) h.0 = rw (some_field column.nullability word q some) h.1 in
+    (h.0, inl content, counted reversed transitive s t l u v (cell_in column h.0) fits lower_is upper_is (no_null column.kind word h.0 h.1) valued h.2 is)
 
-pub integer_inside : (k : PType) (column : ColumnType) (word : List ℕ) (s : Known) (l u : KnownBound) → column.kind ≡ kinds.Integer k → s.lower ≡ Some l → s.upper ≡ Some u → 0 < length word → may_be_value s ≡ true → IsIntegerInside k word l u → IsInside column word s
-integer_inside k column word s l u kind lower upper some valued h = record {
-  some = some;
-  valued = valued;
-  content = whole h.0;
-  means = rw kind (h.0, h.1, refl);
-  between = rw (lower, upper, kind) (h.2 column.nullability);
-}
+pub integer_taken : (k : PType) (column : ColumnType) (word : List ℕ) (l u v : KnownBound) → column.kind ≡ kinds.Integer k → TakesInteger k column.nullability word l u v → TakesWord column word l u v
+integer_taken k column word l u v kind h = (whole h.0, rw kind (h.0, h.1, refl), rw kind h.2)
 
-pub text_inside : (column : ColumnType) (word : List ℕ) (s : Known) (l u : KnownBound) → column.kind ≡ kinds.Utf8 → s.lower ≡ Some l → s.upper ≡ Some u → 0 < length word → may_be_value s ≡ true → IsTextInside word l u → IsInside column word s
-text_inside column word s l u kind lower upper some valued h = record {
-  some = some;
-  valued = valued;
-  content = text word;
-  means = rw kind (h.0, refl);
-  between = rw (lower, upper, kind) (h.1 column.nullability);
-}
+pub text_taken : (column : ColumnType) (word : List ℕ) (l u : KnownBound) → column.kind ≡ kinds.Utf8 → IsTextInside word l u → TakesWord column word l u u
+text_taken column word l u kind h =
+    let x : Cell = record { typed = utf8_type column.nullability; content = text word } in
+    (text word, rw kind (h.0, refl), rw kind ((h.1 column.nullability).0, stays order_from_above u x (h.1 column.nullability).1))
 
 -- ---- a field of which a scalar is made
 

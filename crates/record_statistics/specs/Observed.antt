@@ -1,5 +1,5 @@
 -- The statistics of columns and one record more.
-use Rattle.std.specs.Prelude.{◌≡◌, ◌⊎◌, ◌<◌, ℕ, ℤ, List, [], ◌∷◌, Bool, true, Option, Some, IsUtf8, length, map}
+use Rattle.std.specs.Prelude.{◌≡◌, ◌⊎◌, ℕ, ℤ, List, [], ◌∷◌, Bool, true, Option, Some, IsUtf8, map}
 use Rattle.std.specs.List.{AllByRecursion}
 use Rattle.std.specs.declared.cmp.Ordering.{Ordering}
 use Rattle.std.specs.declared.cmp.Ordering.TheVariants.{Equal, Less}
@@ -14,8 +14,8 @@ use Rattle.vortex_dtype.specs.declared.ptype.PType.{PType}
 use Rattle.vortex_pvalue.specs.Whole.{whole_of}
 use Rattle.vortex_pvalue.specs.declared.pvalues.PValue.{PValue}
 use Rattle.vortex_statistics.specs.Cells.{Cell, cell_order, order_from_above}
-use Rattle.vortex_statistics.specs.Observing.{IsCompleteWith}
-use Rattle.vortex_statistics.specs.Statistics.{Known, KnownBound, known, may_be_value}
+use Rattle.vortex_statistics.specs.Observing.{IsCompleteWith, bound_after}
+use Rattle.vortex_statistics.specs.Statistics.{Known, KnownBound, known}
 use Rattle.vortex_statistics.specs.declared.column_statistics.ColumnStatistics.{ColumnStatistics}
 use Rattle.vortex_value.specs.Values.Content.{Content, null, text, whole}
 
@@ -62,35 +62,35 @@ AreObserved delimiter lenient columns bytes old new = (fields : List Field) × (
 abbrev pub IsObserved : ℕ → Bool → List ColumnType → List ℕ → List ColumnStatistics → List ColumnStatistics → Type 0
 IsObserved delimiter lenient columns line old new = (fields : List Field) × (rows_of delimiter line ≡ fields ∷ []) × AreFieldsObserved lenient columns fields old new
 
--- ---- values that change no bound
+-- ---- words that are observed in place
 
 -- the cell compares with the bound and is not past it in this order; it is equal to it only if it is exact
 abbrev pub Keeps : (Cell → Cell → Option Ordering) → KnownBound → Cell → Type 0
 Keeps cmp b x = (cmp b.value x ≡ Some Less) ⊎ ((cmp b.value x ≡ Some Equal) × (b.is_exact ≡ true))
 
-abbrev pub KeepsBoth : KnownBound → KnownBound → Cell → Type 0
-KeepsBoth lower upper x = Keeps cell_order lower x × Keeps order_from_above upper x
+-- the cell keeps the lower bound, and new is the upper bound after it
+abbrev pub TakesCell : KnownBound → KnownBound → KnownBound → Cell → Type 0
+TakesCell lower old new x = Keeps cell_order lower x × (bound_after order_from_above (Some old) x ≡ Some new)
 
--- the word is a number of the type, between the bounds
-abbrev pub IsIntegerInside : PType → List ℕ → KnownBound → KnownBound → Type 0
-IsIntegerInside ptype word lower upper = (z : ℤ) × IsIntegerWord ptype word z × ((n : Nullability) → KeepsBoth lower upper (record { typed = integer_type ptype n; content = whole z }))
+-- the word has a meaning in the column; its cell keeps the lower bound, and new is the upper bound after it
+abbrev pub TakesWord : ColumnType → List ℕ → KnownBound → KnownBound → KnownBound → Type 0
+TakesWord column word lower old new = (c : Content) × Means column.kind word c × TakesCell lower old new (cell_in column c)
 
--- the word is a string, between the bounds
+-- the same for a number of the type
+abbrev pub TakesInteger : PType → Nullability → List ℕ → KnownBound → KnownBound → KnownBound → Type 0
+TakesInteger ptype n word lower old new = (z : ℤ) × IsIntegerWord ptype word z × TakesCell lower old new (record { typed = integer_type ptype n; content = whole z })
+
+-- new is the upper bound after a number
+abbrev pub RaisesTo : PValue → PType → Nullability → KnownBound → KnownBound → Type 0
+RaisesTo number ptype n old new = bound_after order_from_above (Some old) (record { typed = integer_type ptype n; content = whole (whole_of number) }) ≡ Some new
+
+-- the word is a string, and keeps both bounds
 abbrev pub IsTextInside : List ℕ → KnownBound → KnownBound → Type 0
-IsTextInside word lower upper = IsUtf8 word × ((n : Nullability) → KeepsBoth lower upper (record { typed = utf8_type n; content = text word }))
+IsTextInside word lower upper = IsUtf8 word × ((n : Nullability) → let x : Cell = record { typed = utf8_type n; content = text word } in Keeps cell_order lower x × Keeps order_from_above upper x)
 
--- there are both bounds, and the cell is between them
-abbrev pub IsBetween : Option KnownBound → Option KnownBound → Cell → Type 0
-IsBetween (Some lower) (Some upper) x = KeepsBoth lower upper x
-IsBetween _ _ x = ⊥
-
--- the word has bytes and a meaning in the column, and its cell changes no bound
-pub record IsInside (column : ColumnType) (word : List ℕ) (s : Known) : Type 0 where
-  pub some : 0 < length word
-  pub valued : may_be_value s ≡ true
-  pub content : Content
-  pub means : Means column.kind word content
-  pub between : IsBetween s.lower s.upper (cell_in column content)
+-- t is complete for the cells of s and that of the word, in quotes or not
+abbrev pub ObservesWord : ColumnType → List ℕ → Known → Known → Type 0
+ObservesWord column word s t = (lenient is_quoted : Bool) → ObservesField lenient column (record { text = word; is_quoted = is_quoted }) s t
 
 -- the bound is this number of the type
 abbrev pub IsNumberBound : PType → PValue → KnownBound → Type 0

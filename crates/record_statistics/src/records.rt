@@ -4,13 +4,12 @@ ghost use Rattle.std.specs.Prelude.{◌≡◌, [], IfErr, IfOk, MatchBool, OnOk,
 ghost use Rattle.csv_records.specs.Rows.{rows_of};
 ghost use Rattle.record_statistics.specs.Words.{AreObserved, IsObserved, ObservesField, Refuses, RefusesFields, RefusesWord, known};
 
-use crate::inside::is_inside;
+use crate::in_place::observe_in_place;
 use csv_records::{CutField, Delimiter, Follows, cut_field, row_start};
 use record_rows::{ColumnType, RowFault, take_field};
 use std::alloc::Global;
 use vortex_statistics::ColumnStatistics;
 use vortex_value::ScalarRef;
-use vortex_value::laws::{order_is_reversed, order_is_transitive};
 
 /// Observes the row of a record, each cell by the statistics of its column, and says whether it has
 /// one. After a refusal some cells may have been observed.
@@ -108,12 +107,7 @@ fn observe_field(
     ensures refused { IfErr result (RefusesWord is_lenient column place
         (record { text = word.now; is_quoted = is_quoted })) }
 {
-    order_is_reversed();
-    order_is_transitive();
-    if is_inside(column, word, statistics)
-        && let Some(count) = statistics.row_count.checked_add(1)
-    {
-        statistics.row_count = count;
+    if observe_in_place(column, word, statistics) {
         return Ok(());
     }
     let cell = take_field(alloc, is_lenient, column, place, word, is_quoted)?;
