@@ -58,9 +58,8 @@ fn take_word(column: ColumnType, word: &[u8], lower: &Bound, upper: &mut Bound) 
     }
 }
 
-/// Takes a word into the upper bound, if it is an integer that does not change the lower one. In a
-/// file where a number grows with each record, an index takes a third fewer instructions so: 2,380 a
-/// record in place of 3,560.
+/// Takes a word into the upper bound, if it is an integer that does not change the lower one. An index
+/// of a file where a number grows with each record takes a third fewer instructions so.
 fn take_integer(
     ptype: PType,
     nullability: Nullability,

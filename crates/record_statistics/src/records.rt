@@ -116,7 +116,7 @@ fn observe_field(
 }
 
 /// Observes the cell of a field by a scalar of it. Fields that are observed in place so clear no room
-/// for one, and take twelve instructions less.
+/// for one, which takes 2 % of the instructions of an index.
 #[inline(never)]
 fn observe_scalar(
     alloc: Global,
