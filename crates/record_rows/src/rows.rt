@@ -63,10 +63,10 @@ pub fn read_row(
     read_cells(alloc, delimiter, is_lenient, columns, &[], line, row)
 }
 
-/// The same, if only some cells are wanted: those of the columns at whose place the list has no
-/// `false`. The fields of the other columns are tested and refused alike, and scalars without
-/// meaning stand in place of their cells. So these take no memory. The row of another record may be
-/// given: its scalars then stand there, and cost nothing.
+/// Reads those cells of the row of a record that are wanted: those of the columns at whose place the
+/// list has no `false`. `None` if it has no row. The fields of the other columns are tested and
+/// refused alike, and scalars without meaning stand in place of their cells, so these take no memory.
+/// The row of another record may be given: its scalars then stand there, and cost nothing.
 pub fn read_cells(
     alloc: Global,
     delimiter: Delimiter,

@@ -12,8 +12,8 @@ use vortex_statistics::{Bound, ColumnStatistics};
 use vortex_value::ScalarValue;
 use vortex_value::laws::{order_is_reversed, order_is_transitive};
 
-/// Observes the cell of a word without a scalar of it, and says whether it did. It does for a value
-/// within both bounds, and for an integer above them. Else nothing has changed.
+/// Observes the cell of a word without a scalar of it, and says whether it did. It tries so with a
+/// value within both bounds, and with an integer above them. Else nothing has changed.
 pub(crate) fn observe_in_place(
     column: ColumnType,
     word: &[u8],
