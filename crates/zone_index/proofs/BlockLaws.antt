@@ -1,5 +1,5 @@
 -- The laws of blocks: what is read has pieces, and what was written is read.
-use Rattle.std.proofs.Common.{◌≡◌, ℕ, zero, suc, ◌^◌, ◌<◌, ◌+◌, drop, Bool, true, false, cond, eqb, List, [], ◌∷◌, ◌++◌, length, map, Result, Ok, Err, refl, sym, ap, ap₂, subst, ◌∙◌, append_assoc, arith}
+use Rattle.std.proofs.Common.{◌≡◌, ℕ, zero, suc, ◌^◌, ◌<◌, drop, Bool, true, false, cond, eqb, List, [], ◌∷◌, ◌++◌, length, map, Result, Ok, Err, refl, sym, ap, ap₂, subst, ◌∙◌, append_assoc, arith}
 use Rattle.std.specs.List.{flat_map, concat, AllByRecursion}
 use Rattle.std.specs.Prelude.{IfOk, slice_index_or}
 use Rattle.std.specs.Str.{bytes_eq}
@@ -10,15 +10,11 @@ use Rattle.std.proofs.lemmas.Slice.Eq.{bytes_eq-Decides}
 use Rattle.sha2.specs.Sha256.{sha256}
 use Rattle.zone_index.specs.declared.form.FormFault.{FormFault}
 use Rattle.zone_index.specs.declared.form.FormFault.TheVariants.{Damaged, Trailing}
-use Rattle.zone_index.specs.Form.{AddBlocks, AddsBlock, AreDealt, ArePieces, BlockValue, HavePieces, IndexValue, RootValue, ZoneValue, block_of, blocks_of, bytes_form, dealt, index_value, is_wanted, root_of, wanted_of, wanted_pieces, wanted_zones, with_statistics, with_unread, without_statistics, zone_values}
+use Rattle.zone_index.specs.Form.{AddBlocks, AddsBlock, AreDealt, BlockValue, HavePieces, IndexValue, RootValue, ZoneValue, block_of, blocks_of, bytes_form, dealt, index_value, is_wanted, root_of, wanted_of, wanted_pieces, wanted_zones, with_statistics, with_unread, without_statistics, zone_values}
 use Rattle.zone_index.specs.FormReading.{◌>>=◌, Gives, added_at, blocks_at, dealt_at, front_at, index_at, piece_at}
 use Rattle.zone_index.specs.declared.form.Index.{Index}
 use Rattle.zone_index.specs.declared.form.ReadError.{ReadError}
-use Rattle.zone_index.proofs.FieldLaws.{IsBytes, bind_ok, ok_is, piece_again, piece_takes, front_again, front_takes}
-
-guard_ended : {A : Type 0} (b : Bool) (d : FormFault) (x y : A) → cond b (Ok x) (Err d) ≡ Ok y → (b ≡ true) × (x ≡ y)
-guard_ended true d x y e = (refl, cc)
-guard_ended false d x y e = absurd cc
+use Rattle.zone_index.proofs.FieldLaws.{IsBytes, bind_ok, guard_met, ok_is, piece_again, piece_takes, front_again, front_takes}
 
 -- ---- pieces that are dealt
 
@@ -38,7 +34,7 @@ pub dealt_takes : {A : Type 0} (give : A → List ℕ → A) (xs : List A) (byte
 unfolding dealt_at
 dealt_takes {A} give [] bytes ys fits e =
     let none : List A = [] in
-    let g = guard_ended (eqb (length bytes) 0) Trailing none ys e in
+    let g = guard_met (eqb (length bytes) 0) Trailing none ys e in
     record { pieces = []; count = refl; is = nil_from_length bytes (eqb-true _ _ g.0); fit = tt; given = sym g.1 }
 dealt_takes {A} give (x ∷ xs) bytes ys fits e =
     let a = bind_ok (piece_at bytes) (λ piece. dealt_at give xs piece.1 >>= λ others. Ok (give x piece.0 ∷ others)) ys e in
@@ -72,7 +68,7 @@ added_found true unread b zs ys block fits e =
 pub blocks_found : (wanted : List Bool) (unread : ℕ → List ℕ) (k : ℕ) (bs : List BlockValue) (zs ys : List ZoneValue) (bytes : List ℕ) → IsBytes bytes → blocks_at wanted unread k bs zs bytes ≡ Ok ys → AddBlocks wanted unread k bs bytes zs ys
 unfolding blocks_at
 blocks_found wanted unread k [] zs ys bytes fits e =
-    let g = guard_ended (eqb (length bytes) 0) Trailing zs ys e in
+    let g = guard_met (eqb (length bytes) 0) Trailing zs ys e in
     (nil_from_length bytes (eqb-true _ _ g.0), sym g.1)
 blocks_found wanted unread k (b ∷ bs) zs ys bytes fits e =
     let a = bind_ok (front_at b.length bytes) (λ block. added_at (is_wanted wanted k) unread b zs block.0 >>= λ more. blocks_at wanted unread (suc k) bs more block.1) ys e in

@@ -1,5 +1,5 @@
 -- A field that is read is the field that was written, and what was written is read again.
-use Rattle.std.proofs.Common.{◌≡◌, ℕ, suc, ◌+◌, ◌-◌, ◌^◌, ◌<◌, ◌≤◌, Bool, true, false, cond, eqb, ltb, List, ◌∷◌, ◌++◌, length, get_or, take, drop, Result, Ok, Err, refl, sym, ap, subst, ◌∙◌, append_assoc, arith, inl, inr}
+use Rattle.std.proofs.Common.{◌≡◌, ℕ, suc, ◌+◌, ◌^◌, ◌<◌, ◌≤◌, Bool, true, false, cond, eqb, ltb, List, ◌∷◌, ◌++◌, length, get_or, take, drop, Result, Ok, Err, refl, sym, ap, subst, ◌∙◌, append_assoc, arith, inl, inr}
 use Rattle.std.specs.Int.{Width, w32, w64, byte_len, from_le_bytes, to_le_bytes}
 use Rattle.std.specs.Str.{bytes_eq}
 use Rattle.std.proofs.lemmas.Slice.Eq.{bytes_eq-Decides}
@@ -98,14 +98,15 @@ IsBytes-rest b bytes h i = h (suc i)
 
 -- ---- known numbers
 
-guard_known : {A : Type 0} (b : Bool) (d : FormFault) (x y : A) → cond b (Ok x) (Err d) ≡ Ok y → (b ≡ true) × (x ≡ y)
-guard_known true d x y e = (refl, cc)
-guard_known false d x y e = absurd cc
+-- a test that was met
+pub guard_met : {A : Type 0} (b : Bool) (d : FormFault) (x y : A) → cond b (Ok x) (Err d) ≡ Ok y → (b ≡ true) × (x ≡ y)
+guard_met true d x y e = (refl, cc)
+guard_met false d x y e = absurd cc
 
 pub known_takes : (fault : FormFault) (n : ℕ) (bytes rest : List ℕ) → IsBytes bytes → known_at fault n bytes ≡ Ok rest → Takes bytes (to_le_bytes w32 n) rest
 known_takes fault n bytes rest fits e =
     let a = bind_ok (number_at w32 bytes) (λ x. cond (eqb x.0 n) (Ok x.1) (Err fault)) rest e in
-    let g = guard_known (eqb a.0.0 n) fault a.0.1 rest a.2 in
+    let g = guard_met (eqb a.0.0 n) fault a.0.1 rest a.2 in
     let t = number_takes w32 (2 ^ 32) wide32 bytes a.0.0 a.0.1 fits a.1 in
     subst (λ (r : List ℕ). Takes bytes (to_le_bytes w32 n) r) g.1 (subst (λ (k : ℕ). Takes bytes (to_le_bytes w32 k) a.0.1) (eqb-true _ _ g.0) t.0)
 
@@ -203,7 +204,7 @@ unfolding signed_at
 signed_takes bytes content rest fits e =
     let a = bind_ok (bytes_at bytes) (λ c. front_at 32 c.1 >>= λ d. checked c.0 d) (content, rest) e in
     let b = bind_ok (front_at 32 a.0.1) (λ d. checked a.0.0 d) (content, rest) a.2 in
-    let g = guard_known (bytes_eq (sha256 a.0.0) b.0.0) Damaged (a.0.0, b.0.1) (content, rest) b.2 in
+    let g = guard_met (bytes_eq (sha256 a.0.0) b.0.0) Damaged (a.0.0, b.0.1) (content, rest) b.2 in
     let same : sha256 a.0.0 ≡ b.0.0 = (bytes_eq-Decides (sha256 a.0.0) b.0.0).0 g.0 in
     let t = bytes_takes bytes a.0.0 a.0.1 fits a.1 in
     let u = front_takes 32 a.0.1 b.0.0 b.0.1 t.0.rest_fits b.1 in

@@ -1,5 +1,5 @@
 -- The two laws of a root: what is read has this form, and what has it is read.
-use Rattle.std.proofs.Common.{◌≡◌, ℕ, zero, suc, ◌^◌, ◌<◌, drop, Bool, true, false, cond, eqb, List, [], ◌∷◌, ◌++◌, length, map, Result, Ok, Err, refl, sym, ap, subst, ◌∙◌, append_assoc, lit<, Bor}
+use Rattle.std.proofs.Common.{◌≡◌, ℕ, zero, suc, ◌^◌, ◌<◌, cond, eqb, List, [], ◌∷◌, ◌++◌, length, map, Result, Ok, Err, refl, sym, ap, subst, ◌∙◌, append_assoc, lit<, Bor}
 use Rattle.std.specs.Prelude.{IfErr, IfOk}
 use Rattle.std.specs.List.{flat_map, concat, AllByRecursion}
 use Rattle.std.specs.Int.{w32, w64, to_le_bytes}
@@ -16,11 +16,7 @@ use Rattle.zone_index.specs.declared.form.ReadError.{ReadError}
 use Rattle.zone_index.specs.declared.form.ReadError.TheVariants as errors
 use Rattle.zone_index.specs.declared.form.Root.{Root}
 use Rattle.zone_index.specs.FormReading.{◌>>=◌, Gives, block_at, bytes_at, content_at, counted_at, file_at, front_at, known_at, many_at, number_at, root_at, signed_at, zone_at}
-use Rattle.zone_index.proofs.FieldLaws.{IsBytes, bind_ok, not_both, ok_is, Takes, Takes-then, wide64, number_takes, number_again, known_takes, known_again, bytes_takes, bytes_again, front_takes, front_again, signed_takes, signed_again}
-
-guard_ended : {A : Type 0} (b : Bool) (d : FormFault) (x y : A) → cond b (Ok x) (Err d) ≡ Ok y → (b ≡ true) × (x ≡ y)
-guard_ended true d x y e = (refl, cc)
-guard_ended false d x y e = absurd cc
+use Rattle.zone_index.proofs.FieldLaws.{IsBytes, bind_ok, guard_met, not_both, ok_is, Takes, Takes-then, wide64, number_takes, number_again, known_takes, known_again, bytes_takes, bytes_again, front_takes, front_again, signed_takes, signed_again}
 
 -- ---- a zone, and a block
 
@@ -172,7 +168,7 @@ content_takes bytes x fits e =
     let a = bind_ok (file_at bytes) (λ f. counted_at zone_at f.1 >>= λ z. counted_at block_at z.1 >>= λ y. ended (made f.0 z.0 y.0) y.1) x e in
     let z = bind_ok (counted_at zone_at a.0.1) (λ z. counted_at block_at z.1 >>= λ y. ended (made a.0.0 z.0 y.0) y.1) x a.2 in
     let q = bind_ok (counted_at block_at z.0.1) (λ y. ended (made a.0.0 z.0.0 y.0) y.1) x z.2 in
-    let g = guard_ended (eqb (length q.0.1) 0) Trailing (made a.0.0 z.0.0 q.0.0) x q.2 in
+    let g = guard_met (eqb (length q.0.1) 0) Trailing (made a.0.0 z.0.0 q.0.0) x q.2 in
     let t0 = file_takes bytes a.0 fits a.1 in
     let t1 = counted_takes zone_at zone_form zone_takes a.0.1 z.0 t0.rest_fits z.1 in
     let t2 = counted_takes block_at block_form block_takes z.0.1 q.0 t1.rest_fits q.1 in

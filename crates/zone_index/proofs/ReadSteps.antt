@@ -7,7 +7,7 @@ use Rattle.zone_index.specs.declared.form.ReadError.TheVariants as errors
 use Rattle.zone_index.specs.FormReading.{◌>>=◌, Fails, added_at, blocks_at, dealt_at, front_at, many_at, piece_at}
 use Rattle.zone_index.specs.declared.form.Block.{Block}
 use Rattle.zone_index.specs.declared.form.FormFault.TheVariants.{Trailing}
-use Rattle.zone_index.specs.Form.{BlockValue, ZoneValue, block_value, is_wanted}
+use Rattle.zone_index.specs.Form.{ZoneValue, block_value, is_wanted}
 
 -- what was read before, and what is still read
 abbrev pub with_front : {A : Type 0} → List A → Result (List A × List ℕ) FormFault → Result (List A × List ℕ) FormFault

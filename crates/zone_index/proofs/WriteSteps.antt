@@ -1,5 +1,5 @@
 -- What is written part by part is written whole.
-use Rattle.std.proofs.Common.{◌≡◌, ◌<◌, ◌+◌, ◌^◌, ℕ, zero, suc, List, [], ◌∷◌, ◌++◌, ap, ap₂, sym, refl, subst, ◌∙◌, length, map, take, drop, take_all, get_or, add-one, append_assoc, append-nil, ◌≤◌, arith, Result, Ok, Err}
+use Rattle.std.proofs.Common.{◌≡◌, ◌<◌, ◌+◌, ◌^◌, ℕ, zero, suc, List, [], ◌∷◌, ◌++◌, ap, ap₂, sym, refl, subst, ◌∙◌, length, map, take, drop, take_all, get_or, add-one, append_assoc, append-nil, ◌≤◌, arith, Ok, Err}
 use Rattle.std.specs.Prelude.{slice_index_or}
 use Rattle.std.proofs.lemmas.Grind.{flat_map-append, take_at_read}
 use Rattle.std.proofs.lemmas.List.{length-map, map-append}

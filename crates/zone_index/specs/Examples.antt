@@ -1,5 +1,5 @@
 -- Worked cases of the definitions, each a theorem.
-use Rattle.std.specs.Prelude.{◌≡◌, ℕ, List, [], ◌∷◌, Bool, true, false, codes, refl}
+use Rattle.std.specs.Prelude.{◌≡◌, codes, refl}
 use Rattle.std.specs.Str.{bytes_eq}
 use Rattle.zone_index.specs.Records.{kept_of}
 use Rattle.zone_index.specs.Zones.{way_by}

@@ -1,7 +1,5 @@
 -- What was dealt and what is still dealt are what all gives.
-use Rattle.std.proofs.Common.{◌≡◌, take, drop}
-use Rattle.zone_index.specs.Form.{with_statistics, zone_value, zone_values}
-use Rattle.zone_index.specs.FormReading.{dealt_at}
+use Rattle.zone_index.specs.Form.{with_statistics, zone_value}
 use Rattle.zone_index.proofs.ReadSteps.{IsDealtSoFar}
 use Rattle.zone_index.proofs.blocks.add_pieces.Given as goal
 

@@ -1,7 +1,6 @@
 -- The two laws, of what was read.
-use Rattle.std.proofs.Common.{◌∙◌, ap, arith}
-use Rattle.zone_index.specs.FormReading.{root_at}
-use Rattle.zone_index.proofs.FormLaws.{form_again, is_found, is_read, memory_alone}
+use Rattle.std.proofs.Common.{arith}
+use Rattle.zone_index.proofs.FormLaws.{is_found, is_read, memory_alone}
 use Rattle.zone_index.proofs.reading.read_root.Goals as goal
 
 pub returns-clause-found : goal.returns-clause-found

@@ -1,5 +1,4 @@
 -- One more, the first fault, and all of them.
-use Rattle.std.proofs.Common.{map}
 use Rattle.std.proofs.lemmas.Result.{err_from_is_err_and}
 use Rattle.zone_index.specs.Form.{zone_value, zone_values}
 use Rattle.zone_index.specs.FormReading.{many_at, zone_at}

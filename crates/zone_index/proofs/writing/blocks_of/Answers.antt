@@ -1,5 +1,5 @@
 -- A zone more, and one whose statistics are no pieces.
-use Rattle.std.proofs.Common.{◌≡◌, ◌∙◌, ◌+◌, ℕ, List, Vec, Err, ap, arith, length, map, rules, subst, sym, take}
+use Rattle.std.proofs.Common.{◌≡◌, ◌+◌, ℕ, List, Vec, Err, ap, arith, length, map, rules, subst, sym, take}
 use Rattle.std.specs.Global.{Global}
 use Rattle.zone_index.specs.Form.{AreDealt, zone_value, zone_values}
 use Rattle.zone_index.specs.FormReading.{dealt_at}

@@ -1,5 +1,5 @@
 -- A piece more, the first fault, and nothing but pieces.
-use Rattle.std.proofs.Common.{List, ℕ, ◌++◌, ap, arith}
+use Rattle.std.proofs.Common.{ℕ, arith}
 use Rattle.std.proofs.lemmas.Result.{err_from_is_err_and}
 use Rattle.zone_index.proofs.WriteSteps.{append}
 use Rattle.zone_index.proofs.ReadSteps.{dealt_begins, dealt_done, dealt_fails, dealt_more, dealt_trails}

@@ -1,5 +1,5 @@
 -- A block more, and all of them.
-use Rattle.std.proofs.Common.{◌≡◌, ◌++◌, ℕ, List, Vec, ◌∙◌, ap, arith, map, rules}
+use Rattle.std.proofs.Common.{◌++◌, ℕ, List, Vec, ◌∙◌, ap, rules}
 use Rattle.std.specs.Global.{Global}
 use Rattle.std.specs.List.{concat}
 use Rattle.zone_index.proofs.WriteSteps.{all_taken, joined_more, taken_more}

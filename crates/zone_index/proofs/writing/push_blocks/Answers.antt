@@ -1,5 +1,5 @@
 -- A block more, and all of them.
-use Rattle.std.proofs.Common.{◌≡◌, ◌++◌, ◌<◌, ◌^◌, ℕ, List, Vec, ◌∙◌, ap, arith, length, map, rules, subst}
+use Rattle.std.proofs.Common.{◌++◌, ◌<◌, ◌^◌, ℕ, List, Vec, ◌∙◌, ap, length, map, rules, subst}
 use Rattle.std.specs.Global.{Global}
 use Rattle.std.specs.List.{flat_map, AllByRecursion}
 use Rattle.zone_index.specs.Form.{block_form, block_of}

@@ -1,7 +1,7 @@
 -- A zone more, and all of them.
-use Rattle.std.proofs.Common.{◌≡◌, ◌++◌, ℕ, List, ◌∙◌, ap, arith, map, rules, subst}
+use Rattle.std.proofs.Common.{◌++◌, List, ◌∙◌, ap, rules, subst}
 use Rattle.std.specs.List.{flat_map, AllByRecursion}
-use Rattle.zone_index.specs.Form.{FitsZone, ZoneValue, zone_form, zone_value, zone_values}
+use Rattle.zone_index.specs.Form.{FitsZone, ZoneValue, zone_form, zone_value}
 use Rattle.zone_index.proofs.WriteSteps.{all_more, all_taken, form_more, taken_more}
 use Rattle.zone_index.proofs.writing.push_zones.Goals as goal
 
