@@ -79,42 +79,45 @@ pub struct RowKeys {
 pub fn row_keys(columns: &[Column<'_>], options: &[SortOptions]) -> Result<RowKeys, RowsError> {
     let raws = RawColumns::of(columns);
     let options = option_bytes(options);
+    let rows = columns.first().map_or(0, Column::len);
     let mut fault = raw::Fault::default();
-    let (rows, length) = likely_room(columns);
-    let mut keys = RowKeys {
-        offsets: vec![0; rows + 1],
-        bytes: vec![0; length],
-    };
+    let (places, length) = likely_room(columns);
+    let mut offsets = Vec::<u64>::with_capacity(places + 1);
+    let mut bytes = Vec::<u8>::with_capacity(length);
     loop {
         let mut count = 0;
-        // SAFETY: each pointer and length are of one slice; the rooms, `count` and `fault` are places of their own.
+        // SAFETY: each pointer and length are of one slice, or of what a vector has room for. `count` and `fault` are places of
+        // their own.
         let status = unsafe {
             raw::doqallin_row_keys(
                 raws.columns.as_ptr(),
                 raws.columns.len(),
                 options.as_ptr(),
                 options.len(),
-                keys.offsets.as_mut_ptr(),
-                keys.offsets.len(),
-                keys.bytes.as_mut_ptr(),
-                keys.bytes.len(),
+                offsets.as_mut_ptr(),
+                offsets.capacity(),
+                bytes.as_mut_ptr(),
+                bytes.capacity(),
                 &mut count,
                 &mut fault,
             )
         };
         match status {
             raw::GIVEN => {
-                keys.bytes.truncate(count);
-                keys.bytes.shrink_to_fit();
-                return Ok(keys);
+                // SAFETY: the call has written one offset more than there are rows, and so many bytes. It reads neither room.
+                unsafe {
+                    offsets.set_len(rows + 1);
+                    bytes.set_len(count);
+                }
+                bytes.shrink_to_fit();
+                return Ok(RowKeys { offsets, bytes });
             }
             raw::NO_ROOM => {
-                let rows = columns.first().map_or(0, Column::len);
                 let Some(places) = rows.checked_add(1) else {
                     out_of_memory(rows)
                 };
-                keys.offsets = vec![0; places];
-                keys.bytes = vec![0; count];
+                offsets = Vec::with_capacity(places);
+                bytes = Vec::with_capacity(count);
             }
             other => return Err(RowsError::of(other, &fault)),
         }
