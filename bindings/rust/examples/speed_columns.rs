@@ -265,20 +265,25 @@ fn compare(name: &str, aim: f64, ours: f64, plain: f64) {
 
 /// The first eight bytes of a key as a number, which compares as they do.
 fn beginning(key: &[u8]) -> u64 {
+    if let Some(bytes) = key.first_chunk() {
+        return u64::from_be_bytes(*bytes);
+    }
     let mut bytes = [0; 8];
-    let length = key.len().min(8);
-    bytes[..length].copy_from_slice(&key[..length]);
+    bytes[..key.len()].copy_from_slice(key);
     u64::from_be_bytes(bytes)
 }
 
-/// The rows sorted by their keys. Most are told apart by their first eight bytes.
+/// The rows sorted by their keys. Most are told apart by their first eight bytes, which stand before the row in one number. Rows
+/// whose keys begin alike are then sorted by their keys.
 fn sorted_by_keys(keys: &RowKeys) -> Vec<usize> {
-    let mut rows: Vec<(u64, usize)> = keys.iter().map(beginning).zip(0..).collect();
-    rows.sort_unstable_by(|x, y| {
-        x.0.cmp(&y.0)
-            .then_with(|| keys.get(x.1).cmp(&keys.get(y.1)))
-    });
-    rows.into_iter().map(|(_, row)| row).collect()
+    let row_of = |number: &u128| *number as u64 as usize;
+    let number = |(key, row): (&[u8], u128)| u128::from(beginning(key)) << 64 | row;
+    let mut numbers: Vec<u128> = keys.iter().zip(0..).map(number).collect();
+    numbers.sort_unstable();
+    for alike in numbers.chunk_by_mut(|x, y| x >> 64 == y >> 64) {
+        alike.sort_unstable_by(|x, y| keys.get(row_of(x)).cmp(&keys.get(row_of(y))));
+    }
+    numbers.iter().map(row_of).collect()
 }
 
 /// Sorting the rows of two columns by their keys, beside sorting them by comparing their values.
