@@ -273,17 +273,15 @@ fn beginning(key: &[u8]) -> u64 {
     u64::from_be_bytes(bytes)
 }
 
-/// The rows sorted by their keys. Most are told apart by their first eight bytes, which stand before the row in one number. Rows
-/// whose keys begin alike are then sorted by their keys.
+/// The rows sorted by their keys. Most are told apart by their first eight bytes. Rows whose keys begin alike are then sorted by
+/// their keys.
 fn sorted_by_keys(keys: &RowKeys) -> Vec<usize> {
-    let row_of = |number: &u128| *number as u64 as usize;
-    let number = |(key, row): (&[u8], u128)| u128::from(beginning(key)) << 64 | row;
-    let mut numbers: Vec<u128> = keys.iter().zip(0..).map(number).collect();
-    numbers.sort_unstable();
-    for alike in numbers.chunk_by_mut(|x, y| x >> 64 == y >> 64) {
-        alike.sort_unstable_by(|x, y| keys.get(row_of(x)).cmp(&keys.get(row_of(y))));
+    let mut rows: Vec<(u64, usize)> = keys.iter().map(beginning).zip(0..).collect();
+    rows.sort_unstable_by_key(|row| row.0);
+    for alike in rows.chunk_by_mut(|x, y| x.0 == y.0) {
+        alike.sort_unstable_by(|x, y| keys.get(x.1).cmp(&keys.get(y.1)));
     }
-    numbers.iter().map(row_of).collect()
+    rows.into_iter().map(|row| row.1).collect()
 }
 
 /// Sorting the rows of two columns by their keys, beside sorting them by comparing their values.

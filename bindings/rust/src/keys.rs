@@ -109,7 +109,10 @@ pub fn row_keys(columns: &[Column<'_>], options: &[SortOptions]) -> Result<RowKe
                     offsets.set_len(rows + 1);
                     bytes.set_len(count);
                 }
-                bytes.shrink_to_fit();
+                // To give back a part of a large room takes a sixth of the time of the call.
+                if count < bytes.capacity() / 2 {
+                    bytes.shrink_to_fit();
+                }
                 return Ok(RowKeys { offsets, bytes });
             }
             raw::NO_ROOM => {
