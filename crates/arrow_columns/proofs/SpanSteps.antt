@@ -1,8 +1,9 @@
 -- Values told apart by the numbers of their first bytes.
-use Rattle.std.proofs.Common.{◌≡◌, ◌∙◌, ◌==◌, ℕ, zero, suc, ◌+◌, ◌-◌, ◌*◌, ◌%◌, ◌^◌, ◌<◌, ◌≤◌, ◌⊎◌, inl, inr, Bool, true, false, List, [], ◌∷◌, ◌++◌, add-zero, ap, arith, drop, length, nat_cmp, Option, Some, Less, Equal, Greater, refl, slice_index, slice_range, subst, sym, take}
+use Rattle.std.proofs.Common.{◌≡◌, ◌∙◌, ◌==◌, ℕ, zero, suc, ◌+◌, ◌-◌, ◌*◌, ◌%◌, ◌^◌, ◌<◌, ◌≤◌, ◌⊎◌, ◌&&◌, inl, inr, Bool, true, false, List, [], ◌∷◌, ◌++◌, add-zero, ap, arith, drop, length, nat_cmp, Option, Some, Less, Equal, Greater, refl, slice_index, slice_range, subst, sym, take}
+use Rattle.std.proofs.Math.Dec.{ltb}
 use Rattle.std.proofs.Math.Nat.{mul-le-mul_right}
 use Rattle.std.proofs.Math.Seq.{take-add}
-use Rattle.std.proofs.lemmas.Bool.{eqb-true}
+use Rattle.std.proofs.lemmas.Bool.{eqb-true, ltb-true}
 use Rattle.std.proofs.lemmas.Cmp.{nat_list_cmp_total}
 use Rattle.std.proofs.lemmas.List.{drop-drop, drop-take, get_or-drop, length-take}
 use Rattle.std.proofs.lemmas.Nat.{and_mask, mod-mul-add, pow-add}
@@ -102,6 +103,29 @@ pub above_by_word : (s v w : ℕ) (x y : List ℕ) → AreBytes x → take s x �
 above_by_word s v w x y b e p q h =
     let back : slice_cmp nat_cmp x y ≡ Greater = nat_list_cmp_total.antisymm x y ∙ ap ordering_reverse (told s 8 y x b (sym e) (omega (arith, p, q, h))) in
     sym (ap is_lt back)
+
+below_told : (s v w : ℕ) (x y : List ℕ) → AreBytes y → take s x ≡ take s y → v ≡ beginning 8 (drop s x) → w ≡ beginning 8 (drop s y) → ltb v w ≡ true → NotAbove x y
+below_told s v w x y b e p q h =
+    let less : v < w = ltb-true v w h in
+    let is : slice_cmp nat_cmp x y ≡ Less = told s 8 x y b e (omega (arith, p, q, less)) in
+    λ g. cc
+
+both_true : (a b : Bool) (P : Type 0) → (a ≡ true → P) → OnTrue (a && b) P
+both_true true true P h = h refl
+both_true true false P h = tt
+both_true false b P h = tt
+
+last_true : (a b : Bool) (P : Type 0) → (b ≡ true → P) → OnTrue (a && b) P
+last_true true true P h = h refl
+last_true true false P h = tt
+last_true false b P h = tt
+
+-- what two such tests tell
+pub low_told : (s v w : ℕ) (other : Bool) (x y : List ℕ) → AreBytes y → take s x ≡ take s y → v ≡ beginning 8 (drop s x) → w ≡ beginning 8 (drop s y) → OnTrue (ltb v w && other) (NotAbove x y)
+low_told s v w other x y b e p q = both_true (ltb v w) other (NotAbove x y) (below_told s v w x y b e p q)
+
+pub high_told : (s v w : ℕ) (other : Bool) (x y : List ℕ) → AreBytes y → take s x ≡ take s y → v ≡ beginning 8 (drop s x) → w ≡ beginning 8 (drop s y) → OnTrue (other && ltb v w) (NotAbove x y)
+high_told s v w other x y b e p q = last_true other (ltb v w) (NotAbove x y) (below_told s v w x y b e p q)
 
 -- equal numbers are of equal bytes
 same_bytes : (n : ℕ) (xs ys : List ℕ) → AreBytes xs → AreBytes ys → n ≤ length xs → n ≤ length ys → beginning n xs ≡ beginning n ys → take n xs ≡ take n ys

@@ -25,6 +25,29 @@ pub fn statistics_of_byte_rows<const N: usize, T: Offset<N>>(
     ensures { let value = bytes_between bytes.now (λ i. offset_of T.width (slice_index_or offsets.now i [])) in
         AreByteStatisticsOf (cells_from validity.now value from (end - from)) result }
 {
+    if validity.is_empty() {
+        return gather::<N, T>(&[], bytes, offsets, from, end);
+    }
+    gather::<N, T>(validity, bytes, offsets, from, end)
+}
+
+/// The same in one pass. Where it is called without a bitmap, no row is tested for a null.
+#[inline(always)]
+fn gather<const N: usize, T: Offset<N>>(
+    validity: &[u8],
+    bytes: &[u8],
+    offsets: &[[u8; N]],
+    from: usize,
+    end: usize,
+) -> ByteStatistics
+    requires narrow { N ≤ 8 }
+    requires range { from ≤ end }
+    requires bits { HasBits validity.now end }
+    requires offsets { end < length offsets.now }
+    requires rows { AreRows T.width bytes.now (λ i. offset_of T.width (slice_index_or offsets.now i [])) from end }
+    ensures { let value = bytes_between bytes.now (λ i. offset_of T.width (slice_index_or offsets.now i [])) in
+        AreByteStatisticsOf (cells_from validity.now value from (end - from)) result }
+{
     let start = first_valid(validity, from, end);
     if start == end {
         return ByteStatistics {
@@ -35,11 +58,15 @@ pub fn statistics_of_byte_rows<const N: usize, T: Offset<N>>(
     let mut null_count = start - from;
     let mut span = ByteSpan::of(start, row::<N, T>(bytes, offsets, start));
     for i in start + 1..end {
-        if is_row_valid(validity, i, end) {
-            let begin = read_offset::<N, T>(offsets, i);
-            let stop = read_offset::<N, T>(offsets, i + 1);
+        let begin = read_offset::<N, T>(offsets, i);
+        let stop = read_offset::<N, T>(offsets, i + 1);
+        if validity.is_empty() {
             span.widen(i, bytes, begin, stop);
-        } else {
+            continue;
+        }
+        let is_valid = is_row_valid(validity, i, end);
+        span.widen_if(is_valid, i, bytes, begin, stop);
+        if !is_valid {
             null_count += 1;
         }
     }

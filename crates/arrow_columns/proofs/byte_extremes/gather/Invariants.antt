@@ -4,7 +4,7 @@ use Rattle.arrow_columns.specs.Offsets.{bytes_between, offset_of}
 use Rattle.arrow_columns.specs.Spans.{IsSpan}
 use Rattle.arrow_columns.specs.Running.{IsBestAt, nulls_from}
 use Rattle.arrow_columns.specs.Statistics.{NotAbove}
-use Rattle.arrow_columns.proofs.byte_extremes.statistics_of_byte_rows.Given as goal
+use Rattle.arrow_columns.proofs.byte_extremes.gather.Given as goal
 
 abbrev pub invariant-loop-i : goal.invariant-loop-i
 invariant-loop-i g l = record {
