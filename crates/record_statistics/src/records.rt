@@ -110,28 +110,6 @@ fn observe_field(
     if observe_in_place(column, word, statistics) {
         return Ok(());
     }
-    observe_scalar(
-        alloc, is_lenient, column, place, word, is_quoted, statistics,
-    )
-}
-
-/// Observes the cell of a field by a scalar of it. Fields that are observed in place so clear no room
-/// for one, which takes 2 % of the instructions of an index.
-#[inline(never)]
-fn observe_scalar(
-    alloc: Global,
-    is_lenient: bool,
-    column: ColumnType,
-    place: usize,
-    word: &[u8],
-    is_quoted: bool,
-    statistics: &mut ColumnStatistics,
-) -> Result<(), RowFault>
-    ensures observed { OnOk result (ObservesField is_lenient column
-        (record { text = word.now; is_quoted = is_quoted }) (known statistics.old) (known statistics.new)) }
-    ensures refused { IfErr result (RefusesWord is_lenient column place
-        (record { text = word.now; is_quoted = is_quoted })) }
-{
     let cell = take_field(alloc, is_lenient, column, place, word, is_quoted)?;
     match statistics.observe(alloc, ScalarRef::of(&cell)) {
         Ok(()) => Ok(()),
