@@ -19,7 +19,7 @@ struct Column<'a> {
 unsafe extern "C" {
     fn columns_check(column: &Column) -> u32;
     fn columns_statistics(column: &Column, out: *mut u64, out_length: usize) -> u32;
-    fn columns_cast(column: &Column, to: u8, room: *mut u8, room_length: usize) -> u32;
+    fn columns_cast(column: &Column, to: u8, in_one_pass: bool, room: *mut u8, room_length: usize) -> u32;
 }
 
 const I32: u8 = 6;
@@ -51,7 +51,7 @@ struct Data {
 fn data(what: &str, count: usize) -> Data {
     let mut chance = Chance(88172645463325252);
     let begin: &[u8] = if what.starts_with("alike") { b"the same first 24 bytes " } else { b"" };
-    let fitting = what.starts_with("cast");
+    let fitting = what.starts_with("cast") || what.starts_with("front");
     let mut made = Data { bits: vec![], wide: vec![], narrow: vec![], bytes: vec![], offsets: vec![0] };
     for _ in 0..count {
         let number = chance.next() as i64;
@@ -179,7 +179,7 @@ fn main() {
     let bits = what.ends_with("nulls").then_some(data.bits.as_slice());
     let kind = what.split('_').next().unwrap();
     let (code, values) = match kind {
-        "i64" | "cast" => (I64, bytes_of(&data.wide)),
+        "i64" | "cast" | "front" => (I64, bytes_of(&data.wide)),
         "i32" => (I32, bytes_of(&data.narrow)),
         _ if what.contains("letters") => (UTF8, data.bytes.as_slice()),
         _ => (BINARY, data.bytes.as_slice()),
@@ -194,7 +194,9 @@ fn main() {
         let ours = turns[turn];
         let start = Instant::now();
         measured(&mut || match (ours, kind) {
-            (true, "cast") => status = unsafe { columns_cast(&column, I32, room.as_mut_ptr().cast(), 4 * count) },
+            (true, "cast" | "front") => {
+                status = unsafe { columns_cast(&column, I32, kind == "front", room.as_mut_ptr().cast(), 4 * count) }
+            }
             (true, "check") => status = unsafe { columns_check(&column) },
             (true, _) => status = unsafe { columns_statistics(&column, out.as_mut_ptr(), 3) },
             (false, "i64") => {
@@ -205,7 +207,7 @@ fn main() {
                 let (nulls, extremes) = plain_i32(bits, &data.narrow);
                 out = [nulls, extremes.map_or(0, |e| e.0 as i64 as u64), extremes.map_or(0, |e| e.1 as i64 as u64)];
             }
-            (false, "cast") => status = plain_cast(bits, &data.wide, &mut room).map_or_else(|row| row as u32 + 1, |()| 0),
+            (false, "cast" | "front") => status = plain_cast(bits, &data.wide, &mut room).map_or_else(|row| row as u32 + 1, |()| 0),
             (false, "check") => {}
             (false, _) => {
                 let (nulls, extremes) = plain_strings(bits, &data.bytes, &data.offsets);

@@ -1,15 +1,16 @@
 -- Items that are written one after another.
-use Rattle.std.proofs.Common.{◌≡◌, ◌∙◌, ℕ, ℤ, pos, ◌+◌, ◌-◌, ◌*◌, ◌<◌, ◌≤◌, ◌≤ℤ◌, [], Bool, MatchBool, ◌&&◌, List, None, Option, Some, inl, inr, map, slice_get, ap, arith, cond, drop, false, length, refl, slice_range, subst, sym, true, unwrap_or}
+use Rattle.std.proofs.Common.{◌≡◌, ◌∙◌, ℕ, ℤ, pos, ◌+◌, ◌-◌, ◌*◌, ◌<◌, ◌≤◌, ◌≤ℤ◌, [], Bool, MatchBool, MatchOption, ◌&&◌, List, None, Option, Some, inl, inr, map, slice_get, ap, arith, cond, drop, false, length, refl, slice_range, subst, sym, take, true, unwrap_or}
 use Rattle.std.proofs.Math.Nat.{mul-le-mul_right}
+use Rattle.std.proofs.lemmas.Bool.{cases_lt}
 use Rattle.std.proofs.lemmas.List.{drop-drop}
-use Rattle.std.proofs.lemmas.List.FromFn.{length-map-range_with_len}
+use Rattle.std.proofs.lemmas.List.FromFn.{length-map-range_with_len, take-map-range_with_len}
 use Rattle.std.proofs.lemmas.Option.{slice_get_cases}
 use Rattle.std.proofs.lemmas.Slice.{between_is, take-put_mid_below}
 use Rattle.std.specs.Bool.{OnTrue}
 use Rattle.std.specs.List.{range_with_len}
 use Rattle.std.specs.Option.{IfSome, IsSomeAnd}
 use Rattle.arrow_columns.specs.Bitmaps.{is_valid}
-use Rattle.arrow_columns.specs.Casts.{IsFirstWithout}
+use Rattle.arrow_columns.specs.Casts.{AllFit, IsFirstUnfit, IsFirstWithout}
 use Rattle.arrow_columns.specs.Cells.{cell_at}
 use Rattle.arrow_columns.specs.Integers.{IsOfKind, greatest_of, least_of}
 use Rattle.arrow_columns.specs.Running.{IsGreatestBefore, IsLeastBefore}
@@ -45,8 +46,13 @@ pub value_or_zero : (validity : List ℕ) (value : ℕ → ℤ) (i : ℕ) (b : B
 value_or_zero validity value i b whole e w =
     ap (λ x. cond b x (pos 0)) w ∙ ap (λ t. cond t (value i) (pos 0)) e ∙ either (is_valid validity i) (value i)
 
+-- what a test says if it was passed
+pub on_true : (b : Bool) (P Q : Type 0) → MatchBool b P Q → OnTrue b P
+on_true true P Q h = h
+on_true false P Q h = tt
+
 -- both of two tests were passed
-pub both_passed : (one other : Bool) (P Q R : Type 0) → MatchBool one P (¬ P) → MatchBool other Q (¬ Q) → (P → Q → R) → OnTrue (one && other) R
+pub both_passed : (one other : Bool) (P Q R : Type 0) → OnTrue one P → OnTrue other Q → (P → Q → R) → OnTrue (one && other) R
 both_passed true true P Q R p q f = f p q
 both_passed true false P Q R p q f = tt
 both_passed false true P Q R p q f = tt
@@ -104,3 +110,38 @@ cast_given cell from n written h row o e =
           h row within ∙ ap (λ c. unwrap_or c (pos 0)) (same_value (cell (from + row)) o (sym got ∙ e))
       | inr q ↦ absurd (none_is_not o (sym q.1 ∙ e))
     ]
+
+-- what was written for the first of them
+pub front_given : (cell : ℕ → Option ℤ) (from n m : ℕ) (written : ℕ → ℤ) → m ≤ n → ((k : ℕ) → k < m → written k ≡ unwrap_or (cell (from + k)) (pos 0))
+    → (row : ℕ) (o : Option ℤ) → slice_get (take m (map cell (range_with_len from n))) row ≡ Some o → written row ≡ unwrap_or o (pos 0)
+front_given cell from n m written l h row o e =
+    cast_given cell from m written h row o (subst (λ cells. slice_get cells row ≡ Some o) (take-map-range_with_len cell from n m l) e)
+
+-- what holds of each row before a block and of each row in it
+pub more_rows : (P : ℕ → Type 0) (from start n : ℕ) → ((k : ℕ) → k < start → from ≤ k → P k) → ((j : ℕ) → j < n → P (start + j)) → (k : ℕ) → k < start + n → from ≤ k → P k
+more_rows P from start n before block k l f = elim (cases_lt k start) [
+  | inl b ↦ before k b f
+  | inr a ↦
+      let place : start + (k - start) ≡ k = omega arith in
+      subst P place (block (k - start) (omega arith))
+]
+
+fit_joined : (kind : IntegerKind) (cell : ℕ → Option ℤ) (from start end : ℕ) → AllFit kind cell from start → AllFit kind cell start end → AllFit kind cell from end
+fit_joined kind cell from start end before after k l f = elim (cases_lt k start) [ inl b ↦ before k b f | inr a ↦ after k l a ]
+
+-- where the rows before the first unfit one end
+pub stop_within : (kind : IntegerKind) (cell : ℕ → Option ℤ) (from end : ℕ) (found : Option ℕ) → from ≤ end → MatchOption found (AllFit kind cell from end) (IsFirstUnfit kind cell from end)
+    → (from ≤ unwrap_or found end) × (unwrap_or found end ≤ end)
+stop_within kind cell from end None l h = (l, omega arith)
+stop_within kind cell from end (Some i) l h = (h.1, omega (arith, h.0))
+
+pub fit_before : (kind : IntegerKind) (cell : ℕ → Option ℤ) (from end : ℕ) (found : Option ℕ) → MatchOption found (AllFit kind cell from end) (IsFirstUnfit kind cell from end)
+    → AllFit kind cell from (unwrap_or found end)
+fit_before kind cell from end None h = h
+fit_before kind cell from end (Some i) h = h.2
+
+-- the first unfit row after rows that fit
+pub found_after : (kind : IntegerKind) (cell : ℕ → Option ℤ) (from start end : ℕ) (found : Option ℕ) → from ≤ start → AllFit kind cell from start
+    → MatchOption found (AllFit kind cell start end) (IsFirstUnfit kind cell start end) → MatchOption found (AllFit kind cell from end) (IsFirstUnfit kind cell from end)
+found_after kind cell from start end None l before h = fit_joined kind cell from start end before h
+found_after kind cell from start end (Some i) l before h = (h.0, omega (arith, h.1), fit_joined kind cell from start i before h.2, h.3)

@@ -1,5 +1,6 @@
 -- Casts of integers from one kind to another.
-use Rattle.std.specs.Prelude.{◌≡◌, ℕ, ℤ, pos, ◌+◌, ◌-◌, ◌<◌, List, slice_get, Option, Some, unwrap_or}
+use Rattle.std.specs.Prelude.{◌≡◌, ℕ, ℤ, pos, ◌+◌, ◌-◌, ◌<◌, ◌≤◌, IsSomeAnd, List, slice_get, Option, Some, unwrap_or}
+use Rattle.std.specs.Option.{IfSome}
 use Rattle.arrow_columns.specs.Integers.{IsOfKind, integer_of, item_at, width_of}
 use Rattle.arrow_columns.specs.declared.kinds.IntegerKind.{IntegerKind}
 
@@ -12,6 +13,14 @@ abbrev pub IsFirstWithout : IntegerKind → List (Option ℤ) → ℕ → Type 0
 IsFirstWithout kind cells row =
     (z : ℤ) × (slice_get cells row ≡ Some (Some z)) × ¬ (IsOfKind kind z)
     × ((k : ℕ) (x : ℤ) → k < row → slice_get cells k ≡ Some (Some x) → IsOfKind kind x)
+
+-- the kind has the integers of the rows from a first one on, before an end
+abbrev pub AllFit : IntegerKind → (ℕ → Option ℤ) → ℕ → ℕ → Type 0
+AllFit kind cell from end = (k : ℕ) → k < end → from ≤ k → IfSome (cell k) (IsOfKind kind)
+
+-- of these rows, row i is the first whose integer the kind does not have
+abbrev pub IsFirstUnfit : IntegerKind → (ℕ → Option ℤ) → ℕ → ℕ → ℕ → Type 0
+IsFirstUnfit kind cell from end i = (i < end) × (from ≤ i) × AllFit kind cell from i × IsSomeAnd (cell i) (λ z. ¬ (IsOfKind kind z))
 
 -- the bytes have the items of the rows before row i: the value of each, or 0 where it is null
 abbrev pub AreWritten : IntegerKind → ℕ → (ℕ → Option ℤ) → ℕ → ℕ → List ℕ → Type 0

@@ -1,6 +1,6 @@
 -- The words of this crate's clauses, from one place.
 pub use Rattle.arrow_columns.specs.Bitmaps.{HasBits, bit_of, is_valid}
-pub use Rattle.arrow_columns.specs.Casts.{AreCastTo, AreWritten, IsFirstWithout}
+pub use Rattle.arrow_columns.specs.Casts.{AllFit, AreCastTo, AreWritten, IsFirstUnfit, IsFirstWithout}
 pub use Rattle.arrow_columns.specs.Cells.{cell_at, cells_from}
 pub use Rattle.arrow_columns.specs.Checked.{AreRowsOf}
 pub use Rattle.arrow_columns.specs.Columns.{HasRows, IsByteColumn, boolean_cells, byte_cells, end_of, integer_cells, offset_in}

@@ -1,9 +1,10 @@
 //! Casts of columns of integers.
 
-ghost use Rattle.std.specs.Prelude.{[], ◌≡◌, ℕ, ◌+◌, ◌-◌, ◌*◌, ◌<◌, ◌≤◌, IfErr, IsSomeAnd, IsTrue, MatchOption, OnErr, OnOk, Option, Some, drop, if◌then◌else◌, length, pos, slice_get, slice_index_or, unwrap_or, ℤ};
+ghost use Rattle.std.specs.Prelude.{[], ◌≡◌, ℕ, ◌+◌, ◌-◌, ◌*◌, ◌<◌, ◌≤◌, IfErr, IsTrue, MatchOption, OnErr, OnOk, Option, Some, drop, if◌then◌else◌, length, pos, slice_get, slice_index_or, take, unwrap_or, ℤ};
 ghost use Rattle.std.specs.Bool.{OnTrue};
-ghost use Rattle.std.specs.Option.{IfSome};
-ghost use Rattle.arrow_columns.specs.Words.{AreCastTo, AreWritten, HasBits, HasRows, IsFirstWithout, IsOfKind, cell_at, cells_from, end_of, integer_cells, integer_of, is_valid, item_at, width_of};
+ghost use Rattle.std.specs.Option.{IfNone, IfSome};
+ghost use Rattle.arrow_columns.specs.Words.{AllFit, AreCastTo, AreWritten, HasBits, HasRows, IsFirstUnfit, IsFirstWithout, IsOfKind, cell_at, cells_from, end_of, integer_cells, integer_of, is_valid, item_at, width_of};
+ghost use Rattle.arrow_columns.specs.declared.casts.Passes.TheVariants.{One, Two};
 
 use crate::bitmaps::is_row_valid;
 use crate::columns::Column;
@@ -16,6 +17,18 @@ use crate::tested_rows::IntegerRows;
 #[derive(Clone, Copy, Debug, PartialEq, Eq)]
 pub struct CastFault {
     pub row: usize,
+}
+
+/// How many rows are tested together before they are written.
+const BLOCK: usize = 32;
+
+/// When the integers of a column are tested.
+#[derive(Clone, Copy)]
+enum Passes {
+    /// As they are written.
+    One,
+    /// All of them before one is written.
+    Two,
 }
 
 /// Whether the kind of U has the integers of all rows, null or not: their least and their greatest.
@@ -47,13 +60,28 @@ fn first_without<const N: usize, T: Integer<N>, const M: usize, U: Integer<M>>(
     requires items { end ≤ length items.now }
     requires bits { HasBits validity.now end }
     ensures { let cell = cell_at validity.now (λ i. integer_of T.kind (slice_index_or items.now i [])) in
-        MatchOption result ((k : ℕ) → k < end → from ≤ k → IfSome (cell k) (IsOfKind U.kind))
-        (λ k. (k < end) × (from ≤ k) × ((j : ℕ) → j < k → from ≤ j → IfSome (cell j) (IsOfKind U.kind))
-        × IsSomeAnd (cell k) (λ z. ¬ (IsOfKind U.kind z))) }
+        MatchOption result (AllFit U.kind cell from end) (IsFirstUnfit U.kind cell from end) }
 {
     if from == end || all_fit::<N, T, M, U>(items, from, end) {
         return None;
     }
+    find_without::<N, T, M, U>(validity, items, from, end)
+}
+
+/// The same, row by row.
+fn find_without<const N: usize, T: Integer<N>, const M: usize, U: Integer<M>>(
+    validity: &[u8],
+    items: &[[u8; N]],
+    from: usize,
+    end: usize,
+) -> Option<usize>
+    requires narrow { N ≤ 8 }
+    requires range { from ≤ end }
+    requires items { end ≤ length items.now }
+    requires bits { HasBits validity.now end }
+    ensures { let cell = cell_at validity.now (λ i. integer_of T.kind (slice_index_or items.now i [])) in
+        MatchOption result (AllFit U.kind cell from end) (IsFirstUnfit U.kind cell from end) }
+{
     for i in from..end {
         if is_row_valid(validity, i, end) && !U::fits(T::of_bytes(items[i]).whole()) {
             return Some(i);
@@ -128,7 +156,7 @@ fn write_by_rows<const N: usize, T: Integer<N>, const M: usize, U: Integer<M>>(
     requires items { end ≤ length items.now }
     requires bits { HasBits validity.now end }
     requires room { (end - from) * M ≤ length room.old }
-    requires fit { (k : ℕ) → k < end → from ≤ k → IfSome (cell_at validity.now (λ i. integer_of T.kind (slice_index_or items.now i [])) k) (IsOfKind U.kind) }
+    requires fit { AllFit U.kind (cell_at validity.now (λ i. integer_of T.kind (slice_index_or items.now i []))) from end }
     requires written { AreWritten U.kind M (cell_at validity.now (λ i. integer_of T.kind (slice_index_or items.now i []))) from start room.old }
     ensures written { AreWritten U.kind M (cell_at validity.now (λ i. integer_of T.kind (slice_index_or items.now i []))) from end room.new }
     ensures rest { drop ((end - from) * M) room.new ≡ drop ((end - from) * M) room.old }
@@ -154,7 +182,7 @@ fn write_by_bytes<const N: usize, T: Integer<N>, const M: usize, U: Integer<M>>(
     requires items { 8 * end_byte ≤ length items.now }
     requires bits { end_byte ≤ length validity.now }
     requires room { (8 * end_byte - from) * M ≤ length room.old }
-    requires fit { (k : ℕ) → k < 8 * end_byte → from ≤ k → IfSome (cell_at validity.now (λ i. integer_of T.kind (slice_index_or items.now i [])) k) (IsOfKind U.kind) }
+    requires fit { AllFit U.kind (cell_at validity.now (λ i. integer_of T.kind (slice_index_or items.now i []))) from (8 * end_byte) }
     requires written { AreWritten U.kind M (cell_at validity.now (λ i. integer_of T.kind (slice_index_or items.now i []))) from (8 * first_byte) room.old }
     ensures written { AreWritten U.kind M (cell_at validity.now (λ i. integer_of T.kind (slice_index_or items.now i []))) from (8 * end_byte) room.new }
     ensures rest { drop ((8 * end_byte - from) * M) room.new ≡ drop ((8 * end_byte - from) * M) room.old }
@@ -182,7 +210,7 @@ fn write_rows<const N: usize, T: Integer<N>, const M: usize, U: Integer<M>>(
     requires items { end ≤ length items.now }
     requires bits { HasBits validity.now end }
     requires room { (end - from) * M ≤ length room.old }
-    requires fit { (k : ℕ) → k < end → from ≤ k → IfSome (cell_at validity.now (λ i. integer_of T.kind (slice_index_or items.now i [])) k) (IsOfKind U.kind) }
+    requires fit { AllFit U.kind (cell_at validity.now (λ i. integer_of T.kind (slice_index_or items.now i []))) from end }
     ensures written { AreWritten U.kind M (cell_at validity.now (λ i. integer_of T.kind (slice_index_or items.now i []))) from end room.new }
     ensures rest { drop ((end - from) * M) room.new ≡ drop ((end - from) * M) room.old }
 {
@@ -196,9 +224,143 @@ fn write_rows<const N: usize, T: Integer<N>, const M: usize, U: Integer<M>>(
     write_by_rows::<N, T, M, U>(validity, items, from, 8 * end_byte, end, room);
 }
 
+/// Whether the kind of U has the integers of a block of rows.
+fn block_fits<const N: usize, T: Integer<N>, const M: usize, U: Integer<M>>(
+    items: &[[u8; N]],
+    start: usize,
+) -> bool
+    requires narrow { N ≤ 8 }
+    requires items { start + BLOCK ≤ length items.now }
+    ensures { OnTrue result ((j : ℕ) → j < BLOCK → IsOfKind U.kind (integer_of T.kind (slice_index_or items.now (start + j) []))) }
+{
+    let mut fits = true;
+    for j in 0..BLOCK {
+        fits = fits & U::fits(T::of_bytes(items[start + j]).whole());
+    }
+    fits
+}
+
+/// Writes the integers of the rows of a column without nulls block by block, as long as the kind of
+/// U has those of each block. Tells the first row that is not written.
+fn write_blocks<const N: usize, T: Integer<N>, const M: usize, U: Integer<M>>(
+    items: &[[u8; N]],
+    from: usize,
+    end: usize,
+    room: &mut [u8],
+) -> usize
+    requires narrow { N ≤ 8 }
+    requires narrow_to { M ≤ 8 }
+    requires range { from ≤ end }
+    requires items { end ≤ length items.now }
+    requires room { (end - from) * M ≤ length room.old }
+    ensures from { from ≤ result }
+    ensures end { result ≤ end }
+    ensures fit { AllFit U.kind (cell_at [] (λ i. integer_of T.kind (slice_index_or items.now i []))) from result }
+    ensures written { AreWritten U.kind M (cell_at [] (λ i. integer_of T.kind (slice_index_or items.now i []))) from result room.new }
+    ensures rest { drop ((result - from) * M) room.new ≡ drop ((result - from) * M) room.old }
+{
+    let blocks = (end - from) / BLOCK;
+    for b in 0..blocks {
+        let start = from + BLOCK * b;
+        if !block_fits::<N, T, M, U>(items, start) {
+            return start;
+        }
+        for j in 0..BLOCK {
+            write_row::<N, T, M, U>(&[], items, from, start + j, start + BLOCK, room);
+        }
+    }
+    from + BLOCK * blocks
+}
+
+/// Writes the integers of the rows of a column without nulls before the first whose integer the
+/// kind of U lacks, in one pass. Tells which row that is.
+fn write_front_by_blocks<const N: usize, T: Integer<N>, const M: usize, U: Integer<M>>(
+    items: &[[u8; N]],
+    from: usize,
+    end: usize,
+    room: &mut [u8],
+) -> Option<usize>
+    requires narrow { N ≤ 8 }
+    requires narrow_to { M ≤ 8 }
+    requires range { from ≤ end }
+    requires items { end ≤ length items.now }
+    requires room { (end - from) * M ≤ length room.old }
+    ensures found { let cell = cell_at [] (λ i. integer_of T.kind (slice_index_or items.now i [])) in MatchOption result (AllFit U.kind cell from end) (IsFirstUnfit U.kind cell from end) }
+    ensures written { AreWritten U.kind M (cell_at [] (λ i. integer_of T.kind (slice_index_or items.now i []))) from (unwrap_or result end) room.new }
+    ensures rest { drop ((unwrap_or result end - from) * M) room.new ≡ drop ((unwrap_or result end - from) * M) room.old }
+{
+    let start = write_blocks::<N, T, M, U>(items, from, end, room);
+    let found = find_without::<N, T, M, U>(&[], items, start, end);
+    write_by_rows::<N, T, M, U>(&[], items, from, start, found.unwrap_or(end), room);
+    found
+}
+
+/// Writes the integers of the rows before the first whose integer the kind of U lacks, and 0 for a
+/// null. Tells which row that is.
+fn write_front<const N: usize, T: Integer<N>, const M: usize, U: Integer<M>>(
+    validity: &[u8],
+    items: &[[u8; N]],
+    from: usize,
+    end: usize,
+    room: &mut [u8],
+) -> Option<usize>
+    requires narrow { N ≤ 8 }
+    requires narrow_to { M ≤ 8 }
+    requires range { from ≤ end }
+    requires items { end ≤ length items.now }
+    requires bits { HasBits validity.now end }
+    requires room { (end - from) * M ≤ length room.old }
+    ensures found { let cell = cell_at validity.now (λ i. integer_of T.kind (slice_index_or items.now i [])) in MatchOption result (AllFit U.kind cell from end) (IsFirstUnfit U.kind cell from end) }
+    ensures written { AreWritten U.kind M (cell_at validity.now (λ i. integer_of T.kind (slice_index_or items.now i []))) from (unwrap_or result end) room.new }
+    ensures rest { drop ((unwrap_or result end - from) * M) room.new ≡ drop ((unwrap_or result end - from) * M) room.old }
+{
+    if validity.is_empty() {
+        return write_front_by_blocks::<N, T, M, U>(items, from, end, room);
+    }
+    let found = first_without::<N, T, M, U>(validity, items, from, end);
+    write_rows::<N, T, M, U>(validity, items, from, found.unwrap_or(end), room);
+    found
+}
+
+/// Writes the integers of the rows, and 0 for a null. Tells the first row whose integer the kind of
+/// U lacks: by two passes nothing is written if there is one, by one pass the rows before it are.
+fn write_by<const N: usize, T: Integer<N>, const M: usize, U: Integer<M>>(
+    passes: Passes,
+    validity: &[u8],
+    items: &[[u8; N]],
+    from: usize,
+    end: usize,
+    room: &mut [u8],
+) -> Option<usize>
+    requires narrow { N ≤ 8 }
+    requires narrow_to { M ≤ 8 }
+    requires range { from ≤ end }
+    requires items { end ≤ length items.now }
+    requires bits { HasBits validity.now end }
+    requires room { (end - from) * M ≤ length room.old }
+    ensures found { let cell = cell_at validity.now (λ i. integer_of T.kind (slice_index_or items.now i [])) in MatchOption result (AllFit U.kind cell from end) (IsFirstUnfit U.kind cell from end) }
+    ensures written { IfNone result (AreWritten U.kind M (cell_at validity.now (λ i. integer_of T.kind (slice_index_or items.now i []))) from end room.new) }
+    ensures rest { IfNone result (drop ((end - from) * M) room.new ≡ drop ((end - from) * M) room.old) }
+    ensures front { passes ≡ One → IfSome result (λ i. AreWritten U.kind M (cell_at validity.now (λ i. integer_of T.kind (slice_index_or items.now i []))) from i room.new) }
+    ensures past { passes ≡ One → IfSome result (λ i. drop ((i - from) * M) room.new ≡ drop ((i - from) * M) room.old) }
+    ensures kept { passes ≡ Two → IfSome result (λ i. room.new ≡ room.old) }
+{
+    match passes {
+        Passes::One => write_front::<N, T, M, U>(validity, items, from, end, room),
+        Passes::Two => match first_without::<N, T, M, U>(validity, items, from, end) {
+            Some(i) => Some(i),
+            None => {
+                write_rows::<N, T, M, U>(validity, items, from, end, room);
+                None
+            }
+        },
+    }
+}
+
 /// Casts a column from integers of N bytes to those of M bytes.
 fn cast_between<const N: usize, T: Integer<N>, const M: usize, U: Integer<M>>(
     column: Column,
+    passes: Passes,
     room: &mut [u8],
 ) -> Result<(), CastFault>
     requires some { 0 < N }
@@ -212,18 +374,18 @@ fn cast_between<const N: usize, T: Integer<N>, const M: usize, U: Integer<M>>(
     ensures rest { OnOk result (drop (column.entry.length * M) room.new ≡ drop (column.entry.length * M) room.old) }
     ensures fault { let cells = cells_from column.entry.validity.now (λ i. integer_of T.kind (item_at N column.entry.values.now i)) column.entry.offset column.entry.length in
         IfErr result (λ fault. IsFirstWithout U.kind cells fault.row) }
-    ensures kept { OnErr result (room.new ≡ room.old) }
+    ensures front { let cells = cells_from column.entry.validity.now (λ i. integer_of T.kind (item_at N column.entry.values.now i)) column.entry.offset column.entry.length in passes ≡ One
+        → IfErr result (λ fault. (row : ℕ) (cell : Option ℤ) → slice_get (take fault.row cells) row ≡ Some cell → integer_of U.kind (item_at M room.new row) ≡ unwrap_or cell (pos 0)) }
+    ensures past { passes ≡ One → IfErr result (λ fault. drop (fault.row * M) room.new ≡ drop (fault.row * M) room.old) }
+    ensures kept { passes ≡ Two → OnErr result (room.new ≡ room.old) }
 {
     let (items, _) = column.values.as_chunks::<N>();
     let end = column.offset + column.length;
-    match first_without::<N, T, M, U>(column.validity, items, column.offset, end) {
+    match write_by::<N, T, M, U>(passes, column.validity, items, column.offset, end, room) {
         Some(i) => Err(CastFault {
             row: i - column.offset,
         }),
-        None => {
-            write_rows::<N, T, M, U>(column.validity, items, column.offset, end, room);
-            Ok(())
-        }
+        None => Ok(()),
     }
 }
 
@@ -231,6 +393,7 @@ fn cast_between<const N: usize, T: Integer<N>, const M: usize, U: Integer<M>>(
 fn cast_from<const N: usize, T: Integer<N>>(
     column: Column,
     to: IntegerKind,
+    passes: Passes,
     room: &mut [u8],
 ) -> Result<(), CastFault>
     requires some { 0 < N }
@@ -241,17 +404,19 @@ fn cast_from<const N: usize, T: Integer<N>>(
     ensures cast { OnOk result (AreCastTo to (cells_from column.entry.validity.now (λ i. integer_of T.kind (item_at N column.entry.values.now i)) column.entry.offset column.entry.length) room.new) }
     ensures rest { OnOk result (drop (column.entry.length * width_of to) room.new ≡ drop (column.entry.length * width_of to) room.old) }
     ensures fault { IfErr result (λ fault. IsFirstWithout to (cells_from column.entry.validity.now (λ i. integer_of T.kind (item_at N column.entry.values.now i)) column.entry.offset column.entry.length) fault.row) }
-    ensures kept { OnErr result (room.new ≡ room.old) }
+    ensures front { passes ≡ One → IfErr result (λ fault. AreCastTo to (take fault.row (cells_from column.entry.validity.now (λ i. integer_of T.kind (item_at N column.entry.values.now i)) column.entry.offset column.entry.length)) room.new) }
+    ensures past { passes ≡ One → IfErr result (λ fault. drop (fault.row * width_of to) room.new ≡ drop (fault.row * width_of to) room.old) }
+    ensures kept { passes ≡ Two → OnErr result (room.new ≡ room.old) }
 {
     match to {
-        IntegerKind::U8 => cast_between::<N, T, 1, u8>(column, room),
-        IntegerKind::U16 => cast_between::<N, T, 2, u16>(column, room),
-        IntegerKind::U32 => cast_between::<N, T, 4, u32>(column, room),
-        IntegerKind::U64 => cast_between::<N, T, 8, u64>(column, room),
-        IntegerKind::I8 => cast_between::<N, T, 1, i8>(column, room),
-        IntegerKind::I16 => cast_between::<N, T, 2, i16>(column, room),
-        IntegerKind::I32 => cast_between::<N, T, 4, i32>(column, room),
-        IntegerKind::I64 => cast_between::<N, T, 8, i64>(column, room),
+        IntegerKind::U8 => cast_between::<N, T, 1, u8>(column, passes, room),
+        IntegerKind::U16 => cast_between::<N, T, 2, u16>(column, passes, room),
+        IntegerKind::U32 => cast_between::<N, T, 4, u32>(column, passes, room),
+        IntegerKind::U64 => cast_between::<N, T, 8, u64>(column, passes, room),
+        IntegerKind::I8 => cast_between::<N, T, 1, i8>(column, passes, room),
+        IntegerKind::I16 => cast_between::<N, T, 2, i16>(column, passes, room),
+        IntegerKind::I32 => cast_between::<N, T, 4, i32>(column, passes, room),
+        IntegerKind::I64 => cast_between::<N, T, 8, i64>(column, passes, room),
     }
 }
 
@@ -265,15 +430,41 @@ impl IntegerRows<'_> {
         ensures fault { IfErr result (λ fault. IsFirstWithout to (integer_cells self.now.kind self.now.column) fault.row) }
         ensures kept { OnErr result (room.new ≡ room.old) }
     {
+        self.cast_by(to, Passes::Two, room)
+    }
+
+    /// The same in one pass, which takes less time: if the kind lacks an integer, the rows before
+    /// the first such one are written, and the room past them stays.
+    pub fn cast_front(&self, to: IntegerKind, room: &mut [u8]) -> Result<(), CastFault>
+        requires { self.now.column.length * width_of to ≤ length room.old }
+        ensures cast { OnOk result (AreCastTo to (integer_cells self.now.kind self.now.column) room.new) }
+        ensures rest { OnOk result (drop (self.now.column.length * width_of to) room.new ≡ drop (self.now.column.length * width_of to) room.old) }
+        ensures fault { IfErr result (λ fault. IsFirstWithout to (integer_cells self.now.kind self.now.column) fault.row) }
+        ensures front { IfErr result (λ fault. AreCastTo to (take fault.row (integer_cells self.now.kind self.now.column)) room.new) }
+        ensures past { IfErr result (λ fault. drop (fault.row * width_of to) room.new ≡ drop (fault.row * width_of to) room.old) }
+    {
+        self.cast_by(to, Passes::One, room)
+    }
+
+    /// Casts the column in one pass or two.
+    fn cast_by(&self, to: IntegerKind, passes: Passes, room: &mut [u8]) -> Result<(), CastFault>
+        requires { self.now.column.length * width_of to ≤ length room.old }
+        ensures cast { OnOk result (AreCastTo to (integer_cells self.now.kind self.now.column) room.new) }
+        ensures rest { OnOk result (drop (self.now.column.length * width_of to) room.new ≡ drop (self.now.column.length * width_of to) room.old) }
+        ensures fault { IfErr result (λ fault. IsFirstWithout to (integer_cells self.now.kind self.now.column) fault.row) }
+        ensures front { passes ≡ One → IfErr result (λ fault. AreCastTo to (take fault.row (integer_cells self.now.kind self.now.column)) room.new) }
+        ensures past { passes ≡ One → IfErr result (λ fault. drop (fault.row * width_of to) room.new ≡ drop (fault.row * width_of to) room.old) }
+        ensures kept { passes ≡ Two → OnErr result (room.new ≡ room.old) }
+    {
         match self.kind {
-            IntegerKind::U8 => cast_from::<1, u8>(self.column, to, room),
-            IntegerKind::U16 => cast_from::<2, u16>(self.column, to, room),
-            IntegerKind::U32 => cast_from::<4, u32>(self.column, to, room),
-            IntegerKind::U64 => cast_from::<8, u64>(self.column, to, room),
-            IntegerKind::I8 => cast_from::<1, i8>(self.column, to, room),
-            IntegerKind::I16 => cast_from::<2, i16>(self.column, to, room),
-            IntegerKind::I32 => cast_from::<4, i32>(self.column, to, room),
-            IntegerKind::I64 => cast_from::<8, i64>(self.column, to, room),
+            IntegerKind::U8 => cast_from::<1, u8>(self.column, to, passes, room),
+            IntegerKind::U16 => cast_from::<2, u16>(self.column, to, passes, room),
+            IntegerKind::U32 => cast_from::<4, u32>(self.column, to, passes, room),
+            IntegerKind::U64 => cast_from::<8, u64>(self.column, to, passes, room),
+            IntegerKind::I8 => cast_from::<1, i8>(self.column, to, passes, room),
+            IntegerKind::I16 => cast_from::<2, i16>(self.column, to, passes, room),
+            IntegerKind::I32 => cast_from::<4, i32>(self.column, to, passes, room),
+            IntegerKind::I64 => cast_from::<8, i64>(self.column, to, passes, room),
         }
     }
 }

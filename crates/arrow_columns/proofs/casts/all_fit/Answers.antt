@@ -2,7 +2,7 @@ use Rattle.std.proofs.Common.{[], ◌≡◌, ◌<◌, ◌≤◌, arith, ℕ, ℤ
 use Rattle.std.proofs.lemmas.Int.{ints}
 use Rattle.std.specs.Int.{w128}
 use Rattle.arrow_columns.specs.Integers.{IsOfKind, integer_of}
-use Rattle.arrow_columns.proofs.RoomSteps.{all_within, both_passed}
+use Rattle.arrow_columns.proofs.RoomSteps.{all_within, both_passed, on_true}
 use Rattle.arrow_columns.proofs.casts.all_fit.Goals as goal
 use mir.Val.{of_z, to_z}
 
@@ -17,6 +17,7 @@ returns g c =
     let low : z ≡ least = omega (arith, ints, c.whole.ensures) in
     let high : y ≡ greatest = omega (arith, ints, c.whole-2.ensures) in
     both_passed c.fits-low.result c.fits-high.result (IsOfKind kind z) (IsOfKind kind y)
-    ((k : ℕ) → k < c.args.end → c.args.from ≤ k → IsOfKind kind (V k)) c.fits-low.ensures c.fits-high.ensures
+    ((k : ℕ) → k < c.args.end → c.args.from ≤ k → IsOfKind kind (V k)) (on_true c.fits-low.result (IsOfKind kind z) (¬ (IsOfKind kind z)) c.fits-low.ensures)
+    (on_true c.fits-high.result (IsOfKind kind y) (¬ (IsOfKind kind y)) c.fits-high.ensures)
     (λ p q. all_within kind V c.args.from c.args.end least greatest c.without_nulls-gathered.ensures.least c.without_nulls-gathered.ensures.greatest
     (subst (IsOfKind kind) low p) (subst (IsOfKind kind) high q))
