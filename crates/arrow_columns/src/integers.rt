@@ -28,7 +28,8 @@ pub trait Integer<const N: usize>: Copy + Drop {
     fn whole(self) -> i128
         ensures { result ≡ number self };
 
-    /// Whether the kind has this number.
+    /// Whether the kind has this number. Where it is inlined early, an integer of 64 bits is
+    /// compared in 64 bits, not in 128.
     fn fits(whole: i128) -> bool
         ensures { MatchBool result (IsOfKind kind whole) (¬ (IsOfKind kind whole)) };
 
@@ -69,6 +70,7 @@ impl Integer<1> for u8 {
         self as i128
     }
 
+    #[inline(always)]
     fn fits(whole: i128) -> bool {
         u8::MIN as i128 <= whole && whole <= u8::MAX as i128
     }
@@ -109,6 +111,7 @@ impl Integer<2> for u16 {
         self as i128
     }
 
+    #[inline(always)]
     fn fits(whole: i128) -> bool {
         u16::MIN as i128 <= whole && whole <= u16::MAX as i128
     }
@@ -149,6 +152,7 @@ impl Integer<4> for u32 {
         self as i128
     }
 
+    #[inline(always)]
     fn fits(whole: i128) -> bool {
         u32::MIN as i128 <= whole && whole <= u32::MAX as i128
     }
@@ -189,6 +193,7 @@ impl Integer<8> for u64 {
         self as i128
     }
 
+    #[inline(always)]
     fn fits(whole: i128) -> bool {
         u64::MIN as i128 <= whole && whole <= u64::MAX as i128
     }
@@ -229,6 +234,7 @@ impl Integer<1> for i8 {
         self as i128
     }
 
+    #[inline(always)]
     fn fits(whole: i128) -> bool {
         i8::MIN as i128 <= whole && whole <= i8::MAX as i128
     }
@@ -269,6 +275,7 @@ impl Integer<2> for i16 {
         self as i128
     }
 
+    #[inline(always)]
     fn fits(whole: i128) -> bool {
         i16::MIN as i128 <= whole && whole <= i16::MAX as i128
     }
@@ -309,6 +316,7 @@ impl Integer<4> for i32 {
         self as i128
     }
 
+    #[inline(always)]
     fn fits(whole: i128) -> bool {
         i32::MIN as i128 <= whole && whole <= i32::MAX as i128
     }
@@ -349,6 +357,7 @@ impl Integer<8> for i64 {
         self as i128
     }
 
+    #[inline(always)]
     fn fits(whole: i128) -> bool {
         i64::MIN as i128 <= whole && whole <= i64::MAX as i128
     }
