@@ -20,7 +20,7 @@ pub struct CastFault {
 }
 
 /// How many rows are tested together before they are written.
-const BLOCK: usize = 32;
+const BLOCK: usize = 16;
 
 /// When the integers of a column are tested.
 #[derive(Clone, Copy)]

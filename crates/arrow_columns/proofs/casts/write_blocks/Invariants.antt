@@ -6,13 +6,13 @@ use Rattle.arrow_columns.proofs.casts.write_blocks.Given as goal
 
 abbrev pub invariant-loop-b : goal.invariant-loop-b
 invariant-loop-b g l = record {
-  fit : AllFit g.U.Integer.kind (cell_at [] (λ i. integer_of g.T.Integer.kind (slice_index_or l.items i []))) l.from (l.from + 32 * l.b);
-  written : AreWritten g.U.Integer.kind g.row.M (cell_at [] (λ i. integer_of g.T.Integer.kind (slice_index_or l.items i []))) l.from (l.from + 32 * l.b) l.room;
-  rest : drop (32 * l.b * g.row.M) l.room ≡ drop (32 * l.b * g.row.M) l.initial.room;
+  fit : AllFit g.U.Integer.kind (cell_at [] (λ i. integer_of g.T.Integer.kind (slice_index_or l.items i []))) l.from (l.from + 16 * l.b);
+  written : AreWritten g.U.Integer.kind g.row.M (cell_at [] (λ i. integer_of g.T.Integer.kind (slice_index_or l.items i []))) l.from (l.from + 16 * l.b) l.room;
+  rest : drop (16 * l.b * g.row.M) l.room ≡ drop (16 * l.b * g.row.M) l.initial.room;
 }
 
 abbrev pub invariant-loop-j : goal.invariant-loop-j
 invariant-loop-j g l = record {
   written : AreWritten g.U.Integer.kind g.row.M (cell_at [] (λ i. integer_of g.T.Integer.kind (slice_index_or l.items i []))) l.from (l.start + l.j) l.room;
-  rest : drop ((l.start + 32 - l.from) * g.row.M) l.room ≡ drop ((l.start + 32 - l.from) * g.row.M) l.initial.room;
+  rest : drop ((l.start + 16 - l.from) * g.row.M) l.room ≡ drop ((l.start + 16 - l.from) * g.row.M) l.initial.room;
 }
