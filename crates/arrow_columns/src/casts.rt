@@ -4,7 +4,7 @@ ghost use Rattle.std.specs.Prelude.{[], ◌≡◌, ℕ, ◌+◌, ◌-◌, ◌*�
 ghost use Rattle.std.specs.Bool.{OnTrue};
 ghost use Rattle.std.specs.Option.{IfNone, IfSome};
 ghost use Rattle.arrow_columns.specs.Words.{AllFit, AreCastTo, AreWritten, HasBits, HasRows, IsFirstUnfit, IsFirstWithout, IsOfKind, cell_at, cells_from, end_of, integer_cells, integer_of, is_valid, item_at, width_of};
-ghost use Rattle.arrow_columns.specs.declared.casts.Passes.TheVariants.{One, Two};
+ghost use Rattle.arrow_columns.specs.declared.casts.Extent.TheVariants.{Front, Nothing};
 
 use crate::bitmaps::is_row_valid;
 use crate::columns::Column;
@@ -22,13 +22,13 @@ pub struct CastFault {
 /// How many rows are tested together before they are written.
 const BLOCK: usize = 16;
 
-/// When the integers of a column are tested.
+/// Which rows are written if the kind lacks an integer.
 #[derive(Clone, Copy)]
-enum Passes {
-    /// As they are written.
-    One,
-    /// All of them before one is written.
-    Two,
+enum Extent {
+    /// Those before the first such one.
+    Front,
+    /// None.
+    Nothing,
 }
 
 /// Whether the kind of U has the integers of all rows, null or not: their least and their greatest.
@@ -296,7 +296,7 @@ fn write_front_by_blocks<const N: usize, T: Integer<N>, const M: usize, U: Integ
 }
 
 /// Writes the integers of the rows before the first whose integer the kind of U lacks, and 0 for a
-/// null. Tells which row that is.
+/// null. Tells which row that is. Where there is a bitmap, all rows are tested first.
 fn write_front<const N: usize, T: Integer<N>, const M: usize, U: Integer<M>>(
     validity: &[u8],
     items: &[[u8; N]],
@@ -323,9 +323,9 @@ fn write_front<const N: usize, T: Integer<N>, const M: usize, U: Integer<M>>(
 }
 
 /// Writes the integers of the rows, and 0 for a null. Tells the first row whose integer the kind of
-/// U lacks: by two passes nothing is written if there is one, by one pass the rows before it are.
+/// U lacks: if there is one, less is written.
 fn write_by<const N: usize, T: Integer<N>, const M: usize, U: Integer<M>>(
-    passes: Passes,
+    extent: Extent,
     validity: &[u8],
     items: &[[u8; N]],
     from: usize,
@@ -341,13 +341,13 @@ fn write_by<const N: usize, T: Integer<N>, const M: usize, U: Integer<M>>(
     ensures found { let cell = cell_at validity.now (λ i. integer_of T.kind (slice_index_or items.now i [])) in MatchOption result (AllFit U.kind cell from end) (IsFirstUnfit U.kind cell from end) }
     ensures written { IfNone result (AreWritten U.kind M (cell_at validity.now (λ i. integer_of T.kind (slice_index_or items.now i []))) from end room.new) }
     ensures rest { IfNone result (drop ((end - from) * M) room.new ≡ drop ((end - from) * M) room.old) }
-    ensures front { passes ≡ One → IfSome result (λ i. AreWritten U.kind M (cell_at validity.now (λ i. integer_of T.kind (slice_index_or items.now i []))) from i room.new) }
-    ensures past { passes ≡ One → IfSome result (λ i. drop ((i - from) * M) room.new ≡ drop ((i - from) * M) room.old) }
-    ensures kept { passes ≡ Two → IfSome result (λ i. room.new ≡ room.old) }
+    ensures front { extent ≡ Front → IfSome result (λ i. AreWritten U.kind M (cell_at validity.now (λ i. integer_of T.kind (slice_index_or items.now i []))) from i room.new) }
+    ensures past { extent ≡ Front → IfSome result (λ i. drop ((i - from) * M) room.new ≡ drop ((i - from) * M) room.old) }
+    ensures kept { extent ≡ Nothing → IfSome result (λ i. room.new ≡ room.old) }
 {
-    match passes {
-        Passes::One => write_front::<N, T, M, U>(validity, items, from, end, room),
-        Passes::Two => match first_without::<N, T, M, U>(validity, items, from, end) {
+    match extent {
+        Extent::Front => write_front::<N, T, M, U>(validity, items, from, end, room),
+        Extent::Nothing => match first_without::<N, T, M, U>(validity, items, from, end) {
             Some(i) => Some(i),
             None => {
                 write_rows::<N, T, M, U>(validity, items, from, end, room);
@@ -360,7 +360,7 @@ fn write_by<const N: usize, T: Integer<N>, const M: usize, U: Integer<M>>(
 /// Casts a column from integers of N bytes to those of M bytes.
 fn cast_between<const N: usize, T: Integer<N>, const M: usize, U: Integer<M>>(
     column: Column,
-    passes: Passes,
+    extent: Extent,
     room: &mut [u8],
 ) -> Result<(), CastFault>
     requires some { 0 < N }
@@ -374,14 +374,14 @@ fn cast_between<const N: usize, T: Integer<N>, const M: usize, U: Integer<M>>(
     ensures rest { OnOk result (drop (column.entry.length * M) room.new ≡ drop (column.entry.length * M) room.old) }
     ensures fault { let cells = cells_from column.entry.validity.now (λ i. integer_of T.kind (item_at N column.entry.values.now i)) column.entry.offset column.entry.length in
         IfErr result (λ fault. IsFirstWithout U.kind cells fault.row) }
-    ensures front { let cells = cells_from column.entry.validity.now (λ i. integer_of T.kind (item_at N column.entry.values.now i)) column.entry.offset column.entry.length in passes ≡ One
+    ensures front { let cells = cells_from column.entry.validity.now (λ i. integer_of T.kind (item_at N column.entry.values.now i)) column.entry.offset column.entry.length in extent ≡ Front
         → IfErr result (λ fault. (row : ℕ) (cell : Option ℤ) → slice_get (take fault.row cells) row ≡ Some cell → integer_of U.kind (item_at M room.new row) ≡ unwrap_or cell (pos 0)) }
-    ensures past { passes ≡ One → IfErr result (λ fault. drop (fault.row * M) room.new ≡ drop (fault.row * M) room.old) }
-    ensures kept { passes ≡ Two → OnErr result (room.new ≡ room.old) }
+    ensures past { extent ≡ Front → IfErr result (λ fault. drop (fault.row * M) room.new ≡ drop (fault.row * M) room.old) }
+    ensures kept { extent ≡ Nothing → OnErr result (room.new ≡ room.old) }
 {
     let (items, _) = column.values.as_chunks::<N>();
     let end = column.offset + column.length;
-    match write_by::<N, T, M, U>(passes, column.validity, items, column.offset, end, room) {
+    match write_by::<N, T, M, U>(extent, column.validity, items, column.offset, end, room) {
         Some(i) => Err(CastFault {
             row: i - column.offset,
         }),
@@ -393,7 +393,7 @@ fn cast_between<const N: usize, T: Integer<N>, const M: usize, U: Integer<M>>(
 fn cast_from<const N: usize, T: Integer<N>>(
     column: Column,
     to: IntegerKind,
-    passes: Passes,
+    extent: Extent,
     room: &mut [u8],
 ) -> Result<(), CastFault>
     requires some { 0 < N }
@@ -404,19 +404,19 @@ fn cast_from<const N: usize, T: Integer<N>>(
     ensures cast { OnOk result (AreCastTo to (cells_from column.entry.validity.now (λ i. integer_of T.kind (item_at N column.entry.values.now i)) column.entry.offset column.entry.length) room.new) }
     ensures rest { OnOk result (drop (column.entry.length * width_of to) room.new ≡ drop (column.entry.length * width_of to) room.old) }
     ensures fault { IfErr result (λ fault. IsFirstWithout to (cells_from column.entry.validity.now (λ i. integer_of T.kind (item_at N column.entry.values.now i)) column.entry.offset column.entry.length) fault.row) }
-    ensures front { passes ≡ One → IfErr result (λ fault. AreCastTo to (take fault.row (cells_from column.entry.validity.now (λ i. integer_of T.kind (item_at N column.entry.values.now i)) column.entry.offset column.entry.length)) room.new) }
-    ensures past { passes ≡ One → IfErr result (λ fault. drop (fault.row * width_of to) room.new ≡ drop (fault.row * width_of to) room.old) }
-    ensures kept { passes ≡ Two → OnErr result (room.new ≡ room.old) }
+    ensures front { extent ≡ Front → IfErr result (λ fault. AreCastTo to (take fault.row (cells_from column.entry.validity.now (λ i. integer_of T.kind (item_at N column.entry.values.now i)) column.entry.offset column.entry.length)) room.new) }
+    ensures past { extent ≡ Front → IfErr result (λ fault. drop (fault.row * width_of to) room.new ≡ drop (fault.row * width_of to) room.old) }
+    ensures kept { extent ≡ Nothing → OnErr result (room.new ≡ room.old) }
 {
     match to {
-        IntegerKind::U8 => cast_between::<N, T, 1, u8>(column, passes, room),
-        IntegerKind::U16 => cast_between::<N, T, 2, u16>(column, passes, room),
-        IntegerKind::U32 => cast_between::<N, T, 4, u32>(column, passes, room),
-        IntegerKind::U64 => cast_between::<N, T, 8, u64>(column, passes, room),
-        IntegerKind::I8 => cast_between::<N, T, 1, i8>(column, passes, room),
-        IntegerKind::I16 => cast_between::<N, T, 2, i16>(column, passes, room),
-        IntegerKind::I32 => cast_between::<N, T, 4, i32>(column, passes, room),
-        IntegerKind::I64 => cast_between::<N, T, 8, i64>(column, passes, room),
+        IntegerKind::U8 => cast_between::<N, T, 1, u8>(column, extent, room),
+        IntegerKind::U16 => cast_between::<N, T, 2, u16>(column, extent, room),
+        IntegerKind::U32 => cast_between::<N, T, 4, u32>(column, extent, room),
+        IntegerKind::U64 => cast_between::<N, T, 8, u64>(column, extent, room),
+        IntegerKind::I8 => cast_between::<N, T, 1, i8>(column, extent, room),
+        IntegerKind::I16 => cast_between::<N, T, 2, i16>(column, extent, room),
+        IntegerKind::I32 => cast_between::<N, T, 4, i32>(column, extent, room),
+        IntegerKind::I64 => cast_between::<N, T, 8, i64>(column, extent, room),
     }
 }
 
@@ -430,10 +430,10 @@ impl IntegerRows<'_> {
         ensures fault { IfErr result (λ fault. IsFirstWithout to (integer_cells self.now.kind self.now.column) fault.row) }
         ensures kept { OnErr result (room.new ≡ room.old) }
     {
-        self.cast_by(to, Passes::Two, room)
+        self.cast_by(to, Extent::Nothing, room)
     }
 
-    /// The same in one pass, which takes less time: if the kind lacks an integer, the rows before
+    /// The same, in one pass if there is no bitmap. If the kind lacks an integer, the rows before
     /// the first such one are written, and the room past them stays.
     pub fn cast_front(&self, to: IntegerKind, room: &mut [u8]) -> Result<(), CastFault>
         requires { self.now.column.length * width_of to ≤ length room.old }
@@ -443,28 +443,28 @@ impl IntegerRows<'_> {
         ensures front { IfErr result (λ fault. AreCastTo to (take fault.row (integer_cells self.now.kind self.now.column)) room.new) }
         ensures past { IfErr result (λ fault. drop (fault.row * width_of to) room.new ≡ drop (fault.row * width_of to) room.old) }
     {
-        self.cast_by(to, Passes::One, room)
+        self.cast_by(to, Extent::Front, room)
     }
 
-    /// Casts the column in one pass or two.
-    fn cast_by(&self, to: IntegerKind, passes: Passes, room: &mut [u8]) -> Result<(), CastFault>
+    /// Casts the column, so far as it is to be written.
+    fn cast_by(&self, to: IntegerKind, extent: Extent, room: &mut [u8]) -> Result<(), CastFault>
         requires { self.now.column.length * width_of to ≤ length room.old }
         ensures cast { OnOk result (AreCastTo to (integer_cells self.now.kind self.now.column) room.new) }
         ensures rest { OnOk result (drop (self.now.column.length * width_of to) room.new ≡ drop (self.now.column.length * width_of to) room.old) }
         ensures fault { IfErr result (λ fault. IsFirstWithout to (integer_cells self.now.kind self.now.column) fault.row) }
-        ensures front { passes ≡ One → IfErr result (λ fault. AreCastTo to (take fault.row (integer_cells self.now.kind self.now.column)) room.new) }
-        ensures past { passes ≡ One → IfErr result (λ fault. drop (fault.row * width_of to) room.new ≡ drop (fault.row * width_of to) room.old) }
-        ensures kept { passes ≡ Two → OnErr result (room.new ≡ room.old) }
+        ensures front { extent ≡ Front → IfErr result (λ fault. AreCastTo to (take fault.row (integer_cells self.now.kind self.now.column)) room.new) }
+        ensures past { extent ≡ Front → IfErr result (λ fault. drop (fault.row * width_of to) room.new ≡ drop (fault.row * width_of to) room.old) }
+        ensures kept { extent ≡ Nothing → OnErr result (room.new ≡ room.old) }
     {
         match self.kind {
-            IntegerKind::U8 => cast_from::<1, u8>(self.column, to, passes, room),
-            IntegerKind::U16 => cast_from::<2, u16>(self.column, to, passes, room),
-            IntegerKind::U32 => cast_from::<4, u32>(self.column, to, passes, room),
-            IntegerKind::U64 => cast_from::<8, u64>(self.column, to, passes, room),
-            IntegerKind::I8 => cast_from::<1, i8>(self.column, to, passes, room),
-            IntegerKind::I16 => cast_from::<2, i16>(self.column, to, passes, room),
-            IntegerKind::I32 => cast_from::<4, i32>(self.column, to, passes, room),
-            IntegerKind::I64 => cast_from::<8, i64>(self.column, to, passes, room),
+            IntegerKind::U8 => cast_from::<1, u8>(self.column, to, extent, room),
+            IntegerKind::U16 => cast_from::<2, u16>(self.column, to, extent, room),
+            IntegerKind::U32 => cast_from::<4, u32>(self.column, to, extent, room),
+            IntegerKind::U64 => cast_from::<8, u64>(self.column, to, extent, room),
+            IntegerKind::I8 => cast_from::<1, i8>(self.column, to, extent, room),
+            IntegerKind::I16 => cast_from::<2, i16>(self.column, to, extent, room),
+            IntegerKind::I32 => cast_from::<4, i32>(self.column, to, extent, room),
+            IntegerKind::I64 => cast_from::<8, i64>(self.column, to, extent, room),
         }
     }
 }
