@@ -1,17 +1,21 @@
 -- What is read and written of a zone.
-use Rattle.std.proofs.Common.{◌≡◌, ◌≤◌, ◌+◌, ℕ, suc, zero, List, [], ◌∷◌, ◌++◌, Bool, true, false, not, cond, Option, refl, sym, ap, ◌∙◌, subst, length, take, drop, arith}
+use Rattle.std.proofs.Common.{◌≡◌, ◌≤◌, ◌+◌, ℕ, suc, zero, List, [], ◌∷◌, ◌++◌, ◌==◌, ◌&&◌, Bool, true, false, not, cond, Option, refl, sym, ap, ◌∙◌, subst, length, take, drop, arith}
 use Rattle.std.proofs.lemmas.List.{drop-take, length-take, length-drop, take-take}
 use Rattle.std.proofs.lemmas.List.Sums.{count_by-le-length, length-filter, sum_by-cons}
 use Rattle.std.proofs.KnownBytes.{Appends-nil}
 use Rattle.std.specs.Io.KnownBytes.{Appends}
 use Rattle.std.specs.Prelude.{IfSome}
 use lib.Seq.{take-append_seam}
-use Rattle.std.specs.List.{AllPass, concat, count_by, filter}
+use Rattle.std.specs.List.{AllPass, concat, count_by, filter, onto_first}
+use Rattle.csv.specs.Machine.{step}
+use Rattle.csv.specs.declared.parser.State.{State}
+use Rattle.csv.specs.declared.parser.State.TheVariants as st
 use Rattle.csv_records.specs.Lemmas.RecordLaws.{concat-records_of}
-use Rattle.csv_records.specs.Records.{records_of}
+use Rattle.csv_records.specs.Records.{is_start, records_from, records_of}
+use Rattle.csv_records.specs.Rows.{config_of}
 use Rattle.zone_index.specs.Asking.{Asks, AsksWithin, IsWithin}
 use Rattle.zone_index.specs.Records.{is_same, kept_of}
-use Rattle.zone_index.specs.Zones.{Agree, AsksOfZone, IsHeld, IsZoneOf, is_skip, way_of, zone_bytes, zone_records}
+use Rattle.zone_index.specs.Zones.{Agree, AsksInPart, AsksOfZone, IsHeld, IsZoneOf, is_open, is_skip, way_of, zone_bytes, zone_records}
 use Rattle.zone_index.specs.declared.read_at.Asked.{Asked}
 use Rattle.zone_index.specs.declared.records.Decision.{Decision}
 use Rattle.zone_index.specs.declared.zones.Way.{Way}
@@ -98,6 +102,10 @@ pub not_skipped : (decides : List ℕ → Decision) (z : Zone) (w : Way) (a b : 
 not_skipped decides z w a b is other h =
     asks_more (IsWithin z.first (z.first + z.length)) (AsksOfZone decides z) a b (λ x within. (ap is_skip (sym is) ∙ other, within)) h
 
+pub undecided : (decides : List ℕ → Decision) (z : Zone) (d : Decision) (a b : Option (List Asked)) → d ≡ decides z.statistics.items → is_open d ≡ true → AsksWithin a b z.first (z.first + z.length) → Asks (AsksInPart decides z) a b
+undecided decides z d a b is other h =
+    asks_more (IsWithin z.first (z.first + z.length)) (AsksInPart decides z) a b (λ x within. (ap is_open (sym is) ∙ other, within)) h
+
 -- ---- counting
 
 none_counted : (p : List ℕ → Bool) (xs : List (List ℕ)) → AllPass (λ x. not (p x)) xs → count_by p xs ≡ 0
@@ -135,3 +143,22 @@ all_counted keep xs all = sym (ap length (filter_all keep xs all)) ∙ length-fi
 
 pub copied_counted : (d : ℕ) (has_row : List ℕ → Bool) (Describes : List ℕ → List (List ℕ) → Type 0) (keep : List ℕ → Bool) (was : List ℕ) (z : Zone) → AllPass keep (zone_records d was z) → IsZoneOf d has_row Describes was z → z.records ≡ count_by keep (zone_records d was z)
 copied_counted d has_row Describes keep was z all zone = zone.records ∙ all_counted keep (zone_records d was z) all
+
+-- a record has a byte at least
+onto_long : (c : ℕ) (parts : List (List ℕ)) → length (onto_first c parts) ≤ suc (length parts)
+onto_long c [] = omega arith
+onto_long c (part ∷ parts) = omega arith
+
+few_step : (d c : ℕ) (before : State) (rest : List ℕ) (t : Bool) → ((c == 10) && is_start (step (config_of d) before c).0) ≡ t → length (records_from d st.StartRecord rest) ≤ length rest → length (records_from d (step (config_of d) before c).0 rest) ≤ length rest
+    → length (records_from d before (c ∷ rest)) ≤ suc (length rest)
+few_step d c before rest true e start on = rw e (omega (arith, start))
+few_step d c before rest false e start on = rw e (omega (arith, on, onto_long c (records_from d (step (config_of d) before c).0 rest)))
+
+few_from : (d : ℕ) (s : State) (xs : List ℕ) → length (records_from d s xs) ≤ length xs
+few_from d s [] = omega arith
+few_from d s (c ∷ rest) = few_step d c s rest ((c == 10) && is_start (step (config_of d) s c).0) refl (few_from d st.StartRecord rest) (few_from d (step (config_of d) s c).0 rest)
+
+-- so a zone has no more rows than bytes
+pub rows_few : (d : ℕ) (has_row : List ℕ → Bool) (Describes : List ℕ → List (List ℕ) → Type 0) (was : List ℕ) (z : Zone) → IsZoneOf d has_row Describes was z → z.rows ≤ z.length
+rows_few d has_row Describes was z zone =
+    omega (arith, zone.rows, count_by-le-length has_row (zone_records d was z), few_from d st.StartRecord (zone_bytes was z), length-take z.length (drop z.first was))

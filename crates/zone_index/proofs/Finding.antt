@@ -4,13 +4,13 @@ use Rattle.std.proofs.KnownBytes.{Appends-trans}
 use Rattle.std.proofs.lemmas.Grind.{flat_map-append, take_at_read}
 use Rattle.std.proofs.lemmas.List.Elements.{Contains-get_or, filter-append}
 use Rattle.std.proofs.lemmas.List.Folds.{concat-append}
-use Rattle.std.proofs.lemmas.List.Sums.{count_by_more_no, count_by_more_yes, sum_by-append, sum_by-cons, sum_by_more}
+use Rattle.std.proofs.lemmas.List.Sums.{count_by_more_no, count_by_more_yes, sum_by-append, sum_by-cons, sum_by-take-drop, sum_by_more}
 use Rattle.std.specs.List.{All, concat, count_by, filter, flat_map, sum_by}
 use Rattle.csv_records.specs.Records.{records_of}
 use Rattle.std.specs.Io.KnownBytes.{Appends}
 use Rattle.zone_index.specs.Asking.{Asks}
 use Rattle.zone_index.specs.Records.{kept_of}
-use Rattle.zone_index.specs.Zones.{AsksInPart, AsksOfZone, IsIndexOf, IsOfZone, IsPartOfZone, found_in, zone_bytes, zone_records}
+use Rattle.zone_index.specs.Zones.{AsksInPart, AsksOfZone, Follow, IsIndexOf, IsOfZone, IsPartOfZone, found_in, zone_bytes, zone_records}
 use Rattle.zone_index.specs.declared.read_at.Asked.{Asked}
 use Rattle.zone_index.specs.declared.records.Decision.{Decision}
 use Rattle.zone_index.specs.declared.zones.Zone.{Zone}
@@ -109,3 +109,22 @@ pub capped_all : (d : ℕ) (has_row : List ℕ → Bool) (Describes : List ℕ �
     → found ≡ min (counted_in d keep was (take i zones)) (2 ^ 64 - 1) → found ≡ min (count_by keep (records_of d (drop start was))) (2 ^ 64 - 1)
 capped_all d has_row Describes keep start zones was i found ended index before =
     before ∙ ap (λ (m : ℕ). min m (2 ^ 64 - 1)) (total_all d has_row Describes keep start zones was i (counted_in d keep was (take i zones)) ended index refl)
+
+-- ---- no more than bytes
+
+abbrev pub bytes_in : List Zone → ℕ
+bytes_in zones = sum_by (λ z. z.length) zones
+
+pub few_more : (zones : List Zone) (i old n new : ℕ) (z : Zone) → i < length zones → z ≡ get_or zones i z → old ≤ bytes_in (take i zones) → n ≤ z.length → new ≡ old + n → new ≤ bytes_in (take (i + 1) zones)
+few_more zones i old n new z inside is before here sum =
+    let length_of : Zone → ℕ = λ y. y.length in
+    omega (arith, before, here, sum, ap length_of is, sum_by_more length_of zones i z inside)
+
+follow_long : (at end : ℕ) (zones : List Zone) → Follow at zones end → at + bytes_in zones ≡ end
+follow_long at end [] h = omega (arith, h)
+follow_long at end (z ∷ zones) h = omega (arith, sum_by-cons (λ (y : Zone). y.length) z zones, follow_long (at + z.length) end zones h.1)
+
+pub zones_far : (d : ℕ) (has_row : List ℕ → Bool) (Describes : List ℕ → List (List ℕ) → Type 0) (was : List ℕ) (start : ℕ) (zones : List Zone) (i old n : ℕ) (z : Zone) → i < length zones → z ≡ get_or zones i z → IsIndexOf d has_row Describes start zones was
+    → old ≤ bytes_in (take i zones) → n ≤ z.length → 2 ^ 64 ≤ old + n → 2 ^ 64 ≤ length was
+zones_far d has_row Describes was start zones i old n z inside is index before here far =
+    omega (arith, far, few_more zones i old n (old + n) z inside is before here refl, sum_by-take-drop (λ (y : Zone). y.length) zones (i + 1), follow_long start (length was) zones index.follow)

@@ -156,47 +156,54 @@ refused_in_zone R d has_row Describes old now zones i z faults.Memory inside is 
 
 -- ---- a stream, piece by piece
 
--- what is left of a stream behind some of its records, and where that begins
-pub record IsPassed (d : ℕ) (bytes : List ℕ) (left : Option (List ℕ)) (start at : ℕ) : Type 0 where
+-- what is left of a stream behind some of its records, which have so many bytes
+pub record IsPassed (d : ℕ) (bytes : List ℕ) (left : Option (List ℕ)) (passed : ℕ) : Type 0 where
   pub done : List (List ℕ)
   pub rest : List ℕ
   pub is : left ≡ Some rest
   pub records : records_of d bytes ≡ done ++ records_of d rest
-  pub place : at ≡ min (start + length (concat done)) (2 ^ 64 - 1)
+  pub long : length (concat done) ≡ passed
 
-pub passed_none : (d : ℕ) (bytes : List ℕ) (left : Option (List ℕ)) (start : ℕ) → start < 2 ^ 64 → left ≡ Some bytes → IsPassed d bytes left start start
-passed_none d bytes left start fits is = record { done = []; rest = bytes; is = is; records = refl; place = omega (arith, fits) }
+pub passed_none : (d : ℕ) (bytes : List ℕ) (left : Option (List ℕ)) → left ≡ Some bytes → IsPassed d bytes left 0
+passed_none d bytes left is = record { done = []; rest = bytes; is = is; records = refl; long = refl }
 
-pub passed_more : (d e : ℕ) (bytes text : List ℕ) (left next : Option (List ℕ)) (start at now : ℕ) (s : IsPassed d bytes left start at) → e ≡ d → IsTaken e s.rest text next → now ≡ min (at + length text) (2 ^ 64 - 1) → IsPassed d bytes next start now
-passed_more d e bytes text left next start at now s by t is =
+pub passed_more : (d e : ℕ) (bytes text : List ℕ) (left next : Option (List ℕ)) (passed now : ℕ) (s : IsPassed d bytes left passed) → e ≡ d → IsTaken e s.rest text next → now ≡ passed + length text → IsPassed d bytes next now
+passed_more d e bytes text left next passed now s by t is =
     let taken : IsTaken d s.rest text next = subst (λ (n : ℕ). IsTaken n s.rest text next) by t in
     record {
       done = s.done ++ records_of d text;
       rest = taken.rest;
       is = taken.is;
       records = s.records ∙ ap (λ (l : List (List ℕ)). s.done ++ l) taken.records ∙ sym (append_assoc s.done (records_of d text) (records_of d taken.rest));
-      place = omega (arith, is, s.place, concat_long s.done (records_of d text), ap length (concat-records_of d text));
+      long = omega (arith, is, s.long, concat_long s.done (records_of d text), ap length (concat-records_of d text));
     }
 
-pub told_in_piece : (R : List ℕ → Cause → Type 0) (d e : ℕ) (bytes text view : List ℕ) (left next : Option (List ℕ)) (start at : ℕ) (r : Refusal) (s : IsPassed d bytes left start at) → e ≡ d → IsTaken e s.rest text next → view ≡ text
+-- a piece that ends so far behind the first byte
+pub passed_far : (d e : ℕ) (bytes text : List ℕ) (left next : Option (List ℕ)) (passed : ℕ) (s : IsPassed d bytes left passed) → IsTaken e s.rest text next → 2 ^ 64 ≤ passed + length text → 2 ^ 64 ≤ length bytes
+passed_far d e bytes text left next passed s t far =
+    let all : length (concat s.done) + length (concat (records_of d s.rest)) ≡ length bytes =
+    sym (concat_long s.done (records_of d s.rest)) ∙ ap (λ (l : List (List ℕ)). length (concat l)) (sym s.records) ∙ ap length (concat-records_of d bytes) in
+    omega (arith, far, all, s.long, ap length (concat-records_of d s.rest), ap length t.parts, length-append text t.rest)
+
+pub told_in_piece : (R : List ℕ → Cause → Type 0) (d e : ℕ) (bytes text view : List ℕ) (left next : Option (List ℕ)) (start passed at : ℕ) (r : Refusal) (s : IsPassed d bytes left passed) → at ≡ min (start + passed) (2 ^ 64 - 1) → e ≡ d → IsTaken e s.rest text next → view ≡ text
     → TellsOneOf R at (records_of d view) r → TellsOneOf R start (records_of d bytes) r
-told_in_piece R d e bytes text view left next start at r s by t same h =
+told_in_piece R d e bytes text view left next start passed at r s place by t same h =
     let taken : IsTaken d s.rest text next = subst (λ (n : ℕ). IsTaken n s.rest text next) by t in
     let piece : TellsOneOf R at (records_of d text) r = subst (λ (l : List ℕ). TellsOneOf R at (records_of d l) r) same h in
     subst (λ (l : List (List ℕ)). TellsOneOf R start l r) (sym (s.records ∙ ap (λ (l : List (List ℕ)). s.done ++ l) taken.records))
-    (told_among R start at s.done (records_of d text) (records_of d taken.rest) r (λ n. omega (arith, s.place)) piece)
+    (told_among R start at s.done (records_of d text) (records_of d taken.rest) r (λ n. omega (arith, s.long, place)) piece)
 
-pub refused_in_piece : (R : List ℕ → Cause → Type 0) (d e : ℕ) (text view : List ℕ) (all left next : Option (List ℕ)) (start at : ℕ) (f : Fault) → ((bytes : List ℕ) → all ≡ Some bytes → IsPassed d bytes left start at) → e ≡ d
+pub refused_in_piece : (R : List ℕ → Cause → Type 0) (d e : ℕ) (text view : List ℕ) (all left next : Option (List ℕ)) (start passed at : ℕ) (f : Fault) → ((bytes : List ℕ) → all ≡ Some bytes → IsPassed d bytes left passed) → at ≡ min (start + passed) (2 ^ 64 - 1) → e ≡ d
     → ((bytes : List ℕ) → left ≡ Some bytes → IsTaken e bytes text next) → view ≡ text → IfRefused (TellsOneOf R at (records_of d view)) f
     → IfRefused (λ r. (bytes : List ℕ) → all ≡ Some bytes → TellsOneOf R start (records_of d bytes) r) f
-refused_in_piece R d e text view all left next start at (faults.Refused r) passed by taken same h = λ bytes is.
-    let s : IsPassed d bytes left start at = passed bytes is in
-    told_in_piece R d e bytes text view left next start at r s by (taken s.rest s.is) same h
-refused_in_piece R d e text view all left next start at faults.Read passed by taken same h = tt
-refused_in_piece R d e text view all left next start at faults.CutShort passed by taken same h = tt
-refused_in_piece R d e text view all left next start at faults.TooFar passed by taken same h = tt
-refused_in_piece R d e text view all left next start at faults.Write passed by taken same h = tt
-refused_in_piece R d e text view all left next start at faults.Memory passed by taken same h = tt
+refused_in_piece R d e text view all left next start passed at (faults.Refused r) before place by taken same h = λ bytes is.
+    let s : IsPassed d bytes left passed = before bytes is in
+    told_in_piece R d e bytes text view left next start passed at r s place by (taken s.rest s.is) same h
+refused_in_piece R d e text view all left next start passed at faults.Read before place by taken same h = tt
+refused_in_piece R d e text view all left next start passed at faults.CutShort before place by taken same h = tt
+refused_in_piece R d e text view all left next start passed at faults.TooFar before place by taken same h = tt
+refused_in_piece R d e text view all left next start passed at faults.Write before place by taken same h = tt
+refused_in_piece R d e text view all left next start passed at faults.Memory before place by taken same h = tt
 
 -- ---- an index that is being made
 
@@ -208,6 +215,16 @@ begun_long d has_row Describes start zones front bytes left at b long =
     let all : length (concat done) + length (concat (records_of d b.rest)) ≡ length bytes =
     sym (concat_long done (records_of d b.rest)) ∙ ap (λ (l : List (List ℕ)). length (concat l)) (sym b.records) ∙ ap length (concat-records_of d (drop start (front ++ bytes))) ∙ ap length (drop_at front bytes start long) in
     omega (arith, rest, all, ap length b.parts, length-append front bytes, length-append b.before b.rest, b.long, long)
+
+-- a piece that ends so far, whatever stands before what is left
+pub far_in_stream : (d e : ℕ) (has_row : List ℕ → Bool) (Describes : List ℕ → List (List ℕ) → Type 0) (zones : List Zone) (text : List ℕ) (all left next : Option (List ℕ)) (start at : ℕ)
+    → ((front bytes : List ℕ) → length front ≡ start → all ≡ Some bytes → IsBegun d has_row Describes start zones (front ++ bytes) left at)
+    → ((bytes : List ℕ) → left ≡ Some bytes → IsTaken e bytes text next) → 2 ^ 64 ≤ at + length text → (bytes : List ℕ) → all ≡ Some bytes → 2 ^ 64 ≤ start + length bytes
+far_in_stream d e has_row Describes zones text all left next start at begun taken far bytes is =
+    let front : List ℕ = replicate start 0 in
+    let long : length front ≡ start = length-replicate start 0 in
+    let b : IsBegun d has_row Describes start zones (front ++ bytes) left at = begun front bytes long is in
+    omega (arith, far, long, b.long, ap length b.parts, length-append front bytes, length-append b.before b.rest, ap length (taken b.rest b.is).parts, length-append text (taken b.rest b.is).rest)
 
 pub told_in_stream : (R : List ℕ → Cause → Type 0) (d e : ℕ) (has_row : List ℕ → Bool) (Describes : List ℕ → List (List ℕ) → Type 0) (start : ℕ) (zones : List Zone) (front bytes text view : List ℕ) (left next : Option (List ℕ)) (at : ℕ) (r : Refusal) (b : IsBegun d has_row Describes start zones (front ++ bytes) left at) → length front ≡ start
     → e ≡ d → IsTaken e b.rest text next → view ≡ text → TellsOneOf R at (records_of d view) r → TellsOneOf R start (records_of d bytes) r

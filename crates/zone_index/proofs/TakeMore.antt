@@ -1,5 +1,5 @@
 -- A line more is taken.
-use Rattle.std.proofs.Common.{◌≡◌, ◌≢◌, ◌<◌, ◌≤◌, ◌+◌, ◌-◌, ◌⊎◌, inl, inr, ℕ, List, [], ◌∷◌, ◌++◌, ◌==◌, Bool, true, false, Option, None, Some, IfSome, refl, sym, ap, ◌∙◌, subst, cond, length, take, drop, arith, append_assoc, append-nil, drop_at}
+use Rattle.std.proofs.Common.{◌≡◌, ◌<◌, ◌≤◌, ◌+◌, ◌-◌, ◌⊎◌, inl, inr, ℕ, List, [], ◌∷◌, ◌++◌, ◌==◌, Bool, true, false, Option, None, Some, IfSome, refl, sym, ap, ◌∙◌, subst, cond, length, take, drop, arith, append_assoc, append-nil, drop_at}
 use Rattle.std.proofs.lemmas.Bool.{eqb-true}
 use Rattle.std.proofs.KnownBytes.{starts_with_rest}
 use Rattle.std.specs.Io.{StartsWith, appended_bytes}
@@ -124,9 +124,9 @@ stays d bytes text more old new s t given drops at_end =
       λ none. all ∙ none,
     )
 
-pub stays_below : (taken size mid n : ℕ) (b : Bool) → taken < size → mid ≡ taken + (cond b 1 0) → n ≤ size - mid → mid + n ≢ size → mid + n < size
-stays_below taken size mid n true below e few other = omega arith
-stays_below taken size mid n false below e few other = omega arith
+pub stays_few : (taken size mid n : ℕ) (b : Bool) → taken < size → mid ≡ taken + (cond b 1 0) → n ≤ size - mid → mid + n ≤ size
+stays_few taken size mid n true below e few = omega arith
+stays_few taken size mid n false below e few = omega arith
 
 -- ---- records without quotes
 

@@ -5,7 +5,7 @@ ghost use Rattle.csv_records.specs.Records.{records_of};
 ghost use Rattle.zone_index.specs.Asking.{Asks};
 ghost use Rattle.zone_index.specs.Faults.{IfRefused, IsOfRecord, TellsOneOf};
 ghost use Rattle.zone_index.specs.Zones.{AsksInPart, IsHeld, IsIndexOf, IsPartOfZone, IsZoneOf, zone_records};
-ghost use Rattle.zone_index.specs.declared.faults.Fault.TheVariants.{CutShort, Write as WriteFault};
+ghost use Rattle.zone_index.specs.declared.faults.Fault.TheVariants.{CutShort, TooFar, Write as WriteFault};
 
 use crate::faults::Fault;
 use crate::read_at::ReadAt;
@@ -32,6 +32,9 @@ pub fn count<R: ReadAt, M: Matcher>(
         (λ bytes. (was : List ℕ) (start : ℕ)
         → IsIndexOf (M.delimiter matcher.now) (M.has_row matcher.now) (M.Describes matcher.now) start zones.now was
         → length bytes < length was)) }
+    ensures far { IfErr result (λ fault. fault ≡ TooFar → (was : List ℕ) (start : ℕ)
+        → IsIndexOf (M.delimiter matcher.now) (M.has_row matcher.now) (M.Describes matcher.now) start zones.now was
+        → 2 ^ 64 ≤ length was) }
     ensures reading { IfErr result (λ fault. fault ≢ WriteFault) }
     // The record that is told is one of the bytes, and begins there.
     ensures refused { IfErr result (IfRefused (λ refusal. (was : List ℕ) (start : ℕ)
@@ -62,8 +65,12 @@ fn count_zone<R: ReadAt, M: Matcher>(
         → n ≡ count_by (M.matches matcher.now) (zone_records (M.delimiter matcher.now) was zone.now)) }
     ensures kept { R.bytes reader.new ≡ R.bytes reader.old }
     ensures asks { Asks (AsksInPart (M.decides matcher.now) zone.now) (R.asked reader.old) (R.asked reader.new) }
+    ensures few { IfOk result (λ n. (was : List ℕ)
+        → IsZoneOf (M.delimiter matcher.now) (M.has_row matcher.now) (M.Describes matcher.now) was zone.now
+        → n ≤ zone.now.length) }
     ensures cut { IfErr result (λ fault. fault ≡ CutShort → IfSome (R.bytes reader.old)
         (λ bytes. length bytes < zone.now.first + zone.now.length)) }
+    ensures far { IfErr result (λ fault. fault ≡ TooFar → 2 ^ 64 ≤ zone.now.first + zone.now.length) }
     ensures reading { IfErr result (λ fault. fault ≢ WriteFault) }
     ensures refused { IfErr result (IfRefused (λ refusal. (was : List ℕ) → IsHeld (R.bytes reader.old) was
         → zone.now.first + zone.now.length ≤ length was
@@ -90,6 +97,7 @@ pub(crate) fn count_in<M: Matcher>(
 ) -> Result<u64, Fault>
     ensures counted { IfOk result (λ n. n ≡ count_by (M.matches matcher.now)
         (records_of (M.delimiter matcher.now) text.now)) }
+    ensures few { IfOk result (λ n. n ≤ length text.now) }
     ensures why { IfErr result IsOfRecord }
     ensures refused { IfErr result (IfRefused (TellsOneOf (M.Refuses matcher.now) first
         (records_of (M.delimiter matcher.now) text.now))) }

@@ -1,9 +1,10 @@
 //! An index is made of a stream.
 
-ghost use Rattle.std.specs.Prelude.{◌≡◌, ◌<◌, ◌+◌, ◌++◌, ℕ, List, Some, IfErr, IfOk, length};
+ghost use Rattle.std.specs.Prelude.{◌≡◌, ◌≢◌, ◌<◌, ◌≤◌, ◌+◌, ◌++◌, ◌^◌, ℕ, List, Some, IfErr, IfOk, length};
 ghost use Rattle.csv_records.specs.Records.{records_of};
-ghost use Rattle.zone_index.specs.Faults.{IfRefused, TellsOneOf};
+ghost use Rattle.zone_index.specs.Faults.{IfRefused, IsOfRecord, TellsOneOf};
 ghost use Rattle.zone_index.specs.Zones.{IsIndexOf, IsZoneOfText};
+ghost use Rattle.zone_index.specs.declared.faults.Fault.TheVariants.{CutShort, TooFar, Write as WriteFault};
 
 use crate::faults::Fault;
 use crate::records::{Described, Describer};
@@ -26,6 +27,10 @@ pub fn index_records<B: BufRead, D: Describer>(
         → B.remaining reader.old ≡ Some bytes
         → IsIndexOf (D.delimiter describer.now) (D.has_row describer.now) (D.Describes describer.now)
         start zones.items (before ++ bytes)) }
+    ensures reading { IfErr result (λ fault. fault ≢ WriteFault) }
+    ensures uncut { IfErr result (λ fault. fault ≢ CutShort) }
+    ensures far { IfErr result (λ fault. fault ≡ TooFar → (bytes : List ℕ) → B.remaining reader.old ≡ Some bytes
+        → 2 ^ 64 ≤ start + length bytes) }
     // The record that is told is one of those, and begins there.
     ensures refused { IfErr result (IfRefused (λ refusal. (bytes : List ℕ) → B.remaining reader.old ≡ Some bytes
         → TellsOneOf (D.Refuses describer.now) start (records_of (D.delimiter describer.now) bytes) refusal)) }
@@ -34,7 +39,7 @@ pub fn index_records<B: BufRead, D: Describer>(
     let mut zones = Vec::new(alloc);
     let mut text = Vec::new(alloc);
     let mut first = start;
-    for _ in 0..u64::MAX {
+    loop {
         text.clear();
         take_records(delimiter, size, &mut text, reader)?;
         if text.is_empty() {
@@ -47,7 +52,6 @@ pub fn index_records<B: BufRead, D: Describer>(
         }
         zones.push(zone)?;
     }
-    Err(Fault::TooFar)
 }
 
 /// The zone of a text that begins here.
@@ -59,6 +63,7 @@ fn zone_of<D: Describer>(
 ) -> Result<Zone, Fault>
     ensures zone { IfOk result (IsZoneOfText (D.delimiter describer.now) (D.has_row describer.now)
         (D.Describes describer.now) first text.now) }
+    ensures why { IfErr result IsOfRecord }
     ensures refused { IfErr result (IfRefused (TellsOneOf (D.Refuses describer.now) first
         (records_of (D.delimiter describer.now) text.now))) }
 {

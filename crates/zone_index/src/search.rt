@@ -181,6 +181,7 @@ pub(crate) fn read_zone<R: ReadAt>(
 ) -> Result<Vec<u8>, Fault>
     ensures read { IfOk result (λ piece. (was : List ℕ) → IsHeld (R.bytes reader.old) was
         → zone.now.first + zone.now.length ≤ length was → piece.items ≡ zone_bytes was zone.now) }
+    ensures long { IfOk result (λ piece. length piece.items ≡ zone.now.length) }
     ensures kept { R.bytes reader.new ≡ R.bytes reader.old }
     ensures asks { AsksWithin (R.asked reader.old) (R.asked reader.new) zone.now.first (zone.now.first + zone.now.length) }
     ensures reading { IfErr result (λ fault. fault ≢ WriteFault) }
@@ -209,6 +210,7 @@ pub(crate) fn kept_in<M: Matcher>(
     ensures kept { IfOk result (λ kept. kept.0.items ≡ kept_of (M.delimiter matcher.now) (M.matches matcher.now) text.now) }
     ensures counted { IfOk result (λ kept. kept.1 ≡ count_by (M.matches matcher.now)
         (records_of (M.delimiter matcher.now) text.now)) }
+    ensures few { IfOk result (λ kept. kept.1 ≤ length text.now) }
     ensures why { IfErr result IsOfRecord }
     ensures refused { IfErr result (IfRefused (TellsOneOf (M.Refuses matcher.now) first
         (records_of (M.delimiter matcher.now) text.now))) }

@@ -1,12 +1,12 @@
 //! The records of a stream are searched.
 
-ghost use Rattle.std.specs.Prelude.{◌≡◌, ◌≢◌, ◌<◌, ◌++◌, ℕ, List, Some, IfErr, IfOk, OnOk, count_by};
+ghost use Rattle.std.specs.Prelude.{◌≡◌, ◌≢◌, ◌<◌, ◌≤◌, ◌++◌, ◌^◌, ℕ, List, Some, IfErr, IfOk, OnOk, count_by, length};
 ghost use Rattle.std.specs.Io.KnownBytes.{Appends};
 ghost use Rattle.std.specs.List.{concat, filter};
 ghost use Rattle.csv_records.specs.Records.{records_of};
 ghost use Rattle.zone_index.specs.Faults.{IfRefused, TellsOneOf};
 ghost use Rattle.zone_index.specs.Records.{kept_of};
-ghost use Rattle.zone_index.specs.declared.faults.Fault.TheVariants.{Write as WriteFault};
+ghost use Rattle.zone_index.specs.declared.faults.Fault.TheVariants.{CutShort, TooFar, Write as WriteFault};
 
 use crate::counting::count_in;
 use crate::faults::Fault;
@@ -37,30 +37,32 @@ pub fn find_rest<B: BufRead, M: Matcher, W: Write>(
         → B.remaining reader.old ≡ Some bytes
         → (first others : List (List ℕ)) × (records_of (M.delimiter matcher.now) bytes ≡ first ++ others)
         × Appends (W.contents writer.old) (W.contents writer.new) (concat (filter (M.matches matcher.now) first))) }
+    ensures uncut { IfErr result (λ fault. fault ≢ CutShort) }
+    ensures far { IfErr result (λ fault. fault ≡ TooFar → (bytes : List ℕ) → B.remaining reader.old ≡ Some bytes
+        → 2 ^ 64 ≤ length bytes) }
     // The record that is told is one of those, and begins there.
     ensures refused { IfErr result (IfRefused (λ refusal. (bytes : List ℕ) → B.remaining reader.old ≡ Some bytes
         → TellsOneOf (M.Refuses matcher.now) start (records_of (M.delimiter matcher.now) bytes) refusal)) }
 {
     let delimiter = matcher.delimiter_byte();
     let mut text = Vec::new(alloc);
-    let mut at = start;
+    let mut passed = 0u64;
     let mut found = 0u64;
-    for _ in 0..u64::MAX {
+    loop {
         text.clear();
         take_records(delimiter, size, &mut text, reader)?;
         if text.is_empty() {
             flush_out(writer)?;
             return Ok(found);
         }
-        let (kept, hits) = kept_in(alloc, at, &text, matcher)?;
-        match found.checked_add(hits) {
-            Some(sum) => found = sum,
+        let (kept, hits) = kept_in(alloc, start.saturating_add(passed), &text, matcher)?;
+        match passed.checked_add(text.len() as u64) {
+            Some(sum) => passed = sum,
             None => return Err(Fault::TooFar),
         }
+        found += hits;
         write_out(writer, &kept)?;
-        at = at.saturating_add(text.len() as u64);
     }
-    Err(Fault::TooFar)
 }
 
 /// How many of the records that a reader has left match. So many records are in memory at a time.
@@ -76,26 +78,28 @@ pub fn count_rest<B: BufRead, M: Matcher>(
     ensures counted { IfOk result (λ n. (bytes : List ℕ) → B.remaining reader.old ≡ Some bytes
         → n ≡ count_by (M.matches matcher.now) (records_of (M.delimiter matcher.now) bytes)) }
     ensures reading { IfErr result (λ fault. fault ≢ WriteFault) }
+    ensures uncut { IfErr result (λ fault. fault ≢ CutShort) }
+    ensures far { IfErr result (λ fault. fault ≡ TooFar → (bytes : List ℕ) → B.remaining reader.old ≡ Some bytes
+        → 2 ^ 64 ≤ length bytes) }
     // The record that is told is one of those, and begins there.
     ensures refused { IfErr result (IfRefused (λ refusal. (bytes : List ℕ) → B.remaining reader.old ≡ Some bytes
         → TellsOneOf (M.Refuses matcher.now) start (records_of (M.delimiter matcher.now) bytes) refusal)) }
 {
     let delimiter = matcher.delimiter_byte();
     let mut text = Vec::new(alloc);
-    let mut at = start;
+    let mut passed = 0u64;
     let mut total = 0u64;
-    for _ in 0..u64::MAX {
+    loop {
         text.clear();
         take_records(delimiter, size, &mut text, reader)?;
         if text.is_empty() {
             return Ok(total);
         }
-        let hits = count_in(alloc, at, &text, matcher)?;
-        match total.checked_add(hits) {
-            Some(sum) => total = sum,
+        let hits = count_in(alloc, start.saturating_add(passed), &text, matcher)?;
+        match passed.checked_add(text.len() as u64) {
+            Some(sum) => passed = sum,
             None => return Err(Fault::TooFar),
         }
-        at = at.saturating_add(text.len() as u64);
+        total += hits;
     }
-    Err(Fault::TooFar)
 }

@@ -1,13 +1,12 @@
 //! Zones of whole records are read from a stream.
 
-ghost use Rattle.std.specs.Prelude.{◌≡◌, ◌≢◌, ◌<◌, ◌≤◌, ◌+◌, ◌-◌, ◌^◌, ℕ, List, [], Some, IfErr, IfOk, OnOk, length, take, if◌then◌else◌};
+ghost use Rattle.std.specs.Prelude.{◌≡◌, ◌<◌, ◌≤◌, ◌+◌, ◌-◌, ◌^◌, ℕ, List, [], Some, IfErr, IfOk, OnOk, length, take, if◌then◌else◌};
 ghost use Rattle.std.specs.Io.{StartsWith, appended_bytes};
 ghost use Rattle.std.specs.Io.KnownBytes.{Consumes};
 ghost use Rattle.csv_records.specs.Records.{is_start, state_at};
 ghost use Rattle.csv_records.specs.declared.places.Place.TheVariants.{Fresh};
-ghost use Rattle.zone_index.specs.Faults.{IsOfReading};
 ghost use Rattle.zone_index.specs.Taking.{AreWhole, IsTaken};
-ghost use Rattle.zone_index.specs.declared.faults.Fault.TheVariants.{Read as ReadFault, Write as WriteFault};
+ghost use Rattle.zone_index.specs.declared.faults.Fault.TheVariants.{Read as ReadFault};
 
 use crate::faults::Fault;
 use crate::lines::read_line;
@@ -28,12 +27,11 @@ pub fn take_records<B: BufRead>(
     // Nothing was taken only where nothing was left.
     ensures ended { OnOk result ((bytes : List ℕ) → B.remaining reader.old ≡ Some bytes
         → text.new.items ≡ [] → bytes ≡ []) }
-    ensures reading { IfErr result (λ fault. fault ≢ WriteFault) }
-    ensures why { IfErr result IsOfReading }
+    ensures why { IfErr result (λ fault. fault ≡ ReadFault) }
 {
     let mut place = Place::Fresh;
     let mut taken = 0;
-    for _ in 0..u64::MAX {
+    while taken < size {
         let before = text.len();
         match read_line(reader, text) {
             Ok(0) => return Ok(()),
@@ -43,11 +41,8 @@ pub fn take_records<B: BufRead>(
         place = place_after_line(delimiter, place, &text[before..]);
         taken = counted(taken, place);
         taken += take_plain(delimiter, place, size - taken, text, reader)?;
-        if taken == size {
-            return Ok(());
-        }
     }
-    Err(Fault::TooFar)
+    Ok(())
 }
 
 /// One more where a record ended.

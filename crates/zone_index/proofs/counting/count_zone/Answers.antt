@@ -1,7 +1,7 @@
 -- No row matches, and each does.
-use Rattle.std.proofs.Common.{sym, ◌∙◌, subst, List, ℕ}
-use Rattle.zone_index.specs.Zones.{zone_records}
-use Rattle.zone_index.proofs.Answering.{none_match, rows_match}
+use Rattle.std.proofs.Common.{sym, ap, ◌∙◌, subst, List, ℕ}
+use Rattle.zone_index.specs.Zones.{is_open, zone_records}
+use Rattle.zone_index.proofs.Answering.{none_match, rows_few, rows_match, undecided}
 use Rattle.zone_index.proofs.counting.count_zone.Goals as goal
 
 pub returns-in-NoneMatch-clause-counted : goal.returns-in-NoneMatch-clause-counted
@@ -13,3 +13,11 @@ pub returns-in-AllMatch-clause-counted : goal.returns-in-AllMatch-clause-counted
 returns-in-AllMatch-clause-counted g c = λ was held zone.
     zone.rows ∙ rows_match (g.M.Records.has_row c.args.matcher.now) (g.M.Matcher.matches c.args.matcher.now) (zone_records (g.M.Records.delimiter c.args.matcher.now) was c.args.zone.now)
     (c.in_ok-decision.ensures.all (sym c.in_ok-decision.ensures.value ∙ c.in-AllMatch.is) _ (subst (λ (l : List ℕ). g.M.Records.Describes c.args.matcher.now l (zone_records (g.M.Records.delimiter c.args.matcher.now) was c.args.zone.now)) (sym c.deref.ensures.value) zone.described))
+
+pub returns-in-AllMatch-clause-few : goal.returns-in-AllMatch-clause-few
+returns-in-AllMatch-clause-few g c = λ was zone.
+    rows_few (g.M.Records.delimiter c.args.matcher.now) (g.M.Records.has_row c.args.matcher.now) (g.M.Records.Describes c.args.matcher.now) was c.args.zone.now zone
+
+pub returns-in_ok-piece-in-Unknown-clause-asks : goal.returns-in_ok-piece-in-Unknown-clause-asks
+returns-in_ok-piece-in-Unknown-clause-asks g c =
+    undecided (g.M.Matcher.decides c.args.matcher.now) c.args.zone.now c.in_ok-decision.decision _ (g.R.ReadAt.asked c.read_zone.new.reader) (c.in_ok-decision.ensures.value ∙ ap (g.M.Matcher.decides c.args.matcher.now) c.deref.ensures.value) (ap is_open c.in-Unknown.is) c.in_ok-piece-in-Unknown.ensures.asks

@@ -1,11 +1,16 @@
 -- What was searched so far.
-use Rattle.std.proofs.Common.{◌≡◌, List, Some, ℕ}
+use Rattle.std.proofs.Common.{◌≡◌, ◌≤◌, ◌-◌, ◌^◌, List, Some, ℕ}
 use Rattle.zone_index.proofs.Refusing.{IsPassed}
 use Rattle.zone_index.proofs.Rests.{Searched}
 use Rattle.zone_index.proofs.streaming.find_rest.Given as goal
 
-abbrev pub invariant-loop : goal.invariant-loop
-invariant-loop g l =
-    ((bytes : List ℕ) → g.B.Read.remaining l.initial.reader ≡ Some bytes
-    → Searched (g.M.Records.delimiter l.matcher) (g.M.Matcher.matches l.matcher) bytes (g.B.Read.remaining l.reader) (g.W.Write.contents l.initial.writer) (g.W.Write.contents l.writer) l.found)
-    × ((bytes : List ℕ) → g.B.Read.remaining l.initial.reader ≡ Some bytes → IsPassed (g.M.Records.delimiter l.matcher) bytes (g.B.Read.remaining l.reader) l.start l.at)
+abbrev pub invariant-loop-text : goal.invariant-loop-text
+invariant-loop-text g l = record {
+  searched : (bytes : List ℕ) → g.B.Read.remaining l.initial.reader ≡ Some bytes
+      → Searched (g.M.Records.delimiter l.matcher) (g.M.Matcher.matches l.matcher) bytes (g.B.Read.remaining l.reader) (g.W.Write.contents l.initial.writer) (g.W.Write.contents l.writer) l.found;
+  behind : (bytes : List ℕ) → g.B.Read.remaining l.initial.reader ≡ Some bytes → IsPassed (g.M.Records.delimiter l.matcher) bytes (g.B.Read.remaining l.reader) l.passed;
+  few : l.found ≤ l.passed;
+}
+
+abbrev pub decreases-loop-text : goal.decreases-loop-text
+decreases-loop-text g l = 2 ^ 64 - l.passed
