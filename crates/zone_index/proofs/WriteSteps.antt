@@ -125,15 +125,6 @@ empties_more n old new b more none before =
     let all : new ≡ blocks_of (suc n) [] = more ∙ ap₂ (λ (l : List (List ℕ)) (y : List ℕ). l ++ y ∷ []) before none ∙ sym (no_blocks n) in
     rw add-one all
 
--- what a slice of a whole list gives back to it
-pub lent_back : {A : Type 0} (n : ℕ) (now old : List A) → length now ≡ length old → n ≡ length old → take n (now ++ drop (length now) old) ≡ now
-lent_back zero [] [] same all = refl
-lent_back (suc n) [] [] same all = absurd (omega arith)
-lent_back n [] (y ∷ old) same all = absurd (omega arith)
-lent_back n (x ∷ now) [] same all = absurd (omega arith)
-lent_back zero (x ∷ now) (y ∷ old) same all = absurd (omega arith)
-lent_back (suc n) (x ∷ now) (y ∷ old) same all = ap (λ xs. x ∷ xs) (lent_back n now old (omega arith) (omega arith))
-
 -- ---- all
 
 same_forms : (zs : List ZoneValue) → flat_map zone_form (map without_statistics zs) ≡ flat_map zone_form zs

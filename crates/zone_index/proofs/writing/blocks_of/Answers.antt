@@ -1,9 +1,9 @@
 -- A zone more, and one whose statistics are no pieces.
-use Rattle.std.proofs.Common.{◌≡◌, ◌+◌, ℕ, List, Vec, Err, ap, arith, length, map, rules, subst, sym, take}
+use Rattle.std.proofs.Common.{◌≡◌, ◌+◌, ℕ, List, Vec, Err, ap, arith, drop, length, map, rules, subst, sym, take, take_at}
 use Rattle.std.specs.Global.{Global}
 use Rattle.zone_index.specs.Form.{AreDealt, zone_value, zone_values}
 use Rattle.zone_index.specs.FormReading.{dealt_at}
-use Rattle.zone_index.proofs.WriteSteps.{AreBlocks, all_taken, append, blocks_with, lent_back, no_pieces, none_yet, taken_more}
+use Rattle.zone_index.proofs.WriteSteps.{AreBlocks, all_taken, append, blocks_with, no_pieces, none_yet, taken_more}
 use Rattle.zone_index.proofs.writing.blocks_of.Goals as goal
 
 abbrev view : Vec ℕ Global → List ℕ
@@ -25,7 +25,7 @@ loop-zone-preserved c =
     let old = c.loop-zone.blocks.items in
     let new = c.deal.new.blocks in
     let long : length new ≡ length old = omega (arith, c.deal.auto.blocks, c.deref_mut.ensures.len, ap length c.deref_mut.ensures.value) in
-    let back = lent_back c.loop-zone.blocks.len new old long (omega arith) in
+    let back = take_at new (drop (length new) old) c.loop-zone.blocks.len (omega (arith, long)) in
     let one : AreDealt append (map view c.deref_mut.result.now) c.deref.result.now (map view new) = c.in-Ok.ensures.dealt in
     let here : AreDealt append (map view old) c.deref.result.now (map view new) = subst (λ (bs : List (Vec ℕ Global)). AreDealt append (map view bs) c.deref.result.now (map view new)) c.deref_mut.ensures.value one in
     let there : AreDealt append (map view old) c.zone-item.result.statistics.items (map view new) = subst (λ (s : List ℕ). AreDealt append (map view old) s (map view new)) c.deref.ensures.value here in
