@@ -1,6 +1,6 @@
 //! Rows are indexed, found and counted.
 
-ghost use Rattle.std.specs.Prelude.{◌≡◌, ◌≢◌, ◌<◌, ◌++◌, ◌≤◌, ◌-◌, ◌^◌, ℕ, List, Some, IfErr, IfOk, IfSome, OnOk, count_by, drop, length, min, take};
+ghost use Rattle.std.specs.Prelude.{◌≡◌, ◌≢◌, ◌<◌, ◌+◌, ◌++◌, ◌≤◌, ◌-◌, ◌^◌, ℕ, List, Some, IfErr, IfOk, IfSome, OnOk, count_by, drop, length, min, take};
 ghost use Rattle.std.specs.Io.KnownBytes.{Appends};
 ghost use Rattle.record_search.specs.Words.{Asks, CutShort, IfRefused, IsHeld, IsOfZone, IsPartOfZone, IsRowIndex, RefusesRecord, TellsOneOf, TooFar, WriteFault, columns_of, decision_of, formula, found_in_zones, found_rows, is_copied, is_searched, is_skipped, matches_record, records_under};
 
@@ -26,6 +26,10 @@ pub fn index_rows<B: BufRead>(
     ensures right { IfOk result (λ zones. (before bytes : List ℕ) → length before ≡ start
         → B.remaining reader.old ≡ Some bytes
         → IsRowIndex schema.now start zones.items (before ++ bytes)) }
+    ensures reading { IfErr result (λ fault. fault ≢ WriteFault) }
+    ensures uncut { IfErr result (λ fault. fault ≢ CutShort) }
+    ensures far { IfErr result (λ fault. fault ≡ TooFar → (bytes : List ℕ) → B.remaining reader.old ≡ Some bytes
+        → 2 ^ 64 ≤ start + length bytes) }
     // The record that is told is one of those, and begins there.
     ensures refused { IfErr result (IfRefused (λ refusal. (bytes : List ℕ) → B.remaining reader.old ≡ Some bytes
         → TellsOneOf (RefusesRecord schema.now) start (records_under schema.now bytes) refusal)) }
@@ -104,6 +108,10 @@ pub fn count_rows<R: ReadAt>(
     ensures cut { IfErr result (λ fault. fault ≡ CutShort → IfSome (R.bytes reader.old)
         (λ bytes. (was : List ℕ) (start : ℕ) → IsRowIndex schema.now start zones.now was
         → length bytes < length was)) }
+    ensures far { IfErr result (λ fault. fault ≡ TooFar → (was : List ℕ) (start : ℕ)
+        → IsRowIndex schema.now start zones.now was
+        → 2 ^ 64 ≤ length was) }
+    ensures reading { IfErr result (λ fault. fault ≢ WriteFault) }
     // The record that is told is one of the bytes, and begins there.
     ensures refused { IfErr result (IfRefused (λ refusal. (was : List ℕ) (start : ℕ)
         → IsHeld (R.bytes reader.old) was
