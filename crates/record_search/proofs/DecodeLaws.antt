@@ -1,6 +1,5 @@
 -- The statistics that bytes are, exactly where they are the form of statistics of the column.
-use Rattle.std.proofs.Common.{◌≡◌, ◌<◌, ◌^◌, ◌&&◌, ℕ, ℤ, pos, negsuc, suc, zero, List, [], ◌∷◌, Bool, true, false, if◌then◌else◌, Option, None, Some, IfSome, Err, IsUtf8, refl, sym, ap, ◌∙◌, subst, arith, nat_lt}
-use Rattle.std.specs.List.{list_all}
+use Rattle.std.proofs.Common.{◌≡◌, ◌<◌, ◌^◌, ◌&&◌, ℕ, ℤ, pos, negsuc, suc, zero, List, [], ◌∷◌, Bool, true, false, if◌then◌else◌, Option, None, Some, IfSome, Err, refl, sym, ap, ◌∙◌, subst, arith, nat_lt}
 use Rattle.std.specs.Str.{bytes_eq, is_utf8}
 use Rattle.std.proofs.lemmas.Bool.{and_from, and_parts, ltb-true, lt-ltb}
 use Rattle.std.proofs.lemmas.Slice.Eq.{bytes_eq-Decides}
@@ -9,24 +8,22 @@ use Rattle.record_rows.specs.Cells.{column_type, type_by}
 use Rattle.record_rows.specs.declared.columns.ColumnType.{ColumnType}
 use Rattle.record_rows.specs.declared.columns.Kind.{Kind}
 use Rattle.record_rows.specs.declared.columns.Kind.TheVariants as kinds
-use Rattle.vortex_dtype.specs.TypeTree.{TypeTree, IsNullable, storage}
+use Rattle.vortex_dtype.specs.TypeTree.{TypeTree}
 use Rattle.vortex_dtype.specs.declared.nullability.Nullability.{Nullability}
 use Rattle.vortex_dtype.specs.declared.nullability.Nullability.TheVariants.{NonNullable, Nullable}
 use Rattle.vortex_dtype.specs.declared.ptype.PType.{PType}
 use Rattle.vortex_dtype.specs.declared.ptype.PType.TheVariants.{U8, U16, U32, U64, I8, I16, I32, I64}
-use Rattle.vortex_pvalue.specs.Numbers.{InRange, in_range}
+use Rattle.vortex_pvalue.specs.Numbers.{in_range}
 use Rattle.vortex_pvalue.specs.RangeLaws.{in_range_back, in_range_true}
 use Rattle.vortex_row.specs.Decoded.{IsValueOf}
-use Rattle.vortex_row.specs.Held.{AreBytes, IsHeld, IsWhole}
+use Rattle.vortex_row.specs.Held.{AreBytes, IsWhole}
 use Rattle.vortex_row.proofs.ByteLaws.{bytes_after, bytes_first, bytes_rest, no_bytes}
-use Rattle.vortex_statistics.specs.Cells.{Cell}
-use Rattle.vortex_statistics.specs.Form.{AreOf, IsBoundOf, IsCellOf, IsFormOf, form}
+use Rattle.vortex_statistics.specs.Form.{AreOf, IsBoundOf, form}
 use Rattle.vortex_statistics.specs.FormAnswers.{ReadsAs}
 use Rattle.vortex_statistics.specs.Statistics.{Known, KnownBound}
 use Rattle.vortex_statistics.specs.declared.error.StatisticsError.{StatisticsError}
 use Rattle.vortex_statistics.specs.declared.error.StatisticsError.TheVariants.{OutOfMemory}
 use Rattle.vortex_value.specs.TypesWithin.{HasNoVariant}
-use Rattle.vortex_value.specs.Validity.{Valid}
 use Rattle.vortex_value.specs.Values.Content.{Content, content, null, string, text, whole}
 use Rattle.vortex_value.specs.Values.RawTree.{RawTree, absent, raw_bytes, raw_integer, raw_text}
 use Rattle.record_search.specs.Decoding.{are_bytes, are_of, bound_in, count_fits, has_bound, has_content, said_by, statistics_in}

@@ -1,5 +1,5 @@
 -- What a form says is read from it.
-use Rattle.std.proofs.Common.{◌≡◌, ◌≢◌, ◌+◌, ◌*◌, ◌-◌, ◌/◌, ◌%◌, ◌^◌, ◌<◌, ◌≤◌, ℕ, ℤ, pos, negsuc, zero, suc, List, [], ◌∷◌, ◌++◌, Bool, true, false, if◌then◌else◌, Option, None, Some, IfSome, refl, sym, ap, ap₂, ◌∙◌, subst, length, map, take, drop, slice_index, arith, append-nil, take_at, drop_at, nat_lt}
+use Rattle.std.proofs.Common.{◌≡◌, ◌+◌, ◌*◌, ◌-◌, ◌/◌, ◌%◌, ◌^◌, ◌<◌, ◌≤◌, ℕ, ℤ, pos, negsuc, zero, suc, List, [], ◌∷◌, ◌++◌, Bool, true, false, if◌then◌else◌, Option, None, Some, IfSome, refl, sym, ap, ap₂, ◌∙◌, length, take, drop, arith, append-nil, take_at, drop_at}
 use Rattle.std.proofs.lemmas.Bool.{le-ltb, lt-ltb, ne_eqb}
 use Rattle.vortex_dtype.specs.TypeTree.{TypeTree}
 use Rattle.vortex_row.specs.Held.{AreBytes, IsWhole}
@@ -7,7 +7,6 @@ use Rattle.vortex_row.specs.Keys.{big_endian, escaped, inverted, key, number_byt
 use Rattle.vortex_row.proofs.ByteLaws.{bytes_first, bytes_rest, inverted-length}
 use Rattle.vortex_row.proofs.NumberLaws.{big_endian-length, number-bytes, number-length, number-some}
 use Rattle.vortex_row.proofs.NumberReading.{worth, worth-big_endian, worth-number}
-use Rattle.vortex_statistics.specs.Cells.{Cell}
 use Rattle.vortex_statistics.specs.Form.{bound_bytes, bound_flags, count_bytes, count_flag, flags, form, known_count_bytes}
 use Rattle.vortex_statistics.specs.Statistics.{Known, KnownBound}
 use Rattle.vortex_value.specs.Values.Content.{Content, null, string, text, whole}

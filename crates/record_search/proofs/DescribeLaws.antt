@@ -1,5 +1,5 @@
 -- Statistics of columns are gathered, and their forms joined.
-use Rattle.std.proofs.Common.{◌≡◌, ◌<◌, ◌≤◌, ◌+◌, ◌^◌, ◌++◌, ◌⊎◌, inl, inr, ℕ, zero, suc, List, [], ◌∷◌, Bool, true, false, if◌then◌else◌, Option, None, Some, Result, Ok, Err, IfSome, Ordering, Contains, refl, sym, ap, ◌∙◌, subst, length, take, arith, get_or, append_assoc, append-nil, option_map, take_all, is_some, count_by}
+use Rattle.std.proofs.Common.{◌≡◌, ◌<◌, ◌≤◌, ◌+◌, ◌^◌, ◌++◌, inl, inr, ℕ, zero, suc, List, [], ◌∷◌, Bool, true, false, if◌then◌else◌, Option, None, Some, Result, Ok, Err, IfSome, Ordering, Contains, refl, sym, ap, ◌∙◌, subst, length, take, arith, get_or, append_assoc, append-nil, option_map, take_all, is_some, count_by}
 use Rattle.std.specs.Int.{to_le_bytes, w64}
 use Rattle.std.specs.List.{AllByRecursion, cons_option, filter_map, flat_map}
 use Rattle.std.specs.Prelude.{OnOk}
@@ -16,7 +16,7 @@ use Rattle.vortex_filter.specs.Pruning.{column}
 use Rattle.vortex_statistics.specs.Cells.{Cell, IsUpTo, cell_order, order_from_above}
 use Rattle.vortex_statistics.specs.Form.{IsHeldKnown, form}
 use Rattle.vortex_statistics.specs.FormAnswers.{AreTyped}
-use Rattle.vortex_statistics.specs.Statistics.{AreComplete, AreRight, IsLowerBound, IsUpperBound, Known, KnownBound, known, known_bound}
+use Rattle.vortex_statistics.specs.Statistics.{AreRight, IsLowerBound, IsUpperBound, known, known_bound}
 use Rattle.vortex_statistics.specs.Truncating.{IsTruncatedLower, IsTruncatedUpper}
 use Rattle.vortex_statistics.specs.declared.column_statistics.Bound.{Bound}
 use Rattle.vortex_statistics.specs.declared.column_statistics.ColumnStatistics.{ColumnStatistics}
@@ -24,7 +24,7 @@ use Rattle.vortex_value.specs.Equality.{same_type}
 use Rattle.vortex_value.specs.Lemmas.EqualityLaws.{same_type-Decides}
 use Rattle.vortex_value.specs.Order.{order}
 use Rattle.zone_index.specs.Form.{bytes_form}
-use Rattle.record_search.specs.Searched.{AreCellsOf, AreDescribed, AreRightForms, AreRowsOf, IsCutOf, IsRightForm}
+use Rattle.record_search.specs.Searched.{AreDescribed, AreRightForms, AreRowsOf, IsCutOf, IsRightForm}
 use Rattle.record_search.proofs.RowLaws.{cell_typed}
 
 -- ---- columns

@@ -1,7 +1,7 @@
 -- An index that says less of some columns is right for the same bytes.
-use Rattle.std.proofs.Common.{◌≡◌, ◌<◌, ◌≤◌, ◌+◌, ◌^◌, ℕ, zero, suc, List, [], ◌∷◌, ◌++◌, Bool, true, false, cond, Result, Ok, Err, refl, sym, ap, ap₂, ◌∙◌, subst, length, map, take, drop, get_or, arith, append_assoc, count_by, length-append, None, OnOk, is_ok, if◌then◌else◌}
+use Rattle.std.proofs.Common.{◌≡◌, ◌<◌, ◌+◌, ◌^◌, ℕ, zero, suc, List, [], ◌∷◌, ◌++◌, Bool, true, false, cond, Result, Ok, Err, refl, sym, ap, ap₂, ◌∙◌, subst, length, take, drop, arith, append_assoc, count_by, length-append, OnOk, is_ok, if◌then◌else◌}
 use Rattle.std.specs.Int.{to_be_bytes, to_le_bytes, w64}
-use Rattle.std.specs.List.{All, AllByRecursion, filter_map, flat_map}
+use Rattle.std.specs.List.{All, AllByRecursion, flat_map}
 use Rattle.std.proofs.lemmas.List.{length-map}
 use Rattle.std.proofs.lemmas.List.Concat.{flat_map-cons}
 use Rattle.csv_records.specs.Records.{records_of}
@@ -10,14 +10,12 @@ use Rattle.record_rows.specs.declared.columns.ColumnType.{ColumnType}
 use Rattle.vortex_dtype.specs.TypeTree.{TypeTree}
 use Rattle.vortex_filter.specs.Formula.{cell_at}
 use Rattle.vortex_filter.specs.Pruning.{column}
-use Rattle.vortex_row.specs.Keys.{big_endian}
 use Rattle.vortex_statistics.specs.Cells.{Cell}
 use Rattle.vortex_statistics.specs.Form.{count_bytes, form}
 use Rattle.vortex_statistics.proofs.CountBytes.{big_endian-length, written_count}
 use Rattle.zone_index.specs.Form.{ArePieces, FitsForm, FitsZone, HavePieces, IndexValue, ZoneValue, bytes_form, index_value, is_wanted, wanted_of, wanted_pieces, wanted_zones, zone_value, zone_values}
 use Rattle.zone_index.specs.FormReading.{bytes_at}
-use Rattle.zone_index.specs.Zones.{Follow, IsIndexOf, IsZoneOf, zone_records}
-use Rattle.zone_index.specs.declared.form.FormFault.{FormFault}
+use Rattle.zone_index.specs.Zones.{Follow, IsZoneOf, zone_records}
 use Rattle.zone_index.specs.declared.form.Index.{Index}
 use Rattle.zone_index.specs.declared.zones.Zone.{Zone}
 use Rattle.zone_index.proofs.FieldLaws.{bytes_again, ok_is}

@@ -1,20 +1,20 @@
 -- What a formula says of a row depends on the columns alone that it names.
-use Rattle.std.proofs.Common.{◌≡◌, ℕ, zero, suc, ◌+◌, ◌||◌, cond, List, [], ◌∷◌, Bool, true, false, Option, None, Some, refl, sym, ap, ap₂, ◌∙◌, subst, map, arith, get_or, set, slice_get}
+use Rattle.std.proofs.Common.{◌≡◌, ℕ, zero, suc, ◌+◌, List, [], ◌∷◌, Bool, true, false, Option, None, Some, refl, sym, ap, ap₂, ◌∙◌, subst, map, arith, set}
 use Rattle.record_rows.specs.Cells.{column_type, is_null_field}
-use Rattle.record_rows.specs.Rows.{AreCellsIn, IsRowIn, IsTaken, IsTakenIf, IsTested, is_wanted}
+use Rattle.record_rows.specs.Rows.{AreCellsIn, IsRowIn, IsTakenIf, is_wanted}
 use Rattle.record_rows.specs.declared.columns.ColumnType.{ColumnType}
-use Rattle.csv_records.specs.Rows.{Field, rows_of}
-use Rattle.vortex_filter.specs.Formula.{Formula, both, cell_at, compare_truth, comparison, constant, either, is_match, member_truth, membership, negation, null_test, null_truth, prefix_test, range, range_truth, truth}
+use Rattle.csv_records.specs.Rows.{Field}
+use Rattle.vortex_filter.specs.Formula.{Formula, both, cell_at, compare_truth, comparison, constant, either, member_truth, membership, negation, null_test, null_truth, prefix_test, range, range_truth, truth}
 use Rattle.vortex_filter.specs.Prefixes.{prefix_truth}
 use Rattle.vortex_filter.specs.Truths.{is_true, truth_and, truth_not, truth_or}
 use Rattle.vortex_statistics.specs.Cells.{Cell, cell_of}
 use Rattle.vortex_value.specs.Values.Content.{Content, null}
 use Rattle.vortex_value.specs.Values.Scalars.{scalar_content}
 use Rattle.vortex_value.specs.declared.scalars.Scalar.{Scalar}
-use Rattle.record_search.specs.Contents.{cell_before, cells_of, field_content, only_row, row_of}
+use Rattle.record_search.specs.Contents.{cells_of, field_content, only_row, row_of}
 use Rattle.record_search.specs.Named.{AgreeAsRows, AgreeIn, with_columns}
 use Rattle.record_search.specs.Searched.{matches_row}
-use Rattle.record_search.proofs.RowLaws.{IsFieldOf, cell_made, cell_field, null_field, taken_field}
+use Rattle.record_search.proofs.RowLaws.{cell_made, cell_field, null_field, taken_field}
 
 -- ---- flags
 

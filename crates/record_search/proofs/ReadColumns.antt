@@ -1,5 +1,5 @@
 -- Columns are read one after another.
-use Rattle.std.proofs.Common.{◌≡◌, ◌<◌, ◌≤◌, ◌+◌, ◌++◌, ◌==◌, ℕ, suc, zero, List, [], ◌∷◌, Bool, true, false, if◌then◌else◌, Option, None, Some, refl, sym, ap, ap₂, ◌∙◌, length, map, take, drop, arith, get_or, append_assoc, append-nil, option_map, drop-cons, add-one}
+use Rattle.std.proofs.Common.{◌≡◌, ◌<◌, ◌≤◌, ◌+◌, ◌++◌, ◌==◌, ℕ, suc, zero, List, [], ◌∷◌, Bool, true, false, if◌then◌else◌, Option, None, Some, refl, sym, ap, ◌∙◌, length, map, drop, arith, get_or, append_assoc, append-nil, option_map, drop-cons, add-one}
 use Rattle.std.proofs.lemmas.List.{map-append}
 use Rattle.record_rows.specs.declared.columns.ColumnType.{ColumnType}
 use Rattle.vortex_statistics.specs.Statistics.{Known, known}

@@ -1,6 +1,6 @@
 -- The row that is read of a record is the one that its definition computes.
-use Rattle.std.proofs.Common.{◌≡◌, ◌<◌, ◌&&◌, ◌+◌, ℕ, ℤ, zero, suc, List, [], ◌∷◌, Bool, true, false, if◌then◌else◌, Option, None, Some, Result, Ok, Err, IsUtf8, MatchBool, refl, sym, ap, ap₂, ◌∙◌, subst, length, map, arith, get_or, slice_get, nat_lt}
-use Rattle.std.specs.List.{AllByRecursion, filter_map, list_all}
+use Rattle.std.proofs.Common.{◌≡◌, ◌<◌, ℕ, ℤ, zero, suc, List, [], ◌∷◌, Bool, true, false, if◌then◌else◌, Option, None, Some, Result, Ok, Err, MatchBool, refl, sym, ap, ◌∙◌, subst, length, map, arith, get_or, nat_lt}
+use Rattle.std.specs.List.{filter_map, list_all}
 use Rattle.std.specs.Char.{digit_value, is_digit}
 use Rattle.std.specs.Str.{is_utf8}
 use Rattle.std.specs.Str.Parse.{AllDigits, IsNumeral, signed_digits_value, without_leading_sign}
@@ -9,8 +9,8 @@ use Rattle.std.proofs.lemmas.Str.{IsUtf8-from_is_utf8, is_utf8-from_IsUtf8}
 use Rattle.hex.specs.Hex.{decode_of}
 use Rattle.hex.specs.declared.error.FromHexError.{FromHexError}
 use Rattle.csv_records.specs.Rows.{Field, rows_of}
-use Rattle.record_rows.specs.Cells.{HasNoCell, IsCell, IsContent, Means, column_type, is_null_field}
-use Rattle.record_rows.specs.Rows.{AreCells, IsLenientNull, IsRow, IsTaken}
+use Rattle.record_rows.specs.Cells.{HasNoCell, Means, column_type, is_null_field}
+use Rattle.record_rows.specs.Rows.{AreCells, IsRow, IsTaken}
 use Rattle.record_rows.specs.Words.{IsIntegerWord}
 use Rattle.record_rows.specs.declared.columns.ColumnType.{ColumnType}
 use Rattle.record_rows.specs.declared.columns.Kind.{Kind}

@@ -1,11 +1,10 @@
 -- What statistics decide is so of the rows that they describe.
-use Rattle.std.proofs.Common.{◌≡◌, ◌<◌, ◌≤◌, ◌+◌, ◌^◌, ◌++◌, ◌==◌, ℕ, zero, suc, List, [], ◌∷◌, Bool, true, false, not, if◌then◌else◌, Option, None, Some, Contains, is_some, refl, sym, ap, ap₂, ◌∙◌, subst, length, map, take, drop, arith, get_or, slice_get, append_assoc, append-nil, length-append, take_at, drop_at, option_map, nat_lt}
+use Rattle.std.proofs.Common.{◌≡◌, ℕ, zero, suc, List, [], ◌∷◌, Bool, true, false, not, Option, None, Some, Contains, is_some, refl, sym, ap, ◌∙◌, subst, arith}
 use Rattle.std.specs.List.{AllPass, cons_option, filter_map}
 use Rattle.record_rows.specs.declared.columns.ColumnType.{ColumnType}
-use Rattle.vortex_filter.specs.Formula.{Formula, is_match, truth}
+use Rattle.vortex_filter.specs.Formula.{Formula, truth}
 use Rattle.vortex_filter.specs.OutcomeSets.{is_only_true}
 use Rattle.vortex_filter.specs.Outcomes.{outcomes}
-use Rattle.vortex_filter.specs.Pruning.{Covers, MatchesEachRow, MatchesNoRow}
 use Rattle.vortex_filter.specs.Truths.{is_true}
 use Rattle.vortex_filter.specs.declared.outcomes.Outcomes.{Outcomes}
 use Rattle.vortex_filter.specs.declared.truth.Truth.{Truth}
@@ -16,7 +15,6 @@ use Rattle.vortex_statistics.specs.Cells.{Cell, cell_order}
 use Rattle.vortex_statistics.specs.Statistics.{Known}
 use Rattle.vortex_statistics.proofs.CellLaws.{IsOrder}
 use Rattle.zone_index.specs.Records.{is_same}
-use Rattle.zone_index.specs.declared.records.Decision.{Decision}
 use Rattle.zone_index.specs.declared.records.Decision.TheVariants as decisions
 use Rattle.record_search.specs.Decoding.{columns_in}
 use Rattle.record_search.specs.Searched.{AreDescribed, decision_by, decision_in, decision_of, matches_row}

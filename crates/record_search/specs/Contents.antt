@@ -1,5 +1,5 @@
 -- The row of a record, computed.
-use Rattle.std.specs.Prelude.{◌==◌, ◌&&◌, ℕ, ℤ, List, [], ◌∷◌, length, nat_lt, Bool, true, false, Option, None, Some, Result, Ok, Err, if◌then◌else◌}
+use Rattle.std.specs.Prelude.{◌&&◌, ℕ, List, [], ◌∷◌, length, nat_lt, Bool, true, false, Option, None, Some, Result, Ok, Err, if◌then◌else◌}
 use Rattle.std.specs.List.{list_all}
 use Rattle.std.specs.Str.{is_utf8}
 use Rattle.std.specs.Char.{is_digit}

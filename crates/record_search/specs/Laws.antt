@@ -1,5 +1,5 @@
 -- Laws of rows and statistics in a search.
-use Rattle.std.specs.Prelude.{◌≡◌, ℕ, List, [], Bool, not, None, Some, is_some, map}
+use Rattle.std.specs.Prelude.{◌≡◌, ℕ, List, [], Bool, not, None, Some, map}
 use Rattle.std.specs.List.{AllPass}
 use Rattle.csv_records.specs.Rows.{rows_of}
 use Rattle.record_rows.specs.Rows.{IsRow}

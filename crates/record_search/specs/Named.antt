@@ -1,5 +1,5 @@
 -- The columns that a formula names, and rows that are the same in some columns.
-use Rattle.std.specs.Prelude.{◌≡◌, ℕ, List, Bool, true, Option, None, Some, slice_index_or, slice_set}
+use Rattle.std.specs.Prelude.{◌≡◌, ℕ, List, Bool, true, Option, None, Some, slice_set}
 use Rattle.record_rows.specs.Rows.{is_wanted}
 use Rattle.vortex_filter.specs.Formula.{Formula, both, cell_at, comparison, constant, either, membership, negation, null_test, prefix_test, range}
 use Rattle.vortex_statistics.specs.Cells.{Cell}

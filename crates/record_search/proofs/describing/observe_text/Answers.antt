@@ -1,5 +1,5 @@
 -- A record more, and one that is refused.
-use Rattle.std.proofs.Common.{◌≡◌, ◌∙◌, ◌+◌, ◌-◌, ◌^◌, ℕ, arith, ap, length, min, rules}
+use Rattle.std.proofs.Common.{◌∙◌, ◌+◌, ℕ, arith, ap, length, rules}
 use Rattle.std.proofs.lemmas.Result.{err_from_is_err_and}
 use Rattle.zone_index.proofs.Refusing.{reached_more, reached_none, refused_in_text}
 use Rattle.record_search.specs.Refused.{RefusesRecord}

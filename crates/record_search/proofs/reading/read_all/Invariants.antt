@@ -1,5 +1,5 @@
 -- What was read of the columns so far, and what is still read.
-use Rattle.std.proofs.Common.{◌≡◌, drop, length, map, take}
+use Rattle.std.proofs.Common.{◌≡◌, drop, map, take}
 use Rattle.vortex_statistics.specs.Statistics.{known}
 use Rattle.record_search.specs.Decoding.{columns_in}
 use Rattle.record_search.proofs.ReadColumns.{with_front}

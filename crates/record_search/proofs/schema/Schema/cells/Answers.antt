@@ -1,5 +1,5 @@
 -- The row agrees with the one that is computed, and what is told of one that is refused.
-use Rattle.std.proofs.Common.{List, subst, sym}
+use Rattle.std.proofs.Common.{List, subst}
 use Rattle.record_rows.specs.Rows.{IsRowIn, Refuses}
 use Rattle.record_rows.specs.declared.columns.ColumnType.{ColumnType}
 use Rattle.record_search.proofs.NamedLaws.{row_agrees}
