@@ -1,5 +1,5 @@
 -- The rows of records are observed, one after another.
-use Rattle.std.proofs.Common.{◌≡◌, ◌<◌, ◌≤◌, ◌+◌, ◌^◌, ◌++◌, inl, inr, ℕ, zero, suc, List, [], ◌∷◌, Bool, true, false, Option, None, Some, Result, Ok, Err, MatchBool, refl, sym, ap, ◌∙◌, subst, length, map, take, drop, arith, append_assoc, append-nil, length-append, take_at}
+use Rattle.std.proofs.Common.{◌≡◌, ◌<◌, ◌≤◌, ◌+◌, ◌^◌, ◌++◌, inl, inr, ℕ, zero, suc, List, [], ◌∷◌, Bool, true, false, Option, None, Some, Result, Ok, Err, MatchBool, refl, sym, ap, ◌∙◌, subst, length, map, take, arith, append_assoc, append-nil, length-append}
 use Rattle.std.specs.Int.{from_bool}
 use Rattle.std.specs.List.{AllByRecursion, filter_map}
 use Rattle.std.specs.Prelude.{OnOk}
@@ -181,7 +181,3 @@ all_forms columns ss output same h rows are all = all_described columns rows (le
 pub nothing_left : (ss : List ColumnStatistics) → length ss ≡ 0 → ss ≡ []
 nothing_left [] h = refl
 nothing_left (s ∷ ss) h = absurd (omega arith)
-
--- what a vector holds once it was lent as a slice, which is now this
-pub lent_back : (size : ℕ) (now old : List ColumnStatistics) → length now ≡ size → take size (now ++ drop (length now) old) ≡ now
-lent_back size now old e = take_at now (drop (length now) old) size e
