@@ -5,7 +5,7 @@ pub use Rattle.vortex_statistics.specs.Cells.{Cell, cell_of}
 pub use Rattle.vortex_statistics.specs.Form.{IsHeldKnown, form}
 pub use Rattle.vortex_statistics.specs.Statistics.{known}
 pub use Rattle.zone_index.specs.Asking.{Asks}
-pub use Rattle.zone_index.specs.Faults.{IfRecordRefused, IfRefused, TellsOneOf, TellsRecord}
+pub use Rattle.zone_index.specs.Faults.{EndsFar, IfRecordRefused, IfRefused, TellsOneOf, TellsRecord}
 pub use Rattle.zone_index.specs.Form.{bytes_form}
 pub use Rattle.zone_index.specs.Zones.{IsHeld, IsOfZone, IsPartOfZone, is_copied, is_searched, is_skipped}
 pub use Rattle.zone_index.specs.declared.faults.Fault.TheVariants.{CutShort, TooFar, Write as WriteFault}

@@ -1,8 +1,8 @@
 //! Rows are indexed, found and counted.
 
-ghost use Rattle.std.specs.Prelude.{◌≡◌, ◌≢◌, ◌<◌, ◌+◌, ◌++◌, ◌≤◌, ◌-◌, ◌^◌, ℕ, List, Some, IfErr, IfOk, IfSome, OnOk, count_by, drop, length, min, take};
+ghost use Rattle.std.specs.Prelude.{◌≡◌, ◌≢◌, ◌<◌, ◌++◌, ◌≤◌, ◌-◌, ◌^◌, ℕ, List, Some, IfErr, IfOk, IfSome, OnOk, count_by, drop, length, min, take};
 ghost use Rattle.std.specs.Io.KnownBytes.{Appends};
-ghost use Rattle.record_search.specs.Words.{Asks, CutShort, IfRefused, IsHeld, IsOfZone, IsPartOfZone, IsRowIndex, RefusesRecord, TellsOneOf, TooFar, WriteFault, columns_of, decision_of, formula, found_in_zones, found_rows, is_copied, is_searched, is_skipped, matches_record, records_under};
+ghost use Rattle.record_search.specs.Words.{Asks, CutShort, EndsFar, IfRefused, IsHeld, IsOfZone, IsPartOfZone, IsRowIndex, RefusesRecord, TellsOneOf, TooFar, WriteFault, columns_of, decision_of, formula, found_in_zones, found_rows, is_copied, is_searched, is_skipped, matches_record, records_under};
 
 use crate::filtering::RowFilter;
 use crate::schema::Schema;
@@ -28,8 +28,7 @@ pub fn index_rows<B: BufRead>(
         → IsRowIndex schema.now start zones.items (before ++ bytes)) }
     ensures reading { IfErr result (λ fault. fault ≢ WriteFault) }
     ensures uncut { IfErr result (λ fault. fault ≢ CutShort) }
-    ensures far { IfErr result (λ fault. fault ≡ TooFar → (bytes : List ℕ) → B.remaining reader.old ≡ Some bytes
-        → 2 ^ 64 ≤ start + length bytes) }
+    ensures far { IfErr result (λ fault. fault ≡ TooFar → EndsFar start (B.remaining reader.old)) }
     // The record that is told is one of those, and begins there.
     ensures refused { IfErr result (IfRefused (λ refusal. (bytes : List ℕ) → B.remaining reader.old ≡ Some bytes
         → TellsOneOf (RefusesRecord schema.now) start (records_under schema.now bytes) refusal)) }

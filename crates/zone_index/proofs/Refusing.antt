@@ -6,7 +6,7 @@ use Rattle.std.proofs.lemmas.List.Folds.{concat-append}
 use Rattle.std.specs.List.{All, concat, flat_map}
 use Rattle.csv_records.specs.Lemmas.RecordLaws.{concat-records_of}
 use Rattle.csv_records.specs.Records.{records_of}
-use Rattle.zone_index.specs.Faults.{IfRecordRefused, IfRefused, IsOfReading, TellsOneOf, TellsRecord, fault_at}
+use Rattle.zone_index.specs.Faults.{EndsFar, IfRecordRefused, IfRefused, IsOfReading, TellsOneOf, TellsRecord, fault_at}
 use Rattle.zone_index.specs.Taking.{IsTaken}
 use Rattle.zone_index.specs.Zones.{Follow, IsHeld, IsIndexOf, IsZoneOf, zone_bytes, zone_records}
 use Rattle.zone_index.specs.declared.faults.Cause.{Cause}
@@ -179,11 +179,14 @@ passed_more d e bytes text left next passed now s by t is =
     }
 
 -- a piece that ends so far behind the first byte
-pub passed_far : (d e : ℕ) (bytes text : List ℕ) (left next : Option (List ℕ)) (passed : ℕ) (s : IsPassed d bytes left passed) → IsTaken e s.rest text next → 2 ^ 64 ≤ passed + length text → 2 ^ 64 ≤ length bytes
-passed_far d e bytes text left next passed s t far =
-    let all : length (concat s.done) + length (concat (records_of d s.rest)) ≡ length bytes =
+pub passed_far : (d e : ℕ) (text : List ℕ) (all left next : Option (List ℕ)) (passed : ℕ) → ((bytes : List ℕ) → all ≡ Some bytes → IsPassed d bytes left passed)
+    → ((bytes : List ℕ) → left ≡ Some bytes → IsTaken e bytes text next) → 2 ^ 64 ≤ passed + length text → EndsFar 0 all
+passed_far d e text all left next passed before taken far bytes is =
+    let s : IsPassed d bytes left passed = before bytes is in
+    let t : IsTaken e s.rest text next = taken s.rest s.is in
+    let parts : length (concat s.done) + length (concat (records_of d s.rest)) ≡ length bytes =
     sym (concat_long s.done (records_of d s.rest)) ∙ ap (λ (l : List (List ℕ)). length (concat l)) (sym s.records) ∙ ap length (concat-records_of d bytes) in
-    omega (arith, far, all, s.long, ap length (concat-records_of d s.rest), ap length t.parts, length-append text t.rest)
+    omega (arith, far, parts, s.long, ap length (concat-records_of d s.rest), ap length t.parts, length-append text t.rest)
 
 pub told_in_piece : (R : List ℕ → Cause → Type 0) (d e : ℕ) (bytes text view : List ℕ) (left next : Option (List ℕ)) (start passed at : ℕ) (r : Refusal) (s : IsPassed d bytes left passed) → at ≡ min (start + passed) (2 ^ 64 - 1) → e ≡ d → IsTaken e s.rest text next → view ≡ text
     → TellsOneOf R at (records_of d view) r → TellsOneOf R start (records_of d bytes) r
@@ -219,7 +222,7 @@ begun_long d has_row Describes start zones front bytes left at b long =
 -- a piece that ends so far, whatever stands before what is left
 pub far_in_stream : (d e : ℕ) (has_row : List ℕ → Bool) (Describes : List ℕ → List (List ℕ) → Type 0) (zones : List Zone) (text : List ℕ) (all left next : Option (List ℕ)) (start at : ℕ)
     → ((front bytes : List ℕ) → length front ≡ start → all ≡ Some bytes → IsBegun d has_row Describes start zones (front ++ bytes) left at)
-    → ((bytes : List ℕ) → left ≡ Some bytes → IsTaken e bytes text next) → 2 ^ 64 ≤ at + length text → (bytes : List ℕ) → all ≡ Some bytes → 2 ^ 64 ≤ start + length bytes
+    → ((bytes : List ℕ) → left ≡ Some bytes → IsTaken e bytes text next) → 2 ^ 64 ≤ at + length text → EndsFar start all
 far_in_stream d e has_row Describes zones text all left next start at begun taken far bytes is =
     let front : List ℕ = replicate start 0 in
     let long : length front ≡ start = length-replicate start 0 in

@@ -1,5 +1,5 @@
 -- Faults that tell where.
-use Rattle.std.specs.Prelude.{◌≡◌, ◌+◌, ◌-◌, ◌^◌, ◌++◌, ◌∷◌, ℕ, List, length, min}
+use Rattle.std.specs.Prelude.{◌≡◌, ◌≤◌, ◌+◌, ◌-◌, ◌^◌, ◌++◌, ◌∷◌, ℕ, List, Option, Some, length, min}
 use Rattle.std.specs.List.{concat}
 use Rattle.zone_index.specs.declared.faults.Cause.{Cause}
 use Rattle.zone_index.specs.declared.faults.Fault.{Fault}
@@ -30,6 +30,10 @@ IsOfReading faults.TooFar = Unit {0}
 IsOfReading faults.Memory = Unit {0}
 IsOfReading faults.Write = ⊥
 IsOfReading (faults.Refused refusal) = ⊥
+
+-- what a stream has left, from this place on, ends at 2^64 or behind it
+abbrev pub EndsFar : ℕ → Option (List ℕ) → Type 0
+EndsFar start left = (bytes : List ℕ) → left ≡ Some bytes → 2 ^ 64 ≤ start + length bytes
 
 -- this holds of what is told of a record that was refused
 abbrev pub IfRefused : (Refusal → Type 0) → Fault → Type 0

@@ -1,8 +1,8 @@
 //! An index is made of a stream.
 
-ghost use Rattle.std.specs.Prelude.{◌≡◌, ◌≢◌, ◌<◌, ◌≤◌, ◌+◌, ◌++◌, ◌^◌, ℕ, List, Some, IfErr, IfOk, length};
+ghost use Rattle.std.specs.Prelude.{◌≡◌, ◌≢◌, ◌<◌, ◌++◌, ℕ, List, Some, IfErr, IfOk, length};
 ghost use Rattle.csv_records.specs.Records.{records_of};
-ghost use Rattle.zone_index.specs.Faults.{IfRefused, IsOfRecord, TellsOneOf};
+ghost use Rattle.zone_index.specs.Faults.{EndsFar, IfRefused, IsOfRecord, TellsOneOf};
 ghost use Rattle.zone_index.specs.Zones.{IsIndexOf, IsZoneOfText};
 ghost use Rattle.zone_index.specs.declared.faults.Fault.TheVariants.{CutShort, TooFar, Write as WriteFault};
 
@@ -29,8 +29,7 @@ pub fn index_records<B: BufRead, D: Describer>(
         start zones.items (before ++ bytes)) }
     ensures reading { IfErr result (λ fault. fault ≢ WriteFault) }
     ensures uncut { IfErr result (λ fault. fault ≢ CutShort) }
-    ensures far { IfErr result (λ fault. fault ≡ TooFar → (bytes : List ℕ) → B.remaining reader.old ≡ Some bytes
-        → 2 ^ 64 ≤ start + length bytes) }
+    ensures far { IfErr result (λ fault. fault ≡ TooFar → EndsFar start (B.remaining reader.old)) }
     // The record that is told is one of those, and begins there.
     ensures refused { IfErr result (IfRefused (λ refusal. (bytes : List ℕ) → B.remaining reader.old ≡ Some bytes
         → TellsOneOf (D.Refuses describer.now) start (records_of (D.delimiter describer.now) bytes) refusal)) }

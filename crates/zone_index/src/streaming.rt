@@ -1,10 +1,10 @@
 //! The records of a stream are searched.
 
-ghost use Rattle.std.specs.Prelude.{◌≡◌, ◌≢◌, ◌<◌, ◌≤◌, ◌++◌, ◌^◌, ℕ, List, Some, IfErr, IfOk, OnOk, count_by, length};
+ghost use Rattle.std.specs.Prelude.{◌≡◌, ◌≢◌, ◌<◌, ◌++◌, ℕ, List, Some, IfErr, IfOk, OnOk, count_by};
 ghost use Rattle.std.specs.Io.KnownBytes.{Appends};
 ghost use Rattle.std.specs.List.{concat, filter};
 ghost use Rattle.csv_records.specs.Records.{records_of};
-ghost use Rattle.zone_index.specs.Faults.{IfRefused, TellsOneOf};
+ghost use Rattle.zone_index.specs.Faults.{EndsFar, IfRefused, TellsOneOf};
 ghost use Rattle.zone_index.specs.Records.{kept_of};
 ghost use Rattle.zone_index.specs.declared.faults.Fault.TheVariants.{CutShort, TooFar, Write as WriteFault};
 
@@ -38,8 +38,7 @@ pub fn find_rest<B: BufRead, M: Matcher, W: Write>(
         → (first others : List (List ℕ)) × (records_of (M.delimiter matcher.now) bytes ≡ first ++ others)
         × Appends (W.contents writer.old) (W.contents writer.new) (concat (filter (M.matches matcher.now) first))) }
     ensures uncut { IfErr result (λ fault. fault ≢ CutShort) }
-    ensures far { IfErr result (λ fault. fault ≡ TooFar → (bytes : List ℕ) → B.remaining reader.old ≡ Some bytes
-        → 2 ^ 64 ≤ length bytes) }
+    ensures far { IfErr result (λ fault. fault ≡ TooFar → EndsFar 0 (B.remaining reader.old)) }
     // The record that is told is one of those, and begins there.
     ensures refused { IfErr result (IfRefused (λ refusal. (bytes : List ℕ) → B.remaining reader.old ≡ Some bytes
         → TellsOneOf (M.Refuses matcher.now) start (records_of (M.delimiter matcher.now) bytes) refusal)) }
@@ -79,8 +78,7 @@ pub fn count_rest<B: BufRead, M: Matcher>(
         → n ≡ count_by (M.matches matcher.now) (records_of (M.delimiter matcher.now) bytes)) }
     ensures reading { IfErr result (λ fault. fault ≢ WriteFault) }
     ensures uncut { IfErr result (λ fault. fault ≢ CutShort) }
-    ensures far { IfErr result (λ fault. fault ≡ TooFar → (bytes : List ℕ) → B.remaining reader.old ≡ Some bytes
-        → 2 ^ 64 ≤ length bytes) }
+    ensures far { IfErr result (λ fault. fault ≡ TooFar → EndsFar 0 (B.remaining reader.old)) }
     // The record that is told is one of those, and begins there.
     ensures refused { IfErr result (IfRefused (λ refusal. (bytes : List ℕ) → B.remaining reader.old ≡ Some bytes
         → TellsOneOf (M.Refuses matcher.now) start (records_of (M.delimiter matcher.now) bytes) refusal)) }

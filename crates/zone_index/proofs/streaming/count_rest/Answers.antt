@@ -20,9 +20,9 @@ returns-then-is_empty-clause-counted g c =
     λ bytes is. let s = c.loop-text.invariant.counted bytes is in counted_all _ _ bytes _ _ s (c.in_ok-take_records.ensures.ended s.rest s.is none)
 
 pub returns-in-None-clause-far : goal.returns-in-None-clause-far
-returns-in-None-clause-far g c = λ far bytes is.
-    let s = c.loop-text.invariant.behind bytes is in
-    passed_far (g.M.Records.delimiter c.args.matcher.now) c.delimiter_byte-delimiter.result.byte bytes c.take_records.new.text.items _ (g.B.Read.remaining c.take_records.new.reader) c.loop-text.passed s (c.in_ok-take_records.ensures.taken s.rest s.is) (omega (arith, c.in-None.ensures, c.len.ensures, c.take_records.new.text.ok.0))
+returns-in-None-clause-far g c = λ far.
+    passed_far (g.M.Records.delimiter c.args.matcher.now) c.delimiter_byte-delimiter.result.byte c.take_records.new.text.items _ _ (g.B.Read.remaining c.take_records.new.reader) c.loop-text.passed c.loop-text.invariant.behind c.in_ok-take_records.ensures.taken
+    (omega (arith, c.in-None.ensures, c.len.ensures, c.take_records.new.text.ok.0))
 
 pub loop-text-preserved : goal.loop-text-preserved
 loop-text-preserved g c = record {
