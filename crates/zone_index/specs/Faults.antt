@@ -31,6 +31,15 @@ IsOfReading faults.Memory = Unit {0}
 IsOfReading faults.Write = ⊥
 IsOfReading (faults.Refused refusal) = ⊥
 
+-- a fault of a stream that is read to its end, and of no record, index or writer
+abbrev pub IsOfStream : Fault → Type 0
+IsOfStream faults.Read = Unit {0}
+IsOfStream faults.Memory = Unit {0}
+IsOfStream faults.CutShort = ⊥
+IsOfStream faults.TooFar = ⊥
+IsOfStream faults.Write = ⊥
+IsOfStream (faults.Refused refusal) = ⊥
+
 -- what a stream has left, from this place on, ends at 2^64 or behind it
 abbrev pub EndsFar : ℕ → Option (List ℕ) → Type 0
 EndsFar start left = (bytes : List ℕ) → left ≡ Some bytes → 2 ^ 64 ≤ start + length bytes

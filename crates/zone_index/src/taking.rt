@@ -5,8 +5,8 @@ ghost use Rattle.std.specs.Io.{StartsWith, appended_bytes};
 ghost use Rattle.std.specs.Io.KnownBytes.{Consumes};
 ghost use Rattle.csv_records.specs.Records.{is_start, state_at};
 ghost use Rattle.csv_records.specs.declared.places.Place.TheVariants.{Fresh};
+ghost use Rattle.zone_index.specs.Faults.{IsOfStream};
 ghost use Rattle.zone_index.specs.Taking.{AreWhole, IsTaken};
-ghost use Rattle.zone_index.specs.declared.faults.Fault.TheVariants.{Read as ReadFault};
 
 use crate::faults::Fault;
 use crate::lines::read_line;
@@ -27,7 +27,7 @@ pub fn take_records<B: BufRead>(
     // Nothing was taken only where nothing was left.
     ensures ended { OnOk result ((bytes : List ℕ) → B.remaining reader.old ≡ Some bytes
         → text.new.items ≡ [] → bytes ≡ []) }
-    ensures why { IfErr result (λ fault. fault ≡ ReadFault) }
+    ensures why { IfErr result IsOfStream }
 {
     let mut place = Place::Fresh;
     let mut taken = 0;
@@ -36,13 +36,23 @@ pub fn take_records<B: BufRead>(
         match read_line(reader, text) {
             Ok(0) => return Ok(()),
             Ok(_) => {}
-            Err(_) => return Err(Fault::Read),
+            Err(error) => return Err(fault_of(error)),
         }
         place = place_after_line(delimiter, place, &text[before..]);
         taken = counted(taken, place);
         taken += take_plain(delimiter, place, size - taken, text, reader)?;
     }
     Ok(())
+}
+
+/// Why nothing more was read: a read failed, or no memory was left for what it read.
+fn fault_of(error: io::Error) -> Fault
+    ensures { IsOfStream result }
+{
+    match error.kind() {
+        ErrorKind::OutOfMemory => Fault::Memory,
+        _ => Fault::Read,
+    }
 }
 
 /// One more where a record ended.
@@ -72,12 +82,12 @@ fn take_plain<B: BufRead>(
         (appended_bytes text.old.items text.new.items)) }
     ensures whole { OnOk result (AreWhole delimiter.byte (state_at place)
         (appended_bytes text.old.items text.new.items)) }
-    ensures why { IfErr result (λ fault. fault ≡ ReadFault) }
+    ensures why { IfErr result IsOfStream }
 {
     match place {
         Place::Fresh => match append_plain(delimiter, most, text, reader) {
             Ok(count) => Ok(count),
-            Err(_) => Err(Fault::Read),
+            Err(error) => Err(fault_of(error)),
         },
         _ => Ok(0),
     }
