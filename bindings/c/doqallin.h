@@ -101,6 +101,12 @@ struct doqallin_fault {
 uint32_t doqallin_cast_column(const struct doqallin_column *column, uint8_t to, uint8_t *room, size_t room_length,
                               struct doqallin_fault *fault);
 
+/* The same with less work, in one pass if there is no validity. One status differs:
+ * NONE: the room begins with a number of that type for each row before fault->place, 0 for a null; the bytes after them are as
+ * they were. */
+uint32_t doqallin_cast_front(const struct doqallin_column *column, uint8_t to, uint8_t *room, size_t room_length,
+                             struct doqallin_fault *fault);
+
 /* The lower bound of bytes at n bytes: a value of at most n bytes whole, and else its first n bytes. These are the greatest
  * bytes of at most that length that are not above the value. Returns how many of the first bytes the bound has:
  * min(n, value_length). */

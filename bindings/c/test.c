@@ -64,12 +64,16 @@ static void casts(void) {
 static const uint8_t validity[] = {0x0b}, values[] = {0xff, 0xff, 5, 0, 0xff, 0xff, 0xfe, 0xff};
 static const struct doqallin_column rows = {DOQALLIN_I16, validity, 1, values, 8, values, 0, 1, 3};
 
+// The call that is tested: all rows or none, or those before the first without a number.
+static uint32_t (*cast)(const struct doqallin_column *, uint8_t, uint8_t *, size_t, struct doqallin_fault *);
+
 // Whether a cast of the column answers so, tells this of the mistake, and writes so many bytes, and no more.
 static int casts_to(struct doqallin_column column, uint8_t to, size_t room_length, uint32_t status, size_t at, size_t place,
                     size_t written) {
     struct doqallin_fault fault = {77, 78};
     fresh();
-    uint32_t answer = doqallin_cast_column(&column, to, room, room_length, &fault);
+    uint32_t answer = cast(&column, to, room, room_length, &fault);
+    if (status == DOQALLIN_NONE && cast == doqallin_cast_front) written = place << to % 4;
     return answer == status && fault.column == at && fault.place == place && is_kept(room, written);
 }
 
@@ -104,6 +108,16 @@ static void column_casts(void) {
     CHECK(casts_to(column, DOQALLIN_I32, ROOM, DOQALLIN_TOO_SHORT, 0, 1, 0));
     // The room is asked for once the buffers are long enough.
     CHECK(casts_to(column, DOQALLIN_I32, 0, DOQALLIN_TOO_SHORT, 0, 1, 0));
+}
+
+// The rows before the first without a number, and the room after them.
+static void fronts(void) {
+    CHECK(casts_to(rows, DOQALLIN_U64, ROOM, DOQALLIN_NONE, 0, 2, 0) && !memcmp(room, "\5\0\0\0\0\0\0\0\0\0\0\0\0\0\0\0", 16));
+    struct doqallin_column column = rows;
+    column.validity_length = 0;
+    CHECK(casts_to(column, DOQALLIN_U16, ROOM, DOQALLIN_NONE, 0, 1, 0) && !memcmp(room, "\5\0", 2));
+    column.offset = 0;
+    CHECK(casts_to(column, DOQALLIN_U8, ROOM, DOQALLIN_NONE, 0, 0, 0));
 }
 
 static void lower_bounds(void) {
@@ -632,7 +646,8 @@ int main(int argc, char **argv) {
     if (argc == 3) return memory(atoi(argv[2]));
     CHECK(doqallin_version() == DOQALLIN_VERSION);
     casts();
-    column_casts();
+    cast = doqallin_cast_column, column_casts();
+    cast = doqallin_cast_front, column_casts(), fronts();
     lower_bounds();
     upper_bounds();
     zones();

@@ -30,6 +30,11 @@ static uint32_t of_cast(const struct doqallin_column *some) {
     CHECK(is_told ? fault.column == 0 && fault.place == place : fault.column == 77 && fault.place == 78);
     size_t written = status ? 0 : some->length << to % 4;
     CHECK(!memcmp(room, wanted, written) && is_kept(written, 0));
+    fresh();
+    CHECK(doqallin_cast_front(some, to, room, room_length, &fault) == status);
+    CHECK(is_told ? fault.column == 0 && fault.place == place : fault.column == 77 && fault.place == 78);
+    if (status == DOQALLIN_NONE) written = place << to % 4;
+    CHECK(!memcmp(room, wanted, written) && is_kept(written, 0));
     return status;
 }
 

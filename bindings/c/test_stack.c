@@ -16,6 +16,7 @@ static size_t n;
 static struct doqallin_bound_lengths lengths;
 
 static void cast(void) { doqallin_cast_column(&two[0], (uint8_t)(n % 8), room, ROOM, &fault); }
+static void front(void) { doqallin_cast_front(&two[0], (uint8_t)(n % 8), room, ROOM, &fault); }
 static void keys(void) { doqallin_row_keys(two, 2, options, 2, places, ROWS + 1, room, ROOM, &count, &fault); }
 static void bytes_bounds(void) { doqallin_column_bounds_bytes(value, sizeof value, starts, 4, n, room, ROOM, other, ROOM, &lengths); }
 static void text_bounds(void) { doqallin_column_bounds_text(value, sizeof value, starts, 4, n, room, ROOM, other, ROOM, &lengths); }
@@ -36,7 +37,7 @@ static void back(void) {
     doqallin_column_of_row_keys(kinds, 2, options, 2, row_ends, rows_of_keys + 1, row_keys, keys_length, n % 2, other, ROOM, room, ROOM, places, ROWS + 2, &count, &fault);
 }
 
-static void (*const calls[])(void) = {cast, keys, back, bytes_bounds, text_bounds, upper_bound, statistics, merge, read_parts};
+static void (*const calls[])(void) = {cast, front, keys, back, bytes_bounds, text_bounds, upper_bound, statistics, merge, read_parts};
 #define CALLS (sizeof calls / sizeof *calls)
 #define CALLS_OF_STATISTICS 3
 

@@ -64,7 +64,7 @@ def _cast_column(values: Any, to: str | DType | Kind) -> Column:
         raise UnknownKind(f"a column of {one.kind} has no cast to {KINDS[code]}: both are to be integers")
     length = WIDTHS[code] * len(one)
     raw, room, fault = one._raw(), new_room(length), Fault()
-    status = _library.cast_column(byref(raw), code, room, length, byref(fault))
+    status = _library.cast_front(byref(raw), code, room, length, byref(fault))
     if status == NONE:
         raise at(CannotCast(f"{KINDS[code]} does not have the value at index {fault.place}"), fault.place)
     check_column(status, fault)

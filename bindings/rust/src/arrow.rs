@@ -422,7 +422,7 @@ pub fn cast_column<T: Integer>(column: &Column<'_>) -> Result<Vec<T>, CastError>
     let mut fault = raw::Fault::default();
     // SAFETY: the column's pointers and lengths are of slices, and the room and `fault` are places of their own.
     let status = unsafe {
-        raw::doqallin_cast_column(
+        raw::doqallin_cast_front(
             &column.raw(),
             T::KIND,
             made.as_mut_ptr().cast(),

@@ -192,7 +192,7 @@ unsafe extern "C" {
         parts: &mut Statistics,
         fault: &mut Fault,
     ) -> u32;
-    pub fn doqallin_cast_column(
+    pub fn doqallin_cast_front(
         column: &ArrowColumn,
         to: u8,
         room: *mut u8,

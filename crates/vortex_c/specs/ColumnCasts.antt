@@ -1,5 +1,5 @@
 -- What a cast of a column of integers comes to.
-use Rattle.std.specs.Prelude.{◌≡◌, ◌≢◌, ℕ, ◌*◌, ◌<◌, ◌≤◌, List, length, Some, None}
+use Rattle.std.specs.Prelude.{◌≡◌, ◌≢◌, ℕ, ◌*◌, ◌<◌, ◌≤◌, List, drop, length, take, Some, None}
 use Rattle.arrow_columns.specs.Casts.{AreCastTo, IsFirstWithout}
 use Rattle.arrow_columns.specs.Columns.{IsIntegerColumn, integer_cells}
 use Rattle.arrow_columns.specs.Faults.{IsIntegerFault}
@@ -27,6 +27,14 @@ pub record IsColumnCast (column : Column) (to : ℕ) (room : List ℕ) : Type 0 
   pub is_column : IsIntegerColumn from column
   pub fits : column.length * width_of into ≤ length room
   pub cast : AreCastTo into (integer_cells from column) room
+
+-- the room begins with the integers of the first so many rows of the column in the kind with this code
+pub record IsFrontCast (column : Column) (to count : ℕ) (room : List ℕ) : Type 0 where
+  pub from : IntegerKind
+  pub into : IntegerKind
+  pub kinds : AreKinds column to from into
+  pub is_column : IsIntegerColumn from column
+  pub cast : AreCastTo into (take count (integer_cells from column)) room
 
 -- why a column is not cast to a room of so many bytes: no two reasons hold at once
 abbrev pub IsCastRefusal : Column → ℕ → ℕ → CastRefusal → Type 0
@@ -56,3 +64,12 @@ fault_of_cast before (Without row) = record { column = 0; place = row }
 -- the call with this status refused for such a reason, and told where
 abbrev pub SaysWhyNoCast : Column → ℕ → ℕ → Fault → Fault → ℕ → Type 0
 SaysWhyNoCast column to size before after status = (r : CastRefusal) × IsCastRefusal column to size r × (status ≡ status_of_cast r) × (after ≡ fault_of_cast before r)
+
+-- a room after such a cast of the front: it has the rows before the first without a value, and else it is as it was
+abbrev pub IsLeft : Column → ℕ → List ℕ → List ℕ → CastRefusal → Type 0
+IsLeft column to old new NotAKind = new ≡ old
+IsLeft column to old new NotIntegers = new ≡ old
+IsLeft column to old new (Unreadable fault) = new ≡ old
+IsLeft column to old new TooSmall = new ≡ old
+IsLeft column to old new (Without row) =
+    IsFrontCast column to row new × ((kind : IntegerKind) → integer_kind_at to ≡ Some kind → drop (row * width_of kind) new ≡ drop (row * width_of kind) old)

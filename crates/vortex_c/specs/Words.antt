@@ -21,7 +21,7 @@ pub use Rattle.column_statistics.specs.Forms.{IsColumnForm}
 pub use Rattle.column_statistics.specs.Items.{bytes_of_item}
 pub use Rattle.vortex_c.specs.Bounds.{HasNone, IsWholeOrBest}
 pub use Rattle.vortex_c.specs.ColumnAnswers.{AnswersColumn, KeepsTheRest}
-pub use Rattle.vortex_c.specs.ColumnCasts.{IsCastRefusal, IsColumnCast, SaysWhyNoCast, fault_of_cast, status_of_cast}
+pub use Rattle.vortex_c.specs.ColumnCasts.{AreKinds, IsCastRefusal, IsColumnCast, IsFrontCast, IsLeft, SaysWhyNoCast, fault_of_cast, status_of_cast}
 pub use Rattle.vortex_c.specs.ColumnFaults.{place_in_column, status_of_column}
 pub use Rattle.vortex_c.specs.Columns.{AreEndsText, HasEndNoText, HasValue, IsColumn, IsGreatestAt, IsLeastAt, some_where, value_at}
 pub use Rattle.vortex_c.specs.FormAnswers.{AnswersForm, HasAnswer}

@@ -1,8 +1,8 @@
 //! Casts of columns of integers.
 
-ghost use Rattle.std.specs.Prelude.{◌≡◌, ◌≢◌, ◌*◌, IfErr, IfOk, OnErr, OnOk, Some, drop, length};
+ghost use Rattle.std.specs.Prelude.{◌≡◌, ◌≢◌, ◌*◌, ◌≤◌, IfErr, IfOk, OnErr, OnOk, Some, drop, length};
 ghost use Rattle.arrow_columns.specs.declared.kinds.IntegerKind.{IntegerKind as AnyKind};
-ghost use Rattle.vortex_c.specs.Words.{Integer, IsCastRefusal, IsColumnCast, IsIntegerFault, SaysWhyNoCast, fault_of_cast, integer_kind_at, kind_at, status_of_cast, width_of};
+ghost use Rattle.vortex_c.specs.Words.{AreKinds, Integer, IsCastRefusal, IsColumnCast, IsFrontCast, IsIntegerFault, IsLeft, SaysWhyNoCast, fault_of_cast, integer_kind_at, kind_at, status_of_cast, width_of};
 
 use crate::fault::{Fault, place_in_column, status_of_column};
 use crate::status::{GIVEN, NO_ROOM, NONE, UNKNOWN_KIND};
@@ -21,6 +21,13 @@ pub(crate) enum CastRefusal {
     TooSmall,
     /// The kind lacks the integer of this row, the first such one.
     Without(usize),
+}
+
+/// The rows of a column of integers, and the kind that they are cast to.
+#[derive(Clone, Copy)]
+struct Castable<'a> {
+    rows: IntegerRows<'a>,
+    into: IntegerKind,
 }
 
 /// Casts a column of integers to another kind: writes an item for each row, 0 for a null.
@@ -55,6 +62,39 @@ pub extern "C" fn doqallin_cast_column(
     }
 }
 
+/// The same, in one pass if there is no bitmap. It differs where the kind lacks an integer.
+///
+/// - `NONE`: the rows before the first such one are written. `fault` says which it is, and the room
+///   from there on stays.
+#[unsafe(no_mangle)]
+pub extern "C" fn doqallin_cast_front(
+    column: &Column,
+    to: u8,
+    room: &mut [u8],
+    fault: &mut Fault,
+) -> u32
+    ensures given { result ≡ GIVEN → IsColumnCast column.now to room.new }
+    ensures rest { result ≡ GIVEN → (kind : AnyKind) → integer_kind_at to ≡ Some kind
+        → drop (column.now.length * width_of kind) room.new
+        ≡ drop (column.now.length * width_of kind) room.old }
+    ensures no_fault { result ≡ GIVEN → fault.new ≡ fault.old }
+    ensures refused { result ≢ GIVEN
+        → SaysWhyNoCast column.now to (length room.old) fault.old fault.new result }
+    ensures front { result ≡ NONE → IsFrontCast column.now to fault.new.place room.new }
+    ensures past { result ≡ NONE → (kind : AnyKind) → integer_kind_at to ≡ Some kind
+        → drop (fault.new.place * width_of kind) room.new
+        ≡ drop (fault.new.place * width_of kind) room.old }
+    ensures kept { result ≢ GIVEN → result ≢ NONE → room.new ≡ room.old }
+{
+    match cast_front(*column, to, room) {
+        Ok(()) => GIVEN,
+        Err(refusal) => {
+            tell(refusal, fault);
+            status_of_refusal(refusal)
+        }
+    }
+}
+
 /// Casts a column of integers to the kind with this code.
 fn cast(column: Column, to: u8, room: &mut [u8]) -> Result<(), CastRefusal>
     ensures cast { OnOk result (IsColumnCast column.entry to room.new) }
@@ -63,6 +103,43 @@ fn cast(column: Column, to: u8, room: &mut [u8]) -> Result<(), CastRefusal>
         ≡ drop (column.entry.length * width_of kind) room.old) }
     ensures refused { IfErr result (λ r. IsCastRefusal column.entry to (length room.old) r) }
     ensures kept { OnErr result (room.new ≡ room.old) }
+{
+    let given = match prepare(column, to, room.len()) {
+        Ok(given) => given,
+        Err(refusal) => return Err(refusal),
+    };
+    match given.rows.cast(given.into, room) {
+        Ok(()) => Ok(()),
+        Err(fault) => Err(CastRefusal::Without(fault.row)),
+    }
+}
+
+/// The same, but writes the rows before the first without a value.
+fn cast_front(column: Column, to: u8, room: &mut [u8]) -> Result<(), CastRefusal>
+    ensures cast { OnOk result (IsColumnCast column.entry to room.new) }
+    ensures rest { OnOk result ((kind : AnyKind) → integer_kind_at to ≡ Some kind
+        → drop (column.entry.length * width_of kind) room.new
+        ≡ drop (column.entry.length * width_of kind) room.old) }
+    ensures refused { IfErr result (λ r. IsCastRefusal column.entry to (length room.old) r) }
+    ensures left { IfErr result (λ r. IsLeft column.entry to room.old room.new r) }
+{
+    let given = match prepare(column, to, room.len()) {
+        Ok(given) => given,
+        Err(refusal) => return Err(refusal),
+    };
+    match given.rows.cast_front(given.into, room) {
+        Ok(()) => Ok(()),
+        Err(fault) => Err(CastRefusal::Without(fault.row)),
+    }
+}
+
+/// The rows of a column that can be cast to a room of so many bytes, and the kind with this code.
+fn prepare(column: Column, to: u8, size: usize) -> Result<Castable, CastRefusal>
+    ensures kinds { IfOk result (λ given. AreKinds column.entry to given.rows.kind given.into) }
+    ensures column { IfOk result (λ given. given.rows.column ≡ column.entry) }
+    ensures fits { IfOk result (λ given. column.entry.length * width_of given.into ≤ size) }
+    ensures refused { IfErr result (λ r. IsCastRefusal column.entry to size r) }
+    ensures untried { IfErr result (λ r. status_of_cast r ≢ NONE) }
 {
     let Some(into) = IntegerKind::from_code(to) else {
         return Err(CastRefusal::NotAKind);
@@ -74,13 +151,10 @@ fn cast(column: Column, to: u8, room: &mut [u8]) -> Result<(), CastRefusal>
         Ok(rows) => rows,
         Err(fault) => return Err(CastRefusal::Unreadable(fault)),
     };
-    if room.len() / into.width() < column.length {
+    if size / into.width() < column.length {
         return Err(CastRefusal::TooSmall);
     }
-    match rows.cast(into, room) {
-        Ok(()) => Ok(()),
-        Err(fault) => Err(CastRefusal::Without(fault.row)),
-    }
+    Ok(Castable { rows, into })
 }
 
 /// The rows of a column of integers.

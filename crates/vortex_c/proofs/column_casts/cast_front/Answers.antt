@@ -1,0 +1,49 @@
+use Rattle.std.proofs.Common.{arith, drop, ◌≡◌, rules, subst, take, ◌*◌, ◌≤◌, length}
+use Rattle.arrow_columns.specs.Casts.{AreCastTo, IsFirstWithout}
+use Rattle.arrow_columns.specs.Columns.{IsIntegerColumn, integer_cells}
+use Rattle.arrow_columns.specs.Integers.{width_of}
+use Rattle.arrow_columns.specs.declared.columns.Column.{Column}
+use Rattle.vortex_c.proofs.column_casts.cast_front.Goals as goal
+
+pub returns-in-Ok-cast_front-clause-cast : goal.returns-in-Ok-cast_front-clause-cast
+returns-in-Ok-cast_front-clause-cast c =
+    let rows = c.in-Ok.given.rows in
+    let into = c.in-Ok.given.into in
+    let fits : c.args.column.length * width_of into ≤ length c.cast_front.new.room = omega (arith, c.in-Ok.ensures.fits, c.cast_front.auto.room) in
+    record {
+      from = rows.kind;
+      into = into;
+      kinds = c.in-Ok.ensures.kinds;
+      is_column = subst (λ (column : Column). IsIntegerColumn rows.kind column) c.in-Ok.ensures.column rows.is_column;
+      fits = fits;
+      cast = subst (λ (column : Column). AreCastTo into (integer_cells rows.kind column) c.cast_front.new.room) c.in-Ok.ensures.column c.in-Ok-cast_front.ensures.cast;
+    }
+
+pub returns-in-Err-cast_front-clause-refused : goal.returns-in-Err-cast_front-clause-refused
+returns-in-Err-cast_front-clause-refused c =
+    let rows = c.in-Ok.given.rows in
+    let into = c.in-Ok.given.into in
+    let row = c.in-Err-cast_front.fault.row in (
+      rows.kind,
+      into,
+      c.in-Ok.ensures.kinds,
+      subst (λ (column : Column). IsIntegerColumn rows.kind column) c.in-Ok.ensures.column rows.is_column,
+      c.in-Ok.ensures.fits,
+      subst (λ (column : Column). IsFirstWithout into (integer_cells rows.kind column) row) c.in-Ok.ensures.column c.in-Err-cast_front.ensures.fault,
+    )
+
+pub returns-in-Err-cast_front-clause-left : goal.returns-in-Err-cast_front-clause-left
+returns-in-Err-cast_front-clause-left c =
+    let rows = c.in-Ok.given.rows in
+    let into = c.in-Ok.given.into in
+    let row = c.in-Err-cast_front.fault.row in
+    let room = c.cast_front.new.room in (
+      record {
+        from = rows.kind;
+        into = into;
+        kinds = c.in-Ok.ensures.kinds;
+        is_column = subst (λ (column : Column). IsIntegerColumn rows.kind column) c.in-Ok.ensures.column rows.is_column;
+        cast = subst (λ (column : Column). AreCastTo into (take row (integer_cells rows.kind column)) room) c.in-Ok.ensures.column c.in-Err-cast_front.ensures.front;
+      },
+      search rules,
+    )
