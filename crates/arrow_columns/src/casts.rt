@@ -240,6 +240,33 @@ fn block_fits<const N: usize, T: Integer<N>, const M: usize, U: Integer<M>>(
     fits
 }
 
+/// Writes the integers of a block of rows. All are read before the first is written, so that several
+/// are written at once.
+fn write_block<const N: usize, T: Integer<N>, const M: usize, U: Integer<M>>(
+    items: &[[u8; N]],
+    from: usize,
+    start: usize,
+    room: &mut [u8],
+)
+    requires narrow { N ≤ 8 }
+    requires narrow_to { M ≤ 8 }
+    requires from { from ≤ start }
+    requires items { start + BLOCK ≤ length items.now }
+    requires room { (start + BLOCK - from) * M ≤ length room.old }
+    requires fit { (j : ℕ) → j < BLOCK → IsOfKind U.kind (integer_of T.kind (slice_index_or items.now (start + j) [])) }
+    requires written { AreWritten U.kind M (cell_at [] (λ i. integer_of T.kind (slice_index_or items.now i []))) from start room.old }
+    ensures written { AreWritten U.kind M (cell_at [] (λ i. integer_of T.kind (slice_index_or items.now i []))) from (start + BLOCK) room.new }
+    ensures rest { drop ((start + BLOCK - from) * M) room.new ≡ drop ((start + BLOCK - from) * M) room.old }
+{
+    let mut block = [[0; M]; BLOCK];
+    for j in 0..BLOCK {
+        block[j] = U::of_whole(T::of_bytes(items[start + j]).whole()).to_bytes();
+    }
+    for k in 0..BLOCK {
+        put::<M>(room, start - from + k, block[k]);
+    }
+}
+
 /// Writes the integers of the rows of a column without nulls block by block, as long as the kind of
 /// U has those of each block. Tells the first row that is not written.
 fn write_blocks<const N: usize, T: Integer<N>, const M: usize, U: Integer<M>>(
@@ -265,9 +292,7 @@ fn write_blocks<const N: usize, T: Integer<N>, const M: usize, U: Integer<M>>(
         if !block_fits::<N, T, M, U>(items, start) {
             return start;
         }
-        for j in 0..BLOCK {
-            write_row::<N, T, M, U>(&[], items, from, start + j, start + BLOCK, room);
-        }
+        write_block::<N, T, M, U>(items, from, start, room);
     }
     from + BLOCK * blocks
 }

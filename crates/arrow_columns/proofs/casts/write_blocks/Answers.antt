@@ -15,13 +15,12 @@ loop-b-preserved g c =
     let from : ℕ = c.args.from in
     let start : ℕ = from + 16 * c.loop-b.b in
     let next : start + 16 ≡ from + 16 * (c.loop-b.b + 1) = omega arith in
-    let past : start + c.loop-j.j ≡ from + 16 * (c.loop-b.b + 1) = omega arith in
     let far : 16 * c.loop-b.b * M ≤ 16 * (c.loop-b.b + 1) * M = mul-le-mul_right M (omega arith) in
     let count : start + 16 - from ≡ 16 * (c.loop-b.b + 1) = omega arith in
     record {
       fit = subst (λ (e : ℕ). (k : ℕ) → k < e → from ≤ k → IfSome (C k) (IsOfKind g.U.Integer.kind)) next
           (more_rows (λ k. IfSome (C k) (IsOfKind g.U.Integer.kind)) from start 16 c.loop-b.invariant.fit c.if-not-block_fits.ensures);
-      written = subst (λ (e : ℕ). AreWritten g.U.Integer.kind M C from e c.loop-j.room) past c.loop-j.invariant.written;
-      rest = subst (λ (n : ℕ). drop (n * M) c.loop-j.room ≡ drop (n * M) c.loop-b.room) count c.loop-j.invariant.rest
+      written = subst (λ (e : ℕ). AreWritten g.U.Integer.kind M C from e c.write_block.new.room) next c.write_block.ensures.written;
+      rest = subst (λ (n : ℕ). drop (n * M) c.write_block.new.room ≡ drop (n * M) c.loop-b.room) count c.write_block.ensures.rest
           ∙ alike_further (16 * c.loop-b.b * M) (16 * (c.loop-b.b + 1) * M) c.loop-b.room c.args.room.now far c.loop-b.invariant.rest;
     }

@@ -1,4 +1,4 @@
-use Rattle.std.proofs.Common.{[], ◌≡◌, ◌+◌, ◌-◌, ◌*◌, drop, slice_index_or}
+use Rattle.std.proofs.Common.{[], ◌≡◌, ◌+◌, ◌*◌, drop, slice_index_or}
 use Rattle.arrow_columns.specs.Casts.{AllFit, AreWritten}
 use Rattle.arrow_columns.specs.Cells.{cell_at}
 use Rattle.arrow_columns.specs.Integers.{integer_of}
@@ -9,10 +9,4 @@ invariant-loop-b g l = record {
   fit : AllFit g.U.Integer.kind (cell_at [] (λ i. integer_of g.T.Integer.kind (slice_index_or l.items i []))) l.from (l.from + 16 * l.b);
   written : AreWritten g.U.Integer.kind g.row.M (cell_at [] (λ i. integer_of g.T.Integer.kind (slice_index_or l.items i []))) l.from (l.from + 16 * l.b) l.room;
   rest : drop (16 * l.b * g.row.M) l.room ≡ drop (16 * l.b * g.row.M) l.initial.room;
-}
-
-abbrev pub invariant-loop-j : goal.invariant-loop-j
-invariant-loop-j g l = record {
-  written : AreWritten g.U.Integer.kind g.row.M (cell_at [] (λ i. integer_of g.T.Integer.kind (slice_index_or l.items i []))) l.from (l.start + l.j) l.room;
-  rest : drop ((l.start + 16 - l.from) * g.row.M) l.room ≡ drop ((l.start + 16 - l.from) * g.row.M) l.initial.room;
 }
