@@ -1,4 +1,4 @@
-use Rattle.std.proofs.Common.{arith, drop, ◌≡◌, rules, subst, take, ◌*◌, ◌≤◌, length}
+use Rattle.std.proofs.Common.{arith, rules, subst, take, ◌*◌, ◌≤◌, length}
 use Rattle.arrow_columns.specs.Casts.{AreCastTo, IsFirstWithout}
 use Rattle.arrow_columns.specs.Columns.{IsIntegerColumn, integer_cells}
 use Rattle.arrow_columns.specs.Integers.{width_of}
