@@ -31,7 +31,7 @@ IsOfReading faults.Memory = Unit {0}
 IsOfReading faults.Write = ⊥
 IsOfReading (faults.Refused refusal) = ⊥
 
--- a fault of a stream that is read to its end, and of no record, index or writer
+-- a read failed, or no memory was left for it
 abbrev pub IsOfStream : Fault → Type 0
 IsOfStream faults.Read = Unit {0}
 IsOfStream faults.Memory = Unit {0}

@@ -5,6 +5,7 @@ ghost use Rattle.zone_index.specs.declared.faults.Fault.TheVariants.{Memory};
 ghost use Rattle.zone_index.specs.declared.faults.RecordFault.TheVariants.{Memory as NoMemory};
 
 use std::alloc::{AllocError, AllocFailed};
+use std::io::{self, ErrorKind};
 
 /// Why a record has no row under the columns.
 #[derive(Debug, Drop)]
@@ -85,6 +86,20 @@ impl<T: Drop> From<AllocFailed<T>> for Fault {
 
     fn from(_error: AllocFailed<T>) -> Fault {
         Fault::Memory
+    }
+}
+
+impl Fault {
+    ghost use Rattle.zone_index.specs.Faults.{IsOfStream};
+
+    /// Why nothing more was read: a read failed, or no memory was left for it.
+    pub(crate) fn of_read(error: io::Error) -> Fault
+        ensures { IsOfStream result }
+    {
+        match error.kind() {
+            ErrorKind::OutOfMemory => Fault::Memory,
+            _ => Fault::Read,
+        }
     }
 }
 

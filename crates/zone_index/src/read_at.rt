@@ -4,8 +4,9 @@ ghost use Rattle.std.specs.Prelude.{◌≡◌, ◌≢◌, ◌<◌, ◌≤◌, �
 ghost use Rattle.std.specs.Io.{ReadsAtMost};
 ghost use Rattle.std.specs.Io.Cursor.{cursor_inner};
 ghost use Rattle.zone_index.specs.Asking.{AsksOnce, AsksWithin, asked_at};
+ghost use Rattle.zone_index.specs.Faults.{IsOfStream};
 ghost use Rattle.zone_index.specs.declared.read_at.Asked.{Asked};
-ghost use Rattle.zone_index.specs.declared.faults.Fault.TheVariants.{CutShort, Read as ReadFault};
+ghost use Rattle.zone_index.specs.declared.faults.Fault.TheVariants.{CutShort};
 
 use crate::faults::Fault;
 use std::fs::File;
@@ -94,7 +95,7 @@ pub fn fill_from<R: ReadAt>(reader: &mut R, at: u64, into: &mut [u8]) -> Result<
         (λ xs. into.new ≡ take (length into.old) (drop at xs))) }
     ensures cut { IfErr result (λ fault. fault ≡ CutShort → IfSome (R.bytes reader.old)
         (λ xs. length xs < at + length into.old)) }
-    ensures why { IfErr result (λ fault. fault ≢ CutShort → fault ≡ ReadFault) }
+    ensures why { IfErr result (λ fault. fault ≢ CutShort → IsOfStream fault) }
     ensures kept { R.bytes reader.new ≡ R.bytes reader.old }
     ensures asks { AsksWithin (R.asked reader.old) (R.asked reader.new) at (at + length into.old) }
 {
@@ -103,7 +104,7 @@ pub fn fill_from<R: ReadAt>(reader: &mut R, at: u64, into: &mut [u8]) -> Result<
         match reader.read_at(at + done as u64, &mut into[done..]) {
             Ok(0) => return Err(Fault::CutShort),
             Ok(count) => done += count,
-            Err(_) => return Err(Fault::Read),
+            Err(error) => return Err(Fault::of_read(error)),
         }
     }
     Ok(())

@@ -36,23 +36,13 @@ pub fn take_records<B: BufRead>(
         match read_line(reader, text) {
             Ok(0) => return Ok(()),
             Ok(_) => {}
-            Err(error) => return Err(fault_of(error)),
+            Err(error) => return Err(Fault::of_read(error)),
         }
         place = place_after_line(delimiter, place, &text[before..]);
         taken = counted(taken, place);
         taken += take_plain(delimiter, place, size - taken, text, reader)?;
     }
     Ok(())
-}
-
-/// Why nothing more was read: a read failed, or no memory was left for what it read.
-fn fault_of(error: io::Error) -> Fault
-    ensures { IsOfStream result }
-{
-    match error.kind() {
-        ErrorKind::OutOfMemory => Fault::Memory,
-        _ => Fault::Read,
-    }
 }
 
 /// One more where a record ended.
@@ -87,7 +77,7 @@ fn take_plain<B: BufRead>(
     match place {
         Place::Fresh => match append_plain(delimiter, most, text, reader) {
             Ok(count) => Ok(count),
-            Err(error) => Err(fault_of(error)),
+            Err(error) => Err(Fault::of_read(error)),
         },
         _ => Ok(0),
     }

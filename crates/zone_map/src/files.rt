@@ -35,10 +35,10 @@ pub fn open_file(rt: &HostRuntime, name: &str) -> Result<File, Fault> {
 }
 
 /// The reader, through a buffer.
-pub fn buffered<R: Read + Drop>(alloc: Global, reader: R) -> Result<BufReader<R>, Fault> {
+pub fn buffered<R: Read + Drop>(alloc: Global, reader: R) -> Result<BufReader<R>, AllocError> {
     match BufReader::new(alloc, reader) {
         Ok(reader) => Ok(reader),
-        Err(_) => Err(Fault::from(AllocError)),
+        Err(_) => Err(AllocError),
     }
 }
 
@@ -47,16 +47,16 @@ pub fn from_place<R: Read + Seek + Drop>(
     alloc: Global,
     file: R,
     place: u64,
-) -> Result<BufReader<R>, Fault> {
+) -> Result<BufReader<R>, SearchFault> {
     let file = at_place(file, place)?;
-    buffered(alloc, file)
+    Ok(buffered(alloc, file)?)
 }
 
 /// A file from this place on.
-pub fn at_place<R: Seek + Drop>(mut file: R, place: u64) -> Result<R, Fault> {
+pub fn at_place<R: Seek + Drop>(mut file: R, place: u64) -> Result<R, SearchFault> {
     match file.seek(SeekFrom::Start(place)) {
         Ok(_) => Ok(file),
-        Err(_) => Err(Fault::from(SearchFault::Read)),
+        Err(_) => Err(SearchFault::Read),
     }
 }
 

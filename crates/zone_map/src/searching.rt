@@ -173,13 +173,8 @@ fn answer_new<W: Write>(
     file: &File,
     writer: &mut W,
 ) -> Result<u64, SearchFault> {
-    match from_place(alloc, file, position.place) {
-        Ok(mut reader) => answer_rest(alloc, wanted, position, matcher, &mut reader, writer),
-        Err(fault) => {
-            drop(fault);
-            Err(SearchFault::Read)
-        }
-    }
+    let mut reader = from_place(alloc, file, position.place)?;
+    answer_rest(alloc, wanted, position, matcher, &mut reader, writer)
 }
 
 /// The file, with what it is asked for.
