@@ -273,15 +273,20 @@ fn beginning(key: &[u8]) -> u64 {
     u64::from_be_bytes(bytes)
 }
 
-/// The rows sorted by their keys. Most are told apart by their first eight bytes. Rows whose keys begin alike are then sorted by
-/// their keys.
+/// The rows sorted by their keys. A number has the first bits of a key, and then its row: most rows are told apart by these bits.
+/// Rows whose keys begin alike are then sorted by their keys.
 fn sorted_by_keys(keys: &RowKeys) -> Vec<usize> {
-    let mut rows: Vec<(u64, usize)> = keys.iter().map(beginning).zip(0..).collect();
-    rows.sort_unstable_by_key(|row| row.0);
-    for alike in rows.chunk_by_mut(|x, y| x.0 == y.0) {
-        alike.sort_unstable_by(|x, y| keys.get(x.1).cmp(&keys.get(y.1)));
+    let bits = usize::BITS - keys.len().leading_zeros();
+    let row = (1u64 << bits) - 1;
+    let mut rows: Vec<u64> = (0..)
+        .zip(keys.iter().map(beginning))
+        .map(|(at, first)| first & !row | at)
+        .collect();
+    rows.sort_unstable();
+    for alike in rows.chunk_by_mut(|x, y| x & !row == y & !row) {
+        alike.sort_unstable_by_key(|at| keys.get((at & row) as usize));
     }
-    rows.into_iter().map(|row| row.1).collect()
+    rows.into_iter().map(|at| (at & row) as usize).collect()
 }
 
 /// Sorting the rows of two columns by their keys, beside sorting them by comparing their values.
