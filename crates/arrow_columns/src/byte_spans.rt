@@ -26,6 +26,19 @@ pub struct ByteSpan<'a> {
     pub high_word: u64,
 }
 
+/// The numbers whose last eight bytes are full, whose last seven are, and so on.
+const RESTS: [u64; 9] = [
+    0xffff_ffff_ffff_ffff,
+    0x00ff_ffff_ffff_ffff,
+    0x0000_ffff_ffff_ffff,
+    0x0000_00ff_ffff_ffff,
+    0x0000_0000_ffff_ffff,
+    0x0000_0000_00ff_ffff,
+    0x0000_0000_0000_ffff,
+    0x0000_0000_0000_00ff,
+    0,
+];
+
 impl<'a> ByteSpan<'a> {
     /// The span of one row, whose value is this.
     pub fn of(row: usize, value: &'a [u8]) -> ByteSpan<'a>
@@ -314,21 +327,12 @@ fn front_of(count: usize, word: u64) -> u64
     word - (word & rest_of(count))
 }
 
-/// The number whose last bytes, but so many, are full.
+/// The number whose last bytes, but so many, are full. It is looked up, since the processor does not
+/// foresee how long values are: a branch takes a tenth more time.
 #[inline(always)]
 fn rest_of(count: usize) -> u64
     requires { count ≤ 8 }
     ensures { result + 1 ≡ 256 ^ (8 - count) }
 {
-    match count {
-        0 => 0xffff_ffff_ffff_ffff,
-        1 => 0x00ff_ffff_ffff_ffff,
-        2 => 0x0000_ffff_ffff_ffff,
-        3 => 0x0000_00ff_ffff_ffff,
-        4 => 0x0000_0000_ffff_ffff,
-        5 => 0x0000_0000_00ff_ffff,
-        6 => 0x0000_0000_0000_ffff,
-        7 => 0x0000_0000_0000_00ff,
-        _ => 0,
-    }
+    RESTS[count]
 }
