@@ -1,5 +1,5 @@
 -- Steps of reading the statistics of zones.
-use Rattle.std.proofs.Common.{◌≡◌, ◌≢◌, ℕ, zero, suc, ◌+◌, ◌*◌, ◌<◌, ◌≤◌, ◌⊎◌, inl, inr, List, [], ◌∷◌, ◌++◌, drop, length, map, take, get_or, refl, sym, subst, ap, ◌∙◌, arith}
+use Rattle.std.proofs.Common.{◌≡◌, ◌≢◌, ℕ, suc, ◌+◌, ◌*◌, ◌<◌, ◌≤◌, ◌⊎◌, inl, inr, List, [], ◌∷◌, length, map, get_or, refl, sym, subst, ap, ◌∙◌, arith}
 use Rattle.std.specs.Prelude.{Err, IfErr, IsErr, IsErrAnd, Ok, Result}
 use Rattle.std.proofs.Math.ListN.{set}
 use Rattle.std.proofs.Math.Nat.{mul-le-mul_right, suc-mul}
@@ -187,14 +187,5 @@ zones_refused f columns bytes offsets zones zone piece done (Err x) e h enough l
 pub memory_refused : (types : List TypeTree) (bytes offsets : List ℕ) (zones : ℕ) (r : Result Unit ZoneFault) (e : ZoneFault) → IsErr r × IsErrAnd r (λ f. f ≡ e) → e ≡ OutOfMemory → IfErr r (RefusesZones types bytes offsets zones)
 memory_refused types bytes offsets zones (Ok u) e h is = tt
 memory_refused types bytes offsets zones (Err f) e h is = subst (RefusesZones types bytes offsets zones) (sym (h.1 ∙ is)) tt
-
--- what a slice of a whole list gives back to it
-pub lent_back : {A : Type 0} (n : ℕ) (now old : List A) → length now ≡ length old → n ≡ length old → take n (now ++ drop (length now) old) ≡ now
-lent_back zero [] [] same all = refl
-lent_back (suc n) [] [] same all = absurd (omega arith)
-lent_back n [] (y ∷ old) same all = absurd (omega arith)
-lent_back n (x ∷ now) [] same all = absurd (omega arith)
-lent_back zero (x ∷ now) (y ∷ old) same all = absurd (omega arith)
-lent_back (suc n) (x ∷ now) (y ∷ old) same all = ap (λ xs. x ∷ xs) (lent_back n now old (omega arith) (omega arith))
 
 pub ruleset shown = (so_far-none, not_enough)

@@ -1,12 +1,12 @@
 -- One zone more, or one that is refused.
-use Rattle.std.proofs.Common.{◌≡◌, ◌∙◌, List, ap, arith, length, map, subst}
+use Rattle.std.proofs.Common.{◌≡◌, ◌∙◌, List, ap, arith, drop, length, map, subst, take_at}
 use Rattle.vortex_dtype.specs.TypeOf.{type_of}
 use Rattle.vortex_statistics.specs.Statistics.{known}
 use Rattle.vortex_statistics.specs.declared.column_statistics.ColumnStatistics.{ColumnStatistics}
 use Rattle.vortex_filter.specs.Formula.{formula}
 use Rattle.vortex_filter.specs.Outcomes.{outcomes}
 use Rattle.column_filters.specs.Zones.{outcomes_byte}
-use Rattle.column_filters.proofs.ZoneSteps.{AreOutcomesBefore, all_outcomes, lent_back, next_zone, outcome_of, outcomes_more, outcomes_none, zone_there, zones_refused}
+use Rattle.column_filters.proofs.ZoneSteps.{AreOutcomesBefore, all_outcomes, next_zone, outcome_of, outcomes_more, outcomes_none, zone_there, zones_refused}
 use Rattle.column_filters.proofs.zones.write_outcomes.Goals as goal
 
 pub loop-zone-init : goal.loop-zone-init
@@ -22,7 +22,7 @@ loop-zone-preserved c =
     let types = c.args.types.now in
     let said = c.read_zone.new.read in
     let long : length said ≡ length types = omega (arith, c.loop-zone.invariant.0) in
-    let back = lent_back c.loop-zone.read.len said c.loop-zone.read.items (omega (arith, c.loop-zone.invariant.0)) (omega arith) in
+    let back = take_at said (drop (length said) c.loop-zone.read.items) c.loop-zone.read.len (omega (arith, c.loop-zone.invariant.0)) in
     let byte = c.byte_of.ensures ∙ ap outcomes_byte (c.outcomes.ensures.value ∙ ap (λ (xs : List ColumnStatistics). outcomes f (map known xs)) (c.deref.ensures.value ∙ back)) in (
       ap length back ∙ long,
       next_zone c.loop-zone.zone (length types) c.loop-zone.piece c.loop-zone.invariant.1,
