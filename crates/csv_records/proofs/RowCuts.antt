@@ -6,7 +6,7 @@ use Rattle.csv.specs.declared.parser.Action.{Action}
 use Rattle.csv.specs.declared.parser.Action.TheVariants as act
 use Rattle.csv.specs.declared.parser.State.{State}
 use Rattle.csv.specs.declared.parser.State.TheVariants as st
-use Rattle.csv_records.specs.Rows.{Field, config_of, is_in_quotes, joined, quoted_after, rows_from, rows_of, state_after}
+use Rattle.csv_records.specs.Rows.{Field, config_of, field_rows, is_in_quotes, joined, quoted_after, rows_from, rows_of, state_after}
 
 -- inside of a row
 abbrev pub is_inside : State → Bool
@@ -79,6 +79,32 @@ some_row d s t q (c ∷ xs) h =
     let r = step (config_of d) s c in
     joined_some r (record { text = t; is_quoted = q }) (rows_from d r.0 (field_after r.1 c t) (quoted_after r.1 r.0 q) xs) (inside_stays d s c h)
     (λ inside. some_row d r.0 (field_after r.1 c t) (quoted_after r.1 r.0 q) xs inside)
+
+-- a first row with some field, and others
+abbrev pub HasField : List (List Field) → Type 0
+HasField rows = (f : Field) × (row : List Field) × (others : List (List Field)) × (rows ≡ (f ∷ row) ∷ others)
+
+onto_field : (f : Field) (rows : List (List Field)) → HasField (onto_first f rows)
+onto_field f [] = (f, [], [], refl)
+onto_field f (row ∷ rows) = (f, row, rows, refl)
+
+joined_field : (r : State × Action) (f : Field) (rows : List (List Field)) → Stays r → (is_inside r.0 ≡ true → HasField rows) → HasField (joined r.1 f rows)
+joined_field (s, act.Skip) f rows h k = k h
+joined_field (s, act.Copy) f rows h k = k h
+joined_field (s, act.EndField) f rows h k = onto_field f rows
+joined_field (s, act.EndRecord) f rows h k = (f, [], rows, refl)
+
+-- inside of a row it has a field
+pub some_field : (d : ℕ) (s : State) (t : List ℕ) (q : Bool) (xs : List ℕ) → is_inside s ≡ true → HasField (rows_from d s t q xs)
+some_field d s t q [] h = (record { text = t; is_quoted = q }, [], [], rw (ends_inside s h) refl)
+some_field d s t q (c ∷ xs) h =
+    let r = step (config_of d) s c in
+    joined_field r (record { text = t; is_quoted = q }) (rows_from d r.0 (field_after r.1 c t) (quoted_after r.1 r.0 q) xs) (inside_stays d s c h)
+    (λ inside. some_field d r.0 (field_after r.1 c t) (quoted_after r.1 r.0 q) xs inside)
+
+-- the rows of a text that begins where a field does have one
+pub first_field : (d : ℕ) (xs : List ℕ) → HasField (field_rows d xs)
+first_field d xs = some_field d st.StartField [] false xs refl
 
 -- no field is at hand where none was begun
 abbrev Clean : State → List ℕ → Bool → Type 0

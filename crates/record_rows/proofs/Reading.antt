@@ -13,7 +13,8 @@ use Rattle.csv_records.specs.declared.fields.Follows.TheVariants.{Another, Nothi
 use Rattle.csv_records.specs.Records.{is_whole}
 use Rattle.csv_records.specs.Rows.{Field, field_rows, is_whole_from, rows_of}
 use Rattle.vortex_value.specs.declared.scalars.Scalar.{Scalar}
-use Rattle.record_rows.specs.Rows.{AreCells, AreCellsIn, HasFields, IsRow, IsRowIn, IsTakenIf, IsTested, PushesCell, Refuses, RefusesFields, RefusesWord, is_wanted, refused_of}
+use Rattle.csv_records.proofs.RowCuts.{first_field}
+use Rattle.record_rows.specs.Rows.{AreCells, AreCellsIn, HasFields, HasOtherCount, IsRow, IsRowIn, IsTakenIf, IsTested, PushesCell, Refuses, RefusesFields, RefusesWord, is_wanted, refused_of}
 use Rattle.record_rows.specs.declared.columns.ColumnType.{ColumnType}
 use Rattle.record_rows.specs.declared.rows.RowFault.{RowFault}
 use Rattle.record_rows.specs.declared.rows.RowFault.TheVariants as faults
@@ -23,11 +24,11 @@ abbrev pub with_front : List Field → List (List Field) → List (List Field)
 with_front [] rows = rows
 with_front (f ∷ fs) rows = onto_first f (with_front fs rows)
 
-front_push : (fs : List Field) (f : Field) (rows : List (List Field)) → with_front (fs ++ f ∷ []) rows ≡ with_front fs (onto_first f rows)
+pub front_push : (fs : List Field) (f : Field) (rows : List (List Field)) → with_front (fs ++ f ∷ []) rows ≡ with_front fs (onto_first f rows)
 front_push [] f rows = refl
 front_push (g ∷ fs) f rows = ap (onto_first g) (front_push fs f rows)
 
-front_row : (fs row : List Field) (rows : List (List Field)) → with_front fs (row ∷ rows) ≡ (fs ++ row) ∷ rows
+pub front_row : (fs row : List Field) (rows : List (List Field)) → with_front fs (row ∷ rows) ≡ (fs ++ row) ∷ rows
 front_row [] row rows = refl
 front_row (f ∷ fs) row rows = ap (onto_first f) (front_row fs row rows)
 
@@ -111,6 +112,36 @@ last w d l columns bytes rest i d0 word f o old new b n m inside all h cut_is o_
       count = refused_push h.flags b n m h.count counted;
     }
 
+cells_long : (w : List Bool) (k : ℕ) (l : Bool) (cs : List ColumnType) (fs : List Field) (xs : List Scalar) (bs : List Bool) → AreCellsIn w k l cs fs xs bs → length fs ≡ length cs
+cells_long w k l [] [] [] [] h = refl
+cells_long w k l [] [] [] (b ∷ bs) h = absurd h
+cells_long w k l [] [] (x ∷ xs) bs h = absurd h
+cells_long w k l [] (f ∷ fs) xs bs h = absurd h
+cells_long w k l (c ∷ cs) [] xs bs h = absurd h
+cells_long w k l (c ∷ cs) (f ∷ fs) [] bs h = absurd h
+cells_long w k l (c ∷ cs) (f ∷ fs) (x ∷ xs) [] h = absurd h
+cells_long w k l (c ∷ cs) (f ∷ fs) (x ∷ xs) (b ∷ bs) h = ap suc (cells_long w (suc k) l cs fs xs bs h.1)
+
+-- the row ends with this field, and columns are left
+pub other_last : (d : ℕ) (columns : List ColumnType) (bytes rest : List ℕ) (fields : List Field) (i : ℕ) (f : Field) (o : Follows) → field_rows d bytes ≡ with_front fields (field_rows d rest) → length fields ≡ i
+    → IsCut d st.StartField [] false rest f o → o ≡ Nothing → i + 1 ≢ length columns → HasOtherCount columns (field_rows d bytes)
+other_last d columns bytes rest fields i f o before long cut_is o_is other =
+    let cut : IsLast d st.StartField [] false rest f = subst (IsCut d st.StartField [] false rest f) o_is cut_is in
+    let rows : field_rows d bytes ≡ (fields ++ f ∷ []) ∷ [] = before ∙ ap (with_front fields) cut.rows ∙ front_row fields (f ∷ []) [] in
+    let count : length (fields ++ f ∷ []) ≡ i + 1 = length-append fields (f ∷ []) ∙ ap (λ (n : ℕ). n + 1) long in
+    subst (HasOtherCount columns) (sym rows) (λ e. other (sym count ∙ e))
+
+-- each column has its field, and another one follows
+pub other_follows : (d : ℕ) (columns : List ColumnType) (bytes rest : List ℕ) (fields : List Field) → field_rows d bytes ≡ with_front fields (field_rows d rest) → length fields ≡ length columns → HasOtherCount columns (field_rows d bytes)
+other_follows d columns bytes rest fields before long =
+    let some = first_field d rest in
+    let rows : field_rows d bytes ≡ (fields ++ some.0 ∷ some.1) ∷ some.2 = before ∙ ap (with_front fields) some.3 ∙ front_row fields (some.0 ∷ some.1) some.2 in
+    let count : length (fields ++ some.0 ∷ some.1) ≡ length fields + suc (length some.1) = length-append fields (some.0 ∷ some.1) in
+    subst (HasOtherCount columns) (sym rows) (λ e. absurd (omega (arith, count, e, long)))
+
+pub begun_long : (w : List Bool) (d : ℕ) (l : Bool) (columns : List ColumnType) (bytes : List ℕ) (i : ℕ) (rest : List ℕ) (row : List Scalar) (refused : ℕ) → i ≤ length columns → (h : Begun w d l columns bytes i rest row refused) → length h.fields ≡ i
+begun_long w d l columns bytes i rest row refused inside h = cells_long w 0 l (take i columns) h.fields row h.flags h.cells ∙ length-take-le i columns inside
+
 -- a word that was refused
 pub refused : (d : ℕ) (l : Bool) (columns : List ColumnType) (bytes : List ℕ) (i : ℕ) (d0 : ColumnType) (f : Field) (fault : RowFault) → i < length columns → RefusesWord l (get_or columns i d0) i f fault → RefusesFields d l columns bytes fault
 refused d l columns bytes i d0 f faults.Memory inside h = tt
@@ -159,11 +190,11 @@ whole_rows d l columns line row (Ok None) h = h
 whole_rows d l columns line row (Ok (Some n)) h = is_whole_row d l columns line row n h
 whole_rows d l columns line row (Err e) h = tt
 
-pub refused_row : (d : ℕ) (l : Bool) (columns : List ColumnType) (line start : List ℕ) (fault : RowFault) → is_whole d line ≡ is_whole_from d st.StartField start → RefusesFields d l columns start fault → Refuses d l columns line fault
-refused_row d l columns line start faults.Memory same h = tt
-refused_row d l columns line start (faults.Word place found) same h = h
-refused_row d l columns line start faults.FieldCount same h = tt
-refused_row d l columns line start faults.LoneReturn same h = same ∙ h
+pub refused_row : (d : ℕ) (l : Bool) (columns : List ColumnType) (line start : List ℕ) (fault : RowFault) → rows_of d line ≡ field_rows d start → is_whole d line ≡ is_whole_from d st.StartField start → RefusesFields d l columns start fault → Refuses d l columns line fault
+refused_row d l columns line start faults.Memory rows same h = tt
+refused_row d l columns line start (faults.Word place found) rows same h = h
+refused_row d l columns line start faults.FieldCount rows same h = subst (HasOtherCount columns) (sym rows) h
+refused_row d l columns line start faults.LoneReturn rows same h = same ∙ h
 
 pub one_at_most : (b : Bool) → cond b 1 0 ≤ 1
 one_at_most true = omega arith

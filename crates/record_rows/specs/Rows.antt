@@ -1,5 +1,5 @@
 -- The row of a record.
-use Rattle.std.specs.Prelude.{◌≡◌, ◌<◌, ◌≤◌, ◌⊎◌, ◌++◌, ℕ, suc, List, [], ◌∷◌, Bool, false, true, count_by, length, slice_index_or}
+use Rattle.std.specs.Prelude.{◌≡◌, ◌≢◌, ◌<◌, ◌≤◌, ◌⊎◌, ◌++◌, ℕ, suc, List, [], ◌∷◌, Bool, false, true, count_by, length, slice_index_or}
 use Rattle.csv_records.specs.Rows.{Field, field_rows, is_whole_from, rows_of}
 use Rattle.csv_records.specs.Records.{is_whole}
 use Rattle.csv.specs.declared.parser.State.TheVariants as st
@@ -136,15 +136,20 @@ pub record IsRefused (lenient : Bool) (columns : List ColumnType) (place : ℕ) 
   pub none : HasNoCell column field
   pub strict : IsStrict lenient column
 
+-- the first row has another number of fields than there are columns
+abbrev pub HasOtherCount : List ColumnType → List (List Field) → Type 0
+HasOtherCount columns [] = ⊥
+HasOtherCount columns (row ∷ rows) = length row ≢ length columns
+
 abbrev pub RefusesFields : ℕ → Bool → List ColumnType → List ℕ → RowFault → Type 0
 RefusesFields delimiter lenient columns bytes faults.Memory = Unit {0}
 RefusesFields delimiter lenient columns bytes (faults.Word place found) = IsRefused lenient columns place found.items
-RefusesFields delimiter lenient columns bytes faults.FieldCount = Unit {0}
+RefusesFields delimiter lenient columns bytes faults.FieldCount = HasOtherCount columns (field_rows delimiter bytes)
 RefusesFields delimiter lenient columns bytes faults.LoneReturn = is_whole_from delimiter st.StartField bytes ≡ false
 
 -- why a record has no row
 abbrev pub Refuses : ℕ → Bool → List ColumnType → List ℕ → RowFault → Type 0
 Refuses delimiter lenient columns line faults.Memory = Unit {0}
 Refuses delimiter lenient columns line (faults.Word place found) = IsRefused lenient columns place found.items
-Refuses delimiter lenient columns line faults.FieldCount = Unit {0}
+Refuses delimiter lenient columns line faults.FieldCount = HasOtherCount columns (rows_of delimiter line)
 Refuses delimiter lenient columns line faults.LoneReturn = is_whole delimiter line ≡ false

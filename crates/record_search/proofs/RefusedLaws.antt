@@ -10,5 +10,5 @@ use Rattle.record_search.specs.declared.schema.Schema.{Schema}
 pub row_refused : (s : Schema) (place : ℕ) (line : List ℕ) (f : RowFault) → Refuses s.delimiter.byte s.is_lenient s.columns.items line f → IfRecordRefused (TellsRecord (RefusesRecord s) place line) (fault_at_place place f)
 row_refused s place line row_faults.Memory h = tt
 row_refused s place line (row_faults.Word column word) h = record { begins = refl; cause = h }
-row_refused s place line row_faults.FieldCount h = record { begins = refl; cause = tt }
+row_refused s place line row_faults.FieldCount h = record { begins = refl; cause = h }
 row_refused s place line row_faults.LoneReturn h = record { begins = refl; cause = h }

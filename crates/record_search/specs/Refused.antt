@@ -1,7 +1,8 @@
 -- Why a record has no row under a schema.
 use Rattle.std.specs.Prelude.{◌≡◌, ℕ, List, false}
 use Rattle.csv_records.specs.Records.{is_whole}
-use Rattle.record_rows.specs.Rows.{IsRefused}
+use Rattle.csv_records.specs.Rows.{rows_of}
+use Rattle.record_rows.specs.Rows.{HasOtherCount, IsRefused}
 use Rattle.record_rows.specs.declared.rows.RowFault.{RowFault}
 use Rattle.record_rows.specs.declared.rows.RowFault.TheVariants as row_faults
 use Rattle.zone_index.specs.declared.faults.Cause.{Cause}
@@ -13,7 +14,7 @@ use Rattle.record_search.specs.declared.schema.Schema.{Schema}
 -- a column does not take a word, which is told; or the record has another number of fields; or bytes stand after its row
 abbrev pub RefusesRecord : Schema → List ℕ → Cause → Type 0
 RefusesRecord s line (causes.Word column word) = IsRefused s.is_lenient s.columns.items column word.items
-RefusesRecord s line causes.FieldCount = Unit {0}
+RefusesRecord s line causes.FieldCount = HasOtherCount s.columns.items (rows_of s.delimiter.byte line)
 RefusesRecord s line causes.LoneReturn = is_whole s.delimiter.byte line ≡ false
 
 -- the fault of a row, of a record that begins at this place

@@ -1,31 +1,19 @@
 -- The fields of a record are observed, one after another.
-use Rattle.std.proofs.Common.{◌≡◌, ◌<◌, ◌+◌, ℕ, suc, List, [], ◌∷◌, ◌++◌, Bool, false, refl, sym, ap, ◌∙◌, subst, length, map, take, drop, get_or, arith, take_all, drop-cons, set, length-set}
-use Rattle.std.specs.List.{AllByRecursion, onto_first}
+use Rattle.std.proofs.Common.{◌≡◌, ◌<◌, ◌≤◌, ◌+◌, ℕ, suc, List, [], ◌∷◌, ◌++◌, Bool, false, refl, sym, ap, ◌∙◌, subst, length, map, take, drop, get_or, arith, take_all, drop-cons, set, length-set}
+use Rattle.std.specs.List.{AllByRecursion}
 use Rattle.std.proofs.lemmas.Grind.{take_at_read}
-use Rattle.std.proofs.lemmas.List.{drop-set-lt, map-append, take_more_set}
+use Rattle.std.proofs.lemmas.List.{drop-set-lt, length-map, length-take-le, map-append, take_more_set}
 use denote.Ref.{Bor}
 use Rattle.csv.specs.declared.parser.State.TheVariants as st
 use Rattle.csv_records.specs.Fields.{IsCut, IsFollowed, IsLast}
 use Rattle.csv_records.specs.declared.fields.Follows.{Follows}
 use Rattle.csv_records.specs.declared.fields.Follows.TheVariants.{Another, Nothing}
 use Rattle.csv_records.specs.Rows.{Field, field_rows, is_whole_from, rows_of}
+use Rattle.record_rows.proofs.Reading.{front_push, front_row, with_front}
 use Rattle.record_rows.specs.declared.columns.ColumnType.{ColumnType}
 use Rattle.vortex_statistics.specs.Statistics.{known}
 use Rattle.vortex_statistics.specs.declared.column_statistics.ColumnStatistics.{ColumnStatistics}
 use Rattle.record_statistics.specs.Observed.{AreFieldsObserved, AreObserved, IsStep, ObservesField, Step}
-
--- fields before those of the first row
-abbrev pub with_front : List Field → List (List Field) → List (List Field)
-with_front [] rows = rows
-with_front (f ∷ fs) rows = onto_first f (with_front fs rows)
-
-front_push : (fs : List Field) (f : Field) (rows : List (List Field)) → with_front (fs ++ f ∷ []) rows ≡ with_front fs (onto_first f rows)
-front_push [] f rows = refl
-front_push (g ∷ fs) f rows = ap (onto_first g) (front_push fs f rows)
-
-front_row : (fs row : List Field) (rows : List (List Field)) → with_front fs (row ∷ rows) ≡ (fs ++ row) ∷ rows
-front_row [] row rows = refl
-front_row (f ∷ fs) row rows = ap (onto_first f) (front_row fs row rows)
 
 all_push : (P : Step → Type 0) (steps : List Step) (s : Step) → AllByRecursion P steps → P s → AllByRecursion P (steps ++ s ∷ [])
 all_push P [] s h p = (p, tt)
@@ -70,6 +58,11 @@ pub record Begun (d : ℕ) (l : Bool) (columns : List ColumnType) (bytes : List 
   pub rows : field_rows d bytes ≡ with_front (map (λ s. s.field) steps) (field_rows d rest)
   pub whole : is_whole_from d st.StartField bytes ≡ is_whole_from d st.StartField rest
   pub stepped : Stepped l columns i old new steps
+
+-- as many fields as columns so far
+pub begun_long : (d : ℕ) (l : Bool) (columns : List ColumnType) (bytes : List ℕ) (i : ℕ) (rest : List ℕ) (old new : List ColumnStatistics) → i ≤ length columns → (h : Begun d l columns bytes i rest old new) → length (map (λ (p : Step). p.field) h.steps) ≡ i
+begun_long d l columns bytes i rest old new inside h =
+    length-map h.steps (λ (p : Step). p.field) ∙ sym (length-map h.steps (λ (p : Step). p.column)) ∙ sym (ap length h.stepped.columns_are) ∙ length-take-le i columns inside
 
 pub begun : (d : ℕ) (l : Bool) (columns : List ColumnType) (bytes : List ℕ) (old : List ColumnStatistics) → Begun d l columns bytes 0 bytes old old
 begun d l columns bytes old = record { steps = []; rows = refl; whole = refl; stepped = record { columns_are = refl; old_are = refl; new_are = refl; others = refl; long = refl; each = tt } }

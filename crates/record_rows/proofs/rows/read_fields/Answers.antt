@@ -3,7 +3,7 @@ use Rattle.std.proofs.Common.{◌≡◌, ◌<◌, ◌≤◌, ◌+◌, rules, ari
 use Rattle.std.proofs.lemmas.Result.{err_from_is_err_and}
 use Rattle.vortex_value.specs.declared.scalars.Scalar.{Scalar}
 use Rattle.record_rows.specs.Rows.{HasFields}
-use Rattle.record_rows.proofs.Reading.{begun, last, more, one_at_most, refused}
+use Rattle.record_rows.proofs.Reading.{begun, begun_long, last, more, one_at_most, other_follows, other_last, refused}
 use Rattle.record_rows.proofs.rows.read_fields.Goals as goal
 
 pub returns-in_err-flag-clause-refused : goal.returns-in_err-flag-clause-refused
@@ -39,3 +39,20 @@ loop-place-preserved c =
 
 pub loop-place-init : goal.loop-place-init
 loop-place-init c = (begun c.args.wanted.now c.args.delimiter.byte c.args.is_lenient c.args.columns.now c.args.text.now [] refl, omega arith, omega arith, c.requires)
+
+pub returns-in-Nothing-clause-refused : goal.returns-in-Nothing-clause-refused
+returns-in-Nothing-clause-refused c =
+    let text = cond c.in_ok-cut.cut.is_quoted c.cut_field.new.buffer.items c.in_ok-cut.cut.bare.now in
+    let place = c.loop-place.place in
+    let inside : place < length c.args.columns.now = search rules in
+    let begun = c.loop-place.invariant.0 in
+    other_last c.args.delimiter.byte c.args.columns.now c.args.text.now c.loop-place.rest.now begun.fields place (record { text = text; is_quoted = c.in_ok-cut.cut.is_quoted }) c.in_ok-cut.cut.follows begun.rows
+    (begun_long c.args.wanted.now c.args.delimiter.byte c.args.is_lenient c.args.columns.now c.args.text.now place c.loop-place.rest.now (take place c.loop-place.row.items) c.loop-place.refused (omega arith) begun) c.in_ok-cut.ensures c.in-Nothing.is c.if-place-columns.false
+
+pub returns-clause-refused : goal.returns-clause-refused
+returns-clause-refused c =
+    let place = c.loop-place.place in
+    let begun = c.loop-place.invariant.0 in
+    let past : place ≡ length c.args.columns.now = search rules in
+    other_follows c.args.delimiter.byte c.args.columns.now c.args.text.now c.loop-place.rest.now begun.fields begun.rows
+    (begun_long c.args.wanted.now c.args.delimiter.byte c.args.is_lenient c.args.columns.now c.args.text.now place c.loop-place.rest.now (take place c.loop-place.row.items) c.loop-place.refused (omega arith) begun ∙ past)

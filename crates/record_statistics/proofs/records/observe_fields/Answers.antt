@@ -1,9 +1,10 @@
 -- A field more, the last one, and a word that is refused.
-use Rattle.std.proofs.Common.{rules, arith, ◌<◌, ap, ◌∙◌, cond, List, ℕ, get_or, length, refl, set}
+use Rattle.std.proofs.Common.{rules, arith, ◌<◌, ap, ◌∙◌, cond, List, ℕ, get_or, length, map, refl, set, ◌≡◌}
 use Rattle.std.proofs.lemmas.List.{get_or_default}
 use Rattle.std.proofs.lemmas.Result.{err_from_is_err_and}
-use Rattle.record_rows.proofs.Reading.{refused}
-use Rattle.record_statistics.proofs.Fields.{begun, last, more}
+use Rattle.record_statistics.specs.Observed.{Step}
+use Rattle.record_rows.proofs.Reading.{other_follows, other_last, refused}
+use Rattle.record_statistics.proofs.Fields.{begun, begun_long, last, more}
 use Rattle.record_statistics.proofs.records.observe_fields.Goals as goal
 
 pub loop-place-init : goal.loop-place-init
@@ -29,3 +30,20 @@ loop-place-preserved c =
     let text = cond c.in_ok-cut.cut.is_quoted c.cut_field.new.buffer.items c.in_ok-cut.cut.bare.now in
     more c.args.delimiter.byte c.args.is_lenient c.args.columns.now c.args.text.now c.loop-place.rest.now c.in-Another.next c.loop-place.place _ c.word_of-word.result.now (record { text = text; is_quoted = c.in_ok-cut.cut.is_quoted }) c.in_ok-cut.cut.follows c.args.statistics.now c.loop-place.statistics (set c.loop-place.statistics c.loop-place.place c.observe_field.new.statistics) (get_or c.loop-place.statistics c.loop-place.place c.index-statistics-place.result) c.observe_field.new.statistics
     inside c.requires c.loop-place.invariant c.in_ok-cut.ensures c.in-Another.is (c.word_of-word.ensures ∙ ap (λ (l : List ℕ). cond c.in_ok-cut.cut.is_quoted l c.in_ok-cut.cut.bare.now) c.deref.ensures.value) (get_or_default c.loop-place.statistics c.loop-place.place c.index-statistics-place.result _ within) refl c.in_ok-observe_field.ensures.observed
+
+pub returns-in-Nothing-clause-refused : goal.returns-in-Nothing-clause-refused
+returns-in-Nothing-clause-refused c =
+    let text = cond c.in_ok-cut.cut.is_quoted c.cut_field.new.buffer.items c.in_ok-cut.cut.bare.now in
+    let place = c.loop-place.place in
+    let inside : place < length c.args.columns.now = search rules in
+    let so_far = c.loop-place.invariant in
+    other_last c.args.delimiter.byte c.args.columns.now c.args.text.now c.loop-place.rest.now (map (λ (p : Step). p.field) so_far.steps) place (record { text = text; is_quoted = c.in_ok-cut.cut.is_quoted }) c.in_ok-cut.cut.follows so_far.rows
+    (begun_long c.args.delimiter.byte c.args.is_lenient c.args.columns.now c.args.text.now place c.loop-place.rest.now c.args.statistics.now c.loop-place.statistics (omega arith) so_far) c.in_ok-cut.ensures c.in-Nothing.is c.if-place-columns.false
+
+pub returns-clause-refused : goal.returns-clause-refused
+returns-clause-refused c =
+    let place = c.loop-place.place in
+    let so_far = c.loop-place.invariant in
+    let past : place ≡ length c.args.columns.now = search rules in
+    other_follows c.args.delimiter.byte c.args.columns.now c.args.text.now c.loop-place.rest.now (map (λ (p : Step). p.field) so_far.steps) so_far.rows
+    (begun_long c.args.delimiter.byte c.args.is_lenient c.args.columns.now c.args.text.now place c.loop-place.rest.now c.args.statistics.now c.loop-place.statistics (omega arith) so_far ∙ past)
