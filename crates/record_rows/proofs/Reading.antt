@@ -1,6 +1,7 @@
 -- Fields are read one after another.
-use Rattle.std.proofs.Common.{◌≡◌, ◌≢◌, ◌==◌, true, ◌≤◌, ◌<◌, ◌+◌, ℕ, suc, List, [], ◌∷◌, ◌++◌, Bool, false, Option, None, Some, Result, Ok, Err, cond, refl, sym, ap, ◌∙◌, subst, length, length-append, take, get_or, arith, take_all}
+use Rattle.std.proofs.Common.{◌≡◌, ◌≢◌, ◌⊎◌, inl, inr, ◌==◌, true, ◌≤◌, ◌<◌, ◌+◌, ℕ, suc, List, [], ◌∷◌, ◌++◌, Bool, false, Option, None, Some, Result, Ok, Err, cond, refl, sym, ap, ◌∙◌, subst, length, length-append, take, get_or, arith, take_all}
 use Rattle.std.specs.Prelude.{IfOk, MatchOption, OnOk, is_ok}
+use Rattle.std.proofs.Math.Seq.{get_or-append_seam}
 use Rattle.std.proofs.lemmas.Grind.{take_at_read}
 use Rattle.std.proofs.lemmas.List.Sums.{sum_by_push}
 use Rattle.std.proofs.lemmas.List.{get_or_default, length-take-le}
@@ -9,12 +10,12 @@ use Rattle.std.specs.List.{onto_first}
 use Rattle.csv.specs.declared.parser.State.TheVariants as st
 use Rattle.csv_records.specs.Fields.{IsCut, IsFollowed, IsLast}
 use Rattle.csv_records.specs.declared.fields.Follows.{Follows}
-use Rattle.csv_records.specs.declared.fields.Follows.TheVariants.{Another, Nothing}
+use Rattle.csv_records.specs.declared.fields.Follows.TheVariants.{Another, Bytes, Nothing}
 use Rattle.csv_records.specs.Records.{is_whole}
 use Rattle.csv_records.specs.Rows.{Field, field_rows, is_whole_from, rows_of}
 use Rattle.vortex_value.specs.declared.scalars.Scalar.{Scalar}
 use Rattle.csv_records.proofs.RowCuts.{first_field}
-use Rattle.record_rows.specs.Rows.{AreCells, AreCellsIn, HasFields, HasOtherCount, IsRow, IsRowIn, IsTakenIf, IsTested, PushesCell, Refuses, RefusesFields, RefusesWord, is_wanted, refused_of}
+use Rattle.record_rows.specs.Rows.{AreCells, AreCellsIn, HasFieldAt, HasFields, HasOtherCount, IsRow, IsRowIn, IsTakenIf, IsTested, PushesCell, Refuses, RefusesFields, RefusesWord, is_wanted, refused_of}
 use Rattle.record_rows.specs.declared.columns.ColumnType.{ColumnType}
 use Rattle.record_rows.specs.declared.rows.RowFault.{RowFault}
 use Rattle.record_rows.specs.declared.rows.RowFault.TheVariants as faults
@@ -142,21 +143,41 @@ other_follows d columns bytes rest fields before long =
 pub begun_long : (w : List Bool) (d : ℕ) (l : Bool) (columns : List ColumnType) (bytes : List ℕ) (i : ℕ) (rest : List ℕ) (row : List Scalar) (refused : ℕ) → i ≤ length columns → (h : Begun w d l columns bytes i rest row refused) → length h.fields ≡ i
 begun_long w d l columns bytes i rest row refused inside h = cells_long w 0 l (take i columns) h.fields row h.flags h.cells ∙ length-take-le i columns inside
 
+at_seam : (fields : List Field) (f : Field) (others : List Field) (i : ℕ) (g : Field) → length fields ≡ i → g ≡ f → (i < length (fields ++ f ∷ others)) × (g ≡ get_or (fields ++ f ∷ others) i g)
+at_seam fields f others i g long same = (
+  omega (arith, length-append fields (f ∷ others), long),
+  same ∙ sym (subst (λ (n : ℕ). get_or (fields ++ f ∷ others) n g ≡ f) long (get_or-append_seam fields f others g)),
+)
+
+-- the field that is cut is that of the row, unless bytes stand after it
+pub field_stands : (d : ℕ) (bytes rest : List ℕ) (fields : List Field) (i : ℕ) (f g : Field) (o : Follows) → field_rows d bytes ≡ with_front fields (field_rows d rest) → is_whole_from d st.StartField bytes ≡ is_whole_from d st.StartField rest
+    → length fields ≡ i → g ≡ f → IsCut d st.StartField [] false rest f o → (is_whole_from d st.StartField bytes ≡ false) ⊎ HasFieldAt i g (field_rows d bytes)
+field_stands d bytes rest fields i f g (Another next) before whole long same cut =
+    let some = first_field d next.now in
+    let rows : field_rows d bytes ≡ (fields ++ f ∷ some.0 ∷ some.1) ∷ some.2 = before ∙ ap (with_front fields) (cut.rows ∙ ap (onto_first f) some.3) ∙ front_row fields (f ∷ some.0 ∷ some.1) some.2 in
+    inr (subst (HasFieldAt i g) (sym rows) (at_seam fields f (some.0 ∷ some.1) i g long same))
+field_stands d bytes rest fields i f g Nothing before whole long same cut =
+    let rows : field_rows d bytes ≡ (fields ++ f ∷ []) ∷ [] = before ∙ ap (with_front fields) cut.rows ∙ front_row fields (f ∷ []) [] in
+    inr (subst (HasFieldAt i g) (sym rows) (at_seam fields f [] i g long same))
+field_stands d bytes rest fields i f g Bytes before whole long same cut = inl (whole ∙ cut)
+
 -- a word that was refused
-pub refused : (d : ℕ) (l : Bool) (columns : List ColumnType) (bytes : List ℕ) (i : ℕ) (d0 : ColumnType) (f : Field) (fault : RowFault) → i < length columns → RefusesWord l (get_or columns i d0) i f fault → RefusesFields d l columns bytes fault
-refused d l columns bytes i d0 f faults.Memory inside h = tt
-refused d l columns bytes i d0 f (faults.Word at found) inside h =
+pub refused : (d : ℕ) (l : Bool) (columns : List ColumnType) (bytes : List ℕ) (i : ℕ) (d0 : ColumnType) (f : Field) (fault : RowFault) → i < length columns → (is_whole_from d st.StartField bytes ≡ false) ⊎ HasFieldAt i f (field_rows d bytes)
+    → RefusesWord l (get_or columns i d0) i f fault → RefusesFields d l columns bytes fault
+refused d l columns bytes i d0 f faults.Memory inside stands h = tt
+refused d l columns bytes i d0 f (faults.Word at found) inside stands h =
     record {
       field = f;
       column = get_or columns i d0;
       within = omega (arith, h.0);
       is = get_or_default columns i d0 (get_or columns i d0) inside ∙ ap (λ (n : ℕ). get_or columns n (get_or columns i d0)) (sym h.0);
+      stands = subst (λ (n : ℕ). (is_whole_from d st.StartField bytes ≡ false) ⊎ HasFieldAt n f (field_rows d bytes)) (sym h.0) stands;
       told = h.1;
       none = h.2;
       strict = h.3;
     }
-refused d l columns bytes i d0 f faults.FieldCount inside h = absurd h
-refused d l columns bytes i d0 f faults.LoneReturn inside h = absurd h
+refused d l columns bytes i d0 f faults.FieldCount inside stands h = absurd h
+refused d l columns bytes i d0 f faults.LoneReturn inside stands h = absurd h
 
 -- ---- the scalar at a place
 
@@ -192,7 +213,20 @@ whole_rows d l columns line row (Err e) h = tt
 
 pub refused_row : (d : ℕ) (l : Bool) (columns : List ColumnType) (line start : List ℕ) (fault : RowFault) → rows_of d line ≡ field_rows d start → is_whole d line ≡ is_whole_from d st.StartField start → RefusesFields d l columns start fault → Refuses d l columns line fault
 refused_row d l columns line start faults.Memory rows same h = tt
-refused_row d l columns line start (faults.Word place found) rows same h = h
+refused_row d l columns line start (faults.Word place found) rows same h =
+    record {
+      field = h.field;
+      column = h.column;
+      within = h.within;
+      is = h.is;
+      stands = elim h.stands [
+        | inl e ↦ inl (same ∙ e)
+        | inr k ↦ inr (subst (HasFieldAt place h.field) (sym rows) k)
+      ];
+      told = h.told;
+      none = h.none;
+      strict = h.strict;
+    }
 refused_row d l columns line start faults.FieldCount rows same h = subst (HasOtherCount columns) (sym rows) h
 refused_row d l columns line start faults.LoneReturn rows same h = same ∙ h
 

@@ -126,12 +126,18 @@ RefusesWord lenient column place f (faults.Word at found) = (at ≡ place) × (f
 RefusesWord lenient column place f faults.FieldCount = ⊥
 RefusesWord lenient column place f faults.LoneReturn = ⊥
 
--- some field has this word, and the column at this place does not take it
-pub record IsRefused (lenient : Bool) (columns : List ColumnType) (place : ℕ) (word : List ℕ) : Type 0 where
+-- the first row has this field at this place
+abbrev pub HasFieldAt : ℕ → Field → List (List Field) → Type 0
+HasFieldAt place f [] = ⊥
+HasFieldAt place f (row ∷ rows) = (place < length row) × (f ≡ slice_index_or row place f)
+
+-- the field at this place has this word, unless bytes stand after the row, and the column there does not take it
+pub record IsRefused (lenient : Bool) (columns : List ColumnType) (whole : Bool) (rows : List (List Field)) (place : ℕ) (word : List ℕ) : Type 0 where
   pub field : Field
   pub column : ColumnType
   pub within : place < length columns
   pub is : column ≡ slice_index_or columns place column
+  pub stands : (whole ≡ false) ⊎ HasFieldAt place field rows
   pub told : word ≡ field.text
   pub none : HasNoCell column field
   pub strict : IsStrict lenient column
@@ -143,13 +149,13 @@ HasOtherCount columns (row ∷ rows) = length row ≢ length columns
 
 abbrev pub RefusesFields : ℕ → Bool → List ColumnType → List ℕ → RowFault → Type 0
 RefusesFields delimiter lenient columns bytes faults.Memory = Unit {0}
-RefusesFields delimiter lenient columns bytes (faults.Word place found) = IsRefused lenient columns place found.items
+RefusesFields delimiter lenient columns bytes (faults.Word place found) = IsRefused lenient columns (is_whole_from delimiter st.StartField bytes) (field_rows delimiter bytes) place found.items
 RefusesFields delimiter lenient columns bytes faults.FieldCount = HasOtherCount columns (field_rows delimiter bytes)
 RefusesFields delimiter lenient columns bytes faults.LoneReturn = is_whole_from delimiter st.StartField bytes ≡ false
 
 -- why a record has no row
 abbrev pub Refuses : ℕ → Bool → List ColumnType → List ℕ → RowFault → Type 0
 Refuses delimiter lenient columns line faults.Memory = Unit {0}
-Refuses delimiter lenient columns line (faults.Word place found) = IsRefused lenient columns place found.items
+Refuses delimiter lenient columns line (faults.Word place found) = IsRefused lenient columns (is_whole delimiter line) (rows_of delimiter line) place found.items
 Refuses delimiter lenient columns line faults.FieldCount = HasOtherCount columns (rows_of delimiter line)
 Refuses delimiter lenient columns line faults.LoneReturn = is_whole delimiter line ≡ false

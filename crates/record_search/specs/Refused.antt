@@ -13,7 +13,7 @@ use Rattle.record_search.specs.declared.schema.Schema.{Schema}
 
 -- a column does not take a word, which is told; or the record has another number of fields; or bytes stand after its row
 abbrev pub RefusesRecord : Schema → List ℕ → Cause → Type 0
-RefusesRecord s line (causes.Word column word) = IsRefused s.is_lenient s.columns.items column word.items
+RefusesRecord s line (causes.Word column word) = IsRefused s.is_lenient s.columns.items (is_whole s.delimiter.byte line) (rows_of s.delimiter.byte line) column word.items
 RefusesRecord s line causes.FieldCount = HasOtherCount s.columns.items (rows_of s.delimiter.byte line)
 RefusesRecord s line causes.LoneReturn = is_whole s.delimiter.byte line ≡ false
 

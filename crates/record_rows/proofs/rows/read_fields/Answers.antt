@@ -3,13 +3,21 @@ use Rattle.std.proofs.Common.{◌≡◌, ◌<◌, ◌≤◌, ◌+◌, rules, ari
 use Rattle.std.proofs.lemmas.Result.{err_from_is_err_and}
 use Rattle.vortex_value.specs.declared.scalars.Scalar.{Scalar}
 use Rattle.record_rows.specs.Rows.{HasFields}
-use Rattle.record_rows.proofs.Reading.{begun, begun_long, last, more, one_at_most, other_follows, other_last, refused}
+use Rattle.record_rows.proofs.Reading.{begun, begun_long, field_stands, last, more, one_at_most, other_follows, other_last, refused}
 use Rattle.record_rows.proofs.rows.read_fields.Goals as goal
 
 pub returns-in_err-flag-clause-refused : goal.returns-in_err-flag-clause-refused
 returns-in_err-flag-clause-refused c =
     let p = err_from_is_err_and c.from_residual-in_err-flag.result c.from_residual-in_err-flag.ensures.1 in
-    rw (p.1, p.2) (refused c.args.delimiter.byte c.args.is_lenient c.args.columns.now c.args.text.now c.loop-place.place _ (record { text = c.word_of-word.result.now; is_quoted = c.in_ok-cut.cut.is_quoted }) c.in_err-flag.field-0.0 (search rules) c.in_err-flag.ensures.refused)
+    let text = cond c.in_ok-cut.cut.is_quoted c.cut_field.new.buffer.items c.in_ok-cut.cut.bare.now in
+    let place = c.loop-place.place in
+    let begun = c.loop-place.invariant.0 in
+    let word : c.word_of-word.result.now ≡ text = c.word_of-word.ensures ∙ ap (λ (l : List ℕ). cond c.in_ok-cut.cut.is_quoted l c.in_ok-cut.cut.bare.now) c.deref.ensures.value in
+    let inside : place < length c.args.columns.now = search rules in
+    rw (p.1, p.2) (refused c.args.delimiter.byte c.args.is_lenient c.args.columns.now c.args.text.now place _ (record { text = c.word_of-word.result.now; is_quoted = c.in_ok-cut.cut.is_quoted }) c.in_err-flag.field-0.0 inside
+    (field_stands c.args.delimiter.byte c.args.text.now c.loop-place.rest.now begun.fields place (record { text = text; is_quoted = c.in_ok-cut.cut.is_quoted }) (record { text = c.word_of-word.result.now; is_quoted = c.in_ok-cut.cut.is_quoted }) c.in_ok-cut.cut.follows begun.rows begun.whole
+    (begun_long c.args.wanted.now c.args.delimiter.byte c.args.is_lenient c.args.columns.now c.args.text.now place c.loop-place.rest.now (take place c.loop-place.row.items) c.loop-place.refused (omega arith) begun) (ap (λ (t : List ℕ). record { text = t; is_quoted = c.in_ok-cut.cut.is_quoted }) word) c.in_ok-cut.ensures)
+    c.in_err-flag.ensures.refused)
 
 pub returns-then-place-columns-clause-fields : goal.returns-then-place-columns-clause-fields
 returns-then-place-columns-clause-fields c =

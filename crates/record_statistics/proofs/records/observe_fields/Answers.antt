@@ -3,7 +3,7 @@ use Rattle.std.proofs.Common.{rules, arith, ◌<◌, ap, ◌∙◌, cond, List, 
 use Rattle.std.proofs.lemmas.List.{get_or_default}
 use Rattle.std.proofs.lemmas.Result.{err_from_is_err_and}
 use Rattle.record_statistics.specs.Observed.{Step}
-use Rattle.record_rows.proofs.Reading.{other_follows, other_last, refused}
+use Rattle.record_rows.proofs.Reading.{field_stands, other_follows, other_last, refused}
 use Rattle.record_statistics.proofs.Fields.{begun, begun_long, last, more}
 use Rattle.record_statistics.proofs.records.observe_fields.Goals as goal
 
@@ -13,7 +13,15 @@ loop-place-init c = begun c.args.delimiter.byte c.args.is_lenient c.args.columns
 pub returns-in_err-observe_field-clause-refused : goal.returns-in_err-observe_field-clause-refused
 returns-in_err-observe_field-clause-refused c =
     let p = err_from_is_err_and c.from_residual-in_err-observe_field.result c.from_residual-in_err-observe_field.ensures.1 in
-    rw (p.1, p.2) (refused c.args.delimiter.byte c.args.is_lenient c.args.columns.now c.args.text.now c.loop-place.place _ (record { text = c.word_of-word.result.now; is_quoted = c.in_ok-cut.cut.is_quoted }) c.in_err-observe_field.field-0.0 (search rules) c.in_err-observe_field.ensures.refused)
+    let text = cond c.in_ok-cut.cut.is_quoted c.cut_field.new.buffer.items c.in_ok-cut.cut.bare.now in
+    let place = c.loop-place.place in
+    let so_far = c.loop-place.invariant in
+    let word : c.word_of-word.result.now ≡ text = c.word_of-word.ensures ∙ ap (λ (l : List ℕ). cond c.in_ok-cut.cut.is_quoted l c.in_ok-cut.cut.bare.now) c.deref.ensures.value in
+    let inside : place < length c.args.columns.now = search rules in
+    rw (p.1, p.2) (refused c.args.delimiter.byte c.args.is_lenient c.args.columns.now c.args.text.now place _ (record { text = c.word_of-word.result.now; is_quoted = c.in_ok-cut.cut.is_quoted }) c.in_err-observe_field.field-0.0 inside
+    (field_stands c.args.delimiter.byte c.args.text.now c.loop-place.rest.now (map (λ (p : Step). p.field) so_far.steps) place (record { text = text; is_quoted = c.in_ok-cut.cut.is_quoted }) (record { text = c.word_of-word.result.now; is_quoted = c.in_ok-cut.cut.is_quoted }) c.in_ok-cut.cut.follows so_far.rows so_far.whole
+    (begun_long c.args.delimiter.byte c.args.is_lenient c.args.columns.now c.args.text.now place c.loop-place.rest.now c.args.statistics.now c.loop-place.statistics (omega arith) so_far) (ap (λ (t : List ℕ). record { text = t; is_quoted = c.in_ok-cut.cut.is_quoted }) word) c.in_ok-cut.ensures)
+    c.in_err-observe_field.ensures.refused)
 
 pub returns-then-place-columns-clause-fields : goal.returns-then-place-columns-clause-fields
 returns-then-place-columns-clause-fields c =
