@@ -1,4 +1,3 @@
 pub mod HeldParts
-mod PartLaws
 pub mod NullableLaws
 pub mod PlaceLaws

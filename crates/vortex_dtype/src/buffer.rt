@@ -1,17 +1,18 @@
 //! Shared, immutable bytes and strings. A contract sees each as its list of bytes.
 
-ghost use Rattle.std.specs.Prelude.{◌≡◌, ◌≤◌, ◌==◌, [], length, slice_range, IfSome, IsOk, IsSome, IsUtf8, nat_eq, refl, string_bytes, Some};
+ghost use Rattle.std.specs.Prelude.{◌≡◌, ◌≤◌, ◌==◌, [], length, slice_range, IsOk, IsUtf8, nat_eq, refl, string_bytes, Some};
 ghost use Rattle.std.specs.Hash as fed;
 ghost use Rattle.vortex_dtype.specs.Words.{GivesOrNoMemory, IsCharBoundary, IsTextOf, hashing, nat_cmp, nat_list_cmp_total, nat_list_eq_equiv, partial_equiv_from_equiv, pointwise, rules, slice_cmp, texts_po, texts_ties};
 
 use crate::error::VortexError;
+use arrayvec::ArrayVec;
+use bytes::Bytes;
 use std::alloc::Global;
 use std::cmp::Ordering;
 use std::hash::{Hash, Hasher};
 use std::marker::Model;
 use std::ops::Range;
 use std::str;
-use std::sync::Arc;
 
 /// How many bytes a buffer holds inline, without an allocation.
 pub const INLINE_BYTES: usize = 22;
@@ -26,72 +27,11 @@ pub struct ByteBuffer {
     alloc: Global,
 }
 
-/// The two ways to hold bytes, in 24 bytes. A variant that is a struct of its own would take 32.
+/// The two ways to hold bytes.
 #[derive(Debug, Drop)]
 enum Held {
-    Inline(InlineBytes),
-    /// So many bytes of a vector, from `start` on.
-    Shared {
-        start: u32,
-        whole: Arc<Vec<u8>>,
-        count: usize,
-    },
-}
-
-/// At most `INLINE_BYTES` bytes. With an `ArrayVec`, whose length has eight bytes, a buffer would
-/// take 40.
-#[derive(Debug, Drop)]
-struct InlineBytes {
-    count: u8,
-    array: [u8; INLINE_BYTES],
-}
-
-impl Model for InlineBytes {
-    ghost use Rattle.std.specs.Prelude.{◌≡◌, ◌≤◌, ℕ, List, length, take};
-    ghost use Rattle.vortex_dtype.specs.declared.buffer.TheConstants.{INLINE_BYTES};
-
-    ghost Value = { List ℕ };
-
-    ghost view = { λ inline. take inline.count inline.array };
-
-    ghost invariant = { λ inline. (inline.count ≤ INLINE_BYTES)
-        × (length inline.array ≡ INLINE_BYTES) };
-}
-
-impl InlineBytes {
-    /// A copy of these bytes; `None` exactly if they are too many.
-    fn of(bytes: &[u8]) -> Option<InlineBytes>
-        ensures content { IfSome result (λ inline. inline ≡ bytes.now) }
-        ensures some { length bytes.now ≤ INLINE_BYTES → IsSome result }
-    {
-        let count = bytes.len();
-        if INLINE_BYTES < count {
-            return None;
-        }
-        let mut array = [0; INLINE_BYTES];
-        array[..count].copy_from_slice(bytes);
-        Some(InlineBytes {
-            count: count as u8,
-            array,
-        })
-    }
-
-    /// The same bytes, copied as an array: so many steps whatever their number.
-    fn again(&self) -> InlineBytes
-        ensures { result ≡ self.now }
-    {
-        InlineBytes {
-            count: self.count,
-            array: self.array,
-        }
-    }
-
-    /// The bytes.
-    fn as_slice(&self) -> &[u8]
-        ensures { result.now ≡ self.now }
-    {
-        &self.array[..self.count as usize]
-    }
+    Inline(ArrayVec<u8, INLINE_BYTES>),
+    Shared(Bytes),
 }
 
 impl Model for ByteBuffer {
@@ -99,11 +39,9 @@ impl Model for ByteBuffer {
 
     ghost Value = { List ℕ };
 
-    ghost use Rattle.vortex_dtype.specs.HeldBytes.{IsWithin, held_bytes};
+    ghost use Rattle.vortex_dtype.specs.HeldBytes.{held_bytes};
 
     ghost view = { λ buffer. held_bytes buffer.held };
-
-    ghost invariant = { λ buffer. IsWithin buffer.held };
 }
 
 impl ByteBuffer {
@@ -124,13 +62,11 @@ impl ByteBuffer {
         ensures given { GivesOrNoMemory (λ buffer. buffer ≡ bytes.now) result }
         ensures inline { length bytes.now ≤ INLINE_BYTES → IsOk result }
     {
-        match InlineBytes::of(bytes) {
-            Some(inline) => Ok(ByteBuffer {
-                held: Held::Inline(inline),
-                alloc,
-            }),
-            None => ByteBuffer::sharing(Vec::from_slice(alloc, bytes)?),
-        }
+        let held = match ArrayVec::try_from(bytes) {
+            Ok(inline) => Held::Inline(inline),
+            Err(_) => Held::Shared(Bytes::copy_from_slice(alloc, bytes)?),
+        };
+        Ok(ByteBuffer { held, alloc })
     }
 
     /// Moves these bytes into a buffer, or copies them inline if they are at most 22.
@@ -143,22 +79,11 @@ impl ByteBuffer {
         if bytes.len() <= INLINE_BYTES {
             return ByteBuffer::from_slice(alloc, bytes.as_slice());
         }
-        ByteBuffer::sharing(bytes)
-    }
-
-    /// The buffer that shares all these bytes.
-    fn sharing(bytes: Vec<u8>) -> Result<ByteBuffer, VortexError>
-        ensures { GivesOrNoMemory (λ buffer. buffer ≡ bytes.items) result }
-    {
-        let alloc = *bytes.allocator();
-        let count = bytes.len();
-        let whole = Arc::new(alloc, bytes)?;
-        let held = Held::Shared {
-            start: 0,
-            whole,
-            count,
-        };
-        Ok(ByteBuffer { held, alloc })
+        let shared = Bytes::from_vec(bytes)?;
+        Ok(ByteBuffer {
+            held: Held::Shared(shared),
+            alloc,
+        })
     }
 
     /// The bytes.
@@ -169,14 +94,7 @@ impl ByteBuffer {
     {
         match &self.held {
             Held::Inline(bytes) => bytes.as_slice(),
-            Held::Shared {
-                start,
-                whole,
-                count,
-            } => {
-                let start = *start as usize;
-                &whole.as_slice()[start..start + *count]
-            }
+            Held::Shared(bytes) => bytes.as_slice(),
         }
     }
 
@@ -205,8 +123,7 @@ impl ByteBuffer {
     }
 
     /// The bytes of a range, which must lie within the buffer. More than 22 are shared; they are
-    /// copied only if no further owner can be counted, or if they begin past 4 gigabytes of what is
-    /// shared. Only that copy can answer `OutOfMemory`.
+    /// copied only if no further owner can be counted. Only that copy can answer `OutOfMemory`.
     ///
     /// Ports `ByteBuffer::slice`, which panics outside the buffer.
     pub fn slice(&self, range: Range<usize>) -> Result<ByteBuffer, VortexError>
@@ -217,23 +134,12 @@ impl ByteBuffer {
         ensures inline { length (slice_range self.now range.start range.end) ≤ INLINE_BYTES → IsOk result }
     {
         let part = &self.as_slice()[range.start..range.end];
-        let count = part.len();
-        if let Held::Shared {
-            start,
-            whole,
-            count: _,
-        } = &self.held
-            && INLINE_BYTES < count
-            && let Ok(start) = u32::try_from(*start as usize + range.start)
-            && let Ok(whole) = Arc::try_clone(whole)
+        if let Held::Shared(bytes) = &self.held
+            && INLINE_BYTES < part.len()
+            && let Ok(shared) = bytes.slice(range)
         {
-            let held = Held::Shared {
-                start,
-                whole,
-                count,
-            };
             return Ok(ByteBuffer {
-                held,
+                held: Held::Shared(shared),
                 alloc: self.alloc,
             });
         }
@@ -248,13 +154,15 @@ impl ByteBuffer {
         ensures given { GivesOrNoMemory (λ buffer. buffer ≡ self.now) result }
         ensures inline { length self.now ≤ INLINE_BYTES → IsOk result }
     {
-        match &self.held {
-            Held::Inline(bytes) => Ok(ByteBuffer {
-                held: Held::Inline(bytes.again()),
+        if let Held::Shared(bytes) = &self.held
+            && let Ok(shared) = bytes.clone()
+        {
+            return Ok(ByteBuffer {
+                held: Held::Shared(shared),
                 alloc: self.alloc,
-            }),
-            Held::Shared { .. } => self.slice(0..self.len()),
+            });
         }
+        ByteBuffer::from_slice(self.alloc, self.as_slice())
     }
 }
 
@@ -406,9 +314,8 @@ impl BufferString {
     }
 
     /// The string in a range of bytes, which must lie within the string and cut no character. More
-    /// than 22 bytes are shared; they are copied only if no further owner can be counted, or if
-    /// they begin past 4 gigabytes of what is shared. Only that copy can answer `OutOfMemory`. Of
-    /// this port alone.
+    /// than 22 bytes are shared; they are copied only if no further owner can be counted. Only that
+    /// copy can answer `OutOfMemory`. Of this port alone.
     pub fn slice(&self, range: Range<usize>) -> Result<BufferString, VortexError>
         requires ordered { range.start ≤ range.end }
         requires within { range.end ≤ length self.now }
