@@ -5,7 +5,7 @@ use Rattle.vortex_dtype.specs.TypeTree.{TypeTree, null_type}
 use Rattle.vortex_value.specs.TypesWithin.{HasNoVariant}
 use Rattle.vortex_statistics.specs.Form.{AreOf, IsFormOf, form}
 use Rattle.vortex_statistics.specs.FormAnswers.{HasValues, IsFirstWrong, SaysBound}
-use Rattle.vortex_statistics.specs.Cells.{Cell}
+use Rattle.vortex_cells.specs.Cells.{Cell}
 use Rattle.vortex_statistics.specs.Statistics.{AreRight, Known}
 use Rattle.vortex_statistics.specs.declared.error.StatisticsError.{StatisticsError}
 use Rattle.vortex_statistics.specs.declared.error.StatisticsError.TheVariants as refusals

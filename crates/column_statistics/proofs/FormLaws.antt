@@ -10,7 +10,7 @@ use Rattle.vortex_dtype.specs.TypeTree.{TypeTree}
 use Rattle.vortex_value.specs.Validity.{Valid}
 use Rattle.vortex_value.specs.TypesWithin.{HasNoVariant}
 use Rattle.vortex_value.specs.Values.Scalars.{scalar_raw}
-use Rattle.vortex_statistics.specs.Cells.{cell_order, order_from_above}
+use Rattle.vortex_cells.specs.Cells.{cell_order, order_from_above}
 use Rattle.vortex_statistics.specs.FormSteps.{HasNoVariantIn, HasNoVariants}
 use Rattle.vortex_statistics.specs.Merging.{AreRightTogether, bound_of_both, bound_order, merged, outer_by, sum_of}
 use Rattle.vortex_statistics.specs.Statistics.{Known, KnownBound, known, known_bound, may_be_value}

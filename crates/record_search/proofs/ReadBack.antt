@@ -8,7 +8,7 @@ use Rattle.record_rows.specs.Cells.{column_type}
 use Rattle.record_rows.specs.declared.columns.ColumnType.{ColumnType}
 use Rattle.vortex_filter.specs.Pruning.{AreStatisticsOf, column}
 use Rattle.vortex_row.specs.Laws.{KeysAreApart, ValuesHaveNoTyped}
-use Rattle.vortex_statistics.specs.Cells.{Cell}
+use Rattle.vortex_cells.specs.Cells.{Cell}
 use Rattle.vortex_statistics.specs.Statistics.{AreRight, Known}
 use Rattle.vortex_statistics.proofs.FormLaws.{reads_right}
 use Rattle.zone_index.specs.Form.{bytes_form}

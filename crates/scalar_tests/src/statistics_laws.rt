@@ -3,7 +3,7 @@
 
 ghost use Rattle.std.specs.Prelude.{◌≡◌, ◌++◌, List, IfErr, IfOk, map, true};
 ghost use Rattle.vortex_dtype.specs.TypeOf.{type_of};
-ghost use Rattle.vortex_statistics.specs.Cells.{Cell};
+ghost use Rattle.vortex_cells.specs.Cells.{Cell};
 ghost use Rattle.vortex_statistics.specs.Form.{AreOf, IsHeldKnown, IsUntypedBound, SaySame, form};
 ghost use Rattle.vortex_statistics.specs.FormAnswers.{retyped};
 ghost use Rattle.vortex_statistics.specs.Statistics.{AreRight, Known, known};

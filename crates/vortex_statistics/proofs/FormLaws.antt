@@ -12,7 +12,7 @@ use Rattle.vortex_value.specs.Values.Content.{Content}
 use Rattle.vortex_row.specs.Held.{IsHeld}
 use Rattle.vortex_row.specs.Laws.{KeysAreApart, ValuesHaveNoTyped}
 use Rattle.vortex_value.specs.Equality.{HasNoTyped}
-use Rattle.vortex_statistics.specs.Cells.{Cell, HasValue, IsUpTo, cell_order, is_null_cell, order_from_above}
+use Rattle.vortex_cells.specs.Cells.{Cell, HasValue, IsUpTo, cell_order, is_null_cell, order_from_above}
 use Rattle.vortex_statistics.specs.Form.{AreOf, FormsAreApart, IsBoundOf, IsCellOf, IsHeldBound, IsHeldKnown, IsSameBound, IsUntypedBound, SaySame, bound_bytes, form}
 use Rattle.vortex_statistics.specs.FormAnswers.{AreTyped, ReadsRight, retyped}
 use Rattle.vortex_statistics.specs.FormSteps.{flags_of, state_at, state_of}

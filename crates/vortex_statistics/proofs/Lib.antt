@@ -1,5 +1,4 @@
 pub mod BoundLaws
-pub mod CellLaws
 pub mod ConstantLaws
 pub mod CountBytes
 pub mod CountLaws

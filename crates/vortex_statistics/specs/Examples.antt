@@ -4,7 +4,7 @@ use Rattle.vortex_dtype.specs.TypeTree.{integer_type, union_type, no_types, utf8
 use Rattle.vortex_dtype.specs.declared.nullability.Nullability.TheVariants.{NonNullable, Nullable}
 use Rattle.vortex_dtype.specs.declared.ptype.PType.TheVariants.{I32}
 use Rattle.vortex_value.specs.Values.Content.{null, tagged, text, truth, typed, whole}
-use Rattle.vortex_statistics.specs.Cells.{Cell, cell_or_null, is_null_cell}
+use Rattle.vortex_cells.specs.Cells.{Cell, cell_or_null, is_null_cell}
 use Rattle.vortex_statistics.specs.Form.{flags, form}
 use Rattle.vortex_statistics.specs.FormAnswers.{retyped}
 use Rattle.vortex_statistics.specs.Merging.{merged, nothing}

@@ -4,7 +4,7 @@ use Rattle.vortex_dtype.specs.TypeTree.{Same, TypeTree}
 use Rattle.vortex_value.specs.TypesWithin.{UnionsHaveVariants}
 use Rattle.vortex_value.specs.Values.RawTree.{RawTree}
 use Rattle.vortex_row.specs.Decoded.{IsValueOf}
-use Rattle.vortex_statistics.specs.Cells.{Cell}
+use Rattle.vortex_cells.specs.Cells.{Cell}
 use Rattle.vortex_statistics.specs.Form.{IsHeldKnown, flags, form}
 use Rattle.vortex_statistics.specs.Statistics.{AreComplete, AreRight, Known, known}
 use Rattle.vortex_statistics.specs.declared.column_statistics.ColumnStatistics.{ColumnStatistics}

@@ -11,7 +11,7 @@ pub use Rattle.vortex_value.specs.Values.Scalars.{scalar_content, scalar_raw, sc
 pub use Rattle.vortex_row.specs.Held.{IsHeld}
 pub use Rattle.vortex_row.specs.Keys.{key}
 pub use Rattle.vortex_row.specs.Steps.{Appends, HasRoom}
-pub use Rattle.vortex_statistics.specs.Cells.{Cell, cell_of, cell_of_ref, cell_order, is_null_cell, order_from_above}
+pub use Rattle.vortex_cells.specs.Cells.{Cell, cell_of, cell_of_ref, cell_order, is_null_cell, order_from_above}
 pub use Rattle.vortex_statistics.specs.Changes.{after, change_by, change_of, exact_bound, lower_change, replaces, replacing, upper_change}
 pub use Rattle.vortex_statistics.specs.Form.{AreOf, FormsAreApart, IsFormOf, IsHeldBound, IsHeldKnown, bound_bytes, bound_flags, count_bytes, flags, form, known_count_bytes}
 pub use Rattle.vortex_statistics.specs.FormAnswers.{HasValues, IsFirstWrong, ReadsAs, ReadsInto, ReadsRight, SaysBound}

@@ -5,7 +5,6 @@
 #![tactic(auto)]
 
 mod column_statistics;
-mod comparing;
 mod error;
 mod flags;
 mod gathering;
@@ -17,5 +16,4 @@ mod truncating;
 mod writing;
 
 pub use column_statistics::{Bound, ColumnStatistics};
-pub use comparing::compare_scalars;
 pub use error::StatisticsError;

@@ -1,7 +1,7 @@
 //! Bounds of strings and bytes, cut to a length in bytes.
 
 ghost use Rattle.std.specs.Prelude.{◌≡◌, ◌⊎◌, ◌&&◌, List, false, not, IfErr, IfOk};
-ghost use Rattle.vortex_statistics.specs.Cells.{Cell};
+ghost use Rattle.vortex_cells.specs.Cells.{Cell};
 ghost use Rattle.vortex_statistics.specs.Words.{AreRight, AreTruncated, HasShortBounds, IsBestAnswer, IsCutAt, IsLong, IsLongRaw, IsOutOfMemoryAt, IsTruncated, IsTruncatedLower, IsTruncatedUpper, IsTypeOfKind, MayHold, is_absent, kind_of, known, scalar_raw, scalar_type};
 
 use crate::column_statistics::{Bound, ColumnStatistics};

@@ -1,13 +1,20 @@
 -- The order of cells from below and from above, by the laws of the order of contents.
-use Rattle.std.proofs.Common.{◌≡◌, inl, inr, Bool, true, false, if◌then◌else◌, Option, Some, None, is_some, Ordering, Less, Equal, Greater, refl, sym, ap, ◌∙◌}
+use Rattle.std.proofs.Common.{◌≡◌, ℕ, ◌<◌, ◌+◌, inl, inr, Bool, true, false, if◌then◌else◌, List, [], ◌∷◌, ◌++◌, length, map, take, get_or, Option, Some, None, is_some, Ordering, Less, Equal, Greater, refl, sym, ap, ◌∙◌}
 use Rattle.std.proofs.lemmas.Bool.{false≢true}
+use Rattle.std.proofs.lemmas.List.{map-append, take_more}
 use Rattle.std.specs.Ordering.{is_gt, ordering_then}
 use Rattle.vortex_dtype.specs.Lemmas.TypeLaws.{tree_eq-equiv}
 use Rattle.vortex_dtype.specs.TypeTree.{TypeTree, erase}
 use Rattle.vortex_value.specs.Equality.{same_type}
 use Rattle.vortex_value.specs.Lemmas.EqualityLaws.{same_type-Decides}
 use Rattle.vortex_value.specs.Order.{IsReversed, IsTransitive, order, reversed}
-use Rattle.vortex_statistics.specs.Cells.{Cell, IsUpTo, cell_order, order_from_above}
+use Rattle.vortex_value.specs.Values.Content.{content}
+use Rattle.vortex_value.specs.Values.RawTree.{RawTree}
+use Rattle.vortex_value.specs.Values.Refs.{IsRefOf, ref_raw}
+use Rattle.vortex_value.specs.Values.Scalars.{scalar_raw, scalar_type}
+use Rattle.vortex_value.specs.declared.refs.ScalarRef.{ScalarRef}
+use Rattle.vortex_value.specs.declared.scalars.Scalar.{Scalar}
+use Rattle.vortex_cells.specs.Cells.{Cell, IsUpTo, cell_of, cell_of_ref, cell_order, order_from_above}
 
 -- the laws of an order
 pub record IsOrder (cmp : Cell → Cell → Option Ordering) : Type 0 where
@@ -93,3 +100,17 @@ module _ (cmp : Cell → Cell → Option Ordering) (law : IsOrder cmp) where
       by_order (Some Greater) h k =
           let below : cmp b x ≡ Some Less = law.goes_on b y x Equal Less f (turned x y (Some Greater) h) refl refl in
           ap is_some (turned b a (Some Less) (law.goes_on b x a Less Equal below (turned a x (Some Equal) e) refl refl))
+
+-- ---- what scalars are as cells
+
+-- one value more
+pub cells_more : (xs : List Scalar) (i : ℕ) (x : Scalar) → i < length xs → x ≡ get_or xs i x → map cell_of (take (i + 1) xs) ≡ map cell_of (take i xs) ++ cell_of x ∷ []
+cells_more xs i x h e =
+    ap (map cell_of) (take_more xs i x h ∙ ap (λ y. take i xs ++ (y ∷ [])) (sym e)) ∙ map-append cell_of (take i xs) (x ∷ [])
+
+-- a borrowed scalar is the cell that the scalar is
+pub ref_cell : (x : Scalar) (r : ScalarRef) → IsRefOf (scalar_type x) (scalar_raw x) r → cell_of_ref r ≡ cell_of x
+ref_cell x r made =
+    let typed_as : TypeTree → Cell = λ t. record { typed = t; content = content (ref_raw r) } in
+    let held_as : RawTree → Cell = λ v. record { typed = scalar_type x; content = content v } in
+    ap typed_as made.typed ∙ ap held_as made.value

@@ -6,7 +6,7 @@ use Rattle.vortex_value.specs.TypesWithin.{HasNoVariant, HaveNoVariant}
 use Rattle.vortex_dtype.specs.declared.types.DType.{DType}
 use Rattle.vortex_dtype.specs.TypeOf.{type_of, dtype_trees}
 use Rattle.vortex_dtype.specs.Lemmas.TypeSize.{type_size, types_size, type_size-at}
-use Rattle.vortex_row.specs.Variants.{HasByteIds, HaveByteIds, has_variant, have_variant}
+use Rattle.vortex_cells.specs.Variants.{HasByteIds, HaveByteIds, has_variant, have_variant}
 use Rattle.vortex_dtype.specs.Lemmas.TypeLevels.{type_of-List, type_of-FixedSizeList, type_of-Map, type_of-Struct, type_of-Union, type_of-Extension}
 
 pub or_false : (b c : Bool) → b ≡ false → (b || c) ≡ c

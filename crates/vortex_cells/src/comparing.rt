@@ -1,12 +1,13 @@
-//! How a value compares with a bound.
+//! How two cells compare.
 
 ghost use Rattle.std.specs.Prelude.{◌≡◌, Some, true};
 ghost use Rattle.std.specs.Ordering.{int_cmp};
-ghost use Rattle.vortex_value.specs.Words.{whole_of};
-ghost use Rattle.vortex_statistics.specs.Words.{cell_of, cell_of_ref, cell_order, same_type, type_of};
+ghost use Rattle.vortex_cells.specs.Words.{cell_of, cell_of_ref, cell_order, same_type, type_of, whole_of};
 
 use std::cmp::Ordering;
-use vortex_array::{DType, PValue, Scalar, ScalarRef, ScalarValue};
+use vortex_dtype::DType;
+use vortex_pvalue::PValue;
+use vortex_value::{Scalar, ScalarRef, ScalarValue};
 
 /// How two scalars compare: what `Scalar::partial_cmp` says, sooner for integers, strings and bytes.
 /// Of this port alone: filters compare by it.
@@ -14,13 +15,13 @@ use vortex_array::{DType, PValue, Scalar, ScalarRef, ScalarValue};
 pub fn compare_scalars(a: &Scalar, b: &Scalar) -> Option<Ordering>
     ensures { result ≡ cell_order (cell_of a.now) (cell_of b.now) }
 {
-    compare(ScalarRef::of(a), ScalarRef::of(b))
+    compare_refs(ScalarRef::of(a), ScalarRef::of(b))
 }
 
-/// How two scalars compare, as `ScalarRef::partial_cmp` says it. Integers of one type, strings and
-/// bytes are compared here, without a walk over their types.
+/// How two borrowed scalars compare: what `ScalarRef::partial_cmp` says. Integers of one type,
+/// strings and bytes are compared here, without a walk over their types.
 #[inline(always)]
-pub(crate) fn compare(a: ScalarRef<'_>, b: ScalarRef<'_>) -> Option<Ordering>
+pub fn compare_refs(a: ScalarRef<'_>, b: ScalarRef<'_>) -> Option<Ordering>
     ensures { result ≡ cell_order (cell_of_ref a.entry) (cell_of_ref b.entry) }
 {
     match (a.value(), b.value()) {
@@ -56,7 +57,7 @@ fn compare_texts(a: ScalarRef<'_>, b: ScalarRef<'_>) -> Option<Ordering>
     }
 }
 
-/// How two scalars of any types compare. Callers of `compare` then need no scalar in memory for it.
+/// How two scalars of any types compare. Callers of `compare_refs` then need no scalar in memory for it.
 #[inline(never)]
 fn compare_any(a: ScalarRef<'_>, b: ScalarRef<'_>) -> Option<Ordering>
     ensures { result ≡ cell_order (cell_of_ref a.entry) (cell_of_ref b.entry) }
