@@ -1,9 +1,9 @@
 -- Truncated bounds: what they are by the kind of the bound, and that they are right.
 use Rattle.std.proofs.Common.{◌≡◌, inl, inr, ℕ, ◌<◌, ◌≤◌, Bool, true, false, not, ◌&&◌, IsTrue, if◌then◌else◌, List, length, count_by, Option, Some, None, IfSome, MatchOption, is_some, Ordering, Equal, option_map, refl, sym, ap, subst, ◌∙◌, arith}
 use Rattle.std.proofs.lemmas.Bool.{false≢true}
-use Rattle.vortex_array.specs.Strings.{HasNoUpper, IsLower, IsUpper}
-use Rattle.vortex_array.specs.Texts.{HasNoTextUpper, IsTextLower, IsTextUpper}
-use Rattle.vortex_array.specs.Truncation.{IsBoundOf, IsLowerOf, IsTypeOfKind, IsUpperOf, MayHold}
+use Rattle.vortex_bounds.specs.Strings.{HasNoUpper, IsLower, IsUpper}
+use Rattle.vortex_bounds.specs.Texts.{HasNoTextUpper, IsTextLower, IsTextUpper}
+use Rattle.vortex_bounds.specs.Truncation.{IsBoundOf, IsLowerOf, IsTypeOfKind, IsUpperOf, MayHold}
 use Rattle.vortex_dtype.specs.Parts.{is_binary_type, is_utf8_type}
 use Rattle.vortex_dtype.specs.TypeTree.{TypeTree, binary_type, erase, utf8_type}
 use Rattle.vortex_value.specs.Order.{IsReversed, IsTransitive, order}

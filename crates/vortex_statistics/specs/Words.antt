@@ -1,7 +1,7 @@
 -- The words of this crate's clauses, from one place.
 pub use Rattle.std.specs.Option.{option_copied}
 pub use Rattle.std.specs.Vec.{vec_capacity, vec_len}
-pub use Rattle.vortex_array.specs.Truncation.{IsTypeOfKind, MayHold}
+pub use Rattle.vortex_bounds.specs.Truncation.{IsTypeOfKind, MayHold}
 pub use Rattle.vortex_dtype.specs.TypeOf.{type_of}
 pub use Rattle.vortex_value.specs.Equality.{same_type}
 pub use Rattle.vortex_value.specs.TypesWithin.{HasNoVariant, UnionsHaveVariants}

@@ -8,8 +8,8 @@ use crate::error::StatisticsError;
 use crate::merging::sum_of;
 use std::alloc::Global;
 use std::cmp::Ordering;
-use vortex_array::ScalarRef;
 use vortex_cells::compare_refs;
+use vortex_value::ScalarRef;
 use vortex_value::laws::{order_is_reversed, order_is_transitive};
 
 impl ColumnStatistics {

@@ -9,10 +9,11 @@ use crate::error::StatisticsError;
 use crate::flags::{BoundState, Flags, flags_from};
 use crate::writing::{VERSION, ascending, expect_keys};
 use std::alloc::Global;
-use vortex_array::laws::items_are_bytes;
-use vortex_array::{DType, Scalar};
+use vortex_bounds::laws::items_are_bytes;
+use vortex_dtype::DType;
 use vortex_row::laws::{keys_are_apart, values_have_no_typed};
 use vortex_row::{RowError, decode_key_into};
+use vortex_value::Scalar;
 
 impl ColumnStatistics {
     /// The statistics that have this form, of a column of the type. Their bounds are scalars of the

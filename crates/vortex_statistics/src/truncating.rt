@@ -7,11 +7,10 @@ ghost use Rattle.vortex_statistics.specs.Words.{AreRight, AreTruncated, HasShort
 use crate::column_statistics::{Bound, ColumnStatistics};
 use crate::error::StatisticsError;
 use std::alloc::Global;
-use vortex_array::{
-    BufferString, ByteBuffer, Nullability, Scalar, ScalarTruncation, ScalarValue, VortexError,
-    lower_bound, upper_bound,
-};
+use vortex_bounds::{ScalarTruncation, lower_bound, upper_bound};
+use vortex_dtype::{BufferString, ByteBuffer, Nullability, VortexError};
 use vortex_value::laws::{order_is_reversed, order_is_transitive};
+use vortex_value::{Scalar, ScalarValue};
 
 impl ColumnStatistics {
     /// These statistics with each bound that is a string, or bytes, cut to at most `n` bytes. A

@@ -7,8 +7,9 @@ use crate::column_statistics::{Bound, ColumnStatistics};
 use crate::error::StatisticsError;
 use crate::flags::flags_of;
 use std::slice::from_ref;
-use vortex_array::{DType, ScalarRef};
+use vortex_dtype::DType;
 use vortex_row::{RowEncoder, SortOptions, append_key, append_row_key};
+use vortex_value::ScalarRef;
 
 /// The version of the layout: the first byte of each form.
 pub(crate) const VERSION: u8 = 1;
