@@ -1,7 +1,8 @@
-//! Calls of whole views: how they are made and printed, their length and order.
+//! Calls of whole views: how they are made and printed, their length, order and hash.
 
 ghost use Rattle.scalar_calls.specs.Words.{IsValid};
 
+use crate::recorder::fed;
 use case_lines::{Answer, CallResult, Given, Input, Line, Named, View, or_none, text_of, validate};
 use std::alloc::Global;
 use std::cmp::Ordering;
@@ -31,9 +32,10 @@ enum OfValid {
     IsEmpty,
     IsNull,
     Order,
+    Hash,
 }
 
-const OF_VALID: [Named<OfValid, Input>; 5] = [
+const OF_VALID: [Named<OfValid, Input>; 6] = [
     ("view_text", OfValid::Text, &[Input::Scalar]),
     ("len", OfValid::Len, &[Input::Scalar]),
     ("is_empty", OfValid::IsEmpty, &[Input::Scalar]),
@@ -43,6 +45,7 @@ const OF_VALID: [Named<OfValid, Input>; 5] = [
         OfValid::Order,
         &[Input::Scalar, Input::Second],
     ),
+    ("view_hash", OfValid::Hash, &[Input::Scalar, Input::Second]),
 ];
 
 /// Answers the line if it names one of these calls.
@@ -69,6 +72,7 @@ fn of_valid(alloc: Global, call: OfValid, given: &Given) -> CallResult {
         OfValid::IsEmpty => Ok(or_none(is_empty(scalar)?.map(Answer::Truth))),
         OfValid::IsNull => is_null(scalar).map(Answer::Truth),
         OfValid::Order => Ok(or_none(order_of_views(scalar, second)?.map(Answer::Order))),
+        OfValid::Hash => Ok(Answer::SameFeed(feed_of_view(scalar)? == feed_of_view(second)?)),
     }
 }
 
@@ -213,4 +217,21 @@ fn order_with_parts(first: &Scalar, second: &Scalar) -> Result<Option<Ordering>,
         (Some(x), Some(y)) => Ok(x.partial_cmp(&y)),
         _ => Err(VortexError::WrongKind),
     }
+}
+
+/// The digest of what the view of a scalar feeds. `WrongKind` if views of its kind have no hash.
+fn feed_of_view(scalar: &Scalar) -> Result<u64, VortexError>
+    requires { IsValid scalar.now }
+{
+    Ok(match scalar.dtype() {
+        DType::Bool(_) => fed(&scalar.as_bool()),
+        DType::Utf8(_) => fed(&scalar.as_utf8()),
+        DType::Binary(_) => fed(&scalar.as_binary()),
+        DType::Primitive(_, _) => fed(&scalar.as_primitive()),
+        DType::List(_, _) | DType::FixedSizeList(_, _, _) => fed(&scalar.as_list()),
+        DType::Map(_, _) => fed(&scalar.as_map()),
+        DType::Struct(_, _) => fed(&scalar.as_struct()),
+        DType::Extension(_) => fed(&scalar.as_extension()),
+        _ => return Err(VortexError::WrongKind),
+    })
 }

@@ -1,57 +1,49 @@
 // SPDX-License-Identifier: Apache-2.0
 // SPDX-FileCopyrightText: Copyright the Vortex contributors; ported to Rattle and changed
-//! Tests that no worked case can be: unusual hashers, iterators, readers and writers, and callers of
-//! the laws. They have a crate of their own, so that the crates below are proved once.
+//! Callers of the laws of every crate, and tests that no worked case can be: unusual hashers,
+//! iterators, readers and writers. They have a crate of their own, so that the crates below are
+//! proved once.
 #![tactic(auto)]
 
-#[cfg(test)]
-mod fillings;
+pub mod columns_of_keys;
+pub mod fillings;
 pub mod filter_laws;
 #[cfg(test)]
 mod fixtures;
 #[cfg(test)]
 mod hashers;
+pub mod indexes;
 #[cfg(test)]
 mod items;
 pub mod key_laws;
 pub mod key_returns;
 pub mod keyed;
-#[cfg(test)]
-mod leaf_views;
-#[cfg(test)]
-mod number_laws;
+pub mod number_laws;
 #[cfg(test)]
 mod numbers;
-#[cfg(test)]
-mod orders;
-#[cfg(test)]
-mod places;
+pub mod orders;
+pub mod places;
+pub mod prepared;
 #[cfg(test)]
 mod readme;
-#[cfg(test)]
-mod round_trips;
-#[cfg(test)]
-mod rust_values;
+pub mod records;
+pub mod round_trips;
+pub mod rust_values;
 #[cfg(test)]
 mod sizes;
+pub mod skipped_zones;
 pub mod statistics_laws;
 #[cfg(test)]
 mod streams;
 #[cfg(test)]
-mod struct_views;
-#[cfg(test)]
 mod texts;
 #[cfg(test)]
 mod tour;
-#[cfg(test)]
-mod type_laws;
-#[cfg(test)]
-mod value_laws;
-#[cfg(test)]
-mod view_laws;
+pub mod type_laws;
+pub mod value_laws;
+pub mod view_laws;
 #[cfg(test)]
 mod views;
 #[cfg(test)]
 mod whole_runs;
-#[cfg(test)]
-mod zones;
+pub mod zones;

@@ -3,7 +3,6 @@
 ghost use Rattle.std.specs.Prelude.{◌↔◌, ◌≡◌, ◌≤ℤ◌, IsTrue, fold, ℤ};
 ghost use Rattle.scalar_tests.specs.Words.{IsNumber, IsWrapped, byte_width_of, greatest_of, in_range, least_of, ptype_of, whole_of};
 
-use crate::hashers::Adder;
 use std::cmp::Ordering;
 use std::hash::{Hash, Hasher};
 use vortex_dtype::PType;
@@ -13,7 +12,7 @@ use vortex_pvalue::laws::{
 };
 
 /// Whether a type has the number, as a test that proofs can compute.
-fn has_number(ptype: PType, number: i128) -> bool
+pub fn has_number(ptype: PType, number: i128) -> bool
     ensures { result ≡ in_range ptype number }
 {
     test_is_range();
@@ -21,7 +20,7 @@ fn has_number(ptype: PType, number: i128) -> bool
 }
 
 /// A number from a type's least to its greatest value, as a value of the type: it always fits.
-fn value_between(number: i128, ptype: PType) -> PValue
+pub fn value_between(number: i128, ptype: PType) -> PValue
     requires least { least_of ptype ≤ℤ number }
     requires greatest { number ≤ℤ greatest_of ptype }
     ensures { IsNumber ptype number result }
@@ -35,7 +34,7 @@ fn value_between(number: i128, ptype: PType) -> PValue
 
 /// An integer reinterpreted in another type of its width. The result is the only number of that type
 /// that differs from it by a multiple of 2 to the power of the width in bits.
-fn reinterpret(value: &PValue, ptype: PType) -> PValue
+pub fn reinterpret(value: &PValue, ptype: PType) -> PValue
     requires { byte_width_of ptype ≡ byte_width_of (ptype_of value.now) }
     ensures wrapped { IsWrapped ptype (whole_of value.now) (whole_of result) }
     ensures only { (r : ℤ) → IsWrapped ptype (whole_of value.now) r → r ≡ whole_of result }
@@ -45,7 +44,7 @@ fn reinterpret(value: &PValue, ptype: PType) -> PValue
 }
 
 /// Whether two integers are equal: exactly then they are one number, whatever their types.
-fn are_equal(first: &PValue, second: &PValue) -> bool
+pub fn are_equal(first: &PValue, second: &PValue) -> bool
     ensures { IsTrue result ↔ (whole_of first.now ≡ whole_of second.now) }
 {
     equality();
@@ -53,7 +52,7 @@ fn are_equal(first: &PValue, second: &PValue) -> bool
 }
 
 /// Whether the order says `Equal` of two integers: exactly then they are equal.
-fn are_tied(first: &PValue, second: &PValue) -> bool
+pub fn are_tied(first: &PValue, second: &PValue) -> bool
     ensures { IsTrue result ↔ IsTrue (⟦<PValue as PartialEq>⟧.eq first.now second.now) }
 {
     order_agrees();
@@ -61,31 +60,10 @@ fn are_tied(first: &PValue, second: &PValue) -> bool
 }
 
 /// Feeds the second of two equal integers: what the first feeds.
-fn feed_equal<H: Hasher>(_first: &PValue, second: &PValue, state: &mut H)
+pub fn feed_equal<H: Hasher>(_first: &PValue, second: &PValue, state: &mut H)
     requires { IsTrue (⟦<PValue as PartialEq>⟧.eq _first.now second.now) }
     ensures { state.new ≡ fold H.write state.old (⟦<PValue as Hash>⟧.hash_input _first.now) }
 {
     hash_agrees();
     second.hash(state);
-}
-
-#[test]
-fn numbers_are_told_apart(rt: HostRuntime) {
-    assert!(rt; has_number(PType::I8, 127) && !has_number(PType::I8, 128));
-    assert!(rt; value_between(-128, PType::I8) == PValue::I8(-128));
-    assert!(rt; reinterpret(&PValue::I8(-1), PType::U8) == PValue::U8(255));
-    assert!(rt; are_equal(&PValue::I8(7), &PValue::U64(7)));
-    assert!(rt; are_tied(&PValue::I8(7), &PValue::U64(7)));
-    assert!(rt; !are_tied(&PValue::I8(7), &PValue::I8(8)));
-}
-
-#[test]
-fn equal_numbers_feed_the_same(rt: HostRuntime) {
-    let (short, long) = (PValue::I8(7), PValue::U64(7));
-    let mut sums = [Adder(0), Adder(0)];
-    short.hash(&mut sums[0]);
-    if short == long {
-        feed_equal(&short, &long, &mut sums[1]);
-    }
-    assert!(rt; sums[0].0 == sums[1].0);
 }

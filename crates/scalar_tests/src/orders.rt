@@ -4,12 +4,11 @@ ghost use Rattle.std.specs.Prelude.{◌≡◌, IfSome, Some};
 ghost use Rattle.scalar_tests.specs.Words.{scalar_order};
 
 use std::cmp::Ordering;
-use vortex_dtype::Nullability::NonNullable;
 use vortex_value::Scalar;
 use vortex_value::laws::{order_is_reversed, order_is_transitive};
 
 /// The order of two scalars, from the comparison the other way round.
-fn order_from_behind(first: &Scalar, second: &Scalar) -> Option<Ordering>
+pub fn order_from_behind(first: &Scalar, second: &Scalar) -> Option<Ordering>
     ensures { result ≡ scalar_order first.now second.now }
 {
     order_is_reversed();
@@ -17,7 +16,7 @@ fn order_from_behind(first: &Scalar, second: &Scalar) -> Option<Ordering>
 }
 
 /// The order of the first and the third scalar, if comparisons with the second give it.
-fn order_through(first: &Scalar, second: &Scalar, third: &Scalar) -> Option<Ordering>
+pub fn order_through(first: &Scalar, second: &Scalar, third: &Scalar) -> Option<Ordering>
     ensures { IfSome result (λ order. scalar_order first.now third.now ≡ Some order) }
 {
     order_is_transitive();
@@ -26,19 +25,4 @@ fn order_through(first: &Scalar, second: &Scalar, third: &Scalar) -> Option<Orde
         (Some(Ordering::Less), Some(Ordering::Equal)) => Some(Ordering::Less),
         _ => None,
     }
-}
-
-#[test]
-fn orders_are_derived(rt: HostRuntime) {
-    let all = [
-        Scalar::primitive(1i32, NonNullable),
-        Scalar::primitive(2i32, NonNullable),
-        Scalar::primitive(3i32, NonNullable),
-        Scalar::primitive(3i64, NonNullable),
-    ];
-    assert!(rt; order_from_behind(&all[0], &all[1]) == Some(Ordering::Less));
-    assert!(rt; order_from_behind(&all[0], &all[3]).is_none());
-    assert!(rt; order_through(&all[0], &all[1], &all[2]) == Some(Ordering::Less));
-    assert!(rt; order_through(&all[0], &all[2], &all[2]) == Some(Ordering::Less));
-    assert!(rt; order_through(&all[0], &all[2], &all[3]).is_none());
 }

@@ -3,10 +3,7 @@
 ghost use Rattle.std.specs.Prelude.{[], ◌∷◌, ◌≡◌, IfErr, IfOk};
 ghost use Rattle.scalar_tests.specs.Words.{GivesCast, HasNoExtension, HasNoMap, IsMadeOf, IsTheOne, IsValid, IsValidRef, Runs, Same, integer_type, list_type, scalar_content, scalar_order, scalar_raw, scalar_type, type_of};
 
-use crate::fixtures::{integer, tuple};
 use std::alloc::Global;
-use std::cmp::Ordering;
-use std::process::Abort;
 use vortex_dtype::{DType, Nullability, PType, VortexError};
 use vortex_value::laws::{
     calls_are_chains, chains_agree, equality_and_order_are_kept, has_by_cases,
@@ -15,7 +12,7 @@ use vortex_value::laws::{
 use vortex_value::{Scalar, ScalarRef};
 
 /// The type of lists of these integers.
-fn list_of(alloc: Global, ptype: PType) -> Result<DType, VortexError>
+pub fn list_of(alloc: Global, ptype: PType) -> Result<DType, VortexError>
     ensures made { IfOk result (λ made. type_of made ≡
         list_type (integer_type ptype Nullability.NonNullable) Nullability.NonNullable) }
     ensures refused { IfErr result (λ e. e ≡ VortexError.OutOfMemory) }
@@ -28,7 +25,7 @@ fn list_of(alloc: Global, ptype: PType) -> Result<DType, VortexError>
 /// A list of 32-bit integers, cast to 64 bits and back: the same list.
 ///
 /// `OutOfMemory` is its only refusal.
-fn widened_and_back(alloc: Global, list: &Scalar) -> Result<Scalar, VortexError>
+pub fn widened_and_back(alloc: Global, list: &Scalar) -> Result<Scalar, VortexError>
     requires valid { IsValid list.now }
     requires typed { scalar_type list.now ≡
         list_type (integer_type PType.I32 Nullability.NonNullable) Nullability.NonNullable }
@@ -45,7 +42,7 @@ fn widened_and_back(alloc: Global, list: &Scalar) -> Result<Scalar, VortexError>
 
 /// A scalar cast by way of a type between, and cast at once: if both succeed, they give one raw
 /// value.
-fn two_ways(
+pub fn two_ways(
     alloc: Global,
     scalar: &Scalar,
     between: &DType,
@@ -64,7 +61,7 @@ fn two_ways(
 
 /// A scalar that is lent, cast by way of a type between, and cast at once: if both succeed, they
 /// give one raw value.
-fn two_ways_lent(
+pub fn two_ways_lent(
     alloc: Global,
     lent: &ScalarRef<'_>,
     between: &DType,
@@ -82,7 +79,7 @@ fn two_ways_lent(
 }
 
 /// A scalar cast by way of a type between: a chain of two casts.
-fn by_way_of(
+pub fn by_way_of(
     alloc: Global,
     scalar: &Scalar,
     between: &DType,
@@ -99,7 +96,7 @@ fn by_way_of(
 
 /// A scalar cast at once, after `chained` was cast by way of a type between: it has the value of
 /// `chained`, or there is no memory.
-fn at_once(
+pub fn at_once(
     alloc: Global,
     scalar: &Scalar,
     _between: &DType,
@@ -118,7 +115,11 @@ fn at_once(
 }
 
 /// A scalar made nullable and cast back to its type: the same scalar, or there is no memory.
-fn nullable_and_back(alloc: Global, scalar: Scalar, dtype: &DType) -> Result<Scalar, VortexError>
+pub fn nullable_and_back(
+    alloc: Global,
+    scalar: Scalar,
+    dtype: &DType,
+) -> Result<Scalar, VortexError>
     requires valid { IsValid scalar }
     requires typed { type_of dtype.now ≡ scalar_type scalar }
     ensures { GivesCast (scalar_type scalar) (scalar_raw scalar) result }
@@ -132,7 +133,7 @@ fn nullable_and_back(alloc: Global, scalar: Scalar, dtype: &DType) -> Result<Sca
 
 /// Two scalars of one type, cast to another: they are ordered as before, and equal exactly if they
 /// were.
-fn cast_both(
+pub fn cast_both(
     alloc: Global,
     first: &Scalar,
     second: &Scalar,
@@ -153,7 +154,7 @@ fn cast_both(
 
 /// Two scalars of one type, each cast by way of a type between: they are ordered as before, and
 /// equal exactly if they were.
-fn cast_both_by_way_of(
+pub fn cast_both_by_way_of(
     alloc: Global,
     first: &Scalar,
     second: &Scalar,
@@ -174,7 +175,7 @@ fn cast_both_by_way_of(
 }
 
 /// A scalar cast by way of a type between: the one scalar of the target with its content.
-fn cast_through(
+pub fn cast_through(
     alloc: Global,
     scalar: &Scalar,
     between: &DType,
@@ -187,94 +188,4 @@ fn cast_through(
     let made = step.cast(alloc, target);
     drop(step);
     made
-}
-
-/// The list of these two numbers.
-pub fn pair(rt: &(impl AllocGlobal + Abort), first: i32, second: i32) -> Scalar
-    ensures valid { IsValid result }
-    ensures typed { scalar_type result ≡
-        list_type (integer_type PType.I32 Nullability.NonNullable) Nullability.NonNullable }
-{
-    let list = Scalar {
-        dtype: list_of(rt.alloc(), PType::I32).expect(rt, "a type"),
-        value: tuple(rt, [integer(first), integer(second)]),
-    };
-    let checked = Scalar::validate(rt.alloc(), list.dtype(), list.value());
-    checked.expect(rt, "a valid list");
-    list
-}
-
-#[test]
-fn a_list_comes_back(rt: HostRuntime) {
-    let list = pair(&rt, i32::MIN, 7);
-    let back = widened_and_back(rt.alloc(), &list).expect(&rt, "the list");
-    assert!(rt; back == list);
-    drop(back);
-    drop(list);
-}
-
-#[test]
-fn two_ways_agree(rt: HostRuntime) {
-    let number = Scalar::primitive(255i32, Nullability::NonNullable);
-    let types = [
-        DType::Primitive(PType::I64, Nullability::NonNullable),
-        DType::Primitive(PType::U8, Nullability::NonNullable),
-    ];
-    let made = two_ways(rt.alloc(), &number, &types[0], &types[1]).expect(&rt, "casts");
-    assert!(rt; made.0 == made.1);
-    drop(made);
-    let lent = ScalarRef::of(&number);
-    let made = two_ways_lent(rt.alloc(), &lent, &types[0], &types[1]).expect(&rt, "casts");
-    assert!(rt; made.0 == made.1);
-    drop(made);
-    drop(number);
-}
-
-#[test]
-fn no_way_round_leads_further(rt: HostRuntime) {
-    let number = Scalar::primitive(255i32, Nullability::NonNullable);
-    let types = [
-        DType::Primitive(PType::I64, Nullability::NonNullable),
-        DType::Primitive(PType::U8, Nullability::Nullable),
-    ];
-    let chained = by_way_of(rt.alloc(), &number, &types[0], &types[1]).expect(&rt, "casts");
-    let direct = at_once(rt.alloc(), &number, &types[0], &types[1], &chained);
-    let made = [chained, direct.expect(&rt, "memory")];
-    assert!(rt; made[0] == made[1]);
-    drop(made);
-    drop(number);
-}
-
-#[test]
-fn what_was_made_nullable_comes_back(rt: HostRuntime) {
-    let dtype = DType::Bool(Nullability::NonNullable);
-    let truth = Scalar::bool(true, Nullability::NonNullable);
-    let back = nullable_and_back(rt.alloc(), truth, &dtype).expect(&rt, "memory");
-    assert!(rt; back.dtype == dtype);
-    drop(back);
-    drop(dtype);
-}
-
-#[test]
-fn casts_keep_equality_and_order(rt: HostRuntime) {
-    let lists = [pair(&rt, 1, 2), pair(&rt, 1, 3)];
-    let longs = list_of(rt.alloc(), PType::I64).expect(&rt, "a type");
-    let made = cast_both(rt.alloc(), &lists[0], &lists[1], &longs).expect(&rt, "casts");
-    assert!(rt; made.0.partial_cmp(&made.1) == Some(Ordering::Less));
-    assert!(rt; made.0 != made.1);
-    drop(made);
-    drop(longs);
-}
-
-#[test]
-fn chains_keep_equality_and_order(rt: HostRuntime) {
-    let lists = [pair(&rt, 1, 2), pair(&rt, 1, 3)];
-    let types = [
-        list_of(rt.alloc(), PType::I64).expect(&rt, "a type"),
-        list_of(rt.alloc(), PType::U8).expect(&rt, "a type"),
-    ];
-    let made = cast_both_by_way_of(rt.alloc(), &lists[0], &lists[1], &types[0], &types[1]);
-    let made = made.expect(&rt, "casts");
-    assert!(rt; made.0.partial_cmp(&made.1) == Some(Ordering::Less));
-    drop(made);
 }

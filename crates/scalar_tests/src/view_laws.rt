@@ -1,20 +1,18 @@
 //! What a caller derives about views, from the contracts of `partial_cmp` and `==` and the laws of
-//! views alone. Two that are ordered `Equal` feed hashers the same, and equality is an equivalence.
+//! views alone. Two that are ordered `Equal` feed hashers the same, equality is an equivalence, and
+//! a map gives each key.
 
-ghost use Rattle.std.specs.Prelude.{◌≡◌, IsTrue};
-ghost use Rattle.scalar_tests.specs.Words.{EqualContents, HasNoVariant, IsValidRef, Same, list_ref, list_view_type, ref_content, ref_feed, text_view_content, text_view_type, typed_feed};
+ghost use Rattle.std.specs.Prelude.{◌≡◌, IsTrue, length};
+ghost use Rattle.scalar_tests.specs.Words.{EqualContents, HasNoVariant, IsValidRef, Same, list_ref, list_view_type, map_view_raw, parts_of, ref_content, ref_feed, text_view_content, text_view_type, typed_feed};
 
-use crate::fixtures::text_buffer;
-use crate::leaf_views::text_view;
-use crate::round_trips::pair;
+use std::alloc::Global;
 use std::cmp::Ordering;
-use vortex_dtype::Nullability::{NonNullable, Nullable};
 use vortex_leaves::Utf8Scalar;
-use vortex_value::Scalar;
-use vortex_views::ListScalar;
+use vortex_views::laws::iterators_give_each_part;
+use vortex_views::{ListScalar, MapScalar};
 
 /// Whether the order says `Equal` of two strings.
-fn are_tied_texts(first: &Utf8Scalar<'_>, second: &Utf8Scalar<'_>) -> bool
+pub fn are_tied_texts(first: &Utf8Scalar<'_>, second: &Utf8Scalar<'_>) -> bool
     ensures types { IsTrue result → Same (text_view_type first.now) (text_view_type second.now) }
     ensures contents { IsTrue result
         → EqualContents (text_view_content first.now) (text_view_content second.now) }
@@ -29,7 +27,7 @@ fn are_tied_texts(first: &Utf8Scalar<'_>, second: &Utf8Scalar<'_>) -> bool
 }
 
 /// Whether the second string equals the first and the third: then these two are equal.
-fn are_equal_texts_through(
+pub fn are_equal_texts_through(
     first: &Utf8Scalar<'_>,
     second: &Utf8Scalar<'_>,
     third: &Utf8Scalar<'_>,
@@ -42,7 +40,7 @@ fn are_equal_texts_through(
 }
 
 /// Whether the second list equals the first and the third: then these two are equal.
-fn are_equal_lists_through(
+pub fn are_equal_lists_through(
     first: &ListScalar<'_>,
     second: &ListScalar<'_>,
     third: &ListScalar<'_>,
@@ -55,7 +53,7 @@ fn are_equal_lists_through(
 }
 
 /// Whether the order says `Equal` of two lists.
-fn are_tied_lists(first: &ListScalar<'_>, second: &ListScalar<'_>) -> bool
+pub fn are_tied_lists(first: &ListScalar<'_>, second: &ListScalar<'_>) -> bool
     requires valid { IsValidRef (list_ref first.now) }
     requires typed { HasNoVariant (list_view_type first.now) }
     ensures types { IsTrue result
@@ -70,26 +68,10 @@ fn are_tied_lists(first: &ListScalar<'_>, second: &ListScalar<'_>) -> bool
     matches!(first.partial_cmp(second), Some(Ordering::Equal))
 }
 
-#[test]
-fn tied_texts_are_seen(rt: HostRuntime) {
-    let all = [
-        Scalar::utf8(text_buffer(&rt, "abc"), NonNullable),
-        Scalar::utf8(text_buffer(&rt, "abc"), Nullable),
-        Scalar::utf8(text_buffer(&rt, "abd"), Nullable),
-    ];
-    let first = text_view(&rt, &all[0]);
-    assert!(rt; are_equal_texts_through(&first, &text_view(&rt, &all[1]), &first));
-    assert!(rt; are_tied_texts(&first, &text_view(&rt, &all[1])));
-    assert!(rt; !are_tied_texts(&first, &text_view(&rt, &all[2])));
-}
-
-#[test]
-fn tied_lists_are_seen(rt: HostRuntime) {
-    let all = [pair(&rt, 1, 2), pair(&rt, 1, 2), pair(&rt, 1, 3)];
-    let first = ListScalar::try_from(&all[0]).expect(&rt, "a list");
-    let second = ListScalar::try_from(&all[1]).expect(&rt, "a list");
-    let third = ListScalar::try_from(&all[2]).expect(&rt, "a list");
-    assert!(rt; are_equal_lists_through(&first, &second, &first));
-    assert!(rt; are_tied_lists(&first, &second));
-    assert!(rt; !are_tied_lists(&first, &third));
+/// How many keys a map gives: as many as it has entries.
+pub fn keys_given(alloc: Global, map: MapScalar<'_>) -> usize
+    ensures { result ≡ length (parts_of (map_view_raw map.entry)) }
+{
+    iterators_give_each_part();
+    map.keys(alloc).count()
 }

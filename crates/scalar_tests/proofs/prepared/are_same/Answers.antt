@@ -2,7 +2,7 @@ use Rattle.std.proofs.Common.{[], ◌++◌, ap, sym, ◌∙◌}
 use Rattle.std.proofs.lemmas.Bool.Decides.{Decides-eqb}
 use Rattle.std.proofs.lemmas.Slice.Eq.{slice_eq-Decides}
 use Rattle.filter_form.specs.Form.{form}
-use Rattle.search_callers.proofs.prepared.are_same.Goals as goal
+use Rattle.scalar_tests.proofs.prepared.are_same.Goals as goal
 
 pub returns : goal.returns
 returns c = λ m n p q has has' one other.

@@ -6,7 +6,7 @@ use Rattle.zone_index.specs.Form.{FitsForm, IndexValue, index_form, index_value,
 use Rattle.zone_index.specs.FormReading.{Gives}
 use Rattle.zone_index.specs.declared.form.Index.{Index}
 use Rattle.zone_index.specs.declared.form.ReadError.{ReadError}
-use Rattle.search_callers.proofs.indexes.read_wanted.Goals as goal
+use Rattle.scalar_tests.proofs.indexes.read_wanted.Goals as goal
 
 is_value : (x : IndexValue) (read : Result Index ReadError) → Gives index_value read (Ok x) → IfOk read (λ kept. index_value kept ≡ x)
 is_value x (Ok kept) gives = cc

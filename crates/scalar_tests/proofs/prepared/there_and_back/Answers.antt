@@ -12,7 +12,7 @@ use Rattle.filter_form.specs.Form.{CanBeWritten, HasForm, IsLiteral, IsPlainCell
 use Rattle.filter_form.specs.declared.error.FilterFormError.{FilterFormError}
 use Rattle.filter_form.specs.declared.error.FilterFormError.TheVariants.{NoForm, OutOfMemory}
 use Rattle.filter_form.specs.declared.prepared.PreparedFilter.{PreparedFilter}
-use Rattle.search_callers.proofs.prepared.there_and_back.Goals as goal
+use Rattle.scalar_tests.proofs.prepared.there_and_back.Goals as goal
 
 each_plain : (xs : List Cell) → AllByRecursion IsLiteral xs → AllByRecursion IsPlainCell xs
 each_plain [] h = tt

@@ -4,7 +4,7 @@ use Rattle.vortex_filter.specs.Truths.{is_true}
 use Rattle.vortex_filter.specs.declared.truth.Truth.{Truth}
 use Rattle.vortex_filter.specs.declared.truth.Truth.TheVariants.{True, False, Unknown}
 use Rattle.column_filters.specs.Zones.{IsAmong}
-use Rattle.search_callers.proofs.zones.can_be_skipped.Goals as goal
+use Rattle.scalar_tests.proofs.skipped_zones.can_be_skipped.Goals as goal
 
 -- a byte without the bit of True has not True among its truths
 no-true : (byte : ℕ) (t : Truth) → IsAmong byte t → nat_eq (byte / 4 % 2) 0 ≡ true → is_true t ≡ false

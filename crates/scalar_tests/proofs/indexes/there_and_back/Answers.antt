@@ -6,7 +6,7 @@ use Rattle.record_search.specs.declared.schema.Schema.{Schema}
 use Rattle.zone_index.specs.Form.{FitsForm, IndexValue, index_form, index_value, wanted_of}
 use Rattle.zone_index.specs.declared.form.Index.{Index}
 use Rattle.zone_index.specs.declared.form.ReadError.{ReadError}
-use Rattle.search_callers.proofs.indexes.there_and_back.Goals as goal
+use Rattle.scalar_tests.proofs.indexes.there_and_back.Goals as goal
 
 right-again : (n : ℕ) (given : Index) (wanted : List Bool) (bytes : List ℕ) (read : Result Index ReadError) → IndexesAreReadBack → (pieces : List (List (List ℕ))) × FitsForm n (index_value given) pieces × (bytes ≡ index_form n (index_value given) pieces)
     → IfOk read (λ kept. (m : ℕ) (x : IndexValue) (pieces : List (List (List ℕ))) → FitsForm m x pieces → bytes ≡ index_form m x pieces → index_value kept ≡ wanted_of wanted (λ rows. form (rows_alone rows)) x pieces)

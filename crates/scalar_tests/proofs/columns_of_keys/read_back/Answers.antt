@@ -14,7 +14,7 @@ use Rattle.key_columns.specs.Layout.{IsColumnOf, bitmap_length, offsets_length}
 use Rattle.key_columns.specs.Types.{HasTypes, type_at_code, types_of_codes}
 use Rattle.key_columns.specs.declared.faults.KeysFault.{KeysFault}
 use Rattle.key_columns.proofs.GivenSteps.{plain-codes}
-use Rattle.search_callers.proofs.keys.read_back.Goals as goal
+use Rattle.scalar_tests.proofs.columns_of_keys.read_back.Goals as goal
 
 came-back : ColumnsComeBack → (codes options : List ℕ) (which : ℕ) (bytes offsets : List ℕ) (count : ℕ) (validity values places : List ℕ) → HasTypes codes options which → IsColumnOfKeys codes options which bytes offsets count validity values places
     → (table : List (List Content)) (rows : ℕ) → AreColumnsOf (types_of_codes codes) rows table → AreRowKeys (map options_in options) table rows offsets bytes → length offsets ≡ rows + 1 → which < length table
