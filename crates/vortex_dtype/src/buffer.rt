@@ -154,15 +154,40 @@ impl ByteBuffer {
         ensures given { GivesOrNoMemory (λ buffer. buffer ≡ self.now) result }
         ensures inline { length self.now ≤ INLINE_BYTES → IsOk result }
     {
-        if let Held::Shared(bytes) = &self.held
-            && let Ok(shared) = bytes.clone()
-        {
-            return Ok(ByteBuffer {
-                held: Held::Shared(shared),
+        match &self.held {
+            Held::Inline(bytes) => Ok(ByteBuffer {
+                held: Held::Inline(copy_inline(bytes)),
                 alloc: self.alloc,
-            });
+            }),
+            Held::Shared(bytes) => share(self.alloc, bytes),
         }
-        ByteBuffer::from_slice(self.alloc, self.as_slice())
+    }
+}
+
+/// A copy of inline bytes, which takes no memory.
+#[inline(always)]
+fn copy_inline(bytes: &ArrayVec<u8, INLINE_BYTES>) -> ArrayVec<u8, INLINE_BYTES>
+    ensures { result.items ≡ bytes.now.items }
+{
+    match ArrayVec::try_from(bytes.as_slice()) {
+        Ok(copy) => copy,
+        Err(_) => unreachable!(),
+    }
+}
+
+/// Another owner of shared bytes, or a copy of them if no further owner can be counted. It is a
+/// function of its own, so that a copy of inline bytes pays for its own locals alone.
+#[inline(never)]
+fn share(alloc: Global, bytes: &Bytes) -> Result<ByteBuffer, VortexError>
+    ensures given { GivesOrNoMemory (λ buffer. buffer ≡ bytes.now) result }
+    ensures inline { length bytes.now ≤ INLINE_BYTES → IsOk result }
+{
+    match bytes.clone() {
+        Ok(shared) => Ok(ByteBuffer {
+            held: Held::Shared(shared),
+            alloc,
+        }),
+        Err(_) => ByteBuffer::from_slice(alloc, bytes.as_slice()),
     }
 }
 
