@@ -30,6 +30,7 @@ use vortex_pvalue::PValue;
 
 /// A copy of the raw value. Truth values and integers take no memory.
 #[cycle(copies)]
+#[inline(always)]
 pub(crate) fn copy_value(alloc: Global, value: &ScalarValue) -> Result<ScalarValue, AllocError>
     ensures { MatchResult result
         (λ copy. value_tree copy ≡ value_tree value.now)
@@ -250,7 +251,7 @@ fn copy_child(
 /// A copy of the value in a box, with a function for each variant of a value, as in `push_copy`.
 #[cycle(copies)]
 #[inline(always)]
-pub(crate) fn box_copy(alloc: Global, value: &ScalarValue) -> Result<Box<ScalarValue>, AllocError>
+fn box_copy(alloc: Global, value: &ScalarValue) -> Result<Box<ScalarValue>, AllocError>
     ensures { IfOk result (λ copy. value_tree copy.value ≡ value_tree value.now) }
 {
     match value {

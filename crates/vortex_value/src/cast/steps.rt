@@ -64,50 +64,6 @@ pub(super) fn union_of(type_id: u8, child: Option<Box<ScalarValue>>) -> UnionVal
     UnionValue { type_id, child }
 }
 
-/// The value in a box.
-#[inline(always)]
-pub(super) fn box_value(alloc: Global, value: ScalarValue) -> Result<Box<ScalarValue>, Refusal>
-    ensures { MatchResult result
-        (λ made. value_tree made.value ≡ value_tree value)
-        (λ e. e ≡ NoMemory) }
-{
-    Ok(copies::new_box(alloc, value)?)
-}
-
-/// The number as a raw value of the target, in a box.
-#[inline(never)]
-pub(super) fn box_number(
-    alloc: Global,
-    number: &PValue,
-    target: &DType,
-) -> Result<Box<ScalarValue>, Refusal>
-    ensures made { Makes (λ b. value_tree b.value) (number_to (whole_of number.now) (type_of target.now)) result }
-    ensures whole { OutOfMemoryOnlyIfMakeable
-        (number_to (whole_of number.now) (type_of target.now)) result }
-{
-    let number = number_in(number, target).ok_or(Refusal::Impossible)?;
-    box_value(alloc, ScalarValue::Primitive(number))
-}
-
-/// A copy of a value without parts in a box, if the cast keeps it as it is.
-#[inline(never)]
-pub(super) fn box_leaf(
-    alloc: Global,
-    value: &ScalarValue,
-    source: &DType,
-    target: &DType,
-) -> Result<Box<ScalarValue>, Refusal>
-    ensures made { Makes (λ b. value_tree b.value) (leaf_to (value_tree value.now)
-        (type_of source.now) (type_of target.now)) result }
-    ensures whole { OutOfMemoryOnlyIfMakeable (leaf_to (value_tree value.now)
-        (type_of source.now) (type_of target.now)) result }
-{
-    if !keeps_its_kind(value, source, target) {
-        return Err(Refusal::Impossible);
-    }
-    Ok(copies::box_copy(alloc, value)?)
-}
-
 /// The number as the target's `PType`, if the target is an integer type that has it. A number of
 /// just that `PType` is not looked at.
 #[inline(always)]

@@ -13,9 +13,9 @@ ghost use Rattle.vortex_value.specs.Words.{Appends, IsBareTarget, Makes, MakesPa
 use super::refusals::Refusal;
 use super::rules::{are_as_many, bare_target, takes_null, types_with, would_claim_sorted};
 use super::steps::{
-    box_leaf, box_number, box_value, cast_leaf, cast_number, push, push_leaf, push_number,
-    union_of, unwrap_extension,
+    cast_leaf, cast_number, push, push_leaf, push_number, union_of, unwrap_extension,
 };
+use crate::copies;
 use crate::storage::storage_of;
 use crate::unions::UnionValue;
 use crate::values::ScalarValue;
@@ -209,6 +209,7 @@ fn push_union(
 
 /// The child of a union, cast between the two variants with its id.
 #[cycle(cast)]
+#[inline(always)]
 fn cast_union(
     alloc: Global,
     union: &UnionValue,
@@ -245,48 +246,13 @@ fn cast_child(
         (type_of source.now) (type_of target.now) result }
 {
     match child {
-        Some(child) => Ok(Some(box_cast(alloc, child, source, target)?)),
+        Some(child) => {
+            let child = cast_present(alloc, child, source, target)?;
+            Ok(Some(copies::new_box(alloc, child)?))
+        }
         None if takes_null(source, target) => Ok(None),
         None => Err(Refusal::Impossible),
     }
-}
-
-/// A value that is present, cast into a box of its own. Numbers, strings and tuples are made in the
-/// box, and not moved there.
-#[cycle(cast)]
-fn box_cast(
-    alloc: Global,
-    value: &ScalarValue,
-    source: &DType,
-    target: &DType,
-) -> Result<Box<ScalarValue>, Refusal>
-    ensures made { Makes (λ b. value_tree b.value) (cast_to (value_tree value.now)
-        (type_of source.now) (type_of target.now)) result }
-    ensures whole { WholeOutOfMemoryOnlyIfMakeable (value_tree value.now)
-        (type_of source.now) (type_of target.now) result }
-{
-    match (value, bare_target(source, target)) {
-        (ScalarValue::Primitive(number), Some(stored)) => box_number(alloc, number, stored),
-        (ScalarValue::Utf8(_), Some(stored)) => box_leaf(alloc, value, source, stored),
-        (ScalarValue::Tuple(parts), Some(stored)) => box_tuple(alloc, parts, source, stored),
-        _ => box_value(alloc, cast_present(alloc, value, source, target)?),
-    }
-}
-
-/// What a tuple of these parts becomes, in a box.
-#[cycle(cast)]
-#[inline(never)]
-fn box_tuple(
-    alloc: Global,
-    parts: &[Option<ScalarValue>],
-    source: &DType,
-    target: &DType,
-) -> Result<Box<ScalarValue>, Refusal>
-    ensures { Makes (λ b. value_tree b.value) (bare_to (raw_tuple (value_trees parts.now))
-        (type_of source.now) (type_of target.now)) result }
-{
-    let parts = cast_parts(alloc, parts, source, target)?;
-    box_value(alloc, ScalarValue::Tuple(parts))
 }
 
 /// The parts of a tuple, cast as elements, entries or fields.

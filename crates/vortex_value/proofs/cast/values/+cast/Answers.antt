@@ -167,58 +167,6 @@ cast_union-returns-in_err-child-in-Some-clause-whole t c = λ leaf.
     let whole = rw lent at c.in_err-child-in-Some.ensures.whole in
     refused_as _ _ _ is (λ memory. some_union u.type_id _ _ at (whole (inr (leaf_child u leaf)) memory))
 
-number_tree : (v : ScalarValue) (n : PValue) → v ≡ Primitive n → value_tree v ≡ raw_integer (ptype_of n) (whole_of n)
-number_tree v n is = rw is (search (rules, value_lemmas))
-
-number_cast : (v : ScalarValue) (n : PValue) (s t : TypeTree) → v ≡ Primitive n → bare_to (value_tree v) s t ≡ number_to (whole_of n) t
-number_cast v n s t is = rw (number_tree v n is) refl
-
-text_tree : (v : ScalarValue) (text : List ℕ) → v ≡ Utf8 text → value_tree v ≡ raw_text text
-text_tree v text is = rw is (search (rules, value_lemmas))
-
-text_cast : (v : ScalarValue) (text : List ℕ) (s t : TypeTree) → v ≡ Utf8 text → bare_to (value_tree v) s t ≡ leaf_to (value_tree v) s t
-text_cast v text s t is = rw (text_tree v text is) refl
-
-pub box_cast-returns-in-Primitive-Some : goal.box_cast-returns-in-Primitive-Some
-box_cast-returns-in-Primitive-Some t c =
-    let v = c.args.value.now in
-    let n = c.in-Primitive-Some.number in
-    let s = type_of c.args.source.now in
-    let u = type_of c.args.target.now in
-    let stored = type_of c.in-Primitive-Some.stored.now in
-    let bare : IsBareTarget s u (Some c.in-Primitive-Some.stored.now) = rw c.in-Primitive-Some.is-1 at c.bare_target.ensures in
-    let same : cast_to (value_tree v) s u ≡ number_to (whole_of n) stored
-    = cast_below v s u bare.0 ∙ rw (← bare.1) (number_cast v n s stored c.in-Primitive-Some.is-0) in
-    record {
-      made = rw same c.box_number.ensures.made;
-      whole = λ taken. rw same c.box_number.ensures.whole;
-    }
-
-pub box_cast-returns-in-Utf8-Some : goal.box_cast-returns-in-Utf8-Some
-box_cast-returns-in-Utf8-Some t c =
-    let v = c.args.value.now in
-    let s = type_of c.args.source.now in
-    let u = type_of c.args.target.now in
-    let stored = type_of c.in-Utf8-Some.stored.now in
-    let bare : IsBareTarget s u (Some c.in-Utf8-Some.stored.now) = rw c.in-Utf8-Some.is-1 at c.bare_target.ensures in
-    let same : cast_to (value_tree v) s u ≡ leaf_to (value_tree v) s stored
-    = cast_below v s u bare.0 ∙ rw (← bare.1) (text_cast v c.in-Utf8-Some.field-0-0 s stored c.in-Utf8-Some.is-0) in
-    record {
-      made = rw same c.box_leaf.ensures.made;
-      whole = λ taken. rw same c.box_leaf.ensures.whole;
-    }
-
-pub box_cast-returns-in-Tuple-Some-clause-made : goal.box_cast-returns-in-Tuple-Some-clause-made
-box_cast-returns-in-Tuple-Some-clause-made t c =
-    let v = c.args.value.now in
-    let s = type_of c.args.source.now in
-    let u = type_of c.args.target.now in
-    let bare : IsBareTarget s u (Some c.in-Tuple-Some.stored.now) = rw c.in-Tuple-Some.is-1 at c.bare_target.ensures in
-    let tree : value_tree v ≡ raw_tuple (value_trees c.in-Tuple-Some.parts.items) = rw c.in-Tuple-Some.is-0 (value_tree-Tuple c.in-Tuple-Some.parts) in
-    let same : cast_to (value_tree v) s u ≡ bare_to (raw_tuple (value_trees c.in-Tuple-Some.parts.items)) s (type_of c.in-Tuple-Some.stored.now)
-    = cast_below v s u bare.0 ∙ rw (← bare.1, tree) refl in
-    rw same (rw c.deref.ensures.value at c.box_tuple.ensures)
-
 -- below the extensions of the target
 
 pub cast_present-returns-in_default : goal.cast_present-returns-in_default

@@ -56,12 +56,6 @@ decreases-cast_union l = 16 * goal.size-cast_union l + 1
 abbrev pub decreases-cast_child : goal.decreases-cast_child
 decreases-cast_child l = 16 * lent_size l.child + 4
 
-abbrev pub decreases-box_cast : goal.decreases-box_cast
-decreases-box_cast l = 16 * goal.size-box_cast l + 3
-
-abbrev pub decreases-box_tuple : goal.decreases-box_tuple
-decreases-box_tuple l = 16 * goal.size-box_tuple l + 10
-
 abbrev pub decreases-cast_parts : goal.decreases-cast_parts
 decreases-cast_parts l = 16 * goal.size-cast_parts l + 9
 
