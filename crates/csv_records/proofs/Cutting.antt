@@ -12,8 +12,8 @@ use Rattle.memchr.specs.Find.{NoneBefore, Nowhere, Passes, is_byte, is_byte2}
 use Rattle.csv_records.specs.Lemmas.RecordLaws.{EndsRecord}
 use Rattle.csv_records.specs.Records.{is_start, records_from, records_of, state_at}
 use Rattle.csv_records.specs.Rows.{config_of, rows_of, state_after}
-use Rattle.csv_records.specs.declared.places.Place.{Place}
-use Rattle.csv_records.specs.declared.places.Place.TheVariants.{Fresh, AfterReturn, FieldStart, Bare, Quoted, AfterQuote}
+use Rattle.csv_records.specs.declared.states.RecordState.{RecordState}
+use Rattle.csv_records.specs.declared.states.RecordState.TheVariants as own
 use Rattle.csv_records.proofs.RowCuts.{rows_are_cut}
 use Rattle.csv_records.proofs.Walking.{plain_leads, state_after-append}
 
@@ -102,23 +102,23 @@ state_next d text end feed s line h =
     ap (state_after d st.StartRecord) line.before ∙ state_after-append d st.StartRecord (take end text) (take (feed + 1) (drop end text))
     ∙ ap (λ (r : State). state_after d r (take (feed + 1) (drop end text))) h.state
 
-not_fresh : (p : Place) → p ≢ Fresh → is_start (state_at p) ≡ false
-not_fresh Fresh h = absurd (h refl)
-not_fresh AfterReturn h = refl
-not_fresh FieldStart h = refl
-not_fresh Bare h = refl
-not_fresh Quoted h = refl
-not_fresh AfterQuote h = refl
+no_start_at : (p : RecordState) → p ≢ own.StartRecord → is_start (state_at p) ≡ false
+no_start_at own.StartRecord h = absurd (h refl)
+no_start_at own.AfterCr h = refl
+no_start_at own.StartField h = refl
+no_start_at own.InField h = refl
+no_start_at own.InQuoted h = refl
+no_start_at own.AfterQuote h = refl
 
 -- a line more
-pub goes_on : (d : ℕ) (text line : List ℕ) (end feed : ℕ) (old new : Place) → IsNextFeed text end feed → line ≡ take (feed + 1) (drop end text) → state_at new ≡ state_after d (state_at old) line → new ≢ Fresh
+pub goes_on : (d : ℕ) (text line : List ℕ) (end feed : ℕ) (old new : RecordState) → IsNextFeed text end feed → line ≡ take (feed + 1) (drop end text) → state_at new ≡ state_after d (state_at old) line → new ≢ own.StartRecord
     → Passed d text end (state_at old) → Passed d text (end + feed + 1) (state_at new)
 goes_on d text line end feed old new next same leads other h =
     let l = is_line text end feed h.within next in
     let xs = drop end text in
     let front = take feed xs in
     let leads_to : state_at new ≡ state_after d (state_at old) (front ++ 10 ∷ []) = leads ∙ ap (state_after d (state_at old)) (same ∙ l.line) in
-    let no_start : is_start (state_after d (state_at old) (front ++ 10 ∷ [])) ≡ false = ap is_start (sym leads_to) ∙ not_fresh new other in
+    let no_start : is_start (state_after d (state_at old) (front ++ 10 ∷ [])) ≡ false = ap is_start (sym leads_to) ∙ no_start_at new other in
     let one : records_from d (state_at old) xs ≡ onto_all (front ++ 10 ∷ []) (records_from d (state_at new) (drop (end + feed + 1) text)) =
     ap (records_from d (state_at old)) l.rest ∙ line_goes_on d (state_at old) front (drop (end + feed + 1) text) l.plain no_start
     ∙ ap (λ (r : State). onto_all (front ++ 10 ∷ []) (records_from d r (drop (end + feed + 1) text))) (sym leads_to) in
@@ -135,7 +135,7 @@ pub record Ended (d : ℕ) (text : List ℕ) (end : ℕ) : Type 0 where
   pub cut : records_of d text ≡ take end text ∷ records_of d (drop end text)
   pub rows : rows_of d text ≡ rows_of d (take end text) ++ rows_of d (drop end text)
 
-pub ended : (d : ℕ) (text line : List ℕ) (end feed : ℕ) (old new : Place) → IsNextFeed text end feed → line ≡ take (feed + 1) (drop end text) → state_at new ≡ state_after d (state_at old) line → new ≡ Fresh
+pub ended : (d : ℕ) (text line : List ℕ) (end feed : ℕ) (old new : RecordState) → IsNextFeed text end feed → line ≡ take (feed + 1) (drop end text) → state_at new ≡ state_after d (state_at old) line → new ≡ own.StartRecord
     → Passed d text end (state_at old) → Ended d text (end + feed + 1)
 ended d text line end feed old new next same leads fresh h =
     let l = is_line text end feed h.within next in
@@ -205,6 +205,6 @@ plain_ended d text place end other is first feed =
       );
     } in
     let same : 0 + place + 1 ≡ end = omega (arith, is) in
-    subst (Ended d text) same (ended d text (take (place + 1) text) 0 place Fresh Fresh next refl leads refl (passed_none d text))
+    subst (Ended d text) same (ended d text (take (place + 1) text) 0 place own.StartRecord own.StartRecord next refl leads refl (passed_none d text))
 
 pub ruleset cutting = (take_all, append-nil, take_rest, take-append-drop)

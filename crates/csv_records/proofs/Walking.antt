@@ -12,8 +12,8 @@ use Rattle.csv.specs.declared.parser.State.TheVariants as st
 use Rattle.memchr.specs.Find.{IsFirstByte, NoneBefore, Nowhere, Passes, is_byte}
 use Rattle.csv_records.specs.Rows.{config_of, state_after}
 use Rattle.csv_records.specs.Records.{state_at}
-use Rattle.csv_records.specs.declared.places.Place.{Place}
-use Rattle.csv_records.specs.declared.places.Place.TheVariants.{Fresh, AfterReturn, FieldStart, Bare, Quoted, AfterQuote}
+use Rattle.csv_records.specs.declared.states.RecordState.{RecordState}
+use Rattle.csv_records.specs.declared.states.RecordState.TheVariants as own
 
 pub state_after-append : (d : ℕ) (s : State) (xs ys : List ℕ) → state_after d s (xs ++ ys) ≡ state_after d (state_after d s xs) ys
 state_after-append d s [] ys = refl
@@ -86,25 +86,25 @@ stays d [] rest plain = refl
 stays d (c ∷ front) rest plain =
     ap (λ (s : State). state_after d s (front ++ rest)) (stays_step d c (plain 0 (omega arith))) ∙ stays d front rest (λ k below. plain (suc k) (omega arith))
 
--- a place outside of quotes
-pub place_open : (p : Place) → p ≢ Quoted → is_open (state_at p) ≡ true
-place_open Fresh h = refl
-place_open AfterReturn h = refl
-place_open FieldStart h = refl
-place_open Bare h = refl
-place_open AfterQuote h = refl
-place_open Quoted h = absurd (h refl)
+-- a state outside of quotes
+pub state_open : (p : RecordState) → p ≢ own.InQuoted → is_open (state_at p) ≡ true
+state_open own.StartRecord h = refl
+state_open own.AfterCr h = refl
+state_open own.StartField h = refl
+state_open own.InField h = refl
+state_open own.AfterQuote h = refl
+state_open own.InQuoted h = absurd (h refl)
 
 no_quote : (xs : List ℕ) → Nowhere (Passes (is_byte 34) xs) 0 (length xs) → (k : ℕ) → k < length xs → get_or xs k 0 ≢ 34
 no_quote xs h k below e = h k (omega arith) below (eq-eqb (get_or xs k 0) 34 e)
 
-pub after_plain_line : (d : ℕ) (p : Place) (line : List ℕ) (r : Option ℕ) → p ≢ Quoted → d ≢ 10 → 1 ≤ length line → get_or line (length line - 1) 0 ≡ 10 → is_some r ≡ false → IsFirstByte (is_byte 34) (take (length line - 1) line) r → state_after d (state_at p) line ≡ st.StartRecord
+pub after_plain_line : (d : ℕ) (p : RecordState) (line : List ℕ) (r : Option ℕ) → p ≢ own.InQuoted → d ≢ 10 → 1 ≤ length line → get_or line (length line - 1) 0 ≡ 10 → is_some r ≡ false → IsFirstByte (is_byte 34) (take (length line - 1) line) r → state_after d (state_at p) line ≡ st.StartRecord
 after_plain_line d p line (Some i) outside other some last none first = absurd cc
 after_plain_line d p line None outside other some last none first =
     let front = take (length line - 1) line in
     let whole : line ≡ front ++ 10 ∷ [] =
     sym (take_all (length line) line (omega arith)) ∙ ap (λ n. take n line) (omega arith) ∙ (take_at_read line (length line - 1) 0 (omega arith)).1 ∙ ap (λ b. front ++ b ∷ []) last in
-    ap (state_after d (state_at p)) whole ∙ plain_leads d (state_at p) front (place_open p outside) other (no_quote front first)
+    ap (state_after d (state_at p)) whole ∙ plain_leads d (state_at p) front (state_open p outside) other (no_quote front first)
 
 -- up to the next quote
 pub at_next_quote : (d quote : ℕ) (bytes : List ℕ) → NoneBefore (Passes (is_byte 34) bytes) 0 (length bytes) quote → state_after d st.InQuoted bytes ≡ state_after d st.InQuoted (drop quote bytes)

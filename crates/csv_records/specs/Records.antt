@@ -5,8 +5,8 @@ use Rattle.csv.specs.Machine.{step}
 use Rattle.csv.specs.declared.parser.State.{State}
 use Rattle.csv.specs.declared.parser.State.TheVariants as st
 use Rattle.csv_records.specs.Rows.{config_of, is_whole_from}
-use Rattle.csv_records.specs.declared.places.Place.{Place}
-use Rattle.csv_records.specs.declared.places.Place.TheVariants.{Fresh, AfterReturn, FieldStart, Bare, Quoted, AfterQuote}
+use Rattle.csv_records.specs.declared.states.RecordState.{RecordState}
+use Rattle.csv_records.specs.declared.states.RecordState.TheVariants as own
 
 -- whether a record may start here
 abbrev pub is_start : State → Bool
@@ -36,11 +36,11 @@ records_of delimiter bytes = records_from delimiter st.StartRecord bytes
 abbrev pub is_whole : ℕ → List ℕ → Bool
 is_whole delimiter bytes = is_whole_from delimiter st.StartRecord bytes
 
--- the state of `csv` at a place
-abbrev pub state_at : Place → State
-state_at Fresh = st.StartRecord
-state_at AfterReturn = st.AfterCr
-state_at FieldStart = st.StartField
-state_at Bare = st.InField
-state_at Quoted = st.InQuoted
-state_at AfterQuote = st.AfterQuote
+-- the state of `csv`
+abbrev pub state_at : RecordState → State
+state_at own.StartRecord = st.StartRecord
+state_at own.AfterCr = st.AfterCr
+state_at own.StartField = st.StartField
+state_at own.InField = st.InField
+state_at own.InQuoted = st.InQuoted
+state_at own.AfterQuote = st.AfterQuote

@@ -8,10 +8,10 @@ mod delimiter;
 mod ends;
 mod fields;
 pub mod laws;
-mod places;
 mod records;
+mod states;
 
 pub use delimiter::Delimiter;
 pub use fields::{CutField, Follows, cut_field, row_start};
-pub use places::{Place, place_after_line};
 pub use records::{cut_record, plain_end};
+pub use states::{RecordState, state_after_line};

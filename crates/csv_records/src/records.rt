@@ -4,7 +4,7 @@ ghost use Rattle.std.specs.Prelude.{◌≡◌, ◌∷◌, ◌++◌, ◌<◌, ◌
 ghost use Rattle.csv_records.specs.Words.{EndsRecord, records_of, rows_of};
 
 use crate::delimiter::Delimiter;
-use crate::places::{Place, place_after_line};
+use crate::states::{RecordState, state_after_line};
 use memchr::{memchr, memchr2};
 
 /// The first record, with its line feed, and what follows.
@@ -37,12 +37,12 @@ fn record_end(delimiter: Delimiter, text: &[u8]) -> Option<usize>
         rows_of delimiter.byte (take end text.now) ++ rows_of delimiter.byte (drop end text.now)) }
     ensures none { IfNone result (0 < length text.now → records_of delimiter.byte text.now ≡ text.now ∷ []) }
 {
-    let mut place = Place::Fresh;
+    let mut state = RecordState::StartRecord;
     let mut end = 0;
     while let Some(feed) = memchr(b'\n', &text[end..]) {
         let next = end + feed + 1;
-        place = place_after_line(delimiter, place, &text[end..next]);
-        if let Place::Fresh = place {
+        state = state_after_line(delimiter, state, &text[end..next]);
+        if let RecordState::StartRecord = state {
             return Some(next);
         }
         end = next;

@@ -13,7 +13,9 @@ use csv::{ByteRecord, Error, ReaderBuilder};
 use csv_records::laws::{
     records_are_parts, rows_are_cut, rows_are_read, whole_records_have_one_row,
 };
-use csv_records::{Delimiter, Follows, Place, cut_field, cut_record, place_after_line, row_start};
+use csv_records::{
+    Delimiter, Follows, RecordState, cut_field, cut_record, row_start, state_after_line,
+};
 use std::alloc::{AllocError, Global};
 
 /// The rows of a text, as `csv` reads them: after a byte order mark, if it begins with one.
@@ -68,8 +70,8 @@ pub fn may_cut(delimiter: Delimiter, text: &[u8], place: usize) -> bool
         rows_of delimiter.byte (take place text.now) ++ rows_of delimiter.byte (drop place text.now) }
 {
     rows_are_cut();
-    match place_after_line(delimiter, Place::Fresh, &text[..place]) {
-        Place::Fresh => true,
+    match state_after_line(delimiter, RecordState::StartRecord, &text[..place]) {
+        RecordState::StartRecord => true,
         _ => false,
     }
 }

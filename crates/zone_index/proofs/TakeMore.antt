@@ -10,8 +10,8 @@ use Rattle.csv.specs.declared.parser.State.TheVariants as st
 use Rattle.csv_records.specs.Lemmas.RecordLaws.{EndsRecord, records_of-append, start_is, state_after-append}
 use Rattle.csv_records.specs.Records.{is_start, records_of, state_at}
 use Rattle.csv_records.specs.Rows.{state_after}
-use Rattle.csv_records.specs.declared.places.Place.{Place}
-use Rattle.csv_records.specs.declared.places.Place.TheVariants.{Fresh}
+use Rattle.csv_records.specs.declared.states.RecordState.{RecordState}
+use Rattle.csv_records.specs.declared.states.RecordState.TheVariants as own
 use Rattle.zone_index.specs.Taking.{AreWhole, IsTaken}
 use lib.Seq.{take-add}
 
@@ -190,11 +190,11 @@ taking_plain d bytes text more old new s t appends consumes whole =
     }
 
 -- a record may start where as many were taken as were asked for
-pub full_start : (taken size mid n : ℕ) (p : Place) → taken < size → mid ≡ taken + (cond (is_start (state_at p)) 1 0) → (0 < n → p ≡ Fresh) → mid + n ≡ size → is_start (state_at p) ≡ true
+pub full_start : (taken size mid n : ℕ) (p : RecordState) → taken < size → mid ≡ taken + (cond (is_start (state_at p)) 1 0) → (0 < n → p ≡ own.StartRecord) → mid + n ≡ size → is_start (state_at p) ≡ true
 full_start taken size mid n p below counted fresh e = by_start (is_start (state_at p)) refl
   where
     by_start : (b : Bool) → is_start (state_at p) ≡ b → is_start (state_at p) ≡ true
     by_start true is = is
     by_start false is =
         let same : mid ≡ taken = counted ∙ ap (λ (b : Bool). taken + (cond b 1 0)) is ∙ omega arith in
-        ap (λ (q : Place). is_start (state_at q)) (fresh (omega (arith, same)))
+        ap (λ (q : RecordState). is_start (state_at q)) (fresh (omega (arith, same)))

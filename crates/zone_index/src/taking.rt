@@ -4,13 +4,13 @@ ghost use Rattle.std.specs.Prelude.{◌≡◌, ◌<◌, ◌≤◌, ◌+◌, ◌-
 ghost use Rattle.std.specs.Io.{StartsWith, appended_bytes};
 ghost use Rattle.std.specs.Io.KnownBytes.{Consumes};
 ghost use Rattle.csv_records.specs.Records.{is_start, state_at};
-ghost use Rattle.csv_records.specs.declared.places.Place.TheVariants.{Fresh};
+ghost use Rattle.csv_records.specs.declared.states.RecordState.TheVariants.{StartRecord};
 ghost use Rattle.zone_index.specs.Faults.{IsOfStream};
 ghost use Rattle.zone_index.specs.Taking.{AreWhole, IsTaken};
 
 use crate::faults::Fault;
 use crate::lines::read_line;
-use csv_records::{Delimiter, Place, place_after_line, plain_end};
+use csv_records::{Delimiter, RecordState, plain_end, state_after_line};
 use std::io::{self, BufRead, ErrorKind};
 
 /// Reads so many whole records, or all that are left.
@@ -29,7 +29,7 @@ pub fn take_records<B: BufRead>(
         → text.new.items ≡ [] → bytes ≡ []) }
     ensures why { IfErr result IsOfStream }
 {
-    let mut place = Place::Fresh;
+    let mut state = RecordState::StartRecord;
     let mut taken = 0;
     while taken < size {
         let before = text.len();
@@ -38,20 +38,20 @@ pub fn take_records<B: BufRead>(
             Ok(_) => {}
             Err(error) => return Err(Fault::of_read(error)),
         }
-        place = place_after_line(delimiter, place, &text[before..]);
-        taken = counted(taken, place);
-        taken += take_plain(delimiter, place, size - taken, text, reader)?;
+        state = state_after_line(delimiter, state, &text[before..]);
+        taken = counted(taken, state);
+        taken += take_plain(delimiter, state, size - taken, text, reader)?;
     }
     Ok(())
 }
 
 /// One more where a record ended.
-fn counted(taken: u64, place: Place) -> u64
+fn counted(taken: u64, state: RecordState) -> u64
     requires { taken < 2 ^ 64 - 1 }
-    ensures { result ≡ taken + (if is_start (state_at place) then 1 else 0) }
+    ensures { result ≡ taken + (if is_start (state_at state) then 1 else 0) }
 {
-    match place {
-        Place::Fresh => taken + 1,
+    match state {
+        RecordState::StartRecord => taken + 1,
         _ => taken,
     }
 }
@@ -60,22 +60,22 @@ fn counted(taken: u64, place: Place) -> u64
 /// here. Says how many they are.
 fn take_plain<B: BufRead>(
     delimiter: Delimiter,
-    place: Place,
+    state: RecordState,
     most: u64,
     text: &mut Vec<u8>,
     reader: &mut B,
 ) -> Result<u64, Fault>
     ensures few { IfOk result (λ n. n ≤ most) }
-    ensures fresh { IfOk result (λ n. 0 < n → place ≡ Fresh) }
+    ensures fresh { IfOk result (λ n. 0 < n → state ≡ StartRecord) }
     ensures appends { OnOk result (StartsWith text.new.items text.old.items) }
     ensures bytes { OnOk result (Consumes (B.remaining reader.old) (B.remaining reader.new)
         (appended_bytes text.old.items text.new.items)) }
-    ensures whole { OnOk result (AreWhole delimiter.byte (state_at place)
+    ensures whole { OnOk result (AreWhole delimiter.byte (state_at state)
         (appended_bytes text.old.items text.new.items)) }
     ensures why { IfErr result IsOfStream }
 {
-    match place {
-        Place::Fresh => match append_plain(delimiter, most, text, reader) {
+    match state {
+        RecordState::StartRecord => match append_plain(delimiter, most, text, reader) {
             Ok(count) => Ok(count),
             Err(error) => Err(Fault::of_read(error)),
         },
@@ -95,7 +95,7 @@ fn append_plain<B: BufRead>(
     ensures appends { StartsWith text.new.items text.old.items }
     ensures bytes { Consumes (B.remaining reader.old) (B.remaining reader.new)
         (appended_bytes text.old.items text.new.items) }
-    ensures whole { AreWhole delimiter.byte (state_at Fresh) (appended_bytes text.old.items text.new.items) }
+    ensures whole { AreWhole delimiter.byte (state_at StartRecord) (appended_bytes text.old.items text.new.items) }
 {
     let available = match reader.fill_buf() {
         Ok(available) => available,
@@ -118,7 +118,7 @@ fn append_plain<B: BufRead>(
 fn plain_front(delimiter: Delimiter, most: u64, bytes: &[u8]) -> (usize, u64)
     ensures within { result.0 ≤ length bytes.now }
     ensures few { result.1 ≤ most }
-    ensures whole { AreWhole delimiter.byte (state_at Fresh) (take result.0 bytes.now) }
+    ensures whole { AreWhole delimiter.byte (state_at StartRecord) (take result.0 bytes.now) }
 {
     let mut end = 0;
     let mut count = 0;

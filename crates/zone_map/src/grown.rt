@@ -2,7 +2,7 @@
 
 use crate::faults::{Fault, FileFault};
 use crate::files::stamp_of;
-use csv_records::{Place, place_after_line};
+use csv_records::{RecordState, state_after_line};
 use record_search::{Schema, index_rows};
 use std::alloc::Global;
 use std::fs::File;
@@ -98,6 +98,6 @@ fn ends_record(
         None => (0, index.start),
     };
     let text = bytes_at(alloc, file, first, length)?;
-    let place = place_after_line(schema.delimiter, Place::Fresh, &text);
-    Ok(place == Place::Fresh)
+    let state = state_after_line(schema.delimiter, RecordState::StartRecord, &text);
+    Ok(state == RecordState::StartRecord)
 }

@@ -5,7 +5,7 @@ use Rattle.csv_records.proofs.Cutting.{Passed}
 use Rattle.csv_records.proofs.records.record_end.Given as goal
 
 abbrev pub invariant-loop-feed : goal.invariant-loop-feed
-invariant-loop-feed l = Passed l.delimiter.byte l.text l.end (state_at l.place)
+invariant-loop-feed l = Passed l.delimiter.byte l.text l.end (state_at l.state)
 
 abbrev pub decreases-loop-feed : goal.decreases-loop-feed
 decreases-loop-feed l = length l.text - l.end

@@ -8,15 +8,15 @@ use Rattle.zone_index.proofs.taking.take_records.Goals as goal
 
 pub returns-in-Ok-eq0-clause-taken : goal.returns-in-Ok-eq0-clause-taken
 returns-in-Ok-eq0-clause-taken g c = λ bytes is.
-    (stays c.args.delimiter.byte bytes c.loop-taken.text.items _ _ _ (state_at c.loop-taken.place) (c.loop-taken.invariant.text bytes is) c.in-Ok-eq0.ensures.bytes c.in-Ok-eq0.ensures.rest (c.in-Ok-eq0.ensures.end c.in-Ok-eq0.field-0-test)).0
+    (stays c.args.delimiter.byte bytes c.loop-taken.text.items _ _ _ (state_at c.loop-taken.state) (c.loop-taken.invariant.text bytes is) c.in-Ok-eq0.ensures.bytes c.in-Ok-eq0.ensures.rest (c.in-Ok-eq0.ensures.end c.in-Ok-eq0.field-0-test)).0
 
 pub returns-in-Ok-eq0-clause-ended : goal.returns-in-Ok-eq0-clause-ended
 returns-in-Ok-eq0-clause-ended g c = λ bytes is none.
-    (stays c.args.delimiter.byte bytes c.loop-taken.text.items c.read_line.new.text.items _ _ (state_at c.loop-taken.place) (c.loop-taken.invariant.text bytes is) c.in-Ok-eq0.ensures.bytes c.in-Ok-eq0.ensures.rest (c.in-Ok-eq0.ensures.end c.in-Ok-eq0.field-0-test)).1 none
+    (stays c.args.delimiter.byte bytes c.loop-taken.text.items c.read_line.new.text.items _ _ (state_at c.loop-taken.state) (c.loop-taken.invariant.text bytes is) c.in-Ok-eq0.ensures.bytes c.in-Ok-eq0.ensures.rest (c.in-Ok-eq0.ensures.end c.in-Ok-eq0.field-0-test)).1 none
 
 pub returns-clause-taken : goal.returns-clause-taken
 returns-clause-taken g c = λ bytes is.
-    taken c.args.delimiter.byte bytes c.loop-taken.text.items _ (state_at c.loop-taken.place) (c.loop-taken.invariant.text bytes is) (inl (c.loop-taken.invariant.whole (omega (arith, c.loop-taken.invariant.few, c.loop-taken-test.false))))
+    taken c.args.delimiter.byte bytes c.loop-taken.text.items _ (state_at c.loop-taken.state) (c.loop-taken.invariant.text bytes is) (inl (c.loop-taken.invariant.whole (omega (arith, c.loop-taken.invariant.few, c.loop-taken-test.false))))
 
 pub returns-clause-ended : goal.returns-clause-ended
 returns-clause-ended g c = λ bytes is none.
@@ -29,13 +29,13 @@ loop-taken-preserved g c =
       text = λ bytes is.
           let d = c.args.delimiter.byte in
           let more = c.read_line.new.text.items in
-          let line = taking_more d bytes c.loop-taken.text.items more _ _ (g.B.Read.remaining c.read_line.new.reader) (state_at c.loop-taken.place) (state_at c.place_after_line-place.result) (c.loop-taken.invariant.text bytes is) c.in-Ok.ensures.bytes c.in-Ok.ensures.rest
-          (take_rest c.deref.result.now c.len-before.result ∙ ap (λ (l : List ℕ). drop c.len-before.result l) c.deref.ensures.value ∙ ap (λ (n : ℕ). drop n more) before) c.place_after_line-place.ensures in
-          taking_plain d bytes more c.take_plain.new.text.items _ (g.B.Read.remaining c.take_plain.new.reader) (state_at c.place_after_line-place.result) line c.in_ok-taken.ensures.appends c.in_ok-taken.ensures.bytes c.in_ok-taken.ensures.whole;
-      few = stays_few c.loop-taken.taken c.args.size c.counted-taken.result c.in_ok-taken.field-0 (is_start (state_at c.place_after_line-place.result)) c.loop-taken-test.true c.counted-taken.ensures c.in_ok-taken.ensures.few;
+          let line = taking_more d bytes c.loop-taken.text.items more _ _ (g.B.Read.remaining c.read_line.new.reader) (state_at c.loop-taken.state) (state_at c.state_after_line-state.result) (c.loop-taken.invariant.text bytes is) c.in-Ok.ensures.bytes c.in-Ok.ensures.rest
+          (take_rest c.deref.result.now c.len-before.result ∙ ap (λ (l : List ℕ). drop c.len-before.result l) c.deref.ensures.value ∙ ap (λ (n : ℕ). drop n more) before) c.state_after_line-state.ensures in
+          taking_plain d bytes more c.take_plain.new.text.items _ (g.B.Read.remaining c.take_plain.new.reader) (state_at c.state_after_line-state.result) line c.in_ok-taken.ensures.appends c.in_ok-taken.ensures.bytes c.in_ok-taken.ensures.whole;
+      few = stays_few c.loop-taken.taken c.args.size c.counted-taken.result c.in_ok-taken.field-0 (is_start (state_at c.state_after_line-state.result)) c.loop-taken-test.true c.counted-taken.ensures c.in_ok-taken.ensures.few;
       some = λ any.
           let line : 0 < vec_len c.read_line.new.text = omega (arith, c.in-Ok.ensures.count, c.in-Ok.field-0-test) in
           let plain = starts_with_length _ _ c.in_ok-taken.ensures.appends in
           omega (arith, line, plain, c.read_line.new.text.ok.0, c.take_plain.new.text.ok.0);
-      whole = λ full. full_start c.loop-taken.taken c.args.size c.counted-taken.result c.in_ok-taken.field-0 c.place_after_line-place.result c.loop-taken-test.true c.counted-taken.ensures c.in_ok-taken.ensures.fresh full;
+      whole = λ full. full_start c.loop-taken.taken c.args.size c.counted-taken.result c.in_ok-taken.field-0 c.state_after_line-state.result c.loop-taken-test.true c.counted-taken.ensures c.in_ok-taken.ensures.fresh full;
     }

@@ -6,10 +6,10 @@ use Rattle.zone_index.proofs.taking.take_records.Given as goal
 
 abbrev pub invariant-loop-taken : goal.invariant-loop-taken
 invariant-loop-taken g l = record {
-  text : (bytes : List ℕ) → g.B.Read.remaining l.initial.reader ≡ Some bytes → Taking l.delimiter.byte bytes l.text.items (g.B.Read.remaining l.reader) (state_at l.place);
+  text : (bytes : List ℕ) → g.B.Read.remaining l.initial.reader ≡ Some bytes → Taking l.delimiter.byte bytes l.text.items (g.B.Read.remaining l.reader) (state_at l.state);
   few : l.taken ≤ l.size;
   some : 0 < l.taken → 0 < vec_len l.text;
-  whole : l.taken ≡ l.size → is_start (state_at l.place) ≡ true;
+  whole : l.taken ≡ l.size → is_start (state_at l.state) ≡ true;
 }
 
 abbrev pub decreases-loop-taken : goal.decreases-loop-taken
