@@ -5,7 +5,7 @@ use crate::commands::SearchRequest;
 use crate::faults::{BadFilter, Fault, FileFault};
 use crate::files::index_name;
 use crate::setup::Setup;
-use record_search::{NAMED_COLUMNS, RowFilter, RowsAlone, Schema, named_columns};
+use record_search::{NAMED_COLUMNS, RowDescriber, RowFilter, RowsAlone, Schema, named_columns};
 use std::alloc::{AllocError, Global};
 use std::fs;
 use std::io::ErrorKind;
@@ -155,6 +155,14 @@ impl Sought {
             schema,
             filter,
         })
+    }
+
+    /// The rows of a zone.
+    pub fn describer(&self) -> RowDescriber<'_> {
+        RowDescriber {
+            schema: &self.schema,
+            bound_length: self.setup.numbers.bound_length,
+        }
     }
 
     /// The records that match.
