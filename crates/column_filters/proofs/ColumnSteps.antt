@@ -13,7 +13,7 @@ use Rattle.vortex_dtype.specs.TypeOf.{type_of}
 use Rattle.vortex_dtype.specs.TypeTree.{TypeTree, null_type}
 use Rattle.vortex_dtype.specs.declared.types.DType.{DType}
 use Rattle.vortex_value.specs.Values.Content.{Content, null}
-use Rattle.vortex_statistics.specs.Cells.{Cell}
+use Rattle.vortex_cells.specs.Cells.{Cell}
 use Rattle.column_cells.specs.Contents.{HasTexts, contents_of_rows}
 use Rattle.column_filters.specs.Tables.{AreColumnsOf, AreReadFrom, AreSoundBefore, IsFaultAt, IsReadFrom, IsSound, IsTableFault, cell_of_column, cell_of_rows, cells_of_columns, cells_of_rows, rows_in}
 use Rattle.column_filters.specs.declared.faults.MaskFault.{MaskFault}

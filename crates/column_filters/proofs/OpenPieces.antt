@@ -4,9 +4,9 @@ use Rattle.std.proofs.lemmas.Bool.{false≢true, lt-ltb}
 use Rattle.std.proofs.lemmas.List.{length-map}
 use Rattle.std.proofs.lemmas.Option.{same_Some, slice_get-get_or, slice_get-map, slice_get_within}
 use Rattle.vortex_dtype.specs.TypeTree.{TypeTree, null_type}
-use Rattle.vortex_statistics.specs.Cells.{Cell, cell_order, is_null_cell, order_from_above}
+use Rattle.vortex_cells.specs.Cells.{Cell, cell_order, is_null_cell, order_from_above}
 use Rattle.vortex_statistics.specs.Statistics.{AreRight, Known, KnownBound, may_be_null, may_be_value, some_null, some_value}
-use Rattle.vortex_statistics.proofs.CellLaws.{IsOrder}
+use Rattle.vortex_cells.proofs.CellLaws.{IsOrder}
 use Rattle.vortex_filter.specs.Formula.{Formula, constant, comparison, null_test, membership, range, prefix_test, both, either, negation, cell_at, truth}
 use Rattle.vortex_filter.specs.Orders.{bound_order, may_fail, may_hold, orders_by, rules_out}
 use Rattle.vortex_filter.specs.OutcomeSets.{allows, only, outcomes_and, outcomes_not, outcomes_or}

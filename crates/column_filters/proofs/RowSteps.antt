@@ -9,7 +9,7 @@ use Rattle.vortex_dtype.specs.TypeTree.{TypeTree}
 use Rattle.vortex_value.specs.Values.Content.{Content, null}
 use Rattle.vortex_value.specs.Values.Scalars.{scalar_content, scalar_type}
 use Rattle.vortex_value.specs.declared.scalars.Scalar.{Scalar}
-use Rattle.vortex_statistics.specs.Cells.{Cell, cell_of}
+use Rattle.vortex_cells.specs.Cells.{Cell, cell_of}
 use Rattle.vortex_filter.specs.Formula.{Formula, is_match}
 use Rattle.column_cells.specs.Contents.{HasTexts, contents_of_rows}
 use Rattle.column_cells.specs.Types.{type_of_rows}

@@ -8,8 +8,8 @@ use Rattle.std.proofs.lemmas.List.{get_or-set_other, get_or-set_same, length-map
 use Rattle.vortex_dtype.specs.TypeOf.{type_of}
 use Rattle.vortex_dtype.specs.TypeTree.{TypeTree, null_type}
 use Rattle.vortex_dtype.specs.declared.types.DType.{DType}
-use Rattle.vortex_statistics.specs.Form.{AreOf, IsFormOf, form}
-use Rattle.vortex_statistics.specs.FormAnswers.{HasValues, IsFirstWrong, SaysBound}
+use Rattle.statistics_bytes.specs.Form.{AreOf, IsFormOf, form}
+use Rattle.statistics_bytes.specs.FormAnswers.{HasValues, IsFirstWrong, SaysBound}
 use Rattle.vortex_statistics.specs.Statistics.{Known, known}
 use Rattle.vortex_statistics.specs.declared.column_statistics.ColumnStatistics.{ColumnStatistics}
 use Rattle.vortex_statistics.specs.declared.error.StatisticsError.{StatisticsError}

@@ -5,7 +5,7 @@ use Rattle.vortex_dtype.specs.TypeTree.{integer_type}
 use Rattle.vortex_dtype.specs.declared.nullability.Nullability.TheVariants.{NonNullable, Nullable}
 use Rattle.vortex_dtype.specs.declared.ptype.PType.TheVariants.{I32}
 use Rattle.vortex_value.specs.Values.Content.{null, whole}
-use Rattle.vortex_statistics.specs.Cells.{Cell}
+use Rattle.vortex_cells.specs.Cells.{Cell}
 use Rattle.vortex_statistics.specs.Statistics.{Known, KnownBound}
 use Rattle.vortex_filter.specs.Formula.{Formula, comparison, null_test}
 use Rattle.vortex_filter.specs.Outcomes.{outcomes}

@@ -7,7 +7,7 @@ use Rattle.arrow_columns.specs.declared.columns.Column.{Column}
 use Rattle.arrow_columns.specs.declared.tested_rows.Rows.{Rows}
 use Rattle.vortex_dtype.specs.TypeTree.{Same, TypeTree, null_type}
 use Rattle.vortex_value.specs.Values.Content.{null}
-use Rattle.vortex_statistics.specs.Cells.{Cell}
+use Rattle.vortex_cells.specs.Cells.{Cell}
 use Rattle.column_cells.specs.Contents.{HasTexts, contents_of_column, contents_of_rows}
 use Rattle.column_cells.specs.Types.{type_of_column, type_of_rows}
 use Rattle.column_filters.specs.Masks.{mask_length}

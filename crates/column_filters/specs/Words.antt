@@ -2,7 +2,7 @@
 pub use Rattle.arrow_columns.specs.Bitmaps.{bit_of}
 pub use Rattle.vortex_dtype.specs.TypeOf.{type_of}
 pub use Rattle.vortex_dtype.specs.TypeTree.{Same}
-pub use Rattle.vortex_statistics.specs.Cells.{cell_of}
+pub use Rattle.vortex_cells.specs.Cells.{cell_of}
 pub use Rattle.vortex_statistics.specs.Statistics.{known}
 pub use Rattle.vortex_filter.specs.Formula.{formula, is_match}
 pub use Rattle.column_cells.specs.Contents.{HasTexts, contents_of_rows}

@@ -3,9 +3,9 @@ use Rattle.std.specs.Prelude.{◌≡◌, ◌≢◌, ℕ, ◌+◌, ◌-◌, ◌*�
 use Rattle.std.specs.Int.{bit_at}
 use Rattle.vortex_dtype.specs.TypeTree.{TypeTree, null_type}
 use Rattle.vortex_value.specs.TypesWithin.{HasNoVariant}
-use Rattle.vortex_statistics.specs.Form.{AreOf, IsFormOf, form}
-use Rattle.vortex_statistics.specs.FormAnswers.{HasValues, IsFirstWrong, SaysBound}
-use Rattle.vortex_statistics.specs.Cells.{Cell}
+use Rattle.statistics_bytes.specs.Form.{AreOf, IsFormOf, form}
+use Rattle.statistics_bytes.specs.FormAnswers.{HasValues, IsFirstWrong, SaysBound}
+use Rattle.vortex_cells.specs.Cells.{Cell}
 use Rattle.vortex_statistics.specs.Statistics.{AreRight, Known}
 use Rattle.vortex_statistics.specs.declared.error.StatisticsError.{StatisticsError}
 use Rattle.vortex_statistics.specs.declared.error.StatisticsError.TheVariants as refusals

@@ -5,6 +5,7 @@ ghost use Rattle.column_filters.specs.declared.faults.ZoneFault.TheVariants.{Out
 ghost use Rattle.column_filters.specs.Words.{AreEnough, AreOutcomes, AreSaid, BadOffsets, IsBadPiece, IsPiece, IsSaid, RefusesZone, RefusesZones, fault_of_piece, formula, known, open_statistics, outcomes_byte, piece_at, type_of};
 
 use crate::faults::ZoneFault;
+use statistics_bytes::decode_statistics_into;
 use std::alloc::Global;
 use vortex_dtype::DType;
 use vortex_filter::{Filter, Outcomes};
@@ -167,7 +168,7 @@ fn read_piece(
         *read = open_statistics();
         return Ok(());
     }
-    match read.read_from_bytes(alloc, dtype, bytes) {
+    match decode_statistics_into(alloc, dtype, bytes, read) {
         Ok(()) => Ok(()),
         Err(refusal) => Err(fault_of_piece(piece, refusal)),
     }

@@ -11,7 +11,7 @@ use Rattle.vortex_value.specs.Order.{order}
 use Rattle.vortex_value.specs.Values.Content.{Content, null}
 use Rattle.vortex_value.specs.Values.Scalars.{IsValid, scalar_content, scalar_type}
 use Rattle.vortex_value.specs.declared.scalars.Scalar.{Scalar}
-use Rattle.vortex_statistics.specs.Cells.{Cell, HasValue, IsUpTo, cell_of, cell_order, is_null_cell, is_null_content, order_from_above}
+use Rattle.vortex_cells.specs.Cells.{Cell, HasValue, IsUpTo, cell_of, cell_order, is_null_cell, is_null_content, order_from_above}
 use Rattle.vortex_statistics.specs.Statistics.{IsBound, IsLowerBound, IsUpperBound}
 use Rattle.vortex_statistics.specs.declared.column_statistics.Bound.{Bound}
 use Rattle.arrow_columns.specs.declared.columns.Column.{Column}

@@ -8,7 +8,7 @@ use Rattle.std.proofs.lemmas.Option.{get_or_from_slice_get, slice_get_within}
 use Rattle.std.specs.List.{All, Contains, count_by}
 use Rattle.std.specs.Option.{IsNone, is_none}
 use Rattle.column_cells.specs.Contents.{content_or_null}
-use Rattle.vortex_statistics.specs.Cells.{is_null_content}
+use Rattle.vortex_cells.specs.Cells.{is_null_content}
 use Rattle.vortex_value.specs.Values.Content.{Content, null}
 use Rattle.column_statistics.specs.Extremes.{IsExtreme, SaysUpTo}
 use Rattle.std.specs.declared.cmp.Ordering.{Ordering}

@@ -10,14 +10,14 @@ use Rattle.vortex_dtype.specs.TypeTree.{TypeTree}
 use Rattle.vortex_value.specs.Validity.{Valid}
 use Rattle.vortex_value.specs.TypesWithin.{HasNoVariant}
 use Rattle.vortex_value.specs.Values.Scalars.{scalar_raw}
-use Rattle.vortex_statistics.specs.Cells.{cell_order, order_from_above}
-use Rattle.vortex_statistics.specs.FormSteps.{HasNoVariantIn, HasNoVariants}
+use Rattle.vortex_cells.specs.Cells.{cell_order, order_from_above}
+use Rattle.statistics_bytes.specs.FormSteps.{HasNoVariantIn, HasNoVariants}
 use Rattle.vortex_statistics.specs.Merging.{AreRightTogether, bound_of_both, bound_order, merged, outer_by, sum_of}
 use Rattle.vortex_statistics.specs.Statistics.{Known, KnownBound, known, known_bound, may_be_value}
 use Rattle.vortex_statistics.specs.declared.column_statistics.Bound.{Bound}
 use Rattle.vortex_statistics.specs.declared.column_statistics.ColumnStatistics.{ColumnStatistics}
-use Rattle.vortex_statistics.specs.Form.{AreOf, IsBoundOf, IsHeldBound, IsHeldKnown, form}
-use Rattle.vortex_statistics.specs.FormAnswers.{SaysBound}
+use Rattle.statistics_bytes.specs.Form.{AreOf, IsBoundOf, IsHeldBound, IsHeldKnown, form}
+use Rattle.statistics_bytes.specs.FormAnswers.{SaysBound}
 use Rattle.vortex_statistics.specs.declared.error.StatisticsError.{StatisticsError}
 use Rattle.vortex_statistics.specs.declared.error.StatisticsError.TheVariants.{BadBytes, HasVariant, OutOfMemory as Memory}
 use Rattle.column_statistics.specs.Faults.{IsStatisticsFault}

@@ -22,7 +22,7 @@ use Rattle.arrow_columns.specs.declared.kinds.IntegerKind.{IntegerKind}
 use Rattle.arrow_columns.specs.declared.statistics.IntegerExtremes.{IntegerExtremes}
 use Rattle.arrow_columns.specs.declared.statistics.IntegerStatistics.{IntegerStatistics}
 use Rattle.column_cells.specs.Contents.{content_or_null}
-use Rattle.vortex_statistics.specs.Cells.{is_null_content}
+use Rattle.vortex_cells.specs.Cells.{is_null_content}
 use Rattle.vortex_value.specs.Order.{order, truth_cmp}
 use Rattle.vortex_value.specs.Values.Content.{Content, null, string, text, truth, whole}
 use Rattle.column_statistics.specs.Extremes.{AreExtremesAt, ArePlacesOf, IsExtreme, IsExtremeAt, IsGreatestTruth, IsLeastTruth, SaysUpTo, order_down}

@@ -5,7 +5,7 @@ use Rattle.arrow_columns.specs.declared.columns.Column.{Column}
 use Rattle.column_cells.specs.Contents.{contents_of_column}
 use Rattle.column_cells.specs.Types.{type_of_column}
 use Rattle.vortex_dtype.specs.TypeTree.{TypeTree}
-use Rattle.vortex_statistics.specs.Cells.{Cell}
+use Rattle.vortex_cells.specs.Cells.{Cell}
 use Rattle.vortex_statistics.specs.Statistics.{AreComplete, known}
 use Rattle.vortex_statistics.specs.Truncating.{AreTruncated}
 use Rattle.vortex_statistics.specs.declared.column_statistics.Bound.{Bound}

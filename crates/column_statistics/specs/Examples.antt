@@ -4,7 +4,7 @@ use Rattle.arrow_columns.specs.declared.kinds.IntegerKind.TheVariants.{I16, I32,
 use Rattle.arrow_columns.specs.declared.kinds.Kind.TheVariants.{Binary, Boolean, Integer, LargeUtf8, Utf8}
 use Rattle.column_cells.specs.Types.{type_of_kind}
 use Rattle.vortex_value.specs.Values.Content.{Content, null, text, truth, whole}
-use Rattle.vortex_statistics.specs.Form.{form}
+use Rattle.statistics_bytes.specs.Form.{form}
 use Rattle.vortex_statistics.specs.Merging.{merged}
 use Rattle.vortex_statistics.specs.Statistics.{Known, KnownBound}
 use Rattle.column_statistics.specs.Forms.{fault_of_piece}

@@ -7,7 +7,7 @@ use Rattle.std.specs.declared.cmp.Ordering.TheVariants.{Less, Equal}
 use Rattle.arrow_columns.specs.declared.statistics.ByteExtremes.{ByteExtremes}
 use Rattle.arrow_columns.specs.declared.statistics.ByteStatistics.{ByteStatistics}
 use Rattle.vortex_dtype.specs.TypeTree.{TypeTree}
-use Rattle.vortex_statistics.specs.Cells.{is_null_content}
+use Rattle.vortex_cells.specs.Cells.{is_null_content}
 use Rattle.vortex_statistics.specs.Statistics.{AreComplete, known}
 use Rattle.vortex_statistics.specs.declared.column_statistics.Bound.{Bound}
 use Rattle.vortex_statistics.specs.declared.column_statistics.ColumnStatistics.{ColumnStatistics}

@@ -4,8 +4,8 @@ use Rattle.arrow_columns.specs.Faults.{IsFaultOf}
 use Rattle.arrow_columns.specs.declared.columns.Column.{Column}
 use Rattle.column_cells.specs.Types.{type_of_column}
 use Rattle.vortex_dtype.specs.TypeTree.{TypeTree}
-use Rattle.vortex_statistics.specs.Form.{AreOf, IsFormOf, form}
-use Rattle.vortex_statistics.specs.FormAnswers.{HasValues, IsFirstWrong, SaysBound}
+use Rattle.statistics_bytes.specs.Form.{AreOf, IsFormOf, form}
+use Rattle.statistics_bytes.specs.FormAnswers.{HasValues, IsFirstWrong, SaysBound}
 use Rattle.vortex_statistics.specs.Merging.{AreRightTogether, merged}
 use Rattle.vortex_statistics.specs.Statistics.{Known, known}
 use Rattle.vortex_statistics.specs.declared.column_statistics.ColumnStatistics.{ColumnStatistics}

@@ -8,10 +8,10 @@ pub use Rattle.vortex_dtype.specs.declared.nullability.Nullability.TheVariants.{
 pub use Rattle.vortex_pvalue.specs.Numbers.{InRange}
 pub use Rattle.vortex_value.specs.Values.Content.{null, whole}
 pub use Rattle.vortex_value.specs.Values.Scalars.{scalar_content}
-pub use Rattle.vortex_statistics.specs.Cells.{cell_of}
-pub use Rattle.vortex_statistics.specs.Form.{IsCellOf, IsHeldKnown, form}
-pub use Rattle.vortex_statistics.specs.FormAnswers.{ReadsRight}
-pub use Rattle.vortex_statistics.specs.FormSteps.{HasNoVariants}
+pub use Rattle.vortex_cells.specs.Cells.{cell_of}
+pub use Rattle.statistics_bytes.specs.Form.{IsCellOf, IsHeldKnown, form}
+pub use Rattle.statistics_bytes.specs.FormAnswers.{ReadsRight}
+pub use Rattle.statistics_bytes.specs.FormSteps.{HasNoVariants}
 pub use Rattle.vortex_statistics.specs.Statistics.{AreRight, known}
 pub use Rattle.vortex_statistics.specs.Truncating.{HasShortBounds}
 pub use Rattle.column_statistics.specs.Cells.{AreCutStatistics, HasBoundsIn, cells_of_column}

@@ -8,8 +8,9 @@ use arrow_columns::{
 };
 use column_cells::{bool_scalar, integer_scalar, scalar_at};
 use std::alloc::Global;
-use vortex_array::laws::items_are_bytes;
-use vortex_array::{Scalar, VortexError};
+use vortex_bounds::laws::items_are_bytes;
+use vortex_dtype::VortexError;
+use vortex_value::Scalar;
 
 /// The least and the greatest value of a column.
 #[derive(Drop)]

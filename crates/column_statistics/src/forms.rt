@@ -8,6 +8,7 @@ use crate::faults::{MergeFault, ReadFault, StatisticsFault};
 use crate::statistics::statistics_of;
 use arrow_columns::{Column, Kind};
 use column_cells::dtype_of;
+use statistics_bytes::{append_statistics, decode_statistics};
 use std::alloc::Global;
 use vortex_statistics::{ColumnStatistics, StatisticsError};
 
@@ -81,7 +82,7 @@ pub fn read_form(alloc: Global, kind: Kind, bytes: &[u8]) -> Result<ColumnStatis
     ensures refused { IfErr result (IsReadFault (type_of_kind kind) bytes.now) }
 {
     let dtype = dtype_of(kind);
-    match ColumnStatistics::from_bytes(alloc, &dtype, bytes) {
+    match decode_statistics(alloc, &dtype, bytes) {
         Ok(statistics) => Ok(statistics),
         Err(cause) => Err(read_fault(cause)),
     }
@@ -105,7 +106,7 @@ fn written(alloc: Global, statistics: &ColumnStatistics) -> Option<Vec<u8>>
     ensures held { IfSome result (λ _. IsHeldKnown (known statistics.now)) }
 {
     let mut bytes = Vec::new(alloc);
-    match statistics.append_bytes(&mut bytes) {
+    match append_statistics(statistics, &mut bytes) {
         Ok(()) => Some(bytes),
         Err(_) => None,
     }

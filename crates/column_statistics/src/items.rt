@@ -4,7 +4,7 @@ ghost use Rattle.std.specs.Prelude.{◌≡◌, MatchOption};
 ghost use Rattle.column_statistics.specs.Words.{InRange, Integer, IsCellOf, IsItemOf, bytes_of_item, cell_of, null, ptype_of_kind, scalar_content, type_of_kind, whole};
 
 use arrow_columns::{IntegerKind, Kind};
-use vortex_array::Scalar;
+use vortex_value::Scalar;
 
 /// A value of a column as bytes: an integer as a buffer of its kind has it, the low byte first, and
 /// strings and bytes as they are. A boolean is one byte, 0 or 1.

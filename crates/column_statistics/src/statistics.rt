@@ -10,8 +10,8 @@ use crate::faults::StatisticsFault;
 use arrow_columns::Column;
 use column_cells::{row_count, rows_of};
 use std::alloc::Global;
-use vortex_array::Scalar;
 use vortex_statistics::{Bound, ColumnStatistics};
+use vortex_value::Scalar;
 
 /// The statistics of a column, whose bounds are cut to `limit` bytes if they are strings or bytes.
 ///

@@ -19,9 +19,9 @@ use Rattle.vortex_row.proofs.KeyLaws.{values_have_no_typed}
 use Rattle.vortex_row.specs.Reading.{HasValues}
 use Rattle.vortex_row.proofs.ReaderSteps.{take-then}
 use Rattle.vortex_row.proofs.PartSteps.{some_value}
-use Rattle.vortex_statistics.specs.Cells.{Cell, cell_of}
-use Rattle.vortex_statistics.specs.FormSteps.{ascending}
-use Rattle.vortex_statistics.proofs.KeyBounds.{key-ascending}
+use Rattle.vortex_cells.specs.Cells.{Cell, cell_of}
+use Rattle.statistics_bytes.specs.FormSteps.{ascending}
+use Rattle.statistics_bytes.proofs.KeyBounds.{key-ascending}
 use Rattle.filter_form.specs.Form.{IsLiteral, IsPlain, literal_bytes, type_byte, type_bytes}
 use Rattle.filter_form.specs.Steps.{IsKeyOfType, ReadsKey}
 use Rattle.filter_form.specs.Strings.{BeginAlike, HasRead, IsFormOf, IsStuck, Reads}

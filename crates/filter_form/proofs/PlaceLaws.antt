@@ -1,8 +1,8 @@
 -- Counts and places: what begins with two of them, and where the bytes of one end too early.
 use Rattle.std.proofs.Common.{◌≡◌, ℕ, zero, suc, ◌-◌, ◌<◌, List, [], ◌∷◌, ◌++◌, drop, length, length-append, refl, sym, ap, ◌∙◌, append-nil, arith}
 use Rattle.vortex_row.specs.Held.{AreBytes}
-use Rattle.vortex_statistics.proofs.CountBytes.{big_endian-length, counts-apart, some_count}
-use Rattle.vortex_statistics.proofs.HeadLaws.{lengths-apart}
+use Rattle.statistics_bytes.proofs.CountBytes.{big_endian-length, counts-apart, some_count}
+use Rattle.statistics_bytes.proofs.HeadLaws.{lengths-apart}
 use Rattle.filter_form.specs.Lists.{Fits, count_bytes}
 use Rattle.filter_form.specs.Strings.{BeginAlike, HasRead, IsFormOf, IsStuck}
 use Rattle.filter_form.proofs.Stuck.{AreApart}

@@ -2,7 +2,7 @@
 use Rattle.std.proofs.Common.{◌≡◌, ℕ, suc, List, [], ◌∷◌, ◌++◌, Box, Global, refl, sym, subst, ap, ◌∙◌, append_assoc, true≢false}
 use Rattle.std.specs.Prelude.{Err, IsErr, Ok, Result}
 use Rattle.std.specs.Result.{IsErrAnd}
-use Rattle.vortex_statistics.specs.Cells.{Cell}
+use Rattle.vortex_cells.specs.Cells.{Cell}
 use Rattle.vortex_filter.specs.Formula.{Formula, formula, constant, comparison, null_test, membership, range, prefix_test, both, either, negation}
 use Rattle.vortex_filter.specs.declared.filter.Filter.{Filter}
 use Rattle.vortex_filter.specs.declared.operator.CompareOperator.{CompareOperator}

@@ -4,7 +4,7 @@ use Rattle.std.specs.Prelude.{Err, IfErr, IsErr, Ok, OnErr, OnOk, Result}
 use Rattle.std.specs.Result.{IsErrAnd}
 use Rattle.vortex_dtype.specs.TypeTree.{TypeTree}
 use Rattle.vortex_row.specs.Keys.{key}
-use Rattle.vortex_statistics.specs.Cells.{Cell}
+use Rattle.vortex_cells.specs.Cells.{Cell}
 use Rattle.vortex_filter.specs.Formula.{Formula}
 use Rattle.filter_form.specs.Form.{CanBeWritten, IsPlain, IsPlainCell, Nests, Prepared, form, literal_bytes, node_bytes, type_byte, type_bytes}
 use Rattle.filter_form.specs.Lists.{AreListed, listed}

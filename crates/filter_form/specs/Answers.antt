@@ -1,6 +1,6 @@
 -- What reading a form answers: the prepared filter that was written, or the first byte that no form has there.
 use Rattle.std.specs.Prelude.{◌≡◌, ℕ, suc, ◌<◌, ◌≤◌, List, length, take, Result, MatchResult}
-use Rattle.vortex_statistics.specs.FormAnswers.{MayGoOn}
+use Rattle.statistics_bytes.specs.FormAnswers.{MayGoOn}
 use Rattle.filter_form.specs.Form.{HasForm, Prepared, form, prepared}
 use Rattle.filter_form.specs.Strings.{IsFormOf}
 use Rattle.filter_form.specs.declared.error.FilterFormError.{FilterFormError}

@@ -4,7 +4,7 @@ use Rattle.vortex_dtype.specs.TypeTree.{bool_type, integer_type, null_type, utf8
 use Rattle.vortex_dtype.specs.declared.nullability.Nullability.TheVariants.{NonNullable, Nullable}
 use Rattle.vortex_dtype.specs.declared.ptype.PType.TheVariants.{I8, I32, U8}
 use Rattle.vortex_value.specs.Values.Content.{null, text, whole}
-use Rattle.vortex_statistics.specs.Cells.{Cell}
+use Rattle.vortex_cells.specs.Cells.{Cell}
 use Rattle.vortex_filter.specs.declared.operator.CompareOperator.TheVariants.{Gte}
 use Rattle.vortex_filter.specs.declared.truth.Truth.TheVariants.{True}
 use Rattle.vortex_filter.specs.Formula.{both, comparison, constant, membership, negation, null_test, prefix_test}

@@ -11,7 +11,7 @@ use Rattle.vortex_value.specs.Values.Content.{content}
 use Rattle.vortex_value.specs.Values.RawTree.{RawTree}
 use Rattle.vortex_row.specs.Decoded.{IsValueOf}
 use Rattle.vortex_row.specs.Keys.{key}
-use Rattle.vortex_statistics.specs.Cells.{Cell}
+use Rattle.vortex_cells.specs.Cells.{Cell}
 use Rattle.vortex_filter.specs.Formula.{Formula, formula, constant, comparison, null_test, membership, range, prefix_test, both, either, negation}
 use Rattle.vortex_filter.specs.declared.filter.Filter.{Filter}
 use Rattle.vortex_filter.specs.declared.operator.CompareOperator.{CompareOperator}

@@ -4,8 +4,8 @@ pub use Rattle.vortex_value.specs.TypesWithin.{HasNoVariant}
 pub use Rattle.vortex_value.specs.Values.Scalars.{IsValid, scalar_content, scalar_type}
 pub use Rattle.vortex_row.specs.Held.{AreBytes}
 pub use Rattle.vortex_row.specs.Keys.{key}
-pub use Rattle.vortex_statistics.specs.Cells.{cell_of}
-pub use Rattle.vortex_statistics.specs.FormSteps.{ascending}
+pub use Rattle.vortex_cells.specs.Cells.{cell_of}
+pub use Rattle.statistics_bytes.specs.FormSteps.{ascending}
 pub use Rattle.vortex_filter.specs.FilterLiterals.{AreValid, literals_of}
 pub use Rattle.vortex_filter.specs.Formula.{formula}
 pub use Rattle.filter_form.specs.Answers.{IsFirstWrong, IsForm, ReadsAs}

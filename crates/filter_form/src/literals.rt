@@ -95,7 +95,7 @@ pub(crate) fn read_literals(alloc: Global, reader: &mut Reader<'_>) -> Result<Ve
 }
 
 /// Appends the key of a scalar of such a type.
-#[tactic(auto, using(vortex_statistics::proofs::WriteSteps::keys))]
+#[tactic(auto, using(statistics_bytes::proofs::WriteSteps::keys))]
 fn append_value(literal: &Scalar, out: &mut Vec<u8>) -> Result<(), FilterFormError>
     requires { HasNoVariant (scalar_type literal.now) }
     ensures appended { OnOk result

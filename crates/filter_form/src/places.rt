@@ -15,7 +15,7 @@ fn are_bytes(bytes: &[u8])
 }
 
 /// The number in the first eight bytes. `None` if there are fewer.
-#[tactic(auto, using(vortex_statistics::proofs::CountBytes::counted))]
+#[tactic(auto, using(statistics_bytes::proofs::CountBytes::counted))]
 fn number_in(bytes: &[u8]) -> Option<u64>
     ensures { MatchOption result (length bytes.now < 8)
         (λ n. (8 ≤ length bytes.now) × Fits n × (bytes.now ≡ count_bytes n ++ drop 8 bytes.now)) }
@@ -47,7 +47,7 @@ pub(crate) fn read_place(reader: &mut Reader<'_>) -> Result<usize, Fault>
 }
 
 /// Appends a count or a place.
-#[tactic(auto, using(vortex_statistics::proofs::CountBytes::counted))]
+#[tactic(auto, using(statistics_bytes::proofs::CountBytes::counted))]
 pub(crate) fn append_place(place: usize, out: &mut Vec<u8>) -> Result<(), FilterFormError>
     ensures { Writes (Fits place) (count_bytes place) result out.old.items out.new.items }
 {

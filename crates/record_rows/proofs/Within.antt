@@ -18,7 +18,7 @@ use Rattle.vortex_dtype.specs.declared.types.DType.{the_lemmas as dtype_lemmas}
 use Rattle.vortex_dtype.specs.declared.types.DType.TheVariants as dtypes
 use Rattle.vortex_pvalue.specs.Whole.{whole_of}
 use Rattle.vortex_pvalue.specs.declared.pvalues.PValue.{PValue}
-use Rattle.vortex_statistics.specs.Cells.{Cell, cell_of, cell_order, is_null_cell, is_null_content, order_from_above}
+use Rattle.vortex_cells.specs.Cells.{Cell, cell_of, cell_order, is_null_cell, is_null_content, order_from_above}
 use Rattle.vortex_statistics.specs.Observing.{IsCompleteWith, bound_after, bound_at, bound_with, is_below_some, observed}
 use Rattle.vortex_statistics.specs.Statistics.{AreComplete, Known, KnownBound, may_be_value}
 use Rattle.vortex_statistics.proofs.ObserveLaws.{observed_complete}

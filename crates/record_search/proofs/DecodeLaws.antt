@@ -18,8 +18,8 @@ use Rattle.vortex_pvalue.specs.RangeLaws.{in_range_back, in_range_true}
 use Rattle.vortex_row.specs.Decoded.{IsValueOf}
 use Rattle.vortex_row.specs.Held.{AreBytes, IsWhole}
 use Rattle.vortex_row.proofs.ByteLaws.{bytes_after, bytes_first, bytes_rest, no_bytes}
-use Rattle.vortex_statistics.specs.Form.{AreOf, IsBoundOf, form}
-use Rattle.vortex_statistics.specs.FormAnswers.{ReadsAs}
+use Rattle.statistics_bytes.specs.Form.{AreOf, IsBoundOf, form}
+use Rattle.statistics_bytes.specs.FormAnswers.{ReadsAs}
 use Rattle.vortex_statistics.specs.Statistics.{Known, KnownBound}
 use Rattle.vortex_statistics.specs.declared.error.StatisticsError.{StatisticsError}
 use Rattle.vortex_statistics.specs.declared.error.StatisticsError.TheVariants.{OutOfMemory}

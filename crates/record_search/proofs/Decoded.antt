@@ -7,7 +7,7 @@ use Rattle.vortex_row.specs.Keys.{big_endian, escaped, inverted, key, number_byt
 use Rattle.vortex_row.proofs.ByteLaws.{bytes_first, bytes_rest, inverted-length}
 use Rattle.vortex_row.proofs.NumberLaws.{big_endian-length, number-bytes, number-length, number-some}
 use Rattle.vortex_row.proofs.NumberReading.{worth, worth-big_endian, worth-number}
-use Rattle.vortex_statistics.specs.Form.{bound_bytes, bound_flags, count_bytes, count_flag, flags, form, known_count_bytes}
+use Rattle.statistics_bytes.specs.Form.{bound_bytes, bound_flags, count_bytes, count_flag, flags, form, known_count_bytes}
 use Rattle.vortex_statistics.specs.Statistics.{Known, KnownBound}
 use Rattle.vortex_value.specs.Values.Content.{Content, null, string, text, whole}
 use Rattle.record_search.specs.Decoding.{bound_in, byte_before, content_in, count_in, number_after, said_by, unescaped}

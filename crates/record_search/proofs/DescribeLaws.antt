@@ -13,9 +13,9 @@ use Rattle.record_rows.specs.declared.schema.Kind.TheVariants as kinds
 use Rattle.vortex_dtype.specs.TypeTree.{Same, TypeTree}
 use Rattle.vortex_dtype.specs.declared.nullability.Nullability.TheVariants.{NonNullable}
 use Rattle.vortex_filter.specs.Pruning.{column}
-use Rattle.vortex_statistics.specs.Cells.{Cell, IsUpTo, cell_order, order_from_above}
-use Rattle.vortex_statistics.specs.Form.{IsHeldKnown, form}
-use Rattle.vortex_statistics.specs.FormAnswers.{AreTyped}
+use Rattle.vortex_cells.specs.Cells.{Cell, IsUpTo, cell_order, order_from_above}
+use Rattle.statistics_bytes.specs.Form.{IsHeldKnown, form}
+use Rattle.statistics_bytes.specs.FormAnswers.{AreTyped}
 use Rattle.vortex_statistics.specs.Statistics.{AreRight, IsLowerBound, IsUpperBound, known, known_bound}
 use Rattle.vortex_statistics.specs.Truncating.{IsTruncatedLower, IsTruncatedUpper}
 use Rattle.vortex_statistics.specs.declared.column_statistics.Bound.{Bound}

@@ -10,9 +10,9 @@ use Rattle.record_rows.specs.declared.schema.ColumnType.{ColumnType}
 use Rattle.vortex_dtype.specs.TypeTree.{TypeTree}
 use Rattle.vortex_filter.specs.Formula.{cell_at}
 use Rattle.vortex_filter.specs.Pruning.{column}
-use Rattle.vortex_statistics.specs.Cells.{Cell}
-use Rattle.vortex_statistics.specs.Form.{count_bytes, form}
-use Rattle.vortex_statistics.proofs.CountBytes.{big_endian-length, written_count}
+use Rattle.vortex_cells.specs.Cells.{Cell}
+use Rattle.statistics_bytes.specs.Form.{count_bytes, form}
+use Rattle.statistics_bytes.proofs.CountBytes.{big_endian-length, written_count}
 use Rattle.zone_index.specs.Form.{ArePieces, FitsForm, FitsZone, HavePieces, IndexValue, ZoneValue, bytes_form, index_value, is_wanted, wanted_of, wanted_pieces, wanted_zones, zone_value, zone_values}
 use Rattle.zone_index.specs.FormReading.{bytes_at}
 use Rattle.zone_index.specs.Zones.{Follow, IsZoneOf, zone_records}

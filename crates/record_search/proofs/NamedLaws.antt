@@ -7,7 +7,7 @@ use Rattle.csv_records.specs.Rows.{Field}
 use Rattle.vortex_filter.specs.Formula.{Formula, both, cell_at, compare_truth, comparison, constant, either, member_truth, membership, negation, null_test, null_truth, prefix_test, range, range_truth, truth}
 use Rattle.vortex_filter.specs.Prefixes.{prefix_truth}
 use Rattle.vortex_filter.specs.Truths.{is_true, truth_and, truth_not, truth_or}
-use Rattle.vortex_statistics.specs.Cells.{Cell, cell_of}
+use Rattle.vortex_cells.specs.Cells.{Cell, cell_of}
 use Rattle.vortex_value.specs.Values.Content.{Content, null}
 use Rattle.vortex_value.specs.Values.Scalars.{scalar_content}
 use Rattle.vortex_value.specs.declared.scalars.Scalar.{Scalar}

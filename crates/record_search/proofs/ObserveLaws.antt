@@ -11,8 +11,8 @@ use Rattle.record_rows.specs.declared.schema.ColumnType.{ColumnType}
 use Rattle.record_rows.specs.Observed.{AreFieldsObserved, IsObserved, IsStep, IsTakenAs, Step, cell_in}
 use Rattle.vortex_filter.specs.Formula.{cell_at}
 use Rattle.vortex_filter.specs.Pruning.{column}
-use Rattle.vortex_statistics.specs.Cells.{Cell}
-use Rattle.vortex_statistics.specs.Form.{IsHeldKnown, form}
+use Rattle.vortex_cells.specs.Cells.{Cell}
+use Rattle.statistics_bytes.specs.Form.{IsHeldKnown, form}
 use Rattle.vortex_statistics.specs.Statistics.{AreComplete, AreRight, known}
 use Rattle.vortex_statistics.specs.Truncating.{AreTruncated}
 use Rattle.vortex_statistics.specs.declared.column_statistics.ColumnStatistics.{ColumnStatistics}

@@ -8,9 +8,9 @@ use Rattle.record_rows.specs.Cells.{column_type}
 use Rattle.record_rows.specs.declared.schema.ColumnType.{ColumnType}
 use Rattle.vortex_filter.specs.Pruning.{AreStatisticsOf, column}
 use Rattle.vortex_row.specs.Laws.{KeysAreApart, ValuesHaveNoTyped}
-use Rattle.vortex_statistics.specs.Cells.{Cell}
+use Rattle.vortex_cells.specs.Cells.{Cell}
 use Rattle.vortex_statistics.specs.Statistics.{AreRight, Known}
-use Rattle.vortex_statistics.proofs.FormLaws.{reads_right}
+use Rattle.statistics_bytes.proofs.FormLaws.{reads_right}
 use Rattle.zone_index.specs.Form.{bytes_form}
 use Rattle.record_search.specs.Decoding.{after_piece, columns_in, known_before, piece_in, piece_of, statistics_in}
 use Rattle.record_search.specs.Searched.{AreDescribed, AreRightForms, IsRightForm}

@@ -11,9 +11,9 @@ use Rattle.vortex_filter.specs.declared.truth.Truth.{Truth}
 use Rattle.vortex_filter.specs.declared.truth.Truth.TheVariants.{False, True, Unknown}
 use Rattle.vortex_filter.proofs.Soundness.{all_match, covered, none_match}
 use Rattle.vortex_row.specs.Laws.{KeysAreApart, ValuesHaveNoTyped}
-use Rattle.vortex_statistics.specs.Cells.{Cell, cell_order}
+use Rattle.vortex_cells.specs.Cells.{Cell, cell_order}
 use Rattle.vortex_statistics.specs.Statistics.{Known}
-use Rattle.vortex_statistics.proofs.CellLaws.{IsOrder}
+use Rattle.vortex_cells.proofs.CellLaws.{IsOrder}
 use Rattle.zone_index.specs.Records.{is_same}
 use Rattle.zone_index.specs.declared.records.Decision.TheVariants as decisions
 use Rattle.record_search.specs.Decoding.{columns_in}

@@ -11,7 +11,7 @@ use Rattle.vortex_dtype.specs.TypeTree.{TypeTree, says_nullable}
 use Rattle.vortex_dtype.specs.declared.nullability.Nullability.{Nullability}
 use Rattle.vortex_pvalue.specs.Numbers.{in_range}
 use Rattle.vortex_row.specs.Keys.{inverted}
-use Rattle.vortex_statistics.specs.Form.{form}
+use Rattle.statistics_bytes.specs.Form.{form}
 use Rattle.vortex_statistics.specs.Statistics.{Known, KnownBound}
 use Rattle.vortex_value.specs.Values.Content.{Content, null, string, text, whole}
 

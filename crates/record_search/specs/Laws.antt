@@ -5,9 +5,9 @@ use Rattle.csv_records.specs.Rows.{rows_of}
 use Rattle.record_rows.specs.Rows.{IsRow}
 use Rattle.record_rows.specs.declared.schema.ColumnType.{ColumnType}
 use Rattle.vortex_filter.specs.Formula.{Formula}
-use Rattle.vortex_statistics.specs.Cells.{cell_of}
+use Rattle.vortex_cells.specs.Cells.{cell_of}
 use Rattle.vortex_value.specs.declared.scalars.Scalar.{Scalar}
-use Rattle.vortex_statistics.specs.Form.{form}
+use Rattle.statistics_bytes.specs.Form.{form}
 use Rattle.zone_index.specs.Form.{FitsForm, index_value, wanted_of}
 use Rattle.zone_index.specs.Records.{is_same}
 use Rattle.zone_index.specs.declared.form.Index.{Index}

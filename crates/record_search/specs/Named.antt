@@ -2,7 +2,7 @@
 use Rattle.std.specs.Prelude.{◌≡◌, ℕ, List, Bool, true, Option, None, Some, slice_set}
 use Rattle.record_rows.specs.Rows.{is_wanted}
 use Rattle.vortex_filter.specs.Formula.{Formula, both, cell_at, comparison, constant, either, membership, negation, null_test, prefix_test, range}
-use Rattle.vortex_statistics.specs.Cells.{Cell}
+use Rattle.vortex_cells.specs.Cells.{Cell}
 
 -- the flags of columns, where each that the formula names is set, and that the flags reach to
 abbrev pub with_columns : Formula → List Bool → List Bool

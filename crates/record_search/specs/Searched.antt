@@ -11,9 +11,9 @@ use Rattle.vortex_filter.specs.Outcomes.{outcomes}
 use Rattle.vortex_filter.specs.OutcomeSets.{is_only_true}
 use Rattle.vortex_filter.specs.Pruning.{column}
 use Rattle.vortex_filter.specs.declared.outcomes.Outcomes.{Outcomes}
-use Rattle.vortex_statistics.specs.Cells.{Cell, cell_of}
-use Rattle.vortex_statistics.specs.Form.{IsHeldKnown, form}
-use Rattle.vortex_statistics.specs.FormAnswers.{AreTyped}
+use Rattle.vortex_cells.specs.Cells.{Cell, cell_of}
+use Rattle.statistics_bytes.specs.Form.{IsHeldKnown, form}
+use Rattle.statistics_bytes.specs.FormAnswers.{AreTyped}
 use Rattle.vortex_statistics.specs.Observing.{IsCompleteWith}
 use Rattle.vortex_statistics.specs.Statistics.{AreComplete, AreRight, Known, known}
 use Rattle.vortex_statistics.specs.Truncating.{AreTruncated}

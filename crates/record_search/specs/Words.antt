@@ -1,8 +1,8 @@
 -- The words of this crate's clauses, from one place.
 pub use Rattle.record_rows.specs.Cells.{column_type}
 pub use Rattle.vortex_filter.specs.Formula.{formula}
-pub use Rattle.vortex_statistics.specs.Cells.{Cell, cell_of}
-pub use Rattle.vortex_statistics.specs.Form.{IsHeldKnown, form}
+pub use Rattle.vortex_cells.specs.Cells.{Cell, cell_of}
+pub use Rattle.statistics_bytes.specs.Form.{IsHeldKnown, form}
 pub use Rattle.vortex_statistics.specs.Statistics.{known}
 pub use Rattle.zone_index.specs.Asking.{Asks}
 pub use Rattle.zone_index.specs.Faults.{EndsFar, IfRecordRefused, IfRefused, TellsOneOf, TellsRecord}

@@ -8,6 +8,7 @@ ghost use Rattle.record_search.specs.Words.{AreAllComplete, AreDescribed, AreRow
 use crate::schema::{Schema, record_fault};
 use csv_records::{Delimiter, cut_record};
 use record_rows::observe_record;
+use statistics_bytes::append_statistics;
 use std::alloc::{AllocError, Global};
 use vortex_statistics::ColumnStatistics;
 use zone_index::{Described, Describer, RecordFault, Records};
@@ -162,7 +163,7 @@ fn push_form(
     ensures fits { OnOk result (length (form (known statistics.now)) < 2 ^ 64) }
 {
     let mut bytes = Vec::new(alloc);
-    match statistics.append_bytes(&mut bytes) {
+    match append_statistics(statistics, &mut bytes) {
         Ok(()) => {}
         Err(_) => return Err(AllocError),
     }

@@ -5,6 +5,7 @@ ghost use Rattle.record_search.specs.Words.{columns_in, known, piece_in, statist
 
 use crate::describing::empty_statistics;
 use record_rows::{ColumnType, dtype_of};
+use statistics_bytes::decode_statistics_into;
 use std::alloc::{AllocError, Global};
 use vortex_statistics::{ColumnStatistics, StatisticsError};
 
@@ -79,7 +80,7 @@ fn read_column(
     ensures { IfOk result (λ is. (if is then Some (known statistics.new) else None) ≡
         statistics_in column bytes.now) }
 {
-    match statistics.read_from_bytes(alloc, &dtype_of(column), bytes) {
+    match decode_statistics_into(alloc, &dtype_of(column), bytes, statistics) {
         Ok(()) => Ok(true),
         Err(error) => match error {
             StatisticsError::OutOfMemory => Err(AllocError),

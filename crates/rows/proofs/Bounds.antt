@@ -3,9 +3,9 @@ use Rattle.std.proofs.Common.{◌≡◌, ℕ, ◌<◌, ◌≤◌, true, false, B
 use Rattle.std.proofs.lemmas.Bool.Decides.{nat_tests}
 use Rattle.std.proofs.str.Laws.{order}
 use Rattle.hex.specs.Hex.{encode_lower}
-use Rattle.vortex_array.specs.Laws.{BoundsAreComputed, BoundsAreUnique}
-use Rattle.vortex_array.specs.Strings.{IsString, IsLower, IsUpper, HasNoUpper, lower_of, upper_of}
-use Rattle.vortex_array.specs.Truncation.{IsBoundOf, IsLowerOf, IsUpperOf}
+use Rattle.vortex_bounds.specs.Laws.{BoundsAreComputed, BoundsAreUnique}
+use Rattle.vortex_bounds.specs.Strings.{IsString, IsLower, IsUpper, HasNoUpper, lower_of, upper_of}
+use Rattle.vortex_bounds.specs.Truncation.{IsBoundOf, IsLowerOf, IsUpperOf}
 use Rattle.vortex_dtype.specs.TypeTree.{TypeTree}
 use Rattle.vortex_value.specs.Values.RawKinds.{IsBytesValue}
 use Rattle.vortex_value.specs.Values.RawTree.{RawTree, raw_bytes}

@@ -5,7 +5,7 @@ use Rattle.hex.specs.Hex.{encode_lower}
 use Rattle.vortex_pvalue.specs.Numbers.{in_range}
 use Rattle.vortex_pvalue.specs.Whole.{number_text, pvalue_text}
 use Rattle.vortex_pvalue.specs.declared.pvalues.PValue.{PValue}
-use Rattle.vortex_array.specs.Strings.{lower_of, upper_of}
+use Rattle.vortex_bounds.specs.Strings.{lower_of, upper_of}
 use Rattle.rows.specs.Grammar.{Request, cast, bound, request_in}
 use Rattle.rows.specs.Lines.{lines_of}
 use Rattle.rows.specs.declared.commands.Side.{Side}

@@ -5,11 +5,11 @@ ghost use Rattle.rows.specs.Words.{InRange, IsBytesValue, IsInteger, IsIntegerVa
 
 use crate::commands::Side;
 use std::alloc::{AllocError, Global};
-use vortex_array::laws::{bounds_are_computed, bounds_are_unique, items_are_bytes};
-use vortex_array::{
-    ByteBuffer, DType, INLINE_BYTES, Nullability, PType, PValue, Scalar, ScalarValue, lower_bound,
-    upper_bound,
-};
+use vortex_bounds::laws::{bounds_are_computed, bounds_are_unique, items_are_bytes};
+use vortex_bounds::{lower_bound, upper_bound};
+use vortex_dtype::{ByteBuffer, DType, INLINE_BYTES, Nullability, PType};
+use vortex_pvalue::PValue;
+use vortex_value::{Scalar, ScalarValue};
 
 /// The number as this `PType`, if that has it: by a cast of its scalar.
 pub fn number_in_ptype(alloc: Global, number: PValue, ptype: PType) -> Option<PValue>

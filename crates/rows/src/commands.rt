@@ -6,7 +6,8 @@ ghost use Rattle.rows.specs.Words.{asked_by, bound_operands, cast_operands, cast
 
 use crate::numbers::{cut_number, cut_ptype, ptype_named, size_named};
 use crate::words::{after_word, cut_word};
-use vortex_array::{PType, PValue};
+use vortex_dtype::PType;
+use vortex_pvalue::PValue;
 
 /// What a line asks for. The bytes of a bound are still hexadecimal digits, which may be wrong.
 #[derive(Clone, Copy, Debug)]

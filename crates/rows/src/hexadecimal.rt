@@ -5,7 +5,7 @@ ghost use Rattle.std.specs.Prelude.{◌*◌, ◌≡◌, ◌≤◌, IfOk, IsOk, M
 ghost use Rattle.rows.specs.Words.{byte_of_digits, decode_sized, hex_digit_value, hex_named};
 
 use std::alloc::{AllocError, Global};
-use vortex_array::{ByteBuffer, INLINE_BYTES};
+use vortex_dtype::{ByteBuffer, INLINE_BYTES};
 
 /// The value of each byte as a hexadecimal digit of either case; 256 if it is none.
 const DIGIT_VALUES: [u16; 256] = [

@@ -4,7 +4,7 @@
 ghost use Rattle.std.specs.Prelude.{◌≡◌, IfNone, IfSome, ◌<◌, ◌^◌};
 ghost use Rattle.rows.specs.Words.{FirstSays, FirstSaysNone, IsNameEnd, LeadingDigits, natural_named, number_named, ptype_named, size_named};
 
-use vortex_array::PType;
+use vortex_dtype::PType;
 
 /// How many digits always fit 64 bits. A number has at most one more.
 const SURE_DIGITS: usize = 19;

@@ -6,7 +6,8 @@ ghost use Rattle.rows.specs.Words.{bound_text, cast_text, encode_lower, ptype_te
 use hex::encode_to_slice;
 use itoa::Buffer;
 use std::alloc::AllocError;
-use vortex_array::{ByteBuffer, PType, PValue};
+use vortex_dtype::{ByteBuffer, PType};
+use vortex_pvalue::PValue;
 
 /// Appends the row of a cast: the number, or `refused`.
 pub fn push_number(output: &mut Vec<u8>, number: Option<PValue>) -> Result<(), AllocError>

@@ -14,7 +14,8 @@ use crate::words::first_line;
 use memchr::memrchr;
 use std::alloc::{AllocError, Global};
 use std::io::{Read, Write};
-use vortex_array::{PType, PValue};
+use vortex_dtype::PType;
+use vortex_pvalue::PValue;
 
 /// Reads the whole input, and writes one row for each of its lines.
 ///

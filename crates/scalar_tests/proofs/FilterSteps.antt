@@ -4,7 +4,7 @@ use Rattle.vortex_dtype.specs.TypeTree.{TypeTree}
 use Rattle.vortex_value.specs.declared.scalars.Scalar.{Scalar}
 use Rattle.vortex_value.specs.Laws.HasContent.{HasContent}
 use Rattle.vortex_value.specs.Order.{order}
-use Rattle.vortex_statistics.specs.Cells.{Cell, cell_of, is_null_cell}
+use Rattle.vortex_cells.specs.Cells.{Cell, cell_of, is_null_cell}
 use Rattle.vortex_statistics.specs.Statistics.{Known}
 use Rattle.vortex_filter.specs.declared.error.FilterError.{FilterError}
 use Rattle.vortex_filter.specs.declared.filter.Filter.{Compare, StartsWith, the_lemmas}

@@ -1,6 +1,6 @@
 -- What the contracts of callers say of pieces of a column.
 use Rattle.std.specs.Prelude.{List, ◌++◌}
-use Rattle.vortex_statistics.specs.Cells.{Cell}
+use Rattle.vortex_cells.specs.Cells.{Cell}
 use Rattle.vortex_statistics.specs.Statistics.{AreRight, known}
 use Rattle.vortex_statistics.specs.declared.column_statistics.ColumnStatistics.{ColumnStatistics}
 

@@ -1,6 +1,6 @@
 -- Rows with their statistics, as a zone.
 use Rattle.std.specs.Prelude.{ℕ, List, map}
-use Rattle.vortex_statistics.specs.Cells.{Cell, cell_of}
+use Rattle.vortex_cells.specs.Cells.{Cell, cell_of}
 use Rattle.vortex_statistics.specs.Statistics.{known}
 use Rattle.vortex_filter.specs.Pruning.{column}
 use Rattle.vortex_filter.specs.Searching.{Zone}

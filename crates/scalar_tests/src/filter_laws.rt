@@ -7,7 +7,7 @@ ghost use Rattle.vortex_dtype.specs.TypeOf.{type_of};
 ghost use Rattle.vortex_dtype.specs.TypeTree.{TypeTree};
 ghost use Rattle.vortex_value.specs.Laws.HasContent.{HasContent};
 ghost use Rattle.vortex_value.specs.Order.{order};
-ghost use Rattle.vortex_statistics.specs.Cells.{cell_of, is_null_cell};
+ghost use Rattle.vortex_cells.specs.Cells.{cell_of, is_null_cell};
 ghost use Rattle.vortex_statistics.specs.Statistics.{Known, known};
 ghost use Rattle.vortex_filter.specs.Checking.{FitsColumns};
 ghost use Rattle.vortex_filter.specs.Exactness.{AreExactBounds, ArePlainBounds, OnSomeCell, OnSomeOf};

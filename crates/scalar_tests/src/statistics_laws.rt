@@ -3,16 +3,18 @@
 
 ghost use Rattle.std.specs.Prelude.{◌≡◌, ◌++◌, List, IfErr, IfOk, map, true};
 ghost use Rattle.vortex_dtype.specs.TypeOf.{type_of};
-ghost use Rattle.vortex_statistics.specs.Cells.{Cell};
-ghost use Rattle.vortex_statistics.specs.Form.{AreOf, IsHeldKnown, IsUntypedBound, SaySame, form};
-ghost use Rattle.vortex_statistics.specs.FormAnswers.{retyped};
+ghost use Rattle.vortex_cells.specs.Cells.{Cell};
+ghost use Rattle.statistics_bytes.specs.Form.{AreOf, IsHeldKnown, IsUntypedBound, SaySame, form};
+ghost use Rattle.statistics_bytes.specs.FormAnswers.{retyped};
 ghost use Rattle.vortex_statistics.specs.Statistics.{AreRight, Known, known};
 ghost use Rattle.vortex_statistics.specs.declared.error.StatisticsError.TheVariants.{OutOfMemory};
 ghost use Rattle.scalar_tests.specs.Pieces.{AreRightForThree};
 
+use statistics_bytes::laws::forms_are_apart;
+use statistics_bytes::{append_statistics, decode_statistics};
 use std::alloc::Global;
 use vortex_dtype::DType;
-use vortex_statistics::laws::{any_grouping_is_right, forms_are_apart, looser_bounds_are_right};
+use vortex_statistics::laws::{any_grouping_is_right, looser_bounds_are_right};
 use vortex_statistics::{ColumnStatistics, StatisticsError};
 
 /// The statistics of three pieces, reduced from the first.
@@ -84,8 +86,8 @@ pub fn there_and_back(
     ensures refused { IfErr result (λ e. e ≡ OutOfMemory) }
 {
     let mut bytes = Vec::new(alloc);
-    statistics.append_bytes(&mut bytes)?;
-    ColumnStatistics::from_bytes(alloc, dtype, bytes.as_slice())
+    append_statistics(statistics, &mut bytes)?;
+    decode_statistics(alloc, dtype, bytes.as_slice())
 }
 
 /// The statistics of two pieces, read back as those of a column of the type. They are right for the
@@ -101,8 +103,8 @@ pub fn merge_written(
         → AreRight s cells → AreRight t others
         → AreRight (known both) (map (retyped (type_of dtype.now)) (cells ++ others))) }
 {
-    let first = ColumnStatistics::from_bytes(alloc, dtype, first)?;
-    match ColumnStatistics::from_bytes(alloc, dtype, second) {
+    let first = decode_statistics(alloc, dtype, first)?;
+    match decode_statistics(alloc, dtype, second) {
         Ok(second) => first.merge(second),
         Err(cause) => {
             drop(first);
@@ -157,9 +159,9 @@ mod tests {
         .expect(&rt, "statistics");
         assert!(rt; first.row_count == 6 && last.row_count == 6);
         let mut bytes = Vec::new(rt.alloc());
-        first.append_bytes(&mut bytes).expect(&rt, "a form");
+        append_statistics(&first, &mut bytes).expect(&rt, "a form");
         let mut others = Vec::new(rt.alloc());
-        last.append_bytes(&mut others).expect(&rt, "a form");
+        append_statistics(&last, &mut others).expect(&rt, "a form");
         assert!(rt; bytes == others);
         drop((first, last));
     }
@@ -174,15 +176,15 @@ mod tests {
         ];
         let statistics = ColumnStatistics::of(rt.alloc(), &values).expect(&rt, "statistics");
         let mut bytes = Vec::new(rt.alloc());
-        statistics.append_bytes(&mut bytes).expect(&rt, "a form");
+        append_statistics(&statistics, &mut bytes).expect(&rt, "a form");
         let form = [
             1, 0x1f, 0, 0, 0, 0, 0, 0, 0, 3, 0, 0, 0, 0, 0, 0, 0, 1, 13, 2, 13, 5,
         ];
         assert!(rt; bytes.as_slice() == form.as_slice());
-        let back = ColumnStatistics::from_bytes(rt.alloc(), &MAYBE_I32, bytes.as_slice());
+        let back = decode_statistics(rt.alloc(), &MAYBE_I32, bytes.as_slice());
         let back = back.expect(&rt, "statistics");
         let mut again = Vec::new(rt.alloc());
-        back.append_bytes(&mut again).expect(&rt, "a form");
+        append_statistics(&back, &mut again).expect(&rt, "a form");
         assert!(rt; bytes == again);
         drop((values, statistics, back));
     }

@@ -2,7 +2,7 @@
 
 ghost use Rattle.std.specs.Prelude.{◌≡◌, ℕ, List, IfOk, map};
 ghost use Rattle.zone_index.specs.Form.{FitsForm, IndexValue, index_form, index_value, wanted_of};
-ghost use Rattle.vortex_statistics.specs.Form.{form};
+ghost use Rattle.statistics_bytes.specs.Form.{form};
 ghost use Rattle.record_search.specs.Searched.{IsRowIndex, rows_alone};
 ghost use Rattle.record_rows.specs.declared.schema.Schema.{Schema};
 

@@ -2,7 +2,7 @@
 
 ghost use Rattle.std.specs.Prelude.{◌≡◌, ℕ, List, Contains, false, true};
 ghost use Rattle.vortex_dtype.specs.TypeTree.{TypeTree};
-ghost use Rattle.vortex_statistics.specs.Cells.{Cell};
+ghost use Rattle.vortex_cells.specs.Cells.{Cell};
 ghost use Rattle.vortex_filter.specs.Formula.{Formula, is_match};
 ghost use Rattle.column_filters.specs.Zones.{ArePiecesRight, IsOutcome};
 

@@ -7,10 +7,11 @@ use case_lines::{Line, Named};
 use std::alloc::{AllocError, Global};
 use std::cmp::Ordering;
 use std::mem::replace;
+use vortex_cells::has_variant;
 use vortex_dtype::{DType, VortexError};
 use vortex_row::{
     RowEncoder, RowError, SortOptions, append_key, append_plain_key, append_row_key, compare_keys,
-    decode_key, decode_row_key, has_variant, key_length, plain_key_length,
+    decode_key, decode_row_key, key_length, plain_key_length,
 };
 use vortex_value::{Scalar, ScalarRef, ScalarValue};
 

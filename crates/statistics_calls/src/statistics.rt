@@ -4,6 +4,7 @@ use crate::answers::statistics::StatisticsAnswer;
 use crate::read::TypedStatistics;
 use crate::statistics_inputs::{Input, StatisticsInputs};
 use case_lines::{Line, Named, take_type};
+use statistics_bytes::{append_statistics, decode_statistics};
 use std::alloc::Global;
 use std::mem::replace;
 use vortex_dtype::{DType, VortexError};
@@ -121,16 +122,13 @@ fn answer_of(alloc: Global, call: Call, given: &StatisticsInputs) -> StatisticsR
         Call::FromBytes => {
             let dtype = given.dtype.clone(alloc)?;
             let bytes = given.bytes.as_slice();
-            column_answer(
-                dtype,
-                ColumnStatistics::from_bytes(alloc, &given.dtype, bytes),
-            )
+            column_answer(dtype, decode_statistics(alloc, &given.dtype, bytes))
         }
         Call::MayBeNull => Ok(StatisticsAnswer::Truth(given.statistics.may_be_null())),
         Call::MayBeValue => Ok(StatisticsAnswer::Truth(given.statistics.may_be_value())),
         Call::Bytes => {
             let mut bytes = Vec::new(alloc);
-            let outcome = given.statistics.append_bytes(&mut bytes);
+            let outcome = append_statistics(&given.statistics, &mut bytes);
             bytes_answer(outcome, bytes)
         }
     }
@@ -186,7 +184,7 @@ fn observe(
 /// The form in bytes, appended where there is room.
 fn bytes_in_room(alloc: Global, given: &mut StatisticsInputs) -> StatisticsResult {
     let mut bytes = replace(&mut given.room, Vec::new(alloc));
-    let outcome = given.statistics.append_bytes(&mut bytes);
+    let outcome = append_statistics(&given.statistics, &mut bytes);
     bytes_answer(outcome, bytes)
 }
 

@@ -1,9 +1,2 @@
-pub mod BoundLaws
-pub mod ByteOrder
 pub mod GivenEach
-pub mod NextString
-pub mod ScalarBounds
-pub mod StringBounds
 pub mod TakenEach
-pub mod TextBounds
-pub mod TextOrder

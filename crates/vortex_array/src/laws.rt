@@ -2,25 +2,10 @@
 //!
 //! These functions do nothing when they run. A caller gets the law that the contract states.
 
-ghost use Rattle.vortex_array.specs.Words.{BoundsAreComputed, BoundsAreUnique, IsString, NamesAsGiven, TakesBack};
+ghost use Rattle.vortex_array.specs.Words.{NamesAsGiven, TakesBack};
 
 use crate::round_trip::RoundTrip;
-
-/// Each item of a slice of bytes is below 256.
-pub fn items_are_bytes(_bytes: &[u8])
-    ensures { IsString _bytes.now }
-{}
-
-/// The lower bound of some bytes is their first ones. The upper bound is these plus one, as one
-/// number with its first byte the highest.
-pub fn bounds_are_computed()
-    ensures { BoundsAreComputed }
-{}
-
-/// Bytes have at most one lower and one upper bound of each length, and so have strings.
-pub fn bounds_are_unique()
-    ensures { BoundsAreUnique }
-{}
+pub use vortex_bounds::laws::{bounds_are_computed, bounds_are_unique, items_are_bytes};
 
 /// A value that is converted into a scalar and back is the value that it was.
 pub fn values_are_taken_back<T: RoundTrip>()

@@ -6,8 +6,8 @@ use Rattle.std.proofs.str.Laws.{order}
 use Rattle.std.proofs.lemmas.Cmp.{nat_cmp_total, tied_itself}
 use Rattle.std.proofs.lemmas.List.{take_all}
 use Rattle.std.proofs.lemmas.Str.{IsCharBoundary-end, IsUtf8-take}
-use Rattle.vortex_array.specs.Strings.{Below, NotAbove, IsUpper, HasNoUpper}
-use Rattle.vortex_array.specs.Texts.{HasNoTextUpper, IsStuck, IsTextLower, IsTextPrefix, IsTextUpper}
+use Rattle.vortex_bounds.specs.Strings.{Below, NotAbove, IsUpper, HasNoUpper}
+use Rattle.vortex_bounds.specs.Texts.{HasNoTextUpper, IsStuck, IsTextLower, IsTextPrefix, IsTextUpper}
 use Rattle.vortex_c.specs.Bounds.{IsWholeOrBest}
 
 -- what follows does not make a list less, if the first numbers decide alike

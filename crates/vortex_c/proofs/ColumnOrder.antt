@@ -2,7 +2,7 @@
 use Rattle.std.proofs.Common.{◌≡◌, ℕ, ◌+◌, ◌<◌, inl, inr, List, sym, subst, ◌∙◌, ap, below_more, arith}
 use Rattle.arrow_columns.proofs.ByteOrder.{Ranks, upward}
 use Rattle.arrow_columns.specs.Spans.{Keeps}
-use Rattle.vortex_array.specs.Strings.{NotAbove}
+use Rattle.vortex_bounds.specs.Strings.{NotAbove}
 
 -- the place that is kept is the best of the first k values and of value k
 pub best_so_far : (R : List ℕ → List ℕ → Type 0) → Ranks R → (V : ℕ → List ℕ) (k old new : ℕ) (x kept next : List ℕ) → x ≡ V k → kept ≡ V old → Keeps R x kept next k old new → old < k

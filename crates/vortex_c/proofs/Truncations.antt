@@ -1,9 +1,9 @@
 -- What the calls on a beginning give, said of the whole.
 use Rattle.std.proofs.Common.{◌≡◌, ℕ, ◌<◌, ◌≤◌, List, length, take, slice_range, min, ap, subst, sym, arith, IsCharBoundary}
 use Rattle.std.proofs.lemmas.List.{take_all}
-use Rattle.vortex_array.specs.Laws.{BoundsAreComputed}
-use Rattle.vortex_array.specs.Strings.{HasNoUpper, IsLower, IsString, IsUpper}
-use Rattle.vortex_array.specs.Texts.{HasNoTextUpper, IsTextUpper}
+use Rattle.vortex_bounds.specs.Laws.{BoundsAreComputed}
+use Rattle.vortex_bounds.specs.Strings.{HasNoUpper, IsLower, IsString, IsUpper}
+use Rattle.vortex_bounds.specs.Texts.{HasNoTextUpper, IsTextUpper}
 use Rattle.vortex_c.specs.Bounds.{HasNone, IsWholeOrBest}
 use Rattle.vortex_c.proofs.Beginnings.{IsNearest, no_text_upper_of_take, no_upper_of_take, text_upper_of_take, upper_of_take}
 

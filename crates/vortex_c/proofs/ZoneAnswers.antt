@@ -11,7 +11,7 @@ use Rattle.vortex_value.specs.Values.Content.{content}
 use Rattle.vortex_value.specs.Values.RawTree.{RawTree, is_absent, raw_bytes, raw_text}
 use Rattle.vortex_value.specs.Values.Scalars.{scalar_order, scalar_raw, scalar_type}
 use Rattle.vortex_value.specs.declared.scalars.Scalar.{Scalar}
-use Rattle.vortex_array.specs.Truncation.{IsSource}
+use Rattle.vortex_bounds.specs.Truncation.{IsSource}
 use Rattle.vortex_zone.specs.Zone.{is_above}
 use Rattle.vortex_c.specs.Zones.{IsAnswerOfZones, may_hold_bytes}
 

@@ -1,6 +1,6 @@
 -- A column: the bytes of its values one after another, and their offsets. Value k goes from offset k to the next one.
 use Rattle.std.specs.Prelude.{◌≡◌, ℕ, ◌+◌, ◌<◌, ◌≤◌, ◌⊎◌, IsUtf8, List, length, slice_index, slice_range, Bool, Option, Some, None, MatchOption, if◌then◌else◌}
-use Rattle.vortex_array.specs.Strings.{NotAbove}
+use Rattle.vortex_bounds.specs.Strings.{NotAbove}
 use Rattle.vortex_c.specs.Bounds.{IsWholeOrBest, HasNone}
 
 -- the column has a value k

@@ -10,10 +10,10 @@ pub use Rattle.vortex_dtype.specs.declared.nullability.Nullability.TheVariants.{
 pub use Rattle.vortex_dtype.specs.declared.ptype.PType.{PType}
 pub use Rattle.vortex_pvalue.specs.Whole.{ptype_of, whole_of}
 pub use Rattle.vortex_value.specs.Values.RawTree.{raw_bytes, raw_text}
-pub use Rattle.vortex_array.specs.Strings.{HasNoUpper, IsLower, IsUpper}
-pub use Rattle.vortex_array.specs.Texts.{HasNoTextUpper, IsTextLower, IsTextUpper}
+pub use Rattle.vortex_bounds.specs.Strings.{HasNoUpper, IsLower, IsUpper}
+pub use Rattle.vortex_bounds.specs.Texts.{HasNoTextUpper, IsTextLower, IsTextUpper}
 pub use Rattle.column_cells.specs.Types.{type_of_kind}
-pub use Rattle.vortex_statistics.specs.Form.{AreOf, IsBoundOf}
+pub use Rattle.statistics_bytes.specs.Form.{AreOf, IsBoundOf}
 pub use Rattle.vortex_statistics.specs.Statistics.{known, known_bound}
 pub use Rattle.column_keys.specs.Tables.{AreSoundBefore, IsTableFault, rows_in}
 pub use Rattle.column_keys.specs.declared.faults.TableFault.{TableFault}

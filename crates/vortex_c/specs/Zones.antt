@@ -5,7 +5,7 @@ use Rattle.std.specs.Ordering.{is_lt, is_gt, nat_cmp}
 use Rattle.vortex_dtype.specs.TypeTree.{TypeTree}
 use Rattle.vortex_value.specs.Values.RawTree.{RawTree}
 use Rattle.vortex_value.specs.declared.scalars.Scalar.{Scalar}
-use Rattle.vortex_array.specs.Truncation.{IsSource}
+use Rattle.vortex_bounds.specs.Truncation.{IsSource}
 use Rattle.vortex_zone.specs.Zone.{Bounds, may_hold}
 
 -- whether the bytes are above the bound, if there is one

@@ -6,8 +6,9 @@ ghost use Rattle.vortex_c.specs.Words.{AnswersUpper, HasNoTextUpper, HasNoUpper,
 use crate::status::{GIVEN, NO_MEMORY, NO_ROOM, NONE, NOT_UTF8};
 use std::alloc::Global;
 use std::str;
-use vortex_array::laws::{bounds_are_computed, items_are_bytes};
-use vortex_array::{BufferString, ByteBuffer, INLINE_BYTES, ScalarTruncation, VortexError};
+use vortex_bounds::ScalarTruncation;
+use vortex_bounds::laws::{bounds_are_computed, items_are_bytes};
+use vortex_dtype::{BufferString, ByteBuffer, INLINE_BYTES, VortexError};
 
 /// The lower bound of bytes at `max_length` bytes, as how many of the first bytes it has. Takes no
 /// memory.

@@ -4,7 +4,7 @@ use Rattle.std.proofs.lemmas.Bool.{false≢true}
 use Rattle.std.proofs.lemmas.Bool.Decides.{nat_tests}
 use Rattle.std.proofs.lemmas.List.{get_or-map, length-map}
 use Rattle.std.proofs.lemmas.List.Sums.{count_by-le-length, get_or-le-sum_by, sum_by-cons}
-use Rattle.vortex_statistics.specs.Cells.{Cell, HasValue, IsUpTo, is_null_cell}
+use Rattle.vortex_cells.specs.Cells.{Cell, HasValue, IsUpTo, is_null_cell}
 use Rattle.vortex_statistics.specs.Statistics.{AreRight, IsBound, Known, KnownBound, some_null, some_value}
 use Rattle.vortex_filter.specs.Exactness.{Admits}
 use Rattle.vortex_filter.specs.Formula.{cell_at}

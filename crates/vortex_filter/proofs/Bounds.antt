@@ -1,9 +1,9 @@
 -- How a value can stand to a literal, by the bounds of its zone.
 use Rattle.std.proofs.Common.{◌≡◌, true, false, not, ◌||◌, inl, inr, Option, Some, None, IfSome, is_some, is_none, Ordering, Less, Equal, Greater, refl, sym, ap, ◌∙◌}
 use Rattle.std.specs.Ordering.{is_some_and, is_ge, is_gt}
-use Rattle.vortex_statistics.specs.Cells.{Cell, IsUpTo, cell_order, is_null_cell, order_from_above}
+use Rattle.vortex_cells.specs.Cells.{Cell, IsUpTo, cell_order, is_null_cell, order_from_above}
 use Rattle.vortex_statistics.specs.Statistics.{Known, KnownBound}
-use Rattle.vortex_statistics.proofs.CellLaws.{IsOrder, from_above, turned}
+use Rattle.vortex_cells.proofs.CellLaws.{IsOrder, from_above, turned}
 use Rattle.vortex_filter.specs.Exactness.{IsWithin}
 use Rattle.vortex_filter.specs.Orders.{bound_order, includes, orders, rules_out, settles}
 use Rattle.vortex_filter.proofs.Plain.{cells_compare, cells_reach}

@@ -5,7 +5,7 @@ use Rattle.vortex_value.specs.Values.Content.{content}
 use Rattle.vortex_value.specs.Values.RawTree.{RawTree, absent, is_absent}
 use Rattle.vortex_value.specs.Values.Scalars.{IsMadeOf, scalar_raw, scalar_type}
 use Rattle.vortex_value.specs.declared.scalars.Scalar.{Scalar}
-use Rattle.vortex_statistics.specs.Cells.{Cell, cell_of, cell_or_null, is_null_cell, is_null_content}
+use Rattle.vortex_cells.specs.Cells.{Cell, cell_of, cell_or_null, is_null_cell, is_null_content}
 use Rattle.vortex_statistics.specs.Statistics.{known}
 use Rattle.vortex_statistics.specs.declared.column_statistics.ColumnStatistics.{ColumnStatistics}
 use Rattle.vortex_filter.specs.Formula.{cell_at}

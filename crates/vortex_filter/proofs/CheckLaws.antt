@@ -8,13 +8,13 @@ use Rattle.vortex_dtype.specs.TypeTree.{TypeTree, Same, utf8_type, binary_type}
 use Rattle.vortex_value.specs.Equality.{same_type}
 use Rattle.vortex_value.specs.Lemmas.EqualityLaws.{same_type-Decides}
 use Rattle.vortex_value.specs.Size.{capped}
-use Rattle.vortex_statistics.specs.Cells.{Cell}
+use Rattle.vortex_cells.specs.Cells.{Cell}
 use Rattle.vortex_filter.specs.declared.error.FilterError.{FilterError}
 use Rattle.vortex_filter.specs.declared.error.FilterError.TheVariants.{OutOfMemory, NoColumn, HasVariant, TypesDiffer}
 use Rattle.vortex_filter.specs.CheckSteps.{answer_of_both, behind, checked, checked_test, holds_strings, lacks_order, suits}
 use Rattle.vortex_filter.specs.Checking.{AllFit, Demand, Fits, FitsColumns, HoldsStrings, IsOfType, IsOrderedFor, Refuses, RefusesFirst, Suits, Test, beginning, comparing, nothing, tests}
 use Rattle.vortex_filter.specs.Formula.{Formula, constant, comparison, null_test, membership, range, prefix_test, both, either, negation}
-use Rattle.vortex_row.proofs.VariantSteps.{none-from_test, test-from_none}
+use Rattle.vortex_cells.proofs.VariantSteps.{none-from_test, test-from_none}
 
 -- ---- counts
 

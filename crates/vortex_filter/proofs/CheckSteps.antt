@@ -13,7 +13,7 @@ use Rattle.vortex_value.specs.Lemmas.EqualityLaws.{same_type-Decides}
 use Rattle.vortex_value.specs.Size.{capped}
 use Rattle.vortex_value.specs.Values.Scalars.{scalar_type}
 use Rattle.vortex_value.specs.declared.scalars.Scalar.{Scalar}
-use Rattle.vortex_statistics.specs.Cells.{Cell, cell_of}
+use Rattle.vortex_cells.specs.Cells.{Cell, cell_of}
 use Rattle.vortex_filter.specs.Checking.{Test}
 use Rattle.vortex_filter.proofs.CheckLaws.{capped_sum}
 use Rattle.vortex_filter.proofs.Steps.{formula-And, formula-Compare, formula-Constant, formula-In, formula-IsNull, formula-Between, formula-StartsWith, formula-Not, formula-Or}

@@ -19,7 +19,7 @@ use Rattle.vortex_value.specs.Lemmas.EqualityLaws.{same_type-Decides}
 use Rattle.vortex_value.specs.Order.{order}
 use Rattle.vortex_value.specs.TypesWithin.{HasNoVariant}
 use Rattle.vortex_value.specs.Values.Content.{Content, null, whole}
-use Rattle.vortex_statistics.specs.Cells.{Cell, cell_or_null, is_null_cell, is_null_content}
+use Rattle.vortex_cells.specs.Cells.{Cell, cell_or_null, is_null_cell, is_null_content}
 use Rattle.vortex_filter.specs.declared.operator.CompareOperator.{CompareOperator}
 use Rattle.vortex_filter.specs.declared.operator.CompareOperator.TheVariants.{Eq, Gte, Lte}
 use Rattle.vortex_filter.specs.declared.truth.Truth.{Truth}

@@ -28,8 +28,8 @@ use Rattle.vortex_value.specs.TypesWithin.{HasNoVariant}
 use Rattle.vortex_value.specs.Values.Content.{Content, whole}
 use Rattle.vortex_value.specs.Values.Scalars.{IsValid, scalar_content, scalar_raw, scalar_type}
 use Rattle.vortex_value.specs.declared.scalars.Scalar.{Scalar}
-use Rattle.vortex_statistics.specs.Cells.{Cell, cell_of}
-use Rattle.vortex_statistics.proofs.ConstantLaws.{cells_more}
+use Rattle.vortex_cells.specs.Cells.{Cell, cell_of}
+use Rattle.vortex_cells.proofs.CellLaws.{cells_more}
 use Rattle.vortex_filter.specs.declared.error.FilterError.{FilterError}
 use Rattle.vortex_filter.specs.declared.error.FilterError.TheVariants.{OutOfMemory, NoColumn, HasVariant, TypesDiffer}
 use Rattle.vortex_filter.specs.declared.filter.Filter.{Filter, Constant, Compare, IsNull, In, Between, StartsWith, And, Or, Not, the_lemmas}
@@ -45,13 +45,13 @@ use Rattle.vortex_filter.specs.FilterLiterals.{AreValid, exactly_of, literals_of
 use Rattle.vortex_filter.specs.Makes.{Makes, OfParts}
 use Rattle.vortex_filter.specs.Operators.{holds}
 use Rattle.vortex_filter.specs.Rows.{IsRowOf, content_truth}
-use Rattle.vortex_row.specs.Variants.{has_variant}
+use Rattle.vortex_cells.specs.Variants.{has_variant}
 use Rattle.vortex_filter.proofs.CheckLaws.{fit_both, fit_one, refuses_behind, refuses_front, refuses_one, strings_test}
 use Rattle.vortex_filter.proofs.CoerceLaws.{NullableIsSame, coerced_fits, coerced_truth}
 use Rattle.vortex_filter.proofs.FitProofs.{coerced_itself}
 use Rattle.vortex_filter.proofs.LiteralSteps.{constant_valid, copy_valid, literals-And, literals-Between, literals-Compare, literals-Constant, literals-In, literals-IsNull, literals-Not, literals-Or, literals-StartsWith, valid_left, valid_right, valid_same, valid_with}
 use Rattle.vortex_filter.proofs.Steps.{formula-And, formula-Between, formula-Compare, formula-Constant, formula-In, formula-IsNull, formula-Not, formula-Or, formula-StartsWith}
-use Rattle.vortex_row.proofs.VariantSteps.{none-from_test, test-from_none}
+use Rattle.vortex_cells.proofs.VariantSteps.{none-from_test, test-from_none}
 
 -- ---- connectives
 

@@ -1,9 +1,9 @@
 -- Each outcome of a comparison is its truth on a cell that the statistics allow.
 use Rattle.std.proofs.Common.{◌≡◌, ◌⊎◌, inl, inr, Bool, true, false, not, ◌&&◌, ◌||◌, cond, Option, Some, None, is_some, is_none, subst, Ordering, Less, Equal, Greater, refl, sym, ap, ◌∙◌}
 use Rattle.std.proofs.lemmas.Bool.{false≢true}
-use Rattle.vortex_statistics.specs.Cells.{Cell, IsUpTo, cell_or_null, cell_order, is_null_cell, order_from_above}
+use Rattle.vortex_cells.specs.Cells.{Cell, IsUpTo, cell_or_null, cell_order, is_null_cell, order_from_above}
 use Rattle.vortex_statistics.specs.Statistics.{Known, KnownBound, may_be_null, may_be_value}
-use Rattle.vortex_statistics.proofs.CellLaws.{IsOrder, equal_itself, turned}
+use Rattle.vortex_cells.proofs.CellLaws.{IsOrder, equal_itself, turned}
 use Rattle.vortex_filter.specs.declared.operator.CompareOperator.{CompareOperator}
 use Rattle.vortex_filter.specs.declared.orders.Orders.{Orders}
 use Rattle.vortex_filter.specs.declared.truth.Truth.{Truth}

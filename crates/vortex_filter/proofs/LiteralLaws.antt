@@ -7,7 +7,7 @@ use Rattle.vortex_value.specs.Values.Content.{Content}
 use Rattle.vortex_value.specs.Values.RawTree.{RawTree}
 use Rattle.vortex_value.specs.Values.Scalars.{scalar_content, scalar_raw, scalar_type}
 use Rattle.vortex_value.specs.declared.scalars.Scalar.{Scalar}
-use Rattle.vortex_statistics.specs.Cells.{Cell, cell_of}
+use Rattle.vortex_cells.specs.Cells.{Cell, cell_of}
 use Rattle.vortex_filter.specs.declared.filter.Filter.{Filter}
 use Rattle.vortex_filter.specs.declared.filter.Filter.TheOpen.{Filter-F}
 use Rattle.vortex_filter.specs.declared.filter.Filter.TheFolds.{fold-roll-Filter, ind-Filter, map-Filter}

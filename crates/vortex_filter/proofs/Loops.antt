@@ -2,7 +2,7 @@
 use Rattle.std.proofs.Common.{◌≡◌, ℕ, ◌<◌, List, [], ◌∷◌, length, take, get_or, map, fold, refl, sym, ap, ◌∙◌}
 use Rattle.std.proofs.lemmas.List.Folds.{fold_stuck}
 use Rattle.vortex_value.specs.declared.scalars.Scalar.{Scalar}
-use Rattle.vortex_statistics.specs.Cells.{Cell, cell_of}
+use Rattle.vortex_cells.specs.Cells.{Cell, cell_of}
 
 fused : {B : Type 0} (f : B → Cell → B) (a : B) (xs : List Scalar) → fold f a (map cell_of xs) ≡ fold (λ t y. f t (cell_of y)) a xs
 fused f a [] = refl

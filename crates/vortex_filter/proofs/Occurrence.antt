@@ -3,9 +3,9 @@ use Rattle.std.proofs.Common.{◌≡◌, ◌⊎◌, inl, inr, ℕ, ◌<◌, Bool
 use Rattle.std.proofs.lemmas.Bool.{false≢true}
 use Rattle.std.proofs.lemmas.Bool.Decides.{nat_tests}
 use Rattle.std.specs.Ordering.{is_some_and, is_ge, is_gt}
-use Rattle.vortex_statistics.specs.Cells.{Cell, HasValue, cell_order, is_null_cell, order_from_above}
+use Rattle.vortex_cells.specs.Cells.{Cell, HasValue, cell_order, is_null_cell, order_from_above}
 use Rattle.vortex_statistics.specs.Statistics.{AreRight, IsBound, Known, KnownBound, may_be_null, may_be_value, some_null}
-use Rattle.vortex_statistics.proofs.CellLaws.{IsOrder, turned}
+use Rattle.vortex_cells.proofs.CellLaws.{IsOrder, turned}
 use Rattle.vortex_filter.specs.declared.operator.CompareOperator.{CompareOperator}
 use Rattle.vortex_filter.specs.declared.operator.CompareOperator.TheVariants.{Eq, NotEq, Gt, Gte, Lt, Lte}
 use Rattle.vortex_filter.specs.declared.truth.Truth.{Truth}

@@ -6,7 +6,7 @@ use Rattle.vortex_value.specs.Equality.{same_type}
 use Rattle.vortex_value.specs.Lemmas.EqualityLaws.{same_type-Decides}
 use Rattle.vortex_value.specs.Order.{order}
 use Rattle.vortex_value.specs.Values.Content.{Content, null, truth, whole, text, string}
-use Rattle.vortex_statistics.specs.Cells.{Cell, cell_order, is_null_cell, is_null_content}
+use Rattle.vortex_cells.specs.Cells.{Cell, cell_order, is_null_cell, is_null_content}
 use Rattle.vortex_filter.specs.Orders.{is_plain, is_plain_content}
 
 -- ---- only a content of its own kind compares with a plain one, and null

@@ -9,9 +9,9 @@ use Rattle.vortex_value.specs.Equality.{same_type}
 use Rattle.vortex_value.specs.Lemmas.EqualityLaws.{same_type-Decides}
 use Rattle.vortex_value.specs.Order.{order}
 use Rattle.vortex_value.specs.Values.Content.{Content, text, string}
-use Rattle.vortex_statistics.specs.Cells.{Cell, cell_or_null, cell_order, is_null_cell, is_null_content}
+use Rattle.vortex_cells.specs.Cells.{Cell, cell_or_null, cell_order, is_null_cell, is_null_content}
 use Rattle.vortex_statistics.specs.Statistics.{Known, KnownBound, may_be_null, may_be_value}
-use Rattle.vortex_statistics.proofs.CellLaws.{IsOrder, turned}
+use Rattle.vortex_cells.proofs.CellLaws.{IsOrder, turned}
 use Rattle.vortex_filter.specs.declared.truth.Truth.{Truth}
 use Rattle.vortex_filter.specs.declared.truth.Truth.TheVariants.{False, Unknown, True}
 use Rattle.vortex_filter.specs.Exactness.{ArePlainBounds, IsPlainRange, IsWithin, OnSomeCell, PrefixesAreExact}

@@ -6,9 +6,9 @@ use Rattle.std.specs.Ordering.{is_eq, is_gt, is_lt, is_some_and, nat_cmp, orderi
 use Rattle.vortex_value.specs.Equality.{same_type}
 use Rattle.vortex_value.specs.Order.{order}
 use Rattle.vortex_value.specs.Values.Content.{Content, null, text, string}
-use Rattle.vortex_statistics.specs.Cells.{Cell, IsUpTo, cell_order, is_null_cell, is_null_content, order_from_above}
+use Rattle.vortex_cells.specs.Cells.{Cell, IsUpTo, cell_order, is_null_cell, is_null_content, order_from_above}
 use Rattle.vortex_statistics.specs.Statistics.{Known, KnownBound, may_be_null, may_be_value}
-use Rattle.vortex_statistics.proofs.CellLaws.{IsOrder, turned}
+use Rattle.vortex_cells.proofs.CellLaws.{IsOrder, turned}
 use Rattle.vortex_filter.specs.Exactness.{Admits, IsWithin}
 use Rattle.vortex_filter.specs.Orders.{is_plain, is_plain_content, rules_out}
 use Rattle.vortex_filter.specs.OutcomeSets.{allows, any, only}

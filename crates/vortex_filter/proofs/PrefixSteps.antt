@@ -6,7 +6,7 @@ use Rattle.std.specs.Ordering.{is_eq}
 use Rattle.vortex_value.specs.Equality.{same_type}
 use Rattle.vortex_value.specs.Values.Content.{Content, text, string}
 use Rattle.vortex_value.specs.declared.scalars.Scalar.{Scalar}
-use Rattle.vortex_statistics.specs.Cells.{Cell, cell_of}
+use Rattle.vortex_cells.specs.Cells.{Cell, cell_of}
 use Rattle.vortex_filter.specs.Formula.{lent_cell}
 use Rattle.vortex_filter.specs.Prefixes.{begins, begins_truth, cell_begins, cell_prefix_order, prefix_order, prefix_truth}
 

@@ -2,8 +2,8 @@
 use Rattle.std.proofs.Common.{◌≡◌, zero, suc, Bool, true, false, cond, List, [], ◌∷◌, ◌++◌, All, Contains, refl, sym, ap, ◌∙◌, arith}
 use Rattle.std.proofs.lemmas.List.Elements.{filter-append}
 use Rattle.std.specs.List.{filter, flat_map}
-use Rattle.vortex_statistics.specs.Cells.{cell_order}
-use Rattle.vortex_statistics.proofs.CellLaws.{IsOrder}
+use Rattle.vortex_cells.specs.Cells.{cell_order}
+use Rattle.vortex_cells.proofs.CellLaws.{IsOrder}
 use Rattle.vortex_filter.specs.declared.truth.Truth.{Truth}
 use Rattle.vortex_filter.specs.declared.truth.Truth.TheVariants.{False, Unknown, True}
 use Rattle.vortex_filter.specs.Formula.{is_match, truth}

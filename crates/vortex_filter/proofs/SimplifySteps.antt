@@ -1,9 +1,9 @@
 -- Steps of what is left of a filter.
 use Rattle.std.proofs.Common.{◌≡◌, ◌≤◌, ℕ, Bool, true, false, cond, ◌&&◌, ◌||◌, is_none, is_some, List, Option, Some, None, option_map, Result, Ok, Err, MatchOption, MatchResult, IfErr, IfOk, IsOkAnd, map, refl, sym, subst, ap, ap₂, ◌∙◌}
 use Rattle.std.proofs.lemmas.Bool.{false≢true}
-use Rattle.vortex_statistics.specs.Cells.{Cell, cell_order}
+use Rattle.vortex_cells.specs.Cells.{Cell, cell_order}
 use Rattle.vortex_statistics.specs.Statistics.{Known}
-use Rattle.vortex_statistics.proofs.CellLaws.{IsOrder}
+use Rattle.vortex_cells.proofs.CellLaws.{IsOrder}
 use Rattle.vortex_filter.specs.declared.error.FilterError.{FilterError}
 use Rattle.vortex_filter.specs.declared.error.FilterError.TheVariants.{OutOfMemory}
 use Rattle.vortex_filter.specs.declared.filter.Filter.{Filter, Constant}

@@ -1,9 +1,9 @@
 -- The outcomes of a formula cover its truth on each row of a zone.
 use Rattle.std.proofs.Common.{◌≡◌, ℕ, Bool, true, false, not, ◌&&◌, ◌||◌, cond, List, [], ◌∷◌, slice_get, fold, Option, Some, None, Ordering, Less, Equal, Greater, refl, sym, ap, ◌∙◌}
 use Rattle.std.proofs.lemmas.Bool.{false≢true}
-use Rattle.vortex_statistics.specs.Cells.{Cell, cell_order, is_null_cell}
+use Rattle.vortex_cells.specs.Cells.{Cell, cell_order, is_null_cell}
 use Rattle.vortex_statistics.specs.Statistics.{Known, may_be_null, may_be_value}
-use Rattle.vortex_statistics.proofs.CellLaws.{IsOrder}
+use Rattle.vortex_cells.proofs.CellLaws.{IsOrder}
 use Rattle.vortex_filter.specs.declared.operator.CompareOperator.{CompareOperator}
 use Rattle.vortex_filter.specs.declared.operator.CompareOperator.TheVariants.{Eq, Gte, Lte}
 use Rattle.vortex_filter.specs.declared.orders.Orders.{Orders}

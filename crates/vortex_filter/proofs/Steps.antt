@@ -1,7 +1,7 @@
 -- The formula of each kind of filter.
 use Rattle.std.proofs.Common.{◌≡◌, ℕ, Vec, Global, Box, map, rules}
 use Rattle.vortex_value.specs.declared.scalars.Scalar.{Scalar}
-use Rattle.vortex_statistics.specs.Cells.{cell_of}
+use Rattle.vortex_cells.specs.Cells.{cell_of}
 use Rattle.vortex_filter.specs.declared.filter.Filter.{Filter, Constant, Compare, IsNull, In, Between, StartsWith, And, Or, Not, the_lemmas}
 use Rattle.vortex_filter.specs.declared.operator.CompareOperator.{CompareOperator}
 use Rattle.vortex_filter.specs.declared.truth.Truth.{Truth}

@@ -5,7 +5,7 @@ use Rattle.std.specs.Str.{bytes_eq, is_utf8}
 use Rattle.std.proofs.lemmas.List.{append-nil, length-map}
 use Rattle.std.proofs.lemmas.Str.{IsUtf8-from_is_utf8, is_utf8-from_IsUtf8}
 use Rattle.vortex_dtype.specs.TypeTree.{TypeTree, utf8_type}
-use Rattle.vortex_statistics.specs.Cells.{Cell}
+use Rattle.vortex_cells.specs.Cells.{Cell}
 use Rattle.vortex_filter.specs.declared.sql.error.Expected.TheVariants as expects
 use Rattle.vortex_filter.specs.declared.sql.parse.fault.Cause.TheVariants as causes
 use Rattle.vortex_filter.specs.declared.sql.parse.fault.Fault.{Fault}

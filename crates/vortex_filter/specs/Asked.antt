@@ -1,6 +1,6 @@
 -- What a test asks of its column, as the code lends it.
 use Rattle.std.specs.Prelude.{[], ◌∷◌, map}
-use Rattle.vortex_statistics.specs.Cells.{cell_of}
+use Rattle.vortex_cells.specs.Cells.{cell_of}
 use Rattle.vortex_filter.specs.declared.check.Asked.{Asked}
 use Rattle.vortex_filter.specs.declared.check.Asked.TheVariants.{Nothing, Literal, Literals, Ends, Beginning}
 use Rattle.vortex_filter.specs.Checking.{Demand, beginning, comparing, nothing}

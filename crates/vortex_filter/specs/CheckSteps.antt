@@ -5,12 +5,12 @@ use Rattle.vortex_dtype.specs.Parts.{is_binary_type, is_utf8_type}
 use Rattle.vortex_dtype.specs.TypeTree.{TypeTree}
 use Rattle.vortex_value.specs.Equality.{same_type}
 use Rattle.vortex_value.specs.Size.{capped}
-use Rattle.vortex_statistics.specs.Cells.{Cell}
+use Rattle.vortex_cells.specs.Cells.{Cell}
 use Rattle.vortex_filter.specs.declared.error.FilterError.{FilterError}
 use Rattle.vortex_filter.specs.declared.error.FilterError.TheVariants.{OutOfMemory, NoColumn, HasVariant, TypesDiffer}
 use Rattle.vortex_filter.specs.Checking.{Demand, beginning, comparing, nothing, tests}
 use Rattle.vortex_filter.specs.Formula.{Formula, constant, comparison, null_test, membership, range, prefix_test, both, either, negation}
-use Rattle.vortex_row.specs.Variants.{has_variant}
+use Rattle.vortex_cells.specs.Variants.{has_variant}
 
 -- whether the type holds strings, or bytes
 abbrev pub holds_strings : TypeTree → Bool

@@ -4,7 +4,7 @@ use Rattle.std.specs.List.{AllByRecursion}
 use Rattle.vortex_dtype.specs.TypeTree.{TypeTree, Same, utf8_type, binary_type}
 use Rattle.vortex_value.specs.Size.{capped}
 use Rattle.vortex_value.specs.TypesWithin.{HasNoVariant}
-use Rattle.vortex_statistics.specs.Cells.{Cell}
+use Rattle.vortex_cells.specs.Cells.{Cell}
 use Rattle.vortex_filter.specs.declared.error.FilterError.{FilterError}
 use Rattle.vortex_filter.specs.declared.error.FilterError.TheVariants.{OutOfMemory, NoColumn, HasVariant, TypesDiffer}
 use Rattle.vortex_filter.specs.Formula.{Formula, constant, comparison, null_test, membership, range, prefix_test, both, either, negation}

@@ -8,7 +8,7 @@ use Rattle.vortex_pvalue.specs.Numbers.{in_range}
 use Rattle.vortex_value.specs.Casts.{CanCast}
 use Rattle.vortex_value.specs.Equality.{same_type}
 use Rattle.vortex_value.specs.Values.Content.{Content, whole}
-use Rattle.vortex_statistics.specs.Cells.{Cell}
+use Rattle.vortex_cells.specs.Cells.{Cell}
 use Rattle.vortex_filter.specs.declared.operator.CompareOperator.{CompareOperator}
 use Rattle.vortex_filter.specs.declared.operator.CompareOperator.TheVariants.{Gte, Lte}
 use Rattle.vortex_filter.specs.declared.truth.Truth.TheVariants.{Unknown}

@@ -1,6 +1,6 @@
 -- That the outcomes of a comparison, and of a test for a prefix, are no more than the statistics allow.
 use Rattle.std.specs.Prelude.{◌≡◌, ◌↔◌, Bool, true, false, IsTrue, List, Contains, Option, Some, IfSome, IsSome}
-use Rattle.vortex_statistics.specs.Cells.{Cell, IsUpTo, cell_order, is_null_cell, order_from_above}
+use Rattle.vortex_cells.specs.Cells.{Cell, IsUpTo, cell_order, is_null_cell, order_from_above}
 use Rattle.vortex_statistics.specs.Statistics.{AreRight, Known, KnownBound, may_be_null, may_be_value}
 use Rattle.vortex_filter.specs.declared.operator.CompareOperator.{CompareOperator}
 use Rattle.vortex_filter.specs.declared.operator.CompareOperator.TheVariants.{Eq, NotEq}

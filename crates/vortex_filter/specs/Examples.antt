@@ -5,7 +5,7 @@ use Rattle.vortex_dtype.specs.TypeTree.{binary_type, integer_type, utf8_type}
 use Rattle.vortex_dtype.specs.declared.nullability.Nullability.TheVariants.{NonNullable, Nullable}
 use Rattle.vortex_dtype.specs.declared.ptype.PType.TheVariants.{I32}
 use Rattle.vortex_value.specs.Values.Content.{null, string, text, whole}
-use Rattle.vortex_statistics.specs.Cells.{Cell}
+use Rattle.vortex_cells.specs.Cells.{Cell}
 use Rattle.vortex_statistics.specs.Statistics.{Known, KnownBound}
 use Rattle.vortex_filter.specs.declared.operator.CompareOperator.TheVariants.{Eq, NotEq, Gt, Gte, Lt, Lte}
 use Rattle.vortex_filter.specs.declared.outcomes.Outcomes.{Outcomes}

@@ -3,7 +3,7 @@ use Rattle.std.specs.Prelude.{◌≡◌, ◌⊎◌, ◌↔◌, ℕ, true, List, 
 use Rattle.vortex_dtype.specs.TypeTree.{TypeTree, binary_type, bool_type, integer_type, utf8_type}
 use Rattle.vortex_value.specs.Laws.HasContent.{HasContent}
 use Rattle.vortex_value.specs.Order.{order}
-use Rattle.vortex_statistics.specs.Cells.{Cell, is_null_cell}
+use Rattle.vortex_cells.specs.Cells.{Cell, is_null_cell}
 use Rattle.vortex_filter.specs.declared.operator.CompareOperator.{CompareOperator}
 use Rattle.vortex_filter.specs.declared.truth.Truth.TheVariants.{Unknown}
 use Rattle.vortex_filter.specs.Checking.{FitsColumns}

@@ -4,7 +4,7 @@ use Rattle.std.specs.Borrow.{Bor}
 use Rattle.std.specs.Option.{option_copied}
 use Rattle.std.specs.declared.cmp.Ordering.{Ordering}
 use Rattle.vortex_value.specs.declared.scalars.Scalar.{Scalar}
-use Rattle.vortex_statistics.specs.Cells.{Cell, cell_of, cell_or_null, cell_order, is_null_cell}
+use Rattle.vortex_cells.specs.Cells.{Cell, cell_of, cell_or_null, cell_order, is_null_cell}
 use Rattle.vortex_filter.specs.declared.filter.Filter.{Filter, fold-Filter}
 use Rattle.vortex_filter.specs.declared.filter.Filter.TheOpen.{Filter-F}
 use Rattle.vortex_filter.specs.declared.operator.CompareOperator.{CompareOperator}

@@ -4,7 +4,7 @@ use Rattle.std.specs.Ordering.{is_some_and, is_ge, is_gt}
 use Rattle.std.specs.declared.cmp.Ordering.{Ordering}
 use Rattle.std.specs.declared.cmp.Ordering.TheVariants.{Less, Equal, Greater}
 use Rattle.vortex_value.specs.Values.Content.{Content, truth, whole, text, string}
-use Rattle.vortex_statistics.specs.Cells.{Cell, cell_order, order_from_above}
+use Rattle.vortex_cells.specs.Cells.{Cell, cell_order, order_from_above}
 use Rattle.vortex_statistics.specs.Statistics.{Known, KnownBound}
 use Rattle.vortex_filter.specs.declared.operator.CompareOperator.{CompareOperator}
 use Rattle.vortex_filter.specs.declared.orders.Orders.{Orders}

@@ -3,7 +3,7 @@ use Rattle.std.specs.Prelude.{Bool, true, false, ◌&&◌, ◌||◌, not, List, 
 use Rattle.std.specs.Ordering.{is_some_and, is_eq, is_gt, is_lt}
 use Rattle.std.specs.declared.cmp.Ordering.{Ordering}
 use Rattle.vortex_value.specs.Values.Content.{Content, text, string}
-use Rattle.vortex_statistics.specs.Cells.{Cell, is_null_cell}
+use Rattle.vortex_cells.specs.Cells.{Cell, is_null_cell}
 use Rattle.vortex_statistics.specs.Statistics.{Known, KnownBound, may_be_null, may_be_value}
 use Rattle.vortex_filter.specs.declared.operator.CompareOperator.{CompareOperator}
 use Rattle.vortex_filter.specs.declared.operator.CompareOperator.TheVariants.{Eq, Gte, Lte}

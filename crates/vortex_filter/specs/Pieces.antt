@@ -1,7 +1,7 @@
 -- The texts of the parts of a filter, as they are printed one behind the other.
 use Rattle.std.specs.Prelude.{◌++◌, ℕ, ◌==◌, Bool, true, false, List, [], ◌∷◌, map, codes, encode_utf8, if◌then◌else◌}
 use Rattle.std.specs.List.{list_any}
-use Rattle.vortex_statistics.specs.Cells.{Cell}
+use Rattle.vortex_cells.specs.Cells.{Cell}
 use Rattle.vortex_value.specs.Texts.{joined}
 use Rattle.vortex_value.specs.Values.Content.{Content, text}
 use Rattle.vortex_filter.specs.declared.operator.CompareOperator.{CompareOperator}

@@ -4,7 +4,7 @@ use Rattle.std.specs.Fmt.{decimal}
 use Rattle.std.specs.List.{flat_map, list_any}
 use Rattle.std.specs.Option.{unwrap_or}
 use Rattle.std.specs.String.{string_bytes}
-use Rattle.vortex_statistics.specs.Cells.{Cell}
+use Rattle.vortex_cells.specs.Cells.{Cell}
 use Rattle.vortex_value.specs.Values.Content.{Content, null, truth, whole, text, string}
 use Rattle.vortex_filter.specs.declared.column.Column.{Column}
 use Rattle.vortex_filter.specs.declared.operator.CompareOperator.{CompareOperator}

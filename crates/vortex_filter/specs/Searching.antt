@@ -1,7 +1,7 @@
 -- What a search finds that skips zones and takes whole ones.
 use Rattle.std.specs.Prelude.{◌≡◌, List, [], if◌then◌else◌}
 use Rattle.std.specs.List.{All, filter, flat_map}
-use Rattle.vortex_statistics.specs.Cells.{Cell}
+use Rattle.vortex_cells.specs.Cells.{Cell}
 use Rattle.vortex_statistics.specs.Statistics.{Known}
 use Rattle.vortex_filter.specs.Formula.{Formula, is_match}
 use Rattle.vortex_filter.specs.OutcomeSets.{is_only_true}

@@ -5,7 +5,7 @@ use Rattle.hex.specs.Hex.{decode_pairs, encode_with}
 use Rattle.vortex_dtype.specs.TypeTree.{integer_type, null_type}
 use Rattle.vortex_dtype.specs.declared.nullability.Nullability.TheVariants.{Nullable}
 use Rattle.vortex_dtype.specs.declared.ptype.PType.TheVariants.{I32}
-use Rattle.vortex_statistics.specs.Cells.{Cell}
+use Rattle.vortex_cells.specs.Cells.{Cell}
 use Rattle.vortex_value.specs.Values.Content.{Content, null, whole, text, string}
 use Rattle.vortex_filter.specs.declared.operator.CompareOperator.TheVariants.{NotEq, Gte, Lt, Eq}
 use Rattle.vortex_filter.specs.declared.sql.lex.Fault.TheVariants.{BadText, NumberTooLong}

@@ -36,7 +36,7 @@ pub use Rattle.vortex_filter.specs.Truths.{truth_and, truth_not, truth_of, truth
 pub use Rattle.vortex_filter.specs.declared.error.FilterError.TheVariants.{OutOfMemory}
 pub use Rattle.vortex_filter.specs.declared.truth.Truth.TheVariants.{True}
 pub use Rattle.vortex_pvalue.specs.Numbers.{in_range}
-pub use Rattle.vortex_statistics.specs.Cells.{Cell, cell_of, cell_order, is_null_cell, order_from_above}
+pub use Rattle.vortex_cells.specs.Cells.{Cell, cell_of, cell_order, is_null_cell, order_from_above}
 pub use Rattle.vortex_statistics.specs.Statistics.{known, known_bound}
 pub use Rattle.vortex_value.specs.Equality.{same_type}
 pub use Rattle.vortex_value.specs.Size.{capped}

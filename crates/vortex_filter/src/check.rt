@@ -5,8 +5,8 @@ ghost use Rattle.vortex_filter.specs.Words.{FitsColumns, IsOfType, RefusesFirst,
 
 use crate::error::FilterError;
 use crate::filter::Filter;
+use vortex_cells::has_variant;
 use vortex_dtype::DType;
-use vortex_row::has_variant;
 use vortex_value::Scalar;
 
 impl Filter {

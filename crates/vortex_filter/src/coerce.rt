@@ -17,10 +17,10 @@ use crate::operator::CompareOperator;
 use crate::truth::Truth;
 use std::alloc::Global;
 use std::cmp::Ordering;
+use vortex_cells::has_variant;
 use vortex_dtype::laws::nullable_is_the_same;
 use vortex_dtype::{DType, PType, VortexError};
 use vortex_pvalue::PValue;
-use vortex_row::has_variant;
 use vortex_value::{Scalar, ScalarValue};
 
 impl Filter {

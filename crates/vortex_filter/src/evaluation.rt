@@ -7,7 +7,7 @@ use crate::filter::Filter;
 use crate::operator::CompareOperator;
 use crate::prefix::truth_of_prefix;
 use crate::truth::Truth;
-use vortex_statistics::compare_scalars;
+use vortex_cells::compare_scalars;
 use vortex_value::Scalar;
 
 impl Filter {

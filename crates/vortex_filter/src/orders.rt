@@ -5,7 +5,8 @@ ghost use Rattle.vortex_filter.specs.Words.{bound_order, cell_of, cell_order, is
 
 use crate::operator::CompareOperator;
 use std::cmp::Ordering;
-use vortex_statistics::{Bound, ColumnStatistics, compare_scalars};
+use vortex_cells::compare_scalars;
+use vortex_statistics::{Bound, ColumnStatistics};
 use vortex_value::{Scalar, ScalarValue};
 
 /// How a value of a zone can stand to a literal.

@@ -15,7 +15,7 @@ use Rattle.vortex_row.specs.Held.{AreBytes}
 use Rattle.vortex_row.specs.Keys.{inverted, key}
 use Rattle.vortex_row.specs.ColumnReading.{HasColumn, IsColumnKey, IsRefusal}
 use Rattle.vortex_row.specs.Reading.{AllHaveValues, BeginAlike, HasRead, HasValues, IsInverted, IsKey, IsPlain, IsPresent, IsStuck}
-use Rattle.vortex_row.specs.Variants.{HasByteIds, HaveByteIds}
+use Rattle.vortex_cells.specs.Variants.{HasByteIds, HaveByteIds}
 use Rattle.vortex_row.specs.declared.error.RowError.{RowError}
 use Rattle.vortex_row.specs.declared.error.RowError.TheVariants.{BadKey, OutOfMemory}
 use Rattle.vortex_row.specs.declared.options.SortOptions.{SortOptions}

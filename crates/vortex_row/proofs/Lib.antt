@@ -28,4 +28,3 @@ pub mod StuckLaws
 pub mod TextLaws
 pub mod TextSteps
 pub mod ValueSteps
-pub mod VariantSteps

@@ -18,7 +18,7 @@ use Rattle.vortex_row.specs.Columns.{key_with, row_key}
 use Rattle.vortex_row.specs.Decoded.{AreMadeOf, AreOfTypes, AreValuesOf, BeginsWithRow, DecodesRowTo, IsDecodedRow, IsFirstBad, IsRowKeyOf, values_key}
 use Rattle.vortex_row.specs.ColumnReading.{AreColumnKeys, ArePlainOf, AreScalars, HasColumn, HasColumnAt, HasRow, IsColumnKey, IsRefusal, IsRefusalAt, scalars_key}
 use Rattle.vortex_row.specs.Reading.{AllHaveValues, ContinueWith, HasValues, IsPlain, IsStuck}
-use Rattle.vortex_row.specs.Variants.{HaveByteIds}
+use Rattle.vortex_cells.specs.Variants.{HaveByteIds}
 use Rattle.vortex_row.specs.declared.error.RowError.{RowError}
 use Rattle.vortex_row.specs.declared.error.RowError.TheVariants.{BadKey, OutOfMemory}
 use Rattle.vortex_row.specs.declared.options.SortOptions.{SortOptions}

@@ -29,7 +29,7 @@ use Rattle.vortex_row.specs.declared.reader.Fault.TheVariants.{Bad, NoMemory}
 use Rattle.vortex_row.proofs.OrderLaws.{begins}
 use Rattle.vortex_row.proofs.PartSteps.{Opens, SameValues, SoFar, Takes, TupleOf, continue-child, null-read, opens-none, opens-stuck, present-read, present-stuck, reads-as, refused, so-far-end, so-far-more, so-far-none, so-far-open, so-far-stuck, some-key, some-keys, some_sized, some_value, some_values, stuck-as, tagged-opens, takes-field, tuple-opens, tuple-read}
 use Rattle.vortex_row.proofs.StuckLaws.{Some, stuck-here, stuck-later, stuck-same}
-use Rattle.vortex_row.proofs.VariantSteps.{type_size_item}
+use Rattle.vortex_cells.proofs.VariantSteps.{type_size_item}
 use Rattle.vortex_row.proofs.ReaderSteps.{none-left}
 
 pub ruleset by_place = (type_with-position)

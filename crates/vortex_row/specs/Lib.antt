@@ -15,5 +15,4 @@ pub mod Reading
 pub mod Slots
 pub mod Steps
 pub mod Strings
-pub mod Variants
 pub mod Words

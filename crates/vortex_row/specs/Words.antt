@@ -18,6 +18,7 @@ pub use Rattle.vortex_value.specs.Values.RawOf.{lent_raw, raw_of, union_tree, va
 pub use Rattle.vortex_value.specs.Values.RawTree.{RawTree, absent, raw_integer, raw_union}
 pub use Rattle.vortex_value.specs.Values.Refs.{ref_content, ref_type}
 pub use Rattle.vortex_value.specs.Values.Scalars.{IsMadeOf, scalar_raw, scalar_type}
+pub use Rattle.vortex_cells.specs.Variants.{has_variant, have_variant}
 pub use Rattle.vortex_row.specs.Bytes.{inverted_again, inverted_byte}
 pub use Rattle.vortex_row.specs.Columns.{key_with, null_byte, row_key}
 pub use Rattle.vortex_row.specs.Encoders.{encoder_options, encoder_types}
@@ -27,5 +28,4 @@ pub use Rattle.vortex_row.specs.Laws.{CastsKeepKeys, KeysAreApart, KeysAreOrdere
 pub use Rattle.vortex_row.specs.Plain.{plain_content}
 pub use Rattle.vortex_row.specs.Slots.{HasSlot, Writes}
 pub use Rattle.vortex_row.specs.Steps.{Appends, HasRoom, inverted_word, keys_length, side_byte, side_key}
-pub use Rattle.vortex_row.specs.Variants.{has_variant, have_variant}
 pub use Rattle.vortex_row.specs.declared.error.RowError.TheVariants.{BadKey, HasVariant, OutOfMemory, WrongLength}

@@ -23,4 +23,3 @@ pub use options::SortOptions;
 pub use plain::{PlainValue, append_plain_key, plain_key_length};
 pub use rows::{RowEncoder, append_row_key};
 pub use slots::write_plain_key;
-pub use variants::has_variant;

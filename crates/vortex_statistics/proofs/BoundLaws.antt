@@ -3,10 +3,10 @@ use Rattle.std.proofs.Common.{◌≡◌, ◌⊎◌, inl, inr, ℕ, zero, suc, �
 use Rattle.std.proofs.lemmas.Bool.{false≢true}
 use Rattle.std.proofs.lemmas.List.Elements.{Contains-append_cases, Contains-append_left, Contains-append_right}
 use Rattle.std.specs.Option.{option_or}
-use Rattle.vortex_statistics.specs.Cells.{Cell, HasValue, IsUpTo, is_null_cell}
+use Rattle.vortex_cells.specs.Cells.{Cell, HasValue, IsUpTo, is_null_cell}
 use Rattle.vortex_statistics.specs.Merging.{bound_of_both, bound_order, outer_by}
 use Rattle.vortex_statistics.specs.Statistics.{IsBound, KnownBound}
-use Rattle.vortex_statistics.proofs.CellLaws.{IsOrder, compare_through, equal_equal, turned, up_up}
+use Rattle.vortex_cells.proofs.CellLaws.{IsOrder, compare_through, equal_equal, turned, up_up}
 
 -- ---- values of both pieces
 

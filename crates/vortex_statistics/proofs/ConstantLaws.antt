@@ -11,14 +11,14 @@ use Rattle.vortex_value.specs.Values.Refs.{IsRefOf, ref_raw, ref_type}
 use Rattle.vortex_value.specs.Values.Scalars.{scalar_raw, scalar_type}
 use Rattle.vortex_value.specs.declared.refs.ScalarRef.{ScalarRef}
 use Rattle.vortex_value.specs.declared.scalars.Scalar.{Scalar}
-use Rattle.vortex_statistics.specs.Cells.{Cell, HasValue, cell_of, cell_of_ref, cell_order, is_null_cell, is_null_content, order_from_above}
+use Rattle.vortex_cells.specs.Cells.{Cell, HasValue, cell_of, cell_of_ref, cell_order, is_null_cell, is_null_content, order_from_above}
 use Rattle.vortex_statistics.specs.Changes.{after, replacing}
 use Rattle.vortex_statistics.specs.Observing.{IsFlatValue, MayTakeMemory, RefusesCell, SomeMayTakeMemory, becomes_bound, bound_at}
 use Rattle.vortex_statistics.specs.declared.error.StatisticsError.{StatisticsError}
 use Rattle.vortex_statistics.specs.declared.error.StatisticsError.TheVariants.{OutOfMemory}
 use Rattle.vortex_statistics.specs.declared.observing.Change.{Change}
 use Rattle.vortex_statistics.specs.Statistics.{AreComplete, AreRight, IsBound, Known, KnownBound}
-use Rattle.vortex_statistics.proofs.CellLaws.{IsOrder, equal_itself, from_above, from_below}
+use Rattle.vortex_cells.proofs.CellLaws.{IsOrder, equal_itself, from_above, from_below, ref_cell}
 use Rattle.vortex_statistics.proofs.ObserveSteps.{made_after, null_content}
 
 in_replicate : (n : ℕ) (x y : Cell) → HasValue (replicate n x) y → x ≡ y
@@ -100,18 +100,6 @@ constant_step rev trans n x v change rows nulls lower upper e f some r k m l u =
 -- what it makes of a null that repeats
 pub null_constant_step : (n : ℕ) (x : Cell) (v : RawTree) → is_absent v ≡ true → x.content ≡ content v → AreComplete (record { row_count = n; null_count = Some n; lower = None; upper = None }) (replicate n x)
 null_constant_step n x v e f = constant_null n x (ap is_null_content f ∙ null_content v ∙ e)
-
--- one value more
-pub cells_more : (xs : List Scalar) (i : ℕ) (x : Scalar) → i < length xs → x ≡ get_or xs i x → map cell_of (take (i + 1) xs) ≡ map cell_of (take i xs) ++ cell_of x ∷ []
-cells_more xs i x h e =
-    ap (map cell_of) (take_more xs i x h ∙ ap (λ y. take i xs ++ (y ∷ [])) (sym e)) ∙ map-append cell_of (take i xs) (x ∷ [])
-
--- a borrowed scalar is the cell that the scalar is
-pub ref_cell : (x : Scalar) (r : ScalarRef) → IsRefOf (scalar_type x) (scalar_raw x) r → cell_of_ref r ≡ cell_of x
-ref_cell x r made =
-    let typed_as : TypeTree → Cell = λ t. record { typed = t; content = content (ref_raw r) } in
-    let held_as : RawTree → Cell = λ v. record { typed = scalar_type x; content = content v } in
-    ap typed_as made.typed ∙ ap held_as made.value
 
 -- ---- why a value is refused
 

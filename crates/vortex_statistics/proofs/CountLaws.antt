@@ -2,7 +2,7 @@
 use Rattle.std.proofs.Common.{◌≡◌, ℕ, suc, ◌+◌, ◌<◌, ◌≤◌, ◌^◌, Bool, true, false, cond, nat_lt, List, [], ◌∷◌, ◌++◌, length, count_by, Contains, get_or, zero, Option, Some, None, IfSome, IsSome, is_some, refl, sym, ap, ◌∙◌, arith}
 use Rattle.std.proofs.lemmas.Bool.{false≢true, lt-ltb, ltb-false, ltb-true}
 use Rattle.std.proofs.lemmas.List.Sums.{count_by-le-length, sum_by-append, sum_by-cons}
-use Rattle.vortex_statistics.specs.Cells.{Cell, HasValue, is_null_cell}
+use Rattle.vortex_cells.specs.Cells.{Cell, HasValue, is_null_cell}
 use Rattle.vortex_statistics.specs.Merging.{sum_of}
 use Rattle.vortex_statistics.specs.Statistics.{AreRight, Known, LeaveNoNull, LeaveNoValue, may_be_null, may_be_value, some_null, some_value}
 

@@ -1,7 +1,7 @@
 -- What the code answers for a bound that is a string, or bytes.
 use Rattle.std.proofs.Common.{◌≡◌, ℕ, ◌<◌, ◌≤◌, Bool, true, false, not, ◌&&◌, nat_lt, List, Option, Some, None, Result, Ok, Err, IsOk, MatchOption, refl, sym, ap, subst, ◌∙◌}
 use Rattle.std.proofs.lemmas.Bool.{false≢true, ltb-false, ltb-true}
-use Rattle.vortex_array.specs.Truncation.{IsLowerAnswer, IsLowerOf, IsTypeOfKind, IsUpperAnswer, IsUpperOf}
+use Rattle.vortex_bounds.specs.Truncation.{IsLowerAnswer, IsLowerOf, IsTypeOfKind, IsUpperAnswer, IsUpperOf}
 use Rattle.vortex_dtype.specs.TypeTree.{TypeTree, nullability_of}
 use Rattle.vortex_dtype.specs.declared.error.VortexError.{VortexError}
 use Rattle.vortex_dtype.specs.declared.nullability.Nullability.{Nullability}

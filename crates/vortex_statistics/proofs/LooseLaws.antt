@@ -1,10 +1,10 @@
 -- Looser bounds are right.
 use Rattle.std.proofs.Common.{List, Option, Some, None, IfSome, Ordering}
 use Rattle.vortex_value.specs.Order.{IsReversed, IsTransitive, order}
-use Rattle.vortex_statistics.specs.Cells.{Cell, cell_order, order_from_above}
+use Rattle.vortex_cells.specs.Cells.{Cell, cell_order, order_from_above}
 use Rattle.vortex_statistics.specs.Loosening.{IsLooser, LooserBoundsAreRight}
 use Rattle.vortex_statistics.specs.Statistics.{IsBound, KnownBound}
-use Rattle.vortex_statistics.proofs.CellLaws.{IsOrder, equal_equal, from_above, from_below, up_up}
+use Rattle.vortex_cells.proofs.CellLaws.{IsOrder, equal_equal, from_above, from_below, up_up}
 
 pub looser_bound : (cmp : Cell → Cell → Option Ordering) (law : IsOrder cmp) (b before : Option KnownBound) (cells : List Cell)
     → IsLooser cmp b before → IfSome before (λ c. IsBound cmp c cells) → IfSome b (λ c. IsBound cmp c cells)

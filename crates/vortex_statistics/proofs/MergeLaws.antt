@@ -2,11 +2,11 @@
 use Rattle.std.proofs.Common.{◌≡◌, inl, inr, ◌+◌, ◌<◌, ◌^◌, Bool, true, false, List, [], ◌∷◌, ◌++◌, is_some, refl, sym, subst, fold, append_assoc, arith, length-append}
 use Rattle.std.proofs.lemmas.List.{append-nil}
 use Rattle.vortex_value.specs.Order.{IsReversed, IsTransitive, order}
-use Rattle.vortex_statistics.specs.Cells.{AllCompare, Cell, cell_order, order_from_above}
+use Rattle.vortex_cells.specs.Cells.{AllCompare, Cell, cell_order, order_from_above}
 use Rattle.vortex_statistics.specs.Merging.{AnyGroupingIsRight, AreEachRight, AreRightForAll, AreRightTogether, bound_of_both, bound_order, both, joined_cells, merged, no_piece, nothing, piece}
 use Rattle.vortex_statistics.specs.Statistics.{AreComplete, AreRight, HasExactBounds, IsBoundedFor, Known, may_be_value}
 use Rattle.vortex_statistics.proofs.BoundLaws.{both_bound, both_exact, both_there, value_cases, value_left, value_right}
-use Rattle.vortex_statistics.proofs.CellLaws.{IsOrder, from_above, from_below}
+use Rattle.vortex_cells.proofs.CellLaws.{IsOrder, from_above, from_below}
 use Rattle.vortex_statistics.proofs.CountLaws.{no_value, sum_fits, sum_right, value_there}
 
 module _ (rev : IsReversed order) (trans : IsTransitive order) where

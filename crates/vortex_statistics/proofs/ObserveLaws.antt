@@ -3,11 +3,11 @@ use Rattle.std.proofs.Common.{◌≡◌, inl, inr, ℕ, ◌+◌, ◌<◌, ◌^�
 use Rattle.std.proofs.lemmas.Bool.{false≢true}
 use Rattle.std.specs.Ordering.{is_gt, is_some_and}
 use Rattle.vortex_value.specs.Order.{IsReversed, IsTransitive, order}
-use Rattle.vortex_statistics.specs.Cells.{AllCompare, Cell, HasValue, IsUpTo, cell_order, is_null_cell, order_from_above}
+use Rattle.vortex_cells.specs.Cells.{AllCompare, Cell, HasValue, IsUpTo, cell_order, is_null_cell, order_from_above}
 use Rattle.vortex_statistics.specs.Observing.{bound_after, bound_at, bound_with, is_below_some, is_exact_bound, is_new_bound, observed, with_null, with_value}
 use Rattle.vortex_statistics.specs.Statistics.{AreComplete, AreRight, IsBound, Known, KnownBound, may_be_value}
 use Rattle.vortex_statistics.proofs.BoundLaws.{HasNone, IsExactIfThere, bound_left, bound_right, holds_value, kept, only_value, value_cases, value_left, value_right}
-use Rattle.vortex_statistics.proofs.CellLaws.{IsOrder, below_up, compare_through, equal_itself, from_above, from_below, turned, up_up}
+use Rattle.vortex_cells.proofs.CellLaws.{IsOrder, below_up, compare_through, equal_itself, from_above, from_below, turned, up_up}
 use Rattle.vortex_statistics.proofs.CountLaws.{count-append, count-one, no_value, sum_fits, sum_right, value_there}
 
 and_first : (p q : Bool) → (p && q) ≡ true → p ≡ true

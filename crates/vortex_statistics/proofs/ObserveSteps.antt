@@ -4,7 +4,7 @@ use Rattle.std.proofs.lemmas.Bool.{false≢true}
 use Rattle.std.specs.Ordering.{is_gt, is_some_and}
 use Rattle.vortex_value.specs.Values.Content.{content}
 use Rattle.vortex_value.specs.Values.RawTree.{RawTree, absent, is_absent}
-use Rattle.vortex_statistics.specs.Cells.{Cell, cell_order, is_null_cell, is_null_content, order_from_above}
+use Rattle.vortex_cells.specs.Cells.{Cell, cell_order, is_null_cell, is_null_content, order_from_above}
 use Rattle.vortex_statistics.specs.Changes.{after, change_by, change_of, leaves_upper, lower_change, replaces, replacing, upper_change}
 use Rattle.vortex_statistics.specs.Merging.{sum_of}
 use Rattle.vortex_statistics.specs.Observing.{becomes_bound, bound_after, bound_at, bound_with, is_below_some, is_new_bound, observed, with_null, with_value}

@@ -1,9 +1,9 @@
 -- Which bounds are long, and that truncated ones are not.
 use Rattle.std.proofs.Common.{◌≡◌, ℕ, ◌<◌, ◌≤◌, Bool, true, false, nat_lt, List, length, Option, Some, None, refl, sym, ap, subst, ◌∙◌, arith}
 use Rattle.std.proofs.lemmas.Bool.{ltb-false, ltb-true}
-use Rattle.vortex_array.specs.Strings.{IsLower, IsUpper}
-use Rattle.vortex_array.specs.Texts.{IsTextLower, IsTextUpper}
-use Rattle.vortex_array.specs.Truncation.{IsBoundOf}
+use Rattle.vortex_bounds.specs.Strings.{IsLower, IsUpper}
+use Rattle.vortex_bounds.specs.Texts.{IsTextLower, IsTextUpper}
+use Rattle.vortex_bounds.specs.Truncation.{IsBoundOf}
 use Rattle.vortex_dtype.specs.TypeTree.{TypeTree, binary_type, utf8_type}
 use Rattle.vortex_value.specs.Values.RawTree.{RawTree, raw_bytes, raw_text}
 use Rattle.vortex_value.specs.Values.Scalars.{scalar_raw, scalar_type}

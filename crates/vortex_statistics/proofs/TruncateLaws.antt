@@ -1,16 +1,16 @@
 -- Truncated bounds: what they are by the kind of the bound, and that they are right.
 use Rattle.std.proofs.Common.{◌≡◌, inl, inr, ℕ, ◌<◌, ◌≤◌, Bool, true, false, not, ◌&&◌, IsTrue, if◌then◌else◌, List, length, count_by, Option, Some, None, IfSome, MatchOption, is_some, Ordering, Equal, option_map, refl, sym, ap, subst, ◌∙◌, arith}
 use Rattle.std.proofs.lemmas.Bool.{false≢true}
-use Rattle.vortex_array.specs.Strings.{HasNoUpper, IsLower, IsUpper}
-use Rattle.vortex_array.specs.Texts.{HasNoTextUpper, IsTextLower, IsTextUpper}
-use Rattle.vortex_array.specs.Truncation.{IsBoundOf, IsLowerOf, IsTypeOfKind, IsUpperOf, MayHold}
+use Rattle.vortex_bounds.specs.Strings.{HasNoUpper, IsLower, IsUpper}
+use Rattle.vortex_bounds.specs.Texts.{HasNoTextUpper, IsTextLower, IsTextUpper}
+use Rattle.vortex_bounds.specs.Truncation.{IsBoundOf, IsLowerOf, IsTypeOfKind, IsUpperOf, MayHold}
 use Rattle.vortex_dtype.specs.Parts.{is_binary_type, is_utf8_type}
 use Rattle.vortex_dtype.specs.TypeTree.{TypeTree, binary_type, erase, utf8_type}
 use Rattle.vortex_value.specs.Order.{IsReversed, IsTransitive, order}
 use Rattle.vortex_value.specs.Values.Content.{content}
 use Rattle.vortex_value.specs.Values.RawTree.{RawTree, is_absent, raw_bytes, raw_text}
 use Rattle.vortex_value.specs.Values.Scalars.{scalar_raw, scalar_type}
-use Rattle.vortex_statistics.specs.Cells.{Cell, cell_of, cell_order, is_null_cell, order_from_above}
+use Rattle.vortex_cells.specs.Cells.{Cell, cell_of, cell_order, is_null_cell, order_from_above}
 use Rattle.vortex_statistics.specs.Kinds.{IsCutAt, IsTruncated, kind_of}
 use Rattle.vortex_statistics.specs.Statistics.{AreRight, IsBound, known, known_bound}
 use Rattle.vortex_statistics.specs.Truncating.{AreTruncated, IsCut, IsCutLower, IsCutUpper, IsTruncatedLower, IsTruncatedUpper, LowerAt, UpperAt}
@@ -19,7 +19,7 @@ use Rattle.vortex_statistics.specs.declared.column_statistics.ColumnStatistics.{
 use Rattle.vortex_statistics.specs.declared.truncating.Kind.TheVariants.{Bytes, Text, Whole}
 use Rattle.vortex_statistics.specs.declared.truncating.Side.{Side}
 use Rattle.vortex_statistics.specs.declared.truncating.Side.TheVariants.{Lower, Upper}
-use Rattle.vortex_statistics.proofs.CellLaws.{IsOrder, equal_itself, from_above, from_below}
+use Rattle.vortex_cells.proofs.CellLaws.{IsOrder, equal_itself, from_above, from_below}
 use Rattle.vortex_statistics.proofs.LooseLaws.{looser_bound}
 
 -- ---- kinds

@@ -2,7 +2,7 @@
 use Rattle.std.specs.Prelude.{Bool, true, false, Option, Some, None, is_some, option_map, if◌then◌else◌}
 use Rattle.std.specs.declared.cmp.Ordering.{Ordering}
 use Rattle.std.specs.declared.cmp.Ordering.TheVariants.{Less, Equal, Greater}
-use Rattle.vortex_statistics.specs.Cells.{Cell, cell_order, order_from_above}
+use Rattle.vortex_cells.specs.Cells.{Cell, cell_order, order_from_above}
 use Rattle.vortex_statistics.specs.Statistics.{Known, KnownBound, may_be_value}
 use Rattle.vortex_statistics.specs.declared.observing.Change.{Change}
 use Rattle.vortex_statistics.specs.declared.observing.Change.TheVariants.{Keep, Confirm, Replace, Remove}

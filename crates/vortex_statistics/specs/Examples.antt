@@ -1,12 +1,10 @@
 -- Worked cases of the definitions, each a theorem.
-use Rattle.std.specs.Prelude.{◌≡◌, ℕ, pos, true, false, List, [], ◌∷◌, Option, Some, None, refl}
+use Rattle.std.specs.Prelude.{◌≡◌, ℕ, pos, true, false, [], Option, Some, None, refl}
 use Rattle.vortex_dtype.specs.TypeTree.{integer_type, union_type, no_types, utf8_type, variant_type, bool_type}
 use Rattle.vortex_dtype.specs.declared.nullability.Nullability.TheVariants.{NonNullable, Nullable}
 use Rattle.vortex_dtype.specs.declared.ptype.PType.TheVariants.{I32}
 use Rattle.vortex_value.specs.Values.Content.{null, tagged, text, truth, typed, whole}
-use Rattle.vortex_statistics.specs.Cells.{Cell, cell_or_null, is_null_cell}
-use Rattle.vortex_statistics.specs.Form.{flags, form}
-use Rattle.vortex_statistics.specs.FormAnswers.{retyped}
+use Rattle.vortex_cells.specs.Cells.{Cell, cell_or_null, is_null_cell}
 use Rattle.vortex_statistics.specs.Merging.{merged, nothing}
 use Rattle.vortex_statistics.specs.Observing.{becomes_bound, observed}
 use Rattle.vortex_statistics.specs.Statistics.{Known, KnownBound, may_be_null, may_be_value}
@@ -97,34 +95,3 @@ unknown_nulls = refl
 
 only_nulls : may_be_value two_nulls ≡ false
 only_nulls = refl
-
--- ---- forms
-
-no_rows_written : form nothing ≡ 1 ∷ 1 ∷ 0 ∷ 0 ∷ 0 ∷ 0 ∷ 0 ∷ 0 ∷ 0 ∷ 0 ∷ 0 ∷ 0 ∷ 0 ∷ 0 ∷ 0 ∷ 0 ∷ 0 ∷ 0 ∷ []
-no_rows_written = refl
-
--- 2, null and 5
-abbrev exactly_two_to_five : Known
-exactly_two_to_five = record { row_count = 3; null_count = Some 1; lower = exactly (number 2); upper = exactly (number 5) }
-
-two_to_five_written : form exactly_two_to_five ≡ 1 ∷ 31 ∷ 0 ∷ 0 ∷ 0 ∷ 0 ∷ 0 ∷ 0 ∷ 0 ∷ 3 ∷ 0 ∷ 0 ∷ 0 ∷ 0 ∷ 0 ∷ 0 ∷ 0 ∷ 1 ∷ 13 ∷ 2 ∷ 13 ∷ 5 ∷ []
-two_to_five_written = refl
-
--- bounds of one type and of another have one form
-other_type_written : form (record exactly_two_to_five { upper = exactly (retyped (utf8_type NonNullable) (number 5)) }) ≡ form exactly_two_to_five
-other_type_written = refl
-
--- "apple" and "banana", their bounds cut to three bytes: "app" and "bao"
-abbrev text_cell : List ℕ → Cell
-text_cell bs = record { typed = utf8_type NonNullable; content = text bs }
-
-cut_strings_written : form (record { row_count = 2; null_count = Some 0; lower = roughly (text_cell (97 ∷ 112 ∷ 112 ∷ [])); upper = roughly (text_cell (98 ∷ 97 ∷ 111 ∷ [])) })
-    ≡ 1 ∷ 11 ∷ 0 ∷ 0 ∷ 0 ∷ 0 ∷ 0 ∷ 0 ∷ 0 ∷ 2 ∷ 0 ∷ 0 ∷ 0 ∷ 0 ∷ 0 ∷ 0 ∷ 0 ∷ 0 ∷ 21 ∷ 97 ∷ 112 ∷ 112 ∷ 0 ∷ 21 ∷ 98 ∷ 97 ∷ 111 ∷ 0 ∷ []
-cut_strings_written = refl
-
--- unknown counts and missing bounds take no bytes
-unbounded_written : form (record { row_count = 256; null_count = None; lower = None; upper = None }) ≡ 1 ∷ 0 ∷ 0 ∷ 0 ∷ 0 ∷ 0 ∷ 0 ∷ 0 ∷ 1 ∷ 0 ∷ []
-unbounded_written = refl
-
-one_bound_of_two : flags from_one_to_four ≡ 26
-one_bound_of_two = refl

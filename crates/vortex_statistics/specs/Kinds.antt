@@ -1,6 +1,6 @@
 -- As what a bound is cut, and on which side, as the code finds it.
 use Rattle.std.specs.Prelude.{ℕ, Bool, List, Option, Result, if◌then◌else◌}
-use Rattle.vortex_array.specs.Truncation.{IsLowerAnswer, IsUpperAnswer}
+use Rattle.vortex_bounds.specs.Truncation.{IsLowerAnswer, IsUpperAnswer}
 use Rattle.vortex_dtype.specs.Parts.{is_binary_type, is_utf8_type}
 use Rattle.vortex_dtype.specs.TypeTree.{TypeTree}
 use Rattle.vortex_value.specs.Values.RawTree.{RawTree, raw_bytes, raw_text}
@@ -30,7 +30,7 @@ abbrev pub IsCutAt : Side → (List ℕ → ℕ → List ℕ → Type 0) → (Li
 IsCutAt Lower Below Above HasNone raw n b c = IsCutLower Below raw n b c
 IsCutAt Upper Below Above HasNone raw n b c = IsCutUpper Above HasNone raw n b c
 
--- what `lower_bound` or `upper_bound` of vortex_array answers
+-- what `lower_bound` or `upper_bound` of vortex_bounds answers
 abbrev pub IsBestAnswer : {V : Type 0} → Side → (List ℕ → ℕ → List ℕ → Type 0) → (List ℕ → ℕ → List ℕ → Type 0) → (List ℕ → ℕ → Type 0) → (List ℕ → RawTree) → (Nullability → TypeTree) → (V → List ℕ) → Option V → ℕ → Nullability
     → Result (Option (Scalar × Bool)) VortexError → Type 0
 IsBestAnswer Lower Below Above HasNone raw type_at bytes v n k r = IsLowerAnswer Below raw type_at bytes v n k r

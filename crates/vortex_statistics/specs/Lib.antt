@@ -1,9 +1,5 @@
-pub mod Cells
 pub mod Changes
 pub mod Examples
-pub mod Form
-pub mod FormAnswers
-pub mod FormSteps
 pub mod Kinds
 pub mod Loosening
 pub mod Merging

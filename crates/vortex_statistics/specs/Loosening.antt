@@ -2,7 +2,7 @@
 use Rattle.std.specs.Prelude.{◌≡◌, true, List, Option, Some, None}
 use Rattle.std.specs.declared.cmp.Ordering.{Ordering}
 use Rattle.std.specs.declared.cmp.Ordering.TheVariants.{Equal}
-use Rattle.vortex_statistics.specs.Cells.{Cell, IsUpTo, cell_order, order_from_above}
+use Rattle.vortex_cells.specs.Cells.{Cell, IsUpTo, cell_order, order_from_above}
 use Rattle.vortex_statistics.specs.Statistics.{AreRight, Known, KnownBound}
 
 -- no bound, or one that the bound before is not before, in this order. If it is exact, so was the one before, and the two

@@ -10,7 +10,7 @@ use Rattle.vortex_value.specs.Values.Refs.{ref_raw, ref_type}
 use Rattle.vortex_value.specs.Values.Scalars.{scalar_raw, scalar_type}
 use Rattle.vortex_value.specs.declared.refs.ScalarRef.{ScalarRef}
 use Rattle.vortex_value.specs.declared.scalars.Scalar.{Scalar}
-use Rattle.vortex_statistics.specs.Cells.{Cell, cell_of, cell_of_ref, cell_order, is_null_cell, order_from_above}
+use Rattle.vortex_cells.specs.Cells.{Cell, cell_of, cell_of_ref, cell_order, is_null_cell, order_from_above}
 use Rattle.vortex_statistics.specs.Merging.{sum_of}
 use Rattle.vortex_statistics.specs.Statistics.{AreComplete, AreRight, Known, KnownBound, may_be_value}
 use Rattle.vortex_statistics.specs.declared.error.StatisticsError.{StatisticsError}

@@ -2,7 +2,7 @@
 use Rattle.std.specs.Prelude.{◌≡◌, ℕ, Bool, true, nat_lt, List, length, count_by, Option, Some, None, IfSome, IsSome, is_some, option_map}
 use Rattle.std.specs.declared.cmp.Ordering.{Ordering}
 use Rattle.std.specs.declared.cmp.Ordering.TheVariants.{Equal}
-use Rattle.vortex_statistics.specs.Cells.{AllCompare, Cell, HasValue, IsUpTo, cell_of, cell_order, is_null_cell, order_from_above}
+use Rattle.vortex_cells.specs.Cells.{AllCompare, Cell, HasValue, IsUpTo, cell_of, cell_order, is_null_cell, order_from_above}
 use Rattle.vortex_statistics.specs.declared.column_statistics.Bound.{Bound}
 use Rattle.vortex_statistics.specs.declared.column_statistics.ColumnStatistics.{ColumnStatistics}
 

@@ -1,8 +1,8 @@
 -- Bounds of strings and bytes, cut to a length in bytes.
 use Rattle.std.specs.Prelude.{◌≡◌, ℕ, ◌<◌, Bool, not, ◌&&◌, List, length, Option, Some, None, MatchOption, IsSomeAnd}
-use Rattle.vortex_array.specs.Strings.{HasNoUpper, IsLower, IsUpper}
-use Rattle.vortex_array.specs.Texts.{HasNoTextUpper, IsTextLower, IsTextUpper}
-use Rattle.vortex_array.specs.Truncation.{IsLowerOf, IsUpperOf}
+use Rattle.vortex_bounds.specs.Strings.{HasNoUpper, IsLower, IsUpper}
+use Rattle.vortex_bounds.specs.Texts.{HasNoTextUpper, IsTextLower, IsTextUpper}
+use Rattle.vortex_bounds.specs.Truncation.{IsLowerOf, IsUpperOf}
 use Rattle.vortex_dtype.specs.TypeTree.{TypeTree, binary_type, utf8_type}
 use Rattle.vortex_dtype.specs.declared.buffer.TheConstants.{INLINE_BYTES}
 use Rattle.vortex_value.specs.Values.RawTree.{RawTree, raw_bytes, raw_text}

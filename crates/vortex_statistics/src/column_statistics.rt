@@ -3,7 +3,7 @@
 ghost use Rattle.std.specs.Prelude.{◌≡◌, [], false};
 ghost use Rattle.vortex_statistics.specs.Words.{AreComplete, LeaveNoNull, LeaveNoValue, empty_statistics, known, may_be_null, may_be_value};
 
-use vortex_array::Scalar;
+use vortex_value::Scalar;
 
 /// A bound of the values of a column.
 #[derive(Debug, Drop)]

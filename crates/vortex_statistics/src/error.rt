@@ -15,11 +15,12 @@ pub enum StatisticsError {
     /// There are more rows than 64 bits can count.
     #[error("too many rows")]
     TooManyRows,
-    /// A variant stands in the type, so its values have no keys.
+    /// A variant stands in the type, so its values have no keys. Of the calls of `statistics_bytes`
+    /// alone.
     #[error("a variant stands in the type")]
     HasVariant,
     /// The bytes are no form of statistics of the type: the place of the first byte that none has
-    /// there, or of the end if they end too early.
+    /// there, or of the end if they end too early. Of the calls of `statistics_bytes` alone.
     #[error("no form of statistics of the type: byte {place}")]
     BadBytes { place: usize },
 }

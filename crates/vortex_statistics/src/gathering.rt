@@ -7,8 +7,8 @@ use crate::column_statistics::ColumnStatistics;
 use crate::error::StatisticsError;
 use crate::observing::replacing;
 use std::alloc::Global;
-use vortex_array::{Scalar, ScalarRef};
 use vortex_value::laws::{order_is_reversed, order_is_transitive};
+use vortex_value::{Scalar, ScalarRef};
 
 impl ColumnStatistics {
     /// The statistics of these values: the nulls are counted, and the bounds are exact. There are

@@ -4,12 +4,12 @@ ghost use Rattle.std.specs.Prelude.{◌≡◌, ◌⊎◌, ◌+◌, ◌<◌, ◌^
 ghost use Rattle.vortex_statistics.specs.Words.{Cell, IsCompleteWith, IsFlatValue, IsRightWith, OutOfMemory, RefusesCell, after, cell_of_ref, change_by, change_of, exact_bound, known, known_bound, lower_change, observed, order_from_above, ref_raw, ref_type, replaces, replacing, upper_change};
 
 use crate::column_statistics::{Bound, ColumnStatistics};
-use crate::comparing::compare;
 use crate::error::StatisticsError;
 use crate::merging::sum_of;
 use std::alloc::Global;
 use std::cmp::Ordering;
-use vortex_array::ScalarRef;
+use vortex_cells::compare_refs;
+use vortex_value::ScalarRef;
 use vortex_value::laws::{order_is_reversed, order_is_transitive};
 
 impl ColumnStatistics {
@@ -97,7 +97,7 @@ impl ColumnStatistics {
         let Some(lower) = &self.lower else {
             return (Change::Keep, self.upper_change(value));
         };
-        let below = change_by(compare(ScalarRef::of(&lower.value), value), value);
+        let below = change_by(compare_refs(ScalarRef::of(&lower.value), value), value);
         if lower.is_exact && below.replaces() {
             return (below, Change::Keep);
         }
@@ -113,7 +113,7 @@ impl ColumnStatistics {
         let Some(upper) = &self.upper else {
             return Change::Keep;
         };
-        change_by(compare(value, ScalarRef::of(&upper.value)), value)
+        change_by(compare_refs(value, ScalarRef::of(&upper.value)), value)
     }
 }
 

@@ -1,17 +1,16 @@
 //! Bounds of strings and bytes, cut to a length in bytes.
 
 ghost use Rattle.std.specs.Prelude.{◌≡◌, ◌⊎◌, ◌&&◌, List, false, not, IfErr, IfOk};
-ghost use Rattle.vortex_statistics.specs.Cells.{Cell};
+ghost use Rattle.vortex_cells.specs.Cells.{Cell};
 ghost use Rattle.vortex_statistics.specs.Words.{AreRight, AreTruncated, HasShortBounds, IsBestAnswer, IsCutAt, IsLong, IsLongRaw, IsOutOfMemoryAt, IsTruncated, IsTruncatedLower, IsTruncatedUpper, IsTypeOfKind, MayHold, is_absent, kind_of, known, scalar_raw, scalar_type};
 
 use crate::column_statistics::{Bound, ColumnStatistics};
 use crate::error::StatisticsError;
 use std::alloc::Global;
-use vortex_array::{
-    BufferString, ByteBuffer, Nullability, Scalar, ScalarTruncation, ScalarValue, VortexError,
-    lower_bound, upper_bound,
-};
+use vortex_bounds::{ScalarTruncation, lower_bound, upper_bound};
+use vortex_dtype::{BufferString, ByteBuffer, Nullability, VortexError};
 use vortex_value::laws::{order_is_reversed, order_is_transitive};
+use vortex_value::{Scalar, ScalarValue};
 
 impl ColumnStatistics {
     /// These statistics with each bound that is a string, or bytes, cut to at most `n` bytes. A

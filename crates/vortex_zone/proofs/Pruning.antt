@@ -7,7 +7,7 @@ use Rattle.vortex_value.specs.Order.{IsReversed, IsTransitive, reversed}
 use Rattle.vortex_value.specs.Values.RawTree.{RawTree, is_absent}
 use Rattle.vortex_value.specs.Values.Scalars.{scalar_order, scalar_raw}
 use Rattle.vortex_value.specs.declared.scalars.Scalar.{Scalar}
-use Rattle.vortex_array.specs.Truncation.{IsUpTo}
+use Rattle.vortex_array.specs.Words.{IsUpTo}
 use Rattle.vortex_zone.specs.Zone.{AreBoundsOfKind, Bounds, LosesNothing, is_above, is_below}
 
 -- what is not Less, or not Greater, is tested false

@@ -11,9 +11,7 @@ use Rattle.vortex_dtype.specs.declared.nullability.Nullability.TheVariants.{NonN
 use Rattle.vortex_value.specs.Values.RawTree.{RawTree, absent, is_absent, raw_bytes, raw_text}
 use Rattle.vortex_value.specs.Values.Scalars.{IsValid, scalar_order, scalar_raw, scalar_type}
 use Rattle.vortex_value.specs.declared.scalars.Scalar.{Scalar}
-use Rattle.vortex_array.specs.Strings.{HasNoUpper, IsLower, IsUpper}
-use Rattle.vortex_array.specs.Texts.{HasNoTextUpper, IsTextLower, IsTextUpper}
-use Rattle.vortex_array.specs.Truncation.{IsLowerOf, IsSource, IsTypeOfKind, IsUpperOf, MayHold}
+use Rattle.vortex_array.specs.Words.{HasNoUpper, IsLower, IsUpper, HasNoTextUpper, IsTextLower, IsTextUpper, IsLowerOf, IsSource, IsTypeOfKind, IsUpperOf, MayHold}
 
 -- what contracts see of a zone's bounds
 pub record Bounds : Type 0 where

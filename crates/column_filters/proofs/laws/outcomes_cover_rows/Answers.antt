@@ -1,5 +1,5 @@
 -- The law, by the laws of the order of contents.
-use Rattle.vortex_statistics.proofs.CellLaws.{from_below}
+use Rattle.vortex_cells.proofs.CellLaws.{from_below}
 use Rattle.column_filters.proofs.OpenPieces.{covers}
 use Rattle.column_filters.proofs.laws.outcomes_cover_rows.Goals as goal
 

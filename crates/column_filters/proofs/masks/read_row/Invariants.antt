@@ -1,6 +1,6 @@
 -- The cells so far.
 use Rattle.std.proofs.Common.{◌≡◌, map, take}
-use Rattle.vortex_statistics.specs.Cells.{cell_of}
+use Rattle.vortex_cells.specs.Cells.{cell_of}
 use Rattle.column_filters.specs.Tables.{cells_of_rows}
 use Rattle.column_filters.proofs.masks.read_row.Given as goal
 

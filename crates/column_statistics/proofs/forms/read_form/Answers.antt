@@ -1,8 +1,8 @@
 use Rattle.std.proofs.Common.{Err, ap, subst, sym}
 use Rattle.column_cells.specs.Types.{type_of_kind}
 use Rattle.vortex_dtype.specs.TypeOf.{type_of}
-use Rattle.vortex_statistics.specs.Form.{AreOf}
-use Rattle.vortex_statistics.specs.FormAnswers.{ReadsRight}
+use Rattle.statistics_bytes.specs.Form.{AreOf}
+use Rattle.statistics_bytes.specs.FormAnswers.{ReadsRight}
 use Rattle.vortex_statistics.specs.Statistics.{known}
 use Rattle.column_statistics.proofs.FormLaws.{as_form, no_variant, not_read}
 use Rattle.column_statistics.proofs.forms.read_form.Goals as goal

@@ -1,7 +1,7 @@
 -- One more is written, or may not be.
 use Rattle.std.proofs.Common.{map, arith}
 use Rattle.std.specs.List.{AllByRecursion}
-use Rattle.vortex_statistics.specs.Cells.{cell_of}
+use Rattle.vortex_cells.specs.Cells.{cell_of}
 use Rattle.filter_form.specs.Form.{IsPlainCell, literal_bytes}
 use Rattle.filter_form.proofs.ListLaws.{left_end, left_item, left_more, left_start}
 use Rattle.filter_form.proofs.WriteSteps.{begins_on, passed_on}

@@ -1,6 +1,6 @@
 -- What is written, and what is left.
 use Rattle.std.proofs.Common.{drop, map}
-use Rattle.vortex_statistics.specs.Cells.{cell_of}
+use Rattle.vortex_cells.specs.Cells.{cell_of}
 use Rattle.filter_form.specs.Form.{IsPlainCell, literal_bytes}
 use Rattle.filter_form.proofs.ListLaws.{IsLeft}
 use Rattle.filter_form.proofs.literals.append_each.Given as goal

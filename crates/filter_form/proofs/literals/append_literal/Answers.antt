@@ -1,7 +1,7 @@
 -- The byte of the type, and the key.
 use Rattle.std.proofs.Common.{ap, subst, sym}
 use Rattle.vortex_dtype.specs.TypeOf.{type_of}
-use Rattle.vortex_statistics.specs.Cells.{cell_of}
+use Rattle.vortex_cells.specs.Cells.{cell_of}
 use Rattle.filter_form.specs.Form.{IsPlain, IsPlainCell}
 use Rattle.filter_form.proofs.TypeLaws.{plain_ordered}
 use Rattle.filter_form.proofs.WriteSteps.{key_written, passed_on}

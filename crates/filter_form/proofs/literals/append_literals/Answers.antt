@@ -1,6 +1,6 @@
 -- Their number, and then each.
 use Rattle.std.proofs.Common.{length, map, refl}
-use Rattle.vortex_statistics.specs.Cells.{cell_of}
+use Rattle.vortex_cells.specs.Cells.{cell_of}
 use Rattle.filter_form.specs.Form.{IsPlainCell, literal_bytes}
 use Rattle.filter_form.specs.Lists.{AreListed}
 use Rattle.filter_form.proofs.ListLaws.{fit_of, list_written}

@@ -1,6 +1,6 @@
 -- The type, and then a value of it.
 use Rattle.vortex_dtype.specs.TypeOf.{type_of}
-use Rattle.vortex_statistics.specs.Cells.{cell_of}
+use Rattle.vortex_cells.specs.Cells.{cell_of}
 use Rattle.filter_form.specs.Form.{IsLiteral, literal_bytes}
 use Rattle.filter_form.proofs.LiteralLaws.{key_valid, literal_answer, type_stuck}
 use Rattle.filter_form.proofs.ReadSteps.{passed_on}

@@ -1,5 +1,5 @@
 -- Their number, and then each.
-use Rattle.vortex_statistics.specs.Cells.{cell_of}
+use Rattle.vortex_cells.specs.Cells.{cell_of}
 use Rattle.filter_form.specs.Form.{IsLiteral, literal_bytes}
 use Rattle.filter_form.specs.Lists.{AreListed, listed}
 use Rattle.filter_form.proofs.ListLaws.{count_stuck, list_answer}

@@ -1,6 +1,6 @@
 -- One more is read, or is none.
 use Rattle.std.proofs.Common.{[], arith}
-use Rattle.vortex_statistics.specs.Cells.{cell_of}
+use Rattle.vortex_cells.specs.Cells.{cell_of}
 use Rattle.vortex_filter.proofs.LiteralSteps.{valid_same, valid_with}
 use Rattle.filter_form.specs.Form.{IsLiteral, literal_bytes}
 use Rattle.filter_form.specs.Lists.{AreSo, each_bytes}

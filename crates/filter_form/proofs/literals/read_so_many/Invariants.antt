@@ -1,6 +1,6 @@
 -- So many were read, and they are valid.
 use Rattle.std.proofs.Common.{map}
-use Rattle.vortex_statistics.specs.Cells.{cell_of}
+use Rattle.vortex_cells.specs.Cells.{cell_of}
 use Rattle.vortex_filter.specs.FilterLiterals.{AreValid}
 use Rattle.filter_form.specs.Form.{IsLiteral, literal_bytes}
 use Rattle.filter_form.specs.Lists.{AreSo, each_bytes}

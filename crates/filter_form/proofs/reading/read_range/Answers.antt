@@ -1,5 +1,5 @@
 -- The place, and then both literals.
-use Rattle.vortex_statistics.specs.Cells.{cell_of}
+use Rattle.vortex_cells.specs.Cells.{cell_of}
 use Rattle.vortex_filter.specs.Formula.{formula}
 use Rattle.filter_form.specs.Form.{node_bytes}
 use Rattle.filter_form.specs.Steps.{IsNode}

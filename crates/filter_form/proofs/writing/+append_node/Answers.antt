@@ -2,7 +2,7 @@
 use Rattle.std.proofs.Common.{◌∷◌, [], ap, ◌∙◌, map, refl, sym}
 use Rattle.vortex_filter.specs.Formula.{comparison, constant, formula, membership, null_test, prefix_test, range}
 use Rattle.vortex_filter.proofs.Steps.{formula-Between, formula-Compare, formula-Constant, formula-In, formula-IsNull, formula-StartsWith}
-use Rattle.vortex_statistics.specs.Cells.{cell_of}
+use Rattle.vortex_cells.specs.Cells.{cell_of}
 use Rattle.filter_form.proofs.WriteSteps.{node_written}
 use Rattle.filter_form.proofs.writing.+append_node.Goals as goal
 

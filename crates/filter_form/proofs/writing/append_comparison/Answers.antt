@@ -1,5 +1,5 @@
 -- The test, and then what it compares with.
-use Rattle.vortex_statistics.specs.Cells.{cell_of}
+use Rattle.vortex_cells.specs.Cells.{cell_of}
 use Rattle.filter_form.specs.Form.{IsPlainCell}
 use Rattle.filter_form.specs.Lists.{Fits}
 use Rattle.filter_form.proofs.WriteSteps.{passed_on, then_written}

@@ -1,5 +1,5 @@
 -- The lower end, and then the upper one.
-use Rattle.vortex_statistics.specs.Cells.{cell_of}
+use Rattle.vortex_cells.specs.Cells.{cell_of}
 use Rattle.filter_form.specs.Form.{IsPlainCell}
 use Rattle.filter_form.proofs.WriteSteps.{passed_on, then_written}
 use Rattle.filter_form.proofs.writing.append_ends.Goals as goal

@@ -1,9 +1,9 @@
 -- A cell of which a scalar is made.
 use Rattle.std.proofs.Common.{◌≡◌, subst}
-use Rattle.vortex_statistics.specs.Cells.{Cell, cell_of, cell_of_ref}
+use Rattle.vortex_cells.specs.Cells.{Cell, cell_of, cell_of_ref}
 use Rattle.vortex_statistics.specs.Observing.{IsCompleteWith}
 use Rattle.vortex_statistics.specs.Statistics.{known}
-use Rattle.vortex_statistics.proofs.ConstantLaws.{ref_cell}
+use Rattle.vortex_cells.proofs.CellLaws.{ref_cell}
 use Rattle.vortex_statistics.specs.declared.column_statistics.ColumnStatistics.{ColumnStatistics}
 use Rattle.record_rows.specs.Observed.{ObservesField}
 use Rattle.record_rows.specs.Walks.{field_of}

@@ -1,6 +1,6 @@
 -- The form is pushed after its length.
 use Rattle.std.proofs.Common.{◌≡◌, ◌∙◌, ◌++◌, ℕ, List, ap, arith, length, sym}
-use Rattle.vortex_statistics.specs.Form.{form}
+use Rattle.statistics_bytes.specs.Form.{form}
 use Rattle.vortex_statistics.specs.Statistics.{known}
 use Rattle.record_search.proofs.DescribeLaws.{form_pushed}
 use Rattle.record_search.proofs.describing.push_form.Goals as goal
@@ -9,5 +9,5 @@ pub returns-clause-appended : goal.returns-clause-appended
 returns-clause-appended c =
     let said = form (known c.args.statistics.now) in
     let same : c.deref.result.now ≡ said = c.deref.ensures.value ∙ c.in-Ok.ensures.appended ∙ ap (λ (l : List ℕ). l ++ said) c.new-bytes.ensures.items in
-    let long : c.len.result ≡ length c.append_bytes.new.out.items = omega (arith, c.append_bytes.new.out.ok, c.len.ensures) in
+    let long : c.len.result ≡ length c.append_statistics.new.out.items = omega (arith, c.append_statistics.new.out.ok, c.len.ensures) in
     form_pushed c.extend_from_slice.result c.args.output.now.items c.push_number.new.output.items _ c.deref.result.now said c.len.result c.in_ok-push_number.ensures (long ∙ ap length (sym c.deref.ensures.value)) same c.extend_from_slice.ensures.items

@@ -1,4 +1,4 @@
-use Rattle.vortex_statistics.proofs.CellLaws.{from_below}
+use Rattle.vortex_cells.proofs.CellLaws.{from_below}
 use Rattle.record_search.specs.Searched.{row_under}
 use Rattle.record_search.proofs.SearchLaws.{decided_all, decided_none}
 use Rattle.record_search.proofs.laws.decisions_are_right.Goals as goal

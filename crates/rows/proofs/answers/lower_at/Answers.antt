@@ -1,6 +1,6 @@
 -- What the lower bound prints as.
 use Rattle.std.proofs.Common.{subst}
-use Rattle.vortex_array.specs.Strings.{IsString}
+use Rattle.vortex_bounds.specs.Strings.{IsString}
 use Rattle.rows.proofs.Bounds.{is_given, lower_text, lower_typed}
 use Rattle.rows.proofs.answers.lower_at.Goals as goal
 

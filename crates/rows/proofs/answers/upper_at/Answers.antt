@@ -1,6 +1,6 @@
 -- What the upper bound prints as.
 use Rattle.std.proofs.Common.{subst}
-use Rattle.vortex_array.specs.Strings.{IsString}
+use Rattle.vortex_bounds.specs.Strings.{IsString}
 use Rattle.rows.proofs.Bounds.{is_match, upper_text, upper_typed}
 use Rattle.rows.proofs.answers.upper_at.Goals as goal
 

@@ -1,7 +1,7 @@
 -- The comparison of the filter that is made.
 use Rattle.std.proofs.Common.{map}
 use Rattle.vortex_dtype.specs.TypeOf.{type_of}
-use Rattle.vortex_statistics.specs.Cells.{cell_of}
+use Rattle.vortex_cells.specs.Cells.{cell_of}
 use Rattle.scalar_tests.proofs.FilterSteps.{fits_compared, for_nulls_compared, value_compared, without_order_compared}
 use Rattle.scalar_tests.proofs.filter_laws.compare.Goals as goal
 

@@ -1,6 +1,6 @@
 -- The matching rows so far.
 use Rattle.std.proofs.Common.{◌≡◌, ◌≤◌, length, map, take}
-use Rattle.vortex_statistics.specs.Cells.{cell_of}
+use Rattle.vortex_cells.specs.Cells.{cell_of}
 use Rattle.vortex_filter.specs.Formula.{formula}
 use Rattle.vortex_filter.specs.Searching.{matching}
 use Rattle.scalar_tests.proofs.filter_laws.count_rows.Given as goal

@@ -1,6 +1,6 @@
 -- What the statistics claim, some cell of the zone has.
 use Rattle.std.proofs.Common.{List, map, ap, ◌∙◌, slice_get}
-use Rattle.vortex_statistics.specs.Cells.{cell_of}
+use Rattle.vortex_cells.specs.Cells.{cell_of}
 use Rattle.vortex_statistics.specs.Statistics.{known}
 use Rattle.vortex_statistics.specs.declared.column_statistics.ColumnStatistics.{ColumnStatistics}
 use Rattle.vortex_filter.specs.declared.operator.CompareOperator.TheVariants.{Lt}

@@ -1,7 +1,7 @@
 -- Both truths are those by contents.
 use Rattle.std.proofs.Common.{map, refl, sym, ◌∙◌}
 use Rattle.vortex_dtype.specs.TypeOf.{type_of}
-use Rattle.vortex_statistics.specs.Cells.{cell_of}
+use Rattle.vortex_cells.specs.Cells.{cell_of}
 use Rattle.vortex_filter.specs.Formula.{formula}
 use Rattle.scalar_tests.proofs.FilterSteps.{same_truth}
 use Rattle.scalar_tests.proofs.filter_laws.says_the_same.Goals as goal

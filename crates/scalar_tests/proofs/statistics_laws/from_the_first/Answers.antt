@@ -2,7 +2,7 @@
 use Rattle.std.proofs.Common.{◌++◌, subst}
 use Rattle.std.proofs.lemmas.List.{append_assoc}
 use Rattle.std.proofs.lemmas.Result.{IfOk-weaker}
-use Rattle.vortex_statistics.specs.Cells.{Cell}
+use Rattle.vortex_cells.specs.Cells.{Cell}
 use Rattle.vortex_statistics.specs.Merging.{AreRightTogether}
 use Rattle.vortex_statistics.specs.Statistics.{AreRight, known}
 use Rattle.scalar_tests.specs.Pieces.{AreRightForThree}

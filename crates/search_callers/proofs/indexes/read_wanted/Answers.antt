@@ -1,6 +1,6 @@
 -- What was written is read.
 use Rattle.std.proofs.Common.{◌≡◌, ℕ, List, Bool, Result, Ok, Err, IfOk}
-use Rattle.vortex_statistics.specs.Form.{form}
+use Rattle.statistics_bytes.specs.Form.{form}
 use Rattle.record_search.specs.Searched.{rows_alone}
 use Rattle.zone_index.specs.Form.{FitsForm, IndexValue, index_form, index_value, wanted_of}
 use Rattle.zone_index.specs.FormReading.{Gives}

@@ -1,5 +1,5 @@
 use Rattle.std.proofs.Common.{◌≡◌, ◌∙◌, ℕ, List, Bool, Result, Ok, Err, IfOk, ap, subst, sym}
-use Rattle.vortex_statistics.specs.Form.{form}
+use Rattle.statistics_bytes.specs.Form.{form}
 use Rattle.record_search.specs.Laws.{IndexesAreReadBack}
 use Rattle.record_search.specs.Searched.{IsRowIndex, rows_alone}
 use Rattle.record_search.specs.declared.schema.Schema.{Schema}

@@ -1,6 +1,6 @@
 use Rattle.std.proofs.Common.{◌≡◌, arith, inl, length, refl, take}
 use Rattle.std.proofs.lemmas.List.{length-take}
-use Rattle.vortex_array.specs.Strings.{HasNoUpper, IsLower, IsUpper}
+use Rattle.vortex_bounds.specs.Strings.{HasNoUpper, IsLower, IsUpper}
 use Rattle.vortex_c.proofs.ColumnBounds.{stopped, written}
 use Rattle.vortex_c.proofs.columns.doqallin_column_bounds_bytes.Goals as goal
 

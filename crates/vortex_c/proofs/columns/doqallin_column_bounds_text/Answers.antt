@@ -1,7 +1,7 @@
 use Rattle.std.proofs.Common.{◌∙◌, arith, inl, inr, refl, sym, subst, take, ⊎_elim, IsUtf8}
 use Rattle.std.proofs.lemmas.List.{length-take}
 use Rattle.std.specs.Option.{option_map}
-use Rattle.vortex_array.specs.Texts.{HasNoTextUpper, IsTextLower, IsTextUpper}
+use Rattle.vortex_bounds.specs.Texts.{HasNoTextUpper, IsTextLower, IsTextUpper}
 use Rattle.vortex_c.specs.Uppers.{bytes_of}
 use Rattle.vortex_c.proofs.ColumnBounds.{bytes_are_text, stopped, text_of_some, written}
 use Rattle.vortex_c.proofs.ColumnEnds.{ends_are_text}

@@ -1,6 +1,6 @@
 use Rattle.std.proofs.Common.{◌∙◌, ◌<◌, List, ap, arith, refl, subst, sym, ℕ}
 use Rattle.arrow_columns.proofs.ByteOrder.{downward, upward}
-use Rattle.vortex_array.specs.Strings.{NotAbove}
+use Rattle.vortex_bounds.specs.Strings.{NotAbove}
 use Rattle.vortex_c.specs.Columns.{value_at}
 use Rattle.vortex_c.proofs.ColumnOrder.{best_so_far, only_value, only_value_back}
 use Rattle.vortex_c.proofs.columns.find_extremes.Goals as goal

@@ -1,6 +1,6 @@
 use Rattle.std.proofs.Common.{◌≡◌, ◌<◌, ℕ}
 use Rattle.arrow_columns.specs.Spans.{IsSpan}
-use Rattle.vortex_array.specs.Strings.{NotAbove}
+use Rattle.vortex_bounds.specs.Strings.{NotAbove}
 use Rattle.vortex_c.specs.Columns.{value_at}
 use Rattle.vortex_c.proofs.columns.find_extremes.Given as goal
 

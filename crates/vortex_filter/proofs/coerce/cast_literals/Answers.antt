@@ -1,7 +1,7 @@
 use Rattle.std.proofs.Common.{◌<◌, length, map, refl, subst, sym, arith}
 use Rattle.vortex_dtype.specs.TypeOf.{type_of}
 use Rattle.vortex_value.specs.Values.Scalars.{IsValid}
-use Rattle.vortex_statistics.specs.Cells.{cell_of}
+use Rattle.vortex_cells.specs.Cells.{cell_of}
 use Rattle.vortex_filter.proofs.CoerceSteps.{item_refused, kept_step, kept_whole, passed_literals, valid_at}
 use Rattle.vortex_filter.proofs.coerce.cast_literals.Goals as goal
 

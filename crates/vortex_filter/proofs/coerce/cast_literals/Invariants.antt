@@ -1,7 +1,7 @@
 -- The literals so far that the type does not lack, and that they are valid if all are.
 use Rattle.std.proofs.Common.{map, take}
 use Rattle.vortex_dtype.specs.TypeOf.{type_of}
-use Rattle.vortex_statistics.specs.Cells.{cell_of}
+use Rattle.vortex_cells.specs.Cells.{cell_of}
 use Rattle.vortex_filter.specs.FilterLiterals.{AreValid}
 use Rattle.vortex_filter.proofs.CoerceSteps.{IsKept}
 use Rattle.vortex_filter.proofs.coerce.cast_literals.Given as goal

@@ -1,5 +1,5 @@
 use Rattle.vortex_dtype.specs.TypeOf.{type_of}
-use Rattle.vortex_statistics.specs.Cells.{cell_of}
+use Rattle.vortex_cells.specs.Cells.{cell_of}
 use Rattle.vortex_filter.specs.Formula.{range}
 use Rattle.vortex_filter.proofs.CoerceSteps.{lower_there, refused_lower, refused_upper, upper_there}
 use Rattle.vortex_filter.proofs.coerce.cast_range.Goals as goal

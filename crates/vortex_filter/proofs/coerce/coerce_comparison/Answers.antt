@@ -1,7 +1,7 @@
 use Rattle.std.proofs.Common.{◌≡◌, [], ◌∷◌, map, slice_get, Some, rules}
 use Rattle.vortex_dtype.specs.TypeOf.{type_of}
 use Rattle.vortex_value.specs.TypesWithin.{HasNoVariant}
-use Rattle.vortex_statistics.specs.Cells.{cell_of}
+use Rattle.vortex_cells.specs.Cells.{cell_of}
 use Rattle.vortex_filter.proofs.CoerceSteps.{NoOrdered, comparison_column, comparison_refused}
 use Rattle.vortex_filter.proofs.coerce.coerce_comparison.Goals as goal
 

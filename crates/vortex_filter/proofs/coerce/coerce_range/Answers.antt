@@ -1,7 +1,7 @@
 use Rattle.std.proofs.Common.{◌≡◌, [], ◌∷◌, map, slice_get, Some, rules}
 use Rattle.vortex_dtype.specs.TypeOf.{type_of}
 use Rattle.vortex_value.specs.TypesWithin.{HasNoVariant}
-use Rattle.vortex_statistics.specs.Cells.{cell_of}
+use Rattle.vortex_cells.specs.Cells.{cell_of}
 use Rattle.vortex_filter.proofs.CoerceSteps.{NoOrdered, range_column, range_refused}
 use Rattle.vortex_filter.proofs.coerce.coerce_range.Goals as goal
 

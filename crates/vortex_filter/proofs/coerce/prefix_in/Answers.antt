@@ -1,6 +1,6 @@
 use Rattle.std.proofs.Common.{sym, ◌∙◌}
 use Rattle.vortex_dtype.specs.TypeOf.{type_of}
-use Rattle.vortex_statistics.specs.Cells.{cell_of}
+use Rattle.vortex_cells.specs.Cells.{cell_of}
 use Rattle.vortex_filter.specs.Formula.{prefix_test}
 use Rattle.vortex_filter.proofs.CoerceSteps.{kept_prefix, refused_prefix}
 use Rattle.vortex_filter.proofs.coerce.prefix_in.Goals as goal

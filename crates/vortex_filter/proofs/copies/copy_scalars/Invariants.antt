@@ -1,6 +1,6 @@
 -- The copies so far are the scalars, each with its type and its raw value.
 use Rattle.std.proofs.Common.{◌≡◌, map, take}
-use Rattle.vortex_statistics.specs.Cells.{cell_of}
+use Rattle.vortex_cells.specs.Cells.{cell_of}
 use Rattle.vortex_filter.specs.FilterLiterals.{exactly_of}
 use Rattle.vortex_filter.proofs.copies.copy_scalars.Given as goal
 

@@ -1,5 +1,5 @@
 use Rattle.std.proofs.Common.{ap, sym, refl, ◌∙◌, arith}
-use Rattle.vortex_statistics.specs.Cells.{cell_of}
+use Rattle.vortex_cells.specs.Cells.{cell_of}
 use Rattle.vortex_filter.specs.declared.operator.CompareOperator.TheVariants.{Eq}
 use Rattle.vortex_filter.specs.declared.truth.Truth.TheVariants.{False, True}
 use Rattle.vortex_filter.specs.Formula.{compare_truth, lent_cell}

@@ -1,6 +1,6 @@
 -- What the literals so far say together.
 use Rattle.std.proofs.Common.{◌≡◌, map, take}
-use Rattle.vortex_statistics.specs.Cells.{cell_of}
+use Rattle.vortex_cells.specs.Cells.{cell_of}
 use Rattle.vortex_filter.specs.Formula.{lent_cell, member_truth}
 use Rattle.vortex_filter.proofs.evaluation.truth_of_in.Given as goal
 

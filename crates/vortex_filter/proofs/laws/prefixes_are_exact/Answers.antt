@@ -1,4 +1,4 @@
-use Rattle.vortex_statistics.proofs.CellLaws.{from_below}
+use Rattle.vortex_cells.proofs.CellLaws.{from_below}
 use Rattle.vortex_filter.proofs.PrefixExact.{prefixes_exact}
 use Rattle.vortex_filter.proofs.laws.prefixes_are_exact.Goals as goal
 

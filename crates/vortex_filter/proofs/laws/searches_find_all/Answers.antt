@@ -1,4 +1,4 @@
-use Rattle.vortex_statistics.proofs.CellLaws.{from_below}
+use Rattle.vortex_cells.proofs.CellLaws.{from_below}
 use Rattle.vortex_filter.proofs.Searches.{zone_searched, zones_searched}
 use Rattle.vortex_filter.proofs.laws.searches_find_all.Goals as goal
 

@@ -1,5 +1,5 @@
 use Rattle.std.proofs.Common.{Some, None, ap, sym, ◌∙◌}
-use Rattle.vortex_statistics.specs.Cells.{cell_of}
+use Rattle.vortex_cells.specs.Cells.{cell_of}
 use Rattle.vortex_filter.specs.Truths.{truth_of}
 use Rattle.vortex_filter.proofs.PrefixSteps.{begins_when}
 use Rattle.vortex_filter.proofs.prefix.truth_of_prefix.Goals as goal

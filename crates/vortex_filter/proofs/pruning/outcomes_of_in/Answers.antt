@@ -1,6 +1,6 @@
 use Rattle.std.proofs.Common.{option_map, ap, sym, refl, ◌∙◌, arith}
 use Rattle.std.specs.Option.{option_copied}
-use Rattle.vortex_statistics.specs.Cells.{cell_of}
+use Rattle.vortex_cells.specs.Cells.{cell_of}
 use Rattle.vortex_statistics.specs.Statistics.{known}
 use Rattle.vortex_filter.specs.declared.operator.CompareOperator.TheVariants.{Eq}
 use Rattle.vortex_filter.specs.declared.truth.Truth.TheVariants.{False, True}

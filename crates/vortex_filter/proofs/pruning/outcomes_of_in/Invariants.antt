@@ -1,7 +1,7 @@
 -- What the comparisons with the literals so far can be together.
 use Rattle.std.proofs.Common.{◌≡◌, map, option_map, take}
 use Rattle.std.specs.Option.{option_copied}
-use Rattle.vortex_statistics.specs.Cells.{cell_of}
+use Rattle.vortex_cells.specs.Cells.{cell_of}
 use Rattle.vortex_statistics.specs.Statistics.{known}
 use Rattle.vortex_filter.specs.Outcomes.{member_outcomes}
 use Rattle.vortex_filter.proofs.pruning.outcomes_of_in.Given as goal

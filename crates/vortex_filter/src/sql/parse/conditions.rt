@@ -3,7 +3,7 @@
 ghost use Rattle.std.specs.Prelude.{◌≡◌, ◌==◌, ◌&&◌, ◌<◌, ◌∷◌, [], IfNone, IfOk, IfSome, length, map};
 ghost use Rattle.std.specs.Str.{bytes_eq};
 ghost use Rattle.vortex_dtype.specs.TypeOf.{type_of};
-ghost use Rattle.vortex_statistics.specs.Cells.{cell_of};
+ghost use Rattle.vortex_cells.specs.Cells.{cell_of};
 ghost use Rattle.vortex_filter.specs.FilterLiterals.{AreValid, literals_of};
 ghost use Rattle.vortex_filter.specs.Formula.{formula};
 ghost use Rattle.vortex_filter.specs.Literals.{is_wildcard, pattern_prefix, with_byte};

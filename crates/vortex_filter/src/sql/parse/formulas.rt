@@ -1,7 +1,7 @@
 //! Filters on the heap, of parts and of literals.
 
 ghost use Rattle.std.specs.Prelude.{◌≡◌, ◌++◌, [], ◌∷◌, IfErr, IfOk, map};
-ghost use Rattle.vortex_statistics.specs.Cells.{cell_of};
+ghost use Rattle.vortex_cells.specs.Cells.{cell_of};
 ghost use Rattle.vortex_filter.specs.FilterLiterals.{literals_of, scalars_of};
 ghost use Rattle.vortex_filter.specs.Formula.{both, constant, either, formula, membership, negation, null_test};
 ghost use Rattle.vortex_filter.specs.Literals.{always, cells_of, comparison_of, exactly, lacking, literal_tree, member_of, never, range_of};

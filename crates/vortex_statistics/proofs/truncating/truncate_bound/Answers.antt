@@ -1,8 +1,8 @@
 -- What a bound becomes, by its kind.
 use Rattle.std.proofs.Common.{◌≡◌, Option, Some, IfErr, IfOk, sym, subst, ◌∙◌}
 use Rattle.std.proofs.lemmas.Result.{IfErr-weaker, IfOk-weaker}
-use Rattle.vortex_array.specs.Strings.{HasNoUpper, IsLower, IsUpper}
-use Rattle.vortex_array.specs.Texts.{HasNoTextUpper, IsTextLower, IsTextUpper}
+use Rattle.vortex_bounds.specs.Strings.{HasNoUpper, IsLower, IsUpper}
+use Rattle.vortex_bounds.specs.Texts.{HasNoTextUpper, IsTextLower, IsTextUpper}
 use Rattle.vortex_value.specs.Values.RawTree.{raw_bytes, raw_text}
 use Rattle.vortex_value.specs.Values.Scalars.{scalar_raw, scalar_type}
 use Rattle.vortex_statistics.specs.Kinds.{IsCutAt, IsTruncated, kind_of}

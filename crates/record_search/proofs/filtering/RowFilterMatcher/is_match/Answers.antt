@@ -1,7 +1,7 @@
 -- The truth on the cells that are wanted is that on the row.
 use Rattle.std.proofs.Common.{List, None, Some, map, ◌∙◌, ap}
 use Rattle.vortex_filter.specs.Formula.{formula, is_match}
-use Rattle.vortex_statistics.specs.Cells.{cell_of}
+use Rattle.vortex_cells.specs.Cells.{cell_of}
 use Rattle.vortex_value.specs.declared.scalars.Scalar.{Scalar}
 use Rattle.record_search.specs.Searched.{row_under}
 use Rattle.record_search.proofs.NamedLaws.{match_is}

@@ -1,6 +1,6 @@
 use Rattle.std.proofs.Common.{map, subst, sym}
 use Rattle.vortex_statistics.specs.Statistics.{known}
-use Rattle.vortex_statistics.proofs.CellLaws.{from_below}
+use Rattle.vortex_cells.proofs.CellLaws.{from_below}
 use Rattle.vortex_filter.specs.declared.outcomes.Outcomes.{Outcomes}
 use Rattle.vortex_filter.specs.Formula.{formula}
 use Rattle.vortex_filter.specs.Pruning.{Covers}

@@ -1,6 +1,6 @@
 use Rattle.std.proofs.Common.{map}
 use Rattle.vortex_statistics.specs.Statistics.{known}
-use Rattle.vortex_statistics.proofs.CellLaws.{from_below}
+use Rattle.vortex_cells.proofs.CellLaws.{from_below}
 use Rattle.vortex_filter.specs.Formula.{formula}
 use Rattle.vortex_filter.specs.Residual.{residual}
 use Rattle.vortex_filter.proofs.SimplifySteps.{decided_left, filter_left, refused_left, same_left, smaller_left, value_left}

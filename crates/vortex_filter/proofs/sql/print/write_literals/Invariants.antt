@@ -1,5 +1,5 @@
 use Rattle.std.proofs.Common.{drop, codes, map}
-use Rattle.vortex_statistics.specs.Cells.{cell_of}
+use Rattle.vortex_cells.specs.Cells.{cell_of}
 use Rattle.vortex_value.proofs.Writes.{Joins}
 use Rattle.vortex_filter.specs.Pieces.{literal_text}
 use Rattle.vortex_filter.proofs.sql.print.write_literals.Given as goal

@@ -2,7 +2,7 @@ use Rattle.std.proofs.Common.{◌≡◌, inl, inr, ◌+◌, ◌<◌, ◌^◌, tr
 use Rattle.std.proofs.lemmas.Result.{err_from_is_err_and}
 use Rattle.vortex_value.specs.Values.RawTree.{RawTree, is_absent}
 use Rattle.vortex_value.specs.Values.Refs.{ref_raw}
-use Rattle.vortex_statistics.specs.Cells.{Cell, cell_of_ref}
+use Rattle.vortex_cells.specs.Cells.{Cell, cell_of_ref}
 use Rattle.vortex_statistics.specs.Observing.{RefusesCell, becomes_bound}
 use Rattle.vortex_statistics.specs.Statistics.{AreComplete, AreRight, Known, known, known_bound}
 use Rattle.vortex_statistics.proofs.ObserveLaws.{observed_complete, observed_right}

@@ -1,10 +1,11 @@
 use Rattle.std.proofs.Common.{◌≡◌, ◌+◌, ◌<◌, ◌^◌, List, [], ◌∷◌, ◌++◌, map, take, sym, subst, arith}
 use Rattle.std.proofs.lemmas.Result.{err_from_is_err_and}
-use Rattle.vortex_statistics.specs.Cells.{Cell, cell_of, cell_of_ref}
+use Rattle.vortex_cells.specs.Cells.{Cell, cell_of, cell_of_ref}
 use Rattle.vortex_statistics.specs.Observing.{SomeMayTakeMemory}
 use Rattle.vortex_statistics.specs.Statistics.{AreComplete, known}
 use Rattle.vortex_statistics.specs.declared.error.StatisticsError.TheVariants.{OutOfMemory}
-use Rattle.vortex_statistics.proofs.ConstantLaws.{cells_more, one_may_take, ref_cell}
+use Rattle.vortex_statistics.proofs.ConstantLaws.{one_may_take}
+use Rattle.vortex_cells.proofs.CellLaws.{cells_more, ref_cell}
 use Rattle.vortex_statistics.proofs.column_statistics.ColumnStatistics.of.Goals as goal
 
 pub returns-in_err-observe-clause-refused : goal.returns-in_err-observe-clause-refused

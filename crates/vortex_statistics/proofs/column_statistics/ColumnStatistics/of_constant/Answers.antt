@@ -2,9 +2,10 @@ use Rattle.std.proofs.Common.{◌≡◌, ◌<◌, true, false, replicate, option
 use Rattle.vortex_value.specs.Values.RawTree.{is_absent}
 use Rattle.vortex_value.specs.Values.Refs.{ref_raw}
 use Rattle.vortex_value.specs.Values.Scalars.{scalar_raw}
-use Rattle.vortex_statistics.specs.Cells.{Cell, cell_of, cell_of_ref}
+use Rattle.vortex_cells.specs.Cells.{Cell, cell_of, cell_of_ref}
 use Rattle.vortex_statistics.specs.Statistics.{AreComplete, known, known_bound}
-use Rattle.vortex_statistics.proofs.ConstantLaws.{constant_step, null_constant_step, ref_cell}
+use Rattle.vortex_statistics.proofs.ConstantLaws.{constant_step, null_constant_step}
+use Rattle.vortex_cells.proofs.CellLaws.{ref_cell}
 use Rattle.vortex_statistics.proofs.column_statistics.ColumnStatistics.of_constant.Goals as goal
 
 pub returns-then-is_null-clause-complete : goal.returns-then-is_null-clause-complete

@@ -2,7 +2,7 @@
 use Rattle.std.proofs.Common.{map}
 use Rattle.std.proofs.lemmas.Result.{err_from_is_err_and}
 use Rattle.vortex_dtype.specs.TypeOf.{type_of}
-use Rattle.vortex_statistics.specs.Cells.{cell_of}
+use Rattle.vortex_cells.specs.Cells.{cell_of}
 use Rattle.vortex_filter.specs.Tokens.{trees}
 use Rattle.vortex_filter.proofs.TestSteps.{goes_on, wrong_on, literal_fails, end_fails, ends, is_smaller}
 use Rattle.vortex_filter.proofs.LiteralSteps.{valid_with}

@@ -1,7 +1,7 @@
 -- What was read and what is still read is all, what is wrong is still to come, and what was read is valid.
 use Rattle.std.proofs.Common.{◌≡◌, length, map}
 use Rattle.vortex_dtype.specs.TypeOf.{type_of}
-use Rattle.vortex_statistics.specs.Cells.{cell_of}
+use Rattle.vortex_cells.specs.Cells.{cell_of}
 use Rattle.vortex_filter.specs.FilterLiterals.{AreValid}
 use Rattle.vortex_filter.specs.Tokens.{trees}
 use Rattle.vortex_filter.specs.Mistakes.{more_mistake}

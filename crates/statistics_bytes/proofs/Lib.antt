@@ -1,0 +1,9 @@
+pub mod CountBytes
+pub mod FirstWrong
+pub mod FlagLaws
+pub mod FormLaws
+pub mod HeadLaws
+pub mod KeyBounds
+pub mod ReadSteps
+pub mod WriteSteps
+pub mod WrongStarts

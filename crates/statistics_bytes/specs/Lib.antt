@@ -1,0 +1,5 @@
+pub mod Examples
+pub mod Form
+pub mod FormAnswers
+pub mod FormSteps
+pub mod Words

@@ -1,0 +1,14 @@
+-- The words of this crate's clauses, from one place.
+pub use Rattle.std.specs.Option.{option_copied}
+pub use Rattle.std.specs.Vec.{vec_capacity, vec_len}
+pub use Rattle.vortex_dtype.specs.TypeOf.{type_of}
+pub use Rattle.vortex_value.specs.TypesWithin.{HasNoVariant, UnionsHaveVariants}
+pub use Rattle.vortex_value.specs.Values.Scalars.{scalar_content, scalar_type}
+pub use Rattle.vortex_row.specs.Held.{IsHeld}
+pub use Rattle.vortex_row.specs.Keys.{key}
+pub use Rattle.vortex_row.specs.Steps.{Appends, HasRoom}
+pub use Rattle.statistics_bytes.specs.Form.{AreOf, FormsAreApart, IsFormOf, IsHeldBound, IsHeldKnown, bound_bytes, bound_flags, count_bytes, flags, form, known_count_bytes}
+pub use Rattle.statistics_bytes.specs.FormAnswers.{HasValues, IsFirstWrong, ReadsAs, ReadsInto, ReadsRight, SaysBound}
+pub use Rattle.statistics_bytes.specs.FormSteps.{AreBoundKeys, AreBoundsRead, HasNoVariantIn, HasNoVariants, IsBadBound, IsBadForm, IsBoundKey, IsBoundRead, IsBoundReadAt, IsCountsRead, IsRefusal, IsWrongStart, ascending, counts_length, flags_byte, has_bound, is_there, state_at, state_bits}
+pub use Rattle.vortex_statistics.specs.Statistics.{known, known_bound}
+pub use Rattle.vortex_statistics.specs.declared.error.StatisticsError.TheVariants.{BadBytes, HasVariant, OutOfMemory}

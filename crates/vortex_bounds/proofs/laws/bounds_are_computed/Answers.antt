@@ -1,0 +1,5 @@
+use Rattle.vortex_bounds.proofs.BoundLaws.{bounds_are_computed}
+use Rattle.vortex_bounds.proofs.laws.bounds_are_computed.Goals as goal
+
+pub returns : goal.returns
+returns c = bounds_are_computed

@@ -1,7 +1,0 @@
--- The refusal is that of the reading.
-use Rattle.vortex_statistics.proofs.ReadSteps.{passed_on}
-use Rattle.vortex_statistics.specs.declared.error.StatisticsError.TheVariants.{BadBytes}
-use Rattle.vortex_statistics.proofs.column_statistics.ColumnStatistics.from_bytes.Goals as goal
-
-pub returns-in-Err-clause-bad : goal.returns-in-Err-clause-bad
-returns-in-Err-clause-bad c = λ place e. c.in-Err.ensures.bad place (passed_on c.in-Err.refusal (BadBytes place) e)
