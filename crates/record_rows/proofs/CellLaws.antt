@@ -11,9 +11,9 @@ use Rattle.vortex_value.specs.Values.Scalars.{IsValid, scalar_content, scalar_ty
 use Rattle.vortex_value.specs.declared.scalars.Scalar.{Scalar}
 use Rattle.record_rows.specs.Cells.{HasMeaning, HasNoCell, HasNoMeaning, HasNoValue, IsBinaryCell, IsCell, IsContent, IsIntegerCell, IsTextCell, IsValueCell, Means, column_type, is_null_field, type_by}
 use Rattle.record_rows.specs.Words.{IsIntegerWord}
-use Rattle.record_rows.specs.declared.columns.ColumnType.{ColumnType}
-use Rattle.record_rows.specs.declared.columns.Kind.{Kind}
-use Rattle.record_rows.specs.declared.columns.Kind.TheVariants as kinds
+use Rattle.record_rows.specs.declared.schema.ColumnType.{ColumnType}
+use Rattle.record_rows.specs.declared.schema.Kind.{Kind}
+use Rattle.record_rows.specs.declared.schema.Kind.TheVariants as kinds
 
 -- ---- words of each kind
 

@@ -10,9 +10,9 @@ use Rattle.vortex_value.specs.Values.Content.{Content, null, string, text, whole
 use Rattle.vortex_value.specs.Values.Scalars.{IsValid, scalar_content, scalar_type}
 use Rattle.vortex_value.specs.declared.scalars.Scalar.{Scalar}
 use Rattle.record_rows.specs.Words.{IsIntegerWord}
-use Rattle.record_rows.specs.declared.columns.ColumnType.{ColumnType}
-use Rattle.record_rows.specs.declared.columns.Kind.{Kind}
-use Rattle.record_rows.specs.declared.columns.Kind.TheVariants as kinds
+use Rattle.record_rows.specs.declared.schema.ColumnType.{ColumnType}
+use Rattle.record_rows.specs.declared.schema.Kind.{Kind}
+use Rattle.record_rows.specs.declared.schema.Kind.TheVariants as kinds
 
 -- the type of the cells of a column
 abbrev pub type_by : Kind → Nullability → TypeTree

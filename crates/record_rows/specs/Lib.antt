@@ -1,4 +1,6 @@
 pub mod Cells
 pub mod Examples
+pub mod Observed
 pub mod Rows
+pub mod Walks
 pub mod Words

@@ -8,9 +8,9 @@ use Rattle.vortex_value.specs.Values.Content.{null}
 use Rattle.vortex_value.specs.Values.Scalars.{IsValid, scalar_content, scalar_type}
 use Rattle.vortex_value.specs.declared.scalars.Scalar.{Scalar}
 use Rattle.record_rows.specs.Cells.{HasCell, HasNoCell, IsCell, column_type}
-use Rattle.record_rows.specs.declared.columns.ColumnType.{ColumnType}
-use Rattle.record_rows.specs.declared.rows.RowFault.{RowFault}
-use Rattle.record_rows.specs.declared.rows.RowFault.TheVariants as faults
+use Rattle.record_rows.specs.declared.schema.ColumnType.{ColumnType}
+use Rattle.record_rows.specs.declared.faults.RowFault.{RowFault}
+use Rattle.record_rows.specs.declared.faults.RowFault.TheVariants as faults
 
 -- the column does not take the field, and a null stands in its place, as is asked
 pub record IsLenientNull (lenient : Bool) (column : ColumnType) (f : Field) (x : Scalar) : Type 0 where
@@ -25,9 +25,6 @@ pub record IsLenientNull (lenient : Bool) (column : ColumnType) (f : Field) (x :
 abbrev pub IsTaken : Bool → ColumnType → Field → Scalar → Bool → Type 0
 IsTaken lenient column f x false = IsCell column f x
 IsTaken lenient column f x true = IsLenientNull lenient column f x
-
-abbrev pub StandsFor : Bool → ColumnType → Field → Scalar → Type 0
-StandsFor lenient column f x = (flag : Bool) × IsTaken lenient column f x flag
 
 -- each scalar is of its field in its column, each flag tells whether it stands in place of a cell, and there are as many of each
 abbrev pub AreCells : Bool → List ColumnType → List Field → List Scalar → List Bool → Type 0

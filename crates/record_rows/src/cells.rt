@@ -3,18 +3,17 @@
 ghost use Rattle.std.specs.Prelude.{◌≡◌, ℕ, ℤ, List, IfOk, IsUtf8, MatchBool, MatchOption};
 ghost use Rattle.hex.specs.Hex.{decode_of};
 ghost use Rattle.vortex_dtype.specs.declared.nullability.Nullability.TheVariants.{Nullable};
-ghost use Rattle.vortex_dtype.specs.TypeOf.{type_of};
 ghost use Rattle.vortex_value.specs.Values.Content.{null};
 ghost use Rattle.vortex_value.specs.Values.Scalars.{IsValid, scalar_content, scalar_type};
 ghost use Rattle.record_rows.specs.Cells.{HasCell, HasMeaning, HasNoCell, HasNoMeaning, HasNoValue, IsBinaryCell, IsCell, IsIntegerCell, IsTextCell, IsValueCell, column_type, is_null_field};
 ghost use Rattle.record_rows.specs.Words.{IsIntegerWord};
 
 use crate::ascii::is_text;
-use crate::columns::{ColumnType, Kind};
+use crate::schema::{ColumnType, Kind, dtype_of};
 use crate::words::{integer_of, is_integer};
 use hex::{FromHexError, decode};
 use std::alloc::{AllocError, Global};
-use vortex_dtype::{ByteBuffer, DType, Nullability, PType};
+use vortex_dtype::{ByteBuffer, Nullability, PType};
 use vortex_value::Scalar;
 
 /// The cell that a field is, if its column takes it.
@@ -95,17 +94,6 @@ pub(crate) fn null_of(column: ColumnType) -> Scalar
     ensures valid { IsValid result }
 {
     Scalar::null(dtype_of(column))
-}
-
-/// The type of the cells of a column.
-fn dtype_of(column: ColumnType) -> DType
-    ensures { type_of result ≡ column_type column }
-{
-    match column.kind {
-        Kind::Integer(ptype) => DType::Primitive(ptype, column.nullability),
-        Kind::Utf8 => DType::Utf8(column.nullability),
-        Kind::Binary => DType::Binary(column.nullability),
-    }
 }
 
 /// The cell that a word is, if its column takes it.

@@ -43,7 +43,7 @@ fn greatest(ptype: PType) -> u64
 }
 
 /// The number of this type that a word is: an optional sign and decimal digits.
-pub fn integer_of(word: &[u8], ptype: PType) -> Option<PValue>
+pub(crate) fn integer_of(word: &[u8], ptype: PType) -> Option<PValue>
     ensures { MatchOption result
         ((z : ℤ) → ¬ (IsIntegerWord ptype word.now z)) (IsNumberOf ptype word.now) }
 {

@@ -8,8 +8,8 @@ use Rattle.std.proofs.lemmas.Grind.{flat_map-append, take_at_read}
 use Rattle.std.proofs.lemmas.List.Recursion.{is_count_by}
 use Rattle.csv_records.specs.Records.{records_of}
 use Rattle.record_rows.specs.Cells.{column_type}
-use Rattle.record_rows.specs.declared.columns.ColumnType.{ColumnType}
-use Rattle.record_rows.specs.declared.columns.Kind.TheVariants as kinds
+use Rattle.record_rows.specs.declared.schema.ColumnType.{ColumnType}
+use Rattle.record_rows.specs.declared.schema.Kind.TheVariants as kinds
 use Rattle.vortex_dtype.specs.TypeTree.{Same, TypeTree}
 use Rattle.vortex_dtype.specs.declared.nullability.Nullability.TheVariants.{NonNullable}
 use Rattle.filter_pruning.specs.Pruning.{column}

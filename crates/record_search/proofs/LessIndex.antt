@@ -6,7 +6,7 @@ use Rattle.std.proofs.lemmas.List.{length-map}
 use Rattle.std.proofs.lemmas.List.Concat.{flat_map-cons}
 use Rattle.csv_records.specs.Records.{records_of}
 use Rattle.record_rows.specs.Cells.{column_type}
-use Rattle.record_rows.specs.declared.columns.ColumnType.{ColumnType}
+use Rattle.record_rows.specs.declared.schema.ColumnType.{ColumnType}
 use Rattle.vortex_dtype.specs.TypeTree.{TypeTree}
 use Rattle.vortex_filter.specs.Formula.{cell_at}
 use Rattle.filter_pruning.specs.Pruning.{column}
@@ -20,7 +20,7 @@ use Rattle.zone_index.specs.declared.form.Index.{Index}
 use Rattle.zone_index.specs.declared.zones.Zone.{Zone}
 use Rattle.zone_index.proofs.FieldLaws.{bytes_again, ok_is}
 use Rattle.record_search.specs.Searched.{AreDescribed, AreRightForms, DescribeRows, IsRightForm, IsRowIndex, has_row, row_under, rows_alone, rows_under}
-use Rattle.record_search.specs.declared.schema.Schema.{Schema}
+use Rattle.record_rows.specs.declared.schema.Schema.{Schema}
 use Rattle.record_search.proofs.DescribeLaws.{rows_counted}
 
 -- ---- the form of statistics that say the number of rows alone

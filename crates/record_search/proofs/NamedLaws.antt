@@ -2,7 +2,7 @@
 use Rattle.std.proofs.Common.{◌≡◌, ℕ, zero, suc, ◌+◌, List, [], ◌∷◌, Bool, true, false, Option, None, Some, refl, sym, ap, ap₂, ◌∙◌, subst, map, arith, set}
 use Rattle.record_rows.specs.Cells.{column_type, is_null_field}
 use Rattle.record_rows.specs.Rows.{AreCellsIn, IsRowIn, IsTakenIf, is_wanted}
-use Rattle.record_rows.specs.declared.columns.ColumnType.{ColumnType}
+use Rattle.record_rows.specs.declared.schema.ColumnType.{ColumnType}
 use Rattle.csv_records.specs.Rows.{Field}
 use Rattle.vortex_filter.specs.Formula.{Formula, both, cell_at, compare_truth, comparison, constant, either, member_truth, membership, negation, null_test, null_truth, prefix_test, range, range_truth, truth}
 use Rattle.vortex_filter.specs.Prefixes.{prefix_truth}

@@ -1,5 +1,5 @@
 -- The rows of records are observed, one after another.
-use Rattle.std.proofs.Common.{◌≡◌, ◌<◌, ◌≤◌, ◌+◌, ◌^◌, ◌++◌, inl, inr, ℕ, zero, suc, List, [], ◌∷◌, Bool, true, false, Option, None, Some, Result, Ok, Err, MatchBool, refl, sym, ap, ◌∙◌, subst, length, map, take, arith, append_assoc, append-nil, length-append}
+use Rattle.std.proofs.Common.{◌≡◌, ◌<◌, ◌≤◌, ◌+◌, ◌^◌, ◌++◌, ℕ, zero, suc, List, [], ◌∷◌, Bool, true, false, Option, None, Some, Result, Ok, Err, MatchOption, is_some, refl, sym, ap, ◌∙◌, subst, length, map, take, arith, append_assoc, append-nil, length-append}
 use Rattle.std.specs.Int.{from_bool}
 use Rattle.std.specs.List.{AllByRecursion, filter_map}
 use Rattle.std.specs.Prelude.{OnOk}
@@ -7,8 +7,8 @@ use Rattle.csv_records.specs.Records.{records_of}
 use Rattle.std.proofs.lemmas.List.{map-append}
 use Rattle.csv_records.specs.Rows.{Field, rows_of}
 use Rattle.record_rows.specs.Cells.{is_null_field}
-use Rattle.record_rows.specs.declared.columns.ColumnType.{ColumnType}
-use Rattle.record_statistics.specs.Observed.{AreFieldsObserved, IsObserved, IsStep, IsTakenAs, Step, cell_in}
+use Rattle.record_rows.specs.declared.schema.ColumnType.{ColumnType}
+use Rattle.record_rows.specs.Observed.{AreFieldsObserved, IsObserved, IsStep, IsTakenAs, Step, cell_in}
 use Rattle.vortex_filter.specs.Formula.{cell_at}
 use Rattle.filter_pruning.specs.Pruning.{column}
 use Rattle.vortex_cells.specs.Cells.{Cell}
@@ -28,30 +28,30 @@ use Rattle.record_search.proofs.RowLaws.{cell_field, no_row, null_field}
 abbrev step_cell : Step → Cell
 step_cell s = cell_in s.column s.content
 
-content_taken : (l : Bool) (column : ColumnType) (f : Field) (c : Content) → IsTakenAs l column f c → field_content l column f ≡ Some c
-content_taken l column f c (inl h) = cell_field l column f c (is_null_field column.nullability f) refl h
-content_taken l column f c (inr h) = null_field l column f (is_null_field column.nullability f) refl h.0 h.2 h.1 ∙ ap (λ (d : Content). Some d) (sym h.3)
+content_taken : (l : Bool) (column : ColumnType) (f : Field) (c : Content) (b : Bool) → IsTakenAs l column f c b → field_content l column f ≡ Some c
+content_taken l column f c false h = cell_field l column f c (is_null_field column.nullability f) refl h
+content_taken l column f c true h = null_field l column f (is_null_field column.nullability f) refl h.0 h.2 h.1 ∙ ap (λ (d : Content). Some d) (sym h.3)
 
 step_cells : (l : Bool) (steps : List Step) → AllByRecursion (IsStep l) steps → cells_of l (map (λ s. s.column) steps) (map (λ s. s.field) steps) ≡ Some (map step_cell steps)
 step_cells l [] h = refl
-step_cells l (s ∷ steps) h = rw (content_taken l s.column s.field s.content h.0.0, step_cells l steps h.1) refl
+step_cells l (s ∷ steps) h = rw (content_taken l s.column s.field s.content s.flag h.0.0, step_cells l steps h.1) refl
 
 steps_with : (l : Bool) (steps : List Step) → AllByRecursion (IsStep l) steps → AreAllWith (map (λ s. s.old) steps) (map step_cell steps) (map (λ s. s.new) steps)
 steps_with l [] h = tt
 steps_with l (s ∷ steps) h = (h.0.1, steps_with l steps h.1)
 
-fields_observed : (l : Bool) (columns : List ColumnType) (fields : List Field) (old new : List ColumnStatistics) (h : AreFieldsObserved l columns fields old new) → (cells_of l columns fields ≡ Some (map step_cell h.steps)) × AreAllWith old (map step_cell h.steps) new
-fields_observed l columns fields old new h = (
+fields_observed : (l : Bool) (columns : List ColumnType) (fields : List Field) (old new : List ColumnStatistics) (n : ℕ) (h : AreFieldsObserved l columns fields old new n) → (cells_of l columns fields ≡ Some (map step_cell h.steps)) × AreAllWith old (map step_cell h.steps) new
+fields_observed l columns fields old new n h = (
   ap (λ (cs : List ColumnType). cells_of l cs fields) h.columns_are ∙ ap (cells_of l (map (λ (s : Step). s.column) h.steps)) h.fields_are ∙ step_cells l h.steps h.each,
   subst (λ (xs : List ColumnStatistics). AreAllWith xs (map step_cell h.steps) new) (sym h.old_are) (subst (λ (xs : List ColumnStatistics). AreAllWith (map (λ (s : Step). s.old) h.steps) (map step_cell h.steps) xs) (sym h.new_are) (steps_with l h.steps h.each)),
 )
 
 -- what was observed of a record is its row
-pub row_observed : (d : ℕ) (l : Bool) (columns : List ColumnType) (line : List ℕ) (old new : List ColumnStatistics) (has : Bool) → MatchBool has (IsObserved d l columns line old new) ((rows_of d line ≡ []) × (new ≡ old)) → ObservesRow has (row_of d l columns line) old new
-row_observed d l columns line old new true h =
-    let p = fields_observed l columns h.0 old new h.2 in
+pub row_observed : (d : ℕ) (l : Bool) (columns : List ColumnType) (line : List ℕ) (old new : List ColumnStatistics) (refused : Option ℕ) → MatchOption refused ((rows_of d line ≡ []) × (new ≡ old)) (IsObserved d l columns line old new) → ObservesRow (is_some refused) (row_of d l columns line) old new
+row_observed d l columns line old new (Some n) h =
+    let p = fields_observed l columns h.0 old new n h.2 in
     rw (ap (only_row l columns) h.1 ∙ p.0) p.1
-row_observed d l columns line old new false h = rw (no_row d l columns line h.0) h.1
+row_observed d l columns line old new None h = rw (no_row d l columns line h.0) h.1
 
 -- ---- one row more
 

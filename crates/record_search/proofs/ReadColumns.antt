@@ -1,7 +1,7 @@
 -- Columns are read one after another.
 use Rattle.std.proofs.Common.{◌≡◌, ◌<◌, ◌≤◌, ◌+◌, ◌++◌, ◌==◌, ℕ, suc, zero, List, [], ◌∷◌, Bool, true, false, if◌then◌else◌, Option, None, Some, refl, sym, ap, ◌∙◌, length, map, drop, arith, get_or, append_assoc, append-nil, option_map, drop-cons, add-one}
 use Rattle.std.proofs.lemmas.List.{map-append}
-use Rattle.record_rows.specs.declared.columns.ColumnType.{ColumnType}
+use Rattle.record_rows.specs.declared.schema.ColumnType.{ColumnType}
 use Rattle.vortex_statistics.specs.Statistics.{Known, known}
 use Rattle.vortex_statistics.specs.declared.column_statistics.ColumnStatistics.{ColumnStatistics}
 use Rattle.record_search.specs.Decoding.{after_piece, columns_in, known_before, piece_in, statistics_in}

@@ -1,7 +1,7 @@
 -- What statistics decide is so of the rows that they describe.
 use Rattle.std.proofs.Common.{◌≡◌, ℕ, zero, suc, List, [], ◌∷◌, Bool, true, false, not, Option, None, Some, Contains, is_some, refl, sym, ap, ◌∙◌, subst, arith}
 use Rattle.std.specs.List.{AllPass, cons_option, filter_map}
-use Rattle.record_rows.specs.declared.columns.ColumnType.{ColumnType}
+use Rattle.record_rows.specs.declared.schema.ColumnType.{ColumnType}
 use Rattle.vortex_filter.specs.Formula.{Formula, truth}
 use Rattle.filter_pruning.specs.OutcomeSets.{is_only_true}
 use Rattle.filter_pruning.specs.Outcomes.{outcomes}

@@ -8,9 +8,9 @@ use Rattle.hex.specs.Hex.{decode_of}
 use Rattle.hex.specs.declared.error.FromHexError.{FromHexError}
 use Rattle.csv_records.specs.Rows.{Field, rows_of}
 use Rattle.record_rows.specs.Cells.{column_type, is_null_field}
-use Rattle.record_rows.specs.declared.columns.ColumnType.{ColumnType}
-use Rattle.record_rows.specs.declared.columns.Kind.{Kind}
-use Rattle.record_rows.specs.declared.columns.Kind.TheVariants as kinds
+use Rattle.record_rows.specs.declared.schema.ColumnType.{ColumnType}
+use Rattle.record_rows.specs.declared.schema.Kind.{Kind}
+use Rattle.record_rows.specs.declared.schema.Kind.TheVariants as kinds
 use Rattle.vortex_dtype.specs.declared.nullability.Nullability.{Nullability}
 use Rattle.vortex_dtype.specs.declared.nullability.Nullability.TheVariants.{NonNullable, Nullable}
 use Rattle.vortex_dtype.specs.declared.ptype.PType.{PType}

@@ -4,9 +4,9 @@ use Rattle.std.specs.List.{list_all}
 use Rattle.std.specs.Int.{w64, from_le_bytes}
 use Rattle.std.specs.Str.{bytes_eq, is_utf8}
 use Rattle.record_rows.specs.Cells.{column_type}
-use Rattle.record_rows.specs.declared.columns.ColumnType.{ColumnType}
-use Rattle.record_rows.specs.declared.columns.Kind.{Kind}
-use Rattle.record_rows.specs.declared.columns.Kind.TheVariants as kinds
+use Rattle.record_rows.specs.declared.schema.ColumnType.{ColumnType}
+use Rattle.record_rows.specs.declared.schema.Kind.{Kind}
+use Rattle.record_rows.specs.declared.schema.Kind.TheVariants as kinds
 use Rattle.vortex_dtype.specs.TypeTree.{TypeTree, says_nullable}
 use Rattle.vortex_dtype.specs.declared.nullability.Nullability.{Nullability}
 use Rattle.vortex_pvalue.specs.Numbers.{in_range}

@@ -3,7 +3,7 @@ use Rattle.std.specs.Prelude.{◌≡◌, ℕ, List, [], Bool, not, None, Some, m
 use Rattle.std.specs.List.{AllPass}
 use Rattle.csv_records.specs.Rows.{rows_of}
 use Rattle.record_rows.specs.Rows.{IsRow}
-use Rattle.record_rows.specs.declared.columns.ColumnType.{ColumnType}
+use Rattle.record_rows.specs.declared.schema.ColumnType.{ColumnType}
 use Rattle.vortex_filter.specs.Formula.{Formula}
 use Rattle.vortex_cells.specs.Cells.{cell_of}
 use Rattle.vortex_value.specs.declared.scalars.Scalar.{Scalar}
@@ -14,7 +14,7 @@ use Rattle.zone_index.specs.declared.form.Index.{Index}
 use Rattle.zone_index.specs.declared.records.Decision.TheVariants.{AllMatch, NoneMatch}
 use Rattle.record_search.specs.Contents.{row_of}
 use Rattle.record_search.specs.Searched.{DescribeRows, IsRowIndex, decision_of, has_row, matches_record, rows_alone}
-use Rattle.record_search.specs.declared.schema.Schema.{Schema}
+use Rattle.record_rows.specs.declared.schema.Schema.{Schema}
 
 -- the computed row is the one that is read, whatever stands in place of a cell; without rows there is none
 pub record RowsAreRead : Type 0 where

@@ -3,13 +3,13 @@ use Rattle.std.specs.Prelude.{◌≡◌, ℕ, List, false}
 use Rattle.csv_records.specs.Records.{is_whole}
 use Rattle.csv_records.specs.Rows.{rows_of}
 use Rattle.record_rows.specs.Rows.{HasOtherCount, IsRefused}
-use Rattle.record_rows.specs.declared.rows.RowFault.{RowFault}
-use Rattle.record_rows.specs.declared.rows.RowFault.TheVariants as row_faults
+use Rattle.record_rows.specs.declared.faults.RowFault.{RowFault}
+use Rattle.record_rows.specs.declared.faults.RowFault.TheVariants as row_faults
 use Rattle.zone_index.specs.declared.faults.Cause.{Cause}
 use Rattle.zone_index.specs.declared.faults.Cause.TheVariants as causes
 use Rattle.zone_index.specs.declared.faults.RecordFault.{RecordFault}
 use Rattle.zone_index.specs.declared.faults.RecordFault.TheVariants as record_faults
-use Rattle.record_search.specs.declared.schema.Schema.{Schema}
+use Rattle.record_rows.specs.declared.schema.Schema.{Schema}
 
 -- a column does not take a word, which is told; or the record has another number of fields; or bytes stand after its row
 abbrev pub RefusesRecord : Schema → List ℕ → Cause → Type 0

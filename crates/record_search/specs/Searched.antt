@@ -4,7 +4,7 @@ use Rattle.std.specs.Global.{Global}
 use Rattle.std.specs.List.{AllByRecursion, flat_map}
 use Rattle.csv_records.specs.Records.{records_of}
 use Rattle.record_rows.specs.Cells.{column_type}
-use Rattle.record_rows.specs.declared.columns.ColumnType.{ColumnType}
+use Rattle.record_rows.specs.declared.schema.ColumnType.{ColumnType}
 use Rattle.vortex_dtype.specs.TypeTree.{TypeTree}
 use Rattle.vortex_filter.specs.Formula.{Formula, is_match}
 use Rattle.filter_pruning.specs.Outcomes.{outcomes}
@@ -27,7 +27,7 @@ use Rattle.zone_index.specs.declared.records.Decision.{Decision}
 use Rattle.zone_index.specs.declared.records.Decision.TheVariants.{AllMatch, NoneMatch, Unknown}
 use Rattle.record_search.specs.Contents.{row_of}
 use Rattle.record_search.specs.Decoding.{columns_in}
-use Rattle.record_search.specs.declared.schema.Schema.{Schema}
+use Rattle.record_rows.specs.declared.schema.Schema.{Schema}
 
 -- the row of a record under a schema
 abbrev pub row_under : Schema → List ℕ → Option (List Cell)

@@ -7,30 +7,39 @@ ghost use Rattle.record_search.specs.Words.{AreAllComplete, AreDescribed, AreRow
 
 use crate::schema::{Schema, record_fault};
 use csv_records::{Delimiter, cut_record};
-use record_statistics::observe_record;
+use record_rows::observe_record;
 use statistics_bytes::append_statistics;
 use std::alloc::{AllocError, Global};
 use vortex_statistics::ColumnStatistics;
 use zone_index::{Described, Describer, RecordFault, Records};
 
-impl Records for Schema {
-    ghost delimiter = { λ s. s.delimiter.byte };
+/// Describes the records of a file by their rows.
+#[derive(Clone, Copy, Debug)]
+pub struct RowDescriber<'a> {
+    /// How its records are read.
+    pub schema: &'a Schema,
+    /// How many bytes a bound has at most that is a string or bytes.
+    pub bound_length: usize,
+}
 
-    ghost has_row = { λ s. has_row s };
+impl Records for RowDescriber<'_> {
+    ghost delimiter = { λ d. d.schema.now.delimiter.byte };
 
-    ghost Describes = { λ s. DescribeRows s };
+    ghost has_row = { λ d. has_row d.schema.now };
 
-    ghost Refuses = { λ s. RefusesRecord s };
+    ghost Describes = { λ d. DescribeRows d.schema.now };
+
+    ghost Refuses = { λ d. RefusesRecord d.schema.now };
 
     fn delimiter_byte(&self) -> Delimiter {
-        self.delimiter
+        self.schema.delimiter
     }
 }
 
-impl Describer for Schema {
+impl Describer for RowDescriber<'_> {
     fn describe(&self, alloc: Global, text: &[u8]) -> Result<Described, RecordFault> {
-        let mut columns = empty_statistics(alloc, self.columns.len())?;
-        let (records, rows) = observe_text(alloc, self, text, &mut columns)?;
+        let mut columns = empty_statistics(alloc, self.schema.columns.len())?;
+        let (records, rows) = observe_text(alloc, self.schema, text, &mut columns)?;
         let statistics = forms_of(alloc, self, columns)?;
         Ok(Described {
             records,
@@ -103,16 +112,8 @@ fn observe_line(
     ensures length { length statistics.new ≡ length statistics.old }
     ensures refused { IfErr result (IfRecordRefused (TellsRecord (RefusesRecord schema.now) place line.now)) }
 {
-    match observe_record(
-        alloc,
-        schema.delimiter,
-        schema.is_lenient,
-        &schema.columns,
-        line,
-        buffer,
-        statistics,
-    ) {
-        Ok(has_row) => Ok(has_row),
+    match observe_record(alloc, schema, line, buffer, statistics) {
+        Ok(refused) => Ok(refused.is_some()),
         Err(fault) => Err(record_fault(place, fault)),
     }
 }
@@ -120,16 +121,17 @@ fn observe_line(
 /// The forms of the statistics of each column, their bounds cut, each after its length.
 fn forms_of(
     alloc: Global,
-    schema: &Schema,
+    describer: &RowDescriber<'_>,
     statistics: Vec<ColumnStatistics>,
 ) -> Result<Vec<u8>, AllocError>
-    requires { length statistics.items ≡ length schema.now.columns.items }
-    ensures { IfOk result (λ bytes. (rows : List (List Cell)) → AreRowsOf schema.now.columns.items rows
-        → AreAllComplete 0 rows statistics.items → AreDescribed schema.now.columns.items rows bytes.items) }
+    requires { length statistics.items ≡ length describer.now.schema.now.columns.items }
+    ensures { IfOk result (λ bytes. (rows : List (List Cell))
+        → AreRowsOf describer.now.schema.now.columns.items rows → AreAllComplete 0 rows statistics.items
+        → AreDescribed describer.now.schema.now.columns.items rows bytes.items) }
 {
     let mut output = Vec::new(alloc);
     for column in statistics {
-        push_cut(alloc, column, schema.bound_length, &mut output)?;
+        push_cut(alloc, column, describer.bound_length, &mut output)?;
     }
     Ok(output)
 }

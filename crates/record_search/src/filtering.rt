@@ -6,7 +6,7 @@ ghost use Rattle.record_search.specs.Words.{DescribeRows, RefusesRecord, decisio
 use crate::laws::decisions_are_right;
 use crate::naming::named_columns;
 use crate::reading::read_statistics;
-use crate::schema::Schema;
+use crate::schema::{Schema, cells_of_record};
 use csv_records::Delimiter;
 use filter_pruning::{Outcomes, outcomes_of};
 use std::alloc::{AllocError, Global};
@@ -55,7 +55,7 @@ impl Matcher for RowFilter<'_> {
         line: &[u8],
     ) -> Result<bool, RecordFault> {
         let wanted = named_columns(self.filter);
-        let has_row = self.schema.cells(alloc, 0, &wanted, line, scratch)?;
+        let has_row = cells_of_record(alloc, self.schema, 0, &wanted, line, scratch)?;
         if has_row {
             Ok(self.filter.matches(scratch))
         } else {

@@ -13,9 +13,11 @@ mod schema;
 mod searching;
 mod unread;
 
+pub use describing::RowDescriber;
 pub use filtering::RowFilter;
 pub use naming::{NAMED_COLUMNS, named_columns};
 pub use reading::read_statistics;
-pub use schema::{Schema, dtype_of};
+pub use record_rows::dtype_of;
+pub use schema::{Schema, row_of_record};
 pub use searching::{count_rows, find_rows, index_rows};
 pub use unread::RowsAlone;

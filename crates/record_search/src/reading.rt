@@ -4,8 +4,7 @@ ghost use Rattle.std.specs.Prelude.{◌≡◌, IfOk, None, Some, if◌then◌els
 ghost use Rattle.record_search.specs.Words.{columns_in, known, piece_in, statistics_in};
 
 use crate::describing::empty_statistics;
-use crate::schema::dtype_of;
-use record_rows::ColumnType;
+use record_rows::{ColumnType, dtype_of};
 use statistics_bytes::decode_statistics_into;
 use std::alloc::{AllocError, Global};
 use vortex_statistics::{ColumnStatistics, StatisticsError};

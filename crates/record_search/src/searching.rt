@@ -4,6 +4,7 @@ ghost use Rattle.std.specs.Prelude.{◌≡◌, ◌≢◌, ◌<◌, ◌++◌, ◌
 ghost use Rattle.std.specs.Io.KnownBytes.{Appends};
 ghost use Rattle.record_search.specs.Words.{Asks, CutShort, EndsFar, IfRefused, IsHeld, IsOfZone, IsPartOfZone, IsRowIndex, RefusesRecord, TellsOneOf, TooFar, WriteFault, columns_of, decision_of, formula, found_in_zones, found_rows, is_copied, is_searched, is_skipped, matches_record, records_under};
 
+use crate::describing::RowDescriber;
 use crate::filtering::RowFilter;
 use crate::schema::Schema;
 use std::alloc::Global;
@@ -17,7 +18,7 @@ use zone_index::{Fault, ReadAt, Tally, Zone, count, find, index_records};
 /// `Refused` where the columns do not take a record.
 pub fn index_rows<B: BufRead>(
     alloc: Global,
-    schema: &Schema,
+    describer: &RowDescriber<'_>,
     size: u64,
     start: u64,
     reader: &mut B,
@@ -25,15 +26,16 @@ pub fn index_rows<B: BufRead>(
     requires { 0 < size }
     ensures right { IfOk result (λ zones. (before bytes : List ℕ) → length before ≡ start
         → B.remaining reader.old ≡ Some bytes
-        → IsRowIndex schema.now start zones.items (before ++ bytes)) }
+        → IsRowIndex describer.now.schema.now start zones.items (before ++ bytes)) }
     ensures reading { IfErr result (λ fault. fault ≢ WriteFault) }
     ensures uncut { IfErr result (λ fault. fault ≢ CutShort) }
     ensures far { IfErr result (λ fault. fault ≡ TooFar → EndsFar start (B.remaining reader.old)) }
     // The record that is told is one of those, and begins there.
     ensures refused { IfErr result (IfRefused (λ refusal. (bytes : List ℕ) → B.remaining reader.old ≡ Some bytes
-        → TellsOneOf (RefusesRecord schema.now) start (records_under schema.now bytes) refusal)) }
+        → TellsOneOf (RefusesRecord describer.now.schema.now) start
+        (records_under describer.now.schema.now bytes) refusal)) }
 {
-    index_records(alloc, size, start, schema, reader)
+    index_records(alloc, size, start, describer, reader)
 }
 
 /// Writes the records of a file on whose row the filter is True, whole and in order. Only the zones

@@ -4,7 +4,7 @@ ghost use Rattle.std.specs.Prelude.{◌≡◌, ℕ, List, IfOk, map};
 ghost use Rattle.zone_index.specs.Form.{FitsForm, IndexValue, index_form, index_value, wanted_of};
 ghost use Rattle.statistics_bytes.specs.Form.{form};
 ghost use Rattle.record_search.specs.Searched.{IsRowIndex, rows_alone};
-ghost use Rattle.record_search.specs.declared.schema.Schema.{Schema};
+ghost use Rattle.record_rows.specs.declared.schema.Schema.{Schema};
 
 use record_search::RowsAlone;
 use record_search::laws::indexes_are_read_back;

@@ -4,8 +4,7 @@ ghost use Rattle.std.specs.Prelude.{◌≡◌, IfOk};
 ghost use Rattle.vortex_filter.specs.Formula.{formula};
 ghost use Rattle.record_search.specs.Searched.{matches_record};
 
-use record_rows::{RowFault, read_row};
-use record_search::Schema;
+use record_rows::{RowFault, Schema, read_row};
 use record_search::laws::rows_are_read;
 use std::alloc::Global;
 use vortex_filter::Filter;
@@ -22,13 +21,6 @@ pub fn matches_line(
 {
     rows_are_read();
     let mut row = Vec::new(alloc);
-    let refused = read_row(
-        alloc,
-        schema.delimiter,
-        schema.is_lenient,
-        &schema.columns,
-        line,
-        &mut row,
-    )?;
+    let refused = read_row(alloc, schema, line, &mut row)?;
     Ok(refused.is_some() && filter.matches(&row))
 }

@@ -3,7 +3,7 @@
 use crate::faults::{Fault, FileFault};
 use crate::files::stamp_of;
 use csv_records::{RecordState, state_after_line};
-use record_search::{Schema, index_rows};
+use record_search::{RowDescriber, Schema, index_rows};
 use std::alloc::Global;
 use std::fs::File;
 use zone_index::{Fault as SearchFault, Index, Zone, fill_from};
@@ -24,7 +24,7 @@ pub fn grown_end(
     rt: &HostRuntime,
     name: &str,
     index: &Index,
-    schema: &Schema,
+    describer: &RowDescriber<'_>,
     file: &mut File,
 ) -> Result<u64, Fault> {
     let now = stamp_of(rt.alloc(), name, file)?;
@@ -33,10 +33,10 @@ pub fn grown_end(
         return Err(Fault::of_file(rt.alloc(), name, FileFault::Changed));
     }
     let is_same = match index.zones.last() {
-        Some(zone) => is_same_zone(rt.alloc(), schema, zone, file)?,
+        Some(zone) => is_same_zone(rt.alloc(), describer, zone, file)?,
         None => true,
     };
-    if is_same && (now.length == end || ends_record(rt.alloc(), index, schema, file)?) {
+    if is_same && (now.length == end || ends_record(rt.alloc(), index, describer.schema, file)?) {
         Ok(end)
     } else {
         Err(Fault::of_file(rt.alloc(), name, FileFault::Changed))
@@ -61,13 +61,13 @@ fn bytes_at(
 /// Whether a zone has the records, rows and statistics that the index has of it.
 fn is_same_zone(
     alloc: Global,
-    schema: &Schema,
+    describer: &RowDescriber<'_>,
     zone: &Zone,
     file: &mut File,
 ) -> Result<bool, SearchFault> {
     let text = bytes_at(alloc, file, zone.first, zone.length)?;
     let size = zone.records.max(1);
-    match index_rows(alloc, schema, size, zone.first, &mut text.as_slice()) {
+    match index_rows(alloc, describer, size, zone.first, &mut text.as_slice()) {
         Ok(zones) => Ok(is_only_zone(&zones, zone)),
         Err(SearchFault::Refused(_)) => Ok(false),
         Err(fault) => Err(fault),

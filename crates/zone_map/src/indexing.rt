@@ -11,7 +11,7 @@ use crate::places::located;
 use crate::preparing::{Prepared, prepare};
 use crate::setup::{Numbers, Setup};
 use crate::watching::Watched;
-use record_search::{Schema, index_rows};
+use record_search::{RowDescriber, Schema, index_rows};
 use std::alloc::Global;
 use std::fs::File;
 use std::process::ExitCode;
@@ -109,7 +109,11 @@ fn extended(rt: &HostRuntime, name: &str, file: &mut File) -> Result<Unfinished,
 /// Where a file was indexed to that only grew.
 fn grown_by(rt: &HostRuntime, name: &str, loaded: &Loaded, file: &mut File) -> Result<u64, Fault> {
     let schema = loaded.setup.schema(rt.alloc())?;
-    grown_end(rt, name, &loaded.index, &schema, file)
+    let describer = RowDescriber {
+        schema: &schema,
+        bound_length: loaded.setup.numbers.bound_length,
+    };
+    grown_end(rt, name, &loaded.index, &describer, file)
 }
 
 /// Where the next zone begins, without a last one of fewer records, which is taken away.
@@ -169,7 +173,11 @@ fn zones_from(
     let file = at_place(file, place)?;
     let mut reader = buffered(rt.alloc(), Watched::telling(file, rt.stderr(), left))?;
     let size = setup.numbers.zone_rows.max(1);
-    match index_rows(rt.alloc(), schema, size, place, &mut reader) {
+    let describer = RowDescriber {
+        schema,
+        bound_length: setup.numbers.bound_length,
+    };
+    match index_rows(rt.alloc(), &describer, size, place, &mut reader) {
         Ok(zones) => {
             reader.get_ref().end();
             Ok(zones)

@@ -54,14 +54,7 @@ fn nulls_in(alloc: Global, schema: &Schema, text: &[u8]) -> Result<u64, AllocErr
 /// How many fields of a record are. One without a row has none.
 fn nulls_of(alloc: Global, schema: &Schema, line: &[u8]) -> Result<u64, AllocError> {
     let mut row = Vec::new(alloc);
-    match read_row(
-        alloc,
-        schema.delimiter,
-        schema.is_lenient,
-        &schema.columns,
-        line,
-        &mut row,
-    ) {
+    match read_row(alloc, schema, line, &mut row) {
         Ok(made) => Ok(made.unwrap_or(0) as u64),
         Err(RowFault::Memory) => Err(AllocError),
         Err(_) => Ok(0),

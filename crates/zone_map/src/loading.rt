@@ -6,7 +6,7 @@ use crate::faults::{BadFilter, Fault, FileFault};
 use crate::files::index_name;
 use crate::setup::Setup;
 use filter_sql::{ParseError, parse};
-use record_search::{NAMED_COLUMNS, RowFilter, RowsAlone, Schema, named_columns};
+use record_search::{NAMED_COLUMNS, RowDescriber, RowFilter, RowsAlone, Schema, named_columns};
 use std::alloc::{AllocError, Global};
 use std::fs;
 use std::io::ErrorKind;
@@ -156,6 +156,14 @@ impl Sought {
             schema,
             filter,
         })
+    }
+
+    /// The rows of a zone.
+    pub fn describer(&self) -> RowDescriber<'_> {
+        RowDescriber {
+            schema: &self.schema,
+            bound_length: self.setup.numbers.bound_length,
+        }
     }
 
     /// The records that match.

@@ -247,7 +247,7 @@ fn rest_of(
     if !request.may_have_grown {
         return Err(Fault::of_file(rt.alloc(), request.file, FileFault::Changed));
     }
-    let end = grown_end(rt, request.file, index, &sought.schema, file)?;
+    let end = grown_end(rt, request.file, index, &sought.describer(), file)?;
     Ok(if end < now.length { Some(end) } else { None })
 }
 

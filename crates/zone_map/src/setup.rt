@@ -82,7 +82,6 @@ impl Setup {
             delimiter,
             is_lenient: self.numbers.is_lenient,
             columns,
-            bound_length: self.numbers.bound_length,
         })
     }
 

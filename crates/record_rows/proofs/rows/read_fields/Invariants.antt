@@ -1,7 +1,12 @@
 -- The fields so far.
-use Rattle.std.proofs.Common.{◌≤◌, length, take}
+use Rattle.std.proofs.Common.{◌-◌, ◌≤◌, length, take}
 use Rattle.record_rows.proofs.Reading.{Begun}
 use Rattle.record_rows.proofs.rows.read_fields.Given as goal
 
-abbrev pub invariant-loop-place : goal.invariant-loop-place
-invariant-loop-place l = Begun l.wanted l.delimiter.byte l.is_lenient l.columns l.text l.place l.rest (take l.place l.row.items) l.refused × (l.refused ≤ l.place) × (l.place ≤ length l.row.items) × (length l.row.items ≤ length l.columns)
+abbrev pub invariant-loop-buffer : goal.invariant-loop-buffer
+invariant-loop-buffer l =
+    Begun l.wanted l.schema.delimiter.byte l.schema.is_lenient l.schema.columns.items l.text l.walk (take l.walk.place l.row.items) l.refused
+    × (l.refused ≤ l.walk.place) × (l.walk.place ≤ length l.row.items) × (length l.row.items ≤ length l.schema.columns.items)
+
+abbrev pub decreases-loop-buffer : goal.decreases-loop-buffer
+decreases-loop-buffer l = length l.walk.columns.now - l.walk.place

@@ -7,5 +7,5 @@ use Rattle.record_search.proofs.describing.forms_of.Given as goal
 abbrev pub invariant-loop-column : goal.invariant-loop-column
 invariant-loop-column l =
     (l.yielded ++ into_iter_items l.column-iterator ≡ into_iter_items l.initial.column-iterator)
-    × AreFormsOf l.schema.columns.items l.yielded l.output.items
+    × AreFormsOf l.describer.schema.now.columns.items l.yielded l.output.items
     × (into_iter_len l.column-iterator ≡ length (into_iter_items l.column-iterator))

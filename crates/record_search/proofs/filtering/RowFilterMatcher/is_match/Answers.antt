@@ -12,7 +12,7 @@ returns-then-has_row-clause-hit c =
     let f = formula c.args.self.now.filter.now in
     let agrees = rw c.if-has_row.true at c.in_ok-has_row.ensures.row in
     c.matches.ensures.value ∙ ap (λ (xs : List Scalar). is_match f (map cell_of xs)) c.deref.ensures.value
-    ∙ match_is f _ _ (Some (map cell_of c.cells.new.row.items)) (row_under c.args.self.now.schema.now c.args.line.now) c.named_columns-wanted.ensures agrees
+    ∙ match_is f _ _ (Some (map cell_of c.cells_of_record.new.row.items)) (row_under c.args.self.now.schema.now c.args.line.now) c.named_columns-wanted.ensures agrees
 
 pub returns-else-has_row-clause-hit : goal.returns-else-has_row-clause-hit
 returns-else-has_row-clause-hit c =

@@ -1,0 +1,139 @@
+-- Words whose cells are observed without a scalar of them.
+use Rattle.std.proofs.Common.{◌≡◌, ◌≢◌, ◌<◌, ◌+◌, ◌^◌, ◌&&◌, inl, inr, ℕ, ℤ, List, [], ◌∷◌, ◌++◌, Bool, true, false, ◌==◌, Option, Some, Ordering, refl, sym, ap, ◌∙◌, subst, length, arith, rules}
+use Rattle.std.proofs.lemmas.Bool.{ne_eqb}
+use Rattle.std.proofs.lemmas.Cmp.{int_ranked}
+use Rattle.std.specs.Ordering.{int_cmp}
+use Rattle.std.specs.declared.cmp.Ordering.TheVariants.{Equal, Greater, Less}
+use Rattle.csv_records.specs.Rows.{Field}
+use Rattle.record_rows.specs.Cells.{IsContent, Means, column_type, is_null_field}
+use Rattle.record_rows.specs.Rows.{IsTaken}
+use Rattle.record_rows.specs.declared.schema.ColumnType.{ColumnType}
+use Rattle.record_rows.specs.declared.schema.Kind.{Kind}
+use Rattle.record_rows.specs.declared.schema.Kind.TheVariants as kinds
+use Rattle.vortex_dtype.specs.TypeTree.{Same, TypeTree, integer_type, utf8_type}
+use Rattle.vortex_dtype.specs.declared.nullability.Nullability.{Nullability}
+use Rattle.vortex_dtype.specs.declared.nullability.Nullability.TheVariants.{NonNullable, Nullable}
+use Rattle.vortex_dtype.specs.declared.ptype.PType.{PType}
+use Rattle.vortex_dtype.specs.declared.types.DType.{the_lemmas as dtype_lemmas}
+use Rattle.vortex_dtype.specs.declared.types.DType.TheVariants as dtypes
+use Rattle.vortex_pvalue.specs.Whole.{whole_of}
+use Rattle.vortex_pvalue.specs.declared.pvalues.PValue.{PValue}
+use Rattle.vortex_cells.specs.Cells.{Cell, cell_of, cell_order, is_null_cell, is_null_content, order_from_above}
+use Rattle.vortex_statistics.specs.Observing.{IsCompleteWith, bound_after, bound_at, bound_with, is_below_some, observed}
+use Rattle.vortex_statistics.specs.Statistics.{AreComplete, Known, KnownBound, may_be_value}
+use Rattle.vortex_statistics.proofs.ObserveLaws.{observed_complete}
+use Rattle.vortex_value.specs.Equality.{same_type}
+use Rattle.vortex_value.specs.Lemmas.EqualityLaws.{same_type-Decides}
+use Rattle.vortex_value.specs.Order.{IsReversed, IsTransitive, order}
+use Rattle.vortex_value.specs.Values.Content.{Content, text, whole}
+use Rattle.vortex_value.specs.Values.Scalars.{scalar_content, scalar_type}
+use Rattle.vortex_value.specs.declared.scalars.Scalar.{Scalar}
+use Rattle.vortex_value.specs.declared.values.ScalarValue.{the_lemmas as value_lemmas}
+use Rattle.vortex_value.specs.declared.values.ScalarValue.TheVariants as values
+use Rattle.record_rows.specs.Observed.{IsTakenAs, IsTextInside, Keeps, ObservesField, ObservesWord, RaisesTo, TakesCell, TakesInteger, TakesWord, cell_in}
+
+-- ---- orders
+
+same_true : (s t : TypeTree) → Same s t → same_type s t ≡ true
+same_true s t h = (same_type-Decides s t).1 h
+
+number_order : (p : PType) (n m : Nullability) (a z : ℤ) → cell_order (record { typed = integer_type p n; content = whole a }) (record { typed = integer_type p m; content = whole z }) ≡ Some (int_cmp a z)
+number_order p n m a z = rw (same_true (integer_type p n) (integer_type p m) refl) refl
+
+stays : (cmp : Cell → Cell → Option Ordering) (b : KnownBound) (x : Cell) → Keeps cmp b x → bound_after cmp (Some b) x ≡ Some b
+stays cmp b x (inl less) = rw less refl
+stays cmp b x (inr same) = rw same.0 (ap (λ (e : Bool). let k : KnownBound = record { value = b.value; is_exact = e } in Some k) (sym same.1))
+
+-- ---- the upper bound after a number
+
+abbrev pub number_cell : PType → Nullability → PValue → Cell
+number_cell p n v = record { typed = integer_type p n; content = whole (whole_of v) }
+
+pub number_scalar : (p : PType) (n : Nullability) (v : PValue) (x : Scalar) → x.dtype ≡ dtypes.Primitive p n → x.value ≡ Some (values.Primitive v) → cell_of x ≡ number_cell p n v
+number_scalar p n v x typed is = rw (typed, is) (search (rules, dtype_lemmas, value_lemmas))
+
+from_above : (p : PType) (n : Nullability) (a v : PValue) → order_from_above (number_cell p n a) (number_cell p n v) ≡ Some (int_cmp (whole_of v) (whole_of a))
+from_above p n a v = number_order p n n (whole_of v) (whole_of a)
+
+at_number : (p : PType) (n : Nullability) (a v : PValue) (old : KnownBound) (o : Ordering) → old.value ≡ number_cell p n a → int_cmp (whole_of v) (whole_of a) ≡ o → bound_after order_from_above (Some old) (number_cell p n v) ≡ bound_with (Some o) old (number_cell p n v)
+at_number p n a v old o is order_is =
+    let x : Cell = number_cell p n v in
+    ap (λ (r : Option Ordering). bound_with r old x) (ap (λ (c : Cell). order_from_above c x) is ∙ from_above p n a v ∙ ap (λ (r : Ordering). Some r) order_is)
+
+raised_by : (p : PType) (n : Nullability) (a v : PValue) (o : Ordering) (old new : KnownBound) → old.value ≡ number_cell p n a → int_cmp (whole_of v) (whole_of a) ≡ o → o ≢ Less → new ≡ record { value = number_cell p n v; is_exact = true } → RaisesTo v p n old new
+raised_by p n a v Less old new is order_is above same = absurd (above refl)
+raised_by p n a v Equal old new is order_is above same =
+    let z : whole_of v ≡ whole_of a = int_ranked (whole_of v) (whole_of a) Equal (sym order_is) in
+    let cell : old.value ≡ number_cell p n v = is ∙ ap (λ (w : ℤ). let c : Cell = record { typed = integer_type p n; content = whole w } in c) (sym z) in
+    at_number p n a v old Equal is order_is ∙ ap (λ (c : Cell). let b : KnownBound = record { value = c; is_exact = true } in Some b) cell ∙ ap (λ (b : KnownBound). Some b) (sym same)
+raised_by p n a v Greater old new is order_is above same =
+    let x : Cell = number_cell p n v in
+    let itself : bound_at x ≡ Some (record { value = x; is_exact = true }) = rw (number_order p n n (whole_of v) (whole_of v)) refl in
+    at_number p n a v old Greater is order_is ∙ itself ∙ ap (λ (b : KnownBound). Some b) (sym same)
+
+pub raised : (p : PType) (n : Nullability) (a v : PValue) (o : Option Ordering) (old new : KnownBound) → old.value ≡ number_cell p n a → o ≡ Some (int_cmp (whole_of v) (whole_of a)) → o ≢ Some Less → new ≡ record { value = number_cell p n v; is_exact = true } → RaisesTo v p n old new
+raised p n a v o old new is order_is past same =
+    raised_by p n a v (int_cmp (whole_of v) (whole_of a)) old new is refl (λ less. past (order_is ∙ ap (λ (r : Ordering). Some r) less)) same
+
+-- ---- one cell more
+
+not_below : (s : Known) (b : KnownBound) (x : Cell) → s.lower ≡ Some b → Keeps cell_order b x → is_below_some s x ≡ false
+not_below s b x is (inl less) = rw (is, less) (never b.is_exact)
+  where
+    never : (e : Bool) → (e && false) ≡ false
+    never true = refl
+    never false = refl
+not_below s b x is (inr same) = rw (is, same.0, same.1) refl
+
+-- the statistics count one more, and this is the upper bound
+abbrev pub with_upper : Known → KnownBound → Known
+with_upper s b = record { row_count = s.row_count + 1; null_count = s.null_count; lower = s.lower; upper = Some b }
+
+taken : (s : Known) (l u v : KnownBound) (x : Cell) → s.lower ≡ Some l → s.upper ≡ Some u → is_null_cell x ≡ false → may_be_value s ≡ true → TakesCell l u v x → observed s x ≡ with_upper s v
+taken s l u v x lower_is upper_is there valued h =
+    let low : bound_after cell_order s.lower x ≡ s.lower = rw lower_is (stays cell_order l x h.0) in
+    let high : bound_after order_from_above s.upper x ≡ Some v = rw upper_is h.1 in
+    rw (there, valued, not_below s l x lower_is h.0, low, high) refl
+
+counted : IsReversed order → IsTransitive order → (s t : Known) (l u v : KnownBound) (x : Cell) → s.row_count + 1 < 2 ^ 64 → s.lower ≡ Some l → s.upper ≡ Some u → is_null_cell x ≡ false → may_be_value s ≡ true → TakesCell l u v x → t ≡ with_upper s v → IsCompleteWith s x t
+counted reversed transitive s t l u v x fits lower_is upper_is there valued h is = λ cells complete.
+    subst (λ (k : Known). AreComplete k (cells ++ x ∷ [])) (taken s l u v x lower_is upper_is there valued h ∙ sym is) (observed_complete reversed transitive s cells x fits complete)
+
+-- ---- a word that is observed in place
+
+some_field : (n : Nullability) (word : List ℕ) (q : Bool) → 0 < length word → is_null_field n (record { text = word; is_quoted = q }) ≡ false
+some_field Nullable word q h = rw (ne_eqb (length word) 0 (λ e. omega (arith, h, e))) refl
+some_field NonNullable word q h = refl
+
+no_null : (kind : Kind) (word : List ℕ) (c : Content) → Means kind word c → is_null_content c ≡ false
+no_null (kinds.Integer k) word c h = ap is_null_content h.2
+no_null kinds.Utf8 word c h = ap is_null_content h.1
+no_null kinds.Binary word c h = ap is_null_content h.2
+
+pub word_observed : IsReversed order → IsTransitive order → (column : ColumnType) (word : List ℕ) (s t : Known) (l u v : KnownBound) → 0 < length word → s.row_count + 1 < 2 ^ 64 → s.lower ≡ Some l → s.upper ≡ Some u → may_be_value s ≡ true → TakesWord column word l u v → t ≡ with_upper s v → ObservesWord column word s t
+word_observed reversed transitive column word s t l u v some fits lower_is upper_is valued h is = λ lenient q.
+    let content : IsContent column (record { text = word; is_quoted = q }) h.0 = rw (some_field column.nullability word q some) h.1 in
+    (h.0, content, counted reversed transitive s t l u v (cell_in column h.0) fits lower_is upper_is (no_null column.kind word h.0 h.1) valued h.2 is)
+
+pub integer_taken : (k : PType) (column : ColumnType) (word : List ℕ) (l u v : KnownBound) → column.kind ≡ kinds.Integer k → TakesInteger k column.nullability word l u v → TakesWord column word l u v
+integer_taken k column word l u v kind h = (whole h.0, rw kind (h.0, h.1, refl), rw kind h.2)
+
+pub text_taken : (column : ColumnType) (word : List ℕ) (l u : KnownBound) → column.kind ≡ kinds.Utf8 → IsTextInside word l u → TakesWord column word l u u
+text_taken column word l u kind h =
+    let x : Cell = record { typed = utf8_type column.nullability; content = text word } in
+    (text word, rw kind (h.0, refl), rw kind ((h.1 column.nullability).0, stays order_from_above u x (h.1 column.nullability).1))
+
+-- ---- a field of which a scalar is made
+
+stands_as : (l : Bool) (column : ColumnType) (f : Field) (x : Scalar) (b : Bool) → IsTaken l column f x b → IsTakenAs l column f (scalar_content x) b × (scalar_type x ≡ column_type column)
+stands_as l column f x false h = (h.content, h.typed)
+stands_as l column f x true h = ((h.asked, h.none, h.takes, h.content), h.typed)
+
+pub cell_observed : (l : Bool) (column : ColumnType) (f : Field) (x : Scalar) (b : Bool) (s t : Known) → IsTaken l column f x b → IsCompleteWith s (cell_of x) t → ObservesField l column f s t b
+cell_observed l column f x b s t h complete =
+    let p = stands_as l column f x b h in
+    (scalar_content x, p.0, subst (λ (k : TypeTree). IsCompleteWith s (record { typed = k; content = scalar_content x }) t) p.1 complete)
+
+pub some_length : (xs : List ℕ) (b : Bool) → b ≡ (length xs == 0) → b ≡ false → 0 < length xs
+some_length [] b e none = absurd cc
+some_length (x ∷ xs) b e none = omega arith

@@ -1,0 +1,105 @@
+-- The statistics of columns and one record more.
+use Rattle.std.specs.Prelude.{◌≡◌, ◌⊎◌, ℕ, ℤ, List, [], ◌∷◌, Bool, false, true, Option, Some, IsUtf8, map}
+use Rattle.std.specs.List.{AllByRecursion}
+use Rattle.std.specs.declared.cmp.Ordering.{Ordering}
+use Rattle.std.specs.declared.cmp.Ordering.TheVariants.{Equal, Less}
+use Rattle.csv_records.specs.Rows.{Field, field_rows, rows_of}
+use Rattle.record_rows.specs.Cells.{HasNoCell, IsContent, Means, column_type}
+use Rattle.record_rows.specs.Rows.{refused_of}
+use Rattle.record_rows.specs.Words.{IsIntegerWord}
+use Rattle.record_rows.specs.declared.schema.ColumnType.{ColumnType}
+use Rattle.vortex_dtype.specs.TypeTree.{integer_type, utf8_type}
+use Rattle.vortex_dtype.specs.declared.nullability.Nullability.{Nullability}
+use Rattle.vortex_dtype.specs.declared.nullability.Nullability.TheVariants.{Nullable}
+use Rattle.vortex_dtype.specs.declared.ptype.PType.{PType}
+use Rattle.vortex_pvalue.specs.Whole.{whole_of}
+use Rattle.vortex_pvalue.specs.declared.pvalues.PValue.{PValue}
+use Rattle.vortex_cells.specs.Cells.{Cell, cell_order, order_from_above}
+use Rattle.vortex_statistics.specs.Observing.{IsCompleteWith, bound_after}
+use Rattle.vortex_statistics.specs.Statistics.{Known, KnownBound, known}
+use Rattle.vortex_statistics.specs.declared.column_statistics.ColumnStatistics.{ColumnStatistics}
+use Rattle.vortex_value.specs.Values.Content.{Content, null, text, whole}
+
+-- ---- the cells of a record
+
+-- the content of a field, or a null in its place, as is asked; the flag tells which
+abbrev pub IsTakenAs : Bool → ColumnType → Field → Content → Bool → Type 0
+IsTakenAs lenient column f c false = IsContent column f c
+IsTakenAs lenient column f c true = (lenient ≡ true) × HasNoCell column f × (column.nullability ≡ Nullable) × (c ≡ null)
+
+-- the cell of a column with this content
+abbrev pub cell_in : ColumnType → Content → Cell
+cell_in column c = record { typed = column_type column; content = c }
+
+-- t is complete for the cells of s and that of a field
+abbrev pub ObservesField : Bool → ColumnType → Field → Known → Known → Bool → Type 0
+ObservesField lenient column f s t flag = (c : Content) × IsTakenAs lenient column f c flag × IsCompleteWith s (cell_in column c) t
+
+-- a column at a record: its field there and the content of this, or a null in its place, and its statistics before and after
+pub record Step : Type 0 where
+  pub column : ColumnType
+  pub field : Field
+  pub content : Content
+  pub flag : Bool
+  pub old : ColumnStatistics
+  pub new : ColumnStatistics
+
+-- the content is that of the field, and the statistics are complete with it
+abbrev pub IsStep : Bool → Step → Type 0
+IsStep lenient s = IsTakenAs lenient s.column s.field s.content s.flag × IsCompleteWith (known s.old) (cell_in s.column s.content) (known s.new)
+
+-- these fields are observed, each by the statistics of its column, and so many nulls stand in place of a cell
+pub record AreFieldsObserved (lenient : Bool) (columns : List ColumnType) (fields : List Field) (old new : List ColumnStatistics) (refused : ℕ) : Type 0 where
+  pub steps : List Step
+  pub fields_are : fields ≡ map (λ s. s.field) steps
+  pub columns_are : columns ≡ map (λ s. s.column) steps
+  pub old_are : old ≡ map (λ s. s.old) steps
+  pub new_are : new ≡ map (λ s. s.new) steps
+  pub each : AllByRecursion (IsStep lenient) steps
+  pub count : refused ≡ refused_of (map (λ s. s.flag) steps)
+
+-- the text has one row, which is observed; it begins where a field does
+abbrev pub AreObserved : ℕ → Bool → List ColumnType → List ℕ → List ColumnStatistics → List ColumnStatistics → ℕ → Type 0
+AreObserved delimiter lenient columns bytes old new refused = (fields : List Field) × (field_rows delimiter bytes ≡ fields ∷ []) × AreFieldsObserved lenient columns fields old new refused
+
+-- the record has one row, which is observed
+abbrev pub IsObserved : ℕ → Bool → List ColumnType → List ℕ → List ColumnStatistics → List ColumnStatistics → ℕ → Type 0
+IsObserved delimiter lenient columns line old new refused = (fields : List Field) × (rows_of delimiter line ≡ fields ∷ []) × AreFieldsObserved lenient columns fields old new refused
+
+-- ---- words that are observed in place
+
+-- the cell compares with the bound and is not past it in this order; it is equal to it only if it is exact
+abbrev pub Keeps : (Cell → Cell → Option Ordering) → KnownBound → Cell → Type 0
+Keeps cmp b x = (cmp b.value x ≡ Some Less) ⊎ ((cmp b.value x ≡ Some Equal) × (b.is_exact ≡ true))
+
+-- the cell keeps the lower bound, and new is the upper bound after it
+abbrev pub TakesCell : KnownBound → KnownBound → KnownBound → Cell → Type 0
+TakesCell lower old new x = Keeps cell_order lower x × (bound_after order_from_above (Some old) x ≡ Some new)
+
+-- the word has a meaning in the column; its cell keeps the lower bound, and new is the upper bound after it
+abbrev pub TakesWord : ColumnType → List ℕ → KnownBound → KnownBound → KnownBound → Type 0
+TakesWord column word lower old new = (c : Content) × Means column.kind word c × TakesCell lower old new (cell_in column c)
+
+-- the same for a number of the type
+abbrev pub TakesInteger : PType → Nullability → List ℕ → KnownBound → KnownBound → KnownBound → Type 0
+TakesInteger ptype n word lower old new = (z : ℤ) × IsIntegerWord ptype word z × TakesCell lower old new (record { typed = integer_type ptype n; content = whole z })
+
+-- new is the upper bound after a number
+abbrev pub RaisesTo : PValue → PType → Nullability → KnownBound → KnownBound → Type 0
+RaisesTo number ptype n old new = bound_after order_from_above (Some old) (record { typed = integer_type ptype n; content = whole (whole_of number) }) ≡ Some new
+
+-- the word is a string, and keeps both bounds
+abbrev pub IsTextInside : List ℕ → KnownBound → KnownBound → Type 0
+IsTextInside word lower upper = IsUtf8 word × ((n : Nullability) → let x : Cell = record { typed = utf8_type n; content = text word } in Keeps cell_order lower x × Keeps order_from_above upper x)
+
+-- t is complete for the cells of s and that of the word, in quotes or not
+abbrev pub ObservesWord : ColumnType → List ℕ → Known → Known → Type 0
+ObservesWord column word s t = (lenient is_quoted : Bool) → ObservesField lenient column (record { text = word; is_quoted = is_quoted }) s t false
+
+-- the bound is this number of the type
+abbrev pub IsNumberBound : PType → PValue → KnownBound → Type 0
+IsNumberBound ptype number b = (n : Nullability) × (b.value ≡ record { typed = integer_type ptype n; content = whole (whole_of number) })
+
+-- the bound is this string
+abbrev pub IsTextBound : List ℕ → KnownBound → Type 0
+IsTextBound bytes b = (n : Nullability) × (b.value ≡ record { typed = utf8_type n; content = text bytes })

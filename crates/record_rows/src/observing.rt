@@ -1,0 +1,97 @@
+//! The fields of a record are observed, each by the statistics of its column.
+
+ghost use Rattle.std.specs.Prelude.{◌≡◌, [], IfErr, IfOk, MatchOption, length};
+ghost use Rattle.csv_records.specs.Rows.{rows_of};
+ghost use Rattle.record_rows.specs.Observed.{AreObserved, IsObserved, ObservesField};
+ghost use Rattle.record_rows.specs.Rows.{Refuses, RefusesFields, RefusesWord};
+ghost use Rattle.record_rows.specs.Walks.{field_of};
+ghost use Rattle.vortex_statistics.specs.Statistics.{known};
+
+use crate::faults::RowFault;
+use crate::fields::{ColumnField, FieldWalk};
+use crate::in_place::observe_in_place;
+use crate::schema::Schema;
+use crate::taking::{one_more, take_field};
+use csv_records::row_start;
+use std::alloc::Global;
+use vortex_statistics::ColumnStatistics;
+use vortex_value::ScalarRef;
+
+/// Observes the row of a record, each cell by the statistics of its column; `None` if it has no row.
+/// After a refusal some cells may have been observed.
+///
+/// If the schema is lenient, a field that its column does not take is a null if the column takes
+/// nulls. The answer is how many of them there are. The buffer is room that is used again.
+pub fn observe_record(
+    alloc: Global,
+    schema: &Schema,
+    line: &[u8],
+    buffer: &mut Vec<u8>,
+    statistics: &mut [ColumnStatistics],
+) -> Result<Option<usize>, RowFault>
+    requires { length statistics.old ≡ length schema.now.columns.items }
+    ensures observed { IfOk result (λ refused. MatchOption refused
+        ((rows_of schema.now.delimiter.byte line.now ≡ []) × (statistics.new ≡ statistics.old))
+        (IsObserved schema.now.delimiter.byte schema.now.is_lenient schema.now.columns.items line.now
+        statistics.old statistics.new)) }
+    ensures length { length statistics.new ≡ length statistics.old }
+    ensures refused { IfErr result
+        (Refuses schema.now.delimiter.byte schema.now.is_lenient schema.now.columns.items line.now) }
+{
+    let start = row_start(line);
+    if start.is_empty() {
+        return Ok(None);
+    }
+    let refused = observe_fields(alloc, schema, start, buffer, statistics)?;
+    Ok(Some(refused))
+}
+
+/// Observes the fields of a text that begins where a field does.
+fn observe_fields(
+    alloc: Global,
+    schema: &Schema,
+    text: &[u8],
+    buffer: &mut Vec<u8>,
+    statistics: &mut [ColumnStatistics],
+) -> Result<usize, RowFault>
+    requires { length statistics.old ≡ length schema.now.columns.items }
+    ensures fields { IfOk result (AreObserved schema.now.delimiter.byte schema.now.is_lenient
+        schema.now.columns.items text.now statistics.old statistics.new) }
+    ensures length { length statistics.new ≡ length statistics.old }
+    ensures refused { IfErr result (RefusesFields schema.now.delimiter.byte schema.now.is_lenient
+        schema.now.columns.items text.now) }
+{
+    let mut refused = 0;
+    let mut walk = FieldWalk::of(schema, text);
+    while let Some(field) = walk.next_field(buffer)? {
+        let flag = observe_field(
+            alloc,
+            schema.is_lenient,
+            &field,
+            &mut statistics[field.place],
+        )?;
+        refused = one_more(refused, flag);
+    }
+    Ok(refused)
+}
+
+/// Observes the cell of a field, and says whether a null stands in its place.
+fn observe_field(
+    alloc: Global,
+    is_lenient: bool,
+    field: &ColumnField<'_>,
+    statistics: &mut ColumnStatistics,
+) -> Result<bool, RowFault>
+    ensures observed { IfOk result (ObservesField is_lenient field.now.column (field_of field.now)
+        (known statistics.old) (known statistics.new)) }
+    ensures refused { IfErr result (RefusesWord is_lenient field.now.column field.now.place (field_of field.now)) }
+{
+    if observe_in_place(field.column, field.word, statistics) {
+        return Ok(false);
+    }
+    let (cell, flag) = take_field(alloc, is_lenient, field)?;
+    match statistics.observe(alloc, ScalarRef::of(&cell)) {
+        Ok(()) => Ok(flag),
+        Err(_) => Err(RowFault::Memory),
+    }
+}

@@ -1,0 +1,87 @@
+//! What a column takes of a field.
+
+ghost use Rattle.std.specs.Prelude.{◌≡◌, ◌+◌, ◌-◌, ◌<◌, ◌^◌, IfErr, IfOk, false, true, if◌then◌else◌};
+ghost use Rattle.vortex_dtype.specs.declared.nullability.Nullability.TheVariants.{Nullable};
+ghost use Rattle.record_rows.specs.Rows.{IsStrict, IsTaken, IsTested, IsWordFault, RefusesWord};
+ghost use Rattle.record_rows.specs.Walks.{field_of};
+
+use crate::cells::{cell_of, is_taken, null_of};
+use crate::faults::RowFault;
+use crate::fields::ColumnField;
+use crate::schema::ColumnType;
+use std::alloc::Global;
+use vortex_dtype::Nullability;
+use vortex_value::Scalar;
+
+/// The cell of a field, or a null in its place, and whether it is such a null.
+#[inline(always)]
+pub(crate) fn take_field(
+    alloc: Global,
+    is_lenient: bool,
+    field: &ColumnField<'_>,
+) -> Result<(Scalar, bool), RowFault>
+    ensures taken { IfOk result (λ taken.
+        IsTaken is_lenient field.now.column (field_of field.now) taken.0 taken.1) }
+    ensures refused { IfErr result (RefusesWord is_lenient field.now.column field.now.place (field_of field.now)) }
+{
+    match cell_of(alloc, field.column, field.word, field.is_quoted)? {
+        Some(cell) => Ok((cell, false)),
+        None => {
+            if !may_be_null(is_lenient, field.column) {
+                return Err(word_fault(alloc, field));
+            }
+            Ok((null_of(field.column), true))
+        }
+    }
+}
+
+/// Whether a null is to stand in place of the cell of a field.
+pub(crate) fn test_field(
+    alloc: Global,
+    is_lenient: bool,
+    field: &ColumnField<'_>,
+) -> Result<bool, RowFault>
+    ensures tested { IfOk result (IsTested is_lenient field.now.column (field_of field.now)) }
+    ensures refused { IfErr result (RefusesWord is_lenient field.now.column field.now.place (field_of field.now)) }
+{
+    if is_taken(alloc, field.column, field.word, field.is_quoted)? {
+        Ok(false)
+    } else if may_be_null(is_lenient, field.column) {
+        Ok(true)
+    } else {
+        Err(word_fault(alloc, field))
+    }
+}
+
+/// Whether a null may stand in place of a cell.
+fn may_be_null(is_lenient: bool, column: ColumnType) -> bool
+    ensures asked { result ≡ true → is_lenient ≡ true }
+    ensures takes { result ≡ true → column.nullability ≡ Nullable }
+    ensures strict { result ≡ false → IsStrict is_lenient column }
+{
+    match column.nullability {
+        Nullability::Nullable => is_lenient,
+        Nullability::NonNullable => false,
+    }
+}
+
+/// The fault of a field that its column does not take.
+fn word_fault(alloc: Global, field: &ColumnField<'_>) -> RowFault
+    ensures { IsWordFault field.now.place field.now.word.now result }
+{
+    match Vec::from_slice(alloc, field.word) {
+        Ok(word) => RowFault::Word {
+            column: field.place,
+            word,
+        },
+        Err(_) => RowFault::Memory,
+    }
+}
+
+/// One more, if that is so.
+pub(crate) fn one_more(count: usize, flag: bool) -> usize
+    requires { count < 2 ^ 64 - 1 }
+    ensures { result ≡ count + (if flag then 1 else 0) }
+{
+    if flag { count + 1 } else { count }
+}

@@ -1,0 +1,13 @@
+-- The row that is read is the one that is computed, and what is told of one that is refused.
+use Rattle.std.proofs.Common.{sym}
+use Rattle.record_search.proofs.RefusedLaws.{row_refused}
+use Rattle.record_search.proofs.RowLaws.{row_is}
+use Rattle.record_search.proofs.schema.row_of_record.Goals as goal
+
+pub returns-in-Ok-Some-clause-row : goal.returns-in-Ok-Some-clause-row
+returns-in-Ok-Some-clause-row c =
+    let s = c.args.schema.now in
+    sym (row_is s.delimiter.byte s.is_lenient s.columns.items c.args.line.now c.read_row.new.row.items c.in-Ok-Some.field-0-0 (rw c.in-Ok-Some.field-0-is at c.in-Ok-Some.ensures.row))
+
+pub returns-in-Err-clause-refused : goal.returns-in-Err-clause-refused
+returns-in-Err-clause-refused c = rw c.record_fault.ensures (row_refused c.args.schema.now c.args.place c.args.line.now c.in-Err.fault c.in-Err.ensures.refused)

@@ -1,2 +1,0 @@
-pub mod Observed
-pub mod Words
