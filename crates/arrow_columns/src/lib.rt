@@ -23,7 +23,7 @@ mod statistics;
 mod tested_rows;
 
 pub use bitmaps::put_bit;
-pub use byte_spans::ByteSpan;
+pub use byte_spans::{ByteSpan, items_are_bytes};
 pub use casts::CastFault;
 pub use columns::Column;
 pub use faults::{Buffer, ColumnFault};

@@ -23,7 +23,8 @@ use Rattle.vortex_value.specs.Values.Content.{Content, content, null, string, te
 use Rattle.vortex_value.specs.Values.RawTree.{absent}
 use Rattle.vortex_value.specs.Values.Scalars.{scalar_content, scalar_raw}
 use Rattle.vortex_value.specs.declared.scalars.Scalar.{Scalar}
-use Rattle.column_cells.specs.Contents.{AreBytes, HasTexts, IsLongContent, byte_contents, content_or_null, contents_at, contents_of_column, contents_of_rows, boolean_contents, integer_contents, text_contents}
+use Rattle.column_cells.specs.Contents.{HasTexts, IsLongContent, byte_contents, content_or_null, contents_at, contents_of_column, contents_of_rows, boolean_contents, integer_contents, text_contents}
+use Rattle.arrow_columns.specs.Spans.{AreBytes}
 use Rattle.column_cells.specs.Types.{ptype_of_kind, type_at, type_of_column, type_of_rows}
 use Rattle.column_cells.proofs.CellLaws.{all_cells, cell_is, of_value}
 use Rattle.column_cells.proofs.KindRanges.{in_kind, item_bytes}

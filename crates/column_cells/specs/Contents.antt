@@ -1,5 +1,5 @@
 -- The contents of the cells of columns, row by row: null where a row is null.
-use Rattle.std.specs.Prelude.{ℕ, ◌<◌, IsUtf8, List, [], length, map, Option, Some, None, replicate, slice_index}
+use Rattle.std.specs.Prelude.{◌<◌, IsUtf8, List, [], length, map, Option, Some, None, replicate}
 use Rattle.std.specs.List.{All}
 use Rattle.std.specs.Option.{IfSome}
 use Rattle.arrow_columns.specs.Columns.{boolean_cells, byte_cells, integer_cells}
@@ -66,7 +66,3 @@ abbrev pub IsLongContent : Content → Type 0
 IsLongContent (text bytes) = INLINE_BYTES < length bytes
 IsLongContent (string bytes) = INLINE_BYTES < length bytes
 IsLongContent _ = ⊥
-
--- each is a byte
-abbrev pub AreBytes : List ℕ → Type 0
-AreBytes bytes = (k : ℕ) → slice_index bytes k < 256

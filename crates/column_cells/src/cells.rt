@@ -1,10 +1,10 @@
 //! The cells of a column as scalars.
 
 ghost use Rattle.std.specs.Prelude.{◌≡◌, ◌<◌, IfErr, IfOk, IsSomeAnd, Some, length, slice_get};
-ghost use Rattle.column_cells.specs.Words.{AreBytes, HasTexts, IsLongContent, IsValid, OutOfMemory, contents_of_rows, scalar_content, scalar_type, type_of_rows};
+ghost use Rattle.column_cells.specs.Words.{HasTexts, IsLongContent, IsValid, OutOfMemory, contents_of_rows, scalar_content, scalar_type, type_of_rows};
 
 use crate::scalars::{bool_scalar, byte_scalar, integer_scalar, text_scalar};
-use arrow_columns::Rows;
+use arrow_columns::{Rows, items_are_bytes};
 use std::alloc::Global;
 use vortex_dtype::{DType, VortexError};
 use vortex_value::Scalar;
@@ -21,11 +21,6 @@ pub fn row_count(rows: &Rows) -> usize
         Rows::Nulls(count) => *count,
     }
 }
-
-/// Each item is below 256.
-fn items_are_bytes(_bytes: &[u8])
-    ensures { AreBytes _bytes.now }
-{}
 
 /// The scalar of a row.
 ///

@@ -22,7 +22,8 @@ use Rattle.arrow_columns.specs.declared.tested_rows.Rows.{Rows}
 use Rattle.arrow_columns.specs.declared.tested_rows.Rows.TheVariants.{Booleans, Bytes, Integers, Strings}
 use Rattle.vortex_value.specs.Values.Content.{Content, null, string, text, truth, whole}
 use Rattle.vortex_row.specs.Held.{IsWhole}
-use Rattle.column_cells.specs.Contents.{AreBytes, HasTexts, content_or_null, contents_of_rows}
+use Rattle.column_cells.specs.Contents.{HasTexts, content_or_null, contents_of_rows}
+use Rattle.arrow_columns.specs.Spans.{AreBytes}
 
 -- how many cells there are
 pub cells-count : {X : Type 0} (f : Option X → Content) (cell : ℕ → Option X) (from n row : ℕ) → row < length (map f (map cell (range_with_len from n))) → row < n

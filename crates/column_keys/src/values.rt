@@ -2,9 +2,9 @@
 
 ghost use Rattle.std.specs.Prelude.{◌≡◌, ◌<◌, IfSome, IsUtf8, length, slice_index_or};
 ghost use Rattle.std.specs.Option.{option_copied};
-ghost use Rattle.column_keys.specs.Words.{AreBytes, HasTexts, IsWhole, content_or_null, contents_of_rows, null, plain_content, string, text, truth, whole};
+ghost use Rattle.column_keys.specs.Words.{HasTexts, IsWhole, content_or_null, contents_of_rows, null, plain_content, string, text, truth, whole};
 
-use arrow_columns::Rows;
+use arrow_columns::{Rows, items_are_bytes};
 use std::str;
 use vortex_row::PlainValue;
 
@@ -54,12 +54,6 @@ fn byte_value(cell: Option<&[u8]>) -> PlainValue<'_>
         None => PlainValue::Null,
     }
 }
-
-/// Each item is below 256.
-#[inline(always)]
-fn items_are_bytes(_bytes: &[u8])
-    ensures { AreBytes _bytes.now }
-{}
 
 /// The value of a row.
 #[inline(always)]

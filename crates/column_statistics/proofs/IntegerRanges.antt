@@ -12,7 +12,7 @@ use Rattle.arrow_columns.specs.declared.columns.Column.{Column}
 use Rattle.arrow_columns.specs.declared.kinds.IntegerKind.{IntegerKind}
 use Rattle.arrow_columns.specs.declared.kinds.IntegerKind.TheVariants.{U8, U16, U32, U64, I8, I16, I32, I64}
 use Rattle.vortex_pvalue.specs.Numbers.{InRange}
-use Rattle.column_cells.specs.Contents.{AreBytes}
+use Rattle.arrow_columns.specs.Spans.{AreBytes}
 use Rattle.column_cells.specs.Types.{ptype_of_kind}
 use Rattle.column_statistics.proofs.ContentLaws.{contains_back}
 

@@ -5,10 +5,10 @@ ghost use Rattle.column_statistics.specs.Words.{AreBooleanStatisticsOf, AreExtre
 
 use arrow_columns::{
     BooleanRows, BooleanStatistics, ByteExtremes, ByteStatistics, IntegerRows, Rows,
+    items_are_bytes,
 };
 use column_cells::{bool_scalar, integer_scalar, scalar_at};
 use std::alloc::Global;
-use vortex_bounds::laws::items_are_bytes;
 use vortex_dtype::VortexError;
 use vortex_value::Scalar;
 
