@@ -134,6 +134,9 @@ uint32_t doqallin_upper_bound_bytes(const uint8_t *value, size_t value_length, s
 uint32_t doqallin_upper_bound_text(const uint8_t *value, size_t value_length, size_t n, uint8_t *room,
                                    size_t room_length, size_t *count);
 
+/* The next four calls are deprecated: they know of no nulls, and a null counts as an empty string. doqallin_column_statistics
+ * has the bounds of a column and counts its nulls, and doqallin_filter_outcomes asks statistics. */
+
 /* Whether a zone with these bounds may hold the bytes: false exactly if they are below the lower bound, or above the upper
  * one and has_upper. Without has_upper, `upper` is not read. */
 bool doqallin_may_contain_bytes(const uint8_t *lower, size_t lower_length, const uint8_t *upper, size_t upper_length,

@@ -1,14 +1,13 @@
 # SPDX-License-Identifier: Apache-2.0
-"""Two casts, and the bounds of a column of strings at 16 bytes with what they rule out."""
+"""Two casts, and the statistics of a column of strings with the filters that they rule out."""
 
 import doqallin
-from doqallin import Kind
+from doqallin import Filter, Kind, statistics
 
 print(doqallin.cast(1000, Kind.I32, Kind.I16), doqallin.cast(1000, Kind.I32, Kind.I8))
 
-values = ["banana", "apple", "cherry pie with cream"]
-offsets = [0, 6, 11, 32]
-bounds = doqallin.column_bounds_text("".join(values), offsets, 16)
-print(bounds.lower, "to", bounds.upper)
+known = statistics(["banana", "apple", None, "cherry pie with cream"], max_bytes=16)
+print(known.lower, "to", known.upper)
 for literal in ["cherry", "zucchini"]:
-    print(f"{literal}:", "maybe" if bounds.may_contain(literal) else "no")
+    wanted = Filter(f"fruit = '{literal}'", {"fruit": "utf8?"})
+    print(f"{literal}:", "maybe" if wanted.may_match({"fruit": known}) else "no")

@@ -31,11 +31,10 @@ A scalar is a type and a value, with casts, an order and a key:
 >>> scalar([1, 2, None], "list(u8?)").cast("fsl(i64?, 3)").as_py()
 [1, 2, None]
 
-Bounds of values, for pruning:
+Bounds of values are as short as is asked, and never exclude the value:
 
->>> bounds = ZoneBounds.of("apple", "banana", 3)
->>> bounds.lower, bounds.upper, bounds.may_contain("ap")
-('app', 'bao', False)
+>>> lower_bound_text("apple", 3), upper_bound_text("banana", 3)
+('app', 'bao')
 
 What goes wrong is a DoqallinError whose class has the refusal's name. The work is done by functions that are proved against
 their contracts, in Rattle. This package is their face: it is plain Python, and not proved. It loads `libdoqallin.so`, which is
@@ -44,7 +43,7 @@ the folder. Scalars and `call` load a second library when they are first used, `
 `tools/build_bindings --call` makes.
 """
 
-from ._bounds import Kind, ZoneBounds, column_bounds, column_bounds_text, lower_bound, lower_bound_text, upper_bound, upper_bound_text
+from ._bounds import ZoneBounds, column_bounds, column_bounds_text, lower_bound, lower_bound_text, upper_bound, upper_bound_text
 from ._casts import cast
 from ._columns import Column
 from ._errors import (
@@ -77,6 +76,7 @@ from ._errors import (
 )
 from ._filters import Filter, Outcomes, Zones
 from ._keys import from_row_keys, row_keys
+from ._kinds import Kind
 from ._library import call, library_version
 from ._reading import column, columns
 from ._scalars import Scalar, scalar

@@ -13,6 +13,7 @@ from typing import Any
 from ._columns import (
     BINARY,
     BOOL,
+    CODES,
     EMPTY,
     LARGE_BINARY,
     LARGE_UTF8,
@@ -20,7 +21,6 @@ from ._columns import (
     UTF8,
     WHY_NO_DECIMALS,
     WHY_NO_FLOATS,
-    WIDTHS,
     Buffer,
     Column,
     bitmap_of,
@@ -28,6 +28,7 @@ from ._columns import (
     buffer_of,
 )
 from ._errors import StreamFailed, TooShort, UnknownKind
+from ._kinds import FORMATS, WIDTHS
 
 __all__: list[str] = []
 
@@ -105,10 +106,11 @@ class Held:
 
 
 _CODES = {
-    **{"C": 0, "S": 1, "I": 2, "L": 3, "c": 4, "s": 5, "i": 6, "l": 7},
+    **{letter: code for code, letter in enumerate(FORMATS)},
     **{"n": NULL, "b": BOOL, "u": UTF8, "U": LARGE_UTF8, "z": BINARY, "Z": LARGE_BINARY},
     # Dates and times go by their integers, and so do timestamps, which have a zone behind a colon, and durations.
-    **{"tdD": 6, "tdm": 7, "tts": 6, "ttm": 6, "ttu": 7, "ttn": 7},
+    **dict.fromkeys(["tdD", "tts", "ttm"], CODES["i32"]),
+    **dict.fromkeys(["tdm", "ttu", "ttn"], CODES["i64"]),
 }
 _FLOATS = {"e": "float16", "f": "float32", "g": "float64"}
 _NAMES = {

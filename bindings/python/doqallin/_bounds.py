@@ -1,11 +1,13 @@
 # SPDX-License-Identifier: Apache-2.0
 # SPDX-FileCopyrightText: Copyright the Vortex contributors; ported to Rattle and changed
-"""Bounds of values and of columns of strings, and pruning by these."""
+"""Bounds of values. Those of columns, and pruning by these, are deprecated: they know of no nulls.
+
+Statistics of a column and filters say the same and more: `statistics` counts nulls apart, and `Filter.prune` asks zones.
+"""
 
 from __future__ import annotations
 
 import ctypes
-import enum
 from array import array
 from collections.abc import Iterable
 from ctypes import byref, c_bool, c_size_t, c_uint64
@@ -17,7 +19,6 @@ from ._errors import BadOffsets
 from ._library import NONE, BoundLengths, check, encoded, new_room, size
 
 __all__ = [
-    "Kind",
     "ZoneBounds",
     "column_bounds",
     "column_bounds_text",
@@ -26,24 +27,6 @@ __all__ = [
     "upper_bound",
     "upper_bound_text",
 ]
-
-
-class Kind(enum.IntEnum):
-    """The integer types."""
-
-    U8 = 0
-    U16 = 1
-    U32 = 2
-    U64 = 3
-    I8 = 4
-    I16 = 5
-    I32 = 6
-    I64 = 7
-
-    @property
-    def is_signed(self) -> bool:
-        """Whether the type has negative numbers."""
-        return self >= Kind.I8
 
 
 def _frozen(value: bytes | bytearray | memoryview) -> bytes:
@@ -115,7 +98,8 @@ T = TypeVar("T", bytes, str)
 class ZoneBounds(Generic[T]):
     """The bounds of a zone of strings or of bytes: a value below the lower or above the upper one is not in the zone.
 
-    `upper` is None if there is no upper bound.
+    `upper` is None if there is no upper bound. Deprecated, since a null has no place in them: `Statistics` have the bounds of a
+    column, and `Filter.may_match` and `Filter.prune` ask them.
     """
 
     lower: T
@@ -129,7 +113,7 @@ class ZoneBounds(Generic[T]):
         return cls(lower_bound(least, n), upper_bound(greatest, n))
 
     def may_contain(self, value: T) -> bool:
-        """Whether the zone may hold the value."""
+        """Whether the zone may hold the value. Deprecated: `Filter.may_match` asks statistics, for any test and any kind."""
         has_upper = self.upper is not None
         if isinstance(self.lower, str):
             lower, upper, sought = encoded(self.lower), encoded(self.upper or ""), encoded(value)
@@ -169,7 +153,8 @@ def _column(call: Any, data: bytes, offsets: Iterable[int], n: int) -> tuple[byt
 def column_bounds(data: bytes | bytearray | memoryview, offsets: Iterable[int], n: int) -> ZoneBounds[bytes] | None:
     """The bounds at n bytes of a column of bytes, from its least value to its greatest one; None if it has no values.
 
-    Value k is data[offsets[k]:offsets[k + 1]], so that m values have m + 1 offsets. An array("Q") of them is copied
+    Deprecated, since it counts a null as empty bytes: `statistics(values, "binary", max_bytes=n)` has the bounds, and counts
+    the nulls. Value k is data[offsets[k]:offsets[k + 1]], so that m values have m + 1 offsets. An array("Q") of them is copied
     fastest.
 
     >>> column_bounds(b"pearapplefig", [0, 4, 9, 12], 2)
@@ -182,6 +167,7 @@ def column_bounds(data: bytes | bytearray | memoryview, offsets: Iterable[int], 
 def column_bounds_text(data: str | bytes | bytearray | memoryview, offsets: Iterable[int], n: int) -> ZoneBounds[str] | None:
     """The bounds at n bytes of a column of strings, by whole characters; None if it has no values. Offsets count bytes.
 
+    Deprecated, since it counts a null as an empty string: `statistics(values, max_bytes=n)` has the bounds, and counts the nulls.
     Raises NotUtf8 if the least or the greatest value is not UTF-8.
     """
     text = encoded(data) if isinstance(data, str) else _frozen(data)

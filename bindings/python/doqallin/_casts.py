@@ -9,9 +9,9 @@ from ctypes import byref, c_uint64
 from typing import Any, overload
 
 from . import _library
-from ._bounds import Kind
-from ._columns import BOOL, EMPTY, KINDS, WIDTHS, Buffer, Column, bitmap_of, bits_of, buffer_of, code_of
+from ._columns import BOOL, EMPTY, KINDS, Buffer, Column, bitmap_of, bits_of, buffer_of, code_of
 from ._errors import CannotCast, NotANumber, UnknownKind, at
+from ._kinds import WIDTHS, Kind
 from ._library import NONE, Fault, check, check_column, new_room
 from ._reading import column
 from ._types import DType

@@ -13,8 +13,9 @@ from operator import le
 from typing import Any, NamedTuple, overload
 
 from ._errors import BadOffsets, KindsDiffer, NotANumber, NotUtf8, UnknownKind, at
+from ._kinds import INTEGERS, ITEMS, TYPECODES, WIDTHS
 from ._library import RawColumn, encoded
-from ._types import INTEGERS, DType
+from ._types import DType
 
 __all__ = ["Column"]
 
@@ -22,9 +23,6 @@ __all__ = ["Column"]
 KINDS = (*INTEGERS, "bool", "utf8", "utf8", "binary", "binary", "null")
 BOOL, UTF8, LARGE_UTF8, BINARY, LARGE_BINARY, NULL = range(8, 14)
 CODES = {**{kind: code for code, kind in enumerate(INTEGERS)}, "bool": BOOL, "utf8": UTF8, "binary": BINARY, "null": NULL}
-WIDTHS = (1, 2, 4, 8) * 2
-_TYPECODES = "BHIQbhiq"
-_ITEMS = (ctypes.c_uint8, ctypes.c_uint16, ctypes.c_uint32, ctypes.c_uint64, ctypes.c_int8, ctypes.c_int16, ctypes.c_int32, ctypes.c_int64)
 _FLOATS = {"e": "float16", "f": "float32", "d": "float64"}
 WHY_NO_FLOATS = "floats are left out, since NaN and two zeros have no place in the order of values"
 WHY_NO_DECIMALS = "decimals are left out: the library has numbers of at most 64 bits"
@@ -193,7 +191,7 @@ class Column(Sequence[Any]):
             return None
         place = self._offset + row
         if self._code < BOOL:
-            return _ITEMS[self._code].from_address(self._values.address + WIDTHS[self._code] * place).value
+            return ITEMS[self._code].from_address(self._values.address + WIDTHS[self._code] * place).value
         if self._code == BOOL:
             return bool(ctypes.c_uint8.from_address(self._values.address + place // 8).value >> place % 8 & 1)
         text = self._text(row)
@@ -230,7 +228,7 @@ class Column(Sequence[Any]):
             if self._code in (UTF8, LARGE_UTF8):
                 found = [_decoded(text, row) if self._is_valid(row) else None for row, text in enumerate(found)]
         else:
-            items = _ITEMS[self._code] * self._length
+            items = ITEMS[self._code] * self._length
             found = list(items.from_address(self._values.address + WIDTHS[self._code] * self._offset))
         if self.null_count:
             found = [value if self._is_valid(row) else None for row, value in enumerate(found)]
@@ -275,7 +273,7 @@ def _fits(code: int, types: set[type]) -> bool:
 
 def _integers(code: int, values: Sequence[Any]) -> Buffer:
     try:
-        return buffer_of(array(_TYPECODES[code], [0 if value is None else value for value in values]))
+        return buffer_of(array(TYPECODES[code], [0 if value is None else value for value in values]))
     except OverflowError:
         raise NotANumber(f"{KINDS[code]} does not have each number of the list") from None
 

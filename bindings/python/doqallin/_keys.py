@@ -12,8 +12,9 @@ from typing import Any
 
 from . import _library
 from ._arrow import is_arrow
-from ._columns import BINARY, BOOL, CODES, EMPTY, LARGE_BINARY, LARGE_UTF8, NULL, UTF8, WIDTHS, Buffer, Column, buffer_of, code_of
+from ._columns import BINARY, BOOL, CODES, EMPTY, LARGE_BINARY, LARGE_UTF8, NULL, UTF8, Buffer, Column, buffer_of, code_of
 from ._errors import KindsDiffer, WrongLength
+from ._kinds import WIDTHS
 from ._library import NO_ROOM, Fault, check_column, new_offsets, new_room
 from ._reading import column, columns, raw_columns
 from ._types import DType

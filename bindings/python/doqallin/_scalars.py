@@ -9,8 +9,9 @@ from collections.abc import Mapping
 from typing import Any
 
 from ._errors import BadKey, BadText, BadType, CannotCast, DoqallinError, HasVariant, Invalid, NoField, NoOrder, NotANumber, OutOfMemory, Refused, TooDeep
+from ._kinds import INTEGERS
 from ._library import call
-from ._types import INTEGERS, DType, Reader, dtype, quoted
+from ._types import DType, Reader, dtype, quoted
 
 __all__ = ["Scalar", "scalar"]
 

@@ -10,10 +10,10 @@ from collections.abc import Callable
 from dataclasses import dataclass, replace
 
 from ._errors import BadText
+from ._kinds import INTEGERS
 
 __all__ = ["DType", "dtype"]
 
-INTEGERS = ("u8", "u16", "u32", "u64", "i8", "i16", "i32", "i64")
 LEAVES = ("null", "bool", "utf8", "binary", "variant", *INTEGERS)
 _ESCAPES = {"n": "\n", "r": "\r", "t": "\t", '"': '"', "\\": "\\"}
 _QUOTED = re.compile(r'"(?:[^"\\]|\\.)*"', re.S)

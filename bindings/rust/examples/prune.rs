@@ -1,18 +1,19 @@
 // SPDX-License-Identifier: Apache-2.0
 // SPDX-FileCopyrightText: Copyright the Vortex contributors; ported to Rattle and changed
-//! The bounds of a column of strings at 16 bytes, and what they rule out.
+//! The statistics of a column of strings, with bounds of 16 bytes, and the filters that they rule out.
 
-fn main() -> Result<(), doqallin::ColumnError> {
-    let values = ["banana", "apple", "cherry pie with cream"];
-    let ends = values.iter().scan(0, |end, value| {
-        *end += value.len() as u64;
-        Some(*end)
-    });
-    let offsets: Vec<u64> = std::iter::once(0).chain(ends).collect();
-    let bounds = doqallin::column_bounds_text(&values.concat(), &offsets, 16)?.expect("values");
-    println!("{} to {}", bounds.lower(), bounds.upper().unwrap_or("any"));
+use doqallin::{Column, Filter, Item, Kind, Statistics};
+
+fn main() -> Result<(), Box<dyn std::error::Error>> {
+    // The third of four is null.
+    let fruits = Column::utf8(b"bananaapplecherry pie with cream", &[0, 6, 11, 11, 32]);
+    let known = Statistics::of(&fruits.with_validity(&[0b1011]), 16)?;
+    if let (Some(Item::Utf8(lower)), Some(Item::Utf8(upper))) = (known.lower(), known.upper()) {
+        println!("{lower} to {upper}");
+    }
     for literal in ["cherry", "zucchini"] {
-        let found = if bounds.may_contain(literal) {
+        let wanted = Filter::parse(&format!("fruit = '{literal}'"), &[("fruit", Kind::Utf8)])?;
+        let found = if wanted.outcomes(&[Some(&known)])?.may_match() {
             "maybe"
         } else {
             "no"

@@ -1,6 +1,6 @@
 // SPDX-License-Identifier: Apache-2.0
 // SPDX-FileCopyrightText: Copyright the Vortex contributors; ported to Rattle and changed
-//! Bounds of a whole column, in one call.
+//! Bounds of a whole column, in one call. Deprecated: [`Statistics`](crate::Statistics) have them, and count the nulls apart.
 
 use crate::{ZoneBounds, out_of_memory, raw};
 use std::fmt;
@@ -27,6 +27,9 @@ impl std::error::Error for ColumnError {}
 
 /// The bounds at n bytes of a column of bytes, from its least value to its greatest one; `None` if it has no values.
 ///
+/// Deprecated, since a null counts as empty bytes: [`Statistics::of`](crate::Statistics::of) has the bounds, and counts the
+/// nulls.
+///
 /// Value k is the bytes from `offsets[k]` to `offsets[k + 1]`, so that m values have m + 1 offsets.
 ///
 /// ```
@@ -45,6 +48,9 @@ pub fn column_bounds(
 }
 
 /// The bounds at n bytes of a column of strings, by whole characters; `None` if it has no values.
+///
+/// Deprecated, since a null counts as an empty string: [`Statistics::of`](crate::Statistics::of) has the bounds, and counts the
+/// nulls.
 ///
 /// The offsets count bytes. `NotUtf8` comes if the least or the greatest value does not begin or end where a character does.
 pub fn column_bounds_text(

@@ -1,8 +1,8 @@
 // SPDX-License-Identifier: Apache-2.0
 // SPDX-FileCopyrightText: Copyright the Vortex contributors; ported to Rattle and changed
 //! Columns as Arrow lays them out: statistics, filters that skip what cannot match, keys that sort as the rows do, and casts
-//! that never change a value. Bounds that never exclude a value, and pruning by these. With the feature `call`, nearly any
-//! other call of the library by a line of text.
+//! that never change a value. Bounds that never exclude a value. With the feature `call`, nearly any other call of the library
+//! by a line of text.
 //!
 //! The work is done by functions that are proved against their contracts, in Rattle. This crate is their safe face: it
 //! is plain Rust, and not proved.
@@ -23,22 +23,19 @@
 //! # Ok::<(), Box<dyn std::error::Error>>(())
 //! ```
 //!
-//! Bounds of strings, for pruning:
+//! Of strings the statistics have bounds, and count the nulls apart:
 //!
 //! ```
-//! let values = ["banana", "apple", "cherry pie with cream"];
-//! let bytes = values.concat();
-//! let mut offsets = vec![0];
-//! offsets.extend(values.iter().scan(0, |end, value| {
-//!     *end += value.len() as u64;
-//!     Some(*end)
-//! }));
-//! let bounds = doqallin::column_bounds_text(&bytes, &offsets, 16)?.expect("the column has values");
-//! assert_eq!(bounds.lower(), "apple");
-//! assert_eq!(bounds.upper(), Some("cherry pie with!"));
-//! assert!(bounds.may_contain("cherry"));
-//! assert!(!bounds.may_contain("zucchini"));
-//! # Ok::<(), doqallin::ColumnError>(())
+//! use doqallin::{Column, Filter, Item, Kind, Statistics};
+//!
+//! let fruits = Column::utf8(b"bananaapplecherry pie with cream", &[0, 6, 11, 11, 32]).with_validity(&[0b1011]);
+//! let known = Statistics::of(&fruits, 16)?;
+//! assert_eq!(known.null_count(), Some(1));
+//! assert_eq!(known.lower(), Some(&Item::Utf8("apple".into())));
+//! assert_eq!(known.upper(), Some(&Item::Utf8("cherry pie with!".into())));
+//! let wanted = Filter::parse("fruit = 'zucchini'", &[("fruit", Kind::Utf8)])?;
+//! assert!(!wanted.outcomes(&[Some(&known)])?.may_match());
+//! # Ok::<(), Box<dyn std::error::Error>>(())
 //! ```
 
 mod arrow;

@@ -80,6 +80,9 @@ impl Value for str {}
 
 /// The bounds of a zone: a lower one, and an upper one if there is one. A value outside of them is not in the zone.
 ///
+/// Deprecated, since a null has no place in them: [`Statistics`](crate::Statistics) have the bounds of a column, and
+/// [`Filter::prune`](crate::Filter::prune) asks them.
+///
 /// ```
 /// let bounds = doqallin::ZoneBounds::of("apple", "banana", 3);
 /// assert!(bounds.may_contain("banana"));
@@ -118,7 +121,8 @@ impl<T: Value + ?Sized> ZoneBounds<T> {
         self.upper.as_ref().map(Borrow::borrow)
     }
 
-    /// Whether the zone may hold the value.
+    /// Whether the zone may hold the value. Deprecated: [`Filter::outcomes`](crate::Filter::outcomes) asks statistics, for any
+    /// test.
     #[must_use]
     pub fn may_contain(&self, value: &T) -> bool {
         value.may_lie(self.lower(), self.upper())

@@ -1,6 +1,10 @@
 -- Bitmaps: bit i stands in byte i / 8, and of a byte the least significant bit comes first.
-use Rattle.std.specs.Prelude.{ℕ, ◌/◌, ◌%◌, ◌*◌, ◌≤◌, ◌≢◌, ◌==◌, List, length, slice_index, Bool, ◌||◌}
+use Rattle.std.specs.Prelude.{ℕ, ◌+◌, ◌/◌, ◌%◌, ◌*◌, ◌≤◌, ◌≢◌, ◌==◌, List, length, slice_index, Bool, ◌||◌}
 use Rattle.std.specs.Int.{bit_at}
+
+-- how many bytes a bitmap of so many rows has
+abbrev pub bitmap_length : ℕ → ℕ
+bitmap_length count = (count + 7) / 8
 
 -- bit i is set
 abbrev pub bit_of : List ℕ → ℕ → Bool

@@ -4,9 +4,13 @@ use Rattle.std.specs.Option.{IfSome}
 use Rattle.arrow_columns.specs.Integers.{IsOfKind, integer_of, item_at, width_of}
 use Rattle.arrow_columns.specs.declared.kinds.IntegerKind.{IntegerKind}
 
--- the bytes have an item of the kind for each cell: its value, or 0 where it is null
+-- the bytes have an item of the kind, of so many bytes, for each cell: its value, or 0 where it is null
+abbrev pub AreCastItems : IntegerKind → ℕ → List (Option ℤ) → List ℕ → Type 0
+AreCastItems kind width cells bytes = (row : ℕ) (cell : Option ℤ) → slice_get cells row ≡ Some cell → integer_of kind (item_at width bytes row) ≡ unwrap_or cell (pos 0)
+
+-- the same of items as wide as the kind's
 abbrev pub AreCastTo : IntegerKind → List (Option ℤ) → List ℕ → Type 0
-AreCastTo kind cells bytes = (row : ℕ) (cell : Option ℤ) → slice_get cells row ≡ Some cell → integer_of kind (item_at (width_of kind) bytes row) ≡ unwrap_or cell (pos 0)
+AreCastTo kind cells bytes = AreCastItems kind (width_of kind) cells bytes
 
 -- the cell of this row has a value that the kind does not have, and it is the first such one
 abbrev pub IsFirstWithout : IntegerKind → List (Option ℤ) → ℕ → Type 0

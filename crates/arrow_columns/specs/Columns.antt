@@ -1,5 +1,5 @@
 -- What a column of each kind has, and its cells.
-use Rattle.std.specs.Prelude.{◌≢◌, ℕ, ℤ, ◌+◌, ◌*◌, ◌^◌, ◌<◌, ◌≤◌, Bool, List, length, Option, None, replicate}
+use Rattle.std.specs.Prelude.{◌≢◌, ℕ, ℤ, ◌+◌, ◌*◌, ◌^◌, ◌<◌, ◌≤◌, Bool, List, [], ◌∷◌, length, Option, None, replicate}
 use Rattle.arrow_columns.specs.Bitmaps.{HasBits, bit_of}
 use Rattle.arrow_columns.specs.Cells.{cells_from}
 use Rattle.arrow_columns.specs.Integers.{integer_of, item_at, width_of}
@@ -7,6 +7,11 @@ use Rattle.arrow_columns.specs.Offsets.{AreRows, bytes_between, bytes_of_offset,
 use Rattle.arrow_columns.specs.declared.columns.Column.{Column}
 use Rattle.arrow_columns.specs.declared.kinds.IntegerKind.{IntegerKind}
 use Rattle.arrow_columns.specs.declared.offset_width.OffsetWidth.{OffsetWidth}
+
+-- how many rows columns have: as many as the first one says
+abbrev pub rows_in : List Column → ℕ
+rows_in [] = 0
+rows_in (column ∷ columns) = column.length
 
 -- the row after its last one, by its place in the buffers
 abbrev pub end_of : Column → ℕ
@@ -23,8 +28,12 @@ HasIntegers kind column = end_of column * width_of kind ≤ length column.values
 abbrev pub IsIntegerColumn : IntegerKind → Column → Type 0
 IsIntegerColumn kind column = HasRows column × HasIntegers kind column
 
+-- the cells of integers of so many bytes each, and of those as wide as the kind's
+abbrev pub cells_of_width : ℕ → IntegerKind → Column → List (Option ℤ)
+cells_of_width width kind column = cells_from column.validity.now (λ i. integer_of kind (item_at width column.values.now i)) column.offset column.length
+
 abbrev pub integer_cells : IntegerKind → Column → List (Option ℤ)
-integer_cells kind column = cells_from column.validity.now (λ i. integer_of kind (item_at (width_of kind) column.values.now i)) column.offset column.length
+integer_cells kind column = cells_of_width (width_of kind) kind column
 
 -- booleans: there is a bit for each row
 abbrev pub HasBooleans : Column → Type 0

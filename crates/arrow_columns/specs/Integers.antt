@@ -1,6 +1,7 @@
 -- Integers as they lie in a buffer, one after another, each with its low byte first.
-use Rattle.std.specs.Prelude.{ℕ, ℤ, pos, negsuc, ◌*◌, ◌+◌, ◌-◌, ◌^◌, ◌≤ℤ◌, List, slice_range}
+use Rattle.std.specs.Prelude.{ℕ, ℤ, pos, negsuc, ◌*◌, ◌+◌, ◌-◌, ◌^◌, ◌≤ℤ◌, List, [], Option, slice_index_or, slice_range}
 use Rattle.std.specs.Int.{w8, w16, w32, w64, cast_signed, from_le_bytes}
+use Rattle.arrow_columns.specs.Cells.{cell_at}
 use Rattle.arrow_columns.specs.declared.kinds.IntegerKind.{IntegerKind}
 use Rattle.arrow_columns.specs.declared.kinds.IntegerKind.TheVariants.{U8, U16, U32, U64, I8, I16, I32, I64}
 
@@ -29,6 +30,10 @@ integer_of I64 bytes = cast_signed w64 (from_le_bytes w64 bytes)
 -- item i of a buffer whose items have n bytes
 abbrev pub item_at : ℕ → List ℕ → ℕ → List ℕ
 item_at n buffer i = slice_range buffer (i * n) (i * n + n)
+
+-- row i of items of a kind, and of a bitmap: its integer, or none where it is null
+abbrev pub cell_of_item : IntegerKind → List ℕ → List (List ℕ) → ℕ → Option ℤ
+cell_of_item kind validity items = cell_at validity (λ i. integer_of kind (slice_index_or items i []))
 
 -- the least and the greatest integer of a kind
 abbrev pub least_of : IntegerKind → ℤ

@@ -1,5 +1,6 @@
 -- Kinds of columns, and their codes for callers from C.
 use Rattle.std.specs.Prelude.{ℕ, ◌==◌, Option, Some, None, if◌then◌else◌}
+use Rattle.std.specs.Option.{option_map}
 use Rattle.arrow_columns.specs.declared.kinds.IntegerKind.{IntegerKind}
 use Rattle.arrow_columns.specs.declared.kinds.IntegerKind.TheVariants.{U8, U16, U32, U64, I8, I16, I32, I64}
 use Rattle.arrow_columns.specs.declared.kinds.Kind.{Kind}
@@ -17,20 +18,12 @@ integer_kind_at code =
     if code == 6 then Some I32 else
     if code == 7 then Some I64 else None
 
--- the kind of column with this code
+-- the kind of column with this code: those of integers, and then the others
 abbrev pub kind_at : ℕ → Option Kind
 kind_at code =
-    if code == 0 then Some (Integer U8) else
-    if code == 1 then Some (Integer U16) else
-    if code == 2 then Some (Integer U32) else
-    if code == 3 then Some (Integer U64) else
-    if code == 4 then Some (Integer I8) else
-    if code == 5 then Some (Integer I16) else
-    if code == 6 then Some (Integer I32) else
-    if code == 7 then Some (Integer I64) else
     if code == 8 then Some Boolean else
     if code == 9 then Some Utf8 else
     if code == 10 then Some LargeUtf8 else
     if code == 11 then Some Binary else
     if code == 12 then Some LargeBinary else
-    if code == 13 then Some Null else None
+    if code == 13 then Some Null else option_map Integer (integer_kind_at code)

@@ -1,7 +1,14 @@
 //! Bitmaps.
 
 ghost use Rattle.std.specs.Prelude.{◌≡◌, ◌≢◌, ℕ, ◌<◌, ◌≤◌, ◌*◌, ◌/◌, drop, false, true, length};
-ghost use Rattle.arrow_columns.specs.Words.{HasBits, bit_of, is_valid};
+ghost use Rattle.arrow_columns.specs.Words.{HasBits, bit_of, bitmap_length, is_valid};
+
+/// How many bytes a bitmap of so many rows has.
+pub fn bitmap_length(count: usize) -> usize
+    ensures { result ≡ bitmap_length count }
+{
+    count.div_ceil(8)
+}
 
 /// Whether bit i is set.
 pub fn is_set(bitmap: &[u8], i: usize) -> bool

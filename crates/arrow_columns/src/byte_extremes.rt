@@ -1,7 +1,8 @@
 //! The loop that gathers the statistics of strings and bytes.
 
 ghost use Rattle.std.specs.Prelude.{[], ◌≡◌, ℕ, ◌<◌, ◌≤◌, ◌-◌, length, slice_index_or};
-ghost use Rattle.arrow_columns.specs.Words.{AreByteStatisticsOf, AreRows, HasBits, bytes_between, cells_from, offset_of};
+ghost use Rattle.arrow_columns.specs.Words.{AreByteStatisticsOf, AreRows, HasBits, bytes_between, cells_from};
+ghost use Rattle.arrow_columns.specs.Words.{offset_of};
 
 use crate::bitmaps::{first_valid, is_row_valid};
 use crate::byte_items::{read_offset, row};

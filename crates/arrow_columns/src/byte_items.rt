@@ -1,6 +1,7 @@
 //! The rows of a column of strings or bytes, by its offsets.
 
-ghost use Rattle.std.specs.Prelude.{[], ◌≡◌, ℕ, ◌+◌, ◌<◌, ◌≤◌, IsUtf8, List, MatchBool, MatchOption, length, slice_index_or, true};
+ghost use Rattle.std.specs.Prelude.{[], ◌≡◌, ℕ, ◌+◌, ◌<◌, ◌≤◌, IsUtf8, List, MatchBool, MatchOption, length};
+ghost use Rattle.std.specs.Prelude.{slice_index_or, true};
 ghost use Rattle.std.specs.Bool.{OnTrue};
 ghost use Rattle.arrow_columns.specs.Words.{AreRows, GoUp, HasBits, IsRow, bytes_between, is_valid, offset_of};
 
@@ -20,7 +21,8 @@ pub fn first_bad<const N: usize, T: Offset<N>>(
     requires offsets { end < length offsets.now }
     ensures { let offset : ℕ → ℕ = λ i. offset_of T.width (slice_index_or offsets.now i []) in
         MatchOption result (AreRows T.width bytes.now offset from end)
-        (λ k. (k < end) × (from ≤ k) × AreRows T.width bytes.now offset from k × ¬ (IsRow T.width bytes.now offset k)) }
+        (λ k. (k < end) × (from ≤ k) × AreRows T.width bytes.now offset from k
+        × ¬ (IsRow T.width bytes.now offset k)) }
 {
     if are_rows::<N, T>(bytes, offsets, from, end) {
         return None;
@@ -112,9 +114,11 @@ pub fn first_not_utf8<const N: usize, T: Offset<N>>(
     requires bits { HasBits validity.now end }
     requires offsets { end < length offsets.now }
     requires rows { AreRows T.width bytes.now (λ i. offset_of T.width (slice_index_or offsets.now i [])) from end }
-    ensures { let value : ℕ → List ℕ = bytes_between bytes.now (λ i. offset_of T.width (slice_index_or offsets.now i [])) in
+    ensures { let value : ℕ → List ℕ = bytes_between bytes.now
+        (λ i. offset_of T.width (slice_index_or offsets.now i [])) in
         MatchOption result ((k : ℕ) → k < end → from ≤ k → is_valid validity.now k ≡ true → IsUtf8 (value k))
-        (λ k. (k < end) × (from ≤ k) × ((j : ℕ) → j < k → from ≤ j → is_valid validity.now j ≡ true → IsUtf8 (value j))
+        (λ k. (k < end) × (from ≤ k)
+        × ((j : ℕ) → j < k → from ≤ j → is_valid validity.now j ≡ true → IsUtf8 (value j))
         × (is_valid validity.now k ≡ true) × ¬ (IsUtf8 (value k))) }
 {
     if are_ascii::<N, T>(bytes, offsets, from, end) {
@@ -140,7 +144,8 @@ fn are_ascii<const N: usize, T: Offset<N>>(
     requires range { from ≤ end }
     requires offsets { end < length offsets.now }
     requires rows { AreRows T.width bytes.now (λ i. offset_of T.width (slice_index_or offsets.now i [])) from end }
-    ensures { let value : ℕ → List ℕ = bytes_between bytes.now (λ i. offset_of T.width (slice_index_or offsets.now i [])) in
+    ensures { let value : ℕ → List ℕ = bytes_between bytes.now
+        (λ i. offset_of T.width (slice_index_or offsets.now i [])) in
         OnTrue result ((k : ℕ) → k < end → from ≤ k → IsUtf8 (value k)) }
 {
     if from == end {

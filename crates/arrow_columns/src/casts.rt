@@ -1,9 +1,12 @@
 //! Casts of columns of integers.
 
-ghost use Rattle.std.specs.Prelude.{[], ◌≡◌, ℕ, ◌+◌, ◌-◌, ◌*◌, ◌<◌, ◌≤◌, IfErr, IsTrue, MatchOption, OnErr, OnOk, Option, Some, drop, if◌then◌else◌, length, pos, slice_get, slice_index_or, take, unwrap_or, ℤ};
+ghost use Rattle.std.specs.Prelude.{[], ◌≡◌, ℕ, ◌+◌, ◌-◌, ◌*◌, ◌<◌, ◌≤◌, IfErr, IsTrue, MatchOption, OnErr, OnOk};
+ghost use Rattle.std.specs.Prelude.{drop, if◌then◌else◌, length, pos, slice_index_or, take, unwrap_or};
 ghost use Rattle.std.specs.Bool.{OnTrue};
 ghost use Rattle.std.specs.Option.{IfNone, IfSome};
-ghost use Rattle.arrow_columns.specs.Words.{AllFit, AreCastTo, AreWritten, HasBits, HasRows, IsFirstUnfit, IsFirstWithout, IsOfKind, cell_at, cells_from, end_of, integer_cells, integer_of, is_valid, item_at, width_of};
+ghost use Rattle.arrow_columns.specs.Words.{AllFit, AreCastItems, AreCastTo, AreWritten, HasBits, HasRows};
+ghost use Rattle.arrow_columns.specs.Words.{IsFirstUnfit, IsFirstWithout, IsOfKind, cell_of_item, cells_of_width};
+ghost use Rattle.arrow_columns.specs.Words.{end_of, integer_cells, integer_of, is_valid, item_at, width_of};
 ghost use Rattle.arrow_columns.specs.declared.casts.Extent.TheVariants.{Front, Nothing};
 
 use crate::bitmaps::is_row_valid;
@@ -19,6 +22,19 @@ pub struct CastFault {
     pub row: usize,
 }
 
+/// Rows of integers of N bytes: those from a first one on, before an end.
+#[derive(Clone, Copy)]
+struct Span<'a, const N: usize> {
+    /// A bit for each row, 0 where it is null. Empty if no row is.
+    validity: &'a [u8],
+    /// The integers, each by its bytes.
+    items: &'a [[u8; N]],
+    /// The first row.
+    from: usize,
+    /// The row after the last one.
+    end: usize,
+}
+
 /// How many rows are tested together before they are written.
 const BLOCK: usize = 16;
 
@@ -32,17 +48,14 @@ enum Extent {
 }
 
 /// Whether the kind of U has the integers of all rows, null or not: their least and their greatest.
-fn all_fit<const N: usize, T: Integer<N>, const M: usize, U: Integer<M>>(
-    items: &[[u8; N]],
-    from: usize,
-    end: usize,
-) -> bool
+fn all_fit<const N: usize, T: Integer<N>, const M: usize, U: Integer<M>>(span: Span<N>) -> bool
     requires narrow { N ≤ 8 }
-    requires range { from < end }
-    requires items { end ≤ length items.now }
-    ensures { OnTrue result ((k : ℕ) → k < end → from ≤ k → IsOfKind U.kind (integer_of T.kind (slice_index_or items.now k []))) }
+    requires range { span.from < span.end }
+    requires items { span.end ≤ length span.items.now }
+    ensures { OnTrue result ((k : ℕ) → k < span.entry.end → span.entry.from ≤ k
+        → IsOfKind U.kind (integer_of T.kind (slice_index_or span.entry.items.now k []))) }
 {
-    let gathered = without_nulls::<N, T>(&[], items, from, end);
+    let gathered = without_nulls::<N, T>(&[], span.items, span.from, span.end);
     let low = U::fits(gathered.least.whole());
     let high = U::fits(gathered.greatest.whole());
     low & high
@@ -50,40 +63,37 @@ fn all_fit<const N: usize, T: Integer<N>, const M: usize, U: Integer<M>>(
 
 /// The first row that is no null and has an integer that the kind of U does not have.
 fn first_without<const N: usize, T: Integer<N>, const M: usize, U: Integer<M>>(
-    validity: &[u8],
-    items: &[[u8; N]],
-    from: usize,
-    end: usize,
+    span: Span<N>,
 ) -> Option<usize>
     requires narrow { N ≤ 8 }
-    requires range { from ≤ end }
-    requires items { end ≤ length items.now }
-    requires bits { HasBits validity.now end }
-    ensures { let cell = cell_at validity.now (λ i. integer_of T.kind (slice_index_or items.now i [])) in
-        MatchOption result (AllFit U.kind cell from end) (IsFirstUnfit U.kind cell from end) }
+    requires range { span.from ≤ span.end }
+    requires items { span.end ≤ length span.items.now }
+    requires bits { HasBits span.validity.now span.end }
+    ensures { let cell = cell_of_item T.kind span.entry.validity.now span.entry.items.now in
+        MatchOption result (AllFit U.kind cell span.entry.from span.entry.end)
+        (IsFirstUnfit U.kind cell span.entry.from span.entry.end) }
 {
-    if from == end || all_fit::<N, T, M, U>(items, from, end) {
+    if span.from == span.end || all_fit::<N, T, M, U>(span) {
         return None;
     }
-    find_without::<N, T, M, U>(validity, items, from, end)
+    find_without::<N, T, M, U>(span)
 }
 
 /// The same, row by row.
 fn find_without<const N: usize, T: Integer<N>, const M: usize, U: Integer<M>>(
-    validity: &[u8],
-    items: &[[u8; N]],
-    from: usize,
-    end: usize,
+    span: Span<N>,
 ) -> Option<usize>
     requires narrow { N ≤ 8 }
-    requires range { from ≤ end }
-    requires items { end ≤ length items.now }
-    requires bits { HasBits validity.now end }
-    ensures { let cell = cell_at validity.now (λ i. integer_of T.kind (slice_index_or items.now i [])) in
-        MatchOption result (AllFit U.kind cell from end) (IsFirstUnfit U.kind cell from end) }
+    requires range { span.from ≤ span.end }
+    requires items { span.end ≤ length span.items.now }
+    requires bits { HasBits span.validity.now span.end }
+    ensures { let cell = cell_of_item T.kind span.entry.validity.now span.entry.items.now in
+        MatchOption result (AllFit U.kind cell span.entry.from span.entry.end)
+        (IsFirstUnfit U.kind cell span.entry.from span.entry.end) }
 {
-    for i in from..end {
-        if is_row_valid(validity, i, end) && !U::fits(T::of_bytes(items[i]).whole()) {
+    let items = span.items;
+    for i in span.from..span.end {
+        if is_row_valid(span.validity, i, span.end) && !U::fits(T::of_bytes(items[i]).whole()) {
             return Some(i);
         }
     }
@@ -117,80 +127,83 @@ fn put<const M: usize>(room: &mut [u8], k: usize, bytes: [u8; M])
 /// Writes the integer of row i, or 0 if it is null.
 #[inline(always)]
 fn write_row<const N: usize, T: Integer<N>, const M: usize, U: Integer<M>>(
-    validity: &[u8],
-    items: &[[u8; N]],
-    from: usize,
+    span: Span<N>,
     i: usize,
-    end: usize,
     room: &mut [u8],
 )
     requires narrow { M ≤ 8 }
-    requires from { from ≤ i }
-    requires below { i < end }
-    requires items { end ≤ length items.now }
-    requires bits { HasBits validity.now end }
-    requires room { (end - from) * M ≤ length room.old }
-    requires fit { IfSome (cell_at validity.now (λ i. integer_of T.kind (slice_index_or items.now i [])) i) (IsOfKind U.kind) }
-    requires written { AreWritten U.kind M (cell_at validity.now (λ i. integer_of T.kind (slice_index_or items.now i []))) from i room.old }
-    ensures written { AreWritten U.kind M (cell_at validity.now (λ i. integer_of T.kind (slice_index_or items.now i []))) from (i + 1) room.new }
-    ensures rest { drop ((end - from) * M) room.new ≡ drop ((end - from) * M) room.old }
+    requires from { span.from ≤ i }
+    requires below { i < span.end }
+    requires items { span.end ≤ length span.items.now }
+    requires bits { HasBits span.validity.now span.end }
+    requires room { (span.end - span.from) * M ≤ length room.old }
+    requires fit { IfSome (cell_of_item T.kind span.validity.now span.items.now i) (IsOfKind U.kind) }
+    requires written { AreWritten U.kind M
+        (cell_of_item T.kind span.validity.now span.items.now) span.from i room.old }
+    ensures written { AreWritten U.kind M
+        (cell_of_item T.kind span.entry.validity.now span.entry.items.now) span.entry.from (i + 1) room.new }
+    ensures rest { drop ((span.entry.end - span.entry.from) * M) room.new
+        ≡ drop ((span.entry.end - span.entry.from) * M) room.old }
 {
+    let items = span.items;
     let whole = T::of_bytes(items[i]).whole();
-    let bytes = bytes_or_zero::<M, U>(is_row_valid(validity, i, end), whole);
-    put::<M>(room, i - from, bytes);
+    let bytes = bytes_or_zero::<M, U>(is_row_valid(span.validity, i, span.end), whole);
+    put::<M>(room, i - span.from, bytes);
 }
 
 /// Writes the integers of the rows from a start on, and 0 for a null, row by row.
 fn write_by_rows<const N: usize, T: Integer<N>, const M: usize, U: Integer<M>>(
-    validity: &[u8],
-    items: &[[u8; N]],
-    from: usize,
+    span: Span<N>,
     start: usize,
-    end: usize,
     room: &mut [u8],
 )
     requires narrow { N ≤ 8 }
     requires narrow_to { M ≤ 8 }
-    requires from { from ≤ start }
-    requires range { start ≤ end }
-    requires items { end ≤ length items.now }
-    requires bits { HasBits validity.now end }
-    requires room { (end - from) * M ≤ length room.old }
-    requires fit { AllFit U.kind (cell_at validity.now (λ i. integer_of T.kind (slice_index_or items.now i []))) from end }
-    requires written { AreWritten U.kind M (cell_at validity.now (λ i. integer_of T.kind (slice_index_or items.now i []))) from start room.old }
-    ensures written { AreWritten U.kind M (cell_at validity.now (λ i. integer_of T.kind (slice_index_or items.now i []))) from end room.new }
-    ensures rest { drop ((end - from) * M) room.new ≡ drop ((end - from) * M) room.old }
+    requires from { span.from ≤ start }
+    requires range { start ≤ span.end }
+    requires items { span.end ≤ length span.items.now }
+    requires bits { HasBits span.validity.now span.end }
+    requires room { (span.end - span.from) * M ≤ length room.old }
+    requires fit { AllFit U.kind (cell_of_item T.kind span.validity.now span.items.now) span.from span.end }
+    requires written { AreWritten U.kind M
+        (cell_of_item T.kind span.validity.now span.items.now) span.from start room.old }
+    ensures written { AreWritten U.kind M
+        (cell_of_item T.kind span.entry.validity.now span.entry.items.now) span.entry.from span.entry.end room.new }
+    ensures rest { drop ((span.entry.end - span.entry.from) * M) room.new
+        ≡ drop ((span.entry.end - span.entry.from) * M) room.old }
 {
-    for i in start..end {
-        write_row::<N, T, M, U>(validity, items, from, i, end, room);
+    for i in start..span.end {
+        write_row::<N, T, M, U>(span, i, room);
     }
 }
 
 /// The same, with the rows of whole bytes of the bitmap.
 fn write_by_bytes<const N: usize, T: Integer<N>, const M: usize, U: Integer<M>>(
-    validity: &[u8],
-    items: &[[u8; N]],
-    from: usize,
+    span: Span<N>,
     first_byte: usize,
     end_byte: usize,
     room: &mut [u8],
 )
     requires narrow { N ≤ 8 }
     requires narrow_to { M ≤ 8 }
-    requires from { from ≤ 8 * first_byte }
+    requires from { span.from ≤ 8 * first_byte }
     requires range { first_byte ≤ end_byte }
-    requires items { 8 * end_byte ≤ length items.now }
-    requires bits { end_byte ≤ length validity.now }
-    requires room { (8 * end_byte - from) * M ≤ length room.old }
-    requires fit { AllFit U.kind (cell_at validity.now (λ i. integer_of T.kind (slice_index_or items.now i []))) from (8 * end_byte) }
-    requires written { AreWritten U.kind M (cell_at validity.now (λ i. integer_of T.kind (slice_index_or items.now i []))) from (8 * first_byte) room.old }
-    ensures written { AreWritten U.kind M (cell_at validity.now (λ i. integer_of T.kind (slice_index_or items.now i []))) from (8 * end_byte) room.new }
-    ensures rest { drop ((8 * end_byte - from) * M) room.new ≡ drop ((8 * end_byte - from) * M) room.old }
+    requires items { 8 * end_byte ≤ length span.items.now }
+    requires bits { end_byte ≤ length span.validity.now }
+    requires room { (8 * end_byte - span.from) * M ≤ length room.old }
+    requires fit { AllFit U.kind (cell_of_item T.kind span.validity.now span.items.now) span.from (8 * end_byte) }
+    requires written { AreWritten U.kind M (cell_of_item T.kind span.validity.now span.items.now) span.from
+        (8 * first_byte) room.old }
+    ensures written { AreWritten U.kind M
+        (cell_of_item T.kind span.entry.validity.now span.entry.items.now) span.entry.from
+        (8 * end_byte) room.new }
+    ensures rest { drop ((8 * end_byte - span.entry.from) * M) room.new
+        ≡ drop ((8 * end_byte - span.entry.from) * M) room.old }
 {
     let end = 8 * end_byte;
     for b in first_byte..end_byte {
         for j in 0..8 {
-            write_row::<N, T, M, U>(validity, items, from, 8 * b + j, end, room);
+            write_row::<N, T, M, U>(Span { end, ..span }, 8 * b + j, room);
         }
     }
 }
@@ -198,41 +211,43 @@ fn write_by_bytes<const N: usize, T: Integer<N>, const M: usize, U: Integer<M>>(
 /// Writes the integers of all rows, and 0 for a null. Where there is a bitmap, most go by its whole
 /// bytes.
 fn write_rows<const N: usize, T: Integer<N>, const M: usize, U: Integer<M>>(
-    validity: &[u8],
-    items: &[[u8; N]],
-    from: usize,
-    end: usize,
+    span: Span<N>,
     room: &mut [u8],
 )
     requires narrow { N ≤ 8 }
     requires narrow_to { M ≤ 8 }
-    requires range { from ≤ end }
-    requires items { end ≤ length items.now }
-    requires bits { HasBits validity.now end }
-    requires room { (end - from) * M ≤ length room.old }
-    requires fit { AllFit U.kind (cell_at validity.now (λ i. integer_of T.kind (slice_index_or items.now i []))) from end }
-    ensures written { AreWritten U.kind M (cell_at validity.now (λ i. integer_of T.kind (slice_index_or items.now i []))) from end room.new }
-    ensures rest { drop ((end - from) * M) room.new ≡ drop ((end - from) * M) room.old }
+    requires range { span.from ≤ span.end }
+    requires items { span.end ≤ length span.items.now }
+    requires bits { HasBits span.validity.now span.end }
+    requires room { (span.end - span.from) * M ≤ length room.old }
+    requires fit { AllFit U.kind (cell_of_item T.kind span.validity.now span.items.now) span.from span.end }
+    ensures written { AreWritten U.kind M
+        (cell_of_item T.kind span.entry.validity.now span.entry.items.now) span.entry.from span.entry.end room.new }
+    ensures rest { drop ((span.entry.end - span.entry.from) * M) room.new
+        ≡ drop ((span.entry.end - span.entry.from) * M) room.old }
 {
-    let first_byte = from / 8 + 1;
-    let end_byte = end / 8;
-    if validity.is_empty() || end_byte <= first_byte {
-        return write_by_rows::<N, T, M, U>(validity, items, from, from, end, room);
+    let first_byte = span.from / 8 + 1;
+    let end_byte = span.end / 8;
+    if span.validity.is_empty() || end_byte <= first_byte {
+        return write_by_rows::<N, T, M, U>(span, span.from, room);
     }
-    write_by_rows::<N, T, M, U>(validity, items, from, from, 8 * first_byte, room);
-    write_by_bytes::<N, T, M, U>(validity, items, from, first_byte, end_byte, room);
-    write_by_rows::<N, T, M, U>(validity, items, from, 8 * end_byte, end, room);
+    let end = 8 * first_byte;
+    write_by_rows::<N, T, M, U>(Span { end, ..span }, span.from, room);
+    write_by_bytes::<N, T, M, U>(span, first_byte, end_byte, room);
+    write_by_rows::<N, T, M, U>(span, 8 * end_byte, room);
 }
 
 /// Whether the kind of U has the integers of a block of rows.
 fn block_fits<const N: usize, T: Integer<N>, const M: usize, U: Integer<M>>(
-    items: &[[u8; N]],
+    span: Span<N>,
     start: usize,
 ) -> bool
     requires narrow { N ≤ 8 }
-    requires items { start + BLOCK ≤ length items.now }
-    ensures { OnTrue result ((j : ℕ) → j < BLOCK → IsOfKind U.kind (integer_of T.kind (slice_index_or items.now (start + j) []))) }
+    requires items { start + BLOCK ≤ length span.items.now }
+    ensures { OnTrue result ((j : ℕ) → j < BLOCK
+        → IsOfKind U.kind (integer_of T.kind (slice_index_or span.entry.items.now (start + j) []))) }
 {
+    let items = span.items;
     let mut fits = true;
     for j in 0..BLOCK {
         fits = fits & U::fits(T::of_bytes(items[start + j]).whole());
@@ -243,107 +258,120 @@ fn block_fits<const N: usize, T: Integer<N>, const M: usize, U: Integer<M>>(
 /// Writes the integers of a block of rows. All are read before the first is written, so that several
 /// are written at once.
 fn write_block<const N: usize, T: Integer<N>, const M: usize, U: Integer<M>>(
-    items: &[[u8; N]],
-    from: usize,
+    span: Span<N>,
     start: usize,
     room: &mut [u8],
 )
     requires narrow { N ≤ 8 }
     requires narrow_to { M ≤ 8 }
-    requires from { from ≤ start }
-    requires items { start + BLOCK ≤ length items.now }
-    requires room { (start + BLOCK - from) * M ≤ length room.old }
-    requires fit { (j : ℕ) → j < BLOCK → IsOfKind U.kind (integer_of T.kind (slice_index_or items.now (start + j) [])) }
-    requires written { AreWritten U.kind M (cell_at [] (λ i. integer_of T.kind (slice_index_or items.now i []))) from start room.old }
-    ensures written { AreWritten U.kind M (cell_at [] (λ i. integer_of T.kind (slice_index_or items.now i []))) from (start + BLOCK) room.new }
-    ensures rest { drop ((start + BLOCK - from) * M) room.new ≡ drop ((start + BLOCK - from) * M) room.old }
+    requires from { span.from ≤ start }
+    requires items { start + BLOCK ≤ length span.items.now }
+    requires room { (start + BLOCK - span.from) * M ≤ length room.old }
+    requires fit { (j : ℕ) → j < BLOCK
+        → IsOfKind U.kind (integer_of T.kind (slice_index_or span.items.now (start + j) [])) }
+    requires written { AreWritten U.kind M (cell_of_item T.kind [] span.items.now) span.from start room.old }
+    ensures written { AreWritten U.kind M (cell_of_item T.kind [] span.entry.items.now) span.entry.from
+        (start + BLOCK) room.new }
+    ensures rest { drop ((start + BLOCK - span.entry.from) * M) room.new
+        ≡ drop ((start + BLOCK - span.entry.from) * M) room.old }
 {
+    let items = span.items;
     let mut block = [[0; M]; BLOCK];
     for j in 0..BLOCK {
         block[j] = U::of_whole(T::of_bytes(items[start + j]).whole()).to_bytes();
     }
     for k in 0..BLOCK {
-        put::<M>(room, start - from + k, block[k]);
+        put::<M>(room, start - span.from + k, block[k]);
     }
 }
 
 /// Writes the integers of the rows of a column without nulls block by block, as long as the kind of
 /// U has those of each block. Tells the first row that is not written.
 fn write_blocks<const N: usize, T: Integer<N>, const M: usize, U: Integer<M>>(
-    items: &[[u8; N]],
-    from: usize,
-    end: usize,
+    span: Span<N>,
     room: &mut [u8],
 ) -> usize
     requires narrow { N ≤ 8 }
     requires narrow_to { M ≤ 8 }
-    requires range { from ≤ end }
-    requires items { end ≤ length items.now }
-    requires room { (end - from) * M ≤ length room.old }
-    ensures from { from ≤ result }
-    ensures end { result ≤ end }
-    ensures fit { AllFit U.kind (cell_at [] (λ i. integer_of T.kind (slice_index_or items.now i []))) from result }
-    ensures written { AreWritten U.kind M (cell_at [] (λ i. integer_of T.kind (slice_index_or items.now i []))) from result room.new }
-    ensures rest { drop ((result - from) * M) room.new ≡ drop ((result - from) * M) room.old }
+    requires range { span.from ≤ span.end }
+    requires items { span.end ≤ length span.items.now }
+    requires room { (span.end - span.from) * M ≤ length room.old }
+    ensures from { span.entry.from ≤ result }
+    ensures end { result ≤ span.entry.end }
+    ensures fit { AllFit U.kind (cell_of_item T.kind [] span.entry.items.now) span.entry.from result }
+    ensures written { AreWritten U.kind M
+        (cell_of_item T.kind [] span.entry.items.now) span.entry.from result room.new }
+    ensures rest { drop ((result - span.entry.from) * M) room.new
+        ≡ drop ((result - span.entry.from) * M) room.old }
 {
-    let blocks = (end - from) / BLOCK;
+    let blocks = (span.end - span.from) / BLOCK;
     for b in 0..blocks {
-        let start = from + BLOCK * b;
-        if !block_fits::<N, T, M, U>(items, start) {
+        let start = span.from + BLOCK * b;
+        if !block_fits::<N, T, M, U>(span, start) {
             return start;
         }
-        write_block::<N, T, M, U>(items, from, start, room);
+        write_block::<N, T, M, U>(span, start, room);
     }
-    from + BLOCK * blocks
+    span.from + BLOCK * blocks
 }
 
 /// Writes the integers of the rows of a column without nulls before the first whose integer the
 /// kind of U lacks, in one pass. Tells which row that is.
 fn write_front_by_blocks<const N: usize, T: Integer<N>, const M: usize, U: Integer<M>>(
-    items: &[[u8; N]],
-    from: usize,
-    end: usize,
+    span: Span<N>,
     room: &mut [u8],
 ) -> Option<usize>
     requires narrow { N ≤ 8 }
     requires narrow_to { M ≤ 8 }
-    requires range { from ≤ end }
-    requires items { end ≤ length items.now }
-    requires room { (end - from) * M ≤ length room.old }
-    ensures found { let cell = cell_at [] (λ i. integer_of T.kind (slice_index_or items.now i [])) in MatchOption result (AllFit U.kind cell from end) (IsFirstUnfit U.kind cell from end) }
-    ensures written { AreWritten U.kind M (cell_at [] (λ i. integer_of T.kind (slice_index_or items.now i []))) from (unwrap_or result end) room.new }
-    ensures rest { drop ((unwrap_or result end - from) * M) room.new ≡ drop ((unwrap_or result end - from) * M) room.old }
+    requires range { span.from ≤ span.end }
+    requires items { span.end ≤ length span.items.now }
+    requires room { (span.end - span.from) * M ≤ length room.old }
+    ensures found { let cell = cell_of_item T.kind [] span.entry.items.now in
+        MatchOption result (AllFit U.kind cell span.entry.from span.entry.end)
+        (IsFirstUnfit U.kind cell span.entry.from span.entry.end) }
+    ensures written { AreWritten U.kind M (cell_of_item T.kind [] span.entry.items.now) span.entry.from
+        (unwrap_or result span.entry.end) room.new }
+    ensures rest { drop ((unwrap_or result span.entry.end - span.entry.from) * M) room.new
+        ≡ drop ((unwrap_or result span.entry.end - span.entry.from) * M) room.old }
 {
-    let start = write_blocks::<N, T, M, U>(items, from, end, room);
-    let found = find_without::<N, T, M, U>(&[], items, start, end);
-    write_by_rows::<N, T, M, U>(&[], items, from, start, found.unwrap_or(end), room);
+    let start = write_blocks::<N, T, M, U>(span, room);
+    let all = Span {
+        validity: &[],
+        ..span
+    };
+    let found = find_without::<N, T, M, U>(Span { from: start, ..all });
+    let end = found.unwrap_or(span.end);
+    write_by_rows::<N, T, M, U>(Span { end, ..all }, start, room);
     found
 }
 
 /// Writes the integers of the rows before the first whose integer the kind of U lacks, and 0 for a
 /// null. Tells which row that is. Where there is a bitmap, all rows are tested first.
 fn write_front<const N: usize, T: Integer<N>, const M: usize, U: Integer<M>>(
-    validity: &[u8],
-    items: &[[u8; N]],
-    from: usize,
-    end: usize,
+    span: Span<N>,
     room: &mut [u8],
 ) -> Option<usize>
     requires narrow { N ≤ 8 }
     requires narrow_to { M ≤ 8 }
-    requires range { from ≤ end }
-    requires items { end ≤ length items.now }
-    requires bits { HasBits validity.now end }
-    requires room { (end - from) * M ≤ length room.old }
-    ensures found { let cell = cell_at validity.now (λ i. integer_of T.kind (slice_index_or items.now i [])) in MatchOption result (AllFit U.kind cell from end) (IsFirstUnfit U.kind cell from end) }
-    ensures written { AreWritten U.kind M (cell_at validity.now (λ i. integer_of T.kind (slice_index_or items.now i []))) from (unwrap_or result end) room.new }
-    ensures rest { drop ((unwrap_or result end - from) * M) room.new ≡ drop ((unwrap_or result end - from) * M) room.old }
+    requires range { span.from ≤ span.end }
+    requires items { span.end ≤ length span.items.now }
+    requires bits { HasBits span.validity.now span.end }
+    requires room { (span.end - span.from) * M ≤ length room.old }
+    ensures found { let cell = cell_of_item T.kind span.entry.validity.now span.entry.items.now in
+        MatchOption result (AllFit U.kind cell span.entry.from span.entry.end)
+        (IsFirstUnfit U.kind cell span.entry.from span.entry.end) }
+    ensures written { AreWritten U.kind M
+        (cell_of_item T.kind span.entry.validity.now span.entry.items.now) span.entry.from
+        (unwrap_or result span.entry.end) room.new }
+    ensures rest { drop ((unwrap_or result span.entry.end - span.entry.from) * M) room.new
+        ≡ drop ((unwrap_or result span.entry.end - span.entry.from) * M) room.old }
 {
-    if validity.is_empty() {
-        return write_front_by_blocks::<N, T, M, U>(items, from, end, room);
+    if span.validity.is_empty() {
+        return write_front_by_blocks::<N, T, M, U>(span, room);
     }
-    let found = first_without::<N, T, M, U>(validity, items, from, end);
-    write_rows::<N, T, M, U>(validity, items, from, found.unwrap_or(end), room);
+    let found = first_without::<N, T, M, U>(span);
+    let end = found.unwrap_or(span.end);
+    write_rows::<N, T, M, U>(Span { end, ..span }, room);
     found
 }
 
@@ -351,31 +379,34 @@ fn write_front<const N: usize, T: Integer<N>, const M: usize, U: Integer<M>>(
 /// U lacks: if there is one, less is written.
 fn write_by<const N: usize, T: Integer<N>, const M: usize, U: Integer<M>>(
     extent: Extent,
-    validity: &[u8],
-    items: &[[u8; N]],
-    from: usize,
-    end: usize,
+    span: Span<N>,
     room: &mut [u8],
 ) -> Option<usize>
     requires narrow { N ≤ 8 }
     requires narrow_to { M ≤ 8 }
-    requires range { from ≤ end }
-    requires items { end ≤ length items.now }
-    requires bits { HasBits validity.now end }
-    requires room { (end - from) * M ≤ length room.old }
-    ensures found { let cell = cell_at validity.now (λ i. integer_of T.kind (slice_index_or items.now i [])) in MatchOption result (AllFit U.kind cell from end) (IsFirstUnfit U.kind cell from end) }
-    ensures written { IfNone result (AreWritten U.kind M (cell_at validity.now (λ i. integer_of T.kind (slice_index_or items.now i []))) from end room.new) }
-    ensures rest { IfNone result (drop ((end - from) * M) room.new ≡ drop ((end - from) * M) room.old) }
-    ensures front { extent ≡ Front → IfSome result (λ i. AreWritten U.kind M (cell_at validity.now (λ i. integer_of T.kind (slice_index_or items.now i []))) from i room.new) }
-    ensures past { extent ≡ Front → IfSome result (λ i. drop ((i - from) * M) room.new ≡ drop ((i - from) * M) room.old) }
+    requires range { span.from ≤ span.end }
+    requires items { span.end ≤ length span.items.now }
+    requires bits { HasBits span.validity.now span.end }
+    requires room { (span.end - span.from) * M ≤ length room.old }
+    ensures found { let cell = cell_of_item T.kind span.entry.validity.now span.entry.items.now in
+        MatchOption result (AllFit U.kind cell span.entry.from span.entry.end)
+        (IsFirstUnfit U.kind cell span.entry.from span.entry.end) }
+    ensures written { IfNone result (AreWritten U.kind M
+        (cell_of_item T.kind span.entry.validity.now span.entry.items.now) span.entry.from span.entry.end room.new) }
+    ensures rest { IfNone result (drop ((span.entry.end - span.entry.from) * M) room.new
+        ≡ drop ((span.entry.end - span.entry.from) * M) room.old) }
+    ensures front { extent ≡ Front → IfSome result (λ i. AreWritten U.kind M
+        (cell_of_item T.kind span.entry.validity.now span.entry.items.now) span.entry.from i room.new) }
+    ensures past { extent ≡ Front → IfSome result
+        (λ i. drop ((i - span.entry.from) * M) room.new ≡ drop ((i - span.entry.from) * M) room.old) }
     ensures kept { extent ≡ Nothing → IfSome result (λ i. room.new ≡ room.old) }
 {
     match extent {
-        Extent::Front => write_front::<N, T, M, U>(validity, items, from, end, room),
-        Extent::Nothing => match first_without::<N, T, M, U>(validity, items, from, end) {
+        Extent::Front => write_front::<N, T, M, U>(span, room),
+        Extent::Nothing => match first_without::<N, T, M, U>(span) {
             Some(i) => Some(i),
             None => {
-                write_rows::<N, T, M, U>(validity, items, from, end, room);
+                write_rows::<N, T, M, U>(span, room);
                 None
             }
         },
@@ -394,19 +425,26 @@ fn cast_between<const N: usize, T: Integer<N>, const M: usize, U: Integer<M>>(
     requires rows { HasRows column }
     requires values { end_of column * N ≤ length column.values.now }
     requires room { column.length * M ≤ length room.old }
-    ensures cast { let cells = cells_from column.entry.validity.now (λ i. integer_of T.kind (item_at N column.entry.values.now i)) column.entry.offset column.entry.length in
-        OnOk result ((row : ℕ) (cell : Option ℤ) → slice_get cells row ≡ Some cell → integer_of U.kind (item_at M room.new row) ≡ unwrap_or cell (pos 0)) }
-    ensures rest { OnOk result (drop (column.entry.length * M) room.new ≡ drop (column.entry.length * M) room.old) }
-    ensures fault { let cells = cells_from column.entry.validity.now (λ i. integer_of T.kind (item_at N column.entry.values.now i)) column.entry.offset column.entry.length in
+    ensures cast { let cells = cells_of_width N T.kind column.entry in
+        OnOk result (AreCastItems U.kind M cells room.new) }
+    ensures rest { OnOk result
+        (drop (column.entry.length * M) room.new ≡ drop (column.entry.length * M) room.old) }
+    ensures fault { let cells = cells_of_width N T.kind column.entry in
         IfErr result (λ fault. IsFirstWithout U.kind cells fault.row) }
-    ensures front { let cells = cells_from column.entry.validity.now (λ i. integer_of T.kind (item_at N column.entry.values.now i)) column.entry.offset column.entry.length in extent ≡ Front
-        → IfErr result (λ fault. (row : ℕ) (cell : Option ℤ) → slice_get (take fault.row cells) row ≡ Some cell → integer_of U.kind (item_at M room.new row) ≡ unwrap_or cell (pos 0)) }
-    ensures past { extent ≡ Front → IfErr result (λ fault. drop (fault.row * M) room.new ≡ drop (fault.row * M) room.old) }
+    ensures front { let cells = cells_of_width N T.kind column.entry in extent ≡ Front
+        → IfErr result (λ fault. AreCastItems U.kind M (take fault.row cells) room.new) }
+    ensures past { extent ≡ Front
+        → IfErr result (λ fault. drop (fault.row * M) room.new ≡ drop (fault.row * M) room.old) }
     ensures kept { extent ≡ Nothing → OnErr result (room.new ≡ room.old) }
 {
     let (items, _) = column.values.as_chunks::<N>();
-    let end = column.offset + column.length;
-    match write_by::<N, T, M, U>(extent, column.validity, items, column.offset, end, room) {
+    let span = Span {
+        validity: column.validity,
+        items,
+        from: column.offset,
+        end: column.offset + column.length,
+    };
+    match write_by::<N, T, M, U>(extent, span, room) {
         Some(i) => Err(CastFault {
             row: i - column.offset,
         }),
@@ -426,11 +464,14 @@ fn cast_from<const N: usize, T: Integer<N>>(
     requires rows { HasRows column }
     requires values { end_of column * N ≤ length column.values.now }
     requires room { column.length * width_of to ≤ length room.old }
-    ensures cast { OnOk result (AreCastTo to (cells_from column.entry.validity.now (λ i. integer_of T.kind (item_at N column.entry.values.now i)) column.entry.offset column.entry.length) room.new) }
-    ensures rest { OnOk result (drop (column.entry.length * width_of to) room.new ≡ drop (column.entry.length * width_of to) room.old) }
-    ensures fault { IfErr result (λ fault. IsFirstWithout to (cells_from column.entry.validity.now (λ i. integer_of T.kind (item_at N column.entry.values.now i)) column.entry.offset column.entry.length) fault.row) }
-    ensures front { extent ≡ Front → IfErr result (λ fault. AreCastTo to (take fault.row (cells_from column.entry.validity.now (λ i. integer_of T.kind (item_at N column.entry.values.now i)) column.entry.offset column.entry.length)) room.new) }
-    ensures past { extent ≡ Front → IfErr result (λ fault. drop (fault.row * width_of to) room.new ≡ drop (fault.row * width_of to) room.old) }
+    ensures cast { OnOk result (AreCastTo to (cells_of_width N T.kind column.entry) room.new) }
+    ensures rest { OnOk result (drop (column.entry.length * width_of to) room.new
+        ≡ drop (column.entry.length * width_of to) room.old) }
+    ensures fault { IfErr result (λ fault. IsFirstWithout to (cells_of_width N T.kind column.entry) fault.row) }
+    ensures front { extent ≡ Front → IfErr result
+        (λ fault. AreCastTo to (take fault.row (cells_of_width N T.kind column.entry)) room.new) }
+    ensures past { extent ≡ Front → IfErr result
+        (λ fault. drop (fault.row * width_of to) room.new ≡ drop (fault.row * width_of to) room.old) }
     ensures kept { extent ≡ Nothing → OnErr result (room.new ≡ room.old) }
 {
     match to {
@@ -451,8 +492,10 @@ impl IntegerRows<'_> {
     pub fn cast(&self, to: IntegerKind, room: &mut [u8]) -> Result<(), CastFault>
         requires { self.now.column.length * width_of to ≤ length room.old }
         ensures cast { OnOk result (AreCastTo to (integer_cells self.now.kind self.now.column) room.new) }
-        ensures rest { OnOk result (drop (self.now.column.length * width_of to) room.new ≡ drop (self.now.column.length * width_of to) room.old) }
-        ensures fault { IfErr result (λ fault. IsFirstWithout to (integer_cells self.now.kind self.now.column) fault.row) }
+        ensures rest { OnOk result (drop (self.now.column.length * width_of to) room.new
+            ≡ drop (self.now.column.length * width_of to) room.old) }
+        ensures fault { IfErr result
+            (λ fault. IsFirstWithout to (integer_cells self.now.kind self.now.column) fault.row) }
         ensures kept { OnErr result (room.new ≡ room.old) }
     {
         self.cast_by(to, Extent::Nothing, room)
@@ -463,10 +506,14 @@ impl IntegerRows<'_> {
     pub fn cast_front(&self, to: IntegerKind, room: &mut [u8]) -> Result<(), CastFault>
         requires { self.now.column.length * width_of to ≤ length room.old }
         ensures cast { OnOk result (AreCastTo to (integer_cells self.now.kind self.now.column) room.new) }
-        ensures rest { OnOk result (drop (self.now.column.length * width_of to) room.new ≡ drop (self.now.column.length * width_of to) room.old) }
-        ensures fault { IfErr result (λ fault. IsFirstWithout to (integer_cells self.now.kind self.now.column) fault.row) }
-        ensures front { IfErr result (λ fault. AreCastTo to (take fault.row (integer_cells self.now.kind self.now.column)) room.new) }
-        ensures past { IfErr result (λ fault. drop (fault.row * width_of to) room.new ≡ drop (fault.row * width_of to) room.old) }
+        ensures rest { OnOk result (drop (self.now.column.length * width_of to) room.new
+            ≡ drop (self.now.column.length * width_of to) room.old) }
+        ensures fault { IfErr result
+            (λ fault. IsFirstWithout to (integer_cells self.now.kind self.now.column) fault.row) }
+        ensures front { IfErr result
+            (λ fault. AreCastTo to (take fault.row (integer_cells self.now.kind self.now.column)) room.new) }
+        ensures past { IfErr result
+            (λ fault. drop (fault.row * width_of to) room.new ≡ drop (fault.row * width_of to) room.old) }
     {
         self.cast_by(to, Extent::Front, room)
     }
@@ -475,10 +522,14 @@ impl IntegerRows<'_> {
     fn cast_by(&self, to: IntegerKind, extent: Extent, room: &mut [u8]) -> Result<(), CastFault>
         requires { self.now.column.length * width_of to ≤ length room.old }
         ensures cast { OnOk result (AreCastTo to (integer_cells self.now.kind self.now.column) room.new) }
-        ensures rest { OnOk result (drop (self.now.column.length * width_of to) room.new ≡ drop (self.now.column.length * width_of to) room.old) }
-        ensures fault { IfErr result (λ fault. IsFirstWithout to (integer_cells self.now.kind self.now.column) fault.row) }
-        ensures front { extent ≡ Front → IfErr result (λ fault. AreCastTo to (take fault.row (integer_cells self.now.kind self.now.column)) room.new) }
-        ensures past { extent ≡ Front → IfErr result (λ fault. drop (fault.row * width_of to) room.new ≡ drop (fault.row * width_of to) room.old) }
+        ensures rest { OnOk result (drop (self.now.column.length * width_of to) room.new
+            ≡ drop (self.now.column.length * width_of to) room.old) }
+        ensures fault { IfErr result
+            (λ fault. IsFirstWithout to (integer_cells self.now.kind self.now.column) fault.row) }
+        ensures front { extent ≡ Front → IfErr result
+            (λ fault. AreCastTo to (take fault.row (integer_cells self.now.kind self.now.column)) room.new) }
+        ensures past { extent ≡ Front → IfErr result
+            (λ fault. drop (fault.row * width_of to) room.new ≡ drop (fault.row * width_of to) room.old) }
         ensures kept { extent ≡ Nothing → OnErr result (room.new ≡ room.old) }
     {
         match self.kind {

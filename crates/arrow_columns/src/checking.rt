@@ -1,8 +1,11 @@
 //! Whether a column can be read.
 
 ghost use Rattle.std.specs.Prelude.{◌≡◌, ◌<◌, ◌≤◌, IfErr, IfOk, MatchOption};
-ghost use Rattle.arrow_columns.specs.Words.{AreRowsOf, AreTextRows, HasRows, IsBooleanFault, IsByteColumn, IsByteFault, IsFaultOf, IsIntegerFault, IsRowsFault, IsStringFault, IsTextRow, bytes_of_offset, end_of, width_of};
+ghost use Rattle.arrow_columns.specs.Words.{AreRowsOf, AreTextRows, HasRows, IsBooleanFault, IsByteColumn};
+ghost use Rattle.arrow_columns.specs.Words.{IsByteFault, IsFaultOf, IsIntegerFault, IsRowsFault, IsStringFault};
+ghost use Rattle.arrow_columns.specs.Words.{IsTextRow, bytes_of_offset, end_of, width_of};
 
+use crate::bitmaps::bitmap_length;
 use crate::byte_items::{first_bad, first_not_utf8};
 use crate::columns::Column;
 use crate::faults::{Buffer, ColumnFault};
@@ -33,7 +36,7 @@ fn end_of_rows(column: Column) -> Result<usize, ColumnFault>
     let Some(end) = column.offset.checked_add(column.length) else {
         return Err(ColumnFault::TooManyRows);
     };
-    if !column.validity.is_empty() && column.validity.len() < end.div_ceil(8) {
+    if !column.validity.is_empty() && column.validity.len() < bitmap_length(end) {
         return Err(ColumnFault::TooShort(Buffer::Validity));
     }
     Ok(end)
@@ -57,7 +60,7 @@ fn boolean_rows(column: Column) -> Result<BooleanRows, ColumnFault>
     ensures fault { IfErr result (λ fault. IsBooleanFault column.entry fault) }
 {
     let end = end_of_rows(column)?;
-    if column.values.len() < end.div_ceil(8) {
+    if column.values.len() < bitmap_length(end) {
         return Err(ColumnFault::TooShort(Buffer::Values));
     }
     Ok(BooleanRows { column })
@@ -104,7 +107,8 @@ fn first_bad_text<const N: usize, T: Offset<N>>(column: Column) -> Option<usize>
     requires some { 0 < N }
     requires column { IsByteColumn T.width column }
     ensures { MatchOption result (AreTextRows T.width column.entry column.entry.length)
-        (λ row. (row < column.entry.length) × AreTextRows T.width column.entry row × ¬ (IsTextRow T.width column.entry row)) }
+        (λ row. (row < column.entry.length) × AreTextRows T.width column.entry row
+        × ¬ (IsTextRow T.width column.entry row)) }
 {
     if column.length == 0 {
         return None;
@@ -120,7 +124,8 @@ fn first_bad_text<const N: usize, T: Offset<N>>(column: Column) -> Option<usize>
 /// The first row that is no UTF-8.
 fn first_bad_string(rows: ByteRows) -> Option<usize>
     ensures { MatchOption result (AreTextRows rows.entry.width rows.entry.column rows.entry.column.length)
-        (λ row. (row < rows.entry.column.length) × AreTextRows rows.entry.width rows.entry.column row × ¬ (IsTextRow rows.entry.width rows.entry.column row)) }
+        (λ row. (row < rows.entry.column.length) × AreTextRows rows.entry.width rows.entry.column row
+        × ¬ (IsTextRow rows.entry.width rows.entry.column row)) }
 {
     match rows.width {
         OffsetWidth::Bits32 => first_bad_text::<4, u32>(rows.column),

@@ -1,5 +1,8 @@
 //! A column as it comes.
 
+ghost use Rattle.std.specs.Prelude.{◌≡◌};
+ghost use Rattle.arrow_columns.specs.Columns.{rows_in};
+
 /// A column as the Arrow C data interface lays it out: its buffers, and which rows of them it has.
 /// What it says of itself is tested by `Column::check`.
 #[derive(Clone, Copy)]
@@ -17,4 +20,14 @@ pub struct Column<'a> {
     pub offset: usize,
     /// How many rows it has.
     pub length: usize,
+}
+
+/// How many rows columns have: as many as the first one says.
+pub fn row_count_of(columns: &[Column]) -> usize
+    ensures { result ≡ rows_in columns.now }
+{
+    match columns {
+        [first, ..] => first.length,
+        [] => 0,
+    }
 }

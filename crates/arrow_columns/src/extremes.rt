@@ -1,7 +1,9 @@
 //! The loops that gather the statistics of integers.
 
-ghost use Rattle.std.specs.Prelude.{[], ◌≡◌, ◌≢◌, ℕ, ◌<◌, ◌≤◌, ◌-◌, ◌*◌, false, if◌then◌else◌, length, slice_index_or, true};
-ghost use Rattle.arrow_columns.specs.Words.{AreGathered, AreStatisticsOf, HasBits, cell_at, cells_from, integer_of, is_valid};
+ghost use Rattle.std.specs.Prelude.{[], ◌≡◌, ◌≢◌, ℕ, ◌<◌, ◌≤◌, ◌-◌, ◌*◌, false, if◌then◌else◌, length};
+ghost use Rattle.std.specs.Prelude.{slice_index_or, true};
+ghost use Rattle.arrow_columns.specs.Words.{AreGathered, AreStatisticsOf, HasBits, cell_of_item, cells_from};
+ghost use Rattle.arrow_columns.specs.Words.{integer_of, is_valid};
 
 use crate::bitmaps::{first_valid, is_set};
 use crate::integers::Integer;
@@ -26,7 +28,8 @@ pub fn statistics_of_rows<const N: usize, T: Integer<N>>(
     requires range { from ≤ end }
     requires items { end ≤ length items.now }
     requires bits { HasBits validity.now end }
-    ensures { AreStatisticsOf (cells_from validity.now (λ i. integer_of T.kind (slice_index_or items.now i [])) from (end - from)) result }
+    ensures { AreStatisticsOf (cells_from validity.now
+        (λ i. integer_of T.kind (slice_index_or items.now i [])) from (end - from)) result }
 {
     let start = first_valid(validity, from, end);
     if start == end {
@@ -60,7 +63,8 @@ fn gather<const N: usize, T: Integer<N>>(
     requires bits { HasBits validity.now end }
     requires nulls { (k : ℕ) → k < start → from ≤ k → is_valid validity.now k ≡ false }
     requires valid { is_valid validity.now start ≡ true }
-    ensures { AreGathered T.number (cell_at validity.now (λ i. integer_of T.kind (slice_index_or items.now i []))) from end result }
+    ensures { AreGathered T.number
+        (cell_of_item T.kind validity.now items.now) from end result }
 {
     if validity.is_empty() {
         without_nulls::<N, T>(validity, items, from, end)
@@ -79,7 +83,8 @@ pub fn without_nulls<const N: usize, T: Integer<N>>(
     requires range { from < end }
     requires items { end ≤ length items.now }
     requires no_bitmap { length validity.now ≡ 0 }
-    ensures { AreGathered T.number (cell_at validity.now (λ i. integer_of T.kind (slice_index_or items.now i []))) from end result }
+    ensures { AreGathered T.number
+        (cell_of_item T.kind validity.now items.now) from end result }
 {
     let first = T::of_bytes(items[from]);
     let mut least = first;
@@ -113,7 +118,8 @@ fn with_nulls<const N: usize, T: Integer<N>>(
     requires bits { end ≤ 8 * length validity.now }
     requires nulls { (k : ℕ) → k < start → from ≤ k → is_valid validity.now k ≡ false }
     requires valid { is_valid validity.now start ≡ true }
-    ensures { AreGathered T.number (cell_at validity.now (λ i. integer_of T.kind (slice_index_or items.now i []))) from end result }
+    ensures { AreGathered T.number
+        (cell_of_item T.kind validity.now items.now) from end result }
 {
     let first = T::of_bytes(items[start]);
     let gathered = Gathered {
@@ -145,8 +151,10 @@ fn by_rows<const N: usize, T: Integer<N>>(
     requires items { end ≤ length items.now }
     requires bitmap { length validity.now ≢ 0 }
     requires bits { end ≤ 8 * length validity.now }
-    requires gathered { AreGathered T.number (cell_at validity.now (λ i. integer_of T.kind (slice_index_or items.now i []))) from start gathered }
-    ensures { AreGathered T.number (cell_at validity.now (λ i. integer_of T.kind (slice_index_or items.now i []))) from end result }
+    requires gathered { AreGathered T.number
+        (cell_of_item T.kind validity.now items.now) from start gathered }
+    ensures { AreGathered T.number
+        (cell_of_item T.kind validity.now items.now) from end result }
 {
     let mut null_count = gathered.null_count;
     let mut least = gathered.least;
@@ -181,8 +189,8 @@ fn by_bytes<const N: usize, T: Integer<N>>(
     requires from { from < 8 * first_byte }
     requires items { 8 * end_byte ≤ length items.now }
     requires bits { end_byte ≤ length validity.now }
-    requires gathered { AreGathered T.number (cell_at validity.now (λ i. integer_of T.kind (slice_index_or items.now i []))) from (8 * first_byte) gathered }
-    ensures { AreGathered T.number (cell_at validity.now (λ i. integer_of T.kind (slice_index_or items.now i []))) from (8 * end_byte) result }
+    requires gathered { AreGathered T.number (cell_of_item T.kind validity.now items.now) from (8 * first_byte) gathered }
+    ensures { AreGathered T.number (cell_of_item T.kind validity.now items.now) from (8 * end_byte) result }
 {
     let low = gathered.least;
     let high = gathered.greatest;

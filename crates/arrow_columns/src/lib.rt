@@ -22,10 +22,10 @@ mod reading;
 mod statistics;
 mod tested_rows;
 
-pub use bitmaps::put_bit;
+pub use bitmaps::{bitmap_length, put_bit};
 pub use byte_spans::{ByteSpan, items_are_bytes};
 pub use casts::CastFault;
-pub use columns::Column;
+pub use columns::{Column, row_count_of};
 pub use faults::{Buffer, ColumnFault};
 pub use kinds::{IntegerKind, Kind};
 pub use offset_width::OffsetWidth;

@@ -2,7 +2,10 @@
 
 ghost use Rattle.std.specs.Prelude.{◌≡◌, ◌+◌, ◌-◌, ◌*◌, ◌<◌, ◌≤◌, Some, length, slice_get};
 ghost use Rattle.std.specs.Option.{option_copied};
-ghost use Rattle.arrow_columns.specs.Words.{AreBooleanStatisticsOf, AreByteStatisticsOf, AreStatisticsOf, HasRows, IsByteColumn, boolean_cells, byte_cells, bytes_between, bytes_of_offset, cells_from, end_of, integer_cells, integer_of, item_at, offset_in, width_of};
+ghost use Rattle.arrow_columns.specs.Words.{AreBooleanStatisticsOf, AreByteStatisticsOf, AreStatisticsOf, HasRows};
+ghost use Rattle.arrow_columns.specs.Words.{IsByteColumn, boolean_cells, byte_cells, bytes_between};
+ghost use Rattle.arrow_columns.specs.Words.{bytes_of_offset, cells_from, end_of, integer_cells, integer_of};
+ghost use Rattle.arrow_columns.specs.Words.{item_at, offset_in, width_of};
 
 use crate::bitmaps::{is_row_valid, is_set};
 use crate::booleans::statistics_of_bits;
@@ -23,7 +26,8 @@ fn statistics_of_integers<const N: usize, T: Integer<N>>(column: Column) -> Inte
     requires narrow { N ≤ 8 }
     requires rows { HasRows column }
     requires values { end_of column * N ≤ length column.values.now }
-    ensures { AreStatisticsOf (cells_from column.entry.validity.now (λ i. integer_of T.kind (item_at N column.entry.values.now i)) column.entry.offset column.entry.length) result }
+    ensures { AreStatisticsOf (cells_from column.entry.validity.now (λ i. integer_of T.kind
+        (item_at N column.entry.values.now i)) column.entry.offset column.entry.length) result }
 {
     let (items, _) = column.values.as_chunks::<N>();
     let end = column.offset + column.length;
@@ -163,7 +167,8 @@ impl<'a> ByteRows<'a> {
     fn bytes_of(&self, i: usize) -> &'a [u8]
         requires from { self.now.column.offset ≤ i }
         requires end { i < end_of self.now.column }
-        ensures { result.now ≡ bytes_between self.now.column.values.now (offset_in self.now.width self.now.column) i }
+        ensures { result.now ≡ bytes_between self.now.column.values.now
+            (offset_in self.now.width self.now.column) i }
     {
         match self.width {
             OffsetWidth::Bits32 => bytes::<4, u32>(self.column, i),

@@ -1,7 +1,8 @@
 //! The cells of a column as scalars.
 
 ghost use Rattle.std.specs.Prelude.{◌≡◌, ◌<◌, IfErr, IfOk, IsSomeAnd, Some, length, slice_get};
-ghost use Rattle.column_cells.specs.Words.{HasTexts, IsLongContent, IsValid, OutOfMemory, contents_of_rows, scalar_content, scalar_type, type_of_rows};
+ghost use Rattle.column_cells.specs.Words.{HasTexts, IsLongContent, IsValid, OutOfMemory};
+ghost use Rattle.column_cells.specs.Words.{contents_of_rows, scalar_content, scalar_type, type_of_rows};
 
 use crate::scalars::{bool_scalar, byte_scalar, integer_scalar, text_scalar};
 use arrow_columns::{Rows, items_are_bytes};
@@ -31,7 +32,8 @@ pub fn scalar_at(alloc: Global, rows: &Rows, row: usize) -> Result<Scalar, Vorte
     ensures typed { IfOk result (λ x. scalar_type x ≡ type_of_rows rows.now) }
     ensures content { IfOk result (λ x. slice_get (contents_of_rows rows.now) row ≡ Some (scalar_content x)) }
     ensures valid { IfOk result IsValid }
-    ensures refused { IfErr result (λ e. (e ≡ OutOfMemory) × IsSomeAnd (slice_get (contents_of_rows rows.now) row) IsLongContent) }
+    ensures refused { IfErr result
+        (λ e. (e ≡ OutOfMemory) × IsSomeAnd (slice_get (contents_of_rows rows.now) row) IsLongContent) }
 {
     match rows {
         Rows::Integers(rows) => {

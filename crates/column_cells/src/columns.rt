@@ -1,7 +1,8 @@
 //! The rows of a column.
 
 ghost use Rattle.std.specs.Prelude.{◌≡◌, IfErr, IfOk};
-ghost use Rattle.column_cells.specs.Words.{AreRowsOf, HasTexts, IsFaultOf, contents_of_column, contents_of_rows, type_of_column, type_of_rows};
+ghost use Rattle.column_cells.specs.Words.{AreRowsOf, HasTexts, IsFaultOf, contents_of_column, contents_of_rows};
+ghost use Rattle.column_cells.specs.Words.{type_of_column, type_of_rows};
 
 use arrow_columns::{Column, ColumnFault, Rows};
 

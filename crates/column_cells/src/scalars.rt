@@ -1,7 +1,9 @@
 //! The scalars of cells.
 
 ghost use Rattle.std.specs.Prelude.{◌≡◌, ◌<◌, IfErr, IfOk, IfSome, IsSomeAnd, IsUtf8, length};
-ghost use Rattle.column_cells.specs.Words.{InRange, IsValid, Nullable, OutOfMemory, binary_type, bool_type, content_or_null, integer_type, option_copied, ptype_of_kind, scalar_content, scalar_type, string, text, truth, utf8_type, whole};
+ghost use Rattle.column_cells.specs.Words.{InRange, IsValid, Nullable, OutOfMemory, binary_type, bool_type};
+ghost use Rattle.column_cells.specs.Words.{content_or_null, integer_type, option_copied, ptype_of_kind};
+ghost use Rattle.column_cells.specs.Words.{scalar_content, scalar_type, string, text, truth, utf8_type, whole};
 
 use crate::types::ptype_of;
 use arrow_columns::IntegerKind;
@@ -52,7 +54,8 @@ pub fn text_scalar(alloc: Global, cell: Option<&[u8]>) -> Result<Scalar, VortexE
     ensures typed { IfOk result (λ x. scalar_type x ≡ utf8_type Nullable) }
     ensures content { IfOk result (λ x. scalar_content x ≡ content_or_null text (option_copied cell.entry)) }
     ensures valid { IfOk result IsValid }
-    ensures refused { IfErr result (λ e. (e ≡ OutOfMemory) × IsSomeAnd (option_copied cell.entry) (λ bytes. INLINE_BYTES < length bytes)) }
+    ensures refused { IfErr result (λ e. (e ≡ OutOfMemory)
+        × IsSomeAnd (option_copied cell.entry) (λ bytes. INLINE_BYTES < length bytes)) }
 {
     match cell {
         Some(bytes) => {
@@ -71,7 +74,8 @@ pub fn byte_scalar(alloc: Global, cell: Option<&[u8]>) -> Result<Scalar, VortexE
     ensures typed { IfOk result (λ x. scalar_type x ≡ binary_type Nullable) }
     ensures content { IfOk result (λ x. scalar_content x ≡ content_or_null string (option_copied cell.entry)) }
     ensures valid { IfOk result IsValid }
-    ensures refused { IfErr result (λ e. (e ≡ OutOfMemory) × IsSomeAnd (option_copied cell.entry) (λ bytes. INLINE_BYTES < length bytes)) }
+    ensures refused { IfErr result (λ e. (e ≡ OutOfMemory)
+        × IsSomeAnd (option_copied cell.entry) (λ bytes. INLINE_BYTES < length bytes)) }
 {
     match cell {
         Some(bytes) => {

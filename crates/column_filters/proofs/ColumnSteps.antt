@@ -15,7 +15,8 @@ use Rattle.vortex_dtype.specs.declared.types.DType.{DType}
 use Rattle.vortex_value.specs.Values.Content.{Content, null}
 use Rattle.vortex_cells.specs.Cells.{Cell}
 use Rattle.column_cells.specs.Contents.{HasTexts, contents_of_rows}
-use Rattle.column_filters.specs.Tables.{AreColumnsOf, AreReadFrom, AreSoundBefore, IsFaultAt, IsReadFrom, IsSound, IsTableFault, cell_of_column, cell_of_rows, cells_of_columns, cells_of_rows, rows_in}
+use Rattle.column_filters.specs.Tables.{AreColumnsOf, AreReadFrom, AreSoundBefore, IsFaultAt, IsReadFrom, IsSound, IsTableFault, cell_of_column, cell_of_rows, cells_of_columns, cells_of_rows}
+use Rattle.arrow_columns.specs.Columns.{rows_in}
 use Rattle.column_filters.specs.declared.faults.MaskFault.{MaskFault}
 use Rattle.column_filters.specs.declared.faults.MaskFault.TheVariants.{NoRoom, OutOfMemory, TypesDiffer, Unreadable, WrongCount, WrongLength}
 

@@ -4,16 +4,16 @@ use Rattle.std.specs.Int.{bit_at}
 use Rattle.std.specs.Prelude.{◌&&◌, nat_lt}
 use Rattle.std.proofs.lemmas.Bool.{cases_lt, le-ltb, lt-ltb}
 use Rattle.std.proofs.lemmas.Nat.Bits.{bit_at-zero}
-use Rattle.arrow_columns.specs.Bitmaps.{bit_of}
-use Rattle.column_filters.specs.Masks.{AreClear, IsMask, mask_length}
+use Rattle.arrow_columns.specs.Bitmaps.{bit_of, bitmap_length}
+use Rattle.column_filters.specs.Masks.{AreClear, IsMask}
 
 -- of the bits of so many rows those before this row say whether it is one, and the others are 0
 abbrev pub AreMarked : (ℕ → Bool) → ℕ → ℕ → List ℕ → Type 0
-AreMarked is_one count row mask = (i : ℕ) → i < 8 * mask_length count → bit_of mask i ≡ (nat_lt i row && is_one i)
+AreMarked is_one count row mask = (i : ℕ) → i < 8 * bitmap_length count → bit_of mask i ≡ (nat_lt i row && is_one i)
 
-pub marked-none : (is_one : ℕ → Bool) (count : ℕ) (mask : List ℕ) → AreClear (mask_length count) mask → AreMarked is_one count 0 mask
+pub marked-none : (is_one : ℕ → Bool) (count : ℕ) (mask : List ℕ) → AreClear (bitmap_length count) mask → AreMarked is_one count 0 mask
 marked-none is_one count mask clear i l =
-    let here : i / 8 < mask_length count = omega arith in
+    let here : i / 8 < bitmap_length count = omega arith in
     ap (λ b. bit_at b (i % 8) == 1) (clear (i / 8) here) ∙ ap (λ b. b == 1) (bit_at-zero (i % 8)) ∙ sym (ap (λ b. b && is_one i) (le-ltb i 0 (omega arith)))
 
 before : (is_one : ℕ → Bool) (row i : ℕ) → i ≢ row → (nat_lt i row && is_one i) ≡ (nat_lt i (row + 1) && is_one i)

@@ -14,7 +14,8 @@ use Rattle.vortex_filter.specs.Formula.{Formula, is_match}
 use Rattle.column_cells.specs.Contents.{HasTexts, contents_of_rows}
 use Rattle.column_cells.specs.Types.{type_of_rows}
 use Rattle.column_filters.specs.Masks.{IsMask, matching}
-use Rattle.column_filters.specs.Tables.{AreReadFrom, HasRow, HaveRows, IsMaskFault, IsTableFault, cell_of_rows, cells_of_columns, cells_of_rows, rows_in}
+use Rattle.column_filters.specs.Tables.{AreReadFrom, HasRow, HaveRows, IsMaskFault, IsTableFault, cell_of_rows, cells_of_columns, cells_of_rows}
+use Rattle.arrow_columns.specs.Columns.{rows_in}
 use Rattle.column_filters.specs.declared.faults.MaskFault.{MaskFault}
 use Rattle.column_filters.specs.declared.faults.MaskFault.TheVariants.{NoRoom, OutOfMemory, TypesDiffer, Unreadable, WrongCount, WrongLength}
 

@@ -1,6 +1,6 @@
 -- Worked cases of the definitions, each a theorem.
 use Rattle.std.specs.Prelude.{◌≡◌, ℕ, zero, suc, pos, List, [], ◌∷◌, Some, false, true, refl}
-use Rattle.arrow_columns.specs.Bitmaps.{bit_of}
+use Rattle.arrow_columns.specs.Bitmaps.{bit_of, bitmap_length}
 use Rattle.vortex_dtype.specs.TypeTree.{integer_type}
 use Rattle.vortex_dtype.specs.declared.nullability.Nullability.TheVariants.{NonNullable, Nullable}
 use Rattle.vortex_dtype.specs.declared.ptype.PType.TheVariants.{I32}
@@ -10,13 +10,13 @@ use Rattle.vortex_statistics.specs.Statistics.{Known, KnownBound}
 use Rattle.vortex_filter.specs.Formula.{Formula, comparison, null_test}
 use Rattle.filter_pruning.specs.Outcomes.{outcomes}
 use Rattle.vortex_filter.specs.declared.operator.CompareOperator.TheVariants.{Gte}
-use Rattle.column_filters.specs.Masks.{mask_length, matching}
+use Rattle.column_filters.specs.Masks.{matching}
 use Rattle.column_filters.specs.Zones.{open_statistics, outcomes_byte, piece_at}
 
 -- ---- masks
 
 -- a byte has a bit for each of 8 rows
-lengths : mask_length 0 ∷ mask_length 1 ∷ mask_length 8 ∷ mask_length 9 ∷ [] ≡ 0 ∷ 1 ∷ 1 ∷ 2 ∷ []
+lengths : bitmap_length 0 ∷ bitmap_length 1 ∷ bitmap_length 8 ∷ bitmap_length 9 ∷ [] ≡ 0 ∷ 1 ∷ 1 ∷ 2 ∷ []
 lengths = refl
 
 -- the first two rows match, and the tenth

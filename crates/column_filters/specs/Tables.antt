@@ -2,6 +2,7 @@
 use Rattle.std.specs.Prelude.{◌≡◌, ◌≢◌, ℕ, ◌<◌, List, [], ◌∷◌, length, map, slice_get, slice_index_or, Some, take}
 use Rattle.std.specs.List.{All}
 use Rattle.arrow_columns.specs.Checked.{AreRowsOf}
+use Rattle.arrow_columns.specs.Columns.{rows_in}
 use Rattle.arrow_columns.specs.Faults.{IsFaultOf}
 use Rattle.arrow_columns.specs.declared.columns.Column.{Column}
 use Rattle.arrow_columns.specs.declared.tested_rows.Rows.{Rows}
@@ -10,7 +11,7 @@ use Rattle.vortex_value.specs.Values.Content.{null}
 use Rattle.vortex_cells.specs.Cells.{Cell}
 use Rattle.column_cells.specs.Contents.{HasTexts, contents_of_column, contents_of_rows}
 use Rattle.column_cells.specs.Types.{type_of_column, type_of_rows}
-use Rattle.column_filters.specs.Masks.{mask_length}
+use Rattle.arrow_columns.specs.Bitmaps.{bitmap_length}
 use Rattle.column_filters.specs.declared.faults.MaskFault.{MaskFault}
 use Rattle.column_filters.specs.declared.faults.MaskFault.TheVariants.{NoRoom, OutOfMemory, TypesDiffer, Unreadable, WrongCount, WrongLength}
 
@@ -32,11 +33,6 @@ abbrev pub cells_of_rows : List Rows → ℕ → List Cell
 cells_of_rows columns row = map (cell_of_rows row) columns
 
 -- ---- reading columns
-
--- how many rows columns have: as many as the first one says
-abbrev pub rows_in : List Column → ℕ
-rows_in [] = 0
-rows_in (column ∷ columns) = column.length
 
 -- the column can be read, is of the type up to nullability, and has so many rows
 pub record IsSound (column : Column) (t : TypeTree) (count : ℕ) : Type 0 where
@@ -94,5 +90,5 @@ IsTableFault columns types fault =
 
 -- why there is no mask of so many bytes: for such a reason, or it is too short for the rows
 abbrev pub IsMaskFault : List Column → List TypeTree → ℕ → MaskFault → Type 0
-IsMaskFault columns types size NoRoom = AreColumnsOf columns types × (size < mask_length (rows_in columns))
+IsMaskFault columns types size NoRoom = AreColumnsOf columns types × (size < bitmap_length (rows_in columns))
 IsMaskFault columns types size fault = IsTableFault columns types fault

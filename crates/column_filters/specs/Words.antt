@@ -1,5 +1,5 @@
 -- The words of this crate's clauses, from one place.
-pub use Rattle.arrow_columns.specs.Bitmaps.{bit_of}
+pub use Rattle.arrow_columns.specs.Bitmaps.{bit_of, bitmap_length}
 pub use Rattle.vortex_dtype.specs.TypeOf.{type_of}
 pub use Rattle.vortex_dtype.specs.TypeTree.{Same}
 pub use Rattle.vortex_cells.specs.Cells.{cell_of}
@@ -7,8 +7,9 @@ pub use Rattle.vortex_statistics.specs.Statistics.{known}
 pub use Rattle.vortex_filter.specs.Formula.{formula, is_match}
 pub use Rattle.column_cells.specs.Contents.{HasTexts, contents_of_rows}
 pub use Rattle.column_cells.specs.Types.{type_of_rows}
-pub use Rattle.column_filters.specs.Masks.{AreClear, IsMask, mask_length, matching}
-pub use Rattle.column_filters.specs.Tables.{AreColumnsOf, AreReadFrom, HasRow, HaveRows, IsFaultAt, IsMaskFault, IsReadFrom, IsTableFault, cell_of_rows, cells_of_columns, cells_of_rows, rows_in}
+pub use Rattle.column_filters.specs.Masks.{AreClear, IsMask, matching}
+pub use Rattle.column_filters.specs.Tables.{AreColumnsOf, AreReadFrom, HasRow, HaveRows, IsFaultAt, IsMaskFault, IsReadFrom, IsTableFault, cell_of_rows, cells_of_columns, cells_of_rows}
+pub use Rattle.arrow_columns.specs.Columns.{rows_in}
 pub use Rattle.column_filters.specs.Zones.{AreEnough, AreOutcomes, AreSaid, IsBadPiece, IsPiece, IsSaid, OutcomesCoverRows, RefusesZone, RefusesZones, fault_of_piece, open_statistics, outcomes_byte, piece_at}
 pub use Rattle.column_filters.specs.declared.faults.MaskFault.TheVariants.{OutOfMemory}
 pub use Rattle.column_filters.specs.declared.faults.ZoneFault.TheVariants.{BadOffsets}

@@ -1,14 +1,7 @@
 //! Bits in bytes, from the least significant one on.
 
 ghost use Rattle.std.specs.Prelude.{◌≡◌, ◌≤◌, drop, length};
-ghost use Rattle.column_filters.specs.Words.{AreClear, mask_length};
-
-/// How many bytes have a bit for each of so many rows.
-pub fn mask_length(count: usize) -> usize
-    ensures { result ≡ mask_length count }
-{
-    count.div_ceil(8)
-}
+ghost use Rattle.column_filters.specs.Words.{AreClear};
 
 /// Makes each bit of the first bytes 0.
 pub(crate) fn clear_bits(mask: &mut [u8], count: usize)

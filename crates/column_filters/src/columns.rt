@@ -1,23 +1,14 @@
 //! The columns of which a filter is asked.
 
 ghost use Rattle.std.specs.Prelude.{◌≡◌, ◌↔◌, IfErr, IfOk, IsTrue, OnOk, length, map};
-ghost use Rattle.column_filters.specs.Words.{AreColumnsOf, AreReadFrom, IsFaultAt, IsReadFrom, IsTableFault, Same, rows_in, type_of, type_of_rows};
+ghost use Rattle.column_filters.specs.Words.{AreColumnsOf, AreReadFrom, IsFaultAt, IsReadFrom, IsTableFault, Same};
+ghost use Rattle.column_filters.specs.Words.{rows_in, type_of, type_of_rows};
 
 use crate::faults::MaskFault;
-use arrow_columns::{Column, Rows};
+use arrow_columns::{Column, Rows, row_count_of};
 use column_cells::{dtype_of_rows, row_count, rows_of};
 use std::alloc::Global;
 use vortex_dtype::DType;
-
-/// How many rows the columns have: as many as the first one says.
-pub fn row_count_of(columns: &[Column]) -> usize
-    ensures { result ≡ rows_in columns.now }
-{
-    match columns {
-        [first, ..] => first.length,
-        [] => 0,
-    }
-}
 
 /// Whether the cells are of the type, up to nullability.
 fn are_of_type(rows: &Rows, dtype: &DType) -> bool
@@ -67,7 +58,8 @@ pub fn read_columns<'a>(
     columns: &[Column<'a>],
     types: &[DType],
 ) -> Result<Vec<Rows<'a>>, MaskFault>
-    ensures read { IfOk result (λ table. AreReadFrom columns.now (map type_of types.now) (length columns.now) table.items) }
+    ensures read { IfOk result (λ table. AreReadFrom columns.now (map type_of types.now)
+        (length columns.now) table.items) }
     ensures sound { OnOk result (AreColumnsOf columns.now (map type_of types.now)) }
     ensures fault { IfErr result (λ fault. IsTableFault columns.now (map type_of types.now) fault) }
 {

@@ -11,8 +11,7 @@ pub mod laws;
 mod masks;
 mod zones;
 
-pub use bits::mask_length;
-pub use columns::{read_columns, row_count_of};
+pub use columns::read_columns;
 pub use faults::{MaskFault, ZoneFault};
 pub use masks::{mask_of_columns, write_mask};
 pub use zones::outcomes_of_zones;

@@ -1,12 +1,15 @@
 //! Which rows of columns match.
 
 ghost use Rattle.std.specs.Prelude.{◌≡◌, ◌≢◌, ◌<◌, ◌≤◌, IfErr, IfOk, OnOk, drop, length, map};
-ghost use Rattle.column_filters.specs.Words.{AreColumnsOf, HasRow, HasTexts, HaveRows, IsMask, IsMaskFault, OutOfMemory, cell_of, cell_of_rows, cells_of_columns, cells_of_rows, contents_of_rows, formula, is_match, mask_length, matching, rows_in, type_of};
+ghost use Rattle.column_filters.specs.Words.{AreColumnsOf, HasRow, HasTexts, HaveRows, IsMask, IsMaskFault};
+ghost use Rattle.column_filters.specs.Words.{OutOfMemory, cell_of, cell_of_rows, cells_of_columns, cells_of_rows};
+ghost use Rattle.column_filters.specs.Words.{contents_of_rows, formula, is_match, bitmap_length, matching};
+ghost use Rattle.column_filters.specs.Words.{rows_in, type_of};
 
-use crate::bits::{clear_bits, mask_length};
-use crate::columns::{read_columns, row_count_of};
+use crate::bits::clear_bits;
+use crate::columns::read_columns;
 use crate::faults::MaskFault;
-use arrow_columns::{Column, Rows, put_bit};
+use arrow_columns::{Column, Rows, bitmap_length, put_bit, row_count_of};
 use column_cells::scalar_at;
 use std::alloc::Global;
 use vortex_dtype::DType;
@@ -17,7 +20,7 @@ use vortex_value::Scalar;
 /// on. The bits after the last row are 0, and the bytes after them stay.
 ///
 /// It is refused as by `read_columns`, and with `NoRoom` exactly if the columns can be read, and the
-/// mask has fewer bytes than `mask_length` of their rows. After `OutOfMemory` the bits may say
+/// mask has fewer bytes than `bitmap_length` of their rows. After `OutOfMemory` the bits may say
 /// anything, and after another refusal they stay.
 pub fn mask_of_columns(
     alloc: Global,
@@ -29,16 +32,16 @@ pub fn mask_of_columns(
     ensures masked { OnOk result
         (IsMask (matching (formula filter.now) (cells_of_columns columns.now)) (rows_in columns.now) mask.new) }
     ensures columns { OnOk result (AreColumnsOf columns.now (map type_of types.now)) }
-    ensures room { OnOk result (mask_length (rows_in columns.now) ≤ length mask.old) }
+    ensures room { OnOk result (bitmap_length (rows_in columns.now) ≤ length mask.old) }
     ensures refused { IfErr result
         (IsMaskFault columns.now (map type_of types.now) (length mask.old)) }
-    ensures rest { drop (mask_length (rows_in columns.now)) mask.new
-        ≡ drop (mask_length (rows_in columns.now)) mask.old }
+    ensures rest { drop (bitmap_length (rows_in columns.now)) mask.new
+        ≡ drop (bitmap_length (rows_in columns.now)) mask.old }
     ensures kept { IfErr result (λ e. e ≢ OutOfMemory → mask.new ≡ mask.old) }
 {
     let rows = read_columns(alloc, columns, types)?;
     let count = row_count_of(columns);
-    if mask.len() < mask_length(count) {
+    if mask.len() < bitmap_length(count) {
         return Err(MaskFault::NoRoom);
     }
     write_mask(alloc, filter, &rows, count, mask)
@@ -56,13 +59,13 @@ pub fn write_mask(
     mask: &mut [u8],
 ) -> Result<(), MaskFault>
     requires rows { HaveRows columns.now count }
-    requires room { mask_length count ≤ length mask.old }
+    requires room { bitmap_length count ≤ length mask.old }
     ensures masked { OnOk result
         (IsMask (matching (formula filter.now) (cells_of_rows columns.now)) count mask.new) }
-    ensures rest { drop (mask_length count) mask.new ≡ drop (mask_length count) mask.old }
+    ensures rest { drop (bitmap_length count) mask.new ≡ drop (bitmap_length count) mask.old }
     ensures refused { IfErr result (λ e. e ≡ OutOfMemory) }
 {
-    clear_bits(mask, mask_length(count));
+    clear_bits(mask, bitmap_length(count));
     let mut cells = Vec::with_capacity(alloc, columns.len())?;
     for row in 0..count {
         let matches = matches_row(alloc, filter, columns, row, &mut cells)?;

@@ -1,8 +1,11 @@
 //! What a filter can be on the rows of zones.
 
-ghost use Rattle.std.specs.Prelude.{◌≡◌, ◌+◌, ◌*◌, ◌<◌, ◌≤◌, ◌↔◌, IfErr, IfOk, IsTrue, MatchResult, OnOk, length, map, if◌then◌else◌};
+ghost use Rattle.std.specs.Prelude.{◌≡◌, ◌+◌, ◌*◌, ◌<◌, ◌≤◌, ◌↔◌, IfErr, IfOk, IsTrue, MatchResult, OnOk, length};
+ghost use Rattle.std.specs.Prelude.{map, if◌then◌else◌};
 ghost use Rattle.column_filters.specs.declared.faults.ZoneFault.TheVariants.{OutOfMemory};
-ghost use Rattle.column_filters.specs.Words.{AreEnough, AreOutcomes, AreSaid, BadOffsets, IsBadPiece, IsPiece, IsSaid, RefusesZone, RefusesZones, fault_of_piece, formula, known, open_statistics, outcomes_byte, piece_at, type_of};
+ghost use Rattle.column_filters.specs.Words.{AreEnough, AreOutcomes, AreSaid, BadOffsets, IsBadPiece, IsPiece};
+ghost use Rattle.column_filters.specs.Words.{IsSaid, RefusesZone, RefusesZones, fault_of_piece, formula, known};
+ghost use Rattle.column_filters.specs.Words.{open_statistics, outcomes_byte, piece_at, type_of};
 
 use crate::faults::ZoneFault;
 use filter_pruning::{Outcomes, outcomes_of};

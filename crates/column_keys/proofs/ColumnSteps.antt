@@ -9,7 +9,8 @@ use Rattle.std.proofs.lemmas.List.Elements.{All-nil, All-push}
 use Rattle.std.proofs.lemmas.Option.{slice_get-get_or, same_Some}
 use Rattle.arrow_columns.specs.declared.columns.Column.{Column}
 use Rattle.column_cells.specs.Contents.{HasTexts, contents_of_column, contents_of_rows}
-use Rattle.column_keys.specs.Tables.{AreReadFrom, AreSoundBefore, IsFaultAt, IsReadFrom, IsSound, IsTableFault, options_in, options_of, rows_in, table_of}
+use Rattle.column_keys.specs.Tables.{AreReadFrom, AreSoundBefore, IsFaultAt, IsReadFrom, IsSound, IsTableFault, options_in, options_of, table_of}
+use Rattle.arrow_columns.specs.Columns.{rows_in}
 use Rattle.column_keys.specs.declared.columns.KeyColumn.{KeyColumn}
 use Rattle.column_keys.specs.declared.faults.TableFault.{TableFault}
 use Rattle.column_keys.specs.declared.faults.TableFault.TheVariants.{BadOptions, OutOfMemory, Unreadable, WrongCount, WrongLength}

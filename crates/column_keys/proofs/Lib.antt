@@ -1,4 +1,15 @@
+mod BitSteps
+mod CellColumns
+mod CellSteps
 mod ColumnSteps
+pub mod GivenSteps
+mod LawSteps
+mod NumberSteps
+mod ReadSteps
+mod RowLaws
 mod RowSteps
+mod StringSteps
 mod TableSteps
+mod TypeSteps
 mod ValueSteps
+mod WriteSteps

@@ -1,3 +1,11 @@
+pub mod Answers
+pub mod Cells
+pub mod Examples
+pub mod Faults
 pub mod Keys
+pub mod Laws
+pub mod Layout
+pub mod Read
 pub mod Tables
+pub mod Types
 pub mod Words

@@ -1,7 +1,8 @@
 -- Tables of columns in Arrow's layout, and why one has no keys.
-use Rattle.std.specs.Prelude.{◌≡◌, ◌≢◌, ℕ, ◌/◌, ◌%◌, ◌==◌, ◌<◌, List, [], ◌∷◌, length, map, slice_get, slice_index, Some, take}
+use Rattle.std.specs.Prelude.{◌≡◌, ◌≢◌, ℕ, ◌/◌, ◌%◌, ◌==◌, ◌<◌, List, length, map, slice_get, slice_index, Some, take}
 use Rattle.std.specs.List.{All}
 use Rattle.arrow_columns.specs.Checked.{AreRowsOf}
+use Rattle.arrow_columns.specs.Columns.{rows_in}
 use Rattle.arrow_columns.specs.Faults.{IsFaultOf}
 use Rattle.arrow_columns.specs.declared.columns.Column.{Column}
 use Rattle.arrow_columns.specs.declared.tested_rows.Rows.{Rows}
@@ -31,13 +32,9 @@ HaveRows columns count = All (λ column. (length (contents_of_rows column.rows) 
 abbrev pub options_in : ℕ → SortOptions
 options_in byte = record { descending = byte % 2 == 1; nulls_first = byte / 2 % 2 == 1 }
 
--- the contents of columns, and how many rows they have: as many as the first one says
+-- the contents of columns
 abbrev pub contents_in : List Column → List (List Content)
 contents_in columns = map contents_of_column columns
-
-abbrev pub rows_in : List Column → ℕ
-rows_in [] = 0
-rows_in (column ∷ columns) = column.length
 
 -- the column can be read, the byte stands for options, and there are so many rows
 pub record IsSound (column : Column) (byte count : ℕ) : Type 0 where

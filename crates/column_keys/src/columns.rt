@@ -1,10 +1,11 @@
 //! Columns of a table whose rows have keys.
 
 ghost use Rattle.std.specs.Prelude.{◌≡◌, ◌<◌, IfErr, IfOk, MatchOption, OnOk, length};
-ghost use Rattle.column_keys.specs.Words.{AreReadFrom, AreSoundBefore, IsFaultAt, IsReadFrom, IsTableFault, options_in, rows_in};
+ghost use Rattle.column_keys.specs.Words.{AreReadFrom, AreSoundBefore, IsFaultAt, IsReadFrom, IsTableFault};
+ghost use Rattle.column_keys.specs.Words.{options_in, rows_in};
 
 use crate::faults::TableFault;
-use arrow_columns::{Column, Rows};
+use arrow_columns::{Column, Rows, row_count_of};
 use column_cells::{row_count, rows_of};
 use std::alloc::Global;
 use vortex_row::SortOptions;
@@ -31,16 +32,6 @@ pub fn options_of_byte(byte: u8) -> Option<SortOptions>
         descending: byte % 2 == 1,
         nulls_first: byte / 2 % 2 == 1,
     })
-}
-
-/// How many rows the columns have: as many as the first one says.
-pub fn row_count_of(columns: &[Column]) -> usize
-    ensures { result ≡ rows_in columns.now }
-{
-    match columns {
-        [first, ..] => first.length,
-        [] => 0,
-    }
 }
 
 /// The column at a place, if it has so many rows.

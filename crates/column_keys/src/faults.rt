@@ -1,9 +1,9 @@
-//! Why a table has no keys.
+//! Why a table has no keys, and why keys give no column.
 
 ghost use Rattle.std.specs.Prelude.{◌≡◌};
 
 use arrow_columns::ColumnFault;
-use std::alloc::AllocError;
+use std::alloc::{AllocError, AllocFailed};
 
 /// Why a table has no keys. Of several columns it is the first with a fault.
 #[derive(Clone, Copy, Debug, PartialEq, Eq)]
@@ -28,5 +28,48 @@ impl From<AllocError> for TableFault {
 
     fn from(_error: AllocError) -> TableFault {
         TableFault::OutOfMemory
+    }
+}
+
+/// Why keys of rows give no column. Of several kinds, options or keys it is the first with a fault.
+#[derive(Clone, Copy, Debug, PartialEq, Eq)]
+pub enum KeysFault {
+    /// An allocation was refused.
+    OutOfMemory,
+    /// There are not as many options as kinds, or no column of that number.
+    WrongLength,
+    /// The code of the column is of no kind.
+    UnknownKind { column: usize },
+    /// The byte of the column stands for no options.
+    BadOptions { column: usize },
+    /// The offsets of the key go down, or past the end of the bytes.
+    BadOffsets { row: usize },
+    /// The place among all bytes of the first that no key of a row has there, or of the end of a
+    /// key that ends too early.
+    BadBytes { place: usize },
+    /// A room is too short for the column, whose values have so many bytes: that number is the
+    /// greatest `usize` if they have as many or more.
+    NoRoom { count: usize },
+}
+
+/// Out of memory, whatever was asked for.
+impl From<AllocError> for KeysFault {
+    ghost use Rattle.column_keys.specs.declared.faults.KeysFault.TheVariants.{OutOfMemory};
+
+    ghost from_gives = { λ _ e. e ≡ OutOfMemory };
+
+    fn from(_error: AllocError) -> KeysFault {
+        KeysFault::OutOfMemory
+    }
+}
+
+/// Out of memory; what was to be kept is dropped.
+impl<T: Drop> From<AllocFailed<T>> for KeysFault {
+    ghost use Rattle.column_keys.specs.declared.faults.KeysFault.TheVariants.{OutOfMemory};
+
+    ghost from_gives = { λ _ e. e ≡ OutOfMemory };
+
+    fn from(_error: AllocFailed<T>) -> KeysFault {
+        KeysFault::OutOfMemory
     }
 }

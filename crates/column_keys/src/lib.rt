@@ -1,15 +1,24 @@
 // SPDX-License-Identifier: Apache-2.0
 // SPDX-FileCopyrightText: Copyright the Vortex contributors; ported to Rattle and changed
-//! The keys of the rows of columns in Arrow's layout, written where the caller wants them.
+//! The keys of the rows of columns in Arrow's layout, written where the caller wants them, and the
+//! columns that keys of rows give back.
 #![tactic(auto)]
 
+mod cells;
 mod columns;
+mod decoding;
 mod faults;
+mod items;
+mod keys;
+pub mod laws;
 mod lengths;
 mod rows;
 mod table;
+mod types;
 mod values;
+mod writing;
 
-pub use columns::{KeyColumn, options_of_byte, read_columns, row_count_of};
-pub use faults::TableFault;
+pub use columns::{KeyColumn, options_of_byte, read_columns};
+pub use decoding::column_of_keys;
+pub use faults::{KeysFault, TableFault};
 pub use table::{row_keys_length, write_row_keys};

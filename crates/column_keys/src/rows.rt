@@ -10,7 +10,8 @@ use vortex_row::write_plain_key;
 pub(crate) fn write_row(columns: &[KeyColumn], row: usize, start: usize, room: &mut [u8]) -> usize
     requires row { HasRow columns.now row }
     requires room { HasSlot room.old start (key_of_row (options_of columns.now) (table_of columns.now) row) }
-    ensures { Writes (key_of_row (options_of columns.now) (table_of columns.now) row) start result room.old room.new }
+    ensures { Writes (key_of_row (options_of columns.now)
+        (table_of columns.now) row) start result room.old room.new }
 {
     let mut place = start;
     for column in columns {

@@ -2,7 +2,8 @@
 
 ghost use Rattle.std.specs.Prelude.{◌≡◌, ◌<◌, IfSome, IsUtf8, length, slice_index_or};
 ghost use Rattle.std.specs.Option.{option_copied};
-ghost use Rattle.column_keys.specs.Words.{HasTexts, IsWhole, content_or_null, contents_of_rows, null, plain_content, string, text, truth, whole};
+ghost use Rattle.column_keys.specs.Words.{HasTexts, IsWhole, content_or_null, contents_of_rows, null};
+ghost use Rattle.column_keys.specs.Words.{plain_content, string, text, truth, whole};
 
 use arrow_columns::{Rows, items_are_bytes};
 use std::str;

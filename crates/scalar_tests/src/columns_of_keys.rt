@@ -6,12 +6,13 @@ ghost use Rattle.arrow_columns.specs.declared.kinds.Kind.{Kind};
 ghost use Rattle.vortex_value.specs.Values.Content.{Content};
 ghost use Rattle.column_keys.specs.Keys.{AreRowKeys};
 ghost use Rattle.column_keys.specs.Tables.{options_in};
-ghost use Rattle.key_columns.specs.Laws.{AreColumnsOf};
-ghost use Rattle.key_columns.specs.Layout.{IsColumnOf, bitmap_length, offsets_length};
-ghost use Rattle.key_columns.specs.Types.{types_of_codes};
+ghost use Rattle.column_keys.specs.Laws.{AreColumnsOf};
+ghost use Rattle.column_keys.specs.Layout.{IsColumnOf, offsets_length};
+ghost use Rattle.arrow_columns.specs.Bitmaps.{bitmap_length};
+ghost use Rattle.column_keys.specs.Types.{types_of_codes};
 
-use key_columns::laws::columns_come_back;
-use key_columns::{KeysFault, column_of_keys};
+use column_keys::laws::columns_come_back;
+use column_keys::{KeysFault, column_of_keys};
 use std::alloc::Global;
 
 /// Reads a column back as `column_of_keys` does. If the keys are those of a table's rows, then the

@@ -4,7 +4,8 @@ use Rattle.std.proofs.lemmas.List.{take_all}
 use Rattle.arrow_columns.specs.declared.columns.Column.{Column}
 use Rattle.vortex_value.specs.Size.{capped}
 use Rattle.column_keys.specs.Keys.{AreRowKeys, keys_length}
-use Rattle.column_keys.specs.Tables.{AreReadFrom, contents_in, options_in, options_of, rows_in, table_of}
+use Rattle.column_keys.specs.Tables.{AreReadFrom, contents_in, options_in, options_of, table_of}
+use Rattle.arrow_columns.specs.Columns.{rows_in}
 use Rattle.column_keys.specs.declared.columns.KeyColumn.{KeyColumn}
 use Rattle.vortex_c.specs.RowKeys.{AreAllKeys, all_keys_length}
 

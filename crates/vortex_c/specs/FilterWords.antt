@@ -1,8 +1,8 @@
 -- The words of the clauses on filters, from one place.
 pub use Rattle.arrow_columns.specs.Kinds.{kind_at}
 pub use Rattle.column_cells.specs.Types.{type_at}
-pub use Rattle.column_filters.specs.Masks.{mask_length}
-pub use Rattle.column_filters.specs.Tables.{rows_in}
+pub use Rattle.arrow_columns.specs.Bitmaps.{bitmap_length}
+pub use Rattle.arrow_columns.specs.Columns.{rows_in}
 pub use Rattle.filter_form.specs.Form.{parts_of, prepared}
 pub use Rattle.vortex_dtype.specs.TypeOf.{type_of}
 pub use Rattle.filter_sql.specs.Columns.{column_tree, column_trees}

@@ -2,7 +2,8 @@
 use Rattle.std.specs.Prelude.{◌≡◌, ℕ, List, length}
 use Rattle.arrow_columns.specs.declared.columns.Column.{Column}
 use Rattle.column_filters.specs.Masks.{IsMask, matching}
-use Rattle.column_filters.specs.Tables.{AreColumnsOf, IsMaskFault, cells_of_columns, rows_in}
+use Rattle.column_filters.specs.Tables.{AreColumnsOf, IsMaskFault, cells_of_columns}
+use Rattle.arrow_columns.specs.Columns.{rows_in}
 use Rattle.column_filters.specs.Zones.{AreOutcomes, RefusesZones}
 use Rattle.column_filters.specs.declared.faults.MaskFault.{MaskFault}
 use Rattle.column_filters.specs.declared.faults.MaskFault.TheVariants as mask

@@ -1,8 +1,8 @@
 -- What callers are told of a column of keys.
 use Rattle.std.specs.Prelude.{◌≡◌, ℕ, List, length}
-use Rattle.key_columns.specs.Answers.{IsRefusal}
-use Rattle.key_columns.specs.declared.faults.KeysFault.{KeysFault}
-use Rattle.key_columns.specs.declared.faults.KeysFault.TheVariants.{BadBytes, BadOffsets, BadOptions, NoRoom, OutOfMemory, UnknownKind, WrongLength}
+use Rattle.column_keys.specs.Answers.{IsRefusal}
+use Rattle.column_keys.specs.declared.faults.KeysFault.{KeysFault}
+use Rattle.column_keys.specs.declared.faults.KeysFault.TheVariants.{BadBytes, BadOffsets, BadOptions, NoRoom, OutOfMemory, UnknownKind, WrongLength}
 use Rattle.vortex_c.specs.declared.fault.Fault.{Fault}
 use Rattle.vortex_c.specs.declared.status.TheConstants.{BAD_BYTES, BAD_OFFSETS, BAD_OPTIONS, NO_MEMORY, NO_ROOM, UNKNOWN_KIND, WRONG_LENGTH}
 

@@ -3,7 +3,8 @@ use Rattle.std.specs.Prelude.{ℕ, List, map, take}
 use Rattle.arrow_columns.specs.declared.columns.Column.{Column}
 use Rattle.vortex_value.specs.Size.{capped}
 use Rattle.column_keys.specs.Keys.{AreRowKeys, keys_length}
-use Rattle.column_keys.specs.Tables.{contents_in, options_in, rows_in}
+use Rattle.column_keys.specs.Tables.{contents_in, options_in}
+use Rattle.arrow_columns.specs.Columns.{rows_in}
 use Rattle.column_keys.specs.declared.faults.TableFault.{TableFault}
 use Rattle.column_keys.specs.declared.faults.TableFault.TheVariants.{BadOptions, OutOfMemory, Unreadable, WrongCount, WrongLength}
 use Rattle.vortex_c.specs.ColumnFaults.{place_in_column, status_of_column}

@@ -15,7 +15,8 @@ pub use Rattle.vortex_bounds.specs.Texts.{HasNoTextUpper, IsTextLower, IsTextUpp
 pub use Rattle.column_cells.specs.Types.{type_of_kind}
 pub use Rattle.statistics_bytes.specs.Form.{AreOf, IsBoundOf}
 pub use Rattle.vortex_statistics.specs.Statistics.{known, known_bound}
-pub use Rattle.column_keys.specs.Tables.{AreSoundBefore, IsTableFault, rows_in}
+pub use Rattle.column_keys.specs.Tables.{AreSoundBefore, IsTableFault}
+pub use Rattle.arrow_columns.specs.Columns.{rows_in}
 pub use Rattle.column_keys.specs.declared.faults.TableFault.{TableFault}
 pub use Rattle.column_statistics.specs.Forms.{IsColumnForm}
 pub use Rattle.column_statistics.specs.Items.{bytes_of_item}

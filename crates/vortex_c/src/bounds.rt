@@ -1,7 +1,10 @@
 //! Bounds of bytes and of strings.
 
-ghost use Rattle.std.specs.Prelude.{◌≡◌, ◌≢◌, ◌≤◌, ◌<◌, ◌⊎◌, IfOk, IfSome, IsCharBoundary, IsOk, IsUtf8, MatchOption, MatchResult, drop, length, take};
-ghost use Rattle.vortex_c.specs.Words.{AnswersUpper, HasNoTextUpper, HasNoUpper, HasNone, IsLower, IsTextLower, IsTextUpper, IsUpper, IsWholeOrBest, OutOfMemory, bytes_of, option_copied, option_map};
+ghost use Rattle.std.specs.Prelude.{◌≡◌, ◌≢◌, ◌≤◌, ◌<◌, ◌⊎◌, IfOk, IfSome, IsCharBoundary, IsOk, IsUtf8};
+ghost use Rattle.std.specs.Prelude.{MatchOption, MatchResult, drop, length, take};
+ghost use Rattle.vortex_c.specs.Words.{AnswersUpper, HasNoTextUpper, HasNoUpper, HasNone, IsLower, IsTextLower};
+ghost use Rattle.vortex_c.specs.Words.{IsTextUpper, IsUpper, IsWholeOrBest, OutOfMemory, bytes_of, option_copied};
+ghost use Rattle.vortex_c.specs.Words.{option_map};
 
 use crate::status::{GIVEN, NO_MEMORY, NO_ROOM, NONE, NOT_UTF8};
 use std::alloc::Global;

@@ -2,7 +2,9 @@
 
 ghost use Rattle.std.specs.Prelude.{◌≡◌, ◌≢◌, ◌*◌, ◌≤◌, IfErr, IfOk, OnErr, OnOk, Some, drop, length};
 ghost use Rattle.arrow_columns.specs.declared.kinds.IntegerKind.{IntegerKind as AnyKind};
-ghost use Rattle.vortex_c.specs.Words.{AreKinds, Integer, IsCastRefusal, IsColumnCast, IsFrontCast, IsIntegerFault, IsLeft, SaysWhyNoCast, fault_of_cast, integer_kind_at, kind_at, status_of_cast, width_of};
+ghost use Rattle.vortex_c.specs.Words.{AreKinds, Integer, IsCastRefusal, IsColumnCast, IsFrontCast};
+ghost use Rattle.vortex_c.specs.Words.{IsIntegerFault, IsLeft, SaysWhyNoCast, fault_of_cast, integer_kind_at};
+ghost use Rattle.vortex_c.specs.Words.{kind_at, status_of_cast, width_of};
 
 use crate::fault::{Fault, place_in_column, status_of_column};
 use crate::status::{GIVEN, NO_ROOM, NONE, UNKNOWN_KIND};

@@ -1,7 +1,10 @@
 //! Bounds of a column: of its least and of its greatest value.
 
-ghost use Rattle.std.specs.Prelude.{◌≡◌, ◌≢◌, ◌+◌, ◌≤◌, ◌<◌, ◌⊎◌, [], IfErr, IfOk, IsTrue, IsUtf8, MatchBool, MatchOption, drop, is_some, length, take, unwrap_or};
-ghost use Rattle.vortex_c.specs.Words.{AnswersColumn, AreEndsText, HasEndNoText, HasNoTextUpper, HasNoUpper, HasValue, IsColumn, IsGreatestAt, IsLeastAt, IsLower, IsTextLower, IsTextUpper, IsUpper, KeepsTheRest, option_copied, some_where, value_at};
+ghost use Rattle.std.specs.Prelude.{◌≡◌, ◌≢◌, ◌+◌, ◌≤◌, ◌<◌, ◌⊎◌, [], IfErr, IfOk, IsTrue, IsUtf8, MatchBool};
+ghost use Rattle.std.specs.Prelude.{MatchOption, drop, is_some, length, take, unwrap_or};
+ghost use Rattle.vortex_c.specs.Words.{AnswersColumn, AreEndsText, HasEndNoText, HasNoTextUpper, HasNoUpper};
+ghost use Rattle.vortex_c.specs.Words.{HasValue, IsColumn, IsGreatestAt, IsLeastAt, IsLower, IsTextLower};
+ghost use Rattle.vortex_c.specs.Words.{IsTextUpper, IsUpper, KeepsTheRest, option_copied, some_where, value_at};
 
 use crate::bounds::{
     lower_length_of_bytes, lower_length_of_text, slice_of, upper_of_bytes, upper_of_text,

@@ -1,7 +1,11 @@
 //! Prepared filters, asked of the rows of columns and of zones.
 
 ghost use Rattle.std.specs.Prelude.{◌≡◌, ◌≢◌, ◌≤◌, ℕ, IfErr, List, OnOk, drop, length};
-ghost use Rattle.vortex_c.specs.FilterWords.{AreFilterOutcomes, IsFilterMask, IsFormOf, IsRowsFault, IsZonesFault, SaysWhyNoMask, SaysWhyNoOutcomes, fault_of_form_fault, fault_of_mask, fault_of_pieces, fault_of_rows, fault_of_zones, mask_length, prepared, rows_in, status_of_form_fault, status_of_mask, status_of_piece, status_of_rows, status_of_zones};
+ghost use Rattle.vortex_c.specs.FilterWords.{AreFilterOutcomes, IsFilterMask, IsFormOf, IsRowsFault, IsZonesFault};
+ghost use Rattle.vortex_c.specs.FilterWords.{SaysWhyNoMask, SaysWhyNoOutcomes, fault_of_form_fault, fault_of_mask};
+ghost use Rattle.vortex_c.specs.FilterWords.{fault_of_pieces, fault_of_rows, fault_of_zones, bitmap_length};
+ghost use Rattle.vortex_c.specs.FilterWords.{prepared, rows_in, status_of_form_fault, status_of_mask};
+ghost use Rattle.vortex_c.specs.FilterWords.{status_of_piece, status_of_rows, status_of_zones};
 
 use crate::fault::{Fault, at, place_in_column, status_of_column};
 use crate::status::{
@@ -52,13 +56,13 @@ pub extern "C" fn doqallin_filter_mask(
     fault: &mut Fault,
 ) -> u32
     ensures given { result ≡ GIVEN → IsFilterMask depth filter.now columns.now room.new }
-    ensures within { result ≡ GIVEN → mask_length (rows_in columns.now) ≤ length room.old }
+    ensures within { result ≡ GIVEN → bitmap_length (rows_in columns.now) ≤ length room.old }
     ensures refused { result ≢ GIVEN
         → SaysWhyNoMask depth filter.now columns.now (length room.old) fault.old fault.new result }
 
     // What is not said to be written stays.
-    ensures rest { drop (mask_length (rows_in columns.now)) room.new
-        ≡ drop (mask_length (rows_in columns.now)) room.old }
+    ensures rest { drop (bitmap_length (rows_in columns.now)) room.new
+        ≡ drop (bitmap_length (rows_in columns.now)) room.old }
     ensures kept { result ≢ GIVEN → result ≢ NO_MEMORY → room.new ≡ room.old }
     ensures kept_fault { result ≡ GIVEN → fault.new ≡ fault.old }
 {
@@ -77,10 +81,10 @@ fn write_rows(
     room: &mut [u8],
 ) -> Result<(), RowsFault>
     ensures mask { OnOk result (IsFilterMask depth filter.now columns.now room.new) }
-    ensures within { OnOk result (mask_length (rows_in columns.now) ≤ length room.old) }
+    ensures within { OnOk result (bitmap_length (rows_in columns.now) ≤ length room.old) }
     ensures refused { IfErr result (IsRowsFault depth filter.now columns.now (length room.old)) }
-    ensures rest { drop (mask_length (rows_in columns.now)) room.new
-        ≡ drop (mask_length (rows_in columns.now)) room.old }
+    ensures rest { drop (bitmap_length (rows_in columns.now)) room.new
+        ≡ drop (bitmap_length (rows_in columns.now)) room.old }
     ensures kept { IfErr result
         (λ refusal. status_of_rows refusal ≢ NO_MEMORY → room.new ≡ room.old) }
 {
@@ -99,11 +103,11 @@ fn mask_by(
 ) -> Result<(), RowsFault>
     ensures mask { (n : ℕ) (bytes : List ℕ) → IsFormOf n bytes (prepared filter.now)
         → OnOk result (IsFilterMask n bytes columns.now room.new) }
-    ensures within { OnOk result (mask_length (rows_in columns.now) ≤ length room.old) }
+    ensures within { OnOk result (bitmap_length (rows_in columns.now) ≤ length room.old) }
     ensures refused { (n : ℕ) (bytes : List ℕ) → IsFormOf n bytes (prepared filter.now)
         → IfErr result (IsRowsFault n bytes columns.now (length room.old)) }
-    ensures rest { drop (mask_length (rows_in columns.now)) room.new
-        ≡ drop (mask_length (rows_in columns.now)) room.old }
+    ensures rest { drop (bitmap_length (rows_in columns.now)) room.new
+        ≡ drop (bitmap_length (rows_in columns.now)) room.old }
     ensures kept { IfErr result
         (λ refusal. status_of_rows refusal ≢ NO_MEMORY → room.new ≡ room.old) }
 {

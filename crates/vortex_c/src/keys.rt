@@ -1,12 +1,13 @@
 //! The keys of the rows of columns.
 
 ghost use Rattle.std.specs.Prelude.{◌≡◌, ◌≢◌, ◌+◌, ◌<◌, ◌≤◌, ◌⊎◌, drop, length};
-ghost use Rattle.vortex_c.specs.Words.{AreAllKeys, AreSoundBefore, HasAnswer, IsTableFault, TableFault, all_keys_length, fault_of_table, rows_in, status_of_table};
+ghost use Rattle.vortex_c.specs.Words.{AreAllKeys, AreSoundBefore, HasAnswer, IsTableFault, TableFault};
+ghost use Rattle.vortex_c.specs.Words.{all_keys_length, fault_of_table, rows_in, status_of_table};
 
 use crate::fault::{Fault, at, place_in_column, status_of_column};
 use crate::status::{BAD_OPTIONS, GIVEN, NO_MEMORY, NO_ROOM, WRONG_LENGTH};
-use arrow_columns::Column;
-use column_keys::{TableFault, read_columns, row_count_of, row_keys_length, write_row_keys};
+use arrow_columns::{Column, row_count_of};
+use column_keys::{TableFault, read_columns, row_keys_length, write_row_keys};
 use std::alloc::Global;
 
 /// The keys of the rows of some columns, one after the other, and their offsets: that of row k goes

@@ -1,13 +1,15 @@
 //! A column of the keys of rows.
 
 ghost use Rattle.std.specs.Prelude.{◌≡◌, ◌≢◌, ◌≤◌, ◌⊎◌, drop, length};
-ghost use Rattle.vortex_c.specs.KeyWords.{HasTypes, IsColumnOfKeys, SaysWhyNoColumn, bitmap_length, count_of_column, fault_of_keys, key_count, offsets_length_at, status_of_keys};
+ghost use Rattle.vortex_c.specs.KeyWords.{HasTypes, IsColumnOfKeys, SaysWhyNoColumn, bitmap_length};
+ghost use Rattle.vortex_c.specs.KeyWords.{count_of_column, fault_of_keys, key_count, offsets_length_at};
+ghost use Rattle.vortex_c.specs.KeyWords.{status_of_keys};
 
 use crate::fault::{Fault, at};
 use crate::status::{
     BAD_BYTES, BAD_OFFSETS, BAD_OPTIONS, GIVEN, NO_MEMORY, NO_ROOM, UNKNOWN_KIND, WRONG_LENGTH,
 };
-use key_columns::{KeysFault, column_of_keys};
+use column_keys::{KeysFault, column_of_keys};
 use std::alloc::Global;
 
 /// The column `which` of the rows whose keys these are: a bit for each row, 0 for a null, and the

@@ -1,7 +1,9 @@
 //! The parts of statistics, from their stable form.
 
 ghost use Rattle.std.specs.Prelude.{◌≡◌, ◌≢◌, ◌<◌, ◌≤◌, ◌⊎◌, ℕ, List, drop, length, option_map, take};
-ghost use Rattle.vortex_c.specs.Words.{AreOf, AreParts, ArePartsAt, HasAnswer, IsBoundOf, IsBoundTold, SaysWhyNotRead, bytes_of_item, fault_of_read, known, known_bound, status_of_read, type_of_kind};
+ghost use Rattle.vortex_c.specs.Words.{AreOf, AreParts, ArePartsAt, HasAnswer, IsBoundOf, IsBoundTold};
+ghost use Rattle.vortex_c.specs.Words.{SaysWhyNotRead, bytes_of_item, fault_of_read, known, known_bound};
+ghost use Rattle.vortex_c.specs.Words.{status_of_read, type_of_kind};
 
 use crate::columns::write_both;
 use crate::fault::{Fault, at};

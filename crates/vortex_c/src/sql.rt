@@ -1,7 +1,13 @@
 //! Filters from SQL's words, prepared to bytes.
 
 ghost use Rattle.std.specs.Prelude.{◌≡◌, ◌⊎◌, IfErr, IfOk, OnOk, map};
-ghost use Rattle.vortex_c.specs.FilterWords.{AnswersForm, AreNamed, HasAnswer, IsColumnFault, IsColumnsFault, IsNamed, IsPreparedFrom, IsSqlFault, IsSqlWithin, IsWordsFault, OutOfMemory, SaysWhyNotPrepared, WritesForm, code_of_expected, code_of_mistake, column_tree, column_trees, fault_of_words, formula, kind_at, mistake_of_sql, parts_of, place_of_mistake, prepared_of, status_of_sql, tree_of_kind, trees_of_kinds, type_at, type_of, types_of_kinds};
+ghost use Rattle.vortex_c.specs.FilterWords.{AnswersForm, AreNamed, HasAnswer, IsColumnFault, IsColumnsFault};
+ghost use Rattle.vortex_c.specs.FilterWords.{IsNamed, IsPreparedFrom, IsSqlFault, IsSqlWithin, IsWordsFault};
+ghost use Rattle.vortex_c.specs.FilterWords.{OutOfMemory, SaysWhyNotPrepared, WritesForm, code_of_expected};
+ghost use Rattle.vortex_c.specs.FilterWords.{code_of_mistake, column_tree, column_trees, fault_of_words, formula};
+ghost use Rattle.vortex_c.specs.FilterWords.{kind_at, mistake_of_sql, parts_of, place_of_mistake, prepared_of};
+ghost use Rattle.vortex_c.specs.FilterWords.{status_of_sql, tree_of_kind, trees_of_kinds, type_at, type_of};
+ghost use Rattle.vortex_c.specs.FilterWords.{types_of_kinds};
 
 use crate::bounds::give;
 use crate::status::{BAD_FILTER, GIVEN, NO_MEMORY, NO_ROOM, NOT_UTF8, UNKNOWN_KIND};

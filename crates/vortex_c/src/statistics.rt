@@ -1,7 +1,9 @@
 //! The statistics of columns, in their stable form.
 
 ghost use Rattle.std.specs.Prelude.{◌≡◌, ◌⊎◌};
-ghost use Rattle.vortex_c.specs.Words.{AnswersForm, HasAnswer, IsColumnForm, IsMergedAt, SaysWhyNoForm, SaysWhyNotMerged, fault_of_form, fault_of_merge, status_of_form, status_of_merge};
+ghost use Rattle.vortex_c.specs.Words.{AnswersForm, HasAnswer, IsColumnForm, IsMergedAt, SaysWhyNoForm};
+ghost use Rattle.vortex_c.specs.Words.{SaysWhyNotMerged, fault_of_form, fault_of_merge, status_of_form};
+ghost use Rattle.vortex_c.specs.Words.{status_of_merge};
 
 use crate::bounds::give;
 use crate::fault::{Fault, at, place_in_column, status_of_column};

@@ -1,7 +1,8 @@
 //! Whether a zone may hold a value.
 
 ghost use Rattle.std.specs.Prelude.{◌≡◌, ◌≢◌, ◌⊎◌, IsTrue, IsUtf8, MatchBool};
-ghost use Rattle.vortex_c.specs.Words.{IsAnswerOfZones, NonNullable, binary_type, may_hold_bytes, raw_bytes, raw_text, some_where, utf8_type};
+ghost use Rattle.vortex_c.specs.Words.{IsAnswerOfZones, NonNullable, binary_type, may_hold_bytes, raw_bytes};
+ghost use Rattle.vortex_c.specs.Words.{raw_text, some_where, utf8_type};
 
 use crate::status::{GIVEN, NOT_UTF8};
 use std::str;

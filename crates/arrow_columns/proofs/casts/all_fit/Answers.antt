@@ -8,7 +8,7 @@ use mir.Val.{of_z, to_z}
 
 pub returns : goal.returns
 returns g c =
-    let V : ℕ → ℤ = λ i. integer_of g.T.Integer.kind (slice_index_or c.args.items.now i []) in
+    let V : ℕ → ℤ = λ i. integer_of g.T.Integer.kind (slice_index_or c.args.span.items.now i []) in
     let kind = g.U.Integer.kind in
     let least : ℤ = g.T.Integer.number c.without_nulls-gathered.result.least in
     let greatest : ℤ = g.T.Integer.number c.without_nulls-gathered.result.greatest in
@@ -17,7 +17,7 @@ returns g c =
     let low : z ≡ least = omega (arith, ints, c.whole.ensures) in
     let high : y ≡ greatest = omega (arith, ints, c.whole-2.ensures) in
     both_passed c.fits-low.result c.fits-high.result (IsOfKind kind z) (IsOfKind kind y)
-    ((k : ℕ) → k < c.args.end → c.args.from ≤ k → IsOfKind kind (V k)) (on_true c.fits-low.result (IsOfKind kind z) (¬ (IsOfKind kind z)) c.fits-low.ensures)
+    ((k : ℕ) → k < c.args.span.end → c.args.span.from ≤ k → IsOfKind kind (V k)) (on_true c.fits-low.result (IsOfKind kind z) (¬ (IsOfKind kind z)) c.fits-low.ensures)
     (on_true c.fits-high.result (IsOfKind kind y) (¬ (IsOfKind kind y)) c.fits-high.ensures)
-    (λ p q. all_within kind V c.args.from c.args.end least greatest c.without_nulls-gathered.ensures.least c.without_nulls-gathered.ensures.greatest
+    (λ p q. all_within kind V c.args.span.from c.args.span.end least greatest c.without_nulls-gathered.ensures.least c.without_nulls-gathered.ensures.greatest
     (subst (IsOfKind kind) low p) (subst (IsOfKind kind) high q))

@@ -14,19 +14,19 @@ use mir.Val.{of_z, to_z}
 
 pub loop-i-preserved : goal.loop-i-preserved
 loop-i-preserved g c =
-    let V : ℕ → ℤ = λ i. integer_of g.T.Integer.kind (slice_index_or c.args.items.now i []) in
-    let C : ℕ → Option ℤ = cell_at c.args.validity.now V in
-    let from : ℕ = c.args.from in
+    let V : ℕ → ℤ = λ i. integer_of g.T.Integer.kind (slice_index_or c.args.span.items.now i []) in
+    let C : ℕ → Option ℤ = cell_at c.args.span.validity.now V in
+    let from : ℕ = c.args.span.from in
     let i : ℕ = c.loop-i.i in
     let here : IfSome (C i) (IsOfKind g.U.Integer.kind) = elim c.else-is_row_valid.branch [
       | else-is_row_valid-via-then-is_row_valid+else-not-fits w ↦
           let z : ℤ = to_z w128 (of_z w128 w.whole.result) in
           let same : z ≡ V i =
           through_number z (g.T.Integer.number w.of_bytes.result) (V i) (omega (arith, ints, w.whole.ensures))
-          (w.of_bytes.ensures ∙ ap (integer_of g.T.Integer.kind) (get_or_read c.args.items.now _ _ (omega arith) w.index-items-i.is [])) in
-          at_value (IsOfKind g.U.Integer.kind) (C i) z (valid_cell c.args.validity.now V i z (sym c.is_row_valid.ensures ∙ w.if-is_row_valid.true) same)
+          (w.of_bytes.ensures ∙ ap (integer_of g.T.Integer.kind) (get_or_read c.args.span.items.now _ _ (omega arith) w.index-items-i.is [])) in
+          at_value (IsOfKind g.U.Integer.kind) (C i) z (valid_cell c.args.span.validity.now V i z (sym c.is_row_valid.ensures ∙ w.if-is_row_valid.true) same)
           (passed w.fits.result (IsOfKind g.U.Integer.kind z) (¬ (IsOfKind g.U.Integer.kind z)) w.fits.ensures w.if-not-fits.false)
       | else-is_row_valid-via-else-is_row_valid w ↦
-          at_null (IsOfKind g.U.Integer.kind) (C i) (null_cell c.args.validity.now V i (sym c.is_row_valid.ensures ∙ w.if-is_row_valid.false))
+          at_null (IsOfKind g.U.Integer.kind) (C i) (null_cell c.args.span.validity.now V i (sym c.is_row_valid.ensures ∙ w.if-is_row_valid.false))
     ] in
     below_more (λ k. from ≤ k → IfSome (C k) (IsOfKind g.U.Integer.kind)) i c.loop-i.invariant (λ f. here)

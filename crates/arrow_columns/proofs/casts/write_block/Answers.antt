@@ -11,20 +11,20 @@ use mir.Val.{of_z, to_z}
 
 pub of_whole-requires : goal.of_whole-requires
 of_whole-requires g c =
-    let V : ℕ → ℤ = λ i. integer_of g.T.Integer.kind (slice_index_or c.args.items.now i []) in
+    let V : ℕ → ℤ = λ i. integer_of g.T.Integer.kind (slice_index_or c.args.span.items.now i []) in
     let i : ℕ = c.args.start + c.loop-j.j in
     let z : ℤ = to_z w128 (of_z w128 c.whole.result) in
     let same : z ≡ V i =
     through_number z (g.T.Integer.number c.of_bytes.result) (V i) (omega (arith, ints, c.whole.ensures))
-    (c.of_bytes.ensures ∙ ap (integer_of g.T.Integer.kind) (get_or_read c.args.items.now _ _ (omega arith) c.index-items-start.is [])) in
+    (c.of_bytes.ensures ∙ ap (integer_of g.T.Integer.kind) (get_or_read c.args.span.items.now _ _ (omega arith) c.index-items-start.is [])) in
     subst (IsOfKind g.U.Integer.kind) (sym same) (c.requires.fit c.loop-j.j c.loop-j-test.true)
 
 pub loop-k-preserved : goal.loop-k-preserved
 loop-k-preserved g c =
-    let V : ℕ → ℤ = λ i. integer_of g.T.Integer.kind (slice_index_or c.args.items.now i []) in
+    let V : ℕ → ℤ = λ i. integer_of g.T.Integer.kind (slice_index_or c.args.span.items.now i []) in
     let number = integer_of g.U.Integer.kind in
     let M : ℕ = g.row.M in
-    let from : ℕ = c.args.from in
+    let from : ℕ = c.args.span.from in
     let start : ℕ = c.args.start in
     let k : ℕ = c.loop-k.k in
     let at : ℕ = start - from + k in

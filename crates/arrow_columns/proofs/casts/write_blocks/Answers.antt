@@ -9,10 +9,10 @@ use Rattle.arrow_columns.proofs.casts.write_blocks.Goals as goal
 
 pub loop-b-preserved : goal.loop-b-preserved
 loop-b-preserved g c =
-    let V : ℕ → ℤ = λ i. integer_of g.T.Integer.kind (slice_index_or c.args.items.now i []) in
+    let V : ℕ → ℤ = λ i. integer_of g.T.Integer.kind (slice_index_or c.args.span.items.now i []) in
     let C : ℕ → Option ℤ = cell_at [] V in
     let M : ℕ = g.row.M in
-    let from : ℕ = c.args.from in
+    let from : ℕ = c.args.span.from in
     let start : ℕ = from + 16 * c.loop-b.b in
     let next : start + 16 ≡ from + 16 * (c.loop-b.b + 1) = omega arith in
     let far : 16 * c.loop-b.b * M ≤ 16 * (c.loop-b.b + 1) * M = mul-le-mul_right M (omega arith) in

@@ -8,14 +8,14 @@ use Rattle.arrow_columns.proofs.casts.write_front.Goals as goal
 
 pub write_rows-requires : goal.write_rows-requires
 write_rows-requires g c =
-    let V : ℕ → ℤ = λ i. integer_of g.T.Integer.kind (slice_index_or c.args.items.now i []) in
-    let C : ℕ → Option ℤ = cell_at c.args.validity.now V in
+    let V : ℕ → ℤ = λ i. integer_of g.T.Integer.kind (slice_index_or c.args.span.items.now i []) in
+    let C : ℕ → Option ℤ = cell_at c.args.span.validity.now V in
     let kind = g.U.Integer.kind in
-    let from : ℕ = c.args.from in
-    let end : ℕ = c.args.end in
+    let from : ℕ = c.args.span.from in
+    let end : ℕ = c.args.span.end in
     let found : Option ℕ = c.first_without-found.result in
-    let stop : ℕ = c.unwrap_or.result in
-    let is : stop ≡ unwrap_or found end = c.unwrap_or.ensures in
+    let stop : ℕ = c.unwrap_or-end.result in
+    let is : stop ≡ unwrap_or found end = c.unwrap_or-end.ensures in
     let within = stop_within kind C from end found c.requires.range c.first_without-found.ensures in
     let after : from ≤ stop = omega (arith, is, within.0) in
     let below : stop ≤ end = omega (arith, is, within.1) in

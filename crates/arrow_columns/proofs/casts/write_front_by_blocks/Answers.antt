@@ -8,15 +8,15 @@ use Rattle.arrow_columns.proofs.casts.write_front_by_blocks.Goals as goal
 
 pub write_by_rows-requires : goal.write_by_rows-requires
 write_by_rows-requires g c =
-    let V : ℕ → ℤ = λ i. integer_of g.T.Integer.kind (slice_index_or c.args.items.now i []) in
+    let V : ℕ → ℤ = λ i. integer_of g.T.Integer.kind (slice_index_or c.args.span.items.now i []) in
     let C : ℕ → Option ℤ = cell_at [] V in
     let kind = g.U.Integer.kind in
-    let from : ℕ = c.args.from in
+    let from : ℕ = c.args.span.from in
     let start : ℕ = c.write_blocks-start.result in
-    let end : ℕ = c.args.end in
+    let end : ℕ = c.args.span.end in
     let found : Option ℕ = c.find_without-found.result in
-    let stop : ℕ = c.unwrap_or.result in
-    let is : stop ≡ unwrap_or found end = c.unwrap_or.ensures in
+    let stop : ℕ = c.unwrap_or-end.result in
+    let is : stop ≡ unwrap_or found end = c.unwrap_or-end.ensures in
     let within = stop_within kind C start end found c.write_blocks-start.ensures.end c.find_without-found.ensures in
     let after : start ≤ stop = omega (arith, is, within.0) in
     let below : stop ≤ end = omega (arith, is, within.1) in
@@ -50,20 +50,20 @@ write_by_rows-requires g c =
 
 pub returns-clause-found : goal.returns-clause-found
 returns-clause-found g c =
-    let V : ℕ → ℤ = λ i. integer_of g.T.Integer.kind (slice_index_or c.args.items.now i []) in
-    found_after g.U.Integer.kind (cell_at [] V) c.args.from c.write_blocks-start.result c.args.end c.find_without-found.result
+    let V : ℕ → ℤ = λ i. integer_of g.T.Integer.kind (slice_index_or c.args.span.items.now i []) in
+    found_after g.U.Integer.kind (cell_at [] V) c.args.span.from c.write_blocks-start.result c.args.span.end c.find_without-found.result
     c.write_blocks-start.ensures.from c.write_blocks-start.ensures.fit c.find_without-found.ensures
 
 pub returns-clause-rest : goal.returns-clause-rest
 returns-clause-rest g c =
-    let V : ℕ → ℤ = λ i. integer_of g.T.Integer.kind (slice_index_or c.args.items.now i []) in
+    let V : ℕ → ℤ = λ i. integer_of g.T.Integer.kind (slice_index_or c.args.span.items.now i []) in
     let M : ℕ = g.row.M in
-    let from : ℕ = c.args.from in
+    let from : ℕ = c.args.span.from in
     let start : ℕ = c.write_blocks-start.result in
-    let end : ℕ = c.args.end in
+    let end : ℕ = c.args.span.end in
     let found : Option ℕ = c.find_without-found.result in
     let stop : ℕ = unwrap_or found end in
     let within = stop_within g.U.Integer.kind (cell_at [] V) start end found c.write_blocks-start.ensures.end c.find_without-found.ensures in
     let further : (start - from) * M ≤ (stop - from) * M = mul-le-mul_right M (omega (arith, within.0)) in
-    subst (λ (s : ℕ). drop ((s - from) * M) c.write_by_rows.new.room ≡ drop ((s - from) * M) c.write_blocks-start.new.room) c.unwrap_or.ensures c.write_by_rows.ensures.rest
+    subst (λ (s : ℕ). drop ((s - from) * M) c.write_by_rows.new.room ≡ drop ((s - from) * M) c.write_blocks-start.new.room) c.unwrap_or-end.ensures c.write_by_rows.ensures.rest
     ∙ alike_further ((start - from) * M) ((stop - from) * M) c.write_blocks-start.new.room c.args.room.now further c.write_blocks-start.ensures.rest

@@ -10,9 +10,9 @@ use Rattle.arrow_columns.proofs.casts.write_row.Goals as goal
 
 pub returns-clause-written : goal.returns-clause-written
 returns-clause-written g c =
-    let V : ℕ → ℤ = λ i. integer_of g.T.Integer.kind (slice_index_or c.args.items.now i []) in
-    let C : ℕ → Option ℤ = cell_at c.args.validity.now V in
-    let from : ℕ = c.args.from in
+    let V : ℕ → ℤ = λ i. integer_of g.T.Integer.kind (slice_index_or c.args.span.items.now i []) in
+    let C : ℕ → Option ℤ = cell_at c.args.span.validity.now V in
+    let from : ℕ = c.args.span.from in
     let i : ℕ = c.args.i in
     let M : ℕ = g.row.M in
     let number = integer_of g.U.Integer.kind in
@@ -20,15 +20,15 @@ returns-clause-written g c =
     λ k l. below_more (λ k. number (item_at M c.put.new.room k) ≡ unwrap_or (C (from + k)) (pos 0)) (i - from)
     (λ j b. ap number (c.put.ensures.before j b) ∙ c.requires.written j b)
     (ap number c.put.ensures.here ∙ c.bytes_or_zero-bytes.ensures
-    ∙ value_or_zero c.args.validity.now V i c.is_row_valid.result _ c.is_row_valid.ensures
+    ∙ value_or_zero c.args.span.validity.now V i c.is_row_valid.result _ c.is_row_valid.ensures
     (through_number _ (g.T.Integer.number c.of_bytes.result) _ (omega (arith, ints, c.whole-whole.ensures))
-    (c.of_bytes.ensures ∙ ap (integer_of g.T.Integer.kind) (get_or_read c.args.items.now _ _ (omega arith) c.index-items-i.is [])))
+    (c.of_bytes.ensures ∙ ap (integer_of g.T.Integer.kind) (get_or_read c.args.span.items.now _ _ (omega arith) c.index-items-i.is [])))
     ∙ ap (λ k. unwrap_or (C k) (pos 0)) place) k (omega arith)
 
 pub returns-clause-rest : goal.returns-clause-rest
 returns-clause-rest g c =
     let M : ℕ = g.row.M in
-    let from : ℕ = c.args.from in
+    let from : ℕ = c.args.span.from in
     let i : ℕ = c.args.i in
-    let further : (i - from + 1) * M ≤ (c.args.end - from) * M = mul-le-mul_right M (omega arith) in
-    alike_further ((i - from + 1) * M) ((c.args.end - from) * M) c.put.new.room c.args.room.now further c.put.ensures.after
+    let further : (i - from + 1) * M ≤ (c.args.span.end - from) * M = mul-le-mul_right M (omega arith) in
+    alike_further ((i - from + 1) * M) ((c.args.span.end - from) * M) c.put.new.room c.args.room.now further c.put.ensures.after

@@ -1,22 +1,21 @@
-use Rattle.std.proofs.Common.{[], ◌≡◌, ◌≤ℤ◌, ◌+◌, ◌-◌, ◌*◌, slice_index_or, slice_index}
-use Rattle.arrow_columns.specs.Cells.{cell_at}
-use Rattle.arrow_columns.specs.Integers.{integer_of}
+use Rattle.std.proofs.Common.{◌≡◌, ◌≤ℤ◌, ◌+◌, ◌-◌, ◌*◌, slice_index}
+use Rattle.arrow_columns.specs.Integers.{cell_of_item}
 use Rattle.arrow_columns.specs.Running.{AreGathered, IsGreatestBefore, IsLeastBefore, nulls_from}
 use Rattle.arrow_columns.proofs.BitCounts.{zeros_below}
 use Rattle.arrow_columns.proofs.extremes.by_bytes.Given as goal
 
 abbrev pub invariant-loop-b : goal.invariant-loop-b
 invariant-loop-b g l = record {
-  gathered : AreGathered g.T.Integer.number (cell_at l.validity (λ i. integer_of g.T.Integer.kind (slice_index_or l.items i []))) l.from (8 * l.b) (record { null_count = l.null_count; least = l.least; greatest = l.greatest });
+  gathered : AreGathered g.T.Integer.number (cell_of_item g.T.Integer.kind l.validity l.items) l.from (8 * l.b) (record { null_count = l.null_count; least = l.least; greatest = l.greatest });
   low : g.T.Integer.number l.least ≤ℤ g.T.Integer.number l.low;
   high : g.T.Integer.number l.high ≤ℤ g.T.Integer.number l.greatest;
 }
 
 abbrev pub invariant-loop-j : goal.invariant-loop-j
 invariant-loop-j g l = record {
-  nulls : l.null_count + zeros_below (slice_index l.validity l.b) l.j ≡ nulls_from (cell_at l.validity (λ i. integer_of g.T.Integer.kind (slice_index_or l.items i []))) l.from (8 * l.b + l.j - l.from);
-  least : IsLeastBefore (cell_at l.validity (λ i. integer_of g.T.Integer.kind (slice_index_or l.items i []))) l.from (8 * l.b + l.j) (g.T.Integer.number l.least);
-  greatest : IsGreatestBefore (cell_at l.validity (λ i. integer_of g.T.Integer.kind (slice_index_or l.items i []))) l.from (8 * l.b + l.j) (g.T.Integer.number l.greatest);
+  nulls : l.null_count + zeros_below (slice_index l.validity l.b) l.j ≡ nulls_from (cell_of_item g.T.Integer.kind l.validity l.items) l.from (8 * l.b + l.j - l.from);
+  least : IsLeastBefore (cell_of_item g.T.Integer.kind l.validity l.items) l.from (8 * l.b + l.j) (g.T.Integer.number l.least);
+  greatest : IsGreatestBefore (cell_of_item g.T.Integer.kind l.validity l.items) l.from (8 * l.b + l.j) (g.T.Integer.number l.greatest);
   low : g.T.Integer.number l.least ≤ℤ g.T.Integer.number l.low;
   high : g.T.Integer.number l.high ≤ℤ g.T.Integer.number l.greatest;
 }

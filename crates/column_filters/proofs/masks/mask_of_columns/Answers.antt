@@ -2,7 +2,8 @@
 use Rattle.std.proofs.Common.{length, map, subst, sym}
 use Rattle.vortex_dtype.specs.TypeOf.{type_of}
 use Rattle.vortex_filter.specs.Formula.{formula}
-use Rattle.column_filters.specs.Tables.{HaveRows, rows_in}
+use Rattle.column_filters.specs.Tables.{HaveRows}
+use Rattle.arrow_columns.specs.Columns.{rows_in}
 use Rattle.column_filters.proofs.RowSteps.{mask-refused, mask-told, memory-kept, memory-refused}
 use Rattle.column_filters.proofs.masks.mask_of_columns.Goals as goal
 

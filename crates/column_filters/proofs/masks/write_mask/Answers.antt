@@ -9,8 +9,8 @@ use Rattle.column_filters.proofs.masks.write_mask.Goals as goal
 
 pub loop-row-init : goal.loop-row-init
 loop-row-init c = (
-  marked-none (matching (formula c.args.filter.now) (cells_of_rows c.args.columns.now)) c.args.count _ (rw c.mask_length.ensures at c.clear_bits.ensures.clear),
-  rw c.mask_length.ensures at c.clear_bits.ensures.rest,
+  marked-none (matching (formula c.args.filter.now) (cells_of_rows c.args.columns.now)) c.args.count _ (rw c.bitmap_length.ensures at c.clear_bits.ensures.clear),
+  rw c.bitmap_length.ensures at c.clear_bits.ensures.rest,
 )
 
 pub loop-row-preserved : goal.loop-row-preserved

@@ -7,13 +7,14 @@ use Rattle.arrow_columns.specs.declared.kinds.Kind.{Kind}
 use Rattle.vortex_value.specs.Values.Content.{Content}
 use Rattle.column_keys.specs.Keys.{AreRowKeys}
 use Rattle.column_keys.specs.Tables.{options_in}
-use Rattle.key_columns.specs.Answers.{IsColumnOfKeys}
-use Rattle.key_columns.specs.Cells.{key_count}
-use Rattle.key_columns.specs.Laws.{AreColumnsOf, ColumnsComeBack}
-use Rattle.key_columns.specs.Layout.{IsColumnOf, bitmap_length, offsets_length}
-use Rattle.key_columns.specs.Types.{HasTypes, type_at_code, types_of_codes}
-use Rattle.key_columns.specs.declared.faults.KeysFault.{KeysFault}
-use Rattle.key_columns.proofs.GivenSteps.{plain-codes}
+use Rattle.column_keys.specs.Answers.{IsColumnOfKeys}
+use Rattle.column_keys.specs.Cells.{key_count}
+use Rattle.column_keys.specs.Laws.{AreColumnsOf, ColumnsComeBack}
+use Rattle.column_keys.specs.Layout.{IsColumnOf, offsets_length}
+use Rattle.arrow_columns.specs.Bitmaps.{bitmap_length}
+use Rattle.column_keys.specs.Types.{HasTypes, type_at_code, types_of_codes}
+use Rattle.column_keys.specs.declared.faults.KeysFault.{KeysFault}
+use Rattle.column_keys.proofs.GivenSteps.{plain-codes}
 use Rattle.scalar_tests.proofs.columns_of_keys.read_back.Goals as goal
 
 came-back : ColumnsComeBack → (codes options : List ℕ) (which : ℕ) (bytes offsets : List ℕ) (count : ℕ) (validity values places : List ℕ) → HasTypes codes options which → IsColumnOfKeys codes options which bytes offsets count validity values places

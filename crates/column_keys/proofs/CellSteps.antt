@@ -1,0 +1,78 @@
+-- What a row has in a column, by what its key decodes to.
+use Rattle.std.proofs.Common.{◌≡◌, ◌≢◌, ◌∙◌, ℕ, ◌+◌, ◌<◌, inl, inr, List, [], ◌++◌, length, map, get_or, append-nil, refl, sym, subst, ap, arith}
+use Rattle.std.specs.Prelude.{Result, Ok, Err, IsErr, IsErrAnd, IfErr, slice_index}
+use Rattle.std.proofs.lemmas.List.{get_or-map, length-append, length-map, nil_from_length}
+use Rattle.vortex_dtype.specs.TypeOf.{type_of}
+use Rattle.vortex_dtype.specs.TypeTree.{TypeTrees}
+use Rattle.vortex_value.specs.Values.Content.{content}
+use Rattle.vortex_value.specs.Values.RawTree.{absent}
+use Rattle.vortex_value.specs.Values.Scalars.{scalar_content, scalar_raw}
+use Rattle.vortex_value.specs.declared.scalars.Scalar.{Scalar}
+use Rattle.vortex_value.specs.TypesWithin.{AllHaveVariants}
+use Rattle.vortex_row.specs.Decoded.{BeginsWithRow, IsDecodedRow, IsFirstBad, IsRowKeyOf, IsValueOf, values_key}
+use Rattle.vortex_row.specs.declared.options.SortOptions.{SortOptions}
+use Rattle.column_keys.specs.Cells.{AreTyped, HasCell, IsPlaced, key_at, type_in, types_in}
+use Rattle.column_keys.specs.Faults.{GoesOnAfter, IsRowFault, IsWrongKey}
+use Rattle.column_keys.specs.declared.faults.KeysFault.{KeysFault}
+use Rattle.column_keys.specs.declared.faults.KeysFault.TheVariants.{BadBytes, BadOffsets}
+use Rattle.column_keys.specs.declared.keys.RowKeys.{RowKeys}
+use Rattle.column_keys.proofs.RowLaws.{value-there, values-count}
+
+-- the key is no longer than what was read of it
+whole-key : (os : List SortOptions) (ts : TypeTrees) (key : List ℕ) (xs : List Scalar) (n : ℕ) → IsDecodedRow os ts key xs n → ¬ (n < length key) → BeginsWithRow os ts key (map scalar_raw xs) []
+whole-key os ts key xs n decoded all =
+    let longer = ap length decoded.begins.is ∙ length-append (values_key os (map scalar_raw xs)) decoded.rest in
+    let none : decoded.rest ≡ [] = nil_from_length decoded.rest (omega (arith, longer, decoded.count, all)) in
+    subst (λ rest. BeginsWithRow os ts key (map scalar_raw xs) rest) none decoded.begins
+
+-- the row has a value in the column
+pub cell-within : (keys : RowKeys) (key : List ℕ) (xs : List Scalar) (n : ℕ) → AreTyped keys → IsDecodedRow keys.options.now (types_in keys) key xs n → keys.which < length xs
+cell-within keys key xs n typed decoded =
+    let raws = map scalar_raw xs in
+    let counts = values-count (map type_of keys.dtypes.now) raws decoded.begins.values in
+    omega (arith, typed.within, counts, length-map raws content, length-map xs scalar_raw, length-map keys.dtypes.now type_of)
+
+pub cell-found : (keys : RowKeys) (row : ℕ) (key : List ℕ) (xs : List Scalar) (n : ℕ) (x : Scalar) → AreTyped keys → IsPlaced keys.bytes.now keys.offsets.now row → key ≡ key_at keys.bytes.now keys.offsets.now row
+    → IsDecodedRow keys.options.now (types_in keys) key xs n → ¬ (n < length key) → x ≡ get_or xs keys.which x → HasCell keys row (scalar_content x) × IsValueOf (type_in keys) (scalar_raw x)
+cell-found keys row key xs n x typed placed is decoded all at =
+    let begins = whole-key keys.options.now (types_in keys) key xs n decoded all in
+    let raws = map scalar_raw xs in
+    let within = cell-within keys key xs n typed decoded in
+    let found : get_or raws keys.which absent ≡ scalar_raw x = get_or-map scalar_raw xs keys.which x absent within ∙ ap scalar_raw (sym at) in
+    let value = value-there (map type_of keys.dtypes.now) raws keys.which begins.values (omega (arith, typed.within, length-map keys.dtypes.now type_of)) in (
+      record { placed = placed; cell = record { values = raws; row = subst (λ k. BeginsWithRow keys.options.now (types_in keys) k raws []) is begins; is = ap content (sym found) } },
+      subst (IsValueOf (type_in keys)) found value,
+    )
+
+-- ---- why there is none
+
+no-rest : (xs ys rest : List ℕ) → xs ≡ ys ++ rest → length ys < length xs → rest ≢ []
+no-rest xs ys rest e less none =
+    let same = ap length e ∙ length-append ys rest in
+    let empty : length rest ≡ 0 = ap length none in
+    absurd (omega (arith, same, empty, less))
+
+pub key-goes-on : (keys : RowKeys) (row : ℕ) (key : List ℕ) (xs : List Scalar) (n : ℕ) → IsPlaced keys.bytes.now keys.offsets.now row → key ≡ key_at keys.bytes.now keys.offsets.now row → IsDecodedRow keys.options.now (types_in keys) key xs n → n < length key
+    → IsRowFault keys row (BadBytes (slice_index keys.offsets.now row + n))
+key-goes-on keys row key xs n placed is decoded more =
+    let vs = map scalar_raw xs in
+    let front = values_key keys.options.now vs in
+    let after : GoesOnAfter (IsRowKeyOf keys.options.now (types_in keys)) key n = record {
+      key = front;
+      rest = decoded.rest;
+      is_one = record { values = vs; begins = record { values = decoded.begins.values; is = sym (append-nil front) } };
+      is = decoded.begins.is;
+      more = no-rest key front decoded.rest decoded.begins.is (omega (arith, more, decoded.count));
+      at = decoded.count;
+    } in
+    (placed, (n, refl, subst (λ k. IsWrongKey keys.options.now (types_in keys) k n) is (inr after)))
+
+pub key-bad : (keys : RowKeys) (row : ℕ) (key : List ℕ) (p : ℕ) → AreTyped keys → IsPlaced keys.bytes.now keys.offsets.now row → key ≡ key_at keys.bytes.now keys.offsets.now row
+    → IsFirstBad (IsRowKeyOf keys.options.now (types_in keys)) (AllHaveVariants (types_in keys)) key p → IsRowFault keys row (BadBytes (slice_index keys.offsets.now row + p))
+key-bad keys row key p typed placed is bad =
+    let first : IsFirstBad (IsRowKeyOf keys.options.now (types_in keys)) (Unit {0}) key p = record { within = bad.within; before = λ u. bad.before typed.filled; bad = bad.bad; no_key = bad.no_key } in
+    (placed, (p, refl, subst (λ k. IsWrongKey keys.options.now (types_in keys) k p) is (inl first)))
+
+pub not-placed : (keys : RowKeys) (row : ℕ) (r : Result Scalar KeysFault) (e : KeysFault) → IsErr r × IsErrAnd r (λ f. f ≡ e) → (e ≡ BadOffsets row) × ¬ (IsPlaced keys.bytes.now keys.offsets.now row) → IfErr r (IsRowFault keys row)
+not-placed keys row (Ok x) e h w = tt
+not-placed keys row (Err f) e h w = subst (IsRowFault keys row) (sym (h.1 ∙ w.0)) (refl, w.1)

@@ -1,0 +1,63 @@
+-- Keys of rows one after another, and what one of the columns has in these rows.
+use Rattle.std.specs.Prelude.{◌≡◌, ℕ, ◌+◌, ◌-◌, ◌<◌, ◌≤◌, List, [], length, map, slice_index, slice_index_or, slice_range}
+use Rattle.vortex_dtype.specs.TypeOf.{dtype_trees, type_of}
+use Rattle.vortex_dtype.specs.TypeTree.{TypeTree, TypeTrees, null_type}
+use Rattle.vortex_value.specs.TypesWithin.{AllHaveVariants, HaveNoVariant}
+use Rattle.vortex_value.specs.Values.Content.{Content, content, null}
+use Rattle.vortex_value.specs.Values.RawTree.{RawTree, absent}
+use Rattle.vortex_row.specs.Decoded.{BeginsWithRow}
+use Rattle.vortex_row.specs.declared.options.SortOptions.{SortOptions}
+use Rattle.column_keys.specs.declared.keys.RowKeys.{RowKeys}
+
+-- the bytes of the key of a row: from its offset to the next one
+abbrev pub key_at : List ℕ → List ℕ → ℕ → List ℕ
+key_at bytes offsets row = slice_range bytes (slice_index offsets row) (slice_index offsets (row + 1))
+
+-- how many keys there are: one less than offsets
+abbrev pub key_count : List ℕ → ℕ
+key_count offsets = length offsets - 1
+
+-- the offsets of a key do not go down, nor past the end of the bytes
+abbrev pub IsPlaced : List ℕ → List ℕ → ℕ → Type 0
+IsPlaced bytes offsets row = (slice_index offsets row ≤ slice_index offsets (row + 1)) × (slice_index offsets (row + 1) ≤ length bytes)
+
+-- the bytes are the key of a row of values of the types, and this is the content of the one at the place
+pub record IsCellOf (options : List SortOptions) (types : TypeTrees) (which : ℕ) (key : List ℕ) (c : Content) : Type 0 where
+  pub values : List RawTree
+  pub row : BeginsWithRow options types key values []
+  pub is : c ≡ content (slice_index_or values which absent)
+
+-- the key of a row is one, and the row has this content in the column
+pub record IsCellAt (options : List SortOptions) (types : TypeTrees) (which : ℕ) (bytes offsets : List ℕ) (row : ℕ) (c : Content) : Type 0 where
+  pub placed : IsPlaced bytes offsets row
+  pub cell : IsCellOf options types which (key_at bytes offsets row) c
+
+-- what the column has in all rows
+pub record AreCellsOf (options : List SortOptions) (types : TypeTrees) (which : ℕ) (bytes offsets : List ℕ) (cells : List Content) : Type 0 where
+  pub count : length cells ≡ key_count offsets
+  pub each : (row : ℕ) → row < length cells → IsCellAt options types which bytes offsets row (slice_index_or cells row null)
+
+-- the types of the columns, and that of the column that is asked for
+abbrev pub types_in : RowKeys → TypeTrees
+types_in keys = dtype_trees keys.dtypes.now
+
+abbrev pub type_in : RowKeys → TypeTree
+type_in keys = slice_index_or (map type_of keys.dtypes.now) keys.which null_type
+
+-- how many rows there are
+abbrev pub count_in : RowKeys → ℕ
+count_in keys = key_count keys.offsets.now
+
+-- there are as many options as types, one is of the column, and none of the types has variants or is a union without any
+pub record AreTyped (keys : RowKeys) : Type 0 where
+  pub counts : length keys.dtypes.now ≡ length keys.options.now
+  pub within : keys.which < length keys.dtypes.now
+  pub plain : HaveNoVariant (types_in keys)
+  pub filled : AllHaveVariants (types_in keys)
+
+-- what the column has in a row of these keys, and in all rows
+abbrev pub HasCell : RowKeys → ℕ → Content → Type 0
+HasCell keys row c = IsCellAt keys.options.now (types_in keys) keys.which keys.bytes.now keys.offsets.now row c
+
+abbrev pub AreCells : RowKeys → List Content → Type 0
+AreCells keys cells = AreCellsOf keys.options.now (types_in keys) keys.which keys.bytes.now keys.offsets.now cells

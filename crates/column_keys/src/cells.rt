@@ -1,0 +1,52 @@
+//! What a cell has to be written.
+
+ghost use Rattle.std.specs.Prelude.{◌≡◌};
+ghost use Rattle.column_keys.specs.Words.{Nullable, Valid, bytes_in, integer_type, is_present, number_in};
+ghost use Rattle.column_keys.specs.Words.{ptype_of, scalar_content, scalar_raw, truth_in, whole_of};
+
+use vortex_dtype::PType;
+use vortex_pvalue::PValue;
+use vortex_value::{Scalar, ScalarValue};
+
+/// Whether the cell is no null.
+pub(crate) fn is_present(cell: &Scalar) -> bool
+    ensures { result ≡ is_present (scalar_content cell.now) }
+{
+    match &cell.value {
+        Some(_) => true,
+        None => false,
+    }
+}
+
+/// The integer of a cell of this type, or 0 for a null.
+pub(crate) fn number_or_zero(cell: &Scalar, ptype: PType) -> PValue
+    requires { Valid (integer_type ptype Nullable) (scalar_raw cell.now) }
+    ensures typed { ptype_of result ≡ ptype }
+    ensures number { whole_of result ≡ number_in (scalar_content cell.now) }
+{
+    match &cell.value {
+        Some(ScalarValue::Primitive(number)) => *number,
+        _ => PValue::zero(&ptype),
+    }
+}
+
+/// The truth value of a cell, or false if it has none.
+pub(crate) fn truth_or_false(cell: &Scalar) -> bool
+    ensures { result ≡ truth_in (scalar_content cell.now) }
+{
+    match &cell.value {
+        Some(ScalarValue::Bool(value)) => *value,
+        _ => false,
+    }
+}
+
+/// The bytes of a cell: of a string, or of bytes; else none.
+pub(crate) fn bytes_or_none(cell: &Scalar) -> &[u8]
+    ensures { result.now ≡ bytes_in (scalar_content cell.now) }
+{
+    match &cell.value {
+        Some(ScalarValue::Utf8(text)) => text.as_str().as_bytes(),
+        Some(ScalarValue::Binary(bytes)) => bytes.as_slice(),
+        _ => &[],
+    }
+}

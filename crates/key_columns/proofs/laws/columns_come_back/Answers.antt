@@ -1,6 +1,0 @@
--- The law by the two laws of keys.
-use Rattle.key_columns.proofs.LawSteps.{columns-come-back}
-use Rattle.key_columns.proofs.laws.columns_come_back.Goals as goal
-
-pub returns : goal.returns
-returns c = columns-come-back c.keys_are_apart.ensures c.values_have_no_typed.ensures

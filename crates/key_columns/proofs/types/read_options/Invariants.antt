@@ -1,8 +1,0 @@
--- The options so far.
-use Rattle.std.proofs.Common.{◌≡◌, map, take}
-use Rattle.column_keys.specs.Tables.{options_in}
-use Rattle.key_columns.specs.Types.{AreOptions}
-use Rattle.key_columns.proofs.types.read_options.Given as goal
-
-abbrev pub invariant-loop-column : goal.invariant-loop-column
-invariant-loop-column l = (l.read.items ≡ map options_in (take l.column l.options)) × AreOptions l.options l.column

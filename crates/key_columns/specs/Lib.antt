@@ -1,9 +1,0 @@
-pub mod Answers
-pub mod Cells
-pub mod Examples
-pub mod Faults
-pub mod Laws
-pub mod Layout
-pub mod Read
-pub mod Types
-pub mod Words
