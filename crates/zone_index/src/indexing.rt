@@ -4,9 +4,9 @@ ghost use Rattle.std.specs.Prelude.{◌≡◌, ◌≢◌, ◌<◌, ◌++◌, ℕ
 ghost use Rattle.csv_records.specs.Records.{records_of};
 ghost use Rattle.zone_index.specs.Faults.{EndsFar, IfRefused, IsOfRecord, TellsOneOf};
 ghost use Rattle.zone_index.specs.Zones.{IsIndexOf, IsZoneOfText};
-ghost use Rattle.zone_index.specs.declared.faults.Fault.TheVariants.{CutShort, TooFar, Write as WriteFault};
+ghost use Rattle.zone_index.specs.declared.faults.SearchFault.TheVariants.{CutShort, TooFar, Write as WriteFault};
 
-use crate::faults::Fault;
+use crate::faults::SearchFault;
 use crate::records::{Described, Describer};
 use crate::taking::take_records;
 use crate::zones::Zone;
@@ -21,7 +21,7 @@ pub fn index_records<B: BufRead, D: Describer>(
     start: u64,
     describer: &D,
     reader: &mut B,
-) -> Result<Vec<Zone>, Fault>
+) -> Result<Vec<Zone>, SearchFault>
     requires { 0 < size }
     ensures right { IfOk result (λ zones. (before bytes : List ℕ) → length before ≡ start
         → B.remaining reader.old ≡ Some bytes
@@ -47,7 +47,7 @@ pub fn index_records<B: BufRead, D: Describer>(
         let zone = zone_of(alloc, first, &text, describer)?;
         match first.checked_add(zone.length) {
             Some(next) => first = next,
-            None => return Err(Fault::TooFar),
+            None => return Err(SearchFault::TooFar),
         }
         zones.push(zone)?;
     }
@@ -59,7 +59,7 @@ fn zone_of<D: Describer>(
     first: u64,
     text: &[u8],
     describer: &D,
-) -> Result<Zone, Fault>
+) -> Result<Zone, SearchFault>
     ensures zone { IfOk result (IsZoneOfText (D.delimiter describer.now) (D.has_row describer.now)
         (D.Describes describer.now) first text.now) }
     ensures why { IfErr result IsOfRecord }

@@ -1,14 +1,14 @@
 //! An index is made, or extended.
 
-use crate::columns::columns_text;
+use crate::column_words::columns_text;
 use crate::commands::IndexRequest;
-use crate::faults::{Fault, FileFault};
 use crate::files::{at_place, buffered, from_place, open_file, save, stamp_of};
 use crate::grown::{end_of, grown_end};
 use crate::leniency::nulls_made;
 use crate::loading::{Loaded, load_there};
-use crate::places::located;
+use crate::locating::located;
 use crate::preparing::{Prepared, prepare};
+use crate::program_faults::{FileFault, ProgramFault};
 use crate::setup::{Numbers, Setup};
 use crate::watching::Watched;
 use record_search::{RowDescriber, Schema, index_rows};
@@ -27,9 +27,9 @@ struct Unfinished {
 }
 
 /// Writes the index of a file.
-pub fn index_file(rt: &HostRuntime, request: &IndexRequest<'_>) -> Result<ExitCode, Fault> {
+pub fn index_file(rt: &HostRuntime, request: &IndexRequest<'_>) -> Result<ExitCode, ProgramFault> {
     if request.file == "-" {
-        return Err(Fault::Fixed("an index is of a file, and not of standard input"));
+        return Err(ProgramFault::Fixed("an index is of a file, and not of standard input"));
     }
     let mut file = open_file(rt, request.file)?;
     let unfinished = begun(rt, request, &mut file)?;
@@ -42,7 +42,7 @@ fn begun(
     rt: &HostRuntime,
     request: &IndexRequest<'_>,
     file: &mut File,
-) -> Result<Unfinished, Fault> {
+) -> Result<Unfinished, ProgramFault> {
     if request.appends {
         extended(rt, request.file, file)
     } else {
@@ -51,11 +51,15 @@ fn begun(
 }
 
 /// The index of a file, before any zone.
-fn made(rt: &HostRuntime, request: &IndexRequest<'_>, file: &File) -> Result<Unfinished, Fault> {
+fn made(
+    rt: &HostRuntime,
+    request: &IndexRequest<'_>,
+    file: &File,
+) -> Result<Unfinished, ProgramFault> {
     let mut reader = from_place(rt.alloc(), file, 0)?;
     let prepared = prepare(rt.alloc(), &request.reading, &mut reader)?;
     if request.reading.has_header && prepared.start == 0 {
-        return Err(Fault::of_file(rt.alloc(), request.file, FileFault::NoHeader));
+        return Err(ProgramFault::of_file(rt.alloc(), request.file, FileFault::NoHeader));
     }
     let Prepared {
         setup,
@@ -87,7 +91,7 @@ fn with_sizes(setup: Setup, request: &IndexRequest<'_>) -> Setup {
 }
 
 /// An index without zones, of a file whose header has so many bytes.
-fn without_zones(alloc: Global, setup: Setup, start: u64) -> Result<Loaded, Fault> {
+fn without_zones(alloc: Global, setup: Setup, start: u64) -> Result<Loaded, ProgramFault> {
     let index = Index {
         file_length: 0,
         changed: 0,
@@ -99,7 +103,7 @@ fn without_zones(alloc: Global, setup: Setup, start: u64) -> Result<Loaded, Faul
 }
 
 /// The index of a file that grew, with the zones that are full.
-fn extended(rt: &HostRuntime, name: &str, file: &mut File) -> Result<Unfinished, Fault> {
+fn extended(rt: &HostRuntime, name: &str, file: &mut File) -> Result<Unfinished, ProgramFault> {
     let mut loaded = load_there(rt, name)?;
     let end = grown_by(rt, name, &loaded, file)?;
     let place = open_place(&mut loaded.index, loaded.setup.numbers.zone_rows, end);
@@ -107,7 +111,12 @@ fn extended(rt: &HostRuntime, name: &str, file: &mut File) -> Result<Unfinished,
 }
 
 /// Where a file was indexed to that only grew.
-fn grown_by(rt: &HostRuntime, name: &str, loaded: &Loaded, file: &mut File) -> Result<u64, Fault> {
+fn grown_by(
+    rt: &HostRuntime,
+    name: &str,
+    loaded: &Loaded,
+    file: &mut File,
+) -> Result<u64, ProgramFault> {
     let schema = loaded.setup.schema(rt.alloc())?;
     let describer = RowDescriber {
         schema: &schema,
@@ -130,7 +139,12 @@ fn open_place(index: &mut Index, zone_rows: u64, end: u64) -> u64 {
 }
 
 /// Adds the zones of the rest of a file to an index, and writes it.
-fn finish(rt: &HostRuntime, name: &str, file: &File, unfinished: Unfinished) -> Result<(), Fault> {
+fn finish(
+    rt: &HostRuntime,
+    name: &str,
+    file: &File,
+    unfinished: Unfinished,
+) -> Result<(), ProgramFault> {
     let Unfinished { mut loaded, place } = unfinished;
     let schema = loaded.setup.schema(rt.alloc())?;
     add_zones(rt, name, file, &schema, place, &mut loaded)?;
@@ -146,13 +160,13 @@ fn add_zones(
     schema: &Schema,
     place: u64,
     loaded: &mut Loaded,
-) -> Result<(), Fault> {
+) -> Result<(), ProgramFault> {
     let before = stamp_of(rt.alloc(), name, file)?;
     let left = before.length.saturating_sub(place);
     let mut zones = zones_from(rt, name, file, schema, place, left, &loaded.setup)?;
     let after = stamp_of(rt.alloc(), name, file)?;
     if before != after || end_of(place, &zones) != before.length {
-        return Err(Fault::of_file(rt.alloc(), name, FileFault::Changing));
+        return Err(ProgramFault::of_file(rt.alloc(), name, FileFault::Changing));
     }
     loaded.index.zones.append(&mut zones)?;
     loaded.index.file_length = before.length;
@@ -169,7 +183,7 @@ fn zones_from(
     place: u64,
     left: u64,
     setup: &Setup,
-) -> Result<Vec<Zone>, Fault> {
+) -> Result<Vec<Zone>, ProgramFault> {
     let file = at_place(file, place)?;
     let mut reader = buffered(rt.alloc(), Watched::telling(file, rt.stderr(), left))?;
     let size = setup.numbers.zone_rows.max(1);
@@ -187,7 +201,12 @@ fn zones_from(
 }
 
 /// Tells on standard error how many fields from a place on were taken as nulls, if that may be.
-fn tell_nulls(rt: &HostRuntime, name: &str, schema: &Schema, place: u64) -> Result<(), Fault> {
+fn tell_nulls(
+    rt: &HostRuntime,
+    name: &str,
+    schema: &Schema,
+    place: u64,
+) -> Result<(), ProgramFault> {
     if schema.is_lenient {
         let made = nulls_made(rt, name, schema, place)?;
         let _ = eprintln!(rt; "{made} fields were taken as nulls");

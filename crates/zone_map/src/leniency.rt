@@ -1,20 +1,25 @@
 //! Fields that were taken as nulls are counted.
 
-use crate::faults::Fault;
 use crate::files::{from_place, open_file};
+use crate::program_faults::ProgramFault;
 use csv_records::cut_record;
 use record_rows::{RowFault, read_row};
 use record_search::Schema;
 use std::alloc::{AllocError, Global};
 use std::io::BufRead;
-use zone_index::{Fault as SearchFault, take_records};
+use zone_index::{SearchFault, take_records};
 
 /// How many records are in memory at a time.
 const PIECE: u64 = 1000;
 
 /// How many fields of a file, from this place on, are taken as nulls since their columns do not take
 /// them.
-pub fn nulls_made(rt: &HostRuntime, file: &str, schema: &Schema, place: u64) -> Result<u64, Fault> {
+pub fn nulls_made(
+    rt: &HostRuntime,
+    file: &str,
+    schema: &Schema,
+    place: u64,
+) -> Result<u64, ProgramFault> {
     let mut reader = from_place(rt.alloc(), open_file(rt, file)?, place)?;
     let made = nulls_left(rt.alloc(), schema, &mut reader)?;
     Ok(made)

@@ -2,7 +2,7 @@ use Rattle.std.proofs.Common.{◌≡◌, ◌∙◌, ℕ, List, Bool, Result, Ok,
 use Rattle.statistics_bytes.specs.Form.{form}
 use Rattle.record_search.specs.Laws.{IndexesAreReadBack}
 use Rattle.record_search.specs.Searched.{IsRowIndex, rows_alone}
-use Rattle.record_search.specs.declared.schema.Schema.{Schema}
+use Rattle.record_rows.specs.declared.schema.Schema.{Schema}
 use Rattle.zone_index.specs.Form.{FitsForm, IndexValue, index_form, index_value, wanted_of}
 use Rattle.zone_index.specs.declared.form.Index.{Index}
 use Rattle.zone_index.specs.declared.form.ReadError.{ReadError}
