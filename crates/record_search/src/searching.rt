@@ -9,7 +9,7 @@ use crate::schema::Schema;
 use std::alloc::Global;
 use std::io::BufRead;
 use vortex_filter::Filter;
-use zone_index::{ReadAt, SearchFault, Sink, Tally, Zone, count, find, index_records};
+use zone_index::{Indexed, ReadAt, SearchFault, Sink, Tally, Zone, count, find, index_records};
 
 /// The zones of all records that a reader has left, so many records in each, the last one fewer.
 /// The first byte that is left stands at `start` in the file.
@@ -21,11 +21,11 @@ pub fn index_rows<B: BufRead>(
     size: u64,
     start: u64,
     reader: &mut B,
-) -> Result<Vec<Zone>, SearchFault>
+) -> Result<Indexed, SearchFault>
     requires { 0 < size }
-    ensures right { IfOk result (λ zones. (before bytes : List ℕ) → length before ≡ start
+    ensures right { IfOk result (λ indexed. (before bytes : List ℕ) → length before ≡ start
         → B.remaining reader.old ≡ Some bytes
-        → IsRowIndex describer.now.schema.now start zones.items (before ++ bytes)) }
+        → IsRowIndex describer.now.schema.now start indexed.zones.items (before ++ bytes)) }
     ensures reading { IfErr result (λ fault. fault ≢ WriteFault) }
     ensures uncut { IfErr result (λ fault. fault ≢ CutShort) }
     ensures far { IfErr result (λ fault. fault ≡ TooFar → EndsFar start (B.remaining reader.old)) }

@@ -27,7 +27,7 @@ pub use blocks::Unread;
 pub use counting::count;
 pub use faults::{Cause, RecordFault, Refusal, SearchFault};
 pub use form::{Block, FormFault, Index, MAGIC, ReadError, Root, VERSION, WriteError};
-pub use indexing::index_records;
+pub use indexing::{Indexed, index_records};
 pub use read_at::{Asked, Logged, ReadAt, fill_from};
 pub use reading::{read_blocks, read_root};
 pub use records::{Decision, Described, Describer, Matcher, Records};

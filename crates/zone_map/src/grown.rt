@@ -68,7 +68,7 @@ fn is_same_zone(
     let text = bytes_at(alloc, file, zone.first, zone.length)?;
     let size = zone.records.max(1);
     match index_rows(alloc, describer, size, zone.first, &mut text.as_slice()) {
-        Ok(zones) => Ok(is_only_zone(&zones, zone)),
+        Ok(indexed) => Ok(is_only_zone(&indexed.zones, zone)),
         Err(SearchFault::Refused(_)) => Ok(false),
         Err(fault) => Err(fault),
     }

@@ -4,7 +4,6 @@ use crate::column_words::columns_text;
 use crate::commands::IndexRequest;
 use crate::files::{at_place, buffered, from_place, open_file, save, stamp_of};
 use crate::grown::{end_of, grown_end};
-use crate::leniency::nulls_made;
 use crate::loading::{Loaded, load_there};
 use crate::locating::located;
 use crate::preparing::{Prepared, prepare};
@@ -15,7 +14,7 @@ use record_search::{RowDescriber, Schema, index_rows};
 use std::alloc::Global;
 use std::fs::File;
 use std::process::ExitCode;
-use zone_index::{Index, Zone};
+use zone_index::{Index, Indexed};
 
 /// An index that is to have the zones from a place on.
 #[derive(Drop)]
@@ -147,12 +146,16 @@ fn finish(
 ) -> Result<(), ProgramFault> {
     let Unfinished { mut loaded, place } = unfinished;
     let schema = loaded.setup.schema(rt.alloc())?;
-    add_zones(rt, name, file, &schema, place, &mut loaded)?;
+    let nulls = add_zones(rt, name, file, &schema, place, &mut loaded)?;
     save(rt, name, loaded.setup.columns.len(), &loaded.index)?;
-    tell_nulls(rt, name, &schema, place)
+    if schema.is_lenient {
+        let _ = eprintln!(rt; "{nulls} fields were taken as nulls");
+    }
+    Ok(())
 }
 
-/// Adds the zones of a file from this place on, and what the file is then.
+/// Adds the zones of a file from this place on, and what the file is then. Says how many of its fields
+/// were taken as nulls.
 fn add_zones(
     rt: &HostRuntime,
     name: &str,
@@ -160,10 +163,18 @@ fn add_zones(
     schema: &Schema,
     place: u64,
     loaded: &mut Loaded,
-) -> Result<(), ProgramFault> {
+) -> Result<u64, ProgramFault> {
     let before = stamp_of(rt.alloc(), name, file)?;
     let left = before.length.saturating_sub(place);
-    let mut zones = zones_from(rt, name, file, schema, place, left, &loaded.setup)?;
+    let Indexed { mut zones, nulls } = zones_from(
+        rt,
+        name,
+        file,
+        schema,
+        place,
+        left,
+        &loaded.setup,
+    )?;
     let after = stamp_of(rt.alloc(), name, file)?;
     if before != after || end_of(place, &zones) != before.length {
         return Err(ProgramFault::of_file(rt.alloc(), name, FileFault::Changing));
@@ -171,7 +182,7 @@ fn add_zones(
     loaded.index.zones.append(&mut zones)?;
     loaded.index.file_length = before.length;
     loaded.index.changed = before.changed;
-    Ok(())
+    Ok(nulls)
 }
 
 /// The zones of a file from this place on, of which so many bytes are left.
@@ -183,7 +194,7 @@ fn zones_from(
     place: u64,
     left: u64,
     setup: &Setup,
-) -> Result<Vec<Zone>, ProgramFault> {
+) -> Result<Indexed, ProgramFault> {
     let file = at_place(file, place)?;
     let mut reader = buffered(rt.alloc(), Watched::telling(file, rt.stderr(), left))?;
     let size = setup.numbers.zone_rows.max(1);
@@ -192,24 +203,10 @@ fn zones_from(
         bound_length: setup.numbers.bound_length,
     };
     match index_rows(rt.alloc(), &describer, size, place, &mut reader) {
-        Ok(zones) => {
+        Ok(indexed) => {
             reader.get_ref().end();
-            Ok(zones)
+            Ok(indexed)
         }
         Err(fault) => Err(located(rt, Some(name), &setup.columns, &fault)),
     }
-}
-
-/// Tells on standard error how many fields from a place on were taken as nulls, if that may be.
-fn tell_nulls(
-    rt: &HostRuntime,
-    name: &str,
-    schema: &Schema,
-    place: u64,
-) -> Result<(), ProgramFault> {
-    if schema.is_lenient {
-        let made = nulls_made(rt, name, schema, place)?;
-        let _ = eprintln!(rt; "{made} fields were taken as nulls");
-    }
-    Ok(())
 }

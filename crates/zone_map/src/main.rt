@@ -10,7 +10,6 @@ mod files;
 mod grown;
 mod guessing;
 mod indexing;
-mod leniency;
 mod loading;
 mod locating;
 mod preparing;
