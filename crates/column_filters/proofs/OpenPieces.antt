@@ -8,16 +8,16 @@ use Rattle.vortex_cells.specs.Cells.{Cell, cell_order, is_null_cell, order_from_
 use Rattle.vortex_statistics.specs.Statistics.{AreRight, Known, KnownBound, may_be_null, may_be_value, some_null, some_value}
 use Rattle.vortex_cells.proofs.CellLaws.{IsOrder}
 use Rattle.vortex_filter.specs.Formula.{Formula, constant, comparison, null_test, membership, range, prefix_test, both, either, negation, cell_at, truth}
-use Rattle.vortex_filter.specs.Orders.{bound_order, may_fail, may_hold, orders_by, rules_out}
-use Rattle.vortex_filter.specs.OutcomeSets.{allows, only, outcomes_and, outcomes_not, outcomes_or}
-use Rattle.vortex_filter.specs.Outcomes.{bound_prefix_order, compare_outcomes, is_prefix, null_outcomes, outcomes, prefix_outcomes, prefix_outcomes_by}
-use Rattle.vortex_filter.specs.Pruning.{column}
+use Rattle.filter_pruning.specs.Orders.{bound_order, may_fail, may_hold, orders_by, rules_out}
+use Rattle.filter_pruning.specs.OutcomeSets.{allows, only, outcomes_and, outcomes_not, outcomes_or}
+use Rattle.filter_pruning.specs.Outcomes.{bound_prefix_order, compare_outcomes, is_prefix, null_outcomes, outcomes, prefix_outcomes, prefix_outcomes_by}
+use Rattle.filter_pruning.specs.Pruning.{column}
 use Rattle.vortex_filter.specs.declared.operator.CompareOperator.{CompareOperator}
 use Rattle.vortex_filter.specs.declared.operator.CompareOperator.TheVariants.{Eq, Gte, Lte}
-use Rattle.vortex_filter.specs.declared.outcomes.Outcomes.{Outcomes}
+use Rattle.filter_pruning.specs.declared.outcomes.Outcomes.{Outcomes}
 use Rattle.vortex_filter.specs.declared.truth.Truth.{Truth}
 use Rattle.vortex_filter.specs.declared.truth.Truth.TheVariants.{False, Unknown, True}
-use Rattle.vortex_filter.proofs.Soundness.{covered}
+use Rattle.filter_pruning.proofs.Soundness.{covered}
 use Rattle.column_filters.specs.Zones.{ArePiecesRight, AreSaid, IsAmong, IsSaid, OutcomesCoverRows, Says, open_statistics, outcomes_byte, piece_at}
 
 -- ---- statistics that leave as much open

@@ -15,7 +15,7 @@ use Rattle.vortex_statistics.specs.declared.column_statistics.ColumnStatistics.{
 use Rattle.vortex_statistics.specs.declared.error.StatisticsError.{StatisticsError}
 use Rattle.vortex_statistics.specs.declared.error.StatisticsError.TheVariants as refusals
 use Rattle.vortex_filter.specs.Formula.{Formula}
-use Rattle.vortex_filter.specs.Outcomes.{outcomes}
+use Rattle.filter_pruning.specs.Outcomes.{outcomes}
 use Rattle.column_filters.proofs.ColumnSteps.{typed_at}
 use Rattle.column_filters.specs.Zones.{AreEnough, AreOutcomes, AreSaid, AreSaidBefore, IsBadPiece, IsOutcome, IsPiece, IsSaid, RefusesZone, RefusesZones, SayVariant, Says, fault_of_piece, open_statistics, outcomes_byte, piece_at}
 use Rattle.column_filters.specs.declared.faults.ZoneFault.{ZoneFault}

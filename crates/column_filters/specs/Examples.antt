@@ -8,7 +8,7 @@ use Rattle.vortex_value.specs.Values.Content.{null, whole}
 use Rattle.vortex_cells.specs.Cells.{Cell}
 use Rattle.vortex_statistics.specs.Statistics.{Known, KnownBound}
 use Rattle.vortex_filter.specs.Formula.{Formula, comparison, null_test}
-use Rattle.vortex_filter.specs.Outcomes.{outcomes}
+use Rattle.filter_pruning.specs.Outcomes.{outcomes}
 use Rattle.vortex_filter.specs.declared.operator.CompareOperator.TheVariants.{Gte}
 use Rattle.column_filters.specs.Masks.{mask_length, matching}
 use Rattle.column_filters.specs.Zones.{open_statistics, outcomes_byte, piece_at}

@@ -10,9 +10,9 @@ use Rattle.vortex_statistics.specs.Statistics.{AreRight, Known}
 use Rattle.vortex_statistics.specs.declared.error.StatisticsError.{StatisticsError}
 use Rattle.vortex_statistics.specs.declared.error.StatisticsError.TheVariants as refusals
 use Rattle.vortex_filter.specs.Formula.{Formula, truth}
-use Rattle.vortex_filter.specs.Outcomes.{outcomes}
-use Rattle.vortex_filter.specs.Pruning.{column}
-use Rattle.vortex_filter.specs.declared.outcomes.Outcomes.{Outcomes}
+use Rattle.filter_pruning.specs.Outcomes.{outcomes}
+use Rattle.filter_pruning.specs.Pruning.{column}
+use Rattle.filter_pruning.specs.declared.outcomes.Outcomes.{Outcomes}
 use Rattle.vortex_filter.specs.declared.truth.Truth.{Truth}
 use Rattle.vortex_filter.specs.declared.truth.Truth.TheVariants.{False, Unknown, True}
 use Rattle.column_filters.specs.declared.faults.ZoneFault.{ZoneFault}

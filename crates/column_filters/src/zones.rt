@@ -5,10 +5,11 @@ ghost use Rattle.column_filters.specs.declared.faults.ZoneFault.TheVariants.{Out
 ghost use Rattle.column_filters.specs.Words.{AreEnough, AreOutcomes, AreSaid, BadOffsets, IsBadPiece, IsPiece, IsSaid, RefusesZone, RefusesZones, fault_of_piece, formula, known, open_statistics, outcomes_byte, piece_at, type_of};
 
 use crate::faults::ZoneFault;
+use filter_pruning::{Outcomes, outcomes_of};
 use statistics_bytes::decode_statistics_into;
 use std::alloc::Global;
 use vortex_dtype::DType;
-use vortex_filter::{Filter, Outcomes};
+use vortex_filter::Filter;
 use vortex_statistics::{ColumnStatistics, StatisticsError};
 
 /// What the filter can be on the rows of each zone: a byte for each, 1 if it can be False, 2 if it
@@ -72,7 +73,7 @@ fn write_outcomes(
             piece,
             read.as_mut_slice(),
         )?;
-        outcomes[zone] = byte_of(filter.outcomes(&read));
+        outcomes[zone] = byte_of(outcomes_of(filter, &read));
         piece += types.len();
     }
     Ok(())

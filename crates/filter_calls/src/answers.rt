@@ -1,7 +1,9 @@
 //! What calls of filters answer, and how it is written.
 
 use case_lines::{Output, WriteAnswer, truth_word, write_count, write_places};
-use vortex_filter::{Expected, FilterError, Outcomes, ParseError, Truth};
+use filter_pruning::Outcomes;
+use filter_sql::{Expected, ParseError};
+use vortex_filter::{FilterError, Truth};
 
 /// What a call of filters answers.
 #[derive(Drop)]

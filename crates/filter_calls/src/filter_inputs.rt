@@ -6,11 +6,12 @@ use case_lines::{
     Inputs, Tokens, copy_type, no_scalar, put, read_name, read_named, read_scalar, read_type,
     read_value, same_scalars,
 };
+use filter_sql::{Column, ParseError, parse_within};
 use statistics_calls::{read_statistics, read_typed_statistics};
 use std::alloc::{AllocError, Global};
 use std::str;
 use vortex_dtype::{DType, VortexError};
-use vortex_filter::{Column, CompareOperator, Filter, ParseError, Truth};
+use vortex_filter::{CompareOperator, Filter, Truth};
 use vortex_statistics::ColumnStatistics;
 use vortex_value::Scalar;
 
@@ -233,7 +234,7 @@ fn push_column(tokens: &mut Tokens<'_>, columns: &mut Vec<Column>, dtype: DType)
 fn parsed(tokens: &mut Tokens<'_>, text: &[u8], columns: &[Column]) -> Filter {
     let alloc = tokens.alloc;
     let text = str::from_utf8(text).unwrap_or("");
-    match Filter::parse_within(alloc, text, columns, tokens.room) {
+    match parse_within(alloc, text, columns, tokens.room) {
         Ok(filter) => return filter,
         Err(ParseError::OutOfMemory) => drop(tokens.made::<()>(Err(VortexError::OutOfMemory))),
         Err(ParseError::TooDeep { .. }) => tokens.too_deep(),

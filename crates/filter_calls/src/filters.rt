@@ -3,10 +3,12 @@
 use crate::answers::FilterAnswer;
 use crate::filter_inputs::{FilterInputs, Input};
 use case_lines::{Line, Named, put, take_scalar};
+use filter_pruning::{may_match, must_match, outcomes_of, simplify};
+use filter_sql::{Column, ParseError, Sql, parse_within};
 use std::alloc::Global;
 use std::fmt::Display;
 use vortex_dtype::VortexError;
-use vortex_filter::{Column, Filter, FilterError, ParseError};
+use vortex_filter::{Filter, FilterError};
 
 /// What is asked of a filter on rows or zones.
 #[derive(Clone, Copy)]
@@ -90,9 +92,9 @@ fn answer_on(alloc: Global, call: On, given: &FilterInputs) -> FilterResult {
         On::Truth => Ok(FilterAnswer::Truth(filter.truth(&given.cells))),
         On::Matches => Ok(FilterAnswer::Matches(filter.matches(&given.cells))),
         On::Matching => matching(alloc, given),
-        On::Outcomes => Ok(FilterAnswer::Outcomes(filter.outcomes(&given.zones))),
-        On::MayMatch => Ok(FilterAnswer::Matches(filter.may_match(&given.zones))),
-        On::MustMatch => Ok(FilterAnswer::Matches(filter.must_match(&given.zones))),
+        On::Outcomes => Ok(FilterAnswer::Outcomes(outcomes_of(filter, &given.zones))),
+        On::MayMatch => Ok(FilterAnswer::Matches(may_match(filter, &given.zones))),
+        On::MustMatch => Ok(FilterAnswer::Matches(must_match(filter, &given.zones))),
         On::MatchingZones => matching_zones(alloc, given),
     }
 }
@@ -112,7 +114,7 @@ fn matching(alloc: Global, given: &FilterInputs) -> FilterResult {
 fn matching_zones(alloc: Global, given: &FilterInputs) -> FilterResult {
     let mut places = Vec::new(alloc);
     for (place, zone) in given.zones.chunks(given.width.max(1)).enumerate() {
-        if given.filter.outcomes(zone).may_be_true {
+        if outcomes_of(&given.filter, zone).may_be_true {
             places.push(place)?;
         }
     }
@@ -124,7 +126,7 @@ fn answer_of(alloc: Global, call: Call, given: &FilterInputs) -> FilterResult {
     let made = match call {
         Call::Parse => return parse(alloc, given),
         Call::Check => return fits(filter.check(&given.dtypes)),
-        Call::Simplify => filter.simplify(alloc, &given.zones),
+        Call::Simplify => simplify(alloc, filter, &given.zones),
         Call::Coerce => filter.coerce(alloc, &given.dtypes),
         Call::Clone => filter.clone(alloc),
         Call::And => and_itself(alloc, filter),
@@ -139,7 +141,7 @@ fn answer_of(alloc: Global, call: Call, given: &FilterInputs) -> FilterResult {
 
 /// A filter that was made, as SQL text.
 fn made_answer(alloc: Global, filter: Filter) -> FilterResult {
-    let answer = sql_answer(alloc, &filter);
+    let answer = sql_answer(alloc, &Sql::of(&filter, &[]));
     drop(filter);
     answer
 }
@@ -168,7 +170,7 @@ fn sql_answer<T: Display>(alloc: Global, shown: &T) -> FilterResult {
 }
 
 fn parse(alloc: Global, given: &FilterInputs) -> FilterResult {
-    match Filter::parse_within(alloc, &given.text, &given.columns, given.depth) {
+    match parse_within(alloc, &given.text, &given.columns, given.depth) {
         Ok(filter) => parsed_answer(alloc, filter, &given.columns),
         Err(ParseError::OutOfMemory) => Err(VortexError::OutOfMemory),
         Err(refusal) => Ok(FilterAnswer::TextRefused(refusal)),
@@ -177,7 +179,7 @@ fn parse(alloc: Global, given: &FilterInputs) -> FilterResult {
 
 /// A filter that was read, as SQL text with the names of its columns.
 fn parsed_answer(alloc: Global, filter: Filter, columns: &[Column]) -> FilterResult {
-    let answer = sql_answer(alloc, &filter.sql(columns));
+    let answer = sql_answer(alloc, &Sql::of(&filter, columns));
     drop(filter);
     answer
 }
@@ -219,6 +221,6 @@ fn comparison(_alloc: Global, call: Compare, given: &mut FilterInputs) -> Filter
     put(&mut given.filter, filter);
     Ok(match call {
         Compare::Cell => FilterAnswer::Truth(given.filter.truth(&given.cells)),
-        Compare::Zone => FilterAnswer::Outcomes(given.filter.outcomes(&given.zones)),
+        Compare::Zone => FilterAnswer::Outcomes(outcomes_of(&given.filter, &given.zones)),
     })
 }

@@ -1,8 +1,9 @@
 //! Exact sameness of what calls of filters borrow, to see whether a call changed what it borrowed.
 
 use case_lines::{same_scalar, same_scalars};
+use filter_sql::Column;
 use statistics_calls::same_statistics;
-use vortex_filter::{Column, Filter};
+use vortex_filter::Filter;
 use vortex_statistics::ColumnStatistics;
 
 /// Whether two filters are exactly the same.

@@ -5,7 +5,7 @@ use Rattle.std.proofs.lemmas.Grind.{take_at_read}
 use Rattle.std.proofs.lemmas.List.{drop-set-lt, map-append, take_more_set}
 use Rattle.csv_records.specs.Rows.{Field, field_rows, rows_of}
 use Rattle.record_rows.proofs.Reading.{refused_push}
-use Rattle.record_rows.specs.Observed.{AreFieldsObserved, AreObserved, IsObserved, IsStep, ObservesField, Step}
+use Rattle.record_rows.specs.Observed.{AreObserved, IsObserved, IsStep, ObservesField, Step}
 use Rattle.record_rows.specs.Rows.{refused_of}
 use Rattle.record_rows.specs.Walks.{HasWalked, IsNext, ReadsNext, field_of}
 use Rattle.record_rows.specs.declared.fields.ColumnField.{ColumnField}

@@ -1,5 +1,5 @@
 -- The fields of a record are walked.
-use Rattle.std.proofs.Common.{◌≡◌, ◌≢◌, ◌⊎◌, inl, inr, ◌≤◌, ◌<◌, ◌+◌, ℕ, suc, List, [], ◌∷◌, ◌++◌, Bool, false, None, Some, Option, refl, sym, ap, ◌∙◌, subst, length, length-append, get_or, arith}
+use Rattle.std.proofs.Common.{◌≡◌, ◌⊎◌, inl, inr, ◌≤◌, ◌<◌, ◌+◌, ℕ, suc, List, [], ◌∷◌, ◌++◌, Bool, false, None, refl, sym, ap, ◌∙◌, subst, length, length-append, get_or, arith}
 use Rattle.std.proofs.Math.Seq.{get_or-append_seam}
 use denote.Ref.{Bor}
 use Rattle.std.specs.List.{onto_first}

@@ -12,7 +12,7 @@ use Rattle.record_rows.specs.declared.schema.ColumnType.{ColumnType}
 use Rattle.record_rows.specs.declared.schema.Kind.TheVariants as kinds
 use Rattle.vortex_dtype.specs.TypeTree.{Same, TypeTree}
 use Rattle.vortex_dtype.specs.declared.nullability.Nullability.TheVariants.{NonNullable}
-use Rattle.vortex_filter.specs.Pruning.{column}
+use Rattle.filter_pruning.specs.Pruning.{column}
 use Rattle.vortex_cells.specs.Cells.{Cell, IsUpTo, cell_order, order_from_above}
 use Rattle.statistics_bytes.specs.Form.{IsHeldKnown, form}
 use Rattle.statistics_bytes.specs.FormAnswers.{AreTyped}

@@ -9,7 +9,7 @@ use Rattle.record_rows.specs.Cells.{column_type}
 use Rattle.record_rows.specs.declared.schema.ColumnType.{ColumnType}
 use Rattle.vortex_dtype.specs.TypeTree.{TypeTree}
 use Rattle.vortex_filter.specs.Formula.{cell_at}
-use Rattle.vortex_filter.specs.Pruning.{column}
+use Rattle.filter_pruning.specs.Pruning.{column}
 use Rattle.vortex_cells.specs.Cells.{Cell}
 use Rattle.statistics_bytes.specs.Form.{count_bytes, form}
 use Rattle.statistics_bytes.proofs.CountBytes.{big_endian-length, written_count}

@@ -12,7 +12,8 @@ use Rattle.vortex_value.specs.Values.Content.{Content, null}
 use Rattle.vortex_value.specs.Values.Scalars.{scalar_content}
 use Rattle.vortex_value.specs.declared.scalars.Scalar.{Scalar}
 use Rattle.record_search.specs.Contents.{cells_of, field_content, only_row, row_of}
-use Rattle.record_search.specs.Named.{AgreeAsRows, AgreeIn, with_columns}
+use Rattle.vortex_filter.specs.Named.{with_columns}
+use Rattle.record_search.specs.Named.{AgreeAsRows, AgreeIn}
 use Rattle.record_search.specs.Searched.{matches_row}
 use Rattle.record_search.proofs.RowLaws.{cell_made, cell_field, null_field, taken_field}
 

@@ -10,7 +10,7 @@ use Rattle.record_rows.specs.Cells.{is_null_field}
 use Rattle.record_rows.specs.declared.schema.ColumnType.{ColumnType}
 use Rattle.record_rows.specs.Observed.{AreFieldsObserved, IsObserved, IsStep, IsTakenAs, Step, cell_in}
 use Rattle.vortex_filter.specs.Formula.{cell_at}
-use Rattle.vortex_filter.specs.Pruning.{column}
+use Rattle.filter_pruning.specs.Pruning.{column}
 use Rattle.vortex_cells.specs.Cells.{Cell}
 use Rattle.statistics_bytes.specs.Form.{IsHeldKnown, form}
 use Rattle.vortex_statistics.specs.Statistics.{AreComplete, AreRight, known}

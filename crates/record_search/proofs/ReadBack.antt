@@ -6,7 +6,7 @@ use Rattle.std.proofs.lemmas.Bool.{le-ltb}
 use Rattle.std.proofs.lemmas.Nat.{from_le_bytes-to_le_bytes_8}
 use Rattle.record_rows.specs.Cells.{column_type}
 use Rattle.record_rows.specs.declared.schema.ColumnType.{ColumnType}
-use Rattle.vortex_filter.specs.Pruning.{AreStatisticsOf, column}
+use Rattle.filter_pruning.specs.Pruning.{AreStatisticsOf, column}
 use Rattle.vortex_row.specs.Laws.{KeysAreApart, ValuesHaveNoTyped}
 use Rattle.vortex_cells.specs.Cells.{Cell}
 use Rattle.vortex_statistics.specs.Statistics.{AreRight, Known}

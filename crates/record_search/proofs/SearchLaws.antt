@@ -3,13 +3,13 @@ use Rattle.std.proofs.Common.{◌≡◌, ℕ, zero, suc, List, [], ◌∷◌, Bo
 use Rattle.std.specs.List.{AllPass, cons_option, filter_map}
 use Rattle.record_rows.specs.declared.schema.ColumnType.{ColumnType}
 use Rattle.vortex_filter.specs.Formula.{Formula, truth}
-use Rattle.vortex_filter.specs.OutcomeSets.{is_only_true}
-use Rattle.vortex_filter.specs.Outcomes.{outcomes}
+use Rattle.filter_pruning.specs.OutcomeSets.{is_only_true}
+use Rattle.filter_pruning.specs.Outcomes.{outcomes}
 use Rattle.vortex_filter.specs.Truths.{is_true}
-use Rattle.vortex_filter.specs.declared.outcomes.Outcomes.{Outcomes}
+use Rattle.filter_pruning.specs.declared.outcomes.Outcomes.{Outcomes}
 use Rattle.vortex_filter.specs.declared.truth.Truth.{Truth}
 use Rattle.vortex_filter.specs.declared.truth.Truth.TheVariants.{False, True, Unknown}
-use Rattle.vortex_filter.proofs.Soundness.{all_match, covered, none_match}
+use Rattle.filter_pruning.proofs.Soundness.{all_match, covered, none_match}
 use Rattle.vortex_row.specs.Laws.{KeysAreApart, ValuesHaveNoTyped}
 use Rattle.vortex_cells.specs.Cells.{Cell, cell_order}
 use Rattle.vortex_statistics.specs.Statistics.{Known}

@@ -7,10 +7,10 @@ use Rattle.record_rows.specs.Cells.{column_type}
 use Rattle.record_rows.specs.declared.schema.ColumnType.{ColumnType}
 use Rattle.vortex_dtype.specs.TypeTree.{TypeTree}
 use Rattle.vortex_filter.specs.Formula.{Formula, is_match}
-use Rattle.vortex_filter.specs.Outcomes.{outcomes}
-use Rattle.vortex_filter.specs.OutcomeSets.{is_only_true}
-use Rattle.vortex_filter.specs.Pruning.{column}
-use Rattle.vortex_filter.specs.declared.outcomes.Outcomes.{Outcomes}
+use Rattle.filter_pruning.specs.Outcomes.{outcomes}
+use Rattle.filter_pruning.specs.OutcomeSets.{is_only_true}
+use Rattle.filter_pruning.specs.Pruning.{column}
+use Rattle.filter_pruning.specs.declared.outcomes.Outcomes.{Outcomes}
 use Rattle.vortex_cells.specs.Cells.{Cell, cell_of}
 use Rattle.statistics_bytes.specs.Form.{IsHeldKnown, form}
 use Rattle.statistics_bytes.specs.FormAnswers.{AreTyped}

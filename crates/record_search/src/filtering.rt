@@ -8,8 +8,9 @@ use crate::naming::named_columns;
 use crate::reading::read_statistics;
 use crate::schema::{Schema, cells_of_record};
 use csv_records::Delimiter;
+use filter_pruning::{Outcomes, outcomes_of};
 use std::alloc::{AllocError, Global};
-use vortex_filter::{Filter, Outcomes};
+use vortex_filter::Filter;
 use vortex_value::Scalar;
 use zone_index::{Decision, Matcher, RecordFault, Records};
 
@@ -65,7 +66,7 @@ impl Matcher for RowFilter<'_> {
     fn decide(&self, alloc: Global, statistics: &[u8]) -> Result<Decision, AllocError> {
         decisions_are_right();
         match read_statistics(alloc, &self.schema.columns, statistics)? {
-            Some(statistics) => Ok(decision_by(self.filter.outcomes(&statistics))),
+            Some(statistics) => Ok(decision_by(outcomes_of(self.filter, &statistics))),
             None => Ok(Decision::Unknown),
         }
     }

@@ -10,19 +10,19 @@ use Rattle.vortex_filter.specs.declared.error.FilterError.{FilterError}
 use Rattle.vortex_filter.specs.declared.filter.Filter.{Compare, StartsWith, the_lemmas}
 use Rattle.vortex_filter.specs.declared.operator.CompareOperator.{CompareOperator}
 use Rattle.vortex_filter.specs.declared.operator.CompareOperator.TheVariants.{Lt}
-use Rattle.vortex_filter.specs.declared.outcomes.Outcomes.{Outcomes}
+use Rattle.filter_pruning.specs.declared.outcomes.Outcomes.{Outcomes}
 use Rattle.vortex_filter.specs.declared.truth.Truth.{Truth}
 use Rattle.vortex_filter.specs.declared.truth.Truth.TheVariants.{True, Unknown}
 use Rattle.vortex_filter.specs.Checking.{FitsColumns}
-use Rattle.vortex_filter.specs.Exactness.{AreExactBounds, ArePlainBounds, ComparisonsAreExact, ComparisonsOccur, OnSomeCell, OnSomeOf, PrefixesAreExact}
+use Rattle.filter_pruning.specs.Exactness.{AreExactBounds, ArePlainBounds, ComparisonsAreExact, ComparisonsOccur, OnSomeCell, OnSomeOf, PrefixesAreExact}
 use Rattle.vortex_filter.specs.FitLaws.{FittingComparesContents, IsPlainType, UnknownForNulls, UnknownWithoutOrder}
 use Rattle.vortex_filter.specs.Formula.{Formula, cell_at, compare_truth, comparison, formula, prefix_test, truth}
-use Rattle.vortex_filter.specs.OutcomeSets.{allows}
-use Rattle.vortex_filter.specs.Outcomes.{compare_outcomes, outcomes, prefix_outcomes}
+use Rattle.filter_pruning.specs.OutcomeSets.{allows}
+use Rattle.filter_pruning.specs.Outcomes.{compare_outcomes, outcomes, prefix_outcomes}
 use Rattle.vortex_filter.specs.Prefixes.{prefix_truth}
-use Rattle.vortex_filter.specs.Pruning.{column}
+use Rattle.filter_pruning.specs.Pruning.{column}
 use Rattle.vortex_filter.specs.Rows.{IsRowOf, untyped, untyped_cell}
-use Rattle.vortex_filter.specs.Searching.{IsRightZone, Zone}
+use Rattle.filter_pruning.specs.Searching.{IsRightZone, Zone}
 
 formula-Compare : (k : ℕ) (op : CompareOperator) (x : Scalar) → formula (Compare k op x) ≡ comparison k op (cell_of x)
 formula-Compare k op x = search (rules, the_lemmas)

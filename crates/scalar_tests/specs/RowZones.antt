@@ -2,8 +2,8 @@
 use Rattle.std.specs.Prelude.{ℕ, List, map}
 use Rattle.vortex_cells.specs.Cells.{Cell, cell_of}
 use Rattle.vortex_statistics.specs.Statistics.{known}
-use Rattle.vortex_filter.specs.Pruning.{column}
-use Rattle.vortex_filter.specs.Searching.{Zone}
+use Rattle.filter_pruning.specs.Pruning.{column}
+use Rattle.filter_pruning.specs.Searching.{Zone}
 use Rattle.scalar_tests.specs.declared.filter_laws.RowZone.{RowZone}
 
 -- what contracts see of a zone

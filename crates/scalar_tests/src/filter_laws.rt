@@ -10,23 +10,24 @@ ghost use Rattle.vortex_value.specs.Order.{order};
 ghost use Rattle.vortex_cells.specs.Cells.{cell_of, is_null_cell};
 ghost use Rattle.vortex_statistics.specs.Statistics.{Known, known};
 ghost use Rattle.vortex_filter.specs.Checking.{FitsColumns};
-ghost use Rattle.vortex_filter.specs.Exactness.{AreExactBounds, ArePlainBounds, OnSomeCell, OnSomeOf};
+ghost use Rattle.filter_pruning.specs.Exactness.{AreExactBounds, ArePlainBounds, OnSomeCell, OnSomeOf};
 ghost use Rattle.vortex_filter.specs.FitLaws.{IsPlainType};
 ghost use Rattle.vortex_filter.specs.Formula.{cell_at, compare_truth, comparison, formula, truth};
-ghost use Rattle.vortex_filter.specs.OutcomeSets.{allows};
-ghost use Rattle.vortex_filter.specs.Outcomes.{compare_outcomes};
+ghost use Rattle.filter_pruning.specs.OutcomeSets.{allows};
+ghost use Rattle.filter_pruning.specs.Outcomes.{compare_outcomes};
 ghost use Rattle.vortex_filter.specs.Prefixes.{prefix_truth};
 ghost use Rattle.vortex_filter.specs.Rows.{IsRowOf, untyped_cell};
-ghost use Rattle.vortex_filter.specs.Searching.{IsRightZone, matching};
+ghost use Rattle.filter_pruning.specs.Searching.{IsRightZone, matching};
 ghost use Rattle.vortex_filter.specs.declared.truth.Truth.TheVariants.{True, Unknown};
 ghost use Rattle.vortex_filter.specs.declared.operator.CompareOperator.TheVariants.{Lt};
 ghost use Rattle.scalar_tests.specs.RowZones.{cells_in, zone_of};
 
-use vortex_dtype::DType;
-use vortex_filter::laws::{
-    comparisons_are_exact, comparisons_occur, fitting_comparisons_decide,
-    fitting_filters_compare_contents, prefixes_are_exact, searches_find_all,
+use filter_pruning::laws::{
+    comparisons_are_exact, comparisons_occur, prefixes_are_exact, searches_find_all,
 };
+use filter_pruning::{may_match, must_match, outcomes_of};
+use vortex_dtype::DType;
+use vortex_filter::laws::{fitting_comparisons_decide, fitting_filters_compare_contents};
 use vortex_filter::{CompareOperator, Filter, FilterError, Truth};
 use vortex_statistics::ColumnStatistics;
 use vortex_value::Scalar;
@@ -47,10 +48,10 @@ impl RowZone {
         ensures { result ≡ length (matching (formula filter.now) (zone_of self.now).rows) }
     {
         searches_find_all();
-        if !filter.may_match(&self.statistics) {
+        if !may_match(filter, &self.statistics) {
             return 0;
         }
-        if filter.must_match(&self.statistics) {
+        if must_match(filter, &self.statistics) {
             return self.rows.len();
         }
         count_rows(filter, &self.rows)
@@ -99,7 +100,7 @@ pub fn can_compare(
         operator,
         literal,
     };
-    let outcomes = filter.outcomes(statistics);
+    let outcomes = outcomes_of(&filter, statistics);
     drop(filter);
     outcomes.allows(truth)
 }
@@ -113,7 +114,7 @@ pub fn can_begin(statistics: &[ColumnStatistics], column: usize, prefix: Scalar)
 {
     prefixes_are_exact();
     let filter = Filter::StartsWith { column, prefix };
-    let can_begin = filter.may_match(statistics);
+    let can_begin = may_match(&filter, statistics);
     drop(filter);
     can_begin
 }

@@ -12,14 +12,14 @@ use Rattle.filter_form.specs.Form.{Prepared, parts_of}
 use Rattle.vortex_dtype.specs.TypeOf.{type_of}
 use Rattle.vortex_dtype.specs.TypeTree.{TypeTree}
 use Rattle.vortex_dtype.specs.declared.types.DType.{DType}
-use Rattle.vortex_filter.specs.Columns.{ColumnTree, column_tree, column_trees}
-use Rattle.vortex_filter.specs.Faults.{IsPlaced}
+use Rattle.filter_sql.specs.Columns.{ColumnTree, column_tree, column_trees}
+use Rattle.filter_sql.specs.Faults.{IsPlaced}
 use Rattle.vortex_filter.specs.Formula.{Formula, formula}
-use Rattle.vortex_filter.specs.Parsing.{IsSqlWithin, RefusesSqlWithin}
-use Rattle.vortex_filter.specs.declared.column.Column.{Column}
+use Rattle.filter_sql.specs.Parsing.{IsSqlWithin, RefusesSqlWithin}
+use Rattle.filter_sql.specs.declared.column.Column.{Column}
 use Rattle.vortex_filter.specs.declared.filter.Filter.{Filter}
-use Rattle.vortex_filter.specs.declared.sql.error.ParseError.{ParseError}
-use Rattle.vortex_filter.specs.declared.sql.error.ParseError.TheVariants as errors
+use Rattle.filter_sql.specs.declared.error.ParseError.{ParseError}
+use Rattle.filter_sql.specs.declared.error.ParseError.TheVariants as errors
 use Rattle.vortex_c.specs.FilterSql.{AreNamed, AreNamedBefore, IsColumnFault, IsColumnsFault, IsNamed, IsPreparedFrom, IsSqlFault, IsWordsFault, WritesForm, fault_of_words, prepared_of, tree_of_kind, trees_of_kinds, types_of_kinds}
 use Rattle.vortex_c.specs.declared.sql.NamedKind.{NamedKind}
 use Rattle.vortex_c.specs.declared.sql.SqlFault.{SqlFault}

@@ -6,14 +6,14 @@ use Rattle.arrow_columns.specs.Kinds.{kind_at}
 use Rattle.column_cells.specs.Types.{type_at}
 use Rattle.filter_form.specs.Form.{CanBeWritten, Prepared, form}
 use Rattle.vortex_dtype.specs.TypeTree.{TypeTree}
-use Rattle.vortex_filter.specs.Columns.{ColumnTree}
-use Rattle.vortex_filter.specs.Faults.{IsPlaced, place_of}
+use Rattle.filter_sql.specs.Columns.{ColumnTree}
+use Rattle.filter_sql.specs.Faults.{IsPlaced, place_of}
 use Rattle.vortex_filter.specs.Formula.{Formula}
-use Rattle.vortex_filter.specs.Parsing.{IsSqlWithin, RefusesSqlWithin}
-use Rattle.vortex_filter.specs.declared.sql.error.Expected.{Expected}
-use Rattle.vortex_filter.specs.declared.sql.error.Expected.TheVariants.{And, Backslash, Closing, Column, Comma, End, Filter, Literal, Null, Opening, Operator, Prefix}
-use Rattle.vortex_filter.specs.declared.sql.error.ParseError.{ParseError}
-use Rattle.vortex_filter.specs.declared.sql.error.ParseError.TheVariants as errors
+use Rattle.filter_sql.specs.Parsing.{IsSqlWithin, RefusesSqlWithin}
+use Rattle.filter_sql.specs.declared.error.Expected.{Expected}
+use Rattle.filter_sql.specs.declared.error.Expected.TheVariants.{And, Backslash, Closing, Column, Comma, End, Filter, Literal, Null, Opening, Operator, Prefix}
+use Rattle.filter_sql.specs.declared.error.ParseError.{ParseError}
+use Rattle.filter_sql.specs.declared.error.ParseError.TheVariants as errors
 use Rattle.vortex_c.specs.declared.sql.Mistake.{Mistake}
 use Rattle.vortex_c.specs.declared.sql.NamedKind.{NamedKind}
 use Rattle.vortex_c.specs.declared.sql.SqlFault.{SqlFault}

@@ -8,10 +8,11 @@ use crate::status::{BAD_FILTER, GIVEN, NO_MEMORY, NO_ROOM, NOT_UTF8, UNKNOWN_KIN
 use arrow_columns::Kind;
 use column_cells::dtype_of;
 use filter_form::{FilterFormError, append_filter};
+use filter_sql::{Column as FilterColumn, Expected, ParseError, parse_within};
 use std::alloc::{AllocError, AllocFailed, Global};
 use std::str;
 use vortex_dtype::DType;
-use vortex_filter::{Column as FilterColumn, Expected, Filter, ParseError};
+use vortex_filter::Filter;
 
 /// A column that a filter may name: its name, and the code of its kind.
 #[derive(Clone, Copy)]
@@ -151,7 +152,7 @@ fn parse(
     let Ok(text) = str::from_utf8(words) else {
         return Err(SqlFault::NotUtf8);
     };
-    match Filter::parse_within(alloc, text, named, depth) {
+    match parse_within(alloc, text, named, depth) {
         Ok(filter) => Ok(filter),
         Err(cause) => Err(fault_of_words(cause)),
     }

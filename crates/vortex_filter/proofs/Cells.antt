@@ -6,8 +6,6 @@ use Rattle.vortex_value.specs.Values.RawTree.{RawTree, absent, is_absent}
 use Rattle.vortex_value.specs.Values.Scalars.{IsMadeOf, scalar_raw, scalar_type}
 use Rattle.vortex_value.specs.declared.scalars.Scalar.{Scalar}
 use Rattle.vortex_cells.specs.Cells.{Cell, cell_of, cell_or_null, is_null_cell, is_null_content}
-use Rattle.vortex_statistics.specs.Statistics.{known}
-use Rattle.vortex_statistics.specs.declared.column_statistics.ColumnStatistics.{ColumnStatistics}
 use Rattle.vortex_filter.specs.Formula.{cell_at}
 
 -- the cell of a row, by the scalar that stands there
@@ -20,10 +18,6 @@ raw_null _ = refl
 
 pub null_is : (x : Scalar) → is_null_cell (cell_of x) ≡ is_absent (scalar_raw x)
 null_is x = raw_null (scalar_raw x)
-
--- the statistics of a column, by those that stand there
-pub known_is : (ss : List ColumnStatistics) (k : ℕ) → slice_get (map known ss) k ≡ option_map known (slice_get ss k)
-known_is ss k = slice_get-map known ss k
 
 -- what is made of the same type and raw value is the same cell
 pub made_cell : (x y : Scalar) → IsMadeOf (scalar_type x) (scalar_raw x) y → cell_of y ≡ cell_of x

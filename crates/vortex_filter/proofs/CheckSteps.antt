@@ -1,5 +1,5 @@
 -- Steps of the check.
-use Rattle.std.proofs.Common.{◌≡◌, ◌↔◌, ℕ, ◌+◌, ◌-◌, ◌^◌, min, Bool, true, Decides, List, [], ◌∷◌, ◌++◌, length, map, Option, Some, None, length-append, option_map, refl, sym, ap, ◌∙◌, arith, ◌&&◌, IsTrue}
+use Rattle.std.proofs.Common.{◌≡◌, ◌↔◌, ℕ, ◌+◌, Bool, List, [], ◌∷◌, ◌++◌, length, map, Option, Some, None, length-append, option_map, refl, sym, ap, ◌∙◌, ◌&&◌, IsTrue}
 use Rattle.std.specs.Borrow.{Bor}
 use Rattle.std.specs.List.{list_all, slice_get}
 use Rattle.std.specs.Option.{option_copied}
@@ -13,7 +13,7 @@ use Rattle.vortex_value.specs.Lemmas.EqualityLaws.{same_type-Decides}
 use Rattle.vortex_value.specs.Size.{capped}
 use Rattle.vortex_value.specs.Values.Scalars.{scalar_type}
 use Rattle.vortex_value.specs.declared.scalars.Scalar.{Scalar}
-use Rattle.vortex_cells.specs.Cells.{Cell, cell_of}
+use Rattle.vortex_cells.specs.Cells.{cell_of}
 use Rattle.vortex_filter.specs.Checking.{Test}
 use Rattle.vortex_filter.proofs.CheckLaws.{capped_sum}
 use Rattle.vortex_filter.proofs.Steps.{formula-And, formula-Compare, formula-Constant, formula-In, formula-IsNull, formula-Between, formula-StartsWith, formula-Not, formula-Or}

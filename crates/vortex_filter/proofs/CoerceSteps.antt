@@ -1,5 +1,5 @@
 -- Steps of coercing a filter.
-use Rattle.std.proofs.Common.{◌≡◌, ◌≢◌, ◌⊎◌, ◌↔◌, inl, inr, ℕ, zero, suc, ◌+◌, ◌<◌, ◌≤◌, ℤ, pos, Bool, true, false, not, ◌||◌, ◌&&◌, ◌==◌, cond, IsTrue, List, [], ◌∷◌, ◌++◌, length, map, take, get_or, Vec, Global, Box, Option, Some, None, Result, Ok, Err, IfErr, IfOk, IsErrAnd, MatchOption, MatchResult, OnOk, Ordering, refl, sym, subst, ap, ap₂, ◌∙◌, arith, rules}
+use Rattle.std.proofs.Common.{◌≡◌, ◌≢◌, ◌⊎◌, ◌↔◌, inl, inr, ℕ, zero, suc, ◌+◌, ◌<◌, ◌≤◌, ℤ, Bool, true, false, not, ◌||◌, ◌==◌, cond, IsTrue, List, [], ◌∷◌, ◌++◌, length, map, take, get_or, Vec, Global, Box, Option, Some, None, Result, Ok, Err, IfErr, IfOk, IsErrAnd, MatchResult, OnOk, Ordering, refl, sym, subst, ap, ap₂, ◌∙◌, arith}
 use Rattle.std.specs.Borrow.{Bor}
 use Rattle.std.specs.List.{AllByRecursion, filter, slice_get}
 use Rattle.std.specs.Option.{IsSomeAnd}
@@ -8,7 +8,7 @@ use Rattle.std.proofs.lemmas.Bool.Decides.{nat_tests}
 use Rattle.std.proofs.lemmas.List.{map-append, take_all}
 use Rattle.std.proofs.lemmas.Result.{err_from_is_err_and}
 use Rattle.vortex_dtype.specs.TypeOf.{type_of}
-use Rattle.vortex_dtype.specs.TypeTree.{TypeTree, IsFlat, Same, as_nullable, binary_type, integer_type, utf8_type}
+use Rattle.vortex_dtype.specs.TypeTree.{TypeTree, as_nullable, binary_type, integer_type, utf8_type}
 use Rattle.vortex_dtype.specs.declared.error.VortexError.{VortexError}
 use Rattle.vortex_dtype.specs.declared.error.VortexError.TheVariants as why
 use Rattle.vortex_dtype.specs.declared.nullability.Nullability.{Nullability}
@@ -32,12 +32,12 @@ use Rattle.vortex_cells.specs.Cells.{Cell, cell_of}
 use Rattle.vortex_cells.proofs.CellLaws.{cells_more}
 use Rattle.vortex_filter.specs.declared.error.FilterError.{FilterError}
 use Rattle.vortex_filter.specs.declared.error.FilterError.TheVariants.{OutOfMemory, NoColumn, HasVariant, TypesDiffer}
-use Rattle.vortex_filter.specs.declared.filter.Filter.{Filter, Constant, Compare, IsNull, In, Between, StartsWith, And, Or, Not, the_lemmas}
+use Rattle.vortex_filter.specs.declared.filter.Filter.{Filter, Constant, Compare, IsNull, In, Between, StartsWith, And, Or}
 use Rattle.vortex_filter.specs.declared.operator.CompareOperator.{CompareOperator}
 use Rattle.vortex_filter.specs.declared.operator.CompareOperator.TheVariants.{Gte, Lte}
 use Rattle.vortex_filter.specs.declared.truth.Truth.{Truth}
 use Rattle.vortex_filter.specs.CheckSteps.{answer_behind, behind, holds_strings}
-use Rattle.vortex_filter.specs.Checking.{AllFit, Demand, FitsColumns, HoldsStrings, IsOrderedFor, RefusesFirst, Suits, beginning, comparing, nothing, tests}
+use Rattle.vortex_filter.specs.Checking.{AllFit, Demand, FitsColumns, IsOrderedFor, RefusesFirst, Suits, beginning, comparing, nothing, tests}
 use Rattle.vortex_filter.specs.Coerces.{Coerces, CoercesLiteral, CoercesLiterals, CoercesTest, GivesOrdered, Pushes, RefusesLiterals, all_left_out, integer_in, lacks_of, number_in, side_of, with_cell}
 use Rattle.vortex_filter.specs.Coercing.{IsCoercible, by_column, coerced, coerced_cell, coerced_comparison, coerced_range, for_values, kept_cells, lacks, lacks_number, membership_of, side}
 use Rattle.vortex_filter.specs.Formula.{Formula, constant, comparison, null_test, membership, range, prefix_test, both, either, negation, formula, truth}

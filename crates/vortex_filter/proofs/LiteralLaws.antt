@@ -3,7 +3,6 @@ use Rattle.std.proofs.Common.{◌≡◌, List, [], ◌∷◌, ◌++◌, map, ref
 use Rattle.std.proofs.lemmas.List.{map-append}
 use Rattle.vortex_dtype.specs.TypeTree.{TypeTree, erase}
 use Rattle.vortex_value.specs.Casts.{OneValue}
-use Rattle.vortex_value.specs.Values.Content.{Content}
 use Rattle.vortex_value.specs.Values.RawTree.{RawTree}
 use Rattle.vortex_value.specs.Values.Scalars.{scalar_content, scalar_raw, scalar_type}
 use Rattle.vortex_value.specs.declared.scalars.Scalar.{Scalar}

@@ -1,6 +1,5 @@
 -- The literals of each kind of filter, that they are valid, and copies of them.
-use Rattle.std.proofs.Common.{◌≡◌, ℕ, Vec, Global, Box, List, [], ◌∷◌, ◌++◌, map, Option, Some, None, option_map, Result, Ok, Err, IfOk, MatchResult, sym, subst, ap, ap₂, ◌∙◌, rules}
-use Rattle.std.specs.Prelude.{IfSome}
+use Rattle.std.proofs.Common.{◌≡◌, ℕ, Vec, Global, Box, List, [], ◌∷◌, ◌++◌, map, Result, Ok, Err, IfOk, MatchResult, sym, subst, ap, ap₂, ◌∙◌, rules}
 use Rattle.std.proofs.lemmas.List.{map-append}
 use Rattle.vortex_dtype.specs.TypeTree.{TypeTree}
 use Rattle.vortex_value.specs.Validity.{Valid}
@@ -10,12 +9,9 @@ use Rattle.vortex_value.specs.declared.scalars.Scalar.{Scalar}
 use Rattle.vortex_filter.specs.declared.error.FilterError.{FilterError}
 use Rattle.vortex_filter.specs.declared.filter.Filter.{Filter, Constant, Compare, IsNull, In, Between, StartsWith, And, Or, Not, the_lemmas}
 use Rattle.vortex_filter.specs.declared.operator.CompareOperator.{CompareOperator}
-use Rattle.vortex_filter.specs.declared.outcomes.Outcomes.{Outcomes}
-use Rattle.vortex_filter.specs.declared.simplify.Residual.{Residual}
 use Rattle.vortex_filter.specs.declared.truth.Truth.{Truth}
-use Rattle.vortex_filter.specs.FilterLiterals.{AreValid, LeavesValid, MakesCopies, MakesValid, exactly_of, literals_of}
-use Rattle.vortex_filter.specs.Makes.{OfParts, settled}
-use Rattle.vortex_filter.specs.Residual.{sole}
+use Rattle.vortex_filter.specs.FilterLiterals.{AreValid, MakesCopies, MakesValid, exactly_of, literals_of}
+use Rattle.vortex_filter.specs.Makes.{OfParts}
 
 -- ---- the literals of each kind of filter
 
@@ -127,14 +123,3 @@ pub negation_valid : (l s : Result Filter FilterError) → MatchResult l (λ f. 
 negation_valid (Err e) s w h = subst MakesValid (sym w) tt
 negation_valid (Ok f) (Ok p) w h = valid_same (literals_of p) (literals_of f) w h
 negation_valid (Ok f) (Err e) w h = tt
-
-pub settled_valid : (r : Residual) (o : Outcomes) → r ≡ settled o → LeavesValid r
-settled_valid r o e = subst LeavesValid (sym e) (by_sole (sole o))
-  where
-    by_sole : (s : Option Truth) → IfSome (option_map (λ t. Ok (Constant t)) s) MakesValid
-    by_sole None = tt
-    by_sole (Some t) = constant_valid t
-
-pub ruleset left = (both_valid, negation_valid, settled_valid, copies_valid)
-
-pub ruleset parts = (valid_left, valid_right, literals-And, literals-Or, literals-Not)

@@ -9,8 +9,7 @@ use Rattle.vortex_cells.specs.Cells.{Cell, cell_of}
 use Rattle.vortex_filter.specs.declared.error.FilterError.{FilterError}
 use Rattle.vortex_filter.specs.declared.filter.Filter.{Filter}
 use Rattle.vortex_filter.specs.Formula.{Formula, both, either, formula, negation}
-use Rattle.vortex_filter.specs.Makes.{Makes, MakesUnlessBare, OfParts}
-use Rattle.vortex_filter.specs.Residual.{IsBare}
+use Rattle.vortex_filter.specs.Makes.{Makes, MakesUnlessBare, OfParts, IsBare}
 use Rattle.vortex_filter.proofs.Steps.{formula-And, formula-Between, formula-Compare, formula-Constant, formula-In, formula-IsNull, formula-Not, formula-Or, formula-StartsWith}
 
 abbrev cell_from : TypeTree → RawTree → Cell

@@ -1,5 +1,5 @@
 -- The literals of a filter, as scalars.
-use Rattle.std.specs.Prelude.{◌≡◌, List, [], ◌∷◌, ◌++◌, map, IfOk, IfSome, Result}
+use Rattle.std.specs.Prelude.{◌≡◌, List, [], ◌∷◌, ◌++◌, map, IfOk, Result}
 use Rattle.std.specs.List.{AllByRecursion}
 use Rattle.vortex_dtype.specs.TypeTree.{TypeTree}
 use Rattle.vortex_value.specs.Values.RawTree.{RawTree}
@@ -8,9 +8,6 @@ use Rattle.vortex_value.specs.declared.scalars.Scalar.{Scalar}
 use Rattle.vortex_filter.specs.declared.error.FilterError.{FilterError}
 use Rattle.vortex_filter.specs.declared.filter.Filter.{Filter, fold-Filter}
 use Rattle.vortex_filter.specs.declared.filter.Filter.TheOpen.{Filter-F}
-use Rattle.vortex_filter.specs.declared.simplify.Residual.{Residual}
-use Rattle.vortex_filter.specs.declared.sql.parse.literals.Literal.{Literal}
-use Rattle.vortex_filter.specs.declared.sql.parse.literals.Literal.TheVariants as said
 use Rattle.vortex_filter.specs.Formula.{formula}
 
 -- the literals of a variant, from those of its parts
@@ -29,11 +26,6 @@ literals_step (Filter-F.Not f) = f.value
 abbrev pub literals_of : Filter → List Scalar
 literals_of = fold-Filter (List Scalar) literals_step
 
--- the scalar that a literal in a text is; a number that the type lacks is none
-abbrev pub scalars_of : Literal → List Scalar
-scalars_of (said.Exactly x) = x ∷ []
-scalars_of (said.Lacking is_below) = []
-
 -- ---- validity
 
 -- each of the scalars is valid for its type
@@ -43,10 +35,6 @@ AreValid xs = AllByRecursion IsValid xs
 -- if a filter was made, its literals are valid
 abbrev pub MakesValid : Result Filter FilterError → Type 0
 MakesValid r = IfOk r (λ g. AreValid (literals_of g))
-
--- if something stands in the filter's place, its literals are valid
-abbrev pub LeavesValid : Residual → Type 0
-LeavesValid r = IfSome r.change MakesValid
 
 -- ---- copies
 

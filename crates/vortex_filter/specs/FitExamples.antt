@@ -1,17 +1,15 @@
 -- Worked cases of what fits the columns, of casts to their types, and of what is left on a zone, each a theorem.
-use Rattle.std.specs.Prelude.{◌≡◌, ℕ, pos, negsuc, true, [], ◌∷◌, Some, refl}
+use Rattle.std.specs.Prelude.{◌≡◌, ℕ, pos, negsuc, [], ◌∷◌, refl}
 use Rattle.vortex_dtype.specs.TypeTree.{integer_type}
 use Rattle.vortex_dtype.specs.declared.nullability.Nullability.TheVariants.{NonNullable, Nullable}
 use Rattle.vortex_dtype.specs.declared.ptype.PType.TheVariants.{I16, I64, U8}
 use Rattle.vortex_value.specs.Values.Content.{null, whole}
 use Rattle.vortex_cells.specs.Cells.{Cell}
-use Rattle.vortex_statistics.specs.Statistics.{Known}
 use Rattle.vortex_filter.specs.declared.operator.CompareOperator.TheVariants.{Eq, Gt, Gte, Lt}
 use Rattle.vortex_filter.specs.declared.truth.Truth.TheVariants.{Unknown, True}
 use Rattle.vortex_filter.specs.Checking.{comparing, nothing, tests}
 use Rattle.vortex_filter.specs.Coercing.{coerced}
 use Rattle.vortex_filter.specs.Formula.{Formula, both, comparison, constant, either, membership, negation, null_test, range}
-use Rattle.vortex_filter.specs.Residual.{residual, size}
 use Rattle.vortex_filter.specs.Rows.{content_truth}
 
 -- an i64 literal, and an i16 literal as a cast makes it
@@ -67,32 +65,3 @@ by_contents = refl
 
 null_by_contents : content_truth (comparison 0 Lt (long 100000)) (no_short ∷ []) ≡ Unknown
 null_by_contents = refl
-
--- ---- what is left on a zone
-
--- three values from 2 to 5
-abbrev from_two_to_five : Known
-from_two_to_five = record { row_count = 3; null_count = Some 0; lower = Some (record { value = short 2; is_exact = true }); upper = Some (record { value = short 5; is_exact = true }) }
-
-abbrev some_null : Known
-some_null = record { row_count = 3; null_count = Some 1; lower = Some (record { value = short 2; is_exact = true }); upper = Some (record { value = short 5; is_exact = true }) }
-
-true_left_out : residual (from_two_to_five ∷ from_two_to_five ∷ []) (both (comparison 0 Gte (short 1)) (comparison 1 Eq (short 4))) ≡ comparison 1 Eq (short 4)
-true_left_out = refl
-
-false_left_out : residual (from_two_to_five ∷ from_two_to_five ∷ []) (either (comparison 0 Gt (short 5)) (comparison 1 Eq (short 4))) ≡ comparison 1 Eq (short 4)
-false_left_out = refl
-
-all_match : residual (from_two_to_five ∷ []) (negation (comparison 0 Gt (short 5))) ≡ constant True
-all_match = refl
-
--- with a null among the values the comparison can be Unknown, and stays
-null_keeps : residual (some_null ∷ []) (comparison 0 Gte (short 1)) ≡ comparison 0 Gte (short 1)
-null_keeps = refl
-
--- with a null as literal it is Unknown, whatever the cells are
-null_literal : residual (some_null ∷ []) (comparison 0 Eq no_short) ≡ constant Unknown
-null_literal = refl
-
-nodes_and_literals : size (both (comparison 0 Gte (short 1)) (membership 1 (short 1 ∷ short 2 ∷ []))) ≡ 6
-nodes_and_literals = refl

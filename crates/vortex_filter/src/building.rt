@@ -1,7 +1,8 @@
 //! Filters that are made of filters.
 
-ghost use Rattle.std.specs.Prelude.{◌≡◌, ◌++◌, IfErr, IfOk};
+ghost use Rattle.std.specs.Prelude.{◌≡◌, ◌++◌, Err, IfErr, IfOk, MatchResult};
 ghost use Rattle.vortex_filter.specs.FilterLiterals.{literals_of};
+ghost use Rattle.vortex_filter.specs.Makes.{Makes, OfParts};
 ghost use Rattle.vortex_filter.specs.Words.{OutOfMemory, both, either, formula, negation};
 
 use crate::error::FilterError;
@@ -18,7 +19,7 @@ impl Filter {
             literals_of f ≡ literals_of left ++ literals_of right) }
         ensures refused { IfErr result (λ e. e ≡ OutOfMemory) }
     {
-        let (left, right) = boxed_pair(alloc, left, right)?;
+        let (left, right) = boxed_both(alloc, left, right)?;
         Ok(Filter::And(left, right))
     }
 
@@ -31,7 +32,7 @@ impl Filter {
             literals_of f ≡ literals_of left ++ literals_of right) }
         ensures refused { IfErr result (λ e. e ≡ OutOfMemory) }
     {
-        let (left, right) = boxed_pair(alloc, left, right)?;
+        let (left, right) = boxed_both(alloc, left, right)?;
         Ok(Filter::Or(left, right))
     }
 
@@ -47,28 +48,112 @@ impl Filter {
     }
 }
 
-/// Each of two filters in a box.
-fn boxed_pair(
+/// Both parts together, if both were made; else the refusal of the first that was not.
+#[tactic(auto, using(crate::proofs::Steps::shown, crate::proofs::LiteralSteps::literals))]
+pub fn conjoin(
+    alloc: Global,
+    left: Result<Filter, FilterError>,
+    right: Result<Filter, FilterError>,
+) -> Result<Filter, FilterError>
+    ensures made { OfParts (λ f g. Makes (both (formula f) (formula g)) result)
+        (λ e. result ≡ Err e) left right }
+    ensures literals { OfParts
+        (λ f g. IfOk result (λ h. literals_of h ≡ literals_of f ++ literals_of g))
+        (λ e. result ≡ Err e) left right }
+{
+    match boxed_parts(alloc, left, right) {
+        Ok((left, right)) => Ok(Filter::And(left, right)),
+        Err(cause) => Err(cause),
+    }
+}
+
+/// One part or the other, if both were made; else the refusal of the first that was not.
+#[tactic(auto, using(crate::proofs::Steps::shown, crate::proofs::LiteralSteps::literals))]
+pub fn disjoin(
+    alloc: Global,
+    left: Result<Filter, FilterError>,
+    right: Result<Filter, FilterError>,
+) -> Result<Filter, FilterError>
+    ensures made { OfParts (λ f g. Makes (either (formula f) (formula g)) result)
+        (λ e. result ≡ Err e) left right }
+    ensures literals { OfParts
+        (λ f g. IfOk result (λ h. literals_of h ≡ literals_of f ++ literals_of g))
+        (λ e. result ≡ Err e) left right }
+{
+    match boxed_parts(alloc, left, right) {
+        Ok((left, right)) => Ok(Filter::Or(left, right)),
+        Err(cause) => Err(cause),
+    }
+}
+
+/// The part negated, if it was made.
+#[tactic(auto, using(crate::proofs::Steps::shown, crate::proofs::LiteralSteps::literals))]
+pub fn negate(alloc: Global, inner: Result<Filter, FilterError>) -> Result<Filter, FilterError>
+    ensures made { MatchResult inner
+        (λ f. Makes (negation (formula f)) result)
+        (λ e. result ≡ Err e) }
+    ensures literals { MatchResult inner
+        (λ f. IfOk result (λ h. literals_of h ≡ literals_of f))
+        (λ e. result ≡ Err e) }
+{
+    match inner {
+        Ok(inner) => Ok(Filter::Not(boxed(alloc, inner)?)),
+        Err(cause) => Err(cause),
+    }
+}
+
+/// Both parts in boxes, if both were made; else the refusal of the first that was not.
+fn boxed_parts(
+    alloc: Global,
+    left: Result<Filter, FilterError>,
+    right: Result<Filter, FilterError>,
+) -> Result<(Box<Filter>, Box<Filter>), FilterError>
+    ensures { OfParts (λ f g. MatchResult result
+        (λ boxes. (boxes.0.value ≡ f) × (boxes.1.value ≡ g))
+        (λ e. e ≡ OutOfMemory))
+        (λ e. result ≡ Err e) left right }
+{
+    match left {
+        Ok(left) => match right {
+            Ok(right) => boxed_both(alloc, left, right),
+            Err(cause) => {
+                drop(left);
+                Err(cause)
+            }
+        },
+        Err(cause) => {
+            drop(right);
+            Err(cause)
+        }
+    }
+}
+
+fn boxed_both(
     alloc: Global,
     left: Filter,
     right: Filter,
 ) -> Result<(Box<Filter>, Box<Filter>), FilterError>
-    ensures left { IfOk result (λ pair. pair.0.value ≡ left) }
-    ensures right { IfOk result (λ pair. pair.1.value ≡ right) }
-    ensures refused { IfErr result (λ e. e ≡ OutOfMemory) }
+    ensures { MatchResult result
+        (λ boxes. (boxes.0.value ≡ left) × (boxes.1.value ≡ right))
+        (λ e. e ≡ OutOfMemory) }
 {
-    let left = match Box::new(alloc, left) {
-        Ok(left) => left,
-        Err(failed) => {
-            drop((failed, right));
-            return Err(FilterError::OutOfMemory);
-        }
-    };
-    match Box::new(alloc, right) {
-        Ok(right) => Ok((left, right)),
-        Err(failed) => {
-            drop((failed, left));
-            Err(FilterError::OutOfMemory)
+    match boxed(alloc, left) {
+        Ok(left) => match boxed(alloc, right) {
+            Ok(right) => Ok((left, right)),
+            Err(cause) => {
+                drop(left);
+                Err(cause)
+            }
+        },
+        Err(cause) => {
+            drop(right);
+            Err(cause)
         }
     }
+}
+
+fn boxed(alloc: Global, filter: Filter) -> Result<Box<Filter>, FilterError>
+    ensures { MatchResult result (λ made. made.value ≡ filter) (λ e. e ≡ OutOfMemory) }
+{
+    Ok(Box::new(alloc, filter)?)
 }

@@ -9,8 +9,9 @@ ghost use Rattle.vortex_filter.specs.Makes.{Makes};
 ghost use Rattle.vortex_filter.specs.Rows.{IsRowOf, content_truth};
 ghost use Rattle.vortex_filter.specs.Words.{Cell, FitsColumns, IsValid, OutOfMemory, RefusesFirst, as_nullable, cell_of, comparison, formula, in_range, membership, null_test, prefix_test, range, same_type, scalar_content, scalar_type, tests, truth, type_of};
 
+use crate::building::{conjoin, disjoin, negate};
 use crate::check::{behind, holds_strings, is_of_type, type_at};
-use crate::copies::{conjoin, copy_scalar, disjoin, negate};
+use crate::copies::copy_scalar;
 use crate::error::FilterError;
 use crate::filter::Filter;
 use crate::operator::CompareOperator;

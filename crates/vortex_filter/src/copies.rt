@@ -1,10 +1,11 @@
-//! Copies of filters, and filters made of parts, in memory of their own.
+//! Copies of filters, in memory of their own.
 
-ghost use Rattle.std.specs.Prelude.{◌≡◌, ◌++◌, ◌∷◌, [], Err, IfErr, IfOk, MatchResult, map};
+ghost use Rattle.std.specs.Prelude.{◌≡◌, ◌∷◌, [], IfErr, IfOk, MatchResult, map};
 ghost use Rattle.vortex_filter.specs.FilterLiterals.{AreValid, MakesCopies, exactly_of, literals_of};
-ghost use Rattle.vortex_filter.specs.Makes.{Makes, MakesUnlessBare, OfParts};
-ghost use Rattle.vortex_filter.specs.Words.{IsBare, OutOfMemory, both, cell_of, comparison, either, formula, membership, negation, prefix_test, range};
+ghost use Rattle.vortex_filter.specs.Makes.{Makes, MakesUnlessBare};
+ghost use Rattle.vortex_filter.specs.Words.{IsBare, OutOfMemory, cell_of, comparison, formula, membership, prefix_test, range};
 
+use crate::building::{conjoin, disjoin, negate};
 use crate::error::FilterError;
 use crate::filter::Filter;
 use crate::operator::CompareOperator;
@@ -30,7 +31,7 @@ impl Filter {
 
 /// A copy of a filter. That of a constant or a test for null takes no memory.
 #[tactic(auto, using(crate::proofs::MakeSteps::shown, crate::proofs::LiteralSteps::copied))]
-pub(crate) fn copy(alloc: Global, filter: &Filter) -> Result<Filter, FilterError>
+fn copy(alloc: Global, filter: &Filter) -> Result<Filter, FilterError>
     ensures made { MakesUnlessBare (formula filter.now) result }
     ensures exactly { MakesCopies (literals_of filter.now) result }
 {
@@ -60,8 +61,6 @@ pub(crate) fn copy(alloc: Global, filter: &Filter) -> Result<Filter, FilterError
         Filter::Not(inner) => negate(alloc, copy(alloc, inner)),
     }
 }
-
-// ---- tests
 
 // Each is a call of its own, so that what it needs on the stack is not taken again at each level of a
 // filter.
@@ -160,119 +159,4 @@ fn copy_scalars(alloc: Global, scalars: &[Scalar]) -> Result<Vec<Scalar>, Filter
         copies.push(copy_scalar(alloc, scalar)?)?;
     }
     Ok(copies)
-}
-
-// ---- parts
-
-/// Both parts together, if both were made; else the refusal of the first that was not.
-#[tactic(auto, using(crate::proofs::Steps::shown, crate::proofs::LiteralSteps::literals))]
-pub(crate) fn conjoin(
-    alloc: Global,
-    left: Result<Filter, FilterError>,
-    right: Result<Filter, FilterError>,
-) -> Result<Filter, FilterError>
-    ensures made { OfParts (λ f g. Makes (both (formula f) (formula g)) result)
-        (λ e. result ≡ Err e) left right }
-    ensures literals { OfParts
-        (λ f g. IfOk result (λ h. literals_of h ≡ literals_of f ++ literals_of g))
-        (λ e. result ≡ Err e) left right }
-{
-    match boxed_parts(alloc, left, right) {
-        Ok((left, right)) => Ok(Filter::And(left, right)),
-        Err(cause) => Err(cause),
-    }
-}
-
-/// One part or the other, if both were made; else the refusal of the first that was not.
-#[tactic(auto, using(crate::proofs::Steps::shown, crate::proofs::LiteralSteps::literals))]
-pub(crate) fn disjoin(
-    alloc: Global,
-    left: Result<Filter, FilterError>,
-    right: Result<Filter, FilterError>,
-) -> Result<Filter, FilterError>
-    ensures made { OfParts (λ f g. Makes (either (formula f) (formula g)) result)
-        (λ e. result ≡ Err e) left right }
-    ensures literals { OfParts
-        (λ f g. IfOk result (λ h. literals_of h ≡ literals_of f ++ literals_of g))
-        (λ e. result ≡ Err e) left right }
-{
-    match boxed_parts(alloc, left, right) {
-        Ok((left, right)) => Ok(Filter::Or(left, right)),
-        Err(cause) => Err(cause),
-    }
-}
-
-/// The part negated, if it was made.
-#[tactic(auto, using(crate::proofs::Steps::shown, crate::proofs::LiteralSteps::literals))]
-pub(crate) fn negate(
-    alloc: Global,
-    inner: Result<Filter, FilterError>,
-) -> Result<Filter, FilterError>
-    ensures made { MatchResult inner
-        (λ f. Makes (negation (formula f)) result)
-        (λ e. result ≡ Err e) }
-    ensures literals { MatchResult inner
-        (λ f. IfOk result (λ h. literals_of h ≡ literals_of f))
-        (λ e. result ≡ Err e) }
-{
-    match inner {
-        Ok(inner) => Ok(Filter::Not(boxed(alloc, inner)?)),
-        Err(cause) => Err(cause),
-    }
-}
-
-/// Both parts in boxes, if both were made; else the refusal of the first that was not.
-fn boxed_parts(
-    alloc: Global,
-    left: Result<Filter, FilterError>,
-    right: Result<Filter, FilterError>,
-) -> Result<(Box<Filter>, Box<Filter>), FilterError>
-    ensures { OfParts (λ f g. MatchResult result
-        (λ boxes. (boxes.0.value ≡ f) × (boxes.1.value ≡ g))
-        (λ e. e ≡ OutOfMemory))
-        (λ e. result ≡ Err e) left right }
-{
-    match left {
-        Ok(left) => match right {
-            Ok(right) => boxed_both(alloc, left, right),
-            Err(cause) => {
-                drop(left);
-                Err(cause)
-            }
-        },
-        Err(cause) => {
-            drop(right);
-            Err(cause)
-        }
-    }
-}
-
-fn boxed_both(
-    alloc: Global,
-    left: Filter,
-    right: Filter,
-) -> Result<(Box<Filter>, Box<Filter>), FilterError>
-    ensures { MatchResult result
-        (λ boxes. (boxes.0.value ≡ left) × (boxes.1.value ≡ right))
-        (λ e. e ≡ OutOfMemory) }
-{
-    match boxed(alloc, left) {
-        Ok(left) => match boxed(alloc, right) {
-            Ok(right) => Ok((left, right)),
-            Err(cause) => {
-                drop(left);
-                Err(cause)
-            }
-        },
-        Err(cause) => {
-            drop(right);
-            Err(cause)
-        }
-    }
-}
-
-fn boxed(alloc: Global, filter: Filter) -> Result<Box<Filter>, FilterError>
-    ensures { MatchResult result (λ made. made.value ≡ filter) (λ e. e ≡ OutOfMemory) }
-{
-    Ok(Box::new(alloc, filter)?)
 }

@@ -23,7 +23,7 @@ pub(crate) fn truth_of_prefix(cell: Option<&Scalar>, prefix: &Scalar) -> Truth
 
 /// How the prefix stands to as many bytes of the value's beginning, if both are strings or both
 /// bytes, and their types the same up to nullability.
-pub(crate) fn order_of_prefix(value: &Scalar, prefix: &Scalar) -> Option<Ordering>
+pub fn order_of_prefix(value: &Scalar, prefix: &Scalar) -> Option<Ordering>
     ensures { result ≡ cell_prefix_order (cell_of value.now) (cell_of prefix.now) }
 {
     if !are_same(&value.dtype, &prefix.dtype) {

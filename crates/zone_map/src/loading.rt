@@ -5,11 +5,12 @@ use crate::commands::SearchRequest;
 use crate::files::index_name;
 use crate::program_faults::{BadFilter, FileFault, ProgramFault};
 use crate::setup::Setup;
+use filter_sql::{ParseError, parse};
 use record_search::{NAMED_COLUMNS, RowDescriber, RowFilter, RowsAlone, Schema, named_columns};
 use std::alloc::{AllocError, Global};
 use std::fs;
 use std::io::ErrorKind;
-use vortex_filter::{Filter, ParseError};
+use vortex_filter::Filter;
 use zone_index::{Index, ReadError, Root, read_blocks, read_root};
 
 /// An index, and how its file is read.
@@ -231,7 +232,7 @@ impl Sought {
 /// The filter that a text is over the columns of a setup.
 fn filter_in(alloc: Global, setup: &Setup, text: &str) -> Result<Filter, ProgramFault> {
     let columns = setup.filter_columns(alloc)?;
-    match Filter::parse(alloc, text, &columns) {
+    match parse(alloc, text, &columns) {
         Ok(filter) => Ok(filter),
         Err(error) => Err(filter_fault(alloc, setup, text, error)),
     }

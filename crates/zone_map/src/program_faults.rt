@@ -1,10 +1,10 @@
 //! Why the program stops.
 
 use crate::column_words::NamedColumn;
+use filter_sql::ParseError;
 use std::alloc::{AllocError, AllocFailed, Global};
 use std::fmt::{self, Display, Formatter, Write};
 use std::{io, str};
-use vortex_filter::ParseError;
 use zone_index::{Cause, FormFault, SearchFault};
 
 /// Why the program stopped: what it says on standard error.

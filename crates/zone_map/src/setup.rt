@@ -3,12 +3,12 @@
 use crate::column_words::{NamedColumn, column_of, is_name, push_kind};
 use crate::program_faults::ProgramFault;
 use csv_records::Delimiter;
+use filter_sql::Column;
 use record_rows::ColumnType;
 use record_search::{Schema, dtype_of};
 use std::alloc::{AllocError, Global};
 use std::fmt::Write;
 use std::str;
-use vortex_filter::Column;
 
 /// The byte that stands for no delimiter: no text in UTF-8 has it.
 pub const NO_DELIMITER: u8 = 0xFF;

@@ -4,7 +4,7 @@ use Rattle.vortex_dtype.specs.TypeOf.{type_of}
 use Rattle.vortex_statistics.specs.Statistics.{known}
 use Rattle.vortex_statistics.specs.declared.column_statistics.ColumnStatistics.{ColumnStatistics}
 use Rattle.vortex_filter.specs.Formula.{formula}
-use Rattle.vortex_filter.specs.Outcomes.{outcomes}
+use Rattle.filter_pruning.specs.Outcomes.{outcomes}
 use Rattle.column_filters.specs.Zones.{outcomes_byte}
 use Rattle.column_filters.proofs.ZoneSteps.{AreOutcomesBefore, all_outcomes, next_zone, outcome_of, outcomes_more, outcomes_none, zone_there, zones_refused}
 use Rattle.column_filters.proofs.zones.write_outcomes.Goals as goal
@@ -23,7 +23,7 @@ loop-zone-preserved c =
     let said = c.read_zone.new.read in
     let long : length said ≡ length types = omega (arith, c.loop-zone.invariant.0) in
     let back = take_at said (drop (length said) c.loop-zone.read.items) c.loop-zone.read.len (omega (arith, c.loop-zone.invariant.0)) in
-    let byte = c.byte_of.ensures ∙ ap outcomes_byte (c.outcomes.ensures.value ∙ ap (λ (xs : List ColumnStatistics). outcomes f (map known xs)) (c.deref.ensures.value ∙ back)) in (
+    let byte = c.byte_of.ensures ∙ ap outcomes_byte (c.outcomes_of.ensures.value ∙ ap (λ (xs : List ColumnStatistics). outcomes f (map known xs)) (c.deref.ensures.value ∙ back)) in (
       ap length back ∙ long,
       next_zone c.loop-zone.zone (length types) c.loop-zone.piece c.loop-zone.invariant.1,
       outcomes_more f (map type_of types) c.args.statistics.now c.args.offsets.now c.loop-zone.zone _ c.loop-zone.outcomes (omega (arith, c.loop-zone-test.true, c.loop-zone.auto.outcomes)) c.loop-zone.invariant.2

@@ -1,4 +1,4 @@
--- A cell of which a scalar is made.
+-- A cell of which no scalar is made, and one of which one is.
 use Rattle.std.proofs.Common.{◌≡◌, subst}
 use Rattle.vortex_cells.specs.Cells.{Cell, cell_of, cell_of_ref}
 use Rattle.vortex_statistics.specs.Observing.{IsCompleteWith}
@@ -9,6 +9,9 @@ use Rattle.record_rows.specs.Observed.{ObservesField}
 use Rattle.record_rows.specs.Walks.{field_of}
 use Rattle.record_rows.proofs.Within.{cell_observed}
 use Rattle.record_rows.proofs.observing.observe_field.Goals as goal
+
+pub returns-then-observe_in_place-clause-observed : goal.returns-then-observe_in_place-clause-observed
+returns-then-observe_in_place-clause-observed c = c.observe_in_place.ensures.observed c.if-observe_in_place.true c.args.is_lenient c.args.field.now.is_quoted
 
 pub returns-in-Ok-clause-observed : goal.returns-in-Ok-clause-observed
 returns-in-Ok-clause-observed c =

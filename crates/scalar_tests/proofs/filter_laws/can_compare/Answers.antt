@@ -6,7 +6,7 @@ use Rattle.scalar_tests.proofs.filter_laws.can_compare.Goals as goal
 
 pub returns : goal.returns
 returns c = record {
-  value = outcome_of (map known c.args.statistics.now) c.args.column c.args.operator c.args.literal c.args.truth c.outcomes-outcomes.result c.allows.result c.outcomes-outcomes.ensures.value c.allows.ensures;
-  exact = exact_outcome c.comparisons_are_exact.ensures (map known c.args.statistics.now) c.args.column c.args.operator c.args.literal c.args.truth c.outcomes-outcomes.result c.allows.result c.outcomes-outcomes.ensures.value
+  value = outcome_of (map known c.args.statistics.now) c.args.column c.args.operator c.args.literal c.args.truth c.outcomes_of-outcomes.result c.allows.result c.outcomes_of-outcomes.ensures.value c.allows.ensures;
+  exact = exact_outcome c.comparisons_are_exact.ensures (map known c.args.statistics.now) c.args.column c.args.operator c.args.literal c.args.truth c.outcomes_of-outcomes.result c.allows.result c.outcomes_of-outcomes.ensures.value
       c.allows.ensures;
 }

@@ -2,7 +2,7 @@
 use Rattle.std.proofs.Common.{◌≡◌, ◌≤◌, length, map, take}
 use Rattle.vortex_cells.specs.Cells.{cell_of}
 use Rattle.vortex_filter.specs.Formula.{formula}
-use Rattle.vortex_filter.specs.Searching.{matching}
+use Rattle.filter_pruning.specs.Searching.{matching}
 use Rattle.scalar_tests.proofs.filter_laws.count_rows.Given as goal
 
 abbrev pub invariant-loop-row : goal.invariant-loop-row

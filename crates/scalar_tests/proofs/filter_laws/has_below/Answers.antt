@@ -5,8 +5,8 @@ use Rattle.vortex_statistics.specs.Statistics.{known}
 use Rattle.vortex_statistics.specs.declared.column_statistics.ColumnStatistics.{ColumnStatistics}
 use Rattle.vortex_filter.specs.declared.operator.CompareOperator.TheVariants.{Lt}
 use Rattle.vortex_filter.specs.declared.truth.Truth.TheVariants.{True}
-use Rattle.vortex_filter.specs.OutcomeSets.{allows}
-use Rattle.vortex_filter.specs.Outcomes.{compare_outcomes}
+use Rattle.filter_pruning.specs.OutcomeSets.{allows}
+use Rattle.filter_pruning.specs.Outcomes.{compare_outcomes}
 use Rattle.scalar_tests.specs.RowZones.{zone_of}
 use Rattle.scalar_tests.proofs.FilterSteps.{occurring}
 use Rattle.scalar_tests.proofs.filter_laws.has_below.Goals as goal

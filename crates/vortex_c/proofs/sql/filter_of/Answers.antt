@@ -1,6 +1,6 @@
 -- The filter over the columns by name and type, or why there is none.
 use Rattle.std.proofs.Common.{◌∙◌, ap}
-use Rattle.vortex_filter.specs.Columns.{column_trees}
+use Rattle.filter_sql.specs.Columns.{column_trees}
 use Rattle.vortex_c.proofs.SqlSteps.{filter-named, named-refused, words-read, words-refused}
 use Rattle.vortex_c.proofs.sql.filter_of.Goals as goal
 

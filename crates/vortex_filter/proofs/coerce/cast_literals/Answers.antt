@@ -1,4 +1,4 @@
-use Rattle.std.proofs.Common.{◌<◌, length, map, refl, subst, sym, arith}
+use Rattle.std.proofs.Common.{◌<◌, length, map, subst, sym, arith}
 use Rattle.vortex_dtype.specs.TypeOf.{type_of}
 use Rattle.vortex_value.specs.Values.Scalars.{IsValid}
 use Rattle.vortex_cells.specs.Cells.{cell_of}

@@ -6,9 +6,9 @@ use Rattle.vortex_cells.specs.Cells.{Cell, cell_of}
 use Rattle.vortex_statistics.specs.Statistics.{known}
 use Rattle.vortex_statistics.specs.declared.column_statistics.ColumnStatistics.{ColumnStatistics}
 use Rattle.vortex_filter.specs.Formula.{formula}
-use Rattle.vortex_filter.specs.OutcomeSets.{is_only_true}
-use Rattle.vortex_filter.specs.Outcomes.{outcomes}
-use Rattle.vortex_filter.specs.Searching.{matching, taken_of}
+use Rattle.filter_pruning.specs.OutcomeSets.{is_only_true}
+use Rattle.filter_pruning.specs.Outcomes.{outcomes}
+use Rattle.filter_pruning.specs.Searching.{matching, taken_of}
 use Rattle.scalar_tests.specs.RowZones.{zone_of}
 use Rattle.scalar_tests.proofs.filter_laws.RowZone.count.Goals as goal
 

@@ -1,4 +1,4 @@
-use Rattle.std.proofs.Common.{List, map}
+use Rattle.std.proofs.Common.{map}
 use Rattle.vortex_dtype.specs.TypeOf.{type_of}
 use Rattle.vortex_filter.specs.Formula.{formula}
 use Rattle.vortex_filter.specs.FilterLiterals.{literals_of}

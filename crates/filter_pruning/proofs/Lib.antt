@@ -1,0 +1,14 @@
+pub mod Admitting
+pub mod Bounds
+pub mod Cells
+pub mod Exactness
+pub mod LeavesSteps
+pub mod Occurrence
+pub mod Plain
+pub mod PrefixExact
+pub mod PrefixLaws
+pub mod ResidualLaws
+pub mod Searches
+pub mod SimplifySteps
+pub mod Soundness
+pub mod Tests

@@ -1,0 +1,10 @@
+pub mod Exactness
+pub mod Examples
+pub mod Leaves
+pub mod Orders
+pub mod OutcomeSets
+pub mod Outcomes
+pub mod Pruning
+pub mod Residual
+pub mod Searching
+pub mod Words

@@ -1,0 +1,14 @@
+pub mod Columns
+pub mod Faults
+pub mod Grammar
+pub mod Lexing
+pub mod Literals
+pub mod Mistakes
+pub mod Parsing
+pub mod Pieces
+pub mod Printing
+pub mod Reading
+pub mod SqlExamples
+pub mod Texts
+pub mod Tokens
+pub mod Words

@@ -1,0 +1,217 @@
+-- What is wrong with tokens of which nothing is read: the first mistake from the front, and how many tokens are left there.
+use Rattle.std.specs.Prelude.{◌≡◌, ◌-◌, ℕ, zero, suc, List, [], ◌∷◌, length, Option, Some, None, Result, Ok, Err, if◌then◌else◌, slice_get}
+use Rattle.std.specs.Str.{is_utf8}
+use Rattle.vortex_dtype.specs.TypeTree.{TypeTree, bool_type, integer_type, utf8_type, binary_type}
+use Rattle.filter_sql.specs.declared.error.Expected.{Expected}
+use Rattle.filter_sql.specs.declared.error.Expected.TheVariants as expects
+use Rattle.filter_sql.specs.declared.error.ParseError.{ParseError}
+use Rattle.filter_sql.specs.declared.error.ParseError.TheVariants as errors
+use Rattle.filter_sql.specs.declared.parsing.fault.Cause.{Cause}
+use Rattle.filter_sql.specs.declared.parsing.fault.Cause.TheVariants as causes
+use Rattle.filter_sql.specs.declared.parsing.fault.Fault.{Fault}
+use Rattle.filter_sql.specs.declared.parsing.fault.Fault.TheVariants as faults
+use Rattle.filter_sql.specs.declared.print.Level.{Level}
+use Rattle.filter_sql.specs.declared.print.Level.TheVariants as levels
+use Rattle.filter_sql.specs.declared.token.Keyword.TheVariants as keywords
+use Rattle.filter_sql.specs.Columns.{ColumnTree, column_named}
+use Rattle.filter_sql.specs.Literals.{LiteralTree, literal_of, holds_strings, pattern_prefix}
+use Rattle.filter_sql.specs.Reading.{Read, after_closing, after_comma, after_keyword, after_opening, chosen, conjunction_of, disjunction_of, escape_at, literal_at, name_at, operand_of, operator_at, predicate_at, reads, string_at}
+use Rattle.filter_sql.specs.Texts.{Item}
+use Rattle.filter_sql.specs.Tokens.{TokenTree, keyword_token, integer_token, string_token, bytes_token, comma}
+
+-- ---- what a function gave, and what reading gives
+
+-- What fails for want of memory says nothing. Else nothing is read, and the mistake is told.
+abbrev pub Fails : {Y : Type 0} → Fault → Option Y → Fault → Type 0
+Fails faults.NoMemory read mistake = Unit {0}
+Fails (faults.At left cause) read mistake = (read ≡ None) × (mistake ≡ faults.At left cause)
+
+-- what a function returned, seen by view, is what reading gives; if it fails, nothing is read, and it tells the mistake, unless
+-- memory ran out
+abbrev pub Gives : {X Y : Type 0} → (X → Y) → Result X Fault → Option Y → Fault → Type 0
+Gives view (Ok x) read mistake = read ≡ Some (view x)
+Gives view (Err e) read mistake = Fails e read mistake
+
+-- ---- single tokens
+
+-- something else had to come next
+abbrev pub expected : List TokenTree → Expected → Fault
+expected ts what = faults.At (length ts) (causes.Expected what)
+
+-- too many connectives and parentheses nest
+abbrev pub too_deep : List TokenTree → Fault
+too_deep ts = faults.At (length ts) causes.TooDeep
+
+-- why a literal of another kind is none of the type: whether the type has literals but `null`
+abbrev pub other_type : TypeTree → Cause
+other_type (bool_type n) = causes.TypesDiffer
+other_type (integer_type k n) = causes.TypesDiffer
+other_type (utf8_type n) = causes.TypesDiffer
+other_type (binary_type n) = causes.TypesDiffer
+other_type _ = causes.NoLiteral
+
+-- why a token is no literal of the type
+abbrev pub literal_cause : TypeTree → TokenTree → Cause
+literal_cause t (keyword_token keywords.True) = other_type t
+literal_cause t (keyword_token keywords.False) = other_type t
+literal_cause t (integer_token negative magnitude) = other_type t
+literal_cause t (string_token bs) = other_type t
+literal_cause t (bytes_token bs) = other_type t
+literal_cause t _ = causes.Expected expects.Literal
+
+unfoldable pub literal_mistake : TypeTree → List TokenTree → Fault
+literal_mistake t [] = expected [] expects.Literal
+literal_mistake t (x ∷ ts) = faults.At (length (x ∷ ts)) (literal_cause t x)
+
+-- ---- tests
+
+-- what is wrong later if there is a literal, else what is wrong with it
+abbrev pub behind_literal : Option LiteralTree → Fault → Fault → Fault
+behind_literal None later here = here
+behind_literal (Some l) later here = later
+
+-- behind the first literal in parentheses
+unfoldable pub more_mistake : TypeTree → List TokenTree → Fault
+more_mistake t (comma ∷ []) = literal_mistake t []
+more_mistake t (comma ∷ x ∷ ts) = behind_literal (literal_of t x) (more_mistake t ts) (literal_mistake t (x ∷ ts))
+more_mistake t ts = expected ts expects.Closing
+
+unfoldable pub cells_mistake : TypeTree → List TokenTree → Fault
+cells_mistake t ts = chosen (literal_at t ts) (λ x. more_mistake t x.1) (literal_mistake t ts)
+
+-- behind `in`
+unfoldable pub members_mistake : TypeTree → List TokenTree → Fault
+members_mistake t ts = chosen (after_opening ts) (cells_mistake t) (expected ts expects.Opening)
+
+-- behind `between`
+unfoldable pub range_mistake : TypeTree → List TokenTree → Fault
+range_mistake t ts =
+    chosen (literal_at t ts)
+    (λ lower. chosen (after_keyword keywords.And lower.1) (literal_mistake t) (expected lower.1 expects.And))
+    (literal_mistake t ts)
+
+-- behind a pattern
+unfoldable pub escape_mistake : List TokenTree → Fault
+escape_mistake ts = chosen (after_keyword keywords.Escape ts) (λ us. expected us expects.Backslash) (expected ts expects.Backslash)
+
+-- why bytes are no prefix in a column of the type: they are no string, or the column holds none
+abbrev pub text_cause : TypeTree → List ℕ → Cause
+text_cause t bs = if is_utf8 bs then other_type t else causes.Expected expects.Prefix
+
+-- behind `like`: a pattern that is none of a prefix is told at its place, once it is known whether a byte escapes
+unfoldable pub like_mistake : TypeTree → List TokenTree → Fault
+like_mistake t ts =
+    chosen (string_at ts)
+    (λ pattern. chosen (escape_at pattern.1)
+    (λ escape. chosen (pattern_prefix escape.0 pattern.0) (λ bs. faults.At (length ts) (text_cause t bs)) (expected ts expects.Prefix))
+    (escape_mistake pattern.1))
+    (expected ts expects.Prefix)
+
+unfoldable pub test_mistake : TypeTree → List TokenTree → Fault
+test_mistake t ts =
+    chosen (after_keyword keywords.In ts) (members_mistake t)
+    (chosen (after_keyword keywords.Between ts) (range_mistake t)
+    (chosen (after_keyword keywords.Like ts) (like_mistake t) (expected ts expects.Operator)))
+
+-- behind `is`
+unfoldable pub null_test_mistake : List TokenTree → Fault
+null_test_mistake ts = chosen (after_keyword keywords.Not ts) (λ us. expected us expects.Null) (expected ts expects.Null)
+
+-- behind the column's name
+unfoldable pub condition_mistake : TypeTree → List TokenTree → Fault
+condition_mistake t ts =
+    chosen (operator_at ts) (λ x. literal_mistake t x.1)
+    (chosen (after_keyword keywords.Is ts) null_test_mistake
+    (chosen (after_keyword keywords.Not ts) (test_mistake t) (test_mistake t ts)))
+
+-- ---- predicates
+
+-- why a literal of a column's type is no prefix: the column holds neither strings nor bytes, or the literal is a number
+abbrev pub prefix_cause : TypeTree → Cause
+prefix_cause t = if holds_strings t then causes.Expected expects.Prefix else causes.TypesDiffer
+
+-- behind `starts_with`
+unfoldable pub prefix_call_mistake : List ColumnTree → List TokenTree → Fault
+prefix_call_mistake columns ts =
+    chosen (after_opening ts)
+    (λ us. chosen (name_at us)
+    (λ name. chosen (column_named columns name.0)
+    (λ column. chosen (after_comma name.1)
+    (λ vs. chosen (literal_at column.1 vs)
+    (λ prefix. chosen (after_closing prefix.1) (λ ws. faults.At (length vs) (prefix_cause column.1)) (expected prefix.1 expects.Closing))
+    (literal_mistake column.1 vs))
+    (expected name.1 expects.Comma))
+    (faults.At (length us) causes.NoColumn))
+    (expected us expects.Column))
+    (expected ts expects.Opening)
+
+unfoldable pub predicate_mistake : List ColumnTree → List TokenTree → Fault
+predicate_mistake columns ts =
+    chosen (name_at ts)
+    (λ x. chosen (column_named columns x.0) (λ c. condition_mistake c.1 x.1) (faults.At (length ts) causes.NoColumn))
+    (chosen (after_keyword keywords.StartsWith ts) (prefix_call_mistake columns) (expected ts expects.Filter))
+
+-- ---- filters
+
+-- what is wrong with what was read, or behind it
+abbrev pub behind_read : Read → (List TokenTree → Fault) → Fault → Fault
+behind_read None behind here = here
+behind_read (Some x) behind here = behind x.1
+
+module _ (predicate : List TokenTree → Read) (mistake : List TokenTree → Fault) where
+  -- a filter in parentheses: its own mistake, or that they do not close
+  unfoldable pub group_mistake : (Level → List TokenTree → Read) → (Level → List TokenTree → Fault) → List TokenTree → Fault
+  group_mistake inner wrong us = behind_read (inner levels.Or us) (λ vs. expected vs expects.Closing) (wrong levels.Or us)
+
+  unfoldable pub operand_mistake : (Level → List TokenTree → Read) → (Level → List TokenTree → Fault) → List TokenTree → Fault
+  operand_mistake inner wrong ts =
+      chosen (after_keyword keywords.Not ts) (wrong levels.Not) (chosen (after_opening ts) (group_mistake inner wrong) (mistake ts))
+
+  -- its left operand's, or that of what stands behind the connective
+  unfoldable pub conjunction_mistake : (Level → List TokenTree → Read) → (Level → List TokenTree → Fault) → List TokenTree → Fault
+  conjunction_mistake inner wrong ts =
+      behind_read (operand_of predicate inner ts) (λ us. chosen (after_keyword keywords.And us) (wrong levels.And) (expected us expects.End)) (operand_mistake inner wrong ts)
+
+  unfoldable pub disjunction_mistake : (Level → List TokenTree → Read) → (Level → List TokenTree → Fault) → List TokenTree → Fault
+  disjunction_mistake inner wrong ts =
+      behind_read (conjunction_of predicate inner ts) (λ us. chosen (after_keyword keywords.Or us) (wrong levels.Or) (expected us expects.End)) (conjunction_mistake inner wrong ts)
+
+  unfoldable pub mistake_at : (Level → List TokenTree → Read) → (Level → List TokenTree → Fault) → Level → List TokenTree → Fault
+  mistake_at inner wrong levels.Or ts = disjunction_mistake inner wrong ts
+  mistake_at inner wrong levels.And ts = conjunction_mistake inner wrong ts
+  mistake_at inner wrong levels.Not ts = operand_mistake inner wrong ts
+
+  -- of a filter of a level, within which fewer than n connectives and parentheses nest
+  unfoldable pub mistakes : ℕ → Level → List TokenTree → Fault
+  mistakes zero level ts = too_deep ts
+  mistakes (suc n) level ts = mistake_at (reads predicate n) (mistakes n) level ts
+
+-- of tokens that are no filter within which at most n connectives and parentheses nest: what is wrong, or that they do not end
+unfoldable pub filter_mistake : List ColumnTree → ℕ → List TokenTree → Fault
+filter_mistake columns n ts =
+    behind_read (disjunction_of (predicate_at columns) (reads (predicate_at columns) n) ts) (λ us. expected us expects.End)
+    (disjunction_mistake (predicate_at columns) (predicate_mistake columns) (reads (predicate_at columns) n) (mistakes (predicate_at columns) (predicate_mistake columns) n) ts)
+
+-- ---- mistakes of a text
+
+-- the error of a cause at a place
+abbrev pub caused : ℕ → Cause → ParseError
+caused place (causes.Expected what) = errors.Expected place what
+caused place causes.NoColumn = errors.NoColumn place
+caused place causes.TypesDiffer = errors.TypesDiffer place
+caused place causes.NoLiteral = errors.NoLiteral place
+caused place causes.TooDeep = errors.TooDeep place
+
+-- the place of the token where so many are left, or the end
+abbrev pub place_where : List Item → ℕ → ℕ → ℕ
+place_where items end left = chosen (slice_get items (length items - left)) (λ (i : Item). i.place) end
+
+-- the error of a fault in a text with these tokens and this end
+abbrev pub error_of : List Item → ℕ → Fault → ParseError
+error_of items end faults.NoMemory = errors.OutOfMemory
+error_of items end (faults.At left cause) = caused (place_where items end left) cause
+
+-- an error that came for want of memory, or with the mistake and its place, and nothing is read of the tokens
+abbrev pub IsFaultIn : {Y : Type 0} → List Item → ℕ → Option Y → Fault → ParseError → Type 0
+IsFaultIn items end read mistake errors.OutOfMemory = Unit {0}
+IsFaultIn items end read mistake e = (read ≡ None) × (e ≡ error_of items end mistake)

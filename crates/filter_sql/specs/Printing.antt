@@ -1,0 +1,157 @@
+-- The tokens of a filter's text. `or` binds loosest, then `and`, then `not`; `and` and `or` group to the right.
+use Rattle.std.specs.Prelude.{◌==◌, ◌||◌, ◌+◌, ℕ, ℤ, pos, negsuc, suc, Bool, true, false, List, [], ◌∷◌, ◌++◌, map, slice_get, codes, if◌then◌else◌}
+use Rattle.std.specs.Fmt.{decimal}
+use Rattle.std.specs.List.{flat_map, list_any}
+use Rattle.std.specs.Option.{unwrap_or}
+use Rattle.std.specs.String.{string_bytes}
+use Rattle.vortex_cells.specs.Cells.{Cell}
+use Rattle.vortex_value.specs.Values.Content.{Content, null, truth, whole, text, string}
+use Rattle.filter_sql.specs.declared.column.Column.{Column}
+use Rattle.vortex_filter.specs.declared.operator.CompareOperator.{CompareOperator}
+use Rattle.filter_sql.specs.declared.print.Level.{Level}
+use Rattle.filter_sql.specs.declared.print.Level.TheVariants as levels
+use Rattle.filter_sql.specs.declared.token.Keyword.{Keyword}
+use Rattle.filter_sql.specs.declared.token.Keyword.TheVariants as keywords
+use Rattle.vortex_filter.specs.declared.truth.Truth.{Truth}
+use Rattle.vortex_filter.specs.declared.truth.Truth.TheVariants as truths
+use Rattle.vortex_filter.specs.Formula.{Formula, constant, comparison, null_test, membership, range, prefix_test, both, either, negation}
+use Rattle.filter_sql.specs.Tokens.{TokenTree, keyword_token, name_token, integer_token, string_token, bytes_token, operator_token, opening, closing, comma, verbatim, canonical}
+
+-- ---- columns and literals
+
+-- the name of the column at this place, or $1, $2 and so on if there is none
+abbrev pub column_name : List (List ℕ) → ℕ → List ℕ
+column_name names k = unwrap_or (slice_get names k) (36 ∷ decimal (k + 1))
+
+abbrev pub column_token : List (List ℕ) → ℕ → TokenTree
+column_token names k = name_token (column_name names k)
+
+abbrev pub truth_keyword : Bool → Keyword
+truth_keyword true = keywords.True
+truth_keyword false = keywords.False
+
+abbrev pub number_token : ℤ → TokenTree
+number_token (pos n) = integer_token false n
+number_token (negsuc n) = integer_token true (suc n)
+
+-- a content as SQL writes it, and a question mark where SQL has no literal
+abbrev pub content_token : Content → TokenTree
+content_token null = keyword_token keywords.Null
+content_token (truth b) = keyword_token (truth_keyword b)
+content_token (whole z) = number_token z
+content_token (text bs) = string_token bs
+content_token (string bs) = bytes_token bs
+content_token _ = verbatim (codes "?")
+
+abbrev pub literal_token : Cell → TokenTree
+literal_token x = content_token x.content
+
+-- literals with commas between them
+abbrev pub literal_tokens : List Cell → List TokenTree
+literal_tokens [] = []
+literal_tokens (x ∷ []) = literal_token x ∷ []
+literal_tokens (x ∷ y ∷ xs) = literal_token x ∷ comma ∷ literal_tokens (y ∷ xs)
+
+-- ---- prefixes
+
+-- what has a meaning of its own in a pattern: %, _ and \
+abbrev pub is_special : ℕ → Bool
+is_special b = (b == 37 || b == 95) || b == 92
+
+abbrev pub escaped_byte : ℕ → List ℕ
+escaped_byte b = if is_special b then 92 ∷ b ∷ [] else b ∷ []
+
+-- the pattern of the strings that begin so: each special byte with a \ before it, and then %
+abbrev pub prefix_pattern : List ℕ → List ℕ
+prefix_pattern prefix = flat_map escaped_byte prefix ++ 37 ∷ []
+
+-- which byte escapes, if one is escaped
+abbrev pub escape_tokens : List ℕ → List TokenTree
+escape_tokens prefix = if list_any is_special prefix then keyword_token keywords.Escape ∷ string_token (92 ∷ []) ∷ [] else []
+
+abbrev pub like_tokens : TokenTree → List ℕ → List TokenTree
+like_tokens column prefix = column ∷ keyword_token keywords.Like ∷ string_token (prefix_pattern prefix) ∷ escape_tokens prefix
+
+abbrev pub starts_with_tokens : TokenTree → Content → List TokenTree
+starts_with_tokens column prefix = keyword_token keywords.StartsWith ∷ opening ∷ column ∷ comma ∷ content_token prefix ∷ closing ∷ []
+
+-- a string by `like`, anything else by `starts_with`
+abbrev pub prefix_tokens : TokenTree → Content → List TokenTree
+prefix_tokens column (text bs) = like_tokens column bs
+prefix_tokens column prefix = starts_with_tokens column prefix
+
+-- ---- formulas
+
+abbrev pub constant_keyword : Truth → Keyword
+constant_keyword truths.True = keywords.True
+constant_keyword truths.False = keywords.False
+constant_keyword truths.Unknown = keywords.Null
+
+-- tokens in parentheses, if they are needed
+abbrev pub grouped : Bool → List TokenTree → List TokenTree
+grouped true ts = opening ∷ (ts ++ closing ∷ [])
+grouped false ts = ts
+
+-- whether `or`, and whether `and`, needs parentheses in a place where only this level may stand bare, and what binds tighter
+abbrev pub groups_or : Level → Bool
+groups_or levels.Or = false
+groups_or levels.And = true
+groups_or levels.Not = true
+
+abbrev pub groups_and : Level → Bool
+groups_and levels.Or = false
+groups_and levels.And = false
+groups_and levels.Not = true
+
+-- `not`, where it stands inside a test
+abbrev pub not_tokens : Bool → List TokenTree
+not_tokens true = keyword_token keywords.Not ∷ []
+not_tokens false = []
+
+abbrev pub comparison_tokens : List (List ℕ) → ℕ → CompareOperator → Cell → List TokenTree
+comparison_tokens names k op literal = column_token names k ∷ operator_token op ∷ literal_token literal ∷ []
+
+-- what stands behind the column
+abbrev pub null_test_tokens : Bool → List TokenTree
+null_test_tokens negated = keyword_token keywords.Is ∷ (not_tokens negated ++ keyword_token keywords.Null ∷ [])
+
+abbrev pub membership_tokens : Bool → List Cell → List TokenTree
+membership_tokens negated literals = not_tokens negated ++ (keyword_token keywords.In ∷ opening ∷ (literal_tokens literals ++ closing ∷ []))
+
+abbrev pub range_tokens : Bool → Cell → Cell → List TokenTree
+range_tokens negated lower upper =
+    not_tokens negated ++ (keyword_token keywords.Between ∷ literal_token lower ∷ keyword_token keywords.And ∷ literal_token upper ∷ [])
+
+-- the tokens of a formula in a place where this level may stand bare
+abbrev pub tokens_at : List (List ℕ) → Level → Formula → List TokenTree
+tokens_at names level (constant t) = keyword_token (constant_keyword t) ∷ []
+tokens_at names level (comparison k op literal) = comparison_tokens names k op literal
+tokens_at names level (null_test k) = column_token names k ∷ null_test_tokens false
+tokens_at names level (membership k literals) = column_token names k ∷ membership_tokens false literals
+tokens_at names level (range k lower upper) = column_token names k ∷ range_tokens false lower upper
+tokens_at names level (prefix_test k prefix) = prefix_tokens (column_token names k) prefix.content
+tokens_at names level (both p q) = grouped (groups_and level) (tokens_at names levels.Not p ++ (keyword_token keywords.And ∷ tokens_at names levels.And q))
+tokens_at names level (either p q) = grouped (groups_or level) (tokens_at names levels.And p ++ (keyword_token keywords.Or ∷ tokens_at names levels.Or q))
+tokens_at names level (negation (null_test k)) = column_token names k ∷ null_test_tokens true
+tokens_at names level (negation (membership k literals)) = column_token names k ∷ membership_tokens true literals
+tokens_at names level (negation (range k lower upper)) = column_token names k ∷ range_tokens true lower upper
+tokens_at names level (negation p) = keyword_token keywords.Not ∷ tokens_at names levels.Not p
+
+-- of two formulas with `and`, and with `or`, between them
+abbrev pub and_tokens : List (List ℕ) → Formula → Formula → List TokenTree
+and_tokens names p q = tokens_at names levels.Not p ++ (keyword_token keywords.And ∷ tokens_at names levels.And q)
+
+abbrev pub or_tokens : List (List ℕ) → Formula → Formula → List TokenTree
+or_tokens names p q = tokens_at names levels.And p ++ (keyword_token keywords.Or ∷ tokens_at names levels.Or q)
+
+-- the tokens of a formula's text
+abbrev pub tokens_of : List (List ℕ) → Formula → List TokenTree
+tokens_of names f = tokens_at names levels.Or f
+
+-- the names of columns
+abbrev pub names_of : List Column → List (List ℕ)
+names_of columns = map (λ c. string_bytes c.name) columns
+
+-- a formula as SQL text
+abbrev pub sql_text : List (List ℕ) → Formula → List ℕ
+sql_text names f = canonical (tokens_of names f)

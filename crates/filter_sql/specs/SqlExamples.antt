@@ -1,0 +1,125 @@
+-- Worked cases of SQL text, each a theorem.
+use Rattle.std.specs.Prelude.{◌≡◌, ⊤, true, false, pos, negsuc, List, [], ◌∷◌, refl, codes, Ok, Err}
+use Rattle.std.specs.Fmt.{digits}
+use Rattle.hex.specs.Hex.{decode_pairs, encode_with}
+use Rattle.vortex_dtype.specs.TypeTree.{integer_type, null_type}
+use Rattle.vortex_dtype.specs.declared.nullability.Nullability.TheVariants.{Nullable}
+use Rattle.vortex_dtype.specs.declared.ptype.PType.TheVariants.{I32}
+use Rattle.vortex_cells.specs.Cells.{Cell}
+use Rattle.vortex_value.specs.Values.Content.{Content, null, whole, text, string}
+use Rattle.vortex_filter.specs.declared.operator.CompareOperator.TheVariants.{NotEq, Gte, Lt, Eq}
+use Rattle.filter_sql.specs.declared.lex.Fault.TheVariants.{BadText, NumberTooLong}
+use Rattle.filter_sql.specs.declared.error.Expected.TheVariants as expects
+use Rattle.filter_sql.specs.declared.parsing.fault.Cause.TheVariants as causes
+use Rattle.filter_sql.specs.declared.parsing.fault.Fault.TheVariants as faults
+use Rattle.filter_sql.specs.declared.token.Keyword.TheVariants.{And, In, Not, Or}
+use Rattle.filter_sql.specs.declared.token.Keyword.TheVariants as keywords
+use Rattle.vortex_filter.specs.declared.truth.Truth.TheVariants.{True, Unknown}
+use Rattle.vortex_filter.specs.Formula.{Formula, constant, comparison, null_test, membership, range, prefix_test, both, either, negation}
+use Rattle.filter_sql.specs.Lexing.{bytes_at, integer_at, mark_of, parameter_at, signed_at, token_at, unquoted_at, word_at}
+use Rattle.filter_sql.specs.Tokens.{bytes_token, closing, integer_token, keyword_named, keyword_token, name_token, opening, operator_token, string_token}
+use Rattle.filter_sql.specs.Printing.{sql_text}
+use Rattle.filter_sql.specs.Columns.{ColumnTree, column_named, numbered_place}
+use Rattle.filter_sql.specs.Literals.{literal_of, pattern_prefix}
+use Rattle.filter_sql.specs.Mistakes.{cells_mistake, condition_mistake, conjunction_mistake, disjunction_mistake, escape_mistake, filter_mistake, group_mistake, like_mistake, literal_mistake, members_mistake, mistake_at, mistakes, more_mistake, operand_mistake, predicate_mistake, test_mistake}
+use Rattle.filter_sql.specs.Reading.{after_closing, after_comma, after_keyword, after_opening, and_from, cells_at, comparison_at, condition_at, conjunction_of, constant_at, disjunction_of, escape_at, group_of, like_at, literal_at, members_at, more_cells, name_at, operand_from, operand_of, operator_at, or_from, predicate_at, read_at, reads, string_at, test_at, text_prefix}
+
+-- what the proofs compute by
+unfoldable on_texts : ⊤
+unfolding bytes_at decode_pairs digits encode_with integer_at keyword_named mark_of parameter_at signed_at token_at unquoted_at word_at
+on_texts = tt
+
+-- Tokens, and what follows each.
+
+pub operators_are_longest :
+    (token_at (codes "<>1") ≡ Ok (operator_token NotEq, codes "1")) × (token_at (codes ">= 1") ≡ Ok (operator_token Gte, codes " 1")) × (token_at (codes "<-1") ≡ Ok (operator_token Lt, codes "-1"))
+unfolding on_texts
+operators_are_longest = (refl, refl, refl)
+
+pub keywords_are_of_any_case : (token_at (codes "AnD x") ≡ Ok (keyword_token And, codes " x")) × (token_at (codes "andy") ≡ Ok (name_token (codes "andy"), []))
+unfolding on_texts
+keywords_are_of_any_case = (refl, refl)
+
+pub names : (token_at (codes "\"a\"\"b\"<") ≡ Ok (name_token (codes "a\"b"), codes "<")) × (token_at (codes "$12)") ≡ Ok (name_token (codes "$12"), codes ")")) × (token_at (codes "$)") ≡ Err BadText)
+unfolding on_texts
+names = (refl, refl, refl)
+
+pub strings : (token_at (codes "'it''s' x") ≡ Ok (string_token (codes "it's"), codes " x")) × (token_at (codes "''") ≡ Ok (string_token [], [])) × (token_at (codes "'it''s") ≡ Err BadText)
+unfolding on_texts
+strings = (refl, refl, refl)
+
+-- an even number of digits in either case
+pub strings_of_bytes :
+    (token_at (codes "X'00fF',") ≡ Ok (bytes_token (0 ∷ 255 ∷ []), codes ",")) × (token_at (codes "x'0g'") ≡ Err BadText) × (token_at (codes "x'0'") ≡ Err BadText) × (token_at (codes "x'00") ≡ Err BadText)
+unfolding on_texts
+strings_of_bytes = (refl, refl, refl, refl)
+
+-- below 2 ^ 64
+pub numbers :
+    (token_at (codes "-12)") ≡ Ok (integer_token true 12, codes ")")) × (token_at (codes "- 12") ≡ Err BadText)
+    × (token_at (codes "18446744073709551615") ≡ Ok (integer_token false 0xffff_ffff_ffff_ffff, [])) × (token_at (codes "18446744073709551616") ≡ Err NumberTooLong)
+unfolding on_texts
+numbers = (refl, refl, refl, refl)
+
+-- Formulas.
+
+abbrev pub cell : Content → Cell
+cell c = record { typed = null_type; content = c }
+
+abbrev pub is_one : Formula
+is_one = comparison 0 Eq (cell (whole (pos 1)))
+
+pub connectives :
+    (sql_text [] (either (both is_one (null_test 1)) (constant True)) ≡ codes "\"$1\" = 1 and \"$2\" is null or true")
+    × (sql_text [] (both (either is_one (null_test 1)) (negation (constant Unknown))) ≡ codes "(\"$1\" = 1 or \"$2\" is null) and not null")
+    × (sql_text [] (both (both is_one is_one) is_one) ≡ codes "(\"$1\" = 1 and \"$1\" = 1) and \"$1\" = 1")
+unfolding on_texts
+connectives = (refl, refl, refl)
+
+pub tests :
+    (sql_text (codes "a\"b" ∷ []) (negation (null_test 0)) ≡ codes "\"a\"\"b\" is not null")
+    × (sql_text [] (negation (membership 0 (cell (text (codes "it's")) ∷ cell null ∷ []))) ≡ codes "\"$1\" not in ('it''s', null)")
+    × (sql_text [] (range 0 (cell (whole (negsuc 4))) (cell (whole (pos 5)))) ≡ codes "\"$1\" between -5 and 5")
+unfolding on_texts
+tests = (refl, refl, refl)
+
+pub prefixes :
+    (sql_text [] (prefix_test 0 (cell (text (codes "abc")))) ≡ codes "\"$1\" like 'abc%'")
+    × (sql_text [] (prefix_test 0 (cell (text (codes "50%'")))) ≡ codes "\"$1\" like '50\\%''%' escape '\\'")
+    × (sql_text [] (prefix_test 0 (cell (string (97 ∷ 255 ∷ [])))) ≡ codes "starts_with(\"$1\", x'61ff')")
+unfolding on_texts
+prefixes = (refl, refl, refl)
+
+-- Mistakes, by how many tokens are left.
+
+abbrev pub one_column : List ColumnTree
+one_column = record { name = codes "a"; typed = integer_type I32 Nullable } ∷ []
+
+-- what the proofs compute by
+unfoldable on_mistakes : ⊤
+unfolding after_closing after_comma after_keyword after_opening and_from cells_at cells_mistake column_named comparison_at condition_at condition_mistake conjunction_mistake conjunction_of constant_at disjunction_mistake disjunction_of escape_at escape_mistake filter_mistake group_mistake group_of like_at like_mistake literal_at literal_mistake literal_of members_at members_mistake mistake_at mistakes more_cells more_mistake name_at numbered_place operand_from operand_mistake operand_of operator_at or_from pattern_prefix predicate_at predicate_mistake read_at reads string_at test_at test_mistake text_prefix
+on_mistakes = tt
+
+-- a 3
+pub no_operator : filter_mistake one_column 9 (name_token (codes "a") ∷ integer_token false 3 ∷ []) ≡ faults.At 1 (causes.Expected expects.Operator)
+unfolding on_mistakes
+no_operator = refl
+
+-- a in (1 2), and: true or b = 1
+pub mistakes_behind :
+    (filter_mistake one_column 9 (name_token (codes "a") ∷ keyword_token In ∷ opening ∷ integer_token false 1 ∷ integer_token false 2 ∷ closing ∷ []) ≡ faults.At 2 (causes.Expected expects.Closing))
+    × (filter_mistake one_column 9 (keyword_token keywords.True ∷ keyword_token Or ∷ name_token (codes "b") ∷ operator_token Eq ∷ integer_token false 1 ∷ []) ≡ faults.At 3 causes.NoColumn)
+unfolding on_mistakes
+mistakes_behind = (refl, refl)
+
+-- (a = 1, and: a = 'x'
+pub mistakes_at_last :
+    (filter_mistake one_column 9 (opening ∷ name_token (codes "a") ∷ operator_token Eq ∷ integer_token false 1 ∷ []) ≡ faults.At 0 (causes.Expected expects.Closing))
+    × (filter_mistake one_column 9 (name_token (codes "a") ∷ operator_token Eq ∷ string_token (codes "x") ∷ []) ≡ faults.At 1 causes.TypesDiffer)
+unfolding on_mistakes
+mistakes_at_last = (refl, refl)
+
+-- not not true, where one may nest
+pub too_deep_there : filter_mistake one_column 1 (keyword_token Not ∷ keyword_token Not ∷ keyword_token keywords.True ∷ []) ≡ faults.At 1 causes.TooDeep
+unfolding on_mistakes
+too_deep_there = refl

@@ -1,0 +1,117 @@
+//! Why SQL text was refused.
+
+ghost use Rattle.std.specs.Prelude.{◌≡◌};
+ghost use Rattle.filter_sql.specs.declared.error.ParseError.TheVariants.{OutOfMemory};
+
+use std::alloc::{AllocError, AllocFailed};
+use thiserror::Error;
+
+/// What had to come next. Texts are for people and are not promised.
+#[derive(Clone, Copy, Debug, PartialEq, Eq, Error)]
+pub enum Expected {
+    /// `(`, `not`, a column, `starts_with` or a constant.
+    #[error("a filter")]
+    Filter,
+    /// The name of a column.
+    #[error("a column")]
+    Column,
+    /// A comparison, `is`, `in`, `between` or `like`, the last three perhaps after `not`.
+    #[error("an operator")]
+    Operator,
+    /// `null`, `true`, `false`, a number, a string or bytes.
+    #[error("a literal")]
+    Literal,
+    /// The pattern of a prefix: no wildcard but a `%` at its end.
+    #[error("a string that ends in its only wildcard, %")]
+    Prefix,
+    /// `'\'`, the one byte that escapes.
+    #[error("'\\'")]
+    Backslash,
+    /// `null`.
+    #[error("null")]
+    Null,
+    /// `and`.
+    #[error("and")]
+    And,
+    /// `(`.
+    #[error("(")]
+    Opening,
+    /// `)`.
+    #[error(")")]
+    Closing,
+    /// A comma.
+    #[error("a comma")]
+    Comma,
+    /// The end of the text.
+    #[error("the end")]
+    End,
+}
+
+/// Why text is no filter. A place is one of a byte of the text, or its end. Texts are for people and
+/// are not promised.
+#[derive(Clone, Copy, Debug, PartialEq, Eq, Error)]
+pub enum ParseError {
+    /// An allocation was refused.
+    #[error("out of memory")]
+    OutOfMemory,
+    /// Something else had to come here.
+    #[error("byte {place}: expected {expected}")]
+    Expected { place: usize, expected: Expected },
+    /// No column has this name.
+    #[error("byte {place}: no such column")]
+    NoColumn { place: usize },
+    /// The column's type has no value like this literal: a string for a number.
+    #[error("byte {place}: a literal of another type than the column")]
+    TypesDiffer { place: usize },
+    /// No literal but `null` can be written for values of the column's type.
+    #[error("byte {place}: no literal is of the column's type")]
+    NoLiteral { place: usize },
+    /// The digits are a number of 2^64 or more.
+    #[error("byte {place}: the number is too long")]
+    NumberTooLong { place: usize },
+    /// No token begins so, or what begins here does not end.
+    #[error("byte {place}: no token")]
+    BadText { place: usize },
+    /// Parentheses and operators nest deeper than is read.
+    #[error("byte {place}: nested too deep")]
+    TooDeep { place: usize },
+}
+
+/// Out of memory, whatever was asked for.
+impl From<AllocError> for ParseError {
+    ghost from_gives = { λ _ e. e ≡ OutOfMemory };
+
+    fn from(_error: AllocError) -> ParseError {
+        ParseError::OutOfMemory
+    }
+}
+
+/// Out of memory; what was to be kept is dropped.
+impl<T: Drop> From<AllocFailed<T>> for ParseError {
+    ghost from_gives = { λ _ e. e ≡ OutOfMemory };
+
+    fn from(_error: AllocFailed<T>) -> ParseError {
+        ParseError::OutOfMemory
+    }
+}
+
+impl ParseError {
+    ghost use Rattle.std.specs.Prelude.{◌≡◌};
+    ghost use Rattle.filter_sql.specs.Faults.{place_of};
+
+    /// The place in the text, if the error has one.
+    pub fn place(&self) -> Option<usize>
+        ensures { result ≡ place_of self.now }
+    {
+        match self {
+            ParseError::OutOfMemory => None,
+            ParseError::Expected { place, expected: _ }
+            | ParseError::NoColumn { place }
+            | ParseError::TypesDiffer { place }
+            | ParseError::NoLiteral { place }
+            | ParseError::NumberTooLong { place }
+            | ParseError::BadText { place }
+            | ParseError::TooDeep { place } => Some(*place),
+        }
+    }
+}

@@ -1,0 +1,321 @@
+//! Cuts SQL text into tokens.
+#![tactic(auto, using(crate::proofs::Cuts::cuts))]
+
+ghost use Rattle.std.specs.Prelude.{◌≡◌, ◌≢◌, ◌+◌, ◌-◌, true, Ok, ◌<◌, ◌≤◌, drop, get_or, length, take, List, IfErr, IfOk, IfSome, IfNone, MatchResult, option_map};
+ghost use Rattle.std.specs.List.{AllByRecursion, prefix_len};
+ghost use Rattle.std.specs.Char.{is_ascii_digit};
+ghost use Rattle.std.specs.Str.{IsUtf8};
+ghost use Rattle.filter_sql.specs.Words.{AreItemsOf, AreTokens, IsPlaced, IsRefusal, TokenTree, canonical, fault_at, items, trees, Gives, name_token, quoted_token, string_bytes, bytes_at, integer_at, is_word_byte, is_word_start, keyword_named, keyword_text, mark_of, parameter_at, quoted_at, signed_at, token_at, token_tree, unquoted_at, view, word_at};
+
+use crate::error::ParseError;
+use crate::token::{Keyword, Placed, Token};
+use hex::FromHexError;
+use std::alloc::{AllocError, Global};
+use vortex_filter::CompareOperator;
+
+/// Why no token was read.
+#[derive(Clone, Copy, Debug, PartialEq, Eq)]
+pub(crate) enum Fault {
+    OutOfMemory,
+    NumberTooLong,
+    BadText,
+}
+
+const KEYWORDS: [Keyword; 12] = [
+    Keyword::And,
+    Keyword::Or,
+    Keyword::Not,
+    Keyword::In,
+    Keyword::Is,
+    Keyword::Null,
+    Keyword::Between,
+    Keyword::Like,
+    Keyword::Escape,
+    Keyword::True,
+    Keyword::False,
+    Keyword::StartsWith,
+];
+
+/// The word in lower case.
+pub(crate) fn keyword_text(keyword: Keyword) -> &'static str
+    ensures { result.now ≡ keyword_text keyword }
+{
+    match keyword {
+        Keyword::And => "and",
+        Keyword::Or => "or",
+        Keyword::Not => "not",
+        Keyword::In => "in",
+        Keyword::Is => "is",
+        Keyword::Null => "null",
+        Keyword::Between => "between",
+        Keyword::Like => "like",
+        Keyword::Escape => "escape",
+        Keyword::True => "true",
+        Keyword::False => "false",
+        Keyword::StartsWith => "starts_with",
+    }
+}
+
+/// The keyword that the word is, in any case.
+#[tactic(auto, using(crate::proofs::Cuts::cuts), unfolding(crate::specs::Tokens::keyword_named))]
+fn keyword_named(word: &str) -> Option<Keyword>
+    ensures { result ≡ keyword_named word.now }
+{
+    for keyword in KEYWORDS {
+        if word.eq_ignore_ascii_case(keyword_text(keyword)) {
+            return Some(keyword);
+        }
+    }
+    None
+}
+
+fn is_word_start(byte: u8) -> bool
+    ensures { result ≡ is_word_start byte }
+{
+    byte.is_ascii_alphabetic() || byte == b'_'
+}
+
+fn is_word_byte(byte: u8) -> bool
+    ensures { result ≡ is_word_byte byte }
+{
+    is_word_start(byte) || byte.is_ascii_digit()
+}
+
+/// What follows so many bytes; the last of them is ASCII.
+fn past(text: &str, count: usize) -> &str
+    requires some { 0 < count }
+    requires within { count ≤ length text.now }
+    requires ascii { get_or text.now (count - 1) 0 < 128 }
+    ensures { result.now ≡ drop count text.now }
+{
+    &text[count..]
+}
+
+/// The token of one or two bytes that stand first in a text, and how many it takes.
+#[tactic(auto, using(crate::proofs::Cuts::cuts), unfolding(crate::specs::Lexing::mark_of))]
+fn mark(first: u8, second: u8) -> Option<(Token, usize)>
+    ensures token { option_map (λ m. (token_tree m.0, m.1)) result ≡ mark_of first second }
+    ensures short { IfSome result (λ m. (0 < m.1) × (m.1 ≤ 2)) }
+    ensures first { IfSome result (λ m. m.1 ≡ 1 → first < 128) }
+    ensures second { IfSome result (λ m. m.1 ≡ 2 → (0 < second) × (second < 128)) }
+{
+    let (token, count) = match (first, second) {
+        (b'(', _) => (Token::Open, 1),
+        (b')', _) => (Token::Close, 1),
+        (b',', _) => (Token::Comma, 1),
+        (b'=', _) => (Token::Operator(CompareOperator::Eq), 1),
+        (b'<', b'=') => (Token::Operator(CompareOperator::Lte), 2),
+        (b'<', b'>') => (Token::Operator(CompareOperator::NotEq), 2),
+        (b'<', _) => (Token::Operator(CompareOperator::Lt), 1),
+        (b'>', b'=') => (Token::Operator(CompareOperator::Gte), 2),
+        (b'>', _) => (Token::Operator(CompareOperator::Gt), 1),
+        (b'!', b'=') => (Token::Operator(CompareOperator::NotEq), 2),
+        _ => return None,
+    };
+    Some((token, count))
+}
+
+/// What stands before the lone quote, each doubled quote once, and what follows it.
+fn unquoted(alloc: Global, text: &str, quote: char) -> Result<Option<(String, &str)>, AllocError>
+    requires { quote < 128 }
+    ensures { IfOk result (λ found. option_map (λ x. (string_bytes x.0, x.1.now)) found ≡ unquoted_at quote text.now) }
+{
+    let mut content = String::new(alloc);
+    let mut rest = text;
+    while let Some((part, after)) = rest.split_once(quote) {
+        content.push_str(part)?;
+        match after.strip_prefix(quote) {
+            Some(more) => {
+                content.push(quote)?;
+                rest = more;
+            }
+            None => return Ok(Some((content, after))),
+        }
+    }
+    Ok(None)
+}
+
+/// A name or a string, behind its first quote.
+fn quoted(alloc: Global, text: &str, quote: char) -> Result<(Token, &str), Fault>
+    requires { quote < 128 }
+    ensures { Gives view result (quoted_at quote text.now) }
+{
+    match unquoted(alloc, text, quote) {
+        Ok(Some((content, after))) => Ok((quoted_token(content, quote), after)),
+        Ok(None) => Err(Fault::BadText),
+        Err(_) => Err(Fault::OutOfMemory),
+    }
+}
+
+fn quoted_token(content: String, quote: char) -> Token
+    ensures { token_tree result ≡ quoted_token quote (string_bytes content) }
+{
+    if quote == '"' {
+        Token::Name(content)
+    } else {
+        Token::Text(content)
+    }
+}
+
+/// The bytes behind `x'`.
+#[tactic(auto, using(crate::proofs::Cuts::cuts), unfolding(crate::specs::Lexing::bytes_at))]
+fn hexadecimal(alloc: Global, text: &str) -> Result<(Token, &str), Fault>
+    ensures { Gives view result (bytes_at text.now) }
+{
+    let Some((digits, after)) = text.split_once('\'') else {
+        return Err(Fault::BadText);
+    };
+    match hex::decode(alloc, digits) {
+        Ok(bytes) => Ok((Token::Bytes(bytes), after)),
+        Err(FromHexError::OutOfMemory) => Err(Fault::OutOfMemory),
+        Err(_) => Err(Fault::BadText),
+    }
+}
+
+/// How many digits stand first.
+fn digits_len(text: &[u8]) -> usize
+    ensures { result ≡ prefix_len is_ascii_digit text.now }
+{
+    text.iter().take_while(|byte| byte.is_ascii_digit()).count()
+}
+
+/// The number whose digits stand first.
+#[tactic(auto, using(crate::proofs::Cuts::cuts), unfolding(crate::specs::Lexing::integer_at))]
+fn magnitude(text: &str, is_negative: bool) -> Result<(Token, &str), Fault>
+    ensures { Gives view result (integer_at is_negative text.now) }
+{
+    let count = digits_len(text.as_bytes());
+    if count == 0 {
+        return Err(Fault::BadText);
+    }
+    let after = past(text, count);
+    match text[..count].parse::<u64>() {
+        Ok(magnitude) => Ok((
+            Token::Integer {
+                is_negative,
+                magnitude,
+            },
+            after,
+        )),
+        Err(_) => Err(Fault::NumberTooLong),
+    }
+}
+
+/// A number, with a minus sign or none.
+#[tactic(auto, using(crate::proofs::Cuts::cuts), unfolding(crate::specs::Lexing::signed_at))]
+fn integer(text: &str) -> Result<(Token, &str), Fault>
+    ensures { Gives view result (signed_at text.now) }
+{
+    match text.strip_prefix('-') {
+        Some(digits) => magnitude(digits, true),
+        None => magnitude(text, false),
+    }
+}
+
+/// A name such as `$1`.
+#[tactic(auto, using(crate::proofs::Cuts::cuts), unfolding(crate::specs::Lexing::parameter_at))]
+fn parameter(alloc: Global, text: &str) -> Result<(Token, &str), Fault>
+    requires some { 0 < length text.now }
+    requires dollar { get_or text.now 0 0 ≡ 36 }
+    ensures { Gives view result (parameter_at text.now) }
+{
+    let digits = past(text, 1);
+    let count = digits_len(digits.as_bytes());
+    if count == 0 {
+        return Err(Fault::BadText);
+    }
+    let after = past(digits, count);
+    name(alloc, text, text.len() - after.len())
+}
+
+/// The bare name of so many bytes.
+fn name(alloc: Global, text: &str, count: usize) -> Result<(Token, &str), Fault>
+    requires some { 0 < count }
+    requires within { count ≤ length text.now }
+    requires ascii { get_or text.now (count - 1) 0 < 128 }
+    ensures { Gives view result (Ok (name_token (take count text.now), drop count text.now)) }
+{
+    let after = past(text, count);
+    match String::from_str(alloc, &text[..count]) {
+        Ok(content) => Ok((Token::Name(content), after)),
+        Err(_) => Err(Fault::OutOfMemory),
+    }
+}
+
+/// How many bytes of a word stand first.
+fn word_len(text: &[u8]) -> usize
+    ensures { result ≡ prefix_len is_word_byte text.now }
+{
+    text.iter().take_while(|byte| is_word_byte(**byte)).count()
+}
+
+/// A keyword or a bare name.
+#[tactic(auto, using(crate::proofs::Cuts::cuts), unfolding(crate::specs::Lexing::word_at))]
+fn word(alloc: Global, text: &str) -> Result<(Token, &str), Fault>
+    requires { is_word_start (get_or text.now 0 0) ≡ true }
+    ensures { Gives view result (word_at text.now) }
+{
+    let count = word_len(text.as_bytes());
+    match keyword_named(&text[..count]) {
+        Some(keyword) => Ok((Token::Keyword(keyword), past(text, count))),
+        None => name(alloc, text, count),
+    }
+}
+
+/// The first token of the text, which has no white space first, and what follows it.
+#[tactic(auto, using(crate::proofs::Cuts::cuts), unfolding(crate::specs::Lexing::token_at))]
+fn first_token(alloc: Global, text: &str) -> Result<(Token, &str), Fault>
+    requires { 0 < length text.now }
+    ensures { Gives view result (token_at text.now) }
+{
+    let bytes = text.as_bytes();
+    let first = bytes[0];
+    let second = if bytes.len() > 1 { bytes[1] } else { 0 };
+    if let Some((token, count)) = mark(first, second) {
+        return Ok((token, past(text, count)));
+    }
+    match first {
+        b'"' => quoted(alloc, past(text, 1), '"'),
+        b'\'' => quoted(alloc, past(text, 1), '\''),
+        b'-' | b'0'..=b'9' => integer(text),
+        b'$' => parameter(alloc, text),
+        b'x' | b'X' if second == b'\'' => hexadecimal(alloc, past(text, 2)),
+        _ if is_word_start(first) => word(alloc, text),
+        _ => Err(Fault::BadText),
+    }
+}
+
+/// The fault, at its place.
+fn at(fault: Fault, place: usize) -> ParseError
+    ensures { result ≡ fault_at fault place }
+{
+    match fault {
+        Fault::OutOfMemory => ParseError::OutOfMemory,
+        Fault::NumberTooLong => ParseError::NumberTooLong { place },
+        Fault::BadText => ParseError::BadText { place },
+    }
+}
+
+/// The tokens of the text, each with its place.
+pub(crate) fn lex(alloc: Global, text: &str) -> Result<Vec<Placed>, ParseError>
+    ensures found { IfOk result (λ placed. AreItemsOf text.now (items placed.items)) }
+    ensures refused { IfErr result (IsRefusal text.now) }
+    ensures canonical { (ts : List TokenTree) → AreTokens ts → text.now ≡ canonical ts →
+        MatchResult result (λ placed. trees placed.items ≡ ts) (λ e. e ≡ ParseError.OutOfMemory) }
+    ensures places { IfOk result (λ placed. AllByRecursion (λ p. p.place ≤ length text.now) placed.items) }
+    ensures place { IfErr result (IsPlaced (length text.now)) }
+{
+    let mut placed = Vec::new(alloc);
+    let mut rest = text.trim_ascii_start();
+    while !rest.is_empty() {
+        let place = text.len() - rest.len();
+        match first_token(alloc, rest) {
+            Ok((token, after)) => {
+                placed.push(Placed { token, place })?;
+                rest = after.trim_ascii_start();
+            }
+            Err(fault) => return Err(at(fault, place)),
+        }
+    }
+    Ok(placed)
+}

@@ -1,0 +1,16 @@
+// SPDX-License-Identifier: Apache-2.0
+// SPDX-FileCopyrightText: Copyright the Vortex contributors; ported to Rattle and changed
+//! Filters as SQL text: read over columns by name and type, and printed.
+#![tactic(auto)]
+
+mod column;
+mod error;
+mod lex;
+mod parsing;
+mod print;
+mod token;
+
+pub use column::Column;
+pub use error::{Expected, ParseError};
+pub use parsing::{MAX_DEPTH, parse, parse_within};
+pub use print::Sql;

@@ -1,0 +1,150 @@
+//! Filters from SQL text.
+
+mod columns;
+mod conditions;
+mod fault;
+mod filters;
+mod formulas;
+mod literals;
+mod predicates;
+mod tokens;
+
+ghost use Rattle.std.specs.Prelude.{◌≡◌, ◌≤◌, ℕ, List, IfErr, IfOk, Some, length};
+ghost use Rattle.std.specs.List.{AllByRecursion};
+ghost use Rattle.vortex_filter.specs.Checking.{FitsColumns};
+ghost use Rattle.filter_sql.specs.Columns.{column_trees};
+ghost use Rattle.filter_sql.specs.Faults.{IsPlaced};
+ghost use Rattle.vortex_filter.specs.FilterLiterals.{AreValid, literals_of};
+ghost use Rattle.vortex_filter.specs.Formula.{Formula, formula};
+ghost use Rattle.filter_sql.specs.Parsing.{AllOrdered, IsReadable, IsSql, IsSqlWithin, ReadsAs, RefusesSql, RefusesSqlWithin, depth, depth as text_depth, types_of};
+ghost use Rattle.filter_sql.specs.Printing.{sql_text};
+ghost use Rattle.filter_sql.specs.Mistakes.{IsFaultIn, caused, error_of, filter_mistake, place_where};
+ghost use Rattle.filter_sql.specs.Reading.{filter_at};
+ghost use Rattle.filter_sql.specs.Texts.{items};
+ghost use Rattle.filter_sql.specs.Tokens.{trees};
+
+use crate::column::Column;
+use crate::error::ParseError;
+use crate::lex::lex;
+use crate::token::Placed;
+use fault::{Cause, Fault};
+use filters::filter_of;
+use std::alloc::Global;
+use vortex_filter::Filter;
+
+/// How many connectives and parentheses may nest in a text that `parse` reads.
+pub const MAX_DEPTH: usize = 256;
+
+/// The filter that SQL text is, over columns by name and type.
+///
+/// A name is one of the first column with exactly that name; if there is none, `$1` is the
+/// first column, and so on. A literal takes the column's type. A number that the type lacks
+/// makes a comparison what it is for each value: True or False, and Unknown for a null.
+///
+/// `TooDeep` if more than `MAX_DEPTH` connectives and parentheses nest.
+pub fn parse(alloc: Global, text: &str, columns: &[Column]) -> Result<Filter, ParseError>
+    // What is read is what the grammar says.
+    ensures read { IfOk result (λ filter.
+        IsSql (column_trees columns.now) text.now (formula filter)) }
+    // What is printed is read again, unless memory runs out.
+    ensures printed { (names : List (List ℕ)) (f : Formula)
+        → IsReadable (column_trees columns.now) names f → depth f ≤ 256
+        → text.now ≡ sql_text names f → ReadsAs f result }
+    // It fits the columns, if no variant stands in their types.
+    ensures fits { AllOrdered (column_trees columns.now) → IfOk result (λ filter.
+        FitsColumns (types_of (column_trees columns.now)) (formula filter)) }
+    // Each literal is valid for its type, so its raw integers are of the type too.
+    ensures valid { IfOk result (λ filter. AreValid (literals_of filter)) }
+    ensures refused { IfErr result (RefusesSql (column_trees columns.now) text.now) }
+    ensures placed { IfErr result (IsPlaced (length text.now)) }
+{
+    parse_within(alloc, text, columns, MAX_DEPTH)
+}
+
+/// As `parse`, but at most `depth` connectives and parentheses may nest.
+///
+/// Each level takes room on the stack, of this call and of all that later walk the filter.
+/// `TooDeep` if more nest.
+pub fn parse_within(
+    alloc: Global,
+    text: &str,
+    columns: &[Column],
+    depth: usize,
+) -> Result<Filter, ParseError>
+    ensures read { IfOk result (λ filter.
+        IsSqlWithin depth (column_trees columns.now) text.now (formula filter)) }
+    ensures printed { (names : List (List ℕ)) (f : Formula)
+        → IsReadable (column_trees columns.now) names f → text_depth f ≤ depth
+        → text.now ≡ sql_text names f → ReadsAs f result }
+    ensures fits { AllOrdered (column_trees columns.now) → IfOk result (λ filter.
+        FitsColumns (types_of (column_trees columns.now)) (formula filter)) }
+    ensures valid { IfOk result (λ filter. AreValid (literals_of filter)) }
+    ensures refused { IfErr result
+        (RefusesSqlWithin depth (column_trees columns.now) text.now) }
+    ensures placed { IfErr result (IsPlaced (length text.now)) }
+{
+    let tokens = lex(alloc, text)?;
+    filter_in(alloc, columns, &tokens, text.len(), depth)
+}
+
+/// The filter that the tokens of a text of this length are.
+fn filter_in(
+    alloc: Global,
+    columns: &[Column],
+    tokens: &[Placed],
+    end: usize,
+    depth: usize,
+) -> Result<Filter, ParseError>
+    requires { AllByRecursion (λ p. p.place ≤ end) tokens.now }
+    ensures given { IfOk result (λ filter.
+        filter_at (column_trees columns.now) depth (trees tokens.now) ≡ Some (formula filter)) }
+    ensures valid { IfOk result (λ filter. AreValid (literals_of filter)) }
+    ensures refused { IfErr result
+        (IsFaultIn (items tokens.now) end
+        (filter_at (column_trees columns.now) depth (trees tokens.now))
+        (filter_mistake (column_trees columns.now) depth (trees tokens.now))) }
+    ensures placed { IfErr result (IsPlaced end) }
+{
+    match filter_of(alloc, columns, tokens, depth) {
+        Ok(filter) => Ok(filter),
+        Err(fault) => Err(placed(fault, tokens, end)),
+    }
+}
+
+/// The error for a fault among the tokens of a text of this length.
+fn placed(fault: Fault, tokens: &[Placed], end: usize) -> ParseError
+    requires { AllByRecursion (λ p. p.place ≤ end) tokens.now }
+    ensures error { result ≡ error_of (items tokens.now) end fault }
+    ensures placed { IsPlaced end result }
+{
+    match fault {
+        Fault::NoMemory => ParseError::OutOfMemory,
+        Fault::At(left, cause) => caused(place_at(tokens, left, end), cause),
+    }
+}
+
+/// The error at a place.
+fn caused(place: usize, cause: Cause) -> ParseError
+    ensures { result ≡ caused place cause }
+{
+    match cause {
+        Cause::Expected(expected) => ParseError::Expected { place, expected },
+        Cause::NoColumn => ParseError::NoColumn { place },
+        Cause::TypesDiffer => ParseError::TypesDiffer { place },
+        Cause::NoLiteral => ParseError::NoLiteral { place },
+        Cause::TooDeep => ParseError::TooDeep { place },
+    }
+}
+
+/// The place where so many tokens are left.
+#[tactic(auto, using(crate::proofs::ParseSteps::places))]
+fn place_at(tokens: &[Placed], left: usize, end: usize) -> usize
+    requires { AllByRecursion (λ p. p.place ≤ end) tokens.now }
+    ensures place { result ≡ place_where (items tokens.now) end left }
+    ensures within { result ≤ end }
+{
+    match tokens.get(tokens.len().saturating_sub(left)) {
+        Some(placed) => placed.place,
+        None => end,
+    }
+}

@@ -1,0 +1,307 @@
+//! Tests of a column.
+
+ghost use Rattle.std.specs.Prelude.{◌≡◌, ◌==◌, ◌&&◌, ◌<◌, ◌∷◌, [], IfNone, IfOk, IfSome, length, map};
+ghost use Rattle.std.specs.Str.{bytes_eq};
+ghost use Rattle.vortex_dtype.specs.TypeOf.{type_of};
+ghost use Rattle.vortex_cells.specs.Cells.{cell_of};
+ghost use Rattle.vortex_filter.specs.FilterLiterals.{AreValid, literals_of};
+ghost use Rattle.vortex_filter.specs.Formula.{formula};
+ghost use Rattle.filter_sql.specs.Literals.{is_wildcard, pattern_prefix, with_byte};
+ghost use Rattle.filter_sql.specs.Tokens.{trees};
+ghost use Rattle.filter_sql.specs.Mistakes.{Gives, cells_mistake, condition_mistake, escape_mistake, like_mistake, literal_mistake, members_mistake, more_mistake, null_test_mistake, range_mistake, test_mistake, text_cause};
+ghost use Rattle.filter_sql.specs.Reading.{ending, with_front, cells_at, comparison_at, condition_at, escape_at, like_at, members_at, more_cells, null_test_at, range_at, test_at, text_prefix};
+
+use crate::error::Expected;
+use crate::parsing::columns::Found;
+use crate::parsing::fault::{Cause, Fault};
+use crate::parsing::formulas::{
+    comparison, member, member_of_none, negation, null_test, prefix, range, with_literal,
+};
+use crate::parsing::literals::{literal_at, string_literal};
+use crate::parsing::tokens::{
+    after_closing, after_comma, after_keyword, expect_closing, expect_keyword, expect_opening,
+    expect_string, expected, operator_at, tokens_left,
+};
+use crate::token::{Keyword, Placed};
+use std::alloc::Global;
+use vortex_dtype::DType;
+use vortex_filter::{CompareOperator, Filter};
+use vortex_value::Scalar;
+
+/// What follows the column's name.
+#[tactic(auto, unfolding(crate::specs::Reading::condition_at, crate::specs::Mistakes::condition_mistake), using(vortex_filter::proofs::LiteralSteps::valid))]
+pub(crate) fn condition<'a>(
+    alloc: Global,
+    column: Found<'_>,
+    rest: &'a [Placed],
+) -> Result<(Box<Filter>, &'a [Placed]), Fault>
+    ensures read { Gives (λ x. (formula x.0.value, trees x.1.now)) result
+        (condition_at column.entry.place (type_of column.entry.dtype.now) (trees rest.now))
+        (condition_mistake (type_of column.entry.dtype.now) (trees rest.now)) }
+    ensures valid { IfOk result (λ x. AreValid (literals_of x.0.value)) }
+{
+    if let Some((operator, after)) = operator_at(rest) {
+        return compared(alloc, column, operator, after);
+    }
+    if let Some(after) = after_keyword(rest, Keyword::Is) {
+        return is_null(alloc, column.place, after);
+    }
+    let Some(after) = after_keyword(rest, Keyword::Not) else {
+        return test(alloc, column, rest);
+    };
+    let (inner, rest) = test(alloc, column, after)?;
+    Ok((negation(alloc, inner)?, rest))
+}
+
+/// A comparison with the literal that comes next.
+#[tactic(auto, unfolding(crate::specs::Reading::comparison_at), using(vortex_filter::proofs::LiteralSteps::valid))]
+fn compared<'a>(
+    alloc: Global,
+    column: Found<'_>,
+    operator: CompareOperator,
+    rest: &'a [Placed],
+) -> Result<(Box<Filter>, &'a [Placed]), Fault>
+    ensures read { Gives (λ x. (formula x.0.value, trees x.1.now)) result
+        (comparison_at column.entry.place (type_of column.entry.dtype.now) operator (trees rest.now))
+        (literal_mistake (type_of column.entry.dtype.now) (trees rest.now)) }
+    ensures valid { IfOk result (λ x. AreValid (literals_of x.0.value)) }
+{
+    let (literal, rest) = literal_at(alloc, column.dtype, rest)?;
+    Ok((comparison(alloc, column.place, operator, literal)?, rest))
+}
+
+/// What follows `is`: `null` or `not null`.
+#[tactic(auto, unfolding(crate::specs::Reading::null_test_at, crate::specs::Mistakes::null_test_mistake), using(vortex_filter::proofs::LiteralSteps::valid))]
+fn is_null(alloc: Global, column: usize, rest: &[Placed]) -> Result<(Box<Filter>, &[Placed]), Fault>
+    ensures read { Gives (λ x. (formula x.0.value, trees x.1.now)) result
+        (null_test_at column (trees rest.now)) (null_test_mistake (trees rest.now)) }
+    ensures valid { IfOk result (λ x. AreValid (literals_of x.0.value)) }
+{
+    let Some(after) = after_keyword(rest, Keyword::Not) else {
+        let rest = expect_keyword(rest, Keyword::Null, Expected::Null)?;
+        return Ok((null_test(alloc, column)?, rest));
+    };
+    let rest = expect_keyword(after, Keyword::Null, Expected::Null)?;
+    let test = null_test(alloc, column)?;
+    Ok((negation(alloc, test)?, rest))
+}
+
+/// `in`, `between` or `like`, and what follows.
+#[tactic(auto, unfolding(crate::specs::Reading::test_at, crate::specs::Mistakes::test_mistake))]
+fn test<'a>(
+    alloc: Global,
+    column: Found<'_>,
+    rest: &'a [Placed],
+) -> Result<(Box<Filter>, &'a [Placed]), Fault>
+    ensures read { Gives (λ x. (formula x.0.value, trees x.1.now)) result
+        (test_at column.entry.place (type_of column.entry.dtype.now) (trees rest.now))
+        (test_mistake (type_of column.entry.dtype.now) (trees rest.now)) }
+    ensures valid { IfOk result (λ x. AreValid (literals_of x.0.value)) }
+{
+    if let Some(after) = after_keyword(rest, Keyword::In) {
+        return members(alloc, column, after);
+    }
+    if let Some(after) = after_keyword(rest, Keyword::Between) {
+        return between(alloc, column, after);
+    }
+    let after = expect_keyword(rest, Keyword::Like, Expected::Operator)?;
+    like(alloc, column, after)
+}
+
+/// What follows `between`: two literals with `and` between them.
+#[tactic(auto, unfolding(crate::specs::Reading::range_at, crate::specs::Mistakes::range_mistake), using(vortex_filter::proofs::LiteralSteps::valid))]
+fn between<'a>(
+    alloc: Global,
+    column: Found<'_>,
+    rest: &'a [Placed],
+) -> Result<(Box<Filter>, &'a [Placed]), Fault>
+    ensures read { Gives (λ x. (formula x.0.value, trees x.1.now)) result
+        (range_at column.entry.place (type_of column.entry.dtype.now) (trees rest.now))
+        (range_mistake (type_of column.entry.dtype.now) (trees rest.now)) }
+    ensures valid { IfOk result (λ x. AreValid (literals_of x.0.value)) }
+{
+    let (lower, rest) = literal_at(alloc, column.dtype, rest)?;
+    let rest = expect_keyword(rest, Keyword::And, Expected::And)?;
+    let (upper, rest) = literal_at(alloc, column.dtype, rest)?;
+    Ok((range(alloc, column.place, lower, upper)?, rest))
+}
+
+/// What follows `in`: literals in parentheses.
+#[tactic(auto, unfolding(crate::specs::Reading::members_at, crate::specs::Mistakes::members_mistake), using(vortex_filter::proofs::LiteralSteps::valid))]
+fn members<'a>(
+    alloc: Global,
+    column: Found<'_>,
+    rest: &'a [Placed],
+) -> Result<(Box<Filter>, &'a [Placed]), Fault>
+    ensures read { Gives (λ x. (formula x.0.value, trees x.1.now)) result
+        (members_at column.entry.place (type_of column.entry.dtype.now) (trees rest.now))
+        (members_mistake (type_of column.entry.dtype.now) (trees rest.now)) }
+    ensures valid { IfOk result (λ x. AreValid (literals_of x.0.value)) }
+{
+    let rest = expect_opening(rest)?;
+    if let Some(after) = after_closing(rest) {
+        return Ok((member_of_none(alloc, column.place)?, after));
+    }
+    let (literals, rest) = cells(alloc, column.dtype, rest)?;
+    Ok((member(alloc, column.place, literals)?, rest))
+}
+
+/// One literal or more with commas between them, to the closing parenthesis. Those that the type
+/// lacks are left out.
+#[tactic(auto, using(vortex_filter::proofs::LiteralSteps::valid))]
+fn cells<'a>(
+    alloc: Global,
+    dtype: &DType,
+    rest: &'a [Placed],
+) -> Result<(Vec<Scalar>, &'a [Placed]), Fault>
+    ensures read { Gives (λ x. (map cell_of x.0.items, trees x.1.now)) result
+        (cells_at (type_of dtype.now) (trees rest.now))
+        (cells_mistake (type_of dtype.now) (trees rest.now)) }
+    ensures valid { IfOk result (λ x. AreValid x.0.items) }
+{
+    let (literal, rest) = literal_at(alloc, dtype, rest)?;
+    let literals = with_literal(Vec::new(alloc), literal)?;
+    more_cells(alloc, dtype, literals, rest)
+}
+
+/// The literals and those behind them.
+fn more_cells<'a>(
+    alloc: Global,
+    dtype: &DType,
+    literals: Vec<Scalar>,
+    rest: &'a [Placed],
+) -> Result<(Vec<Scalar>, &'a [Placed]), Fault>
+    ensures read { Gives (λ x. (map cell_of x.0.items, trees x.1.now)) result
+        (with_front (map cell_of literals.items) (more_cells (type_of dtype.now) (trees rest.now)))
+        (more_mistake (type_of dtype.now) (trees rest.now)) }
+    ensures valid { AreValid literals.items → IfOk result (λ x. AreValid x.0.items) }
+{
+    let mut literals = literals;
+    let mut rest = rest;
+    while let Some(after) = after_comma(rest) {
+        let (literal, behind) = literal_at(alloc, dtype, after)?;
+        literals = with_literal(literals, literal)?;
+        rest = behind;
+    }
+    let rest = expect_closing(rest)?;
+    Ok((literals, rest))
+}
+
+/// What follows `like`: the pattern of a prefix.
+#[tactic(auto, unfolding(crate::specs::Reading::like_at, crate::specs::Mistakes::like_mistake))]
+fn like<'a>(
+    alloc: Global,
+    column: Found<'_>,
+    rest: &'a [Placed],
+) -> Result<(Box<Filter>, &'a [Placed]), Fault>
+    ensures read { Gives (λ x. (formula x.0.value, trees x.1.now)) result
+        (like_at column.entry.place (type_of column.entry.dtype.now) (trees rest.now))
+        (like_mistake (type_of column.entry.dtype.now) (trees rest.now)) }
+    ensures valid { IfOk result (λ x. AreValid (literals_of x.0.value)) }
+{
+    let left = tokens_left(rest);
+    let (pattern, rest) = expect_string(rest, Expected::Prefix)?;
+    let (escapes, rest) = escape_at(rest)?;
+    let bytes = pattern_prefix(alloc, pattern.as_bytes(), escapes, left)?;
+    Ok((text_prefix(alloc, column, bytes, left)?, rest))
+}
+
+/// Whether `escape '\\'` comes next, and what follows.
+#[tactic(auto, unfolding(crate::specs::Reading::escape_at, crate::specs::Mistakes::escape_mistake))]
+fn escape_at(rest: &[Placed]) -> Result<(bool, &[Placed]), Fault>
+    ensures { Gives (λ x. (x.0, trees x.1.now)) result (escape_at (trees rest.now))
+        (escape_mistake (trees rest.now)) }
+{
+    let Some(after) = after_keyword(rest, Keyword::Escape) else {
+        return Ok((false, rest));
+    };
+    let (escape, rest) = expect_string(after, Expected::Backslash)?;
+    if escape == "\\" {
+        Ok((true, rest))
+    } else {
+        Err(expected(after, Expected::Backslash))
+    }
+}
+
+/// The prefix that the pattern asks for.
+fn pattern_prefix(
+    alloc: Global,
+    pattern: &[u8],
+    escapes: bool,
+    left: usize,
+) -> Result<Vec<u8>, Fault>
+    ensures { Gives (λ v. v.items) result (pattern_prefix escapes pattern.now)
+        (Fault.At left (Cause.Expected Expected.Prefix)) }
+{
+    let mut prefix = Vec::new(alloc);
+    let mut rest = pattern;
+    while let Some((byte, after)) = prefix_byte(rest, escapes) {
+        prefix.push(byte)?;
+        rest = after;
+    }
+    if is_percent(rest) {
+        Ok(prefix)
+    } else {
+        Err(Fault::At(left, Cause::Expected(Expected::Prefix)))
+    }
+}
+
+/// The next byte of a prefix, and what follows it in the pattern. `None` if a wildcard or the
+/// end comes next.
+fn prefix_byte(pattern: &[u8], escapes: bool) -> Option<(u8, &[u8])>
+    ensures some { IfSome result (λ x. pattern_prefix escapes pattern.now
+        ≡ with_byte x.0 (pattern_prefix escapes x.1.now)) }
+    ensures shorter { IfSome result (λ x. length x.1.now < length pattern.now) }
+    ensures none { IfNone result (pattern_prefix escapes pattern.now ≡ ending pattern.now) }
+{
+    let (first, behind) = pattern.split_first()?;
+    let (second, after) = behind.split_first()?;
+    if is_escape(*first, escapes) {
+        return Some((*second, after));
+    }
+    if is_wildcard(*first) {
+        return None;
+    }
+    Some((*first, behind))
+}
+
+/// The backslash, if it escapes.
+fn is_escape(byte: u8, escapes: bool) -> bool
+    ensures { result ≡ (escapes && (byte == 92)) }
+{
+    escapes && byte == b'\\'
+}
+
+/// The pattern of all strings.
+fn is_percent(pattern: &[u8]) -> bool
+    ensures { result ≡ bytes_eq pattern.now (37 ∷ []) }
+{
+    pattern == b"%".as_slice()
+}
+
+/// `%` or `_`.
+fn is_wildcard(byte: u8) -> bool
+    ensures { result ≡ is_wildcard byte }
+{
+    byte == b'%' || byte == b'_'
+}
+
+/// Whether the column begins with these bytes of a string, where so many tokens are left.
+#[tactic(auto, unfolding(crate::specs::Reading::text_prefix), using(vortex_filter::proofs::LiteralSteps::valid))]
+fn text_prefix(
+    alloc: Global,
+    column: Found<'_>,
+    bytes: Vec<u8>,
+    left: usize,
+) -> Result<Box<Filter>, Fault>
+    ensures read { Gives (λ f. formula f.value) result
+        (text_prefix column.entry.place (type_of column.entry.dtype.now) bytes.items)
+        (Fault.At left (text_cause (type_of column.entry.dtype.now) bytes.items)) }
+    ensures valid { IfOk result (λ f. AreValid (literals_of f.value)) }
+{
+    let Ok(text) = str::from_utf8(bytes.as_slice()) else {
+        return Err(Fault::At(left, Cause::Expected(Expected::Prefix)));
+    };
+    let literal = string_literal(alloc, column.dtype, text, left)?;
+    prefix(alloc, column.place, literal, left)
+}

@@ -1,0 +1,119 @@
+//! Filters without connectives.
+
+ghost use Rattle.std.specs.Prelude.{◌≡◌, IfOk};
+ghost use Rattle.vortex_dtype.specs.TypeOf.{type_of};
+ghost use Rattle.filter_sql.specs.Columns.{column_trees};
+ghost use Rattle.vortex_filter.specs.FilterLiterals.{AreValid, literals_of};
+ghost use Rattle.filter_sql.specs.Literals.{scalars_of, holds_strings, literal_tree};
+ghost use Rattle.vortex_filter.specs.Formula.{formula};
+ghost use Rattle.filter_sql.specs.Tokens.{trees};
+ghost use Rattle.filter_sql.specs.Mistakes.{Gives, expected, predicate_mistake, prefix_call_mistake, prefix_cause};
+ghost use Rattle.filter_sql.specs.Reading.{constant_at, predicate_at, prefix_call_at, prefix_of};
+
+use crate::column::Column;
+use crate::error::Expected;
+use crate::parsing::columns::{Found, expect_column};
+use crate::parsing::conditions::condition;
+use crate::parsing::fault::{Cause, Fault};
+use crate::parsing::formulas::{constant, prefix};
+use crate::parsing::literals::{Literal, literal_at};
+use crate::parsing::tokens::{
+    after_keyword, expect_closing, expect_comma, expect_name, expect_opening, expected, name_at,
+    tokens_left,
+};
+use crate::token::{Keyword, Placed, Token};
+use std::alloc::Global;
+use vortex_dtype::DType;
+use vortex_filter::{Filter, Truth};
+
+/// A test of a column, `starts_with` or a constant, and what follows.
+#[tactic(auto, unfolding(crate::specs::Reading::predicate_at, crate::specs::Mistakes::predicate_mistake))]
+pub(crate) fn predicate<'a>(
+    alloc: Global,
+    columns: &[Column],
+    rest: &'a [Placed],
+) -> Result<(Box<Filter>, &'a [Placed]), Fault>
+    ensures read { Gives (λ x. (formula x.0.value, trees x.1.now)) result
+        (predicate_at (column_trees columns.now) (trees rest.now))
+        (predicate_mistake (column_trees columns.now) (trees rest.now)) }
+    ensures valid { IfOk result (λ x. AreValid (literals_of x.0.value)) }
+{
+    if let Some((name, after)) = name_at(rest) {
+        let column = expect_column(columns, name, tokens_left(rest))?;
+        return condition(alloc, column, after);
+    }
+    let Some(after) = after_keyword(rest, Keyword::StartsWith) else {
+        return constant_at(alloc, rest);
+    };
+    prefix_call(alloc, columns, after)
+}
+
+/// What follows `starts_with`: a column and a literal in parentheses.
+#[tactic(auto, unfolding(crate::specs::Reading::prefix_call_at, crate::specs::Mistakes::prefix_call_mistake), using(vortex_filter::proofs::LiteralSteps::valid))]
+fn prefix_call<'a>(
+    alloc: Global,
+    columns: &[Column],
+    rest: &'a [Placed],
+) -> Result<(Box<Filter>, &'a [Placed]), Fault>
+    ensures read { Gives (λ x. (formula x.0.value, trees x.1.now)) result
+        (prefix_call_at (column_trees columns.now) (trees rest.now))
+        (prefix_call_mistake (column_trees columns.now) (trees rest.now)) }
+    ensures valid { IfOk result (λ x. AreValid (literals_of x.0.value)) }
+{
+    let named = expect_opening(rest)?;
+    let (name, rest) = expect_name(named)?;
+    let column = expect_column(columns, name, tokens_left(named))?;
+    let written = expect_comma(rest)?;
+    let (literal, rest) = literal_at(alloc, column.dtype, written)?;
+    let rest = expect_closing(rest)?;
+    Ok((
+        prefix_of(alloc, column, literal, tokens_left(written))?,
+        rest,
+    ))
+}
+
+/// Whether the column begins with the literal, where so many tokens are left.
+#[tactic(auto, unfolding(crate::specs::Reading::prefix_of))]
+fn prefix_of(
+    alloc: Global,
+    column: Found<'_>,
+    literal: Literal,
+    left: usize,
+) -> Result<Box<Filter>, Fault>
+    ensures read { Gives (λ f. formula f.value) result
+        (prefix_of (column.entry.place, type_of column.entry.dtype.now) (literal_tree literal))
+        (Fault.At left (prefix_cause (type_of column.entry.dtype.now))) }
+    ensures literals { IfOk result (λ f. literals_of f.value ≡ scalars_of literal) }
+{
+    if holds_strings(column.dtype) {
+        return prefix(alloc, column.place, literal, left);
+    }
+    drop(literal);
+    Err(Fault::At(left, Cause::TypesDiffer))
+}
+
+/// Whether values of the type can begin with a prefix.
+fn holds_strings(dtype: &DType) -> bool
+    ensures { result ≡ holds_strings (type_of dtype.now) }
+{
+    dtype.is_utf8() || dtype.is_binary()
+}
+
+/// `true`, `false` or `null`.
+#[tactic(auto, unfolding(crate::specs::Reading::constant_at), using(vortex_filter::proofs::LiteralSteps::valid))]
+fn constant_at(alloc: Global, rest: &[Placed]) -> Result<(Box<Filter>, &[Placed]), Fault>
+    ensures read { Gives (λ x. (formula x.0.value, trees x.1.now)) result
+        (constant_at (trees rest.now)) (expected (trees rest.now) Expected.Filter) }
+    ensures valid { IfOk result (λ x. AreValid (literals_of x.0.value)) }
+{
+    let [first, after @ ..] = rest else {
+        return Err(expected(rest, Expected::Filter));
+    };
+    let truth = match &first.token {
+        Token::Keyword(Keyword::True) => Truth::True,
+        Token::Keyword(Keyword::False) => Truth::False,
+        Token::Keyword(Keyword::Null) => Truth::Unknown,
+        _ => return Err(expected(rest, Expected::Filter)),
+    };
+    Ok((constant(alloc, truth)?, after))
+}

@@ -1,0 +1,50 @@
+//! The tokens of SQL text.
+
+use vortex_filter::CompareOperator;
+
+/// A word that SQL keeps for itself, in any case.
+#[derive(Clone, Copy, Debug, PartialEq, Eq)]
+pub(crate) enum Keyword {
+    And,
+    Or,
+    Not,
+    In,
+    Is,
+    Null,
+    Between,
+    Like,
+    Escape,
+    True,
+    False,
+    StartsWith,
+}
+
+/// The least part of SQL text that has a meaning of its own.
+#[derive(Debug, Drop)]
+pub(crate) enum Token {
+    /// A word that SQL keeps for itself.
+    Keyword(Keyword),
+    /// A name: a bare word, or anything in double quotes.
+    Name(String),
+    /// A whole number: whether a minus sign stands before it, and its digits.
+    Integer { is_negative: bool, magnitude: u64 },
+    /// A string, in single quotes.
+    Text(String),
+    /// Bytes, as in `x'00ff'`.
+    Bytes(Vec<u8>),
+    /// `=`, `<>` or `!=`, `>`, `>=`, `<`, `<=`.
+    Operator(CompareOperator),
+    /// `(`.
+    Open,
+    /// `)`.
+    Close,
+    /// `,`.
+    Comma,
+}
+
+/// A token, and the place of its first byte in the text.
+#[derive(Debug, Drop)]
+pub(crate) struct Placed {
+    pub(crate) token: Token,
+    pub(crate) place: usize,
+}
