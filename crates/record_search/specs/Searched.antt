@@ -20,8 +20,7 @@ use Rattle.vortex_statistics.specs.Truncating.{AreTruncated}
 use Rattle.vortex_statistics.specs.declared.column_statistics.ColumnStatistics.{ColumnStatistics}
 use Rattle.vortex_value.specs.declared.scalars.Scalar.{Scalar}
 use Rattle.zone_index.specs.Form.{bytes_form}
-use Rattle.zone_index.specs.Records.{kept_of}
-use Rattle.zone_index.specs.Zones.{IsIndexOf, found_in}
+use Rattle.zone_index.specs.Zones.{IsIndexOf}
 use Rattle.zone_index.specs.declared.zones.Zone.{Zone}
 use Rattle.zone_index.specs.declared.records.Decision.{Decision}
 use Rattle.zone_index.specs.declared.records.Decision.TheVariants.{AllMatch, NoneMatch, Unknown}
@@ -143,14 +142,6 @@ records_under s bytes = records_of s.delimiter.byte bytes
 -- the zones are right for the bytes, from a place on: they cover all records, and the statistics of each are right for its rows
 abbrev pub IsRowIndex : Schema → ℕ → List Zone → List ℕ → Type 0
 IsRowIndex s start zones bytes = IsIndexOf s.delimiter.byte (has_row s) (DescribeRows s) start zones bytes
-
--- the records on whose row the formula is True, whole and in order
-abbrev pub found_rows : Schema → Formula → List ℕ → List ℕ
-found_rows s f bytes = kept_of s.delimiter.byte (matches_record s f) bytes
-
--- those of these zones
-abbrev pub found_in_zones : Schema → Formula → List ℕ → List Zone → List ℕ
-found_in_zones s f bytes zones = found_in s.delimiter.byte (matches_record s f) bytes zones
 
 -- ---- decisions
 

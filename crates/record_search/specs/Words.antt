@@ -7,10 +7,11 @@ pub use Rattle.vortex_statistics.specs.Statistics.{known}
 pub use Rattle.zone_index.specs.Asking.{Asks}
 pub use Rattle.zone_index.specs.Faults.{EndsFar, IfRecordRefused, IfRefused, TellsOneOf, TellsRecord}
 pub use Rattle.zone_index.specs.Form.{bytes_form}
-pub use Rattle.zone_index.specs.Zones.{IsHeld, IsOfZone, IsPartOfZone, is_copied, is_searched, is_skipped}
-pub use Rattle.zone_index.specs.declared.faults.Fault.TheVariants.{CutShort, TooFar, Write as WriteFault}
+pub use Rattle.zone_index.specs.Zones.{IsOfZone, IsPartOfZone}
+pub use Rattle.zone_index.specs.declared.faults.SearchFault.TheVariants.{CutShort, TooFar, Write as WriteFault}
+pub use Rattle.record_search.specs.Answers.{AnswersCountRows, AnswersFindRows}
 pub use Rattle.record_search.specs.Decoding.{columns_in, piece_in, statistics_in}
 pub use Rattle.record_search.specs.Named.{AgreeAsRows}
 pub use Rattle.vortex_filter.specs.Named.{with_columns}
 pub use Rattle.record_search.specs.Refused.{RefusesRecord, fault_at_place}
-pub use Rattle.record_search.specs.Searched.{AreAllComplete, AreDescribed, AreRowsOf, DescribeRows, IsRowIndex, ObservesRow, PushesCut, columns_of, decision_by, decision_of, found_in_zones, found_rows, has_row, matches_record, records_under, row_cells, row_under, rows_alone, rows_under}
+pub use Rattle.record_search.specs.Searched.{AreAllComplete, AreDescribed, AreRowsOf, DescribeRows, IsRowIndex, ObservesRow, PushesCut, columns_of, decision_by, decision_of, has_row, matches_record, records_under, row_cells, row_under, rows_alone, rows_under}

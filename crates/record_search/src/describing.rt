@@ -39,12 +39,13 @@ impl Records for RowDescriber<'_> {
 impl Describer for RowDescriber<'_> {
     fn describe(&self, alloc: Global, text: &[u8]) -> Result<Described, RecordFault> {
         let mut columns = empty_statistics(alloc, self.schema.columns.len())?;
-        let (records, rows) = observe_text(alloc, self.schema, text, &mut columns)?;
+        let (records, rows, nulls) = observe_text(alloc, self.schema, text, &mut columns)?;
         let statistics = forms_of(alloc, self, columns)?;
         Ok(Described {
             records,
             rows,
             statistics,
+            nulls,
         })
     }
 }
@@ -63,13 +64,14 @@ pub(crate) fn empty_statistics(
     Ok(all)
 }
 
-/// Observes the rows of a text, and says how many records it has, and how many of them a row.
+/// Observes the rows of a text, and says how many records it has, how many of them a row, and how many
+/// nulls stand in place of fields.
 fn observe_text(
     alloc: Global,
     schema: &Schema,
     text: &[u8],
     statistics: &mut [ColumnStatistics],
-) -> Result<(u64, u64), RecordFault>
+) -> Result<(u64, u64, u64), RecordFault>
     requires many { length statistics.old ≡ length schema.now.columns.items }
     requires fresh { AreAllComplete 0 [] statistics.old }
     ensures records { IfOk result (λ read. read.0 ≡
@@ -84,20 +86,23 @@ fn observe_text(
 {
     let mut records = 0u64;
     let mut rows = 0u64;
+    let mut nulls = 0u64;
     let mut buffer = Vec::new(alloc);
     let mut rest = text;
     while !rest.is_empty() {
         let place = (text.len() - rest.len()) as u64;
         let (line, after) = cut_record(schema.delimiter, rest);
-        let has_row = observe_line(alloc, schema, place, line, &mut buffer, statistics)?;
+        let (has_row, more) = observe_line(alloc, schema, place, line, &mut buffer, statistics)?;
         records += 1;
         rows += u64::from(has_row);
+        nulls = nulls.saturating_add(more);
         rest = after;
     }
-    Ok((records, rows))
+    Ok((records, rows, nulls))
 }
 
-/// Observes the row of a record, which begins at this place, and says whether it has one.
+/// Observes the row of a record, which begins at this place, and says whether it has one, and how many
+/// nulls stand in place of fields.
 fn observe_line(
     alloc: Global,
     schema: &Schema,
@@ -105,15 +110,15 @@ fn observe_line(
     line: &[u8],
     buffer: &mut Vec<u8>,
     statistics: &mut [ColumnStatistics],
-) -> Result<bool, RecordFault>
+) -> Result<(bool, u64), RecordFault>
     requires { length statistics.old ≡ length schema.now.columns.items }
-    ensures observed { IfOk result (λ has. ObservesRow has (row_under schema.now line.now)
+    ensures observed { IfOk result (λ seen. ObservesRow seen.0 (row_under schema.now line.now)
         statistics.old statistics.new) }
     ensures length { length statistics.new ≡ length statistics.old }
     ensures refused { IfErr result (IfRecordRefused (TellsRecord (RefusesRecord schema.now) place line.now)) }
 {
     match observe_record(alloc, schema, line, buffer, statistics) {
-        Ok(refused) => Ok(refused.is_some()),
+        Ok(nulls) => Ok((nulls.is_some(), nulls.unwrap_or(0) as u64)),
         Err(fault) => Err(record_fault(place, fault)),
     }
 }

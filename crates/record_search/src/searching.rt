@@ -1,16 +1,15 @@
 //! Rows are indexed, found and counted.
 
-ghost use Rattle.std.specs.Prelude.{◌≡◌, ◌≢◌, ◌<◌, ◌++◌, ◌≤◌, ◌-◌, ◌^◌, ℕ, List, Some, IfErr, IfOk, IfSome, OnOk, count_by, drop, length, min, take};
-ghost use Rattle.std.specs.Io.KnownBytes.{Appends};
-ghost use Rattle.record_search.specs.Words.{Asks, CutShort, EndsFar, IfRefused, IsHeld, IsOfZone, IsPartOfZone, IsRowIndex, RefusesRecord, TellsOneOf, TooFar, WriteFault, columns_of, decision_of, formula, found_in_zones, found_rows, is_copied, is_searched, is_skipped, matches_record, records_under};
+ghost use Rattle.std.specs.Prelude.{◌≡◌, ◌≢◌, ◌<◌, ◌++◌, ℕ, List, Some, IfErr, IfOk, length};
+ghost use Rattle.record_search.specs.Words.{AnswersCountRows, AnswersFindRows, Asks, CutShort, EndsFar, IfRefused, IsOfZone, IsPartOfZone, IsRowIndex, RefusesRecord, TellsOneOf, TooFar, WriteFault, columns_of, decision_of, formula, records_under};
 
 use crate::describing::RowDescriber;
 use crate::filtering::RowFilter;
 use crate::schema::Schema;
 use std::alloc::Global;
-use std::io::{BufRead, Write};
+use std::io::BufRead;
 use vortex_filter::Filter;
-use zone_index::{Fault, ReadAt, Tally, Zone, count, find, index_records};
+use zone_index::{Indexed, ReadAt, SearchFault, Sink, Tally, Zone, count, find, index_records};
 
 /// The zones of all records that a reader has left, so many records in each, the last one fewer.
 /// The first byte that is left stands at `start` in the file.
@@ -22,11 +21,11 @@ pub fn index_rows<B: BufRead>(
     size: u64,
     start: u64,
     reader: &mut B,
-) -> Result<Vec<Zone>, Fault>
+) -> Result<Indexed, SearchFault>
     requires { 0 < size }
-    ensures right { IfOk result (λ zones. (before bytes : List ℕ) → length before ≡ start
+    ensures right { IfOk result (λ indexed. (before bytes : List ℕ) → length before ≡ start
         → B.remaining reader.old ≡ Some bytes
-        → IsRowIndex describer.now.schema.now start zones.items (before ++ bytes)) }
+        → IsRowIndex describer.now.schema.now start indexed.zones.items (before ++ bytes)) }
     ensures reading { IfErr result (λ fault. fault ≢ WriteFault) }
     ensures uncut { IfErr result (λ fault. fault ≢ CutShort) }
     ensures far { IfErr result (λ fault. fault ≡ TooFar → EndsFar start (B.remaining reader.old)) }
@@ -38,55 +37,31 @@ pub fn index_rows<B: BufRead>(
     index_records(alloc, size, start, describer, reader)
 }
 
-/// Writes the records of a file on whose row the filter is True, whole and in order. Only the zones
-/// are read that may have one by their statistics.
-pub fn find_rows<R: ReadAt, W: Write>(
+/// Gives a sink the records of a file on whose row the filter is True, in order, and writes them. The
+/// first record has the number `first`. Only the zones are read that may have one by their statistics.
+pub fn find_rows<R: ReadAt, S: Sink>(
     alloc: Global,
     schema: &Schema,
     filter: &Filter,
     zones: &[Zone],
+    first: u64,
     reader: &mut R,
-    writer: &mut W,
-) -> Result<Tally, Fault>
-    // Of the bytes that the index is right for, where those that the reader has are these, fewer or more.
-    ensures written { OnOk result ((was : List ℕ) (start : ℕ) → IsHeld (R.bytes reader.old) was
-        → IsRowIndex schema.now start zones.now was
-        → Appends (W.contents writer.old) (W.contents writer.new)
-        (found_rows schema.now (formula filter.now) (drop start was))) }
-    ensures found { IfOk result (λ tally. (was : List ℕ) (start : ℕ) → IsHeld (R.bytes reader.old) was
-        → IsRowIndex schema.now start zones.now was
-        → tally.found ≡ min (count_by (matches_record schema.now (formula filter.now))
-        (records_under schema.now (drop start was))) (2 ^ 64 - 1)) }
-    ensures skipped { IfOk result (λ tally. tally.skipped ≡ count_by
-        (is_skipped (decision_of (columns_of schema.now) (formula filter.now))) zones.now) }
-    ensures copied { IfOk result (λ tally. tally.copied ≡ count_by
-        (is_copied (decision_of (columns_of schema.now) (formula filter.now))) zones.now) }
-    ensures searched { IfOk result (λ tally. tally.searched ≡ count_by
-        (is_searched (decision_of (columns_of schema.now) (formula filter.now))) zones.now) }
+    sink: &mut S,
+) -> Result<Tally, SearchFault>
+    ensures answer { AnswersFindRows schema.now (formula filter.now) S.written_as first zones.now
+        (R.bytes reader.old) (S.contents sink.old) (S.contents sink.new) result }
     // All that the reader was asked for stands in zones that are not skipped.
     ensures asks { Asks (IsOfZone (decision_of (columns_of schema.now) (formula filter.now)) zones.now)
         (R.asked reader.old) (R.asked reader.new) }
-    // After a fault other than one of the writer, what is found in the first zones was written, and
-    // nothing of the next one.
-    ensures partial { IfErr result (λ fault. fault ≢ WriteFault → (was : List ℕ) (start : ℕ)
-        → IsHeld (R.bytes reader.old) was
-        → IsRowIndex schema.now start zones.now was
-        → (k : ℕ) × Appends (W.contents writer.old) (W.contents writer.new)
-        (found_in_zones schema.now (formula filter.now) was (take k zones.now))) }
-    // The reader has fewer bytes than the index is right for.
-    ensures cut { IfErr result (λ fault. fault ≡ CutShort → IfSome (R.bytes reader.old)
-        (λ bytes. (was : List ℕ) (start : ℕ) → IsRowIndex schema.now start zones.now was
-        → length bytes < length was)) }
-    ensures far { IfErr result (λ fault. fault ≡ TooFar → (was : List ℕ) (start : ℕ)
-        → IsRowIndex schema.now start zones.now was
-        → 2 ^ 64 ≤ length was) }
-    // The record that is told is one of the bytes, and begins there.
-    ensures refused { IfErr result (IfRefused (λ refusal. (was : List ℕ) (start : ℕ)
-        → IsHeld (R.bytes reader.old) was
-        → IsRowIndex schema.now start zones.now was
-        → TellsOneOf (RefusesRecord schema.now) start (records_under schema.now (drop start was)) refusal)) }
 {
-    find(alloc, zones, &RowFilter { schema, filter }, reader, writer)
+    find(
+        alloc,
+        zones,
+        first,
+        &RowFilter { schema, filter },
+        reader,
+        sink,
+    )
 }
 
 /// How many records of a file have a row on which the filter is True. A zone is counted unread where
@@ -97,27 +72,11 @@ pub fn count_rows<R: ReadAt>(
     filter: &Filter,
     zones: &[Zone],
     reader: &mut R,
-) -> Result<u64, Fault>
-    // Of the bytes that the index is right for, where those that the reader has are these, fewer or more.
-    ensures counted { IfOk result (λ n. (was : List ℕ) (start : ℕ) → IsHeld (R.bytes reader.old) was
-        → IsRowIndex schema.now start zones.now was
-        → n ≡ count_by (matches_record schema.now (formula filter.now))
-        (records_under schema.now (drop start was))) }
+) -> Result<u64, SearchFault>
+    ensures answer { AnswersCountRows schema.now (formula filter.now) zones.now (R.bytes reader.old) result }
     // All that the reader was asked for stands in zones whose statistics decide nothing.
     ensures asks { Asks (IsPartOfZone (decision_of (columns_of schema.now) (formula filter.now)) zones.now)
         (R.asked reader.old) (R.asked reader.new) }
-    ensures cut { IfErr result (λ fault. fault ≡ CutShort → IfSome (R.bytes reader.old)
-        (λ bytes. (was : List ℕ) (start : ℕ) → IsRowIndex schema.now start zones.now was
-        → length bytes < length was)) }
-    ensures far { IfErr result (λ fault. fault ≡ TooFar → (was : List ℕ) (start : ℕ)
-        → IsRowIndex schema.now start zones.now was
-        → 2 ^ 64 ≤ length was) }
-    ensures reading { IfErr result (λ fault. fault ≢ WriteFault) }
-    // The record that is told is one of the bytes, and begins there.
-    ensures refused { IfErr result (IfRefused (λ refusal. (was : List ℕ) (start : ℕ)
-        → IsHeld (R.bytes reader.old) was
-        → IsRowIndex schema.now start zones.now was
-        → TellsOneOf (RefusesRecord schema.now) start (records_under schema.now (drop start was)) refusal)) }
 {
     count(alloc, zones, &RowFilter { schema, filter }, reader)
 }

@@ -2,19 +2,16 @@
 use Rattle.std.proofs.Common.{◌≡◌, ◌≤◌, ◌+◌, ℕ, suc, zero, List, [], ◌∷◌, ◌++◌, ◌==◌, ◌&&◌, Bool, true, false, not, cond, Option, refl, sym, ap, ◌∙◌, subst, length, take, drop, arith}
 use Rattle.std.proofs.lemmas.List.{drop-take, length-take, length-drop, take-take}
 use Rattle.std.proofs.lemmas.List.Sums.{count_by-le-length, length-filter, sum_by-cons}
-use Rattle.std.proofs.KnownBytes.{Appends-nil}
-use Rattle.std.specs.Io.KnownBytes.{Appends}
 use Rattle.std.specs.Prelude.{IfSome}
 use lib.Seq.{take-append_seam}
-use Rattle.std.specs.List.{AllPass, concat, count_by, filter, onto_first}
+use Rattle.std.specs.List.{AllPass, count_by, filter, onto_first}
 use Rattle.csv.specs.Machine.{step}
 use Rattle.csv.specs.declared.parser.State.{State}
 use Rattle.csv.specs.declared.parser.State.TheVariants as st
-use Rattle.csv_records.specs.Lemmas.RecordLaws.{concat-records_of}
 use Rattle.csv_records.specs.Records.{is_start, records_from, records_of}
 use Rattle.csv_records.specs.Rows.{config_of}
 use Rattle.zone_index.specs.Asking.{Asks, AsksWithin, IsWithin}
-use Rattle.zone_index.specs.Records.{is_same, kept_of}
+use Rattle.zone_index.specs.Records.{is_same}
 use Rattle.zone_index.specs.Zones.{Agree, AsksInPart, AsksOfZone, IsHeld, IsZoneOf, is_open, is_skip, way_of, zone_bytes, zone_records}
 use Rattle.zone_index.specs.declared.read_at.Asked.{Asked}
 use Rattle.zone_index.specs.declared.records.Decision.{Decision}
@@ -59,24 +56,6 @@ filter_none p [] h = refl
 filter_none p (x ∷ xs) h =
     let no : p x ≡ false = not_true (p x) (h 0 x (omega arith)) in
     rw (no, filter_none p xs (λ k d below. h (suc k) d (omega arith))) refl
-
--- where each record matches, all is kept
-pub all_kept : (d : ℕ) (keep : List ℕ → Bool) (was : List ℕ) (z : Zone) → AllPass keep (zone_records d was z) → kept_of d keep (zone_bytes was z) ≡ zone_bytes was z
-all_kept d keep was z all = ap concat (filter_all keep (zone_records d was z) all) ∙ concat-records_of d (zone_bytes was z)
-
--- where none matches, nothing
-pub none_kept : (d : ℕ) (keep : List ℕ → Bool) (was : List ℕ) (z : Zone) → AllPass (λ x. not (keep x)) (zone_records d was z) → kept_of d keep (zone_bytes was z) ≡ []
-none_kept d keep was z none = ap concat (filter_none keep (zone_records d was z) none)
-
-pub none_written : (before : Option (List ℕ)) (d : ℕ) (keep : List ℕ → Bool) (was : List ℕ) (z : Zone) → AllPass (λ x. not (keep x)) (zone_records d was z) → Appends before before (kept_of d keep (zone_bytes was z))
-none_written before d keep was z none = subst (Appends before before) (sym (none_kept d keep was z none)) (Appends-nil before)
-
-pub all_written : (a b : Option (List ℕ)) (d : ℕ) (keep : List ℕ → Bool) (was output : List ℕ) (z : Zone) → AllPass keep (zone_records d was z) → output ≡ zone_bytes was z → Appends a b output → Appends a b (kept_of d keep (zone_bytes was z))
-all_written a b d keep was output z all is h = subst (Appends a b) (is ∙ sym (all_kept d keep was z all)) h
-
-pub found_written : (a b : Option (List ℕ)) (d : ℕ) (keep : List ℕ → Bool) (was piece view found output : List ℕ) (z : Zone) → view ≡ piece → piece ≡ zone_bytes was z → found ≡ kept_of d keep view → output ≡ found → Appends a b output → Appends a b (kept_of d keep (zone_bytes was z))
-found_written a b d keep was piece view found output z same is found_is out h =
-    subst (Appends a b) (out ∙ found_is ∙ ap (kept_of d keep) (same ∙ is)) h
 
 -- each record that has a row matches, and each has one
 both_true : (m h : Bool) → is_same m h ≡ true → h ≡ true → m ≡ true

@@ -1,48 +1,23 @@
 -- What is found zone by zone is what is kept of all.
-use Rattle.std.proofs.Common.{◌≡◌, ◌≤◌, ◌<◌, ◌+◌, ◌-◌, ◌^◌, min, arith, ℕ, List, [], ◌∷◌, ◌++◌, Bool, true, false, cond, Option, refl, sym, ap, ◌∙◌, subst, length, take, drop, get_or, append-nil, take_all, add-zero}
-use Rattle.std.proofs.KnownBytes.{Appends-trans}
-use Rattle.std.proofs.lemmas.Grind.{flat_map-append, take_at_read}
+use Rattle.std.proofs.Common.{◌≡◌, ◌≤◌, ◌<◌, ◌+◌, ◌-◌, ◌^◌, min, arith, ℕ, List, [], ◌∷◌, ◌++◌, Bool, true, false, cond, Option, None, Some, IfSome, refl, sym, ap, ◌∙◌, subst, length, take, drop, get_or, take_all, add-zero}
 use Rattle.std.proofs.lemmas.List.Elements.{Contains-get_or, filter-append}
 use Rattle.std.proofs.lemmas.List.Folds.{concat-append}
 use Rattle.std.proofs.lemmas.List.Sums.{count_by_more_no, count_by_more_yes, sum_by-append, sum_by-cons, sum_by-take-drop, sum_by_more}
 use Rattle.std.specs.List.{All, concat, count_by, filter, flat_map, sum_by}
 use Rattle.csv_records.specs.Records.{records_of}
-use Rattle.std.specs.Io.KnownBytes.{Appends}
 use Rattle.zone_index.specs.Asking.{Asks}
-use Rattle.zone_index.specs.Records.{kept_of}
-use Rattle.zone_index.specs.Zones.{AsksInPart, AsksOfZone, Follow, IsIndexOf, IsOfZone, IsPartOfZone, found_in, zone_bytes, zone_records}
+use Rattle.zone_index.specs.Zones.{AsksInPart, AsksOfZone, Follow, IsIndexOf, IsOfZone, IsPartOfZone, IsZoneOf, zone_records}
 use Rattle.zone_index.specs.declared.read_at.Asked.{Asked}
 use Rattle.zone_index.specs.declared.records.Decision.{Decision}
 use Rattle.zone_index.specs.declared.zones.Zone.{Zone}
 use Rattle.zone_index.proofs.Asking.{asks_more, asks_then}
 
-kept_of_zones : (p : List ℕ → Bool) (f : Zone → List (List ℕ)) (zones : List Zone) → concat (filter p (flat_map f zones)) ≡ flat_map (λ z. concat (filter p (f z))) zones
+pub kept_of_zones : (p : List ℕ → Bool) (f : Zone → List (List ℕ)) (zones : List Zone) → concat (filter p (flat_map f zones)) ≡ flat_map (λ z. concat (filter p (f z))) zones
 kept_of_zones p f [] = refl
 kept_of_zones p f (z ∷ zones) =
     ap concat (filter-append p (f z) (flat_map f zones))
     ∙ concat-append (filter p (f z)) (filter p (flat_map f zones))
     ∙ ap (λ l. concat (filter p (f z)) ++ l) (kept_of_zones p f zones)
-
--- all zones
-pub found_all : (d : ℕ) (has_row : List ℕ → Bool) (Describes : List ℕ → List (List ℕ) → Type 0) (keep : List ℕ → Bool) (start : ℕ) (zones : List Zone) (was : List ℕ) → IsIndexOf d has_row Describes start zones was → found_in d keep was zones ≡ kept_of d keep (drop start was)
-found_all d has_row Describes keep start zones was index =
-    sym (kept_of_zones keep (zone_records d was) zones)
-    ∙ ap (λ records. concat (filter keep records)) (sym index.records)
-
--- one zone more
-pub found_more : (a b c : Option (List ℕ)) (d : ℕ) (keep : List ℕ → Bool) (was : List ℕ) (zones : List Zone) (i : ℕ) (z : Zone) → i < length zones → z ≡ get_or zones i z
-    → Appends a b (found_in d keep was (take i zones)) → Appends b c (kept_of d keep (zone_bytes was z)) → Appends a c (found_in d keep was (take (i + 1) zones))
-found_more a b c d keep was zones i z inside is before here =
-    let f : Zone → List ℕ = λ y. kept_of d keep (zone_bytes was y) in
-    let e : found_in d keep was (take (i + 1) zones) ≡ found_in d keep was (take i zones) ++ kept_of d keep (zone_bytes was (get_or zones i z)) =
-    ap (flat_map f) (take_at_read zones i z inside).1 ∙ flat_map-append f (take i zones) (get_or zones i z ∷ []) ∙ ap (λ l. flat_map f (take i zones) ++ l) (append-nil (f (get_or zones i z))) in
-    subst (Appends a c) (sym e) (Appends-trans a b c _ _ before (subst (λ (y : Zone). Appends b c (f y)) is here))
-
--- after the last zone
-pub found_whole : (a b : Option (List ℕ)) (d : ℕ) (has_row : List ℕ → Bool) (Describes : List ℕ → List (List ℕ) → Type 0) (keep : List ℕ → Bool) (start : ℕ) (zones : List Zone) (was : List ℕ) (i : ℕ) → length zones ≤ i → IsIndexOf d has_row Describes start zones was
-    → Appends a b (found_in d keep was (take i zones)) → Appends a b (kept_of d keep (drop start was))
-found_whole a b d has_row Describes keep start zones was i ended index before =
-    subst (Appends a b) (ap (found_in d keep was) (take_all i zones ended) ∙ found_all d has_row Describes keep start zones was index) before
 
 count_step : (p : Zone → Bool) (zones : List Zone) (i : ℕ) (z : Zone) (b : Bool) → i < length zones → p (get_or zones i z) ≡ b → count_by p (take (i + 1) zones) ≡ count_by p (take i zones) + cond b 1 0
 count_step p zones i z true inside e = count_by_more_yes p zones i z inside e
@@ -51,6 +26,10 @@ count_step p zones i z false inside e = count_by_more_no p zones i z inside e �
 -- one more is counted
 pub counted_more : (p : Zone → Bool) (zones : List Zone) (i old new : ℕ) (z : Zone) (b : Bool) → i < length zones → z ≡ get_or zones i z → p z ≡ b → old ≡ count_by p (take i zones) → new ≡ old + cond b 1 0 → new ≡ count_by p (take (i + 1) zones)
 counted_more p zones i old new z b inside is e before here = here ∙ ap (λ n. n + cond b 1 0) before ∙ sym (count_step p zones i z b inside (ap p (sym is) ∙ e))
+
+-- in all zones
+pub counted_whole : (p : Zone → Bool) (zones : List Zone) (i n : ℕ) → length zones ≤ i → n ≡ count_by p (take i zones) → n ≡ count_by p zones
+counted_whole p zones i n ended before = before ∙ ap (count_by p) (take_all i zones ended)
 
 of_zone : (decides : List ℕ → Decision) (zones : List Zone) (i : ℕ) (z : Zone) (x : Asked) → i < length zones → AsksOfZone decides (get_or zones i z) x → IsOfZone decides zones x
 of_zone decides zones i z x inside h = record { zone = get_or zones i z; among = Contains-get_or zones i z inside; read = h.0; within = h.1 }
@@ -64,6 +43,21 @@ asks_zone decides zones i z a b c inside is before here =
 -- what holds of all holds of this one
 pub at_item : (P : Zone → Type 0) (zones : List Zone) (i : ℕ) (z : Zone) → i < length zones → z ≡ get_or zones i z → All P zones → P z
 at_item P zones i z inside is all = subst P (sym is) (all i z inside)
+
+-- ---- why a search stops
+
+pub cut_in_zone : (d : ℕ) (has_row : List ℕ → Bool) (Describes : List ℕ → List (List ℕ) → Type 0) (old now : Option (List ℕ)) (zones : List Zone) (i : ℕ) (z : Zone) → i < length zones → z ≡ get_or zones i z → now ≡ old → IfSome now (λ bytes. length bytes < z.first + z.length)
+    → IfSome old (λ bytes. (was : List ℕ) (start : ℕ) → IsIndexOf d has_row Describes start zones was → length bytes < length was)
+cut_in_zone d has_row Describes None now zones i z inside is same cut = tt
+cut_in_zone d has_row Describes (Some bytes) now zones i z inside is same cut = λ was start index.
+    let here : length bytes < z.first + z.length = subst (λ (o : Option (List ℕ)). IfSome o (λ xs. length xs < z.first + z.length)) same cut in
+    let zone : IsZoneOf d has_row Describes was z = at_item (IsZoneOf d has_row Describes was) zones i z inside is index.right in
+    omega (arith, here, zone.inside)
+
+pub far_in_zone : (d : ℕ) (has_row : List ℕ → Bool) (Describes : List ℕ → List (List ℕ) → Type 0) (zones : List Zone) (i : ℕ) (z : Zone) (was : List ℕ) (start : ℕ) → i < length zones → z ≡ get_or zones i z → 2 ^ 64 ≤ z.first + z.length → IsIndexOf d has_row Describes start zones was → 2 ^ 64 ≤ length was
+far_in_zone d has_row Describes zones i z was start inside is far index =
+    let zone : IsZoneOf d has_row Describes was z = at_item (IsZoneOf d has_row Describes was) zones i z inside is index.right in
+    omega (arith, far, zone.inside)
 
 -- ---- counting
 

@@ -9,5 +9,6 @@ pub mod FormLaws
 pub mod ReadSteps
 pub mod Refusing
 pub mod Rests
+pub mod Sinking
 pub mod TakeMore
 pub mod WriteSteps

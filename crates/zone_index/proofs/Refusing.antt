@@ -10,8 +10,8 @@ use Rattle.zone_index.specs.Faults.{EndsFar, IfRecordRefused, IfRefused, IsOfRea
 use Rattle.zone_index.specs.Taking.{IsTaken}
 use Rattle.zone_index.specs.Zones.{Follow, IsHeld, IsIndexOf, IsZoneOf, zone_bytes, zone_records}
 use Rattle.zone_index.specs.declared.faults.Cause.{Cause}
-use Rattle.zone_index.specs.declared.faults.Fault.{Fault}
-use Rattle.zone_index.specs.declared.faults.Fault.TheVariants as faults
+use Rattle.zone_index.specs.declared.faults.SearchFault.{SearchFault}
+use Rattle.zone_index.specs.declared.faults.SearchFault.TheVariants as faults
 use Rattle.zone_index.specs.declared.faults.RecordFault.{RecordFault}
 use Rattle.zone_index.specs.declared.faults.RecordFault.TheVariants as record_faults
 use Rattle.zone_index.specs.declared.faults.Refusal.{Refusal}
@@ -19,7 +19,7 @@ use Rattle.zone_index.specs.declared.zones.Zone.{Zone}
 use Rattle.zone_index.proofs.Begun.{IsBegun}
 
 -- no record is told
-pub none_told : (P : Refusal → Type 0) (f : Fault) → IsOfReading f → IfRefused P f
+pub none_told : (P : Refusal → Type 0) (f : SearchFault) → IsOfReading f → IfRefused P f
 none_told P (faults.Refused r) h = absurd h
 none_told P faults.Read h = tt
 none_told P faults.CutShort h = tt
@@ -142,7 +142,7 @@ told_in_index R d has_row Describes was start zones i z r inside is index h =
     (told_in_zone R d has_row Describes was start (length was) zones i z r inside index.follow index.right (subst (λ (y : Zone). TellsOneOf R y.first (zone_records d was y) r) is h))
 
 -- the same of a fault, where the reader has the bytes that it had
-pub refused_in_zone : (R : List ℕ → Cause → Type 0) (d : ℕ) (has_row : List ℕ → Bool) (Describes : List ℕ → List (List ℕ) → Type 0) (old now : Option (List ℕ)) (zones : List Zone) (i : ℕ) (z : Zone) (f : Fault) → i < length zones → z ≡ get_or zones i z → now ≡ old
+pub refused_in_zone : (R : List ℕ → Cause → Type 0) (d : ℕ) (has_row : List ℕ → Bool) (Describes : List ℕ → List (List ℕ) → Type 0) (old now : Option (List ℕ)) (zones : List Zone) (i : ℕ) (z : Zone) (f : SearchFault) → i < length zones → z ≡ get_or zones i z → now ≡ old
     → IfRefused (λ r. (was : List ℕ) → IsHeld now was → z.first + z.length ≤ length was → TellsOneOf R z.first (zone_records d was z) r) f
     → IfRefused (λ r. (was : List ℕ) (start : ℕ) → IsHeld old was → IsIndexOf d has_row Describes start zones was → TellsOneOf R start (records_of d (drop start was)) r) f
 refused_in_zone R d has_row Describes old now zones i z (faults.Refused r) inside is same h = λ was start held index.
@@ -196,7 +196,7 @@ told_in_piece R d e bytes text view left next start passed at r s place by t sam
     subst (λ (l : List (List ℕ)). TellsOneOf R start l r) (sym (s.records ∙ ap (λ (l : List (List ℕ)). s.done ++ l) taken.records))
     (told_among R start at s.done (records_of d text) (records_of d taken.rest) r (λ n. omega (arith, s.long, place)) piece)
 
-pub refused_in_piece : (R : List ℕ → Cause → Type 0) (d e : ℕ) (text view : List ℕ) (all left next : Option (List ℕ)) (start passed at : ℕ) (f : Fault) → ((bytes : List ℕ) → all ≡ Some bytes → IsPassed d bytes left passed) → at ≡ min (start + passed) (2 ^ 64 - 1) → e ≡ d
+pub refused_in_piece : (R : List ℕ → Cause → Type 0) (d e : ℕ) (text view : List ℕ) (all left next : Option (List ℕ)) (start passed at : ℕ) (f : SearchFault) → ((bytes : List ℕ) → all ≡ Some bytes → IsPassed d bytes left passed) → at ≡ min (start + passed) (2 ^ 64 - 1) → e ≡ d
     → ((bytes : List ℕ) → left ≡ Some bytes → IsTaken e bytes text next) → view ≡ text → IfRefused (TellsOneOf R at (records_of d view)) f
     → IfRefused (λ r. (bytes : List ℕ) → all ≡ Some bytes → TellsOneOf R start (records_of d bytes) r) f
 refused_in_piece R d e text view all left next start passed at (faults.Refused r) before place by taken same h = λ bytes is.
@@ -240,7 +240,7 @@ told_in_stream R d e has_row Describes start zones front bytes text view left ne
     (told_among R start at done (records_of d text) (records_of d taken.rest) r (λ n. ap (λ (m : ℕ). min (m + n) (2 ^ 64 - 1)) (begun_long d has_row Describes start zones front bytes left at b long)) piece)
 
 -- whatever stands before what is left
-pub refused_in_stream : (R : List ℕ → Cause → Type 0) (d e : ℕ) (has_row : List ℕ → Bool) (Describes : List ℕ → List (List ℕ) → Type 0) (zones : List Zone) (text view : List ℕ) (all left next : Option (List ℕ)) (start at : ℕ) (f : Fault)
+pub refused_in_stream : (R : List ℕ → Cause → Type 0) (d e : ℕ) (has_row : List ℕ → Bool) (Describes : List ℕ → List (List ℕ) → Type 0) (zones : List Zone) (text view : List ℕ) (all left next : Option (List ℕ)) (start at : ℕ) (f : SearchFault)
     → ((front bytes : List ℕ) → length front ≡ start → all ≡ Some bytes → IsBegun d has_row Describes start zones (front ++ bytes) left at) → e ≡ d
     → ((bytes : List ℕ) → left ≡ Some bytes → IsTaken e bytes text next) → view ≡ text → IfRefused (TellsOneOf R at (records_of d view)) f
     → IfRefused (λ r. (bytes : List ℕ) → all ≡ Some bytes → TellsOneOf R start (records_of d bytes) r) f

@@ -2,19 +2,19 @@
 use Rattle.std.specs.Prelude.{◌≡◌, ◌≤◌, ◌+◌, ◌-◌, ◌^◌, ◌++◌, ◌∷◌, ℕ, List, Option, Some, length, min}
 use Rattle.std.specs.List.{concat}
 use Rattle.zone_index.specs.declared.faults.Cause.{Cause}
-use Rattle.zone_index.specs.declared.faults.Fault.{Fault}
-use Rattle.zone_index.specs.declared.faults.Fault.TheVariants as faults
+use Rattle.zone_index.specs.declared.faults.SearchFault.{SearchFault}
+use Rattle.zone_index.specs.declared.faults.SearchFault.TheVariants as faults
 use Rattle.zone_index.specs.declared.faults.RecordFault.{RecordFault}
 use Rattle.zone_index.specs.declared.faults.RecordFault.TheVariants as record_faults
 use Rattle.zone_index.specs.declared.faults.Refusal.{Refusal}
 
 -- the fault, where the bytes that a record was given in stand at this place
-abbrev pub fault_at : ℕ → RecordFault → Fault
+abbrev pub fault_at : ℕ → RecordFault → SearchFault
 fault_at first record_faults.Memory = faults.Memory
 fault_at first (record_faults.Refused refusal) = faults.Refused (record refusal { place = min (refusal.place + first) (2 ^ 64 - 1) })
 
 -- a fault of a record, and of no reader or writer
-abbrev pub IsOfRecord : Fault → Type 0
+abbrev pub IsOfRecord : SearchFault → Type 0
 IsOfRecord faults.Memory = Unit {0}
 IsOfRecord (faults.Refused refusal) = Unit {0}
 IsOfRecord faults.Read = ⊥
@@ -23,7 +23,7 @@ IsOfRecord faults.TooFar = ⊥
 IsOfRecord faults.Write = ⊥
 
 -- a fault of reading, and of no record or writer
-abbrev pub IsOfReading : Fault → Type 0
+abbrev pub IsOfReading : SearchFault → Type 0
 IsOfReading faults.Read = Unit {0}
 IsOfReading faults.CutShort = Unit {0}
 IsOfReading faults.TooFar = Unit {0}
@@ -32,7 +32,7 @@ IsOfReading faults.Write = ⊥
 IsOfReading (faults.Refused refusal) = ⊥
 
 -- a read failed, or no memory was left for it
-abbrev pub IsOfStream : Fault → Type 0
+abbrev pub IsOfStream : SearchFault → Type 0
 IsOfStream faults.Read = Unit {0}
 IsOfStream faults.Memory = Unit {0}
 IsOfStream faults.CutShort = ⊥
@@ -45,7 +45,7 @@ abbrev pub EndsFar : ℕ → Option (List ℕ) → Type 0
 EndsFar start left = (bytes : List ℕ) → left ≡ Some bytes → 2 ^ 64 ≤ start + length bytes
 
 -- this holds of what is told of a record that was refused
-abbrev pub IfRefused : (Refusal → Type 0) → Fault → Type 0
+abbrev pub IfRefused : (Refusal → Type 0) → SearchFault → Type 0
 IfRefused P (faults.Refused refusal) = P refusal
 IfRefused P faults.Read = Unit {0}
 IfRefused P faults.CutShort = Unit {0}

@@ -1,8 +1,10 @@
+pub mod Answers
 pub mod Asking
 pub mod Examples
 pub mod Faults
 pub mod Form
 pub mod FormReading
 pub mod Records
+pub mod Sinks
 pub mod Taking
 pub mod Zones

@@ -2,12 +2,13 @@
 
 ghost use Rattle.std.specs.Prelude.{◌≡◌, ◌≢◌, ◌<◌, ◌≤◌, ◌+◌, ◌-◌, ◌^◌, ℕ, List, IfErr, IfOk, IfSome, length, count_by, drop, if◌then◌else◌};
 ghost use Rattle.csv_records.specs.Records.{records_of};
+ghost use Rattle.zone_index.specs.Answers.{AnswersCount};
 ghost use Rattle.zone_index.specs.Asking.{Asks};
 ghost use Rattle.zone_index.specs.Faults.{IfRefused, IsOfRecord, TellsOneOf};
 ghost use Rattle.zone_index.specs.Zones.{AsksInPart, IsHeld, IsIndexOf, IsPartOfZone, IsZoneOf, zone_records};
-ghost use Rattle.zone_index.specs.declared.faults.Fault.TheVariants.{CutShort, TooFar, Write as WriteFault};
+ghost use Rattle.zone_index.specs.declared.faults.SearchFault.TheVariants.{CutShort, TooFar, Write as WriteFault};
 
-use crate::faults::Fault;
+use crate::faults::SearchFault;
 use crate::read_at::ReadAt;
 use crate::records::{Decision, Matcher};
 use crate::search::{is_hit, read_zone};
@@ -21,33 +22,20 @@ pub fn count<R: ReadAt, M: Matcher>(
     zones: &[Zone],
     matcher: &M,
     reader: &mut R,
-) -> Result<u64, Fault>
-    // Of the bytes that the index is right for, where those that the reader has are these, fewer or more.
-    ensures counted { IfOk result (λ n. (was : List ℕ) (start : ℕ) → IsHeld (R.bytes reader.old) was
-        → IsIndexOf (M.delimiter matcher.now) (M.has_row matcher.now) (M.Describes matcher.now) start zones.now was
-        → n ≡ count_by (M.matches matcher.now) (records_of (M.delimiter matcher.now) (drop start was))) }
+) -> Result<u64, SearchFault>
+    ensures answer { AnswersCount
+        (IsIndexOf (M.delimiter matcher.now) (M.has_row matcher.now) (M.Describes matcher.now))
+        (M.Refuses matcher.now) (M.delimiter matcher.now) (M.matches matcher.now) zones.now
+        (R.bytes reader.old) result }
     // All that the reader was asked for stands in zones whose statistics decide nothing.
     ensures asks { Asks (IsPartOfZone (M.decides matcher.now) zones.now) (R.asked reader.old) (R.asked reader.new) }
-    ensures cut { IfErr result (λ fault. fault ≡ CutShort → IfSome (R.bytes reader.old)
-        (λ bytes. (was : List ℕ) (start : ℕ)
-        → IsIndexOf (M.delimiter matcher.now) (M.has_row matcher.now) (M.Describes matcher.now) start zones.now was
-        → length bytes < length was)) }
-    ensures far { IfErr result (λ fault. fault ≡ TooFar → (was : List ℕ) (start : ℕ)
-        → IsIndexOf (M.delimiter matcher.now) (M.has_row matcher.now) (M.Describes matcher.now) start zones.now was
-        → 2 ^ 64 ≤ length was) }
-    ensures reading { IfErr result (λ fault. fault ≢ WriteFault) }
-    // The record that is told is one of the bytes, and begins there.
-    ensures refused { IfErr result (IfRefused (λ refusal. (was : List ℕ) (start : ℕ)
-        → IsHeld (R.bytes reader.old) was
-        → IsIndexOf (M.delimiter matcher.now) (M.has_row matcher.now) (M.Describes matcher.now) start zones.now was
-        → TellsOneOf (M.Refuses matcher.now) start (records_of (M.delimiter matcher.now) (drop start was)) refusal)) }
 {
     let mut total = 0u64;
     for zone in zones {
         let hits = count_zone(alloc, zone, matcher, reader)?;
         match total.checked_add(hits) {
             Some(sum) => total = sum,
-            None => return Err(Fault::TooFar),
+            None => return Err(SearchFault::TooFar),
         }
     }
     Ok(total)
@@ -59,7 +47,7 @@ fn count_zone<R: ReadAt, M: Matcher>(
     zone: &Zone,
     matcher: &M,
     reader: &mut R,
-) -> Result<u64, Fault>
+) -> Result<u64, SearchFault>
     ensures counted { IfOk result (λ n. (was : List ℕ) → IsHeld (R.bytes reader.old) was
         → IsZoneOf (M.delimiter matcher.now) (M.has_row matcher.now) (M.Describes matcher.now) was zone.now
         → n ≡ count_by (M.matches matcher.now) (zone_records (M.delimiter matcher.now) was zone.now)) }
@@ -94,7 +82,7 @@ pub(crate) fn count_in<M: Matcher>(
     first: u64,
     text: &[u8],
     matcher: &M,
-) -> Result<u64, Fault>
+) -> Result<u64, SearchFault>
     ensures counted { IfOk result (λ n. n ≡ count_by (M.matches matcher.now)
         (records_of (M.delimiter matcher.now) text.now)) }
     ensures few { IfOk result (λ n. n ≤ length text.now) }
@@ -116,7 +104,7 @@ pub(crate) fn count_in<M: Matcher>(
 }
 
 /// One more, if that is so.
-fn one_more(hits: u64, hit: bool) -> u64
+pub(crate) fn one_more(hits: u64, hit: bool) -> u64
     requires { hits < 2 ^ 64 - 1 }
     ensures { result ≡ hits + (if hit then 1 else 0) }
 {

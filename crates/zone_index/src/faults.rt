@@ -1,7 +1,7 @@
 //! Why an index or a search stops.
 
 ghost use Rattle.std.specs.Prelude.{◌≡◌};
-ghost use Rattle.zone_index.specs.declared.faults.Fault.TheVariants.{Memory};
+ghost use Rattle.zone_index.specs.declared.faults.SearchFault.TheVariants.{Memory};
 ghost use Rattle.zone_index.specs.declared.faults.RecordFault.TheVariants.{Memory as NoMemory};
 
 use std::alloc::{AllocError, AllocFailed};
@@ -38,7 +38,7 @@ pub enum RecordFault {
 
 /// Why an index or a search stopped.
 #[derive(Debug, Drop)]
-pub enum Fault {
+pub enum SearchFault {
     /// A read failed.
     Read,
     /// The file ends before a zone that the index has.
@@ -72,33 +72,33 @@ impl<T: Drop> From<AllocFailed<T>> for RecordFault {
 }
 
 /// Out of memory.
-impl From<AllocError> for Fault {
+impl From<AllocError> for SearchFault {
     ghost from_gives = { λ _ fault. fault ≡ Memory };
 
-    fn from(_error: AllocError) -> Fault {
-        Fault::Memory
+    fn from(_error: AllocError) -> SearchFault {
+        SearchFault::Memory
     }
 }
 
 /// The same, of a value that found no room.
-impl<T: Drop> From<AllocFailed<T>> for Fault {
+impl<T: Drop> From<AllocFailed<T>> for SearchFault {
     ghost from_gives = { λ _ fault. fault ≡ Memory };
 
-    fn from(_error: AllocFailed<T>) -> Fault {
-        Fault::Memory
+    fn from(_error: AllocFailed<T>) -> SearchFault {
+        SearchFault::Memory
     }
 }
 
-impl Fault {
+impl SearchFault {
     ghost use Rattle.zone_index.specs.Faults.{IsOfStream};
 
     /// Why nothing more was read: a read failed, or no memory was left for it.
-    pub(crate) fn of_read(error: io::Error) -> Fault
+    pub(crate) fn of_read(error: io::Error) -> SearchFault
         ensures { IsOfStream result }
     {
         match error.kind() {
-            ErrorKind::OutOfMemory => Fault::Memory,
-            _ => Fault::Read,
+            ErrorKind::OutOfMemory => SearchFault::Memory,
+            _ => SearchFault::Read,
         }
     }
 }
@@ -107,14 +107,14 @@ impl RecordFault {
     ghost use Rattle.zone_index.specs.Faults.{fault_at};
 
     /// The same, where the bytes that were given stand here in the file.
-    pub(crate) fn at(self, first: u64) -> Fault
+    pub(crate) fn at(self, first: u64) -> SearchFault
         ensures { result ≡ fault_at first self }
     {
         match self {
-            RecordFault::Memory => Fault::Memory,
+            RecordFault::Memory => SearchFault::Memory,
             RecordFault::Refused(refusal) => {
                 let Refusal { place, cause } = refusal;
-                Fault::Refused(Refusal {
+                SearchFault::Refused(Refusal {
                     place: place.saturating_add(first),
                     cause,
                 })

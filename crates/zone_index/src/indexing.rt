@@ -4,14 +4,23 @@ ghost use Rattle.std.specs.Prelude.{◌≡◌, ◌≢◌, ◌<◌, ◌++◌, ℕ
 ghost use Rattle.csv_records.specs.Records.{records_of};
 ghost use Rattle.zone_index.specs.Faults.{EndsFar, IfRefused, IsOfRecord, TellsOneOf};
 ghost use Rattle.zone_index.specs.Zones.{IsIndexOf, IsZoneOfText};
-ghost use Rattle.zone_index.specs.declared.faults.Fault.TheVariants.{CutShort, TooFar, Write as WriteFault};
+ghost use Rattle.zone_index.specs.declared.faults.SearchFault.TheVariants.{CutShort, TooFar, Write as WriteFault};
 
-use crate::faults::Fault;
+use crate::faults::SearchFault;
 use crate::records::{Described, Describer};
 use crate::taking::take_records;
 use crate::zones::Zone;
 use std::alloc::Global;
 use std::io::BufRead;
+
+/// Zones that were made of a stream.
+#[derive(Debug, Drop)]
+pub struct Indexed {
+    /// The zones.
+    pub zones: Vec<Zone>,
+    /// How many fields stand as a null since their columns do not take them, as far as 64 bits count.
+    pub nulls: u64,
+}
 
 /// The zones of all records that a reader has left, so many records in each, the last one fewer.
 /// The first byte that is left stands at `start` in the file.
@@ -21,12 +30,12 @@ pub fn index_records<B: BufRead, D: Describer>(
     start: u64,
     describer: &D,
     reader: &mut B,
-) -> Result<Vec<Zone>, Fault>
+) -> Result<Indexed, SearchFault>
     requires { 0 < size }
-    ensures right { IfOk result (λ zones. (before bytes : List ℕ) → length before ≡ start
+    ensures right { IfOk result (λ indexed. (before bytes : List ℕ) → length before ≡ start
         → B.remaining reader.old ≡ Some bytes
         → IsIndexOf (D.delimiter describer.now) (D.has_row describer.now) (D.Describes describer.now)
-        start zones.items (before ++ bytes)) }
+        start indexed.zones.items (before ++ bytes)) }
     ensures reading { IfErr result (λ fault. fault ≢ WriteFault) }
     ensures uncut { IfErr result (λ fault. fault ≢ CutShort) }
     ensures far { IfErr result (λ fault. fault ≡ TooFar → EndsFar start (B.remaining reader.old)) }
@@ -38,30 +47,33 @@ pub fn index_records<B: BufRead, D: Describer>(
     let mut zones = Vec::new(alloc);
     let mut text = Vec::new(alloc);
     let mut first = start;
+    let mut nulls = 0u64;
     loop {
         text.clear();
         take_records(delimiter, size, &mut text, reader)?;
         if text.is_empty() {
-            return Ok(zones);
+            return Ok(Indexed { zones, nulls });
         }
-        let zone = zone_of(alloc, first, &text, describer)?;
+        let (zone, more) = zone_of(alloc, first, &text, describer)?;
         match first.checked_add(zone.length) {
             Some(next) => first = next,
-            None => return Err(Fault::TooFar),
+            None => return Err(SearchFault::TooFar),
         }
+        nulls = nulls.saturating_add(more);
         zones.push(zone)?;
     }
 }
 
-/// The zone of a text that begins here.
+/// The zone of a text that begins here, and how many of its fields stand as a null since their columns
+/// do not take them.
 fn zone_of<D: Describer>(
     alloc: Global,
     first: u64,
     text: &[u8],
     describer: &D,
-) -> Result<Zone, Fault>
-    ensures zone { IfOk result (IsZoneOfText (D.delimiter describer.now) (D.has_row describer.now)
-        (D.Describes describer.now) first text.now) }
+) -> Result<(Zone, u64), SearchFault>
+    ensures zone { IfOk result (λ made. IsZoneOfText (D.delimiter describer.now) (D.has_row describer.now)
+        (D.Describes describer.now) first text.now made.0) }
     ensures why { IfErr result IsOfRecord }
     ensures refused { IfErr result (IfRefused (TellsOneOf (D.Refuses describer.now) first
         (records_of (D.delimiter describer.now) text.now))) }
@@ -72,14 +84,16 @@ fn zone_of<D: Describer>(
                 records,
                 rows,
                 statistics,
+                nulls,
             } = described;
-            Ok(Zone {
+            let zone = Zone {
                 first,
                 length: text.len() as u64,
                 records,
                 rows,
                 statistics,
-            })
+            };
+            Ok((zone, nulls))
         }
         Err(fault) => Err(fault.at(first)),
     }

@@ -33,6 +33,9 @@ pub struct Described {
     pub rows: u64,
     /// Statistics of the rows, in bytes.
     pub statistics: Vec<u8>,
+    /// How many fields of them stand as a null since their columns do not take them. An index does not
+    /// keep it.
+    pub nulls: u64,
 }
 
 /// What records are.

@@ -1,21 +1,23 @@
 //! The search.
 
-ghost use Rattle.std.specs.Prelude.{◌≡◌, ◌≢◌, ◌<◌, ◌≤◌, ◌+◌, ◌-◌, ◌^◌, ℕ, List, IfErr, IfOk, IfSome, OnOk, length, min, take, count_by, drop, if◌then◌else◌};
-ghost use Rattle.std.specs.Io.KnownBytes.{Appends, Keeps};
+ghost use Rattle.std.specs.Prelude.{◌≡◌, ◌≢◌, ◌<◌, ◌≤◌, ◌+◌, ◌++◌, ◌-◌, ◌^◌, ℕ, List, [], IfErr, IfOk, IfSome, OnOk, count_by, if◌then◌else◌, length, min, true};
+ghost use Rattle.std.specs.Io.KnownBytes.{Appends};
 ghost use Rattle.csv_records.specs.Records.{records_of};
+ghost use Rattle.zone_index.specs.Answers.{AnswersFind};
 ghost use Rattle.zone_index.specs.Asking.{Asks, AsksWithin};
 ghost use Rattle.zone_index.specs.Faults.{IfRefused, IsOfReading, IsOfRecord, TellsOneOf, TellsRecord};
-ghost use Rattle.zone_index.specs.Records.{kept_of};
-ghost use Rattle.zone_index.specs.Zones.{AsksOfZone, IsHeld, IsIndexOf, IsOfZone, IsWayOf, IsZoneOf, found_in, is_copied, is_copy, is_search, is_searched, is_skip, is_skipped, way_of, zone_bytes, zone_records};
-ghost use Rattle.zone_index.specs.declared.faults.Fault.TheVariants.{CutShort, TooFar, Write as WriteFault};
+ghost use Rattle.zone_index.specs.Sinks.{told, written_of};
+ghost use Rattle.zone_index.specs.Zones.{AsksOfZone, IsHeld, IsIndexOf, IsOfZone, IsWayOf, IsZoneOf, is_copy, is_search, is_skip, way_of, zone_bytes, zone_records};
+ghost use Rattle.zone_index.specs.declared.faults.SearchFault.TheVariants.{CutShort, TooFar, Write as WriteFault};
 
-use crate::faults::Fault;
+use crate::counting::one_more;
+use crate::faults::SearchFault;
 use crate::read_at::{ReadAt, fill_from};
 use crate::records::{Decision, Matcher};
-use crate::zones::{Way, Zone};
-use csv_records::cut_record;
+use crate::sinks::Sink;
+use crate::zones::{Position, Way, Zone};
+use csv_records::{Delimiter, cut_record};
 use std::alloc::{AllocError, Global};
-use std::io::Write;
 
 /// What became of the zones.
 #[derive(Clone, Copy, Debug, PartialEq, Eq)]
@@ -50,49 +52,22 @@ impl Tally {
     }
 }
 
-/// Writes the records of a file that match, whole and in order. Only the zones that may have one are
-/// read.
-pub fn find<R: ReadAt, M: Matcher, W: Write>(
+/// Gives a sink the records of a file that match, in order, and writes them. The first record has the
+/// number `first`. Only the zones that may have one that matches are read.
+pub fn find<R: ReadAt, M: Matcher, S: Sink>(
     alloc: Global,
     zones: &[Zone],
+    first: u64,
     matcher: &M,
     reader: &mut R,
-    writer: &mut W,
-) -> Result<Tally, Fault>
-    // Of the bytes that the index is right for, where those that the reader has are these, fewer or more.
-    ensures written { OnOk result ((was : List ℕ) (start : ℕ) → IsHeld (R.bytes reader.old) was
-        → IsIndexOf (M.delimiter matcher.now) (M.has_row matcher.now) (M.Describes matcher.now) start zones.now was
-        → Appends (W.contents writer.old) (W.contents writer.new)
-        (kept_of (M.delimiter matcher.now) (M.matches matcher.now) (drop start was))) }
-    ensures skipped { IfOk result (λ tally. tally.skipped ≡ count_by (is_skipped (M.decides matcher.now)) zones.now) }
-    ensures copied { IfOk result (λ tally. tally.copied ≡ count_by (is_copied (M.decides matcher.now)) zones.now) }
-    ensures searched { IfOk result (λ tally. tally.searched ≡ count_by (is_searched (M.decides matcher.now)) zones.now) }
-    ensures found { IfOk result (λ tally. (was : List ℕ) (start : ℕ) → IsHeld (R.bytes reader.old) was
-        → IsIndexOf (M.delimiter matcher.now) (M.has_row matcher.now) (M.Describes matcher.now) start zones.now was
-        → tally.found ≡ min (count_by (M.matches matcher.now)
-        (records_of (M.delimiter matcher.now) (drop start was))) (2 ^ 64 - 1)) }
+    sink: &mut S,
+) -> Result<Tally, SearchFault>
+    ensures answer { AnswersFind
+        (IsIndexOf (M.delimiter matcher.now) (M.has_row matcher.now) (M.Describes matcher.now))
+        (M.Refuses matcher.now) (M.delimiter matcher.now) (M.matches matcher.now) (M.decides matcher.now)
+        S.written_as first zones.now (R.bytes reader.old) (S.contents sink.old) (S.contents sink.new) result }
     // All that the reader was asked for stands in zones that are not skipped.
     ensures asks { Asks (IsOfZone (M.decides matcher.now) zones.now) (R.asked reader.old) (R.asked reader.new) }
-    // After a fault other than one of the writer, what is found in the first zones was written, and
-    // nothing of the next one.
-    ensures partial { IfErr result (λ fault. fault ≢ WriteFault → (was : List ℕ) (start : ℕ)
-        → IsHeld (R.bytes reader.old) was
-        → IsIndexOf (M.delimiter matcher.now) (M.has_row matcher.now) (M.Describes matcher.now) start zones.now was
-        → (k : ℕ) × Appends (W.contents writer.old) (W.contents writer.new)
-        (found_in (M.delimiter matcher.now) (M.matches matcher.now) was (take k zones.now))) }
-    // The reader has fewer bytes than the index is right for.
-    ensures cut { IfErr result (λ fault. fault ≡ CutShort → IfSome (R.bytes reader.old)
-        (λ bytes. (was : List ℕ) (start : ℕ)
-        → IsIndexOf (M.delimiter matcher.now) (M.has_row matcher.now) (M.Describes matcher.now) start zones.now was
-        → length bytes < length was)) }
-    ensures far { IfErr result (λ fault. fault ≡ TooFar → (was : List ℕ) (start : ℕ)
-        → IsIndexOf (M.delimiter matcher.now) (M.has_row matcher.now) (M.Describes matcher.now) start zones.now was
-        → 2 ^ 64 ≤ length was) }
-    // The record that is told is one of the bytes, and begins there.
-    ensures refused { IfErr result (IfRefused (λ refusal. (was : List ℕ) (start : ℕ)
-        → IsHeld (R.bytes reader.old) was
-        → IsIndexOf (M.delimiter matcher.now) (M.has_row matcher.now) (M.Describes matcher.now) start zones.now was
-        → TellsOneOf (M.Refuses matcher.now) start (records_of (M.delimiter matcher.now) (drop start was)) refusal)) }
 {
     let mut tally = Tally {
         skipped: 0,
@@ -100,34 +75,37 @@ pub fn find<R: ReadAt, M: Matcher, W: Write>(
         searched: 0,
         found: 0,
     };
+    let mut number = first;
     for zone in zones {
-        let (way, found) = answer_zone(alloc, zone, matcher, reader, writer)?;
+        let (way, found) = answer_zone(alloc, zone, number, matcher, reader, sink)?;
         tally.add(way, found);
+        number = number.saturating_add(zone.records);
     }
-    flush_out(writer)?;
+    sink.flush()?;
     Ok(tally)
 }
 
-/// Writes the records of a zone that match, in one go, and says what became of it and how many they
-/// are.
-fn answer_zone<R: ReadAt, M: Matcher, W: Write>(
+/// Gives a sink the records of a zone that match, has them written, and says what became of the zone and
+/// how many they are. The first record of the zone has this number.
+fn answer_zone<R: ReadAt, M: Matcher, S: Sink>(
     alloc: Global,
     zone: &Zone,
+    number: u64,
     matcher: &M,
     reader: &mut R,
-    writer: &mut W,
-) -> Result<(Way, u64), Fault>
+    sink: &mut S,
+) -> Result<(Way, u64), SearchFault>
     ensures written { OnOk result ((was : List ℕ) → IsHeld (R.bytes reader.old) was
         → IsZoneOf (M.delimiter matcher.now) (M.has_row matcher.now) (M.Describes matcher.now) was zone.now
-        → Appends (W.contents writer.old) (W.contents writer.new)
-        (kept_of (M.delimiter matcher.now) (M.matches matcher.now) (zone_bytes was zone.now))) }
+        → Appends (S.contents sink.old) (S.contents sink.new) (written_of S.written_as (M.matches matcher.now)
+        number (zone_records (M.delimiter matcher.now) was zone.now))) }
     ensures way { IfOk result (λ answer. answer.0 ≡ way_of (M.decides matcher.now) zone.now) }
     ensures found { IfOk result (λ answer. (was : List ℕ) → IsHeld (R.bytes reader.old) was
         → IsZoneOf (M.delimiter matcher.now) (M.has_row matcher.now) (M.Describes matcher.now) was zone.now
         → answer.1 ≡ count_by (M.matches matcher.now) (zone_records (M.delimiter matcher.now) was zone.now)) }
     ensures kept { R.bytes reader.new ≡ R.bytes reader.old }
     ensures asks { Asks (AsksOfZone (M.decides matcher.now) zone.now) (R.asked reader.old) (R.asked reader.new) }
-    ensures untouched { IfErr result (λ fault. fault ≢ WriteFault → writer.new ≡ writer.old) }
+    ensures untouched { IfErr result (λ fault. fault ≢ WriteFault → S.contents sink.new ≡ S.contents sink.old) }
     ensures cut { IfErr result (λ fault. fault ≡ CutShort → IfSome (R.bytes reader.old)
         (λ bytes. length bytes < zone.now.first + zone.now.length)) }
     ensures far { IfErr result (λ fault. fault ≡ TooFar → 2 ^ 64 ≤ zone.now.first + zone.now.length) }
@@ -141,13 +119,18 @@ fn answer_zone<R: ReadAt, M: Matcher, W: Write>(
         Way::Skip => Ok((way, 0)),
         Way::Copy => {
             let whole = read_zone(alloc, zone, reader)?;
-            write_out(writer, &whole)?;
+            give_whole(matcher.delimiter_byte(), number, whole, sink)?;
+            sink.finish()?;
             Ok((way, zone.records))
         }
         Way::Search => {
             let piece = read_zone(alloc, zone, reader)?;
-            let (kept, hits) = kept_in(alloc, zone.first, &piece, matcher)?;
-            write_out(writer, &kept)?;
+            let start = Position {
+                place: zone.first,
+                number,
+            };
+            let (hits, _) = give_hits(alloc, start, &piece, matcher, sink)?;
+            sink.finish()?;
             Ok((way, hits))
         }
     }
@@ -178,7 +161,7 @@ pub(crate) fn read_zone<R: ReadAt>(
     alloc: Global,
     zone: &Zone,
     reader: &mut R,
-) -> Result<Vec<u8>, Fault>
+) -> Result<Vec<u8>, SearchFault>
     ensures read { IfOk result (λ piece. (was : List ℕ) → IsHeld (R.bytes reader.old) was
         → zone.now.first + zone.now.length ≤ length was → piece.items ≡ zone_bytes was zone.now) }
     ensures long { IfOk result (λ piece. length piece.items ≡ zone.now.length) }
@@ -193,42 +176,82 @@ pub(crate) fn read_zone<R: ReadAt>(
     let first = zone.first;
     let length = zone.length;
     if first > u64::MAX - length {
-        return Err(Fault::TooFar);
+        return Err(SearchFault::TooFar);
     }
     let mut piece = vec![in alloc; 0u8; length as usize]?;
     fill_from(reader, first, &mut piece)?;
     Ok(piece)
 }
 
-/// The records that match, and how many they are. The text stands at `first` in the file.
-pub(crate) fn kept_in<M: Matcher>(
+/// Gives a sink the records of a text, each of which matches. The first one has this number.
+fn give_whole<S: Sink>(
+    delimiter: Delimiter,
+    number: u64,
+    text: Vec<u8>,
+    sink: &mut S,
+) -> Result<(), AllocError>
+    ensures taken { OnOk result (S.taken sink.new ≡
+        written_of S.written_as (λ _. true) number (records_of delimiter.byte text.items)) }
+    ensures kept { S.contents sink.new ≡ S.contents sink.old }
+{
+    sink.begin();
+    sink.all_matched(delimiter, number, text)
+}
+
+/// Gives a sink the records of a text that match. Says how many they are, and the number of the record
+/// after the text, the first of which stands at `start`.
+pub(crate) fn give_hits<M: Matcher, S: Sink>(
     alloc: Global,
-    first: u64,
+    start: Position,
     text: &[u8],
     matcher: &M,
-) -> Result<(Vec<u8>, u64), Fault>
-    ensures kept { IfOk result (λ kept. kept.0.items ≡ kept_of (M.delimiter matcher.now) (M.matches matcher.now) text.now) }
-    ensures counted { IfOk result (λ kept. kept.1 ≡ count_by (M.matches matcher.now)
+    sink: &mut S,
+) -> Result<(u64, u64), SearchFault>
+    ensures taken { OnOk result (S.taken sink.new ≡ written_of S.written_as (M.matches matcher.now)
+        start.number (records_of (M.delimiter matcher.now) text.now)) }
+    ensures kept { S.contents sink.new ≡ S.contents sink.old }
+    ensures counted { IfOk result (λ given. given.0 ≡ count_by (M.matches matcher.now)
         (records_of (M.delimiter matcher.now) text.now)) }
-    ensures few { IfOk result (λ kept. kept.1 ≤ length text.now) }
+    ensures next { IfOk result (λ given. given.1 ≡
+        told (start.number + length (records_of (M.delimiter matcher.now) text.now))) }
+    ensures few { IfOk result (λ given. given.0 ≤ length text.now) }
     ensures why { IfErr result IsOfRecord }
-    ensures refused { IfErr result (IfRefused (TellsOneOf (M.Refuses matcher.now) first
+    ensures refused { IfErr result (IfRefused (TellsOneOf (M.Refuses matcher.now) start.place
         (records_of (M.delimiter matcher.now) text.now))) }
 {
-    let mut kept = Vec::new(alloc);
+    sink.begin();
+    let mut number = start.number;
     let mut hits = 0u64;
     let mut scratch = matcher.scratch(alloc);
     let mut rest = text;
     while !rest.is_empty() {
-        let place = first.saturating_add((text.len() - rest.len()) as u64);
+        let place = start.place.saturating_add((text.len() - rest.len()) as u64);
         let (line, after) = cut_record(matcher.delimiter_byte(), rest);
-        if is_hit(alloc, place, line, matcher, &mut scratch)? {
-            kept.extend_from_slice(line)?;
-            hits += 1;
-        }
+        let hit = is_hit(alloc, place, line, matcher, &mut scratch)?;
+        give_record(hit, number, line, sink)?;
+        hits = one_more(hits, hit);
+        number = number.saturating_add(1);
         rest = after;
     }
-    Ok((kept, hits))
+    Ok((hits, number))
+}
+
+/// Gives a sink a record with its number, if the record matches.
+fn give_record<S: Sink>(
+    is_hit: bool,
+    number: u64,
+    line: &[u8],
+    sink: &mut S,
+) -> Result<(), AllocError>
+    ensures taken { OnOk result (S.taken sink.new ≡
+        S.taken sink.old ++ (if is_hit then S.written_as number line.now else [])) }
+    ensures kept { S.contents sink.new ≡ S.contents sink.old }
+{
+    if is_hit {
+        sink.matched(number, line)
+    } else {
+        Ok(())
+    }
 }
 
 /// Whether a record matches, which begins at this place.
@@ -238,7 +261,7 @@ pub(crate) fn is_hit<M: Matcher>(
     line: &[u8],
     matcher: &M,
     scratch: &mut M::Scratch,
-) -> Result<bool, Fault>
+) -> Result<bool, SearchFault>
     ensures hit { IfOk result (λ hit. hit ≡ M.matches matcher.now line.now) }
     ensures why { IfErr result IsOfRecord }
     ensures refused { IfErr result (IfRefused (TellsRecord (M.Refuses matcher.now) place line.now)) }
@@ -247,21 +270,4 @@ pub(crate) fn is_hit<M: Matcher>(
         Ok(hit) => Ok(hit),
         Err(fault) => Err(fault.at(place)),
     }
-}
-
-/// Writes all bytes.
-pub(crate) fn write_out<W: Write>(writer: &mut W, output: &[u8]) -> Result<(), Fault>
-    ensures written { OnOk result
-        (Appends (W.contents writer.old) (W.contents writer.new) output.now) }
-    ensures fault { IfErr result (λ fault. fault ≡ WriteFault) }
-{
-    writer.write_all(output).map_err(|_| Fault::Write)
-}
-
-/// Flushes the writer.
-pub(crate) fn flush_out<W: Write>(writer: &mut W) -> Result<(), Fault>
-    ensures kept { Keeps (W.contents writer.old) (W.contents writer.new) }
-    ensures fault { IfErr result (λ fault. fault ≡ WriteFault) }
-{
-    writer.flush().map_err(|_| Fault::Write)
 }

@@ -2,33 +2,38 @@
 
 ghost use Rattle.std.specs.Prelude.{◌≡◌, ◌≢◌, ◌<◌, ◌++◌, ℕ, List, Some, IfErr, IfOk, OnOk, count_by};
 ghost use Rattle.std.specs.Io.KnownBytes.{Appends};
-ghost use Rattle.std.specs.List.{concat, filter};
 ghost use Rattle.csv_records.specs.Records.{records_of};
 ghost use Rattle.zone_index.specs.Faults.{EndsFar, IfRefused, TellsOneOf};
 ghost use Rattle.zone_index.specs.Records.{kept_of};
-ghost use Rattle.zone_index.specs.declared.faults.Fault.TheVariants.{CutShort, TooFar, Write as WriteFault};
+ghost use Rattle.zone_index.specs.Sinks.{IsPlain, written_of};
+ghost use Rattle.zone_index.specs.declared.faults.SearchFault.TheVariants.{CutShort, TooFar, Write as WriteFault};
 
 use crate::counting::count_in;
-use crate::faults::Fault;
+use crate::faults::SearchFault;
 use crate::records::Matcher;
-use crate::search::{flush_out, kept_in, write_out};
+use crate::search::give_hits;
+use crate::sinks::Sink;
 use crate::taking::take_records;
+use crate::zones::Position;
 use std::alloc::Global;
-use std::io::{BufRead, Write};
+use std::io::BufRead;
 
-/// Writes the records that a reader has left and that match, whole and in order, and says how many
-/// they are. So many records are in memory at a time. The first byte that is left stands at `start`.
-pub fn find_rest<B: BufRead, M: Matcher, W: Write>(
+/// Gives a sink the records that a reader has left and that match, in order, and writes them. Says how
+/// many they are. So many records are in memory at a time. The first one that is left stands at `start`.
+pub fn find_rest<B: BufRead, M: Matcher, S: Sink>(
     alloc: Global,
     size: u64,
-    start: u64,
+    start: Position,
     matcher: &M,
     reader: &mut B,
-    writer: &mut W,
-) -> Result<u64, Fault>
+    sink: &mut S,
+) -> Result<u64, SearchFault>
     requires { 0 < size }
     ensures written { OnOk result ((bytes : List ℕ) → B.remaining reader.old ≡ Some bytes
-        → Appends (W.contents writer.old) (W.contents writer.new)
+        → Appends (S.contents sink.old) (S.contents sink.new) (written_of S.written_as (M.matches matcher.now)
+        start.number (records_of (M.delimiter matcher.now) bytes))) }
+    ensures plain { OnOk result (IsPlain S.written_as → (bytes : List ℕ) → B.remaining reader.old ≡ Some bytes
+        → Appends (S.contents sink.old) (S.contents sink.new)
         (kept_of (M.delimiter matcher.now) (M.matches matcher.now) bytes)) }
     ensures found { IfOk result (λ found. (bytes : List ℕ) → B.remaining reader.old ≡ Some bytes
         → found ≡ count_by (M.matches matcher.now) (records_of (M.delimiter matcher.now) bytes)) }
@@ -36,31 +41,38 @@ pub fn find_rest<B: BufRead, M: Matcher, W: Write>(
     ensures partial { IfErr result (λ fault. fault ≢ WriteFault → (bytes : List ℕ)
         → B.remaining reader.old ≡ Some bytes
         → (first others : List (List ℕ)) × (records_of (M.delimiter matcher.now) bytes ≡ first ++ others)
-        × Appends (W.contents writer.old) (W.contents writer.new) (concat (filter (M.matches matcher.now) first))) }
+        × Appends (S.contents sink.old) (S.contents sink.new)
+        (written_of S.written_as (M.matches matcher.now) start.number first)) }
     ensures uncut { IfErr result (λ fault. fault ≢ CutShort) }
     ensures far { IfErr result (λ fault. fault ≡ TooFar → EndsFar 0 (B.remaining reader.old)) }
     // The record that is told is one of those, and begins there.
     ensures refused { IfErr result (IfRefused (λ refusal. (bytes : List ℕ) → B.remaining reader.old ≡ Some bytes
-        → TellsOneOf (M.Refuses matcher.now) start (records_of (M.delimiter matcher.now) bytes) refusal)) }
+        → TellsOneOf (M.Refuses matcher.now) start.place (records_of (M.delimiter matcher.now) bytes) refusal)) }
 {
     let delimiter = matcher.delimiter_byte();
     let mut text = Vec::new(alloc);
+    let mut number = start.number;
     let mut passed = 0u64;
     let mut found = 0u64;
     loop {
         text.clear();
         take_records(delimiter, size, &mut text, reader)?;
         if text.is_empty() {
-            flush_out(writer)?;
+            sink.flush()?;
             return Ok(found);
         }
-        let (kept, hits) = kept_in(alloc, start.saturating_add(passed), &text, matcher)?;
+        let position = Position {
+            place: start.place.saturating_add(passed),
+            number,
+        };
+        let (hits, next) = give_hits(alloc, position, &text, matcher, sink)?;
         match passed.checked_add(text.len() as u64) {
             Some(sum) => passed = sum,
-            None => return Err(Fault::TooFar),
+            None => return Err(SearchFault::TooFar),
         }
         found += hits;
-        write_out(writer, &kept)?;
+        number = next;
+        sink.finish()?;
     }
 }
 
@@ -72,7 +84,7 @@ pub fn count_rest<B: BufRead, M: Matcher>(
     start: u64,
     matcher: &M,
     reader: &mut B,
-) -> Result<u64, Fault>
+) -> Result<u64, SearchFault>
     requires { 0 < size }
     ensures counted { IfOk result (λ n. (bytes : List ℕ) → B.remaining reader.old ≡ Some bytes
         → n ≡ count_by (M.matches matcher.now) (records_of (M.delimiter matcher.now) bytes)) }
@@ -96,7 +108,7 @@ pub fn count_rest<B: BufRead, M: Matcher>(
         let hits = count_in(alloc, start.saturating_add(passed), &text, matcher)?;
         match passed.checked_add(text.len() as u64) {
             Some(sum) => passed = sum,
-            None => return Err(Fault::TooFar),
+            None => return Err(SearchFault::TooFar),
         }
         total += hits;
     }

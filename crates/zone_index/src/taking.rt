@@ -8,7 +8,7 @@ ghost use Rattle.csv_records.specs.declared.states.RecordState.TheVariants.{Star
 ghost use Rattle.zone_index.specs.Faults.{IsOfStream};
 ghost use Rattle.zone_index.specs.Taking.{AreWhole, IsTaken};
 
-use crate::faults::Fault;
+use crate::faults::SearchFault;
 use crate::lines::read_line;
 use csv_records::{Delimiter, RecordState, plain_end, state_after_line};
 use std::io::{self, BufRead, ErrorKind};
@@ -19,7 +19,7 @@ pub fn take_records<B: BufRead>(
     size: u64,
     text: &mut Vec<u8>,
     reader: &mut B,
-) -> Result<(), Fault>
+) -> Result<(), SearchFault>
     requires fresh { text.old.items ≡ [] }
     requires some { 0 < size }
     ensures taken { OnOk result ((bytes : List ℕ) → B.remaining reader.old ≡ Some bytes
@@ -36,7 +36,7 @@ pub fn take_records<B: BufRead>(
         match read_line(reader, text) {
             Ok(0) => return Ok(()),
             Ok(_) => {}
-            Err(error) => return Err(Fault::of_read(error)),
+            Err(error) => return Err(SearchFault::of_read(error)),
         }
         state = state_after_line(delimiter, state, &text[before..]);
         taken = counted(taken, state);
@@ -64,7 +64,7 @@ fn take_plain<B: BufRead>(
     most: u64,
     text: &mut Vec<u8>,
     reader: &mut B,
-) -> Result<u64, Fault>
+) -> Result<u64, SearchFault>
     ensures few { IfOk result (λ n. n ≤ most) }
     ensures fresh { IfOk result (λ n. 0 < n → state ≡ StartRecord) }
     ensures appends { OnOk result (StartsWith text.new.items text.old.items) }
@@ -77,7 +77,7 @@ fn take_plain<B: BufRead>(
     match state {
         RecordState::StartRecord => match append_plain(delimiter, most, text, reader) {
             Ok(count) => Ok(count),
-            Err(error) => Err(Fault::of_read(error)),
+            Err(error) => Err(SearchFault::of_read(error)),
         },
         _ => Ok(0),
     }

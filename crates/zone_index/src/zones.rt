@@ -1,4 +1,7 @@
-//! Zones of records.
+//! Zones of records, and where records stand.
+
+ghost use Rattle.std.specs.Prelude.{◌≡◌, ◌+◌, sum_by};
+ghost use Rattle.zone_index.specs.Sinks.{told};
 
 /// A zone: records that stand one after another, and what is known of them.
 #[derive(Debug, Drop)]
@@ -24,4 +27,25 @@ pub enum Way {
     Copy,
     /// It is read, and each record judged.
     Search,
+}
+
+/// Where a record stands: the place of its first byte, and its number.
+#[derive(Clone, Copy, Debug, PartialEq, Eq)]
+pub struct Position {
+    /// The place.
+    pub place: u64,
+    /// The number.
+    pub number: u64,
+}
+
+/// The number of the record after these zones, whose first record has the number `first`, as far as 64
+/// bits tell.
+pub fn number_after(first: u64, zones: &[Zone]) -> u64
+    ensures { result ≡ told (first + sum_by (λ z. z.records) zones.now) }
+{
+    let mut number = first;
+    for zone in zones {
+        number = number.saturating_add(zone.records);
+    }
+    number
 }

@@ -1,11 +1,14 @@
 //! What is wanted of the records that match is written or counted.
 
-use crate::commands::Wanted;
-use crate::numbering::{Position, find_numbered, find_rest_numbered};
+use crate::files::from_place;
+use crate::loading::Sought;
 use record_search::{RowFilter, count_rows, find_rows};
 use std::alloc::Global;
-use std::io::{BufRead, Write};
-use zone_index::{Fault as SearchFault, ReadAt, Tally, Zone, count_rest, find_rest};
+use std::fs::File;
+use std::io::BufRead;
+use zone_index::{
+    Index, Logged, Position, SearchFault, Sink, Tally, count_rest, find_rest, number_after,
+};
 
 /// How many records of a stream are in memory at a time.
 const PIECE: u64 = 1000;
@@ -19,62 +22,94 @@ pub struct Found {
     pub rows: u64,
 }
 
-impl Found {
-    /// What became of the zones, and the rows in them.
-    fn by(tally: Tally) -> Found {
-        Found {
-            tally: Some(tally),
-            rows: tally.found,
-        }
-    }
-
-    /// The same, and so many rows more.
-    pub fn and(self, rows: u64) -> Found {
-        Found {
-            tally: self.tally,
-            rows: self.rows.saturating_add(rows),
-        }
+/// The first record that is a row, if so many bytes of a header stand before it.
+pub fn first_row(start: u64) -> Position {
+    Position {
+        place: start,
+        number: if start == 0 { 1 } else { 2 },
     }
 }
 
-/// Writes or counts the records of the zones that match. The first one has this number.
-pub fn answer_zones<R: ReadAt, W: Write>(
+/// Gives a sink the records that match: those of the zones of an index, and those of the file from a
+/// place on.
+pub fn find_indexed<S: Sink>(
     alloc: Global,
-    wanted: Wanted,
-    first: u64,
-    zones: &[Zone],
-    matcher: &RowFilter<'_>,
-    reader: &mut R,
-    writer: &mut W,
+    index: &Index,
+    sought: &Sought,
+    rest: Option<u64>,
+    reader: &mut Logged<File>,
+    sink: &mut S,
 ) -> Result<Found, SearchFault> {
-    let RowFilter { schema, filter } = *matcher;
-    match wanted {
-        Wanted::Rows => find_rows(alloc, schema, filter, zones, reader, writer).map(Found::by),
-        Wanted::NumberedRows => {
-            find_numbered(alloc, first, zones, matcher, reader, writer).map(Found::by)
+    let first = first_row(index.start).number;
+    let tally = find_rows(
+        alloc,
+        &sought.schema,
+        &sought.filter,
+        &index.zones,
+        first,
+        reader,
+        sink,
+    )?;
+    let more = match rest {
+        Some(place) => {
+            let number = number_after(first, &index.zones);
+            let mut file = from_place(alloc, &reader.reader, place)?;
+            find_stream(
+                alloc,
+                Position { place, number },
+                &sought.matcher(),
+                &mut file,
+                sink,
+            )?
         }
-        Wanted::Count => {
-            let rows = count_rows(alloc, schema, filter, zones, reader)?;
-            Ok(Found { tally: None, rows })
-        }
-    }
+        None => 0,
+    };
+    Ok(Found {
+        tally: Some(tally),
+        rows: tally.found.saturating_add(more),
+    })
 }
 
-/// Writes or counts the records of a stream that match, and says how many they are. The first one
-/// stands here.
-pub fn answer_rest<B: BufRead, W: Write>(
+/// Counts the records that match: those of the zones of an index, and those of the file from a place on.
+pub fn count_indexed(
     alloc: Global,
-    wanted: Wanted,
-    position: Position,
+    index: &Index,
+    sought: &Sought,
+    rest: Option<u64>,
+    reader: &mut Logged<File>,
+) -> Result<Found, SearchFault> {
+    let rows = count_rows(alloc, &sought.schema, &sought.filter, &index.zones, reader)?;
+    let more = match rest {
+        Some(place) => {
+            let mut file = from_place(alloc, &reader.reader, place)?;
+            count_stream(alloc, place, &sought.matcher(), &mut file)?
+        }
+        None => 0,
+    };
+    Ok(Found {
+        tally: None,
+        rows: rows.saturating_add(more),
+    })
+}
+
+/// Gives a sink the records of a stream that match, and says how many they are. The first one stands
+/// here.
+pub fn find_stream<B: BufRead, S: Sink>(
+    alloc: Global,
+    start: Position,
     matcher: &RowFilter<'_>,
     reader: &mut B,
-    writer: &mut W,
+    sink: &mut S,
 ) -> Result<u64, SearchFault> {
-    match wanted {
-        Wanted::Rows => find_rest(alloc, PIECE, position.place, matcher, reader, writer),
-        Wanted::NumberedRows => {
-            find_rest_numbered(alloc, PIECE, position, matcher, reader, writer)
-        }
-        Wanted::Count => count_rest(alloc, PIECE, position.place, matcher, reader),
-    }
+    find_rest(alloc, PIECE, start, matcher, reader, sink)
+}
+
+/// Counts the records of a stream that match, the first of which stands at this place.
+pub fn count_stream<B: BufRead>(
+    alloc: Global,
+    start: u64,
+    matcher: &RowFilter<'_>,
+    reader: &mut B,
+) -> Result<u64, SearchFault> {
+    count_rest(alloc, PIECE, start, matcher, reader)
 }

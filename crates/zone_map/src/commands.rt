@@ -106,17 +106,30 @@ pub struct SearchRequest<'a> {
 /// What the words ask for, or what is wrong with them. The first word is the name of the program.
 pub fn asked_in<'a>(alloc: Global, words: &'a [String]) -> Result<Asked<'a>, Error> {
     let mut command = command(alloc)?;
+    let asked = asked_of(&mut command, words);
+    drop(command);
+    asked
+}
+
+/// What the words ask for by a command line.
+fn asked_of<'a>(command: &mut Command<'a>, words: &'a [String]) -> Result<Asked<'a>, Error> {
     let matches = command.try_get_matches_from_mut(words)?;
-    let asked = match matches.subcommand() {
+    let asked = request_in(&matches);
+    drop(matches);
+    match asked {
+        Some(asked) => Ok(asked),
+        None => Err(command.error(ErrorKind::MissingSubcommand, "a command is missing")?),
+    }
+}
+
+/// What is asked for by the words that were matched.
+fn request_in<'a>(matches: &ArgMatches<'a>) -> Option<Asked<'a>> {
+    match matches.subcommand() {
         Some(("index", matches)) => index_in(matches).map(Asked::Index),
         Some(("find", matches)) => search_in(matches, rows_wanted(matches)).map(Asked::Search),
         Some(("count", matches)) => search_in(matches, Wanted::Count).map(Asked::Search),
         Some(("show", matches)) => matches.get_str("file").map(Asked::Show),
         _ => None,
-    };
-    match asked {
-        Some(asked) => Ok(asked),
-        None => Err(command.error(ErrorKind::MissingSubcommand, "a command is missing")?),
     }
 }
 

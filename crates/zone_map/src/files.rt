@@ -1,11 +1,11 @@
 //! Files and their indexes.
 
-use crate::faults::{Fault, FileFault};
+use crate::program_faults::{FileFault, ProgramFault};
 use std::alloc::{AllocError, Global};
 use std::fs::{self, File, Metadata};
 use std::io::{self, BufReader, Read, Seek, SeekFrom, Write};
 use std::time::UNIX_EPOCH;
-use zone_index::{Fault as SearchFault, Index, WriteError, write_index};
+use zone_index::{Index, SearchFault, WriteError, write_index};
 
 /// How long a file is, and when it was changed last.
 #[derive(Clone, Copy, PartialEq, Eq)]
@@ -27,10 +27,10 @@ fn with_ending(alloc: Global, name: &str, ending: &str) -> Result<String, AllocE
 }
 
 /// Opens a file.
-pub fn open_file(rt: &HostRuntime, name: &str) -> Result<File, Fault> {
+pub fn open_file(rt: &HostRuntime, name: &str) -> Result<File, ProgramFault> {
     match File::open(rt, name) {
         Ok(file) => Ok(file),
-        Err(error) => Err(Fault::of_file(rt.alloc(), name, FileFault::System(error))),
+        Err(error) => Err(ProgramFault::of_file(rt.alloc(), name, FileFault::System(error))),
     }
 }
 
@@ -72,34 +72,43 @@ fn changed(metadata: &Metadata) -> u64 {
 }
 
 /// How long an open file is, and when it was changed last.
-pub fn stamp_of(alloc: Global, name: &str, file: &File) -> Result<Stamp, Fault> {
+pub fn stamp_of(alloc: Global, name: &str, file: &File) -> Result<Stamp, ProgramFault> {
     match file.metadata() {
         Ok(metadata) => Ok(Stamp {
             length: metadata.len(),
             changed: changed(&metadata),
         }),
-        Err(error) => Err(Fault::of_file(alloc, name, FileFault::System(error))),
+        Err(error) => Err(ProgramFault::of_file(alloc, name, FileFault::System(error))),
     }
 }
 
 /// Writes an index of so many columns beside its file.
-pub fn save(rt: &HostRuntime, file: &str, columns: usize, index: &Index) -> Result<(), Fault> {
+pub fn save(
+    rt: &HostRuntime,
+    file: &str,
+    columns: usize,
+    index: &Index,
+) -> Result<(), ProgramFault> {
     let name = index_name(rt.alloc(), file)?;
     match write_index(rt.alloc(), columns, index) {
         Ok(bytes) => save_bytes(rt, &name, &bytes),
-        Err(WriteError::Memory) => Err(Fault::from(AllocError)),
-        Err(WriteError::Pieces) => Err(Fault::of_file(rt.alloc(), &name, FileFault::OtherIndex)),
+        Err(WriteError::Memory) => Err(ProgramFault::from(AllocError)),
+        Err(WriteError::Pieces) => Err(ProgramFault::of_file(
+            rt.alloc(),
+            &name,
+            FileFault::OtherIndex,
+        )),
     }
 }
 
 /// Writes a file: first one of another name, which then takes this name.
-fn save_bytes(rt: &HostRuntime, name: &str, bytes: &[u8]) -> Result<(), Fault> {
+fn save_bytes(rt: &HostRuntime, name: &str, bytes: &[u8]) -> Result<(), ProgramFault> {
     let temporary = with_ending(rt.alloc(), name, ".new")?;
     match save_as(rt, &temporary, name, bytes) {
         Ok(()) => Ok(()),
         Err(error) => {
             let _ = fs::remove_file(rt, temporary.as_str());
-            Err(Fault::of_file(rt.alloc(), name, FileFault::System(error)))
+            Err(ProgramFault::of_file(rt.alloc(), name, FileFault::System(error)))
         }
     }
 }

@@ -1,12 +1,12 @@
 //! Files that grew since they were indexed.
 
-use crate::faults::{Fault, FileFault};
 use crate::files::stamp_of;
+use crate::program_faults::{FileFault, ProgramFault};
 use csv_records::{RecordState, state_after_line};
 use record_search::{RowDescriber, Schema, index_rows};
 use std::alloc::Global;
 use std::fs::File;
-use zone_index::{Fault as SearchFault, Index, Zone, fill_from};
+use zone_index::{Index, SearchFault, Zone, fill_from};
 
 /// Where the last zone ends.
 pub fn end_of(start: u64, zones: &[Zone]) -> u64 {
@@ -26,11 +26,11 @@ pub fn grown_end(
     index: &Index,
     describer: &RowDescriber<'_>,
     file: &mut File,
-) -> Result<u64, Fault> {
+) -> Result<u64, ProgramFault> {
     let now = stamp_of(rt.alloc(), name, file)?;
     let end = end_of(index.start, &index.zones);
     if now.length < end {
-        return Err(Fault::of_file(rt.alloc(), name, FileFault::Changed));
+        return Err(ProgramFault::of_file(rt.alloc(), name, FileFault::Changed));
     }
     let is_same = match index.zones.last() {
         Some(zone) => is_same_zone(rt.alloc(), describer, zone, file)?,
@@ -39,7 +39,7 @@ pub fn grown_end(
     if is_same && (now.length == end || ends_record(rt.alloc(), index, describer.schema, file)?) {
         Ok(end)
     } else {
-        Err(Fault::of_file(rt.alloc(), name, FileFault::Changed))
+        Err(ProgramFault::of_file(rt.alloc(), name, FileFault::Changed))
     }
 }
 
@@ -68,7 +68,7 @@ fn is_same_zone(
     let text = bytes_at(alloc, file, zone.first, zone.length)?;
     let size = zone.records.max(1);
     match index_rows(alloc, describer, size, zone.first, &mut text.as_slice()) {
-        Ok(zones) => Ok(is_only_zone(&zones, zone)),
+        Ok(indexed) => Ok(is_only_zone(&indexed.zones, zone)),
         Err(SearchFault::Refused(_)) => Ok(false),
         Err(fault) => Err(fault),
     }

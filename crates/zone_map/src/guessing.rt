@@ -1,6 +1,6 @@
 //! Columns are guessed from the first records.
 
-use crate::columns::{NamedColumn, is_name, stands_in};
+use crate::column_words::{NamedColumn, is_name, stands_in};
 use crate::setup::NO_DELIMITER;
 use csv_records::{Delimiter, Follows, cut_field, cut_record, row_start};
 use record_rows::{ColumnType, Kind};

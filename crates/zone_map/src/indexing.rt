@@ -1,21 +1,20 @@
 //! An index is made, or extended.
 
-use crate::columns::columns_text;
+use crate::column_words::columns_text;
 use crate::commands::IndexRequest;
-use crate::faults::{Fault, FileFault};
 use crate::files::{at_place, buffered, from_place, open_file, save, stamp_of};
 use crate::grown::{end_of, grown_end};
-use crate::leniency::nulls_made;
 use crate::loading::{Loaded, load_there};
-use crate::places::located;
+use crate::locating::located;
 use crate::preparing::{Prepared, prepare};
+use crate::program_faults::{FileFault, ProgramFault};
 use crate::setup::{Numbers, Setup};
 use crate::watching::Watched;
 use record_search::{RowDescriber, Schema, index_rows};
 use std::alloc::Global;
 use std::fs::File;
 use std::process::ExitCode;
-use zone_index::{Index, Zone};
+use zone_index::{Index, Indexed};
 
 /// An index that is to have the zones from a place on.
 #[derive(Drop)]
@@ -27,9 +26,9 @@ struct Unfinished {
 }
 
 /// Writes the index of a file.
-pub fn index_file(rt: &HostRuntime, request: &IndexRequest<'_>) -> Result<ExitCode, Fault> {
+pub fn index_file(rt: &HostRuntime, request: &IndexRequest<'_>) -> Result<ExitCode, ProgramFault> {
     if request.file == "-" {
-        return Err(Fault::Fixed("an index is of a file, and not of standard input"));
+        return Err(ProgramFault::Fixed("an index is of a file, and not of standard input"));
     }
     let mut file = open_file(rt, request.file)?;
     let unfinished = begun(rt, request, &mut file)?;
@@ -42,7 +41,7 @@ fn begun(
     rt: &HostRuntime,
     request: &IndexRequest<'_>,
     file: &mut File,
-) -> Result<Unfinished, Fault> {
+) -> Result<Unfinished, ProgramFault> {
     if request.appends {
         extended(rt, request.file, file)
     } else {
@@ -51,11 +50,15 @@ fn begun(
 }
 
 /// The index of a file, before any zone.
-fn made(rt: &HostRuntime, request: &IndexRequest<'_>, file: &File) -> Result<Unfinished, Fault> {
+fn made(
+    rt: &HostRuntime,
+    request: &IndexRequest<'_>,
+    file: &File,
+) -> Result<Unfinished, ProgramFault> {
     let mut reader = from_place(rt.alloc(), file, 0)?;
     let prepared = prepare(rt.alloc(), &request.reading, &mut reader)?;
     if request.reading.has_header && prepared.start == 0 {
-        return Err(Fault::of_file(rt.alloc(), request.file, FileFault::NoHeader));
+        return Err(ProgramFault::of_file(rt.alloc(), request.file, FileFault::NoHeader));
     }
     let Prepared {
         setup,
@@ -87,7 +90,7 @@ fn with_sizes(setup: Setup, request: &IndexRequest<'_>) -> Setup {
 }
 
 /// An index without zones, of a file whose header has so many bytes.
-fn without_zones(alloc: Global, setup: Setup, start: u64) -> Result<Loaded, Fault> {
+fn without_zones(alloc: Global, setup: Setup, start: u64) -> Result<Loaded, ProgramFault> {
     let index = Index {
         file_length: 0,
         changed: 0,
@@ -99,7 +102,7 @@ fn without_zones(alloc: Global, setup: Setup, start: u64) -> Result<Loaded, Faul
 }
 
 /// The index of a file that grew, with the zones that are full.
-fn extended(rt: &HostRuntime, name: &str, file: &mut File) -> Result<Unfinished, Fault> {
+fn extended(rt: &HostRuntime, name: &str, file: &mut File) -> Result<Unfinished, ProgramFault> {
     let mut loaded = load_there(rt, name)?;
     let end = grown_by(rt, name, &loaded, file)?;
     let place = open_place(&mut loaded.index, loaded.setup.numbers.zone_rows, end);
@@ -107,7 +110,12 @@ fn extended(rt: &HostRuntime, name: &str, file: &mut File) -> Result<Unfinished,
 }
 
 /// Where a file was indexed to that only grew.
-fn grown_by(rt: &HostRuntime, name: &str, loaded: &Loaded, file: &mut File) -> Result<u64, Fault> {
+fn grown_by(
+    rt: &HostRuntime,
+    name: &str,
+    loaded: &Loaded,
+    file: &mut File,
+) -> Result<u64, ProgramFault> {
     let schema = loaded.setup.schema(rt.alloc())?;
     let describer = RowDescriber {
         schema: &schema,
@@ -130,15 +138,24 @@ fn open_place(index: &mut Index, zone_rows: u64, end: u64) -> u64 {
 }
 
 /// Adds the zones of the rest of a file to an index, and writes it.
-fn finish(rt: &HostRuntime, name: &str, file: &File, unfinished: Unfinished) -> Result<(), Fault> {
+fn finish(
+    rt: &HostRuntime,
+    name: &str,
+    file: &File,
+    unfinished: Unfinished,
+) -> Result<(), ProgramFault> {
     let Unfinished { mut loaded, place } = unfinished;
     let schema = loaded.setup.schema(rt.alloc())?;
-    add_zones(rt, name, file, &schema, place, &mut loaded)?;
+    let nulls = add_zones(rt, name, file, &schema, place, &mut loaded)?;
     save(rt, name, loaded.setup.columns.len(), &loaded.index)?;
-    tell_nulls(rt, name, &schema, place)
+    if schema.is_lenient {
+        let _ = eprintln!(rt; "{nulls} fields were taken as nulls");
+    }
+    Ok(())
 }
 
-/// Adds the zones of a file from this place on, and what the file is then.
+/// Adds the zones of a file from this place on, and what the file is then. Says how many of its fields
+/// were taken as nulls.
 fn add_zones(
     rt: &HostRuntime,
     name: &str,
@@ -146,18 +163,26 @@ fn add_zones(
     schema: &Schema,
     place: u64,
     loaded: &mut Loaded,
-) -> Result<(), Fault> {
+) -> Result<u64, ProgramFault> {
     let before = stamp_of(rt.alloc(), name, file)?;
     let left = before.length.saturating_sub(place);
-    let mut zones = zones_from(rt, name, file, schema, place, left, &loaded.setup)?;
+    let Indexed { mut zones, nulls } = zones_from(
+        rt,
+        name,
+        file,
+        schema,
+        place,
+        left,
+        &loaded.setup,
+    )?;
     let after = stamp_of(rt.alloc(), name, file)?;
     if before != after || end_of(place, &zones) != before.length {
-        return Err(Fault::of_file(rt.alloc(), name, FileFault::Changing));
+        return Err(ProgramFault::of_file(rt.alloc(), name, FileFault::Changing));
     }
     loaded.index.zones.append(&mut zones)?;
     loaded.index.file_length = before.length;
     loaded.index.changed = before.changed;
-    Ok(())
+    Ok(nulls)
 }
 
 /// The zones of a file from this place on, of which so many bytes are left.
@@ -169,7 +194,7 @@ fn zones_from(
     place: u64,
     left: u64,
     setup: &Setup,
-) -> Result<Vec<Zone>, Fault> {
+) -> Result<Indexed, ProgramFault> {
     let file = at_place(file, place)?;
     let mut reader = buffered(rt.alloc(), Watched::telling(file, rt.stderr(), left))?;
     let size = setup.numbers.zone_rows.max(1);
@@ -178,19 +203,10 @@ fn zones_from(
         bound_length: setup.numbers.bound_length,
     };
     match index_rows(rt.alloc(), &describer, size, place, &mut reader) {
-        Ok(zones) => {
+        Ok(indexed) => {
             reader.get_ref().end();
-            Ok(zones)
+            Ok(indexed)
         }
         Err(fault) => Err(located(rt, Some(name), &setup.columns, &fault)),
     }
-}
-
-/// Tells on standard error how many fields from a place on were taken as nulls, if that may be.
-fn tell_nulls(rt: &HostRuntime, name: &str, schema: &Schema, place: u64) -> Result<(), Fault> {
-    if schema.is_lenient {
-        let made = nulls_made(rt, name, schema, place)?;
-        let _ = eprintln!(rt; "{made} fields were taken as nulls");
-    }
-    Ok(())
 }

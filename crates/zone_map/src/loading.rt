@@ -1,9 +1,9 @@
 //! An index is loaded, and a filter read over its columns.
 
-use crate::columns::columns_text;
+use crate::column_words::columns_text;
 use crate::commands::SearchRequest;
-use crate::faults::{BadFilter, Fault, FileFault};
 use crate::files::index_name;
+use crate::program_faults::{BadFilter, FileFault, ProgramFault};
 use crate::setup::Setup;
 use filter_sql::{ParseError, parse};
 use record_search::{NAMED_COLUMNS, RowDescriber, RowFilter, RowsAlone, Schema, named_columns};
@@ -23,25 +23,25 @@ pub struct Loaded {
 }
 
 /// The index of a file that has one.
-pub fn load_there(rt: &HostRuntime, file: &str) -> Result<Loaded, Fault> {
+pub fn load_there(rt: &HostRuntime, file: &str) -> Result<Loaded, ProgramFault> {
     let name = index_name(rt.alloc(), file)?;
     match bytes_of(rt, &name)? {
         Some(bytes) => loaded_in(rt.alloc(), &name, &bytes),
-        None => Err(Fault::of_file(rt.alloc(), file, FileFault::NoIndex)),
+        None => Err(ProgramFault::of_file(rt.alloc(), file, FileFault::NoIndex)),
     }
 }
 
 /// The bytes of a file, if it is there.
-fn bytes_of(rt: &HostRuntime, name: &str) -> Result<Option<Vec<u8>>, Fault> {
+fn bytes_of(rt: &HostRuntime, name: &str) -> Result<Option<Vec<u8>>, ProgramFault> {
     match fs::read(rt, name) {
         Ok(bytes) => Ok(Some(bytes)),
         Err(error) if error.kind() == ErrorKind::NotFound => Ok(None),
-        Err(error) => Err(Fault::of_file(rt.alloc(), name, FileFault::System(error))),
+        Err(error) => Err(ProgramFault::of_file(rt.alloc(), name, FileFault::System(error))),
     }
 }
 
 /// The index that these bytes are, which a file of this name has.
-fn loaded_in(alloc: Global, name: &str, bytes: &[u8]) -> Result<Loaded, Fault> {
+fn loaded_in(alloc: Global, name: &str, bytes: &[u8]) -> Result<Loaded, ProgramFault> {
     let (root, blocks) = root_in(alloc, name, bytes)?;
     let setup = setup_of(alloc, name, &root)?;
     let index = index_in(alloc, name, root, blocks, &[])?;
@@ -49,7 +49,11 @@ fn loaded_in(alloc: Global, name: &str, bytes: &[u8]) -> Result<Loaded, Fault> {
 }
 
 /// The root of the index that these bytes are, and the bytes of its blocks.
-fn root_in<'a>(alloc: Global, name: &str, bytes: &'a [u8]) -> Result<(Root, &'a [u8]), Fault> {
+fn root_in<'a>(
+    alloc: Global,
+    name: &str,
+    bytes: &'a [u8],
+) -> Result<(Root, &'a [u8]), ProgramFault> {
     match read_root(alloc, bytes) {
         Ok(read) => Ok(read),
         Err(error) => Err(bad_index(alloc, name, error)),
@@ -63,7 +67,7 @@ fn index_in(
     root: Root,
     blocks: &[u8],
     wanted: &[bool],
-) -> Result<Index, Fault> {
+) -> Result<Index, ProgramFault> {
     match read_blocks(root, blocks, wanted, &RowsAlone) {
         Ok(index) => Ok(index),
         Err(error) => Err(bad_index(alloc, name, error)),
@@ -71,19 +75,19 @@ fn index_in(
 }
 
 /// The fault of an index that was not read.
-fn bad_index(alloc: Global, name: &str, error: ReadError) -> Fault {
+fn bad_index(alloc: Global, name: &str, error: ReadError) -> ProgramFault {
     match error {
-        ReadError::Memory => Fault::from(AllocError),
-        ReadError::Fault(fault) => Fault::of_file(alloc, name, FileFault::BadIndex(fault)),
+        ReadError::Memory => ProgramFault::from(AllocError),
+        ReadError::Fault(fault) => ProgramFault::of_file(alloc, name, FileFault::BadIndex(fault)),
     }
 }
 
 /// What an index keeps beside its zones, if this program wrote that.
-fn setup_of(alloc: Global, name: &str, root: &Root) -> Result<Setup, Fault> {
+fn setup_of(alloc: Global, name: &str, root: &Root) -> Result<Setup, ProgramFault> {
     match Setup::from_text(alloc, &root.index.setup) {
         Ok(Some(setup)) => Ok(setup),
-        Ok(None) => Err(Fault::of_file(alloc, name, FileFault::OtherIndex)),
-        Err(error) => Err(Fault::from(error)),
+        Ok(None) => Err(ProgramFault::of_file(alloc, name, FileFault::OtherIndex)),
+        Err(error) => Err(ProgramFault::from(error)),
     }
 }
 
@@ -100,7 +104,10 @@ pub struct Searched {
 ///
 /// It has the statistics of the columns that the filter names. Where the file may have grown it has
 /// all, since the last zone is compared with them.
-pub fn load(rt: &HostRuntime, request: &SearchRequest<'_>) -> Result<Option<Searched>, Fault> {
+pub fn load(
+    rt: &HostRuntime,
+    request: &SearchRequest<'_>,
+) -> Result<Option<Searched>, ProgramFault> {
     let name = index_name(rt.alloc(), request.file)?;
     match bytes_of(rt, &name)? {
         Some(bytes) => {
@@ -117,13 +124,45 @@ fn searched_in(
     request: &SearchRequest<'_>,
     name: &str,
     bytes: &[u8],
-) -> Result<Searched, Fault> {
+) -> Result<Searched, ProgramFault> {
     let (root, blocks) = root_in(alloc, name, bytes)?;
-    let setup = setup_of(alloc, name, &root)?;
-    let sought = Sought::from_text(alloc, setup, request.filter)?;
+    match sought_by(alloc, request, name, &root) {
+        Ok(sought) => searched_by(alloc, request, name, root, blocks, sought),
+        Err(fault) => {
+            drop(root);
+            Err(fault)
+        }
+    }
+}
+
+/// What a request seeks by the index of a root.
+fn sought_by(
+    alloc: Global,
+    request: &SearchRequest<'_>,
+    name: &str,
+    root: &Root,
+) -> Result<Sought, ProgramFault> {
+    let setup = setup_of(alloc, name, root)?;
+    Sought::from_text(alloc, setup, request.filter)
+}
+
+/// The index of a root, with the statistics that a request wants, and what it seeks.
+fn searched_by(
+    alloc: Global,
+    request: &SearchRequest<'_>,
+    name: &str,
+    root: Root,
+    blocks: &[u8],
+    sought: Sought,
+) -> Result<Searched, ProgramFault> {
     let wanted = columns_wanted(request, &sought.filter);
-    let index = index_in(alloc, name, root, blocks, &wanted)?;
-    Ok(Searched { index, sought })
+    match index_in(alloc, name, root, blocks, &wanted) {
+        Ok(index) => Ok(Searched { index, sought }),
+        Err(fault) => {
+            drop(sought);
+            Err(fault)
+        }
+    }
 }
 
 /// The columns whose statistics a request wants: all where the file may have grown.
@@ -148,14 +187,29 @@ pub struct Sought {
 
 impl Sought {
     /// The filter that a text is over the columns of a setup.
-    pub fn from_text(alloc: Global, setup: Setup, text: &str) -> Result<Sought, Fault> {
-        let schema = setup.schema(alloc)?;
-        let filter = filter_in(alloc, &setup, text)?;
-        Ok(Sought {
-            setup,
-            schema,
-            filter,
-        })
+    pub fn from_text(alloc: Global, setup: Setup, text: &str) -> Result<Sought, ProgramFault> {
+        match filter_in(alloc, &setup, text) {
+            Ok(filter) => Sought::of_filter(alloc, setup, filter),
+            Err(fault) => {
+                drop(setup);
+                Err(fault)
+            }
+        }
+    }
+
+    /// This filter over the columns of a setup.
+    fn of_filter(alloc: Global, setup: Setup, filter: Filter) -> Result<Sought, ProgramFault> {
+        match setup.schema(alloc) {
+            Ok(schema) => Ok(Sought {
+                setup,
+                schema,
+                filter,
+            }),
+            Err(fault) => {
+                drop((setup, filter));
+                Err(fault)
+            }
+        }
     }
 
     /// The rows of a zone.
@@ -176,7 +230,7 @@ impl Sought {
 }
 
 /// The filter that a text is over the columns of a setup.
-fn filter_in(alloc: Global, setup: &Setup, text: &str) -> Result<Filter, Fault> {
+fn filter_in(alloc: Global, setup: &Setup, text: &str) -> Result<Filter, ProgramFault> {
     let columns = setup.filter_columns(alloc)?;
     match parse(alloc, text, &columns) {
         Ok(filter) => Ok(filter),
@@ -185,7 +239,7 @@ fn filter_in(alloc: Global, setup: &Setup, text: &str) -> Result<Filter, Fault> 
 }
 
 /// The fault of a filter over the columns of a setup.
-fn filter_fault(alloc: Global, setup: &Setup, text: &str, error: ParseError) -> Fault {
+fn filter_fault(alloc: Global, setup: &Setup, text: &str, error: ParseError) -> ProgramFault {
     match columns_text(alloc, &setup.columns) {
         Ok(columns) => {
             let bad = BadFilter {
@@ -193,8 +247,8 @@ fn filter_fault(alloc: Global, setup: &Setup, text: &str, error: ParseError) -> 
                 columns: &columns,
                 error,
             };
-            Fault::made(format!(in alloc; "{bad}"))
+            ProgramFault::made(format!(in alloc; "{bad}"))
         }
-        Err(error) => Fault::from(error),
+        Err(error) => ProgramFault::from(error),
     }
 }

@@ -4,18 +4,16 @@
 #![tactic(auto)]
 
 mod answering;
-mod columns;
+mod column_words;
 mod commands;
-mod faults;
 mod files;
 mod grown;
 mod guessing;
 mod indexing;
-mod leniency;
 mod loading;
-mod numbering;
-mod places;
+mod locating;
 mod preparing;
+mod program_faults;
 mod searching;
 mod setup;
 mod showing;
@@ -23,7 +21,7 @@ mod streams;
 mod watching;
 
 pub use commands::{Asked, asked_in};
-pub use faults::Fault;
+pub use program_faults::ProgramFault;
 use std::process::ExitCode;
 use std::{env, io};
 

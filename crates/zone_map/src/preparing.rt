@@ -1,14 +1,14 @@
 //! The beginning of a stream is read, which says how its records are read.
 
-use crate::columns::{NamedColumn, columns_in};
+use crate::column_words::{NamedColumn, columns_in};
 use crate::commands::Reading;
-use crate::faults::Fault;
 use crate::guessing::guess_columns;
+use crate::program_faults::ProgramFault;
 use crate::setup::{Numbers, Setup, delimiter_in};
 use csv_records::Delimiter;
 use std::alloc::Global;
 use std::io::BufRead;
-use zone_index::{Fault as SearchFault, take_records};
+use zone_index::{SearchFault, take_records};
 
 /// How many records columns are guessed from.
 const GUESSED_FROM: u64 = 1000;
@@ -29,7 +29,7 @@ pub fn prepare<B: BufRead>(
     alloc: Global,
     reading: &Reading<'_>,
     reader: &mut B,
-) -> Result<Prepared, Fault> {
+) -> Result<Prepared, ProgramFault> {
     let delimiter = delimiter_in(reading.delimiter)?;
     let header = first_records(alloc, delimiter, u64::from(reading.has_header), reader)?;
     let guessed_from = if reading.columns.is_none() {
@@ -73,7 +73,7 @@ fn columns_of(
     delimiter: Delimiter,
     header: &[u8],
     first: &[u8],
-) -> Result<Vec<NamedColumn>, Fault> {
+) -> Result<Vec<NamedColumn>, ProgramFault> {
     match reading.columns {
         Some(text) => columns_in(alloc, text),
         None => Ok(guess_columns(alloc, delimiter, header, first)?),

@@ -1,34 +1,32 @@
 //! Rows are found and counted.
 
-use crate::answering::{Found, answer_rest, answer_zones};
+use crate::answering::{Found, count_indexed, find_indexed};
 use crate::commands::{SearchRequest, Wanted};
-use crate::faults::{Fault, FileFault};
-use crate::files::{Stamp, buffered, from_place, open_file, stamp_of};
+use crate::files::{Stamp, buffered, open_file, stamp_of};
 use crate::grown::grown_end;
-use crate::loading::{Searched, Sought, load};
-use crate::numbering::Position;
-use crate::places::located;
+use crate::loading::{Searched, load};
+use crate::locating::located;
+use crate::program_faults::{FileFault, ProgramFault};
 use crate::streams::{flushed, output, search_stream};
 use crate::watching::Watched;
-use record_search::RowFilter;
 use std::alloc::Global;
 use std::fs::File;
-use std::io::{Read, Write};
+use std::io::Read;
 use std::process::ExitCode;
-use zone_index::{Asked, Fault as SearchFault, Index, Logged, Tally};
+use zone_index::{Asked, Logged, NumberedSink, PlainSink, SearchFault, Sink, Tally};
 
 /// The status if no row was found.
 const NONE_FOUND: u8 = 1;
 
 /// Writes the rows that match, or how many there are.
-pub fn search(rt: &HostRuntime, request: &SearchRequest<'_>) -> Result<ExitCode, Fault> {
+pub fn search(rt: &HostRuntime, request: &SearchRequest<'_>) -> Result<ExitCode, ProgramFault> {
     let found = if request.file == "-" {
         search_whole(rt, request, None, rt.stdin())?
     } else {
         search_file(rt, request)?
     };
     if request.wanted == Wanted::Count && rt.println(found).is_err() {
-        return Err(Fault::from(SearchFault::Write));
+        return Err(ProgramFault::from(SearchFault::Write));
     }
     Ok(status(found))
 }
@@ -43,13 +41,17 @@ fn status(found: u64) -> ExitCode {
 }
 
 /// Searches a file by its index, or whole if it has none.
-fn search_file(rt: &HostRuntime, request: &SearchRequest<'_>) -> Result<u64, Fault> {
+fn search_file(rt: &HostRuntime, request: &SearchRequest<'_>) -> Result<u64, ProgramFault> {
     if request.is_whole || request.reading.is_said() {
         let file = open_file(rt, request.file)?;
         return search_whole(rt, request, Some(request.file), file);
     }
     match load(rt, request)? {
-        Some(searched) => search_indexed(rt, request, searched),
+        Some(searched) => {
+            let found = search_indexed(rt, request, &searched);
+            drop(searched);
+            found
+        }
         None => {
             let file = open_file(rt, request.file)?;
             advise(rt, request.file);
@@ -71,7 +73,7 @@ fn search_whole<R: Read + Drop>(
     request: &SearchRequest<'_>,
     file: Option<&str>,
     source: R,
-) -> Result<u64, Fault> {
+) -> Result<u64, ProgramFault> {
     let mut reader = buffered(rt.alloc(), Watched::silent(source))?;
     let found = search_stream(rt, request, file, &mut reader)?;
     if request.tells {
@@ -85,96 +87,72 @@ fn search_whole<R: Read + Drop>(
 fn search_indexed(
     rt: &HostRuntime,
     request: &SearchRequest<'_>,
-    searched: Searched,
-) -> Result<u64, Fault> {
-    let Searched { index, sought } = searched;
-    let file = open_file(rt, request.file)?;
-    search_opened(rt, request, &index, &sought, file)
-}
-
-/// Searches an open file by its index.
-fn search_opened(
-    rt: &HostRuntime,
-    request: &SearchRequest<'_>,
-    index: &Index,
-    sought: &Sought,
-    mut file: File,
-) -> Result<u64, Fault> {
+    searched: &Searched,
+) -> Result<u64, ProgramFault> {
+    let mut file = open_file(rt, request.file)?;
     let before = stamp_of(rt.alloc(), request.file, &file)?;
-    let rest = rest_of(rt, request, index, sought, before, &mut file)?;
+    let rest = rest_of(rt, request, searched, before, &mut file)?;
     let mut reader = with_log(rt.alloc(), file);
-    match answer_indexed(rt, request, index, sought, rest, &mut reader) {
+    match answer_indexed(rt, request.wanted, searched, rest, &mut reader) {
         Ok(found) => {
-            tell_zones(rt, request, index.zones.len(), found.tally, &reader.asked);
+            tell_zones(
+                rt,
+                request,
+                searched.index.zones.len(),
+                found.tally,
+                &reader.asked,
+            );
             stays(rt, request, before, &reader.reader)?;
             Ok(found.rows)
         }
-        Err(fault) => Err(located(rt, Some(request.file), &sought.setup.columns, &fault)),
+        Err(fault) => {
+            let columns = &searched.sought.setup.columns;
+            Err(located(rt, Some(request.file), columns, &fault))
+        }
     }
 }
 
-/// Answers a search by an index, and of what is new since, on standard output.
+/// Answers a search by an index, and of what is new from a place on, on standard output.
 fn answer_indexed(
     rt: &HostRuntime,
-    request: &SearchRequest<'_>,
-    index: &Index,
-    sought: &Sought,
+    wanted: Wanted,
+    searched: &Searched,
     rest: Option<u64>,
     reader: &mut Logged<File>,
 ) -> Result<Found, SearchFault> {
-    let mut writer = output(rt)?;
-    let found = answer_parts(
-        rt.alloc(),
-        request.wanted,
-        index,
-        sought,
-        rest,
-        reader,
-        &mut writer,
-    );
-    flushed(found, &mut writer)
+    let alloc = rt.alloc();
+    match wanted {
+        Wanted::Rows => write_found(
+            alloc,
+            searched,
+            rest,
+            reader,
+            PlainSink::new(alloc, output(rt)?),
+        ),
+        Wanted::NumberedRows => {
+            write_found(
+                alloc,
+                searched,
+                rest,
+                reader,
+                NumberedSink::new(alloc, output(rt)?),
+            )
+        }
+        Wanted::Count => count_indexed(alloc, &searched.index, &searched.sought, rest, reader),
+    }
 }
 
-/// Answers a search by an index, and of what is new since.
-fn answer_parts<W: Write>(
+/// Gives a sink the records that match.
+fn write_found<S: Sink + Drop>(
     alloc: Global,
-    wanted: Wanted,
-    index: &Index,
-    sought: &Sought,
+    searched: &Searched,
     rest: Option<u64>,
     reader: &mut Logged<File>,
-    writer: &mut W,
+    mut sink: S,
 ) -> Result<Found, SearchFault> {
-    let matcher = sought.matcher();
-    let first = Position::first_row(index.start);
-    let found = answer_zones(
-        alloc,
-        wanted,
-        first.number,
-        &index.zones,
-        &matcher,
-        reader,
-        writer,
-    )?;
-    let Some(place) = rest else {
-        return Ok(found);
-    };
-    let position = first.after(&index.zones, place);
-    let more = answer_new(alloc, wanted, position, &matcher, &reader.reader, writer)?;
-    Ok(found.and(more))
-}
-
-/// Answers a search of what is new in a file, from this place on.
-fn answer_new<W: Write>(
-    alloc: Global,
-    wanted: Wanted,
-    position: Position,
-    matcher: &RowFilter<'_>,
-    file: &File,
-    writer: &mut W,
-) -> Result<u64, SearchFault> {
-    let mut reader = from_place(alloc, file, position.place)?;
-    answer_rest(alloc, wanted, position, matcher, &mut reader, writer)
+    let Searched { index, sought } = searched;
+    let found = find_indexed(alloc, index, sought, rest, reader, &mut sink);
+    flushed(found, sink.flush())
 }
 
 /// The file, with what it is asked for.
@@ -232,11 +210,11 @@ fn bytes_asked(asked: &[Asked]) -> u64 {
 fn rest_of(
     rt: &HostRuntime,
     request: &SearchRequest<'_>,
-    index: &Index,
-    sought: &Sought,
+    searched: &Searched,
     now: Stamp,
     file: &mut File,
-) -> Result<Option<u64>, Fault> {
+) -> Result<Option<u64>, ProgramFault> {
+    let Searched { index, sought } = searched;
     let then = Stamp {
         length: index.file_length,
         changed: index.changed,
@@ -245,7 +223,7 @@ fn rest_of(
         return Ok(None);
     }
     if !request.may_have_grown {
-        return Err(Fault::of_file(rt.alloc(), request.file, FileFault::Changed));
+        return Err(ProgramFault::of_file(rt.alloc(), request.file, FileFault::Changed));
     }
     let end = grown_end(rt, request.file, index, &sought.describer(), file)?;
     Ok(if end < now.length { Some(end) } else { None })
@@ -257,11 +235,11 @@ fn stays(
     request: &SearchRequest<'_>,
     before: Stamp,
     file: &File,
-) -> Result<(), Fault> {
+) -> Result<(), ProgramFault> {
     let after = stamp_of(rt.alloc(), request.file, file)?;
     if before == after || (request.may_have_grown && before.length <= after.length) {
         Ok(())
     } else {
-        Err(Fault::of_file(rt.alloc(), request.file, FileFault::Changing))
+        Err(ProgramFault::of_file(rt.alloc(), request.file, FileFault::Changing))
     }
 }

@@ -1,7 +1,7 @@
 //! How a file is read, in words and in the bytes of its index.
 
-use crate::columns::{NamedColumn, column_of, is_name, push_kind};
-use crate::faults::Fault;
+use crate::column_words::{NamedColumn, column_of, is_name, push_kind};
+use crate::program_faults::ProgramFault;
 use csv_records::Delimiter;
 use filter_sql::Column;
 use record_rows::ColumnType;
@@ -70,9 +70,9 @@ impl Setup {
     }
 
     /// The schema.
-    pub fn schema(&self, alloc: Global) -> Result<Schema, Fault> {
+    pub fn schema(&self, alloc: Global) -> Result<Schema, ProgramFault> {
         let Some(delimiter) = Delimiter::new(self.numbers.delimiter) else {
-            return Err(Fault::Fixed(DELIMITERS));
+            return Err(ProgramFault::Fixed(DELIMITERS));
         };
         let mut columns = Vec::new(alloc);
         for named in &self.columns {
@@ -147,15 +147,15 @@ fn column_of_line(line: &str) -> Option<(ColumnType, &str)> {
 }
 
 /// The delimiter that a word says: one byte, `tab`, or `none`. Without a word it is a comma.
-pub fn delimiter_in(word: Option<&str>) -> Result<Delimiter, Fault> {
+pub fn delimiter_in(word: Option<&str>) -> Result<Delimiter, ProgramFault> {
     let byte = match word.unwrap_or(",").as_bytes() {
         [byte] => *byte,
         b"tab" => b'\t',
         b"none" => NO_DELIMITER,
-        _ => return Err(Fault::Fixed(DELIMITERS)),
+        _ => return Err(ProgramFault::Fixed(DELIMITERS)),
     };
     match Delimiter::new(byte) {
         Some(delimiter) => Ok(delimiter),
-        None => Err(Fault::Fixed(DELIMITERS)),
+        None => Err(ProgramFault::Fixed(DELIMITERS)),
     }
 }

@@ -1,8 +1,8 @@
 //! Zones are shown.
 
-use crate::columns::{NamedColumn, columns_text};
-use crate::faults::Fault;
+use crate::column_words::{NamedColumn, columns_text};
 use crate::loading::{Loaded, load_there};
+use crate::program_faults::ProgramFault;
 use crate::streams::{flushed, output};
 use record_rows::ColumnType;
 use record_search::read_statistics;
@@ -11,16 +11,16 @@ use std::fmt::Write as WriteText;
 use std::io::Write;
 use std::process::ExitCode;
 use vortex_statistics::{Bound, ColumnStatistics};
-use zone_index::{Fault as SearchFault, Zone};
+use zone_index::{SearchFault, Zone};
 
 /// Writes what an index is of, and each zone: its place, its bytes, records and rows, and the bounds
 /// of its columns.
-pub fn show(rt: &HostRuntime, file: &str) -> Result<ExitCode, Fault> {
+pub fn show(rt: &HostRuntime, file: &str) -> Result<ExitCode, ProgramFault> {
     let loaded = load_there(rt, file)?;
     let schema = loaded.setup.schema(rt.alloc())?;
     let mut writer = output(rt)?;
     let done = show_zones(rt.alloc(), &loaded, &schema.columns, &mut writer);
-    flushed(done, &mut writer)?;
+    flushed(done, writer.flush().map_err(|_| SearchFault::Write))?;
     Ok(ExitCode::SUCCESS)
 }
 

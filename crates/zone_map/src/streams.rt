@@ -1,19 +1,18 @@
 //! Files without an index and standard input are searched whole.
 
-use crate::answering::answer_rest;
-use crate::columns::{NamedColumn, columns_text};
-use crate::commands::SearchRequest;
-use crate::faults::Fault;
+use crate::answering::{count_stream, find_stream, first_row};
+use crate::column_words::{NamedColumn, columns_text};
+use crate::commands::{SearchRequest, Wanted};
 use crate::loading::Sought;
-use crate::numbering::Position;
-use crate::places::located;
+use crate::locating::located;
 use crate::preparing::{Prepared, prepare};
+use crate::program_faults::ProgramFault;
 use crate::setup::{NO_DELIMITER, Numbers, Setup};
 use record_rows::{ColumnType, Kind};
 use std::alloc::Global;
-use std::io::{BufRead, BufWriter, Read, Stdout, Write};
+use std::io::{BufRead, BufWriter, Read, Stdout};
 use vortex_dtype::Nullability;
-use zone_index::Fault as SearchFault;
+use zone_index::{NumberedSink, PlainSink, SearchFault, Sink};
 
 /// Answers a search of a whole stream, and says how many rows match.
 pub fn search_stream<B: BufRead>(
@@ -21,45 +20,75 @@ pub fn search_stream<B: BufRead>(
     request: &SearchRequest<'_>,
     file: Option<&str>,
     reader: &mut B,
-) -> Result<u64, Fault> {
+) -> Result<u64, ProgramFault> {
     let Prepared {
         setup,
         start,
         first,
     } = prepare(rt.alloc(), &request.reading, reader)?;
-    let position = Position::first_row(start);
     let mut rest = first.as_slice().chain(reader);
     let sought = sought_in(rt, request, setup)?;
-    match answer_stream(rt, request, &sought, position, &mut rest) {
+    match answer_stream(rt, request.wanted, &sought, start, &mut rest) {
         Ok(found) => Ok(found),
         Err(fault) => Err(located(rt, file, &sought.setup.columns, &fault)),
     }
 }
 
-/// Answers a search of all that a stream has left, on standard output.
+/// Answers a search of all that a stream has left, on standard output. The header has so many bytes.
 fn answer_stream<B: BufRead>(
     rt: &HostRuntime,
-    request: &SearchRequest<'_>,
+    wanted: Wanted,
     sought: &Sought,
-    position: Position,
+    start: u64,
     reader: &mut B,
 ) -> Result<u64, SearchFault> {
-    let mut writer = output(rt)?;
-    let matcher = sought.matcher();
-    let found = answer_rest(
-        rt.alloc(),
-        request.wanted,
-        position,
-        &matcher,
+    let alloc = rt.alloc();
+    match wanted {
+        Wanted::Rows => write_stream(
+            alloc,
+            sought,
+            start,
+            reader,
+            PlainSink::new(alloc, output(rt)?),
+        ),
+        Wanted::NumberedRows => {
+            write_stream(
+                alloc,
+                sought,
+                start,
+                reader,
+                NumberedSink::new(alloc, output(rt)?),
+            )
+        }
+        Wanted::Count => count_stream(alloc, start, &sought.matcher(), reader),
+    }
+}
+
+/// Gives a sink the records of a stream that match, and says how many they are.
+fn write_stream<B: BufRead, S: Sink + Drop>(
+    alloc: Global,
+    sought: &Sought,
+    start: u64,
+    reader: &mut B,
+    mut sink: S,
+) -> Result<u64, SearchFault> {
+    let found = find_stream(
+        alloc,
+        first_row(start),
+        &sought.matcher(),
         reader,
-        &mut writer,
+        &mut sink,
     );
-    flushed(found, &mut writer)
+    flushed(found, sink.flush())
 }
 
 /// What is sought. If nothing is said of how records are read and the filter is none of the guessed
 /// columns, it may be one of whole lines, by the name `line`.
-fn sought_in(rt: &HostRuntime, request: &SearchRequest<'_>, setup: Setup) -> Result<Sought, Fault> {
+fn sought_in(
+    rt: &HostRuntime,
+    request: &SearchRequest<'_>,
+    setup: Setup,
+) -> Result<Sought, ProgramFault> {
     match Sought::from_text(rt.alloc(), setup, request.filter) {
         Ok(sought) => {
             tell_columns(rt, request, &sought.setup);
@@ -84,7 +113,7 @@ fn sought_in(rt: &HostRuntime, request: &SearchRequest<'_>, setup: Setup) -> Res
 }
 
 /// What is sought in whole lines.
-fn sought_in_lines(alloc: Global, filter: &str) -> Result<Sought, Fault> {
+fn sought_in_lines(alloc: Global, filter: &str) -> Result<Sought, ProgramFault> {
     let lines = lines_setup(alloc)?;
     Sought::from_text(alloc, lines, filter)
 }
@@ -99,7 +128,7 @@ fn tell_columns(rt: &HostRuntime, request: &SearchRequest<'_>, setup: &Setup) {
 }
 
 /// Whole lines as one column.
-fn lines_setup(alloc: Global) -> Result<Setup, Fault> {
+fn lines_setup(alloc: Global) -> Result<Setup, ProgramFault> {
     let line = NamedColumn {
         name: String::from_str(alloc, "line")?,
         column: ColumnType {
@@ -125,16 +154,16 @@ pub fn output(rt: &HostRuntime) -> Result<BufWriter<Stdout>, SearchFault> {
     }
 }
 
-/// What was done, once the buffer is written, which is written after a fault, too.
+/// What was done, once the output is flushed, which is flushed after a fault, too.
 pub fn flushed<T: Drop>(
     done: Result<T, SearchFault>,
-    writer: &mut BufWriter<Stdout>,
+    flush: Result<(), SearchFault>,
 ) -> Result<T, SearchFault> {
-    match writer.flush() {
+    match flush {
         Ok(()) => done,
-        Err(_) => {
+        Err(fault) => {
             drop(done);
-            Err(SearchFault::Write)
+            Err(fault)
         }
     }
 }

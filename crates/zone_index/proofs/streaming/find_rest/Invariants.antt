@@ -7,7 +7,7 @@ use Rattle.zone_index.proofs.streaming.find_rest.Given as goal
 abbrev pub invariant-loop-text : goal.invariant-loop-text
 invariant-loop-text g l = record {
   searched : (bytes : List ℕ) → g.B.Read.remaining l.initial.reader ≡ Some bytes
-      → Searched (g.M.Records.delimiter l.matcher) (g.M.Matcher.matches l.matcher) bytes (g.B.Read.remaining l.reader) (g.W.Write.contents l.initial.writer) (g.W.Write.contents l.writer) l.found;
+      → Searched g.S.Sink.written_as l.start.number (g.M.Records.delimiter l.matcher) (g.M.Matcher.matches l.matcher) bytes (g.B.Read.remaining l.reader) (g.S.Sink.contents l.initial.sink) (g.S.Sink.contents l.sink) l.found l.number;
   behind : (bytes : List ℕ) → g.B.Read.remaining l.initial.reader ≡ Some bytes → IsPassed (g.M.Records.delimiter l.matcher) bytes (g.B.Read.remaining l.reader) l.passed;
   few : l.found ≤ l.passed;
 }

@@ -1,10 +1,10 @@
 //! Where a record stands that has no row.
 
-use crate::columns::NamedColumn;
-use crate::faults::{BadRecord, Fault, RecordPlace, search_fault_text};
+use crate::column_words::NamedColumn;
+use crate::program_faults::{BadRecord, ProgramFault, RecordPlace, search_fault_text};
 use std::fs::File;
 use std::io::{self, Read};
-use zone_index::Fault as SearchFault;
+use zone_index::SearchFault;
 
 /// How many bytes are read at a time.
 const PIECE: usize = 65536;
@@ -16,7 +16,7 @@ pub fn located(
     file: Option<&str>,
     columns: &[NamedColumn],
     fault: &SearchFault,
-) -> Fault {
+) -> ProgramFault {
     match fault {
         SearchFault::Refused(refusal) => {
             let bad = BadRecord {
@@ -24,9 +24,9 @@ pub fn located(
                 columns,
                 cause: &refusal.cause,
             };
-            Fault::made(format!(in rt.alloc(); "{bad}"))
+            ProgramFault::made(format!(in rt.alloc(); "{bad}"))
         }
-        _ => Fault::Fixed(search_fault_text(fault)),
+        _ => ProgramFault::Fixed(search_fault_text(fault)),
     }
 }
 

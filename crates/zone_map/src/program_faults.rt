@@ -1,15 +1,15 @@
 //! Why the program stops.
 
-use crate::columns::NamedColumn;
+use crate::column_words::NamedColumn;
 use filter_sql::ParseError;
 use std::alloc::{AllocError, AllocFailed, Global};
 use std::fmt::{self, Display, Formatter, Write};
 use std::{io, str};
-use zone_index::{Cause, Fault as SearchFault, FormFault};
+use zone_index::{Cause, FormFault, SearchFault};
 
 /// Why the program stopped: what it says on standard error.
 #[derive(Drop)]
-pub enum Fault {
+pub enum ProgramFault {
     /// A text that is always the same.
     Fixed(&'static str),
     /// A text that was made.
@@ -19,37 +19,37 @@ pub enum Fault {
 /// What is said if no memory is left.
 const NO_MEMORY: &str = "out of memory";
 
-impl Fault {
+impl ProgramFault {
     /// The fault of a text, if there was memory for it.
-    pub fn made(text: Result<String, AllocError>) -> Fault {
+    pub fn made(text: Result<String, AllocError>) -> ProgramFault {
         match text {
-            Ok(text) => Fault::Made(text),
-            Err(_) => Fault::Fixed(NO_MEMORY),
+            Ok(text) => ProgramFault::Made(text),
+            Err(_) => ProgramFault::Fixed(NO_MEMORY),
         }
     }
 
     /// The fault of a file with this name.
-    pub fn of_file(alloc: Global, name: &str, fault: FileFault) -> Fault {
-        Fault::made(format!(in alloc; "{name}: {fault}"))
+    pub fn of_file(alloc: Global, name: &str, fault: FileFault) -> ProgramFault {
+        ProgramFault::made(format!(in alloc; "{name}: {fault}"))
     }
 }
 
-impl From<AllocError> for Fault {
-    fn from(_error: AllocError) -> Fault {
-        Fault::Fixed(NO_MEMORY)
+impl From<AllocError> for ProgramFault {
+    fn from(_error: AllocError) -> ProgramFault {
+        ProgramFault::Fixed(NO_MEMORY)
     }
 }
 
-impl<T: Drop> From<AllocFailed<T>> for Fault {
-    fn from(_error: AllocFailed<T>) -> Fault {
-        Fault::Fixed(NO_MEMORY)
+impl<T: Drop> From<AllocFailed<T>> for ProgramFault {
+    fn from(_error: AllocFailed<T>) -> ProgramFault {
+        ProgramFault::Fixed(NO_MEMORY)
     }
 }
 
 /// Without the place of a record that has no row.
-impl From<SearchFault> for Fault {
-    fn from(fault: SearchFault) -> Fault {
-        Fault::Fixed(search_fault_text(&fault))
+impl From<SearchFault> for ProgramFault {
+    fn from(fault: SearchFault) -> ProgramFault {
+        ProgramFault::Fixed(search_fault_text(&fault))
     }
 }
 
@@ -66,11 +66,11 @@ pub fn search_fault_text(fault: &SearchFault) -> &'static str {
 }
 
 /// The text.
-impl Display for Fault {
+impl Display for ProgramFault {
     fn fmt<W: Write>(&self, f: &mut Formatter<W>) -> fmt::Result {
         match self {
-            Fault::Fixed(text) => f.write_str(text),
-            Fault::Made(text) => f.write_str(text),
+            ProgramFault::Fixed(text) => f.write_str(text),
+            ProgramFault::Made(text) => f.write_str(text),
         }
     }
 }
