@@ -10,8 +10,8 @@ use std::mem::replace;
 use vortex_cells::has_variant;
 use vortex_dtype::{DType, VortexError};
 use vortex_row::{
-    RowEncoder, RowError, SortOptions, append_key, append_plain_key, append_row_key, compare_keys,
-    decode_key, decode_row_key, key_length, plain_key_length,
+    RowEncoder, RowError, SortOptions, append_key, append_row_key, compare_keys, decode_key,
+    decode_row_key, key_length, plain_key_length, write_plain_key,
 };
 use vortex_value::{Scalar, ScalarRef, ScalarValue};
 
@@ -78,20 +78,14 @@ const OF_ROWS: [Named<OfRows, Input>; 3] = [
 #[derive(Clone, Copy)]
 enum InRoom {
     Key,
-    PlainKey,
     /// The key of a row of one column.
     RowKey,
 }
 
-const IN_ROOM: [Named<InRoom, Input>; 3] = [
+const IN_ROOM: [Named<InRoom, Input>; 2] = [
     (
         "key_in_room",
         InRoom::Key,
-        &[Input::Scalar, Input::Sorting, Input::Room],
-    ),
-    (
-        "plain_key_in_room",
-        InRoom::PlainKey,
         &[Input::Scalar, Input::Sorting, Input::Room],
     ),
     (
@@ -157,13 +151,15 @@ fn key(alloc: Global, scalar: &Scalar, options: SortOptions) -> KeyResult {
     key_answer(outcome, key)
 }
 
+#[tactic(auto, using(crate::proofs::KeySteps::rooms))]
 fn plain_key(alloc: Global, scalar: &Scalar, options: SortOptions) -> KeyResult {
     let Some(value) = plain_of(scalar) else {
         return Ok(KeyAnswer::NotPlain);
     };
     let mut key = Vec::new(alloc);
-    let outcome = append_plain_key(value, options, &mut key);
-    key_answer(outcome, key)
+    key.resize(plain_key_length(value), 0)?;
+    write_plain_key(value, options, 0, &mut key);
+    Ok(KeyAnswer::Key(key))
 }
 
 fn plain_length(scalar: &Scalar) -> KeyAnswer {
@@ -178,10 +174,6 @@ fn in_room(alloc: Global, call: InRoom, given: &mut KeyInputs) -> KeyResult {
     let lent = ScalarRef::of(&given.scalar);
     let outcome = match call {
         InRoom::Key => append_key(lent, given.sorting, &mut key),
-        InRoom::PlainKey => match plain_of(&given.scalar) {
-            Some(value) => append_plain_key(value, given.sorting, &mut key),
-            None => return Ok(KeyAnswer::NotPlain),
-        },
         InRoom::RowKey => append_row_key(&[lent], &[given.sorting], &mut key),
     };
     key_answer(outcome, key)

@@ -1,8 +1,7 @@
 -- The number of a few bytes, one by one and without a limit.
-use Rattle.std.proofs.Common.{◌≡◌, ℕ, zero, suc, ◌+◌, ◌-◌, ◌*◌, ◌/◌, ◌^◌, ◌<◌, ◌≤◌, List, length, take, get_or, sym, subst, ap, arith}
+use Rattle.std.proofs.Common.{◌≡◌, ℕ, zero, suc, ◌+◌, ◌-◌, ◌*◌, ◌/◌, ◌^◌, ◌<◌, ◌≤◌, List, length, take, get_or, subst, arith}
 use Rattle.vortex_row.specs.Held.{AreBytes}
 use Rattle.vortex_row.specs.Numbers.{HasMagnitude}
-use Rattle.vortex_row.proofs.ByteLaws.{no_bytes}
 use Rattle.vortex_row.proofs.NumberReading.{worth, scaled, IsCanonical}
 use Rattle.vortex_row.proofs.NumberSteps.{Began, began-all, began-more, began-none}
 use Rattle.vortex_row.proofs.NumberWords.{worth-most}

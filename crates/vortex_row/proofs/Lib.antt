@@ -16,7 +16,6 @@ pub mod NumberWords
 pub mod OrderLaws
 pub mod PartSteps
 pub mod PlaceLaws
-pub mod PlainSteps
 pub mod ReaderSteps
 pub mod RowDecodeSteps
 pub mod RowSteps

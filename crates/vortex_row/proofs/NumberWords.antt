@@ -7,6 +7,7 @@ use Rattle.vortex_row.specs.Held.{AreBytes}
 use Rattle.vortex_row.specs.Keys.{big_endian, inverted}
 use Rattle.vortex_row.specs.Numbers.{HasMagnitude}
 use Rattle.vortex_row.proofs.ByteLaws.{bytes_first, bytes_rest}
+use Rattle.vortex_row.specs.Steps.{inverted_word}
 use Rattle.vortex_row.proofs.EncodeSteps.{bytes-64, inverted-big_endian}
 use Rattle.vortex_row.proofs.NumberLaws.{big_endian-bytes}
 use Rattle.vortex_row.proofs.NumberReading.{worth, scaled, scaled-monotone, worth-append, worth-least, worth-big_endian, IsCanonical, scaled-to_limit, limit-from_scaled}
@@ -40,10 +41,10 @@ take-inverted (suc n) [] = refl
 take-inverted (suc n) (b ∷ bs) = ap (λ xs. (255 - b) ∷ xs) (take-inverted n bs)
 
 -- the word, inverted or not
-pub word-inverted : (d : Bool) (bs : List ℕ) (word turned : ℕ) → word < 2 ^ 64 → take 8 bs ≡ big_endian 8 word → (d ≡ true → turned ≡ 2 ^ 64 - 1 - word) → (d ≡ false → turned ≡ word) → take 8 (inverted d bs) ≡ big_endian 8 turned
-word-inverted false bs word turned h e up down = e ∙ ap (big_endian 8) (sym (down refl))
-word-inverted true bs word turned h e up down =
-    let same : 256 ^ 8 - 1 - word ≡ turned = let is = up refl in omega arith in
+pub word-inverted : (d : Bool) (bs : List ℕ) (word turned : ℕ) → word < 2 ^ 64 → take 8 bs ≡ big_endian 8 word → turned ≡ inverted_word d word → take 8 (inverted d bs) ≡ big_endian 8 turned
+word-inverted false bs word turned h e is = e ∙ ap (big_endian 8) (sym is)
+word-inverted true bs word turned h e is =
+    let same : 256 ^ 8 - 1 - word ≡ turned = omega arith in
     take-inverted 8 bs ∙ ap (inverted true) e ∙ sym (inverted-big_endian 8 word (omega arith)) ∙ ap (big_endian 8) same
 
 -- the first bytes of a word

@@ -1,8 +1,8 @@
 -- Steps of rows.
-use Rattle.std.proofs.Common.{◌≡◌, ℕ, suc, ◌+◌, ◌<◌, ◌≤◌, List, [], ◌∷◌, ◌++◌, length, length-append, drop, get_or, map, refl, sym, subst, ap, ◌∙◌, arith}
+use Rattle.std.proofs.Common.{◌≡◌, ℕ, suc, ◌+◌, ◌<◌, ◌≤◌, List, [], ◌∷◌, ◌++◌, length, length-append, drop, take, get_or, map, refl, sym, subst, ap, ◌∙◌, arith}
 use Rattle.std.specs.Global.{Vec}
 use Rattle.std.specs.List.{All}
-use Rattle.std.specs.Vec.{vec_len, vec_capacity}
+use Rattle.std.specs.Vec.{vec_len}
 use Rattle.std.proofs.lemmas.List.{drop_more, drop_all, get_or_default}
 use Rattle.std.proofs.lemmas.List.Elements.{All-nil, All-cons, All-same}
 use Rattle.vortex_value.specs.Size.{capped}
@@ -14,10 +14,12 @@ use Rattle.vortex_value.specs.declared.refs.ScalarRef.{ScalarRef}
 use Rattle.vortex_row.specs.Columns.{key_with, row_key}
 use Rattle.vortex_row.specs.Held.{IsHeld}
 use Rattle.vortex_row.specs.Keys.{key}
-use Rattle.vortex_row.specs.Steps.{Appends, HasRoom, IsLeft, keys_length}
+use Rattle.vortex_row.specs.Slots.{HasSlot, IsLeftAt, Writes}
+use Rattle.vortex_row.specs.Steps.{keys_length}
 use Rattle.vortex_row.specs.declared.options.SortOptions.{SortOptions}
-use Rattle.vortex_row.proofs.EncodeSteps.{key_with-length, left-then}
-use Rattle.vortex_row.proofs.KeySteps.{all-room}
+use Rattle.vortex_row.proofs.EncodeSteps.{key_with-length}
+use Rattle.vortex_row.proofs.KeySteps.{all-slot}
+use Rattle.vortex_row.proofs.SlotSteps.{left_at-then}
 
 -- the key of a row is as long as the keys of its values
 
@@ -35,10 +37,15 @@ contents-length : (xs : List ScalarRef) → length (map ref_content xs) ≡ leng
 contents-length [] = refl
 contents-length (x ∷ xs) = ap suc (contents-length xs)
 
-pub row-room : (os : List SortOptions) (xs : List ScalarRef) (count : ℕ) (out : Vec ℕ) → length xs ≡ length os → count ≡ capped (keys_length (map ref_content xs)) → vec_len out + count ≤ vec_capacity out
-    → HasRoom out (row_key os (map ref_content xs))
-row-room os xs count out e f h =
-    all-room (row_key os (map ref_content xs)) (keys_length (map ref_content xs)) count out (row-length os (map ref_content xs) (contents-length xs ∙ e)) f h
+pub row-slot : (os : List SortOptions) (xs : List ScalarRef) (start : ℕ) (before out : Vec ℕ) → length xs ≡ length os → start ≡ vec_len before → vec_len before + capped (keys_length (map ref_content xs)) ≤ vec_len out
+    → HasSlot out.items start (row_key os (map ref_content xs))
+row-slot os xs start before out e f h =
+    all-slot (row_key os (map ref_content xs)) (keys_length (map ref_content xs)) start out (row-length os (map ref_content xs) (contents-length xs ∙ e)) (omega arith)
+
+-- what was written is appended, and the rest cut off
+pub row-appended : (bs : List ℕ) (start end : ℕ) (before mid now next : Vec ℕ) → start ≡ vec_len before → take (vec_len before) mid.items ≡ before.items → Writes bs start end mid.items now.items → next.items ≡ take end now.items
+    → next.items ≡ before.items ++ bs
+row-appended bs start end before mid now next e begins w cut = cut ∙ w.items ∙ ap (λ xs. xs ++ bs) (ap (λ n. take n mid.items) e ∙ begins)
 
 -- the value at a place, and the rest
 
@@ -54,16 +61,16 @@ held-at i xs x h is held rest = subst (λ ys. All IsHeld (map ref_content ys)) (
 
 -- one value more is appended
 
-pub row-left : (i : ℕ) (os : List SortOptions) (xs : List ScalarRef) (d : SortOptions) (x : ScalarRef) (v : RawTree) (before now next : Vec ℕ) → length xs ≡ length os → i < length xs → x ≡ get_or xs i x → v ≡ ref_raw x
-    → IsLeft (row_key (drop i os) (map ref_content (drop i xs))) (row_key os (map ref_content xs)) before now → Appends (key_with (get_or os i d) (content v)) now next
-    → IsLeft (row_key (drop (i + 1) os) (map ref_content (drop (i + 1) xs))) (row_key os (map ref_content xs)) before next
-row-left i os xs d x v before now next e h is value l a =
+pub row-left : (i : ℕ) (os : List SortOptions) (xs : List ScalarRef) (d : SortOptions) (x : ScalarRef) (v : RawTree) (start p q : ℕ) (before now next : List ℕ) → length xs ≡ length os → i < length xs → x ≡ get_or xs i x → v ≡ ref_raw x
+    → IsLeftAt (row_key (drop i os) (map ref_content (drop i xs))) (row_key os (map ref_content xs)) start p before now → Writes (key_with (get_or os i d) (content v)) p q now next
+    → IsLeftAt (row_key (drop (i + 1) os) (map ref_content (drop (i + 1) xs))) (row_key os (map ref_content xs)) start q before next
+row-left i os xs d x v start p q before now next e h is value l w =
     let inside : i < length os = omega arith in
     let o = get_or os i d in
     let same : o ≡ get_or os i o = get_or_default os i d o inside in
     let split = row_key-at i os xs o x inside h same is in
-    let appended : Appends (key_with o (ref_content x)) now next = subst (λ w. Appends (key_with o (content w)) now next) value a in
-    left-then (key_with o (ref_content x)) _ _ before now next (subst (λ bs. IsLeft bs (row_key os (map ref_content xs)) before now) split l) appended
+    let written : Writes (key_with o (ref_content x)) p q now next = subst (λ r. Writes (key_with o (content r)) p q now next) value w in
+    left_at-then (key_with o (ref_content x)) _ _ start p q before now next (subst (λ bs. IsLeftAt bs (row_key os (map ref_content xs)) start p before now) split l) written
 
 -- of all values, if of the rest
 
@@ -76,4 +83,4 @@ ordered-at i xs x h is here rest =
 pub ordered-end : (i : ℕ) (xs : List ScalarRef) → length xs ≤ i → (All (λ y. HasNoVariant (ref_type y)) (drop i xs) → All (λ y. HasNoVariant (ref_type y)) xs) → All (λ y. HasNoVariant (ref_type y)) xs
 ordered-end i xs h go = go (All-same (λ y. HasNoVariant (ref_type y)) (drop i xs) [] (drop_all i xs h) (All-nil (λ y. HasNoVariant (ref_type y))))
 
-pub ruleset shown = (row-room)
+pub ruleset shown = (row-slot, row-appended)

@@ -1,20 +1,25 @@
--- Steps of the encoder that writes into a slice.
-use Rattle.std.proofs.Common.{◌≡◌, ◌≢◌, ℕ, zero, suc, ◌+◌, ◌-◌, ◌*◌, ◌%◌, ◌^◌, ◌<◌, ◌≤◌, Bool, true, false, List, [], ◌∷◌, ◌++◌, take, drop, length, length-append, get_or, append_assoc, refl, sym, subst, ap, ap₂, ◌∙◌, arith}
+-- Steps of what is written into a slice.
+use Rattle.std.proofs.Common.{◌≡◌, ℕ, ◌+◌, ◌-◌, ◌*◌, ◌%◌, ◌^◌, ◌<◌, ◌≤◌, Bool, true, false, List, [], ◌∷◌, ◌++◌, take, drop, length, length-append, length-drop, Option, append_assoc, refl, sym, subst, ap, ap₂, ◌∙◌, arith}
+use Rattle.std.specs.Global.{Vec}
 use Rattle.std.specs.Int.{w64, to_be_bytes}
 use Rattle.std.proofs.Math.Seq.{take-append-add}
 use Rattle.std.proofs.lemmas.Grind.{take-set_at}
 use Rattle.std.proofs.lemmas.List.{drop_at, length-take-le, take_at, take-take}
 use Rattle.std.proofs.lemmas.Slice.{take-put_mid}
 use borrow.Rule.Slice.PartMut.{put_mid}
+use Rattle.vortex_value.specs.Values.Content.{content, contents}
+use Rattle.vortex_value.specs.Values.RawOf.{value_tree, value_trees}
+use Rattle.vortex_value.specs.declared.values.ScalarValue.{ScalarValue, Tuple}
+use Rattle.vortex_value.proofs.ValueSteps.{value_tree-Tuple, value_tree-Union, value_tree-Variant, variant_tree-parts}
+use Rattle.vortex_row.specs.Bytes.{inverted_again, inverted_byte}
 use Rattle.vortex_row.specs.Columns.{key_with}
-use Rattle.vortex_row.specs.Keys.{inverted, big_endian, number_bytes, downward_key, escape, key}
-use Rattle.vortex_row.specs.Plain.{plain_content}
+use Rattle.vortex_row.specs.Keys.{inverted, big_endian, number_bytes, escape, key, keys}
 use Rattle.vortex_row.specs.Slots.{HasSlot, IsLeftAt, Writes}
+use Rattle.vortex_row.specs.Steps.{inverted_word, side_byte, side_key}
 use Rattle.vortex_row.specs.declared.options.SortOptions.{SortOptions}
-use Rattle.vortex_row.specs.declared.plain.PlainValue.{PlainValue}
-use Rattle.vortex_row.specs.declared.plain.PlainValue.TheVariants.{Null}
 use Rattle.vortex_row.proofs.ByteLaws.{inverted-length}
-use Rattle.vortex_row.proofs.EncodeSteps.{bytes-64, escape-two, inverted-big_endian, inverted-drop}
+use Rattle.vortex_row.proofs.EncodeSteps.{bytes-64, escape-two, key_with-length, key_with-value, side-bytes, side-length, tuple-key}
+use Rattle.vortex_row.proofs.LengthSteps.{union-content}
 use Rattle.vortex_row.proofs.NumberLaws.{big_endian-length}
 use Rattle.vortex_row.proofs.ReaderSteps.{take-then}
 use Rattle.vortex_row.proofs.ShiftSteps.{shifted_bytes}
@@ -70,21 +75,6 @@ slot-back bs cs p q x y h w =
 same-writes : (a b : ℕ) (bs cs : List ℕ) (p q : ℕ) (x y : List ℕ) → a ≡ b → bs ≡ cs → Writes (a ∷ bs) p q x y → Writes (b ∷ cs) p q x y
 same-writes a b bs cs p q x y e f all = subst (λ xs. Writes xs p q x y) (ap₂ (λ c cs. c ∷ cs) e f) all
 
-downward-same : (n j : ℕ) → n < 2 ^ 64 → length (number_bytes n) + j ≡ 8 → number_bytes n ≡ drop j (big_endian 8 n) → (4 + j) ∷ drop j (big_endian 8 (2 ^ 64 - 1 - n)) ≡ downward_key (number_bytes n)
-downward-same n j h e f =
-    let last : drop j (big_endian 8 (2 ^ 64 - 1 - n)) ≡ inverted true (number_bytes n) =
-    ap (drop j) (inverted-big_endian 8 n h) ∙ inverted-drop j (big_endian 8 n) ∙ ap (inverted true) (sym f) in
-    let first : 4 + j ≡ 12 - length (number_bytes n) = omega arith in
-    ap₂ (λ c cs. c ∷ cs) first last
-
-pub downward-slot : (n j p : ℕ) (x : List ℕ) → n < 2 ^ 64 → length (number_bytes n) + j ≡ 8 → number_bytes n ≡ drop j (big_endian 8 n) → HasSlot x p (downward_key (number_bytes n))
-    → HasSlot x p ((4 + j) ∷ drop j (big_endian 8 (2 ^ 64 - 1 - n)))
-downward-slot n j p x h e f slot = subst (HasSlot x p) (sym (downward-same n j h e f)) slot
-
-pub downward-writes : (n j p q : ℕ) (x y : List ℕ) → n < 2 ^ 64 → length (number_bytes n) + j ≡ 8 → number_bytes n ≡ drop j (big_endian 8 n)
-    → Writes ((4 + j) ∷ drop j (big_endian 8 (2 ^ 64 - 1 - n))) p q x y → Writes (downward_key (number_bytes n)) p q x y
-downward-writes n j p q x y h e f all = subst (λ bs. Writes bs p q x y) (downward-same n j h e f) all
-
 -- all eight bytes were written, and the last j of them are not counted
 cut-writes : (b j : ℕ) (bs : List ℕ) (p q r : ℕ) (x y z : List ℕ) → length bs ≡ 8 → j ≤ 8 → HasSlot x p (b ∷ []) → Writes (b ∷ []) p q x y → Writes bs q r y z → Writes (b ∷ take (8 - j) bs) p (r - j) x z
 cut-writes b j bs p q r x y z long h slot first all =
@@ -111,6 +101,20 @@ used-writes b n j s bs p q r t x y z h shift is slot first all e =
     subst (λ m. Writes (b ∷ drop j (big_endian 8 n)) p m x z) (sym e)
     (same-writes b b (take (8 - j) bs) (drop j (big_endian 8 n)) p (r - j) x z refl used
     (cut-writes b j bs p q r x y z (ap length same ∙ big_endian-length 8 s) h (slot-first b (drop j (big_endian 8 n)) p x slot) first all))
+
+-- the key of a number, inverted or not, whose first byte and whose bytes were chosen
+
+pub side-slot : (s : Bool) (n j b m p : ℕ) (x : List ℕ) → length (number_bytes n) + j ≡ 8 → HasSlot x p (side_key s n) → HasSlot x p (b ∷ drop j (big_endian 8 m))
+side-slot s n j b m p x e h =
+    let long = side-length s n in
+    let all = big_endian-length 8 m in
+    let rest = length-drop j (big_endian 8 m) in
+    omega arith
+
+pub side-writes : (s d : Bool) (n j b m p q : ℕ) (x y : List ℕ) → n < 2 ^ 64 → length (number_bytes n) + j ≡ 8 → number_bytes n ≡ drop j (big_endian 8 n)
+    → b ≡ inverted_byte d (side_byte s j) → m ≡ inverted_word (inverted_again s d) n → Writes (b ∷ drop j (big_endian 8 m)) p q x y → Writes (inverted d (side_key s n)) p q x y
+side-writes s d n j b m p q x y h e f first word w =
+    subst (λ bs. Writes bs p q x y) (ap₂ (λ c k. c ∷ drop j (big_endian 8 k)) first word ∙ side-bytes s d n j h e f) w
 
 -- strings
 
@@ -191,32 +195,59 @@ inverted-writes body p q x y z slot w is =
       count = omega arith;
     }
 
+pub turned-writes : (d : Bool) (bs : List ℕ) (p q : ℕ) (x y : List ℕ) → d ≡ true → Writes (inverted true bs) p q x y → Writes (inverted d bs) p q x y
+turned-writes d bs p q x y e w = subst (λ b. Writes (inverted b bs) p q x y) (sym e) w
+
+pub upright-writes : (d : Bool) (bs : List ℕ) (p q : ℕ) (x y : List ℕ) → d ≡ false → Writes bs p q x y → Writes (inverted d bs) p q x y
+upright-writes d bs p q x y e w = subst (λ b. Writes (inverted b bs) p q x y) (sym e) w
+
+-- one byte, inverted or not
+
+pub turned-byte : (d : Bool) (b : ℕ) → inverted d (b ∷ []) ≡ inverted_byte d b ∷ []
+turned-byte true b = refl
+turned-byte false b = refl
+
+pub byte-writes : (d : Bool) (b c p q : ℕ) (x y : List ℕ) → c ≡ inverted_byte d b → Writes (c ∷ []) p q x y → Writes (inverted d (b ∷ [])) p q x y
+byte-writes d b c p q x y e w = subst (λ bs. Writes bs p q x y) (ap (λ a. a ∷ []) e ∙ sym (turned-byte d b)) w
+
+-- parts
+
+pub tuple-writes : (v : ScalarValue) (vs : Vec (Option ScalarValue)) (ps : List (Option ScalarValue)) (p q r : ℕ) (x y z : List ℕ) → v ≡ Tuple vs → ps ≡ vs.items
+    → Writes (23 ∷ []) p q x y → Writes (keys (contents (value_trees ps))) q r y z → Writes (key (content (value_tree v))) p r x z
+tuple-writes v vs ps p q r x y z e f one more =
+    subst (λ bs. Writes bs p r x z) (sym (tuple-key v vs e))
+    (same-writes 23 23 (keys (contents (value_trees ps))) (keys (contents (value_trees vs.items))) p r x z refl (ap (λ xs. keys (contents (value_trees xs))) f) (writes-after_one 23 (keys (contents (value_trees ps))) p q r x y z one more))
+
 -- a value is no null
 
-pub key_with-plain : (o : SortOptions) (v : PlainValue) → v ≢ Null → key_with o (plain_content v) ≡ inverted o.descending (key (plain_content v))
-key_with-plain o Null h = absurd (h refl)
-key_with-plain o _ h = refl
-
-pub column-slot : (o : SortOptions) (v : PlainValue) (p : ℕ) (x : List ℕ) → v ≢ Null → HasSlot x p (key_with o (plain_content v)) → HasSlot x p (key (plain_content v))
-column-slot o v p x h slot =
-    let long = inverted-length o.descending (key (plain_content v)) in
-    let same : length (key_with o (plain_content v)) ≡ length (key (plain_content v)) = ap length (key_with-plain o v h) ∙ long in
+pub turned-slot : (d : Bool) (bs : List ℕ) (p : ℕ) (x : List ℕ) → HasSlot x p (inverted d bs) → HasSlot x p bs
+turned-slot d bs p x slot =
+    let long = inverted-length d bs in
     omega arith
 
-pub column-writes : (o : SortOptions) (v : PlainValue) (d : Bool) (p q : ℕ) (x y : List ℕ) → v ≢ Null → o.descending ≡ d → Writes (inverted d (key (plain_content v))) p q x y → Writes (key_with o (plain_content v)) p q x y
-column-writes o v d p q x y h e w = subst (λ bs. Writes bs p q x y) (sym (key_with-plain o v h ∙ ap (λ b. inverted b (key (plain_content v))) e)) w
+pub column-slot : (o : SortOptions) (v : ScalarValue) (p : ℕ) (x : List ℕ) → HasSlot x p (key_with o (content (value_tree v))) → HasSlot x p (key (content (value_tree v)))
+column-slot o v p x slot =
+    let long = key_with-length o (content (value_tree v)) in
+    omega arith
 
-pub ascending-writes : (o : SortOptions) (v : PlainValue) (p q : ℕ) (x y : List ℕ) → v ≢ Null → o.descending ≡ false → Writes (key (plain_content v)) p q x y → Writes (key_with o (plain_content v)) p q x y
-ascending-writes o v p q x y h e w = column-writes o v false p q x y h e w
+pub column-writes : (o : SortOptions) (v : ScalarValue) (d : Bool) (p q : ℕ) (x y : List ℕ) → o.descending ≡ d → Writes (inverted d (key (content (value_tree v)))) p q x y → Writes (key_with o (content (value_tree v))) p q x y
+column-writes o v d p q x y e w = subst (λ bs. Writes bs p q x y) (sym (key_with-value o v d e)) w
+
+pub ascending-writes : (o : SortOptions) (v : ScalarValue) (p q : ℕ) (x y : List ℕ) → o.descending ≡ false → Writes (key (content (value_tree v))) p q x y → Writes (key_with o (content (value_tree v))) p q x y
+ascending-writes o v p q x y e w = column-writes o v false p q x y e w
 
 pub ruleset bytes = (one-written, all-written, take-set_at)
 
 pub ruleset numbers = (slot-after_one, slot-first, writes-after_one)
 
-pub ruleset strings = (slot-after_one, slot-first, slot-back, slot-front, writes-after_one, writes-then, left_at-all)
+pub ruleset strings = (slot-after_one, slot-first, slot-back, slot-front, writes-after_one, writes-then, left_at-all, turned-writes, upright-writes)
 
 pub ruleset doubled = (two-slot, two-writes)
 
 pub ruleset inverting = (inverted-writes)
 
 pub ruleset in_columns = (column-slot, column-writes, ascending-writes)
+
+pub ruleset plain = (turned-slot, byte-writes)
+
+pub ruleset shown = (slot-after_one, slot-first, writes-after_one, left_at-all, left_at-last_slot, left_at-last, value_tree-Tuple, value_tree-Union, value_tree-Variant, variant_tree-parts, union-content)

@@ -1,5 +1,5 @@
--- What the steps of the encoder do to the bytes that they append to, in room that was taken.
-use Rattle.std.specs.Prelude.{◌≡◌, ℕ, ◌+◌, ◌-◌, ◌^◌, ◌≤◌, Bool, true, false, List, [], ◌∷◌, ◌++◌, length}
+-- What the steps of the encoder do to the bytes that they append to, and how they choose the bytes of a number.
+use Rattle.std.specs.Prelude.{◌≡◌, ℕ, ◌+◌, ◌-◌, ◌^◌, ◌≤◌, Bool, true, false, List, [], ◌∷◌, ◌++◌, length, take}
 use Rattle.std.specs.Global.{Vec}
 use Rattle.std.specs.Vec.{vec_len, vec_capacity}
 use Rattle.vortex_value.specs.Values.Content.{Content}
@@ -15,11 +15,10 @@ pub record Appends (bytes : List ℕ) (before after : Vec ℕ) : Type 0 where
   pub count : vec_len after ≡ vec_len before + length bytes
   pub room : vec_capacity before ≤ vec_capacity after
 
--- of all that is to be appended these bytes are left
-pub record IsLeft (rest all : List ℕ) (before now : Vec ℕ) : Type 0 where
-  pub items : now.items ++ rest ≡ before.items ++ all
-  pub count : vec_len now + length rest ≡ vec_len before + length all
-  pub room : vec_capacity before ≤ vec_capacity now
+-- so many bytes are appended, whatever they are
+pub record HasAppended (count : ℕ) (before after : Vec ℕ) : Type 0 where
+  pub begins : take (vec_len before) after.items ≡ before.items
+  pub more : vec_len after ≡ vec_len before + count
 
 -- how many bytes the keys of these contents have together
 abbrev pub keys_length : List Content → ℕ

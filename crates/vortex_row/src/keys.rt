@@ -2,9 +2,9 @@
 #![tactic(auto, using(crate::proofs::KeySteps::shown))]
 
 ghost use Rattle.std.specs.Prelude.{◌+◌, ◌++◌, ◌≡◌, ◌≤◌, ◌↔◌, ◌⊎◌, ◌<◌, Err, IfErr, IsOk, OnErr, OnOk, length};
-ghost use Rattle.vortex_row.specs.Words.{HasNoVariant, HasVariant, IsHeld, OutOfMemory, capped, key, key_with, nat_cmp, ref_content, ref_type, slice_cmp, vec_capacity, vec_len};
+ghost use Rattle.vortex_row.specs.Words.{HasAppended, HasNoVariant, HasVariant, IsHeld, OutOfMemory, capped, key, key_with, nat_cmp, ref_content, ref_type, slice_cmp, vec_capacity, vec_len};
 
-use crate::encode::append_column;
+use crate::encode::put_column;
 use crate::error::RowError;
 use crate::lengths::length;
 use crate::options::SortOptions;
@@ -27,14 +27,54 @@ pub fn key_length(value: ScalarRef<'_>) -> usize
     length(value.value())
 }
 
-/// Takes room for so many bytes more. `OutOfMemory` if there is none.
-pub(crate) fn take_room(count: usize, out: &mut Vec<u8>) -> Result<(), RowError>
-    ensures taken { OnOk result (vec_len out.new + count ≤ vec_capacity out.new) }
+/// What is appended before a key is written there.
+static ZEROS: [u8; 1024] = [0; 1024];
+
+/// So few zeros are appended at once, if there is room for so many.
+const FEW: usize = 64;
+
+/// Appends so many zeros, in room that was taken.
+fn append_zeros(count: usize, out: &mut Vec<u8>)
+    requires { vec_len out.old + count ≤ vec_capacity out.old }
+    ensures { HasAppended count out.old out.new }
+{
+    let mut missing = count;
+    while missing > 0 {
+        let step = missing.min(ZEROS.len());
+        if out.extend_from_slice(&ZEROS[..step]).is_err() {
+            unreachable!();
+        }
+        missing -= step;
+    }
+}
+
+/// Appends so many zeros, of which there are few, and first more.
+#[inline(always)]
+fn append_few_zeros(count: usize, out: &mut Vec<u8>)
+    requires few { count ≤ 64 }
+    requires room { vec_len out.old + 64 ≤ vec_capacity out.old }
+    ensures { HasAppended count out.old out.new }
+{
+    let end = out.len() + count;
+    if out.extend_from_slice(&[0; FEW]).is_err() {
+        unreachable!();
+    }
+    out.truncate(end);
+}
+
+/// Takes room for so many bytes more, and appends as many. `OutOfMemory` if there is none.
+pub(crate) fn extend(count: usize, out: &mut Vec<u8>) -> Result<(), RowError>
+    ensures appended { OnOk result (HasAppended count out.old out.new) }
     ensures refused { IfErr result
         (λ e. (e ≡ OutOfMemory) × (vec_capacity out.old < vec_len out.old + count)) }
-    ensures unchanged { out.new.items ≡ out.old.items }
+    ensures unchanged { OnErr result (out.new.items ≡ out.old.items) }
 {
     out.reserve(count)?;
+    if count <= FEW && FEW <= out.capacity() - out.len() {
+        append_few_zeros(count, out);
+    } else {
+        append_zeros(count, out);
+    }
     Ok(())
 }
 
@@ -60,7 +100,8 @@ pub fn append_key(
     ensures unchanged { OnErr result (out.new.items ≡ out.old.items) }
 {
     expect_no_variant(value.dtype())?;
-    take_room(key_length(value), out)?;
-    append_column(value.value(), options, out);
+    let start = out.len();
+    extend(key_length(value), out)?;
+    put_column(value.value(), options, start, out.as_mut_slice());
     Ok(())
 }

@@ -3,6 +3,7 @@
 ghost use Rattle.std.specs.Prelude.{[], ◌++◌, ◌+◌, ◌≡◌, ◌≤◌, ◌∷◌, drop, length, pos, true, unsigned_abs};
 ghost use Rattle.vortex_row.specs.Words.{big_endian, capped, content, contents, escaped, key, keys, lent_raw, number_bytes, union_tree, value_tree, value_trees, whole_key, whole_of};
 
+use crate::tags::PLAIN;
 use vortex_dtype::ByteBuffer;
 use vortex_pvalue::PValue;
 use vortex_value::{ScalarValue, UnionValue};
@@ -70,7 +71,7 @@ pub(crate) fn is_plain(bytes: &[u8]) -> bool
     for byte in bytes {
         least = least.min(*byte);
     }
-    least > 1
+    least >= PLAIN
 }
 
 /// How many bytes of a string are written as two.
@@ -80,7 +81,7 @@ fn doubled_bytes(bytes: &[u8]) -> usize
 {
     let mut doubled = 0usize;
     for byte in bytes {
-        if *byte < 2 {
+        if *byte < PLAIN {
             doubled += 1;
         }
     }
@@ -96,7 +97,7 @@ fn doubled_of_few(bytes: &[u8]) -> u8
 {
     let mut doubled = 0u8;
     for byte in bytes {
-        if *byte < 2 {
+        if *byte < PLAIN {
             doubled += 1;
         }
     }

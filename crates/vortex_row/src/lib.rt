@@ -13,13 +13,12 @@ mod options;
 mod plain;
 mod reader;
 mod rows;
-mod slots;
+mod tags;
 mod variants;
 
 pub use decode::{decode_key, decode_key_into, decode_row_key};
 pub use error::RowError;
 pub use keys::{append_key, compare_keys, key_length};
 pub use options::SortOptions;
-pub use plain::{PlainValue, append_plain_key, plain_key_length};
+pub use plain::{PlainValue, plain_key_length, write_plain_key};
 pub use rows::{RowEncoder, append_row_key};
-pub use slots::write_plain_key;

@@ -3,6 +3,7 @@
 ghost use Rattle.std.specs.Prelude.{◌≡◌, ◌≤◌, ◌≢◌, ℕ, List, [], ◌∷◌, MatchOption, MatchResult, drop, false, true, length, take};
 ghost use Rattle.vortex_row.specs.Held.{AreBytes};
 ghost use Rattle.vortex_row.specs.Bytes.{inverted_again, inverted_byte};
+ghost use Rattle.vortex_row.specs.Steps.{inverted_word};
 
 use std::alloc::{AllocError, AllocFailed};
 use vortex_dtype::VortexError;
@@ -59,6 +60,14 @@ pub(crate) fn inverted_again(invert: bool, again: bool) -> bool
     ensures { result ≡ inverted_again invert again }
 {
     if again { !invert } else { invert }
+}
+
+/// The number, each of its bits inverted if that is asked for.
+#[inline(always)]
+pub(crate) fn inverted_word(invert: bool, number: u64) -> u64
+    ensures { result ≡ inverted_word invert number }
+{
+    if invert { !number } else { number }
 }
 
 /// Does nothing: its contract says that they are bytes, for lists behind a reader.

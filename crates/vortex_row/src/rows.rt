@@ -1,12 +1,12 @@
 //! The keys of rows: those of the columns, one after the other.
 #![tactic(auto, using(crate::proofs::RowSteps::shown))]
 
-ghost use Rattle.std.specs.Prelude.{◌+◌, ◌++◌, ◌<◌, ◌≡◌, ◌≢◌, ◌≤◌, ◌↔◌, ◌⊎◌, Err, IfErr, IfOk, IsOk, OnErr, OnOk, length, map};
-ghost use Rattle.vortex_row.specs.Words.{All, Appends, HasNoVariant, HasRoom, HasVariant, HaveNoVariant, IsHeld, OutOfMemory, WrongLength, capped, dtype_trees, encoder_options, encoder_types, keys_length, ref_content, ref_type, row_key, type_of, vec_capacity, vec_len};
+ghost use Rattle.std.specs.Prelude.{◌+◌, ◌++◌, ◌<◌, ◌≡◌, ◌≢◌, ◌≤◌, ◌↔◌, ◌⊎◌, Err, IfErr, IfOk, IsOk, OnErr, OnOk, length, map, take};
+ghost use Rattle.vortex_row.specs.Words.{All, HasNoVariant, HasSlot, HasVariant, HaveNoVariant, IsHeld, OutOfMemory, WrongLength, capped, dtype_trees, encoder_options, encoder_types, keys_length, ref_content, ref_type, row_key, type_of, vec_capacity, vec_len, Writes};
 
-use crate::encode::append_column;
+use crate::encode::put_column;
 use crate::error::RowError;
-use crate::keys::take_room;
+use crate::keys::extend;
 use crate::lengths::{length, length_bound};
 use crate::options::SortOptions;
 use crate::variants::{expect_no_variant, expect_no_variants};
@@ -164,32 +164,42 @@ fn row_bound(values: &[ScalarRef<'_>]) -> usize
     total
 }
 
-/// Takes room for the key of a row. It counts the bytes of the key only if there may be too little
-/// room, since a count reads each byte of a string. For a string of 16 bytes and a number a count
-/// takes 111 instructions, and the bound that mostly stands for it takes 43.
-fn take_row_room(values: &[ScalarRef<'_>], out: &mut Vec<u8>) -> Result<(), RowError>
-    ensures taken { OnOk result (vec_len out.new
-        + capped (keys_length (map ref_content values.now)) ≤ vec_capacity out.new) }
+/// Appends no fewer bytes than the key of a row has. It counts the bytes of the key only if there
+/// may be too little room, since a count reads each byte of a string. For a string of 16 bytes and
+/// a number a count takes 111 instructions, and the bound that mostly stands for it takes 43.
+fn extend_for_row(values: &[ScalarRef<'_>], out: &mut Vec<u8>) -> Result<(), RowError>
+    ensures begins { OnOk result (take (vec_len out.old) out.new.items ≡ out.old.items) }
+    ensures enough { OnOk result (vec_len out.old
+        + capped (keys_length (map ref_content values.now)) ≤ vec_len out.new) }
     ensures refused { IfErr result (λ e. (e ≡ OutOfMemory)
         × (vec_capacity out.old < vec_len out.old + keys_length (map ref_content values.now))) }
-    ensures unchanged { out.new.items ≡ out.old.items }
+    ensures unchanged { OnErr result (out.new.items ≡ out.old.items) }
 {
-    if row_bound(values) <= out.capacity() - out.len() {
-        return Ok(());
+    let bound = row_bound(values);
+    if bound <= out.capacity() - out.len() {
+        return extend(bound, out);
     }
-    take_room(row_length(values), out)
+    extend(row_length(values), out)
 }
 
-/// Appends the key of a row of as many values as there are options, in room that was taken.
-fn append_columns(values: &[ScalarRef<'_>], options: &[SortOptions], out: &mut Vec<u8>)
+/// Writes the key of a row of as many values as there are options, from a place on.
+fn put_columns(
+    values: &[ScalarRef<'_>],
+    options: &[SortOptions],
+    start: usize,
+    room: &mut [u8],
+) -> usize
     requires lengths { length values.now ≡ length options.now }
-    requires room { HasRoom out.old (row_key options.now (map ref_content values.now)) }
-    ensures appended { Appends (row_key options.now (map ref_content values.now)) out.old out.new }
+    requires room { HasSlot room.old start (row_key options.now (map ref_content values.now)) }
+    ensures written { Writes (row_key options.now (map ref_content values.now))
+        start result room.old room.new }
     ensures held { All IsHeld (map ref_content values.now) }
 {
+    let mut place = start;
     for column in 0..values.len() {
-        append_column(values[column].value(), options[column], out);
+        place = put_column(values[column].value(), options[column], place, room);
     }
+    place
 }
 
 /// Appends the key of a row of as many values as there are options.
@@ -207,7 +217,9 @@ fn append_row(
         → IsOk result }
     ensures unchanged { OnErr result (out.new.items ≡ out.old.items) }
 {
-    take_row_room(values, out)?;
-    append_columns(values, options, out);
+    let start = out.len();
+    extend_for_row(values, out)?;
+    let end = put_columns(values, options, start, out.as_mut_slice());
+    out.truncate(end);
     Ok(())
 }

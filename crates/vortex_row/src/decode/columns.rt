@@ -9,16 +9,10 @@ use super::values::read_into;
 use crate::error::RowError;
 use crate::options::SortOptions;
 use crate::reader::{Fault, Reader, bytes_from};
+use crate::tags::null_byte;
 use std::alloc::Global;
 use vortex_dtype::DType;
 use vortex_value::{Scalar, ScalarValue};
-
-/// The key of a null.
-fn null_byte(nulls_first: bool) -> u8
-    ensures { result ≡ null_byte nulls_first }
-{
-    if nulls_first { 1 } else { 255 }
-}
 
 /// Whether the bytes begin with the key of a null, and the type takes one.
 #[tactic(auto, using(crate::proofs::DecodeSteps::nulls))]

@@ -6,18 +6,10 @@ ghost use Rattle.vortex_row.specs.Words.{NonNullable, binary_type, bool_type, in
 use super::numbers::read_number;
 use super::strings::{read_bytes, read_text};
 use crate::reader::{Fault, Reader};
+use crate::tags::{FALSE, STRING, TEXT, TRUE};
 use std::alloc::Global;
 use vortex_dtype::PType;
 use vortex_value::ScalarValue;
-
-/// False, which is the key itself.
-const FALSE: u8 = 2;
-/// True, which is the key itself.
-const TRUE: u8 = 3;
-/// The first byte of a text.
-const TEXT: u8 = 21;
-/// The first byte of a string of bytes.
-const STRING: u8 = 22;
 
 /// A truth value.
 #[tactic(auto, using(crate::proofs::LeafSteps::shown))]

@@ -5,13 +5,12 @@ ghost use Rattle.vortex_row.specs.Numbers.{GoesOnAs, HasDistance, HasLimits, Has
 ghost use Rattle.vortex_row.specs.Reading.{HasRead, IsInverted, IsKey, IsPresent, IsStuck, NoneBegins, Reads, left};
 ghost use Rattle.vortex_row.specs.Words.{InRange, IsNumber, NonNullable, big_endian, integer_type, inverted, ptype_of, raw_integer, whole_of};
 
-use crate::reader::{Fault, Reader, are_bytes, bytes_from, inverted_again, inverted_if};
+use crate::reader::{
+    Fault, Reader, are_bytes, bytes_from, inverted_again, inverted_if, inverted_word,
+};
+use crate::tags::{GREATEST, LEAST, ZERO};
 use vortex_dtype::PType;
 use vortex_pvalue::PValue;
-
-/// The key of 0. Those of numbers above it begin with one more for each of their bytes, and those
-/// of numbers below it with one less.
-const ZERO: u8 = 12;
 
 /// How a number goes on after its first byte.
 #[derive(Clone, Copy)]
@@ -56,8 +55,8 @@ fn side_of(head: u8) -> Option<(bool, u8)>
     ensures { IfSome result (λ p. IsSide head p.0 p.1) }
 {
     match head {
-        4..=11 => Some((true, ZERO - head)),
-        12..=20 => Some((false, head - ZERO)),
+        LEAST..ZERO => Some((true, ZERO - head)),
+        ZERO..=GREATEST => Some((false, head - ZERO)),
         _ => None,
     }
 }
@@ -130,15 +129,6 @@ fn first_word(bytes: &[u8]) -> Option<u64>
         }
         _ => None,
     }
-}
-
-/// The word with its bytes inverted, if that is asked for.
-#[inline(always)]
-fn inverted_word(invert: bool, word: u64) -> u64
-    ensures inverted { invert ≡ true → result ≡ u64.MAX - word }
-    ensures same { invert ≡ false → result ≡ word }
-{
-    if invert { !word } else { word }
 }
 
 /// The number of so many bytes, the highest first, if they are there and do not begin with 0. `None`

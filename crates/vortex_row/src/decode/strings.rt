@@ -8,6 +8,7 @@ ghost use Rattle.vortex_row.specs.declared.reader.Fault.TheVariants.{Bad, NoMemo
 
 use super::texts::first_bad;
 use crate::reader::{Fault, Reader, bytes_to, inverted_if};
+use crate::tags::{END, ESCAPE, PLAIN};
 use memchr::{memchr, memchr2};
 use std::alloc::Global;
 use std::str;
@@ -22,8 +23,8 @@ fn plain_string(bytes: &[u8]) -> Option<&[u8]>
     ensures { IfSome result (λ string. HasString IsAny string.now bytes.now
         (drop (length string.now + 1) bytes.now)) }
 {
-    let end = memchr2(0, 1, bytes)?;
-    if bytes[end] == 0 {
+    let end = memchr2(END, ESCAPE, bytes)?;
+    if bytes[end] == END {
         Some(bytes_to(bytes, end))
     } else {
         None
@@ -37,7 +38,7 @@ fn ascii_end(bytes: &[u8]) -> Option<usize>
     ensures plain { IfSome result (λ end. AreCharacters bytes.now end) }
 {
     for place in 0..bytes.len() {
-        if bytes[place] < 2 || bytes[place] > 127 {
+        if bytes[place] < PLAIN || bytes[place] > 127 {
             return Some(place);
         }
     }
@@ -62,7 +63,7 @@ fn ascii_text(bytes: &[u8]) -> Option<&str>
         (drop (length text.now + 1) bytes.now)) }
 {
     let end = ascii_end(bytes)?;
-    if bytes[end] == 0 {
+    if bytes[end] == END {
         Some(ascii(bytes_to(bytes, end)))
     } else {
         None
@@ -116,10 +117,10 @@ fn second_byte(reader: &mut Reader<'_>) -> Result<u8, Fault>
         (λ byte. 1 ∷ left reader.old ≡ escape byte ++ left reader.new)
         (λ e. IsStuck (Unit {0}) (IsHalfEscaped IsAny) (left reader.old) (left reader.new)) }
 {
-    if reader.takes(1) {
-        Ok(0)
-    } else if reader.takes(2) {
-        Ok(1)
+    if reader.takes(END + 1) {
+        Ok(END)
+    } else if reader.takes(ESCAPE + 1) {
+        Ok(ESCAPE)
     } else {
         Err(Fault::Bad)
     }
@@ -134,11 +135,11 @@ fn next_byte(reader: &mut Reader<'_>) -> Result<Option<u8>, Fault>
         (λ e. IsStuck (Unit {0}) (IsEscaped IsAny) (left reader.old) (left reader.new)) }
 {
     match reader.first() {
-        Some(0) => {
+        Some(END) => {
             reader.advance(1);
             Ok(None)
         }
-        Some(1) => {
+        Some(ESCAPE) => {
             reader.advance(1);
             match second_byte(reader) {
                 Ok(byte) => Ok(Some(byte)),
@@ -161,7 +162,7 @@ fn read_by_bytes(alloc: Global, reader: &mut Reader<'_>) -> Result<Vec<u8>, Faul
         (λ e. e ≡ Bad
         → IsStuck (Unit {0}) (IsEscaped IsAny) (left reader.old) (left reader.new)) }
 {
-    let room = memchr(inverted_if(reader.invert, 0), reader.rest).unwrap_or(0);
+    let room = memchr(inverted_if(reader.invert, END), reader.rest).unwrap_or(0);
     let mut bytes = Vec::with_capacity(alloc, room)?;
     loop {
         match next_byte(reader)? {

@@ -6,6 +6,7 @@ ghost use Rattle.vortex_row.specs.Reading.{BeginsWithOne, ContinueWith, IsStuck,
 ghost use Rattle.vortex_row.specs.Strings.{ComesNext, IsEscaped, IsProper, highest_after, lowest_after};
 
 use crate::reader::inverted_if;
+use crate::tags::{END, ESCAPE};
 
 /// What may come next in the key of a text.
 #[derive(Clone, Copy)]
@@ -71,8 +72,8 @@ fn after(next: Next, byte: u8) -> Option<Next>
         (λ then. IsProper then × ContinueWith (byte ∷ []) (ComesNext next) (ComesNext then)) }
 {
     match (next, byte) {
-        (Next::Character, 0) => None,
-        (Next::Character, 1) => Some(Next::Escaped),
+        (Next::Character, END) => None,
+        (Next::Character, ESCAPE) => Some(Next::Escaped),
         (Next::Character, _) => after_lead(byte),
         (Next::Escaped, 1 | 2) => Some(Next::Character),
         (Next::Within { low, high, more }, _) if low <= byte && byte <= high => {

@@ -9,18 +9,10 @@ ghost use Rattle.vortex_row.specs.declared.reader.Fault.TheVariants.{Bad, NoMemo
 use super::leaves::{put_number, put_text, read_binary, read_primitive, read_truth, read_utf8};
 use super::numbers::read_number;
 use crate::reader::{Fault, Reader};
+use crate::tags::{END, NULL, SEQUENCE, TAGGED};
 use std::alloc::Global;
 use vortex_dtype::{DType, MapDType, PType, UnionVariants};
 use vortex_value::{ScalarValue, UnionValue};
-
-/// The end of a sequence.
-const END: u8 = 0;
-/// A null.
-const NULL: u8 = 1;
-/// The first byte of a sequence.
-const SEQUENCE: u8 = 23;
-/// The first byte of a tagged child.
-const TAGGED: u8 = 24;
 
 /// The type of the variant with this id, if there is one.
 #[tactic(auto, using(crate::proofs::ValueSteps::by_place))]

@@ -13,5 +13,5 @@ returns-then-number-width-gt0 c =
     let word : c.in-Some.word < 2 ^ 64 = search rules in
     let turned : c.inverted_word-word.result < 2 ^ 64 = search rules in
     word-magnitude c.args.width _ (inverted c.args.invert c.args.bytes.now) c.inverted_word-word.result _ (omega arith) c.requires (omega arith) turned
-    (word-inverted c.args.invert c.args.bytes.now c.in-Some.word c.inverted_word-word.result word c.in-Some.ensures.1 c.inverted_word-word.ensures.inverted c.inverted_word-word.ensures.same) refl
+    (word-inverted c.args.invert c.args.bytes.now c.in-Some.word c.inverted_word-word.result word c.in-Some.ensures.1 c.inverted_word-word.ensures) refl
     (omega arith) c.if-number-width-gt0.true
