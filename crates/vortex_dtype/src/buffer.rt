@@ -1,13 +1,13 @@
 //! Shared, immutable bytes and strings. A contract sees each as its list of bytes.
 
-ghost use Rattle.std.specs.Prelude.{◌≡◌, ◌≤◌, ◌==◌, [], length, slice_range, IsOk, IsUtf8, nat_eq, refl, string_bytes, Some};
+ghost use Rattle.std.specs.Prelude.{◌≡◌, ◌≤◌, ◌==◌, [], length, slice_range, IfOk, IsOk, IsUtf8, nat_eq, refl, string_bytes, Some};
 ghost use Rattle.std.specs.Hash as fed;
 ghost use Rattle.vortex_dtype.specs.Words.{GivesOrNoMemory, IsCharBoundary, IsTextOf, hashing, nat_cmp, nat_list_cmp_total, nat_list_eq_equiv, partial_equiv_from_equiv, pointwise, rules, slice_cmp, texts_po, texts_ties};
 
 use crate::error::VortexError;
 use arrayvec::ArrayVec;
 use bytes::Bytes;
-use std::alloc::Global;
+use std::alloc::{AllocError, Global};
 use std::cmp::Ordering;
 use std::hash::{Hash, Hasher};
 use std::marker::Model;
@@ -159,7 +159,7 @@ impl ByteBuffer {
                 held: Held::Inline(copy_inline(bytes)),
                 alloc: self.alloc,
             }),
-            Held::Shared(bytes) => share(self.alloc, bytes),
+            Held::Shared(bytes) => Ok(share(self.alloc, bytes)?),
         }
     }
 }
@@ -176,10 +176,11 @@ fn copy_inline(bytes: &ArrayVec<u8, INLINE_BYTES>) -> ArrayVec<u8, INLINE_BYTES>
 }
 
 /// Another owner of shared bytes, or a copy of them if no further owner can be counted. It is a
-/// function of its own, so that a copy of inline bytes pays for its own locals alone.
+/// function of its own, and its error a byte, so that a copy of inline bytes pays for its own
+/// locals alone.
 #[inline(never)]
-fn share(alloc: Global, bytes: &Bytes) -> Result<ByteBuffer, VortexError>
-    ensures given { GivesOrNoMemory (λ buffer. buffer ≡ bytes.now) result }
+fn share(alloc: Global, bytes: &Bytes) -> Result<ByteBuffer, AllocError>
+    ensures given { IfOk result (λ buffer. buffer ≡ bytes.now) }
     ensures inline { length bytes.now ≤ INLINE_BYTES → IsOk result }
 {
     match bytes.clone() {
@@ -187,7 +188,7 @@ fn share(alloc: Global, bytes: &Bytes) -> Result<ByteBuffer, VortexError>
             held: Held::Shared(shared),
             alloc,
         }),
-        Err(_) => ByteBuffer::from_slice(alloc, bytes.as_slice()),
+        Err(_) => ByteBuffer::from_slice(alloc, bytes.as_slice()).map_err(|_| AllocError),
     }
 }
 
@@ -362,8 +363,11 @@ impl BufferString {
         ensures given { GivesOrNoMemory (λ string. string ≡ self.now) result }
         ensures inline { length self.now ≤ INLINE_BYTES → IsOk result }
     {
-        let buffer = self.buffer.clone()?;
-        Ok(BufferString { buffer })
+        // An error that is passed on is moved, with all its words.
+        match self.buffer.clone() {
+            Ok(buffer) => Ok(BufferString { buffer }),
+            Err(_) => Err(VortexError::OutOfMemory),
+        }
     }
 }
 

@@ -52,7 +52,10 @@ pub(crate) fn copy_value(alloc: Global, value: &ScalarValue) -> Result<ScalarVal
 pub(crate) fn copy_text(text: &BufferString) -> Result<BufferString, AllocError>
     ensures { IfOk result (λ copy. copy ≡ text.now) }
 {
-    text.clone().map_err(|_| AllocError)
+    match text.clone() {
+        Ok(copy) => Ok(copy),
+        Err(_) => Err(AllocError),
+    }
 }
 
 /// A copy of the bytes.
@@ -60,7 +63,10 @@ pub(crate) fn copy_text(text: &BufferString) -> Result<BufferString, AllocError>
 fn copy_bytes(bytes: &ByteBuffer) -> Result<ByteBuffer, AllocError>
     ensures { IfOk result (λ copy. copy ≡ bytes.now) }
 {
-    bytes.clone().map_err(|_| AllocError)
+    match bytes.clone() {
+        Ok(copy) => Ok(copy),
+        Err(_) => Err(AllocError),
+    }
 }
 
 /// A copy of the raw value, or `None`, which takes no memory.

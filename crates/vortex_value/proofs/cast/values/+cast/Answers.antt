@@ -1,19 +1,16 @@
 -- What is made of a part is a part of what is made, and a part that is refused refuses the whole.
-use Rattle.std.proofs.Common.{◌≡◌, ℕ, List, Some, Err, inl, inr, length, option_map, refl, sym, ap, ◌∙◌, add-one, arith, rules}
+use Rattle.std.proofs.Common.{◌≡◌, Some, Err, inl, inr, length, option_map, refl, sym, ap, ◌∙◌, add-one, arith, rules}
 use Rattle.std.proofs.Math.ListN.{drop_of_length-le}
 use Rattle.std.specs.Option.{option_copied}
 use Rattle.vortex_dtype.specs.TypeOf.{map_of, type_of}
 use Rattle.vortex_dtype.specs.declared.types.DType.{the_lemmas}
-use Rattle.vortex_dtype.specs.TypeTree.{TypeTree}
-use Rattle.vortex_pvalue.specs.Whole.{ptype_of, whole_of}
-use Rattle.vortex_pvalue.specs.declared.pvalues.PValue.{PValue}
 use Rattle.vortex_value.specs.Casts.{IsExtension}
-use Rattle.vortex_value.specs.Steps.CastSteps.{IsBareTarget, bare_to, cast_to, each_to, entries_to, leaf_to, number_to, types_with}
+use Rattle.vortex_value.specs.Steps.CastSteps.{IsBareTarget, each_to, entries_to, types_with}
 use Rattle.vortex_value.specs.Values.RawOf.{value_trees, value_tree}
-use Rattle.vortex_value.specs.Values.RawTree.{raw_integer, raw_text, raw_tuple, raw_union}
+use Rattle.vortex_value.specs.Values.RawTree.{raw_union}
 use Rattle.vortex_value.proofs.CastCode.{all_done, appended, cast_below, entry_at, fields_at, fields_end, flat_storage, no_entry, no_fields, no_value, none_more, pair_added, parts_at, passed_on, union_at, leaf_child, leaf_of, refused_as, some_union, one_added, passed_up}
 use Rattle.vortex_value.specs.Values.Content.{content}
-use Rattle.vortex_value.specs.declared.values.ScalarValue.{ScalarValue, Primitive, Tuple, Utf8, the_lemmas as value_lemmas}
+use Rattle.vortex_value.specs.declared.values.ScalarValue.{Tuple}
 use Rattle.vortex_value.proofs.ValueSteps.{value_tree-Tuple}
 use Rattle.vortex_value.proofs.cast.values.+cast.Goals as goal
 
