@@ -1,8 +1,8 @@
 -- Steps of the public calls.
-use Rattle.std.proofs.Common.{◌≡◌, ℕ, ◌+◌, ◌-◌, ◌≤◌, List, ◌++◌, length, take, sym, ap, ◌∙◌, arith}
+use Rattle.std.proofs.Common.{◌≡◌, ℕ, ◌+◌, ◌≤◌, List, ◌++◌, length, take, sym, ap, ◌∙◌, arith}
 use Rattle.std.specs.Global.{Vec}
 use Rattle.std.specs.Vec.{vec_len}
-use Rattle.std.proofs.lemmas.List.{take_all, take_at, take-take}
+use Rattle.std.proofs.lemmas.List.{take_all}
 use Rattle.vortex_value.specs.Size.{capped}
 use Rattle.vortex_value.specs.Values.Content.{Content}
 use Rattle.vortex_row.specs.Columns.{key_with}
@@ -11,16 +11,6 @@ use Rattle.vortex_row.specs.Slots.{HasSlot, Writes}
 use Rattle.vortex_row.specs.Steps.{HasAppended}
 use Rattle.vortex_row.specs.declared.options.SortOptions.{SortOptions}
 use Rattle.vortex_row.proofs.EncodeSteps.{key_with-length}
-
--- more was appended, and the rest cut off
-pub cut-appended : (count end : ℕ) (zeros : List ℕ) (before mid now : Vec ℕ) → end ≡ vec_len before + count → count ≤ length zeros → mid.items ≡ before.items ++ zeros → vec_len mid ≡ vec_len before + length zeros → now.items ≡ take end mid.items → vec_len now + (vec_len mid - end) ≡ vec_len mid
-    → HasAppended count before now
-cut-appended count end zeros before mid now e few is more cut left =
-    let long = before.ok.0 in
-    record {
-      begins = ap (take (vec_len before)) cut ∙ take-take (vec_len before) end mid.items (omega arith) ∙ ap (take (vec_len before)) is ∙ take_at before.items zeros (vec_len before) (omega arith);
-      more = omega arith;
-    }
 
 -- as many bytes as are counted are room for them all, since no `Vec` is as large as the greatest number
 pub all-slot : (bytes : List ℕ) (n start : ℕ) (out : Vec ℕ) → length bytes ≡ n → start + capped n ≤ vec_len out → HasSlot out.items start bytes
@@ -46,4 +36,4 @@ key-appended o c count start end before out now f e h w =
     let bytes = key_with-length o c in
     sym (take_all end now (omega arith)) ∙ w.items ∙ ap (λ xs. xs ++ key_with o c) (ap (λ n. take n out.items) e ∙ h.begins)
 
-pub ruleset shown = (cut-appended, key-slot, key-appended)
+pub ruleset shown = (key-slot, key-appended)

@@ -30,9 +30,6 @@ pub fn key_length(value: ScalarRef<'_>) -> usize
 /// What is appended before a key is written there.
 static ZEROS: [u8; 1024] = [0; 1024];
 
-/// So few zeros are appended at once, if there is room for so many.
-const FEW: usize = 64;
-
 /// Appends so many zeros, in room that was taken.
 fn append_zeros(count: usize, out: &mut Vec<u8>)
     requires { vec_len out.old + count ≤ vec_capacity out.old }
@@ -48,20 +45,6 @@ fn append_zeros(count: usize, out: &mut Vec<u8>)
     }
 }
 
-/// Appends so many zeros, of which there are few, and first more.
-#[inline(always)]
-fn append_few_zeros(count: usize, out: &mut Vec<u8>)
-    requires few { count ≤ 64 }
-    requires room { vec_len out.old + 64 ≤ vec_capacity out.old }
-    ensures { HasAppended count out.old out.new }
-{
-    let end = out.len() + count;
-    if out.extend_from_slice(&[0; FEW]).is_err() {
-        unreachable!();
-    }
-    out.truncate(end);
-}
-
 /// Takes room for so many bytes more, and appends as many. `OutOfMemory` if there is none.
 pub(crate) fn extend(count: usize, out: &mut Vec<u8>) -> Result<(), RowError>
     ensures appended { OnOk result (HasAppended count out.old out.new) }
@@ -70,11 +53,7 @@ pub(crate) fn extend(count: usize, out: &mut Vec<u8>) -> Result<(), RowError>
     ensures unchanged { OnErr result (out.new.items ≡ out.old.items) }
 {
     out.reserve(count)?;
-    if count <= FEW && FEW <= out.capacity() - out.len() {
-        append_few_zeros(count, out);
-    } else {
-        append_zeros(count, out);
-    }
+    append_zeros(count, out);
     Ok(())
 }
 
