@@ -5,4 +5,4 @@ use Rattle.scalar_tests.proofs.KeysCounted.{as_many, counted}
 use Rattle.scalar_tests.proofs.view_laws.keys_given.Goals as goal
 
 pub returns : goal.returns
-returns g c = counted _ _ ghosts.next_gives c.iterators_give_each_part.ensures.keys c.keys.result _ _ c.keys.ensures.all c.count.ensures.ran ∙ as_many _ _ _ c.args.map.kind
+returns c = counted _ _ ghosts.next_gives c.iterators_give_each_part.ensures.keys c.keys.result _ _ c.keys.ensures.all c.count.ensures.ran ∙ as_many _ _ _ c.args.map.kind
