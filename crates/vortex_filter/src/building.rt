@@ -50,6 +50,7 @@ impl Filter {
 
 /// Both parts together, if both were made; else the refusal of the first that was not.
 #[tactic(auto, using(crate::proofs::Steps::shown, crate::proofs::LiteralSteps::literals))]
+#[inline(never)]
 pub fn conjoin(
     alloc: Global,
     left: Result<Filter, FilterError>,
@@ -69,6 +70,7 @@ pub fn conjoin(
 
 /// One part or the other, if both were made; else the refusal of the first that was not.
 #[tactic(auto, using(crate::proofs::Steps::shown, crate::proofs::LiteralSteps::literals))]
+#[inline(never)]
 pub fn disjoin(
     alloc: Global,
     left: Result<Filter, FilterError>,
@@ -88,6 +90,7 @@ pub fn disjoin(
 
 /// The part negated, if it was made.
 #[tactic(auto, using(crate::proofs::Steps::shown, crate::proofs::LiteralSteps::literals))]
+#[inline(never)]
 pub fn negate(alloc: Global, inner: Result<Filter, FilterError>) -> Result<Filter, FilterError>
     ensures made { MatchResult inner
         (λ f. Makes (negation (formula f)) result)

@@ -199,6 +199,7 @@ impl FilterError {
 }
 
 /// The answer for a filter that stands behind another one: a refusal counts the tests of both.
+#[inline(never)]
 pub(crate) fn behind<T>(before: &Filter, answer: Result<T, FilterError>) -> Result<T, FilterError>
     ensures { result ≡ answer_behind (capped (length (tests (formula before.now)))) answer }
 {
