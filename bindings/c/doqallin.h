@@ -19,7 +19,7 @@
  * - `malloc`, `realloc` and `free` are of one allocator, and no call comes from a signal handler.
  * Calls on different threads need no lock: nothing is kept from one call to the next.
  *
- * Stack: a call takes at most 5 kilobytes of it, or 12 of statistics, whatever it is given. That was measured, on x86-64; no
+ * Stack: a call takes at most 6 kilobytes of it, or 12 of statistics, whatever it is given. That was measured, on x86-64; no
  * contract speaks of stack. doqallin_call says what it takes. Calls of filters take more for each level that nests, of
  * which `depth` is the greatest number: with 32 none ends a process on a thread of 128 kilobytes. */
 #ifndef DOQALLIN_H
@@ -357,7 +357,7 @@ uint32_t doqallin_filter_mask(const uint8_t *filter, size_t filter_length, const
  * call has the same answer, and so fits in that room, is tested alone.
  * NO_MEMORY: there is no memory to read the line or to write the answer. If the call itself finds none, the answer is
  * `OutOfMemory`.
- * Stack: 28 kilobytes, and 2.8 more for each level that nests. So no line ends a process on a thread of 128 kilobytes. */
+ * Stack: 40 kilobytes, and 2.6 more for each level that nests. So no line ends a process on a thread of 128 kilobytes. */
 uint32_t doqallin_call(const uint8_t *line, size_t line_length, uint8_t *room, size_t room_length, size_t *count);
 
 /* The same, for lines that nest at most `depth` deep. */

@@ -5,7 +5,7 @@
 #include "painted_stack.h"
 
 // What doqallin.h says under Stack.
-#define MOST 5120
+#define MOST 6144
 #define MOST_OF_STATISTICS 12288
 #define SIZE ((size_t)1 << 16)
 
