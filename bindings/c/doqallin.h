@@ -357,7 +357,8 @@ uint32_t doqallin_filter_mask(const uint8_t *filter, size_t filter_length, const
  * call has the same answer, and so fits in that room, is tested alone.
  * NO_MEMORY: there is no memory to read the line or to write the answer. If the call itself finds none, the answer is
  * `OutOfMemory`.
- * Stack: 40 kilobytes, and 2.6 more for each level that nests. So no line ends a process on a thread of 128 kilobytes. */
+ * Stack: 40 kilobytes and 2.3 more for each level that nests, or, if that is more, 20 and 3.1 more for each level. So no line of 32
+ * levels ends a process on a thread of 128 kilobytes. */
 uint32_t doqallin_call(const uint8_t *line, size_t line_length, uint8_t *room, size_t room_length, size_t *count);
 
 /* The same, for lines that nest at most `depth` deep. */
