@@ -12,8 +12,8 @@
  *
  * What the caller owes, at each call:
  * - A pointer is not null and is aligned for its type, even if its length is 0.
- * - A pointer to `length` items may be read, or written if it is a room, as far as those.
- * - What is written (a room, a count, lengths) lies apart from all else that is passed. What is only read may be shared.
+ * - A pointer to `length` items may be read, or written if it is a buffer, as far as those.
+ * - What is written (a buffer, a count, lengths) lies apart from all else that is passed. What is only read may be shared.
  * - A `bool` is 0 or 1, even one that is to be written.
  * - What is read does not change during the call, and what is written is used by nobody else until it returns.
  * - `malloc`, `realloc` and `free` are of one allocator, and no call comes from a signal handler.
@@ -42,7 +42,7 @@ enum {
     DOQALLIN_GIVEN = 0,         /* what was asked for is written */
     DOQALLIN_NONE = 1,          /* there is no such value, or the cast is refused */
     DOQALLIN_NO_MEMORY = 2,     /* an allocation was refused */
-    DOQALLIN_NO_ROOM = 3,       /* a room is too small: the lengths that are needed are written, and nothing else */
+    DOQALLIN_BUFFER_TOO_SMALL = 3,       /* a buffer is too small: the lengths that are needed are written, and nothing else */
     DOQALLIN_NOT_UTF8 = 4,      /* bytes that are to be a string are not UTF-8 */
     DOQALLIN_NOT_A_NUMBER = 5,  /* a code names no integer type, or the bits stand for no number of the type */
     DOQALLIN_BAD_OFFSETS = 6,   /* offsets go down, or past the end of the bytes */
@@ -95,16 +95,16 @@ struct doqallin_fault {
  * UNKNOWN_KIND: exactly if a code is not below 8: `to` with fault->column 1, and else column->kind with 0. fault->place is 0.
  * TOO_MANY_ROWS: exactly if column->offset + column->length is 2^64 or more. fault->column and fault->place are 0.
  * TOO_SHORT: exactly if a buffer is too short: fault->place is 0 for the validity, 1 for the values. fault->column is 0.
- * NO_ROOM: exactly if the room has fewer bytes than column->length times the width of `to`. Here nothing is written.
+ * BUFFER_TOO_SMALL: exactly if the buffer has fewer bytes than column->length times the width of `to`. Here nothing is written.
  * NONE: exactly if that type lacks the number of a row that is not null: fault->place is the first. fault->column is 0.
- * GIVEN: the room begins with a number of that type for each row, 0 for a null; the bytes after them are as they were. */
-uint32_t doqallin_cast_column(const struct doqallin_column *column, uint8_t to, uint8_t *room, size_t room_length,
+ * GIVEN: the buffer begins with a number of that type for each row, 0 for a null; the bytes after them are as they were. */
+uint32_t doqallin_cast_column(const struct doqallin_column *column, uint8_t to, uint8_t *buffer, size_t buffer_length,
                               struct doqallin_fault *fault);
 
 /* The same with less work, in one pass if there is no validity. One status differs:
- * NONE: the room begins with a number of that type for each row before fault->place, 0 for a null; the bytes after them are as
+ * NONE: the buffer begins with a number of that type for each row before fault->place, 0 for a null; the bytes after them are as
  * they were. */
-uint32_t doqallin_cast_front(const struct doqallin_column *column, uint8_t to, uint8_t *room, size_t room_length,
+uint32_t doqallin_cast_front(const struct doqallin_column *column, uint8_t to, uint8_t *buffer, size_t buffer_length,
                              struct doqallin_fault *fault);
 
 /* The lower bound of bytes at n bytes: a value of at most n bytes whole, and else its first n bytes. These are the greatest
@@ -118,21 +118,21 @@ size_t doqallin_lower_bound_bytes(const uint8_t *value, size_t value_length, siz
 uint32_t doqallin_lower_bound_text(const uint8_t *value, size_t value_length, size_t n, size_t *count);
 
 /* The upper bound of bytes at n bytes: a value of at most n bytes whole, and else the least bytes above it of length n.
- * A room of min(n, value_length) bytes suffices.
- * GIVEN: the bound is in the first *count bytes of the room; those after it are as they were.
+ * A buffer of min(n, value_length) bytes suffices.
+ * GIVEN: the bound is in the first *count bytes of the buffer; those after it are as they were.
  * NONE: the value has more than n bytes, and no n bytes are above it (its first n are all 255).
- * NO_ROOM: *count, more than room_length, is how many bytes the bound has.
+ * BUFFER_TOO_SMALL: *count, more than buffer_length, is how many bytes the bound has.
  * NO_MEMORY: only if n is above 22 and value_length above n. */
-uint32_t doqallin_upper_bound_bytes(const uint8_t *value, size_t value_length, size_t n, uint8_t *room,
-                                    size_t room_length, size_t *count);
+uint32_t doqallin_upper_bound_bytes(const uint8_t *value, size_t value_length, size_t n, uint8_t *buffer,
+                                    size_t buffer_length, size_t *count);
 
 /* The upper bound of a string at n bytes. A string of at most n bytes is its own bound. Else the bound is the least string
  * above it that has as many bytes as its lower bound. The statuses are those of doqallin_upper_bound_bytes, but for these.
  * NONE: the value has more than n bytes. Its lower bound is empty, or the code point after the lower bound's last character
  * is no character of as many bytes.
  * NOT_UTF8: the value is not UTF-8. */
-uint32_t doqallin_upper_bound_text(const uint8_t *value, size_t value_length, size_t n, uint8_t *room,
-                                   size_t room_length, size_t *count);
+uint32_t doqallin_upper_bound_text(const uint8_t *value, size_t value_length, size_t n, uint8_t *buffer,
+                                   size_t buffer_length, size_t *count);
 
 /* The next four calls are deprecated: they know of no nulls, and a null counts as an empty string. doqallin_column_statistics
  * has the bounds of a column and counts its nulls, and doqallin_filter_outcomes asks statistics. */
@@ -156,82 +156,82 @@ struct doqallin_bound_lengths {
 };
 
 /* The lower bound at n bytes of a column's least value, and the upper bound of its greatest one. Value k is the bytes from
- * offsets[k] to offsets[k + 1], so that m values have m + 1 offsets; the first offset may be above 0. Two rooms of
+ * offsets[k] to offsets[k + 1], so that m values have m + 1 offsets; the first offset may be above 0. Two buffers of
  * min(n, bytes_length) bytes suffice. Takes linear time, and no memory for each value.
- * GIVEN: the bounds are in the first bytes of the rooms, as `lengths` says; the bytes after them are as they were.
+ * GIVEN: the bounds are in the first bytes of the buffers, as `lengths` says; the bytes after them are as they were.
  * NONE: exactly if there is no value (fewer than 2 offsets).
- * NO_ROOM: a room has fewer bytes than its bound; `lengths` says how many each bound has.
+ * BUFFER_TOO_SMALL: a buffer has fewer bytes than its bound; `lengths` says how many each bound has.
  * BAD_OFFSETS: exactly if an offset is below the one before it, or one after the first is past the end of the bytes.
  * NO_MEMORY: only if n is above 22 and bytes_length above n. */
 uint32_t doqallin_column_bounds_bytes(const uint8_t *bytes, size_t bytes_length, const uint64_t *offsets,
-                                      size_t offsets_length, size_t n, uint8_t *lower_room, size_t lower_room_length,
-                                      uint8_t *upper_room, size_t upper_room_length,
+                                      size_t offsets_length, size_t n, uint8_t *lower_buffer, size_t lower_buffer_length,
+                                      uint8_t *upper_buffer, size_t upper_buffer_length,
                                       struct doqallin_bound_lengths *lengths);
 
 /* The bounds of a column of strings, by whole characters. The statuses are those of doqallin_column_bounds_bytes, and:
  * NOT_UTF8: exactly if the least or the greatest value is not UTF-8, whole. The other values are not tested. */
 uint32_t doqallin_column_bounds_text(const uint8_t *bytes, size_t bytes_length, const uint64_t *offsets,
-                                     size_t offsets_length, size_t n, uint8_t *lower_room, size_t lower_room_length,
-                                     uint8_t *upper_room, size_t upper_room_length,
+                                     size_t offsets_length, size_t n, uint8_t *lower_buffer, size_t lower_buffer_length,
+                                     uint8_t *upper_buffer, size_t upper_buffer_length,
                                      struct doqallin_bound_lengths *lengths);
 
 /* The keys of the rows of some columns (docs/KEYS.md): bytes that compare as the rows do, column by column. The key of row k is
- * the bytes of the room from offsets_room[k] to offsets_room[k + 1]. A column has a byte of options: 1 for greater values
- * first, 2 for nulls first, or the sum. Of several mistakes the first column's is told, and nothing of the room is written.
- * GIVEN: the keys have the first *count bytes of the room; those after it are as they were.
- * NO_ROOM: *count, which is all that is written, is how many bytes the keys have: above room_length, or offsets_room has not a
- * place for each row and one more. A call without room asks for it.
+ * the bytes of the buffer from offsets_buffer[k] to offsets_buffer[k + 1]. A column has a byte of options: 1 for greater values
+ * first, 2 for nulls first, or the sum. Of several mistakes the first column's is told, and nothing of the buffer is written.
+ * GIVEN: the keys have the first *count bytes of the buffer; those after it are as they were.
+ * BUFFER_TOO_SMALL: *count, which is all that is written, is how many bytes the keys have: above buffer_length, or offsets_buffer has not a
+ * place for each row and one more. A call without a buffer asks for it.
  * WRONG_LENGTH: the options are not as many as the columns, and fault->column is the number of columns; or that column has
  * another number of rows than the first.
  * BAD_OPTIONS: the byte of fault->column is above 3.
  * UNKNOWN_KIND, TOO_MANY_ROWS, TOO_SHORT, BAD_OFFSETS, NOT_UTF8: fault->column cannot be read, for what is at fault->place.
  * NO_MEMORY: memory is asked for each column, and none for its rows. */
 uint32_t doqallin_row_keys(const struct doqallin_column *columns, size_t column_count, const uint8_t *options,
-                           size_t options_length, uint64_t *offsets_room, size_t offsets_room_length, uint8_t *room,
-                           size_t room_length, size_t *count, struct doqallin_fault *fault);
+                           size_t options_length, uint64_t *offsets_buffer, size_t offsets_buffer_length, uint8_t *buffer,
+                           size_t buffer_length, size_t *count, struct doqallin_fault *fault);
 
 /* One column of the rows whose keys these are, in Arrow's layout: the column `which` of columns of these kinds, by their codes, each
  * with its byte of options, as doqallin_row_keys has them. The key of row k goes from offsets[k] to offsets[k + 1], so that n rows
  * have n + 1 offsets; no rows may have none. Keys may come from anywhere: each is tested first.
- * GIVEN: validity_room has a bit for each row, 0 for a null, in its first (n + 7) / 8 bytes. values_room begins with the *count
+ * GIVEN: validity_buffer has a bit for each row, 0 for a null, in its first (n + 7) / 8 bytes. values_buffer begins with the *count
  * bytes of the values: items of the kind, 0 for a null; bits of booleans; or the bytes of all strings, none for a null. Of strings
- * and bytes offsets_room begins with n + 1 offsets, of 64 bits each, also for the kinds with offsets of 32 bits; of other kinds it
+ * and bytes offsets_buffer begins with n + 1 offsets, of 64 bits each, also for the kinds with offsets of 32 bits; of other kinds it
  * is not written. What follows stays as it was.
- * NO_ROOM: a room is too short. *count, which is all that is written, says how many bytes the values have.
+ * BUFFER_TOO_SMALL: a buffer is too short. *count, which is all that is written, says how many bytes the values have.
  * WRONG_LENGTH: the options are not as many as the kinds, or there is no column `which`. fault->column is the number of kinds.
  * BAD_OPTIONS: the byte of fault->column is above 3. UNKNOWN_KIND: the code of fault->column is of no kind.
  * BAD_OFFSETS: the offsets of the key fault->place go down, or past the end of the bytes.
  * BAD_BYTES: a key is of no row of the kinds. fault->place is the first of all bytes that none has there, or the end of a key that
  * ends too early. Of these two the first key decides.
  * NO_MEMORY: memory is asked for each column, for the values of a row, and for what is written.
- * Under each status but GIVEN the rooms stay as they were. */
+ * Under each status but GIVEN the buffers stay as they were. */
 uint32_t doqallin_column_of_row_keys(const uint8_t *kinds, size_t kinds_length, const uint8_t *options, size_t options_length,
                                      const uint64_t *offsets, size_t offsets_length, const uint8_t *bytes, size_t bytes_length,
-                                     size_t which, uint8_t *validity_room, size_t validity_room_length, uint8_t *values_room,
-                                     size_t values_room_length, uint64_t *offsets_room, size_t offsets_room_length,
+                                     size_t which, uint8_t *validity_buffer, size_t validity_buffer_length, uint8_t *values_buffer,
+                                     size_t values_buffer_length, uint64_t *offsets_buffer, size_t offsets_buffer_length,
                                      size_t *count, struct doqallin_fault *fault);
 
 /* The statistics of a column in their stable form (docs/STATISTICS.md): its counts, and its least and its greatest value. If
  * these are strings or bytes, they are cut to max_length bytes: then they are bounds, and no values.
- * GIVEN: the form has the first *count bytes of the room; those after it are as they were.
- * NO_ROOM: *count, which is all that is written, is how many bytes the form has: above room_length. A call without room asks
+ * GIVEN: the form has the first *count bytes of the buffer; those after it are as they were.
+ * BUFFER_TOO_SMALL: *count, which is all that is written, is how many bytes the form has: above buffer_length. A call without a buffer asks
  * for it.
  * UNKNOWN_KIND, TOO_MANY_ROWS, TOO_SHORT, BAD_OFFSETS, NOT_UTF8: the column cannot be read, for what is at fault->place.
  * fault->column is 0.
  * NO_MEMORY: memory is asked for the form, and for a least and a greatest value of more than 22 bytes; none for each row. */
-uint32_t doqallin_column_statistics(const struct doqallin_column *column, size_t max_length, uint8_t *room,
-                                    size_t room_length, size_t *count, struct doqallin_fault *fault);
+uint32_t doqallin_column_statistics(const struct doqallin_column *column, size_t max_length, uint8_t *buffer,
+                                    size_t buffer_length, size_t *count, struct doqallin_fault *fault);
 
 /* The statistics of a piece of a column and then of another one, of the forms of both. `kind` is that of the column. If those of
- * each piece are right, so are these, and pieces may be merged in any grouping. A room of both lengths suffices.
- * GIVEN, NO_ROOM: as from doqallin_column_statistics.
+ * each piece are right, so are these, and pieces may be merged in any grouping. A buffer of both lengths suffices.
+ * GIVEN, BUFFER_TOO_SMALL: as from doqallin_column_statistics.
  * UNKNOWN_KIND: exactly if `kind` is of no kind. fault->column and fault->place are 0.
  * BAD_BYTES: fault->column is 0 or 1, the first piece that is no form of statistics of the kind. fault->place is its first byte
  * that no such form has there, or its length if it ends too early.
  * TOO_MANY_ROWS: both are such forms, and 64 bits do not count the rows of both. fault->column and fault->place are 0.
  * NO_MEMORY: may come in place of all but UNKNOWN_KIND. */
 uint32_t doqallin_merge_statistics(uint8_t kind, const uint8_t *one, size_t one_length, const uint8_t *other,
-                                   size_t other_length, uint8_t *room, size_t room_length, size_t *count,
+                                   size_t other_length, uint8_t *buffer, size_t buffer_length, size_t *count,
                                    struct doqallin_fault *fault);
 
 /* What statistics say, but for the bytes of the bounds: how many rows there are, and in how many the cell is null (0 if that is
@@ -250,16 +250,16 @@ struct doqallin_statistics_parts {
 
 /* The statistics of a column of this kind that have this form. No value is below the lower bound, or above the upper one. A bound
  * that is an integer has its bytes in a buffer of the kind, the low one first. A bool is a byte, 0 or 1, and strings and bytes
- * are as they are. In bytes from anywhere a bound may be null: it is told as none, which says less. Two rooms of 8 bytes, or of
+ * are as they are. In bytes from anywhere a bound may be null: it is told as none, which says less. Two buffers of 8 bytes, or of
  * bytes_length if that is more, suffice.
- * GIVEN: the bounds are in the first bytes of the rooms, as *parts says; the bytes after them are as they were.
- * NO_ROOM: a room has fewer bytes than its bound; *parts says all the same, how many bytes each bound has too.
+ * GIVEN: the bounds are in the first bytes of the buffers, as *parts says; the bytes after them are as they were.
+ * BUFFER_TOO_SMALL: a buffer has fewer bytes than its bound; *parts says all the same, how many bytes each bound has too.
  * UNKNOWN_KIND: exactly if `kind` is of no kind. fault->column and fault->place are 0.
  * BAD_BYTES: the bytes are no form of statistics of the kind. fault->place is the first byte that no such form has there, or
  * bytes_length if they end too early. fault->column is 0.
  * NO_MEMORY: only if the bytes say that there is a bound. */
-uint32_t doqallin_read_statistics(uint8_t kind, const uint8_t *bytes, size_t bytes_length, uint8_t *lower_room,
-                                  size_t lower_room_length, uint8_t *upper_room, size_t upper_room_length,
+uint32_t doqallin_read_statistics(uint8_t kind, const uint8_t *bytes, size_t bytes_length, uint8_t *lower_buffer,
+                                  size_t lower_buffer_length, uint8_t *upper_buffer, size_t upper_buffer_length,
                                   struct doqallin_statistics_parts *parts, struct doqallin_fault *fault);
 
 /* A column that a filter may name: its name, in UTF-8, and its kind. */
@@ -296,19 +296,19 @@ enum {
 };
 
 /* A filter in SQL's words (docs/FILTERS.md), over columns by name and kind, prepared to bytes in their stable form
- * (docs/FILTER_FORM.md). The calls below take these. At most `depth` connectives and parentheses may nest in the words, and
+ * (docs/FILTER_ENCODING.md). The calls below take these. At most `depth` connectives and parentheses may nest in the words, and
  * connectives in the form: 32 suffice for most. If several statuses but GIVEN fit, the first of these comes:
  * UNKNOWN_KIND, NOT_UTF8: of the columns the first that is of no kind, or has a name that is not UTF-8, is mistake->place.
  * NOT_UTF8: the words are not, and mistake->place is column_count.
  * BAD_FILTER: mistake->place is the byte of the words where something else had to come, or their length, and
  * mistake->expected says what. A filter whose form nests too deep has DOQALLIN_TOO_DEEP at 0: a test with a number that its
  * column's type lacks nests up to 3 deeper there.
- * NO_ROOM: *count, which is all that is written, is how many bytes the form has: above room_length. A call without room asks
+ * BUFFER_TOO_SMALL: *count, which is all that is written, is how many bytes the form has: above buffer_length. A call without a buffer asks
  * for it.
- * GIVEN: the form has the first *count bytes of the room; those after it are as they were.
- * NO_MEMORY: may come in place of all but GIVEN and NO_ROOM. */
+ * GIVEN: the form has the first *count bytes of the buffer; those after it are as they were.
+ * NO_MEMORY: may come in place of all but GIVEN and BUFFER_TOO_SMALL. */
 uint32_t doqallin_prepare_filter(const uint8_t *words, size_t words_length, const struct doqallin_named_kind *columns,
-                                 size_t column_count, size_t depth, uint8_t *room, size_t room_length, size_t *count,
+                                 size_t column_count, size_t depth, uint8_t *buffer, size_t buffer_length, size_t *count,
                                  struct doqallin_mistake *mistake);
 
 /* What a prepared filter can be on the rows of zones, by their statistics: a byte of `outcomes` for each zone. It is 1 if the
@@ -331,7 +331,7 @@ uint32_t doqallin_filter_outcomes(const uint8_t *filter, size_t filter_length, c
 /* Which rows match a prepared filter: a bit for each, 1 if the filter is true of it, from the least significant bit on. The
  * columns are those that it was prepared for, in their order; strings and bytes may have either width of offsets. `depth` is as
  * above. Whoever prepares a filter for the columns that it names alone need pass no others.
- * GIVEN: the room begins with the bits of the rows. Those after them in their last byte are 0, and the bytes after it are as
+ * GIVEN: the buffer begins with the bits of the rows. Those after them in their last byte are 0, and the bytes after it are as
  * they were. Of the others the first of these comes:
  * BAD_BYTES: the filter is no form that nests so deep at most. fault->column is column_count, and fault->place its first byte
  * that no such form has there, or its length if it ends too early.
@@ -339,11 +339,11 @@ uint32_t doqallin_filter_outcomes(const uint8_t *filter, size_t filter_length, c
  * UNKNOWN_KIND, TOO_MANY_ROWS, TOO_SHORT, BAD_OFFSETS, NOT_UTF8: fault->column cannot be read, for what is at fault->place.
  * UNKNOWN_KIND: fault->column is of another kind than the filter's, and fault->place is 1.
  * WRONG_LENGTH: fault->column has another number of rows than the first. Of the last three the first column decides.
- * NO_ROOM: exactly if the room has fewer bytes than (rows + 7) / 8. Here nothing is written.
+ * BUFFER_TOO_SMALL: exactly if the buffer has fewer bytes than (rows + 7) / 8. Here nothing is written.
  * NO_MEMORY: memory is asked for the filter, for each column, and for values of more than 22 bytes. The bits may then say
  * anything. */
 uint32_t doqallin_filter_mask(const uint8_t *filter, size_t filter_length, const struct doqallin_column *columns,
-                              size_t column_count, size_t depth, uint8_t *room, size_t room_length,
+                              size_t column_count, size_t depth, uint8_t *buffer, size_t buffer_length,
                               struct doqallin_fault *fault);
 
 /* Nearly any call of the library, by a line of text. In the library doqallin_call.
@@ -351,18 +351,18 @@ uint32_t doqallin_filter_mask(const uint8_t *filter, size_t filter_length, const
  * answers `i16:1000i16`. A refusal is an answer, as `CannotCast`, and so is `bad line`, to bytes that are no line. An arrow,
  * ` => `, and what follows it is passed over. The answer is `TooDeep` if more than 32 brackets nest in a type or a value, or more
  * than 32 connectives and parentheses in a filter.
- * GIVEN: the answer is in the first *count bytes of the room, and is UTF-8; those after it are as they were. No clause says
+ * GIVEN: the answer is in the first *count bytes of the buffer, and is UTF-8; those after it are as they were. No clause says
  * which answer comes: the stored cases are run.
- * NO_ROOM: *count, above room_length, is how many bytes the whole answer has. A room of no bytes asks for it. That the next
- * call has the same answer, and so fits in that room, is tested alone.
+ * BUFFER_TOO_SMALL: *count, above buffer_length, is how many bytes the whole answer has. A buffer of no bytes asks for it. That the next
+ * call has the same answer, and so fits in that buffer, is tested alone.
  * NO_MEMORY: there is no memory to read the line or to write the answer. If the call itself finds none, the answer is
  * `OutOfMemory`.
  * Stack: 40 kilobytes and 2.3 more for each level that nests, or, if that is more, 20 and 3.1 more for each level. So no line of 32
  * levels ends a process on a thread of 128 kilobytes. */
-uint32_t doqallin_call(const uint8_t *line, size_t line_length, uint8_t *room, size_t room_length, size_t *count);
+uint32_t doqallin_call(const uint8_t *line, size_t line_length, uint8_t *buffer, size_t buffer_length, size_t *count);
 
 /* The same, for lines that nest at most `depth` deep. */
-uint32_t doqallin_call_within(const uint8_t *line, size_t line_length, size_t depth, uint8_t *room, size_t room_length,
+uint32_t doqallin_call_within(const uint8_t *line, size_t line_length, size_t depth, uint8_t *buffer, size_t buffer_length,
                               size_t *count);
 
 #ifdef __cplusplus

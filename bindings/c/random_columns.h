@@ -16,25 +16,25 @@ static inline void check(int holds, int line) {
 }
 #define CHECK(condition) check(condition, __LINE__)
 
-#define ROOM 1024
+#define BUFFER 1024
 #define ROWS 24
 
 // What a call may write, as it is before.
-static uint8_t room[ROOM], wanted[ROOM];
+static uint8_t buffer[BUFFER], wanted[BUFFER];
 static uint64_t places[ROWS + 2];
 static size_t count;
 static struct doqallin_fault fault;
 
 static inline void fresh(void) {
-    memset(room, 'q', ROOM);
+    memset(buffer, 'q', BUFFER);
     for (int i = 0; i < ROWS + 2; i++) places[i] = 99;
     count = 77;
     fault = (struct doqallin_fault){77, 78};
 }
 
 static inline int is_kept(size_t after, size_t after_place) {
-    for (size_t i = after; i < ROOM; i++)
-        if (room[i] != 'q') return 0;
+    for (size_t i = after; i < BUFFER; i++)
+        if (buffer[i] != 'q') return 0;
     for (size_t i = after_place; i < ROWS + 2; i++)
         if (places[i] != 99) return 0;
     return 1;

@@ -22,22 +22,22 @@ static void check(int holds, int line) {
 #define CHECK(condition) check(condition, __LINE__)
 
 #define BYTES(text) (const uint8_t *)text, sizeof text - 1
-#define ROOM 32
+#define BUFFER 32
 
-// A room and a count as they are before each call, and what a call may not have written.
-static uint8_t room[ROOM], other[ROOM];
+// A buffer and a count as they are before each call, and what a call may not have written.
+static uint8_t buffer[BUFFER], other[BUFFER];
 static size_t count;
 static struct doqallin_bound_lengths lengths;
 
 static void fresh(void) {
-    memset(room, 'q', ROOM);
-    memset(other, 'q', ROOM);
+    memset(buffer, 'q', BUFFER);
+    memset(other, 'q', BUFFER);
     count = 77;
     lengths = (struct doqallin_bound_lengths){77, 78, true};
 }
 
 static int is_kept(const uint8_t *from, size_t after) {
-    for (size_t i = after; i < ROOM; i++)
+    for (size_t i = after; i < BUFFER; i++)
         if (from[i] != 'q') return 0;
     return 1;
 }
@@ -68,56 +68,56 @@ static const struct doqallin_column rows = {DOQALLIN_I16, validity, 1, values, 8
 static uint32_t (*cast)(const struct doqallin_column *, uint8_t, uint8_t *, size_t, struct doqallin_fault *);
 
 // Whether a cast of the column answers so, tells this of the mistake, and writes so many bytes, and no more.
-static int casts_to(struct doqallin_column column, uint8_t to, size_t room_length, uint32_t status, size_t at, size_t place,
+static int casts_to(struct doqallin_column column, uint8_t to, size_t buffer_length, uint32_t status, size_t at, size_t place,
                     size_t written) {
     struct doqallin_fault fault = {77, 78};
     fresh();
-    uint32_t answer = cast(&column, to, room, room_length, &fault);
+    uint32_t answer = cast(&column, to, buffer, buffer_length, &fault);
     if (status == DOQALLIN_NONE && cast == doqallin_cast_front) written = place << to % 4;
-    return answer == status && fault.column == at && fault.place == place && is_kept(room, written);
+    return answer == status && fault.column == at && fault.place == place && is_kept(buffer, written);
 }
 
 static void column_casts(void) {
     struct doqallin_column column = rows;
-    CHECK(casts_to(rows, DOQALLIN_I32, 12, DOQALLIN_GIVEN, 77, 78, 12) && !memcmp(room, "\5\0\0\0\0\0\0\0\xfe\xff\xff\xff", 12));
-    CHECK(casts_to(rows, DOQALLIN_I8, ROOM, DOQALLIN_GIVEN, 77, 78, 3) && !memcmp(room, "\5\0\xfe", 3));
-    CHECK(casts_to(rows, DOQALLIN_U64, ROOM, DOQALLIN_NONE, 0, 2, 0));
-    CHECK(casts_to(rows, DOQALLIN_I32, 11, DOQALLIN_NO_ROOM, 77, 78, 0));
-    // A room too small is told before a row without a number.
-    CHECK(casts_to(rows, DOQALLIN_U64, 23, DOQALLIN_NO_ROOM, 77, 78, 0));
+    CHECK(casts_to(rows, DOQALLIN_I32, 12, DOQALLIN_GIVEN, 77, 78, 12) && !memcmp(buffer, "\5\0\0\0\0\0\0\0\xfe\xff\xff\xff", 12));
+    CHECK(casts_to(rows, DOQALLIN_I8, BUFFER, DOQALLIN_GIVEN, 77, 78, 3) && !memcmp(buffer, "\5\0\xfe", 3));
+    CHECK(casts_to(rows, DOQALLIN_U64, BUFFER, DOQALLIN_NONE, 0, 2, 0));
+    CHECK(casts_to(rows, DOQALLIN_I32, 11, DOQALLIN_BUFFER_TOO_SMALL, 77, 78, 0));
+    // A buffer too small is told before a row without a number.
+    CHECK(casts_to(rows, DOQALLIN_U64, 23, DOQALLIN_BUFFER_TOO_SMALL, 77, 78, 0));
     column.length = 2;
-    CHECK(casts_to(column, DOQALLIN_U8, 2, DOQALLIN_GIVEN, 77, 78, 2) && !memcmp(room, "\5\0", 2));
+    CHECK(casts_to(column, DOQALLIN_U8, 2, DOQALLIN_GIVEN, 77, 78, 2) && !memcmp(buffer, "\5\0", 2));
     column.length = 0;
     CHECK(casts_to(column, DOQALLIN_U8, 0, DOQALLIN_GIVEN, 77, 78, 0));
     // Without a bitmap no row is null.
     column.length = 3, column.validity_length = 0;
-    CHECK(casts_to(column, DOQALLIN_I8, ROOM, DOQALLIN_GIVEN, 77, 78, 3) && !memcmp(room, "\5\xff\xfe", 3));
-    CHECK(casts_to(column, DOQALLIN_U16, ROOM, DOQALLIN_NONE, 0, 1, 0));
-    CHECK(casts_to(rows, 8, ROOM, DOQALLIN_UNKNOWN_KIND, 1, 0, 0));
-    CHECK(casts_to(rows, 255, ROOM, DOQALLIN_UNKNOWN_KIND, 1, 0, 0));
+    CHECK(casts_to(column, DOQALLIN_I8, BUFFER, DOQALLIN_GIVEN, 77, 78, 3) && !memcmp(buffer, "\5\xff\xfe", 3));
+    CHECK(casts_to(column, DOQALLIN_U16, BUFFER, DOQALLIN_NONE, 0, 1, 0));
+    CHECK(casts_to(rows, 8, BUFFER, DOQALLIN_UNKNOWN_KIND, 1, 0, 0));
+    CHECK(casts_to(rows, 255, BUFFER, DOQALLIN_UNKNOWN_KIND, 1, 0, 0));
     column = rows, column.kind = 9;
-    CHECK(casts_to(column, DOQALLIN_I32, ROOM, DOQALLIN_UNKNOWN_KIND, 0, 0, 0));
-    CHECK(casts_to(column, 8, ROOM, DOQALLIN_UNKNOWN_KIND, 1, 0, 0));
+    CHECK(casts_to(column, DOQALLIN_I32, BUFFER, DOQALLIN_UNKNOWN_KIND, 0, 0, 0));
+    CHECK(casts_to(column, 8, BUFFER, DOQALLIN_UNKNOWN_KIND, 1, 0, 0));
     column = rows, column.offset = SIZE_MAX;
-    CHECK(casts_to(column, DOQALLIN_I32, ROOM, DOQALLIN_TOO_MANY_ROWS, 0, 0, 0));
+    CHECK(casts_to(column, DOQALLIN_I32, BUFFER, DOQALLIN_TOO_MANY_ROWS, 0, 0, 0));
     column.offset = SIZE_MAX - 3;
-    CHECK(casts_to(column, DOQALLIN_I32, ROOM, DOQALLIN_TOO_SHORT, 0, 0, 0));
+    CHECK(casts_to(column, DOQALLIN_I32, BUFFER, DOQALLIN_TOO_SHORT, 0, 0, 0));
     column.validity_length = 0;
-    CHECK(casts_to(column, DOQALLIN_I32, ROOM, DOQALLIN_TOO_SHORT, 0, 1, 0));
+    CHECK(casts_to(column, DOQALLIN_I32, BUFFER, DOQALLIN_TOO_SHORT, 0, 1, 0));
     column = rows, column.values_length = 7;
-    CHECK(casts_to(column, DOQALLIN_I32, ROOM, DOQALLIN_TOO_SHORT, 0, 1, 0));
-    // The room is asked for once the buffers are long enough.
+    CHECK(casts_to(column, DOQALLIN_I32, BUFFER, DOQALLIN_TOO_SHORT, 0, 1, 0));
+    // The buffer is asked for once the buffers are long enough.
     CHECK(casts_to(column, DOQALLIN_I32, 0, DOQALLIN_TOO_SHORT, 0, 1, 0));
 }
 
-// The rows before the first without a number, and the room after them.
+// The rows before the first without a number, and the buffer after them.
 static void fronts(void) {
-    CHECK(casts_to(rows, DOQALLIN_U64, ROOM, DOQALLIN_NONE, 0, 2, 0) && !memcmp(room, "\5\0\0\0\0\0\0\0\0\0\0\0\0\0\0\0", 16));
+    CHECK(casts_to(rows, DOQALLIN_U64, BUFFER, DOQALLIN_NONE, 0, 2, 0) && !memcmp(buffer, "\5\0\0\0\0\0\0\0\0\0\0\0\0\0\0\0", 16));
     struct doqallin_column column = rows;
     column.validity_length = 0;
-    CHECK(casts_to(column, DOQALLIN_U16, ROOM, DOQALLIN_NONE, 0, 1, 0) && !memcmp(room, "\5\0", 2));
+    CHECK(casts_to(column, DOQALLIN_U16, BUFFER, DOQALLIN_NONE, 0, 1, 0) && !memcmp(buffer, "\5\0", 2));
     column.offset = 0;
-    CHECK(casts_to(column, DOQALLIN_U8, ROOM, DOQALLIN_NONE, 0, 0, 0));
+    CHECK(casts_to(column, DOQALLIN_U8, BUFFER, DOQALLIN_NONE, 0, 0, 0));
 }
 
 static void lower_bounds(void) {
@@ -133,20 +133,20 @@ static void lower_bounds(void) {
 
 static void upper_bounds(void) {
     fresh();
-    CHECK(doqallin_upper_bound_bytes(BYTES("a\xff\xffz"), 3, room, ROOM, &count) == DOQALLIN_GIVEN);
-    CHECK(count == 3 && !memcmp(room, "b\0\0", 3) && is_kept(room, 3));
+    CHECK(doqallin_upper_bound_bytes(BYTES("a\xff\xffz"), 3, buffer, BUFFER, &count) == DOQALLIN_GIVEN);
+    CHECK(count == 3 && !memcmp(buffer, "b\0\0", 3) && is_kept(buffer, 3));
     fresh();
-    CHECK(doqallin_upper_bound_bytes(BYTES("apple"), 5, room, 5, &count) == DOQALLIN_GIVEN && holds(room, count, "apple"));
+    CHECK(doqallin_upper_bound_bytes(BYTES("apple"), 5, buffer, 5, &count) == DOQALLIN_GIVEN && holds(buffer, count, "apple"));
     fresh();
-    CHECK(doqallin_upper_bound_bytes(BYTES("\xff\xffz"), 2, room, ROOM, &count) == DOQALLIN_NONE && count == 77 && is_kept(room, 0));
-    CHECK(doqallin_upper_bound_bytes(BYTES("apple"), 3, room, 2, &count) == DOQALLIN_NO_ROOM && count == 3 && is_kept(room, 0));
-    CHECK(doqallin_upper_bound_bytes(BYTES(""), 0, room, 0, &count) == DOQALLIN_GIVEN && count == 0 && is_kept(room, 0));
+    CHECK(doqallin_upper_bound_bytes(BYTES("\xff\xffz"), 2, buffer, BUFFER, &count) == DOQALLIN_NONE && count == 77 && is_kept(buffer, 0));
+    CHECK(doqallin_upper_bound_bytes(BYTES("apple"), 3, buffer, 2, &count) == DOQALLIN_BUFFER_TOO_SMALL && count == 3 && is_kept(buffer, 0));
+    CHECK(doqallin_upper_bound_bytes(BYTES(""), 0, buffer, 0, &count) == DOQALLIN_GIVEN && count == 0 && is_kept(buffer, 0));
     fresh();
-    CHECK(doqallin_upper_bound_text(BYTES("a\xc3\xb1z"), 3, room, 3, &count) == DOQALLIN_GIVEN && holds(room, count, "a\xc3\xb2"));
+    CHECK(doqallin_upper_bound_text(BYTES("a\xc3\xb1z"), 3, buffer, 3, &count) == DOQALLIN_GIVEN && holds(buffer, count, "a\xc3\xb2"));
     fresh();
-    CHECK(doqallin_upper_bound_text(BYTES("\x7fz"), 1, room, ROOM, &count) == DOQALLIN_NONE && count == 77 && is_kept(room, 0));
-    CHECK(doqallin_upper_bound_text(BYTES("a\xff"), 1, room, ROOM, &count) == DOQALLIN_NOT_UTF8 && count == 77 && is_kept(room, 0));
-    CHECK(doqallin_upper_bound_text(BYTES("apple"), 3, room, 2, &count) == DOQALLIN_NO_ROOM && count == 3 && is_kept(room, 0));
+    CHECK(doqallin_upper_bound_text(BYTES("\x7fz"), 1, buffer, BUFFER, &count) == DOQALLIN_NONE && count == 77 && is_kept(buffer, 0));
+    CHECK(doqallin_upper_bound_text(BYTES("a\xff"), 1, buffer, BUFFER, &count) == DOQALLIN_NOT_UTF8 && count == 77 && is_kept(buffer, 0));
+    CHECK(doqallin_upper_bound_text(BYTES("apple"), 3, buffer, 2, &count) == DOQALLIN_BUFFER_TOO_SMALL && count == 3 && is_kept(buffer, 0));
 }
 
 static void zones(void) {
@@ -168,27 +168,27 @@ static void zones(void) {
 typedef uint32_t column_call(const uint8_t *, size_t, const uint64_t *, size_t, size_t, uint8_t *, size_t, uint8_t *, size_t,
                              struct doqallin_bound_lengths *);
 
-static int nothing_written(void) { return lengths_kept() && is_kept(room, 0) && is_kept(other, 0); }
+static int nothing_written(void) { return lengths_kept() && is_kept(buffer, 0) && is_kept(other, 0); }
 
 static void columns_of(column_call *call) {
     static const uint64_t offsets[] = {0, 4, 9, 12}, down[] = {0, 4, 3, 12}, past[] = {0, 4, 9, 13}, huge[] = {0, UINT64_MAX};
     const uint8_t *bytes = (const uint8_t *)"pearapplefig";
     fresh();
-    CHECK(call(bytes, 12, offsets, 4, 2, room, 2, other, 2, &lengths) == DOQALLIN_GIVEN && lengths.has_upper);
-    CHECK(holds(room, lengths.lower, "ap") && holds(other, lengths.upper, "pf"));
+    CHECK(call(bytes, 12, offsets, 4, 2, buffer, 2, other, 2, &lengths) == DOQALLIN_GIVEN && lengths.has_upper);
+    CHECK(holds(buffer, lengths.lower, "ap") && holds(other, lengths.upper, "pf"));
     fresh();
-    CHECK(call(bytes, 12, offsets + 1, 3, 22, room, ROOM, other, ROOM, &lengths) == DOQALLIN_GIVEN && lengths.has_upper);
-    CHECK(holds(room, lengths.lower, "apple") && holds(other, lengths.upper, "fig"));
+    CHECK(call(bytes, 12, offsets + 1, 3, 22, buffer, BUFFER, other, BUFFER, &lengths) == DOQALLIN_GIVEN && lengths.has_upper);
+    CHECK(holds(buffer, lengths.lower, "apple") && holds(other, lengths.upper, "fig"));
     fresh();
-    CHECK(call(bytes, 12, offsets, 1, 2, room, ROOM, other, ROOM, &lengths) == DOQALLIN_NONE && nothing_written());
-    CHECK(call(bytes, 12, offsets, 0, 2, room, ROOM, other, ROOM, &lengths) == DOQALLIN_NONE && nothing_written());
-    CHECK(call(bytes, 12, down, 4, 2, room, ROOM, other, ROOM, &lengths) == DOQALLIN_BAD_OFFSETS && nothing_written());
-    CHECK(call(bytes, 12, past, 4, 2, room, ROOM, other, ROOM, &lengths) == DOQALLIN_BAD_OFFSETS && nothing_written());
-    CHECK(call(bytes, 12, huge, 2, 2, room, ROOM, other, ROOM, &lengths) == DOQALLIN_BAD_OFFSETS && nothing_written());
-    CHECK(call(bytes, 12, offsets, 4, 2, room, 1, other, 2, &lengths) == DOQALLIN_NO_ROOM && is_kept(room, 0) && is_kept(other, 0));
+    CHECK(call(bytes, 12, offsets, 1, 2, buffer, BUFFER, other, BUFFER, &lengths) == DOQALLIN_NONE && nothing_written());
+    CHECK(call(bytes, 12, offsets, 0, 2, buffer, BUFFER, other, BUFFER, &lengths) == DOQALLIN_NONE && nothing_written());
+    CHECK(call(bytes, 12, down, 4, 2, buffer, BUFFER, other, BUFFER, &lengths) == DOQALLIN_BAD_OFFSETS && nothing_written());
+    CHECK(call(bytes, 12, past, 4, 2, buffer, BUFFER, other, BUFFER, &lengths) == DOQALLIN_BAD_OFFSETS && nothing_written());
+    CHECK(call(bytes, 12, huge, 2, 2, buffer, BUFFER, other, BUFFER, &lengths) == DOQALLIN_BAD_OFFSETS && nothing_written());
+    CHECK(call(bytes, 12, offsets, 4, 2, buffer, 1, other, 2, &lengths) == DOQALLIN_BUFFER_TOO_SMALL && is_kept(buffer, 0) && is_kept(other, 0));
     CHECK(lengths.lower == 2 && lengths.upper == 2 && lengths.has_upper);
     fresh();
-    CHECK(call(bytes, 12, offsets, 4, 3, room, 3, other, 2, &lengths) == DOQALLIN_NO_ROOM && is_kept(room, 0) && is_kept(other, 0));
+    CHECK(call(bytes, 12, offsets, 4, 3, buffer, 3, other, 2, &lengths) == DOQALLIN_BUFFER_TOO_SMALL && is_kept(buffer, 0) && is_kept(other, 0));
     CHECK(lengths.lower == 3 && lengths.upper == 3 && lengths.has_upper);
 }
 
@@ -197,25 +197,25 @@ static void columns(void) {
     columns_of(doqallin_column_bounds_bytes);
     columns_of(doqallin_column_bounds_text);
     fresh();
-    CHECK(doqallin_column_bounds_bytes(BYTES("ab\xff\xff\xff"), offsets, 3, 2, room, ROOM, other, ROOM, &lengths) == DOQALLIN_GIVEN);
-    CHECK(holds(room, lengths.lower, "ab") && !lengths.has_upper && lengths.upper == 0 && is_kept(other, 0));
+    CHECK(doqallin_column_bounds_bytes(BYTES("ab\xff\xff\xff"), offsets, 3, 2, buffer, BUFFER, other, BUFFER, &lengths) == DOQALLIN_GIVEN);
+    CHECK(holds(buffer, lengths.lower, "ab") && !lengths.has_upper && lengths.upper == 0 && is_kept(other, 0));
     fresh();
-    CHECK(doqallin_column_bounds_text(BYTES("ab\xff\xff\xff"), offsets, 3, 2, room, ROOM, other, ROOM, &lengths) == DOQALLIN_NOT_UTF8);
+    CHECK(doqallin_column_bounds_text(BYTES("ab\xff\xff\xff"), offsets, 3, 2, buffer, BUFFER, other, BUFFER, &lengths) == DOQALLIN_NOT_UTF8);
     CHECK(nothing_written());
-    CHECK(doqallin_column_bounds_text(BYTES("ab\x7f\x7f\x7f"), offsets, 3, 2, room, ROOM, other, ROOM, &lengths) == DOQALLIN_GIVEN);
-    CHECK(holds(room, lengths.lower, "ab") && !lengths.has_upper && lengths.upper == 0 && is_kept(other, 0));
+    CHECK(doqallin_column_bounds_text(BYTES("ab\x7f\x7f\x7f"), offsets, 3, 2, buffer, BUFFER, other, BUFFER, &lengths) == DOQALLIN_GIVEN);
+    CHECK(holds(buffer, lengths.lower, "ab") && !lengths.has_upper && lengths.upper == 0 && is_kept(other, 0));
     fresh();
-    CHECK(doqallin_column_bounds_bytes(BYTES("ab\xff\xff\xff"), offsets, 3, 2, room, 1, other, ROOM, &lengths) == DOQALLIN_NO_ROOM);
-    CHECK(lengths.lower == 2 && !lengths.has_upper && lengths.upper == 0 && is_kept(room, 0) && is_kept(other, 0));
+    CHECK(doqallin_column_bounds_bytes(BYTES("ab\xff\xff\xff"), offsets, 3, 2, buffer, 1, other, BUFFER, &lengths) == DOQALLIN_BUFFER_TOO_SMALL);
+    CHECK(lengths.lower == 2 && !lengths.has_upper && lengths.upper == 0 && is_kept(buffer, 0) && is_kept(other, 0));
     // A value is tested whole, and not as far as its bound.
     static const uint64_t all[] = {0, 3}, least[] = {0, 3, 4};
     fresh();
-    CHECK(doqallin_column_bounds_text(BYTES("ab\xff"), all, 2, 2, room, ROOM, other, ROOM, &lengths) == DOQALLIN_NOT_UTF8);
-    CHECK(doqallin_column_bounds_text(BYTES("ab\xff" "b"), least, 3, 2, room, ROOM, other, ROOM, &lengths) == DOQALLIN_NOT_UTF8);
+    CHECK(doqallin_column_bounds_text(BYTES("ab\xff"), all, 2, 2, buffer, BUFFER, other, BUFFER, &lengths) == DOQALLIN_NOT_UTF8);
+    CHECK(doqallin_column_bounds_text(BYTES("ab\xff" "b"), least, 3, 2, buffer, BUFFER, other, BUFFER, &lengths) == DOQALLIN_NOT_UTF8);
     CHECK(nothing_written());
     // One offset is no value, wherever it is.
     static const uint64_t alone[] = {99};
-    CHECK(doqallin_column_bounds_bytes(BYTES("ab"), alone, 1, 2, room, ROOM, other, ROOM, &lengths) == DOQALLIN_NONE && nothing_written());
+    CHECK(doqallin_column_bounds_bytes(BYTES("ab"), alone, 1, 2, buffer, BUFFER, other, BUFFER, &lengths) == DOQALLIN_NONE && nothing_written());
 }
 
 static struct doqallin_fault fault;
@@ -223,7 +223,7 @@ static struct doqallin_fault fault;
 static int at_fault(size_t column, size_t place) { return fault.column == column && fault.place == place; }
 
 // Nothing is written but a fault, if there is one.
-static int no_keys(const uint64_t *starts) { return count == 77 && is_kept(room, 0) && starts[0] == 9 && starts[2] == 9; }
+static int no_keys(const uint64_t *starts) { return count == 77 && is_kept(buffer, 0) && starts[0] == 9 && starts[2] == 9; }
 
 static void row_keys(void) {
     // The numbers -1 and 7 as i16, and "a" and a null after a first row that is passed over.
@@ -235,69 +235,69 @@ static void row_keys(void) {
     uint64_t starts[3] = {9, 9, 9};
     fresh();
     fault = (struct doqallin_fault){77, 78};
-    CHECK(doqallin_row_keys(two, 2, BYTES("\0\1"), starts, 3, room, ROOM, &count, &fault) == DOQALLIN_GIVEN && at_fault(77, 78));
-    CHECK(count == 8 && is_kept(room, 8) && !memcmp(room, "\x0b\xfe\xea\x9e\xff\x0d\x07\xff", 8));
+    CHECK(doqallin_row_keys(two, 2, BYTES("\0\1"), starts, 3, buffer, BUFFER, &count, &fault) == DOQALLIN_GIVEN && at_fault(77, 78));
+    CHECK(count == 8 && is_kept(buffer, 8) && !memcmp(buffer, "\x0b\xfe\xea\x9e\xff\x0d\x07\xff", 8));
     CHECK(starts[0] == 0 && starts[1] == 5 && starts[2] == 8);
     fresh();
     starts[0] = starts[1] = starts[2] = 9;
-    CHECK(doqallin_row_keys(two, 2, BYTES("\0\1"), starts, 3, room, 7, &count, &fault) == DOQALLIN_NO_ROOM && count == 8);
+    CHECK(doqallin_row_keys(two, 2, BYTES("\0\1"), starts, 3, buffer, 7, &count, &fault) == DOQALLIN_BUFFER_TOO_SMALL && count == 8);
     count = 77;
     CHECK(no_keys(starts) && at_fault(77, 78));
-    CHECK(doqallin_row_keys(two, 2, BYTES("\0\1"), starts, 2, room, ROOM, &count, &fault) == DOQALLIN_NO_ROOM && count == 8);
+    CHECK(doqallin_row_keys(two, 2, BYTES("\0\1"), starts, 2, buffer, BUFFER, &count, &fault) == DOQALLIN_BUFFER_TOO_SMALL && count == 8);
     count = 77;
     CHECK(no_keys(starts) && at_fault(77, 78));
-    CHECK(doqallin_row_keys(two, 2, BYTES("\0"), starts, 3, room, ROOM, &count, &fault) == DOQALLIN_WRONG_LENGTH && at_fault(2, 0));
-    CHECK(doqallin_row_keys(two, 2, BYTES("\0\4"), starts, 3, room, ROOM, &count, &fault) == DOQALLIN_BAD_OPTIONS && at_fault(1, 0));
+    CHECK(doqallin_row_keys(two, 2, BYTES("\0"), starts, 3, buffer, BUFFER, &count, &fault) == DOQALLIN_WRONG_LENGTH && at_fault(2, 0));
+    CHECK(doqallin_row_keys(two, 2, BYTES("\0\4"), starts, 3, buffer, BUFFER, &count, &fault) == DOQALLIN_BAD_OPTIONS && at_fault(1, 0));
     two[1].length = 1;
-    CHECK(doqallin_row_keys(two, 2, BYTES("\0\1"), starts, 3, room, ROOM, &count, &fault) == DOQALLIN_WRONG_LENGTH && at_fault(1, 0));
+    CHECK(doqallin_row_keys(two, 2, BYTES("\0\1"), starts, 3, buffer, BUFFER, &count, &fault) == DOQALLIN_WRONG_LENGTH && at_fault(1, 0));
     two[1].length = 2;
     two[1].offsets_length = 15;
-    CHECK(doqallin_row_keys(two, 2, BYTES("\0\1"), starts, 3, room, ROOM, &count, &fault) == DOQALLIN_TOO_SHORT && at_fault(1, 2));
+    CHECK(doqallin_row_keys(two, 2, BYTES("\0\1"), starts, 3, buffer, BUFFER, &count, &fault) == DOQALLIN_TOO_SHORT && at_fault(1, 2));
     two[1].offset = SIZE_MAX;
-    CHECK(doqallin_row_keys(two, 2, BYTES("\0\1"), starts, 3, room, ROOM, &count, &fault) == DOQALLIN_TOO_MANY_ROWS && at_fault(1, 0));
+    CHECK(doqallin_row_keys(two, 2, BYTES("\0\1"), starts, 3, buffer, BUFFER, &count, &fault) == DOQALLIN_TOO_MANY_ROWS && at_fault(1, 0));
     two[1] = (struct doqallin_column){DOQALLIN_UTF8, valid, 0, (const uint8_t *)"x\xff", 2, ends, 16, 0, 2};
-    CHECK(doqallin_row_keys(two, 2, BYTES("\0\1"), starts, 3, room, ROOM, &count, &fault) == DOQALLIN_NOT_UTF8 && at_fault(1, 1));
+    CHECK(doqallin_row_keys(two, 2, BYTES("\0\1"), starts, 3, buffer, BUFFER, &count, &fault) == DOQALLIN_NOT_UTF8 && at_fault(1, 1));
     two[1].values_length = 1;
-    CHECK(doqallin_row_keys(two, 2, BYTES("\0\1"), starts, 3, room, ROOM, &count, &fault) == DOQALLIN_BAD_OFFSETS && at_fault(1, 1));
+    CHECK(doqallin_row_keys(two, 2, BYTES("\0\1"), starts, 3, buffer, BUFFER, &count, &fault) == DOQALLIN_BAD_OFFSETS && at_fault(1, 1));
     two[0].kind = 14;
-    CHECK(doqallin_row_keys(two, 2, BYTES("\0\1"), starts, 3, room, ROOM, &count, &fault) == DOQALLIN_UNKNOWN_KIND && at_fault(0, 0));
+    CHECK(doqallin_row_keys(two, 2, BYTES("\0\1"), starts, 3, buffer, BUFFER, &count, &fault) == DOQALLIN_UNKNOWN_KIND && at_fault(0, 0));
     CHECK(no_keys(starts));
-    CHECK(doqallin_row_keys(two, 0, BYTES(""), starts, 3, room, ROOM, &count, &fault) == DOQALLIN_GIVEN && count == 0 && starts[0] == 0);
+    CHECK(doqallin_row_keys(two, 0, BYTES(""), starts, 3, buffer, BUFFER, &count, &fault) == DOQALLIN_GIVEN && count == 0 && starts[0] == 0);
 }
 
-// The column `which` of keys of these kinds, into rooms of `values` and `starts` bytes and offsets; and that nothing but a fault is
+// The column `which` of keys of these kinds, into buffers of `values` and `starts` bytes and offsets; and that nothing but a fault is
 // written.
 static uint64_t starts[3];
 
 static uint32_t back(const char *kinds, const char *options, const uint64_t *offsets, size_t ends, const char *keys, size_t length, size_t which, size_t bits, size_t values, size_t places) {
     fresh();
     starts[0] = starts[1] = starts[2] = 9;
-    return doqallin_column_of_row_keys((const uint8_t *)kinds, strlen(kinds), (const uint8_t *)options, strlen(options), offsets, ends, (const uint8_t *)keys, length, which, other, bits, room, values, starts, places, &count, &fault);
+    return doqallin_column_of_row_keys((const uint8_t *)kinds, strlen(kinds), (const uint8_t *)options, strlen(options), offsets, ends, (const uint8_t *)keys, length, which, other, bits, buffer, values, starts, places, &count, &fault);
 }
 
-static int no_column(void) { return count == 77 && is_kept(room, 0) && is_kept(other, 0) && starts[0] == 9 && starts[1] == 9 && starts[2] == 9; }
+static int no_column(void) { return count == 77 && is_kept(buffer, 0) && is_kept(other, 0) && starts[0] == 9 && starts[1] == 9 && starts[2] == 9; }
 
 static void columns_of_keys(void) {
     // The keys of the rows (-1, "a") and (7, null), as above: of an i16, and of a string by greater ones first.
     static const uint64_t offsets[] = {0, 5, 8}, down[] = {0, 5, 4}, past[] = {0, 5, 9}, short_of[] = {0, 5, 7};
     static const char keys[] = "\x0b\xfe\xea\x9e\xff\x0d\x07\xff", no_text[] = "\x0b\xfe\xea\x7f\xff\x0d\x07\xff", more[] = "\x0b\xfe\xea\x9e\xff\x0d\x07\xff\x0d";
     fault = (struct doqallin_fault){77, 78};
-    CHECK(back("\5\x0a", "\4\1", offsets, 3, keys, 8, 0, ROOM, ROOM, 3) == DOQALLIN_BAD_OPTIONS && at_fault(0, 0) && no_column());
+    CHECK(back("\5\x0a", "\4\1", offsets, 3, keys, 8, 0, BUFFER, BUFFER, 3) == DOQALLIN_BAD_OPTIONS && at_fault(0, 0) && no_column());
     fault = (struct doqallin_fault){77, 78};
-    CHECK(back("\5\x0a", "\2\1", offsets, 3, keys, 8, 0, ROOM, ROOM, 0) == DOQALLIN_GIVEN && at_fault(77, 78));
-    CHECK(count == 4 && !memcmp(room, "\xff\xff\7\0", 4) && is_kept(room, 4) && other[0] == 3 && is_kept(other, 1) && starts[0] == 9);
+    CHECK(back("\5\x0a", "\2\1", offsets, 3, keys, 8, 0, BUFFER, BUFFER, 0) == DOQALLIN_GIVEN && at_fault(77, 78));
+    CHECK(count == 4 && !memcmp(buffer, "\xff\xff\7\0", 4) && is_kept(buffer, 4) && other[0] == 3 && is_kept(other, 1) && starts[0] == 9);
     for (int kind = 9; kind <= 10; kind++) {
         const char kinds[] = {5, (char)kind, 0};
-        CHECK(back(kinds, "\2\1", offsets, 3, keys, 8, 1, 1, ROOM, 3) == DOQALLIN_GIVEN && at_fault(77, 78));
-        CHECK(count == 1 && holds(room, count, "a") && other[0] == 1 && is_kept(other, 1));
+        CHECK(back(kinds, "\2\1", offsets, 3, keys, 8, 1, 1, BUFFER, 3) == DOQALLIN_GIVEN && at_fault(77, 78));
+        CHECK(count == 1 && holds(buffer, count, "a") && other[0] == 1 && is_kept(other, 1));
         CHECK(starts[0] == 0 && starts[1] == 1 && starts[2] == 1);
     }
-    CHECK(back("\5\x0a", "\2\1", offsets, 3, keys, 8, 0, 1, 3, 0) == DOQALLIN_NO_ROOM && count == 4 && at_fault(77, 78));
+    CHECK(back("\5\x0a", "\2\1", offsets, 3, keys, 8, 0, 1, 3, 0) == DOQALLIN_BUFFER_TOO_SMALL && count == 4 && at_fault(77, 78));
     count = 77;
     CHECK(no_column());
-    CHECK(back("\5\x0a", "\2\1", offsets, 3, keys, 8, 0, 0, 4, 0) == DOQALLIN_NO_ROOM && count == 4);
-    CHECK(back("\5\x0a", "\2\1", offsets, 3, keys, 8, 1, 1, 1, 2) == DOQALLIN_NO_ROOM && count == 1);
-    CHECK(back("\5\x0a", "\2\1", offsets, 3, keys, 8, 1, 1, 0, 3) == DOQALLIN_NO_ROOM && count == 1);
+    CHECK(back("\5\x0a", "\2\1", offsets, 3, keys, 8, 0, 0, 4, 0) == DOQALLIN_BUFFER_TOO_SMALL && count == 4);
+    CHECK(back("\5\x0a", "\2\1", offsets, 3, keys, 8, 1, 1, 1, 2) == DOQALLIN_BUFFER_TOO_SMALL && count == 1);
+    CHECK(back("\5\x0a", "\2\1", offsets, 3, keys, 8, 1, 1, 0, 3) == DOQALLIN_BUFFER_TOO_SMALL && count == 1);
     CHECK(back("\5\x0a", "\2", offsets, 3, keys, 8, 0, 1, 4, 0) == DOQALLIN_WRONG_LENGTH && at_fault(2, 0) && no_column());
     CHECK(back("\5\x0a", "\2\1", offsets, 3, keys, 8, 2, 1, 4, 0) == DOQALLIN_WRONG_LENGTH && at_fault(2, 0) && no_column());
     CHECK(back("\5\x0e", "\2\1", offsets, 3, keys, 8, 0, 1, 4, 0) == DOQALLIN_UNKNOWN_KIND && at_fault(1, 0) && no_column());
@@ -307,7 +307,7 @@ static void columns_of_keys(void) {
     // A byte that no text has, the end of a key that is too short, one byte after a key, and a number that no i8 is.
     CHECK(back("\5\x0a", "\2\1", offsets, 3, no_text, 8, 0, 1, 4, 0) == DOQALLIN_BAD_BYTES && at_fault(0, 3) && no_column());
     CHECK(back("\5\x0a", "\2\1", short_of, 3, keys, 8, 0, 1, 4, 0) == DOQALLIN_BAD_BYTES && at_fault(0, 7) && no_column());
-    CHECK(back("\5\x0a", "\2\1", past, 3, more, 9, 1, 1, ROOM, 3) == DOQALLIN_BAD_BYTES && at_fault(0, 8) && no_column());
+    CHECK(back("\5\x0a", "\2\1", past, 3, more, 9, 1, 1, BUFFER, 3) == DOQALLIN_BAD_BYTES && at_fault(0, 8) && no_column());
     CHECK(back("\4", "\2", offsets, 2, "\x0e\1\0\0\0", 5, 0, 1, 4, 0) == DOQALLIN_BAD_BYTES && at_fault(0, 0) && no_column());
     CHECK(back("\4", "\2", offsets, 2, "\x0d\x80\0\0\0", 5, 0, 1, 4, 0) == DOQALLIN_BAD_BYTES && at_fault(0, 1) && no_column());
     // No rows, and only nulls.
@@ -324,7 +324,7 @@ static const uint8_t fruits[] = "\1\x0b\0\0\0\0\0\0\0\2\0\0\0\0\0\0\0\0\x15" "ap
 // As many rows as 64 bits count, and nothing else.
 static const uint8_t most[] = "\1\0\xff\xff\xff\xff\xff\xff\xff\xff";
 
-static int nothing_given(void) { return count == 77 && is_kept(room, 0); }
+static int nothing_given(void) { return count == 77 && is_kept(buffer, 0); }
 
 static void column_statistics(void) {
     static const uint8_t numbers[] = {2, 0, 0, 0, 9, 9, 9, 9, 5, 0, 0, 0}, valid[] = {5};
@@ -333,62 +333,62 @@ static void column_statistics(void) {
     struct doqallin_column strings = {DOQALLIN_UTF8, valid, 0, (const uint8_t *)"applebanana", 11, ends, 12, 0, 2};
     fresh();
     fault = (struct doqallin_fault){77, 78};
-    CHECK(doqallin_column_statistics(&ints, 3, room, ROOM, &count, &fault) == DOQALLIN_GIVEN && at_fault(77, 78));
-    CHECK(count == 22 && is_kept(room, 22) && !memcmp(room, three, 22));
+    CHECK(doqallin_column_statistics(&ints, 3, buffer, BUFFER, &count, &fault) == DOQALLIN_GIVEN && at_fault(77, 78));
+    CHECK(count == 22 && is_kept(buffer, 22) && !memcmp(buffer, three, 22));
     fresh();
-    CHECK(doqallin_column_statistics(&ints, 3, room, 22, &count, &fault) == DOQALLIN_GIVEN && count == 22 && !memcmp(room, three, 22));
+    CHECK(doqallin_column_statistics(&ints, 3, buffer, 22, &count, &fault) == DOQALLIN_GIVEN && count == 22 && !memcmp(buffer, three, 22));
     fresh();
-    CHECK(doqallin_column_statistics(&ints, 3, room, 21, &count, &fault) == DOQALLIN_NO_ROOM && count == 22);
-    CHECK(is_kept(room, 0) && at_fault(77, 78));
+    CHECK(doqallin_column_statistics(&ints, 3, buffer, 21, &count, &fault) == DOQALLIN_BUFFER_TOO_SMALL && count == 22);
+    CHECK(is_kept(buffer, 0) && at_fault(77, 78));
     fresh();
-    CHECK(doqallin_column_statistics(&strings, 3, room, ROOM, &count, &fault) == DOQALLIN_GIVEN && at_fault(77, 78));
-    CHECK(count == 28 && is_kept(room, 28) && !memcmp(room, fruits, 28));
+    CHECK(doqallin_column_statistics(&strings, 3, buffer, BUFFER, &count, &fault) == DOQALLIN_GIVEN && at_fault(77, 78));
+    CHECK(count == 28 && is_kept(buffer, 28) && !memcmp(buffer, fruits, 28));
     // The rows from the second on: a null and 5.
     ints.offset = 1, ints.length = 2;
     fresh();
-    CHECK(doqallin_column_statistics(&ints, 3, room, ROOM, &count, &fault) == DOQALLIN_GIVEN && count == 22);
-    CHECK(!memcmp(room, "\1\x1f\0\0\0\0\0\0\0\2\0\0\0\0\0\0\0\1\x0d\5\x0d\5", 22));
+    CHECK(doqallin_column_statistics(&ints, 3, buffer, BUFFER, &count, &fault) == DOQALLIN_GIVEN && count == 22);
+    CHECK(!memcmp(buffer, "\1\x1f\0\0\0\0\0\0\0\2\0\0\0\0\0\0\0\1\x0d\5\x0d\5", 22));
     ints.offset = 0, ints.length = 0;
     fresh();
-    CHECK(doqallin_column_statistics(&ints, 3, room, ROOM, &count, &fault) == DOQALLIN_GIVEN && count == 18);
-    CHECK(!memcmp(room, "\1\1\0\0\0\0\0\0\0\0\0\0\0\0\0\0\0\0", 18) && is_kept(room, 18));
+    CHECK(doqallin_column_statistics(&ints, 3, buffer, BUFFER, &count, &fault) == DOQALLIN_GIVEN && count == 18);
+    CHECK(!memcmp(buffer, "\1\1\0\0\0\0\0\0\0\0\0\0\0\0\0\0\0\0", 18) && is_kept(buffer, 18));
     fresh();
     strings.values_length = 10;
-    CHECK(doqallin_column_statistics(&strings, 3, room, ROOM, &count, &fault) == DOQALLIN_BAD_OFFSETS && at_fault(0, 1));
+    CHECK(doqallin_column_statistics(&strings, 3, buffer, BUFFER, &count, &fault) == DOQALLIN_BAD_OFFSETS && at_fault(0, 1));
     // Strings of later rows are not looked at.
     strings.values = (const uint8_t *)"apple\xff\xff\xff\xff\xff\xff", strings.values_length = 11, strings.length = 1;
-    CHECK(doqallin_column_statistics(&strings, 3, room, ROOM, &count, &fault) == DOQALLIN_GIVEN && count == 28);
+    CHECK(doqallin_column_statistics(&strings, 3, buffer, BUFFER, &count, &fault) == DOQALLIN_GIVEN && count == 28);
     fresh();
     strings.values = (const uint8_t *)"appl\xff" "banana";
-    CHECK(doqallin_column_statistics(&strings, 3, room, ROOM, &count, &fault) == DOQALLIN_NOT_UTF8 && at_fault(0, 0));
+    CHECK(doqallin_column_statistics(&strings, 3, buffer, BUFFER, &count, &fault) == DOQALLIN_NOT_UTF8 && at_fault(0, 0));
     ints.length = 3, ints.values_length = 11;
-    CHECK(doqallin_column_statistics(&ints, 3, room, ROOM, &count, &fault) == DOQALLIN_TOO_SHORT && at_fault(0, 1));
+    CHECK(doqallin_column_statistics(&ints, 3, buffer, BUFFER, &count, &fault) == DOQALLIN_TOO_SHORT && at_fault(0, 1));
     ints.offset = SIZE_MAX;
-    CHECK(doqallin_column_statistics(&ints, 3, room, ROOM, &count, &fault) == DOQALLIN_TOO_MANY_ROWS && at_fault(0, 0));
+    CHECK(doqallin_column_statistics(&ints, 3, buffer, BUFFER, &count, &fault) == DOQALLIN_TOO_MANY_ROWS && at_fault(0, 0));
     ints.kind = 14;
-    CHECK(doqallin_column_statistics(&ints, 3, room, ROOM, &count, &fault) == DOQALLIN_UNKNOWN_KIND && at_fault(0, 0));
+    CHECK(doqallin_column_statistics(&ints, 3, buffer, BUFFER, &count, &fault) == DOQALLIN_UNKNOWN_KIND && at_fault(0, 0));
     CHECK(nothing_given());
 }
 
 static void merged_statistics(void) {
     fresh();
     fault = (struct doqallin_fault){77, 78};
-    CHECK(doqallin_merge_statistics(DOQALLIN_I32, three, 22, three, 22, room, ROOM, &count, &fault) == DOQALLIN_GIVEN && at_fault(77, 78));
-    CHECK(count == 22 && is_kept(room, 22) && !memcmp(room, six, 22));
+    CHECK(doqallin_merge_statistics(DOQALLIN_I32, three, 22, three, 22, buffer, BUFFER, &count, &fault) == DOQALLIN_GIVEN && at_fault(77, 78));
+    CHECK(count == 22 && is_kept(buffer, 22) && !memcmp(buffer, six, 22));
     fresh();
-    CHECK(doqallin_merge_statistics(DOQALLIN_I32, three, 22, three, 22, room, 0, &count, &fault) == DOQALLIN_NO_ROOM && count == 22);
-    CHECK(is_kept(room, 0) && at_fault(77, 78));
+    CHECK(doqallin_merge_statistics(DOQALLIN_I32, three, 22, three, 22, buffer, 0, &count, &fault) == DOQALLIN_BUFFER_TOO_SMALL && count == 22);
+    CHECK(is_kept(buffer, 0) && at_fault(77, 78));
     fresh();
-    CHECK(doqallin_merge_statistics(DOQALLIN_LARGE_UTF8, fruits, 28, (const uint8_t *)"\1\1\0\0\0\0\0\0\0\1\0\0\0\0\0\0\0\1", 18, room, ROOM, &count, &fault) == DOQALLIN_GIVEN);
-    CHECK(count == 28 && room[9] == 3 && room[17] == 1 && !memcmp(room + 18, fruits + 18, 10));
+    CHECK(doqallin_merge_statistics(DOQALLIN_LARGE_UTF8, fruits, 28, (const uint8_t *)"\1\1\0\0\0\0\0\0\0\1\0\0\0\0\0\0\0\1", 18, buffer, BUFFER, &count, &fault) == DOQALLIN_GIVEN);
+    CHECK(count == 28 && buffer[9] == 3 && buffer[17] == 1 && !memcmp(buffer + 18, fruits + 18, 10));
     fresh();
-    CHECK(doqallin_merge_statistics(DOQALLIN_I32, three, 22, three, 21, room, ROOM, &count, &fault) == DOQALLIN_BAD_BYTES && at_fault(1, 21));
-    CHECK(doqallin_merge_statistics(DOQALLIN_I32, six + 1, 21, three, 21, room, ROOM, &count, &fault) == DOQALLIN_BAD_BYTES && at_fault(0, 0));
-    CHECK(doqallin_merge_statistics(DOQALLIN_UTF8, three, 22, three, 22, room, ROOM, &count, &fault) == DOQALLIN_BAD_BYTES && at_fault(0, 18));
-    CHECK(doqallin_merge_statistics(DOQALLIN_I32, most, 10, three, 22, room, ROOM, &count, &fault) == DOQALLIN_TOO_MANY_ROWS && at_fault(0, 0));
+    CHECK(doqallin_merge_statistics(DOQALLIN_I32, three, 22, three, 21, buffer, BUFFER, &count, &fault) == DOQALLIN_BAD_BYTES && at_fault(1, 21));
+    CHECK(doqallin_merge_statistics(DOQALLIN_I32, six + 1, 21, three, 21, buffer, BUFFER, &count, &fault) == DOQALLIN_BAD_BYTES && at_fault(0, 0));
+    CHECK(doqallin_merge_statistics(DOQALLIN_UTF8, three, 22, three, 22, buffer, BUFFER, &count, &fault) == DOQALLIN_BAD_BYTES && at_fault(0, 18));
+    CHECK(doqallin_merge_statistics(DOQALLIN_I32, most, 10, three, 22, buffer, BUFFER, &count, &fault) == DOQALLIN_TOO_MANY_ROWS && at_fault(0, 0));
     // Bytes that are no form are told before rows that are too many.
-    CHECK(doqallin_merge_statistics(DOQALLIN_I32, most, 10, three, 1, room, ROOM, &count, &fault) == DOQALLIN_BAD_BYTES && at_fault(1, 1));
-    CHECK(doqallin_merge_statistics(14, three, 22, three, 22, room, ROOM, &count, &fault) == DOQALLIN_UNKNOWN_KIND && at_fault(0, 0));
+    CHECK(doqallin_merge_statistics(DOQALLIN_I32, most, 10, three, 1, buffer, BUFFER, &count, &fault) == DOQALLIN_BAD_BYTES && at_fault(1, 1));
+    CHECK(doqallin_merge_statistics(14, three, 22, three, 22, buffer, BUFFER, &count, &fault) == DOQALLIN_UNKNOWN_KIND && at_fault(0, 0));
     CHECK(nothing_given());
 }
 
@@ -402,47 +402,47 @@ static int tell(uint64_t rows, int nulls, int lower, int upper) {
 }
 
 static int bounds_are(const char *lower, size_t lower_length, const char *upper, size_t upper_length) {
-    return parts.lower_length == lower_length && !memcmp(room, lower, lower_length) && is_kept(room, lower_length)
+    return parts.lower_length == lower_length && !memcmp(buffer, lower, lower_length) && is_kept(buffer, lower_length)
            && parts.upper_length == upper_length && !memcmp(other, upper, upper_length) && is_kept(other, upper_length);
 }
 
-static uint32_t read_as(uint8_t kind, const uint8_t *bytes, size_t length, size_t lower_room, size_t upper_room) {
+static uint32_t read_as(uint8_t kind, const uint8_t *bytes, size_t length, size_t lower_buffer, size_t upper_buffer) {
     fresh();
     memset(&parts, 1, sizeof parts);
     fault = (struct doqallin_fault){77, 78};
-    return doqallin_read_statistics(kind, bytes, length, room, lower_room, other, upper_room, &parts, &fault);
+    return doqallin_read_statistics(kind, bytes, length, buffer, lower_buffer, other, upper_buffer, &parts, &fault);
 }
 
 static int none_read(size_t place) {
-    return at_fault(0, place) && is_kept(room, 0) && is_kept(other, 0) && parts.row_count == 0x0101010101010101 && parts.has_lower;
+    return at_fault(0, place) && is_kept(buffer, 0) && is_kept(other, 0) && parts.row_count == 0x0101010101010101 && parts.has_lower;
 }
 
 static void read_statistics(void) {
-    CHECK(read_as(DOQALLIN_I32, three, 22, ROOM, ROOM) == DOQALLIN_GIVEN && at_fault(77, 78) && tell(3, 1, 2, 2));
+    CHECK(read_as(DOQALLIN_I32, three, 22, BUFFER, BUFFER) == DOQALLIN_GIVEN && at_fault(77, 78) && tell(3, 1, 2, 2));
     CHECK(bounds_are("\2\0\0\0", 4, "\5\0\0\0", 4));
     CHECK(read_as(DOQALLIN_U8, three, 22, 1, 1) == DOQALLIN_GIVEN && tell(3, 1, 2, 2) && bounds_are("\2", 1, "\5", 1));
     CHECK(read_as(DOQALLIN_I64, three, 22, 8, 8) == DOQALLIN_GIVEN && bounds_are("\2\0\0\0\0\0\0\0", 8, "\5\0\0\0\0\0\0\0", 8));
-    CHECK(read_as(DOQALLIN_I16, BYTES("\1\x0e\0\0\0\0\0\0\0\2\x0a\xfe\xff\x0c"), ROOM, ROOM) == DOQALLIN_GIVEN && tell(2, -1, 2, 1));
+    CHECK(read_as(DOQALLIN_I16, BYTES("\1\x0e\0\0\0\0\0\0\0\2\x0a\xfe\xff\x0c"), BUFFER, BUFFER) == DOQALLIN_GIVEN && tell(2, -1, 2, 1));
     CHECK(bounds_are("\0\xff", 2, "\0\0", 2));
-    CHECK(read_as(DOQALLIN_I32, three, 22, 3, ROOM) == DOQALLIN_NO_ROOM && at_fault(77, 78) && tell(3, 1, 2, 2));
-    CHECK(parts.lower_length == 4 && parts.upper_length == 4 && is_kept(room, 0) && is_kept(other, 0));
-    CHECK(read_as(DOQALLIN_I32, three, 22, 4, 3) == DOQALLIN_NO_ROOM && is_kept(room, 0) && is_kept(other, 0));
-    CHECK(read_as(DOQALLIN_UTF8, fruits, 28, ROOM, ROOM) == DOQALLIN_GIVEN && tell(2, 0, 1, 1) && bounds_are("app", 3, "bao", 3));
+    CHECK(read_as(DOQALLIN_I32, three, 22, 3, BUFFER) == DOQALLIN_BUFFER_TOO_SMALL && at_fault(77, 78) && tell(3, 1, 2, 2));
+    CHECK(parts.lower_length == 4 && parts.upper_length == 4 && is_kept(buffer, 0) && is_kept(other, 0));
+    CHECK(read_as(DOQALLIN_I32, three, 22, 4, 3) == DOQALLIN_BUFFER_TOO_SMALL && is_kept(buffer, 0) && is_kept(other, 0));
+    CHECK(read_as(DOQALLIN_UTF8, fruits, 28, BUFFER, BUFFER) == DOQALLIN_GIVEN && tell(2, 0, 1, 1) && bounds_are("app", 3, "bao", 3));
     CHECK(read_as(DOQALLIN_LARGE_UTF8, fruits, 28, 3, 3) == DOQALLIN_GIVEN && bounds_are("app", 3, "bao", 3));
-    CHECK(read_as(DOQALLIN_BINARY, BYTES("\1\7\0\0\0\0\0\0\0\1\0\0\0\0\0\0\0\0\x16\1\1\0"), ROOM, ROOM) == DOQALLIN_GIVEN);
+    CHECK(read_as(DOQALLIN_BINARY, BYTES("\1\7\0\0\0\0\0\0\0\1\0\0\0\0\0\0\0\0\x16\1\1\0"), BUFFER, BUFFER) == DOQALLIN_GIVEN);
     CHECK(tell(1, 0, 2, 0) && bounds_are("\0", 1, "", 0));
-    CHECK(read_as(DOQALLIN_BOOL, BYTES("\1\x1f\0\0\0\0\0\0\0\2\0\0\0\0\0\0\0\0\2\3"), ROOM, ROOM) == DOQALLIN_GIVEN);
+    CHECK(read_as(DOQALLIN_BOOL, BYTES("\1\x1f\0\0\0\0\0\0\0\2\0\0\0\0\0\0\0\0\2\3"), BUFFER, BUFFER) == DOQALLIN_GIVEN);
     CHECK(tell(2, 0, 2, 2) && bounds_are("\0", 1, "\1", 1));
     CHECK(read_as(DOQALLIN_NULL, most, 10, 0, 0) == DOQALLIN_GIVEN && tell(UINT64_MAX, -1, 0, 0) && bounds_are("", 0, "", 0));
     // A bound that is null is none: it may come from anywhere.
-    CHECK(read_as(DOQALLIN_I8, BYTES("\1\x0e\0\0\0\0\0\0\0\2\1\x0d\5"), ROOM, ROOM) == DOQALLIN_GIVEN && tell(2, -1, 0, 1));
+    CHECK(read_as(DOQALLIN_I8, BYTES("\1\x0e\0\0\0\0\0\0\0\2\1\x0d\5"), BUFFER, BUFFER) == DOQALLIN_GIVEN && tell(2, -1, 0, 1));
     CHECK(bounds_are("", 0, "\5", 1));
-    CHECK(read_as(DOQALLIN_UTF8, three, 22, ROOM, ROOM) == DOQALLIN_BAD_BYTES && none_read(18));
-    CHECK(read_as(DOQALLIN_I32, three, 21, ROOM, ROOM) == DOQALLIN_BAD_BYTES && none_read(21));
-    CHECK(read_as(DOQALLIN_I32, three, 23, ROOM, ROOM) == DOQALLIN_BAD_BYTES && none_read(22));
-    CHECK(read_as(DOQALLIN_I32, three, 0, ROOM, ROOM) == DOQALLIN_BAD_BYTES && none_read(0));
-    CHECK(read_as(DOQALLIN_I8, BYTES("\1\2\0\0\0\0\0\0\0\1\x0d\x80"), ROOM, ROOM) == DOQALLIN_BAD_BYTES && none_read(11));
-    CHECK(read_as(14, three, 22, ROOM, ROOM) == DOQALLIN_UNKNOWN_KIND && none_read(0));
+    CHECK(read_as(DOQALLIN_UTF8, three, 22, BUFFER, BUFFER) == DOQALLIN_BAD_BYTES && none_read(18));
+    CHECK(read_as(DOQALLIN_I32, three, 21, BUFFER, BUFFER) == DOQALLIN_BAD_BYTES && none_read(21));
+    CHECK(read_as(DOQALLIN_I32, three, 23, BUFFER, BUFFER) == DOQALLIN_BAD_BYTES && none_read(22));
+    CHECK(read_as(DOQALLIN_I32, three, 0, BUFFER, BUFFER) == DOQALLIN_BAD_BYTES && none_read(0));
+    CHECK(read_as(DOQALLIN_I8, BYTES("\1\2\0\0\0\0\0\0\0\1\x0d\x80"), BUFFER, BUFFER) == DOQALLIN_BAD_BYTES && none_read(11));
+    CHECK(read_as(14, three, 22, BUFFER, BUFFER) == DOQALLIN_UNKNOWN_KIND && none_read(0));
 }
 
 // A filter over n, an i16, and s, a string; and its form.
@@ -456,38 +456,38 @@ static int at_mistake(size_t place, uint32_t expected) { return mistake.place ==
 static uint32_t prepare(const char *words, size_t columns) {
     fresh();
     mistake = (struct doqallin_mistake){77, 78};
-    return doqallin_prepare_filter((const uint8_t *)words, strlen(words), schema, columns, 256, room, ROOM, &count, &mistake);
+    return doqallin_prepare_filter((const uint8_t *)words, strlen(words), schema, columns, 256, buffer, BUFFER, &count, &mistake);
 }
 
 static void prepared_filters(void) {
     static const uint8_t above_five[] = {1, 0, 0, 0, 0, 0, 0, 0, 1, 21, 5, 0, 0, 0, 0, 0, 0, 0, 0, 5, 13, 5};
-    CHECK(prepare("n > 5", 1) == DOQALLIN_GIVEN && count == 22 && !memcmp(room, above_five, 22) && is_kept(room, 22) && at_mistake(77, 78));
-    CHECK(doqallin_prepare_filter(BYTES("n > 5"), schema, 1, 256, other, 21, &count, &mistake) == DOQALLIN_NO_ROOM && count == 22);
+    CHECK(prepare("n > 5", 1) == DOQALLIN_GIVEN && count == 22 && !memcmp(buffer, above_five, 22) && is_kept(buffer, 22) && at_mistake(77, 78));
+    CHECK(doqallin_prepare_filter(BYTES("n > 5"), schema, 1, 256, other, 21, &count, &mistake) == DOQALLIN_BUFFER_TOO_SMALL && count == 22);
     CHECK(is_kept(other, 0) && at_mistake(77, 78));
-    CHECK(prepare("n > 'a'", 2) == DOQALLIN_BAD_FILTER && at_mistake(4, DOQALLIN_TYPES_DIFFER) && count == 77 && is_kept(room, 0));
+    CHECK(prepare("n > 'a'", 2) == DOQALLIN_BAD_FILTER && at_mistake(4, DOQALLIN_TYPES_DIFFER) && count == 77 && is_kept(buffer, 0));
     CHECK(prepare("n > ", 2) == DOQALLIN_BAD_FILTER && at_mistake(4, DOQALLIN_EXPECTED_LITERAL));
     CHECK(prepare("n is not", 2) == DOQALLIN_BAD_FILTER && at_mistake(8, DOQALLIN_EXPECTED_NULL));
     CHECK(prepare("n > 5 or t = 1", 2) == DOQALLIN_BAD_FILTER && at_mistake(9, DOQALLIN_NO_COLUMN));
     CHECK(prepare("n > 99999999999999999999", 2) == DOQALLIN_BAD_FILTER && at_mistake(4, DOQALLIN_NUMBER_TOO_LONG));
     CHECK(prepare("n > 5 'a", 2) == DOQALLIN_BAD_FILTER && at_mistake(6, DOQALLIN_BAD_TEXT));
     CHECK(prepare("n > 5 n", 2) == DOQALLIN_BAD_FILTER && at_mistake(6, DOQALLIN_EXPECTED_END));
-    CHECK(prepare("s = '\xff'", 2) == DOQALLIN_NOT_UTF8 && at_mistake(2, 0) && count == 77 && is_kept(room, 0));
+    CHECK(prepare("s = '\xff'", 2) == DOQALLIN_NOT_UTF8 && at_mistake(2, 0) && count == 77 && is_kept(buffer, 0));
     struct doqallin_named_kind wrong[] = {schema[0], {(const uint8_t *)"\xff", 1, DOQALLIN_BOOL}};
-    CHECK(doqallin_prepare_filter(BYTES("\xff"), wrong, 2, 256, room, ROOM, &count, &mistake) == DOQALLIN_NOT_UTF8 && at_mistake(1, 0));
+    CHECK(doqallin_prepare_filter(BYTES("\xff"), wrong, 2, 256, buffer, BUFFER, &count, &mistake) == DOQALLIN_NOT_UTF8 && at_mistake(1, 0));
     wrong[0].kind = 14;
-    CHECK(doqallin_prepare_filter(BYTES("\xff"), wrong, 2, 256, room, ROOM, &count, &mistake) == DOQALLIN_UNKNOWN_KIND && at_mistake(0, 0));
+    CHECK(doqallin_prepare_filter(BYTES("\xff"), wrong, 2, 256, buffer, BUFFER, &count, &mistake) == DOQALLIN_UNKNOWN_KIND && at_mistake(0, 0));
     // 256 levels are read. A number that the type lacks takes two more in the form.
     char deep[256 * 4 + 12];
     for (int i = 0; i < 256; i++) memcpy(deep + 4 * i, "not ", 4);
     memcpy(deep + 1024, "n < 99999", 10);
     CHECK(prepare(deep, 1) == DOQALLIN_BAD_FILTER && at_mistake(0, DOQALLIN_TOO_DEEP));
-    CHECK(prepare(deep + 8, 1) == DOQALLIN_NO_ROOM && count == 10 + 254 + 1 + 1 + 9 + 1);
+    CHECK(prepare(deep + 8, 1) == DOQALLIN_BUFFER_TOO_SMALL && count == 10 + 254 + 1 + 1 + 9 + 1);
     memcpy(deep + 1024, "not true", 9);
     CHECK(prepare(deep, 1) == DOQALLIN_BAD_FILTER && at_mistake(1028, DOQALLIN_TOO_DEEP));
-    CHECK(prepare("true", 0) == DOQALLIN_GIVEN && count == 10 && room[9] == 2 && is_kept(room, 10));
+    CHECK(prepare("true", 0) == DOQALLIN_GIVEN && count == 10 && buffer[9] == 2 && is_kept(buffer, 10));
     // With one level less the same words nest too deep.
-    CHECK(doqallin_prepare_filter(BYTES("not (not true)"), schema, 0, 3, room, ROOM, &count, &mistake) == DOQALLIN_GIVEN && count == 12);
-    CHECK(doqallin_prepare_filter(BYTES("not (not true)"), schema, 0, 2, room, ROOM, &count, &mistake) == DOQALLIN_BAD_FILTER && at_mistake(9, DOQALLIN_TOO_DEEP));
+    CHECK(doqallin_prepare_filter(BYTES("not (not true)"), schema, 0, 3, buffer, BUFFER, &count, &mistake) == DOQALLIN_GIVEN && count == 12);
+    CHECK(doqallin_prepare_filter(BYTES("not (not true)"), schema, 0, 2, buffer, BUFFER, &count, &mistake) == DOQALLIN_BAD_FILTER && at_mistake(9, DOQALLIN_TOO_DEEP));
 }
 
 static void filter_rows(void) {
@@ -497,13 +497,13 @@ static void filter_rows(void) {
         {DOQALLIN_I16, valid, 1, numbers, 8, ends, 0, 0, 4},
         {DOQALLIN_UTF8, valid, 0, (const uint8_t *)"abbabc", 6, ends, 20, 0, 4},
     };
-    CHECK(prepare("n > 5 and s like 'a%'", 2) == DOQALLIN_NO_ROOM && count < sizeof form);
+    CHECK(prepare("n > 5 and s like 'a%'", 2) == DOQALLIN_BUFFER_TOO_SMALL && count < sizeof form);
     CHECK(doqallin_prepare_filter(BYTES("n > 5 and s like 'a%'"), schema, 2, 256, form, sizeof form, &form_length, &mistake) == DOQALLIN_GIVEN);
     fault = (struct doqallin_fault){77, 78};
     fresh();
-    CHECK(doqallin_filter_mask(form, form_length, two, 2, 32, room, 1, &fault) == DOQALLIN_GIVEN && holds(room, 1, "\x08") && at_fault(77, 78));
-    CHECK(doqallin_filter_mask(form, form_length, two, 2, 32, other, 0, &fault) == DOQALLIN_NO_ROOM && is_kept(other, 0) && at_fault(77, 78));
-    CHECK(doqallin_filter_mask(form, form_length, two, 2, 1, room, 1, &fault) == DOQALLIN_GIVEN && holds(room, 1, "\x08"));
+    CHECK(doqallin_filter_mask(form, form_length, two, 2, 32, buffer, 1, &fault) == DOQALLIN_GIVEN && holds(buffer, 1, "\x08") && at_fault(77, 78));
+    CHECK(doqallin_filter_mask(form, form_length, two, 2, 32, other, 0, &fault) == DOQALLIN_BUFFER_TOO_SMALL && is_kept(other, 0) && at_fault(77, 78));
+    CHECK(doqallin_filter_mask(form, form_length, two, 2, 1, buffer, 1, &fault) == DOQALLIN_GIVEN && holds(buffer, 1, "\x08"));
     CHECK(doqallin_filter_mask(form, form_length, two, 2, 0, other, 1, &fault) == DOQALLIN_BAD_BYTES && at_fault(2, 11));
     CHECK(doqallin_filter_mask(form, form_length - 1, two, 2, 32, other, 1, &fault) == DOQALLIN_BAD_BYTES && at_fault(2, form_length - 1));
     CHECK(doqallin_filter_mask(form, form_length, two, 1, 32, other, 1, &fault) == DOQALLIN_WRONG_LENGTH && at_fault(1, 0));
@@ -520,7 +520,7 @@ static void filter_rows(void) {
     // The rows from the third on, of which there are two.
     two[0].offset = two[1].offset = 2;
     two[0].length = two[1].length = 2;
-    CHECK(doqallin_filter_mask(form, form_length, two, 2, 32, room, 1, &fault) == DOQALLIN_GIVEN && holds(room, 1, "\x02"));
+    CHECK(doqallin_filter_mask(form, form_length, two, 2, 32, buffer, 1, &fault) == DOQALLIN_GIVEN && holds(buffer, 1, "\x02"));
     two[0].length = two[1].length = 0;
     CHECK(doqallin_filter_mask(form, form_length, two, 2, 32, other, 0, &fault) == DOQALLIN_GIVEN);
 }
@@ -538,41 +538,41 @@ static void filter_zones(void) {
     CHECK(doqallin_prepare_filter(BYTES("n > 5 or s = 'a'"), schema, 2, 256, form, sizeof form, &form_length, &mistake) == DOQALLIN_GIVEN);
     fault = (struct doqallin_fault){77, 78};
     fresh();
-    CHECK(doqallin_filter_outcomes(form, form_length, known, 62, starts, 5, 32, room, 2, &fault) == DOQALLIN_GIVEN && holds(room, 2, "\7\4") && at_fault(77, 78));
-    CHECK(doqallin_filter_outcomes(form, form_length, known, 62, starts, 3, 32, room, 1, &fault) == DOQALLIN_GIVEN && room[0] == 7);
-    CHECK(doqallin_filter_outcomes(form, form_length, known, 62, starts, 1, 32, room, 0, &fault) == DOQALLIN_GIVEN);
+    CHECK(doqallin_filter_outcomes(form, form_length, known, 62, starts, 5, 32, buffer, 2, &fault) == DOQALLIN_GIVEN && holds(buffer, 2, "\7\4") && at_fault(77, 78));
+    CHECK(doqallin_filter_outcomes(form, form_length, known, 62, starts, 3, 32, buffer, 1, &fault) == DOQALLIN_GIVEN && buffer[0] == 7);
+    CHECK(doqallin_filter_outcomes(form, form_length, known, 62, starts, 1, 32, buffer, 0, &fault) == DOQALLIN_GIVEN);
     CHECK(doqallin_filter_outcomes(form, form_length, known, 62, starts, 5, 0, other, 2, &fault) == DOQALLIN_BAD_BYTES && at_fault(5, 11));
-    CHECK(doqallin_filter_outcomes(form, form_length - 1, known, 62, starts, 5, 32, room, 2, &fault) == DOQALLIN_BAD_BYTES && at_fault(5, form_length - 1));
-    CHECK(doqallin_filter_outcomes(form, form_length, known, 62, starts, 4, 32, room, 2, &fault) == DOQALLIN_WRONG_LENGTH && at_fault(4, 0));
-    CHECK(doqallin_filter_outcomes(form, form_length, known, 62, starts, 0, 32, room, 0, &fault) == DOQALLIN_WRONG_LENGTH && at_fault(0, 0));
-    CHECK(doqallin_filter_outcomes(form, form_length, known, 61, starts, 5, 32, room, 2, &fault) == DOQALLIN_BAD_OFFSETS && at_fault(3, 0));
+    CHECK(doqallin_filter_outcomes(form, form_length - 1, known, 62, starts, 5, 32, buffer, 2, &fault) == DOQALLIN_BAD_BYTES && at_fault(5, form_length - 1));
+    CHECK(doqallin_filter_outcomes(form, form_length, known, 62, starts, 4, 32, buffer, 2, &fault) == DOQALLIN_WRONG_LENGTH && at_fault(4, 0));
+    CHECK(doqallin_filter_outcomes(form, form_length, known, 62, starts, 0, 32, buffer, 0, &fault) == DOQALLIN_WRONG_LENGTH && at_fault(0, 0));
+    CHECK(doqallin_filter_outcomes(form, form_length, known, 61, starts, 5, 32, buffer, 2, &fault) == DOQALLIN_BAD_OFFSETS && at_fault(3, 0));
     starts[3] = 43;
-    CHECK(doqallin_filter_outcomes(form, form_length, known, 62, starts, 5, 32, room, 2, &fault) == DOQALLIN_BAD_BYTES && at_fault(2, 21));
+    CHECK(doqallin_filter_outcomes(form, form_length, known, 62, starts, 5, 32, buffer, 2, &fault) == DOQALLIN_BAD_BYTES && at_fault(2, 21));
     starts[3] = 45;
-    CHECK(doqallin_filter_outcomes(form, form_length, known, 62, starts, 5, 32, room, 2, &fault) == DOQALLIN_BAD_BYTES && at_fault(2, 22));
+    CHECK(doqallin_filter_outcomes(form, form_length, known, 62, starts, 5, 32, buffer, 2, &fault) == DOQALLIN_BAD_BYTES && at_fault(2, 22));
     known[1] = 64;
-    CHECK(doqallin_filter_outcomes(form, form_length, known, 62, starts, 5, 32, room, 2, &fault) == DOQALLIN_BAD_BYTES && at_fault(0, 1));
+    CHECK(doqallin_filter_outcomes(form, form_length, known, 62, starts, 5, 32, buffer, 2, &fault) == DOQALLIN_BAD_BYTES && at_fault(0, 1));
 }
 
 static void calls(void) {
     fresh();
-    CHECK(doqallin_call(BYTES("cast i32:1000i32 i16"), room, ROOM, &count) == DOQALLIN_GIVEN && holds(room, count, "i16:1000i16"));
+    CHECK(doqallin_call(BYTES("cast i32:1000i32 i16"), buffer, BUFFER, &count) == DOQALLIN_GIVEN && holds(buffer, count, "i16:1000i16"));
     fresh();
-    CHECK(doqallin_call(BYTES("cast i32:1000i32 i8"), room, 10, &count) == DOQALLIN_GIVEN && holds(room, count, "CannotCast"));
+    CHECK(doqallin_call(BYTES("cast i32:1000i32 i8"), buffer, 10, &count) == DOQALLIN_GIVEN && holds(buffer, count, "CannotCast"));
     fresh();
-    CHECK(doqallin_call(BYTES("cast i32:1000i32 i8"), room, 9, &count) == DOQALLIN_NO_ROOM && count == 10 && is_kept(room, 0));
-    CHECK(doqallin_call(BYTES("cast i32:1000i32 i8"), room, 0, &count) == DOQALLIN_NO_ROOM && count == 10 && is_kept(room, 0));
-    CHECK(doqallin_call(BYTES("cast i32:1i32 i8 => 7"), room, ROOM, &count) == DOQALLIN_GIVEN && holds(room, count, "i8:1i8"));
+    CHECK(doqallin_call(BYTES("cast i32:1000i32 i8"), buffer, 9, &count) == DOQALLIN_BUFFER_TOO_SMALL && count == 10 && is_kept(buffer, 0));
+    CHECK(doqallin_call(BYTES("cast i32:1000i32 i8"), buffer, 0, &count) == DOQALLIN_BUFFER_TOO_SMALL && count == 10 && is_kept(buffer, 0));
+    CHECK(doqallin_call(BYTES("cast i32:1i32 i8 => 7"), buffer, BUFFER, &count) == DOQALLIN_GIVEN && holds(buffer, count, "i8:1i8"));
     fresh();
-    CHECK(doqallin_call(BYTES(""), room, ROOM, &count) == DOQALLIN_GIVEN && holds(room, count, "bad line"));
+    CHECK(doqallin_call(BYTES(""), buffer, BUFFER, &count) == DOQALLIN_GIVEN && holds(buffer, count, "bad line"));
     fresh();
-    CHECK(doqallin_call(BYTES("clone utf8:\"\xff\""), room, ROOM, &count) == DOQALLIN_GIVEN && holds(room, count, "bad line"));
+    CHECK(doqallin_call(BYTES("clone utf8:\"\xff\""), buffer, BUFFER, &count) == DOQALLIN_GIVEN && holds(buffer, count, "bad line"));
     fresh();
-    CHECK(doqallin_call_within(BYTES("zero list(list(u8))"), 2, room, ROOM, &count) == DOQALLIN_GIVEN && holds(room, count, "list(list(u8)):[]"));
+    CHECK(doqallin_call_within(BYTES("zero list(list(u8))"), 2, buffer, BUFFER, &count) == DOQALLIN_GIVEN && holds(buffer, count, "list(list(u8)):[]"));
     fresh();
-    CHECK(doqallin_call_within(BYTES("zero list(list(u8))"), 1, room, ROOM, &count) == DOQALLIN_GIVEN && holds(room, count, "TooDeep"));
+    CHECK(doqallin_call_within(BYTES("zero list(list(u8))"), 1, buffer, BUFFER, &count) == DOQALLIN_GIVEN && holds(buffer, count, "TooDeep"));
     fresh();
-    CHECK(doqallin_call_within(BYTES("zero list(list(u8))"), 1, room, 6, &count) == DOQALLIN_NO_ROOM && count == 7 && is_kept(room, 0));
+    CHECK(doqallin_call_within(BYTES("zero list(list(u8))"), 1, buffer, 6, &count) == DOQALLIN_BUFFER_TOO_SMALL && count == 7 && is_kept(buffer, 0));
 }
 
 #define LONG "0123456789012345678901234567"
@@ -589,19 +589,19 @@ static uint32_t take_memory(int which) {
     static const struct doqallin_named_kind flags[] = {{(const uint8_t *)"b", 1, DOQALLIN_BOOL}};
     static const uint64_t offsets_of_none[] = {0, 0}, ends_of_key[] = {0, 30};
     switch (which) {
-    case 0: return doqallin_upper_bound_bytes(BYTES(LONG), 24, room, ROOM, &count);
-    case 1: return doqallin_upper_bound_text(BYTES(LONG), 24, room, ROOM, &count);
-    case 2: return doqallin_column_bounds_bytes(BYTES(LONG), offsets, 2, 24, room, ROOM, other, ROOM, &lengths);
-    case 3: return doqallin_column_bounds_text(BYTES(LONG), offsets, 2, 24, room, ROOM, other, ROOM, &lengths);
-    case 4: return doqallin_call(BYTES("cast list(i32):[1i32, 2i32] list(i64)"), room, ROOM, &count);
-    case 5: return doqallin_row_keys(&bools, 1, BYTES("\0"), starts, 2, room, ROOM, &count, &fault);
-    case 6: return doqallin_column_statistics(&bools, 0, room, ROOM, &count, &fault);
-    case 7: return doqallin_merge_statistics(DOQALLIN_I32, three, 22, three, 22, room, ROOM, &count, &fault);
-    case 8: return doqallin_read_statistics(DOQALLIN_UTF8, lowest, sizeof lowest, room, ROOM, other, ROOM, &parts, &fault);
-    case 9: return doqallin_prepare_filter(BYTES("b = true"), flags, 1, 256, room, ROOM, &count, &mistake);
-    case 10: return doqallin_filter_mask(is_true, sizeof is_true, &bools, 1, 32, room, 1, &fault);
-    case 11: return doqallin_filter_outcomes(is_true, sizeof is_true, room, 0, offsets_of_none, 2, 32, room, 1, &fault);
-    case 12: return doqallin_column_of_row_keys(BYTES("\x09"), BYTES("\2"), ends_of_key, 2, BYTES("\x15" LONG "\0"), 0, other, ROOM, room, ROOM, starts, 3, &count, &fault);
+    case 0: return doqallin_upper_bound_bytes(BYTES(LONG), 24, buffer, BUFFER, &count);
+    case 1: return doqallin_upper_bound_text(BYTES(LONG), 24, buffer, BUFFER, &count);
+    case 2: return doqallin_column_bounds_bytes(BYTES(LONG), offsets, 2, 24, buffer, BUFFER, other, BUFFER, &lengths);
+    case 3: return doqallin_column_bounds_text(BYTES(LONG), offsets, 2, 24, buffer, BUFFER, other, BUFFER, &lengths);
+    case 4: return doqallin_call(BYTES("cast list(i32):[1i32, 2i32] list(i64)"), buffer, BUFFER, &count);
+    case 5: return doqallin_row_keys(&bools, 1, BYTES("\0"), starts, 2, buffer, BUFFER, &count, &fault);
+    case 6: return doqallin_column_statistics(&bools, 0, buffer, BUFFER, &count, &fault);
+    case 7: return doqallin_merge_statistics(DOQALLIN_I32, three, 22, three, 22, buffer, BUFFER, &count, &fault);
+    case 8: return doqallin_read_statistics(DOQALLIN_UTF8, lowest, sizeof lowest, buffer, BUFFER, other, BUFFER, &parts, &fault);
+    case 9: return doqallin_prepare_filter(BYTES("b = true"), flags, 1, 256, buffer, BUFFER, &count, &mistake);
+    case 10: return doqallin_filter_mask(is_true, sizeof is_true, &bools, 1, 32, buffer, 1, &fault);
+    case 11: return doqallin_filter_outcomes(is_true, sizeof is_true, buffer, 0, offsets_of_none, 2, 32, buffer, 1, &fault);
+    case 12: return doqallin_column_of_row_keys(BYTES("\x09"), BYTES("\2"), ends_of_key, 2, BYTES("\x15" LONG "\0"), 0, other, BUFFER, buffer, BUFFER, starts, 3, &count, &fault);
     default: exit(2);
     }
 }
@@ -614,16 +614,16 @@ static void say(const char *line) {
 // Of what was given: 0 if it is the bound, the cast list, the key, the statistics, the form, the mask or the outcomes; 3 if it says
 // that the cast found no memory; 1 otherwise.
 static int given(int which) {
-    if (which == 4) return holds(room, count, "list(i64):[1i64, 2i64]") ? 0 : holds(room, count, "OutOfMemory") ? 3 : 1;
-    if (which == 5) return holds(room, count, "\3") ? 0 : 1;
-    if (which == 6) return count == 20 && !memcmp(room, "\1\x1f\0\0\0\0\0\0\0\1\0\0\0\0\0\0\0\0\3\3", 20) ? 0 : 1;
-    if (which == 7) return count == 22 && !memcmp(room, six, 22) ? 0 : 1;
-    if (which == 8) return parts.lower_length == 28 && !memcmp(room, LONG, 28) ? 0 : 1;
-    if (which == 9) return count == sizeof is_true && !memcmp(room, is_true, count) && is_kept(room, count) ? 0 : 1;
-    if (which == 10) return room[0] == 1 && is_kept(room, 1) ? 0 : 1;
-    if (which == 12) return holds(room, count, LONG) && other[0] == 1 && is_kept(other, 1) && starts[1] == 28 ? 0 : 1;
-    if (which == 11) return room[0] == 7 && is_kept(room, 1) ? 0 : 1;
-    return memcmp(which < 2 ? room : other, "012345678901234567890124", 24) ? 1 : 0;
+    if (which == 4) return holds(buffer, count, "list(i64):[1i64, 2i64]") ? 0 : holds(buffer, count, "OutOfMemory") ? 3 : 1;
+    if (which == 5) return holds(buffer, count, "\3") ? 0 : 1;
+    if (which == 6) return count == 20 && !memcmp(buffer, "\1\x1f\0\0\0\0\0\0\0\1\0\0\0\0\0\0\0\0\3\3", 20) ? 0 : 1;
+    if (which == 7) return count == 22 && !memcmp(buffer, six, 22) ? 0 : 1;
+    if (which == 8) return parts.lower_length == 28 && !memcmp(buffer, LONG, 28) ? 0 : 1;
+    if (which == 9) return count == sizeof is_true && !memcmp(buffer, is_true, count) && is_kept(buffer, count) ? 0 : 1;
+    if (which == 10) return buffer[0] == 1 && is_kept(buffer, 1) ? 0 : 1;
+    if (which == 12) return holds(buffer, count, LONG) && other[0] == 1 && is_kept(other, 1) && starts[1] == 28 ? 0 : 1;
+    if (which == 11) return buffer[0] == 7 && is_kept(buffer, 1) ? 0 : 1;
+    return memcmp(which < 2 ? buffer : other, "012345678901234567890124", 24) ? 1 : 0;
 }
 
 // 0 if the call gives what it is to give, 3 if it finds no memory and writes nothing else, 1 if it does neither, or leaks.
@@ -638,7 +638,7 @@ static int memory(int which) {
     if (mallinfo2().uordblks != before) return 1;
     // Without memory the byte of a mask, or of outcomes, may be any.
     size_t any = which == 10 || which == 11;
-    if (status == DOQALLIN_NO_MEMORY) return count == 77 && lengths_kept() && is_kept(room, any) && is_kept(other, 0) ? 3 : 1;
+    if (status == DOQALLIN_NO_MEMORY) return count == 77 && lengths_kept() && is_kept(buffer, any) && is_kept(other, 0) ? 3 : 1;
     return status == DOQALLIN_GIVEN ? given(which) : 1;
 }
 

@@ -6,12 +6,12 @@
 static uint64_t ends[ROWS + 2];
 
 // What a cast answers, with the place and the bytes that it writes.
-static uint32_t plain_cast(const struct doqallin_column *of, uint8_t to, size_t room_length, size_t *place) {
+static uint32_t plain_cast(const struct doqallin_column *of, uint8_t to, size_t buffer_length, size_t *place) {
     if (of->kind >= DOQALLIN_BOOL) return *place = 0, DOQALLIN_UNKNOWN_KIND;
     uint32_t status = plain_check(of, place);
     if (status) return status;
     int width = 1 << to % 4, bits = 8 * width - (to >= DOQALLIN_I8);
-    if (room_length < of->length * width) return DOQALLIN_NO_ROOM;
+    if (buffer_length < of->length * width) return DOQALLIN_BUFFER_TOO_SMALL;
     for (*place = 0; *place < of->length; ++*place) {
         __int128 number = is_valid(of, *place) ? number_at(of, *place) : 0;
         if (number >= (__int128)1 << bits || number < (to >= DOQALLIN_I8 ? -((__int128)1 << bits) : 0)) return DOQALLIN_NONE;
@@ -22,19 +22,19 @@ static uint32_t plain_cast(const struct doqallin_column *of, uint8_t to, size_t 
 
 static uint32_t of_cast(const struct doqallin_column *some) {
     uint8_t to = below(8);
-    size_t room_length = below(6) ? ROOM : below(64), place = 0;
-    uint32_t status = plain_cast(some, to, room_length, &place);
+    size_t buffer_length = below(6) ? BUFFER : below(64), place = 0;
+    uint32_t status = plain_cast(some, to, buffer_length, &place);
     fresh();
-    CHECK(doqallin_cast_column(some, to, room, room_length, &fault) == status);
-    int is_told = status != DOQALLIN_GIVEN && status != DOQALLIN_NO_ROOM;
+    CHECK(doqallin_cast_column(some, to, buffer, buffer_length, &fault) == status);
+    int is_told = status != DOQALLIN_GIVEN && status != DOQALLIN_BUFFER_TOO_SMALL;
     CHECK(is_told ? fault.column == 0 && fault.place == place : fault.column == 77 && fault.place == 78);
     size_t written = status ? 0 : some->length << to % 4;
-    CHECK(!memcmp(room, wanted, written) && is_kept(written, 0));
+    CHECK(!memcmp(buffer, wanted, written) && is_kept(written, 0));
     fresh();
-    CHECK(doqallin_cast_front(some, to, room, room_length, &fault) == status);
+    CHECK(doqallin_cast_front(some, to, buffer, buffer_length, &fault) == status);
     CHECK(is_told ? fault.column == 0 && fault.place == place : fault.column == 77 && fault.place == 78);
     if (status == DOQALLIN_NONE) written = place << to % 4;
-    CHECK(!memcmp(room, wanted, written) && is_kept(written, 0));
+    CHECK(!memcmp(buffer, wanted, written) && is_kept(written, 0));
     return status;
 }
 
@@ -58,23 +58,23 @@ static uint32_t of_keys(const struct doqallin_column *two) {
     uint32_t status = plain_keys(two, options, &where);
     fresh();
     if (status) {
-        CHECK(doqallin_row_keys(two, 2, options, 2, places, ROWS + 2, room, ROOM, &count, &fault) == status);
+        CHECK(doqallin_row_keys(two, 2, options, 2, places, ROWS + 2, buffer, BUFFER, &count, &fault) == status);
         CHECK(fault.column == where.column && fault.place == where.place && count == 77 && is_kept(0, 0));
         return status;
     }
     size_t rows = two[0].length, end = 0;
     for (size_t row = 0; row < rows; ends[++row] = end)
         for (int which = 0; which < 2; which++) end = plain_key(&two[which], row, options[which], end);
-    CHECK(doqallin_row_keys(two, 2, options, 2, places, rows + 1, room, end, &count, &fault) == DOQALLIN_GIVEN);
-    CHECK(count == end && !memcmp(room, wanted, end) && !memcmp(places, ends, 8 * rows + 8) && is_kept(end, rows + 1));
+    CHECK(doqallin_row_keys(two, 2, options, 2, places, rows + 1, buffer, end, &count, &fault) == DOQALLIN_GIVEN);
+    CHECK(count == end && !memcmp(buffer, wanted, end) && !memcmp(places, ends, 8 * rows + 8) && is_kept(end, rows + 1));
     fresh();
     size_t less = end ? below(end) : 0;
-    CHECK(doqallin_row_keys(two, 2, options, 2, places, end ? rows + 1 : rows, room, less, &count, &fault) == DOQALLIN_NO_ROOM);
+    CHECK(doqallin_row_keys(two, 2, options, 2, places, end ? rows + 1 : rows, buffer, less, &count, &fault) == DOQALLIN_BUFFER_TOO_SMALL);
     CHECK(count == end && fault.column == 77 && is_kept(0, 0));
     return of_back(two, options, rows, end);
 }
 
-// Whether the first bytes of the rooms are this column from a bitmap and values of its own: nulls as 0, false or no bytes.
+// Whether the first bytes of the buffers are this column from a bitmap and values of its own: nulls as 0, false or no bytes.
 static uint8_t bitmap[ROWS / 8 + 2];
 
 static int is_column(const struct doqallin_column *of, size_t rows) {
@@ -84,17 +84,17 @@ static int is_column(const struct doqallin_column *of, size_t rows) {
         if (is_bit(bitmap, row) != valid) return 0;
         if (of->kind < DOQALLIN_BOOL) {
             __int128 number = valid ? number_at(of, row) : 0;
-            if (memcmp(room + (row << of->kind % 4), &number, (size_t)1 << of->kind % 4)) return 0;
+            if (memcmp(buffer + (row << of->kind % 4), &number, (size_t)1 << of->kind % 4)) return 0;
         } else if (of->kind == DOQALLIN_BOOL) {
-            if (is_bit(room, row) != (valid && is_bit(of->values, of->offset + row))) return 0;
+            if (is_bit(buffer, row) != (valid && is_bit(of->values, of->offset + row))) return 0;
         } else if (of->kind < DOQALLIN_NULL) {
             uint64_t start = valid ? start_of(of, row) : 0, size = valid ? start_of(of, row + 1) - start : 0;
-            if (places[row] != at || places[row + 1] != at + size || memcmp(room + at, of->values + start, size)) return 0;
+            if (places[row] != at || places[row + 1] != at + size || memcmp(buffer + at, of->values + start, size)) return 0;
             at += size;
         }
     }
     for (size_t row = rows; row < (rows + 7) / 8 * 8; row++)
-        if (is_bit(bitmap, row) || (of->kind == DOQALLIN_BOOL && is_bit(room, row))) return 0;
+        if (is_bit(bitmap, row) || (of->kind == DOQALLIN_BOOL && is_bit(buffer, row))) return 0;
     size_t bits = (rows + 7) / 8, size = of->kind < DOQALLIN_BOOL ? rows << of->kind % 4 : of->kind == DOQALLIN_BOOL ? bits : of->kind == DOQALLIN_NULL ? 0 : at;
     int has_offsets = of->kind > DOQALLIN_BOOL && of->kind < DOQALLIN_NULL;
     return count == size && bitmap[bits] == 'q' && is_kept(size, has_offsets ? rows + 1 : 0) && (!has_offsets || places[0] == 0);
@@ -103,39 +103,39 @@ static int is_column(const struct doqallin_column *of, size_t rows) {
 static uint32_t column_back(const uint8_t *kinds, const uint8_t *options, const uint64_t *starts, size_t rows, const uint8_t *keys, size_t length, size_t which, size_t size) {
     fresh();
     memset(bitmap, 'q', sizeof bitmap);
-    return doqallin_column_of_row_keys(kinds, 2, options, 2, starts, rows + 1, keys, length, which, bitmap, sizeof bitmap, room, size, places, ROWS + 2, &count, &fault);
+    return doqallin_column_of_row_keys(kinds, 2, options, 2, starts, rows + 1, keys, length, which, bitmap, sizeof bitmap, buffer, size, places, ROWS + 2, &count, &fault);
 }
 
 // The columns of the keys in `wanted` are those of the rows. With a byte changed, keys are told as wrong, or give columns whose keys
 // they are.
 static uint32_t of_back(const struct doqallin_column *two, const uint8_t *options, size_t rows, size_t end) {
-    static uint8_t made[2][2][ROOM], offsets[2][8 * (ROWS + 2)], again[ROOM];
-    uint8_t kinds[] = {two[0].kind, two[1].kind}, keys[ROOM];
+    static uint8_t made[2][2][BUFFER], offsets[2][8 * (ROWS + 2)], again[BUFFER];
+    uint8_t kinds[] = {two[0].kind, two[1].kind}, keys[BUFFER];
     memcpy(keys, exactly(6, wanted, end), end);
     for (size_t which = 0; which < 2; which++) {
-        CHECK(column_back(kinds, options, ends, rows, exactly(6, keys, end), end, which, ROOM) == DOQALLIN_GIVEN && fault.column == 77);
+        CHECK(column_back(kinds, options, ends, rows, exactly(6, keys, end), end, which, BUFFER) == DOQALLIN_GIVEN && fault.column == 77);
         CHECK(is_column(&two[which], rows));
         size_t size = count;
         if (!size) continue;
-        CHECK(column_back(kinds, options, ends, rows, exactly(6, keys, end), end, which, below(size)) == DOQALLIN_NO_ROOM);
+        CHECK(column_back(kinds, options, ends, rows, exactly(6, keys, end), end, which, below(size)) == DOQALLIN_BUFFER_TOO_SMALL);
         CHECK(count == size && fault.column == 77 && is_kept(0, 0) && bitmap[0] == 'q');
     }
     if (!end) return DOQALLIN_GIVEN;
     keys[below(end)] ^= (uint8_t)(1 << below(8));
     struct doqallin_column read[2];
     for (size_t which = 0; which < 2; which++) {
-        uint32_t status = column_back(kinds, options, ends, rows, exactly(6, keys, end), end, which, ROOM);
+        uint32_t status = column_back(kinds, options, ends, rows, exactly(6, keys, end), end, which, BUFFER);
         if (status) {
             CHECK(status == DOQALLIN_BAD_BYTES && fault.column == 0 && fault.place <= end && count == 77 && is_kept(0, 0) && bitmap[0] == 'q');
             return status;
         }
         memcpy(made[which][0], bitmap, sizeof bitmap);
-        memcpy(made[which][1], room, ROOM);
+        memcpy(made[which][1], buffer, BUFFER);
         memcpy(offsets[which], places, 8 * (rows + 1));
         uint8_t kind = kinds[which] == DOQALLIN_UTF8 || kinds[which] == DOQALLIN_BINARY ? kinds[which] + 1 : kinds[which];
         read[which] = (struct doqallin_column){kind, made[which][0], (rows + 7) / 8, made[which][1], count, offsets[which], 8 * (rows + 1), 0, rows};
     }
-    CHECK(doqallin_row_keys(read, 2, options, 2, places, rows + 1, again, ROOM, &count, &fault) == DOQALLIN_GIVEN);
+    CHECK(doqallin_row_keys(read, 2, options, 2, places, rows + 1, again, BUFFER, &count, &fault) == DOQALLIN_GIVEN);
     CHECK(count == end && !memcmp(again, keys, end) && !memcmp(places, ends, 8 * rows + 8));
     return DOQALLIN_GIVEN;
 }
@@ -164,7 +164,7 @@ static uint32_t plain_bounds(const uint8_t *bytes, size_t length, const uint64_t
 
 // Bounds of random values by offsets of 64 bits. Of one value, the bounds are those of the calls for one.
 static uint32_t of_bounds(void) {
-    uint8_t some[TEXT_ROOM], upper[TEXT_ROOM], upper_room[TEXT_ROOM];
+    uint8_t some[TEXT_ROOM], upper[TEXT_ROOM], upper_buffer[TEXT_ROOM];
     uint64_t starts[6] = {0}, at = below(3);
     size_t length = below(TEXT_ROOM), many = below(6), n = below(10) ? below(12) : SIZE_MAX, of[2] = {0}, lower = 0, above = 0;
     int of_texts = below(2);
@@ -182,17 +182,17 @@ static uint32_t of_bounds(void) {
         if (!of_texts) lower = doqallin_lower_bound_bytes(least, size, n);
         has_upper = !(of_texts ? doqallin_upper_bound_text : doqallin_upper_bound_bytes)(greatest, other, n, upper, TEXT_ROOM, &above);
         memcpy(wanted, least, lower);
-        if (lower > lower_length || above > upper_length) status = DOQALLIN_NO_ROOM;
+        if (lower > lower_length || above > upper_length) status = DOQALLIN_BUFFER_TOO_SMALL;
     }
     fresh();
-    memset(upper_room, 'q', TEXT_ROOM);
+    memset(upper_buffer, 'q', TEXT_ROOM);
     struct doqallin_bound_lengths lengths = {77, 78, true};
-    CHECK((of_texts ? doqallin_column_bounds_text : doqallin_column_bounds_bytes)(bytes, length, offsets, many, n, room, lower_length, upper_room, upper_length, &lengths) == status);
-    int is_told = status == DOQALLIN_GIVEN || status == DOQALLIN_NO_ROOM;
+    CHECK((of_texts ? doqallin_column_bounds_text : doqallin_column_bounds_bytes)(bytes, length, offsets, many, n, buffer, lower_length, upper_buffer, upper_length, &lengths) == status);
+    int is_told = status == DOQALLIN_GIVEN || status == DOQALLIN_BUFFER_TOO_SMALL;
     CHECK(is_told ? lengths.lower == lower && lengths.upper == above && lengths.has_upper == has_upper : lengths.lower == 77 && lengths.upper == 78 && lengths.has_upper);
     size_t written = status ? 0 : lower, written_above = status ? 0 : above;
-    CHECK(!memcmp(room, wanted, written) && is_kept(written, 0) && !memcmp(upper_room, upper, written_above));
-    for (size_t i = written_above; i < TEXT_ROOM; i++) CHECK(upper_room[i] == 'q');
+    CHECK(!memcmp(buffer, wanted, written) && is_kept(written, 0) && !memcmp(upper_buffer, upper, written_above));
+    for (size_t i = written_above; i < TEXT_ROOM; i++) CHECK(upper_buffer[i] == 'q');
     return status;
 }
 
@@ -205,7 +205,7 @@ int main(int argc, char **argv) {
         seen[of_keys(two)]++;
         seen[of_bounds()]++;
     }
-    static const uint32_t all[] = {DOQALLIN_GIVEN, DOQALLIN_NONE, DOQALLIN_NO_ROOM, DOQALLIN_NOT_UTF8, DOQALLIN_BAD_OFFSETS, DOQALLIN_UNKNOWN_KIND,
+    static const uint32_t all[] = {DOQALLIN_GIVEN, DOQALLIN_NONE, DOQALLIN_BUFFER_TOO_SMALL, DOQALLIN_NOT_UTF8, DOQALLIN_BAD_OFFSETS, DOQALLIN_UNKNOWN_KIND,
                                    DOQALLIN_TOO_MANY_ROWS, DOQALLIN_TOO_SHORT, DOQALLIN_WRONG_LENGTH, DOQALLIN_BAD_OPTIONS, DOQALLIN_BAD_BYTES};
     return ended(columns, seen, all, sizeof all / sizeof *all);
 }

@@ -39,7 +39,7 @@ static int truth_at(const struct doqallin_column *two, size_t row) {
     return negates ? YES - both : both;
 }
 
-static uint8_t form[ROOM];
+static uint8_t form[BUFFER];
 static size_t form_length;
 
 // Prepares a filter over columns of these kinds.
@@ -55,14 +55,14 @@ static void prepare(const uint8_t *kinds) {
     struct doqallin_mistake mistake = {77, 78};
     const uint8_t *text = exactly(6, (const uint8_t *)words, at);
     fresh();
-    CHECK(doqallin_prepare_filter(text, at, named, 2, 256, room, 0, &form_length, &mistake) == DOQALLIN_NO_ROOM && is_kept(0, 0));
-    CHECK(doqallin_prepare_filter(text, at, named, 2, 256, room, form_length, &count, &mistake) == DOQALLIN_GIVEN);
+    CHECK(doqallin_prepare_filter(text, at, named, 2, 256, buffer, 0, &form_length, &mistake) == DOQALLIN_BUFFER_TOO_SMALL && is_kept(0, 0));
+    CHECK(doqallin_prepare_filter(text, at, named, 2, 256, buffer, form_length, &count, &mistake) == DOQALLIN_GIVEN);
     CHECK(count == form_length && is_kept(form_length, 0) && mistake.place == 77 && mistake.expected == 78);
-    memcpy(form, room, form_length);
+    memcpy(form, buffer, form_length);
     // Cut short it is no filter, or another one.
     size_t less = below(at);
     text = exactly(6, (const uint8_t *)words, less);
-    uint32_t status = doqallin_prepare_filter(text, less, named, 2, 256, room, ROOM, &count, &mistake);
+    uint32_t status = doqallin_prepare_filter(text, less, named, 2, 256, buffer, BUFFER, &count, &mistake);
     CHECK(!status || (status == DOQALLIN_BAD_FILTER && mistake.place <= less && mistake.expected <= DOQALLIN_TOO_DEEP));
 }
 
@@ -87,28 +87,28 @@ static uint32_t of_mask(const struct doqallin_column *two, const uint8_t *kinds)
     const uint8_t *filter = exactly(6, form, form_length);
     fresh();
     if (status) {
-        CHECK(doqallin_filter_mask(filter, form_length, two, 2, 256, room, ROOM, &fault) == status);
+        CHECK(doqallin_filter_mask(filter, form_length, two, 2, 256, buffer, BUFFER, &fault) == status);
         CHECK(fault.column == where.column && fault.place == where.place && is_kept(0, 0));
         return status;
     }
     size_t rows = two[0].length, length = (rows + 7) / 8;
     memset(wanted, 0, length);
     for (size_t row = 0; row < rows; row++) wanted[row / 8] |= (truth_at(two, row) == YES) << row % 8;
-    CHECK(doqallin_filter_mask(filter, form_length, two, 2, 256, room, length, &fault) == DOQALLIN_GIVEN);
-    CHECK(!memcmp(room, wanted, length) && is_kept(length, 0) && fault.column == 77);
+    CHECK(doqallin_filter_mask(filter, form_length, two, 2, 256, buffer, length, &fault) == DOQALLIN_GIVEN);
+    CHECK(!memcmp(buffer, wanted, length) && is_kept(length, 0) && fault.column == 77);
     fresh();
-    if (length) CHECK(doqallin_filter_mask(filter, form_length, two, 2, 256, room, length - 1, &fault) == DOQALLIN_NO_ROOM && is_kept(0, 0));
-    CHECK(doqallin_filter_mask(filter, form_length, two, 1, 256, room, ROOM, &fault) == DOQALLIN_WRONG_LENGTH && fault.column == 1 && is_kept(0, 0));
+    if (length) CHECK(doqallin_filter_mask(filter, form_length, two, 2, 256, buffer, length - 1, &fault) == DOQALLIN_BUFFER_TOO_SMALL && is_kept(0, 0));
+    CHECK(doqallin_filter_mask(filter, form_length, two, 1, 256, buffer, BUFFER, &fault) == DOQALLIN_WRONG_LENGTH && fault.column == 1 && is_kept(0, 0));
     return status;
 }
 
-static uint8_t pieces[ROOM], zones[2];
+static uint8_t pieces[BUFFER], zones[2];
 static uint64_t offsets[5];
 
 // The outcomes of a zone of these rows, and of one without statistics.
 static void of_zones(const struct doqallin_column *two) {
     for (int which = 0; which < 2; which++) {
-        CHECK(!doqallin_column_statistics(&two[which], below(9), pieces + offsets[which], ROOM - offsets[which], &count, &fault));
+        CHECK(!doqallin_column_statistics(&two[which], below(9), pieces + offsets[which], BUFFER - offsets[which], &count, &fault));
         offsets[which + 1] = offsets[which] + count;
     }
     offsets[3] = offsets[4] = offsets[2];
@@ -133,7 +133,7 @@ static uint32_t of_any_bytes(const struct doqallin_column *two) {
     const uint8_t *filter = exactly(6, form, length), *bytes = exactly(7, pieces, end);
     size_t many = below(4);
     fresh();
-    uint32_t status = doqallin_filter_mask(filter, length, two, 2, 256, room, ROOM, &fault);
+    uint32_t status = doqallin_filter_mask(filter, length, two, 2, 256, buffer, BUFFER, &fault);
     CHECK(!status || status == DOQALLIN_BAD_BYTES || status == DOQALLIN_WRONG_LENGTH || status == DOQALLIN_UNKNOWN_KIND);
     CHECK(status != DOQALLIN_BAD_BYTES || (fault.column == 2 && fault.place <= length));
     uint32_t told = doqallin_filter_outcomes(filter, length, bytes, end, offsets, below(8) ? 5 : below(6), 256, zones, below(8) ? 2 : many % 3, &fault);

@@ -10,31 +10,31 @@
 #define SIZE ((size_t)1 << 16)
 
 static struct doqallin_column two[2];
-static uint8_t options[2], value[64], other[ROOM];
+static uint8_t options[2], value[64], other[BUFFER];
 static uint64_t starts[4];
 static size_t n;
 static struct doqallin_bound_lengths lengths;
 
-static void cast(void) { doqallin_cast_column(&two[0], (uint8_t)(n % 8), room, ROOM, &fault); }
-static void front(void) { doqallin_cast_front(&two[0], (uint8_t)(n % 8), room, ROOM, &fault); }
-static void keys(void) { doqallin_row_keys(two, 2, options, 2, places, ROWS + 1, room, ROOM, &count, &fault); }
-static void bytes_bounds(void) { doqallin_column_bounds_bytes(value, sizeof value, starts, 4, n, room, ROOM, other, ROOM, &lengths); }
-static void text_bounds(void) { doqallin_column_bounds_text(value, sizeof value, starts, 4, n, room, ROOM, other, ROOM, &lengths); }
-static void upper_bound(void) { doqallin_upper_bound_text(value, sizeof value, n, room, ROOM, &count); }
+static void cast(void) { doqallin_cast_column(&two[0], (uint8_t)(n % 8), buffer, BUFFER, &fault); }
+static void front(void) { doqallin_cast_front(&two[0], (uint8_t)(n % 8), buffer, BUFFER, &fault); }
+static void keys(void) { doqallin_row_keys(two, 2, options, 2, places, ROWS + 1, buffer, BUFFER, &count, &fault); }
+static void bytes_bounds(void) { doqallin_column_bounds_bytes(value, sizeof value, starts, 4, n, buffer, BUFFER, other, BUFFER, &lengths); }
+static void text_bounds(void) { doqallin_column_bounds_text(value, sizeof value, starts, 4, n, buffer, BUFFER, other, BUFFER, &lengths); }
+static void upper_bound(void) { doqallin_upper_bound_text(value, sizeof value, n, buffer, BUFFER, &count); }
 
-static uint8_t form[ROOM];
+static uint8_t form[BUFFER];
 static size_t form_length;
 static struct doqallin_statistics_parts parts;
-static void statistics(void) { doqallin_column_statistics(&two[0], n, room, ROOM, &count, &fault); }
-static void merge(void) { doqallin_merge_statistics(two[0].kind, form, form_length, form, form_length, room, ROOM, &count, &fault); }
-static void read_parts(void) { doqallin_read_statistics(two[0].kind, form, form_length, room, ROOM, other, ROOM, &parts, &fault); }
+static void statistics(void) { doqallin_column_statistics(&two[0], n, buffer, BUFFER, &count, &fault); }
+static void merge(void) { doqallin_merge_statistics(two[0].kind, form, form_length, form, form_length, buffer, BUFFER, &count, &fault); }
+static void read_parts(void) { doqallin_read_statistics(two[0].kind, form, form_length, buffer, BUFFER, other, BUFFER, &parts, &fault); }
 
-static uint8_t row_keys[ROOM];
+static uint8_t row_keys[BUFFER];
 static uint64_t row_ends[ROWS + 2];
 static size_t keys_length, rows_of_keys;
 static void back(void) {
     const uint8_t kinds[] = {two[0].kind, two[1].kind};
-    doqallin_column_of_row_keys(kinds, 2, options, 2, row_ends, rows_of_keys + 1, row_keys, keys_length, n % 2, other, ROOM, room, ROOM, places, ROWS + 2, &count, &fault);
+    doqallin_column_of_row_keys(kinds, 2, options, 2, row_ends, rows_of_keys + 1, row_keys, keys_length, n % 2, other, BUFFER, buffer, BUFFER, places, ROWS + 2, &count, &fault);
 }
 
 static void (*const calls[])(void) = {cast, front, keys, back, bytes_bounds, text_bounds, upper_bound, statistics, merge, read_parts};
@@ -57,8 +57,8 @@ int main(int argc, char **argv) {
         for (size_t i = 0; i < sizeof value; i++) value[i] = below(9) ? 'a' + below(26) : below(256);
         for (int i = 1; i < 4; i++) starts[i] = starts[i - 1] + below(20);
         rows_of_keys = rows;
-        if (doqallin_row_keys(two, 2, options, 2, row_ends, ROWS + 2, row_keys, ROOM, &keys_length, &fault)) keys_length = 0;
-        if (doqallin_column_statistics(&two[0], n, form, ROOM, &form_length, &fault)) form_length = below(40);
+        if (doqallin_row_keys(two, 2, options, 2, row_ends, ROWS + 2, row_keys, BUFFER, &keys_length, &fault)) keys_length = 0;
+        if (doqallin_column_statistics(&two[0], n, form, BUFFER, &form_length, &fault)) form_length = below(40);
         for (size_t i = 0; i < CALLS; i++) {
             size_t of = taken(stack, SIZE, run, (void *)&calls[i]);
             CHECK(of <= (i < CALLS - CALLS_OF_STATISTICS ? MOST : MOST_OF_STATISTICS));

@@ -8,14 +8,14 @@
 
 static char *line;
 static size_t length, count, depth;
-static uint8_t room[1 << 16];
+static uint8_t buffer[1 << 16];
 static uint32_t status;
 
 static void *call(void *unused) {
     if (depth == 32) {
-        status = doqallin_call((const uint8_t *)line, length, room, sizeof room, &count);
+        status = doqallin_call((const uint8_t *)line, length, buffer, sizeof buffer, &count);
     } else {
-        status = doqallin_call_within((const uint8_t *)line, length, depth, room, sizeof room, &count);
+        status = doqallin_call_within((const uint8_t *)line, length, depth, buffer, sizeof buffer, &count);
     }
     return unused;
 }
@@ -29,7 +29,7 @@ int main(int argc, char **argv) {
         length = (size_t)read - (line[read - 1] == '\n');
         count = 0;
         size_t most = taken(stack, size, call, NULL);
-        printf("%zu\t%u\t%.*s\n", most, status, (int)(count < 20 ? count : 20), (const char *)room);
+        printf("%zu\t%u\t%.*s\n", most, status, (int)(count < 20 ? count : 20), (const char *)buffer);
     }
     free(line);
     return 0;

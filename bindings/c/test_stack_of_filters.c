@@ -24,7 +24,7 @@ static const char *const tests[] = {"n between 1 and 2", "s in ('a', 'b', null)"
 #define COUNT_OF(items) (sizeof items / sizeof *items)
 
 static char words[1 << 14];
-static uint8_t form[1 << 14], room[8];
+static uint8_t form[1 << 14], buffer[8];
 static size_t form_length, depth;
 static uint32_t status;
 
@@ -40,7 +40,7 @@ static void *outcomes(void *unused) {
     static const uint8_t known[] = {1, 31, 0, 0, 0, 0, 0, 0, 0, 2, 0, 0, 0, 0, 0, 0, 0, 0, 13, 3, 13, 5};
     static const uint64_t starts[] = {0, 22, 22};
     struct doqallin_fault fault;
-    status = doqallin_filter_outcomes(form, form_length, known, sizeof known, starts, 3, depth, room, 1, &fault);
+    status = doqallin_filter_outcomes(form, form_length, known, sizeof known, starts, 3, depth, buffer, 1, &fault);
     return unused;
 }
 
@@ -51,7 +51,7 @@ static void *mask(void *unused) {
         {DOQALLIN_UTF8, numbers, 0, TEXT("0123456789012345678901234567890"), ends, sizeof ends, 0, 2},
     };
     struct doqallin_fault fault;
-    status = doqallin_filter_mask(form, form_length, two, 2, depth, room, sizeof room, &fault);
+    status = doqallin_filter_mask(form, form_length, two, 2, depth, buffer, sizeof buffer, &fault);
     return unused;
 }
 

@@ -4,7 +4,7 @@
 // any bytes changed.
 #include "random_columns.h"
 
-static uint8_t lower_room[ROOM], upper_room[ROOM];
+static uint8_t lower_buffer[BUFFER], upper_buffer[BUFFER];
 
 // The bytes of a bound, and whether there is one that is exact.
 struct bound {
@@ -94,23 +94,23 @@ static uint32_t of_statistics(const struct doqallin_column *some, size_t most, s
     uint32_t status = plain_check(some, &place);
     fresh();
     if (status) {
-        CHECK(doqallin_column_statistics(some, most, room, ROOM, &count, &fault) == status);
+        CHECK(doqallin_column_statistics(some, most, buffer, BUFFER, &count, &fault) == status);
         CHECK(fault.column == 0 && fault.place == place && count == 77 && is_kept(0, 0));
         return status;
     }
     struct statistics told = plain_statistics(some, most);
     *length = plain_form(some->kind, &told);
-    CHECK(doqallin_column_statistics(some, most, room, *length, &count, &fault) == DOQALLIN_GIVEN);
-    CHECK(count == *length && !memcmp(room, wanted, *length) && is_kept(*length, 0) && fault.column == 77);
+    CHECK(doqallin_column_statistics(some, most, buffer, *length, &count, &fault) == DOQALLIN_GIVEN);
+    CHECK(count == *length && !memcmp(buffer, wanted, *length) && is_kept(*length, 0) && fault.column == 77);
     fresh();
-    CHECK(doqallin_column_statistics(some, most, room, below(*length), &count, &fault) == DOQALLIN_NO_ROOM);
+    CHECK(doqallin_column_statistics(some, most, buffer, below(*length), &count, &fault) == DOQALLIN_BUFFER_TOO_SMALL);
     CHECK(count == *length && is_kept(0, 0) && fault.column == 77);
     return DOQALLIN_GIVEN;
 }
 
 static int is_told(const struct bound *of, int has, int is_exact, const uint8_t *from, size_t length) {
     if (has != of->is_there || is_exact != of->is_exact || length != of->length) return 0;
-    for (size_t i = length; i < ROOM; i++)
+    for (size_t i = length; i < BUFFER; i++)
         if (from[i] != 'q') return 0;
     return !memcmp(from, of->bytes, length);
 }
@@ -121,45 +121,45 @@ static void of_parts(const struct doqallin_column *some, size_t most, size_t len
     const uint8_t *form = exactly(6, wanted, length);
     if (!told.upper.is_there) told.upper.length = 0;
     fresh();
-    memset(lower_room, 'q', ROOM);
-    memset(upper_room, 'q', ROOM);
-    CHECK(doqallin_read_statistics(some->kind, form, length, lower_room, told.lower.length, upper_room, told.upper.length, &parts, &fault) == DOQALLIN_GIVEN);
+    memset(lower_buffer, 'q', BUFFER);
+    memset(upper_buffer, 'q', BUFFER);
+    CHECK(doqallin_read_statistics(some->kind, form, length, lower_buffer, told.lower.length, upper_buffer, told.upper.length, &parts, &fault) == DOQALLIN_GIVEN);
     CHECK(parts.row_count == told.rows && parts.has_null_count && parts.null_count == told.nulls && fault.column == 77);
-    CHECK(is_told(&told.lower, parts.has_lower, parts.lower_is_exact, lower_room, parts.lower_length));
-    CHECK(is_told(&told.upper, parts.has_upper, parts.upper_is_exact, upper_room, parts.upper_length));
+    CHECK(is_told(&told.lower, parts.has_lower, parts.lower_is_exact, lower_buffer, parts.lower_length));
+    CHECK(is_told(&told.upper, parts.has_upper, parts.upper_is_exact, upper_buffer, parts.upper_length));
     if (told.lower.length) {
         parts.lower_length = 0;
-        CHECK(doqallin_read_statistics(some->kind, form, length, lower_room, told.lower.length - 1, upper_room, ROOM, &parts, &fault) == DOQALLIN_NO_ROOM);
+        CHECK(doqallin_read_statistics(some->kind, form, length, lower_buffer, told.lower.length - 1, upper_buffer, BUFFER, &parts, &fault) == DOQALLIN_BUFFER_TOO_SMALL);
         CHECK(parts.lower_length == told.lower.length && parts.upper_length == told.upper.length);
     }
     // Both pieces the same: twice the rows, and the same bounds.
     told.rows *= 2, told.nulls *= 2;
     size_t doubled = plain_form(some->kind, &told);
     fresh();
-    CHECK(doqallin_merge_statistics(some->kind, form, length, form, length, room, doubled, &count, &fault) == DOQALLIN_GIVEN);
-    CHECK(count == doubled && !memcmp(room, wanted, doubled) && is_kept(doubled, 0) && fault.column == 77);
+    CHECK(doqallin_merge_statistics(some->kind, form, length, form, length, buffer, doubled, &count, &fault) == DOQALLIN_GIVEN);
+    CHECK(count == doubled && !memcmp(buffer, wanted, doubled) && is_kept(doubled, 0) && fault.column == 77);
 }
 
 // The statistics of two pieces of the column, merged: those of the whole. Bounds that were cut before can be looser then.
 static void of_pieces(const struct doqallin_column *some, size_t most, const uint8_t *form, size_t length) {
-    uint8_t first[ROOM], rest[ROOM];
+    uint8_t first[BUFFER], rest[BUFFER];
     size_t first_length, rest_length;
     struct doqallin_column one = *some, other = *some;
     one.length = below(some->length + 1);
     other.offset += one.length, other.length -= one.length;
-    CHECK(!doqallin_column_statistics(&one, most, first, ROOM, &first_length, &fault));
-    CHECK(!doqallin_column_statistics(&other, most, rest, ROOM, &rest_length, &fault));
+    CHECK(!doqallin_column_statistics(&one, most, first, BUFFER, &first_length, &fault));
+    CHECK(!doqallin_column_statistics(&other, most, rest, BUFFER, &rest_length, &fault));
     fresh();
     const uint8_t *held = exactly(6, first, first_length), *also = exactly(7, rest, rest_length);
-    CHECK(doqallin_merge_statistics(some->kind, held, first_length, also, rest_length, room, first_length + rest_length, &count, &fault) == DOQALLIN_GIVEN);
+    CHECK(doqallin_merge_statistics(some->kind, held, first_length, also, rest_length, buffer, first_length + rest_length, &count, &fault) == DOQALLIN_GIVEN);
     CHECK(count <= first_length + rest_length && is_kept(count, 0) && fault.column == 77);
     int is_cut = some->kind > DOQALLIN_BOOL && some->kind < DOQALLIN_NULL;
-    CHECK(is_cut ? !memcmp(room + 2, form + 2, 16) : count == length && !memcmp(room, form, length));
+    CHECK(is_cut ? !memcmp(buffer + 2, form + 2, 16) : count == length && !memcmp(buffer, form, length));
 }
 
 // A form with bytes changed, or cut short: it is read, or the first byte is told that is not of the form.
 static uint32_t of_any_bytes(uint8_t kind, const uint8_t *form, size_t length) {
-    uint8_t changed[ROOM];
+    uint8_t changed[BUFFER];
     static const uint8_t likely[] = {0, 1, 2, 12, 13, 21, 22, 31, 255};
     memcpy(changed, form, length);
     for (uint64_t times = 1 + below(3); times; times--) changed[below(length)] = below(2) ? likely[below(sizeof likely)] : below(256);
@@ -167,10 +167,10 @@ static uint32_t of_any_bytes(uint8_t kind, const uint8_t *form, size_t length) {
     const uint8_t *bytes = exactly(6, changed, length);
     struct doqallin_statistics_parts parts = {0, 0, 0, 0, false, false, false, false, false};
     fresh();
-    uint32_t status = doqallin_read_statistics(kind, bytes, length, lower_room, ROOM, upper_room, ROOM, &parts, &fault);
+    uint32_t status = doqallin_read_statistics(kind, bytes, length, lower_buffer, BUFFER, upper_buffer, BUFFER, &parts, &fault);
     CHECK(status == DOQALLIN_GIVEN ? fault.column == 77 : status == DOQALLIN_BAD_BYTES && fault.column == 0 && fault.place <= length);
     size_t place = fault.place;
-    uint32_t merged = doqallin_merge_statistics(kind, bytes, length, bytes, length, room, ROOM, &count, &fault);
+    uint32_t merged = doqallin_merge_statistics(kind, bytes, length, bytes, length, buffer, BUFFER, &count, &fault);
     CHECK(status == merged ? !status || (fault.column == 0 && fault.place == place) : !status && merged == DOQALLIN_TOO_MANY_ROWS);
     return merged;
 }
@@ -183,7 +183,7 @@ int main(int argc, char **argv) {
         uint32_t status = of_statistics(&some, most, &length);
         seen[status]++;
         if (status) continue;
-        uint8_t form[ROOM];
+        uint8_t form[BUFFER];
         memcpy(form, wanted, length);
         of_parts(&some, most, length);
         of_pieces(&some, most, form, length);

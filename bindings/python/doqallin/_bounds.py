@@ -16,7 +16,7 @@ from typing import Any, Generic, TypeVar
 
 from . import _library
 from ._errors import BadOffsets
-from ._library import NONE, BoundLengths, check, encoded, new_room, size
+from ._library import NONE, BoundLengths, check, encoded, new_buffer, size
 
 __all__ = [
     "ZoneBounds",
@@ -61,13 +61,13 @@ def lower_bound_text(value: str, n: int) -> str:
 def _upper(call: Any, value: bytes, n: int) -> bytes | None:
     n = size(n)
     needed = min(n, len(value))
-    room = new_room(needed)
+    buffer = new_buffer(needed)
     count = c_size_t()
-    status = call(value, len(value), n, room, needed, byref(count))
+    status = call(value, len(value), n, buffer, needed, byref(count))
     if status == NONE:
         return None
     check(status)
-    return ctypes.string_at(room, count.value)
+    return ctypes.string_at(buffer, count.value)
 
 
 def upper_bound(value: bytes | bytearray | memoryview, n: int) -> bytes | None:
@@ -141,7 +141,7 @@ def _column(call: Any, data: bytes, offsets: Iterable[int], n: int) -> tuple[byt
     n = size(n)
     places = _offsets(offsets)
     needed = min(n, len(data))
-    lower, upper, lengths = new_room(needed), new_room(needed), BoundLengths()
+    lower, upper, lengths = new_buffer(needed), new_buffer(needed), BoundLengths()
     status = call(data, len(data), places, len(places), n, lower, needed, upper, needed, byref(lengths))
     if status == NONE:
         return None

@@ -12,7 +12,7 @@ from . import _library
 from ._columns import BOOL, EMPTY, KINDS, Buffer, Column, bitmap_of, bits_of, buffer_of, code_of
 from ._errors import CannotCast, NotANumber, UnknownKind, at
 from ._kinds import WIDTHS, Kind
-from ._library import NONE, Fault, check, check_column, new_room
+from ._library import NONE, Fault, check, check_column, new_buffer
 from ._reading import column
 from ._types import DType
 
@@ -63,13 +63,13 @@ def _cast_column(values: Any, to: str | DType | Kind) -> Column:
     if max(code, one._code) >= BOOL:
         raise UnknownKind(f"a column of {one.kind} has no cast to {KINDS[code]}: both are to be integers")
     length = WIDTHS[code] * len(one)
-    raw, room, fault = one._raw(), new_room(length), Fault()
-    status = _library.cast_front(byref(raw), code, room, length, byref(fault))
+    raw, buffer, fault = one._raw(), new_buffer(length), Fault()
+    status = _library.cast_front(byref(raw), code, buffer, length, byref(fault))
     if status == NONE:
         raise at(CannotCast(f"{KINDS[code]} does not have the value at index {fault.place}"), fault.place)
     check_column(status, fault)
     validity = EMPTY
     if one._validity.length:
         validity = buffer_of(bitmap_of(bits_of(one._validity, one._offset, len(one)), len(one)))
-    made = Buffer(ctypes.addressof(room), length, room) if length else EMPTY
+    made = Buffer(ctypes.addressof(buffer), length, buffer) if length else EMPTY
     return Column._of(code, len(one), made, validity=validity)

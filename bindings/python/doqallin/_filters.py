@@ -17,7 +17,7 @@ from typing import Any, overload
 from . import _library
 from ._columns import BOOL, KINDS, Column, buffer_of, code_of, joined
 from ._errors import BadFilter, NoColumn, at
-from ._library import BAD_BYTES, BAD_FILTER, MAX_SIZE, NO_ROOM, Fault, Mistake, NamedKind, check_column, encoded, new_room, size
+from ._library import BAD_BYTES, BAD_FILTER, BUFFER_TOO_SMALL, MAX_SIZE, Fault, Mistake, NamedKind, check_column, encoded, new_buffer, size
 from ._reading import column, each_batch, fitted, raw_columns
 from ._statistics import Statistics
 from ._types import DType
@@ -139,15 +139,15 @@ class Filter:
         text, names = encoded(self.text), [encoded(name) for name in self._names]
         kinds = (NamedKind * max(1, len(names)))(*[NamedKind(name, len(name), code) for name, code in zip(names, codes)])
         count, mistake, deep = c_size_t(256 + 4 * len(text)), Mistake(), size(self.depth)
-        status = NO_ROOM
-        while status == NO_ROOM:
+        status = BUFFER_TOO_SMALL
+        while status == BUFFER_TOO_SMALL:
             length = count.value
-            room = new_room(length)
-            status = _library.prepare_filter(text, len(text), kinds, len(names), deep, room, length, byref(count), byref(mistake))
+            buffer = new_buffer(length)
+            status = _library.prepare_filter(text, len(text), kinds, len(names), deep, buffer, length, byref(count), byref(mistake))
         if status == BAD_FILTER:
             raise self._mistake(mistake)
         check_column(status, Fault())
-        return ctypes.string_at(room, count.value)
+        return ctypes.string_at(buffer, count.value)
 
     def _mistake(self, mistake: Mistake) -> BadFilter:
         return at(BadFilter(f"byte {mistake.place} of {self.text!r}: {_MISTAKES[mistake.expected]}"), mistake.place)
@@ -156,7 +156,7 @@ class Filter:
         """A byte for each zone."""
         prepared = self._bytes(self._codes)
         data, offsets = zones._pieces(self._names)
-        outcomes, fault = new_room(len(zones)), Fault()
+        outcomes, fault = new_buffer(len(zones)), Fault()
         status = _library.filter_outcomes(
             prepared, len(prepared), data, len(data), buffer_of(offsets).address, len(offsets), MAX_SIZE, outcomes, len(zones), byref(fault)
         )
@@ -211,10 +211,10 @@ class Filter:
         prepared, raws, fault = self._bytes(tuple(one._code for one in each)), raw_columns(each), Fault()
         rows = len(each[0]) if each else 0
         length = (rows + 7) // 8
-        room = new_room(length)
-        status = _library.filter_mask(prepared, len(prepared), raws, len(each), MAX_SIZE, room, length, byref(fault))
+        buffer = new_buffer(length)
+        status = _library.filter_mask(prepared, len(prepared), raws, len(each), MAX_SIZE, buffer, length, byref(fault))
         check_column(status, fault, f"column {self._names[fault.column]!r}: " if fault.column < len(self._names) else "")
-        return Column._of(BOOL, rows, buffer_of(bytes(room)))
+        return Column._of(BOOL, rows, buffer_of(bytes(buffer)))
 
     def __eq__(self, other: object) -> bool:
         if not isinstance(other, Filter):

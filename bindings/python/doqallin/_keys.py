@@ -15,7 +15,7 @@ from ._arrow import is_arrow
 from ._columns import BINARY, BOOL, CODES, EMPTY, LARGE_BINARY, LARGE_UTF8, NULL, UTF8, Buffer, Column, buffer_of, code_of
 from ._errors import KindsDiffer, WrongLength
 from ._kinds import WIDTHS
-from ._library import NO_ROOM, Fault, check_column, new_offsets, new_room
+from ._library import BUFFER_TOO_SMALL, Fault, check_column, new_buffer, new_offsets
 from ._reading import column, columns, raw_columns
 from ._types import DType
 
@@ -61,13 +61,13 @@ def row_keys(
     options = _options(len(each), descending, nulls_first)
     raws, fault, rows = raw_columns(each), Fault(), len(each[0]) if each else 0
     offsets, count = new_offsets(rows + 1), c_size_t(sum(map(_width, each)))
-    status = NO_ROOM
-    while status == NO_ROOM:
+    status = BUFFER_TOO_SMALL
+    while status == BUFFER_TOO_SMALL:
         length = count.value
-        room = new_room(length)
-        status = _library.row_keys(raws, len(each), options, len(options), offsets, rows + 1, room, length, byref(count), byref(fault))
+        buffer = new_buffer(length)
+        status = _library.row_keys(raws, len(each), options, len(options), offsets, rows + 1, buffer, length, byref(count), byref(fault))
     check_column(status, fault, f"column {fault.column}: ")
-    keys = Buffer(ctypes.addressof(room), count.value, room) if count.value else EMPTY
+    keys = Buffer(ctypes.addressof(buffer), count.value, buffer) if count.value else EMPTY
     return Column._of(LARGE_BINARY, rows, keys, Buffer(ctypes.addressof(offsets), 8 * (rows + 1), offsets))
 
 
@@ -105,7 +105,7 @@ def _column_of(keys: Column, codes: bytes, options: bytes, which: int) -> Column
     is_text = code in (UTF8, CODES["binary"])
     bitmap = (rows + 7) // 8
     most = keys._values.length if is_text else bitmap if code == BOOL else WIDTHS[code] * rows if code < BOOL else 0
-    validity, values, offsets = new_room(bitmap), new_room(most), new_offsets(rows + 1)
+    validity, values, offsets = new_buffer(bitmap), new_buffer(most), new_offsets(rows + 1)
     places, count, fault = _offsets_of(keys), c_size_t(), Fault()
     status = _library.column_of_row_keys(
         codes,

@@ -31,7 +31,7 @@ from ._errors import (
     at,
 )
 
-GIVEN, NONE, NO_MEMORY, NO_ROOM, NOT_UTF8, NOT_A_NUMBER, BAD_OFFSETS = range(7)
+GIVEN, NONE, NO_MEMORY, BUFFER_TOO_SMALL, NOT_UTF8, NOT_A_NUMBER, BAD_OFFSETS = range(7)
 UNKNOWN_KIND, TOO_MANY_ROWS, TOO_SHORT, BAD_BYTES, BAD_FILTER, WRONG_LENGTH = range(7, 13)
 MAX_SIZE: int = 2 ** (8 * ctypes.sizeof(c_size_t)) - 1
 
@@ -135,7 +135,7 @@ column_bytes = _declare("column_bounds_bytes", c_uint32, *_COLUMN)
 column_text = _declare("column_bounds_text", c_uint32, *_COLUMN)
 
 
-# Columns. A place that is written is an address, and so is a room.
+# Columns. A place that is written is an address, and so is a buffer.
 _OUT = c_void_p
 _SPACE = (c_void_p, c_size_t)
 column_statistics = _declare("column_statistics", c_uint32, _OUT, c_size_t, *_SPACE, _OUT, _OUT)
@@ -221,7 +221,7 @@ def _new(item: type[_Item], count: int) -> ctypes.Array[_Item]:
         raise OutOfMemory(f"there is no memory for {count} items") from None
 
 
-def new_room(length: int) -> ctypes.Array[c_uint8]:
+def new_buffer(length: int) -> ctypes.Array[c_uint8]:
     return _new(c_uint8, length)
 
 
@@ -246,7 +246,7 @@ def call(line: str, depth: int = 32) -> str:
     count = c_size_t()
     written: ctypes.Array[c_char] = _Answer()
     status = _call()(text, len(text), deep, written, len(written), byref(count))
-    while status == NO_ROOM:
+    while status == BUFFER_TOO_SMALL:
         written = (c_char * count.value)()
         status = _call()(text, len(text), deep, written, len(written), byref(count))
     check(status)

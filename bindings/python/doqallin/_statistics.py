@@ -14,7 +14,7 @@ from . import _library
 from ._arrow import Batch
 from ._columns import BOOL, CODES, KINDS, NULL, Column, code_of
 from ._errors import KindsDiffer
-from ._library import NO_ROOM, Fault, Parts, check_column, new_room, size
+from ._library import BUFFER_TOO_SMALL, Fault, Parts, check_column, new_buffer, size
 from ._reading import each_batch
 from ._types import DType
 
@@ -66,7 +66,7 @@ class Statistics:
         if self._read is None:
             data, parts, fault = self._bytes, Parts(), Fault()
             length = max(8, len(data))
-            lower, upper = new_room(length), new_room(length)
+            lower, upper = new_buffer(length), new_buffer(length)
             status = _library.read_statistics(self._code, data, len(data), lower, length, upper, length, byref(parts), byref(fault))
             check_column(status, fault)
             self._read = (
@@ -76,8 +76,8 @@ class Statistics:
             )
         return self._read
 
-    def _bound(self, room: Any, length: int) -> Any:
-        data = ctypes.string_at(room, length)
+    def _bound(self, buffer: Any, length: int) -> Any:
+        data = ctypes.string_at(buffer, length)
         if self._code < BOOL:
             return int.from_bytes(data, "little", signed=KINDS[self._code][0] == "i")
         if self._code == BOOL:
@@ -129,10 +129,10 @@ class Statistics:
         one, two, count, fault = self._bytes, other._bytes, c_size_t(), Fault()
         # Each bound is that of one of the two.
         length = len(one) + len(two)
-        room = new_room(length)
-        status = _library.merge_statistics(code, one, len(one), two, len(two), room, length, byref(count), byref(fault))
+        buffer = new_buffer(length)
+        status = _library.merge_statistics(code, one, len(one), two, len(two), buffer, length, byref(count), byref(fault))
         check_column(status, fault)
-        return Statistics._of(code, ctypes.string_at(room, count.value))
+        return Statistics._of(code, ctypes.string_at(buffer, count.value))
 
     def __bytes__(self) -> bytes:
         return self._bytes
@@ -160,14 +160,14 @@ class Statistics:
 def _of_column(one: Column, max_bytes: int) -> Statistics:
     length = 18 + 4 * (1 + min(max_bytes, 256))
     raw, count, fault = one._raw(), c_size_t(), Fault()
-    status = NO_ROOM
-    while status == NO_ROOM:
-        room = new_room(length)
-        status = _library.column_statistics(byref(raw), max_bytes, room, length, byref(count), byref(fault))
+    status = BUFFER_TOO_SMALL
+    while status == BUFFER_TOO_SMALL:
+        buffer = new_buffer(length)
+        status = _library.column_statistics(byref(raw), max_bytes, buffer, length, byref(count), byref(fault))
         length = count.value
     check_column(status, fault)
     # Of strings and bytes there is one kind here, whatever the width of the offsets.
-    return Statistics._of(CODES[one.kind], ctypes.string_at(room, length))
+    return Statistics._of(CODES[one.kind], ctypes.string_at(buffer, length))
 
 
 def _of_batch(batch: Batch, max_bytes: int) -> Any:

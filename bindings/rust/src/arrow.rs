@@ -338,7 +338,7 @@ impl<'a> Column<'a> {
         self.length == 0
     }
 
-    /// How many rows it has, and at most as many as its buffers have room for.
+    /// How many rows it has, and at most as many as its buffers have buffer for.
     pub(crate) fn rows_in_memory(&self) -> usize {
         let most = match (self.kind, self.kind.width()) {
             (_, Some(width)) => self.values.len() / width,
@@ -420,7 +420,7 @@ pub fn cast_column<T: Integer>(column: &Column<'_>) -> Result<Vec<T>, CastError>
     };
     let mut made = Vec::<T>::with_capacity(rows);
     let mut fault = raw::Fault::default();
-    // SAFETY: the column's pointers and lengths are of slices, and the room and `fault` are places of their own.
+    // SAFETY: the column's pointers and lengths are of slices, and the buffer and `fault` are places of their own.
     let status = unsafe {
         raw::doqallin_cast_front(
             &column.raw(),
@@ -432,7 +432,7 @@ pub fn cast_column<T: Integer>(column: &Column<'_>) -> Result<Vec<T>, CastError>
     };
     match status {
         raw::GIVEN => {
-            // SAFETY: the call has written a number for each row, and reads no byte of the room.
+            // SAFETY: the call has written a number for each row, and reads no byte of the buffer.
             unsafe { made.set_len(rows) };
             Ok(made)
         }

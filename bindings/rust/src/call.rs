@@ -32,26 +32,26 @@ pub fn call(line: &str) -> String {
 /// ```
 #[must_use]
 pub fn call_within(line: &str, depth: usize) -> String {
-    let mut room = vec![0; 256];
+    let mut buffer = vec![0; 256];
     loop {
         let mut count = 0;
-        // SAFETY: each pointer and length are of one slice, and the room and `count` are places of their own.
+        // SAFETY: each pointer and length are of one slice, and the buffer and `count` are places of their own.
         let status = unsafe {
             raw::doqallin_call_within(
                 line.as_ptr(),
                 line.len(),
                 depth,
-                room.as_mut_ptr(),
-                room.len(),
+                buffer.as_mut_ptr(),
+                buffer.len(),
                 &mut count,
             )
         };
         match status {
             raw::GIVEN => {
-                room.truncate(count);
-                return String::from_utf8(room).expect("an answer is UTF-8");
+                buffer.truncate(count);
+                return String::from_utf8(buffer).expect("an answer is UTF-8");
             }
-            raw::NO_ROOM => room.resize(count, 0),
+            raw::BUFFER_TOO_SMALL => buffer.resize(count, 0),
             raw::NO_MEMORY => out_of_memory(line.len()),
             other => unreachable!("status {other}"),
         }

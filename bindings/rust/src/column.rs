@@ -78,10 +78,10 @@ fn bounds_of(
     n: usize,
 ) -> Result<Option<Bounds>, ColumnError> {
     // So many bytes always suffice.
-    let room = n.min(bytes.len());
-    let (mut lower, mut upper) = (vec![0; room], vec![0; room]);
+    let buffer = n.min(bytes.len());
+    let (mut lower, mut upper) = (vec![0; buffer], vec![0; buffer]);
     let mut lengths = raw::BoundLengths::default();
-    // SAFETY: each pointer and length are of one slice, and the rooms and `lengths` are places of their own.
+    // SAFETY: each pointer and length are of one slice, and the buffers and `lengths` are places of their own.
     let status = unsafe {
         call(
             bytes.as_ptr(),
@@ -105,7 +105,7 @@ fn bounds_of(
         raw::NONE => Ok(None),
         raw::BAD_OFFSETS => Err(ColumnError::BadOffsets),
         raw::NOT_UTF8 => Err(ColumnError::NotUtf8),
-        raw::NO_MEMORY => out_of_memory(room),
-        other => unreachable!("status {other}: the rooms suffice"),
+        raw::NO_MEMORY => out_of_memory(buffer),
+        other => unreachable!("status {other}: the buffers suffice"),
     }
 }

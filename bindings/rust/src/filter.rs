@@ -129,10 +129,10 @@ impl Filter {
             kind: *kind as u8,
         };
         let kinds: Vec<raw::NamedKind> = columns.iter().map(named).collect();
-        let mut room = vec![0; 256 + 4 * text.len()];
+        let mut buffer = vec![0; 256 + 4 * text.len()];
         loop {
             let (mut count, mut mistake) = (0, raw::Mistake::default());
-            // SAFETY: each pointer and length are of one slice; the room, `count` and `mistake` are places of their own.
+            // SAFETY: each pointer and length are of one slice; the buffer, `count` and `mistake` are places of their own.
             let status = unsafe {
                 raw::doqallin_prepare_filter(
                     text.as_ptr(),
@@ -140,21 +140,21 @@ impl Filter {
                     kinds.as_ptr(),
                     kinds.len(),
                     depth,
-                    room.as_mut_ptr(),
-                    room.len(),
+                    buffer.as_mut_ptr(),
+                    buffer.len(),
                     &mut count,
                     &mut mistake,
                 )
             };
             match status {
                 raw::GIVEN => {
-                    room.truncate(count);
+                    buffer.truncate(count);
                     return Ok(Filter {
-                        bytes: room,
+                        bytes: buffer,
                         width: columns.len(),
                     });
                 }
-                raw::NO_ROOM => room.resize(count, 0),
+                raw::BUFFER_TOO_SMALL => buffer.resize(count, 0),
                 raw::BAD_FILTER => {
                     return Err(FilterError::Mistake {
                         place: mistake.place,
@@ -191,7 +191,7 @@ impl Filter {
             count += 1;
         }
         let (mut outcomes, mut fault) = (vec![0; count], raw::Fault::default());
-        // SAFETY: each pointer and length are of one slice; the room and `fault` are places of their own.
+        // SAFETY: each pointer and length are of one slice; the buffer and `fault` are places of their own.
         let status = unsafe {
             raw::doqallin_filter_outcomes(
                 self.bytes.as_ptr(),
@@ -230,16 +230,16 @@ impl Filter {
 
     /// Whether each row matches. The columns are those of the filter, in their order.
     pub fn mask(&self, columns: &[Column<'_>]) -> Result<Vec<bool>, FilterError> {
-        // A column that says more rows than its buffers have is refused, whatever the room.
+        // A column that says more rows than its buffers have is refused, whatever the buffer.
         let rows = columns
             .iter()
             .map(Column::rows_in_memory)
             .min()
             .unwrap_or(0);
         let raws = RawColumns::of(columns);
-        let mut room = vec![0u8; rows.div_ceil(8)];
+        let mut buffer = vec![0u8; rows.div_ceil(8)];
         let mut fault = raw::Fault::default();
-        // SAFETY: each pointer and length are of one slice; the room and `fault` are places of their own.
+        // SAFETY: each pointer and length are of one slice; the buffer and `fault` are places of their own.
         let status = unsafe {
             raw::doqallin_filter_mask(
                 self.bytes.as_ptr(),
@@ -247,14 +247,14 @@ impl Filter {
                 raws.columns.as_ptr(),
                 raws.columns.len(),
                 WHOLE,
-                room.as_mut_ptr(),
-                room.len(),
+                buffer.as_mut_ptr(),
+                buffer.len(),
                 &mut fault,
             )
         };
         match status {
             raw::GIVEN => Ok((0..rows)
-                .map(|row| room[row / 8] >> (row % 8) & 1 == 1)
+                .map(|row| buffer[row / 8] >> (row % 8) & 1 == 1)
                 .collect()),
             raw::UNKNOWN_KIND if fault.place == 1 => Err(FilterError::KindsDiffer(fault.column)),
             other => Err(FilterError::Rows(RowsError::of(other, &fault))),

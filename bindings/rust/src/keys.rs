@@ -81,7 +81,7 @@ pub fn row_keys(columns: &[Column<'_>], options: &[SortOptions]) -> Result<RowKe
     let options = option_bytes(options);
     let rows = columns.first().map_or(0, Column::len);
     let mut fault = raw::Fault::default();
-    let (places, length) = likely_room(columns);
+    let (places, length) = likely_buffer(columns);
     let mut offsets = Vec::<u64>::with_capacity(places + 1);
     let mut bytes = Vec::<u8>::with_capacity(length);
     loop {
@@ -104,18 +104,18 @@ pub fn row_keys(columns: &[Column<'_>], options: &[SortOptions]) -> Result<RowKe
         };
         match status {
             raw::GIVEN => {
-                // SAFETY: the call has written one offset more than there are rows, and so many bytes. It reads neither room.
+                // SAFETY: the call has written one offset more than there are rows, and so many bytes. It reads neither buffer.
                 unsafe {
                     offsets.set_len(rows + 1);
                     bytes.set_len(count);
                 }
-                // To give back a part of a large room takes a sixth of the time of the call.
+                // To give back a part of a large buffer takes a sixth of the time of the call.
                 if count < bytes.capacity() / 2 {
                     bytes.shrink_to_fit();
                 }
                 return Ok(RowKeys { offsets, bytes });
             }
-            raw::NO_ROOM => {
+            raw::BUFFER_TOO_SMALL => {
                 let Some(places) = rows.checked_add(1) else {
                     out_of_memory(rows)
                 };
@@ -129,7 +129,7 @@ pub fn row_keys(columns: &[Column<'_>], options: &[SortOptions]) -> Result<RowKe
 
 /// For how many rows the columns have memory, and how many bytes their keys may take. Where these are not enough, the call
 /// says what is.
-fn likely_room(columns: &[Column<'_>]) -> (usize, usize) {
+fn likely_buffer(columns: &[Column<'_>]) -> (usize, usize) {
     let rows = columns.iter().map(Column::rows_in_memory).min();
     // No count below is above the greatest `isize`.
     let most = isize::MAX as usize / 66 / columns.len().max(1);
@@ -199,9 +199,9 @@ impl RowKeys {
         let kind = kinds.get(which).ok_or(KeysError::WrongLength)?.large();
         let codes: Vec<u8> = kinds.iter().map(|kind| *kind as u8).collect();
         let options = option_bytes(options);
-        let mut made = OwnedColumn::room_for(kind, self.len(), self.bytes.len());
+        let mut made = OwnedColumn::buffer_for(kind, self.len(), self.bytes.len());
         let (mut count, mut fault) = (0, raw::Fault::default());
-        // SAFETY: each pointer and length are of one slice; the rooms, `count` and `fault` are places of their own.
+        // SAFETY: each pointer and length are of one slice; the buffers, `count` and `fault` are places of their own.
         let status = unsafe {
             raw::doqallin_column_of_row_keys(
                 codes.as_ptr(),
@@ -232,7 +232,7 @@ impl RowKeys {
             raw::BAD_OFFSETS => Err(KeysError::BadOffsets(fault.place)),
             raw::WRONG_LENGTH => Err(KeysError::WrongLength),
             raw::NO_MEMORY => out_of_memory(self.bytes.len()),
-            other => unreachable!("status {other}: the rooms suffice"),
+            other => unreachable!("status {other}: the buffers suffice"),
         }
     }
 }
@@ -258,7 +258,7 @@ pub struct OwnedColumn {
 
 impl OwnedColumn {
     /// Room for a column of so many rows, whose strings have at most so many bytes together.
-    fn room_for(kind: Kind, length: usize, bytes: usize) -> OwnedColumn {
+    fn buffer_for(kind: Kind, length: usize, bytes: usize) -> OwnedColumn {
         let bitmap = length.div_ceil(8);
         let (values, offsets) = match (kind, kind.width()) {
             (_, Some(width)) => (width * length, 0),

@@ -9,7 +9,7 @@
 pub const GIVEN: u32 = 0;
 pub const NONE: u32 = 1;
 pub const NO_MEMORY: u32 = 2;
-pub const NO_ROOM: u32 = 3;
+pub const BUFFER_TOO_SMALL: u32 = 3;
 pub const NOT_UTF8: u32 = 4;
 pub const BAD_OFFSETS: u32 = 6;
 pub const UNKNOWN_KIND: u32 = 7;
@@ -76,7 +76,7 @@ pub struct Mistake {
     pub expected: u32,
 }
 
-/// An upper bound of a value at n bytes, into a room.
+/// An upper bound of a value at n bytes, into a buffer.
 pub type Upper = unsafe extern "C" fn(*const u8, usize, usize, *mut u8, usize, &mut usize) -> u32;
 
 /// The bounds of a column.
@@ -107,16 +107,16 @@ unsafe extern "C" {
         value: *const u8,
         length: usize,
         n: usize,
-        room: *mut u8,
-        room_length: usize,
+        buffer: *mut u8,
+        buffer_length: usize,
         count: &mut usize,
     ) -> u32;
     pub fn doqallin_upper_bound_text(
         value: *const u8,
         length: usize,
         n: usize,
-        room: *mut u8,
-        room_length: usize,
+        buffer: *mut u8,
+        buffer_length: usize,
         count: &mut usize,
     ) -> u32;
     pub fn doqallin_may_contain_bytes(
@@ -144,10 +144,10 @@ unsafe extern "C" {
         offsets: *const u64,
         offsets_length: usize,
         n: usize,
-        lower_room: *mut u8,
-        lower_room_length: usize,
-        upper_room: *mut u8,
-        upper_room_length: usize,
+        lower_buffer: *mut u8,
+        lower_buffer_length: usize,
+        upper_buffer: *mut u8,
+        upper_buffer_length: usize,
         lengths: &mut BoundLengths,
     ) -> u32;
     pub fn doqallin_column_bounds_text(
@@ -156,17 +156,17 @@ unsafe extern "C" {
         offsets: *const u64,
         offsets_length: usize,
         n: usize,
-        lower_room: *mut u8,
-        lower_room_length: usize,
-        upper_room: *mut u8,
-        upper_room_length: usize,
+        lower_buffer: *mut u8,
+        lower_buffer_length: usize,
+        upper_buffer: *mut u8,
+        upper_buffer_length: usize,
         lengths: &mut BoundLengths,
     ) -> u32;
     pub fn doqallin_column_statistics(
         column: &ArrowColumn,
         max_length: usize,
-        room: *mut u8,
-        room_length: usize,
+        buffer: *mut u8,
+        buffer_length: usize,
         count: &mut usize,
         fault: &mut Fault,
     ) -> u32;
@@ -176,8 +176,8 @@ unsafe extern "C" {
         one_length: usize,
         other: *const u8,
         other_length: usize,
-        room: *mut u8,
-        room_length: usize,
+        buffer: *mut u8,
+        buffer_length: usize,
         count: &mut usize,
         fault: &mut Fault,
     ) -> u32;
@@ -185,18 +185,18 @@ unsafe extern "C" {
         kind: u8,
         bytes: *const u8,
         bytes_length: usize,
-        lower_room: *mut u8,
-        lower_room_length: usize,
-        upper_room: *mut u8,
-        upper_room_length: usize,
+        lower_buffer: *mut u8,
+        lower_buffer_length: usize,
+        upper_buffer: *mut u8,
+        upper_buffer_length: usize,
         parts: &mut Statistics,
         fault: &mut Fault,
     ) -> u32;
     pub fn doqallin_cast_front(
         column: &ArrowColumn,
         to: u8,
-        room: *mut u8,
-        room_length: usize,
+        buffer: *mut u8,
+        buffer_length: usize,
         fault: &mut Fault,
     ) -> u32;
     pub fn doqallin_row_keys(
@@ -204,10 +204,10 @@ unsafe extern "C" {
         column_count: usize,
         options: *const u8,
         options_length: usize,
-        offsets_room: *mut u64,
-        offsets_room_length: usize,
-        room: *mut u8,
-        room_length: usize,
+        offsets_buffer: *mut u64,
+        offsets_buffer_length: usize,
+        buffer: *mut u8,
+        buffer_length: usize,
         count: &mut usize,
         fault: &mut Fault,
     ) -> u32;
@@ -221,12 +221,12 @@ unsafe extern "C" {
         bytes: *const u8,
         bytes_length: usize,
         which: usize,
-        validity_room: *mut u8,
-        validity_room_length: usize,
-        values_room: *mut u8,
-        values_room_length: usize,
-        offsets_room: *mut u64,
-        offsets_room_length: usize,
+        validity_buffer: *mut u8,
+        validity_buffer_length: usize,
+        values_buffer: *mut u8,
+        values_buffer_length: usize,
+        offsets_buffer: *mut u64,
+        offsets_buffer_length: usize,
         count: &mut usize,
         fault: &mut Fault,
     ) -> u32;
@@ -236,8 +236,8 @@ unsafe extern "C" {
         columns: *const NamedKind,
         column_count: usize,
         depth: usize,
-        room: *mut u8,
-        room_length: usize,
+        buffer: *mut u8,
+        buffer_length: usize,
         count: &mut usize,
         mistake: &mut Mistake,
     ) -> u32;
@@ -259,8 +259,8 @@ unsafe extern "C" {
         columns: *const ArrowColumn,
         column_count: usize,
         depth: usize,
-        room: *mut u8,
-        room_length: usize,
+        buffer: *mut u8,
+        buffer_length: usize,
         fault: &mut Fault,
     ) -> u32;
 }
@@ -271,8 +271,8 @@ unsafe extern "C" {
         line: *const u8,
         line_length: usize,
         depth: usize,
-        room: *mut u8,
-        room_length: usize,
+        buffer: *mut u8,
+        buffer_length: usize,
         count: &mut usize,
     ) -> u32;
 }

@@ -58,24 +58,24 @@ pub struct Statistics {
 impl Statistics {
     /// The statistics of a column, with bounds that are strings or bytes cut to `max_bytes` bytes.
     pub fn of(column: &Column<'_>, max_bytes: usize) -> Result<Statistics, ColumnFault> {
-        let mut room = vec![0; 32 + 4 * max_bytes.min(256)];
+        let mut buffer = vec![0; 32 + 4 * max_bytes.min(256)];
         let mut fault = raw::Fault::default();
         let bytes = loop {
             let mut count = 0;
-            // SAFETY: the column's pointers and lengths are of slices; the room, `count` and `fault` are places of their own.
+            // SAFETY: the column's pointers and lengths are of slices; the buffer, `count` and `fault` are places of their own.
             let status = unsafe {
                 raw::doqallin_column_statistics(
                     &column.raw(),
                     max_bytes,
-                    room.as_mut_ptr(),
-                    room.len(),
+                    buffer.as_mut_ptr(),
+                    buffer.len(),
                     &mut count,
                     &mut fault,
                 )
             };
             match status {
-                raw::GIVEN => break &room[..count],
-                raw::NO_ROOM => room.resize(count, 0),
+                raw::GIVEN => break &buffer[..count],
+                raw::BUFFER_TOO_SMALL => buffer.resize(count, 0),
                 other => return Err(ColumnFault::of(other, fault.place)),
             }
         };
@@ -87,19 +87,19 @@ impl Statistics {
     /// What was written of integers is read as any kind of integers that has its bounds.
     pub fn from_bytes(kind: Kind, bytes: &[u8]) -> Result<Statistics, StatisticsError> {
         // So many bytes always suffice.
-        let room = bytes.len().max(8);
-        let (mut lower, mut upper) = (vec![0; room], vec![0; room]);
+        let buffer = bytes.len().max(8);
+        let (mut lower, mut upper) = (vec![0; buffer], vec![0; buffer]);
         let (mut parts, mut fault) = (raw::Statistics::default(), raw::Fault::default());
-        // SAFETY: each pointer and length are of one slice; the rooms, `parts` and `fault` are places of their own.
+        // SAFETY: each pointer and length are of one slice; the buffers, `parts` and `fault` are places of their own.
         let status = unsafe {
             raw::doqallin_read_statistics(
                 kind as u8,
                 bytes.as_ptr(),
                 bytes.len(),
                 lower.as_mut_ptr(),
-                room,
+                buffer,
                 upper.as_mut_ptr(),
-                room,
+                buffer,
                 &mut parts,
                 &mut fault,
             )
@@ -108,10 +108,10 @@ impl Statistics {
             raw::GIVEN => {}
             raw::BAD_BYTES => return Err(StatisticsError::BadBytes(fault.place)),
             raw::NO_MEMORY => out_of_memory(bytes.len()),
-            other => unreachable!("status {other}: the rooms suffice"),
+            other => unreachable!("status {other}: the buffers suffice"),
         }
-        let bound = |is_there: bool, room: &[u8], length: usize| {
-            is_there.then(|| Item::of(kind, &room[..length]))
+        let bound = |is_there: bool, buffer: &[u8], length: usize| {
+            is_there.then(|| Item::of(kind, &buffer[..length]))
         };
         Ok(Statistics {
             kind,
@@ -131,9 +131,9 @@ impl Statistics {
             return Err(StatisticsError::KindsDiffer);
         }
         // Each bound is that of one of the two.
-        let mut room = vec![0; self.bytes.len() + other.bytes.len()];
+        let mut buffer = vec![0; self.bytes.len() + other.bytes.len()];
         let (mut count, mut fault) = (0, raw::Fault::default());
-        // SAFETY: each pointer and length are of one slice; the room, `count` and `fault` are places of their own.
+        // SAFETY: each pointer and length are of one slice; the buffer, `count` and `fault` are places of their own.
         let status = unsafe {
             raw::doqallin_merge_statistics(
                 self.kind as u8,
@@ -141,16 +141,16 @@ impl Statistics {
                 self.bytes.len(),
                 other.bytes.as_ptr(),
                 other.bytes.len(),
-                room.as_mut_ptr(),
-                room.len(),
+                buffer.as_mut_ptr(),
+                buffer.len(),
                 &mut count,
                 &mut fault,
             )
         };
         match status {
-            raw::GIVEN => Statistics::from_bytes(self.kind, &room[..count]),
+            raw::GIVEN => Statistics::from_bytes(self.kind, &buffer[..count]),
             raw::TOO_MANY_ROWS => Err(StatisticsError::TooManyRows),
-            raw::NO_MEMORY => out_of_memory(room.len()),
+            raw::NO_MEMORY => out_of_memory(buffer.len()),
             other => unreachable!("status {other} of two statistics"),
         }
     }

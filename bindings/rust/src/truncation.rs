@@ -59,26 +59,26 @@ pub fn upper_bound_text(value: &str, n: usize) -> Option<String> {
 
 fn upper_of(call: raw::Upper, value: &[u8], n: usize) -> Option<Vec<u8>> {
     // So many bytes always suffice.
-    let mut room = vec![0; n.min(value.len())];
+    let mut buffer = vec![0; n.min(value.len())];
     let mut count = 0;
-    // SAFETY: each pointer and length are of one slice, and the room and `count` are places of their own.
+    // SAFETY: each pointer and length are of one slice, and the buffer and `count` are places of their own.
     let status = unsafe {
         call(
             value.as_ptr(),
             value.len(),
             n,
-            room.as_mut_ptr(),
-            room.len(),
+            buffer.as_mut_ptr(),
+            buffer.len(),
             &mut count,
         )
     };
     match status {
         raw::GIVEN => {
-            room.truncate(count);
-            Some(room)
+            buffer.truncate(count);
+            Some(buffer)
         }
         raw::NONE => None,
         raw::NO_MEMORY => out_of_memory(n.min(value.len())),
-        other => unreachable!("status {other}: the room suffices"),
+        other => unreachable!("status {other}: the buffer suffices"),
     }
 }

@@ -4,6 +4,6 @@ pub mod BufferItems
 pub mod ByteOrder
 pub mod CellLists
 pub mod OffsetItems
-pub mod RoomSteps
+pub mod BufferSteps
 pub mod RowSteps
 pub mod SpanSteps

@@ -1,6 +1,6 @@
 -- The rows of a column that can be read.
 use Rattle.std.specs.Prelude.{◌≡◌, Some}
-use Rattle.arrow_columns.specs.Faults.{AreTextRows}
+use Rattle.arrow_columns.specs.Errors.{AreTextRows}
 use Rattle.arrow_columns.specs.Kinds.{kind_at}
 use Rattle.arrow_columns.specs.declared.columns.Column.{Column}
 use Rattle.arrow_columns.specs.declared.kinds.Kind.{Kind}

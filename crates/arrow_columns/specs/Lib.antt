@@ -4,7 +4,7 @@ pub mod Cells
 pub mod Checked
 pub mod Columns
 pub mod Examples
-pub mod Faults
+pub mod Errors
 pub mod Integers
 pub mod Kinds
 pub mod Offsets

@@ -4,7 +4,7 @@ pub use Rattle.arrow_columns.specs.Casts.{AllFit, AreCastItems, AreCastTo, AreWr
 pub use Rattle.arrow_columns.specs.Cells.{cell_at, cells_from}
 pub use Rattle.arrow_columns.specs.Checked.{AreRowsOf}
 pub use Rattle.arrow_columns.specs.Columns.{HasRows, IsByteColumn, boolean_cells, byte_cells, cells_of_width, end_of, integer_cells, offset_in, rows_in}
-pub use Rattle.arrow_columns.specs.Faults.{AreTextRows, IsBooleanFault, IsByteFault, IsFaultOf, IsIntegerFault, IsRowsFault, IsStringFault, IsTextRow}
+pub use Rattle.arrow_columns.specs.Errors.{AreTextRows, IsBooleanError, IsByteError, IsErrorOf, IsIntegerError, IsRowsError, IsStringError, IsTextRow}
 pub use Rattle.arrow_columns.specs.Integers.{IsOfKind, cell_of_item, integer_of, item_at, width_of}
 pub use Rattle.arrow_columns.specs.Kinds.{integer_kind_at, kind_at}
 pub use Rattle.arrow_columns.specs.Offsets.{AreRows, GoUp, IsRow, bytes_between, bytes_of_offset, largest_offset, offset_of}

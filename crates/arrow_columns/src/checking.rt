@@ -1,14 +1,14 @@
 //! Whether a column can be read.
 
 ghost use Rattle.std.specs.Prelude.{◌≡◌, ◌<◌, ◌≤◌, IfErr, IfOk, MatchOption};
-ghost use Rattle.arrow_columns.specs.Words.{AreRowsOf, AreTextRows, HasRows, IsBooleanFault, IsByteColumn};
-ghost use Rattle.arrow_columns.specs.Words.{IsByteFault, IsFaultOf, IsIntegerFault, IsRowsFault, IsStringFault};
+ghost use Rattle.arrow_columns.specs.Words.{AreRowsOf, AreTextRows, HasRows, IsBooleanError, IsByteColumn};
+ghost use Rattle.arrow_columns.specs.Words.{IsByteError, IsErrorOf, IsIntegerError, IsRowsError, IsStringError};
 ghost use Rattle.arrow_columns.specs.Words.{IsTextRow, bytes_of_offset, end_of, width_of};
 
 use crate::bitmaps::bitmap_length;
 use crate::byte_items::{first_bad, first_not_utf8};
 use crate::columns::Column;
-use crate::faults::{Buffer, ColumnFault};
+use crate::errors::{Buffer, ColumnError};
 use crate::kinds::{IntegerKind, Kind};
 use crate::offset_width::OffsetWidth;
 use crate::offsets::Offset;
@@ -29,50 +29,50 @@ impl IntegerKind {
 }
 
 /// Where the rows end in the buffers, if the bitmap of validity has a bit for each.
-fn end_of_rows(column: Column) -> Result<usize, ColumnFault>
+fn end_of_rows(column: Column) -> Result<usize, ColumnError>
     ensures rows { IfOk result (λ end. (end ≡ end_of column.entry) × HasRows column.entry) }
-    ensures fault { IfErr result (λ fault. IsRowsFault column.entry fault) }
+    ensures fault { IfErr result (λ fault. IsRowsError column.entry fault) }
 {
     let Some(end) = column.offset.checked_add(column.length) else {
-        return Err(ColumnFault::TooManyRows);
+        return Err(ColumnError::TooManyRows);
     };
     if !column.validity.is_empty() && column.validity.len() < bitmap_length(end) {
-        return Err(ColumnFault::TooShort(Buffer::Validity));
+        return Err(ColumnError::TooShort(Buffer::Validity));
     }
     Ok(end)
 }
 
 /// The rows of a column of integers.
-fn integer_rows(kind: IntegerKind, column: Column) -> Result<IntegerRows, ColumnFault>
+fn integer_rows(kind: IntegerKind, column: Column) -> Result<IntegerRows, ColumnError>
     ensures rows { IfOk result (λ rows. (rows.kind ≡ kind) × (rows.column ≡ column.entry)) }
-    ensures fault { IfErr result (λ fault. IsIntegerFault kind column.entry fault) }
+    ensures fault { IfErr result (λ fault. IsIntegerError kind column.entry fault) }
 {
     let end = end_of_rows(column)?;
     if column.values.len() / kind.width() < end {
-        return Err(ColumnFault::TooShort(Buffer::Values));
+        return Err(ColumnError::TooShort(Buffer::Values));
     }
     Ok(IntegerRows { kind, column })
 }
 
 /// The rows of a column of booleans.
-fn boolean_rows(column: Column) -> Result<BooleanRows, ColumnFault>
+fn boolean_rows(column: Column) -> Result<BooleanRows, ColumnError>
     ensures rows { IfOk result (λ rows. rows.column ≡ column.entry) }
-    ensures fault { IfErr result (λ fault. IsBooleanFault column.entry fault) }
+    ensures fault { IfErr result (λ fault. IsBooleanError column.entry fault) }
 {
     let end = end_of_rows(column)?;
     if column.values.len() < bitmap_length(end) {
-        return Err(ColumnFault::TooShort(Buffer::Values));
+        return Err(ColumnError::TooShort(Buffer::Values));
     }
     Ok(BooleanRows { column })
 }
 
 /// Whether a column of strings or bytes, of offsets of N bytes, can be read.
-fn test_offsets<const N: usize, T: Offset<N>>(column: Column) -> Result<(), ColumnFault>
+fn test_offsets<const N: usize, T: Offset<N>>(column: Column) -> Result<(), ColumnError>
     requires narrow { N ≤ 8 }
     requires width { N ≡ bytes_of_offset T.width }
     requires some { 0 < N }
     ensures column { IfOk result (λ _. IsByteColumn T.width column.entry) }
-    ensures fault { IfErr result (λ fault. IsByteFault T.width column.entry fault) }
+    ensures fault { IfErr result (λ fault. IsByteError T.width column.entry fault) }
 {
     let end = end_of_rows(column)?;
     if column.length == 0 {
@@ -80,18 +80,18 @@ fn test_offsets<const N: usize, T: Offset<N>>(column: Column) -> Result<(), Colu
     }
     let (offsets, _) = column.offsets.as_chunks::<N>();
     if offsets.len() <= end {
-        return Err(ColumnFault::TooShort(Buffer::Offsets));
+        return Err(ColumnError::TooShort(Buffer::Offsets));
     }
     match first_bad::<N, T>(column.values, offsets, column.offset, end) {
-        Some(i) => Err(ColumnFault::BadOffsets(i - column.offset)),
+        Some(i) => Err(ColumnError::BadOffsets(i - column.offset)),
         None => Ok(()),
     }
 }
 
 /// The rows of a column of bytes.
-fn byte_rows(width: OffsetWidth, column: Column) -> Result<ByteRows, ColumnFault>
+fn byte_rows(width: OffsetWidth, column: Column) -> Result<ByteRows, ColumnError>
     ensures rows { IfOk result (λ rows. (rows.width ≡ width) × (rows.column ≡ column.entry)) }
-    ensures fault { IfErr result (λ fault. IsByteFault width column.entry fault) }
+    ensures fault { IfErr result (λ fault. IsByteError width column.entry fault) }
 {
     match width {
         OffsetWidth::Bits32 => test_offsets::<4, u32>(column)?,
@@ -134,26 +134,26 @@ fn first_bad_string(rows: ByteRows) -> Option<usize>
 }
 
 /// The rows of a column of strings.
-fn string_rows(width: OffsetWidth, column: Column) -> Result<ByteRows, ColumnFault>
+fn string_rows(width: OffsetWidth, column: Column) -> Result<ByteRows, ColumnError>
     ensures rows { IfOk result (λ rows. (rows.width ≡ width) × (rows.column ≡ column.entry)) }
     ensures text { IfOk result (λ rows. AreTextRows width column.entry column.entry.length) }
-    ensures fault { IfErr result (λ fault. IsStringFault width column.entry fault) }
+    ensures fault { IfErr result (λ fault. IsStringError width column.entry fault) }
 {
     let rows = byte_rows(width, column)?;
     match first_bad_string(rows) {
-        Some(row) => Err(ColumnFault::NotUtf8(row)),
+        Some(row) => Err(ColumnError::NotUtf8(row)),
         None => Ok(rows),
     }
 }
 
 impl<'a> Column<'a> {
     /// The rows of the column, or why it cannot be read.
-    pub fn check(self) -> Result<Rows<'a>, ColumnFault>
+    pub fn check(self) -> Result<Rows<'a>, ColumnError>
         ensures rows { IfOk result (λ rows. AreRowsOf self.entry rows) }
-        ensures fault { IfErr result (λ fault. IsFaultOf self.entry fault) }
+        ensures fault { IfErr result (λ fault. IsErrorOf self.entry fault) }
     {
         let Some(kind) = Kind::from_code(self.kind) else {
-            return Err(ColumnFault::UnknownKind);
+            return Err(ColumnError::UnknownKind);
         };
         match kind {
             Kind::Integer(kind) => Ok(Rows::Integers(integer_rows(kind, self)?)),

@@ -12,8 +12,8 @@ mod byte_spans;
 mod casts;
 mod checking;
 mod columns;
+mod errors;
 mod extremes;
-mod faults;
 mod integers;
 mod kinds;
 mod offset_width;
@@ -24,9 +24,9 @@ mod tested_rows;
 
 pub use bitmaps::{bitmap_length, put_bit};
 pub use byte_spans::{ByteSpan, items_are_bytes};
-pub use casts::CastFault;
+pub use casts::CastError;
 pub use columns::{Column, row_count_of};
-pub use faults::{Buffer, ColumnFault};
+pub use errors::{Buffer, ColumnError};
 pub use kinds::{IntegerKind, Kind};
 pub use offset_width::OffsetWidth;
 pub use statistics::{

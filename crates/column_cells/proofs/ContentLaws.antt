@@ -9,7 +9,7 @@ use Rattle.arrow_columns.specs.Bitmaps.{is_valid}
 use Rattle.arrow_columns.specs.Cells.{cell_at}
 use Rattle.arrow_columns.specs.Checked.{AreRowsOf, byte_kind, string_kind}
 use Rattle.arrow_columns.specs.Columns.{byte_cells, integer_cells, offset_in}
-use Rattle.arrow_columns.specs.Faults.{AreTextRows}
+use Rattle.arrow_columns.specs.Errors.{AreTextRows}
 use Rattle.arrow_columns.specs.Integers.{integer_of, item_at, width_of}
 use Rattle.arrow_columns.specs.Offsets.{bytes_between}
 use Rattle.arrow_columns.specs.declared.columns.Column.{Column}

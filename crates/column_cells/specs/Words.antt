@@ -1,6 +1,6 @@
 -- The words of this crate's clauses, from one place.
 pub use Rattle.arrow_columns.specs.Checked.{AreRowsOf}
-pub use Rattle.arrow_columns.specs.Faults.{IsFaultOf}
+pub use Rattle.arrow_columns.specs.Errors.{IsErrorOf}
 pub use Rattle.std.specs.Option.{option_copied}
 pub use Rattle.vortex_dtype.specs.TypeOf.{type_of}
 pub use Rattle.vortex_dtype.specs.TypeTree.{binary_type, bool_type, integer_type, utf8_type}

@@ -15,10 +15,10 @@ use Rattle.vortex_dtype.specs.declared.types.DType.{DType}
 use Rattle.vortex_value.specs.Values.Content.{Content, null}
 use Rattle.vortex_cells.specs.Cells.{Cell}
 use Rattle.column_cells.specs.Contents.{HasTexts, contents_of_rows}
-use Rattle.column_filters.specs.Tables.{AreColumnsOf, AreReadFrom, AreSoundBefore, IsFaultAt, IsReadFrom, IsSound, IsTableFault, cell_of_column, cell_of_rows, cells_of_columns, cells_of_rows}
+use Rattle.column_filters.specs.Tables.{AreColumnsOf, AreReadFrom, AreSoundBefore, IsErrorAt, IsReadFrom, IsSound, IsTableError, cell_of_column, cell_of_rows, cells_of_columns, cells_of_rows}
 use Rattle.arrow_columns.specs.Columns.{rows_in}
-use Rattle.column_filters.specs.declared.faults.MaskFault.{MaskFault}
-use Rattle.column_filters.specs.declared.faults.MaskFault.TheVariants.{NoRoom, OutOfMemory, TypesDiffer, Unreadable, WrongCount, WrongLength}
+use Rattle.column_filters.specs.declared.errors.MaskError.{MaskError}
+use Rattle.column_filters.specs.declared.errors.MaskError.TheVariants.{BufferTooSmall, OutOfMemory, TypesDiffer, Unreadable, WrongCount, WrongLength}
 
 -- ---- the type at a place
 
@@ -28,8 +28,8 @@ typed_at types k u l is = ap type_of is ∙ sym (get_or-map type_of types k u nu
 pub read_typed : (types : List DType) (k : ℕ) (u : DType) (column : Column) (count : ℕ) (rows : Rows) → k < length types → u ≡ get_or types k u → IsReadFrom column (type_of u) count rows → IsReadFrom column (get_or (map type_of types) k null_type) count rows
 read_typed types k u column count rows l is read = subst (λ t. IsReadFrom column t count rows) (typed_at types k u l is) read
 
-fault_typed : (types : List DType) (k : ℕ) (u : DType) (column : Column) (count : ℕ) (fault : MaskFault) → k < length types → u ≡ get_or types k u → IsFaultAt k column (type_of u) count fault → IsFaultAt k column (get_or (map type_of types) k null_type) count fault
-fault_typed types k u column count fault l is h = subst (λ t. IsFaultAt k column t count fault) (typed_at types k u l is) h
+fault_typed : (types : List DType) (k : ℕ) (u : DType) (column : Column) (count : ℕ) (fault : MaskError) → k < length types → u ≡ get_or types k u → IsErrorAt k column (type_of u) count fault → IsErrorAt k column (get_or (map type_of types) k null_type) count fault
+fault_typed types k u column count fault l is h = subst (λ t. IsErrorAt k column t count fault) (typed_at types k u l is) h
 
 -- ---- columns, one by one
 
@@ -71,29 +71,29 @@ sound-more columns types k d rows here all one j other less got = by_place (case
 
 -- a fault of a column is one of the table
 
-pub table-fault : (columns : List Column) (types : List TypeTree) (k : ℕ) (d : Column) (fault : MaskFault) → length columns ≡ length types → k < length columns → AreSoundBefore columns types k
-    → IsFaultAt k (get_or columns k d) (get_or types k null_type) (rows_in columns) fault → IsTableFault columns types fault
+pub table-fault : (columns : List Column) (types : List TypeTree) (k : ℕ) (d : Column) (fault : MaskError) → length columns ≡ length types → k < length columns → AreSoundBefore columns types k
+    → IsErrorAt k (get_or columns k d) (get_or types k null_type) (rows_in columns) fault → IsTableError columns types fault
 table-fault columns types k d OutOfMemory counts here all h = tt
 table-fault columns types k d WrongCount counts here all h = absurd h
-table-fault columns types k d NoRoom counts here all h = absurd h
+table-fault columns types k d BufferTooSmall counts here all h = absurd h
 table-fault columns types k d (Unreadable place fault) counts here all h = (counts, (k, get_or columns k d, slice_get-get_or columns k d here, all, h))
 table-fault columns types k d (TypesDiffer place) counts here all h = (counts, (k, get_or columns k d, slice_get-get_or columns k d here, all, h))
 table-fault columns types k d (WrongLength place) counts here all h = (counts, (k, get_or columns k d, slice_get-get_or columns k d here, all, h))
 
-pub table-fault-typed : (columns : List Column) (types : List DType) (k : ℕ) (d : Column) (u : DType) (fault : MaskFault) → length columns ≡ length types → k < length columns → u ≡ get_or types k u → AreSoundBefore columns (map type_of types) k
-    → IsFaultAt k (get_or columns k d) (type_of u) (rows_in columns) fault → IsTableFault columns (map type_of types) fault
+pub table-fault-typed : (columns : List Column) (types : List DType) (k : ℕ) (d : Column) (u : DType) (fault : MaskError) → length columns ≡ length types → k < length columns → u ≡ get_or types k u → AreSoundBefore columns (map type_of types) k
+    → IsErrorAt k (get_or columns k d) (type_of u) (rows_in columns) fault → IsTableError columns (map type_of types) fault
 table-fault-typed columns types k d u fault counts here is all h =
     table-fault columns (map type_of types) k d fault (omega (arith, counts, length-map types type_of)) here all (fault_typed types k u (get_or columns k d) (rows_in columns) fault (omega arith) is h)
 
-pub table-refused : (columns : List Column) (types : List TypeTree) (r : Result (Vec Rows Global) MaskFault) (e : MaskFault) → IsErr r × IsErrAnd r (λ f. f ≡ e) → IsTableFault columns types e → IfErr r (λ f. IsTableFault columns types f)
+pub table-refused : (columns : List Column) (types : List TypeTree) (r : Result (Vec Rows Global) MaskError) (e : MaskError) → IsErr r × IsErrAnd r (λ f. f ≡ e) → IsTableError columns types e → IfErr r (λ f. IsTableError columns types f)
 table-refused columns types (Ok p) e h k = tt
-table-refused columns types (Err f) e h k = subst (IsTableFault columns types) (sym h.1) k
+table-refused columns types (Err f) e h k = subst (IsTableError columns types) (sym h.1) k
 
 -- all columns are read
 pub columns-of : (columns : List Column) (types : List DType) → length columns ≡ length types → AreSoundBefore columns (map type_of types) (length columns) → AreColumnsOf columns (map type_of types)
 columns-of columns types counts sound = record { counts = counts ∙ sym (length-map types type_of); sound = sound }
 
-pub other-count : (columns : List Column) (types : List DType) → ¬ (length columns ≡ length types) → IsTableFault columns (map type_of types) WrongCount
+pub other-count : (columns : List Column) (types : List DType) → ¬ (length columns ≡ length types) → IsTableError columns (map type_of types) WrongCount
 other-count columns types differ counts = differ (counts ∙ length-map types type_of)
 
 pub ruleset shown = (read-none, sound-none, columns-of, other-count)

@@ -14,10 +14,10 @@ use Rattle.vortex_filter.specs.Formula.{Formula, is_match}
 use Rattle.column_cells.specs.Contents.{HasTexts, contents_of_rows}
 use Rattle.column_cells.specs.Types.{type_of_rows}
 use Rattle.column_filters.specs.Masks.{IsMask, matching}
-use Rattle.column_filters.specs.Tables.{AreReadFrom, HasRow, HaveRows, IsMaskFault, IsTableFault, cell_of_rows, cells_of_columns, cells_of_rows}
+use Rattle.column_filters.specs.Tables.{AreReadFrom, HasRow, HaveRows, IsMaskError, IsTableError, cell_of_rows, cells_of_columns, cells_of_rows}
 use Rattle.arrow_columns.specs.Columns.{rows_in}
-use Rattle.column_filters.specs.declared.faults.MaskFault.{MaskFault}
-use Rattle.column_filters.specs.declared.faults.MaskFault.TheVariants.{NoRoom, OutOfMemory, TypesDiffer, Unreadable, WrongCount, WrongLength}
+use Rattle.column_filters.specs.declared.errors.MaskError.{MaskError}
+use Rattle.column_filters.specs.declared.errors.MaskError.TheVariants.{BufferTooSmall, OutOfMemory, TypesDiffer, Unreadable, WrongCount, WrongLength}
 
 -- each of the rows is one
 
@@ -52,7 +52,7 @@ mask-along f columns types table mask read is = record {
   zeros = is.zeros;
 }
 
-pub mask-told : (f : Formula) (columns : List Column) (types : List TypeTree) (table given : List Rows) (count : ℕ) (mask : List ℕ) (r : Result Unit MaskFault) → given ≡ table → count ≡ rows_in columns → AreReadFrom columns types (length columns) table
+pub mask-told : (f : Formula) (columns : List Column) (types : List TypeTree) (table given : List Rows) (count : ℕ) (mask : List ℕ) (r : Result Unit MaskError) → given ≡ table → count ≡ rows_in columns → AreReadFrom columns types (length columns) table
     → OnOk r (IsMask (matching f (cells_of_rows given)) count mask) → OnOk r (IsMask (matching f (cells_of_columns columns)) (rows_in columns) mask)
 mask-told f columns types table given count mask (Ok u) same counted read is =
     mask-along f columns types table mask read (subst (λ n. IsMask (matching f (cells_of_rows table)) n mask) counted (subst (λ t. IsMask (matching f (cells_of_rows t)) count mask) same is))
@@ -60,33 +60,33 @@ mask-told f columns types table given count mask (Err e) same counted read is = 
 
 -- what holds whatever the answer
 
-pub on-ok : (r : Result Unit MaskFault) (P : Type 0) → P → OnOk r P
+pub on-ok : (r : Result Unit MaskError) (P : Type 0) → P → OnOk r P
 on-ok (Ok u) P h = h
 on-ok (Err e) P h = tt
 
-pub if-err : (r : Result Unit MaskFault) (P : MaskFault → Type 0) → ((e : MaskFault) → P e) → IfErr r P
+pub if-err : (r : Result Unit MaskError) (P : MaskError → Type 0) → ((e : MaskError) → P e) → IfErr r P
 if-err (Ok u) P h = tt
 if-err (Err e) P h = h e
 
 -- why there is no mask
 
-pub mask-fault : (columns : List Column) (types : List TypeTree) (size : ℕ) (e : MaskFault) → IsTableFault columns types e → IsMaskFault columns types size e
+pub mask-fault : (columns : List Column) (types : List TypeTree) (size : ℕ) (e : MaskError) → IsTableError columns types e → IsMaskError columns types size e
 mask-fault columns types size OutOfMemory h = tt
 mask-fault columns types size WrongCount h = h
 mask-fault columns types size (Unreadable column fault) h = h
 mask-fault columns types size (TypesDiffer column) h = h
 mask-fault columns types size (WrongLength column) h = h
-mask-fault columns types size NoRoom h = absurd h
+mask-fault columns types size BufferTooSmall h = absurd h
 
-pub mask-refused : (columns : List Column) (types : List TypeTree) (size : ℕ) (r : Result Unit MaskFault) (e : MaskFault) → IsErr r × IsErrAnd r (λ f. f ≡ e) → IsTableFault columns types e → IfErr r (IsMaskFault columns types size)
+pub mask-refused : (columns : List Column) (types : List TypeTree) (size : ℕ) (r : Result Unit MaskError) (e : MaskError) → IsErr r × IsErrAnd r (λ f. f ≡ e) → IsTableError columns types e → IfErr r (IsMaskError columns types size)
 mask-refused columns types size (Ok u) e h k = tt
-mask-refused columns types size (Err f) e h k = subst (IsMaskFault columns types size) (sym h.1) (mask-fault columns types size e k)
+mask-refused columns types size (Err f) e h k = subst (IsMaskError columns types size) (sym h.1) (mask-fault columns types size e k)
 
-pub memory-refused : (columns : List Column) (types : List TypeTree) (size : ℕ) (r : Result Unit MaskFault) → IfErr r (λ e. e ≡ OutOfMemory) → IfErr r (IsMaskFault columns types size)
+pub memory-refused : (columns : List Column) (types : List TypeTree) (size : ℕ) (r : Result Unit MaskError) → IfErr r (λ e. e ≡ OutOfMemory) → IfErr r (IsMaskError columns types size)
 memory-refused columns types size (Ok u) h = tt
-memory-refused columns types size (Err e) h = subst (IsMaskFault columns types size) (sym h) tt
+memory-refused columns types size (Err e) h = subst (IsMaskError columns types size) (sym h) tt
 
-pub memory-kept : (r : Result Unit MaskFault) (P : Type 0) → IfErr r (λ e. e ≡ OutOfMemory) → IfErr r (λ e. e ≢ OutOfMemory → P)
+pub memory-kept : (r : Result Unit MaskError) (P : Type 0) → IfErr r (λ e. e ≡ OutOfMemory) → IfErr r (λ e. e ≢ OutOfMemory → P)
 memory-kept (Ok u) P h = tt
 memory-kept (Err e) P h = λ other. absurd (other h)
 

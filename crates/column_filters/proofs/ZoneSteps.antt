@@ -8,8 +8,8 @@ use Rattle.std.proofs.lemmas.List.{get_or-set_other, get_or-set_same, length-map
 use Rattle.vortex_dtype.specs.TypeOf.{type_of}
 use Rattle.vortex_dtype.specs.TypeTree.{TypeTree, null_type}
 use Rattle.vortex_dtype.specs.declared.types.DType.{DType}
-use Rattle.statistics_bytes.specs.Form.{AreOf, IsFormOf, form}
-use Rattle.statistics_bytes.specs.FormAnswers.{HasValues, IsFirstWrong, SaysBound}
+use Rattle.statistics_bytes.specs.Encoding.{AreOf, IsEncodingOf, encoding}
+use Rattle.statistics_bytes.specs.EncodingAnswers.{HasValues, IsFirstWrong, SaysBound}
 use Rattle.vortex_statistics.specs.Statistics.{Known, known}
 use Rattle.vortex_statistics.specs.declared.column_statistics.ColumnStatistics.{ColumnStatistics}
 use Rattle.vortex_statistics.specs.declared.error.StatisticsError.{StatisticsError}
@@ -18,8 +18,8 @@ use Rattle.vortex_filter.specs.Formula.{Formula}
 use Rattle.filter_pruning.specs.Outcomes.{outcomes}
 use Rattle.column_filters.proofs.ColumnSteps.{typed_at}
 use Rattle.column_filters.specs.Zones.{AreEnough, AreOutcomes, AreSaid, AreSaidBefore, IsBadPiece, IsOutcome, IsPiece, IsSaid, RefusesZone, RefusesZones, SayVariant, Says, fault_of_piece, open_statistics, outcomes_byte, piece_at}
-use Rattle.column_filters.specs.declared.faults.ZoneFault.{ZoneFault}
-use Rattle.column_filters.specs.declared.faults.ZoneFault.TheVariants.{BadBytes, BadOffsets, HasVariant, OutOfMemory, WrongLength}
+use Rattle.column_filters.specs.declared.errors.ZoneError.{ZoneError}
+use Rattle.column_filters.specs.declared.errors.ZoneError.TheVariants.{BadBytes, BadOffsets, HasVariant, OutOfMemory, WrongLength}
 
 -- ---- one piece
 
@@ -28,28 +28,28 @@ pub said_open : (t : TypeTree) (bytes offsets part : List ℕ) (p : ℕ) (s : Kn
 said_open t bytes offsets [] p s piece is none e = record { piece = piece; says = subst (λ xs. Says t xs s) is e }
 said_open t bytes offsets (b ∷ part) p s piece is none e = absurd (omega arith)
 
-pub said_form : (t : TypeTree) (bytes offsets part : List ℕ) (p : ℕ) (s : Known) → IsPiece bytes offsets p → part ≡ piece_at bytes offsets p → 0 < length part → AreOf t s × (part ≡ form s) → IsSaid t bytes offsets p s
-said_form t bytes offsets [] p s piece is some w = absurd (omega arith)
-said_form t bytes offsets (b ∷ part) p s piece is some w = record { piece = piece; says = subst (λ xs. Says t xs s) is w }
+pub said_encoding : (t : TypeTree) (bytes offsets part : List ℕ) (p : ℕ) (s : Known) → IsPiece bytes offsets p → part ≡ piece_at bytes offsets p → 0 < length part → AreOf t s × (part ≡ encoding s) → IsSaid t bytes offsets p s
+said_encoding t bytes offsets [] p s piece is some w = absurd (omega arith)
+said_encoding t bytes offsets (b ∷ part) p s piece is some w = record { piece = piece; says = subst (λ xs. Says t xs s) is w }
 
-pub bad_offsets : (t : TypeTree) (bytes offsets : List ℕ) (p : ℕ) (r : Result Unit ZoneFault) (e : ZoneFault) → IsErr r × IsErrAnd r (λ f. f ≡ e) → (e ≡ BadOffsets p) × ¬ (IsPiece bytes offsets p) → IfErr r (IsBadPiece t bytes offsets p)
+pub bad_offsets : (t : TypeTree) (bytes offsets : List ℕ) (p : ℕ) (r : Result Unit ZoneError) (e : ZoneError) → IsErr r × IsErrAnd r (λ f. f ≡ e) → (e ≡ BadOffsets p) × ¬ (IsPiece bytes offsets p) → IfErr r (IsBadPiece t bytes offsets p)
 bad_offsets t bytes offsets p (Ok x) e h w = tt
 bad_offsets t bytes offsets p (Err f) e h w = subst (IsBadPiece t bytes offsets p) (sym (h.1 ∙ w.0)) (refl, w.1)
 
 abbrev refused_as : StatisticsError → Result Unit StatisticsError
 refused_as e = Err e
 
--- a form that is refused
-pub bad_form : (t : TypeTree) (bytes offsets part : List ℕ) (p : ℕ) (e : StatisticsError) → IsPiece bytes offsets p → part ≡ piece_at bytes offsets p → 0 < length part
+-- an encoding that is refused
+pub bad_encoding : (t : TypeTree) (bytes offsets part : List ℕ) (p : ℕ) (e : StatisticsError) → IsPiece bytes offsets p → part ≡ piece_at bytes offsets p → 0 < length part
     → (refused_as e ≡ refused_as refusals.HasVariant → SayVariant t part) → (SayVariant t part → refused_as e ≡ refused_as refusals.HasVariant)
-    → ((place : ℕ) → refused_as e ≡ refused_as (refusals.BadBytes place) → IsFirstWrong (IsFormOf t) (SaysBound part → HasValues t) part place) → IsBadPiece t bytes offsets p (fault_of_piece p e)
-bad_form t bytes offsets part p refusals.OutOfMemory piece is some variant other bad = tt
-bad_form t bytes offsets part p refusals.TooManyRows piece is some variant other bad = tt
-bad_form t bytes offsets part p refusals.HasVariant piece is some variant other bad = (refl, piece, subst (SayVariant t) is (variant refl))
-bad_form t bytes offsets part p (refusals.BadBytes place) piece is some variant other bad =
+    → ((place : ℕ) → refused_as e ≡ refused_as (refusals.BadBytes place) → IsFirstWrong (IsEncodingOf t) (SaysBound part → HasValues t) part place) → IsBadPiece t bytes offsets p (fault_of_piece p e)
+bad_encoding t bytes offsets part p refusals.OutOfMemory piece is some variant other bad = tt
+bad_encoding t bytes offsets part p refusals.TooManyRows piece is some variant other bad = tt
+bad_encoding t bytes offsets part p refusals.HasVariant piece is some variant other bad = (refl, piece, subst (SayVariant t) is (variant refl))
+bad_encoding t bytes offsets part p (refusals.BadBytes place) piece is some variant other bad =
     let there : piece_at bytes offsets p ≢ [] = λ e. some_bytes (ap length (is ∙ e)) in
     let none : ¬ (SayVariant t part) = λ said. no_variant (other said) in
-    (refl, piece, there, subst (λ xs. ¬ (SayVariant t xs)) is none, subst (λ xs. IsFirstWrong (IsFormOf t) (SaysBound xs → HasValues t) xs place) is (bad place refl))
+    (refl, piece, there, subst (λ xs. ¬ (SayVariant t xs)) is none, subst (λ xs. IsFirstWrong (IsEncodingOf t) (SaysBound xs → HasValues t) xs place) is (bad place refl))
   where
     some_bytes : length part ≡ 0 → ⊥
     some_bytes none = omega arith
@@ -91,7 +91,7 @@ all_said columns bytes offsets p k read end long all = record { all = length-map
 pub said_before : (types : List TypeTree) (bytes offsets : List ℕ) (p k : ℕ) (said : List Known) → AreSaid types bytes offsets p k said → AreSaidBefore types bytes offsets p k
 said_before types bytes offsets p k said all j l = (get_or said j open_statistics, all.each j l)
 
-zone_refused_by : (types : List TypeTree) (bytes offsets : List ℕ) (p k : ℕ) (said : List Known) (e : ZoneFault) → k < length types → AreSaidSoFar types bytes offsets p k said → IsBadPiece (get_or types k null_type) bytes offsets (p + k) e
+zone_refused_by : (types : List TypeTree) (bytes offsets : List ℕ) (p k : ℕ) (said : List Known) (e : ZoneError) → k < length types → AreSaidSoFar types bytes offsets p k said → IsBadPiece (get_or types k null_type) bytes offsets (p + k) e
     → RefusesZone types bytes offsets p e
 zone_refused_by types bytes offsets p k said OutOfMemory l all bad = tt
 zone_refused_by types bytes offsets p k said WrongLength l all bad = absurd bad
@@ -99,7 +99,7 @@ zone_refused_by types bytes offsets p k said (BadOffsets piece) l all bad = reco
 zone_refused_by types bytes offsets p k said (BadBytes piece place) l all bad = record { column = k; within = l; before = λ j less. (get_or said j open_statistics, all j less); cause = bad }
 zone_refused_by types bytes offsets p k said (HasVariant piece) l all bad = record { column = k; within = l; before = λ j less. (get_or said j open_statistics, all j less); cause = bad }
 
-pub zone_refused : (columns : List DType) (bytes offsets : List ℕ) (p k : ℕ) (d : DType) (read : List ColumnStatistics) (r : Result Unit ZoneFault) (e : ZoneFault) → IsErr r × IsErrAnd r (λ f. f ≡ e) → k < length columns → d ≡ get_or columns k d
+pub zone_refused : (columns : List DType) (bytes offsets : List ℕ) (p k : ℕ) (d : DType) (read : List ColumnStatistics) (r : Result Unit ZoneError) (e : ZoneError) → IsErr r × IsErrAnd r (λ f. f ≡ e) → k < length columns → d ≡ get_or columns k d
     → AreSaidSoFar (map type_of columns) bytes offsets p k (map known read) → IsBadPiece (type_of d) bytes offsets (p + k) e → IfErr r (RefusesZone (map type_of columns) bytes offsets p)
 zone_refused columns bytes offsets p k d read (Ok u) e h l is all bad = tt
 zone_refused columns bytes offsets p k d read (Err f) e h l is all bad =
@@ -166,7 +166,7 @@ before_of f types bytes offsets zone done all z l =
     let one = all z l in
     said_before types bytes offsets (z * length types) (length types) one.statistics one.said
 
-zones_refused_by : (types : List TypeTree) (bytes offsets : List ℕ) (zones zone : ℕ) (e : ZoneFault) → AreEnough zones (length types) (length offsets) → zone < zones
+zones_refused_by : (types : List TypeTree) (bytes offsets : List ℕ) (zones zone : ℕ) (e : ZoneError) → AreEnough zones (length types) (length offsets) → zone < zones
     → ((z : ℕ) → z < zone → AreSaidBefore types bytes offsets (z * length types) (length types)) → RefusesZone types bytes offsets (zone * length types) e → RefusesZones types bytes offsets zones e
 zones_refused_by types bytes offsets zones zone OutOfMemory enough l before bad = tt
 zones_refused_by types bytes offsets zones zone WrongLength enough l before bad = absurd bad.cause
@@ -174,7 +174,7 @@ zones_refused_by types bytes offsets zones zone (BadOffsets piece) enough l befo
 zones_refused_by types bytes offsets zones zone (BadBytes piece place) enough l before bad = (enough, record { zone = zone; within = l; before = before; cause = bad })
 zones_refused_by types bytes offsets zones zone (HasVariant piece) enough l before bad = (enough, record { zone = zone; within = l; before = before; cause = bad })
 
-pub zones_refused : (f : Formula) (columns : List DType) (bytes offsets : List ℕ) (zones zone piece : ℕ) (done : List ℕ) (r : Result Unit ZoneFault) (e : ZoneFault) → IsErr r × IsErrAnd r (λ f. f ≡ e)
+pub zones_refused : (f : Formula) (columns : List DType) (bytes offsets : List ℕ) (zones zone piece : ℕ) (done : List ℕ) (r : Result Unit ZoneError) (e : ZoneError) → IsErr r × IsErrAnd r (λ f. f ≡ e)
     → AreEnough zones (length columns) (length offsets) → zone < zones → piece ≡ zone * length columns → AreOutcomesBefore f (map type_of columns) bytes offsets zone done → RefusesZone (map type_of columns) bytes offsets piece e
     → IfErr r (RefusesZones (map type_of columns) bytes offsets zones)
 zones_refused f columns bytes offsets zones zone piece done (Ok u) e h enough l at all bad = tt
@@ -184,7 +184,7 @@ zones_refused f columns bytes offsets zones zone piece done (Err x) e h enough l
     subst (RefusesZones ts bytes offsets zones) (sym h.1)
     (zones_refused_by ts bytes offsets zones zone e (subst (λ m. AreEnough zones m (length offsets)) same enough) l (before_of f ts bytes offsets zone done all) (subst (λ p. RefusesZone ts bytes offsets p e) (at ∙ ap (λ m. zone * m) same) bad))
 
-pub memory_refused : (types : List TypeTree) (bytes offsets : List ℕ) (zones : ℕ) (r : Result Unit ZoneFault) (e : ZoneFault) → IsErr r × IsErrAnd r (λ f. f ≡ e) → e ≡ OutOfMemory → IfErr r (RefusesZones types bytes offsets zones)
+pub memory_refused : (types : List TypeTree) (bytes offsets : List ℕ) (zones : ℕ) (r : Result Unit ZoneError) (e : ZoneError) → IsErr r × IsErrAnd r (λ f. f ≡ e) → e ≡ OutOfMemory → IfErr r (RefusesZones types bytes offsets zones)
 memory_refused types bytes offsets zones (Ok u) e h is = tt
 memory_refused types bytes offsets zones (Err f) e h is = subst (RefusesZones types bytes offsets zones) (sym (h.1 ∙ is)) tt
 

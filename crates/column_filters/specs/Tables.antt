@@ -3,7 +3,7 @@ use Rattle.std.specs.Prelude.{◌≡◌, ◌≢◌, ℕ, ◌<◌, List, [], ◌�
 use Rattle.std.specs.List.{All}
 use Rattle.arrow_columns.specs.Checked.{AreRowsOf}
 use Rattle.arrow_columns.specs.Columns.{rows_in}
-use Rattle.arrow_columns.specs.Faults.{IsFaultOf}
+use Rattle.arrow_columns.specs.Errors.{IsErrorOf}
 use Rattle.arrow_columns.specs.declared.columns.Column.{Column}
 use Rattle.arrow_columns.specs.declared.tested_rows.Rows.{Rows}
 use Rattle.vortex_dtype.specs.TypeTree.{Same, TypeTree, null_type}
@@ -12,8 +12,8 @@ use Rattle.vortex_cells.specs.Cells.{Cell}
 use Rattle.column_cells.specs.Contents.{HasTexts, contents_of_column, contents_of_rows}
 use Rattle.column_cells.specs.Types.{type_of_column, type_of_rows}
 use Rattle.arrow_columns.specs.Bitmaps.{bitmap_length}
-use Rattle.column_filters.specs.declared.faults.MaskFault.{MaskFault}
-use Rattle.column_filters.specs.declared.faults.MaskFault.TheVariants.{NoRoom, OutOfMemory, TypesDiffer, Unreadable, WrongCount, WrongLength}
+use Rattle.column_filters.specs.declared.errors.MaskError.{MaskError}
+use Rattle.column_filters.specs.declared.errors.MaskError.TheVariants.{BufferTooSmall, OutOfMemory, TypesDiffer, Unreadable, WrongCount, WrongLength}
 
 -- ---- cells
 
@@ -71,24 +71,24 @@ pub record AreReadFrom (columns : List Column) (types : List TypeTree) (k : ℕ)
   pub rows : HaveRows read (rows_in columns)
 
 -- why a column at a place is not sound: the first reason in this order
-abbrev pub IsFaultAt : ℕ → Column → TypeTree → ℕ → MaskFault → Type 0
-IsFaultAt k column t count OutOfMemory = ⊥
-IsFaultAt k column t count WrongCount = ⊥
-IsFaultAt k column t count NoRoom = ⊥
-IsFaultAt k column t count (Unreadable place fault) = (place ≡ k) × IsFaultOf column fault
-IsFaultAt k column t count (TypesDiffer place) = (place ≡ k) × ((rows : Rows) × AreRowsOf column rows) × ¬ (Same (type_of_column column) t)
-IsFaultAt k column t count (WrongLength place) = (place ≡ k) × ((rows : Rows) × AreRowsOf column rows) × Same (type_of_column column) t × ¬ (length (contents_of_column column) ≡ count)
+abbrev pub IsErrorAt : ℕ → Column → TypeTree → ℕ → MaskError → Type 0
+IsErrorAt k column t count OutOfMemory = ⊥
+IsErrorAt k column t count WrongCount = ⊥
+IsErrorAt k column t count BufferTooSmall = ⊥
+IsErrorAt k column t count (Unreadable place fault) = (place ≡ k) × IsErrorOf column fault
+IsErrorAt k column t count (TypesDiffer place) = (place ≡ k) × ((rows : Rows) × AreRowsOf column rows) × ¬ (Same (type_of_column column) t)
+IsErrorAt k column t count (WrongLength place) = (place ≡ k) × ((rows : Rows) × AreRowsOf column rows) × Same (type_of_column column) t × ¬ (length (contents_of_column column) ≡ count)
 
 -- why columns are not those of the types: the first that is not sound, if there are as many as types
-abbrev pub IsTableFault : List Column → List TypeTree → MaskFault → Type 0
-IsTableFault columns types OutOfMemory = Unit {0}
-IsTableFault columns types WrongCount = length columns ≢ length types
-IsTableFault columns types NoRoom = ⊥
-IsTableFault columns types fault =
+abbrev pub IsTableError : List Column → List TypeTree → MaskError → Type 0
+IsTableError columns types OutOfMemory = Unit {0}
+IsTableError columns types WrongCount = length columns ≢ length types
+IsTableError columns types BufferTooSmall = ⊥
+IsTableError columns types fault =
     (length columns ≡ length types)
-    × ((k : ℕ) × (column : Column) × (slice_get columns k ≡ Some column) × AreSoundBefore columns types k × IsFaultAt k column (slice_index_or types k null_type) (rows_in columns) fault)
+    × ((k : ℕ) × (column : Column) × (slice_get columns k ≡ Some column) × AreSoundBefore columns types k × IsErrorAt k column (slice_index_or types k null_type) (rows_in columns) fault)
 
 -- why there is no mask of so many bytes: for such a reason, or it is too short for the rows
-abbrev pub IsMaskFault : List Column → List TypeTree → ℕ → MaskFault → Type 0
-IsMaskFault columns types size NoRoom = AreColumnsOf columns types × (size < bitmap_length (rows_in columns))
-IsMaskFault columns types size fault = IsTableFault columns types fault
+abbrev pub IsMaskError : List Column → List TypeTree → ℕ → MaskError → Type 0
+IsMaskError columns types size BufferTooSmall = AreColumnsOf columns types × (size < bitmap_length (rows_in columns))
+IsMaskError columns types size fault = IsTableError columns types fault

@@ -3,8 +3,8 @@ use Rattle.std.specs.Prelude.{◌≡◌, ◌≢◌, ℕ, ◌+◌, ◌-◌, ◌*�
 use Rattle.std.specs.Int.{bit_at}
 use Rattle.vortex_dtype.specs.TypeTree.{TypeTree, null_type}
 use Rattle.vortex_value.specs.TypesWithin.{HasNoVariant}
-use Rattle.statistics_bytes.specs.Form.{AreOf, IsFormOf, form}
-use Rattle.statistics_bytes.specs.FormAnswers.{HasValues, IsFirstWrong, SaysBound}
+use Rattle.statistics_bytes.specs.Encoding.{AreOf, IsEncodingOf, encoding}
+use Rattle.statistics_bytes.specs.EncodingAnswers.{HasValues, IsFirstWrong, SaysBound}
 use Rattle.vortex_cells.specs.Cells.{Cell}
 use Rattle.vortex_statistics.specs.Statistics.{AreRight, Known}
 use Rattle.vortex_statistics.specs.declared.error.StatisticsError.{StatisticsError}
@@ -15,8 +15,8 @@ use Rattle.filter_pruning.specs.Pruning.{column}
 use Rattle.filter_pruning.specs.declared.outcomes.Outcomes.{Outcomes}
 use Rattle.vortex_filter.specs.declared.truth.Truth.{Truth}
 use Rattle.vortex_filter.specs.declared.truth.Truth.TheVariants.{False, Unknown, True}
-use Rattle.column_filters.specs.declared.faults.ZoneFault.{ZoneFault}
-use Rattle.column_filters.specs.declared.faults.ZoneFault.TheVariants.{BadBytes, BadOffsets, HasVariant, OutOfMemory, WrongLength}
+use Rattle.column_filters.specs.declared.errors.ZoneError.{ZoneError}
+use Rattle.column_filters.specs.declared.errors.ZoneError.TheVariants.{BadBytes, BadOffsets, HasVariant, OutOfMemory, WrongLength}
 
 -- ---- pieces
 
@@ -35,7 +35,7 @@ open_statistics = record { row_count = 2 ^ 64 - 1; null_count = None; lower = No
 -- what a piece says of a column of the type: nothing if it is empty
 abbrev pub Says : TypeTree → List ℕ → Known → Type 0
 Says t [] s = s ≡ open_statistics
-Says t (b ∷ bs) s = AreOf t s × (b ∷ bs ≡ form s)
+Says t (b ∷ bs) s = AreOf t s × (b ∷ bs ≡ encoding s)
 
 -- a piece says these statistics of a column of the type
 pub record IsSaid (t : TypeTree) (bytes offsets : List ℕ) (p : ℕ) (s : Known) : Type 0 where
@@ -71,7 +71,7 @@ pub record AreOutcomes (f : Formula) (types : List TypeTree) (bytes offsets done
 -- ---- refusals
 
 -- the fault of a piece that is refused so
-abbrev pub fault_of_piece : ℕ → StatisticsError → ZoneFault
+abbrev pub fault_of_piece : ℕ → StatisticsError → ZoneError
 fault_of_piece piece (refusals.BadBytes place) = BadBytes piece place
 fault_of_piece piece refusals.HasVariant = HasVariant piece
 fault_of_piece piece refusals.OutOfMemory = OutOfMemory
@@ -82,12 +82,12 @@ abbrev pub SayVariant : TypeTree → List ℕ → Type 0
 SayVariant t part = (¬ (HasNoVariant t)) × SaysBound part
 
 -- why a piece says nothing of a column of the type: if it says a bound of one with a variant, just that
-abbrev pub IsBadPiece : TypeTree → List ℕ → List ℕ → ℕ → ZoneFault → Type 0
+abbrev pub IsBadPiece : TypeTree → List ℕ → List ℕ → ℕ → ZoneError → Type 0
 IsBadPiece t bytes offsets p OutOfMemory = Unit {0}
 IsBadPiece t bytes offsets p WrongLength = ⊥
 IsBadPiece t bytes offsets p (BadOffsets piece) = (piece ≡ p) × ¬ (IsPiece bytes offsets p)
 IsBadPiece t bytes offsets p (BadBytes piece place) =
-    (piece ≡ p) × IsPiece bytes offsets p × (piece_at bytes offsets p ≢ []) × (¬ (SayVariant t (piece_at bytes offsets p))) × IsFirstWrong (IsFormOf t) (SaysBound (piece_at bytes offsets p) → HasValues t) (piece_at bytes offsets p) place
+    (piece ≡ p) × IsPiece bytes offsets p × (piece_at bytes offsets p ≢ []) × (¬ (SayVariant t (piece_at bytes offsets p))) × IsFirstWrong (IsEncodingOf t) (SaysBound (piece_at bytes offsets p) → HasValues t) (piece_at bytes offsets p) place
 IsBadPiece t bytes offsets p (HasVariant piece) = (piece ≡ p) × IsPiece bytes offsets p × SayVariant t (piece_at bytes offsets p)
 
 -- each of so many pieces, from p on, says something
@@ -95,26 +95,26 @@ abbrev pub AreSaidBefore : List TypeTree → List ℕ → List ℕ → ℕ → �
 AreSaidBefore types bytes offsets p count = (k : ℕ) → k < count → (s : Known) × IsSaid (slice_index_or types k null_type) bytes offsets (p + k) s
 
 -- the first of the pieces from p on that says nothing of its column
-pub record IsBadZone (types : List TypeTree) (bytes offsets : List ℕ) (p : ℕ) (e : ZoneFault) : Type 0 where
+pub record IsBadZone (types : List TypeTree) (bytes offsets : List ℕ) (p : ℕ) (e : ZoneError) : Type 0 where
   pub column : ℕ
   pub within : column < length types
   pub before : AreSaidBefore types bytes offsets p column
   pub cause : IsBadPiece (slice_index_or types column null_type) bytes offsets (p + column) e
 
 -- why a zone is refused, of whose columns the pieces from p on are to speak
-abbrev pub RefusesZone : List TypeTree → List ℕ → List ℕ → ℕ → ZoneFault → Type 0
+abbrev pub RefusesZone : List TypeTree → List ℕ → List ℕ → ℕ → ZoneError → Type 0
 RefusesZone types bytes offsets p OutOfMemory = Unit {0}
 RefusesZone types bytes offsets p e = IsBadZone types bytes offsets p e
 
 -- the first zone that is refused
-pub record IsBadOfZones (types : List TypeTree) (bytes offsets : List ℕ) (zones : ℕ) (e : ZoneFault) : Type 0 where
+pub record IsBadOfZones (types : List TypeTree) (bytes offsets : List ℕ) (zones : ℕ) (e : ZoneError) : Type 0 where
   pub zone : ℕ
   pub within : zone < zones
   pub before : (z : ℕ) → z < zone → AreSaidBefore types bytes offsets (z * length types) (length types)
   pub cause : RefusesZone types bytes offsets (zone * length types) e
 
 -- why so many zones are refused
-abbrev pub RefusesZones : List TypeTree → List ℕ → List ℕ → ℕ → ZoneFault → Type 0
+abbrev pub RefusesZones : List TypeTree → List ℕ → List ℕ → ℕ → ZoneError → Type 0
 RefusesZones types bytes offsets zones OutOfMemory = Unit {0}
 RefusesZones types bytes offsets zones WrongLength = ¬ (AreEnough zones (length types) (length offsets))
 RefusesZones types bytes offsets zones e = AreEnough zones (length types) (length offsets) × IsBadOfZones types bytes offsets zones e

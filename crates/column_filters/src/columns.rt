@@ -1,10 +1,10 @@
 //! The columns of which a filter is asked.
 
 ghost use Rattle.std.specs.Prelude.{◌≡◌, ◌↔◌, IfErr, IfOk, IsTrue, OnOk, length, map};
-ghost use Rattle.column_filters.specs.Words.{AreColumnsOf, AreReadFrom, IsFaultAt, IsReadFrom, IsTableFault, Same};
+ghost use Rattle.column_filters.specs.Words.{AreColumnsOf, AreReadFrom, IsErrorAt, IsReadFrom, IsTableError, Same};
 ghost use Rattle.column_filters.specs.Words.{rows_in, type_of, type_of_rows};
 
-use crate::faults::MaskFault;
+use crate::errors::MaskError;
 use arrow_columns::{Column, Rows, row_count_of};
 use column_cells::{dtype_of_rows, row_count, rows_of};
 use std::alloc::Global;
@@ -24,24 +24,24 @@ fn read_column<'a>(
     column: Column<'a>,
     dtype: &DType,
     count: usize,
-) -> Result<Rows<'a>, MaskFault>
+) -> Result<Rows<'a>, MaskError>
     ensures read { IfOk result (λ rows. IsReadFrom column.entry (type_of dtype.now) count rows) }
-    ensures fault { IfErr result (λ fault. IsFaultAt place column.entry (type_of dtype.now) count fault) }
+    ensures fault { IfErr result (λ fault. IsErrorAt place column.entry (type_of dtype.now) count fault) }
 {
     let rows = match rows_of(column) {
         Ok(rows) => rows,
         Err(fault) => {
-            return Err(MaskFault::Unreadable {
+            return Err(MaskError::Unreadable {
                 column: place,
                 fault,
             });
         }
     };
     if !are_of_type(&rows, dtype) {
-        return Err(MaskFault::TypesDiffer { column: place });
+        return Err(MaskError::TypesDiffer { column: place });
     }
     if row_count(&rows) != count {
-        return Err(MaskFault::WrongLength { column: place });
+        return Err(MaskError::WrongLength { column: place });
     }
     Ok(rows)
 }
@@ -57,14 +57,14 @@ pub fn read_columns<'a>(
     alloc: Global,
     columns: &[Column<'a>],
     types: &[DType],
-) -> Result<Vec<Rows<'a>>, MaskFault>
+) -> Result<Vec<Rows<'a>>, MaskError>
     ensures read { IfOk result (λ table. AreReadFrom columns.now (map type_of types.now)
         (length columns.now) table.items) }
     ensures sound { OnOk result (AreColumnsOf columns.now (map type_of types.now)) }
-    ensures fault { IfErr result (λ fault. IsTableFault columns.now (map type_of types.now) fault) }
+    ensures fault { IfErr result (λ fault. IsTableError columns.now (map type_of types.now) fault) }
 {
     if columns.len() != types.len() {
-        return Err(MaskFault::WrongCount);
+        return Err(MaskError::WrongCount);
     }
     let count = row_count_of(columns);
     let mut table = Vec::with_capacity(alloc, columns.len())?;

@@ -6,12 +6,12 @@
 
 mod bits;
 mod columns;
-mod faults;
+mod errors;
 pub mod laws;
 mod masks;
 mod zones;
 
 pub use columns::read_columns;
-pub use faults::{MaskFault, ZoneFault};
+pub use errors::{MaskError, ZoneError};
 pub use masks::{mask_of_columns, write_mask};
 pub use zones::outcomes_of_zones;

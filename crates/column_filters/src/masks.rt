@@ -1,14 +1,14 @@
 //! Which rows of columns match.
 
 ghost use Rattle.std.specs.Prelude.{◌≡◌, ◌≢◌, ◌<◌, ◌≤◌, IfErr, IfOk, OnOk, drop, length, map};
-ghost use Rattle.column_filters.specs.Words.{AreColumnsOf, HasRow, HasTexts, HaveRows, IsMask, IsMaskFault};
+ghost use Rattle.column_filters.specs.Words.{AreColumnsOf, HasRow, HasTexts, HaveRows, IsMask, IsMaskError};
 ghost use Rattle.column_filters.specs.Words.{OutOfMemory, cell_of, cell_of_rows, cells_of_columns, cells_of_rows};
 ghost use Rattle.column_filters.specs.Words.{contents_of_rows, formula, is_match, bitmap_length, matching};
 ghost use Rattle.column_filters.specs.Words.{rows_in, type_of};
 
 use crate::bits::clear_bits;
 use crate::columns::read_columns;
-use crate::faults::MaskFault;
+use crate::errors::MaskError;
 use arrow_columns::{Column, Rows, bitmap_length, put_bit, row_count_of};
 use column_cells::scalar_at;
 use std::alloc::Global;
@@ -16,25 +16,25 @@ use vortex_dtype::DType;
 use vortex_filter::Filter;
 use vortex_value::Scalar;
 
-/// Writes which rows of columns of these types match: a bit for each, from the least significant one
-/// on. The bits after the last row are 0, and the bytes after them stay.
+/// Writes which rows of columns of these types match: a bit for each, from the least significant
+/// one on. The bits after the last row are 0, and the bytes after them stay.
 ///
-/// It is refused as by `read_columns`, and with `NoRoom` exactly if the columns can be read, and the
-/// mask has fewer bytes than `bitmap_length` of their rows. After `OutOfMemory` the bits may say
-/// anything, and after another refusal they stay.
+/// It is refused as by `read_columns`, and with `BufferTooSmall` exactly if the columns can be
+/// read, and the mask has fewer bytes than `bitmap_length` of their rows. After `OutOfMemory` the
+/// bits may say anything, and after another refusal they stay.
 pub fn mask_of_columns(
     alloc: Global,
     filter: &Filter,
     types: &[DType],
     columns: &[Column],
     mask: &mut [u8],
-) -> Result<(), MaskFault>
+) -> Result<(), MaskError>
     ensures masked { OnOk result
         (IsMask (matching (formula filter.now) (cells_of_columns columns.now)) (rows_in columns.now) mask.new) }
     ensures columns { OnOk result (AreColumnsOf columns.now (map type_of types.now)) }
-    ensures room { OnOk result (bitmap_length (rows_in columns.now) ≤ length mask.old) }
+    ensures buffer { OnOk result (bitmap_length (rows_in columns.now) ≤ length mask.old) }
     ensures refused { IfErr result
-        (IsMaskFault columns.now (map type_of types.now) (length mask.old)) }
+        (IsMaskError columns.now (map type_of types.now) (length mask.old)) }
     ensures rest { drop (bitmap_length (rows_in columns.now)) mask.new
         ≡ drop (bitmap_length (rows_in columns.now)) mask.old }
     ensures kept { IfErr result (λ e. e ≢ OutOfMemory → mask.new ≡ mask.old) }
@@ -42,13 +42,13 @@ pub fn mask_of_columns(
     let rows = read_columns(alloc, columns, types)?;
     let count = row_count_of(columns);
     if mask.len() < bitmap_length(count) {
-        return Err(MaskFault::NoRoom);
+        return Err(MaskError::BufferTooSmall);
     }
     write_mask(alloc, filter, &rows, count, mask)
 }
 
-/// Writes a bit for each of so many rows, 1 if the filter matches it, from the least significant bit
-/// on. The bits after the last row are 0, and the bytes after them stay.
+/// Writes a bit for each of so many rows, 1 if the filter matches it, from the least significant
+/// bit on. The bits after the last row are 0, and the bytes after them stay.
 ///
 /// `OutOfMemory` is its only refusal. The bits may then say anything.
 pub fn write_mask(
@@ -57,9 +57,9 @@ pub fn write_mask(
     columns: &[Rows],
     count: usize,
     mask: &mut [u8],
-) -> Result<(), MaskFault>
+) -> Result<(), MaskError>
     requires rows { HaveRows columns.now count }
-    requires room { bitmap_length count ≤ length mask.old }
+    requires buffer { bitmap_length count ≤ length mask.old }
     ensures masked { OnOk result
         (IsMask (matching (formula filter.now) (cells_of_rows columns.now)) count mask.new) }
     ensures rest { drop (bitmap_length count) mask.new ≡ drop (bitmap_length count) mask.old }
@@ -81,7 +81,7 @@ fn matches_row(
     columns: &[Rows],
     row: usize,
     cells: &mut Vec<Scalar>,
-) -> Result<bool, MaskFault>
+) -> Result<bool, MaskError>
     requires { HasRow columns.now row }
     ensures value { IfOk result
         (λ b. b ≡ is_match (formula filter.now) (cells_of_rows columns.now row)) }
@@ -97,7 +97,7 @@ fn read_row(
     columns: &[Rows],
     row: usize,
     cells: &mut Vec<Scalar>,
-) -> Result<(), MaskFault>
+) -> Result<(), MaskError>
     requires { HasRow columns.now row }
     ensures cells { OnOk result (map cell_of cells.new.items ≡ cells_of_rows columns.now row) }
     ensures refused { IfErr result (λ e. e ≡ OutOfMemory) }
@@ -112,7 +112,7 @@ fn read_row(
 
 /// The cell of a row of a column.
 #[tactic(auto, using(crate::proofs::RowSteps::shown))]
-fn cell_at(alloc: Global, column: &Rows, row: usize) -> Result<Scalar, MaskFault>
+fn cell_at(alloc: Global, column: &Rows, row: usize) -> Result<Scalar, MaskError>
     requires row { row < length (contents_of_rows column.now) }
     requires texts { HasTexts column.now }
     ensures cell { IfOk result (λ x. cell_of x ≡ cell_of_rows row column.now) }
@@ -120,6 +120,6 @@ fn cell_at(alloc: Global, column: &Rows, row: usize) -> Result<Scalar, MaskFault
 {
     match scalar_at(alloc, column, row) {
         Ok(cell) => Ok(cell),
-        Err(_) => Err(MaskFault::OutOfMemory),
+        Err(_) => Err(MaskError::OutOfMemory),
     }
 }

@@ -2,12 +2,12 @@
 
 ghost use Rattle.std.specs.Prelude.{◌≡◌, ◌+◌, ◌*◌, ◌<◌, ◌≤◌, ◌↔◌, IfErr, IfOk, IsTrue, MatchResult, OnOk, length};
 ghost use Rattle.std.specs.Prelude.{map, if◌then◌else◌};
-ghost use Rattle.column_filters.specs.declared.faults.ZoneFault.TheVariants.{OutOfMemory};
+ghost use Rattle.column_filters.specs.declared.errors.ZoneError.TheVariants.{OutOfMemory};
 ghost use Rattle.column_filters.specs.Words.{AreEnough, AreOutcomes, AreSaid, BadOffsets, IsBadPiece, IsPiece};
 ghost use Rattle.column_filters.specs.Words.{IsSaid, RefusesZone, RefusesZones, fault_of_piece, formula, known};
 ghost use Rattle.column_filters.specs.Words.{open_statistics, outcomes_byte, piece_at, type_of};
 
-use crate::faults::ZoneFault;
+use crate::errors::ZoneError;
 use filter_pruning::{Outcomes, outcomes_of};
 use statistics_bytes::decode_statistics_into;
 use std::alloc::Global;
@@ -18,14 +18,15 @@ use vortex_statistics::{ColumnStatistics, StatisticsError};
 /// What the filter can be on the rows of each zone: a byte for each, 1 if it can be False, 2 if it
 /// can be Unknown and 4 if it can be True, added up.
 ///
-/// A piece is the form in bytes of the statistics of one column in one zone, from its offset to the
-/// next one. Pieces stand zone by zone, one for each type, and an empty piece leaves all cells open.
+/// A piece is the encoding in bytes of the statistics of one column in one zone, from its offset to
+/// the next one. Pieces stand zone by zone, one for each type, and an empty piece leaves all cells
+/// open.
 ///
 /// - `WrongLength` exactly if there are not as many offsets as pieces, and one more.
 /// - `BadOffsets`: the offsets of a piece go down, or past the end.
 /// - `HasVariant`: a piece says a bound of a column with variants.
-/// - `BadBytes`: another piece is no form of statistics of its column's type. Of these three the
-///   first piece decides.
+/// - `BadBytes`: another piece is no encoding of statistics of its column's type. Of these three
+///   the first piece decides.
 /// - `OutOfMemory`: for the statistics of a zone.
 ///
 /// After a refusal the outcomes may be any bytes.
@@ -37,20 +38,20 @@ pub fn outcomes_of_zones(
     statistics: &[u8],
     offsets: &[u64],
     outcomes: &mut [u8],
-) -> Result<(), ZoneFault>
+) -> Result<(), ZoneError>
     ensures outcomes { OnOk result (AreOutcomes (formula filter.now) (map type_of types.now)
         statistics.now offsets.now outcomes.new) }
     ensures refused { IfErr result (RefusesZones (map type_of types.now)
         statistics.now offsets.now (length outcomes.old)) }
 {
     if !are_enough(outcomes.len(), types.len(), offsets.len()) {
-        return Err(ZoneFault::WrongLength);
+        return Err(ZoneError::WrongLength);
     }
     write_outcomes(alloc, filter, types, statistics, offsets, outcomes)
 }
 
-/// Writes what the filter can be on the rows of each zone. The statistics of all zones are read into
-/// the same places, one for each column.
+/// Writes what the filter can be on the rows of each zone. The statistics of all zones are read
+/// into the same places, one for each column.
 fn write_outcomes(
     alloc: Global,
     filter: &Filter,
@@ -58,7 +59,7 @@ fn write_outcomes(
     statistics: &[u8],
     offsets: &[u64],
     outcomes: &mut [u8],
-) -> Result<(), ZoneFault>
+) -> Result<(), ZoneError>
     requires { AreEnough (length outcomes.old) (length types.now) (length offsets.now) }
     ensures outcomes { OnOk result (AreOutcomes (formula filter.now) (map type_of types.now)
         statistics.now offsets.now outcomes.new) }
@@ -83,7 +84,7 @@ fn write_outcomes(
 }
 
 /// Open statistics of so many columns.
-fn open_columns(alloc: Global, count: usize) -> Result<Vec<ColumnStatistics>, ZoneFault>
+fn open_columns(alloc: Global, count: usize) -> Result<Vec<ColumnStatistics>, ZoneError>
     ensures made { IfOk result (λ read. length read.items ≡ count) }
     ensures refused { IfErr result (λ e. e ≡ OutOfMemory) }
 {
@@ -130,7 +131,7 @@ fn read_zone(
     offsets: &[u64],
     first: usize,
     read: &mut [ColumnStatistics],
-) -> Result<(), ZoneFault>
+) -> Result<(), ZoneError>
     requires there { first + length types.now < length offsets.now }
     requires columns { length read.old ≡ length types.now }
     ensures said { OnOk result (AreSaid (map type_of types.now) statistics.now offsets.now first
@@ -160,7 +161,7 @@ fn read_piece(
     offsets: &[u64],
     piece: usize,
     read: &mut ColumnStatistics,
-) -> Result<(), ZoneFault>
+) -> Result<(), ZoneError>
     requires { piece + 1 < length offsets.now }
     ensures said { OnOk result
         (IsSaid (type_of dtype.now) statistics.now offsets.now piece (known read.new)) }
@@ -179,13 +180,13 @@ fn read_piece(
 }
 
 /// The fault of a piece that was not read.
-fn fault_of_piece(piece: usize, refusal: StatisticsError) -> ZoneFault
+fn fault_of_piece(piece: usize, refusal: StatisticsError) -> ZoneError
     ensures { result ≡ fault_of_piece piece refusal }
 {
     match refusal {
-        StatisticsError::BadBytes { place } => ZoneFault::BadBytes { piece, place },
-        StatisticsError::HasVariant => ZoneFault::HasVariant { piece },
-        StatisticsError::OutOfMemory | StatisticsError::TooManyRows => ZoneFault::OutOfMemory,
+        StatisticsError::BadBytes { offset } => ZoneError::BadBytes { piece, offset },
+        StatisticsError::HasVariant => ZoneError::HasVariant { piece },
+        StatisticsError::OutOfMemory | StatisticsError::TooManyRows => ZoneError::OutOfMemory,
     }
 }
 
@@ -194,7 +195,7 @@ fn bytes_of_piece<'a>(
     statistics: &'a [u8],
     offsets: &[u64],
     piece: usize,
-) -> Result<&'a [u8], ZoneFault>
+) -> Result<&'a [u8], ZoneError>
     requires { piece + 1 < length offsets.now }
     ensures { MatchResult result
         (λ bytes. IsPiece statistics.now offsets.now piece
@@ -204,7 +205,7 @@ fn bytes_of_piece<'a>(
     let start = offsets[piece];
     let end = offsets[piece + 1];
     if start > end || end > statistics.len() as u64 {
-        return Err(ZoneFault::BadOffsets { piece });
+        return Err(ZoneError::BadOffsets { piece });
     }
     Ok(&statistics[start as usize..end as usize])
 }

@@ -23,10 +23,10 @@ use Rattle.vortex_value.specs.Validity.{Valid}
 use Rattle.vortex_value.specs.Values.Content.{Content, content, null, sequence, string, tagged, text, truth, typed as typed_child, whole}
 use Rattle.vortex_value.specs.Values.RawTree.{RawTree, absent, raw_bool, raw_bytes, raw_integer, raw_text, raw_tuple, raw_union, raw_variant}
 use Rattle.column_keys.specs.Cells.{AreCells, AreTyped, HasCell, count_in, type_in}
-use Rattle.column_keys.specs.Faults.{IsRowFault, Refuses}
+use Rattle.column_keys.specs.Errors.{IsRowReadError, Refuses}
 use Rattle.column_keys.specs.Layout.{AreBits, AreIntegers, AreStrings, IsColumnOf, bytes_in, bytes_length, is_present, number_in, truth_in}
-use Rattle.column_keys.specs.declared.faults.KeysFault.{KeysFault}
-use Rattle.column_keys.specs.declared.faults.KeysFault.TheVariants.{BadBytes, BadOffsets, BadOptions, NoRoom, OutOfMemory, UnknownKind, WrongLength}
+use Rattle.column_keys.specs.declared.errors.KeysError.{KeysError}
+use Rattle.column_keys.specs.declared.errors.KeysError.TheVariants.{BadBytes, BadOffsets, BadOptions, BufferTooSmall, OutOfMemory, UnknownKind, WrongLength}
 use Rattle.column_keys.specs.declared.keys.RowKeys.{RowKeys}
 use Rattle.column_keys.proofs.RowLaws.{value-there}
 use Rattle.std.proofs.lemmas.List.{length-map as count-map}
@@ -66,16 +66,16 @@ cells-more keys row total part now d all has is e = record {
 pub cells-done : (keys : RowKeys) (row total : ℕ) → row ≡ count_in keys → AreCellsBefore keys row total → (cells : List Content) × AreCells keys cells × (total ≡ capped (bytes_length cells))
 cells-done keys row total at all = (all.cells, record { count = all.count ∙ at; each = λ k l. all.each k (omega (arith, l, all.count)) }, all.counted)
 
-refused-by : (keys : RowKeys) (row total : ℕ) (e : KeysFault) → row < count_in keys → AreCellsBefore keys row total → IsRowFault keys row e → Refuses keys e
+refused-by : (keys : RowKeys) (row total : ℕ) (e : KeysError) → row < count_in keys → AreCellsBefore keys row total → IsRowReadError keys row e → Refuses keys e
 refused-by keys row total OutOfMemory l all why = tt
 refused-by keys row total WrongLength l all why = absurd why
 refused-by keys row total (UnknownKind k) l all why = absurd why
 refused-by keys row total (BadOptions k) l all why = absurd why
-refused-by keys row total (NoRoom n) l all why = absurd why
+refused-by keys row total (BufferTooSmall n) l all why = absurd why
 refused-by keys row total (BadOffsets k) l all why = record { row = row; within = l; before = λ k less. (get_or all.cells k null, all.each k less); cause = why }
 refused-by keys row total (BadBytes k) l all why = record { row = row; within = l; before = λ k less. (get_or all.cells k null, all.each k less); cause = why }
 
-pub keys-refused : {X : Type 0} (keys : RowKeys) (row total : ℕ) (r : Result X KeysFault) (e : KeysFault) → IsErr r × IsErrAnd r (λ f. f ≡ e) → row < count_in keys → AreCellsBefore keys row total → IsRowFault keys row e → IfErr r (Refuses keys)
+pub keys-refused : {X : Type 0} (keys : RowKeys) (row total : ℕ) (r : Result X KeysError) (e : KeysError) → IsErr r × IsErrAnd r (λ f. f ≡ e) → row < count_in keys → AreCellsBefore keys row total → IsRowReadError keys row e → IfErr r (Refuses keys)
 keys-refused keys row total (Ok x) e h l all why = tt
 keys-refused keys row total (Err f) e h l all why = subst (Refuses keys) (sym h.1) (refused-by keys row total e l all why)
 
@@ -173,7 +173,7 @@ valid-bit validity i l = let some : (length validity == 0) ≡ false = grind (ar
 
 pub contents-are : {X : Type 0} (of_value : X → Content) (value : ℕ → X) (validity : List ℕ) (cells : List Content) → bitmap_length (length cells) ≤ length validity → AreBits is_present cells validity
     → ((i : ℕ) → i < length cells → is_present (get_or cells i null) ≡ true → of_value (value i) ≡ get_or cells i null) → map (content_or_null of_value) (cells_from validity value 0 (length cells)) ≡ cells
-contents-are of_value value validity cells room bits values =
+contents-are of_value value validity cells buffer bits values =
     ext_get_or null (map (content_or_null of_value) (cells_from validity value 0 (length cells))) cells count (λ i l. at i (omega (arith, l, count)))
   where
     count : length (map (content_or_null of_value) (cells_from validity value 0 (length cells))) ≡ length cells
@@ -181,7 +181,7 @@ contents-are of_value value validity cells room bits values =
 
     at : (i : ℕ) → i < length cells → get_or (map (content_or_null of_value) (cells_from validity value 0 (length cells))) i null ≡ get_or cells i null
     at i l =
-        let some : 0 < length validity = omega (arith, l, room) in
+        let some : 0 < length validity = omega (arith, l, buffer) in
         let valid : is_valid validity i ≡ is_present (get_or cells i null) = valid-bit validity i some ∙ bits.rows i l in
         let within : i < length (cells_from validity value 0 (length cells)) = omega (arith, l, length-map-range_with_len (cell_at validity value) 0 (length cells)) in
         get_or-map (content_or_null of_value) (cells_from validity value 0 (length cells)) i None null within
@@ -190,8 +190,8 @@ contents-are of_value value validity cells room bits values =
 
 pub integer-column : (keys : RowKeys) (kind : IntegerKind) (cells : List Content) (validity values offsets : List ℕ) → AreTyped keys → type_in keys ≡ type_of_kind (Integer kind) → AreCells keys cells → bitmap_length (count_in keys) ≤ length validity
     → AreBits is_present cells validity → AreIntegers kind cells values → IsColumnOf (Integer kind) cells validity values offsets
-integer-column keys kind cells validity values offsets typed is are room bits all = record {
-  contents = contents-are whole (λ i. integer_of kind (item_at (width_of kind) values i)) validity cells (subst (λ n. bitmap_length n ≤ length validity) (sym are.count) room) bits (λ i l present. value i l present);
+integer-column keys kind cells validity values offsets typed is are buffer bits all = record {
+  contents = contents-are whole (λ i. integer_of kind (item_at (width_of kind) values i)) validity cells (subst (λ n. bitmap_length n ≤ length validity) (sym are.count) buffer) bits (λ i l present. value i l present);
   present = bits;
   written = all;
 }
@@ -204,8 +204,8 @@ integer-column keys kind cells validity values offsets typed is are room bits al
 
 pub boolean-column : (keys : RowKeys) (cells : List Content) (validity values offsets : List ℕ) → AreTyped keys → type_in keys ≡ type_of_kind Boolean → AreCells keys cells → bitmap_length (count_in keys) ≤ length validity → AreBits is_present cells validity
     → AreBits truth_in cells values → IsColumnOf Boolean cells validity values offsets
-boolean-column keys cells validity values offsets typed is are room bits all = record {
-  contents = contents-are truth (bit_of values) validity cells (subst (λ n. bitmap_length n ≤ length validity) (sym are.count) room) bits (λ i l present. value i l present);
+boolean-column keys cells validity values offsets typed is are buffer bits all = record {
+  contents = contents-are truth (bit_of values) validity cells (subst (λ n. bitmap_length n ≤ length validity) (sym are.count) buffer) bits (λ i l present. value i l present);
   present = bits;
   written = all;
 }
@@ -218,8 +218,8 @@ boolean-column keys cells validity values offsets typed is are room bits all = r
 
 text-contents : (keys : RowKeys) (cells : List Content) (validity values offsets : List ℕ) → AreTyped keys → type_in keys ≡ utf8_type Nullable → AreCells keys cells → bitmap_length (count_in keys) ≤ length validity → AreBits is_present cells validity
     → AreStrings cells values offsets → map (content_or_null text) (cells_from validity (bytes_between values (slice_index offsets)) 0 (length cells)) ≡ cells
-text-contents keys cells validity values offsets typed is are room bits all =
-    contents-are text (bytes_between values (slice_index offsets)) validity cells (subst (λ n. bitmap_length n ≤ length validity) (sym are.count) room) bits (λ i l present. value i l present)
+text-contents keys cells validity values offsets typed is are buffer bits all =
+    contents-are text (bytes_between values (slice_index offsets)) validity cells (subst (λ n. bitmap_length n ≤ length validity) (sym are.count) buffer) bits (λ i l present. value i l present)
   where
     value : (i : ℕ) → i < length cells → is_present (get_or cells i null) ≡ true → text (bytes_between values (slice_index offsets) i) ≡ get_or cells i null
     value i l present =
@@ -229,8 +229,8 @@ text-contents keys cells validity values offsets typed is are room bits all =
 
 byte-contents : (keys : RowKeys) (cells : List Content) (validity values offsets : List ℕ) → AreTyped keys → type_in keys ≡ binary_type Nullable → AreCells keys cells → bitmap_length (count_in keys) ≤ length validity → AreBits is_present cells validity
     → AreStrings cells values offsets → map (content_or_null string) (cells_from validity (bytes_between values (slice_index offsets)) 0 (length cells)) ≡ cells
-byte-contents keys cells validity values offsets typed is are room bits all =
-    contents-are string (bytes_between values (slice_index offsets)) validity cells (subst (λ n. bitmap_length n ≤ length validity) (sym are.count) room) bits (λ i l present. value i l present)
+byte-contents keys cells validity values offsets typed is are buffer bits all =
+    contents-are string (bytes_between values (slice_index offsets)) validity cells (subst (λ n. bitmap_length n ≤ length validity) (sym are.count) buffer) bits (λ i l present. value i l present)
   where
     value : (i : ℕ) → i < length cells → is_present (get_or cells i null) ≡ true → string (bytes_between values (slice_index offsets) i) ≡ get_or cells i null
     value i l present =
@@ -248,13 +248,13 @@ HasStrings _ = ⊥
 
 pub string-column : (kind : Kind) (keys : RowKeys) (cells : List Content) (validity values offsets : List ℕ) → HasStrings kind → AreTyped keys → type_in keys ≡ type_of_kind kind → AreCells keys cells → bitmap_length (count_in keys) ≤ length validity
     → AreBits is_present cells validity → AreStrings cells values offsets → IsColumnOf kind cells validity values offsets
-string-column Utf8 keys cells validity values offsets of typed is are room bits all = record { contents = text-contents keys cells validity values offsets typed is are room bits all; present = bits; written = all }
-string-column LargeUtf8 keys cells validity values offsets of typed is are room bits all = record { contents = text-contents keys cells validity values offsets typed is are room bits all; present = bits; written = all }
-string-column Binary keys cells validity values offsets of typed is are room bits all = record { contents = byte-contents keys cells validity values offsets typed is are room bits all; present = bits; written = all }
-string-column LargeBinary keys cells validity values offsets of typed is are room bits all = record { contents = byte-contents keys cells validity values offsets typed is are room bits all; present = bits; written = all }
-string-column (Integer kind) keys cells validity values offsets of typed is are room bits all = absurd of
-string-column Boolean keys cells validity values offsets of typed is are room bits all = absurd of
-string-column Null keys cells validity values offsets of typed is are room bits all = absurd of
+string-column Utf8 keys cells validity values offsets of typed is are buffer bits all = record { contents = text-contents keys cells validity values offsets typed is are buffer bits all; present = bits; written = all }
+string-column LargeUtf8 keys cells validity values offsets of typed is are buffer bits all = record { contents = text-contents keys cells validity values offsets typed is are buffer bits all; present = bits; written = all }
+string-column Binary keys cells validity values offsets of typed is are buffer bits all = record { contents = byte-contents keys cells validity values offsets typed is are buffer bits all; present = bits; written = all }
+string-column LargeBinary keys cells validity values offsets of typed is are buffer bits all = record { contents = byte-contents keys cells validity values offsets typed is are buffer bits all; present = bits; written = all }
+string-column (Integer kind) keys cells validity values offsets of typed is are buffer bits all = absurd of
+string-column Boolean keys cells validity values offsets of typed is are buffer bits all = absurd of
+string-column Null keys cells validity values offsets of typed is are buffer bits all = absurd of
 
 pub null-column : (keys : RowKeys) (cells : List Content) (validity values offsets : List ℕ) → AreTyped keys → type_in keys ≡ type_of_kind Null → AreCells keys cells → ((i : ℕ) → bit_of validity i ≡ false) → IsColumnOf Null cells validity values offsets
 null-column keys cells validity values offsets typed is are clear = record {

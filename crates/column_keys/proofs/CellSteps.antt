@@ -12,9 +12,9 @@ use Rattle.vortex_value.specs.TypesWithin.{AllHaveVariants}
 use Rattle.vortex_row.specs.Decoded.{BeginsWithRow, IsDecodedRow, IsFirstBad, IsRowKeyOf, IsValueOf, values_key}
 use Rattle.vortex_row.specs.declared.options.SortOptions.{SortOptions}
 use Rattle.column_keys.specs.Cells.{AreTyped, HasCell, IsPlaced, key_at, type_in, types_in}
-use Rattle.column_keys.specs.Faults.{GoesOnAfter, IsRowFault, IsWrongKey}
-use Rattle.column_keys.specs.declared.faults.KeysFault.{KeysFault}
-use Rattle.column_keys.specs.declared.faults.KeysFault.TheVariants.{BadBytes, BadOffsets}
+use Rattle.column_keys.specs.Errors.{GoesOnAfter, IsRowReadError, IsWrongKey}
+use Rattle.column_keys.specs.declared.errors.KeysError.{KeysError}
+use Rattle.column_keys.specs.declared.errors.KeysError.TheVariants.{BadBytes, BadOffsets}
 use Rattle.column_keys.specs.declared.keys.RowKeys.{RowKeys}
 use Rattle.column_keys.proofs.RowLaws.{value-there, values-count}
 
@@ -53,7 +53,7 @@ no-rest xs ys rest e less none =
     absurd (omega (arith, same, empty, less))
 
 pub key-goes-on : (keys : RowKeys) (row : ℕ) (key : List ℕ) (xs : List Scalar) (n : ℕ) → IsPlaced keys.bytes.now keys.offsets.now row → key ≡ key_at keys.bytes.now keys.offsets.now row → IsDecodedRow keys.options.now (types_in keys) key xs n → n < length key
-    → IsRowFault keys row (BadBytes (slice_index keys.offsets.now row + n))
+    → IsRowReadError keys row (BadBytes (slice_index keys.offsets.now row + n))
 key-goes-on keys row key xs n placed is decoded more =
     let vs = map scalar_raw xs in
     let front = values_key keys.options.now vs in
@@ -68,11 +68,11 @@ key-goes-on keys row key xs n placed is decoded more =
     (placed, (n, refl, subst (λ k. IsWrongKey keys.options.now (types_in keys) k n) is (inr after)))
 
 pub key-bad : (keys : RowKeys) (row : ℕ) (key : List ℕ) (p : ℕ) → AreTyped keys → IsPlaced keys.bytes.now keys.offsets.now row → key ≡ key_at keys.bytes.now keys.offsets.now row
-    → IsFirstBad (IsRowKeyOf keys.options.now (types_in keys)) (AllHaveVariants (types_in keys)) key p → IsRowFault keys row (BadBytes (slice_index keys.offsets.now row + p))
+    → IsFirstBad (IsRowKeyOf keys.options.now (types_in keys)) (AllHaveVariants (types_in keys)) key p → IsRowReadError keys row (BadBytes (slice_index keys.offsets.now row + p))
 key-bad keys row key p typed placed is bad =
     let first : IsFirstBad (IsRowKeyOf keys.options.now (types_in keys)) (Unit {0}) key p = record { within = bad.within; before = λ u. bad.before typed.filled; bad = bad.bad; no_key = bad.no_key } in
     (placed, (p, refl, subst (λ k. IsWrongKey keys.options.now (types_in keys) k p) is (inl first)))
 
-pub not-placed : (keys : RowKeys) (row : ℕ) (r : Result Scalar KeysFault) (e : KeysFault) → IsErr r × IsErrAnd r (λ f. f ≡ e) → (e ≡ BadOffsets row) × ¬ (IsPlaced keys.bytes.now keys.offsets.now row) → IfErr r (IsRowFault keys row)
+pub not-placed : (keys : RowKeys) (row : ℕ) (r : Result Scalar KeysError) (e : KeysError) → IsErr r × IsErrAnd r (λ f. f ≡ e) → (e ≡ BadOffsets row) × ¬ (IsPlaced keys.bytes.now keys.offsets.now row) → IfErr r (IsRowReadError keys row)
 not-placed keys row (Ok x) e h w = tt
-not-placed keys row (Err f) e h w = subst (IsRowFault keys row) (sym (h.1 ∙ w.0)) (refl, w.1)
+not-placed keys row (Err f) e h w = subst (IsRowReadError keys row) (sym (h.1 ∙ w.0)) (refl, w.1)

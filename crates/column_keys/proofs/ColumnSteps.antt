@@ -9,11 +9,11 @@ use Rattle.std.proofs.lemmas.List.Elements.{All-nil, All-push}
 use Rattle.std.proofs.lemmas.Option.{slice_get-get_or, same_Some}
 use Rattle.arrow_columns.specs.declared.columns.Column.{Column}
 use Rattle.column_cells.specs.Contents.{HasTexts, contents_of_column, contents_of_rows}
-use Rattle.column_keys.specs.Tables.{AreReadFrom, AreSoundBefore, IsFaultAt, IsReadFrom, IsSound, IsTableFault, options_in, options_of, table_of}
+use Rattle.column_keys.specs.Tables.{AreReadFrom, AreSoundBefore, IsErrorAt, IsReadFrom, IsSound, IsTableError, options_in, options_of, table_of}
 use Rattle.arrow_columns.specs.Columns.{rows_in}
 use Rattle.column_keys.specs.declared.columns.KeyColumn.{KeyColumn}
-use Rattle.column_keys.specs.declared.faults.TableFault.{TableFault}
-use Rattle.column_keys.specs.declared.faults.TableFault.TheVariants.{BadOptions, OutOfMemory, Unreadable, WrongCount, WrongLength}
+use Rattle.column_keys.specs.declared.errors.TableError.{TableError}
+use Rattle.column_keys.specs.declared.errors.TableError.TheVariants.{BadOptions, OutOfMemory, Unreadable, WrongCount, WrongLength}
 
 pub read-none : (columns : List Column) (options : List ℕ) → AreReadFrom columns options 0 []
 read-none columns options = record { contents = refl; options' = refl; rows = All-nil _ }
@@ -51,16 +51,16 @@ sound-more columns options k d read here all one j other less got = by_place (ca
 
 -- a fault of a column is one of the table
 
-pub table-fault : (columns : List Column) (options : List ℕ) (k : ℕ) (d : Column) (fault : TableFault) → length options ≡ length columns → k < length columns → AreSoundBefore columns options k
-    → IsFaultAt k (get_or columns k d) (get_or options k 0) (rows_in columns) fault → IsTableFault columns options fault
+pub table-fault : (columns : List Column) (options : List ℕ) (k : ℕ) (d : Column) (fault : TableError) → length options ≡ length columns → k < length columns → AreSoundBefore columns options k
+    → IsErrorAt k (get_or columns k d) (get_or options k 0) (rows_in columns) fault → IsTableError columns options fault
 table-fault columns options k d OutOfMemory counts here all h = tt
 table-fault columns options k d WrongCount counts here all h = absurd h
 table-fault columns options k d (Unreadable place fault) counts here all h = (counts, (k, get_or columns k d, slice_get-get_or columns k d here, all, h))
 table-fault columns options k d (BadOptions place) counts here all h = (counts, (k, get_or columns k d, slice_get-get_or columns k d here, all, h))
 table-fault columns options k d (WrongLength place) counts here all h = (counts, (k, get_or columns k d, slice_get-get_or columns k d here, all, h))
 
-pub table-refused : (columns : List Column) (options : List ℕ) (r : Result (Vec KeyColumn Global) TableFault) (e : TableFault) → IsErr r × IsErrAnd r (λ f. f ≡ e) → IsTableFault columns options e → IfErr r (λ f. IsTableFault columns options f)
+pub table-refused : (columns : List Column) (options : List ℕ) (r : Result (Vec KeyColumn Global) TableError) (e : TableError) → IsErr r × IsErrAnd r (λ f. f ≡ e) → IsTableError columns options e → IfErr r (λ f. IsTableError columns options f)
 table-refused columns options (Ok p) e h k = tt
-table-refused columns options (Err f) e h k = subst (IsTableFault columns options) (sym h.1) k
+table-refused columns options (Err f) e h k = subst (IsTableError columns options) (sym h.1) k
 
 pub ruleset shown = (read-none, sound-none)

@@ -12,14 +12,14 @@ use Rattle.vortex_dtype.specs.TypeTree.{null_type}
 use Rattle.vortex_value.specs.Size.{capped}
 use Rattle.vortex_value.specs.TypesWithin.{AllHaveVariants, HasNoVariant, HaveNoVariant, UnionsHaveVariants}
 use Rattle.vortex_value.specs.Values.Content.{Content}
-use Rattle.column_keys.specs.Answers.{AreCellsBy, IsColumnOfKeys, IsRefusal, LacksRoom}
+use Rattle.column_keys.specs.Answers.{AreCellsBy, IsColumnOfKeys, IsRefusal, LacksBuffer}
 use Rattle.column_keys.specs.Cells.{AreCells, AreCellsOf, AreTyped, key_count, type_in, types_in}
-use Rattle.column_keys.specs.Faults.{IsFirstFault, Refuses}
+use Rattle.column_keys.specs.Errors.{IsFirstError, Refuses}
 use Rattle.column_keys.specs.Layout.{IsColumnOf, offsets_length, values_length}
 use Rattle.arrow_columns.specs.Bitmaps.{bitmap_length}
-use Rattle.column_keys.specs.Types.{HasTypes, IsTypesFault, type_at_code, types_of_codes}
-use Rattle.column_keys.specs.declared.faults.KeysFault.{KeysFault}
-use Rattle.column_keys.specs.declared.faults.KeysFault.TheVariants.{BadBytes, BadOffsets, BadOptions, NoRoom, OutOfMemory, UnknownKind, WrongLength}
+use Rattle.column_keys.specs.Types.{HasTypes, IsTypesError, type_at_code, types_of_codes}
+use Rattle.column_keys.specs.declared.errors.KeysError.{KeysError}
+use Rattle.column_keys.specs.declared.errors.KeysError.TheVariants.{BadBytes, BadOffsets, BadOptions, BufferTooSmall, OutOfMemory, UnknownKind, WrongLength}
 use Rattle.column_keys.specs.declared.keys.RowKeys.{RowKeys}
 
 -- ---- the types are plain
@@ -91,9 +91,9 @@ column-given codes bytes keys kind cells count validity values places v n p read
       (subst (λ x. IsColumnOf kind cells v x (take (offsets_length kind (key_count keys.offsets.now)) places)) (sym second) (subst (λ x. IsColumnOf kind cells v n x) (sym third) column));
 }
 
-pub room-lacks : (codes bytes : List ℕ) (keys : RowKeys) (kind : Kind) (cells : List Content) (count v n p : ℕ) → AreReadFrom codes bytes keys → kind_at (slice_index codes keys.which) ≡ Some kind → AreCells keys cells → count ≡ capped (values_length kind cells)
-    → (v < bitmap_length (key_count keys.offsets.now)) ⊎ ((n < count) ⊎ ((count ≡ 2 ^ 64 - 1) ⊎ (p < offsets_length kind (key_count keys.offsets.now)))) → LacksRoom codes bytes keys.which keys.bytes.now keys.offsets.now v n p count
-room-lacks codes bytes keys kind cells count v n p read is are counted small = record {
+pub buffer-lacks : (codes bytes : List ℕ) (keys : RowKeys) (kind : Kind) (cells : List Content) (count v n p : ℕ) → AreReadFrom codes bytes keys → kind_at (slice_index codes keys.which) ≡ Some kind → AreCells keys cells → count ≡ capped (values_length kind cells)
+    → (v < bitmap_length (key_count keys.offsets.now)) ⊎ ((n < count) ⊎ ((count ≡ 2 ^ 64 - 1) ⊎ (p < offsets_length kind (key_count keys.offsets.now)))) → LacksBuffer codes bytes keys.which keys.bytes.now keys.offsets.now v n p count
+buffer-lacks codes bytes keys kind cells count v n p read is are counted small = record {
   kind = kind;
   cells = cells;
   has = record { kind_is = is; cells_are = cells-by codes bytes keys cells read are };
@@ -101,31 +101,31 @@ room-lacks codes bytes keys kind cells count v n p read is are counted small = r
   small = small;
 }
 
-pub types-refused : (codes bytes : List ℕ) (which : ℕ) (keys offsets : List ℕ) (v n p : ℕ) (e : KeysFault) → IsTypesFault codes bytes which e → IsRefusal codes bytes which keys offsets v n p e
+pub types-refused : (codes bytes : List ℕ) (which : ℕ) (keys offsets : List ℕ) (v n p : ℕ) (e : KeysError) → IsTypesError codes bytes which e → IsRefusal codes bytes which keys offsets v n p e
 types-refused codes bytes which keys offsets v n p OutOfMemory h = tt
 types-refused codes bytes which keys offsets v n p WrongLength h = h
 types-refused codes bytes which keys offsets v n p (UnknownKind k) h = h
 types-refused codes bytes which keys offsets v n p (BadOptions k) h = h
 types-refused codes bytes which keys offsets v n p (BadOffsets k) h = absurd h
 types-refused codes bytes which keys offsets v n p (BadBytes k) h = absurd h
-types-refused codes bytes which keys offsets v n p (NoRoom k) h = absurd h
+types-refused codes bytes which keys offsets v n p (BufferTooSmall k) h = absurd h
 
-first-by : (codes bytes : List ℕ) (keys : RowKeys) (e : KeysFault) → AreReadFrom codes bytes keys → IsFirstFault keys.options.now (types_in keys) keys.which keys.bytes.now keys.offsets.now e
-    → IsFirstFault (map options_in bytes) (as_type_trees (types_of_codes codes)) keys.which keys.bytes.now keys.offsets.now e
+first-by : (codes bytes : List ℕ) (keys : RowKeys) (e : KeysError) → AreReadFrom codes bytes keys → IsFirstError keys.options.now (types_in keys) keys.which keys.bytes.now keys.offsets.now e
+    → IsFirstError (map options_in bytes) (as_type_trees (types_of_codes codes)) keys.which keys.bytes.now keys.offsets.now e
 first-by codes bytes keys e read first =
-    subst (λ os. IsFirstFault os (as_type_trees (types_of_codes codes)) keys.which keys.bytes.now keys.offsets.now e) read.options'
-    (subst (λ ts. IsFirstFault keys.options.now (as_type_trees ts) keys.which keys.bytes.now keys.offsets.now e) read.types first)
+    subst (λ os. IsFirstError os (as_type_trees (types_of_codes codes)) keys.which keys.bytes.now keys.offsets.now e) read.options'
+    (subst (λ ts. IsFirstError keys.options.now (as_type_trees ts) keys.which keys.bytes.now keys.offsets.now e) read.types first)
 
-pub keys-refused : (codes bytes : List ℕ) (keys : RowKeys) (v n p : ℕ) (e : KeysFault) → AreReadFrom codes bytes keys → Refuses keys e → IsRefusal codes bytes keys.which keys.bytes.now keys.offsets.now v n p e
+pub keys-refused : (codes bytes : List ℕ) (keys : RowKeys) (v n p : ℕ) (e : KeysError) → AreReadFrom codes bytes keys → Refuses keys e → IsRefusal codes bytes keys.which keys.bytes.now keys.offsets.now v n p e
 keys-refused codes bytes keys v n p OutOfMemory read h = tt
 keys-refused codes bytes keys v n p WrongLength read h = absurd h.cause
 keys-refused codes bytes keys v n p (UnknownKind k) read h = absurd h.cause
 keys-refused codes bytes keys v n p (BadOptions k) read h = absurd h.cause
-keys-refused codes bytes keys v n p (NoRoom k) read h = absurd h.cause
+keys-refused codes bytes keys v n p (BufferTooSmall k) read h = absurd h.cause
 keys-refused codes bytes keys v n p (BadOffsets k) read h = (read.sound, first-by codes bytes keys (BadOffsets k) read h)
 keys-refused codes bytes keys v n p (BadBytes k) read h = (read.sound, first-by codes bytes keys (BadBytes k) read h)
 
 -- a refusal that is passed on
-pub passed-on : (r : Result ℕ KeysFault) (e : KeysFault) (P : KeysFault → Type 0) → IsErr r × IsErrAnd r (λ f. f ≡ e) → P e → IfErr r P
+pub passed-on : (r : Result ℕ KeysError) (e : KeysError) (P : KeysError → Type 0) → IsErr r × IsErrAnd r (λ f. f ≡ e) → P e → IfErr r P
 passed-on (Ok n) e P h w = tt
 passed-on (Err f) e P h w = subst P (sym h.1) w

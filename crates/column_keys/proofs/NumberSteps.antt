@@ -117,8 +117,8 @@ pub integers-done : (kind : IntegerKind) (keys : RowKeys) (row : ℕ) (values : 
 integers-done kind keys row values at all cells are k l = all k (get_or cells k null) (omega (arith, l, at, are.count)) (are.each k l)
 
 -- there is room for the integer of a row
-pub number-room : (kind : IntegerKind) (p : PType) (row count size : ℕ) → p ≡ ptype_of_kind kind → row < count → count * width_of kind ≤ size → (row + 1) * byte_width_of p ≤ size
-number-room kind p row count size typed l room =
+pub number-buffer : (kind : IntegerKind) (p : PType) (row count size : ℕ) → p ≡ ptype_of_kind kind → row < count → count * width_of kind ≤ size → (row + 1) * byte_width_of p ≤ size
+number-buffer kind p row count size typed l buffer =
     let width : byte_width_of p ≡ width_of kind = ap byte_width_of typed ∙ width-is kind in
     let less : (row + 1) * width_of kind ≤ count * width_of kind = mul-le-mul_right {m = row + 1} {n = count} (width_of kind) (omega (arith, l)) in
-    subst (λ w. (row + 1) * w ≤ size) (sym width) (omega (arith, less, room))
+    subst (λ w. (row + 1) * w ≤ size) (sym width) (omega (arith, less, buffer))

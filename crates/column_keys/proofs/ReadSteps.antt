@@ -13,7 +13,7 @@ use Rattle.vortex_value.specs.Values.Content.{Content}
 use Rattle.column_keys.specs.Cells.{AreCells, AreTyped, count_in, type_in}
 use Rattle.column_keys.specs.Layout.{AreBits, AreIntegers, AreStrings, bytes_length, fixed_length, is_present, truth_in, values_length}
 use Rattle.column_keys.specs.Read.{IsReadInto}
-use Rattle.column_keys.specs.declared.faults.KeysFault.{KeysFault}
+use Rattle.column_keys.specs.declared.errors.KeysError.{KeysError}
 use Rattle.column_keys.specs.declared.keys.RowKeys.{RowKeys}
 use Rattle.column_keys.proofs.CellColumns.{HasStrings, boolean-column, integer-column, null-column, string-column}
 
@@ -49,9 +49,9 @@ at-least Null cells = omega arith
 
 -- ---- the column of each kind
 
-pub into-integers : (keys : RowKeys) (kind : IntegerKind) (room count : ℕ) (validity values offsets : List ℕ) → AreTyped keys → type_in keys ≡ type_of_kind (Integer kind) → bitmap_length (count_in keys) ≤ length validity → length values ≡ fixed_length (Integer kind) (count_in keys)
-    → count ≡ length values → count < 2 ^ 64 → (cells : List Content) × AreCells keys cells × AreBits is_present cells validity × AreIntegers kind cells values → IsReadInto keys (Integer kind) room count validity values offsets
-into-integers keys kind room count validity values offsets typed of bits size is fits read = record {
+pub into-integers : (keys : RowKeys) (kind : IntegerKind) (buffer count : ℕ) (validity values offsets : List ℕ) → AreTyped keys → type_in keys ≡ type_of_kind (Integer kind) → bitmap_length (count_in keys) ≤ length validity → length values ≡ fixed_length (Integer kind) (count_in keys)
+    → count ≡ length values → count < 2 ^ 64 → (cells : List Content) × AreCells keys cells × AreBits is_present cells validity × AreIntegers kind cells values → IsReadInto keys (Integer kind) buffer count validity values offsets
+into-integers keys kind buffer count validity values offsets typed of bits size is fits read = record {
   cells = read.0;
   are = read.1;
   counted = let all : count ≡ length read.0 * width_of kind = is ∙ size ∙ ap (λ n. n * width_of kind) (sym read.1.count) in omega (arith, all, fits);
@@ -59,9 +59,9 @@ into-integers keys kind room count validity values offsets typed of bits size is
   column = λ l. integer-column keys kind read.0 validity values offsets typed of read.1 bits read.2 read.3;
 }
 
-pub into-booleans : (keys : RowKeys) (room count : ℕ) (validity values offsets : List ℕ) → AreTyped keys → type_in keys ≡ type_of_kind Boolean → bitmap_length (count_in keys) ≤ length validity → length values ≡ fixed_length Boolean (count_in keys) → count ≡ length values → count < 2 ^ 64
-    → (cells : List Content) × AreCells keys cells × AreBits is_present cells validity × AreBits truth_in cells values → IsReadInto keys Boolean room count validity values offsets
-into-booleans keys room count validity values offsets typed of bits size is fits read = record {
+pub into-booleans : (keys : RowKeys) (buffer count : ℕ) (validity values offsets : List ℕ) → AreTyped keys → type_in keys ≡ type_of_kind Boolean → bitmap_length (count_in keys) ≤ length validity → length values ≡ fixed_length Boolean (count_in keys) → count ≡ length values → count < 2 ^ 64
+    → (cells : List Content) × AreCells keys cells × AreBits is_present cells validity × AreBits truth_in cells values → IsReadInto keys Boolean buffer count validity values offsets
+into-booleans keys buffer count validity values offsets typed of bits size is fits read = record {
   cells = read.0;
   are = read.1;
   counted = let all : count ≡ bitmap_length (length read.0) = is ∙ size ∙ ap bitmap_length (sym read.1.count) in omega (arith, all, fits);
@@ -69,9 +69,9 @@ into-booleans keys room count validity values offsets typed of bits size is fits
   column = λ l. boolean-column keys read.0 validity values offsets typed of read.1 bits read.2 read.3;
 }
 
-pub into-strings : (keys : RowKeys) (kind : Kind) (room count : ℕ) (validity values offsets : List ℕ) → HasStrings kind → AreTyped keys → type_in keys ≡ type_of_kind kind → bitmap_length (count_in keys) ≤ length validity
-    → (cells : List Content) × AreCells keys cells × (count ≡ capped (bytes_length cells)) × AreBits is_present cells validity × (count ≤ room → (length values ≡ count) × AreStrings cells values offsets) → IsReadInto keys kind room count validity values offsets
-into-strings keys kind room count validity values offsets strings typed of bits read = record {
+pub into-strings : (keys : RowKeys) (kind : Kind) (buffer count : ℕ) (validity values offsets : List ℕ) → HasStrings kind → AreTyped keys → type_in keys ≡ type_of_kind kind → bitmap_length (count_in keys) ≤ length validity
+    → (cells : List Content) × AreCells keys cells × (count ≡ capped (bytes_length cells)) × AreBits is_present cells validity × (count ≤ buffer → (length values ≡ count) × AreStrings cells values offsets) → IsReadInto keys kind buffer count validity values offsets
+into-strings keys kind buffer count validity values offsets strings typed of bits read = record {
   cells = read.0;
   are = read.1;
   counted = read.2 ∙ ap capped (sym (string-bytes kind read.0 strings));
@@ -79,8 +79,8 @@ into-strings keys kind room count validity values offsets strings typed of bits 
   column = λ l. string-column kind keys read.0 validity values offsets strings typed of read.1 bits read.3 (read.4 l).1;
 }
 
-pub into-nulls : (keys : RowKeys) (room : ℕ) (validity values offsets : List ℕ) (cells : List Content) → AreTyped keys → type_in keys ≡ type_of_kind Null → ((i : ℕ) → bit_of validity i ≡ false) → length values ≡ 0 → AreCells keys cells → IsReadInto keys Null room 0 validity values offsets
-into-nulls keys room validity values offsets cells typed of zeros none are = record {
+pub into-nulls : (keys : RowKeys) (buffer : ℕ) (validity values offsets : List ℕ) (cells : List Content) → AreTyped keys → type_in keys ≡ type_of_kind Null → ((i : ℕ) → bit_of validity i ≡ false) → length values ≡ 0 → AreCells keys cells → IsReadInto keys Null buffer 0 validity values offsets
+into-nulls keys buffer validity values offsets cells typed of zeros none are = record {
   cells = cells;
   are = are;
   counted = omega arith;
@@ -88,11 +88,11 @@ into-nulls keys room validity values offsets cells typed of zeros none are = rec
   column = λ l. null-column keys cells validity values offsets typed of are zeros;
 }
 
-pub strings-into : (keys : RowKeys) (kind : Kind) (room : ℕ) (validity values offsets : List ℕ) (r : Result ℕ KeysFault) → HasStrings kind → AreTyped keys → type_in keys ≡ type_of_kind kind → bitmap_length (count_in keys) ≤ length validity
-    → IfOk r (λ count. (cells : List Content) × AreCells keys cells × (count ≡ capped (bytes_length cells)) × AreBits is_present cells validity × (count ≤ room → (length values ≡ count) × AreStrings cells values offsets))
-    → IfOk r (λ count. IsReadInto keys kind room count validity values offsets)
-strings-into keys kind room validity values offsets (Ok count) strings typed of bits read = into-strings keys kind room count validity values offsets strings typed of bits read
-strings-into keys kind room validity values offsets (Err e) strings typed of bits read = tt
+pub strings-into : (keys : RowKeys) (kind : Kind) (buffer : ℕ) (validity values offsets : List ℕ) (r : Result ℕ KeysError) → HasStrings kind → AreTyped keys → type_in keys ≡ type_of_kind kind → bitmap_length (count_in keys) ≤ length validity
+    → IfOk r (λ count. (cells : List Content) × AreCells keys cells × (count ≡ capped (bytes_length cells)) × AreBits is_present cells validity × (count ≤ buffer → (length values ≡ count) × AreStrings cells values offsets))
+    → IfOk r (λ count. IsReadInto keys kind buffer count validity values offsets)
+strings-into keys kind buffer validity values offsets (Ok count) strings typed of bits read = into-strings keys kind buffer count validity values offsets strings typed of bits read
+strings-into keys kind buffer validity values offsets (Err e) strings typed of bits read = tt
 
 -- what a vector holds once it was lent as a slice, which is now this
 pub lent-back : (size : ℕ) (now old : List ℕ) → length now ≡ size → take size (now ++ drop (length now) old) ≡ now

@@ -81,12 +81,12 @@ strings-more keys row place next values now offsets d inside same all is more = 
         subst (λ i. slice_range now (slice_index (set offsets (row + 1) next) i) (slice_index (set offsets (row + 1) next) (i + 1)) ≡ bytes_in c) at
         (ap₂ (λ a b. slice_range now a b) (kept row (omega arith) ∙ all.here) last ∙ ap (λ xs. slice_range xs place next) is ∙ range-put values (bytes_in d) place next (sym all.size) more ∙ ap bytes_in (sym one))
 
--- a string is kept if the room holds it and those before
-pub strings-kept : (keys : RowKeys) (row total next room : ℕ) (values now bytes offsets : List ℕ) (d : Content) → row + 1 < length offsets → room < 2 ^ 64 - 1 → ((c : Content) → HasCell keys row c → c ≡ d) → (total ≤ room → AreStringsBefore keys row total values offsets)
-    → bytes ≡ bytes_in d → next ≡ capped (total + length bytes) → now ≡ (if leb next room then values ++ bytes else values) → next ≤ room → AreStringsBefore keys (row + 1) next now (set offsets (row + 1) next)
-strings-kept keys row total next room values now bytes offsets d inside small same all is more put l =
+-- a string is kept if the buffer holds it and those before
+pub strings-kept : (keys : RowKeys) (row total next buffer : ℕ) (values now bytes offsets : List ℕ) (d : Content) → row + 1 < length offsets → buffer < 2 ^ 64 - 1 → ((c : Content) → HasCell keys row c → c ≡ d) → (total ≤ buffer → AreStringsBefore keys row total values offsets)
+    → bytes ≡ bytes_in d → next ≡ capped (total + length bytes) → now ≡ (if leb next buffer then values ++ bytes else values) → next ≤ buffer → AreStringsBefore keys (row + 1) next now (set offsets (row + 1) next)
+strings-kept keys row total next buffer values now bytes offsets d inside small same all is more put l =
     let size : length bytes ≡ length (bytes_in d) = ap length is in
-    let kept : now ≡ values ++ bytes_in d = put ∙ ap (λ b. if b then values ++ bytes else values) (le-leb next room l) ∙ ap (λ bs. values ++ bs) is in
+    let kept : now ≡ values ++ bytes_in d = put ∙ ap (λ b. if b then values ++ bytes else values) (le-leb next buffer l) ∙ ap (λ bs. values ++ bs) is in
     strings-more keys row total next values now offsets d inside same (all (omega (arith, more, l, small))) kept (omega (arith, more, l, small, size))
 
 pub strings-done : (keys : RowKeys) (row place : ℕ) (values offsets : List ℕ) → row ≡ count_in keys → AreStringsBefore keys row place values offsets → (cells : List Content) → AreCells keys cells → AreStrings cells values offsets

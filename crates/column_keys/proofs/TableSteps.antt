@@ -28,8 +28,8 @@ length-next columns row count less =
     let same : suc row + (count - suc row) ≡ count = omega arith in
     subst (λ n. keys_length (options_of columns) (table_of columns) row + length (key_of_row (options_of columns) (table_of columns) row) ≤ keys_length (options_of columns) (table_of columns) n) same (length-grows columns (suc row) (count - suc row))
 
-pub row-slot : (columns : List KeyColumn) (row count place : ℕ) (room : List ℕ) → row < count → place ≡ keys_length (options_of columns) (table_of columns) row → length room ≡ keys_length (options_of columns) (table_of columns) count → HasSlot room place (key_of_row (options_of columns) (table_of columns) row)
-row-slot columns row count place room less is long = let next = length-next columns row count less in omega arith
+pub row-slot : (columns : List KeyColumn) (row count place : ℕ) (buffer : List ℕ) → row < count → place ≡ keys_length (options_of columns) (table_of columns) row → length buffer ≡ keys_length (options_of columns) (table_of columns) count → HasSlot buffer place (key_of_row (options_of columns) (table_of columns) row)
+row-slot columns row count place buffer less is long = let next = length-next columns row count less in omega arith
 
 pub length-more : (columns : List KeyColumn) (row : ℕ) → keys_length (options_of columns) (table_of columns) (row + 1) ≡ keys_length (options_of columns) (table_of columns) row + length (key_of_row (options_of columns) (table_of columns) row)
 length-more columns row = let one : row + 1 ≡ suc row = omega arith in ap (keys_length (options_of columns) (table_of columns)) one
@@ -67,9 +67,9 @@ range-written bs p q x y inside w = range-is y p q ∙ ap (drop p) w.items ∙ d
 
 -- one row more
 
-pub keys-more : (columns : List KeyColumn) (row place next : ℕ) (offsets room written : List ℕ) → AreRowKeys (options_of columns) (table_of columns) row offsets room → slice_index offsets row ≡ place → HasSlot room place (key_of_row (options_of columns) (table_of columns) row)
-    → Writes (key_of_row (options_of columns) (table_of columns) row) place next room written → row + 1 < length offsets → AreRowKeys (options_of columns) (table_of columns) (row + 1) (set offsets (row + 1) next) written
-keys-more columns row place next offsets room written all here slot w inside =
+pub keys-more : (columns : List KeyColumn) (row place next : ℕ) (offsets buffer written : List ℕ) → AreRowKeys (options_of columns) (table_of columns) row offsets buffer → slice_index offsets row ≡ place → HasSlot buffer place (key_of_row (options_of columns) (table_of columns) row)
+    → Writes (key_of_row (options_of columns) (table_of columns) row) place next buffer written → row + 1 < length offsets → AreRowKeys (options_of columns) (table_of columns) (row + 1) (set offsets (row + 1) next) written
+keys-more columns row place next offsets buffer written all here slot w inside =
     let key = key_of_row (options_of columns) (table_of columns) row in
     let more = w.next' in
     let before : (k : ℕ) → k ≤ row → slice_index (set offsets (row + 1) next) k ≡ slice_index offsets k = λ k less. get_or-set_other offsets (row + 1) k next 0 (λ e. omega (arith, e, less)) in
@@ -80,7 +80,7 @@ keys-more columns row place next offsets room written all here slot w inside =
       keys = λ k less. keys_at before last all k (cases_lt k row) less;
     }
   where
-    ends_at : ((k : ℕ) → k ≤ row → slice_index (set offsets (row + 1) next) k ≡ slice_index offsets k) → slice_index (set offsets (row + 1) next) (row + 1) ≡ next → AreRowKeys (options_of columns) (table_of columns) row offsets room → (k : ℕ) → (k < row) ⊎ (row ≤ k) → k < row + 1
+    ends_at : ((k : ℕ) → k ≤ row → slice_index (set offsets (row + 1) next) k ≡ slice_index offsets k) → slice_index (set offsets (row + 1) next) (row + 1) ≡ next → AreRowKeys (options_of columns) (table_of columns) row offsets buffer → (k : ℕ) → (k < row) ⊎ (row ≤ k) → k < row + 1
         → slice_index (set offsets (row + 1) next) (k + 1) ≡ slice_index (set offsets (row + 1) next) k + length (key_of_row (options_of columns) (table_of columns) k)
     ends_at before last all k (inl less) inside = before (k + 1) (omega arith) ∙ all.ends k less ∙ ap (λ n. n + length (key_of_row (options_of columns) (table_of columns) k)) (sym (before k (omega arith)))
     ends_at before last all k (inr least) inside =
@@ -88,20 +88,20 @@ keys-more columns row place next offsets room written all here slot w inside =
         subst (λ r. slice_index (set offsets (row + 1) next) (r + 1) ≡ slice_index (set offsets (row + 1) next) r + length (key_of_row (options_of columns) (table_of columns) r)) (sym same)
         (last ∙ w.next' ∙ ap (λ n. n + length (key_of_row (options_of columns) (table_of columns) row)) (sym here ∙ sym (before row (omega arith))))
 
-    keys_at : ((k : ℕ) → k ≤ row → slice_index (set offsets (row + 1) next) k ≡ slice_index offsets k) → slice_index (set offsets (row + 1) next) (row + 1) ≡ next → AreRowKeys (options_of columns) (table_of columns) row offsets room → (k : ℕ) → (k < row) ⊎ (row ≤ k) → k < row + 1
+    keys_at : ((k : ℕ) → k ≤ row → slice_index (set offsets (row + 1) next) k ≡ slice_index offsets k) → slice_index (set offsets (row + 1) next) (row + 1) ≡ next → AreRowKeys (options_of columns) (table_of columns) row offsets buffer → (k : ℕ) → (k < row) ⊎ (row ≤ k) → k < row + 1
         → slice_range written (slice_index (set offsets (row + 1) next) k) (slice_index (set offsets (row + 1) next) (k + 1)) ≡ key_of_row (options_of columns) (table_of columns) k
     keys_at before last all k (inl less) inside =
         let to : k + 1 + (row - (k + 1)) ≡ row = omega arith in
-        let grown = subst (λ n. slice_index offsets (k + 1) ≤ slice_index offsets n) to (offsets-grow columns row offsets room all (k + 1) (row - (k + 1)) (omega arith)) in
+        let grown = subst (λ n. slice_index offsets (k + 1) ≤ slice_index offsets n) to (offsets-grow columns row offsets buffer all (k + 1) (row - (k + 1)) (omega arith)) in
         ap₂ (λ a b. slice_range written a b) (before k (omega arith)) (before (k + 1) (omega arith))
-        ∙ range-kept room written (slice_index offsets k) (slice_index offsets (k + 1)) place (omega (arith, grown, here)) (front-kept (key_of_row (options_of columns) (table_of columns) row) place next room written (omega arith) w)
+        ∙ range-kept buffer written (slice_index offsets k) (slice_index offsets (k + 1)) place (omega (arith, grown, here)) (front-kept (key_of_row (options_of columns) (table_of columns) row) place next buffer written (omega arith) w)
         ∙ all.keys k less
     keys_at before last all k (inr least) inside =
         let same : k ≡ row = omega arith in
         subst (λ r. slice_range written (slice_index (set offsets (row + 1) next) r) (slice_index (set offsets (row + 1) next) (r + 1)) ≡ key_of_row (options_of columns) (table_of columns) r) (sym same)
-        (ap₂ (λ a b. slice_range written a b) (before row (omega arith) ∙ here) last ∙ range-written (key_of_row (options_of columns) (table_of columns) row) place next room written (omega arith) w)
+        (ap₂ (λ a b. slice_range written a b) (before row (omega arith) ∙ here) last ∙ range-written (key_of_row (options_of columns) (table_of columns) row) place next buffer written (omega arith) w)
 
-pub keys-none : (columns : List KeyColumn) (offsets room : List ℕ) → slice_index offsets 0 ≡ 0 → AreRowKeys (options_of columns) (table_of columns) 0 offsets room
-keys-none columns offsets room e = record { start = e; ends = λ k less. absurd (omega arith); keys = λ k less. absurd (omega arith) }
+pub keys-none : (columns : List KeyColumn) (offsets buffer : List ℕ) → slice_index offsets 0 ≡ 0 → AreRowKeys (options_of columns) (table_of columns) 0 offsets buffer
+keys-none columns offsets buffer e = record { start = e; ends = λ k less. absurd (omega arith); keys = λ k less. absurd (omega arith) }
 
 pub ruleset shown = (has-row, keys-none)

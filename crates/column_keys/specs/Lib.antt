@@ -1,7 +1,7 @@
 pub mod Answers
 pub mod Cells
 pub mod Examples
-pub mod Faults
+pub mod Errors
 pub mod Keys
 pub mod Laws
 pub mod Layout

@@ -11,19 +11,19 @@ use Rattle.column_keys.specs.declared.writing.ReadColumn.{ReadColumn}
 
 -- the bitmap has a bit for each of so many rows, and each of its bits is 0
 pub record AreClear (count : ℕ) (bitmap : List ℕ) : Type 0 where
-  pub room : bitmap_length count ≤ length bitmap
+  pub buffer : bitmap_length count ≤ length bitmap
   pub zeros : (i : ℕ) → bit_of bitmap i ≡ false
 
--- the values of the keys' column have so many bytes, and if that is no more than the room, then the buffers are the column
-pub record IsReadInto (keys : RowKeys) (kind : Kind) (room count : ℕ) (validity values offsets : List ℕ) : Type 0 where
+-- the values of the keys' column have so many bytes, and if that is no more than the buffer, then the buffers are the column
+pub record IsReadInto (keys : RowKeys) (kind : Kind) (buffer count : ℕ) (validity values offsets : List ℕ) : Type 0 where
   pub cells : List Content
   pub are : AreCells keys cells
   pub counted : count ≡ capped (values_length kind cells)
-  pub kept : count ≤ room → length values ≡ count
-  pub column : count ≤ room → IsColumnOf kind cells validity values offsets
+  pub kept : count ≤ buffer → length values ≡ count
+  pub column : count ≤ buffer → IsColumnOf kind cells validity values offsets
 
 -- the same of buffers as they come, each of its length
-pub record IsReadColumn (keys : RowKeys) (kind : Kind) (room : ℕ) (column : ReadColumn) : Type 0 where
-  pub read : IsReadInto keys kind room column.count column.validity.items column.values.items column.offsets.items
+pub record IsReadColumn (keys : RowKeys) (kind : Kind) (buffer : ℕ) (column : ReadColumn) : Type 0 where
+  pub read : IsReadInto keys kind buffer column.count column.validity.items column.values.items column.offsets.items
   pub bits : length column.validity.items ≡ bitmap_length (count_in keys)
   pub places : length column.offsets.items ≡ offsets_length kind (count_in keys)

@@ -3,15 +3,15 @@ use Rattle.std.specs.Prelude.{◌≡◌, ◌≢◌, ℕ, ◌/◌, ◌%◌, ◌==
 use Rattle.std.specs.List.{All}
 use Rattle.arrow_columns.specs.Checked.{AreRowsOf}
 use Rattle.arrow_columns.specs.Columns.{rows_in}
-use Rattle.arrow_columns.specs.Faults.{IsFaultOf}
+use Rattle.arrow_columns.specs.Errors.{IsErrorOf}
 use Rattle.arrow_columns.specs.declared.columns.Column.{Column}
 use Rattle.arrow_columns.specs.declared.tested_rows.Rows.{Rows}
 use Rattle.vortex_value.specs.Values.Content.{Content}
 use Rattle.vortex_row.specs.declared.options.SortOptions.{SortOptions}
 use Rattle.column_cells.specs.Contents.{HasTexts, contents_of_column, contents_of_rows}
 use Rattle.column_keys.specs.declared.columns.KeyColumn.{KeyColumn}
-use Rattle.column_keys.specs.declared.faults.TableFault.{TableFault}
-use Rattle.column_keys.specs.declared.faults.TableFault.TheVariants.{BadOptions, OutOfMemory, Unreadable, WrongCount, WrongLength}
+use Rattle.column_keys.specs.declared.errors.TableError.{TableError}
+use Rattle.column_keys.specs.declared.errors.TableError.TheVariants.{BadOptions, OutOfMemory, Unreadable, WrongCount, WrongLength}
 
 -- the options of columns that were read, and their contents
 abbrev pub options_of : List KeyColumn → List SortOptions
@@ -61,17 +61,17 @@ pub record AreReadFrom (columns : List Column) (options : List ℕ) (k : ℕ) (r
   pub rows : HaveRows read (rows_in columns)
 
 -- why a column at a place is not sound: the first reason in this order
-abbrev pub IsFaultAt : ℕ → Column → ℕ → ℕ → TableFault → Type 0
-IsFaultAt k column byte count OutOfMemory = ⊥
-IsFaultAt k column byte count WrongCount = ⊥
-IsFaultAt k column byte count (Unreadable place fault) = (place ≡ k) × IsFaultOf column fault
-IsFaultAt k column byte count (BadOptions place) = (place ≡ k) × ((rows : Rows) × AreRowsOf column rows) × ¬ (byte < 4)
-IsFaultAt k column byte count (WrongLength place) = (place ≡ k) × ((rows : Rows) × AreRowsOf column rows) × (byte < 4) × ¬ (length (contents_of_column column) ≡ count)
+abbrev pub IsErrorAt : ℕ → Column → ℕ → ℕ → TableError → Type 0
+IsErrorAt k column byte count OutOfMemory = ⊥
+IsErrorAt k column byte count WrongCount = ⊥
+IsErrorAt k column byte count (Unreadable place fault) = (place ≡ k) × IsErrorOf column fault
+IsErrorAt k column byte count (BadOptions place) = (place ≡ k) × ((rows : Rows) × AreRowsOf column rows) × ¬ (byte < 4)
+IsErrorAt k column byte count (WrongLength place) = (place ≡ k) × ((rows : Rows) × AreRowsOf column rows) × (byte < 4) × ¬ (length (contents_of_column column) ≡ count)
 
 -- why a table has no keys: of the columns the first that is not sound, if there are as many options
-abbrev pub IsTableFault : List Column → List ℕ → TableFault → Type 0
-IsTableFault columns options OutOfMemory = Unit {0}
-IsTableFault columns options WrongCount = length options ≢ length columns
-IsTableFault columns options fault =
+abbrev pub IsTableError : List Column → List ℕ → TableError → Type 0
+IsTableError columns options OutOfMemory = Unit {0}
+IsTableError columns options WrongCount = length options ≢ length columns
+IsTableError columns options fault =
     (length options ≡ length columns)
-    × ((k : ℕ) × (column : Column) × (slice_get columns k ≡ Some column) × AreSoundBefore columns options k × IsFaultAt k column (slice_index options k) (rows_in columns) fault)
+    × ((k : ℕ) × (column : Column) × (slice_get columns k ≡ Some column) × AreSoundBefore columns options k × IsErrorAt k column (slice_index options k) (rows_in columns) fault)

@@ -2,8 +2,8 @@
 use Rattle.std.specs.Prelude.{◌≡◌, ◌≢◌, ℕ, ◌<◌, ◌≤◌, ◌⊎◌, List, length, map, slice_index, None}
 use Rattle.arrow_columns.specs.Kinds.{kind_at}
 use Rattle.column_cells.specs.Types.{type_at}
-use Rattle.column_keys.specs.declared.faults.KeysFault.{KeysFault}
-use Rattle.column_keys.specs.declared.faults.KeysFault.TheVariants.{BadOptions, OutOfMemory, UnknownKind, WrongLength}
+use Rattle.column_keys.specs.declared.errors.KeysError.{KeysError}
+use Rattle.column_keys.specs.declared.errors.KeysError.TheVariants.{BadOptions, OutOfMemory, UnknownKind, WrongLength}
 use Rattle.vortex_dtype.specs.TypeTree.{TypeTree}
 
 -- the type of the kind with this code; of no kind, that of nulls
@@ -31,27 +31,27 @@ abbrev pub IsFirstBadOptions : List ℕ → ℕ → Type 0
 IsFirstBadOptions bytes k = (k < length bytes) × AreOptions bytes k × ¬ (slice_index bytes k < 4)
 
 -- why bytes stand for no options, and codes for no kinds
-abbrev pub IsOptionsFault : List ℕ → KeysFault → Type 0
-IsOptionsFault bytes OutOfMemory = Unit {0}
-IsOptionsFault bytes (BadOptions k) = IsFirstBadOptions bytes k
-IsOptionsFault bytes _ = ⊥
+abbrev pub IsOptionsError : List ℕ → KeysError → Type 0
+IsOptionsError bytes OutOfMemory = Unit {0}
+IsOptionsError bytes (BadOptions k) = IsFirstBadOptions bytes k
+IsOptionsError bytes _ = ⊥
 
-abbrev pub IsKindsFault : List ℕ → KeysFault → Type 0
-IsKindsFault codes OutOfMemory = Unit {0}
-IsKindsFault codes (UnknownKind k) = IsFirstUnknown codes k
-IsKindsFault codes _ = ⊥
+abbrev pub IsKindsError : List ℕ → KeysError → Type 0
+IsKindsError codes OutOfMemory = Unit {0}
+IsKindsError codes (UnknownKind k) = IsFirstUnknown codes k
+IsKindsError codes _ = ⊥
 
 -- there are as many bytes of options as codes, and a column of this number
 abbrev pub HasColumn : List ℕ → List ℕ → ℕ → Type 0
 HasColumn codes bytes which = (length bytes ≡ length codes) × (which < length codes)
 
 -- why there are no columns of these kinds and options: the first reason in this order
-abbrev pub IsTypesFault : List ℕ → List ℕ → ℕ → KeysFault → Type 0
-IsTypesFault codes bytes which OutOfMemory = Unit {0}
-IsTypesFault codes bytes which WrongLength = (length bytes ≢ length codes) ⊎ (length codes ≤ which)
-IsTypesFault codes bytes which (BadOptions k) = HasColumn codes bytes which × IsFirstBadOptions bytes k
-IsTypesFault codes bytes which (UnknownKind k) = HasColumn codes bytes which × AreOptions bytes (length bytes) × IsFirstUnknown codes k
-IsTypesFault codes bytes which _ = ⊥
+abbrev pub IsTypesError : List ℕ → List ℕ → ℕ → KeysError → Type 0
+IsTypesError codes bytes which OutOfMemory = Unit {0}
+IsTypesError codes bytes which WrongLength = (length bytes ≢ length codes) ⊎ (length codes ≤ which)
+IsTypesError codes bytes which (BadOptions k) = HasColumn codes bytes which × IsFirstBadOptions bytes k
+IsTypesError codes bytes which (UnknownKind k) = HasColumn codes bytes which × AreOptions bytes (length bytes) × IsFirstUnknown codes k
+IsTypesError codes bytes which _ = ⊥
 
 -- the codes are of kinds and the bytes stand for options, as many as each other, and there is a column of this number
 pub record HasTypes (codes bytes : List ℕ) (which : ℕ) : Type 0 where

@@ -6,14 +6,14 @@ pub use Rattle.column_cells.specs.Contents.{HasTexts, content_or_null, contents_
 pub use Rattle.column_cells.specs.Types.{ptype_of_kind, type_of_kind}
 pub use Rattle.column_keys.specs.Answers.{IsColumnOfKeys, IsRefusal, offsets_length_at}
 pub use Rattle.column_keys.specs.Cells.{AreCells, AreCellsOf, AreTyped, HasCell, IsPlaced, count_in, key_at, key_count, type_in, types_in}
-pub use Rattle.column_keys.specs.Faults.{IsRowFault, Refuses, RefusesKeys}
+pub use Rattle.column_keys.specs.Errors.{IsRowReadError, Refuses, RefusesKeys}
 pub use Rattle.column_keys.specs.Keys.{AreRowKeys, column_length, key_of_row, keys_length, row_of}
 pub use Rattle.column_keys.specs.Laws.{ColumnsComeBack}
 pub use Rattle.column_keys.specs.Layout.{AreBits, AreIntegers, AreStrings, IsColumnOf, bytes_in, bytes_length, contents_written, fixed_length, is_present, number_in, offsets_length, truth_in, values_length}
-pub use Rattle.column_keys.specs.Tables.{AreReadFrom, AreSoundBefore, HasRow, HaveRows, IsFaultAt, IsReadFrom, IsTableFault, contents_in, options_in, options_of, table_of}
+pub use Rattle.column_keys.specs.Tables.{AreReadFrom, AreSoundBefore, HasRow, HaveRows, IsErrorAt, IsReadFrom, IsTableError, contents_in, options_in, options_of, table_of}
 pub use Rattle.arrow_columns.specs.Columns.{rows_in}
-pub use Rattle.column_keys.specs.Types.{AreKinds, AreOptions, HasTypes, IsKindsFault, IsOptionsFault, IsTypesFault, type_at_code, types_of_codes}
-pub use Rattle.column_keys.specs.declared.faults.KeysFault.TheVariants.{BadBytes, BadOffsets, BadOptions, OutOfMemory, UnknownKind, WrongLength}
+pub use Rattle.column_keys.specs.Types.{AreKinds, AreOptions, HasTypes, IsKindsError, IsOptionsError, IsTypesError, type_at_code, types_of_codes}
+pub use Rattle.column_keys.specs.declared.errors.KeysError.TheVariants.{BadBytes, BadOffsets, BadOptions, OutOfMemory, UnknownKind, WrongLength}
 pub use Rattle.vortex_dtype.specs.PTypes.{byte_width_of}
 pub use Rattle.vortex_dtype.specs.TypeOf.{type_of}
 pub use Rattle.vortex_dtype.specs.TypeTree.{binary_type, bool_type, integer_type, null_type, utf8_type}

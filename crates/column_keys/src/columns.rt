@@ -1,10 +1,10 @@
 //! Columns of a table whose rows have keys.
 
 ghost use Rattle.std.specs.Prelude.{◌≡◌, ◌<◌, IfErr, IfOk, MatchOption, OnOk, length};
-ghost use Rattle.column_keys.specs.Words.{AreReadFrom, AreSoundBefore, IsFaultAt, IsReadFrom, IsTableFault};
+ghost use Rattle.column_keys.specs.Words.{AreReadFrom, AreSoundBefore, IsErrorAt, IsReadFrom, IsTableError};
 ghost use Rattle.column_keys.specs.Words.{options_in, rows_in};
 
-use crate::faults::TableFault;
+use crate::errors::TableError;
 use arrow_columns::{Column, Rows, row_count_of};
 use column_cells::{row_count, rows_of};
 use std::alloc::Global;
@@ -40,46 +40,47 @@ fn key_column<'a>(
     column: Column<'a>,
     options: u8,
     count: usize,
-) -> Result<KeyColumn<'a>, TableFault>
+) -> Result<KeyColumn<'a>, TableError>
     ensures read { IfOk result (λ read. IsReadFrom column.entry options count read) }
-    ensures fault { IfErr result (λ fault. IsFaultAt place column.entry options count fault) }
+    ensures fault { IfErr result (λ fault. IsErrorAt place column.entry options count fault) }
 {
     let rows = match rows_of(column) {
         Ok(rows) => rows,
         Err(fault) => {
-            return Err(TableFault::Unreadable {
+            return Err(TableError::Unreadable {
                 column: place,
                 fault,
             });
         }
     };
     let Some(options) = options_of_byte(options) else {
-        return Err(TableFault::BadOptions { column: place });
+        return Err(TableError::BadOptions { column: place });
     };
     if row_count(&rows) != count {
-        return Err(TableFault::WrongLength { column: place });
+        return Err(TableError::WrongLength { column: place });
     }
     Ok(KeyColumn { rows, options })
 }
 
 /// The columns of a table, each with its byte of options.
 ///
-/// `WrongCount` exactly if there are not as many options as columns, before all else. Then the first
-/// column with a fault says it: `Unreadable`, `BadOptions` for a byte above 3, and `WrongLength` for
-/// another number of rows than the first. `OutOfMemory` may come in place of these.
+/// `WrongCount` exactly if there are not as many options as columns, before all else. Then the
+/// first column with a fault says it: `Unreadable`, `BadOptions` for a byte above 3, and
+/// `WrongLength` for another number of rows than the first. `OutOfMemory` may come in place of
+/// these.
 #[tactic(auto, using(crate::proofs::ColumnSteps::shown))]
 pub fn read_columns<'a>(
     alloc: Global,
     columns: &[Column<'a>],
     options: &[u8],
-) -> Result<Vec<KeyColumn<'a>>, TableFault>
+) -> Result<Vec<KeyColumn<'a>>, TableError>
     ensures read { IfOk result (λ table. AreReadFrom columns.now options.now (length columns.now) table.items) }
     ensures counts { OnOk result (length options.now ≡ length columns.now) }
     ensures sound { OnOk result (AreSoundBefore columns.now options.now (length columns.now)) }
-    ensures fault { IfErr result (λ fault. IsTableFault columns.now options.now fault) }
+    ensures fault { IfErr result (λ fault. IsTableError columns.now options.now fault) }
 {
     if options.len() != columns.len() {
-        return Err(TableFault::WrongCount);
+        return Err(TableError::WrongCount);
     }
     let count = row_count_of(columns);
     let mut table = Vec::with_capacity(alloc, columns.len())?;

@@ -4,7 +4,7 @@ ghost use Rattle.std.specs.Prelude.{◌≡◌, ◌≤◌, IfErr, IfOk, OnErr, On
 ghost use Rattle.column_keys.specs.Words.{HasTypes, IsColumnOfKeys, IsRefusal, bitmap_length, key_count};
 ghost use Rattle.column_keys.specs.Words.{offsets_length_at};
 
-use crate::faults::KeysFault;
+use crate::errors::KeysError;
 use crate::keys::{RowKeys, key_count};
 use crate::types::read_types;
 use crate::writing::{fixed_length, offsets_length, read_column, values_length};
@@ -21,9 +21,9 @@ use std::alloc::Global;
 /// - `WrongLength` exactly if there are not as many options as kinds, or no column of that number.
 /// - `BadOptions` for the first byte above 3, and then `UnknownKind` for the first code of no kind.
 /// - `BadOffsets` or `BadBytes` for the first key that is none of the kinds.
-/// - `NoRoom` if a room is too short, with the bytes that the values have.
+/// - `BufferTooSmall` if a buffer is too short, with the bytes that the values have.
 ///
-/// `OutOfMemory` may come in place of these. The rooms are written only once all memory is there.
+/// `OutOfMemory` may come in place of these. The buffers are written only once all memory is there.
 pub fn column_of_keys(
     alloc: Global,
     kinds: &[u8],
@@ -31,27 +31,27 @@ pub fn column_of_keys(
     offsets: &[u64],
     bytes: &[u8],
     which: usize,
-    validity_room: &mut [u8],
-    values_room: &mut [u8],
-    offsets_room: &mut [u64],
-) -> Result<usize, KeysFault>
+    validity_buffer: &mut [u8],
+    values_buffer: &mut [u8],
+    offsets_buffer: &mut [u64],
+) -> Result<usize, KeysError>
     ensures column { IfOk result (λ count. IsColumnOfKeys kinds.now options.now which
-        bytes.now offsets.now count validity_room.new values_room.new offsets_room.new) }
+        bytes.now offsets.now count validity_buffer.new values_buffer.new offsets_buffer.new) }
     ensures sound { OnOk result (HasTypes kinds.now options.now which) }
-    ensures fits { IfOk result (λ count. (count ≤ length values_room.old)
-        × (bitmap_length (key_count offsets.now) ≤ length validity_room.old)
-        × (offsets_length_at kinds.now which offsets.now ≤ length offsets_room.old)) }
+    ensures fits { IfOk result (λ count. (count ≤ length values_buffer.old)
+        × (bitmap_length (key_count offsets.now) ≤ length validity_buffer.old)
+        × (offsets_length_at kinds.now which offsets.now ≤ length offsets_buffer.old)) }
     ensures refused { IfErr result (IsRefusal kinds.now options.now which bytes.now offsets.now
-        (length validity_room.old) (length values_room.old) (length offsets_room.old)) }
+        (length validity_buffer.old) (length values_buffer.old) (length offsets_buffer.old)) }
 
     // What is not said to be written stays.
-    ensures rest { IfOk result (λ count. drop count values_room.new ≡ drop count values_room.old) }
-    ensures rest_validity { drop (bitmap_length (key_count offsets.now)) validity_room.new
-        ≡ drop (bitmap_length (key_count offsets.now)) validity_room.old }
-    ensures rest_offsets { drop (offsets_length_at kinds.now which offsets.now) offsets_room.new
-        ≡ drop (offsets_length_at kinds.now which offsets.now) offsets_room.old }
-    ensures kept { OnErr result ((validity_room.new ≡ validity_room.old)
-        × (values_room.new ≡ values_room.old) × (offsets_room.new ≡ offsets_room.old)) }
+    ensures rest { IfOk result (λ count. drop count values_buffer.new ≡ drop count values_buffer.old) }
+    ensures rest_validity { drop (bitmap_length (key_count offsets.now)) validity_buffer.new
+        ≡ drop (bitmap_length (key_count offsets.now)) validity_buffer.old }
+    ensures rest_offsets { drop (offsets_length_at kinds.now which offsets.now) offsets_buffer.new
+        ≡ drop (offsets_length_at kinds.now which offsets.now) offsets_buffer.old }
+    ensures kept { OnErr result ((validity_buffer.new ≡ validity_buffer.old)
+        × (values_buffer.new ≡ values_buffer.old) × (offsets_buffer.new ≡ offsets_buffer.old)) }
 {
     let types = read_types(alloc, kinds, options, which)?;
     let keys = RowKeys {
@@ -64,21 +64,21 @@ pub fn column_of_keys(
     let rows = key_count(offsets);
     let bits = bitmap_length(rows);
     let places = offsets_length(types.kind, rows);
-    let room = values_room.len().min(usize::MAX - 1);
-    if validity_room.len() < bits
-        || offsets_room.len() < places
-        || room < fixed_length(types.kind, rows)
+    let buffer = values_buffer.len().min(usize::MAX - 1);
+    if validity_buffer.len() < bits
+        || offsets_buffer.len() < places
+        || buffer < fixed_length(types.kind, rows)
     {
         let count = values_length(alloc, &keys, types.kind)?;
-        return Err(KeysFault::NoRoom { count });
+        return Err(KeysError::BufferTooSmall { count });
     }
-    let column = read_column(alloc, &keys, types.kind, room)?;
+    let column = read_column(alloc, &keys, types.kind, buffer)?;
     let count = column.count;
-    if room < count {
-        return Err(KeysFault::NoRoom { count });
+    if buffer < count {
+        return Err(KeysError::BufferTooSmall { count });
     }
-    validity_room[..bits].copy_from_slice(&column.validity);
-    values_room[..count].copy_from_slice(&column.values);
-    offsets_room[..places].copy_from_slice(&column.offsets);
+    validity_buffer[..bits].copy_from_slice(&column.validity);
+    values_buffer[..count].copy_from_slice(&column.values);
+    offsets_buffer[..places].copy_from_slice(&column.offsets);
     Ok(count)
 }

@@ -2,10 +2,10 @@
 
 ghost use Rattle.std.specs.Prelude.{◌≡◌, ◌+◌, ◌<◌, ◌≤◌, IfErr, IfOk, MatchResult, length, slice_index};
 ghost use Rattle.std.specs.Prelude.{slice_index_or};
-ghost use Rattle.column_keys.specs.Words.{AreTyped, BadOffsets, HasCell, IsPlaced, IsRowFault, IsValueOf, key_at};
+ghost use Rattle.column_keys.specs.Words.{AreTyped, BadOffsets, HasCell, IsPlaced, IsRowReadError, IsValueOf, key_at};
 ghost use Rattle.column_keys.specs.Words.{key_count, scalar_content, scalar_raw, type_in};
 
-use crate::faults::KeysFault;
+use crate::errors::KeysError;
 use std::alloc::Global;
 use vortex_dtype::DType;
 use vortex_row::{RowError, SortOptions, decode_row_key};
@@ -34,7 +34,7 @@ pub(crate) fn key_count(offsets: &[u64]) -> usize
 }
 
 /// The bytes of the key of a row.
-fn key_at<'a>(keys: &RowKeys<'a>, row: usize) -> Result<&'a [u8], KeysFault>
+fn key_at<'a>(keys: &RowKeys<'a>, row: usize) -> Result<&'a [u8], KeysError>
     requires { row < key_count keys.now.offsets.now }
     ensures { MatchResult result
         (λ key. IsPlaced keys.now.bytes.now keys.now.offsets.now row
@@ -45,33 +45,33 @@ fn key_at<'a>(keys: &RowKeys<'a>, row: usize) -> Result<&'a [u8], KeysFault>
     let start = keys.offsets[row];
     let end = keys.offsets[row + 1];
     if start > end || end > keys.bytes.len() as u64 {
-        return Err(KeysFault::BadOffsets { row });
+        return Err(KeysError::BadOffsets { row });
     }
     Ok(&keys.bytes[start as usize..end as usize])
 }
 
 /// What the column has in a row, read from the row's key.
-pub(crate) fn read_cell(alloc: Global, keys: &RowKeys, row: usize) -> Result<Scalar, KeysFault>
+pub(crate) fn read_cell(alloc: Global, keys: &RowKeys, row: usize) -> Result<Scalar, KeysError>
     requires typed { AreTyped keys.now }
     requires row { row < key_count keys.now.offsets.now }
     ensures cell { IfOk result (λ x. HasCell keys.now row (scalar_content x)) }
     ensures value { IfOk result (λ x. IsValueOf (type_in keys.now) (scalar_raw x)) }
-    ensures fault { IfErr result (IsRowFault keys.now row) }
+    ensures fault { IfErr result (IsRowReadError keys.now row) }
 {
     let key = key_at(keys, row)?;
     let start = keys.offsets[row] as usize;
     let (mut cells, taken) = match decode_row_key(alloc, keys.dtypes, keys.options, key) {
         Ok(decoded) => decoded,
-        Err(RowError::BadKey { place }) => {
-            return Err(KeysFault::BadBytes {
+        Err(RowError::BadKey { offset: place }) => {
+            return Err(KeysError::BadBytes {
                 place: start + place,
             });
         }
-        Err(_) => return Err(KeysFault::OutOfMemory),
+        Err(_) => return Err(KeysError::OutOfMemory),
     };
     if taken < key.len() {
         drop(cells);
-        return Err(KeysFault::BadBytes {
+        return Err(KeysError::BadBytes {
             place: start + taken,
         });
     }

@@ -7,7 +7,7 @@
 mod cells;
 mod columns;
 mod decoding;
-mod faults;
+mod errors;
 mod items;
 mod keys;
 pub mod laws;
@@ -20,5 +20,5 @@ mod writing;
 
 pub use columns::{KeyColumn, options_of_byte, read_columns};
 pub use decoding::column_of_keys;
-pub use faults::{KeysFault, TableFault};
+pub use errors::{KeysError, TableError};
 pub use table::{row_keys_length, write_row_keys};

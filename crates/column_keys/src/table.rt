@@ -23,17 +23,22 @@ pub fn row_keys_length(columns: &[KeyColumn], row_count: usize) -> usize
 
 /// Writes the keys of the first rows, one after the other, and where each begins and ends.
 #[tactic(auto, using(crate::proofs::TableSteps::shown))]
-pub fn write_row_keys(columns: &[KeyColumn], row_count: usize, offsets: &mut [u64], room: &mut [u8])
+pub fn write_row_keys(
+    columns: &[KeyColumn],
+    row_count: usize,
+    offsets: &mut [u64],
+    buffer: &mut [u8],
+)
     requires rows { HaveRows columns.now row_count }
     requires offsets { row_count < length offsets.old }
-    requires room { length room.old ≡ keys_length (options_of columns.now) (table_of columns.now) row_count }
-    ensures keys { AreRowKeys (options_of columns.now) (table_of columns.now) row_count offsets.new room.new }
+    requires buffer { length buffer.old ≡ keys_length (options_of columns.now) (table_of columns.now) row_count }
+    ensures keys { AreRowKeys (options_of columns.now) (table_of columns.now) row_count offsets.new buffer.new }
     ensures rest { drop (row_count + 1) offsets.new ≡ drop (row_count + 1) offsets.old }
 {
     offsets[0] = 0;
     let mut place = 0;
     for row in 0..row_count {
-        place = write_row(columns, row, place, room);
+        place = write_row(columns, row, place, buffer);
         offsets[row + 1] = place as u64;
     }
 }

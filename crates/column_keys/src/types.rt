@@ -1,12 +1,12 @@
 //! What keys are keys of: the types of columns, and how each is sorted.
 
 ghost use Rattle.std.specs.Prelude.{◌≡◌, ◌<◌, IfErr, IfOk, OnOk, Some, length, map, slice_index};
-ghost use Rattle.column_keys.specs.Words.{AreKinds, AreOptions, HasTypes, IsKindsFault, IsOptionsFault};
-ghost use Rattle.column_keys.specs.Words.{IsTypesFault, kind_at, options_in, type_at_code, type_of};
+ghost use Rattle.column_keys.specs.Words.{AreKinds, AreOptions, HasTypes, IsKindsError, IsOptionsError};
+ghost use Rattle.column_keys.specs.Words.{IsTypesError, kind_at, options_in, type_at_code, type_of};
 ghost use Rattle.column_keys.specs.Words.{types_of_codes};
 
 use crate::columns::options_of_byte;
-use crate::faults::KeysFault;
+use crate::errors::KeysError;
 use arrow_columns::Kind;
 use column_cells::dtype_of;
 use std::alloc::Global;
@@ -34,16 +34,16 @@ pub(crate) fn read_types(
     kinds: &[u8],
     options: &[u8],
     which: usize,
-) -> Result<ColumnTypes, KeysFault>
+) -> Result<ColumnTypes, KeysError>
     ensures types { IfOk result
         (λ types. map type_of types.dtypes.items ≡ types_of_codes kinds.now) }
     ensures options { IfOk result (λ types. types.options.items ≡ map options_in options.now) }
     ensures kind { IfOk result (λ types. kind_at (slice_index kinds.now which) ≡ Some types.kind) }
     ensures sound { OnOk result (HasTypes kinds.now options.now which) }
-    ensures fault { IfErr result (IsTypesFault kinds.now options.now which) }
+    ensures fault { IfErr result (IsTypesError kinds.now options.now which) }
 {
     if options.len() != kinds.len() || which >= kinds.len() {
-        return Err(KeysFault::WrongLength);
+        return Err(KeysError::WrongLength);
     }
     let options = read_options(alloc, options)?;
     let dtypes = read_kinds(alloc, kinds)?;
@@ -58,32 +58,32 @@ pub(crate) fn read_types(
 }
 
 /// The options that bytes stand for.
-fn read_options(alloc: Global, options: &[u8]) -> Result<Vec<SortOptions>, KeysFault>
+fn read_options(alloc: Global, options: &[u8]) -> Result<Vec<SortOptions>, KeysError>
     ensures options { IfOk result (λ read. read.items ≡ map options_in options.now) }
     ensures sound { OnOk result (AreOptions options.now (length options.now)) }
-    ensures fault { IfErr result (IsOptionsFault options.now) }
+    ensures fault { IfErr result (IsOptionsError options.now) }
 {
     let mut read = Vec::with_capacity(alloc, options.len())?;
     for column in 0..options.len() {
         match options_of_byte(options[column]) {
             Some(one) => read.push(one)?,
-            None => return Err(KeysFault::BadOptions { column }),
+            None => return Err(KeysError::BadOptions { column }),
         }
     }
     Ok(read)
 }
 
 /// The types of the kinds with these codes.
-fn read_kinds(alloc: Global, kinds: &[u8]) -> Result<Vec<DType>, KeysFault>
+fn read_kinds(alloc: Global, kinds: &[u8]) -> Result<Vec<DType>, KeysError>
     ensures types { IfOk result (λ read. map type_of read.items ≡ types_of_codes kinds.now) }
     ensures kinds { OnOk result (AreKinds kinds.now (length kinds.now)) }
-    ensures fault { IfErr result (IsKindsFault kinds.now) }
+    ensures fault { IfErr result (IsKindsError kinds.now) }
 {
     let mut read = Vec::with_capacity(alloc, kinds.len())?;
     for column in 0..kinds.len() {
         match Kind::from_code(kinds[column]) {
             Some(kind) => read.push(dtype_of(kind))?,
-            None => return Err(KeysFault::UnknownKind { column }),
+            None => return Err(KeysError::UnknownKind { column }),
         }
     }
     Ok(read)

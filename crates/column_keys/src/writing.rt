@@ -8,7 +8,7 @@ ghost use Rattle.column_keys.specs.Words.{integer_type, is_present, offsets_leng
 ghost use Rattle.column_keys.specs.Words.{truth_in, type_in, type_of_kind, values_length, width_of};
 
 use crate::cells::{bytes_or_none, is_present, number_or_zero, truth_or_false};
-use crate::faults::KeysFault;
+use crate::errors::KeysError;
 use crate::items::{put_bytes, put_number};
 use crate::keys::{RowKeys, key_count, read_cell};
 use arrow_columns::{IntegerKind, Kind, bitmap_length, put_bit};
@@ -58,7 +58,7 @@ pub(crate) fn offsets_length(kind: Kind, count: usize) -> usize
 /// The first key with a fault says it: `BadOffsets` if its offsets go down or past the end of the
 /// bytes, and `BadBytes` if it is no key of a row of the types. `OutOfMemory` may come in place of
 /// these.
-fn check_keys(alloc: Global, keys: &RowKeys) -> Result<usize, KeysFault>
+fn check_keys(alloc: Global, keys: &RowKeys) -> Result<usize, KeysError>
     requires { AreTyped keys.now }
     ensures cells { IfOk result (λ total. (cells : List Content) × AreCells keys.now cells
         × (total ≡ capped (bytes_length cells))) }
@@ -72,9 +72,9 @@ fn check_keys(alloc: Global, keys: &RowKeys) -> Result<usize, KeysFault>
     Ok(total)
 }
 
-/// Tests all keys as `check_keys` does, and counts the bytes of all values that the column has. It is
-/// the greatest `usize` if there are more.
-pub(crate) fn values_length(alloc: Global, keys: &RowKeys, kind: Kind) -> Result<usize, KeysFault>
+/// Tests all keys as `check_keys` does, and counts the bytes of all values that the column has. It
+/// is the greatest `usize` if there are more.
+pub(crate) fn values_length(alloc: Global, keys: &RowKeys, kind: Kind) -> Result<usize, KeysError>
     requires { AreTyped keys.now }
     ensures cells { IfOk result (λ count. (cells : List Content) × AreCells keys.now cells
         × (count ≡ capped (values_length kind cells))) }
@@ -89,22 +89,22 @@ pub(crate) fn values_length(alloc: Global, keys: &RowKeys, kind: Kind) -> Result
     }
 }
 
-/// Reads the column that keys give: a bit for each row, 0 for a null, and the values, 0, false or an
-/// empty string for a null. Only a column of strings or bytes has offsets, of 64 bits each. Strings
-/// are kept as long as they have no more bytes than the room.
+/// Reads the column that keys give: a bit for each row, 0 for a null, and the values, 0, false or
+/// an empty string for a null. Only a column of strings or bytes has offsets, of 64 bits each.
+/// Strings are kept as long as they have no more bytes than the buffer.
 ///
 /// The first key with a fault says it, as by `check_keys`.
 pub(crate) fn read_column(
     alloc: Global,
     keys: &RowKeys,
     kind: Kind,
-    room: usize,
-) -> Result<ReadColumn, KeysFault>
+    buffer: usize,
+) -> Result<ReadColumn, KeysError>
     requires typed { AreTyped keys.now }
     requires of_kind { type_in keys.now ≡ type_of_kind kind }
-    requires room { room < usize.MAX }
-    requires fixed { fixed_length kind (count_in keys.now) ≤ room }
-    ensures read { IfOk result (IsReadColumn keys.now kind room) }
+    requires buffer { buffer < usize.MAX }
+    requires fixed { fixed_length kind (count_in keys.now) ≤ buffer }
+    ensures read { IfOk result (IsReadColumn keys.now kind buffer) }
     ensures fault { IfErr result (Refuses keys.now) }
 {
     let rows = key_count(keys.offsets);
@@ -115,7 +115,7 @@ pub(crate) fn read_column(
         alloc,
         keys,
         kind,
-        room,
+        buffer,
         &mut validity,
         &mut values,
         &mut offsets,
@@ -134,18 +134,18 @@ fn write_column(
     alloc: Global,
     keys: &RowKeys,
     kind: Kind,
-    room: usize,
+    buffer: usize,
     validity: &mut [u8],
     values: &mut Vec<u8>,
     offsets: &mut [u64],
-) -> Result<usize, KeysFault>
+) -> Result<usize, KeysError>
     requires typed { AreTyped keys.now }
     requires of_kind { type_in keys.now ≡ type_of_kind kind }
-    requires room { room < usize.MAX }
+    requires buffer { buffer < usize.MAX }
     requires validity { AreClear (count_in keys.now) validity.old }
     requires values { values.old.items ≡ replicate (fixed_length kind (count_in keys.now)) 0 }
     requires offsets { offsets_length kind (count_in keys.now) ≡ length offsets.old }
-    ensures read { IfOk result (λ count. IsReadInto keys.now kind room count
+    ensures read { IfOk result (λ count. IsReadInto keys.now kind buffer count
         validity.new values.new.items offsets.new) }
     ensures fault { IfErr result (Refuses keys.now) }
 {
@@ -159,7 +159,7 @@ fn write_column(
             Ok(values.len())
         }
         Kind::Utf8 | Kind::LargeUtf8 | Kind::Binary | Kind::LargeBinary => {
-            write_strings(alloc, keys, room, validity, values, offsets)
+            write_strings(alloc, keys, buffer, validity, values, offsets)
         }
         Kind::Null => {
             check_keys(alloc, keys)?;
@@ -175,7 +175,7 @@ fn write_integers(
     kind: IntegerKind,
     validity: &mut [u8],
     values: &mut [u8],
-) -> Result<(), KeysFault>
+) -> Result<(), KeysError>
     requires typed { AreTyped keys.now }
     requires of_kind { type_in keys.now ≡ integer_type (ptype_of_kind kind) Nullable }
     requires validity { AreClear (count_in keys.now) validity.old }
@@ -201,7 +201,7 @@ fn write_booleans(
     keys: &RowKeys,
     validity: &mut [u8],
     values: &mut [u8],
-) -> Result<(), KeysFault>
+) -> Result<(), KeysError>
     requires typed { AreTyped keys.now }
     requires validity { AreClear (count_in keys.now) validity.old }
     requires values { AreClear (count_in keys.now) values.old }
@@ -219,25 +219,25 @@ fn write_booleans(
     Ok(())
 }
 
-/// Writes the strings, or bytes, one after the other, and where each begins and ends. That of a null
-/// is empty. Answers how many bytes they have: the greatest `usize` if there are more. Once they have
-/// more than the room, no more are kept.
+/// Writes the strings, or bytes, one after the other, and where each begins and ends. That of a
+/// null is empty. Answers how many bytes they have: the greatest `usize` if there are more. Once
+/// they have more than the buffer, no more are kept.
 fn write_strings(
     alloc: Global,
     keys: &RowKeys,
-    room: usize,
+    buffer: usize,
     validity: &mut [u8],
     values: &mut Vec<u8>,
     offsets: &mut [u64],
-) -> Result<usize, KeysFault>
+) -> Result<usize, KeysError>
     requires typed { AreTyped keys.now }
-    requires room { room < usize.MAX }
+    requires buffer { buffer < usize.MAX }
     requires validity { AreClear (count_in keys.now) validity.old }
     requires values { values.old.items ≡ [] }
     requires offsets { count_in keys.now < length offsets.old }
     ensures read { IfOk result (λ total. (cells : List Content) × AreCells keys.now cells
         × (total ≡ capped (bytes_length cells)) × AreBits is_present cells validity.new
-        × (total ≤ room → (length values.new.items ≡ total)
+        × (total ≤ buffer → (length values.new.items ≡ total)
         × AreStrings cells values.new.items offsets.new)) }
     ensures fault { IfErr result (Refuses keys.now) }
 {
@@ -250,7 +250,7 @@ fn write_strings(
         put_bit(validity, row, is_present(&cell));
         let bytes = bytes_or_none(&cell);
         total = total.saturating_add(bytes.len());
-        let kept = put_bytes(values, bytes, total <= room);
+        let kept = put_bytes(values, bytes, total <= buffer);
         drop(cell);
         kept?;
         offsets[row + 1] = total as u64;

@@ -10,7 +10,7 @@ use Rattle.vortex_statistics.specs.declared.column_statistics.Bound.{Bound}
 use Rattle.vortex_statistics.specs.declared.column_statistics.ColumnStatistics.{ColumnStatistics}
 use Rattle.column_statistics.specs.Cells.{HasBoundsIn, IsBoundIn}
 use Rattle.column_statistics.specs.Extremes.{AreWholeOf, IsAmong}
-use Rattle.column_statistics.specs.Faults.{HasLong}
+use Rattle.column_statistics.specs.Errors.{HasLong}
 use Rattle.vortex_dtype.specs.declared.buffer.TheConstants.{INLINE_BYTES}
 
 -- ---- types

@@ -18,7 +18,7 @@ use Rattle.vortex_value.specs.Values.Scalars.{scalar_content}
 use Rattle.vortex_value.specs.declared.scalars.Scalar.{Scalar}
 use Rattle.vortex_value.specs.declared.values.ScalarValue.{ScalarValue, the_lemmas}
 use Rattle.vortex_cells.specs.Cells.{cell_of}
-use Rattle.statistics_bytes.specs.Form.{IsCellOf}
+use Rattle.statistics_bytes.specs.Encoding.{IsCellOf}
 use Rattle.column_statistics.specs.Items.{IsItemOf, truth_byte}
 
 not_absent : (v : ScalarValue) → is_absent (value_tree v) ≡ false

@@ -1,7 +1,7 @@
 mod CompleteLaws
 mod ContentLaws
 mod CutLaws
-mod FormLaws
+mod EncodingLaws
 mod IntegerRanges
 mod ItemLaws
 mod KindLaws

@@ -4,13 +4,13 @@ use Rattle.arrow_columns.specs.declared.kinds.IntegerKind.TheVariants.{I16, I32,
 use Rattle.arrow_columns.specs.declared.kinds.Kind.TheVariants.{Binary, Boolean, Integer, LargeUtf8, Utf8}
 use Rattle.column_cells.specs.Types.{type_of_kind}
 use Rattle.vortex_value.specs.Values.Content.{Content, null, text, truth, whole}
-use Rattle.statistics_bytes.specs.Form.{form}
+use Rattle.statistics_bytes.specs.Encoding.{encoding}
 use Rattle.vortex_statistics.specs.Merging.{merged}
 use Rattle.vortex_statistics.specs.Statistics.{Known, KnownBound}
-use Rattle.column_statistics.specs.Forms.{fault_of_piece}
+use Rattle.column_statistics.specs.Encodings.{fault_of_piece}
 use Rattle.column_statistics.specs.Items.{IsItemOf}
-use Rattle.column_statistics.specs.declared.faults.MergeFault.TheVariants as merge
-use Rattle.column_statistics.specs.declared.faults.ReadFault.TheVariants as read
+use Rattle.column_statistics.specs.declared.errors.MergeError.TheVariants as merge
+use Rattle.column_statistics.specs.declared.errors.ReadError.TheVariants as read
 
 -- ---- values as bytes
 
@@ -40,7 +40,7 @@ no_null = λ h. h
 no_string : ¬ (IsItemOf Binary (text (97 ∷ [])) (97 ∷ []))
 no_string = λ h. h
 
--- ---- two pieces, as forms
+-- ---- two pieces, as encodings
 
 abbrev exactly : Content → Option KnownBound
 exactly x = Some (record { value = record { typed = type_of_kind (Integer I32); content = x }; is_exact = true })
@@ -56,10 +56,10 @@ nulls = record { row_count = 2; null_count = Some 2; lower = None; upper = None 
 abbrev three_to_more : Known
 three_to_more = record { row_count = 2; null_count = Some 0; lower = exactly (whole (pos 3)); upper = exactly (whole (pos 300)) }
 
-both_pieces : form (merged two_to_five three_to_more) ≡ 1 ∷ 31 ∷ 0 ∷ 0 ∷ 0 ∷ 0 ∷ 0 ∷ 0 ∷ 0 ∷ 5 ∷ 0 ∷ 0 ∷ 0 ∷ 0 ∷ 0 ∷ 0 ∷ 0 ∷ 1 ∷ 13 ∷ 2 ∷ 14 ∷ 1 ∷ 44 ∷ []
+both_pieces : encoding (merged two_to_five three_to_more) ≡ 1 ∷ 31 ∷ 0 ∷ 0 ∷ 0 ∷ 0 ∷ 0 ∷ 0 ∷ 0 ∷ 5 ∷ 0 ∷ 0 ∷ 0 ∷ 0 ∷ 0 ∷ 0 ∷ 0 ∷ 1 ∷ 13 ∷ 2 ∷ 14 ∷ 1 ∷ 44 ∷ []
 both_pieces = refl
 
-with_nulls : form (merged nulls two_to_five) ≡ 1 ∷ 31 ∷ 0 ∷ 0 ∷ 0 ∷ 0 ∷ 0 ∷ 0 ∷ 0 ∷ 5 ∷ 0 ∷ 0 ∷ 0 ∷ 0 ∷ 0 ∷ 0 ∷ 0 ∷ 3 ∷ 13 ∷ 2 ∷ 13 ∷ 5 ∷ []
+with_nulls : encoding (merged nulls two_to_five) ≡ 1 ∷ 31 ∷ 0 ∷ 0 ∷ 0 ∷ 0 ∷ 0 ∷ 0 ∷ 0 ∷ 5 ∷ 0 ∷ 0 ∷ 0 ∷ 0 ∷ 0 ∷ 0 ∷ 0 ∷ 3 ∷ 13 ∷ 2 ∷ 13 ∷ 5 ∷ []
 with_nulls = refl
 
 second_piece : fault_of_piece 1 (read.BadBytes 18) ≡ merge.BadBytes 1 18

@@ -1,7 +1,7 @@
 pub mod Cells
 pub mod Examples
 pub mod Extremes
-pub mod Faults
-pub mod Forms
+pub mod Errors
+pub mod Encodings
 pub mod Items
 pub mod Words

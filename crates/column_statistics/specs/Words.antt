@@ -9,13 +9,13 @@ pub use Rattle.vortex_pvalue.specs.Numbers.{InRange}
 pub use Rattle.vortex_value.specs.Values.Content.{null, whole}
 pub use Rattle.vortex_value.specs.Values.Scalars.{scalar_content}
 pub use Rattle.vortex_cells.specs.Cells.{cell_of}
-pub use Rattle.statistics_bytes.specs.Form.{IsCellOf, IsHeldKnown, form}
-pub use Rattle.statistics_bytes.specs.FormAnswers.{ReadsRight}
-pub use Rattle.statistics_bytes.specs.FormSteps.{HasNoVariants}
+pub use Rattle.statistics_bytes.specs.Encoding.{IsCellOf, IsHeldKnown, encoding}
+pub use Rattle.statistics_bytes.specs.EncodingAnswers.{ReadsRight}
+pub use Rattle.statistics_bytes.specs.EncodingSteps.{HasNoVariants}
 pub use Rattle.vortex_statistics.specs.Statistics.{AreRight, known}
 pub use Rattle.vortex_statistics.specs.Truncating.{HasShortBounds}
 pub use Rattle.column_statistics.specs.Cells.{AreCutStatistics, HasBoundsIn, cells_of_column}
 pub use Rattle.column_statistics.specs.Extremes.{AreExtremesAt, AreExtremesOf, ArePlacesOf, AreSummaryOf, AreTruthsOf, AreWholeOf}
-pub use Rattle.column_statistics.specs.Faults.{HasLong, IsReadable, IsStatisticsFault}
-pub use Rattle.column_statistics.specs.Forms.{IsColumnForm, IsFormAs, IsFormFault, IsMergeFault, IsMergedForm, IsReadFault, fault_of_piece, read_fault}
+pub use Rattle.column_statistics.specs.Errors.{HasLong, IsReadable, IsColumnStatisticsError}
+pub use Rattle.column_statistics.specs.Encodings.{IsColumnEncoding, IsEncodingAs, IsEncodingError, IsMergeError, IsMergedEncoding, IsReadError, fault_of_piece, read_fault}
 pub use Rattle.column_statistics.specs.Items.{IsItemOf, bytes_of_item}

@@ -4,13 +4,13 @@
 //! to a length; also as bytes, which are merged and read.
 #![tactic(auto)]
 
+mod encodings;
+mod errors;
 mod extremes;
-mod faults;
-mod forms;
 mod items;
 mod statistics;
 
-pub use faults::{MergeFault, ReadFault, StatisticsFault};
-pub use forms::{column_form, merged_form, read_form};
+pub use encodings::{column_encoding, merged_encoding, read_encoding};
+pub use errors::{ColumnStatisticsError, MergeError, ReadError};
 pub use items::{Item, item_of};
 pub use statistics::statistics_of;

@@ -3,10 +3,10 @@
 ghost use Rattle.std.specs.Prelude.{◌≡◌, IfErr, IfOk, List, length, true};
 ghost use Rattle.vortex_dtype.specs.TypeTree.{TypeTree};
 ghost use Rattle.vortex_value.specs.Values.Content.{Content};
-ghost use Rattle.column_statistics.specs.Words.{AreCutStatistics, AreRight, AreSummaryOf, AreWholeOf, HasBoundsIn, HasShortBounds, IsReadable, IsStatisticsFault, cells_of_column, known, type_of_column};
+ghost use Rattle.column_statistics.specs.Words.{AreCutStatistics, AreRight, AreSummaryOf, AreWholeOf, HasBoundsIn, HasShortBounds, IsReadable, IsColumnStatisticsError, cells_of_column, known, type_of_column};
 
+use crate::errors::ColumnStatisticsError;
 use crate::extremes::{Summary, summary_of};
-use crate::faults::StatisticsFault;
 use arrow_columns::Column;
 use column_cells::{row_count, rows_of};
 use std::alloc::Global;
@@ -16,34 +16,34 @@ use vortex_value::Scalar;
 /// The statistics of a column, whose bounds are cut to `limit` bytes if they are strings or bytes.
 ///
 /// The buffers are tested once, and a column that cannot be read is refused with its fault. The
-/// least and the greatest value are found in one pass. `OutOfMemory` only for a string, or bytes, of
-/// more than 22 bytes.
+/// least and the greatest value are found in one pass. `OutOfMemory` only for a string, or bytes,
+/// of more than 22 bytes.
 pub fn statistics_of(
     alloc: Global,
     column: Column,
     limit: usize,
-) -> Result<ColumnStatistics, StatisticsFault>
+) -> Result<ColumnStatistics, ColumnStatisticsError>
     ensures statistics { IfOk result (AreCutStatistics limit (cells_of_column column.entry)) }
     ensures right { IfOk result (λ s. AreRight (known s) (cells_of_column column.entry)) }
     ensures short { IfOk result (HasShortBounds limit) }
     ensures typed { IfOk result (HasBoundsIn (type_of_column column.entry)) }
     ensures readable { IfOk result (λ _. IsReadable column.entry) }
-    ensures refused { IfErr result (IsStatisticsFault column.entry) }
+    ensures refused { IfErr result (IsColumnStatisticsError column.entry) }
 {
     let rows = match rows_of(column) {
         Ok(rows) => rows,
-        Err(fault) => return Err(StatisticsFault::Unreadable(fault)),
+        Err(fault) => return Err(ColumnStatisticsError::Unreadable(fault)),
     };
     let summary = match summary_of(alloc, &rows) {
         Ok(summary) => summary,
         Err(cause) => {
             drop(cause);
-            return Err(StatisticsFault::OutOfMemory);
+            return Err(ColumnStatisticsError::OutOfMemory);
         }
     };
     match statistics_from(row_count(&rows), summary).truncate(alloc, limit) {
         Ok(statistics) => Ok(statistics),
-        Err(_) => Err(StatisticsFault::OutOfMemory),
+        Err(_) => Err(ColumnStatisticsError::OutOfMemory),
     }
 }
 

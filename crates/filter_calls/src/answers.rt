@@ -75,7 +75,7 @@ fn write_refusal(out: &mut Output, refusal: FilterError) {
 /// Writes the name of a refusal of SQL text, its place, and what was expected.
 fn write_text_refusal(out: &mut Output, refusal: ParseError) {
     out.word(text_refusal_name(refusal));
-    if let Some(place) = refusal.place() {
+    if let Some(place) = refusal.offset() {
         write_count(out, place);
     }
     if let ParseError::Expected { expected, .. } = refusal {

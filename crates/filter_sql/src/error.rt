@@ -55,26 +55,26 @@ pub enum ParseError {
     #[error("out of memory")]
     OutOfMemory,
     /// Something else had to come here.
-    #[error("byte {place}: expected {expected}")]
-    Expected { place: usize, expected: Expected },
+    #[error("byte {offset}: expected {expected}")]
+    Expected { offset: usize, expected: Expected },
     /// No column has this name.
-    #[error("byte {place}: no such column")]
-    NoColumn { place: usize },
+    #[error("byte {offset}: no such column")]
+    NoColumn { offset: usize },
     /// The column's type has no value like this literal: a string for a number.
-    #[error("byte {place}: a literal of another type than the column")]
-    TypesDiffer { place: usize },
+    #[error("byte {offset}: a literal of another type than the column")]
+    TypesDiffer { offset: usize },
     /// No literal but `null` can be written for values of the column's type.
-    #[error("byte {place}: no literal is of the column's type")]
-    NoLiteral { place: usize },
+    #[error("byte {offset}: no literal is of the column's type")]
+    NoLiteral { offset: usize },
     /// The digits are a number of 2^64 or more.
-    #[error("byte {place}: the number is too long")]
-    NumberTooLong { place: usize },
+    #[error("byte {offset}: the number is too long")]
+    NumberTooLong { offset: usize },
     /// No token begins so, or what begins here does not end.
-    #[error("byte {place}: no token")]
-    BadText { place: usize },
+    #[error("byte {offset}: no token")]
+    BadText { offset: usize },
     /// Parentheses and operators nest deeper than is read.
-    #[error("byte {place}: nested too deep")]
-    TooDeep { place: usize },
+    #[error("byte {offset}: nested too deep")]
+    TooDeep { offset: usize },
 }
 
 /// Out of memory, whatever was asked for.
@@ -100,18 +100,21 @@ impl ParseError {
     ghost use Rattle.filter_sql.specs.Faults.{place_of};
 
     /// The place in the text, if the error has one.
-    pub fn place(&self) -> Option<usize>
+    pub fn offset(&self) -> Option<usize>
         ensures { result ≡ place_of self.now }
     {
         match self {
             ParseError::OutOfMemory => None,
-            ParseError::Expected { place, expected: _ }
-            | ParseError::NoColumn { place }
-            | ParseError::TypesDiffer { place }
-            | ParseError::NoLiteral { place }
-            | ParseError::NumberTooLong { place }
-            | ParseError::BadText { place }
-            | ParseError::TooDeep { place } => Some(*place),
+            ParseError::Expected {
+                offset,
+                expected: _,
+            }
+            | ParseError::NoColumn { offset }
+            | ParseError::TypesDiffer { offset }
+            | ParseError::NoLiteral { offset }
+            | ParseError::NumberTooLong { offset }
+            | ParseError::BadText { offset }
+            | ParseError::TooDeep { offset } => Some(*offset),
         }
     }
 }

@@ -291,8 +291,8 @@ fn at(fault: Fault, place: usize) -> ParseError
 {
     match fault {
         Fault::OutOfMemory => ParseError::OutOfMemory,
-        Fault::NumberTooLong => ParseError::NumberTooLong { place },
-        Fault::BadText => ParseError::BadText { place },
+        Fault::NumberTooLong => ParseError::NumberTooLong { offset: place },
+        Fault::BadText => ParseError::BadText { offset: place },
     }
 }
 

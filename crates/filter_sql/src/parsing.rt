@@ -128,11 +128,14 @@ fn caused(place: usize, cause: Cause) -> ParseError
     ensures { result ≡ caused place cause }
 {
     match cause {
-        Cause::Expected(expected) => ParseError::Expected { place, expected },
-        Cause::NoColumn => ParseError::NoColumn { place },
-        Cause::TypesDiffer => ParseError::TypesDiffer { place },
-        Cause::NoLiteral => ParseError::NoLiteral { place },
-        Cause::TooDeep => ParseError::TooDeep { place },
+        Cause::Expected(expected) => ParseError::Expected {
+            offset: place,
+            expected,
+        },
+        Cause::NoColumn => ParseError::NoColumn { offset: place },
+        Cause::TypesDiffer => ParseError::TypesDiffer { offset: place },
+        Cause::NoLiteral => ParseError::NoLiteral { offset: place },
+        Cause::TooDeep => ParseError::TooDeep { offset: place },
     }
 }
 

@@ -10,8 +10,8 @@ use Rattle.csv_records.specs.Rows.{Field, field_rows, is_whole_from, rows_of}
 use Rattle.vortex_value.specs.declared.scalars.Scalar.{Scalar}
 use Rattle.record_rows.specs.Rows.{AreCells, AreCellsIn, HasFieldAt, HasFields, HasOtherCount, IsRow, IsRowIn, IsTakenIf, IsTested, PushesCell, Refuses, RefusesFields, is_wanted, refused_of}
 use Rattle.record_rows.specs.Walks.{HasWalked, IsNext, ReadsNext, field_of}
-use Rattle.record_rows.specs.declared.faults.RowFault.{RowFault}
-use Rattle.record_rows.specs.declared.faults.RowFault.TheVariants as faults
+use Rattle.record_rows.specs.declared.errors.RowReadError.{RowReadError}
+use Rattle.record_rows.specs.declared.errors.RowReadError.TheVariants as errors
 use Rattle.record_rows.specs.declared.fields.ColumnField.{ColumnField}
 use Rattle.record_rows.specs.declared.fields.FieldWalk.{FieldWalk}
 use Rattle.record_rows.specs.declared.schema.ColumnType.{ColumnType}
@@ -136,9 +136,9 @@ whole_rows d l columns line row (Ok None) h = h
 whole_rows d l columns line row (Ok (Some n)) h = is_whole_row d l columns line row n h
 whole_rows d l columns line row (Err e) h = tt
 
-pub refused_row : (d : ℕ) (l : Bool) (columns : List ColumnType) (line start : List ℕ) (fault : RowFault) → rows_of d line ≡ field_rows d start → is_whole d line ≡ is_whole_from d st.StartField start → RefusesFields d l columns start fault → Refuses d l columns line fault
-refused_row d l columns line start faults.Memory rows same h = tt
-refused_row d l columns line start (faults.Word place found) rows same h =
+pub refused_row : (d : ℕ) (l : Bool) (columns : List ColumnType) (line start : List ℕ) (fault : RowReadError) → rows_of d line ≡ field_rows d start → is_whole d line ≡ is_whole_from d st.StartField start → RefusesFields d l columns start fault → Refuses d l columns line fault
+refused_row d l columns line start errors.Memory rows same h = tt
+refused_row d l columns line start (errors.Word place found) rows same h =
     record {
       field = h.field;
       column = h.column;
@@ -152,8 +152,8 @@ refused_row d l columns line start (faults.Word place found) rows same h =
       none = h.none;
       strict = h.strict;
     }
-refused_row d l columns line start faults.FieldCount rows same h = subst (HasOtherCount columns) (sym rows) h
-refused_row d l columns line start faults.LoneReturn rows same h = same ∙ h
+refused_row d l columns line start errors.FieldCount rows same h = subst (HasOtherCount columns) (sym rows) h
+refused_row d l columns line start errors.LoneReturn rows same h = same ∙ h
 
 pub one_at_most : (b : Bool) → cond b 1 0 ≤ 1
 one_at_most true = omega arith

@@ -11,8 +11,8 @@ use Rattle.csv_records.specs.declared.fields.Follows.TheVariants.{Another, Bytes
 use Rattle.csv_records.proofs.RowCuts.{first_field}
 use Rattle.record_rows.specs.Rows.{HasFieldAt, HasOtherCount, RefusesFields, RefusesWord}
 use Rattle.record_rows.specs.Walks.{AreFollowedBy, EndsWalk, HasOtherEnd, HasWalked, IsBefore, IsNext, ReadsNext, field_of, with_front}
-use Rattle.record_rows.specs.declared.faults.RowFault.{RowFault}
-use Rattle.record_rows.specs.declared.faults.RowFault.TheVariants as faults
+use Rattle.record_rows.specs.declared.errors.RowReadError.{RowReadError}
+use Rattle.record_rows.specs.declared.errors.RowReadError.TheVariants as errors
 use Rattle.record_rows.specs.declared.fields.ColumnField.{ColumnField}
 use Rattle.record_rows.specs.declared.fields.FieldWalk.{FieldWalk}
 use Rattle.record_rows.specs.declared.schema.ColumnType.{ColumnType}
@@ -72,13 +72,13 @@ other_end d columns bytes fields Nothing h within end = subst (HasOtherCount col
 other_end d columns bytes fields Bytes h within end = absurd end
 
 -- why a walk does not go on is why there is no row
-pub walk_ends : (d : ℕ) (l : Bool) (columns : List ColumnType) (bytes : List ℕ) (walk : FieldWalk) (fields : List Field) (fault : RowFault) → HasWalked d columns bytes walk fields → EndsWalk walk fault → RefusesFields d l columns bytes fault
-walk_ends d l columns bytes walk fields faults.Memory h end = tt
-walk_ends d l columns bytes walk fields (faults.Word column word) h end = absurd end
-walk_ends d l columns bytes walk fields faults.FieldCount h end =
+pub walk_ends : (d : ℕ) (l : Bool) (columns : List ColumnType) (bytes : List ℕ) (walk : FieldWalk) (fields : List Field) (fault : RowReadError) → HasWalked d columns bytes walk fields → EndsWalk walk fault → RefusesFields d l columns bytes fault
+walk_ends d l columns bytes walk fields errors.Memory h end = tt
+walk_ends d l columns bytes walk fields (errors.Word column word) h end = absurd end
+walk_ends d l columns bytes walk fields errors.FieldCount h end =
     let at : HasOtherEnd columns (length fields) walk.follows = subst (λ (n : ℕ). HasOtherEnd columns n walk.follows) h.place (subst (λ (cs : List ColumnType). HasOtherEnd cs walk.place walk.follows) h.columns_are end) in
     other_end d columns bytes fields walk.follows h.follow (omega (arith, h.place, h.within)) at
-walk_ends d l columns bytes walk fields faults.LoneReturn h end = subst (AreFollowedBy d bytes fields) end h.follow
+walk_ends d l columns bytes walk fields errors.LoneReturn h end = subst (AreFollowedBy d bytes fields) end h.follow
 
 -- ---- a field that its column does not take
 
@@ -99,9 +99,9 @@ field_stands d bytes fields f (Another rest) h =
 field_stands d bytes fields f Nothing h = inr (subst (HasFieldAt (length fields) f) (sym h) (at_seam fields f []))
 field_stands d bytes fields f Bytes h = inl h
 
-pub word_refused : (d : ℕ) (l : Bool) (columns : List ColumnType) (bytes : List ℕ) (walk : FieldWalk) (fields : List Field) (next : ColumnField) (fault : RowFault) → IsNext d columns bytes walk fields next → RefusesWord l next.column next.place (field_of next) fault → RefusesFields d l columns bytes fault
-word_refused d l columns bytes walk fields next faults.Memory h refused = tt
-word_refused d l columns bytes walk fields next (faults.Word at found) h refused =
+pub word_refused : (d : ℕ) (l : Bool) (columns : List ColumnType) (bytes : List ℕ) (walk : FieldWalk) (fields : List Field) (next : ColumnField) (fault : RowReadError) → IsNext d columns bytes walk fields next → RefusesWord l next.column next.place (field_of next) fault → RefusesFields d l columns bytes fault
+word_refused d l columns bytes walk fields next errors.Memory h refused = tt
+word_refused d l columns bytes walk fields next (errors.Word at found) h refused =
     let here : length fields ≡ at = sym (refused.0 ∙ h.place) in
     record {
       field = field_of next;
@@ -113,5 +113,5 @@ word_refused d l columns bytes walk fields next (faults.Word at found) h refused
       none = refused.2;
       strict = refused.3;
     }
-word_refused d l columns bytes walk fields next faults.FieldCount h refused = absurd refused
-word_refused d l columns bytes walk fields next faults.LoneReturn h refused = absurd refused
+word_refused d l columns bytes walk fields next errors.FieldCount h refused = absurd refused
+word_refused d l columns bytes walk fields next errors.LoneReturn h refused = absurd refused

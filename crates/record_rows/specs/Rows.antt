@@ -9,8 +9,8 @@ use Rattle.vortex_value.specs.Values.Scalars.{IsValid, scalar_content, scalar_ty
 use Rattle.vortex_value.specs.declared.scalars.Scalar.{Scalar}
 use Rattle.record_rows.specs.Cells.{HasCell, HasNoCell, IsCell, column_type}
 use Rattle.record_rows.specs.declared.schema.ColumnType.{ColumnType}
-use Rattle.record_rows.specs.declared.faults.RowFault.{RowFault}
-use Rattle.record_rows.specs.declared.faults.RowFault.TheVariants as faults
+use Rattle.record_rows.specs.declared.errors.RowReadError.{RowReadError}
+use Rattle.record_rows.specs.declared.errors.RowReadError.TheVariants as errors
 
 -- the column does not take the field, and a null stands in its place, as is asked
 pub record IsLenientNull (lenient : Bool) (column : ColumnType) (f : Field) (x : Scalar) : Type 0 where
@@ -110,18 +110,18 @@ abbrev pub IsStrict : Bool → ColumnType → Type 0
 IsStrict lenient column = (lenient ≡ false) ⊎ (column.nullability ≡ NonNullable)
 
 -- the fault of a word at this column, unless memory ran out
-abbrev pub IsWordFault : ℕ → List ℕ → RowFault → Type 0
-IsWordFault place word faults.Memory = Unit {0}
-IsWordFault place word (faults.Word column found) = (column ≡ place) × (found.items ≡ word)
-IsWordFault place word faults.FieldCount = ⊥
-IsWordFault place word faults.LoneReturn = ⊥
+abbrev pub IsWordError : ℕ → List ℕ → RowReadError → Type 0
+IsWordError place word errors.Memory = Unit {0}
+IsWordError place word (errors.Word column found) = (column ≡ place) × (found.items ≡ word)
+IsWordError place word errors.FieldCount = ⊥
+IsWordError place word errors.LoneReturn = ⊥
 
 -- a column refuses a field, and tells its word
-abbrev pub RefusesWord : Bool → ColumnType → ℕ → Field → RowFault → Type 0
-RefusesWord lenient column place f faults.Memory = Unit {0}
-RefusesWord lenient column place f (faults.Word at found) = (at ≡ place) × (found.items ≡ f.text) × HasNoCell column f × IsStrict lenient column
-RefusesWord lenient column place f faults.FieldCount = ⊥
-RefusesWord lenient column place f faults.LoneReturn = ⊥
+abbrev pub RefusesWord : Bool → ColumnType → ℕ → Field → RowReadError → Type 0
+RefusesWord lenient column place f errors.Memory = Unit {0}
+RefusesWord lenient column place f (errors.Word at found) = (at ≡ place) × (found.items ≡ f.text) × HasNoCell column f × IsStrict lenient column
+RefusesWord lenient column place f errors.FieldCount = ⊥
+RefusesWord lenient column place f errors.LoneReturn = ⊥
 
 -- the first row has this field at this place
 abbrev pub HasFieldAt : ℕ → Field → List (List Field) → Type 0
@@ -144,15 +144,15 @@ abbrev pub HasOtherCount : List ColumnType → List (List Field) → Type 0
 HasOtherCount columns [] = ⊥
 HasOtherCount columns (row ∷ rows) = length row ≢ length columns
 
-abbrev pub RefusesFields : ℕ → Bool → List ColumnType → List ℕ → RowFault → Type 0
-RefusesFields delimiter lenient columns bytes faults.Memory = Unit {0}
-RefusesFields delimiter lenient columns bytes (faults.Word place found) = IsRefused lenient columns (is_whole_from delimiter st.StartField bytes) (field_rows delimiter bytes) place found.items
-RefusesFields delimiter lenient columns bytes faults.FieldCount = HasOtherCount columns (field_rows delimiter bytes)
-RefusesFields delimiter lenient columns bytes faults.LoneReturn = is_whole_from delimiter st.StartField bytes ≡ false
+abbrev pub RefusesFields : ℕ → Bool → List ColumnType → List ℕ → RowReadError → Type 0
+RefusesFields delimiter lenient columns bytes errors.Memory = Unit {0}
+RefusesFields delimiter lenient columns bytes (errors.Word place found) = IsRefused lenient columns (is_whole_from delimiter st.StartField bytes) (field_rows delimiter bytes) place found.items
+RefusesFields delimiter lenient columns bytes errors.FieldCount = HasOtherCount columns (field_rows delimiter bytes)
+RefusesFields delimiter lenient columns bytes errors.LoneReturn = is_whole_from delimiter st.StartField bytes ≡ false
 
 -- why a record has no row
-abbrev pub Refuses : ℕ → Bool → List ColumnType → List ℕ → RowFault → Type 0
-Refuses delimiter lenient columns line faults.Memory = Unit {0}
-Refuses delimiter lenient columns line (faults.Word place found) = IsRefused lenient columns (is_whole delimiter line) (rows_of delimiter line) place found.items
-Refuses delimiter lenient columns line faults.FieldCount = HasOtherCount columns (rows_of delimiter line)
-Refuses delimiter lenient columns line faults.LoneReturn = is_whole delimiter line ≡ false
+abbrev pub Refuses : ℕ → Bool → List ColumnType → List ℕ → RowReadError → Type 0
+Refuses delimiter lenient columns line errors.Memory = Unit {0}
+Refuses delimiter lenient columns line (errors.Word place found) = IsRefused lenient columns (is_whole delimiter line) (rows_of delimiter line) place found.items
+Refuses delimiter lenient columns line errors.FieldCount = HasOtherCount columns (rows_of delimiter line)
+Refuses delimiter lenient columns line errors.LoneReturn = is_whole delimiter line ≡ false

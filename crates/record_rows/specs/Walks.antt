@@ -5,8 +5,8 @@ use Rattle.csv.specs.declared.parser.State.TheVariants as st
 use Rattle.csv_records.specs.Rows.{Field, field_rows, is_whole_from}
 use Rattle.csv_records.specs.declared.fields.Follows.{Follows}
 use Rattle.csv_records.specs.declared.fields.Follows.TheVariants.{Another, Bytes, Nothing}
-use Rattle.record_rows.specs.declared.faults.RowFault.{RowFault}
-use Rattle.record_rows.specs.declared.faults.RowFault.TheVariants as faults
+use Rattle.record_rows.specs.declared.errors.RowReadError.{RowReadError}
+use Rattle.record_rows.specs.declared.errors.RowReadError.TheVariants as errors
 use Rattle.record_rows.specs.declared.fields.ColumnField.{ColumnField}
 use Rattle.record_rows.specs.declared.fields.FieldWalk.{FieldWalk}
 use Rattle.record_rows.specs.declared.schema.ColumnType.{ColumnType}
@@ -58,8 +58,8 @@ HasOtherEnd columns place Nothing = place < length columns
 HasOtherEnd columns place Bytes = ⊥
 
 -- why a walk does not go on
-abbrev pub EndsWalk : FieldWalk → RowFault → Type 0
-EndsWalk walk faults.Memory = ⊥
-EndsWalk walk (faults.Word column word) = ⊥
-EndsWalk walk faults.FieldCount = HasOtherEnd walk.columns.now walk.place walk.follows
-EndsWalk walk faults.LoneReturn = walk.follows ≡ Bytes
+abbrev pub EndsWalk : FieldWalk → RowReadError → Type 0
+EndsWalk walk errors.Memory = ⊥
+EndsWalk walk (errors.Word column word) = ⊥
+EndsWalk walk errors.FieldCount = HasOtherEnd walk.columns.now walk.place walk.follows
+EndsWalk walk errors.LoneReturn = walk.follows ≡ Bytes

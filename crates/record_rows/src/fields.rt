@@ -7,7 +7,7 @@ ghost use Rattle.record_rows.specs.Rows.{RefusesFields};
 ghost use Rattle.record_rows.specs.Walks.{EndsWalk, HasWalked, ReadsNext};
 ghost use Rattle.record_rows.specs.declared.schema.ColumnType.{ColumnType};
 
-use crate::faults::RowFault;
+use crate::errors::RowReadError;
 use crate::schema::{ColumnType, Schema};
 use csv_records::{CutField, Delimiter, Follows, cut_field};
 
@@ -57,7 +57,7 @@ impl<'a> FieldWalk<'a> {
     pub(crate) fn next_field<'b>(
         &mut self,
         buffer: &'b mut Vec<u8>,
-    ) -> Result<Option<ColumnField<'b>>, RowFault>
+    ) -> Result<Option<ColumnField<'b>>, RowReadError>
     where
         'a: 'b,
         ensures next { IfOk result (λ next. (delimiter : ℕ) (columns : List ColumnType) (bytes : List ℕ)
@@ -87,7 +87,7 @@ impl<'a> FieldWalk<'a> {
 
     /// Where the next field starts; `None` behind the last one.
     #[inline(always)]
-    fn next_start(&self) -> Result<Option<&'a [u8]>, RowFault>
+    fn next_start(&self) -> Result<Option<&'a [u8]>, RowReadError>
         ensures start { IfOk result (λ start. IfSome start (λ rest. (self.now.follows ≡ Another rest)
             × (self.now.place < length self.now.columns.now))) }
         ensures end { IfOk result (λ start. IfNone start ((self.now.follows ≡ Nothing)
@@ -98,8 +98,8 @@ impl<'a> FieldWalk<'a> {
         match self.follows {
             Follows::Another(rest) if has_column => Ok(Some(rest)),
             Follows::Nothing if !has_column => Ok(None),
-            Follows::Bytes => Err(RowFault::LoneReturn),
-            _ => Err(RowFault::FieldCount),
+            Follows::Bytes => Err(RowReadError::LoneReturn),
+            _ => Err(RowReadError::FieldCount),
         }
     }
 }

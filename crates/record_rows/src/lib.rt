@@ -1,13 +1,13 @@
 // SPDX-License-Identifier: Apache-2.0
 // SPDX-FileCopyrightText: Copyright the Vortex contributors; ported to Rattle and changed
 //! The row of a record under a schema: each field is a cell of its column, or is refused, and the
-//! statistics of the columns observe it. And texts of many records: their records and rows, and where
-//! one may be cut.
+//! statistics of the columns observe it. And texts of many records: their records and rows, and
+//! where one may be cut.
 #![tactic(auto)]
 
 mod ascii;
 mod cells;
-mod faults;
+mod errors;
 mod fields;
 mod in_place;
 mod observing;
@@ -17,7 +17,7 @@ mod taking;
 mod texts;
 mod words;
 
-pub use faults::RowFault;
+pub use errors::RowReadError;
 pub use observing::observe_record;
 pub use rows::{read_cells, read_row};
 pub use schema::{ColumnType, Kind, Schema, dtype_of};

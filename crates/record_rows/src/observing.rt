@@ -7,7 +7,7 @@ ghost use Rattle.record_rows.specs.Rows.{Refuses, RefusesFields, RefusesWord};
 ghost use Rattle.record_rows.specs.Walks.{field_of};
 ghost use Rattle.vortex_statistics.specs.Statistics.{known};
 
-use crate::faults::RowFault;
+use crate::errors::RowReadError;
 use crate::fields::{ColumnField, FieldWalk};
 use crate::in_place::observe_in_place;
 use crate::schema::Schema;
@@ -17,8 +17,8 @@ use std::alloc::Global;
 use vortex_statistics::ColumnStatistics;
 use vortex_value::ScalarRef;
 
-/// Observes the row of a record, each cell by the statistics of its column; `None` if it has no row.
-/// After a refusal some cells may have been observed.
+/// Observes the row of a record, each cell by the statistics of its column; `None` if it has no
+/// row. After a refusal some cells may have been observed.
 ///
 /// If the schema is lenient, a field that its column does not take is a null if the column takes
 /// nulls. The answer is how many of them there are. The buffer is room that is used again.
@@ -28,7 +28,7 @@ pub fn observe_record(
     line: &[u8],
     buffer: &mut Vec<u8>,
     statistics: &mut [ColumnStatistics],
-) -> Result<Option<usize>, RowFault>
+) -> Result<Option<usize>, RowReadError>
     requires { length statistics.old ≡ length schema.now.columns.items }
     ensures observed { IfOk result (λ refused. MatchOption refused
         ((rows_of schema.now.delimiter.byte line.now ≡ []) × (statistics.new ≡ statistics.old))
@@ -53,7 +53,7 @@ fn observe_fields(
     text: &[u8],
     buffer: &mut Vec<u8>,
     statistics: &mut [ColumnStatistics],
-) -> Result<usize, RowFault>
+) -> Result<usize, RowReadError>
     requires { length statistics.old ≡ length schema.now.columns.items }
     ensures fields { IfOk result (AreObserved schema.now.delimiter.byte schema.now.is_lenient
         schema.now.columns.items text.now statistics.old statistics.new) }
@@ -81,7 +81,7 @@ fn observe_field(
     is_lenient: bool,
     field: &ColumnField<'_>,
     statistics: &mut ColumnStatistics,
-) -> Result<bool, RowFault>
+) -> Result<bool, RowReadError>
     ensures observed { IfOk result (ObservesField is_lenient field.now.column (field_of field.now)
         (known statistics.old) (known statistics.new)) }
     ensures refused { IfErr result (RefusesWord is_lenient field.now.column field.now.place (field_of field.now)) }
@@ -92,6 +92,6 @@ fn observe_field(
     let (cell, flag) = take_field(alloc, is_lenient, field)?;
     match statistics.observe(alloc, ScalarRef::of(&cell)) {
         Ok(()) => Ok(flag),
-        Err(_) => Err(RowFault::Memory),
+        Err(_) => Err(RowReadError::Memory),
     }
 }

@@ -5,7 +5,7 @@ ghost use Rattle.csv_records.specs.Rows.{rows_of};
 ghost use Rattle.record_rows.specs.Rows.{HasFields, IsRow, IsRowIn, PushesCell, ReachesPast, Refuses, RefusesFields, RefusesWord, is_wanted};
 ghost use Rattle.record_rows.specs.Walks.{field_of};
 
-use crate::faults::RowFault;
+use crate::errors::RowReadError;
 use crate::fields::{ColumnField, FieldWalk};
 use crate::schema::Schema;
 use crate::taking::{one_more, take_field, test_field};
@@ -23,7 +23,7 @@ pub fn read_row(
     schema: &Schema,
     line: &[u8],
     row: &mut Vec<Scalar>,
-) -> Result<Option<usize>, RowFault>
+) -> Result<Option<usize>, RowReadError>
     ensures row { IfOk result (λ refused. MatchOption refused
         (rows_of schema.now.delimiter.byte line.now ≡ [])
         (IsRow schema.now.delimiter.byte schema.now.is_lenient schema.now.columns.items line.now row.new.items)) }
@@ -34,17 +34,17 @@ pub fn read_row(
     read_cells(alloc, schema, &[], line, row)
 }
 
-/// Reads those cells of the row of a record that are wanted: those of the columns at whose place the
-/// list has no `false`. `None` if it has no row. The fields of the other columns are tested and
-/// refused alike, and scalars without meaning stand in place of their cells, so these take no memory.
-/// The row of another record may be given: its scalars then stand there, and cost nothing.
+/// Reads those cells of the row of a record that are wanted: those of the columns at whose place
+/// the list has no `false`. `None` if it has no row. The fields of the other columns are tested and
+/// refused alike, and scalars without meaning stand in place of their cells, so these take no
+/// memory. The row of another record may be given: its scalars then stand there, and cost nothing.
 pub fn read_cells(
     alloc: Global,
     schema: &Schema,
     wanted: &[bool],
     line: &[u8],
     row: &mut Vec<Scalar>,
-) -> Result<Option<usize>, RowFault>
+) -> Result<Option<usize>, RowReadError>
     ensures row { IfOk result (λ refused. MatchOption refused
         (rows_of schema.now.delimiter.byte line.now ≡ [])
         (IsRowIn wanted.now schema.now.delimiter.byte schema.now.is_lenient schema.now.columns.items
@@ -68,7 +68,7 @@ fn read_fields(
     wanted: &[bool],
     text: &[u8],
     row: &mut Vec<Scalar>,
-) -> Result<usize, RowFault>
+) -> Result<usize, RowReadError>
     requires { length row.old.items ≤ length schema.now.columns.items }
     ensures fields { IfOk result (HasFields wanted.now schema.now.delimiter.byte schema.now.is_lenient
         schema.now.columns.items text.now row.new.items) }
@@ -105,7 +105,7 @@ fn put_cell(
     field: &ColumnField<'_>,
     keeps: bool,
     row: &mut Vec<Scalar>,
-) -> Result<bool, RowFault>
+) -> Result<bool, RowReadError>
     requires { field.now.place ≤ length row.old.items }
     ensures cell { IfOk result (PushesCell keeps is_lenient field.now.column (field_of field.now)
         (take field.now.place row.old.items) (take (field.now.place + 1) row.new.items)) }

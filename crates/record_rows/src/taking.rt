@@ -2,11 +2,11 @@
 
 ghost use Rattle.std.specs.Prelude.{◌≡◌, ◌+◌, ◌-◌, ◌<◌, ◌^◌, IfErr, IfOk, false, true, if◌then◌else◌};
 ghost use Rattle.vortex_dtype.specs.declared.nullability.Nullability.TheVariants.{Nullable};
-ghost use Rattle.record_rows.specs.Rows.{IsStrict, IsTaken, IsTested, IsWordFault, RefusesWord};
+ghost use Rattle.record_rows.specs.Rows.{IsStrict, IsTaken, IsTested, IsWordError, RefusesWord};
 ghost use Rattle.record_rows.specs.Walks.{field_of};
 
 use crate::cells::{cell_of, is_taken, null_of};
-use crate::faults::RowFault;
+use crate::errors::RowReadError;
 use crate::fields::ColumnField;
 use crate::schema::ColumnType;
 use std::alloc::Global;
@@ -19,7 +19,7 @@ pub(crate) fn take_field(
     alloc: Global,
     is_lenient: bool,
     field: &ColumnField<'_>,
-) -> Result<(Scalar, bool), RowFault>
+) -> Result<(Scalar, bool), RowReadError>
     ensures taken { IfOk result (λ taken.
         IsTaken is_lenient field.now.column (field_of field.now) taken.0 taken.1) }
     ensures refused { IfErr result (RefusesWord is_lenient field.now.column field.now.place (field_of field.now)) }
@@ -40,7 +40,7 @@ pub(crate) fn test_field(
     alloc: Global,
     is_lenient: bool,
     field: &ColumnField<'_>,
-) -> Result<bool, RowFault>
+) -> Result<bool, RowReadError>
     ensures tested { IfOk result (IsTested is_lenient field.now.column (field_of field.now)) }
     ensures refused { IfErr result (RefusesWord is_lenient field.now.column field.now.place (field_of field.now)) }
 {
@@ -66,15 +66,15 @@ fn may_be_null(is_lenient: bool, column: ColumnType) -> bool
 }
 
 /// The fault of a field that its column does not take.
-fn word_fault(alloc: Global, field: &ColumnField<'_>) -> RowFault
-    ensures { IsWordFault field.now.place field.now.word.now result }
+fn word_fault(alloc: Global, field: &ColumnField<'_>) -> RowReadError
+    ensures { IsWordError field.now.place field.now.word.now result }
 {
     match Vec::from_slice(alloc, field.word) {
-        Ok(word) => RowFault::Word {
+        Ok(word) => RowReadError::Word {
             column: field.place,
             word,
         },
-        Err(_) => RowFault::Memory,
+        Err(_) => RowReadError::Memory,
     }
 }
 

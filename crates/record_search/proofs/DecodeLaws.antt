@@ -1,4 +1,4 @@
--- The statistics that bytes are, exactly where they are the form of statistics of the column.
+-- The statistics that bytes are, exactly where they are the encoding of statistics of the column.
 use Rattle.std.proofs.Common.{◌≡◌, ◌<◌, ◌^◌, ◌&&◌, ℕ, ℤ, pos, negsuc, suc, zero, List, [], ◌∷◌, Bool, true, false, if◌then◌else◌, Option, None, Some, IfSome, Err, refl, sym, ap, ◌∙◌, subst, arith, nat_lt}
 use Rattle.std.specs.Str.{bytes_eq, is_utf8}
 use Rattle.std.proofs.lemmas.Bool.{and_from, and_parts, ltb-true, lt-ltb}
@@ -18,8 +18,8 @@ use Rattle.vortex_pvalue.specs.RangeLaws.{in_range_back, in_range_true}
 use Rattle.vortex_row.specs.Decoded.{IsValueOf}
 use Rattle.vortex_row.specs.Held.{AreBytes, IsWhole}
 use Rattle.vortex_row.proofs.ByteLaws.{bytes_after, bytes_first, bytes_rest, no_bytes}
-use Rattle.statistics_bytes.specs.Form.{AreOf, IsBoundOf, form}
-use Rattle.statistics_bytes.specs.FormAnswers.{ReadsAs}
+use Rattle.statistics_bytes.specs.Encoding.{AreOf, IsBoundOf, encoding}
+use Rattle.statistics_bytes.specs.EncodingAnswers.{ReadsAs}
 use Rattle.vortex_statistics.specs.Statistics.{Known, KnownBound}
 use Rattle.vortex_statistics.specs.declared.error.StatisticsError.{StatisticsError}
 use Rattle.vortex_statistics.specs.declared.error.StatisticsError.TheVariants.{OutOfMemory}
@@ -27,7 +27,7 @@ use Rattle.vortex_value.specs.TypesWithin.{HasNoVariant}
 use Rattle.vortex_value.specs.Values.Content.{Content, content, null, string, text, whole}
 use Rattle.vortex_value.specs.Values.RawTree.{RawTree, absent, raw_bytes, raw_integer, raw_text}
 use Rattle.record_search.specs.Decoding.{are_bytes, are_of, bound_in, count_fits, has_bound, has_content, said_by, statistics_in}
-use Rattle.record_search.proofs.Decoded.{IsFlat, IsFlatBound, IsFlatKnown, said_form}
+use Rattle.record_search.proofs.Decoded.{IsFlat, IsFlatBound, IsFlatKnown, said_encoding}
 
 -- ---- bytes and numbers
 
@@ -184,39 +184,39 @@ chosen : (b : Bool) (s t : Known) → (if b then Some s else None) ≡ Some t �
 chosen true s t e = (refl, cc)
 chosen false s t e = absurd cc
 
--- what is read is of the column, and has this form
+-- what is read is of the column, and has this encoding
 pub record IsReadOf (column : ColumnType) (bytes : List ℕ) (s : Known) : Type 0 where
   pub of : AreOf (column_type column) s
-  pub is : bytes ≡ form s
+  pub is : bytes ≡ encoding s
 
 pub read_is : (column : ColumnType) (bytes : List ℕ) (s : Known) → statistics_in column bytes ≡ Some s → IsReadOf column bytes s
 read_is column bytes s e =
     let said = said_by (column_type column) bytes in
-    let p = chosen (bytes_eq (form said) bytes && are_of column said) said s e in
-    let q = and_parts (bytes_eq (form said) bytes) (are_of column said) p.0 in
-    subst (IsReadOf column bytes) p.1 (record { of = of_column column said (said_typed (column_type column) bytes) q.1; is = sym ((bytes_eq-Decides (form said) bytes).0 q.0) })
+    let p = chosen (bytes_eq (encoding said) bytes && are_of column said) said s e in
+    let q = and_parts (bytes_eq (encoding said) bytes) (are_of column said) p.0 in
+    subst (IsReadOf column bytes) p.1 (record { of = of_column column said (said_typed (column_type column) bytes) q.1; is = sym ((bytes_eq-Decides (encoding said) bytes).0 q.0) })
 
--- these statistics, if the bytes are their form and they are of the column
+-- these statistics, if the bytes are their encoding and they are of the column
 abbrev tested : ColumnType → List ℕ → Known → Option Known
-tested column bytes s = if bytes_eq (form s) bytes && are_of column s then Some s else None
+tested column bytes s = if bytes_eq (encoding s) bytes && are_of column s then Some s else None
 
 passed : (b : Bool) (s : Known) → b ≡ true → (if b then Some s else None) ≡ Some s
 passed true s e = refl
 passed false s e = absurd cc
 
--- and what has such a form is read
-pub is_read : (column : ColumnType) (bytes : List ℕ) (s : Known) → AreOf (column_type column) s → bytes ≡ form s → statistics_in column bytes ≡ Some s
+-- and what has such an encoding is read
+pub is_read : (column : ColumnType) (bytes : List ℕ) (s : Known) → AreOf (column_type column) s → bytes ≡ encoding s → statistics_in column bytes ≡ Some s
 is_read column bytes s h e =
-    let said : said_by (column_type column) bytes ≡ s = ap (said_by (column_type column)) e ∙ said_form (column_type column) s (flat_known column s h) in
-    let test : (bytes_eq (form s) bytes && are_of column s) ≡ true = and_from (bytes_eq (form s) bytes) (are_of column s) ((bytes_eq-Decides (form s) bytes).1 (sym e)) (column_has column s h) in
-    ap (tested column bytes) said ∙ passed (bytes_eq (form s) bytes && are_of column s) s test
+    let said : said_by (column_type column) bytes ≡ s = ap (said_by (column_type column)) e ∙ said_encoding (column_type column) s (flat_known column s h) in
+    let test : (bytes_eq (encoding s) bytes && are_of column s) ≡ true = and_from (bytes_eq (encoding s) bytes) (are_of column s) ((bytes_eq-Decides (encoding s) bytes).1 (sym e)) (column_has column s h) in
+    ap (tested column bytes) said ∙ passed (bytes_eq (encoding s) bytes && are_of column s) s test
 
 -- what is read of the column's type
-pub read_found : (t : TypeTree) (column : ColumnType) (bytes : List ℕ) (s : Known) → t ≡ column_type column → AreOf t s × (bytes ≡ form s) → Some s ≡ statistics_in column bytes
+pub read_found : (t : TypeTree) (column : ColumnType) (bytes : List ℕ) (s : Known) → t ≡ column_type column → AreOf t s × (bytes ≡ encoding s) → Some s ≡ statistics_in column bytes
 read_found t column bytes s typed h = sym (is_read column bytes s (subst (λ (u : TypeTree). AreOf u s) typed h.0) h.1)
 
 -- nothing is read only where nothing is there
-pub none_read : (t : TypeTree) (column : ColumnType) (bytes : List ℕ) (e : StatisticsError) → t ≡ column_type column → ((s : Known) → AreOf t s → bytes ≡ form s → ReadsAs s (Err e)) → ¬ (e ≡ OutOfMemory) → None ≡ statistics_in column bytes
+pub none_read : (t : TypeTree) (column : ColumnType) (bytes : List ℕ) (e : StatisticsError) → t ≡ column_type column → ((s : Known) → AreOf t s → bytes ≡ encoding s → ReadsAs s (Err e)) → ¬ (e ≡ OutOfMemory) → None ≡ statistics_in column bytes
 none_read t column bytes e typed reads other = by_read (statistics_in column bytes) refl
   where
     by_read : (o : Option Known) → statistics_in column bytes ≡ o → None ≡ o

@@ -1,4 +1,4 @@
--- What a form says is read from it.
+-- What an encoding says is read from it.
 use Rattle.std.proofs.Common.{◌≡◌, ◌+◌, ◌*◌, ◌-◌, ◌/◌, ◌%◌, ◌^◌, ◌<◌, ◌≤◌, ℕ, ℤ, pos, negsuc, zero, suc, List, [], ◌∷◌, ◌++◌, Bool, true, false, if◌then◌else◌, Option, None, Some, IfSome, refl, sym, ap, ap₂, ◌∙◌, length, take, drop, arith, append-nil, take_at, drop_at}
 use Rattle.std.proofs.lemmas.Bool.{le-ltb, lt-ltb, ne_eqb}
 use Rattle.vortex_dtype.specs.TypeTree.{TypeTree}
@@ -7,7 +7,7 @@ use Rattle.vortex_row.specs.Keys.{big_endian, escaped, inverted, key, number_byt
 use Rattle.vortex_row.proofs.ByteLaws.{bytes_first, bytes_rest, inverted-length}
 use Rattle.vortex_row.proofs.NumberLaws.{big_endian-length, number-bytes, number-length, number-some}
 use Rattle.vortex_row.proofs.NumberReading.{worth, worth-big_endian, worth-number}
-use Rattle.statistics_bytes.specs.Form.{bound_bytes, bound_flags, count_bytes, count_flag, flags, form, known_count_bytes}
+use Rattle.statistics_bytes.specs.Encoding.{bound_bytes, bound_flags, count_bytes, count_flag, flags, encoding, known_count_bytes}
 use Rattle.vortex_statistics.specs.Statistics.{Known, KnownBound}
 use Rattle.vortex_value.specs.Values.Content.{Content, null, string, text, whole}
 use Rattle.record_search.specs.Decoding.{bound_in, byte_before, content_in, count_in, number_after, said_by, unescaped}
@@ -108,7 +108,7 @@ count_read (Some n) ys h =
     let long = big_endian-length 8 n in
     ap₂ (λ (k : ℕ) (rest : List ℕ). (Some k, rest)) (ap (number_after 0) (take_at (big_endian 8 n) ys 8 long) ∙ count_is n h) (drop_at (big_endian 8 n) ys 8 long)
 
--- ---- forms
+-- ---- encodings
 
 -- statistics that a column of records can have
 pub record IsFlatKnown (t : TypeTree) (s : Known) : Type 0 where
@@ -141,8 +141,8 @@ pieces t n f g rows bytes mid last end nulls lower upper p q r =
     ∙ ap (λ (x : Option KnownBound × List ℕ). known_of rows nulls x.0 (bound_in t g (bound_in t f (count_in n bytes).1).1).0) first
     ∙ ap (λ (x : Option KnownBound × List ℕ). known_of rows nulls lower x.0) second
 
-pub said_form : (t : TypeTree) (s : Known) → IsFlatKnown t s → said_by t (form s) ≡ s
-said_form t s h =
+pub said_encoding : (t : TypeTree) (s : Known) → IsFlatKnown t s → said_by t (encoding s) ≡ s
+said_encoding t s h =
     let a = count_flag_below s.null_count in
     let b = bound_flags_below s.lower in
     let c = bound_flags_below s.upper in

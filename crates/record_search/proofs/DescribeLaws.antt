@@ -1,4 +1,4 @@
--- Statistics of columns are gathered, and their forms joined.
+-- Statistics of columns are gathered, and their encodings joined.
 use Rattle.std.proofs.Common.{◌≡◌, ◌<◌, ◌≤◌, ◌+◌, ◌^◌, ◌++◌, inl, inr, ℕ, zero, suc, List, [], ◌∷◌, Bool, true, false, if◌then◌else◌, Option, None, Some, Result, Ok, Err, IfSome, Ordering, Contains, refl, sym, ap, ◌∙◌, subst, length, take, arith, get_or, append_assoc, append-nil, option_map, take_all, is_some, count_by}
 use Rattle.std.specs.Int.{to_le_bytes, w64}
 use Rattle.std.specs.List.{AllByRecursion, cons_option, filter_map, flat_map}
@@ -14,8 +14,8 @@ use Rattle.vortex_dtype.specs.TypeTree.{Same, TypeTree}
 use Rattle.vortex_dtype.specs.declared.nullability.Nullability.TheVariants.{NonNullable}
 use Rattle.filter_pruning.specs.Pruning.{column}
 use Rattle.vortex_cells.specs.Cells.{Cell, IsUpTo, cell_order, order_from_above}
-use Rattle.statistics_bytes.specs.Form.{IsHeldKnown, form}
-use Rattle.statistics_bytes.specs.FormAnswers.{AreTyped}
+use Rattle.statistics_bytes.specs.Encoding.{IsHeldKnown, encoding}
+use Rattle.statistics_bytes.specs.EncodingAnswers.{AreTyped}
 use Rattle.vortex_statistics.specs.Statistics.{AreRight, IsLowerBound, IsUpperBound, known, known_bound}
 use Rattle.vortex_statistics.specs.Truncating.{IsTruncatedLower, IsTruncatedUpper}
 use Rattle.vortex_statistics.specs.declared.column_statistics.Bound.{Bound}
@@ -23,8 +23,8 @@ use Rattle.vortex_statistics.specs.declared.column_statistics.ColumnStatistics.{
 use Rattle.vortex_value.specs.Equality.{same_type}
 use Rattle.vortex_value.specs.Lemmas.EqualityLaws.{same_type-Decides}
 use Rattle.vortex_value.specs.Order.{order}
-use Rattle.zone_index.specs.Form.{bytes_form}
-use Rattle.record_search.specs.Searched.{AreDescribed, AreRightForms, AreRowsOf, IsCutOf, IsRightForm}
+use Rattle.zone_index.specs.Encoding.{bytes_encoding}
+use Rattle.record_search.specs.Searched.{AreDescribed, AreRightEncodings, AreRowsOf, IsCutOf, IsRightEncoding}
 use Rattle.record_search.proofs.RowLaws.{cell_typed}
 
 -- ---- columns
@@ -85,31 +85,31 @@ cut_typed t n cells s all h right =
       upper = upper_typed t n cells h.whole.upper s.upper all h.complete.exact.upper h.complete.right.upper h.cut.upper right.upper;
     }
 
--- ---- forms
+-- ---- encodings
 
-forms_push : (k : ℕ) (cs : List ColumnType) (c : ColumnType) (rows : List (List Cell)) (ps : List (List ℕ)) (p : List ℕ) → AreRightForms k cs rows ps → IsRightForm (column_type c) (column (k + length cs) rows) p → AreRightForms k (cs ++ c ∷ []) rows (ps ++ p ∷ [])
-forms_push k [] c rows [] p h new = let e : k + 0 ≡ k = omega arith in (subst (λ (j : ℕ). IsRightForm (column_type c) (column j rows) p) e new, tt)
-forms_push k [] c rows (q ∷ ps) p h new = absurd h
-forms_push k (b ∷ cs) c rows [] p h new = absurd h
-forms_push k (b ∷ cs) c rows (q ∷ ps) p h new =
+encodings_push : (k : ℕ) (cs : List ColumnType) (c : ColumnType) (rows : List (List Cell)) (ps : List (List ℕ)) (p : List ℕ) → AreRightEncodings k cs rows ps → IsRightEncoding (column_type c) (column (k + length cs) rows) p → AreRightEncodings k (cs ++ c ∷ []) rows (ps ++ p ∷ [])
+encodings_push k [] c rows [] p h new = let e : k + 0 ≡ k = omega arith in (subst (λ (j : ℕ). IsRightEncoding (column_type c) (column j rows) p) e new, tt)
+encodings_push k [] c rows (q ∷ ps) p h new = absurd h
+encodings_push k (b ∷ cs) c rows [] p h new = absurd h
+encodings_push k (b ∷ cs) c rows (q ∷ ps) p h new =
     let e : k + suc (length cs) ≡ suc k + length cs = omega arith in
-    (h.0, forms_push (suc k) cs c rows ps p h.1 (subst (λ (j : ℕ). IsRightForm (column_type c) (column j rows) p) e new))
+    (h.0, encodings_push (suc k) cs c rows ps p h.1 (subst (λ (j : ℕ). IsRightEncoding (column_type c) (column j rows) p) e new))
 
 pub none_described : (columns : List ColumnType) (rows : List (List Cell)) (output : List ℕ) → output ≡ [] → AreDescribed (take 0 columns) rows output
-none_described columns rows output e = record { forms = []; is = e; right = tt }
+none_described columns rows output e = record { encodings = []; is = e; right = tt }
 
 pub some_column : ColumnType
 some_column = record { kind = kinds.Utf8; nullability = NonNullable }
 
 -- a column more
 pub described_more : (columns : List ColumnType) (rows : List (List Cell)) (k n : ℕ) (s : ColumnStatistics) (output new : List ℕ) → k < length columns → AreRowsOf columns rows → AreDescribed (take k columns) rows output
-    → IsCutOf n (column k rows) s → AreRight (known s) (column k rows) → IsHeldKnown (known s) → length (form (known s)) < 2 ^ 64 → new ≡ output ++ bytes_form (form (known s)) → AreDescribed (take (k + 1) columns) rows new
+    → IsCutOf n (column k rows) s → AreRight (known s) (column k rows) → IsHeldKnown (known s) → length (encoding (known s)) < 2 ^ 64 → new ≡ output ++ bytes_encoding (encoding (known s)) → AreDescribed (take (k + 1) columns) rows new
 described_more columns rows k n s output new below of before cut right held fits appended =
     let c = get_or columns k some_column in
     let more : take (k + 1) columns ≡ take k columns ++ c ∷ [] = (take_at_read columns k some_column below).1 in
     let long : length (take k columns) ≡ k = length_front columns k below in
-    let bytes = form (known s) in
-    let one : IsRightForm (column_type c) (column k rows) bytes = record {
+    let bytes = encoding (known s) in
+    let one : IsRightEncoding (column_type c) (column k rows) bytes = record {
       fits = fits;
       statistics = known s;
       held = held;
@@ -117,11 +117,11 @@ described_more columns rows k n s output new below of before cut right held fits
       typed = cut_typed (column_type c) n (column k rows) s (column_typed columns rows k some_column of below) cut right;
       right = right;
     } in
-    let here : IsRightForm (column_type c) (column (0 + length (take k columns)) rows) bytes = let e : k ≡ 0 + length (take k columns) = omega arith in subst (λ (j : ℕ). IsRightForm (column_type c) (column j rows) bytes) e one in
+    let here : IsRightEncoding (column_type c) (column (0 + length (take k columns)) rows) bytes = let e : k ≡ 0 + length (take k columns) = omega arith in subst (λ (j : ℕ). IsRightEncoding (column_type c) (column j rows) bytes) e one in
     subst (λ (cs : List ColumnType). AreDescribed cs rows new) (sym more) (record {
-      forms = before.forms ++ bytes ∷ [];
-      is = appended ∙ ap (λ (l : List ℕ). l ++ bytes_form bytes) before.is ∙ ap (λ (l : List ℕ). flat_map bytes_form before.forms ++ l) (sym (append-nil (bytes_form bytes))) ∙ sym (flat_map-append bytes_form before.forms (bytes ∷ []));
-      right = forms_push 0 (take k columns) c rows before.forms bytes before.right here;
+      encodings = before.encodings ++ bytes ∷ [];
+      is = appended ∙ ap (λ (l : List ℕ). l ++ bytes_encoding bytes) before.is ∙ ap (λ (l : List ℕ). flat_map bytes_encoding before.encodings ++ l) (sym (append-nil (bytes_encoding bytes))) ∙ sym (flat_map-append bytes_encoding before.encodings (bytes ∷ []));
+      right = encodings_push 0 (take k columns) c rows before.encodings bytes before.right here;
     })
   where
     length_front : (cs : List ColumnType) (j : ℕ) → j < length cs → length (take j cs) ≡ j
@@ -157,12 +157,12 @@ row_pushed h line (Some row) old new e is = is ∙ ap (λ (r : Option (List Cell
 pub all_described : (columns : List ColumnType) (rows : List (List Cell)) (k : ℕ) (output : List ℕ) → length columns ≤ k → AreDescribed (take k columns) rows output → AreDescribed columns rows output
 all_described columns rows k output ended h = subst (λ (cs : List ColumnType). AreDescribed cs rows output) (take_all k columns ended) h
 
--- the length of a form and the form itself, one after the other
-pub form_pushed : {T E : Type 0} (r : Result T E) (old one two bytes f : List ℕ) (n : ℕ) → one ≡ old ++ to_le_bytes w64 n → n ≡ length bytes → bytes ≡ f → two ≡ (if is_ok r then one ++ bytes else one) → OnOk r (two ≡ old ++ bytes_form f)
-form_pushed (Ok x) old one two bytes f n before count same h =
-    let whole : to_le_bytes w64 n ++ bytes ≡ bytes_form f = ap (λ (m : ℕ). to_le_bytes w64 m ++ bytes) count ∙ ap bytes_form same in
+-- the length of an encoding and the encoding itself, one after the other
+pub encoding_pushed : {T E : Type 0} (r : Result T E) (old one two bytes f : List ℕ) (n : ℕ) → one ≡ old ++ to_le_bytes w64 n → n ≡ length bytes → bytes ≡ f → two ≡ (if is_ok r then one ++ bytes else one) → OnOk r (two ≡ old ++ bytes_encoding f)
+encoding_pushed (Ok x) old one two bytes f n before count same h =
+    let whole : to_le_bytes w64 n ++ bytes ≡ bytes_encoding f = ap (λ (m : ℕ). to_le_bytes w64 m ++ bytes) count ∙ ap bytes_encoding same in
     h ∙ ap (λ (l : List ℕ). l ++ bytes) before ∙ append_assoc old (to_le_bytes w64 n) bytes ∙ ap (λ (l : List ℕ). old ++ l) whole
-form_pushed (Err e) old one two bytes f n before count same h = tt
+encoding_pushed (Err e) old one two bytes f n before count same h = tt
 
 -- ---- how many rows
 

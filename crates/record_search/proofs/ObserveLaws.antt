@@ -12,12 +12,12 @@ use Rattle.record_rows.specs.Observed.{AreFieldsObserved, IsObserved, IsStep, Is
 use Rattle.vortex_filter.specs.Formula.{cell_at}
 use Rattle.filter_pruning.specs.Pruning.{column}
 use Rattle.vortex_cells.specs.Cells.{Cell}
-use Rattle.statistics_bytes.specs.Form.{IsHeldKnown, form}
+use Rattle.statistics_bytes.specs.Encoding.{IsHeldKnown, encoding}
 use Rattle.vortex_statistics.specs.Statistics.{AreComplete, AreRight, known}
 use Rattle.vortex_statistics.specs.Truncating.{AreTruncated}
 use Rattle.vortex_statistics.specs.declared.column_statistics.ColumnStatistics.{ColumnStatistics}
 use Rattle.vortex_value.specs.Values.Content.{Content}
-use Rattle.zone_index.specs.Form.{bytes_form}
+use Rattle.zone_index.specs.Encoding.{bytes_encoding}
 use Rattle.record_search.specs.Contents.{cells_of, field_content, only_row, row_of}
 use Rattle.record_search.specs.Searched.{AreAllComplete, AreAllWith, AreDescribed, AreRowsOf, ObservesRow, PushesCut}
 use Rattle.record_search.proofs.DescribeLaws.{all_described, described_more, none_described, row_pushed, rows_more}
@@ -143,7 +143,7 @@ none_from k (s ∷ ss) t h new = (h.0, none_from (suc k) ss t h.1 new)
 pub none_more : (ss : List ColumnStatistics) (t : ColumnStatistics) → AreAllComplete 0 [] ss → AreComplete (known t) [] → AreAllComplete 0 [] (ss ++ t ∷ [])
 none_more ss t h new = none_from 0 ss t h new
 
--- ---- their forms
+-- ---- their encodings
 
 complete_split : (k : ℕ) (rows : List (List Cell)) (ss : List ColumnStatistics) (s : ColumnStatistics) → AreAllComplete k rows (ss ++ s ∷ []) → AreAllComplete k rows ss × AreComplete (known s) (column (k + length ss) rows)
 complete_split k rows [] s h = let e : k ≡ k + 0 = omega arith in (tt, subst (λ (j : ℕ). AreComplete (known s) (column j rows)) e h.0)
@@ -152,15 +152,15 @@ complete_split k rows (r ∷ ss) s h =
     let e : suc k + length ss ≡ k + suc (length ss) = omega arith in
     ((h.0, p.0), subst (λ (j : ℕ). AreComplete (known s) (column j rows)) e p.1)
 
--- the forms of the first columns' statistics describe these, for any rows that the statistics are complete for
+-- the encodings of the first columns' statistics describe these, for any rows that the statistics are complete for
 abbrev pub AreFormsOf : List ColumnType → List ColumnStatistics → List ℕ → Type 0
 AreFormsOf columns ss output = (rows : List (List Cell)) → AreRowsOf columns rows → AreAllComplete 0 rows ss → AreDescribed (take (length ss) columns) rows output
 
-pub no_forms : (columns : List ColumnType) (output : List ℕ) → output ≡ [] → AreFormsOf columns [] output
-no_forms columns output e rows are all = none_described columns rows output e
+pub no_encodings : (columns : List ColumnType) (output : List ℕ) → output ≡ [] → AreFormsOf columns [] output
+no_encodings columns output e rows are all = none_described columns rows output e
 
-pub form_more : (columns : List ColumnType) (n : ℕ) (ss : List ColumnStatistics) (s : ColumnStatistics) (output new : List ℕ) → length ss < length columns → AreFormsOf columns ss output → PushesCut n s output new → AreFormsOf columns (ss ++ s ∷ []) new
-form_more columns n ss s output new below before pushed rows are all =
+pub encoding_more : (columns : List ColumnType) (n : ℕ) (ss : List ColumnStatistics) (s : ColumnStatistics) (output new : List ℕ) → length ss < length columns → AreFormsOf columns ss output → PushesCut n s output new → AreFormsOf columns (ss ++ s ∷ []) new
+encoding_more columns n ss s output new below before pushed rows are all =
     let p = complete_split 0 rows ss s all in
     let k = length ss in
     let at : 0 + k ≡ k = omega arith in
@@ -171,12 +171,12 @@ form_more columns n ss s output new below before pushed rows are all =
 
 -- what is pushed, if it is
 pub cut_pushed : {T E : Type 0} (r : Result T E) (n : ℕ) (s cut : ColumnStatistics) (old new : List ℕ) → AreTruncated n s cut → ((cells : List Cell) → AreRight (known s) cells → AreRight (known cut) cells)
-    → OnOk r (new ≡ old ++ bytes_form (form (known cut))) → OnOk r (IsHeldKnown (known cut)) → OnOk r (length (form (known cut)) < 2 ^ 64) → OnOk r (PushesCut n s old new)
+    → OnOk r (new ≡ old ++ bytes_encoding (encoding (known cut))) → OnOk r (IsHeldKnown (known cut)) → OnOk r (length (encoding (known cut)) < 2 ^ 64) → OnOk r (PushesCut n s old new)
 cut_pushed (Ok x) n s cut old new truncated right appended held fits = record { cut = cut; truncated = truncated; right = right; held = held; fits = fits; appended = appended }
 cut_pushed (Err e) n s cut old new truncated right appended held fits = tt
 
-pub all_forms : (columns : List ColumnType) (ss : List ColumnStatistics) (output : List ℕ) → length ss ≡ length columns → AreFormsOf columns ss output → (rows : List (List Cell)) → AreRowsOf columns rows → AreAllComplete 0 rows ss → AreDescribed columns rows output
-all_forms columns ss output same h rows are all = all_described columns rows (length ss) output (omega (arith, same)) (h rows are all)
+pub all_encodings : (columns : List ColumnType) (ss : List ColumnStatistics) (output : List ℕ) → length ss ≡ length columns → AreFormsOf columns ss output → (rows : List (List Cell)) → AreRowsOf columns rows → AreAllComplete 0 rows ss → AreDescribed columns rows output
+all_encodings columns ss output same h rows are all = all_described columns rows (length ss) output (omega (arith, same)) (h rows are all)
 
 pub nothing_left : (ss : List ColumnStatistics) → length ss ≡ 0 → ss ≡ []
 nothing_left [] h = refl

@@ -10,27 +10,27 @@ use Rattle.filter_pruning.specs.Pruning.{AreStatisticsOf, column}
 use Rattle.vortex_row.specs.Laws.{KeysAreApart, ValuesHaveNoTyped}
 use Rattle.vortex_cells.specs.Cells.{Cell}
 use Rattle.vortex_statistics.specs.Statistics.{AreRight, Known}
-use Rattle.statistics_bytes.proofs.FormLaws.{reads_right}
-use Rattle.zone_index.specs.Form.{bytes_form}
+use Rattle.statistics_bytes.proofs.EncodingLaws.{reads_right}
+use Rattle.zone_index.specs.Encoding.{bytes_encoding}
 use Rattle.record_search.specs.Decoding.{after_piece, columns_in, known_before, piece_in, piece_of, statistics_in}
-use Rattle.record_search.specs.Searched.{AreDescribed, AreRightForms, IsRightForm}
+use Rattle.record_search.specs.Searched.{AreDescribed, AreRightEncodings, IsRightEncoding}
 use Rattle.record_search.proofs.DecodeLaws.{read_is}
 
-right_read : KeysAreApart → ValuesHaveNoTyped → (c : ColumnType) (cells : List Cell) (bytes : List ℕ) (s : Known) → IsRightForm (column_type c) cells bytes → statistics_in c bytes ≡ Some s → AreRight s cells
+right_read : KeysAreApart → ValuesHaveNoTyped → (c : ColumnType) (cells : List Cell) (bytes : List ℕ) (s : Known) → IsRightEncoding (column_type c) cells bytes → statistics_in c bytes ≡ Some s → AreRight s cells
 right_read apart untyped c cells bytes s h e =
     let r = read_is c bytes s e in
     (reads_right apart untyped (column_type c) bytes s r.of r.is).cells h.statistics cells h.held h.is h.typed h.right
 
-piece_again : (p rest : List ℕ) → length p < 2 ^ 64 → piece_in (bytes_form p ++ rest) ≡ Some (p, rest)
+piece_again : (p rest : List ℕ) → length p < 2 ^ 64 → piece_in (bytes_encoding p ++ rest) ≡ Some (p, rest)
 piece_again p rest fits =
     let front = to_le_bytes w64 (length p) in
-    let parts : bytes_form p ++ rest ≡ front ++ (p ++ rest) = append_assoc front p rest in
-    let many : 8 ≤ length (bytes_form p ++ rest) = let n = length-append front (p ++ rest) in let m = ap length parts in omega arith in
+    let parts : bytes_encoding p ++ rest ≡ front ++ (p ++ rest) = append_assoc front p rest in
+    let many : 8 ≤ length (bytes_encoding p ++ rest) = let n = length-append front (p ++ rest) in let m = ap length parts in omega arith in
     let enough : length p ≤ length (p ++ rest) = let n = length-append p rest in omega arith in
-    let first : take 8 (bytes_form p ++ rest) ≡ front = ap (take 8) parts ∙ take_at front (p ++ rest) 8 refl in
-    let others : drop 8 (bytes_form p ++ rest) ≡ p ++ rest = ap (drop 8) parts ∙ drop_at front (p ++ rest) 8 refl in
-    let count : from_le_bytes w64 (take 8 (bytes_form p ++ rest)) ≡ length p = ap (from_le_bytes w64) first ∙ from_le_bytes-to_le_bytes_8 (length p) fits in
-    rw (le-ltb (length (bytes_form p ++ rest)) 8 many) (ap₂ piece_of count others ∙ piece_whole (le-ltb (length (p ++ rest)) (length p) enough))
+    let first : take 8 (bytes_encoding p ++ rest) ≡ front = ap (take 8) parts ∙ take_at front (p ++ rest) 8 refl in
+    let others : drop 8 (bytes_encoding p ++ rest) ≡ p ++ rest = ap (drop 8) parts ∙ drop_at front (p ++ rest) 8 refl in
+    let count : from_le_bytes w64 (take 8 (bytes_encoding p ++ rest)) ≡ length p = ap (from_le_bytes w64) first ∙ from_le_bytes-to_le_bytes_8 (length p) fits in
+    rw (le-ltb (length (bytes_encoding p ++ rest)) 8 many) (ap₂ piece_of count others ∙ piece_whole (le-ltb (length (p ++ rest)) (length p) enough))
   where
     piece_whole : nat_lt (length (p ++ rest)) (length p) ≡ false → piece_of (length p) (p ++ rest) ≡ Some (p, rest)
     piece_whole e = rw e (ap₂ (λ (a b : List ℕ). Some (a, b)) (take_at p rest (length p) refl) (drop_at p rest (length p) refl))
@@ -52,25 +52,25 @@ no_columns : (b : Bool) (ss : List Known) → (if b then Some [] else None) ≡ 
 no_columns true ss e = cc
 no_columns false ss e = absurd cc
 
-forms_read : KeysAreApart → ValuesHaveNoTyped → (k : ℕ) (cs : List ColumnType) (rows : List (List Cell)) (ps : List (List ℕ)) (bytes : List ℕ) (ss : List Known) → bytes ≡ flat_map bytes_form ps → AreRightForms k cs rows ps → columns_in cs bytes ≡ Some ss
+encodings_read : KeysAreApart → ValuesHaveNoTyped → (k : ℕ) (cs : List ColumnType) (rows : List (List Cell)) (ps : List (List ℕ)) (bytes : List ℕ) (ss : List Known) → bytes ≡ flat_map bytes_encoding ps → AreRightEncodings k cs rows ps → columns_in cs bytes ≡ Some ss
     → (j : ℕ) (s : Known) → slice_get ss j ≡ Some s → AreRight s (column (k + j) rows)
-forms_read apart untyped k [] rows [] bytes ss is h e j s at =
+encodings_read apart untyped k [] rows [] bytes ss is h e j s at =
     let none : ss ≡ [] = no_columns (length bytes == 0) ss e in
     absurd (nothing_there j (sym (ap (λ (l : List Known). slice_get l j) none) ∙ at))
   where
     nothing_there : (i : ℕ) → slice_get {X = Known} [] i ≡ Some s → ⊥
     nothing_there i e = absurd cc
-forms_read apart untyped k [] rows (p ∷ ps) bytes ss is h e j s at = absurd h
-forms_read apart untyped k (c ∷ cs) rows [] bytes ss is h e j s at = absurd h
-forms_read apart untyped k (c ∷ cs) rows (p ∷ ps) bytes ss is h e j s at =
-    let rest = flat_map bytes_form ps in
+encodings_read apart untyped k [] rows (p ∷ ps) bytes ss is h e j s at = absurd h
+encodings_read apart untyped k (c ∷ cs) rows [] bytes ss is h e j s at = absurd h
+encodings_read apart untyped k (c ∷ cs) rows (p ∷ ps) bytes ss is h e j s at =
+    let rest = flat_map bytes_encoding ps in
     let cut : piece_in bytes ≡ Some (p, rest) = ap piece_in is ∙ piece_again p rest h.0.fits in
     let read : known_before (statistics_in c p) (columns_in cs rest) ≡ Some ss = sym (ap (λ (o : Option (List ℕ × List ℕ)). after_piece c o (λ r. columns_in cs r)) cut) ∙ e in
     let parts = split (statistics_in c p) (columns_in cs rest) ss read in
-    by_place (λ others here i at_it. forms_read apart untyped (suc k) cs rows ps rest others refl h.1 here i s at_it) parts j (sym (ap (λ (l : List Known). slice_get l j) parts.is) ∙ at)
+    by_place (λ others here i at_it. encodings_read apart untyped (suc k) cs rows ps rest others refl h.1 here i s at_it) parts j (sym (ap (λ (l : List Known). slice_get l j) parts.is) ∙ at)
   where
-    by_place : ((others : List Known) → columns_in cs (flat_map bytes_form ps) ≡ Some others → (i : ℕ) → slice_get others i ≡ Some s → AreRight s (column (suc k + i) rows))
-        → (parts : IsSplit (statistics_in c p) (columns_in cs (flat_map bytes_form ps)) ss) (i : ℕ) → slice_get (parts.first ∷ parts.rest) i ≡ Some s → AreRight s (column (k + i) rows)
+    by_place : ((others : List Known) → columns_in cs (flat_map bytes_encoding ps) ≡ Some others → (i : ℕ) → slice_get others i ≡ Some s → AreRight s (column (suc k + i) rows))
+        → (parts : IsSplit (statistics_in c p) (columns_in cs (flat_map bytes_encoding ps)) ss) (i : ℕ) → slice_get (parts.first ∷ parts.rest) i ≡ Some s → AreRight s (column (k + i) rows)
     by_place later parts zero here =
         let same : parts.first ≡ s = cc in
         let place : k ≡ k + 0 = omega arith in
@@ -82,4 +82,4 @@ forms_read apart untyped k (c ∷ cs) rows (p ∷ ps) bytes ss is h e j s at =
 pub described_right : KeysAreApart → ValuesHaveNoTyped → (cs : List ColumnType) (rows : List (List Cell)) (bytes : List ℕ) (ss : List Known) → AreDescribed cs rows bytes → columns_in cs bytes ≡ Some ss → AreStatisticsOf ss rows
 described_right apart untyped cs rows bytes ss h e k s at =
     let place : 0 + k ≡ k = omega arith in
-    subst (λ (n : ℕ). AreRight s (column n rows)) place (forms_read apart untyped 0 cs rows h.forms bytes ss h.is h.right e k s at)
+    subst (λ (n : ℕ). AreRight s (column n rows)) place (encodings_read apart untyped 0 cs rows h.encodings bytes ss h.is h.right e k s at)

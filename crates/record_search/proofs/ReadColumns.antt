@@ -27,10 +27,10 @@ pub no_piece : (columns : List ColumnType) (i : ℕ) (d : ColumnType) (front : L
 no_piece columns i d front bytes rest inside none so_far =
     sym (so_far ∙ ap (with_front front) (columns_at columns i d rest inside ∙ ap (λ (o : Option (List ℕ × List ℕ)). after_piece (get_or columns i d) o (λ r. columns_in (drop (i + 1) columns) r)) (sym none)))
 
--- the piece is no form
-pub no_form : (columns : List ColumnType) (i : ℕ) (d : ColumnType) (front : List Known) (bytes rest piece after : List ℕ) → i < length columns → Some (piece, after) ≡ piece_in rest → None ≡ statistics_in (get_or columns i d) piece
+-- the piece is no encoding
+pub no_encoding : (columns : List ColumnType) (i : ℕ) (d : ColumnType) (front : List Known) (bytes rest piece after : List ℕ) → i < length columns → Some (piece, after) ≡ piece_in rest → None ≡ statistics_in (get_or columns i d) piece
     → columns_in columns bytes ≡ with_front front (columns_in (drop i columns) rest) → None ≡ columns_in columns bytes
-no_form columns i d front bytes rest piece after inside cut none so_far =
+no_encoding columns i d front bytes rest piece after inside cut none so_far =
     let c = get_or columns i d in
     sym (so_far ∙ ap (with_front front) (columns_at columns i d rest inside ∙ ap (λ (o : Option (List ℕ × List ℕ)). after_piece c o (λ r. columns_in (drop (i + 1) columns) r)) (sym cut) ∙ ap (λ (o : Option Known). known_before o (columns_in (drop (i + 1) columns) after)) (sym none)))
 

@@ -1,4 +1,4 @@
--- The statistics whose form bytes are, computed.
+-- The statistics whose encoding bytes are, computed.
 use Rattle.std.specs.Prelude.{◌==◌, ◌&&◌, ◌+◌, ◌*◌, ◌-◌, ◌/◌, ◌%◌, ◌^◌, ℕ, zero, suc, pos, negsuc, List, [], ◌∷◌, length, take, drop, slice_index, nat_lt, Bool, true, false, Option, None, Some, if◌then◌else◌}
 use Rattle.std.specs.List.{list_all}
 use Rattle.std.specs.Int.{w64, from_le_bytes}
@@ -11,7 +11,7 @@ use Rattle.vortex_dtype.specs.TypeTree.{TypeTree, says_nullable}
 use Rattle.vortex_dtype.specs.declared.nullability.Nullability.{Nullability}
 use Rattle.vortex_pvalue.specs.Numbers.{in_range}
 use Rattle.vortex_row.specs.Keys.{inverted}
-use Rattle.statistics_bytes.specs.Form.{form}
+use Rattle.statistics_bytes.specs.Encoding.{encoding}
 use Rattle.vortex_statistics.specs.Statistics.{Known, KnownBound}
 use Rattle.vortex_value.specs.Values.Content.{Content, null, string, text, whole}
 
@@ -43,7 +43,7 @@ content_in (b ∷ rest) =
     else if nat_lt b 12 then (whole (negsuc (number_after 0 (inverted true (take (12 - b) rest)) - 1)), drop (12 - b) rest)
     else (whole (pos (number_after 0 (take (b - 12) rest))), drop (b - 12) rest)
 
--- ---- what the bytes of a form say, if they are one
+-- ---- what the bytes of an encoding say, if they are one
 
 -- a bound of which two bits say whether it is there, and exact
 abbrev pub bound_in : TypeTree → ℕ → List ℕ → Option KnownBound × List ℕ
@@ -88,11 +88,11 @@ count_fits (Some n) = nat_lt n (2 ^ 64)
 abbrev pub are_of : ColumnType → Known → Bool
 are_of column s = nat_lt s.row_count (2 ^ 64) && (count_fits s.null_count && (has_bound column s.lower && has_bound column s.upper))
 
--- the statistics of a column whose form the bytes are, if they are one
+-- the statistics of a column whose encoding the bytes are, if they are one
 abbrev pub statistics_in : ColumnType → List ℕ → Option Known
 statistics_in column bytes =
     let s = said_by (column_type column) bytes in
-    if bytes_eq (form s) bytes && are_of column s then Some s else None
+    if bytes_eq (encoding s) bytes && are_of column s then Some s else None
 
 -- ---- the statistics of all columns
 
@@ -112,7 +112,7 @@ abbrev pub after_piece : ColumnType → Option (List ℕ × List ℕ) → (List 
 after_piece column None others = None
 after_piece column (Some piece) others = known_before (statistics_in column piece.0) (others piece.1)
 
--- the statistics of each column, each form after its length, and nothing else
+-- the statistics of each column, each encoding after its length, and nothing else
 abbrev pub columns_in : List ColumnType → List ℕ → Option (List Known)
 columns_in [] bytes = if length bytes == 0 then Some [] else None
 columns_in (c ∷ cs) bytes = after_piece c (piece_in bytes) (λ rest. columns_in cs rest)

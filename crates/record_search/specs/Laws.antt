@@ -7,10 +7,10 @@ use Rattle.record_rows.specs.declared.schema.ColumnType.{ColumnType}
 use Rattle.vortex_filter.specs.Formula.{Formula}
 use Rattle.vortex_cells.specs.Cells.{cell_of}
 use Rattle.vortex_value.specs.declared.scalars.Scalar.{Scalar}
-use Rattle.statistics_bytes.specs.Form.{form}
-use Rattle.zone_index.specs.Form.{FitsForm, index_value, wanted_of}
+use Rattle.statistics_bytes.specs.Encoding.{encoding}
+use Rattle.zone_index.specs.Encoding.{FitsEncoding, index_value, wanted_of}
 use Rattle.zone_index.specs.Records.{is_same}
-use Rattle.zone_index.specs.declared.form.Index.{Index}
+use Rattle.zone_index.specs.declared.encoding.Index.{Index}
 use Rattle.zone_index.specs.declared.records.Decision.TheVariants.{AllMatch, NoneMatch}
 use Rattle.record_search.specs.Contents.{row_of}
 use Rattle.record_search.specs.Searched.{DescribeRows, IsRowIndex, decision_of, has_row, matches_record, rows_alone}
@@ -35,6 +35,6 @@ pub record DecisionsAreRight : Type 0 where
 
 -- what is read back of an index that was written is right for the bytes for which the index is, whichever columns are wanted
 abbrev pub IndexesAreReadBack : Type 0
-IndexesAreReadBack = (s : Schema) (n : ℕ) (pieces : List (List (List ℕ))) (wanted : List Bool) (written read : Index) (bytes : List ℕ) → FitsForm n (index_value written) pieces
-    → index_value read ≡ wanted_of wanted (λ rows. form (rows_alone rows)) (index_value written) pieces
+IndexesAreReadBack = (s : Schema) (n : ℕ) (pieces : List (List (List ℕ))) (wanted : List Bool) (written read : Index) (bytes : List ℕ) → FitsEncoding n (index_value written) pieces
+    → index_value read ≡ wanted_of wanted (λ rows. encoding (rows_alone rows)) (index_value written) pieces
     → IsRowIndex s written.start written.zones.items bytes → IsRowIndex s read.start read.zones.items bytes

@@ -3,12 +3,12 @@ use Rattle.std.specs.Prelude.{◌≡◌, ℕ, List, false}
 use Rattle.csv_records.specs.Records.{is_whole}
 use Rattle.csv_records.specs.Rows.{rows_of}
 use Rattle.record_rows.specs.Rows.{HasOtherCount, IsRefused}
-use Rattle.record_rows.specs.declared.faults.RowFault.{RowFault}
-use Rattle.record_rows.specs.declared.faults.RowFault.TheVariants as row_faults
-use Rattle.zone_index.specs.declared.faults.Cause.{Cause}
-use Rattle.zone_index.specs.declared.faults.Cause.TheVariants as causes
-use Rattle.zone_index.specs.declared.faults.RecordFault.{RecordFault}
-use Rattle.zone_index.specs.declared.faults.RecordFault.TheVariants as record_faults
+use Rattle.record_rows.specs.declared.errors.RowReadError.{RowReadError}
+use Rattle.record_rows.specs.declared.errors.RowReadError.TheVariants as row_faults
+use Rattle.zone_index.specs.declared.errors.Cause.{Cause}
+use Rattle.zone_index.specs.declared.errors.Cause.TheVariants as causes
+use Rattle.zone_index.specs.declared.errors.RecordError.{RecordError}
+use Rattle.zone_index.specs.declared.errors.RecordError.TheVariants as record_faults
 use Rattle.record_rows.specs.declared.schema.Schema.{Schema}
 
 -- a column does not take a word, which is told; or the record has another number of fields; or bytes stand after its row
@@ -18,7 +18,7 @@ RefusesRecord s line causes.FieldCount = HasOtherCount s.columns.items (rows_of 
 RefusesRecord s line causes.LoneReturn = is_whole s.delimiter.byte line ≡ false
 
 -- the fault of a row, of a record that begins at this place
-abbrev pub fault_at_place : ℕ → RowFault → RecordFault
+abbrev pub fault_at_place : ℕ → RowReadError → RecordError
 fault_at_place place row_faults.Memory = record_faults.Memory
 fault_at_place place (row_faults.Word column word) = record_faults.Refused (record { place = place; cause = causes.Word column word })
 fault_at_place place row_faults.FieldCount = record_faults.Refused (record { place = place; cause = causes.FieldCount })

@@ -12,14 +12,14 @@ use Rattle.filter_pruning.specs.OutcomeSets.{is_only_true}
 use Rattle.filter_pruning.specs.Pruning.{column}
 use Rattle.filter_pruning.specs.declared.outcomes.Outcomes.{Outcomes}
 use Rattle.vortex_cells.specs.Cells.{Cell, cell_of}
-use Rattle.statistics_bytes.specs.Form.{IsHeldKnown, form}
-use Rattle.statistics_bytes.specs.FormAnswers.{AreTyped}
+use Rattle.statistics_bytes.specs.Encoding.{IsHeldKnown, encoding}
+use Rattle.statistics_bytes.specs.EncodingAnswers.{AreTyped}
 use Rattle.vortex_statistics.specs.Observing.{IsCompleteWith}
 use Rattle.vortex_statistics.specs.Statistics.{AreComplete, AreRight, Known, known}
 use Rattle.vortex_statistics.specs.Truncating.{AreTruncated}
 use Rattle.vortex_statistics.specs.declared.column_statistics.ColumnStatistics.{ColumnStatistics}
 use Rattle.vortex_value.specs.declared.scalars.Scalar.{Scalar}
-use Rattle.zone_index.specs.Form.{bytes_form}
+use Rattle.zone_index.specs.Encoding.{bytes_encoding}
 use Rattle.zone_index.specs.Zones.{IsIndexOf}
 use Rattle.zone_index.specs.declared.zones.Zone.{Zone}
 use Rattle.zone_index.specs.declared.records.Decision.{Decision}
@@ -91,21 +91,21 @@ pub record IsCutOf (n : ℕ) (cells : List Cell) (s : ColumnStatistics) : Type 0
   pub complete : AreComplete (known whole) cells
   pub cut : AreTruncated n whole s
 
--- the form of statistics with bounds cut to so many bytes is appended, after its length; they are right where the whole ones are
+-- the encoding of statistics with bounds cut to so many bytes is appended, after its length; they are right where the whole ones are
 pub record PushesCut (n : ℕ) (s : ColumnStatistics) (old new : List ℕ) : Type 0 where
   pub cut : ColumnStatistics
   pub truncated : AreTruncated n s cut
   pub right : (cells : List Cell) → AreRight (known s) cells → AreRight (known cut) cells
   pub held : IsHeldKnown (known cut)
-  pub fits : length (form (known cut)) < 2 ^ 64
-  pub appended : new ≡ old ++ bytes_form (form (known cut))
+  pub fits : length (encoding (known cut)) < 2 ^ 64
+  pub appended : new ≡ old ++ bytes_encoding (encoding (known cut))
 
--- the bytes are the form of statistics of the type that are right for these cells
-pub record IsRightForm (t : TypeTree) (cells : List Cell) (bytes : List ℕ) : Type 0 where
+-- the bytes are the encoding of statistics of the type that are right for these cells
+pub record IsRightEncoding (t : TypeTree) (cells : List Cell) (bytes : List ℕ) : Type 0 where
   pub fits : length bytes < 2 ^ 64
   pub statistics : Known
   pub held : IsHeldKnown statistics
-  pub is : bytes ≡ form statistics
+  pub is : bytes ≡ encoding statistics
   pub typed : AreTyped t statistics
   pub right : AreRight statistics cells
 
@@ -113,18 +113,18 @@ pub record IsRightForm (t : TypeTree) (cells : List Cell) (bytes : List ℕ) : T
 abbrev pub rows_alone : ℕ → Known
 rows_alone rows = record { row_count = rows; null_count = None; lower = None; upper = None }
 
--- one such form for each column, from this place of a row on
-abbrev pub AreRightForms : ℕ → List ColumnType → List (List Cell) → List (List ℕ) → Type 0
-AreRightForms k [] rows [] = Unit {0}
-AreRightForms k [] rows (p ∷ ps) = ⊥
-AreRightForms k (c ∷ cs) rows [] = ⊥
-AreRightForms k (c ∷ cs) rows (p ∷ ps) = IsRightForm (column_type c) (column k rows) p × AreRightForms (suc k) cs rows ps
+-- one such encoding for each column, from this place of a row on
+abbrev pub AreRightEncodings : ℕ → List ColumnType → List (List Cell) → List (List ℕ) → Type 0
+AreRightEncodings k [] rows [] = Unit {0}
+AreRightEncodings k [] rows (p ∷ ps) = ⊥
+AreRightEncodings k (c ∷ cs) rows [] = ⊥
+AreRightEncodings k (c ∷ cs) rows (p ∷ ps) = IsRightEncoding (column_type c) (column k rows) p × AreRightEncodings (suc k) cs rows ps
 
--- the bytes are such forms, each after its length
+-- the bytes are such encodings, each after its length
 pub record AreDescribed (columns : List ColumnType) (rows : List (List Cell)) (bytes : List ℕ) : Type 0 where
-  pub forms : List (List ℕ)
-  pub is : bytes ≡ flat_map bytes_form forms
-  pub right : AreRightForms 0 columns rows forms
+  pub encodings : List (List ℕ)
+  pub is : bytes ≡ flat_map bytes_encoding encodings
+  pub right : AreRightEncodings 0 columns rows encodings
 
 -- the bytes are statistics that are right for the rows of these records
 abbrev pub DescribeRows : Schema → List ℕ → List (List ℕ) → Type 0

@@ -2,13 +2,13 @@
 pub use Rattle.record_rows.specs.Cells.{column_type}
 pub use Rattle.vortex_filter.specs.Formula.{formula}
 pub use Rattle.vortex_cells.specs.Cells.{Cell, cell_of}
-pub use Rattle.statistics_bytes.specs.Form.{IsHeldKnown, form}
+pub use Rattle.statistics_bytes.specs.Encoding.{IsHeldKnown, encoding}
 pub use Rattle.vortex_statistics.specs.Statistics.{known}
 pub use Rattle.zone_index.specs.Asking.{Asks}
-pub use Rattle.zone_index.specs.Faults.{EndsFar, IfRecordRefused, IfRefused, TellsOneOf, TellsRecord}
-pub use Rattle.zone_index.specs.Form.{bytes_form}
+pub use Rattle.zone_index.specs.Errors.{EndsFar, IfRecordRefused, IfRefused, TellsOneOf, TellsRecord}
+pub use Rattle.zone_index.specs.Encoding.{bytes_encoding}
 pub use Rattle.zone_index.specs.Zones.{IsOfZone, IsPartOfZone}
-pub use Rattle.zone_index.specs.declared.faults.SearchFault.TheVariants.{CutShort, TooFar, Write as WriteFault}
+pub use Rattle.zone_index.specs.declared.errors.SearchError.TheVariants.{CutShort, TooFar, Write as FailedWrite}
 pub use Rattle.record_search.specs.Answers.{AnswersCountRows, AnswersFindRows}
 pub use Rattle.record_search.specs.Decoding.{columns_in, piece_in, statistics_in}
 pub use Rattle.record_search.specs.Named.{AgreeAsRows}

@@ -3,7 +3,7 @@
 ghost use Rattle.std.specs.Prelude.{◌≡◌, ◌++◌, ◌<◌, ◌^◌, List, [], IfErr, IfOk, OnOk, length};
 ghost use Rattle.std.specs.Int.{to_le_bytes, w64};
 ghost use Rattle.csv_records.specs.Records.{records_of};
-ghost use Rattle.record_search.specs.Words.{AreAllComplete, AreDescribed, AreRowsOf, Cell, DescribeRows, IfRecordRefused, IsHeldKnown, ObservesRow, PushesCut, RefusesRecord, TellsOneOf, TellsRecord, bytes_form, form, has_row, known, row_under, rows_under};
+ghost use Rattle.record_search.specs.Words.{AreAllComplete, AreDescribed, AreRowsOf, Cell, DescribeRows, IfRecordRefused, IsHeldKnown, ObservesRow, PushesCut, RefusesRecord, TellsOneOf, TellsRecord, bytes_encoding, encoding, has_row, known, row_under, rows_under};
 
 use crate::schema::{Schema, record_fault};
 use csv_records::{Delimiter, cut_record};
@@ -11,7 +11,7 @@ use record_rows::observe_record;
 use statistics_bytes::append_statistics;
 use std::alloc::{AllocError, Global};
 use vortex_statistics::ColumnStatistics;
-use zone_index::{Described, Describer, RecordFault, Records};
+use zone_index::{Described, Describer, RecordError, Records};
 
 /// Describes the records of a file by their rows.
 #[derive(Clone, Copy, Debug)]
@@ -37,10 +37,10 @@ impl Records for RowDescriber<'_> {
 }
 
 impl Describer for RowDescriber<'_> {
-    fn describe(&self, alloc: Global, text: &[u8]) -> Result<Described, RecordFault> {
+    fn describe(&self, alloc: Global, text: &[u8]) -> Result<Described, RecordError> {
         let mut columns = empty_statistics(alloc, self.schema.columns.len())?;
         let (records, rows, nulls) = observe_text(alloc, self.schema, text, &mut columns)?;
-        let statistics = forms_of(alloc, self, columns)?;
+        let statistics = encodings_of(alloc, self, columns)?;
         Ok(Described {
             records,
             rows,
@@ -64,14 +64,14 @@ pub(crate) fn empty_statistics(
     Ok(all)
 }
 
-/// Observes the rows of a text, and says how many records it has, how many of them a row, and how many
-/// nulls stand in place of fields.
+/// Observes the rows of a text, and says how many records it has, how many of them a row, and how
+/// many nulls stand in place of fields.
 fn observe_text(
     alloc: Global,
     schema: &Schema,
     text: &[u8],
     statistics: &mut [ColumnStatistics],
-) -> Result<(u64, u64, u64), RecordFault>
+) -> Result<(u64, u64, u64), RecordError>
     requires many { length statistics.old ≡ length schema.now.columns.items }
     requires fresh { AreAllComplete 0 [] statistics.old }
     ensures records { IfOk result (λ read. read.0 ≡
@@ -101,8 +101,8 @@ fn observe_text(
     Ok((records, rows, nulls))
 }
 
-/// Observes the row of a record, which begins at this place, and says whether it has one, and how many
-/// nulls stand in place of fields.
+/// Observes the row of a record, which begins at this place, and says whether it has one, and how
+/// many nulls stand in place of fields.
 fn observe_line(
     alloc: Global,
     schema: &Schema,
@@ -110,7 +110,7 @@ fn observe_line(
     line: &[u8],
     buffer: &mut Vec<u8>,
     statistics: &mut [ColumnStatistics],
-) -> Result<(bool, u64), RecordFault>
+) -> Result<(bool, u64), RecordError>
     requires { length statistics.old ≡ length schema.now.columns.items }
     ensures observed { IfOk result (λ seen. ObservesRow seen.0 (row_under schema.now line.now)
         statistics.old statistics.new) }
@@ -123,8 +123,8 @@ fn observe_line(
     }
 }
 
-/// The forms of the statistics of each column, their bounds cut, each after its length.
-fn forms_of(
+/// The encodings of the statistics of each column, their bounds cut, each after its length.
+fn encodings_of(
     alloc: Global,
     describer: &RowDescriber<'_>,
     statistics: Vec<ColumnStatistics>,
@@ -141,7 +141,7 @@ fn forms_of(
     Ok(output)
 }
 
-/// Appends the form of statistics after its length, their bounds cut to so many bytes.
+/// Appends the encoding of statistics after its length, their bounds cut to so many bytes.
 fn push_cut(
     alloc: Global,
     statistics: ColumnStatistics,
@@ -151,21 +151,21 @@ fn push_cut(
     ensures { OnOk result (PushesCut length statistics output.old.items output.new.items) }
 {
     match statistics.truncate(alloc, length) {
-        Ok(cut) => push_form(alloc, &cut, output),
+        Ok(cut) => push_encoding(alloc, &cut, output),
         Err(_) => Err(AllocError),
     }
 }
 
-/// Appends the form of statistics, after its length.
-fn push_form(
+/// Appends the encoding of statistics, after its length.
+fn push_encoding(
     alloc: Global,
     statistics: &ColumnStatistics,
     output: &mut Vec<u8>,
 ) -> Result<(), AllocError>
     ensures appended { OnOk result (output.new.items ≡
-        output.old.items ++ bytes_form (form (known statistics.now))) }
+        output.old.items ++ bytes_encoding (encoding (known statistics.now))) }
     ensures held { OnOk result (IsHeldKnown (known statistics.now)) }
-    ensures fits { OnOk result (length (form (known statistics.now)) < 2 ^ 64) }
+    ensures fits { OnOk result (length (encoding (known statistics.now)) < 2 ^ 64) }
 {
     let mut bytes = Vec::new(alloc);
     match append_statistics(statistics, &mut bytes) {

@@ -12,7 +12,7 @@ use filter_pruning::{Outcomes, outcomes_of};
 use std::alloc::{AllocError, Global};
 use vortex_filter::Filter;
 use vortex_value::Scalar;
-use zone_index::{Decision, Matcher, RecordFault, Records};
+use zone_index::{Decision, Matcher, RecordError, Records};
 
 /// A filter over the rows of a file.
 #[derive(Clone, Copy, Debug)]
@@ -53,7 +53,7 @@ impl Matcher for RowFilter<'_> {
         alloc: Global,
         scratch: &mut Vec<Scalar>,
         line: &[u8],
-    ) -> Result<bool, RecordFault> {
+    ) -> Result<bool, RecordError> {
         let wanted = named_columns(self.filter);
         let has_row = cells_of_record(alloc, self.schema, 0, &wanted, line, scratch)?;
         if has_row {

@@ -9,7 +9,7 @@ use statistics_bytes::decode_statistics_into;
 use std::alloc::{AllocError, Global};
 use vortex_statistics::{ColumnStatistics, StatisticsError};
 
-/// The statistics of each column, where the bytes are their forms, each after its length.
+/// The statistics of each column, where the bytes are their encodings, each after its length.
 pub fn read_statistics(
     alloc: Global,
     columns: &[ColumnType],
@@ -26,8 +26,8 @@ pub fn read_statistics(
     }
 }
 
-/// Puts the statistics of each column in the place of these. Whether the bytes are their forms; if
-/// not, these may say anything.
+/// Puts the statistics of each column in the place of these. Whether the bytes are their encodings;
+/// if not, these may say anything.
 fn read_all(
     alloc: Global,
     columns: &[ColumnType],
@@ -43,8 +43,8 @@ fn read_all(
         let Some((piece, after)) = cut_piece(rest) else {
             return Ok(false);
         };
-        let is_form = read_column(alloc, columns[place], piece, &mut all[place])?;
-        if !is_form {
+        let is_encoding = read_column(alloc, columns[place], piece, &mut all[place])?;
+        if !is_encoding {
             return Ok(false);
         }
         rest = after;
@@ -69,8 +69,8 @@ fn cut_piece(bytes: &[u8]) -> Option<(&[u8], &[u8])>
     Some(rest.split_at(length))
 }
 
-/// Puts the statistics of a column in the place of these, which spares the moves of a result. Whether
-/// the bytes are their form; if not, these may say anything.
+/// Puts the statistics of a column in the place of these, which spares the moves of a result.
+/// Whether the bytes are their encoding; if not, these may say anything.
 fn read_column(
     alloc: Global,
     column: ColumnType,

@@ -4,10 +4,10 @@ ghost use Rattle.std.specs.Prelude.{◌≡◌, None, Some, IfErr, IfOk, if◌the
 ghost use Rattle.record_search.specs.Words.{AgreeAsRows, IfRecordRefused, RefusesRecord, TellsRecord, cell_of, fault_at_place, row_cells, row_under};
 
 pub use record_rows::Schema;
-use record_rows::{RowFault, read_cells, read_row};
+use record_rows::{RowReadError, read_cells, read_row};
 use std::alloc::Global;
 use vortex_value::Scalar;
-use zone_index::{Cause, RecordFault, Refusal};
+use zone_index::{Cause, RecordError, Refusal};
 
 /// The row of a record, which stands at this place; `None` where it has none, as an empty line.
 /// `Refused` where the columns do not take it.
@@ -16,7 +16,7 @@ pub fn row_of_record(
     schema: &Schema,
     place: u64,
     line: &[u8],
-) -> Result<Option<Vec<Scalar>>, RecordFault>
+) -> Result<Option<Vec<Scalar>>, RecordError>
     ensures row { IfOk result (λ row. option_map row_cells row ≡ row_under schema.now line.now) }
     ensures refused { IfErr result (IfRecordRefused (TellsRecord (RefusesRecord schema.now) place line.now)) }
 {
@@ -37,7 +37,7 @@ pub(crate) fn cells_of_record(
     wanted: &[bool],
     line: &[u8],
     row: &mut Vec<Scalar>,
-) -> Result<bool, RecordFault>
+) -> Result<bool, RecordError>
     ensures row { IfOk result (λ has. AgreeAsRows wanted.now
         (if has then Some (map cell_of row.new.items) else None) (row_under schema.now line.now)) }
     ensures refused { IfErr result (IfRecordRefused (TellsRecord (RefusesRecord schema.now) place line.now)) }
@@ -50,17 +50,17 @@ pub(crate) fn cells_of_record(
 }
 
 /// The fault of a record that stands at this place.
-pub(crate) fn record_fault(place: u64, fault: RowFault) -> RecordFault
+pub(crate) fn record_fault(place: u64, fault: RowReadError) -> RecordError
     ensures { result ≡ fault_at_place place fault }
 {
     let cause = match fault {
-        RowFault::Memory => return RecordFault::Memory,
-        RowFault::Word { column, word } => Cause::Word {
+        RowReadError::Memory => return RecordError::Memory,
+        RowReadError::Word { column, word } => Cause::Word {
             column: column as u64,
             word,
         },
-        RowFault::FieldCount => Cause::FieldCount,
-        RowFault::LoneReturn => Cause::LoneReturn,
+        RowReadError::FieldCount => Cause::FieldCount,
+        RowReadError::LoneReturn => Cause::LoneReturn,
     };
-    RecordFault::Refused(Refusal { place, cause })
+    RecordError::Refused(Refusal { place, cause })
 }

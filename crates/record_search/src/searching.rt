@@ -1,7 +1,7 @@
 //! Rows are indexed, found and counted.
 
 ghost use Rattle.std.specs.Prelude.{◌≡◌, ◌≢◌, ◌<◌, ◌++◌, ℕ, List, Some, IfErr, IfOk, length};
-ghost use Rattle.record_search.specs.Words.{AnswersCountRows, AnswersFindRows, Asks, CutShort, EndsFar, IfRefused, IsOfZone, IsPartOfZone, IsRowIndex, RefusesRecord, TellsOneOf, TooFar, WriteFault, columns_of, decision_of, formula, records_under};
+ghost use Rattle.record_search.specs.Words.{AnswersCountRows, AnswersFindRows, Asks, CutShort, EndsFar, IfRefused, IsOfZone, IsPartOfZone, IsRowIndex, RefusesRecord, TellsOneOf, TooFar, FailedWrite, columns_of, decision_of, formula, records_under};
 
 use crate::describing::RowDescriber;
 use crate::filtering::RowFilter;
@@ -9,7 +9,7 @@ use crate::schema::Schema;
 use std::alloc::Global;
 use std::io::BufRead;
 use vortex_filter::Filter;
-use zone_index::{Indexed, ReadAt, SearchFault, Sink, Tally, Zone, count, find, index_records};
+use zone_index::{Indexed, ReadAt, SearchError, Sink, Tally, Zone, count, find, index_records};
 
 /// The zones of all records that a reader has left, so many records in each, the last one fewer.
 /// The first byte that is left stands at `start` in the file.
@@ -21,12 +21,12 @@ pub fn index_rows<B: BufRead>(
     size: u64,
     start: u64,
     reader: &mut B,
-) -> Result<Indexed, SearchFault>
+) -> Result<Indexed, SearchError>
     requires { 0 < size }
     ensures right { IfOk result (λ indexed. (before bytes : List ℕ) → length before ≡ start
         → B.remaining reader.old ≡ Some bytes
         → IsRowIndex describer.now.schema.now start indexed.zones.items (before ++ bytes)) }
-    ensures reading { IfErr result (λ fault. fault ≢ WriteFault) }
+    ensures reading { IfErr result (λ fault. fault ≢ FailedWrite) }
     ensures uncut { IfErr result (λ fault. fault ≢ CutShort) }
     ensures far { IfErr result (λ fault. fault ≡ TooFar → EndsFar start (B.remaining reader.old)) }
     // The record that is told is one of those, and begins there.
@@ -37,8 +37,9 @@ pub fn index_rows<B: BufRead>(
     index_records(alloc, size, start, describer, reader)
 }
 
-/// Gives a sink the records of a file on whose row the filter is True, in order, and writes them. The
-/// first record has the number `first`. Only the zones are read that may have one by their statistics.
+/// Gives a sink the records of a file on whose row the filter is True, in order, and writes them.
+/// The first record has the number `first`. Only the zones are read that may have one by their
+/// statistics.
 pub fn find_rows<R: ReadAt, S: Sink>(
     alloc: Global,
     schema: &Schema,
@@ -47,7 +48,7 @@ pub fn find_rows<R: ReadAt, S: Sink>(
     first: u64,
     reader: &mut R,
     sink: &mut S,
-) -> Result<Tally, SearchFault>
+) -> Result<Tally, SearchError>
     ensures answer { AnswersFindRows schema.now (formula filter.now) S.written_as first zones.now
         (R.bytes reader.old) (S.contents sink.old) (S.contents sink.new) result }
     // All that the reader was asked for stands in zones that are not skipped.
@@ -64,15 +65,15 @@ pub fn find_rows<R: ReadAt, S: Sink>(
     )
 }
 
-/// How many records of a file have a row on which the filter is True. A zone is counted unread where
-/// its statistics decide of each row.
+/// How many records of a file have a row on which the filter is True. A zone is counted unread
+/// where its statistics decide of each row.
 pub fn count_rows<R: ReadAt>(
     alloc: Global,
     schema: &Schema,
     filter: &Filter,
     zones: &[Zone],
     reader: &mut R,
-) -> Result<u64, SearchFault>
+) -> Result<u64, SearchError>
     ensures answer { AnswersCountRows schema.now (formula filter.now) zones.now (R.bytes reader.old) result }
     // All that the reader was asked for stands in zones whose statistics decide nothing.
     ensures asks { Asks (IsPartOfZone (decision_of (columns_of schema.now) (formula filter.now)) zones.now)

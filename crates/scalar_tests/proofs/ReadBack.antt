@@ -1,6 +1,6 @@
--- What is read back of a form, or why it is not.
+-- What is read back of an encoding, or why it is not.
 use Rattle.std.proofs.Common.{◌≡◌, IfErr, IfOk, Ok, Err, Result}
-use Rattle.statistics_bytes.specs.FormAnswers.{ReadsAs}
+use Rattle.statistics_bytes.specs.EncodingAnswers.{ReadsAs}
 use Rattle.vortex_statistics.specs.Statistics.{Known, known}
 use Rattle.vortex_statistics.specs.declared.column_statistics.ColumnStatistics.{ColumnStatistics}
 use Rattle.vortex_statistics.specs.declared.error.StatisticsError.{StatisticsError}

@@ -12,7 +12,7 @@ ghost use Rattle.arrow_columns.specs.Bitmaps.{bitmap_length};
 ghost use Rattle.column_keys.specs.Types.{types_of_codes};
 
 use column_keys::laws::columns_come_back;
-use column_keys::{KeysFault, column_of_keys};
+use column_keys::{KeysError, column_of_keys};
 use std::alloc::Global;
 
 /// Reads a column back as `column_of_keys` does. If the keys are those of a table's rows, then the
@@ -27,7 +27,7 @@ pub fn read_back(
     validity_room: &mut [u8],
     values_room: &mut [u8],
     offsets_room: &mut [u64],
-) -> Result<usize, KeysFault>
+) -> Result<usize, KeysError>
     ensures { IfOk result (λ count. (table : List (List Content)) (rows : ℕ)
         → AreColumnsOf (types_of_codes kinds.now) rows table
         → AreRowKeys (map options_in options.now) table rows offsets.now bytes.now

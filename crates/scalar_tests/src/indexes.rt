@@ -1,8 +1,8 @@
 //! An index that is kept as bytes.
 
 ghost use Rattle.std.specs.Prelude.{◌≡◌, ℕ, List, IfOk, map};
-ghost use Rattle.zone_index.specs.Form.{FitsForm, IndexValue, index_form, index_value, wanted_of};
-ghost use Rattle.statistics_bytes.specs.Form.{form};
+ghost use Rattle.zone_index.specs.Encoding.{FitsEncoding, IndexValue, index_encoding, index_value, wanted_of};
+ghost use Rattle.statistics_bytes.specs.Encoding.{encoding};
 ghost use Rattle.record_search.specs.Searched.{IsRowIndex, rows_alone};
 ghost use Rattle.record_rows.specs.declared.schema.Schema.{Schema};
 
@@ -28,11 +28,11 @@ pub fn there_and_back(
     Ok(read_wanted(alloc, &bytes, wanted))
 }
 
-/// The index whose form these bytes are, with the statistics of the columns that are wanted.
+/// The index whose encoding these bytes are, with the statistics of the columns that are wanted.
 fn read_wanted(alloc: Global, bytes: &[u8], wanted: &[bool]) -> Result<Index, ReadError>
     ensures { IfOk result (λ kept. (n : ℕ) (x : IndexValue) (pieces : List (List (List ℕ)))
-        → FitsForm n x pieces → bytes.now ≡ index_form n x pieces
-        → index_value kept ≡ wanted_of wanted.now (λ rows. form (rows_alone rows)) x pieces) }
+        → FitsEncoding n x pieces → bytes.now ≡ index_encoding n x pieces
+        → index_value kept ≡ wanted_of wanted.now (λ rows. encoding (rows_alone rows)) x pieces) }
 {
     let (root, blocks) = read_root(alloc, bytes)?;
     read_blocks(root, blocks, wanted, &RowsAlone)

@@ -2,35 +2,35 @@
 
 ghost use Rattle.std.specs.Prelude.{◌≡◌, ◌↔◌, ℕ, IfOk, map, true};
 ghost use Rattle.vortex_filter.specs.FilterLiterals.{AreValid, exactly_of, literals_of};
-ghost use Rattle.filter_form.specs.Answers.{ReadsAs};
-ghost use Rattle.filter_form.specs.Form.{HasForm, Prepared, form, prepared};
+ghost use Rattle.filter_encoding.specs.Answers.{ReadsAs};
+ghost use Rattle.filter_encoding.specs.Encoding.{HasEncoding, Prepared, encoding, prepared};
 
-use filter_form::laws::forms_are_apart;
-use filter_form::{FilterFormError, PreparedFilter, append_filter, read_filter};
+use filter_encoding::laws::encodings_are_apart;
+use filter_encoding::{FilterEncodingError, PreparedFilter, append_filter, read_filter};
 use std::alloc::Global;
 use vortex_filter::laws::formulas_say_literals;
 
 /// Whether two prepared filters, of which these are the bytes, say the same: the same types of
 /// columns and the same filter.
 pub fn are_same(one: &[u8], other: &[u8]) -> bool
-    ensures { (m n : ℕ) (p q : Prepared) → HasForm m p → HasForm n q
-        → one.now ≡ form p → other.now ≡ form q
+    ensures { (m n : ℕ) (p q : Prepared) → HasEncoding m p → HasEncoding n q
+        → one.now ≡ encoding p → other.now ≡ encoding q
         → (result ≡ true) ↔ (p ≡ q) }
 {
-    forms_are_apart();
+    encodings_are_apart();
     one == other
 }
 
 /// A prepared filter that is written as bytes and read back. What is read says the same, if the
-/// filter has a form. Valid literals come back as they were: each with its type and its raw value,
-/// the `PType` of an integer included.
+/// filter has an encoding. Valid literals come back as they were: each with its type and its raw
+/// value, the `PType` of an integer included.
 pub fn there_and_back(
     alloc: Global,
     depth: usize,
     given: &PreparedFilter,
-) -> Result<PreparedFilter, FilterFormError>
-    ensures same { HasForm depth (prepared given.now) → ReadsAs (prepared given.now) result }
-    ensures literals { HasForm depth (prepared given.now) → AreValid (literals_of given.now.filter)
+) -> Result<PreparedFilter, FilterEncodingError>
+    ensures same { HasEncoding depth (prepared given.now) → ReadsAs (prepared given.now) result }
+    ensures literals { HasEncoding depth (prepared given.now) → AreValid (literals_of given.now.filter)
         → IfOk result (λ kept.
         map exactly_of (literals_of kept.filter) ≡ map exactly_of (literals_of given.now.filter)) }
 {

@@ -4,7 +4,7 @@ ghost use Rattle.std.specs.Prelude.{◌≡◌, IfOk};
 ghost use Rattle.vortex_filter.specs.Formula.{formula};
 ghost use Rattle.record_search.specs.Searched.{matches_record};
 
-use record_rows::{RowFault, Schema, read_row};
+use record_rows::{RowReadError, Schema, read_row};
 use record_search::laws::rows_are_read;
 use std::alloc::Global;
 use vortex_filter::Filter;
@@ -16,7 +16,7 @@ pub fn matches_line(
     schema: &Schema,
     filter: &Filter,
     line: &[u8],
-) -> Result<bool, RowFault>
+) -> Result<bool, RowReadError>
     ensures { IfOk result (λ matches. matches ≡ matches_record schema.now (formula filter.now) line.now) }
 {
     rows_are_read();

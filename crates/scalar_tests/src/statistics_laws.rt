@@ -1,16 +1,16 @@
-//! What callers derive of statistics from the contracts and the laws alone: pieces that are reduced in
-//! two groupings, and statistics that are written, read back and merged.
+//! What callers derive of statistics from the contracts and the laws alone: pieces that are reduced
+//! in two groupings, and statistics that are written, read back and merged.
 
 ghost use Rattle.std.specs.Prelude.{◌≡◌, ◌++◌, List, IfErr, IfOk, map, true};
 ghost use Rattle.vortex_dtype.specs.TypeOf.{type_of};
 ghost use Rattle.vortex_cells.specs.Cells.{Cell};
-ghost use Rattle.statistics_bytes.specs.Form.{AreOf, IsHeldKnown, IsUntypedBound, SaySame, form};
-ghost use Rattle.statistics_bytes.specs.FormAnswers.{retyped};
+ghost use Rattle.statistics_bytes.specs.Encoding.{AreOf, IsHeldKnown, IsUntypedBound, SaySame, encoding};
+ghost use Rattle.statistics_bytes.specs.EncodingAnswers.{retyped};
 ghost use Rattle.vortex_statistics.specs.Statistics.{AreRight, Known, known};
 ghost use Rattle.vortex_statistics.specs.declared.error.StatisticsError.TheVariants.{OutOfMemory};
 ghost use Rattle.scalar_tests.specs.Pieces.{AreRightForThree};
 
-use statistics_bytes::laws::forms_are_apart;
+use statistics_bytes::laws::encodings_are_apart;
 use statistics_bytes::{append_statistics, decode_statistics};
 use std::alloc::Global;
 use vortex_dtype::DType;
@@ -99,7 +99,7 @@ pub fn merge_written(
     second: &[u8],
 ) -> Result<ColumnStatistics, StatisticsError>
     ensures { IfOk result (λ both. (s t : Known) (cells others : List Cell)
-        → IsHeldKnown s → IsHeldKnown t → first.now ≡ form s → second.now ≡ form t
+        → IsHeldKnown s → IsHeldKnown t → first.now ≡ encoding s → second.now ≡ encoding t
         → AreRight s cells → AreRight t others
         → AreRight (known both) (map (retyped (type_of dtype.now)) (cells ++ others))) }
 {
@@ -113,12 +113,13 @@ pub fn merge_written(
     }
 }
 
-/// Whether the bytes are the same: then, if they are the forms of statistics, these say the same.
+/// Whether the bytes are the same: then, if they are the encodings of statistics, these say the
+/// same.
 pub fn say_the_same(first: &[u8], second: &[u8]) -> bool
     ensures { result ≡ true → (s t : Known) → IsHeldKnown s → IsHeldKnown t
         → IsUntypedBound s.lower → IsUntypedBound s.upper
-        → first.now ≡ form s → second.now ≡ form t → SaySame s t }
+        → first.now ≡ encoding s → second.now ≡ encoding t → SaySame s t }
 {
-    forms_are_apart();
+    encodings_are_apart();
     first == second
 }

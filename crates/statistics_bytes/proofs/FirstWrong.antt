@@ -4,7 +4,7 @@ use Rattle.std.proofs.Math.Nat.{add-suc}
 use Rattle.std.proofs.Math.Seq.{take-append-add, take-append_seam}
 use Rattle.std.proofs.lemmas.List.{append-nil, append_assoc, take-append-drop}
 use Rattle.vortex_row.specs.Decoded.{IsFirstBad, MayBegin}
-use Rattle.statistics_bytes.specs.FormAnswers.{IsFirstWrong, MayGoOn}
+use Rattle.statistics_bytes.specs.EncodingAnswers.{IsFirstWrong, MayGoOn}
 
 -- after front come just the strings of Rest
 pub record Follow (front : List ℕ) (Is Rest : List ℕ → Type 0) : Type 0 where

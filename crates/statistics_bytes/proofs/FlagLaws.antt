@@ -1,12 +1,12 @@
 -- The byte of flags says what it was made of.
 use Rattle.std.proofs.Common.{◌≡◌, ℕ, ◌/◌, ◌%◌, ◌<◌, ◌==◌, Bool, true, false, if◌then◌else◌, Option, Some, None, is_some, refl, sym, ap, ◌∙◌, arith}
 use Rattle.std.proofs.lemmas.Bool.{eqb-false, eqb-true}
-use Rattle.statistics_bytes.specs.Form.{bound_flags, count_flag, flags}
+use Rattle.statistics_bytes.specs.Encoding.{bound_flags, count_flag, flags}
 use Rattle.vortex_statistics.specs.Statistics.{Known, KnownBound}
 use Rattle.statistics_bytes.specs.declared.flags.BoundState.{BoundState}
 use Rattle.statistics_bytes.specs.declared.flags.BoundState.TheVariants.{Missing, Inexact, Exact}
 use Rattle.statistics_bytes.specs.declared.flags.Flags.{Flags}
-use Rattle.statistics_bytes.specs.FormSteps.{flag_bit, flags_byte, flags_of, state_at, state_bits, state_of}
+use Rattle.statistics_bytes.specs.EncodingSteps.{flag_bit, flags_byte, flags_of, state_at, state_bits, state_of}
 
 bits_below_4 : (s : BoundState) → state_bits s < 4
 bits_below_4 Missing = omega arith

@@ -1,9 +1,9 @@
--- What comes first in a form, the version, the flags and the counts, says the flags and the counts.
+-- What comes first in an encoding, the version, the flags and the counts, says the flags and the counts.
 use Rattle.std.proofs.Common.{◌≡◌, ℕ, ◌<◌, ◌^◌, List, [], ◌∷◌, ◌++◌, length, Option, Some, None, IfSome, is_some, refl, sym, ap, ap₂, ◌∙◌, arith}
 use Rattle.std.proofs.lemmas.Bool.{false≢true}
 use Rattle.std.proofs.lemmas.List.{append_assoc}
-use Rattle.statistics_bytes.specs.Form.{bound_bytes, count_bytes, form, known_count_bytes}
-use Rattle.statistics_bytes.specs.FormSteps.{flags_byte, flags_of}
+use Rattle.statistics_bytes.specs.Encoding.{bound_bytes, count_bytes, encoding, known_count_bytes}
+use Rattle.statistics_bytes.specs.EncodingSteps.{flags_byte, flags_of}
 use Rattle.vortex_statistics.specs.Statistics.{Known}
 use Rattle.statistics_bytes.specs.declared.flags.Flags.{Flags}
 use Rattle.statistics_bytes.proofs.CountBytes.{big_endian-length, counts-apart}
@@ -62,6 +62,6 @@ heads-apart f g m n p q xs ys h k e =
     let nulls = known_then p q xs ys (h.known ∙ ap (λ x. x.has_null_count) same ∙ sym k.known) h.nulls_fit k.nulls_fit rows.1 in
     (same, rows.0, nulls.0, nulls.1)
 
--- a form begins so
-pub form-head : (s : Known) → form s ≡ head_bytes (flags_of s) s.row_count s.null_count ++ (bound_bytes s.lower ++ bound_bytes s.upper)
-form-head s = ap₂ (λ b bs. 1 ∷ b ∷ bs) (flags-byte s) (sym (append_assoc (count_bytes s.row_count) (known_count_bytes s.null_count) (bound_bytes s.lower ++ bound_bytes s.upper)))
+-- an encoding begins so
+pub encoding-head : (s : Known) → encoding s ≡ head_bytes (flags_of s) s.row_count s.null_count ++ (bound_bytes s.lower ++ bound_bytes s.upper)
+encoding-head s = ap₂ (λ b bs. 1 ∷ b ∷ bs) (flags-byte s) (sym (append_assoc (count_bytes s.row_count) (known_count_bytes s.null_count) (bound_bytes s.lower ++ bound_bytes s.upper)))

@@ -1,4 +1,4 @@
--- The keys of bounds: what begins with two of them goes on alike, and a form goes on with them after its counts.
+-- The keys of bounds: what begins with two of them goes on alike, and an encoding goes on with them after its counts.
 use Rattle.std.proofs.Common.{◌≡◌, ℕ, Bool, true, false, List, [], ◌++◌, Option, Some, None, refl, sym, ap, ap₂, subst, ◌∙◌}
 use Rattle.std.proofs.lemmas.Bool.{false≢true}
 use Rattle.std.proofs.lemmas.List.{append-nil}
@@ -9,15 +9,15 @@ use Rattle.vortex_row.specs.Columns.{key_with}
 use Rattle.vortex_row.specs.Decoded.{IsFirstBad, IsKeyOf}
 use Rattle.vortex_row.specs.Keys.{key}
 use Rattle.vortex_row.specs.Laws.{KeysAreApart, ValuesHaveNoTyped}
-use Rattle.statistics_bytes.specs.Form.{IsBoundOf, IsFormOf, bound_bytes}
-use Rattle.statistics_bytes.specs.FormAnswers.{IsFirstWrong}
-use Rattle.statistics_bytes.specs.FormSteps.{AreBoundKeys, IsBoundKey, IsKeyIn, ascending, flags_of, is_there, state_at, state_of}
+use Rattle.statistics_bytes.specs.Encoding.{IsBoundOf, IsEncodingOf, bound_bytes}
+use Rattle.statistics_bytes.specs.EncodingAnswers.{IsFirstWrong}
+use Rattle.statistics_bytes.specs.EncodingSteps.{AreBoundKeys, IsBoundKey, IsKeyIn, ascending, flags_of, is_there, state_at, state_of}
 use Rattle.vortex_statistics.specs.Statistics.{Known, KnownBound}
 use Rattle.statistics_bytes.specs.declared.flags.BoundState.{BoundState}
 use Rattle.statistics_bytes.specs.declared.flags.BoundState.TheVariants.{Missing, Inexact, Exact}
 use Rattle.statistics_bytes.specs.declared.flags.Flags.{Flags}
 use Rattle.statistics_bytes.proofs.FirstWrong.{Follow, where_bad}
-use Rattle.statistics_bytes.proofs.HeadLaws.{IsHead, form-head, head_bytes, heads-apart}
+use Rattle.statistics_bytes.proofs.HeadLaws.{IsHead, encoding-head, head_bytes, heads-apart}
 
 pub key-ascending : (c : Content) → key_with ascending c ≡ key c
 key-ascending null = refl
@@ -82,10 +82,10 @@ flags_made has lower upper f e g h =
     let made : Bool → BoundState → BoundState → Flags = λ n l u. record { has_null_count = n; lower = l; upper = u } in
     ap (λ n. made n lower upper) e ∙ ap (λ l. made f.has_null_count l upper) g ∙ ap (λ u. made f.has_null_count f.lower u) h
 
-pub after_head : (t : TypeTree) (f : Flags) (rows : ℕ) (nulls : Option ℕ) → IsHead f rows nulls → Follow (head_bytes f rows nulls) (IsFormOf t) (AreBoundKeys t f.lower f.upper)
+pub after_head : (t : TypeTree) (f : Flags) (rows : ℕ) (nulls : Option ℕ) → IsHead f rows nulls → Follow (head_bytes f rows nulls) (IsEncodingOf t) (AreBoundKeys t f.lower f.upper)
 after_head t f rows nulls head = record { join = join; split = split }
   where
-    join : (q : List ℕ) → AreBoundKeys t f.lower f.upper q → IsFormOf t (head_bytes f rows nulls ++ q)
+    join : (q : List ℕ) → AreBoundKeys t f.lower f.upper q → IsEncodingOf t (head_bytes f rows nulls ++ q)
     join q h =
         let l = bound_from t f.lower h.first h.is_lower in
         let u = bound_from t f.upper h.second h.is_upper in
@@ -94,14 +94,14 @@ after_head t f rows nulls head = record { join = join; split = split }
         record {
           statistics = s;
           of_type = record { rows = head.rows_fit; nulls = head.nulls_fit; lower = l.1; upper = u.1 };
-          is = ap₂ (λ g xs. head_bytes g rows nulls ++ xs) (sym same) (h.is ∙ ap₂ (λ a b. a ++ b) (sym l.3) (sym u.3)) ∙ sym (form-head s);
+          is = ap₂ (λ g xs. head_bytes g rows nulls ++ xs) (sym same) (h.is ∙ ap₂ (λ a b. a ++ b) (sym l.3) (sym u.3)) ∙ sym (encoding-head s);
         }
 
-    split : (q : List ℕ) → IsFormOf t (head_bytes f rows nulls ++ q) → AreBoundKeys t f.lower f.upper q
+    split : (q : List ℕ) → IsEncodingOf t (head_bytes f rows nulls ++ q) → AreBoundKeys t f.lower f.upper q
     split q h =
         let s = h.statistics in
         let made : IsHead (flags_of s) s.row_count s.null_count = record { rows_fit = h.of_type.rows; nulls_fit = h.of_type.nulls; known = refl } in
-        let w = heads-apart f (flags_of s) rows s.row_count nulls s.null_count q (bound_bytes s.lower ++ bound_bytes s.upper) head made (h.is ∙ form-head s) in
+        let w = heads-apart f (flags_of s) rows s.row_count nulls s.null_count q (bound_bytes s.lower ++ bound_bytes s.upper) head made (h.is ∙ encoding-head s) in
         record {
           first = bound_bytes s.lower;
           second = bound_bytes s.upper;

@@ -1,7 +1,7 @@
 pub mod CountBytes
 pub mod FirstWrong
 pub mod FlagLaws
-pub mod FormLaws
+pub mod EncodingLaws
 pub mod HeadLaws
 pub mod KeyBounds
 pub mod ReadSteps

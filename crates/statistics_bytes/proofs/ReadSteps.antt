@@ -1,4 +1,4 @@
--- What is read of a form, part by part, and where its bytes are wrong.
+-- What is read of an encoding, part by part, and where its bytes are wrong.
 use Rattle.std.proofs.Common.{◌≡◌, inl, inr, ℕ, zero, suc, ◌+◌, ◌<◌, ◌≤◌, Bool, true, false, List, [], ◌∷◌, ◌++◌, length, length-append, drop, get_or, Option, Some, None, IfErr, Ok, Err, Result, refl, sym, ap, subst, ◌∙◌, arith}
 use Rattle.std.specs.Prelude.{OnOk}
 use Rattle.std.proofs.Math.Nat.{suc-add, zero-add}
@@ -14,9 +14,9 @@ use Rattle.vortex_row.specs.Held.{AreBytes}
 use Rattle.vortex_row.specs.Keys.{key}
 use Rattle.vortex_row.specs.Laws.{KeysAreApart, ValuesHaveNoTyped}
 use Rattle.vortex_row.specs.declared.options.SortOptions.{SortOptions}
-use Rattle.statistics_bytes.specs.Form.{AreOf, IsBoundOf, IsFormOf, bound_bytes, count_bytes, form, known_count_bytes}
-use Rattle.statistics_bytes.specs.FormAnswers.{HasValues, IsFirstWrong, ReadsInto, ReadsRight, SaysBound}
-use Rattle.statistics_bytes.specs.FormSteps.{AreBoundKeys, IsBadBound, IsBadForm, IsBoundKey, IsBoundReadAt, IsCountsRead, IsRefusal, IsWrongStart, ascending, counts_length, either_there, flags_byte, flags_of, has_bound, is_there, state_at, state_of}
+use Rattle.statistics_bytes.specs.Encoding.{AreOf, IsBoundOf, IsEncodingOf, bound_bytes, count_bytes, encoding, known_count_bytes}
+use Rattle.statistics_bytes.specs.EncodingAnswers.{HasValues, IsFirstWrong, ReadsInto, ReadsRight, SaysBound}
+use Rattle.statistics_bytes.specs.EncodingSteps.{AreBoundKeys, IsBadBound, IsBadEncoding, IsBoundKey, IsBoundReadAt, IsCountsRead, IsRefusal, IsWrongStart, ascending, counts_length, either_there, flags_byte, flags_of, has_bound, is_there, state_at, state_of}
 use Rattle.vortex_statistics.specs.Statistics.{Known, KnownBound, known, known_bound}
 use Rattle.vortex_statistics.specs.declared.column_statistics.ColumnStatistics.{ColumnStatistics}
 use Rattle.vortex_statistics.specs.declared.error.StatisticsError.{StatisticsError}
@@ -25,8 +25,8 @@ use Rattle.statistics_bytes.specs.declared.flags.BoundState.{BoundState}
 use Rattle.statistics_bytes.specs.declared.flags.BoundState.TheVariants.{Missing, Inexact, Exact}
 use Rattle.statistics_bytes.specs.declared.flags.Flags.{Flags}
 use Rattle.statistics_bytes.proofs.FirstWrong.{after_front, where_more}
-use Rattle.statistics_bytes.proofs.FormLaws.{read_back, reads_right}
-use Rattle.statistics_bytes.proofs.HeadLaws.{IsHead, form-head, head_bytes}
+use Rattle.statistics_bytes.proofs.EncodingLaws.{read_back, reads_right}
+use Rattle.statistics_bytes.proofs.HeadLaws.{IsHead, encoding-head, head_bytes}
 use Rattle.statistics_bytes.proofs.KeyBounds.{after_head, after_lower, alone, key-ascending, key_from, wrong_last, wrong_lower}
 use Rattle.statistics_bytes.proofs.WrongStarts.{bytes_say, cut_off, flags_say, start_says, wrong_start}
 
@@ -131,29 +131,29 @@ upper_refused apart untyped t f b bytes place next e h (inr w) =
     let from : next + w.0 ≡ place + (length front + w.0) = omega (arith, h.after) in
     inr (length front + w.0, w.1 ∙ ap BadBytes from, subst (λ xs. IsFirstWrong (AreBoundKeys t f.lower f.upper) (has_bound f ≡ true → UnionsHaveVariants t) xs (length front + w.0)) (sym h.bound.is) all)
 
--- ---- the whole form
+-- ---- the whole encoding
 
-pub start_refused : (t : TypeTree) (bytes : List ℕ) (e : StatisticsError) → (place : ℕ) × (e ≡ BadBytes place) × IsWrongStart bytes place → IsBadForm t bytes e
+pub start_refused : (t : TypeTree) (bytes : List ℕ) (e : StatisticsError) → (place : ℕ) × (e ≡ BadBytes place) × IsWrongStart bytes place → IsBadEncoding t bytes e
 start_refused t bytes e h = inr (inr (h.0, h.1 ∙ ap BadBytes (sym (zero-add h.0)), wrong_start t _ bytes h.0 h.2))
 
 pub start_ordered : (t : TypeTree) (bytes : List ℕ) (e : StatisticsError) → (place : ℕ) × (e ≡ BadBytes place) × IsWrongStart bytes place → SaysBound bytes → HasNoVariant t
 start_ordered t bytes e h says = absurd (start_says bytes h.0 h.2 says)
 
-pub variant_refused : (t : TypeTree) (bytes : List ℕ) (f : Flags) (e : StatisticsError) → (rest : List ℕ) × (bytes ≡ 1 ∷ flags_byte f ∷ rest) → e ≡ HasVariant → has_bound f ≡ true → ¬ (HasNoVariant t) → IsBadForm t bytes e
+pub variant_refused : (t : TypeTree) (bytes : List ℕ) (f : Flags) (e : StatisticsError) → (rest : List ℕ) × (bytes ≡ 1 ∷ flags_byte f ∷ rest) → e ≡ HasVariant → has_bound f ≡ true → ¬ (HasNoVariant t) → IsBadEncoding t bytes e
 variant_refused t bytes f e start is some not = inl (is, not, subst SaysBound (sym start.1) (bytes_say f start.0 some))
 
 pub counts_refused : (t : TypeTree) (bytes : List ℕ) (f : Flags) (e : StatisticsError) → AreBytes bytes → (rest : List ℕ) × (bytes ≡ 1 ∷ flags_byte f ∷ rest) → (has_bound f ≡ true → HasNoVariant t)
-    → e ≡ BadBytes (length bytes) → length bytes < 2 + counts_length f.has_null_count → IsBadForm t bytes e
+    → e ≡ BadBytes (length bytes) → length bytes < 2 + counts_length f.has_null_count → IsBadEncoding t bytes e
 counts_refused t bytes f e small start ordered is short =
     let rest = start.0 in
     let less : AreBytes (1 ∷ flags_byte f ∷ rest) = subst AreBytes start.1 small in
     let count = ap length start.1 in
-    let Wrong : List ℕ → Type 0 = λ xs. IsFirstWrong (IsFormOf t) (SaysBound xs → HasValues t) xs (length xs) in
+    let Wrong : List ℕ → Type 0 = λ xs. IsFirstWrong (IsEncodingOf t) (SaysBound xs → HasValues t) xs (length xs) in
     inr (inr (length bytes, is ∙ ap BadBytes (sym (zero-add (length bytes))), subst Wrong (sym start.1) (cut_off t f rest (λ k. less (suc (suc k))) (omega arith) ordered)))
 
 pub bounds_refused : (t : TypeTree) (bytes : List ℕ) (f : Flags) (rows : ℕ) (nulls : Option ℕ) (end : ℕ) (e : StatisticsError) → (rest : List ℕ) × (bytes ≡ 1 ∷ flags_byte f ∷ rest)
     → IsCountsRead f.has_null_count rows nulls (drop 2 bytes) (drop end bytes) → end ≤ length bytes → IsRefusal (AreBoundKeys t f.lower f.upper) (has_bound f ≡ true) (has_bound f ≡ true → UnionsHaveVariants t) end (drop end bytes) e
-    → IsBadForm t bytes e
+    → IsBadEncoding t bytes e
 bounds_refused t bytes f rows nulls end e start counts inside (inl memory) = inr (inl (memory.0, subst SaysBound (sym start.1) (bytes_say f start.0 memory.1)))
 bounds_refused t bytes f rows nulls end e start counts inside (inr w) =
     let front = head_bytes f rows nulls in
@@ -165,9 +165,9 @@ bounds_refused t bytes f rows nulls end e start counts inside (inr w) =
     let says : has_bound f ≡ true → SaysBound bytes = λ some. subst SaysBound (sym start.1) (bytes_say f start.0 some) in
     let head : IsHead f rows nulls = record { rows_fit = counts.rows_fit; nulls_fit = counts.nulls_fit; known = counts.known } in
     let last : IsFirstWrong (AreBoundKeys t f.lower f.upper) (SaysBound bytes → HasValues t) (drop end bytes) w.0 = weaker (AreBoundKeys t f.lower f.upper) _ _ (drop end bytes) w.0 (λ v some. (v (says some)).unions) w.2 in
-    let wrong = after_front (IsFormOf t) (AreBoundKeys t f.lower f.upper) (SaysBound bytes → HasValues t) front (drop end bytes) w.0 (after_head t f rows nulls head) last in
+    let wrong = after_front (IsEncodingOf t) (AreBoundKeys t f.lower f.upper) (SaysBound bytes → HasValues t) front (drop end bytes) w.0 (after_head t f rows nulls head) last in
     let from : end + w.0 ≡ 0 + (length front + w.0) = omega arith in
-    inr (inr (length front + w.0, w.1 ∙ ap BadBytes from, subst (λ xs. IsFirstWrong (IsFormOf t) (SaysBound bytes → HasValues t) xs (length front + w.0)) (sym whole) wrong))
+    inr (inr (length front + w.0, w.1 ∙ ap BadBytes from, subst (λ xs. IsFirstWrong (IsEncodingOf t) (SaysBound bytes → HasValues t) xs (length front + w.0)) (sym whole) wrong))
 
 -- ---- what is read
 
@@ -176,15 +176,15 @@ ordered_in t None None g h e = absurd (false≢true e)
 ordered_in t None (Some b) g h e = h.ordered
 ordered_in t (Some a) b g h e = g.ordered
 
-pub reads_into : KeysAreApart → ValuesHaveNoTyped → (t : TypeTree) (bytes : List ℕ) (x : ColumnStatistics) (r : Result Unit StatisticsError) → OnOk r (AreOf t (known x) × (bytes ≡ form (known x))) → IfErr r (IsBadForm t bytes)
-    → (s : Known) → AreOf t s → bytes ≡ form s → ReadsInto s (known x) r
+pub reads_into : KeysAreApart → ValuesHaveNoTyped → (t : TypeTree) (bytes : List ℕ) (x : ColumnStatistics) (r : Result Unit StatisticsError) → OnOk r (AreOf t (known x) × (bytes ≡ encoding (known x))) → IfErr r (IsBadEncoding t bytes)
+    → (s : Known) → AreOf t s → bytes ≡ encoding s → ReadsInto s (known x) r
 reads_into apart untyped t bytes x (Ok u) h g s of is = read_back apart untyped t (known x) s h.0 of (sym h.1 ∙ is)
 reads_into apart untyped t bytes x (Err e) h (inl w) s of is =
-    absurd (w.1 (ordered_in t s.lower s.upper of.lower of.upper (flags_say (flags_of s) bytes _ (is ∙ form-head s) w.2)))
+    absurd (w.1 (ordered_in t s.lower s.upper of.lower of.upper (flags_say (flags_of s) bytes _ (is ∙ encoding-head s) w.2)))
 reads_into apart untyped t bytes x (Err e) h (inr (inl memory)) s of is = memory.0
 reads_into apart untyped t bytes x (Err e) h (inr (inr w)) s of is = absurd (w.2.none (record { statistics = s; of_type = of; is = is }))
 
-pub right_into : KeysAreApart → ValuesHaveNoTyped → (t : TypeTree) (bytes : List ℕ) (x : ColumnStatistics) (r : Result Unit StatisticsError) → OnOk r (AreOf t (known x) × (bytes ≡ form (known x))) → OnOk r (ReadsRight t bytes (known x))
+pub right_into : KeysAreApart → ValuesHaveNoTyped → (t : TypeTree) (bytes : List ℕ) (x : ColumnStatistics) (r : Result Unit StatisticsError) → OnOk r (AreOf t (known x) × (bytes ≡ encoding (known x))) → OnOk r (ReadsRight t bytes (known x))
 right_into apart untyped t bytes x (Ok u) h = reads_right apart untyped t bytes (known x) h.0 h.1
 right_into apart untyped t bytes x (Err e) h = tt
 

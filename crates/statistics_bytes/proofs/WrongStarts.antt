@@ -8,9 +8,9 @@ use Rattle.vortex_value.specs.TypesWithin.{HasNoVariant}
 use Rattle.vortex_value.specs.Values.Content.{content, null}
 use Rattle.vortex_row.specs.Columns.{key_with}
 use Rattle.vortex_row.specs.Held.{AreBytes}
-use Rattle.statistics_bytes.specs.Form.{IsFormOf, bound_bytes, count_bytes, flags, form, known_count_bytes}
-use Rattle.statistics_bytes.specs.FormAnswers.{HasValues, IsFirstWrong, MayGoOn, SaysBound}
-use Rattle.statistics_bytes.specs.FormSteps.{AreBoundKeys, IsKeyIn, IsWrongStart, ascending, counts_length, either_there, flags_byte, flags_of, has_bound, state_at, state_of}
+use Rattle.statistics_bytes.specs.Encoding.{IsEncodingOf, bound_bytes, count_bytes, flags, encoding, known_count_bytes}
+use Rattle.statistics_bytes.specs.EncodingAnswers.{HasValues, IsFirstWrong, MayGoOn, SaysBound}
+use Rattle.statistics_bytes.specs.EncodingSteps.{AreBoundKeys, IsKeyIn, IsWrongStart, ascending, counts_length, either_there, flags_byte, flags_of, has_bound, state_at, state_of}
 use Rattle.vortex_statistics.specs.Merging.{nothing}
 use Rattle.vortex_statistics.specs.Statistics.{Known, KnownBound}
 use Rattle.statistics_bytes.specs.declared.flags.BoundState.{BoundState}
@@ -18,48 +18,48 @@ use Rattle.statistics_bytes.specs.declared.flags.BoundState.TheVariants.{Missing
 use Rattle.statistics_bytes.specs.declared.flags.Flags.{Flags}
 use Rattle.statistics_bytes.proofs.CountBytes.{big_endian-length, some_count}
 use Rattle.statistics_bytes.proofs.FlagLaws.{flags-apart, flags-byte}
-use Rattle.statistics_bytes.proofs.HeadLaws.{IsHead, first-apart, form-head}
+use Rattle.statistics_bytes.proofs.HeadLaws.{IsHead, first-apart, encoding-head}
 use Rattle.statistics_bytes.proofs.KeyBounds.{after_head, some_key}
 
 -- ---- the version and the flags
 
-no_rows : (t : TypeTree) → IsFormOf t (form nothing)
+no_rows : (t : TypeTree) → IsEncodingOf t (encoding nothing)
 no_rows t = record { statistics = nothing; of_type = record { rows = omega arith; nulls = omega arith; lower = tt; upper = tt }; is = refl }
 
-pub wrong_start : (t : TypeTree) (has : Type 0) (bytes : List ℕ) (place : ℕ) → IsWrongStart bytes place → IsFirstWrong (IsFormOf t) has bytes place
-wrong_start t has bytes place (inl h) = subst (IsFirstWrong (IsFormOf t) has bytes) (sym h.0) (at bytes h.1)
+pub wrong_start : (t : TypeTree) (has : Type 0) (bytes : List ℕ) (place : ℕ) → IsWrongStart bytes place → IsFirstWrong (IsEncodingOf t) has bytes place
+wrong_start t has bytes place (inl h) = subst (IsFirstWrong (IsEncodingOf t) has bytes) (sym h.0) (at bytes h.1)
   where
-    at : (bs : List ℕ) → ((rest : List ℕ) → bs ≡ 1 ∷ rest → ⊥) → IsFirstWrong (IsFormOf t) has bs 0
+    at : (bs : List ℕ) → ((rest : List ℕ) → bs ≡ 1 ∷ rest → ⊥) → IsFirstWrong (IsEncodingOf t) has bs 0
     at [] none = record {
       within = omega arith;
-      before = λ v. record { more = form nothing; is_one = no_rows t };
+      before = λ v. record { more = encoding nothing; is_one = no_rows t };
       wrong = λ l. absurd (omega arith);
       none = λ one. absurd (cc (one.is));
     }
     at (b ∷ bs) none = record {
       within = omega arith;
-      before = λ v. record { more = form nothing; is_one = no_rows t };
+      before = λ v. record { more = encoding nothing; is_one = no_rows t };
       wrong = λ l go. let e : b ≡ 1 = (let f = go.is_one.is in cc) in none bs (ap (λ c. c ∷ bs) e);
       none = λ one. let e : b ≡ 1 = (let f = one.is in cc) in none bs (ap (λ c. c ∷ bs) e);
     }
 wrong_start t has bytes place (inr h) =
-    subst (λ bs. IsFirstWrong (IsFormOf t) has bs place) (sym h.1.1) (subst (IsFirstWrong (IsFormOf t) has (1 ∷ h.1.0)) (sym h.0) (at h.1.0 h.1.2))
+    subst (λ bs. IsFirstWrong (IsEncodingOf t) has bs place) (sym h.1.1) (subst (IsFirstWrong (IsEncodingOf t) has (1 ∷ h.1.0)) (sym h.0) (at h.1.0 h.1.2))
   where
-    with_flags : (b : ℕ) (bs more : List ℕ) (s : Known) → ((f : Flags) (rest : List ℕ) → b ∷ bs ≡ flags_byte f ∷ rest → ⊥) → 1 ∷ b ∷ more ≡ form s → ⊥
+    with_flags : (b : ℕ) (bs more : List ℕ) (s : Known) → ((f : Flags) (rest : List ℕ) → b ∷ bs ≡ flags_byte f ∷ rest → ⊥) → 1 ∷ b ∷ more ≡ encoding s → ⊥
     with_flags b bs more s none e =
-        let w = first-apart b (flags_byte (flags_of s)) more ((count_bytes s.row_count ++ known_count_bytes s.null_count) ++ (bound_bytes s.lower ++ bound_bytes s.upper)) (e ∙ form-head s) in
+        let w = first-apart b (flags_byte (flags_of s)) more ((count_bytes s.row_count ++ known_count_bytes s.null_count) ++ (bound_bytes s.lower ++ bound_bytes s.upper)) (e ∙ encoding-head s) in
         none (flags_of s) bs (ap (λ c. c ∷ bs) w.0)
 
-    at : (rest : List ℕ) → ((f : Flags) (more : List ℕ) → rest ≡ flags_byte f ∷ more → ⊥) → IsFirstWrong (IsFormOf t) has (1 ∷ rest) 1
+    at : (rest : List ℕ) → ((f : Flags) (more : List ℕ) → rest ≡ flags_byte f ∷ more → ⊥) → IsFirstWrong (IsEncodingOf t) has (1 ∷ rest) 1
     at [] none = record {
       within = omega arith;
-      before = λ v. record { more = drop 1 (form nothing); is_one = no_rows t };
+      before = λ v. record { more = drop 1 (encoding nothing); is_one = no_rows t };
       wrong = λ l. absurd (omega arith);
       none = λ one. absurd (cc (one.is));
     }
     at (b ∷ bs) none = record {
       within = omega arith;
-      before = λ v. record { more = drop 1 (form nothing); is_one = no_rows t };
+      before = λ v. record { more = drop 1 (encoding nothing); is_one = no_rows t };
       wrong = λ l go. with_flags b bs go.more go.is_one.statistics none go.is_one.is;
       none = λ one. with_flags b bs bs one.statistics none one.is;
     }
@@ -211,19 +211,19 @@ known_length (Some n) = let e = big_endian-length 8 n in omega arith
 
 -- the counts of these flags are cut off
 pub cut_off : (t : TypeTree) (f : Flags) (rest : List ℕ) → AreBytes rest → length rest < counts_length f.has_null_count → (has_bound f ≡ true → HasNoVariant t)
-    → IsFirstWrong (IsFormOf t) (SaysBound (1 ∷ flags_byte f ∷ rest) → HasValues t) (1 ∷ flags_byte f ∷ rest) (length (1 ∷ flags_byte f ∷ rest))
+    → IsFirstWrong (IsEncodingOf t) (SaysBound (1 ∷ flags_byte f ∷ rest) → HasValues t) (1 ∷ flags_byte f ∷ rest) (length (1 ∷ flags_byte f ∷ rest))
 cut_off t f rest bytes short ordered = record {
   within = omega arith;
-  before = λ v. subst (MayGoOn (IsFormOf t)) (sym (take-length (1 ∷ flags_byte f ∷ rest))) (goes_on v);
+  before = λ v. subst (MayGoOn (IsEncodingOf t)) (sym (take-length (1 ∷ flags_byte f ∷ rest))) (goes_on v);
   wrong = λ l. absurd (omega arith);
   none = not_whole;
 }
   where
-    not_whole : IsFormOf t (1 ∷ flags_byte f ∷ rest) → ⊥
+    not_whole : IsEncodingOf t (1 ∷ flags_byte f ∷ rest) → ⊥
     not_whole one =
         let s = one.statistics in
         let bounds = bound_bytes s.lower ++ bound_bytes s.upper in
-        let w = first-apart (flags_byte f) (flags_byte (flags_of s)) rest ((count_bytes s.row_count ++ known_count_bytes s.null_count) ++ bounds) (one.is ∙ form-head s) in
+        let w = first-apart (flags_byte f) (flags_byte (flags_of s)) rest ((count_bytes s.row_count ++ known_count_bytes s.null_count) ++ bounds) (one.is ∙ encoding-head s) in
         let same : f ≡ flags_of s = flags-apart f (flags_of s) w.0 in
         let count : counts_length f.has_null_count ≡ counts_length (is_some s.null_count) = ap (λ g. counts_length g.has_null_count) same in
         let all = ap length w.1 in
@@ -243,7 +243,7 @@ cut_off t f rest bytes short ordered = record {
           },
         )
 
-    goes_on : (SaysBound (1 ∷ flags_byte f ∷ rest) → HasValues t) → MayGoOn (IsFormOf t) (1 ∷ flags_byte f ∷ rest)
+    goes_on : (SaysBound (1 ∷ flags_byte f ∷ rest) → HasValues t) → MayGoOn (IsEncodingOf t) (1 ∷ flags_byte f ∷ rest)
     goes_on v =
         let n = counts_length f.has_null_count - length rest in
         let whole : length (rest ++ zeros n) ≡ counts_length f.has_null_count = omega (arith, length-append rest (zeros n), length-zeros n) in
@@ -253,5 +253,5 @@ cut_off t f rest bytes short ordered = record {
         let made = (after_head t f c.rows c.nulls head).join q.0 q.1 in
         record {
           more = zeros n ++ q.0;
-          is_one = subst (IsFormOf t) (ap (λ xs. 1 ∷ flags_byte f ∷ (xs ++ q.0)) (sym c.is) ∙ ap (λ xs. 1 ∷ flags_byte f ∷ xs) (append_assoc rest (zeros n) q.0)) made;
+          is_one = subst (IsEncodingOf t) (ap (λ xs. 1 ∷ flags_byte f ∷ (xs ++ q.0)) (sym c.is) ∙ ap (λ xs. 1 ∷ flags_byte f ∷ xs) (append_assoc rest (zeros n) q.0)) made;
         }

@@ -1,5 +1,5 @@
 pub mod Examples
-pub mod Form
-pub mod FormAnswers
-pub mod FormSteps
+pub mod Encoding
+pub mod EncodingAnswers
+pub mod EncodingSteps
 pub mod Words

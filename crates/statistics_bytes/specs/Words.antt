@@ -7,8 +7,8 @@ pub use Rattle.vortex_value.specs.Values.Scalars.{scalar_content, scalar_type}
 pub use Rattle.vortex_row.specs.Held.{IsHeld}
 pub use Rattle.vortex_row.specs.Keys.{key}
 pub use Rattle.vortex_row.specs.Steps.{Appends, HasRoom}
-pub use Rattle.statistics_bytes.specs.Form.{AreOf, FormsAreApart, IsFormOf, IsHeldBound, IsHeldKnown, bound_bytes, bound_flags, count_bytes, flags, form, known_count_bytes}
-pub use Rattle.statistics_bytes.specs.FormAnswers.{HasValues, IsFirstWrong, ReadsAs, ReadsInto, ReadsRight, SaysBound}
-pub use Rattle.statistics_bytes.specs.FormSteps.{AreBoundKeys, AreBoundsRead, HasNoVariantIn, HasNoVariants, IsBadBound, IsBadForm, IsBoundKey, IsBoundRead, IsBoundReadAt, IsCountsRead, IsRefusal, IsWrongStart, ascending, counts_length, flags_byte, has_bound, is_there, state_at, state_bits}
+pub use Rattle.statistics_bytes.specs.Encoding.{AreOf, EncodingsAreApart, IsEncodingOf, IsHeldBound, IsHeldKnown, bound_bytes, bound_flags, count_bytes, flags, encoding, known_count_bytes}
+pub use Rattle.statistics_bytes.specs.EncodingAnswers.{HasValues, IsFirstWrong, ReadsAs, ReadsInto, ReadsRight, SaysBound}
+pub use Rattle.statistics_bytes.specs.EncodingSteps.{AreBoundKeys, AreBoundsRead, HasNoVariantIn, HasNoVariants, IsBadBound, IsBadEncoding, IsBoundKey, IsBoundRead, IsBoundReadAt, IsCountsRead, IsRefusal, IsWrongStart, ascending, counts_length, flags_byte, has_bound, is_there, state_at, state_bits}
 pub use Rattle.vortex_statistics.specs.Statistics.{known, known_bound}
 pub use Rattle.vortex_statistics.specs.declared.error.StatisticsError.TheVariants.{BadBytes, HasVariant, OutOfMemory}

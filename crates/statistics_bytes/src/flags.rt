@@ -1,4 +1,4 @@
-//! The byte of flags in the form of statistics.
+//! The byte of flags in the encoding of statistics.
 
 ghost use Rattle.std.specs.Prelude.{◌≡◌, ◌≢◌, MatchOption, option_map};
 ghost use Rattle.statistics_bytes.specs.declared.flags.BoundState.{BoundState};

@@ -1,8 +1,8 @@
-//! Statistics from their form in bytes.
+//! Statistics from their encoding in bytes.
 
 ghost use Rattle.std.specs.Prelude.{◌≡◌, ◌≢◌, ◌++◌, ◌∷◌, ◌+◌, ◌<◌, ◌≤◌, ◌^◌, ◌↔◌, ◌⊎◌, ℕ, List, [], Err, IfErr, IfOk, MatchOption, OnOk, Some, drop, length, option_map, true};
 ghost use Rattle.vortex_statistics.specs.Statistics.{Known};
-ghost use Rattle.statistics_bytes.specs.Words.{AreBoundKeys, AreBoundsRead, AreOf, BadBytes, HasNoVariant, HasValues, HasVariant, IsBadBound, IsBadForm, IsBoundKey, IsBoundRead, IsBoundReadAt, IsCountsRead, IsFirstWrong, IsFormOf, IsRefusal, IsWrongStart, OutOfMemory, ReadsAs, ReadsInto, ReadsRight, SaysBound, UnionsHaveVariants, count_bytes, counts_length, flags_byte, form, has_bound, is_there, known, known_bound, state_at, type_of};
+ghost use Rattle.statistics_bytes.specs.Words.{AreBoundKeys, AreBoundsRead, AreOf, BadBytes, HasNoVariant, HasValues, HasVariant, IsBadBound, IsBadEncoding, IsBoundKey, IsBoundRead, IsBoundReadAt, IsCountsRead, IsFirstWrong, IsEncodingOf, IsRefusal, IsWrongStart, OutOfMemory, ReadsAs, ReadsInto, ReadsRight, SaysBound, UnionsHaveVariants, count_bytes, counts_length, flags_byte, encoding, has_bound, is_there, known, known_bound, state_at, type_of};
 
 use crate::flags::{BoundState, Flags, flags_from};
 use crate::writing::{VERSION, ascending, expect_keys};
@@ -14,13 +14,13 @@ use vortex_row::{RowError, decode_key_into};
 use vortex_statistics::{Bound, ColumnStatistics, StatisticsError};
 use vortex_value::Scalar;
 
-/// The statistics that have this form, of a column of the type. Their bounds are scalars of the
+/// The statistics that have this encoding, of a column of the type. Their bounds are scalars of the
 /// type, whatever integer or nullable type they had when they were written.
 ///
-/// `HasVariant` exactly if a variant stands in the type, at any depth, and the bytes begin with
-/// the version and with flags that say a bound. Else `BadBytes` if the bytes are not, whole, the
-/// form of statistics of the type. Its place is that of the first byte that no such form has
-/// there, or of the end if they end too early. `OutOfMemory` may come in place of each answer
+/// `HasVariant` exactly if a variant stands in the type, at any depth, and the bytes begin with the
+/// version and with flags that say a bound. Else `BadBytes` if the bytes are not, whole, the
+/// encoding of statistics of the type. Its place is that of the first byte that no such encoding
+/// has there, or of the end if they end too early. `OutOfMemory` may come in place of each answer
 /// but `HasVariant`, only if the bytes begin so.
 pub fn decode_statistics(
     alloc: Global,
@@ -28,15 +28,15 @@ pub fn decode_statistics(
     bytes: &[u8],
 ) -> Result<ColumnStatistics, StatisticsError>
     ensures read { IfOk result (λ s. AreOf (type_of dtype.now) (known s)
-        × (bytes.now ≡ form (known s))) }
-    ensures whole { (s : Known) → AreOf (type_of dtype.now) s → bytes.now ≡ form s
+        × (bytes.now ≡ encoding (known s))) }
+    ensures whole { (s : Known) → AreOf (type_of dtype.now) s → bytes.now ≡ encoding s
         → ReadsAs s result }
     ensures right { IfOk result
         (λ s. ReadsRight (type_of dtype.now) bytes.now (known s)) }
     ensures variant { (result ≡ Err HasVariant)
         ↔ (¬ (HasNoVariant (type_of dtype.now)) × SaysBound bytes.now) }
     ensures bad { (place : ℕ) → result ≡ Err (BadBytes place)
-        → IsFirstWrong (IsFormOf (type_of dtype.now))
+        → IsFirstWrong (IsEncodingOf (type_of dtype.now))
         (SaysBound bytes.now → HasValues (type_of dtype.now)) bytes.now place }
     ensures refused { IfErr result (λ e. (e ≡ HasVariant)
         ⊎ (((e ≡ OutOfMemory) × SaysBound bytes.now)
@@ -64,15 +64,15 @@ pub fn decode_statistics_into(
     statistics: &mut ColumnStatistics,
 ) -> Result<(), StatisticsError>
     ensures read { OnOk result (AreOf (type_of dtype.now) (known statistics.new)
-        × (bytes.now ≡ form (known statistics.new))) }
-    ensures whole { (s : Known) → AreOf (type_of dtype.now) s → bytes.now ≡ form s
+        × (bytes.now ≡ encoding (known statistics.new))) }
+    ensures whole { (s : Known) → AreOf (type_of dtype.now) s → bytes.now ≡ encoding s
         → ReadsInto s (known statistics.new) result }
     ensures right { OnOk result
         (ReadsRight (type_of dtype.now) bytes.now (known statistics.new)) }
     ensures variant { (result ≡ Err HasVariant)
         ↔ (¬ (HasNoVariant (type_of dtype.now)) × SaysBound bytes.now) }
     ensures bad { (place : ℕ) → result ≡ Err (BadBytes place)
-        → IsFirstWrong (IsFormOf (type_of dtype.now))
+        → IsFirstWrong (IsEncodingOf (type_of dtype.now))
         (SaysBound bytes.now → HasValues (type_of dtype.now)) bytes.now place }
     ensures refused { IfErr result (λ e. (e ≡ HasVariant)
         ⊎ (((e ≡ OutOfMemory) × SaysBound bytes.now)
@@ -80,19 +80,19 @@ pub fn decode_statistics_into(
 {
     keys_are_apart();
     values_have_no_typed();
-    read_form(alloc, dtype, bytes, statistics)
+    read_encoding(alloc, dtype, bytes, statistics)
 }
 
-/// Puts the statistics that have this form in the place of these.
-fn read_form(
+/// Puts the statistics that have this encoding in the place of these.
+fn read_encoding(
     alloc: Global,
     dtype: &DType,
     bytes: &[u8],
     statistics: &mut ColumnStatistics,
 ) -> Result<(), StatisticsError>
     ensures read { OnOk result (AreOf (type_of dtype.now) (known statistics.new)
-        × (bytes.now ≡ form (known statistics.new))) }
-    ensures refused { IfErr result (IsBadForm (type_of dtype.now) bytes.now) }
+        × (bytes.now ≡ encoding (known statistics.new))) }
+    ensures refused { IfErr result (IsBadEncoding (type_of dtype.now) bytes.now) }
     ensures ordered { result ≢ Err HasVariant → SaysBound bytes.now
         → HasNoVariant (type_of dtype.now) }
 {
@@ -146,13 +146,13 @@ fn read_flags(bytes: &[u8]) -> Result<Flags, StatisticsError>
         (λ e. (place : ℕ) × (e ≡ BadBytes place) × IsWrongStart bytes.now place) }
 {
     match bytes {
-        [VERSION, flags, ..] => flags_from(*flags).ok_or(StatisticsError::BadBytes { place: 1 }),
-        [VERSION] => Err(StatisticsError::BadBytes { place: 1 }),
-        _ => Err(StatisticsError::BadBytes { place: 0 }),
+        [VERSION, flags, ..] => flags_from(*flags).ok_or(StatisticsError::BadBytes { offset: 1 }),
+        [VERSION] => Err(StatisticsError::BadBytes { offset: 1 }),
+        _ => Err(StatisticsError::BadBytes { offset: 0 }),
     }
 }
 
-/// The counts of a form, and where they end.
+/// The counts of an encoding, and where they end.
 #[derive(Clone, Copy)]
 struct Counts {
     row_count: u64,
@@ -184,7 +184,9 @@ fn read_counts(has_null_count: bool, bytes: &[u8]) -> Result<Counts, StatisticsE
     ensures refused { IfErr result (λ e. (e ≡ BadBytes (length bytes.now))
         × (length bytes.now < 2 + counts_length has_null_count)) }
 {
-    let cut_off = StatisticsError::BadBytes { place: bytes.len() };
+    let cut_off = StatisticsError::BadBytes {
+        offset: bytes.len(),
+    };
     let row_count = count_in(&bytes[2..]).ok_or(cut_off)?;
     if !has_null_count {
         return Ok(Counts {
@@ -249,7 +251,7 @@ fn read_last_bound(
     values_have_no_typed();
     let end = read_bound(alloc, dtype, state, bytes, place, bound)?;
     if end < bytes.len() {
-        return Err(StatisticsError::BadBytes { place: end });
+        return Err(StatisticsError::BadBytes { offset: end });
     }
     Ok(())
 }
@@ -373,8 +375,10 @@ fn read_value(
         &mut bound.value,
     ) {
         Ok(length) => Ok(place + length),
-        Err(RowError::BadKey { place: bad }) => {
-            Err(StatisticsError::BadBytes { place: place + bad })
+        Err(RowError::BadKey { offset: bad }) => {
+            Err(StatisticsError::BadBytes {
+                offset: place + bad,
+            })
         }
         Err(_) => Err(StatisticsError::OutOfMemory),
     }

@@ -1,7 +1,7 @@
-//! The form of statistics in bytes, appended.
+//! The encoding of statistics in bytes, appended.
 
 ghost use Rattle.std.specs.Prelude.{◌≡◌, ◌++◌, ◌+◌, ◌<◌, ◌≤◌, ◌^◌, ◌↔◌, ◌⊎◌, ℕ, List, Err, IfErr, IfSome, IsOk, OnErr, OnOk, length, option_map};
-ghost use Rattle.statistics_bytes.specs.Words.{Appends, HasNoVariant, HasNoVariantIn, HasNoVariants, HasRoom, HasVariant, IsHeld, IsHeldBound, IsHeldKnown, OutOfMemory, ascending, bound_bytes, count_bytes, form, key, known, known_bound, known_count_bytes, option_copied, scalar_content, scalar_type, type_of, vec_capacity, vec_len};
+ghost use Rattle.statistics_bytes.specs.Words.{Appends, HasNoVariant, HasNoVariantIn, HasNoVariants, HasRoom, HasVariant, IsHeld, IsHeldBound, IsHeldKnown, OutOfMemory, ascending, bound_bytes, count_bytes, encoding, key, known, known_bound, known_count_bytes, option_copied, scalar_content, scalar_type, type_of, vec_capacity, vec_len};
 
 use crate::flags::flags_of;
 use vortex_cells::has_variant;
@@ -10,33 +10,33 @@ use vortex_row::{SortOptions, append_key, append_row_key};
 use vortex_statistics::{Bound, ColumnStatistics, StatisticsError};
 use vortex_value::ScalarRef;
 
-/// The version of the layout: the first byte of each form.
+/// The version of the layout: the first byte of each encoding.
 pub(crate) const VERSION: u8 = 1;
 
-/// Appends the form of statistics in bytes, and nothing else.
+/// Appends the encoding of statistics in bytes, and nothing else.
 ///
 /// `HasVariant` exactly if a variant stands in the type of a bound, at any depth. Else
-/// `OutOfMemory` is the only refusal, and never comes if `out` has room for the form. After a
+/// `OutOfMemory` is the only refusal, and never comes if `out` has room for the encoding. After a
 /// refusal `out` has the bytes that it had. The bounds need not be valid for their types.
 pub fn append_statistics(
     statistics: &ColumnStatistics,
     out: &mut Vec<u8>,
 ) -> Result<(), StatisticsError>
     ensures appended { OnOk result
-        (out.new.items ≡ out.old.items ++ form (known statistics.now)) }
+        (out.new.items ≡ out.old.items ++ encoding (known statistics.now)) }
     ensures held { OnOk result (IsHeldKnown (known statistics.now)) }
     ensures ordered { OnOk result (HasNoVariants (known statistics.now)) }
     ensures variant { (result ≡ Err HasVariant) ↔ ¬ (HasNoVariants (known statistics.now)) }
     ensures refused { IfErr result (λ e. (e ≡ HasVariant) ⊎ (e ≡ OutOfMemory)) }
     ensures room { HasNoVariants (known statistics.now)
-        → vec_len out.old + length (form (known statistics.now)) ≤ vec_capacity out.old
+        → vec_len out.old + length (encoding (known statistics.now)) ≤ vec_capacity out.old
         → IsOk result }
     ensures unchanged { OnErr result (out.new.items ≡ out.old.items) }
 {
     expect_no_variant(statistics.lower.as_ref())?;
     expect_no_variant(statistics.upper.as_ref())?;
     let start = out.len();
-    let appended = append_form(statistics, out);
+    let appended = append_encoding(statistics, out);
     if appended.is_err() {
         out.truncate(start);
     }
@@ -69,15 +69,15 @@ fn expect_no_variant(bound: Option<&Bound>) -> Result<(), StatisticsError>
     }
 }
 
-/// Appends the form of statistics whose bounds have keys. After a refusal a part of it may stand
-/// there.
-fn append_form(statistics: &ColumnStatistics, out: &mut Vec<u8>) -> Result<(), StatisticsError>
+/// Appends the encoding of statistics whose bounds have keys. After a refusal a part of it may
+/// stand there.
+fn append_encoding(statistics: &ColumnStatistics, out: &mut Vec<u8>) -> Result<(), StatisticsError>
     requires { HasNoVariants (known statistics.now) }
     ensures appended { OnOk result
-        (out.new.items ≡ out.old.items ++ form (known statistics.now)) }
+        (out.new.items ≡ out.old.items ++ encoding (known statistics.now)) }
     ensures held { OnOk result (IsHeldKnown (known statistics.now)) }
     ensures refused { IfErr result (λ e. e ≡ OutOfMemory) }
-    ensures room { HasRoom out.old (form (known statistics.now)) → IsOk result }
+    ensures room { HasRoom out.old (encoding (known statistics.now)) → IsOk result }
     ensures begun { (more : List ℕ) × (out.new.items ≡ out.old.items ++ more) }
 {
     append_all(&[VERSION, flags_of(statistics)], out)?;

@@ -111,8 +111,8 @@ fn read_options(tokens: &mut Tokens<'_>) -> SortOptions {
     }
 }
 
-/// Reads columns with semicolons between them: what each has, and how each is sorted, which is added to
-/// `options`. An underscore stands for what is missing.
+/// Reads columns with semicolons between them: what each has, and how each is sorted, which is
+/// added to `options`. An underscore stands for what is missing.
 fn read_columns<T: Item>(tokens: &mut Tokens<'_>, options: &mut Vec<SortOptions>) -> Vec<T> {
     let mut contents = Vec::new(tokens.alloc);
     for _ in 0..=tokens.left() {
@@ -132,7 +132,7 @@ fn read_columns<T: Item>(tokens: &mut Tokens<'_>, options: &mut Vec<SortOptions>
     contents
 }
 
-/// Room for a key or a form, made before the call.
+/// Room for a key or an encoding, made before the call.
 pub fn room(tokens: &mut Tokens<'_>) -> Vec<u8> {
     let room = Vec::with_capacity(tokens.alloc, 4096);
     let made = tokens.made(room.map_err(VortexError::from));

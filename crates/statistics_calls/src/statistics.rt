@@ -181,14 +181,14 @@ fn observe(
     Ok(take_statistics(&mut given.statistics))
 }
 
-/// The form in bytes, appended where there is room.
+/// The encoding in bytes, appended where there is room.
 fn bytes_in_room(alloc: Global, given: &mut StatisticsInputs) -> StatisticsResult {
     let mut bytes = replace(&mut given.room, Vec::new(alloc));
     let outcome = append_statistics(&given.statistics, &mut bytes);
     bytes_answer(outcome, bytes)
 }
 
-/// The form in bytes, or its refusal. `Changed` if a refusal left a part of it.
+/// The encoding in bytes, or its refusal. `Changed` if a refusal left a part of it.
 fn bytes_answer(outcome: Result<(), StatisticsError>, bytes: Vec<u8>) -> StatisticsResult {
     match outcome {
         Ok(()) => Ok(StatisticsAnswer::Bytes(bytes)),

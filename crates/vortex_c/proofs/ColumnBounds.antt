@@ -8,7 +8,7 @@ use Rattle.vortex_c.specs.Columns.{AreColumnBounds, HasColumnBounds, IsColumn, I
 use Rattle.vortex_c.specs.Uppers.{bytes_of}
 use Rattle.vortex_c.specs.declared.bounds.Upper.{Upper}
 use Rattle.vortex_c.specs.declared.columns.BoundLengths.{BoundLengths}
-use Rattle.vortex_c.specs.declared.status.TheConstants.{GIVEN, NO_MEMORY, NO_ROOM, NOT_UTF8}
+use Rattle.vortex_c.specs.declared.status.TheConstants.{GIVEN, NO_MEMORY, BUFFER_TOO_SMALL, NOT_UTF8}
 use Rattle.vortex_dtype.specs.declared.buffer.TheConstants.{INLINE_BYTES}
 
 -- the upper bound, and whether there is one
@@ -71,7 +71,7 @@ column_needed L U H bytes offsets n least greatest x y lower upper ll ul hu is_l
       sym eu,
     )
 
--- rooms that suffice are not too small
+-- buffers that suffice are not too small
 not_small : (a b m ll ul : ℕ) → ll ≤ m → ul ≤ m → (m ≤ a) × (m ≤ b) → (a < ll) ⊎ (b < ul) → ⊥
 not_small a b m ll ul h k w (inl s) = let l = w.0 in omega arith
 not_small a b m ll ul h k w (inr s) = let l = w.1 in omega arith
@@ -94,53 +94,53 @@ neither status a b k f g (inl e) = λ h. f (sym e ∙ h)
 neither status a b k f g (inr e) = λ h. g (sym e ∙ h)
 
 -- there is a column, but no memory, or an end that is no string: nothing is written
-pub stopped : (L U : List ℕ → ℕ → List ℕ → Type 0) (H : List ℕ → ℕ → Type 0) (bytes offsets : List ℕ) (n greatest : ℕ) (y lower_room upper_room : List ℕ) (lengths : BoundLengths) (status : ℕ)
+pub stopped : (L U : List ℕ → ℕ → List ℕ → Type 0) (H : List ℕ → ℕ → Type 0) (bytes offsets : List ℕ) (n greatest : ℕ) (y lower_buffer upper_buffer : List ℕ) (lengths : BoundLengths) (status : ℕ)
     → (status ≡ NO_MEMORY) ⊎ (status ≡ NOT_UTF8) → IsColumn bytes offsets → IsGreatestAt bytes offsets greatest → y ≡ value_at bytes offsets greatest
     → (n ≤ INLINE_BYTES → status ≢ NO_MEMORY) → (length y ≤ n → status ≢ NO_MEMORY)
-    → AnswersColumn L U H bytes offsets n lower_room upper_room lengths status
-stopped L U H bytes offsets n greatest y lower_room upper_room lengths status stop column is_greatest ey inline whole =
+    → AnswersColumn L U H bytes offsets n lower_buffer upper_buffer lengths status
+stopped L U H bytes offsets n greatest y lower_buffer upper_buffer lengths status stop column is_greatest ey inline whole =
     let no = λ (k : ℕ) (f : NO_MEMORY ≢ k) (g : NOT_UTF8 ≢ k). neither status NO_MEMORY NOT_UTF8 k f g stop in
     let value = is_greatest.0 in
     record {
       statuses = ⊎_elim (λ m. inr (inr (inl m))) (λ u. inr (inr (inr (inr (inl u))))) stop;
       given = λ e. absurd (no GIVEN (λ f. cc) (λ f. cc) e);
       within = λ e. absurd (no GIVEN (λ f. cc) (λ f. cc) e);
-      no_upper = λ e. absurd (⊎_elim (no GIVEN (λ f. cc) (λ f. cc)) (no NO_ROOM (λ f. cc) (λ f. cc)) e);
+      no_upper = λ e. absurd (⊎_elim (no GIVEN (λ f. cc) (λ f. cc)) (no BUFFER_TOO_SMALL (λ f. cc) (λ f. cc)) e);
       none = λ e. absurd (no 1 (λ f. cc) (λ f. cc) e);
       some = λ _. omega arith;
       refused = λ e. absurd (no 6 (λ f. cc) (λ f. cc) e);
       column = λ _. column;
       inline = inline;
       whole = λ w. whole (omega (arith, ap length ey, value_within bytes offsets greatest));
-      small = λ e. absurd (no NO_ROOM (λ f. cc) (λ f. cc) e);
-      needed = λ e. absurd (no NO_ROOM (λ f. cc) (λ f. cc) e);
-      enough = λ _. no NO_ROOM (λ f. cc) (λ f. cc);
-      enough_of_bytes = λ _. no NO_ROOM (λ f. cc) (λ f. cc);
+      small = λ e. absurd (no BUFFER_TOO_SMALL (λ f. cc) (λ f. cc) e);
+      needed = λ e. absurd (no BUFFER_TOO_SMALL (λ f. cc) (λ f. cc) e);
+      enough = λ _. no BUFFER_TOO_SMALL (λ f. cc) (λ f. cc);
+      enough_of_bytes = λ _. no BUFFER_TOO_SMALL (λ f. cc) (λ f. cc);
     }
 
--- The bounds are written, or a room is too small for one of them. `passed` and `slice` are the two bounds as they are
+-- The bounds are written, or a buffer is too small for one of them. `passed` and `slice` are the two bounds as they are
 -- passed on.
 pub written : (L U : List ℕ → ℕ → List ℕ → Type 0) (H : List ℕ → ℕ → Type 0) (bytes offsets : List ℕ) (n least greatest : ℕ) (x y lower passed : List ℕ) (upper : Option Upper) (slice : Option (Bor (List ℕ)))
-    (lower_room upper_room : List ℕ) (lengths : BoundLengths) (status : ℕ)
+    (lower_buffer upper_buffer : List ℕ) (lengths : BoundLengths) (status : ℕ)
     → IsColumn bytes offsets → IsLeastAt bytes offsets least → IsGreatestAt bytes offsets greatest → x ≡ value_at bytes offsets least → y ≡ value_at bytes offsets greatest
     → IsWholeOrBest L x n lower → length lower ≤ n → length lower ≤ length x → passed ≡ lower
     → MatchOption upper (HasNone H y n) (λ r. IsWholeOrBest U y n (bytes_of r)) → IfSome upper (λ r. length (bytes_of r) ≤ n) → IfSome upper (λ r. length (bytes_of r) ≤ length y) → option_copied slice ≡ option_map bytes_of upper
-    → (status ≡ GIVEN) ⊎ (status ≡ NO_ROOM)
+    → (status ≡ GIVEN) ⊎ (status ≡ BUFFER_TOO_SMALL)
     → lengths.lower ≡ length passed → lengths.upper ≡ length (unwrap_or (option_copied slice) []) → lengths.has_upper ≡ is_some slice
-    → (status ≡ GIVEN → take lengths.lower lower_room ≡ passed)
-    → (status ≡ GIVEN → some_where lengths.has_upper (take lengths.upper upper_room) ≡ option_copied slice)
-    → (status ≡ GIVEN → (lengths.lower ≤ length lower_room) × (lengths.upper ≤ length upper_room))
-    → (status ≡ NO_ROOM → (length lower_room < lengths.lower) ⊎ (length upper_room < lengths.upper))
-    → AnswersColumn L U H bytes offsets n lower_room upper_room lengths status
-written L U H bytes offsets n least greatest x y lower passed upper slice lower_room upper_room lengths status column is_least is_greatest ex ey is_lower lower_fits lower_within ew is_upper upper_fits upper_within es done ll ul hu lower_given upper_given within small =
-    let no = λ (k : ℕ) (f : GIVEN ≢ k) (g : NO_ROOM ≢ k). neither status GIVEN NO_ROOM k f g done in
+    → (status ≡ GIVEN → take lengths.lower lower_buffer ≡ passed)
+    → (status ≡ GIVEN → some_where lengths.has_upper (take lengths.upper upper_buffer) ≡ option_copied slice)
+    → (status ≡ GIVEN → (lengths.lower ≤ length lower_buffer) × (lengths.upper ≤ length upper_buffer))
+    → (status ≡ BUFFER_TOO_SMALL → (length lower_buffer < lengths.lower) ⊎ (length upper_buffer < lengths.upper))
+    → AnswersColumn L U H bytes offsets n lower_buffer upper_buffer lengths status
+written L U H bytes offsets n least greatest x y lower passed upper slice lower_buffer upper_buffer lengths status column is_least is_greatest ex ey is_lower lower_fits lower_within ew is_upper upper_fits upper_within es done ll ul hu lower_given upper_given within small =
+    let no = λ (k : ℕ) (f : GIVEN ≢ k) (g : BUFFER_TOO_SMALL ≢ k). neither status GIVEN BUFFER_TOO_SMALL k f g done in
     let value = is_least.0 in
     let lower_length : lengths.lower ≡ length lower = ll ∙ ap length ew in
     let upper_length : lengths.upper ≡ length (unwrap_or (option_map bytes_of upper) []) = ul ∙ ap (λ o. length (unwrap_or o [])) es in
     let has_upper : lengths.has_upper ≡ is_some (option_map bytes_of upper) = hu ∙ slice_is_there slice ∙ ap is_some es in
     record {
       statuses = ⊎_elim (λ g. inl g) (λ r. inr (inr (inr (inl r)))) done;
-      given = λ g. column_given L U H bytes offsets n least greatest x y lower (take lengths.lower lower_room) upper (some_where lengths.has_upper (take lengths.upper upper_room)) is_least is_greatest ex ey is_lower is_upper
+      given = λ g. column_given L U H bytes offsets n least greatest x y lower (take lengths.lower lower_buffer) upper (some_where lengths.has_upper (take lengths.upper upper_buffer)) is_least is_greatest ex ey is_lower is_upper
           (lower_given g ∙ ew) (upper_given g ∙ es);
       within = within;
       no_upper = λ _ e. upper_length ∙ none_is_empty (option_map bytes_of upper) lengths.has_upper has_upper e;
@@ -152,9 +152,9 @@ written L U H bytes offsets n least greatest x y lower passed upper slice lower_
       whole = λ _. no NO_MEMORY (λ f. cc) (λ f. cc);
       small = small;
       needed = λ _. column_needed L U H bytes offsets n least greatest x y lower upper lengths.lower lengths.upper lengths.has_upper is_least is_greatest ex ey is_lower is_upper lower_length upper_length has_upper;
-      enough = λ w r. not_small (length lower_room) (length upper_room) n lengths.lower lengths.upper
+      enough = λ w r. not_small (length lower_buffer) (length upper_buffer) n lengths.lower lengths.upper
           (omega arith) (omega (arith, bytes_within upper n upper_fits)) w (small r);
-      enough_of_bytes = λ w r. not_small (length lower_room) (length upper_room) (length bytes) lengths.lower lengths.upper
+      enough_of_bytes = λ w r. not_small (length lower_buffer) (length upper_buffer) (length bytes) lengths.lower lengths.upper
           (omega (arith, ap length ex, value_within bytes offsets least))
           (omega (arith, bytes_within upper (length y) upper_within, ap length ey, value_within bytes offsets greatest)) w (small r);
     }

@@ -15,10 +15,10 @@ all-options options columns table read counts = read.options' ∙ ap (map option
 all-contents : (options : List ℕ) (columns : List Column) (table : List KeyColumn) → AreReadFrom columns options (length columns) table → table_of table ≡ contents_in columns
 all-contents options columns table read = read.contents ∙ ap contents_in (take_all (length columns) columns (omega arith))
 
--- the keys in the first bytes of the room
-pub keys-given : (options : List ℕ) (columns : List Column) (table : List KeyColumn) (offsets room part : List ℕ) (count : ℕ) → AreReadFrom columns options (length columns) table → length options ≡ length columns
-    → AreRowKeys (options_of table) (table_of table) (rows_in columns) offsets part → take count room ≡ part → AreAllKeys options columns offsets room count
-keys-given options columns table offsets room part count read counts keys same =
+-- the keys in the first bytes of the buffer
+pub keys-given : (options : List ℕ) (columns : List Column) (table : List KeyColumn) (offsets buffer part : List ℕ) (count : ℕ) → AreReadFrom columns options (length columns) table → length options ≡ length columns
+    → AreRowKeys (options_of table) (table_of table) (rows_in columns) offsets part → take count buffer ≡ part → AreAllKeys options columns offsets buffer count
+keys-given options columns table offsets buffer part count read counts keys same =
     subst (λ bs. AreRowKeys (map options_in options) (contents_in columns) (rows_in columns) offsets bs) (sym same)
     (subst (λ o. AreRowKeys o (contents_in columns) (rows_in columns) offsets part) (all-options options columns table read counts)
     (subst (λ t. AreRowKeys (options_of table) t (rows_in columns) offsets part) (all-contents options columns table read) keys))

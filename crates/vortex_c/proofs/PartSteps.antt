@@ -8,38 +8,38 @@ use Rattle.vortex_statistics.specs.Statistics.{Known, KnownBound, known_bound}
 use Rattle.vortex_statistics.specs.declared.column_statistics.Bound.{Bound}
 use Rattle.column_statistics.specs.Items.{IsItemOf}
 use Rattle.vortex_c.specs.Parts.{AreParts, IsBoundTold, IsCountTold, IsValueTold}
-use Rattle.vortex_c.specs.FormAnswers.{AnswersForm, HasAnswer}
+use Rattle.vortex_c.specs.EncodingAnswers.{AnswersEncoding, HasAnswer}
 use Rattle.vortex_c.specs.declared.parts.StatisticsParts.{StatisticsParts}
-use Rattle.vortex_c.specs.declared.status.TheConstants.{GIVEN, NO_ROOM}
+use Rattle.vortex_c.specs.declared.status.TheConstants.{GIVEN, BUFFER_TOO_SMALL}
 
--- ---- a form in a room
+-- ---- an encoding in a buffer
 
-form_given : (Is : List ℕ → Type 0) (bytes slice room : List ℕ) (count : ℕ) → Is bytes → slice ≡ bytes → count ≡ length slice → take (length slice) room ≡ slice → Is (take count room)
-form_given Is bytes slice room count h e n t = subst Is (sym (ap (λ k. take k room) n ∙ t ∙ e)) h
+encoding_given : (Is : List ℕ → Type 0) (bytes slice buffer : List ℕ) (count : ℕ) → Is bytes → slice ≡ bytes → count ≡ length slice → take (length slice) buffer ≡ slice → Is (take count buffer)
+encoding_given Is bytes slice buffer count h e n t = subst Is (sym (ap (λ k. take k buffer) n ∙ t ∙ e)) h
 
 -- what giving bytes that are so comes to
-pub form_answered : (Is : List ℕ → Type 0) (bytes slice room_before room_after : List ℕ) (before after status : ℕ) → Is bytes → slice ≡ bytes → HasAnswer status → after ≡ length slice
-    → (status ≡ GIVEN → length slice ≤ length room_before) → (status ≡ GIVEN → take (length slice) room_after ≡ slice) → (status ≡ GIVEN → drop (length slice) room_after ≡ drop (length slice) room_before)
-    → (status ≡ NO_ROOM → length room_before < length slice) → (status ≢ GIVEN → room_after ≡ room_before) → AnswersForm Is room_before room_after before after status
-form_answered Is bytes slice room_before room_after before after status h e has n within begins rest small kept = record {
-  given = λ g. form_given Is bytes slice room_after after h e n (begins g);
-  within = λ g. subst (λ k. k ≤ length room_before) (sym n) (within g);
+pub encoding_answered : (Is : List ℕ → Type 0) (bytes slice buffer_before buffer_after : List ℕ) (before after status : ℕ) → Is bytes → slice ≡ bytes → HasAnswer status → after ≡ length slice
+    → (status ≡ GIVEN → length slice ≤ length buffer_before) → (status ≡ GIVEN → take (length slice) buffer_after ≡ slice) → (status ≡ GIVEN → drop (length slice) buffer_after ≡ drop (length slice) buffer_before)
+    → (status ≡ BUFFER_TOO_SMALL → length buffer_before < length slice) → (status ≢ GIVEN → buffer_after ≡ buffer_before) → AnswersEncoding Is buffer_before buffer_after before after status
+encoding_answered Is bytes slice buffer_before buffer_after before after status h e has n within begins rest small kept = record {
+  given = λ g. encoding_given Is bytes slice buffer_after after h e n (begins g);
+  within = λ g. subst (λ k. k ≤ length buffer_before) (sym n) (within g);
   needed = λ _. (bytes, h, n ∙ ap length e);
-  small = λ g. subst (λ k. length room_before < k) (sym n) (small g);
-  rest = λ g. subst (λ k. drop k room_after ≡ drop k room_before) (sym n) (rest g);
-  kept_room = kept;
+  small = λ g. subst (λ k. length buffer_before < k) (sym n) (small g);
+  rest = λ g. subst (λ k. drop k buffer_after ≡ drop k buffer_before) (sym n) (rest g);
+  kept_buffer = kept;
   kept_count = inl has;
 }
 
 -- what giving nothing comes to
-pub form_unanswered : (Is : List ℕ → Type 0) (room : List ℕ) (count status : ℕ) → ¬ (HasAnswer status) → AnswersForm Is room room count count status
-form_unanswered Is room count status missing = record {
+pub encoding_unanswered : (Is : List ℕ → Type 0) (buffer : List ℕ) (count status : ℕ) → ¬ (HasAnswer status) → AnswersEncoding Is buffer buffer count count status
+encoding_unanswered Is buffer count status missing = record {
   given = λ g. absurd (missing (inl g));
   within = λ g. absurd (missing (inl g));
   needed = λ has. absurd (missing has);
   small = λ g. absurd (missing (inr g));
   rest = λ _. refl;
-  kept_room = λ _. refl;
+  kept_buffer = λ _. refl;
   kept_count = inr refl;
 }
 
@@ -77,10 +77,10 @@ some_told kind o b bytes e h = subst (λ p. IsBoundTold kind (option_map known_b
 pub bound_told : (kind : Kind) (b : Option KnownBound) (is_there is_exact : Bool) (item slice : List ℕ) → slice ≡ item → IsBoundTold kind b is_there is_exact item → IsBoundTold kind b is_there is_exact slice
 bound_told kind b is_there is_exact item slice e h = subst (IsBoundTold kind b is_there is_exact) (sym e) h
 
--- the same parts by what stands in the rooms
-pub parts_given : (kind : Kind) (s : Known) (lower upper lower_room upper_room : List ℕ) (p : StatisticsParts) → AreParts kind s lower upper p
-    → take (length lower) lower_room ≡ lower → take (length upper) upper_room ≡ upper → AreParts kind s (take p.lower_length lower_room) (take p.upper_length upper_room) p
-parts_given kind s lower upper lower_room upper_room p h e f =
-    let l : take p.lower_length lower_room ≡ lower = ap (λ n. take n lower_room) h.lower_length ∙ e in
-    let u : take p.upper_length upper_room ≡ upper = ap (λ n. take n upper_room) h.upper_length ∙ f in
-    subst (λ bs. AreParts kind s bs (take p.upper_length upper_room) p) (sym l) (subst (λ bs. AreParts kind s lower bs p) (sym u) h)
+-- the same parts by what stands in the buffers
+pub parts_given : (kind : Kind) (s : Known) (lower upper lower_buffer upper_buffer : List ℕ) (p : StatisticsParts) → AreParts kind s lower upper p
+    → take (length lower) lower_buffer ≡ lower → take (length upper) upper_buffer ≡ upper → AreParts kind s (take p.lower_length lower_buffer) (take p.upper_length upper_buffer) p
+parts_given kind s lower upper lower_buffer upper_buffer p h e f =
+    let l : take p.lower_length lower_buffer ≡ lower = ap (λ n. take n lower_buffer) h.lower_length ∙ e in
+    let u : take p.upper_length upper_buffer ≡ upper = ap (λ n. take n upper_buffer) h.upper_length ∙ f in
+    subst (λ bs. AreParts kind s bs (take p.upper_length upper_buffer) p) (sym l) (subst (λ bs. AreParts kind s lower bs p) (sym u) h)

@@ -8,22 +8,22 @@ use Rattle.std.proofs.lemmas.List.{map-append, take_all, take_more}
 use Rattle.std.proofs.lemmas.Option.{slice_get-get_or, same_Some}
 use Rattle.arrow_columns.specs.Kinds.{kind_at}
 use Rattle.column_cells.specs.Types.{type_at}
-use Rattle.filter_form.specs.Form.{Prepared, parts_of}
+use Rattle.filter_encoding.specs.Encoding.{Prepared, parts_of}
 use Rattle.vortex_dtype.specs.TypeOf.{type_of}
 use Rattle.vortex_dtype.specs.TypeTree.{TypeTree}
 use Rattle.vortex_dtype.specs.declared.types.DType.{DType}
 use Rattle.filter_sql.specs.Columns.{ColumnTree, column_tree, column_trees}
-use Rattle.filter_sql.specs.Faults.{IsPlaced}
+use Rattle.filter_sql.specs.Errors.{IsPlaced}
 use Rattle.vortex_filter.specs.Formula.{Formula, formula}
 use Rattle.filter_sql.specs.Parsing.{IsSqlWithin, RefusesSqlWithin}
 use Rattle.filter_sql.specs.declared.column.Column.{Column}
 use Rattle.vortex_filter.specs.declared.filter.Filter.{Filter}
 use Rattle.filter_sql.specs.declared.error.ParseError.{ParseError}
 use Rattle.filter_sql.specs.declared.error.ParseError.TheVariants as errors
-use Rattle.vortex_c.specs.FilterSql.{AreNamed, AreNamedBefore, IsColumnFault, IsColumnsFault, IsNamed, IsPreparedFrom, IsSqlFault, IsWordsFault, WritesForm, fault_of_words, prepared_of, tree_of_kind, trees_of_kinds, types_of_kinds}
+use Rattle.vortex_c.specs.FilterSql.{AreNamed, AreNamedBefore, IsColumnError, IsColumnsError, IsNamed, IsPreparedFrom, IsSqlError, IsWordsError, WritesEncoding, fault_of_words, prepared_of, tree_of_kind, trees_of_kinds, types_of_kinds}
 use Rattle.vortex_c.specs.declared.sql.NamedKind.{NamedKind}
-use Rattle.vortex_c.specs.declared.sql.SqlFault.{SqlFault}
-use Rattle.vortex_c.specs.declared.sql.SqlFault.TheVariants.{NameNotUtf8, NoFilter, NoForm, NotAKind, NotUtf8, OutOfMemory}
+use Rattle.vortex_c.specs.declared.sql.SqlError.{SqlError}
+use Rattle.vortex_c.specs.declared.sql.SqlError.TheVariants.{NameNotUtf8, NoFilter, NoEncoding, NotAKind, NotUtf8, OutOfMemory}
 
 -- ---- columns, one by one
 
@@ -53,17 +53,17 @@ trees-more columns k d named more x here all one e =
 pub trees-all : (columns : List NamedKind) (k : ℕ) (named : List Column) → length columns ≤ k → column_trees named ≡ trees_of_kinds (take k columns) → column_trees named ≡ trees_of_kinds columns
 trees-all columns k named h all = all ∙ ap trees_of_kinds (take_all k columns h)
 
-columns-fault : (columns : List NamedKind) (k : ℕ) (d : NamedKind) (e : SqlFault) → k < length columns → AreNamedBefore columns k → IsColumnFault k (get_or columns k d) e → IsColumnsFault columns e
+columns-fault : (columns : List NamedKind) (k : ℕ) (d : NamedKind) (e : SqlError) → k < length columns → AreNamedBefore columns k → IsColumnError k (get_or columns k d) e → IsColumnsError columns e
 columns-fault columns k d OutOfMemory here all h = tt
 columns-fault columns k d (NotAKind place) here all h = (k, get_or columns k d, slice_get-get_or columns k d here, all, h)
 columns-fault columns k d (NameNotUtf8 place) here all h = (k, get_or columns k d, slice_get-get_or columns k d here, all, h)
 columns-fault columns k d NotUtf8 here all h = absurd h
 columns-fault columns k d (NoFilter cause) here all h = absurd h
-columns-fault columns k d NoForm here all h = absurd h
+columns-fault columns k d NoEncoding here all h = absurd h
 
-pub columns-refused : (columns : List NamedKind) (k : ℕ) (d : NamedKind) (r : Result (Vec Column Global) SqlFault) (e : SqlFault) → IsErr r × IsErrAnd r (λ f. f ≡ e) → k < length columns → AreNamedBefore columns k → IsColumnFault k (get_or columns k d) e → IfErr r (IsColumnsFault columns)
+pub columns-refused : (columns : List NamedKind) (k : ℕ) (d : NamedKind) (r : Result (Vec Column Global) SqlError) (e : SqlError) → IsErr r × IsErrAnd r (λ f. f ≡ e) → k < length columns → AreNamedBefore columns k → IsColumnError k (get_or columns k d) e → IfErr r (IsColumnsError columns)
 columns-refused columns k d (Ok x) e h here all one = tt
-columns-refused columns k d (Err f) e h here all one = subst (IsColumnsFault columns) (sym h.1) (columns-fault columns k d e here all one)
+columns-refused columns k d (Err f) e h here all one = subst (IsColumnsError columns) (sym h.1) (columns-fault columns k d e here all one)
 
 -- ---- types, one by one
 
@@ -80,7 +80,7 @@ types-all columns k types h all = all ∙ ap types_of_kinds (take_all k columns 
 
 -- ---- words
 
-pub words-fault : (n : ℕ) (trees : List ColumnTree) (words : List ℕ) (e : ParseError) → IsUtf8 words → RefusesSqlWithin n trees words e → IsPlaced (length words) e → IsWordsFault n trees words (fault_of_words e)
+pub words-fault : (n : ℕ) (trees : List ColumnTree) (words : List ℕ) (e : ParseError) → IsUtf8 words → RefusesSqlWithin n trees words e → IsPlaced (length words) e → IsWordsError n trees words (fault_of_words e)
 words-fault n trees words errors.OutOfMemory u r p = tt
 words-fault n trees words (errors.Expected place expected) u r p = (u, r, p)
 words-fault n trees words (errors.NoColumn place) u r p = (u, r, p)
@@ -90,59 +90,59 @@ words-fault n trees words (errors.NumberTooLong place) u r p = (u, r, p)
 words-fault n trees words (errors.BadText place) u r p = (u, r, p)
 words-fault n trees words (errors.TooDeep place) u r p = (u, r, p)
 
-of-columns : (n : ℕ) (words : List ℕ) (columns : List NamedKind) (e : SqlFault) → IsColumnsFault columns e → IsSqlFault n words columns e
+of-columns : (n : ℕ) (words : List ℕ) (columns : List NamedKind) (e : SqlError) → IsColumnsError columns e → IsSqlError n words columns e
 of-columns n words columns OutOfMemory h = tt
 of-columns n words columns (NotAKind place) h = h
 of-columns n words columns (NameNotUtf8 place) h = h
 of-columns n words columns NotUtf8 h = absurd h.4
 of-columns n words columns (NoFilter cause) h = absurd h.4
-of-columns n words columns NoForm h = absurd h.4
+of-columns n words columns NoEncoding h = absurd h.4
 
-of-words : (n : ℕ) (words : List ℕ) (columns : List NamedKind) (e : SqlFault) → AreNamed columns → IsWordsFault n (trees_of_kinds columns) words e → IsSqlFault n words columns e
+of-words : (n : ℕ) (words : List ℕ) (columns : List NamedKind) (e : SqlError) → AreNamed columns → IsWordsError n (trees_of_kinds columns) words e → IsSqlError n words columns e
 of-words n words columns OutOfMemory all h = tt
 of-words n words columns (NotAKind place) all h = absurd h
 of-words n words columns (NameNotUtf8 place) all h = absurd h
 of-words n words columns NotUtf8 all h = (all, h)
 of-words n words columns (NoFilter cause) all h = (all, h)
-of-words n words columns NoForm all h = absurd h
+of-words n words columns NoEncoding all h = absurd h
 
-pub named-refused : (n : ℕ) (words : List ℕ) (columns : List NamedKind) (r : Result Filter SqlFault) (e : SqlFault) → IsErr r × IsErrAnd r (λ f. f ≡ e) → IsColumnsFault columns e → IfErr r (IsSqlFault n words columns)
+pub named-refused : (n : ℕ) (words : List ℕ) (columns : List NamedKind) (r : Result Filter SqlError) (e : SqlError) → IsErr r × IsErrAnd r (λ f. f ≡ e) → IsColumnsError columns e → IfErr r (IsSqlError n words columns)
 named-refused n words columns (Ok x) e h k = tt
-named-refused n words columns (Err f) e h k = subst (IsSqlFault n words columns) (sym h.1) (of-columns n words columns e k)
+named-refused n words columns (Err f) e h k = subst (IsSqlError n words columns) (sym h.1) (of-columns n words columns e k)
 
-pub words-refused : (n : ℕ) (words : List ℕ) (columns : List NamedKind) (trees : List ColumnTree) (r : Result Filter SqlFault) → trees ≡ trees_of_kinds columns → AreNamed columns → IfErr r (IsWordsFault n trees words) → IfErr r (IsSqlFault n words columns)
+pub words-refused : (n : ℕ) (words : List ℕ) (columns : List NamedKind) (trees : List ColumnTree) (r : Result Filter SqlError) → trees ≡ trees_of_kinds columns → AreNamed columns → IfErr r (IsWordsError n trees words) → IfErr r (IsSqlError n words columns)
 words-refused n words columns trees (Ok x) is all h = tt
-words-refused n words columns trees (Err e) is all h = of-words n words columns e all (subst (λ ts. IsWordsFault n ts words e) is h)
+words-refused n words columns trees (Err e) is all h = of-words n words columns e all (subst (λ ts. IsWordsError n ts words e) is h)
 
-pub words-read : (n : ℕ) (words : List ℕ) (columns : List NamedKind) (trees : List ColumnTree) (r : Result Filter SqlFault) → trees ≡ trees_of_kinds columns → IfOk r (λ filter. IsSqlWithin n trees words (formula filter)) → IfOk r (λ filter. IsSqlWithin n (trees_of_kinds columns) words (formula filter))
+pub words-read : (n : ℕ) (words : List ℕ) (columns : List NamedKind) (trees : List ColumnTree) (r : Result Filter SqlError) → trees ≡ trees_of_kinds columns → IfOk r (λ filter. IsSqlWithin n trees words (formula filter)) → IfOk r (λ filter. IsSqlWithin n (trees_of_kinds columns) words (formula filter))
 words-read n words columns trees r is h = subst (λ ts. IfOk r (λ filter. IsSqlWithin n ts words (formula filter))) is h
 
-pub filter-named : (r : Result Filter SqlFault) (P : Type 0) → P → OnOk r P
+pub filter-named : (r : Result Filter SqlError) (P : Type 0) → P → OnOk r P
 filter-named (Ok x) P h = h
 filter-named (Err e) P h = tt
 
--- ---- forms
+-- ---- encodings
 
-pub form-along : (n : ℕ) (types : List DType) (columns : List NamedKind) (filter : Filter) (r : Result (Vec ℕ Global) SqlFault) → map type_of types ≡ types_of_kinds columns → WritesForm n (parts_of types filter) r → WritesForm n (prepared_of columns (formula filter)) r
-form-along n types columns filter r is h =
+pub encoding-along : (n : ℕ) (types : List DType) (columns : List NamedKind) (filter : Filter) (r : Result (Vec ℕ Global) SqlError) → map type_of types ≡ types_of_kinds columns → WritesEncoding n (parts_of types filter) r → WritesEncoding n (prepared_of columns (formula filter)) r
+encoding-along n types columns filter r is h =
     let prepared_with : List TypeTree → Prepared = λ ts. record { types = ts; filter = formula filter } in
-    subst (λ p. WritesForm n p r) (ap prepared_with is) h
+    subst (λ p. WritesEncoding n p r) (ap prepared_with is) h
 
-pub form-refused : (n : ℕ) (p : Prepared) (r : Result (Vec ℕ Global) SqlFault) (e : SqlFault) → IsErr r × IsErrAnd r (λ f. f ≡ e) → e ≡ OutOfMemory → WritesForm n p r
-form-refused n p (Ok x) e h is = absurd h.1
-form-refused n p (Err f) e h is = inl (h.1 ∙ is)
+pub encoding-refused : (n : ℕ) (p : Prepared) (r : Result (Vec ℕ Global) SqlError) (e : SqlError) → IsErr r × IsErrAnd r (λ f. f ≡ e) → e ≡ OutOfMemory → WritesEncoding n p r
+encoding-refused n p (Ok x) e h is = absurd h.1
+encoding-refused n p (Err f) e h is = inl (h.1 ∙ is)
 
-pub prepared-from : (n : ℕ) (words : List ℕ) (columns : List NamedKind) (f : Formula) (r : Result (Vec ℕ Global) SqlFault) → AreNamed columns → IsSqlWithin n (trees_of_kinds columns) words f → WritesForm n (prepared_of columns f) r → IfOk r (λ bytes. IsPreparedFrom n words columns bytes.items)
+pub prepared-from : (n : ℕ) (words : List ℕ) (columns : List NamedKind) (f : Formula) (r : Result (Vec ℕ Global) SqlError) → AreNamed columns → IsSqlWithin n (trees_of_kinds columns) words f → WritesEncoding n (prepared_of columns f) r → IfOk r (λ bytes. IsPreparedFrom n words columns bytes.items)
 prepared-from n words columns f (Ok bytes) all means h = record { named = all; filter = f; means = means; written = h.0; is = h.1 }
 prepared-from n words columns f (Err e) all means h = tt
 
-pub form-fault : (n : ℕ) (words : List ℕ) (columns : List NamedKind) (f : Formula) (r : Result (Vec ℕ Global) SqlFault) → AreNamed columns → IsSqlWithin n (trees_of_kinds columns) words f → WritesForm n (prepared_of columns f) r → IfErr r (IsSqlFault n words columns)
-form-fault n words columns f (Ok bytes) all means h = tt
-form-fault n words columns f (Err e) all means (inl none) = subst (IsSqlFault n words columns) (sym none) tt
-form-fault n words columns f (Err e) all means (inr deep) = subst (IsSqlFault n words columns) (sym deep.0) (all, (f, means, deep.1))
+pub encoding-fault : (n : ℕ) (words : List ℕ) (columns : List NamedKind) (f : Formula) (r : Result (Vec ℕ Global) SqlError) → AreNamed columns → IsSqlWithin n (trees_of_kinds columns) words f → WritesEncoding n (prepared_of columns f) r → IfErr r (IsSqlError n words columns)
+encoding-fault n words columns f (Ok bytes) all means h = tt
+encoding-fault n words columns f (Err e) all means (inl none) = subst (IsSqlError n words columns) (sym none) tt
+encoding-fault n words columns f (Err e) all means (inr deep) = subst (IsSqlError n words columns) (sym deep.0) (all, (f, means, deep.1))
 
-pub filter-refused : (n : ℕ) (words : List ℕ) (columns : List NamedKind) (r : Result (Vec ℕ Global) SqlFault) (e : SqlFault) → IsErr r × IsErrAnd r (λ f. f ≡ e) → IsSqlFault n words columns e → IfErr r (IsSqlFault n words columns)
+pub filter-refused : (n : ℕ) (words : List ℕ) (columns : List NamedKind) (r : Result (Vec ℕ Global) SqlError) (e : SqlError) → IsErr r × IsErrAnd r (λ f. f ≡ e) → IsSqlError n words columns e → IfErr r (IsSqlError n words columns)
 filter-refused n words columns (Ok x) e h k = tt
-filter-refused n words columns (Err f) e h k = subst (IsSqlFault n words columns) (sym h.1) k
+filter-refused n words columns (Err f) e h k = subst (IsSqlError n words columns) (sym h.1) k
 
-pub ruleset shown = (named-before-none, trees-all, types-all, words-fault, form-along)
+pub ruleset shown = (named-before-none, trees-all, types-all, words-fault, encoding-along)

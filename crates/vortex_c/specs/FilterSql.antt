@@ -4,10 +4,10 @@ use Rattle.std.specs.Global.{Global}
 use Rattle.std.specs.Str.{IsUtf8}
 use Rattle.arrow_columns.specs.Kinds.{kind_at}
 use Rattle.column_cells.specs.Types.{type_at}
-use Rattle.filter_form.specs.Form.{CanBeWritten, Prepared, form}
+use Rattle.filter_encoding.specs.Encoding.{CanBeWritten, Prepared, encoding}
 use Rattle.vortex_dtype.specs.TypeTree.{TypeTree}
 use Rattle.filter_sql.specs.Columns.{ColumnTree}
-use Rattle.filter_sql.specs.Faults.{IsPlaced, place_of}
+use Rattle.filter_sql.specs.Errors.{IsPlaced, place_of}
 use Rattle.vortex_filter.specs.Formula.{Formula}
 use Rattle.filter_sql.specs.Parsing.{IsSqlWithin, RefusesSqlWithin}
 use Rattle.filter_sql.specs.declared.error.Expected.{Expected}
@@ -16,8 +16,8 @@ use Rattle.filter_sql.specs.declared.error.ParseError.{ParseError}
 use Rattle.filter_sql.specs.declared.error.ParseError.TheVariants as errors
 use Rattle.vortex_c.specs.declared.sql.Mistake.{Mistake}
 use Rattle.vortex_c.specs.declared.sql.NamedKind.{NamedKind}
-use Rattle.vortex_c.specs.declared.sql.SqlFault.{SqlFault}
-use Rattle.vortex_c.specs.declared.sql.SqlFault.TheVariants.{NameNotUtf8, NoFilter, NoForm, NotAKind, NotUtf8, OutOfMemory}
+use Rattle.vortex_c.specs.declared.sql.SqlError.{SqlError}
+use Rattle.vortex_c.specs.declared.sql.SqlError.TheVariants.{NameNotUtf8, NoFilter, NoEncoding, NotAKind, NotUtf8, OutOfMemory}
 use Rattle.vortex_c.specs.declared.status.TheConstants.{BAD_FILTER, NO_MEMORY, NOT_UTF8, UNKNOWN_KIND}
 
 -- ---- columns by name and kind
@@ -51,64 +51,64 @@ AreNamed columns = AreNamedBefore columns (length columns)
 abbrev pub prepared_of : List NamedKind → Formula → Prepared
 prepared_of columns f = record { types = types_of_kinds columns; filter = f }
 
--- the bytes are the form of the filter that the words are, over these columns; in both at most n connectives nest, and in the
+-- the bytes are the encoding of the filter that the words are, over these columns; in both at most n connectives nest, and in the
 -- words parentheses too
 pub record IsPreparedFrom (n : ℕ) (words : List ℕ) (columns : List NamedKind) (bytes : List ℕ) : Type 0 where
   pub named : AreNamed columns
   pub filter : Formula
   pub means : IsSqlWithin n (trees_of_kinds columns) words filter
   pub written : CanBeWritten n (prepared_of columns filter)
-  pub is : bytes ≡ form (prepared_of columns filter)
+  pub is : bytes ≡ encoding (prepared_of columns filter)
 
--- the bytes are the form of what is prepared so, or there is no memory, or it has no form
-abbrev pub WritesForm : ℕ → Prepared → Result (Vec ℕ Global) SqlFault → Type 0
-WritesForm n p r = MatchResult r (λ bytes. CanBeWritten n p × (bytes.items ≡ form p)) (λ e. (e ≡ OutOfMemory) ⊎ ((e ≡ NoForm) × ¬ (CanBeWritten n p)))
+-- the bytes are the encoding of what is prepared so, or there is no memory, or it has no encoding
+abbrev pub WritesEncoding : ℕ → Prepared → Result (Vec ℕ Global) SqlError → Type 0
+WritesEncoding n p r = MatchResult r (λ bytes. CanBeWritten n p × (bytes.items ≡ encoding p)) (λ e. (e ≡ OutOfMemory) ⊎ ((e ≡ NoEncoding) × ¬ (CanBeWritten n p)))
 
 -- ---- mistakes
 
 -- why a column at a place is not named: the first reason in this order
-abbrev pub IsColumnFault : ℕ → NamedKind → SqlFault → Type 0
-IsColumnFault k column OutOfMemory = Unit {0}
-IsColumnFault k column (NotAKind place) = (place ≡ k) × (kind_at column.kind ≡ None)
-IsColumnFault k column (NameNotUtf8 place) = (place ≡ k) × (kind_at column.kind ≢ None) × ¬ (IsUtf8 column.name.now)
-IsColumnFault k column NotUtf8 = ⊥
-IsColumnFault k column (NoFilter cause) = ⊥
-IsColumnFault k column NoForm = ⊥
+abbrev pub IsColumnError : ℕ → NamedKind → SqlError → Type 0
+IsColumnError k column OutOfMemory = Unit {0}
+IsColumnError k column (NotAKind place) = (place ≡ k) × (kind_at column.kind ≡ None)
+IsColumnError k column (NameNotUtf8 place) = (place ≡ k) × (kind_at column.kind ≢ None) × ¬ (IsUtf8 column.name.now)
+IsColumnError k column NotUtf8 = ⊥
+IsColumnError k column (NoFilter cause) = ⊥
+IsColumnError k column NoEncoding = ⊥
 
 -- why some column is not named: the first one that is not
-abbrev pub IsColumnsFault : List NamedKind → SqlFault → Type 0
-IsColumnsFault columns OutOfMemory = Unit {0}
-IsColumnsFault columns fault = (k : ℕ) × (column : NamedKind) × (slice_get columns k ≡ Some column) × AreNamedBefore columns k × IsColumnFault k column fault
+abbrev pub IsColumnsError : List NamedKind → SqlError → Type 0
+IsColumnsError columns OutOfMemory = Unit {0}
+IsColumnsError columns fault = (k : ℕ) × (column : NamedKind) × (slice_get columns k ≡ Some column) × AreNamedBefore columns k × IsColumnError k column fault
 
 -- the fault of words that are refused so
-abbrev pub fault_of_words : ParseError → SqlFault
+abbrev pub fault_of_words : ParseError → SqlError
 fault_of_words errors.OutOfMemory = OutOfMemory
 fault_of_words cause = NoFilter cause
 
 -- why words are no filter over such columns
-abbrev pub IsWordsFault : ℕ → List ColumnTree → List ℕ → SqlFault → Type 0
-IsWordsFault n trees words OutOfMemory = Unit {0}
-IsWordsFault n trees words NotUtf8 = ¬ (IsUtf8 words)
-IsWordsFault n trees words (NoFilter errors.OutOfMemory) = ⊥
-IsWordsFault n trees words (NoFilter cause) = IsUtf8 words × RefusesSqlWithin n trees words cause × IsPlaced (length words) cause
-IsWordsFault n trees words _ = ⊥
+abbrev pub IsWordsError : ℕ → List ColumnTree → List ℕ → SqlError → Type 0
+IsWordsError n trees words OutOfMemory = Unit {0}
+IsWordsError n trees words NotUtf8 = ¬ (IsUtf8 words)
+IsWordsError n trees words (NoFilter errors.OutOfMemory) = ⊥
+IsWordsError n trees words (NoFilter cause) = IsUtf8 words × RefusesSqlWithin n trees words cause × IsPlaced (length words) cause
+IsWordsError n trees words _ = ⊥
 
--- why there is no form of the filter that the words are
-abbrev pub IsSqlFault : ℕ → List ℕ → List NamedKind → SqlFault → Type 0
-IsSqlFault n words columns OutOfMemory = Unit {0}
-IsSqlFault n words columns (NotAKind place) = IsColumnsFault columns (NotAKind place)
-IsSqlFault n words columns (NameNotUtf8 place) = IsColumnsFault columns (NameNotUtf8 place)
-IsSqlFault n words columns NotUtf8 = AreNamed columns × IsWordsFault n (trees_of_kinds columns) words NotUtf8
-IsSqlFault n words columns (NoFilter cause) = AreNamed columns × IsWordsFault n (trees_of_kinds columns) words (NoFilter cause)
-IsSqlFault n words columns NoForm = AreNamed columns × ((f : Formula) × IsSqlWithin n (trees_of_kinds columns) words f × ¬ (CanBeWritten n (prepared_of columns f)))
+-- why there is no encoding of the filter that the words are
+abbrev pub IsSqlError : ℕ → List ℕ → List NamedKind → SqlError → Type 0
+IsSqlError n words columns OutOfMemory = Unit {0}
+IsSqlError n words columns (NotAKind place) = IsColumnsError columns (NotAKind place)
+IsSqlError n words columns (NameNotUtf8 place) = IsColumnsError columns (NameNotUtf8 place)
+IsSqlError n words columns NotUtf8 = AreNamed columns × IsWordsError n (trees_of_kinds columns) words NotUtf8
+IsSqlError n words columns (NoFilter cause) = AreNamed columns × IsWordsError n (trees_of_kinds columns) words (NoFilter cause)
+IsSqlError n words columns NoEncoding = AreNamed columns × ((f : Formula) × IsSqlWithin n (trees_of_kinds columns) words f × ¬ (CanBeWritten n (prepared_of columns f)))
 
-abbrev pub status_of_sql : SqlFault → ℕ
+abbrev pub status_of_sql : SqlError → ℕ
 status_of_sql OutOfMemory = NO_MEMORY
 status_of_sql (NotAKind column) = UNKNOWN_KIND
 status_of_sql (NameNotUtf8 column) = NOT_UTF8
 status_of_sql NotUtf8 = NOT_UTF8
 status_of_sql (NoFilter cause) = BAD_FILTER
-status_of_sql NoForm = BAD_FILTER
+status_of_sql NoEncoding = BAD_FILTER
 
 -- what had to come, by its code
 abbrev pub code_of_expected : Expected → ℕ
@@ -141,15 +141,15 @@ abbrev pub place_of_mistake : ParseError → ℕ
 place_of_mistake cause = unwrap_or (place_of cause) 0
 
 -- what is told of it, if this was there before: of words that are not UTF-8 the number of columns
-abbrev pub mistake_of_sql : ℕ → SqlFault → Mistake → Mistake
+abbrev pub mistake_of_sql : ℕ → SqlError → Mistake → Mistake
 mistake_of_sql columns OutOfMemory before = before
 mistake_of_sql columns (NotAKind column) before = record { place = column; expected = 0 }
 mistake_of_sql columns (NameNotUtf8 column) before = record { place = column; expected = 0 }
 mistake_of_sql columns NotUtf8 before = record { place = columns; expected = 0 }
 mistake_of_sql columns (NoFilter cause) before = record { place = place_of_mistake cause; expected = code_of_mistake cause }
-mistake_of_sql columns NoForm before = record { place = 0; expected = 17 }
+mistake_of_sql columns NoEncoding before = record { place = 0; expected = 17 }
 
 -- the call with this status prepared nothing for such a reason, and told what
 abbrev pub SaysWhyNotPrepared : ℕ → List ℕ → List NamedKind → Mistake → Mistake → ℕ → Type 0
 SaysWhyNotPrepared n words columns before after status =
-    (reason : SqlFault) × IsSqlFault n words columns reason × (status ≡ status_of_sql reason) × (after ≡ mistake_of_sql (length columns) reason before)
+    (reason : SqlError) × IsSqlError n words columns reason × (status ≡ status_of_sql reason) × (after ≡ mistake_of_sql (length columns) reason before)

@@ -1,12 +1,12 @@
 pub mod Bounds
 pub mod ColumnAnswers
 pub mod ColumnCasts
-pub mod ColumnFaults
+pub mod ColumnErrors
 pub mod Columns
 pub mod FilterSql
 pub mod FilterWords
 pub mod Filters
-pub mod FormAnswers
+pub mod EncodingAnswers
 pub mod Integers
 pub mod KeyColumns
 pub mod KeyWords

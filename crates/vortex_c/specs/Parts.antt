@@ -5,10 +5,10 @@ use Rattle.arrow_columns.specs.declared.kinds.Kind.{Kind}
 use Rattle.column_cells.specs.Types.{type_of_kind}
 use Rattle.vortex_value.specs.Values.Content.{Content, null}
 use Rattle.vortex_statistics.specs.Statistics.{Known, KnownBound}
-use Rattle.column_statistics.specs.Forms.{IsFormAs, IsReadFault}
+use Rattle.column_statistics.specs.Encodings.{IsEncodingAs, IsReadError}
 use Rattle.column_statistics.specs.Items.{IsItemOf}
-use Rattle.column_statistics.specs.declared.faults.ReadFault.{ReadFault}
-use Rattle.column_statistics.specs.declared.faults.ReadFault.TheVariants.{BadBytes, OutOfMemory}
+use Rattle.column_statistics.specs.declared.faults.ReadError.{ReadError}
+use Rattle.column_statistics.specs.declared.faults.ReadError.TheVariants.{BadBytes, OutOfMemory}
 use Rattle.vortex_c.specs.Statistics.{SaysNoKind}
 use Rattle.vortex_c.specs.declared.fault.Fault.{Fault}
 use Rattle.vortex_c.specs.declared.parts.StatisticsParts.{StatisticsParts}
@@ -42,26 +42,26 @@ pub record AreParts (kind : Kind) (s : Known) (lower upper : List ℕ) (p : Stat
   pub lower_length : p.lower_length ≡ length lower
   pub upper_length : p.upper_length ≡ length upper
 
--- these are the parts of the statistics that have this form, of a column of the kind with this code
+-- these are the parts of the statistics that have this encoding, of a column of the kind with this code
 pub record ArePartsAt (code : ℕ) (bytes lower upper : List ℕ) (p : StatisticsParts) : Type 0 where
   pub kind : Kind
   pub is_kind : kind_at code ≡ Some kind
   pub statistics : Known
-  pub is_form : IsFormAs (type_of_kind kind) bytes statistics
+  pub is_encoding : IsEncodingAs (type_of_kind kind) bytes statistics
   pub parts : AreParts kind statistics lower upper p
 
 -- the status of bytes that are not read
-abbrev pub status_of_read : ReadFault → ℕ
+abbrev pub status_of_read : ReadError → ℕ
 status_of_read OutOfMemory = NO_MEMORY
 status_of_read (BadBytes place) = BAD_BYTES
 
 -- where that is told to be, if it was there before
-abbrev pub fault_of_read : Fault → ReadFault → Fault
+abbrev pub fault_of_read : Fault → ReadError → Fault
 fault_of_read before OutOfMemory = before
 fault_of_read before (BadBytes place) = record { column = 0; place = place }
 
 -- the call with this status read nothing for such a reason, and told where
 abbrev pub SaysWhyNotRead : ℕ → List ℕ → Fault → Fault → ℕ → Type 0
 SaysWhyNotRead code bytes before after status = SaysNoKind code after status
-    ⊎ ((kind : Kind) × (reason : ReadFault) × (kind_at code ≡ Some kind) × IsReadFault (type_of_kind kind) bytes reason
+    ⊎ ((kind : Kind) × (reason : ReadError) × (kind_at code ≡ Some kind) × IsReadError (type_of_kind kind) bytes reason
     × (status ≡ status_of_read reason) × (after ≡ fault_of_read before reason))

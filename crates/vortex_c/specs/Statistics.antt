@@ -1,15 +1,15 @@
--- What callers are told of the statistics of columns, in their stable form.
+-- What callers are told of the statistics of columns, in their stable encoding.
 use Rattle.std.specs.Prelude.{◌≡◌, ◌⊎◌, ℕ, List, Some, None}
 use Rattle.arrow_columns.specs.Kinds.{kind_at}
 use Rattle.arrow_columns.specs.declared.columns.Column.{Column}
 use Rattle.arrow_columns.specs.declared.kinds.Kind.{Kind}
 use Rattle.column_cells.specs.Types.{type_of_kind}
-use Rattle.column_statistics.specs.Forms.{IsFormFault, IsMergeFault, IsMergedForm}
-use Rattle.column_statistics.specs.declared.faults.MergeFault.{MergeFault}
-use Rattle.column_statistics.specs.declared.faults.MergeFault.TheVariants as merge
-use Rattle.column_statistics.specs.declared.faults.StatisticsFault.{StatisticsFault}
-use Rattle.column_statistics.specs.declared.faults.StatisticsFault.TheVariants as column
-use Rattle.vortex_c.specs.ColumnFaults.{place_in_column, status_of_column}
+use Rattle.column_statistics.specs.Encodings.{IsEncodingError, IsMergeError, IsMergedEncoding}
+use Rattle.column_statistics.specs.declared.faults.MergeError.{MergeError}
+use Rattle.column_statistics.specs.declared.faults.MergeError.TheVariants as merge
+use Rattle.column_statistics.specs.declared.faults.ColumnStatisticsError.{ColumnStatisticsError}
+use Rattle.column_statistics.specs.declared.faults.ColumnStatisticsError.TheVariants as column
+use Rattle.vortex_c.specs.ColumnErrors.{place_in_column, status_of_column}
 use Rattle.vortex_c.specs.declared.fault.Fault.{Fault}
 use Rattle.vortex_c.specs.declared.status.TheConstants.{BAD_BYTES, NO_MEMORY, TOO_MANY_ROWS, UNKNOWN_KIND}
 
@@ -19,36 +19,36 @@ SaysNoKind code after status = (kind_at code ≡ None) × (status ≡ UNKNOWN_KI
 
 -- ---- of a column
 
--- the status of a column that has no form
-abbrev pub status_of_form : StatisticsFault → ℕ
-status_of_form column.OutOfMemory = NO_MEMORY
-status_of_form (column.Unreadable fault) = status_of_column fault
+-- the status of a column that has no encoding
+abbrev pub status_of_encoding : ColumnStatisticsError → ℕ
+status_of_encoding column.OutOfMemory = NO_MEMORY
+status_of_encoding (column.Unreadable fault) = status_of_column fault
 
 -- where it is told to be, if it was there before: want of memory is nowhere
-abbrev pub fault_of_form : Fault → StatisticsFault → Fault
-fault_of_form before column.OutOfMemory = before
-fault_of_form before (column.Unreadable fault) = record { column = 0; place = place_in_column fault }
+abbrev pub fault_of_encoding : Fault → ColumnStatisticsError → Fault
+fault_of_encoding before column.OutOfMemory = before
+fault_of_encoding before (column.Unreadable fault) = record { column = 0; place = place_in_column fault }
 
--- the call with this status gave no form for such a reason, and told where
-abbrev pub SaysWhyNoForm : Column → Fault → Fault → ℕ → Type 0
-SaysWhyNoForm c before after status = (reason : StatisticsFault) × IsFormFault c reason × (status ≡ status_of_form reason) × (after ≡ fault_of_form before reason)
+-- the call with this status gave no encoding for such a reason, and told where
+abbrev pub SaysWhyNoEncoding : Column → Fault → Fault → ℕ → Type 0
+SaysWhyNoEncoding c before after status = (reason : ColumnStatisticsError) × IsEncodingError c reason × (status ≡ status_of_encoding reason) × (after ≡ fault_of_encoding before reason)
 
 -- ---- of two pieces
 
--- the bytes are the form of both pieces, of a column of the kind with this code
+-- the bytes are the encoding of both pieces, of a column of the kind with this code
 pub record IsMergedAt (code : ℕ) (one other bytes : List ℕ) : Type 0 where
   pub kind : Kind
   pub is_kind : kind_at code ≡ Some kind
-  pub merged : IsMergedForm (type_of_kind kind) one other bytes
+  pub merged : IsMergedEncoding (type_of_kind kind) one other bytes
 
 -- the status of pieces that are not merged
-abbrev pub status_of_merge : MergeFault → ℕ
+abbrev pub status_of_merge : MergeError → ℕ
 status_of_merge merge.OutOfMemory = NO_MEMORY
 status_of_merge merge.TooManyRows = TOO_MANY_ROWS
 status_of_merge (merge.BadBytes piece place) = BAD_BYTES
 
 -- where that is told to be, if it was there before: the piece, and the place in it
-abbrev pub fault_of_merge : Fault → MergeFault → Fault
+abbrev pub fault_of_merge : Fault → MergeError → Fault
 fault_of_merge before merge.OutOfMemory = before
 fault_of_merge before merge.TooManyRows = record { column = 0; place = 0 }
 fault_of_merge before (merge.BadBytes piece place) = record { column = piece; place = place }
@@ -56,5 +56,5 @@ fault_of_merge before (merge.BadBytes piece place) = record { column = piece; pl
 -- the call with this status merged nothing for such a reason, and told where
 abbrev pub SaysWhyNotMerged : ℕ → List ℕ → List ℕ → Fault → Fault → ℕ → Type 0
 SaysWhyNotMerged code one other before after status = SaysNoKind code after status
-    ⊎ ((kind : Kind) × (reason : MergeFault) × (kind_at code ≡ Some kind) × IsMergeFault (type_of_kind kind) one other reason
+    ⊎ ((kind : Kind) × (reason : MergeError) × (kind_at code ≡ Some kind) × IsMergeError (type_of_kind kind) one other reason
     × (status ≡ status_of_merge reason) × (after ≡ fault_of_merge before reason))

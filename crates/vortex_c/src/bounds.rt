@@ -6,7 +6,7 @@ ghost use Rattle.vortex_c.specs.Words.{AnswersUpper, HasNoTextUpper, HasNoUpper,
 ghost use Rattle.vortex_c.specs.Words.{IsTextUpper, IsUpper, IsWholeOrBest, OutOfMemory, bytes_of, option_copied};
 ghost use Rattle.vortex_c.specs.Words.{option_map};
 
-use crate::status::{GIVEN, NO_MEMORY, NO_ROOM, NONE, NOT_UTF8};
+use crate::status::{BUFFER_TOO_SMALL, GIVEN, NO_MEMORY, NONE, NOT_UTF8};
 use std::alloc::Global;
 use std::str;
 use vortex_bounds::ScalarTruncation;
@@ -50,46 +50,47 @@ pub extern "C" fn doqallin_lower_bound_text(
     GIVEN
 }
 
-/// The upper bound of bytes at `max_length` bytes, written to the room.
+/// The upper bound of bytes at `max_length` bytes, written to the buffer.
 ///
 /// - `NONE`: the value has more than `max_length` bytes, and no bytes of that length are above it.
-/// - `NO_ROOM`: the room is too small. `count` says how many bytes the bound has.
+/// - `BUFFER_TOO_SMALL`: the buffer is too small. `count` says how many bytes the bound has.
 /// - `NO_MEMORY`: only if `max_length` is above 22 and the value longer than that.
 #[unsafe(no_mangle)]
 pub extern "C" fn doqallin_upper_bound_bytes(
     alloc: Global,
     value: &[u8],
     max_length: usize,
-    room: &mut [u8],
+    buffer: &mut [u8],
     count: &mut usize,
 ) -> u32
     ensures statuses { (result ≡ GIVEN)
-        ⊎ ((result ≡ NONE) ⊎ ((result ≡ NO_MEMORY) ⊎ (result ≡ NO_ROOM))) }
+        ⊎ ((result ≡ NONE) ⊎ ((result ≡ NO_MEMORY) ⊎ (result ≡ BUFFER_TOO_SMALL))) }
     ensures answer { AnswersUpper IsUpper HasNoUpper
-        value.now max_length room.old room.new count.old count.new result }
+        value.now max_length buffer.old buffer.new count.old count.new result }
 {
     match upper_of_bytes(alloc, value, max_length) {
-        Ok(Some(bound)) => give(bound.as_slice(), room, count),
+        Ok(Some(bound)) => give(bound.as_slice(), buffer, count),
         Ok(None) => NONE,
         Err(_) => NO_MEMORY,
     }
 }
 
-/// The upper bound of a string at `max_length` bytes, by whole characters, written to the room.
+/// The upper bound of a string at `max_length` bytes, by whole characters, written to the buffer.
 ///
-/// The statuses come as from `doqallin_upper_bound_bytes`, and `NOT_UTF8` if the value is not UTF-8.
+/// The statuses come as from `doqallin_upper_bound_bytes`, and `NOT_UTF8` if the value is not
+/// UTF-8.
 #[unsafe(no_mangle)]
 pub extern "C" fn doqallin_upper_bound_text(
     alloc: Global,
     value: &[u8],
     max_length: usize,
-    room: &mut [u8],
+    buffer: &mut [u8],
     count: &mut usize,
 ) -> u32
     ensures statuses { (result ≡ GIVEN) ⊎ ((result ≡ NONE)
-        ⊎ ((result ≡ NO_MEMORY) ⊎ ((result ≡ NO_ROOM) ⊎ (result ≡ NOT_UTF8)))) }
+        ⊎ ((result ≡ NO_MEMORY) ⊎ ((result ≡ BUFFER_TOO_SMALL) ⊎ (result ≡ NOT_UTF8)))) }
     ensures answer { AnswersUpper IsTextUpper HasNoTextUpper
-        value.now max_length room.old room.new count.old count.new result }
+        value.now max_length buffer.old buffer.new count.old count.new result }
     ensures text { result ≢ NOT_UTF8 → IsUtf8 value.now }
     ensures refused { result ≡ NOT_UTF8 → ¬ (IsUtf8 value.now) }
 {
@@ -97,7 +98,7 @@ pub extern "C" fn doqallin_upper_bound_text(
         return NOT_UTF8;
     };
     match upper_of_text(alloc, text, max_length) {
-        Ok(Some(bound)) => give(bound.as_slice(), room, count),
+        Ok(Some(bound)) => give(bound.as_slice(), buffer, count),
         Ok(None) => NONE,
         Err(_) => NO_MEMORY,
     }
@@ -201,23 +202,23 @@ pub(crate) fn upper_of_text<'a>(
     }
 }
 
-/// Writes the bound to the room, and its length; only the length if the room is too small.
-pub(crate) fn give(bound: &[u8], room: &mut [u8], count: &mut usize) -> u32
-    ensures statuses { (result ≡ GIVEN) ⊎ (result ≡ NO_ROOM) }
+/// Writes the bound to the buffer, and its length; only the length if the buffer is too small.
+pub(crate) fn give(bound: &[u8], buffer: &mut [u8], count: &mut usize) -> u32
+    ensures statuses { (result ≡ GIVEN) ⊎ (result ≡ BUFFER_TOO_SMALL) }
     ensures count { count.new ≡ length bound.now }
-    ensures within { result ≡ GIVEN → length bound.now ≤ length room.old }
-    ensures given { result ≡ GIVEN → take (length bound.now) room.new ≡ bound.now }
+    ensures within { result ≡ GIVEN → length bound.now ≤ length buffer.old }
+    ensures given { result ≡ GIVEN → take (length bound.now) buffer.new ≡ bound.now }
     ensures rest { result ≡ GIVEN
-        → drop (length bound.now) room.new ≡ drop (length bound.now) room.old }
-    ensures small { result ≡ NO_ROOM → length room.old < length bound.now }
-    ensures kept { result ≢ GIVEN → room.new ≡ room.old }
+        → drop (length bound.now) buffer.new ≡ drop (length bound.now) buffer.old }
+    ensures small { result ≡ BUFFER_TOO_SMALL → length buffer.old < length bound.now }
+    ensures kept { result ≢ GIVEN → buffer.new ≡ buffer.old }
 {
     let needed = bound.len();
     *count = needed;
-    if needed <= room.len() {
-        room[..needed].copy_from_slice(bound);
+    if needed <= buffer.len() {
+        buffer[..needed].copy_from_slice(bound);
         GIVEN
     } else {
-        NO_ROOM
+        BUFFER_TOO_SMALL
     }
 }

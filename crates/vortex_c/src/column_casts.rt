@@ -3,12 +3,12 @@
 ghost use Rattle.std.specs.Prelude.{◌≡◌, ◌≢◌, ◌*◌, ◌≤◌, IfErr, IfOk, OnErr, OnOk, Some, drop, length};
 ghost use Rattle.arrow_columns.specs.declared.kinds.IntegerKind.{IntegerKind as AnyKind};
 ghost use Rattle.vortex_c.specs.Words.{AreKinds, Integer, IsCastRefusal, IsColumnCast, IsFrontCast};
-ghost use Rattle.vortex_c.specs.Words.{IsIntegerFault, IsLeft, SaysWhyNoCast, fault_of_cast, integer_kind_at};
+ghost use Rattle.vortex_c.specs.Words.{IsIntegerError, IsLeft, SaysWhyNoCast, fault_of_cast, integer_kind_at};
 ghost use Rattle.vortex_c.specs.Words.{kind_at, status_of_cast, width_of};
 
 use crate::fault::{Fault, place_in_column, status_of_column};
-use crate::status::{GIVEN, NO_ROOM, NONE, UNKNOWN_KIND};
-use arrow_columns::{Column, ColumnFault, IntegerKind, IntegerRows, Kind, Rows};
+use crate::status::{BUFFER_TOO_SMALL, GIVEN, NONE, UNKNOWN_KIND};
+use arrow_columns::{Column, ColumnError, IntegerKind, IntegerRows, Kind, Rows};
 
 /// Why a column was not cast.
 #[derive(Clone, Copy)]
@@ -18,8 +18,8 @@ pub(crate) enum CastRefusal {
     /// The column is not one of integers.
     NotIntegers,
     /// The column cannot be read.
-    Unreadable(ColumnFault),
-    /// The room is too small.
+    Unreadable(ColumnError),
+    /// The buffer is too small.
     TooSmall,
     /// The kind lacks the integer of this row, the first such one.
     Without(usize),
@@ -37,25 +37,25 @@ struct Castable<'a> {
 ///
 /// - `UNKNOWN_KIND`: a code is of no kind of integers: `to` with column 1, the column's with 0.
 /// - `TOO_MANY_ROWS`, `TOO_SHORT`: the column cannot be read.
-/// - `NO_ROOM`: the room has fewer bytes than the items.
+/// - `BUFFER_TOO_SMALL`: the buffer has fewer bytes than the items.
 /// - `NONE`: the kind lacks an integer. `fault` says the row of the first.
 #[unsafe(no_mangle)]
 pub extern "C" fn doqallin_cast_column(
     column: &Column,
     to: u8,
-    room: &mut [u8],
+    buffer: &mut [u8],
     fault: &mut Fault,
 ) -> u32
-    ensures given { result ≡ GIVEN → IsColumnCast column.now to room.new }
+    ensures given { result ≡ GIVEN → IsColumnCast column.now to buffer.new }
     ensures rest { result ≡ GIVEN → (kind : AnyKind) → integer_kind_at to ≡ Some kind
-        → drop (column.now.length * width_of kind) room.new
-        ≡ drop (column.now.length * width_of kind) room.old }
+        → drop (column.now.length * width_of kind) buffer.new
+        ≡ drop (column.now.length * width_of kind) buffer.old }
     ensures no_fault { result ≡ GIVEN → fault.new ≡ fault.old }
     ensures refused { result ≢ GIVEN
-        → SaysWhyNoCast column.now to (length room.old) fault.old fault.new result }
-    ensures kept { result ≢ GIVEN → room.new ≡ room.old }
+        → SaysWhyNoCast column.now to (length buffer.old) fault.old fault.new result }
+    ensures kept { result ≢ GIVEN → buffer.new ≡ buffer.old }
 {
-    match cast(*column, to, room) {
+    match cast(*column, to, buffer) {
         Ok(()) => GIVEN,
         Err(refusal) => {
             tell(refusal, fault);
@@ -66,29 +66,29 @@ pub extern "C" fn doqallin_cast_column(
 
 /// The same, in one pass if there is no bitmap. It differs where the kind lacks an integer.
 ///
-/// - `NONE`: the rows before the first such one are written. `fault` says which it is, and the room
-///   from there on stays.
+/// - `NONE`: the rows before the first such one are written. `fault` says which it is, and the
+///   buffer from there on stays.
 #[unsafe(no_mangle)]
 pub extern "C" fn doqallin_cast_front(
     column: &Column,
     to: u8,
-    room: &mut [u8],
+    buffer: &mut [u8],
     fault: &mut Fault,
 ) -> u32
-    ensures given { result ≡ GIVEN → IsColumnCast column.now to room.new }
+    ensures given { result ≡ GIVEN → IsColumnCast column.now to buffer.new }
     ensures rest { result ≡ GIVEN → (kind : AnyKind) → integer_kind_at to ≡ Some kind
-        → drop (column.now.length * width_of kind) room.new
-        ≡ drop (column.now.length * width_of kind) room.old }
+        → drop (column.now.length * width_of kind) buffer.new
+        ≡ drop (column.now.length * width_of kind) buffer.old }
     ensures no_fault { result ≡ GIVEN → fault.new ≡ fault.old }
     ensures refused { result ≢ GIVEN
-        → SaysWhyNoCast column.now to (length room.old) fault.old fault.new result }
-    ensures front { result ≡ NONE → IsFrontCast column.now to fault.new.place room.new }
+        → SaysWhyNoCast column.now to (length buffer.old) fault.old fault.new result }
+    ensures front { result ≡ NONE → IsFrontCast column.now to fault.new.place buffer.new }
     ensures past { result ≡ NONE → (kind : AnyKind) → integer_kind_at to ≡ Some kind
-        → drop (fault.new.place * width_of kind) room.new
-        ≡ drop (fault.new.place * width_of kind) room.old }
-    ensures kept { result ≢ GIVEN → result ≢ NONE → room.new ≡ room.old }
+        → drop (fault.new.place * width_of kind) buffer.new
+        ≡ drop (fault.new.place * width_of kind) buffer.old }
+    ensures kept { result ≢ GIVEN → result ≢ NONE → buffer.new ≡ buffer.old }
 {
-    match cast_front(*column, to, room) {
+    match cast_front(*column, to, buffer) {
         Ok(()) => GIVEN,
         Err(refusal) => {
             tell(refusal, fault);
@@ -98,44 +98,44 @@ pub extern "C" fn doqallin_cast_front(
 }
 
 /// Casts a column of integers to the kind with this code.
-fn cast(column: Column, to: u8, room: &mut [u8]) -> Result<(), CastRefusal>
-    ensures cast { OnOk result (IsColumnCast column.entry to room.new) }
+fn cast(column: Column, to: u8, buffer: &mut [u8]) -> Result<(), CastRefusal>
+    ensures cast { OnOk result (IsColumnCast column.entry to buffer.new) }
     ensures rest { OnOk result ((kind : AnyKind) → integer_kind_at to ≡ Some kind
-        → drop (column.entry.length * width_of kind) room.new
-        ≡ drop (column.entry.length * width_of kind) room.old) }
-    ensures refused { IfErr result (λ r. IsCastRefusal column.entry to (length room.old) r) }
-    ensures kept { OnErr result (room.new ≡ room.old) }
+        → drop (column.entry.length * width_of kind) buffer.new
+        ≡ drop (column.entry.length * width_of kind) buffer.old) }
+    ensures refused { IfErr result (λ r. IsCastRefusal column.entry to (length buffer.old) r) }
+    ensures kept { OnErr result (buffer.new ≡ buffer.old) }
 {
-    let given = match prepare(column, to, room.len()) {
+    let given = match prepare(column, to, buffer.len()) {
         Ok(given) => given,
         Err(refusal) => return Err(refusal),
     };
-    match given.rows.cast(given.into, room) {
+    match given.rows.cast(given.into, buffer) {
         Ok(()) => Ok(()),
         Err(fault) => Err(CastRefusal::Without(fault.row)),
     }
 }
 
 /// The same, but writes the rows before the first without a value.
-fn cast_front(column: Column, to: u8, room: &mut [u8]) -> Result<(), CastRefusal>
-    ensures cast { OnOk result (IsColumnCast column.entry to room.new) }
+fn cast_front(column: Column, to: u8, buffer: &mut [u8]) -> Result<(), CastRefusal>
+    ensures cast { OnOk result (IsColumnCast column.entry to buffer.new) }
     ensures rest { OnOk result ((kind : AnyKind) → integer_kind_at to ≡ Some kind
-        → drop (column.entry.length * width_of kind) room.new
-        ≡ drop (column.entry.length * width_of kind) room.old) }
-    ensures refused { IfErr result (λ r. IsCastRefusal column.entry to (length room.old) r) }
-    ensures left { IfErr result (λ r. IsLeft column.entry to room.old room.new r) }
+        → drop (column.entry.length * width_of kind) buffer.new
+        ≡ drop (column.entry.length * width_of kind) buffer.old) }
+    ensures refused { IfErr result (λ r. IsCastRefusal column.entry to (length buffer.old) r) }
+    ensures left { IfErr result (λ r. IsLeft column.entry to buffer.old buffer.new r) }
 {
-    let given = match prepare(column, to, room.len()) {
+    let given = match prepare(column, to, buffer.len()) {
         Ok(given) => given,
         Err(refusal) => return Err(refusal),
     };
-    match given.rows.cast_front(given.into, room) {
+    match given.rows.cast_front(given.into, buffer) {
         Ok(()) => Ok(()),
         Err(fault) => Err(CastRefusal::Without(fault.row)),
     }
 }
 
-/// The rows of a column that can be cast to a room of so many bytes, and the kind with this code.
+/// The rows of a column that can be cast to a buffer of so many bytes, and the kind with this code.
 fn prepare(column: Column, to: u8, size: usize) -> Result<Castable, CastRefusal>
     ensures kinds { IfOk result (λ given. AreKinds column.entry to given.rows.kind given.into) }
     ensures column { IfOk result (λ given. given.rows.column ≡ column.entry) }
@@ -160,10 +160,10 @@ fn prepare(column: Column, to: u8, size: usize) -> Result<Castable, CastRefusal>
 }
 
 /// The rows of a column of integers.
-fn integer_rows(from: IntegerKind, column: Column) -> Result<IntegerRows, ColumnFault>
+fn integer_rows(from: IntegerKind, column: Column) -> Result<IntegerRows, ColumnError>
     requires { kind_at column.kind ≡ Some (Integer from) }
     ensures rows { IfOk result (λ rows. (rows.kind ≡ from) × (rows.column ≡ column.entry)) }
-    ensures fault { IfErr result (λ fault. IsIntegerFault from column.entry fault) }
+    ensures fault { IfErr result (λ fault. IsIntegerError from column.entry fault) }
 {
     match column.check() {
         Ok(Rows::Integers(rows)) => Ok(rows),
@@ -209,7 +209,7 @@ fn status_of_refusal(refusal: CastRefusal) -> u32
     match refusal {
         CastRefusal::NotAKind | CastRefusal::NotIntegers => UNKNOWN_KIND,
         CastRefusal::Unreadable(fault) => status_of_column(fault),
-        CastRefusal::TooSmall => NO_ROOM,
+        CastRefusal::TooSmall => BUFFER_TOO_SMALL,
         CastRefusal::Without(_) => NONE,
     }
 }

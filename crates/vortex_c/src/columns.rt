@@ -9,7 +9,7 @@ ghost use Rattle.vortex_c.specs.Words.{IsTextUpper, IsUpper, KeepsTheRest, optio
 use crate::bounds::{
     lower_length_of_bytes, lower_length_of_text, slice_of, upper_of_bytes, upper_of_text,
 };
-use crate::status::{BAD_OFFSETS, GIVEN, NO_MEMORY, NO_ROOM, NONE, NOT_UTF8};
+use crate::status::{BAD_OFFSETS, BUFFER_TOO_SMALL, GIVEN, NO_MEMORY, NONE, NOT_UTF8};
 use arrow_columns::ByteSpan;
 use std::alloc::Global;
 use std::str;
@@ -27,13 +27,13 @@ pub struct BoundLengths {
 }
 
 /// The bounds of a column's least and of its greatest value, each at `max_length` bytes, written
-/// to the two rooms.
+/// to the two buffers.
 ///
 /// Value k is the bytes from offset k to offset k + 1, so that m values have m + 1 offsets.
 ///
 /// - `NONE`: there are fewer than two offsets, and so no value.
 /// - `BAD_OFFSETS`: an offset is below the one before it or past the end of the bytes.
-/// - `NO_ROOM`: a room is too small. `lengths` says how many bytes each bound has.
+/// - `BUFFER_TOO_SMALL`: a buffer is too small. `lengths` says how many bytes each bound has.
 /// - `NO_MEMORY`: only if `max_length` is above 22 and there are more bytes than that.
 #[unsafe(no_mangle)]
 pub extern "C" fn doqallin_column_bounds_bytes(
@@ -41,14 +41,14 @@ pub extern "C" fn doqallin_column_bounds_bytes(
     bytes: &[u8],
     offsets: &[u64],
     max_length: usize,
-    lower_room: &mut [u8],
-    upper_room: &mut [u8],
+    lower_buffer: &mut [u8],
+    upper_buffer: &mut [u8],
     lengths: &mut BoundLengths,
 ) -> u32
     ensures answer { AnswersColumn IsLower IsUpper HasNoUpper
-        bytes.now offsets.now max_length lower_room.new upper_room.new lengths.new result }
+        bytes.now offsets.now max_length lower_buffer.new upper_buffer.new lengths.new result }
     ensures no_strings { result ≢ NOT_UTF8 }
-    ensures rest { KeepsTheRest lower_room.old lower_room.new upper_room.old upper_room.new
+    ensures rest { KeepsTheRest lower_buffer.old lower_buffer.new upper_buffer.old upper_buffer.new
         lengths.old lengths.new result }
 {
     let places = match extremes_or_status(bytes, offsets) {
@@ -59,13 +59,13 @@ pub extern "C" fn doqallin_column_bounds_bytes(
     let greatest = value_of(bytes, offsets, places.greatest);
     let lower = &least[..lower_length_of_bytes(least, max_length)];
     match upper_of_bytes(alloc, greatest, max_length) {
-        Ok(upper) => give_both(lower, slice_of(&upper), lower_room, upper_room, lengths),
+        Ok(upper) => give_both(lower, slice_of(&upper), lower_buffer, upper_buffer, lengths),
         Err(_) => NO_MEMORY,
     }
 }
 
 /// The bounds of a column of strings, by whole characters: of its least and of its greatest value,
-/// each at `max_length` bytes, written to the two rooms.
+/// each at `max_length` bytes, written to the two buffers.
 ///
 /// The statuses come as from `doqallin_column_bounds_bytes`, and `NOT_UTF8` if the least or the
 /// greatest value is not UTF-8. The other values are not tested.
@@ -75,22 +75,22 @@ pub extern "C" fn doqallin_column_bounds_text(
     bytes: &[u8],
     offsets: &[u64],
     max_length: usize,
-    lower_room: &mut [u8],
-    upper_room: &mut [u8],
+    lower_buffer: &mut [u8],
+    upper_buffer: &mut [u8],
     lengths: &mut BoundLengths,
 ) -> u32
     ensures answer { AnswersColumn IsTextLower IsTextUpper HasNoTextUpper
-        bytes.now offsets.now max_length lower_room.new upper_room.new lengths.new result }
-    ensures rest { KeepsTheRest lower_room.old lower_room.new upper_room.old upper_room.new
+        bytes.now offsets.now max_length lower_buffer.new upper_buffer.new lengths.new result }
+    ensures rest { KeepsTheRest lower_buffer.old lower_buffer.new upper_buffer.old upper_buffer.new
         lengths.old lengths.new result }
 
     // The least and the greatest value are tested, whole, and the bounds of strings are strings.
     ensures no_text { result ≡ NOT_UTF8 → HasEndNoText bytes.now offsets.now }
     ensures text { (result ≢ NOT_UTF8) × (result ≢ BAD_OFFSETS)
         → AreEndsText bytes.now offsets.now }
-    ensures text_lower { result ≡ GIVEN → IsUtf8 (take lengths.new.lower lower_room.new) }
+    ensures text_lower { result ≡ GIVEN → IsUtf8 (take lengths.new.lower lower_buffer.new) }
     ensures text_upper { result ≡ GIVEN → IsTrue lengths.new.has_upper
-        → IsUtf8 (take lengths.new.upper upper_room.new) }
+        → IsUtf8 (take lengths.new.upper upper_buffer.new) }
 {
     let places = match extremes_or_status(bytes, offsets) {
         Ok(places) => places,
@@ -104,7 +104,7 @@ pub extern "C" fn doqallin_column_bounds_text(
     };
     let lower = least[..lower_length_of_text(least, max_length)].as_bytes();
     match upper_of_text(alloc, greatest, max_length) {
-        Ok(upper) => give_both(lower, slice_of(&upper), lower_room, upper_room, lengths),
+        Ok(upper) => give_both(lower, slice_of(&upper), lower_buffer, upper_buffer, lengths),
         Err(_) => NO_MEMORY,
     }
 }
@@ -183,34 +183,35 @@ fn find_extremes(bytes: &[u8], offsets: &[u64]) -> Extremes
     }
 }
 
-/// Writes both bounds to their rooms, and their lengths; only the lengths if a room is too small.
+/// Writes both bounds to their buffers, and their lengths; only the lengths if a buffer is too
+/// small.
 fn give_both(
     lower: &[u8],
     upper: Option<&[u8]>,
-    lower_room: &mut [u8],
-    upper_room: &mut [u8],
+    lower_buffer: &mut [u8],
+    upper_buffer: &mut [u8],
     lengths: &mut BoundLengths,
 ) -> u32
-    ensures statuses { (result ≡ GIVEN) ⊎ (result ≡ NO_ROOM) }
+    ensures statuses { (result ≡ GIVEN) ⊎ (result ≡ BUFFER_TOO_SMALL) }
     ensures lower { lengths.new.lower ≡ length lower.now }
     ensures upper { lengths.new.upper ≡ length (unwrap_or (option_copied upper.entry) []) }
     ensures has_upper { lengths.new.has_upper ≡ is_some upper.entry }
 
-    // Both are written, each to its room.
+    // Both are written, each to its buffer.
     ensures lower_given { result ≡ GIVEN
-        → take lengths.new.lower lower_room.new ≡ lower.now }
+        → take lengths.new.lower lower_buffer.new ≡ lower.now }
     ensures upper_given { result ≡ GIVEN
-        → some_where lengths.new.has_upper (take lengths.new.upper upper_room.new)
+        → some_where lengths.new.has_upper (take lengths.new.upper upper_buffer.new)
         ≡ option_copied upper.entry }
-    ensures within { result ≡ GIVEN → (lengths.new.lower ≤ length lower_room.new)
-        × (lengths.new.upper ≤ length upper_room.new) }
+    ensures within { result ≡ GIVEN → (lengths.new.lower ≤ length lower_buffer.new)
+        × (lengths.new.upper ≤ length upper_buffer.new) }
 
     // Neither is.
-    ensures small { result ≡ NO_ROOM → (length lower_room.new < lengths.new.lower)
-        ⊎ (length upper_room.new < lengths.new.upper) }
+    ensures small { result ≡ BUFFER_TOO_SMALL → (length lower_buffer.new < lengths.new.lower)
+        ⊎ (length upper_buffer.new < lengths.new.upper) }
 
     // What stays.
-    ensures rest { KeepsTheRest lower_room.old lower_room.new upper_room.old upper_room.new
+    ensures rest { KeepsTheRest lower_buffer.old lower_buffer.new upper_buffer.old upper_buffer.new
         lengths.old lengths.new result }
 {
     let upper_bytes = upper.unwrap_or(&[]);
@@ -219,38 +220,38 @@ fn give_both(
         upper: upper_bytes.len(),
         has_upper: upper.is_some(),
     };
-    write_both(lower, upper_bytes, lower_room, upper_room)
+    write_both(lower, upper_bytes, lower_buffer, upper_buffer)
 }
 
-/// Writes the bytes of both bounds, each to its room, or neither if a room is too small.
+/// Writes the bytes of both bounds, each to its buffer, or neither if a buffer is too small.
 pub(crate) fn write_both(
     lower: &[u8],
     upper: &[u8],
-    lower_room: &mut [u8],
-    upper_room: &mut [u8],
+    lower_buffer: &mut [u8],
+    upper_buffer: &mut [u8],
 ) -> u32
-    ensures statuses { (result ≡ GIVEN) ⊎ (result ≡ NO_ROOM) }
-    ensures lower_given { result ≡ GIVEN → take (length lower.now) lower_room.new ≡ lower.now }
-    ensures upper_given { result ≡ GIVEN → take (length upper.now) upper_room.new ≡ upper.now }
-    ensures within_lower { result ≡ GIVEN → length lower.now ≤ length lower_room.old }
-    ensures within_upper { result ≡ GIVEN → length upper.now ≤ length upper_room.old }
-    ensures small { result ≡ NO_ROOM → (length lower_room.old < length lower.now)
-        ⊎ (length upper_room.old < length upper.now) }
+    ensures statuses { (result ≡ GIVEN) ⊎ (result ≡ BUFFER_TOO_SMALL) }
+    ensures lower_given { result ≡ GIVEN → take (length lower.now) lower_buffer.new ≡ lower.now }
+    ensures upper_given { result ≡ GIVEN → take (length upper.now) upper_buffer.new ≡ upper.now }
+    ensures within_lower { result ≡ GIVEN → length lower.now ≤ length lower_buffer.old }
+    ensures within_upper { result ≡ GIVEN → length upper.now ≤ length upper_buffer.old }
+    ensures small { result ≡ BUFFER_TOO_SMALL → (length lower_buffer.old < length lower.now)
+        ⊎ (length upper_buffer.old < length upper.now) }
 
     // What stays.
-    ensures lengths { (length lower_room.new ≡ length lower_room.old)
-        × (length upper_room.new ≡ length upper_room.old) }
-    ensures rest_lower { result ≡ GIVEN → drop (length lower.now) lower_room.new
-        ≡ drop (length lower.now) lower_room.old }
-    ensures rest_upper { result ≡ GIVEN → drop (length upper.now) upper_room.new
-        ≡ drop (length upper.now) upper_room.old }
-    ensures kept_lower { result ≢ GIVEN → lower_room.new ≡ lower_room.old }
-    ensures kept_upper { result ≢ GIVEN → upper_room.new ≡ upper_room.old }
+    ensures lengths { (length lower_buffer.new ≡ length lower_buffer.old)
+        × (length upper_buffer.new ≡ length upper_buffer.old) }
+    ensures rest_lower { result ≡ GIVEN → drop (length lower.now) lower_buffer.new
+        ≡ drop (length lower.now) lower_buffer.old }
+    ensures rest_upper { result ≡ GIVEN → drop (length upper.now) upper_buffer.new
+        ≡ drop (length upper.now) upper_buffer.old }
+    ensures kept_lower { result ≢ GIVEN → lower_buffer.new ≡ lower_buffer.old }
+    ensures kept_upper { result ≢ GIVEN → upper_buffer.new ≡ upper_buffer.old }
 {
-    if lower_room.len() < lower.len() || upper_room.len() < upper.len() {
-        return NO_ROOM;
+    if lower_buffer.len() < lower.len() || upper_buffer.len() < upper.len() {
+        return BUFFER_TOO_SMALL;
     }
-    lower_room[..lower.len()].copy_from_slice(lower);
-    upper_room[..upper.len()].copy_from_slice(upper);
+    lower_buffer[..lower.len()].copy_from_slice(lower);
+    upper_buffer[..upper.len()].copy_from_slice(upper);
     GIVEN
 }

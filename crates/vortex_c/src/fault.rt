@@ -4,7 +4,7 @@ ghost use Rattle.std.specs.Prelude.{◌≡◌, ◌≢◌};
 ghost use Rattle.vortex_c.specs.Words.{place_in_column, status_of_column};
 
 use crate::status::{BAD_OFFSETS, GIVEN, NOT_UTF8, TOO_MANY_ROWS, TOO_SHORT, UNKNOWN_KIND};
-use arrow_columns::{Buffer, ColumnFault};
+use arrow_columns::{Buffer, ColumnError};
 
 /// Where a mistake is: which column, and which row, byte or buffer of it.
 #[derive(Clone, Copy)]
@@ -17,29 +17,29 @@ pub struct Fault {
 }
 
 /// The status of a column that cannot be read.
-pub(crate) fn status_of_column(fault: ColumnFault) -> u32
+pub(crate) fn status_of_column(fault: ColumnError) -> u32
     ensures status { result ≡ status_of_column fault }
     ensures refused { result ≢ GIVEN }
 {
     match fault {
-        ColumnFault::UnknownKind => UNKNOWN_KIND,
-        ColumnFault::TooManyRows => TOO_MANY_ROWS,
-        ColumnFault::TooShort(_) => TOO_SHORT,
-        ColumnFault::BadOffsets(_) => BAD_OFFSETS,
-        ColumnFault::NotUtf8(_) => NOT_UTF8,
+        ColumnError::UnknownKind => UNKNOWN_KIND,
+        ColumnError::TooManyRows => TOO_MANY_ROWS,
+        ColumnError::TooShort(_) => TOO_SHORT,
+        ColumnError::BadOffsets(_) => BAD_OFFSETS,
+        ColumnError::NotUtf8(_) => NOT_UTF8,
     }
 }
 
 /// Where in a column the fault is: its row, or its buffer, and else 0.
-pub(crate) fn place_in_column(fault: ColumnFault) -> usize
+pub(crate) fn place_in_column(fault: ColumnError) -> usize
     ensures { result ≡ place_in_column fault }
 {
     match fault {
-        ColumnFault::UnknownKind | ColumnFault::TooManyRows => 0,
-        ColumnFault::TooShort(Buffer::Validity) => 0,
-        ColumnFault::TooShort(Buffer::Values) => 1,
-        ColumnFault::TooShort(Buffer::Offsets) => 2,
-        ColumnFault::BadOffsets(row) | ColumnFault::NotUtf8(row) => row,
+        ColumnError::UnknownKind | ColumnError::TooManyRows => 0,
+        ColumnError::TooShort(Buffer::Validity) => 0,
+        ColumnError::TooShort(Buffer::Values) => 1,
+        ColumnError::TooShort(Buffer::Offsets) => 2,
+        ColumnError::BadOffsets(row) | ColumnError::NotUtf8(row) => row,
     }
 }
 

@@ -1,4 +1,4 @@
-//! The parts of statistics, from their stable form.
+//! The parts of statistics, from their stable encoding.
 
 ghost use Rattle.std.specs.Prelude.{◌≡◌, ◌≢◌, ◌<◌, ◌≤◌, ◌⊎◌, ℕ, List, drop, length, option_map, take};
 ghost use Rattle.vortex_c.specs.Words.{AreOf, AreParts, ArePartsAt, HasAnswer, IsBoundOf, IsBoundTold};
@@ -7,9 +7,9 @@ ghost use Rattle.vortex_c.specs.Words.{status_of_read, type_of_kind};
 
 use crate::columns::write_both;
 use crate::fault::{Fault, at};
-use crate::status::{BAD_BYTES, GIVEN, NO_MEMORY, NO_ROOM, UNKNOWN_KIND};
+use crate::status::{BAD_BYTES, BUFFER_TOO_SMALL, GIVEN, NO_MEMORY, UNKNOWN_KIND};
 use arrow_columns::Kind;
-use column_statistics::{Item, ReadFault, item_of, read_form};
+use column_statistics::{Item, ReadError, item_of, read_encoding};
 use std::alloc::Global;
 use vortex_statistics::{Bound, ColumnStatistics};
 
@@ -37,83 +37,83 @@ pub struct StatisticsParts {
     pub upper_is_exact: bool,
 }
 
-/// The statistics that have this stable form, of a column of this kind: counts, and bounds, each
-/// written to its room.
+/// The statistics that have this stable encoding, of a column of this kind: counts, and bounds,
+/// each written to its buffer.
 ///
 /// An integer has its bytes in a buffer, the low one first. A boolean is a byte, 0 or 1. In bytes
 /// from anywhere a bound may be null: it is told as none, which says less.
 ///
-/// - `NO_ROOM`: a room is too small. `parts` is written all the same.
+/// - `BUFFER_TOO_SMALL`: a buffer is too small. `parts` is written all the same.
 /// - `UNKNOWN_KIND`: the code is of no kind.
-/// - `BAD_BYTES`: the bytes are no form of statistics of the kind. `fault.place` is the first byte
-///   that none has there.
+/// - `BAD_BYTES`: the bytes are no encoding of statistics of the kind. `fault.place` is the first
+///   byte that none has there.
 /// - `NO_MEMORY`: only if the bytes say a bound. `fault` is not written.
 #[unsafe(no_mangle)]
 pub extern "C" fn doqallin_read_statistics(
     alloc: Global,
     kind: u8,
     bytes: &[u8],
-    lower_room: &mut [u8],
-    upper_room: &mut [u8],
+    lower_buffer: &mut [u8],
+    upper_buffer: &mut [u8],
     parts: &mut StatisticsParts,
     fault: &mut Fault,
 ) -> u32
     ensures given { result ≡ GIVEN → ArePartsAt kind bytes.now
-        (take parts.new.lower_length lower_room.new)
-        (take parts.new.upper_length upper_room.new) parts.new }
-    ensures within { result ≡ GIVEN → (parts.new.lower_length ≤ length lower_room.old)
-        × (parts.new.upper_length ≤ length upper_room.old) }
-    ensures small { result ≡ NO_ROOM → (length lower_room.old < parts.new.lower_length)
-        ⊎ (length upper_room.old < parts.new.upper_length) }
-    ensures needed { result ≡ NO_ROOM
+        (take parts.new.lower_length lower_buffer.new)
+        (take parts.new.upper_length upper_buffer.new) parts.new }
+    ensures within { result ≡ GIVEN → (parts.new.lower_length ≤ length lower_buffer.old)
+        × (parts.new.upper_length ≤ length upper_buffer.old) }
+    ensures small { result ≡ BUFFER_TOO_SMALL → (length lower_buffer.old < parts.new.lower_length)
+        ⊎ (length upper_buffer.old < parts.new.upper_length) }
+    ensures needed { result ≡ BUFFER_TOO_SMALL
         → (lower upper : List ℕ) × ArePartsAt kind bytes.now lower upper parts.new }
     ensures refused { (HasAnswer result)
         ⊎ SaysWhyNotRead kind bytes.now fault.old fault.new result }
 
     // What is not said to be written stays.
-    ensures rest { result ≡ GIVEN → (drop parts.new.lower_length lower_room.new
-        ≡ drop parts.new.lower_length lower_room.old)
-        × (drop parts.new.upper_length upper_room.new
-        ≡ drop parts.new.upper_length upper_room.old) }
+    ensures rest { result ≡ GIVEN → (drop parts.new.lower_length lower_buffer.new
+        ≡ drop parts.new.lower_length lower_buffer.old)
+        × (drop parts.new.upper_length upper_buffer.new
+        ≡ drop parts.new.upper_length upper_buffer.old) }
     ensures kept { result ≢ GIVEN
-        → (lower_room.new ≡ lower_room.old) × (upper_room.new ≡ upper_room.old) }
+        → (lower_buffer.new ≡ lower_buffer.old) × (upper_buffer.new ≡ upper_buffer.old) }
     ensures kept_parts { (HasAnswer result) ⊎ (parts.new ≡ parts.old) }
     ensures kept_fault { HasAnswer result → fault.new ≡ fault.old }
 {
     let Some(kind) = Kind::from_code(kind) else {
         return at(0, 0, fault, UNKNOWN_KIND);
     };
-    match read_form(alloc, kind, bytes) {
-        Ok(statistics) => give_parts(kind, &statistics, lower_room, upper_room, parts),
+    match read_encoding(alloc, kind, bytes) {
+        Ok(statistics) => give_parts(kind, &statistics, lower_buffer, upper_buffer, parts),
         Err(refusal) => tell_read(refusal, fault),
     }
 }
 
-/// Writes what statistics say, and the bounds to their rooms; no bound if a room is too small.
+/// Writes what statistics say, and the bounds to their buffers; no bound if a buffer is too small.
 fn give_parts(
     kind: Kind,
     statistics: &ColumnStatistics,
-    lower_room: &mut [u8],
-    upper_room: &mut [u8],
+    lower_buffer: &mut [u8],
+    upper_buffer: &mut [u8],
     parts: &mut StatisticsParts,
 ) -> u32
     requires { AreOf (type_of_kind kind) (known statistics.now) }
     ensures answer { HasAnswer result }
     ensures given { result ≡ GIVEN → AreParts kind (known statistics.now)
-        (take parts.new.lower_length lower_room.new)
-        (take parts.new.upper_length upper_room.new) parts.new }
-    ensures within { result ≡ GIVEN → (parts.new.lower_length ≤ length lower_room.old)
-        × (parts.new.upper_length ≤ length upper_room.old) }
-    ensures small { result ≡ NO_ROOM → (length lower_room.old < parts.new.lower_length)
-        ⊎ (length upper_room.old < parts.new.upper_length) }
+        (take parts.new.lower_length lower_buffer.new)
+        (take parts.new.upper_length upper_buffer.new) parts.new }
+    ensures within { result ≡ GIVEN → (parts.new.lower_length ≤ length lower_buffer.old)
+        × (parts.new.upper_length ≤ length upper_buffer.old) }
+    ensures small { result ≡ BUFFER_TOO_SMALL → (length lower_buffer.old < parts.new.lower_length)
+        ⊎ (length upper_buffer.old < parts.new.upper_length) }
     ensures needed { (lower upper : List ℕ)
         × AreParts kind (known statistics.now) lower upper parts.new }
-    ensures rest { result ≡ GIVEN → (drop parts.new.lower_length lower_room.new
-        ≡ drop parts.new.lower_length lower_room.old)
-        × (drop parts.new.upper_length upper_room.new
-        ≡ drop parts.new.upper_length upper_room.old) }
+    ensures rest { result ≡ GIVEN → (drop parts.new.lower_length lower_buffer.new
+        ≡ drop parts.new.lower_length lower_buffer.old)
+        × (drop parts.new.upper_length upper_buffer.new
+        ≡ drop parts.new.upper_length upper_buffer.old) }
     ensures kept { result ≢ GIVEN
-        → (lower_room.new ≡ lower_room.old) × (upper_room.new ≡ upper_room.old) }
+        → (lower_buffer.new ≡ lower_buffer.old) × (upper_buffer.new ≡ upper_buffer.old) }
 {
     let lower = part_of_bound(kind, &statistics.lower);
     let upper = part_of_bound(kind, &statistics.upper);
@@ -130,7 +130,7 @@ fn give_parts(
         has_upper: upper.is_there,
         upper_is_exact: upper.is_exact,
     };
-    write_both(lower_bytes, upper_bytes, lower_room, upper_room)
+    write_both(lower_bytes, upper_bytes, lower_buffer, upper_buffer)
 }
 
 /// A bound as it is told.
@@ -169,13 +169,13 @@ fn part_of_bound(kind: Kind, bound: &Option<Bound>) -> BoundPart<'_>
 }
 
 /// Tells why bytes are read as no statistics, and gives the status.
-fn tell_read(refusal: ReadFault, fault: &mut Fault) -> u32
+fn tell_read(refusal: ReadError, fault: &mut Fault) -> u32
     ensures status { result ≡ status_of_read refusal }
     ensures fault { fault.new ≡ fault_of_read fault.old refusal }
     ensures refused { ¬ (HasAnswer result) }
 {
     match refusal {
-        ReadFault::OutOfMemory => NO_MEMORY,
-        ReadFault::BadBytes { place } => at(0, place, fault, BAD_BYTES),
+        ReadError::OutOfMemory => NO_MEMORY,
+        ReadError::BadBytes { offset } => at(0, offset, fault, BAD_BYTES),
     }
 }

@@ -1,19 +1,19 @@
 //! Filters from SQL's words, prepared to bytes.
 
 ghost use Rattle.std.specs.Prelude.{◌≡◌, ◌⊎◌, IfErr, IfOk, OnOk, map};
-ghost use Rattle.vortex_c.specs.FilterWords.{AnswersForm, AreNamed, HasAnswer, IsColumnFault, IsColumnsFault};
-ghost use Rattle.vortex_c.specs.FilterWords.{IsNamed, IsPreparedFrom, IsSqlFault, IsSqlWithin, IsWordsFault};
-ghost use Rattle.vortex_c.specs.FilterWords.{OutOfMemory, SaysWhyNotPrepared, WritesForm, code_of_expected};
+ghost use Rattle.vortex_c.specs.FilterWords.{AnswersEncoding, AreNamed, HasAnswer, IsColumnError, IsColumnsError};
+ghost use Rattle.vortex_c.specs.FilterWords.{IsNamed, IsPreparedFrom, IsSqlError, IsSqlWithin, IsWordsError};
+ghost use Rattle.vortex_c.specs.FilterWords.{OutOfMemory, SaysWhyNotPrepared, WritesEncoding, code_of_expected};
 ghost use Rattle.vortex_c.specs.FilterWords.{code_of_mistake, column_tree, column_trees, fault_of_words, formula};
 ghost use Rattle.vortex_c.specs.FilterWords.{kind_at, mistake_of_sql, parts_of, place_of_mistake, prepared_of};
 ghost use Rattle.vortex_c.specs.FilterWords.{status_of_sql, tree_of_kind, trees_of_kinds, type_at, type_of};
 ghost use Rattle.vortex_c.specs.FilterWords.{types_of_kinds};
 
 use crate::bounds::give;
-use crate::status::{BAD_FILTER, GIVEN, NO_MEMORY, NO_ROOM, NOT_UTF8, UNKNOWN_KIND};
+use crate::status::{BAD_FILTER, BUFFER_TOO_SMALL, GIVEN, NO_MEMORY, NOT_UTF8, UNKNOWN_KIND};
 use arrow_columns::Kind;
 use column_cells::dtype_of;
-use filter_form::{FilterFormError, append_filter};
+use filter_encoding::{FilterEncodingError, append_filter};
 use filter_sql::{Column as FilterColumn, Expected, ParseError, parse_within};
 use std::alloc::{AllocError, AllocFailed, Global};
 use std::str;
@@ -42,7 +42,7 @@ pub struct Mistake {
 
 /// Why there is no prepared filter.
 #[derive(Clone, Copy)]
-pub(crate) enum SqlFault {
+pub(crate) enum SqlError {
     /// An allocation was refused.
     OutOfMemory,
     /// The code of this column is of no kind.
@@ -53,43 +53,44 @@ pub(crate) enum SqlFault {
     NotUtf8,
     /// The words are no filter.
     NoFilter(ParseError),
-    /// The filter nests too deep to have a form.
-    NoForm,
+    /// The filter nests too deep to have an encoding.
+    NoEncoding,
 }
 
 /// Out of memory, whatever was asked for.
-impl From<AllocError> for SqlFault {
-    ghost use Rattle.vortex_c.specs.declared.sql.SqlFault.TheVariants.{OutOfMemory};
+impl From<AllocError> for SqlError {
+    ghost use Rattle.vortex_c.specs.declared.sql.SqlError.TheVariants.{OutOfMemory};
 
     ghost from_gives = { λ _ e. e ≡ OutOfMemory };
 
-    fn from(_error: AllocError) -> SqlFault {
-        SqlFault::OutOfMemory
+    fn from(_error: AllocError) -> SqlError {
+        SqlError::OutOfMemory
     }
 }
 
 /// Out of memory; what was to be kept is dropped.
-impl<T: Drop> From<AllocFailed<T>> for SqlFault {
-    ghost use Rattle.vortex_c.specs.declared.sql.SqlFault.TheVariants.{OutOfMemory};
+impl<T: Drop> From<AllocFailed<T>> for SqlError {
+    ghost use Rattle.vortex_c.specs.declared.sql.SqlError.TheVariants.{OutOfMemory};
 
     ghost from_gives = { λ _ e. e ≡ OutOfMemory };
 
-    fn from(_error: AllocFailed<T>) -> SqlFault {
-        SqlFault::OutOfMemory
+    fn from(_error: AllocFailed<T>) -> SqlError {
+        SqlError::OutOfMemory
     }
 }
 
-/// Reads a filter from SQL's words, over columns by name and kind, and writes its stable form with
-/// the types of the columns. The other calls on filters take these bytes. At most `depth` connectives
-/// and parentheses may nest in the words, and at most `depth` connectives in the form.
+/// Reads a filter from SQL's words, over columns by name and kind, and writes its stable encoding
+/// with the types of the columns. The other calls on filters take these bytes. At most `depth`
+/// connectives and parentheses may nest in the words, and at most `depth` connectives in the
+/// encoding.
 ///
-/// - `NO_ROOM`: `count` says how many bytes the form has.
+/// - `BUFFER_TOO_SMALL`: `count` says how many bytes the encoding has.
 /// - `UNKNOWN_KIND`: the code of a column is of no kind. `mistake.place` is the column.
 /// - `NOT_UTF8`: a name is not UTF-8, and `mistake.place` is its column; or the words are not, and
 ///   it is the number of columns.
 /// - `BAD_FILTER`: the words are no filter. `mistake.place` is the byte at which something else had
-///   to come, and `mistake.expected` is the code of what. If the form of the filter nests too deep,
-///   the place is 0.
+///   to come, and `mistake.expected` is the code of what. If the encoding of the filter nests too
+///   deep, the place is 0.
 /// - `NO_MEMORY`: `mistake` is not written.
 #[unsafe(no_mangle)]
 pub extern "C" fn doqallin_prepare_filter(
@@ -97,34 +98,34 @@ pub extern "C" fn doqallin_prepare_filter(
     words: &[u8],
     columns: &[NamedKind],
     depth: usize,
-    room: &mut [u8],
+    buffer: &mut [u8],
     count: &mut usize,
     mistake: &mut Mistake,
 ) -> u32
-    ensures answer { AnswersForm (IsPreparedFrom depth words.now columns.now)
-        room.old room.new count.old count.new result }
+    ensures answer { AnswersEncoding (IsPreparedFrom depth words.now columns.now)
+        buffer.old buffer.new count.old count.new result }
     ensures refused { (HasAnswer result)
         ⊎ (SaysWhyNotPrepared depth words.now columns.now mistake.old mistake.new result) }
     ensures kept_mistake { HasAnswer result → mistake.new ≡ mistake.old }
 {
     match prepare(alloc, words, columns, depth) {
-        Ok(bytes) => give(bytes.as_slice(), room, count),
+        Ok(bytes) => give(bytes.as_slice(), buffer, count),
         Err(refusal) => tell(refusal, columns.len(), mistake),
     }
 }
 
-/// The form of the filter that the words are.
+/// The encoding of the filter that the words are.
 fn prepare(
     alloc: Global,
     words: &[u8],
     columns: &[NamedKind],
     depth: usize,
-) -> Result<Vec<u8>, SqlFault>
+) -> Result<Vec<u8>, SqlError>
     ensures prepared { IfOk result (λ bytes. IsPreparedFrom depth words.now columns.now bytes.items) }
-    ensures refused { IfErr result (IsSqlFault depth words.now columns.now) }
+    ensures refused { IfErr result (IsSqlError depth words.now columns.now) }
 {
     let filter = filter_of(alloc, words, columns, depth)?;
-    form_of(alloc, &filter, columns, depth)
+    encoding_of(alloc, &filter, columns, depth)
 }
 
 /// The filter that the words are.
@@ -133,11 +134,11 @@ fn filter_of(
     words: &[u8],
     columns: &[NamedKind],
     depth: usize,
-) -> Result<Filter, SqlFault>
+) -> Result<Filter, SqlError>
     ensures named { OnOk result (AreNamed columns.now) }
     ensures read { IfOk result
         (λ filter. IsSqlWithin depth (trees_of_kinds columns.now) words.now (formula filter)) }
-    ensures refused { IfErr result (IsSqlFault depth words.now columns.now) }
+    ensures refused { IfErr result (IsSqlError depth words.now columns.now) }
 {
     let named = named_columns(alloc, columns)?;
     parse(alloc, words, &named, depth)
@@ -150,13 +151,13 @@ fn parse(
     words: &[u8],
     named: &[FilterColumn],
     depth: usize,
-) -> Result<Filter, SqlFault>
+) -> Result<Filter, SqlError>
     ensures read { IfOk result
         (λ filter. IsSqlWithin depth (column_trees named.now) words.now (formula filter)) }
-    ensures refused { IfErr result (IsWordsFault depth (column_trees named.now) words.now) }
+    ensures refused { IfErr result (IsWordsError depth (column_trees named.now) words.now) }
 {
     let Ok(text) = str::from_utf8(words) else {
-        return Err(SqlFault::NotUtf8);
+        return Err(SqlError::NotUtf8);
     };
     match parse_within(alloc, text, named, depth) {
         Ok(filter) => Ok(filter),
@@ -165,21 +166,21 @@ fn parse(
 }
 
 /// The fault of words that are refused so.
-fn fault_of_words(cause: ParseError) -> SqlFault
+fn fault_of_words(cause: ParseError) -> SqlError
     ensures { result ≡ fault_of_words cause }
 {
     match cause {
-        ParseError::OutOfMemory => SqlFault::OutOfMemory,
-        _ => SqlFault::NoFilter(cause),
+        ParseError::OutOfMemory => SqlError::OutOfMemory,
+        _ => SqlError::NoFilter(cause),
     }
 }
 
 /// The columns by name and type.
 #[tactic(auto, using(crate::proofs::SqlSteps::shown))]
-fn named_columns(alloc: Global, columns: &[NamedKind]) -> Result<Vec<FilterColumn>, SqlFault>
+fn named_columns(alloc: Global, columns: &[NamedKind]) -> Result<Vec<FilterColumn>, SqlError>
     ensures named { IfOk result (λ named. column_trees named.items ≡ trees_of_kinds columns.now) }
     ensures all { OnOk result (AreNamed columns.now) }
-    ensures refused { IfErr result (IsColumnsFault columns.now) }
+    ensures refused { IfErr result (IsColumnsError columns.now) }
 {
     let mut named = Vec::with_capacity(alloc, columns.len())?;
     for place in 0..columns.len() {
@@ -190,16 +191,16 @@ fn named_columns(alloc: Global, columns: &[NamedKind]) -> Result<Vec<FilterColum
 }
 
 /// The column at a place, by name and type.
-fn named_column(alloc: Global, place: usize, column: NamedKind) -> Result<FilterColumn, SqlFault>
+fn named_column(alloc: Global, place: usize, column: NamedKind) -> Result<FilterColumn, SqlError>
     ensures named { IfOk result (λ named. column_tree named ≡ tree_of_kind column.entry) }
     ensures sound { OnOk result (IsNamed column.entry) }
-    ensures refused { IfErr result (IsColumnFault place column.entry) }
+    ensures refused { IfErr result (IsColumnError place column.entry) }
 {
     let Some(kind) = Kind::from_code(column.kind) else {
-        return Err(SqlFault::NotAKind(place));
+        return Err(SqlError::NotAKind(place));
     };
     let Ok(name) = str::from_utf8(column.name) else {
-        return Err(SqlFault::NameNotUtf8(place));
+        return Err(SqlError::NameNotUtf8(place));
     };
     let name = String::from_str(alloc, name)?;
     Ok(FilterColumn {
@@ -208,40 +209,40 @@ fn named_column(alloc: Global, place: usize, column: NamedKind) -> Result<Filter
     })
 }
 
-/// The form of a filter over these columns.
+/// The encoding of a filter over these columns.
 #[tactic(auto, using(crate::proofs::SqlSteps::shown))]
-fn form_of(
+fn encoding_of(
     alloc: Global,
     filter: &Filter,
     columns: &[NamedKind],
     depth: usize,
-) -> Result<Vec<u8>, SqlFault>
-    ensures { WritesForm depth (prepared_of columns.now (formula filter.now)) result }
+) -> Result<Vec<u8>, SqlError>
+    ensures { WritesEncoding depth (prepared_of columns.now (formula filter.now)) result }
 {
     let types = types_of(alloc, columns)?;
     written(alloc, filter, &types, depth)
 }
 
-/// The form of a filter over columns of these types.
+/// The encoding of a filter over columns of these types.
 fn written(
     alloc: Global,
     filter: &Filter,
     types: &[DType],
     depth: usize,
-) -> Result<Vec<u8>, SqlFault>
-    ensures { WritesForm depth (parts_of types.now filter.now) result }
+) -> Result<Vec<u8>, SqlError>
+    ensures { WritesEncoding depth (parts_of types.now filter.now) result }
 {
     let mut bytes = Vec::new(alloc);
     match append_filter(filter, types, depth, &mut bytes) {
         Ok(()) => Ok(bytes),
-        Err(FilterFormError::NoForm) => Err(SqlFault::NoForm),
-        Err(_) => Err(SqlFault::OutOfMemory),
+        Err(FilterEncodingError::NoEncoding) => Err(SqlError::NoEncoding),
+        Err(_) => Err(SqlError::OutOfMemory),
     }
 }
 
 /// The types of columns; of no kind, that of nulls.
 #[tactic(auto, using(crate::proofs::SqlSteps::shown))]
-fn types_of(alloc: Global, columns: &[NamedKind]) -> Result<Vec<DType>, SqlFault>
+fn types_of(alloc: Global, columns: &[NamedKind]) -> Result<Vec<DType>, SqlError>
     ensures types { IfOk result (λ types. map type_of types.items ≡ types_of_kinds columns.now) }
     ensures refused { IfErr result (λ refusal. refusal ≡ OutOfMemory) }
 {
@@ -263,21 +264,21 @@ fn dtype_at(code: u8) -> DType
 }
 
 /// Tells what is wrong, among so many columns, and gives the status.
-fn tell(refusal: SqlFault, columns: usize, mistake: &mut Mistake) -> u32
+fn tell(refusal: SqlError, columns: usize, mistake: &mut Mistake) -> u32
     ensures status { result ≡ status_of_sql refusal }
     ensures mistake { mistake.new ≡ mistake_of_sql columns refusal mistake.old }
     ensures refused { ¬ (HasAnswer result) }
 {
     match refusal {
-        SqlFault::OutOfMemory => NO_MEMORY,
-        SqlFault::NotAKind(column) => wrong(column, 0, mistake, UNKNOWN_KIND),
-        SqlFault::NameNotUtf8(column) => wrong(column, 0, mistake, NOT_UTF8),
-        SqlFault::NotUtf8 => wrong(columns, 0, mistake, NOT_UTF8),
-        SqlFault::NoFilter(cause) => {
+        SqlError::OutOfMemory => NO_MEMORY,
+        SqlError::NotAKind(column) => wrong(column, 0, mistake, UNKNOWN_KIND),
+        SqlError::NameNotUtf8(column) => wrong(column, 0, mistake, NOT_UTF8),
+        SqlError::NotUtf8 => wrong(columns, 0, mistake, NOT_UTF8),
+        SqlError::NoFilter(cause) => {
             let (place, expected) = place_and_code(cause);
             wrong(place, expected, mistake, BAD_FILTER)
         }
-        SqlFault::NoForm => wrong(0, TOO_DEEP, mistake, BAD_FILTER),
+        SqlError::NoEncoding => wrong(0, TOO_DEEP, mistake, BAD_FILTER),
     }
 }
 
@@ -300,13 +301,13 @@ fn place_and_code(cause: ParseError) -> (usize, u32)
 {
     match cause {
         ParseError::OutOfMemory => (0, 0),
-        ParseError::Expected { place, expected } => (place, code_of_expected(expected)),
-        ParseError::NoColumn { place } => (place, 12),
-        ParseError::TypesDiffer { place } => (place, 13),
-        ParseError::NoLiteral { place } => (place, 14),
-        ParseError::NumberTooLong { place } => (place, 15),
-        ParseError::BadText { place } => (place, 16),
-        ParseError::TooDeep { place } => (place, TOO_DEEP),
+        ParseError::Expected { offset, expected } => (offset, code_of_expected(expected)),
+        ParseError::NoColumn { offset } => (offset, 12),
+        ParseError::TypesDiffer { offset } => (offset, 13),
+        ParseError::NoLiteral { offset } => (offset, 14),
+        ParseError::NumberTooLong { offset } => (offset, 15),
+        ParseError::BadText { offset } => (offset, 16),
+        ParseError::TooDeep { offset } => (offset, TOO_DEEP),
     }
 }
 

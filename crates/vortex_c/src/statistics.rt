@@ -1,21 +1,21 @@
-//! The statistics of columns, in their stable form.
+//! The statistics of columns, in their stable encoding.
 
 ghost use Rattle.std.specs.Prelude.{◌≡◌, ◌⊎◌};
-ghost use Rattle.vortex_c.specs.Words.{AnswersForm, HasAnswer, IsColumnForm, IsMergedAt, SaysWhyNoForm};
-ghost use Rattle.vortex_c.specs.Words.{SaysWhyNotMerged, fault_of_form, fault_of_merge, status_of_form};
+ghost use Rattle.vortex_c.specs.Words.{AnswersEncoding, HasAnswer, IsColumnEncoding, IsMergedAt, SaysWhyNoEncoding};
+ghost use Rattle.vortex_c.specs.Words.{SaysWhyNotMerged, fault_of_encoding, fault_of_merge, status_of_encoding};
 ghost use Rattle.vortex_c.specs.Words.{status_of_merge};
 
 use crate::bounds::give;
 use crate::fault::{Fault, at, place_in_column, status_of_column};
-use crate::status::{BAD_BYTES, GIVEN, NO_MEMORY, NO_ROOM, TOO_MANY_ROWS, UNKNOWN_KIND};
+use crate::status::{BAD_BYTES, BUFFER_TOO_SMALL, GIVEN, NO_MEMORY, TOO_MANY_ROWS, UNKNOWN_KIND};
 use arrow_columns::{Column, Kind};
-use column_statistics::{MergeFault, StatisticsFault, column_form, merged_form};
+use column_statistics::{ColumnStatisticsError, MergeError, column_encoding, merged_encoding};
 use std::alloc::Global;
 
-/// The statistics of a column in their stable form. Bounds that are strings or bytes are cut to
+/// The statistics of a column in their stable encoding. Bounds that are strings or bytes are cut to
 /// `max_length` bytes.
 ///
-/// - `NO_ROOM`: `count` says how many bytes the form has.
+/// - `BUFFER_TOO_SMALL`: `count` says how many bytes the encoding has.
 /// - `UNKNOWN_KIND`, `TOO_MANY_ROWS`, `TOO_SHORT`, `BAD_OFFSETS`, `NOT_UTF8`: the column cannot be
 ///   read. `fault` says where.
 /// - `NO_MEMORY`: `fault` is not written.
@@ -24,43 +24,43 @@ pub extern "C" fn doqallin_column_statistics(
     alloc: Global,
     column: &Column,
     max_length: usize,
-    room: &mut [u8],
+    buffer: &mut [u8],
     count: &mut usize,
     fault: &mut Fault,
 ) -> u32
-    ensures answer { AnswersForm (IsColumnForm column.now max_length)
-        room.old room.new count.old count.new result }
+    ensures answer { AnswersEncoding (IsColumnEncoding column.now max_length)
+        buffer.old buffer.new count.old count.new result }
     ensures refused { (HasAnswer result)
-        ⊎ SaysWhyNoForm column.now fault.old fault.new result }
+        ⊎ SaysWhyNoEncoding column.now fault.old fault.new result }
     ensures kept_fault { HasAnswer result → fault.new ≡ fault.old }
 {
-    match column_form(alloc, *column, max_length) {
-        Ok(bytes) => give(bytes.as_slice(), room, count),
-        Err(refusal) => tell_form(refusal, fault),
+    match column_encoding(alloc, *column, max_length) {
+        Ok(bytes) => give(bytes.as_slice(), buffer, count),
+        Err(refusal) => tell_encoding(refusal, fault),
     }
 }
 
-/// Tells why a column has no form, and gives the status.
-fn tell_form(refusal: StatisticsFault, fault: &mut Fault) -> u32
-    ensures status { result ≡ status_of_form refusal }
-    ensures fault { fault.new ≡ fault_of_form fault.old refusal }
+/// Tells why a column has no encoding, and gives the status.
+fn tell_encoding(refusal: ColumnStatisticsError, fault: &mut Fault) -> u32
+    ensures status { result ≡ status_of_encoding refusal }
+    ensures fault { fault.new ≡ fault_of_encoding fault.old refusal }
     ensures refused { ¬ (HasAnswer result) }
 {
     match refusal {
-        StatisticsFault::OutOfMemory => NO_MEMORY,
-        StatisticsFault::Unreadable(cause) => {
+        ColumnStatisticsError::OutOfMemory => NO_MEMORY,
+        ColumnStatisticsError::Unreadable(cause) => {
             at(0, place_in_column(cause), fault, status_of_column(cause))
         }
     }
 }
 
-/// The statistics of a piece of a column of this kind and then of another, in their stable form, of
-/// the forms of both.
+/// The statistics of a piece of a column of this kind and then of another, in their stable
+/// encoding, of the encodings of both.
 ///
-/// - `NO_ROOM`: `count` says how many bytes the form has.
+/// - `BUFFER_TOO_SMALL`: `count` says how many bytes the encoding has.
 /// - `UNKNOWN_KIND`: the code is of no kind.
-/// - `BAD_BYTES`: a piece is no form of statistics of the kind. `fault` says which, 0 or 1, and the
-///   first byte that none has there.
+/// - `BAD_BYTES`: a piece is no encoding of statistics of the kind. `fault` says which, 0 or 1, and
+///   the first byte that none has there.
 /// - `TOO_MANY_ROWS`: 64 bits do not count the rows of both.
 /// - `NO_MEMORY`: `fault` is not written.
 #[unsafe(no_mangle)]
@@ -69,12 +69,12 @@ pub extern "C" fn doqallin_merge_statistics(
     kind: u8,
     one: &[u8],
     other: &[u8],
-    room: &mut [u8],
+    buffer: &mut [u8],
     count: &mut usize,
     fault: &mut Fault,
 ) -> u32
-    ensures answer { AnswersForm (IsMergedAt kind one.now other.now)
-        room.old room.new count.old count.new result }
+    ensures answer { AnswersEncoding (IsMergedAt kind one.now other.now)
+        buffer.old buffer.new count.old count.new result }
     ensures refused { (HasAnswer result)
         ⊎ SaysWhyNotMerged kind one.now other.now fault.old fault.new result }
     ensures kept_fault { HasAnswer result → fault.new ≡ fault.old }
@@ -82,21 +82,21 @@ pub extern "C" fn doqallin_merge_statistics(
     let Some(kind) = Kind::from_code(kind) else {
         return at(0, 0, fault, UNKNOWN_KIND);
     };
-    match merged_form(alloc, kind, one, other) {
-        Ok(bytes) => give(bytes.as_slice(), room, count),
+    match merged_encoding(alloc, kind, one, other) {
+        Ok(bytes) => give(bytes.as_slice(), buffer, count),
         Err(refusal) => tell_merge(refusal, fault),
     }
 }
 
 /// Tells why two pieces were not merged, and gives the status.
-fn tell_merge(refusal: MergeFault, fault: &mut Fault) -> u32
+fn tell_merge(refusal: MergeError, fault: &mut Fault) -> u32
     ensures status { result ≡ status_of_merge refusal }
     ensures fault { fault.new ≡ fault_of_merge fault.old refusal }
     ensures refused { ¬ (HasAnswer result) }
 {
     match refusal {
-        MergeFault::OutOfMemory => NO_MEMORY,
-        MergeFault::TooManyRows => at(0, 0, fault, TOO_MANY_ROWS),
-        MergeFault::BadBytes { piece, place } => at(piece, place, fault, BAD_BYTES),
+        MergeError::OutOfMemory => NO_MEMORY,
+        MergeError::TooManyRows => at(0, 0, fault, TOO_MANY_ROWS),
+        MergeError::BadBytes { piece, offset } => at(piece, offset, fault, BAD_BYTES),
     }
 }

@@ -9,8 +9,8 @@ pub const NONE: u32 = 1;
 /// An allocation was refused.
 pub const NO_MEMORY: u32 = 2;
 
-/// A room is too small: the lengths that are needed are written, and nothing else.
-pub const NO_ROOM: u32 = 3;
+/// A buffer is too small: the lengths that are needed are written, and nothing else.
+pub const BUFFER_TOO_SMALL: u32 = 3;
 
 /// Bytes that are to be a string are not UTF-8.
 pub const NOT_UTF8: u32 = 4;
@@ -30,7 +30,7 @@ pub const TOO_MANY_ROWS: u32 = 8;
 /// A buffer of a column is too short for its rows.
 pub const TOO_SHORT: u32 = 9;
 
-/// Bytes are not of the form that is read.
+/// Bytes are not of the encoding that is read.
 pub const BAD_BYTES: u32 = 10;
 
 /// Words are no filter.

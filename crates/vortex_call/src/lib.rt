@@ -18,35 +18,35 @@ pub const GIVEN: u32 = 0;
 /// An allocation was refused.
 pub const NO_MEMORY: u32 = 2;
 
-/// The room is too small: the length that is needed is written, and nothing else.
-pub const NO_ROOM: u32 = 3;
+/// The buffer is too small: the length that is needed is written, and nothing else.
+pub const BUFFER_TOO_SMALL: u32 = 3;
 
 /// How deep a line of `doqallin_call` may nest.
 pub const DEPTH: usize = 32;
 
-/// The answer to a line, as UTF-8, written to the room.
+/// The answer to a line, as UTF-8, written to the buffer.
 ///
 /// A line names a call and what it is given, as the worked cases in crates/scalar_cases do. A
-/// refusal is an answer, as `CannotCast`, and so is `bad line`, to bytes that are no line. No clause
-/// says which answer comes: the stored cases are run.
+/// refusal is an answer, as `CannotCast`, and so is `bad line`, to bytes that are no line. No
+/// clause says which answer comes: the stored cases are run.
 ///
-/// The answer is `TooDeep` if more than `DEPTH` brackets nest in a type or a value, or connectives and
-/// parentheses in a filter. So on a thread of 128 kilobytes no line ends the process: that is tested,
-/// and no contract speaks of stack.
+/// The answer is `TooDeep` if more than `DEPTH` brackets nest in a type or a value, or connectives
+/// and parentheses in a filter. So on a thread of 128 kilobytes no line ends the process: that is
+/// tested, and no contract speaks of stack.
 ///
-/// - `NO_ROOM`: the room is too small. `count` says how many bytes the whole answer has. No clause
-///   says that the next call has the same answer.
+/// - `BUFFER_TOO_SMALL`: the buffer is too small. `count` says how many bytes the whole answer has.
+///   No clause says that the next call has the same answer.
 /// - `NO_MEMORY`: there was no memory to read the line or to write the answer.
 #[unsafe(no_mangle)]
 pub extern "C" fn doqallin_call(
     alloc: Global,
     line: &[u8],
-    room: &mut [u8],
+    buffer: &mut [u8],
     count: &mut usize,
 ) -> u32
-    ensures { AnswersLine room.old room.new count.old count.new result }
+    ensures { AnswersLine buffer.old buffer.new count.old count.new result }
 {
-    doqallin_call_within(alloc, line, DEPTH, room, count)
+    doqallin_call_within(alloc, line, DEPTH, buffer, count)
 }
 
 /// As `doqallin_call`, of lines that may nest as deep as the caller says.
@@ -55,12 +55,12 @@ pub extern "C" fn doqallin_call_within(
     alloc: Global,
     line: &[u8],
     depth: usize,
-    room: &mut [u8],
+    buffer: &mut [u8],
     count: &mut usize,
 ) -> u32
-    ensures { AnswersLine room.old room.new count.old count.new result }
+    ensures { AnswersLine buffer.old buffer.new count.old count.new result }
 {
-    answer_into(alloc, &WorkedCases { depth }, line, room, count)
+    answer_into(alloc, &WorkedCases { depth }, line, buffer, count)
 }
 
 /// What answers lines.
@@ -88,40 +88,40 @@ impl Answerer for WorkedCases {
     }
 }
 
-/// The answer to a line, whatever answers it, written to the room, and its length.
+/// The answer to a line, whatever answers it, written to the buffer, and its length.
 ///
-/// The length is that of the whole answer, also where the room is too small for it.
+/// The length is that of the whole answer, also where the buffer is too small for it.
 fn answer_into<A: Answerer>(
     alloc: Global,
     answerer: &A,
     line: &[u8],
-    room: &mut [u8],
+    buffer: &mut [u8],
     count: &mut usize,
 ) -> u32
-    ensures statuses { (result ≡ GIVEN) ⊎ ((result ≡ NO_MEMORY) ⊎ (result ≡ NO_ROOM)) }
+    ensures statuses { (result ≡ GIVEN) ⊎ ((result ≡ NO_MEMORY) ⊎ (result ≡ BUFFER_TOO_SMALL)) }
     ensures told { result ≢ NO_MEMORY → (answer : List ℕ)
         × A.IsAnswer answerer.now line.now answer × IsUtf8 answer
-        × IsTold answer room.old room.new count.new result }
-    ensures kept_room { result ≡ NO_MEMORY → room.new ≡ room.old }
+        × IsTold answer buffer.old buffer.new count.new result }
+    ensures kept_buffer { result ≡ NO_MEMORY → buffer.new ≡ buffer.old }
     ensures kept_count { result ≡ NO_MEMORY → count.new ≡ count.old }
 {
     match answerer.answer(alloc, line) {
-        Ok(answer) => give(answer.as_str().as_bytes(), room, count),
+        Ok(answer) => give(answer.as_str().as_bytes(), buffer, count),
         Err(_) => NO_MEMORY,
     }
 }
 
-/// Writes the answer to the room, and its length; only the length if the room is too small.
-fn give(answer: &[u8], room: &mut [u8], count: &mut usize) -> u32
-    ensures statuses { (result ≡ GIVEN) ⊎ (result ≡ NO_ROOM) }
-    ensures told { IsTold answer.now room.old room.new count.new result }
+/// Writes the answer to the buffer, and its length; only the length if the buffer is too small.
+fn give(answer: &[u8], buffer: &mut [u8], count: &mut usize) -> u32
+    ensures statuses { (result ≡ GIVEN) ⊎ (result ≡ BUFFER_TOO_SMALL) }
+    ensures told { IsTold answer.now buffer.old buffer.new count.new result }
 {
     let needed = answer.len();
     *count = needed;
-    if needed <= room.len() {
-        room[..needed].copy_from_slice(answer);
+    if needed <= buffer.len() {
+        buffer[..needed].copy_from_slice(answer);
         GIVEN
     } else {
-        NO_ROOM
+        BUFFER_TOO_SMALL
     }
 }

@@ -17,8 +17,8 @@ pub enum RowError {
     HasVariant,
     /// The bytes begin with no key of the type: the place of the first byte that none has there, or
     /// of the end if they end too early.
-    #[error("no key of the type: byte {place}")]
-    BadKey { place: usize },
+    #[error("no key of the type: byte {offset}")]
+    BadKey { offset: usize },
     /// The row has another number of values than there are columns.
     #[error("a row of {found} values for {expected} columns")]
     WrongLength { expected: usize, found: usize },

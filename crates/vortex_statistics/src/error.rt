@@ -21,8 +21,8 @@ pub enum StatisticsError {
     HasVariant,
     /// The bytes are no form of statistics of the type: the place of the first byte that none has
     /// there, or of the end if they end too early. Of the calls of `statistics_bytes` alone.
-    #[error("no form of statistics of the type: byte {place}")]
-    BadBytes { place: usize },
+    #[error("no form of statistics of the type: byte {offset}")]
+    BadBytes { offset: usize },
 }
 
 /// Out of memory, whatever was asked for.

@@ -8,12 +8,12 @@ use Rattle.std.proofs.lemmas.List.{append-nil, nil_from_length, length-map}
 use Rattle.std.proofs.lemmas.List.Concat.{flat_map-cons}
 use Rattle.std.proofs.lemmas.Slice.Eq.{bytes_eq-Decides}
 use Rattle.sha2.specs.Sha256.{sha256}
-use Rattle.zone_index.specs.declared.form.FormFault.{FormFault}
-use Rattle.zone_index.specs.declared.form.FormFault.TheVariants.{Damaged, Trailing}
-use Rattle.zone_index.specs.Form.{AddBlocks, AddsBlock, AreDealt, BlockValue, HavePieces, IndexValue, RootValue, ZoneValue, block_of, blocks_of, bytes_form, dealt, index_value, is_wanted, root_of, wanted_of, wanted_pieces, wanted_zones, with_statistics, with_unread, without_statistics, zone_values}
-use Rattle.zone_index.specs.FormReading.{◌>>=◌, Gives, added_at, blocks_at, dealt_at, front_at, index_at, piece_at}
-use Rattle.zone_index.specs.declared.form.Index.{Index}
-use Rattle.zone_index.specs.declared.form.ReadError.{ReadError}
+use Rattle.zone_index.specs.declared.encoding.EncodingError.{EncodingError}
+use Rattle.zone_index.specs.declared.encoding.EncodingError.TheVariants.{Damaged, Trailing}
+use Rattle.zone_index.specs.Encoding.{AddBlocks, AddsBlock, AreDealt, BlockValue, HavePieces, IndexValue, RootValue, ZoneValue, block_of, blocks_of, bytes_encoding, dealt, index_value, is_wanted, root_of, wanted_of, wanted_pieces, wanted_zones, with_statistics, with_unread, without_statistics, zone_values}
+use Rattle.zone_index.specs.EncodingReading.{◌>>=◌, Gives, added_at, blocks_at, dealt_at, front_at, index_at, piece_at}
+use Rattle.zone_index.specs.declared.encoding.Index.{Index}
+use Rattle.zone_index.specs.declared.encoding.ReadError.{ReadError}
 use Rattle.zone_index.proofs.FieldLaws.{IsBytes, bind_ok, guard_met, ok_is, piece_again, piece_takes, front_again, front_takes}
 
 -- ---- pieces that are dealt
@@ -21,14 +21,14 @@ use Rattle.zone_index.proofs.FieldLaws.{IsBytes, bind_ok, guard_met, ok_is, piec
 abbrev pub AllFit : List (List ℕ) → Type 0
 AllFit ps = AllByRecursion (λ p. length p < 2 ^ 64) ps
 
-pub dealt_again : {A : Type 0} (give : A → List ℕ → A) (xs : List A) (ps : List (List ℕ)) → length ps ≡ length xs → AllFit ps → dealt_at give xs (flat_map bytes_form ps) ≡ Ok (dealt give ps xs)
+pub dealt_again : {A : Type 0} (give : A → List ℕ → A) (xs : List A) (ps : List (List ℕ)) → length ps ≡ length xs → AllFit ps → dealt_at give xs (flat_map bytes_encoding ps) ≡ Ok (dealt give ps xs)
 unfolding dealt_at
 dealt_again give [] [] same fit = refl
 dealt_again give [] (p ∷ ps) same fit = absurd (omega (arith, same))
 dealt_again give (x ∷ xs) [] same fit = absurd (omega (arith, same))
 dealt_again give (x ∷ xs) (p ∷ ps) same fit =
     let less : length ps ≡ length xs = omega (arith, same) in
-    ap (dealt_at give (x ∷ xs)) (flat_map-cons bytes_form p ps) ∙ rw (piece_again p (flat_map bytes_form ps) fit.0, dealt_again give xs ps less fit.1) refl
+    ap (dealt_at give (x ∷ xs)) (flat_map-cons bytes_encoding p ps) ∙ rw (piece_again p (flat_map bytes_encoding ps) fit.0, dealt_again give xs ps less fit.1) refl
 
 pub dealt_takes : {A : Type 0} (give : A → List ℕ → A) (xs : List A) (bytes : List ℕ) (ys : List A) → IsBytes bytes → dealt_at give xs bytes ≡ Ok ys → AreDealt give xs bytes ys
 unfolding dealt_at
@@ -45,7 +45,7 @@ dealt_takes {A} give (x ∷ xs) bytes ys fits e =
     record {
       pieces = p ∷ later.pieces;
       count = ap suc later.count;
-      is = t.0.parts ∙ ap₂ (λ (m n : List ℕ). m ++ n) t.1.is later.is ∙ sym (flat_map-cons bytes_form p later.pieces);
+      is = t.0.parts ∙ ap₂ (λ (m n : List ℕ). m ++ n) t.1.is later.is ∙ sym (flat_map-cons bytes_encoding p later.pieces);
       fit = (t.1.fits, later.fit);
       given = sym (ok_is (give x a.0.0 ∷ b.0) ys b.2) ∙ ap₂ (λ (f : List ℕ) (l : List A). give x f ∷ l) t.1.is later.given;
     }
@@ -61,7 +61,7 @@ added_found true unread b zs ys block fits e =
     let same : sha256 block ≡ b.digest = (bytes_eq-Decides (sha256 block) b.digest).0 g.0 in
     (d, sym same)
   where
-    by_test : (t : Bool) (r : Result (List ZoneValue) FormFault) → cond t r (Err Damaged) ≡ Ok ys → (t ≡ true) × (r ≡ Ok ys)
+    by_test : (t : Bool) (r : Result (List ZoneValue) EncodingError) → cond t r (Err Damaged) ≡ Ok ys → (t ≡ true) × (r ≡ Ok ys)
     by_test true r h = (refl, h)
     by_test false r h = absurd cc
 
@@ -103,7 +103,7 @@ others_are n ((p ∷ ps) ∷ pieces) h = (record { count = omega (arith, h.0.cou
 abbrev more : List Bool → (ℕ → List ℕ) → ℕ → List ZoneValue → List (List (List ℕ)) → List ZoneValue
 more wanted unread k [] pieces = []
 more wanted unread k (z ∷ zs) [] = []
-more wanted unread k (z ∷ zs) (ps ∷ pieces) = with_statistics z (flat_map bytes_form (wanted_pieces wanted k (unread z.rows) ps)) ∷ more wanted unread k zs pieces
+more wanted unread k (z ∷ zs) (ps ∷ pieces) = with_statistics z (flat_map bytes_encoding (wanted_pieces wanted k (unread z.rows) ps)) ∷ more wanted unread k zs pieces
 
 more_none : (wanted : List Bool) (unread : ℕ → List ℕ) (k : ℕ) (zs : List ZoneValue) (pieces : List (List (List ℕ))) → length pieces ≡ length zs → AllByRecursion (Row 0) pieces → zs ≡ more wanted unread k zs pieces
 more_none wanted unread k [] pieces same h = refl
@@ -113,8 +113,8 @@ more_none wanted unread k (z ∷ zs) ([] ∷ pieces) same h =
 more_none wanted unread k (z ∷ zs) ((p ∷ ps) ∷ pieces) same h = absurd (omega (arith, h.0.count))
 
 -- a zone with one piece and then the others
-one_more : (z : ZoneValue) (piece : List ℕ) (ps : List (List ℕ)) → with_statistics (with_statistics z (bytes_form piece)) (flat_map bytes_form ps) ≡ with_statistics z (flat_map bytes_form (piece ∷ ps))
-one_more z piece ps = ap (λ (s : List ℕ). record z { statistics = s }) (append_assoc z.statistics (bytes_form piece) (flat_map bytes_form ps) ∙ ap (λ (l : List ℕ). z.statistics ++ l) (sym (flat_map-cons bytes_form piece ps)))
+one_more : (z : ZoneValue) (piece : List ℕ) (ps : List (List ℕ)) → with_statistics (with_statistics z (bytes_encoding piece)) (flat_map bytes_encoding ps) ≡ with_statistics z (flat_map bytes_encoding (piece ∷ ps))
+one_more z piece ps = ap (λ (s : List ℕ). record z { statistics = s }) (append_assoc z.statistics (bytes_encoding piece) (flat_map bytes_encoding ps) ∙ ap (λ (l : List ℕ). z.statistics ++ l) (sym (flat_map-cons bytes_encoding piece ps)))
 
 more_wanted : (wanted : List Bool) (unread : ℕ → List ℕ) (k n : ℕ) (zs : List ZoneValue) (pieces : List (List (List ℕ))) → is_wanted wanted k ≡ true → length pieces ≡ length zs → AllByRecursion (Row (suc n)) pieces
     → more wanted unread (suc k) (dealt with_statistics (firsts pieces) zs) (others pieces) ≡ more wanted unread k zs pieces
@@ -123,7 +123,7 @@ more_wanted wanted unread k n [] (ps ∷ pieces) is same h = absurd (omega (arit
 more_wanted wanted unread k n (z ∷ zs) [] is same h = absurd (omega (arith, same))
 more_wanted wanted unread k n (z ∷ zs) ([] ∷ pieces) is same h = absurd (omega (arith, h.0.count))
 more_wanted wanted unread k n (z ∷ zs) ((p ∷ ps) ∷ pieces) is same h =
-    ap₂ (λ (y : ZoneValue) (l : List ZoneValue). y ∷ l) (one_more z p (wanted_pieces wanted (suc k) (unread z.rows) ps) ∙ ap (λ (b : Bool). with_statistics z (flat_map bytes_form (cond b p (unread z.rows) ∷ wanted_pieces wanted (suc k) (unread z.rows) ps))) (sym is))
+    ap₂ (λ (y : ZoneValue) (l : List ZoneValue). y ∷ l) (one_more z p (wanted_pieces wanted (suc k) (unread z.rows) ps) ∙ ap (λ (b : Bool). with_statistics z (flat_map bytes_encoding (cond b p (unread z.rows) ∷ wanted_pieces wanted (suc k) (unread z.rows) ps))) (sym is))
     (more_wanted wanted unread k n zs pieces is (omega (arith, same)) h.1)
 
 more_unread : (wanted : List Bool) (unread : ℕ → List ℕ) (k n : ℕ) (zs : List ZoneValue) (pieces : List (List (List ℕ))) → is_wanted wanted k ≡ false → length pieces ≡ length zs → AllByRecursion (Row (suc n)) pieces
@@ -134,7 +134,7 @@ more_unread wanted unread k n (z ∷ zs) [] is same h = absurd (omega (arith, sa
 more_unread wanted unread k n (z ∷ zs) ([] ∷ pieces) is same h = absurd (omega (arith, h.0.count))
 more_unread wanted unread k n (z ∷ zs) ((p ∷ ps) ∷ pieces) is same h =
     ap₂ (λ (y : ZoneValue) (l : List ZoneValue). y ∷ l)
-    (one_more z (unread z.rows) (wanted_pieces wanted (suc k) (unread z.rows) ps) ∙ ap (λ (b : Bool). with_statistics z (flat_map bytes_form (cond b p (unread z.rows) ∷ wanted_pieces wanted (suc k) (unread z.rows) ps))) (sym is))
+    (one_more z (unread z.rows) (wanted_pieces wanted (suc k) (unread z.rows) ps) ∙ ap (λ (b : Bool). with_statistics z (flat_map bytes_encoding (cond b p (unread z.rows) ∷ wanted_pieces wanted (suc k) (unread z.rows) ps))) (sym is))
     (more_unread wanted unread k n zs pieces is (omega (arith, same)) h.1)
 
 dealt_long : {A : Type 0} (give : A → List ℕ → A) (ps : List (List ℕ)) (xs : List A) → length ps ≡ length xs → length (dealt give ps xs) ≡ length xs
@@ -146,17 +146,17 @@ dealt_long give (p ∷ ps) (x ∷ xs) same = ap suc (dealt_long give ps xs (omeg
 -- the next block, if the others are read
 block_again : (wanted : List Bool) (unread : ℕ → List ℕ) (k n : ℕ) (zs : List ZoneValue) (pieces : List (List (List ℕ))) (b : Bool) → is_wanted wanted k ≡ b → length pieces ≡ length zs → AllByRecursion (Row (suc n)) pieces
     → ((ys : List ZoneValue) → length (others pieces) ≡ length ys → blocks_at wanted unread (suc k) (map block_of (blocks_of n (others pieces))) ys (concat (blocks_of n (others pieces))) ≡ Ok (more wanted unread (suc k) ys (others pieces)))
-    → (added_at b unread (block_of (flat_map bytes_form (firsts pieces))) zs (flat_map bytes_form (firsts pieces)) >>= λ ys. blocks_at wanted unread (suc k) (map block_of (blocks_of n (others pieces))) ys (concat (blocks_of n (others pieces)))) ≡ Ok (more wanted unread k zs pieces)
+    → (added_at b unread (block_of (flat_map bytes_encoding (firsts pieces))) zs (flat_map bytes_encoding (firsts pieces)) >>= λ ys. blocks_at wanted unread (suc k) (map block_of (blocks_of n (others pieces))) ys (concat (blocks_of n (others pieces)))) ≡ Ok (more wanted unread k zs pieces)
 unfolding added_at
 block_again wanted unread k n zs pieces true is same h next =
     let column = firsts pieces in
-    let digest = sha256 (flat_map bytes_form column) in
+    let digest = sha256 (flat_map bytes_encoding column) in
     let count : length column ≡ length zs = length-map pieces (λ ps. slice_index_or ps 0 []) ∙ same in
     let equal : bytes_eq digest digest ≡ true = (bytes_eq-Decides digest digest).1 refl in
     let rest : length (others pieces) ≡ length (dealt with_statistics column zs) = length-map pieces (λ ps. drop 1 ps) ∙ same ∙ sym (dealt_long with_statistics column zs count) in
     rw (equal, dealt_again with_statistics zs column count (first_fit n pieces h)) (next (dealt with_statistics column zs) rest) ∙ ap (λ (l : List ZoneValue). Ok l) (more_wanted wanted unread k n zs pieces is same h)
 block_again wanted unread k n zs pieces false is same h next =
-    let rest : length (others pieces) ≡ length (with_unread unread zs) = length-map pieces (λ ps. drop 1 ps) ∙ same ∙ sym (length-map zs (λ z. with_statistics z (bytes_form (unread z.rows)))) in
+    let rest : length (others pieces) ≡ length (with_unread unread zs) = length-map pieces (λ ps. drop 1 ps) ∙ same ∙ sym (length-map zs (λ z. with_statistics z (bytes_encoding (unread z.rows)))) in
     next (with_unread unread zs) rest ∙ ap (λ (l : List ZoneValue). Ok l) (more_unread wanted unread k n zs pieces is same h)
 
 blocks_again : (wanted : List Bool) (unread : ℕ → List ℕ) (k n : ℕ) (zs : List ZoneValue) (pieces : List (List (List ℕ))) → length pieces ≡ length zs → AllByRecursion (Row n) pieces
@@ -164,7 +164,7 @@ blocks_again : (wanted : List Bool) (unread : ℕ → List ℕ) (k n : ℕ) (zs 
 unfolding blocks_at
 blocks_again wanted unread k zero zs pieces same h = ap (λ (l : List ZoneValue). Ok l) (more_none wanted unread k zs pieces same h)
 blocks_again wanted unread k (suc n) zs pieces same h =
-    let block = flat_map bytes_form (firsts pieces) in
+    let block = flat_map bytes_encoding (firsts pieces) in
     let later = blocks_of n (others pieces) in
     rw (front_again (length block) block (concat later) refl) (block_again wanted unread k n zs pieces (is_wanted wanted k) refl same h (λ ys long. blocks_again wanted unread (suc k) n ys (others pieces) long (others_are n pieces h)))
 
@@ -181,7 +181,7 @@ rows_of n (z ∷ zs) (ps ∷ pieces) h =
 more_bare : (wanted : List Bool) (unread : ℕ → List ℕ) (zs : List ZoneValue) (pieces : List (List (List ℕ))) → more wanted unread 0 (map without_statistics zs) pieces ≡ wanted_zones wanted unread zs pieces
 more_bare wanted unread [] pieces = refl
 more_bare wanted unread (z ∷ zs) [] = refl
-more_bare wanted unread (z ∷ zs) (ps ∷ pieces) = ap (λ (l : List ZoneValue). record z { statistics = flat_map bytes_form (wanted_pieces wanted 0 (unread z.rows) ps) } ∷ l) (more_bare wanted unread zs pieces)
+more_bare wanted unread (z ∷ zs) (ps ∷ pieces) = ap (λ (l : List ZoneValue). record z { statistics = flat_map bytes_encoding (wanted_pieces wanted 0 (unread z.rows) ps) } ∷ l) (more_bare wanted unread zs pieces)
 
 pub wanted_again : (wanted : List Bool) (unread : ℕ → List ℕ) (n : ℕ) (zs : List ZoneValue) (pieces : List (List (List ℕ))) → HavePieces n zs pieces
     → blocks_at wanted unread 0 (map block_of (blocks_of n pieces)) (map without_statistics zs) (concat (blocks_of n pieces)) ≡ Ok (wanted_zones wanted unread zs pieces)
@@ -208,4 +208,4 @@ pub index_again : (wanted : List Bool) (unread : ℕ → List ℕ) (n : ℕ) (x 
 index_again wanted unread n x pieces root bytes r have same all given =
     let blocks = blocks_of n pieces in
     let written : index_at wanted unread (root_of x blocks) (concat blocks) ≡ Ok (wanted_of wanted unread x pieces) = rw (wanted_again wanted unread n x.zones pieces have) refl in
-    subst (λ (read : Result IndexValue FormFault). Gives index_value r read) (ap₂ (λ (q : RootValue) (b : List ℕ). index_at wanted unread q b) same all ∙ written) given
+    subst (λ (read : Result IndexValue EncodingError). Gives index_value r read) (ap₂ (λ (q : RootValue) (b : List ℕ). index_at wanted unread q b) same all ∙ written) given

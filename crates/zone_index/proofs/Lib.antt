@@ -5,7 +5,7 @@ pub mod BlockLaws
 pub mod FieldLaws
 pub mod Filling
 pub mod Finding
-pub mod FormLaws
+pub mod EncodingLaws
 pub mod ReadSteps
 pub mod Refusing
 pub mod Rests

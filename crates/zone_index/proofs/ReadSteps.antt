@@ -1,23 +1,23 @@
 -- Reading one after the other, as loops do.
 use Rattle.std.proofs.Common.{◌≡◌, ℕ, zero, suc, ◌-◌, ◌+◌, ◌≤◌, ◌<◌, Bool, true, false, cond, eqb, List, [], ◌∷◌, ◌++◌, Result, Ok, Err, refl, sym, ap, ap₂, subst, ◌∙◌, add-one, append_assoc, arith, map, take, take_all, drop, set, get_or, length}
 use Rattle.std.proofs.lemmas.List.{append-nil, map-append}
-use Rattle.zone_index.specs.declared.form.FormFault.{FormFault}
-use Rattle.zone_index.specs.declared.form.ReadError.{ReadError}
-use Rattle.zone_index.specs.declared.form.ReadError.TheVariants as errors
-use Rattle.zone_index.specs.FormReading.{◌>>=◌, Fails, added_at, blocks_at, dealt_at, front_at, many_at, piece_at}
-use Rattle.zone_index.specs.declared.form.Block.{Block}
-use Rattle.zone_index.specs.declared.form.FormFault.TheVariants.{Trailing}
-use Rattle.zone_index.specs.Form.{ZoneValue, block_value, is_wanted}
+use Rattle.zone_index.specs.declared.encoding.EncodingError.{EncodingError}
+use Rattle.zone_index.specs.declared.encoding.ReadError.{ReadError}
+use Rattle.zone_index.specs.declared.encoding.ReadError.TheVariants as errors
+use Rattle.zone_index.specs.EncodingReading.{◌>>=◌, Fails, added_at, blocks_at, dealt_at, front_at, many_at, piece_at}
+use Rattle.zone_index.specs.declared.encoding.Block.{Block}
+use Rattle.zone_index.specs.declared.encoding.EncodingError.TheVariants.{Trailing}
+use Rattle.zone_index.specs.Encoding.{ZoneValue, block_value, is_wanted}
 
 -- what was read before, and what is still read
-abbrev pub with_front : {A : Type 0} → List A → Result (List A × List ℕ) FormFault → Result (List A × List ℕ) FormFault
+abbrev pub with_front : {A : Type 0} → List A → Result (List A × List ℕ) EncodingError → Result (List A × List ℕ) EncodingError
 with_front front read = read >>= λ x. Ok (front ++ x.0, x.1)
 
-regroup : {A : Type 0} (front : List A) (n : A) (read : Result (List A × List ℕ) FormFault) → with_front front (read >>= λ x. Ok (n ∷ x.0, x.1)) ≡ with_front (front ++ n ∷ []) read
+regroup : {A : Type 0} (front : List A) (n : A) (read : Result (List A × List ℕ) EncodingError) → with_front front (read >>= λ x. Ok (n ∷ x.0, x.1)) ≡ with_front (front ++ n ∷ []) read
 regroup {A} front n (Ok x) = ap (λ (ns : List A). Ok (ns, x.1)) (simp append_assoc)
 regroup {A} front n (Err f) = refl
 
-pub goes_on : {A : Type 0} (one_at : List ℕ → Result (A × List ℕ) FormFault) (front : List A) (count i : ℕ) (bytes : List ℕ) (n : A) (after : List ℕ) (total : Result (List A × List ℕ) FormFault) → i < count → one_at bytes ≡ Ok (n, after)
+pub goes_on : {A : Type 0} (one_at : List ℕ → Result (A × List ℕ) EncodingError) (front : List A) (count i : ℕ) (bytes : List ℕ) (n : A) (after : List ℕ) (total : Result (List A × List ℕ) EncodingError) → i < count → one_at bytes ≡ Ok (n, after)
     → with_front front (many_at one_at (count - i) bytes) ≡ total → with_front (front ++ n ∷ []) (many_at one_at (count - (i + 1)) after) ≡ total
 unfolding many_at
 goes_on one_at front count i bytes n after total lt h so_far =
@@ -25,7 +25,7 @@ goes_on one_at front count i bytes n after total lt h so_far =
     let one : with_front front (many_at one_at (count - i) bytes) ≡ with_front (front ++ n ∷ []) (many_at one_at (count - (i + 1)) after) = rw (k, h) (regroup front n (many_at one_at (count - (i + 1)) after)) in
     sym one ∙ so_far
 
-pub ends : {A : Type 0} (one_at : List ℕ → Result (A × List ℕ) FormFault) (e : ReadError) (front : List A) (count i : ℕ) (bytes : List ℕ) (total : Result (List A × List ℕ) FormFault) → i < count → Fails e (one_at bytes)
+pub ends : {A : Type 0} (one_at : List ℕ → Result (A × List ℕ) EncodingError) (e : ReadError) (front : List A) (count i : ℕ) (bytes : List ℕ) (total : Result (List A × List ℕ) EncodingError) → i < count → Fails e (one_at bytes)
     → with_front front (many_at one_at (count - i) bytes) ≡ total → Fails e total
 unfolding many_at
 ends one_at errors.Memory front count i bytes total lt h so_far = tt
@@ -34,7 +34,7 @@ ends one_at (errors.Fault f) front count i bytes total lt h so_far =
     let one : with_front front (many_at one_at (count - i) bytes) ≡ Err f = rw (k, h) refl in
     sym so_far ∙ one
 
-pub is_done : {A : Type 0} (one_at : List ℕ → Result (A × List ℕ) FormFault) (front : List A) (count i : ℕ) (bytes : List ℕ) (total : Result (List A × List ℕ) FormFault) → count ≤ i → with_front front (many_at one_at (count - i) bytes) ≡ total → total ≡ Ok (front, bytes)
+pub is_done : {A : Type 0} (one_at : List ℕ → Result (A × List ℕ) EncodingError) (front : List A) (count i : ℕ) (bytes : List ℕ) (total : Result (List A × List ℕ) EncodingError) → count ≤ i → with_front front (many_at one_at (count - i) bytes) ≡ total → total ≡ Ok (front, bytes)
 unfolding many_at
 is_done {A} one_at front count i bytes total le so_far =
     let k : count - i ≡ 0 = omega arith in
@@ -43,7 +43,7 @@ is_done {A} one_at front count i bytes total le so_far =
 
 -- ---- pieces that are dealt
 
-abbrev after_front : {B : Type 0} → List B → Result (List B) FormFault → Result (List B) FormFault
+abbrev after_front : {B : Type 0} → List B → Result (List B) EncodingError → Result (List B) EncodingError
 after_front front read = read >>= λ ys. Ok (front ++ ys)
 
 -- what was dealt, and what is still dealt, are what all gives
@@ -74,14 +74,14 @@ drop_past [] (suc i) h = refl
 drop_past (x ∷ xs) zero h = absurd (omega arith)
 drop_past (x ∷ xs) (suc i) h = drop_past xs i (omega arith)
 
-given_more : {B : Type 0} (front : List B) (y : B) (read : Result (List B) FormFault) → after_front front (read >>= λ others. Ok (y ∷ others)) ≡ after_front (front ++ y ∷ []) read
+given_more : {B : Type 0} (front : List B) (y : B) (read : Result (List B) EncodingError) → after_front front (read >>= λ others. Ok (y ∷ others)) ≡ after_front (front ++ y ∷ []) read
 given_more {B} front y (Ok ys) = ap (λ (l : List B). Ok l) (sym (append_assoc front (y ∷ []) ys))
 given_more front y (Err f) = refl
 
 pub dealt_begins : {A B : Type 0} (view : A → B) (give : B → List ℕ → B) (xs : List A) (bytes : List ℕ) → IsDealtSoFar view give xs bytes 0 xs bytes
 dealt_begins {A} {B} view give xs bytes = by_result (dealt_at give (map view xs) bytes)
   where
-    by_result : (r : Result (List B) FormFault) → after_front [] r ≡ r
+    by_result : (r : Result (List B) EncodingError) → after_front [] r ≡ r
     by_result (Ok ys) = refl
     by_result (Err f) = refl
 

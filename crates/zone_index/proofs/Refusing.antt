@@ -6,30 +6,30 @@ use Rattle.std.proofs.lemmas.List.Folds.{concat-append}
 use Rattle.std.specs.List.{All, concat, flat_map}
 use Rattle.csv_records.specs.Lemmas.RecordLaws.{concat-records_of}
 use Rattle.csv_records.specs.Records.{records_of}
-use Rattle.zone_index.specs.Faults.{EndsFar, IfRecordRefused, IfRefused, IsOfReading, TellsOneOf, TellsRecord, fault_at}
+use Rattle.zone_index.specs.Errors.{EndsFar, IfRecordRefused, IfRefused, IsOfReading, TellsOneOf, TellsRecord, fault_at}
 use Rattle.zone_index.specs.Taking.{IsTaken}
 use Rattle.zone_index.specs.Zones.{Follow, IsHeld, IsIndexOf, IsZoneOf, zone_bytes, zone_records}
-use Rattle.zone_index.specs.declared.faults.Cause.{Cause}
-use Rattle.zone_index.specs.declared.faults.SearchFault.{SearchFault}
-use Rattle.zone_index.specs.declared.faults.SearchFault.TheVariants as faults
-use Rattle.zone_index.specs.declared.faults.RecordFault.{RecordFault}
-use Rattle.zone_index.specs.declared.faults.RecordFault.TheVariants as record_faults
-use Rattle.zone_index.specs.declared.faults.Refusal.{Refusal}
+use Rattle.zone_index.specs.declared.errors.Cause.{Cause}
+use Rattle.zone_index.specs.declared.errors.SearchError.{SearchError}
+use Rattle.zone_index.specs.declared.errors.SearchError.TheVariants as errors
+use Rattle.zone_index.specs.declared.errors.RecordError.{RecordError}
+use Rattle.zone_index.specs.declared.errors.RecordError.TheVariants as record_faults
+use Rattle.zone_index.specs.declared.errors.Refusal.{Refusal}
 use Rattle.zone_index.specs.declared.zones.Zone.{Zone}
 use Rattle.zone_index.proofs.Begun.{IsBegun}
 
 -- no record is told
-pub none_told : (P : Refusal → Type 0) (f : SearchFault) → IsOfReading f → IfRefused P f
-none_told P (faults.Refused r) h = absurd h
-none_told P faults.Read h = tt
-none_told P faults.CutShort h = tt
-none_told P faults.TooFar h = tt
-none_told P faults.Write h = absurd h
-none_told P faults.Memory h = tt
+pub none_told : (P : Refusal → Type 0) (f : SearchError) → IsOfReading f → IfRefused P f
+none_told P (errors.Refused r) h = absurd h
+none_told P errors.Read h = tt
+none_told P errors.CutShort h = tt
+none_told P errors.TooFar h = tt
+none_told P errors.Write h = absurd h
+none_told P errors.Memory h = tt
 
 -- ---- one record
 
-pub told_here : (R : List ℕ → Cause → Type 0) (place : ℕ) (line : List ℕ) (f : RecordFault) → place < 2 ^ 64 → IfRecordRefused (TellsRecord R 0 line) f → IfRefused (TellsRecord R place line) (fault_at place f)
+pub told_here : (R : List ℕ → Cause → Type 0) (place : ℕ) (line : List ℕ) (f : RecordError) → place < 2 ^ 64 → IfRecordRefused (TellsRecord R 0 line) f → IfRefused (TellsRecord R place line) (fault_at place f)
 told_here R place line record_faults.Memory fits h = tt
 told_here R place line (record_faults.Refused r) fits h = record { begins = omega (arith, h.begins, fits); cause = h.cause }
 
@@ -90,13 +90,13 @@ told_in_text R d first place text rest line after r h cut is told =
     }
 
 -- the same of a fault, where the text begins at the first place
-pub refused_in_text : (R : List ℕ → Cause → Type 0) (d place : ℕ) (text rest line after : List ℕ) (f : RecordFault) → IsReached d text rest → records_of d rest ≡ line ∷ records_of d after
+pub refused_in_text : (R : List ℕ → Cause → Type 0) (d place : ℕ) (text rest line after : List ℕ) (f : RecordError) → IsReached d text rest → records_of d rest ≡ line ∷ records_of d after
     → place ≡ min (0 + (length text - length rest)) (2 ^ 64 - 1) → IfRecordRefused (TellsRecord R place line) f → IfRecordRefused (TellsOneOf R 0 (records_of d text)) f
 refused_in_text R d place text rest line after record_faults.Memory reached cut is h = tt
 refused_in_text R d place text rest line after (record_faults.Refused r) reached cut is h = told_in_text R d 0 place text rest line after r reached cut is h
 
 -- what is told of a record's text, told of the file
-pub told_at : (R : List ℕ → Cause → Type 0) (first : ℕ) (records : List (List ℕ)) (f : RecordFault) → IfRecordRefused (TellsOneOf R 0 records) f → IfRefused (TellsOneOf R first records) (fault_at first f)
+pub told_at : (R : List ℕ → Cause → Type 0) (first : ℕ) (records : List (List ℕ)) (f : RecordError) → IfRecordRefused (TellsOneOf R 0 records) f → IfRefused (TellsOneOf R first records) (fault_at first f)
 told_at R first records record_faults.Memory h = tt
 told_at R first records (record_faults.Refused r) h = record {
   before = h.before;
@@ -142,17 +142,17 @@ told_in_index R d has_row Describes was start zones i z r inside is index h =
     (told_in_zone R d has_row Describes was start (length was) zones i z r inside index.follow index.right (subst (λ (y : Zone). TellsOneOf R y.first (zone_records d was y) r) is h))
 
 -- the same of a fault, where the reader has the bytes that it had
-pub refused_in_zone : (R : List ℕ → Cause → Type 0) (d : ℕ) (has_row : List ℕ → Bool) (Describes : List ℕ → List (List ℕ) → Type 0) (old now : Option (List ℕ)) (zones : List Zone) (i : ℕ) (z : Zone) (f : SearchFault) → i < length zones → z ≡ get_or zones i z → now ≡ old
+pub refused_in_zone : (R : List ℕ → Cause → Type 0) (d : ℕ) (has_row : List ℕ → Bool) (Describes : List ℕ → List (List ℕ) → Type 0) (old now : Option (List ℕ)) (zones : List Zone) (i : ℕ) (z : Zone) (f : SearchError) → i < length zones → z ≡ get_or zones i z → now ≡ old
     → IfRefused (λ r. (was : List ℕ) → IsHeld now was → z.first + z.length ≤ length was → TellsOneOf R z.first (zone_records d was z) r) f
     → IfRefused (λ r. (was : List ℕ) (start : ℕ) → IsHeld old was → IsIndexOf d has_row Describes start zones was → TellsOneOf R start (records_of d (drop start was)) r) f
-refused_in_zone R d has_row Describes old now zones i z (faults.Refused r) inside is same h = λ was start held index.
+refused_in_zone R d has_row Describes old now zones i z (errors.Refused r) inside is same h = λ was start held index.
     let own : IsZoneOf d has_row Describes was z = subst (λ (y : Zone). IsZoneOf d has_row Describes was y) (sym is) (index.right i z inside) in
     told_in_index R d has_row Describes was start zones i z r inside is index (h was (subst (λ (known : Option (List ℕ)). IsHeld known was) (sym same) held) own.inside)
-refused_in_zone R d has_row Describes old now zones i z faults.Read inside is same h = tt
-refused_in_zone R d has_row Describes old now zones i z faults.CutShort inside is same h = tt
-refused_in_zone R d has_row Describes old now zones i z faults.TooFar inside is same h = tt
-refused_in_zone R d has_row Describes old now zones i z faults.Write inside is same h = tt
-refused_in_zone R d has_row Describes old now zones i z faults.Memory inside is same h = tt
+refused_in_zone R d has_row Describes old now zones i z errors.Read inside is same h = tt
+refused_in_zone R d has_row Describes old now zones i z errors.CutShort inside is same h = tt
+refused_in_zone R d has_row Describes old now zones i z errors.TooFar inside is same h = tt
+refused_in_zone R d has_row Describes old now zones i z errors.Write inside is same h = tt
+refused_in_zone R d has_row Describes old now zones i z errors.Memory inside is same h = tt
 
 -- ---- a stream, piece by piece
 
@@ -196,17 +196,17 @@ told_in_piece R d e bytes text view left next start passed at r s place by t sam
     subst (λ (l : List (List ℕ)). TellsOneOf R start l r) (sym (s.records ∙ ap (λ (l : List (List ℕ)). s.done ++ l) taken.records))
     (told_among R start at s.done (records_of d text) (records_of d taken.rest) r (λ n. omega (arith, s.long, place)) piece)
 
-pub refused_in_piece : (R : List ℕ → Cause → Type 0) (d e : ℕ) (text view : List ℕ) (all left next : Option (List ℕ)) (start passed at : ℕ) (f : SearchFault) → ((bytes : List ℕ) → all ≡ Some bytes → IsPassed d bytes left passed) → at ≡ min (start + passed) (2 ^ 64 - 1) → e ≡ d
+pub refused_in_piece : (R : List ℕ → Cause → Type 0) (d e : ℕ) (text view : List ℕ) (all left next : Option (List ℕ)) (start passed at : ℕ) (f : SearchError) → ((bytes : List ℕ) → all ≡ Some bytes → IsPassed d bytes left passed) → at ≡ min (start + passed) (2 ^ 64 - 1) → e ≡ d
     → ((bytes : List ℕ) → left ≡ Some bytes → IsTaken e bytes text next) → view ≡ text → IfRefused (TellsOneOf R at (records_of d view)) f
     → IfRefused (λ r. (bytes : List ℕ) → all ≡ Some bytes → TellsOneOf R start (records_of d bytes) r) f
-refused_in_piece R d e text view all left next start passed at (faults.Refused r) before place by taken same h = λ bytes is.
+refused_in_piece R d e text view all left next start passed at (errors.Refused r) before place by taken same h = λ bytes is.
     let s : IsPassed d bytes left passed = before bytes is in
     told_in_piece R d e bytes text view left next start passed at r s place by (taken s.rest s.is) same h
-refused_in_piece R d e text view all left next start passed at faults.Read before place by taken same h = tt
-refused_in_piece R d e text view all left next start passed at faults.CutShort before place by taken same h = tt
-refused_in_piece R d e text view all left next start passed at faults.TooFar before place by taken same h = tt
-refused_in_piece R d e text view all left next start passed at faults.Write before place by taken same h = tt
-refused_in_piece R d e text view all left next start passed at faults.Memory before place by taken same h = tt
+refused_in_piece R d e text view all left next start passed at errors.Read before place by taken same h = tt
+refused_in_piece R d e text view all left next start passed at errors.CutShort before place by taken same h = tt
+refused_in_piece R d e text view all left next start passed at errors.TooFar before place by taken same h = tt
+refused_in_piece R d e text view all left next start passed at errors.Write before place by taken same h = tt
+refused_in_piece R d e text view all left next start passed at errors.Memory before place by taken same h = tt
 
 -- ---- an index that is being made
 
@@ -240,17 +240,17 @@ told_in_stream R d e has_row Describes start zones front bytes text view left ne
     (told_among R start at done (records_of d text) (records_of d taken.rest) r (λ n. ap (λ (m : ℕ). min (m + n) (2 ^ 64 - 1)) (begun_long d has_row Describes start zones front bytes left at b long)) piece)
 
 -- whatever stands before what is left
-pub refused_in_stream : (R : List ℕ → Cause → Type 0) (d e : ℕ) (has_row : List ℕ → Bool) (Describes : List ℕ → List (List ℕ) → Type 0) (zones : List Zone) (text view : List ℕ) (all left next : Option (List ℕ)) (start at : ℕ) (f : SearchFault)
+pub refused_in_stream : (R : List ℕ → Cause → Type 0) (d e : ℕ) (has_row : List ℕ → Bool) (Describes : List ℕ → List (List ℕ) → Type 0) (zones : List Zone) (text view : List ℕ) (all left next : Option (List ℕ)) (start at : ℕ) (f : SearchError)
     → ((front bytes : List ℕ) → length front ≡ start → all ≡ Some bytes → IsBegun d has_row Describes start zones (front ++ bytes) left at) → e ≡ d
     → ((bytes : List ℕ) → left ≡ Some bytes → IsTaken e bytes text next) → view ≡ text → IfRefused (TellsOneOf R at (records_of d view)) f
     → IfRefused (λ r. (bytes : List ℕ) → all ≡ Some bytes → TellsOneOf R start (records_of d bytes) r) f
-refused_in_stream R d e has_row Describes zones text view all left next start at (faults.Refused r) begun by taken same h = λ bytes is.
+refused_in_stream R d e has_row Describes zones text view all left next start at (errors.Refused r) begun by taken same h = λ bytes is.
     let front : List ℕ = replicate start 0 in
     let long : length front ≡ start = length-replicate start 0 in
     let b : IsBegun d has_row Describes start zones (front ++ bytes) left at = begun front bytes long is in
     told_in_stream R d e has_row Describes start zones front bytes text view left next at r b long by (taken b.rest b.is) same h
-refused_in_stream R d e has_row Describes zones text view all left next start at faults.Read begun by taken same h = tt
-refused_in_stream R d e has_row Describes zones text view all left next start at faults.CutShort begun by taken same h = tt
-refused_in_stream R d e has_row Describes zones text view all left next start at faults.TooFar begun by taken same h = tt
-refused_in_stream R d e has_row Describes zones text view all left next start at faults.Write begun by taken same h = tt
-refused_in_stream R d e has_row Describes zones text view all left next start at faults.Memory begun by taken same h = tt
+refused_in_stream R d e has_row Describes zones text view all left next start at errors.Read begun by taken same h = tt
+refused_in_stream R d e has_row Describes zones text view all left next start at errors.CutShort begun by taken same h = tt
+refused_in_stream R d e has_row Describes zones text view all left next start at errors.TooFar begun by taken same h = tt
+refused_in_stream R d e has_row Describes zones text view all left next start at errors.Write begun by taken same h = tt
+refused_in_stream R d e has_row Describes zones text view all left next start at errors.Memory begun by taken same h = tt

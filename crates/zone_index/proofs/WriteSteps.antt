@@ -6,10 +6,10 @@ use Rattle.std.proofs.lemmas.List.{length-map, map-append}
 use Rattle.std.specs.List.{flat_map, concat, AllByRecursion}
 use Rattle.std.specs.Int.{w32, w64, to_le_bytes}
 use Rattle.sha2.specs.Sha256.{sha256}
-use Rattle.zone_index.specs.declared.form.TheConstants.{MAGIC, VERSION}
-use Rattle.zone_index.specs.Form.{AreDealt, ArePieces, FitsContent, FitsForm, HavePieces, IndexValue, ZoneValue, block_form, block_of, blocks_of, bytes_form, content_form, counted_form, dealt, file_form, index_form, root_form, root_of, without_statistics, zone_form}
-use Rattle.zone_index.specs.FormReading.{dealt_at}
-use Rattle.zone_index.specs.declared.form.FormFault.{FormFault}
+use Rattle.zone_index.specs.declared.encoding.TheConstants.{MAGIC, VERSION}
+use Rattle.zone_index.specs.Encoding.{AreDealt, ArePieces, FitsContent, FitsEncoding, HavePieces, IndexValue, ZoneValue, block_encoding, block_of, blocks_of, bytes_encoding, content_encoding, counted_encoding, dealt, file_encoding, index_encoding, root_encoding, root_of, without_statistics, zone_encoding}
+use Rattle.zone_index.specs.EncodingReading.{dealt_at}
+use Rattle.zone_index.specs.declared.encoding.EncodingError.{EncodingError}
 use Rattle.zone_index.proofs.FieldLaws.{not_both}
 use Rattle.zone_index.proofs.BlockLaws.{columns_long, dealt_again}
 
@@ -20,12 +20,12 @@ taken_more {A} view xs i x inside is = ap (map view) ((take_at_read xs i x insid
 pub all_taken : {A B : Type 0} (view : A → B) (xs : List A) (i : ℕ) → length xs ≤ i → map view (take i xs) ≡ map view xs
 all_taken {A} view xs i ended = ap (map view) (take_all i xs ended)
 
--- a form more after those of some
-pub form_more : {B : Type 0} (form : B → List ℕ) (old out new : List ℕ) (ys zs : List B) (y : B) → zs ≡ ys ++ y ∷ [] → out ≡ old ++ flat_map form ys → new ≡ out ++ form y → new ≡ old ++ flat_map form zs
-form_more {B} form old out new ys zs y is before here =
-    let f = flat_map form ys in
-    let one = form y in
-    let e : flat_map form zs ≡ f ++ one = ap (flat_map form) is ∙ flat_map-append form ys (y ∷ []) ∙ ap (λ (l : List ℕ). f ++ l) (append-nil one) in
+-- an encoding more after those of some
+pub encoding_more : {B : Type 0} (encoding : B → List ℕ) (old out new : List ℕ) (ys zs : List B) (y : B) → zs ≡ ys ++ y ∷ [] → out ≡ old ++ flat_map encoding ys → new ≡ out ++ encoding y → new ≡ old ++ flat_map encoding zs
+encoding_more {B} encoding old out new ys zs y is before here =
+    let f = flat_map encoding ys in
+    let one = encoding y in
+    let e : flat_map encoding zs ≡ f ++ one = ap (flat_map encoding) is ∙ flat_map-append encoding ys (y ∷ []) ∙ ap (λ (l : List ℕ). f ++ l) (append-nil one) in
     here ∙ ap (λ (x : List ℕ). x ++ one) before ∙ append_assoc old f one ∙ ap (λ (x : List ℕ). old ++ x) (sym e)
 
 pub all_more : {B : Type 0} (P : B → Type 0) (ys zs : List B) (y : B) → zs ≡ ys ++ y ∷ [] → AllByRecursion P ys → P y → AllByRecursion P zs
@@ -67,8 +67,8 @@ blocks_more (suc n) pieces [] same = absurd (omega (arith, same))
 blocks_more (suc n) pieces (p ∷ ps) same =
     let first : List (List ℕ) → List ℕ = λ (qs : List (List ℕ)). slice_index_or qs 0 [] in
     let rest : List (List ℕ) → List (List ℕ) = λ (qs : List (List ℕ)). drop 1 qs in
-    let here : flat_map bytes_form (map first (pieces ++ (p ∷ ps) ∷ [])) ≡ flat_map bytes_form (map first pieces) ++ bytes_form p =
-    ap (flat_map bytes_form) (map-append first pieces ((p ∷ ps) ∷ [])) ∙ flat_map-append bytes_form (map first pieces) (p ∷ []) ∙ ap (λ (l : List ℕ). flat_map bytes_form (map first pieces) ++ l) (append-nil (bytes_form p)) in
+    let here : flat_map bytes_encoding (map first (pieces ++ (p ∷ ps) ∷ [])) ≡ flat_map bytes_encoding (map first pieces) ++ bytes_encoding p =
+    ap (flat_map bytes_encoding) (map-append first pieces ((p ∷ ps) ∷ [])) ∙ flat_map-append bytes_encoding (map first pieces) (p ∷ []) ∙ ap (λ (l : List ℕ). flat_map bytes_encoding (map first pieces) ++ l) (append-nil (bytes_encoding p)) in
     let later : blocks_of n (map rest (pieces ++ (p ∷ ps) ∷ [])) ≡ dealt append ps (blocks_of n (map rest pieces)) = ap (blocks_of n) (map-append rest pieces ((p ∷ ps) ∷ [])) ∙ blocks_more n (map rest pieces) ps (omega (arith, same)) in
     ap₂ (λ (b : List ℕ) (l : List (List ℕ)). b ∷ l) here later
 
@@ -98,7 +98,7 @@ get_map view (x ∷ xs) zero d inside = refl
 get_map view (x ∷ xs) (suc i) d inside = get_map view xs i d (omega arith)
 
 -- the statistics of a zone are no such pieces
-pub no_pieces : {A : Type 0} (view : A → ZoneValue) (n : ℕ) (old : List ZoneValue) (zones : List A) (i : ℕ) (z : A) (blocks : List (List ℕ)) (f : FormFault) → AreBlocks n old blocks → i < length zones → z ≡ get_or zones i z → dealt_at append blocks (view z).statistics ≡ Err f
+pub no_pieces : {A : Type 0} (view : A → ZoneValue) (n : ℕ) (old : List ZoneValue) (zones : List A) (i : ℕ) (z : A) (blocks : List (List ℕ)) (f : EncodingError) → AreBlocks n old blocks → i < length zones → z ≡ get_or zones i z → dealt_at append blocks (view z).statistics ≡ Err f
     → (pieces : List (List (List ℕ))) → ¬ (HavePieces n (map view zones) pieces)
 no_pieces {A} view n old zones i z blocks f before inside is fails pieces have =
     let inside' : i < length (map view zones) = omega (arith, length-map zones view) in
@@ -127,36 +127,36 @@ empties_more n old new b more none before =
 
 -- ---- all
 
-same_forms : (zs : List ZoneValue) → flat_map zone_form (map without_statistics zs) ≡ flat_map zone_form zs
-same_forms [] = refl
-same_forms (z ∷ zs) = ap (λ (l : List ℕ). zone_form z ++ l) (same_forms zs)
+same_encodings : (zs : List ZoneValue) → flat_map zone_encoding (map without_statistics zs) ≡ flat_map zone_encoding zs
+same_encodings [] = refl
+same_encodings (z ∷ zs) = ap (λ (l : List ℕ). zone_encoding z ++ l) (same_encodings zs)
 
-pub content_whole : (x : IndexValue) (blocks : List (List ℕ)) (n m : ℕ) (o o1 o2 o3 : List ℕ) → n ≡ length x.zones → m ≡ length blocks → o ≡ [] → o1 ≡ o ++ file_form x → o2 ≡ o1 ++ (to_le_bytes w64 n ++ flat_map zone_form x.zones) → o3 ≡ o2 ++ (to_le_bytes w64 m ++ flat_map block_form (map block_of blocks))
-    → o3 ≡ content_form (root_of x blocks)
+pub content_whole : (x : IndexValue) (blocks : List (List ℕ)) (n m : ℕ) (o o1 o2 o3 : List ℕ) → n ≡ length x.zones → m ≡ length blocks → o ≡ [] → o1 ≡ o ++ file_encoding x → o2 ≡ o1 ++ (to_le_bytes w64 n ++ flat_map zone_encoding x.zones) → o3 ≡ o2 ++ (to_le_bytes w64 m ++ flat_map block_encoding (map block_of blocks))
+    → o3 ≡ content_encoding (root_of x blocks)
 content_whole x blocks n m o o1 o2 o3 n-is m-is none p1 p2 p3 =
     let bare = map without_statistics x.zones in
-    let zs : to_le_bytes w64 n ++ flat_map zone_form x.zones ≡ counted_form zone_form bare = ap₂ (λ (k : ℕ) (l : List ℕ). to_le_bytes w64 k ++ l) (n-is ∙ sym (length-map x.zones without_statistics)) (sym (same_forms x.zones)) in
-    let bs : to_le_bytes w64 m ++ flat_map block_form (map block_of blocks) ≡ counted_form block_form (map block_of blocks) = ap (λ (k : ℕ). to_le_bytes w64 k ++ flat_map block_form (map block_of blocks)) (m-is ∙ sym (length-map blocks block_of)) in
-    joined (file_form x) (counted_form zone_form bare) (counted_form block_form (map block_of blocks)) (p1 ∙ ap (λ (l : List ℕ). l ++ file_form x) none) (p2 ∙ ap (λ (l : List ℕ). o1 ++ l) zs) (p3 ∙ ap (λ (l : List ℕ). o2 ++ l) bs)
+    let zs : to_le_bytes w64 n ++ flat_map zone_encoding x.zones ≡ counted_encoding zone_encoding bare = ap₂ (λ (k : ℕ) (l : List ℕ). to_le_bytes w64 k ++ l) (n-is ∙ sym (length-map x.zones without_statistics)) (sym (same_encodings x.zones)) in
+    let bs : to_le_bytes w64 m ++ flat_map block_encoding (map block_of blocks) ≡ counted_encoding block_encoding (map block_of blocks) = ap (λ (k : ℕ). to_le_bytes w64 k ++ flat_map block_encoding (map block_of blocks)) (m-is ∙ sym (length-map blocks block_of)) in
+    joined (file_encoding x) (counted_encoding zone_encoding bare) (counted_encoding block_encoding (map block_of blocks)) (p1 ∙ ap (λ (l : List ℕ). l ++ file_encoding x) none) (p2 ∙ ap (λ (l : List ℕ). o1 ++ l) zs) (p3 ∙ ap (λ (l : List ℕ). o2 ++ l) bs)
   where
     joined : (f z b : List ℕ) → o1 ≡ f → o2 ≡ o1 ++ z → o3 ≡ o2 ++ b → o3 ≡ f ++ (z ++ b)
     joined f z b q1 q2 q3 = q3 ∙ ap (λ (l : List ℕ). l ++ b) (q2 ∙ ap (λ (l : List ℕ). l ++ z) q1) ∙ append_assoc f z b
 
-pub written : (n : ℕ) (x : IndexValue) (bs : List (List ℕ)) (c : List ℕ) (o o1 o2 o3 o4 : List ℕ) → (pieces : List (List (List ℕ))) × HavePieces n x.zones pieces × (bs ≡ blocks_of n pieces) → FitsContent x bs → c ≡ content_form (root_of x bs) → length c < 2 ^ 64
-    → o ≡ [] → o1 ≡ o ++ to_le_bytes w32 MAGIC → o2 ≡ o1 ++ to_le_bytes w32 VERSION → o3 ≡ o2 ++ (bytes_form c ++ sha256 c) → o4 ≡ o3 ++ concat bs → (pieces : List (List (List ℕ))) × FitsForm n x pieces × (o4 ≡ index_form n x pieces)
+pub written : (n : ℕ) (x : IndexValue) (bs : List (List ℕ)) (c : List ℕ) (o o1 o2 o3 o4 : List ℕ) → (pieces : List (List (List ℕ))) × HavePieces n x.zones pieces × (bs ≡ blocks_of n pieces) → FitsContent x bs → c ≡ content_encoding (root_of x bs) → length c < 2 ^ 64
+    → o ≡ [] → o1 ≡ o ++ to_le_bytes w32 MAGIC → o2 ≡ o1 ++ to_le_bytes w32 VERSION → o3 ≡ o2 ++ (bytes_encoding c ++ sha256 c) → o4 ≡ o3 ++ concat bs → (pieces : List (List (List ℕ))) × FitsEncoding n x pieces × (o4 ≡ index_encoding n x pieces)
 written n x bs c o o1 o2 o3 o4 made fits c-is long none p1 p2 p3 p4 =
-    let body = bytes_form c ++ sha256 c in
+    let body = bytes_encoding c ++ sha256 c in
     let m = to_le_bytes w32 MAGIC in
     let v = to_le_bytes w32 VERSION in
     let whole : o4 ≡ (m ++ (v ++ body)) ++ concat bs = p4 ∙ ap (λ (l : List ℕ). l ++ concat bs) (three_parts o m v body o1 o2 o3 none p1 p2 p3) in
-    let formed : o4 ≡ root_form (root_of x bs) ++ concat bs = whole ∙ ap (λ (y : List ℕ). (m ++ (v ++ (bytes_form y ++ sha256 y))) ++ concat bs) c-is in (
+    let formed : o4 ≡ root_encoding (root_of x bs) ++ concat bs = whole ∙ ap (λ (y : List ℕ). (m ++ (v ++ (bytes_encoding y ++ sha256 y))) ++ concat bs) c-is in (
       made.0,
       record {
         have = made.1;
         parts = subst (λ (l : List (List ℕ)). FitsContent x l) made.2 fits;
-        content = subst (λ (l : List (List ℕ)). length (content_form (root_of x l)) < 2 ^ 64) made.2 (subst (λ (y : List ℕ). length y < 2 ^ 64) c-is long);
+        content = subst (λ (l : List (List ℕ)). length (content_encoding (root_of x l)) < 2 ^ 64) made.2 (subst (λ (y : List ℕ). length y < 2 ^ 64) c-is long);
       },
-      formed ∙ ap (λ (l : List (List ℕ)). root_form (root_of x l) ++ concat l) made.2,
+      formed ∙ ap (λ (l : List (List ℕ)). root_encoding (root_of x l) ++ concat l) made.2,
     )
   where
     three_parts : (o a b c o1 o2 o3 : List ℕ) → o ≡ [] → o1 ≡ o ++ a → o2 ≡ o1 ++ b → o3 ≡ o2 ++ c → o3 ≡ a ++ (b ++ c)

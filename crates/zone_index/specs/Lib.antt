@@ -1,9 +1,9 @@
 pub mod Answers
 pub mod Asking
 pub mod Examples
-pub mod Faults
-pub mod Form
-pub mod FormReading
+pub mod Errors
+pub mod Encoding
+pub mod EncodingReading
 pub mod Records
 pub mod Sinks
 pub mod Taking

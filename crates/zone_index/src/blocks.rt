@@ -1,11 +1,11 @@
 //! The blocks of an index: pieces of the statistics of its zones.
 
 ghost use Rattle.std.specs.Prelude.{◌≡◌, ◌++◌, ℕ, List, OnOk, map};
-ghost use Rattle.zone_index.specs.Form.{block_value, bytes_form, is_wanted, with_statistics, with_unread, zone_values};
-ghost use Rattle.zone_index.specs.FormReading.{Gives, added_at, blocks_at, dealt_at};
+ghost use Rattle.zone_index.specs.Encoding.{block_value, bytes_encoding, is_wanted, with_statistics, with_unread, zone_values};
+ghost use Rattle.zone_index.specs.EncodingReading.{Gives, added_at, blocks_at, dealt_at};
 
+use crate::encoding::{Block, EncodingError, ReadError};
 use crate::fields::{front_in, piece_in};
-use crate::form::{Block, FormFault, ReadError};
 use crate::zones::Zone;
 use sha2::{Digest, Sha256};
 use std::alloc::AllocError;
@@ -18,7 +18,7 @@ pub trait Unread {
     /// Appends the piece of a zone with so many rows, after its length.
     fn append_piece(&self, rows: u64, output: &mut Vec<u8>) -> Result<(), AllocError>
         ensures { OnOk result (output.new.items ≡
-            output.old.items ++ bytes_form (piece self.now rows)) };
+            output.old.items ++ bytes_encoding (piece self.now rows)) };
 }
 
 /// Adds to each zone the pieces that blocks have of it: these bytes.
@@ -41,7 +41,7 @@ pub(crate) fn add_blocks<U: Unread>(
     if rest.is_empty() {
         Ok(())
     } else {
-        Err(ReadError::Fault(FormFault::Trailing))
+        Err(ReadError::Fault(EncodingError::Trailing))
     }
 }
 
@@ -53,7 +53,7 @@ fn is_wanted(wanted: &[bool], place: usize) -> bool
 }
 
 /// Adds to each zone the piece that a block has of it, or what stands for it.
-#[tactic(auto, unfolding(crate::specs::FormReading::added_at))]
+#[tactic(auto, unfolding(crate::specs::EncodingReading::added_at))]
 fn add_block<U: Unread>(
     zones: &mut [Zone],
     block: &Block,
@@ -69,7 +69,7 @@ fn add_block<U: Unread>(
         return Ok(());
     }
     if Sha256::digest(bytes).as_slice() != block.digest.as_slice() {
-        return Err(ReadError::Fault(FormFault::Damaged));
+        return Err(ReadError::Fault(EncodingError::Damaged));
     }
     add_pieces(zones, bytes)
 }
@@ -99,6 +99,6 @@ fn add_pieces(zones: &mut [Zone], bytes: &[u8]) -> Result<(), ReadError>
     if rest.is_empty() {
         Ok(())
     } else {
-        Err(ReadError::Fault(FormFault::Trailing))
+        Err(ReadError::Fault(EncodingError::Trailing))
     }
 }

@@ -4,11 +4,11 @@ ghost use Rattle.std.specs.Prelude.{◌≡◌, ◌≢◌, ◌<◌, ◌≤◌, �
 ghost use Rattle.csv_records.specs.Records.{records_of};
 ghost use Rattle.zone_index.specs.Answers.{AnswersCount};
 ghost use Rattle.zone_index.specs.Asking.{Asks};
-ghost use Rattle.zone_index.specs.Faults.{IfRefused, IsOfRecord, TellsOneOf};
+ghost use Rattle.zone_index.specs.Errors.{IfRefused, IsOfRecord, TellsOneOf};
 ghost use Rattle.zone_index.specs.Zones.{AsksInPart, IsHeld, IsIndexOf, IsPartOfZone, IsZoneOf, zone_records};
-ghost use Rattle.zone_index.specs.declared.faults.SearchFault.TheVariants.{CutShort, TooFar, Write as WriteFault};
+ghost use Rattle.zone_index.specs.declared.errors.SearchError.TheVariants.{CutShort, TooFar, Write as FailedWrite};
 
-use crate::faults::SearchFault;
+use crate::errors::SearchError;
 use crate::read_at::ReadAt;
 use crate::records::{Decision, Matcher};
 use crate::search::{is_hit, read_zone};
@@ -22,7 +22,7 @@ pub fn count<R: ReadAt, M: Matcher>(
     zones: &[Zone],
     matcher: &M,
     reader: &mut R,
-) -> Result<u64, SearchFault>
+) -> Result<u64, SearchError>
     ensures answer { AnswersCount
         (IsIndexOf (M.delimiter matcher.now) (M.has_row matcher.now) (M.Describes matcher.now))
         (M.Refuses matcher.now) (M.delimiter matcher.now) (M.matches matcher.now) zones.now
@@ -35,7 +35,7 @@ pub fn count<R: ReadAt, M: Matcher>(
         let hits = count_zone(alloc, zone, matcher, reader)?;
         match total.checked_add(hits) {
             Some(sum) => total = sum,
-            None => return Err(SearchFault::TooFar),
+            None => return Err(SearchError::TooFar),
         }
     }
     Ok(total)
@@ -47,7 +47,7 @@ fn count_zone<R: ReadAt, M: Matcher>(
     zone: &Zone,
     matcher: &M,
     reader: &mut R,
-) -> Result<u64, SearchFault>
+) -> Result<u64, SearchError>
     ensures counted { IfOk result (λ n. (was : List ℕ) → IsHeld (R.bytes reader.old) was
         → IsZoneOf (M.delimiter matcher.now) (M.has_row matcher.now) (M.Describes matcher.now) was zone.now
         → n ≡ count_by (M.matches matcher.now) (zone_records (M.delimiter matcher.now) was zone.now)) }
@@ -59,7 +59,7 @@ fn count_zone<R: ReadAt, M: Matcher>(
     ensures cut { IfErr result (λ fault. fault ≡ CutShort → IfSome (R.bytes reader.old)
         (λ bytes. length bytes < zone.now.first + zone.now.length)) }
     ensures far { IfErr result (λ fault. fault ≡ TooFar → 2 ^ 64 ≤ zone.now.first + zone.now.length) }
-    ensures reading { IfErr result (λ fault. fault ≢ WriteFault) }
+    ensures reading { IfErr result (λ fault. fault ≢ FailedWrite) }
     ensures refused { IfErr result (IfRefused (λ refusal. (was : List ℕ) → IsHeld (R.bytes reader.old) was
         → zone.now.first + zone.now.length ≤ length was
         → TellsOneOf (M.Refuses matcher.now) zone.now.first
@@ -82,7 +82,7 @@ pub(crate) fn count_in<M: Matcher>(
     first: u64,
     text: &[u8],
     matcher: &M,
-) -> Result<u64, SearchFault>
+) -> Result<u64, SearchError>
     ensures counted { IfOk result (λ n. n ≡ count_by (M.matches matcher.now)
         (records_of (M.delimiter matcher.now) text.now)) }
     ensures few { IfOk result (λ n. n ≤ length text.now) }

@@ -1,16 +1,16 @@
 //! Fields of an index in bytes.
 
 ghost use Rattle.std.specs.Int.{w32, w64};
-ghost use Rattle.zone_index.specs.FormReading.{Gives, bytes_at, front_at, known_at, number_at, piece_at};
+ghost use Rattle.zone_index.specs.EncodingReading.{Gives, bytes_at, front_at, known_at, number_at, piece_at};
 
-use crate::form::{FormFault, ReadError};
+use crate::encoding::{EncodingError, ReadError};
 
 /// The number in the first four bytes, and what follows them.
 fn u32_at(bytes: &[u8]) -> Result<(u32, &[u8]), ReadError>
     ensures { Gives (λ x. (x.0, x.1.now)) result (number_at w32 bytes.now) }
 {
     if bytes.len() < 4 {
-        return Err(ReadError::Fault(FormFault::Short));
+        return Err(ReadError::Fault(EncodingError::Short));
     }
     let (front, rest) = bytes.split_at(4);
     let number = u32::from_le_bytes([front[0], front[1], front[2], front[3]]);
@@ -22,7 +22,7 @@ pub(crate) fn u64_at(bytes: &[u8]) -> Result<(u64, &[u8]), ReadError>
     ensures { Gives (λ x. (x.0, x.1.now)) result (number_at w64 bytes.now) }
 {
     if bytes.len() < 8 {
-        return Err(ReadError::Fault(FormFault::Short));
+        return Err(ReadError::Fault(EncodingError::Short));
     }
     let (front, rest) = bytes.split_at(8);
     let number = u64::from_le_bytes([
@@ -32,7 +32,11 @@ pub(crate) fn u64_at(bytes: &[u8]) -> Result<(u64, &[u8]), ReadError>
 }
 
 /// What follows the number, if it is this one.
-pub(crate) fn after_known(fault: FormFault, number: u32, bytes: &[u8]) -> Result<&[u8], ReadError>
+pub(crate) fn after_known(
+    fault: EncodingError,
+    number: u32,
+    bytes: &[u8],
+) -> Result<&[u8], ReadError>
     ensures { Gives (λ x. x.now) result (known_at fault number bytes.now) }
 {
     let (found, rest) = u32_at(bytes)?;
@@ -49,13 +53,13 @@ pub(crate) fn front_in(count: u64, bytes: &[u8]) -> Result<(&[u8], &[u8]), ReadE
 {
     let count = count as usize;
     if bytes.len() < count {
-        return Err(ReadError::Fault(FormFault::Short));
+        return Err(ReadError::Fault(EncodingError::Short));
     }
     Ok(bytes.split_at(count))
 }
 
 /// As many bytes as a number before them says, and what follows them.
-#[tactic(auto, unfolding(crate::specs::FormReading::bytes_at))]
+#[tactic(auto, unfolding(crate::specs::EncodingReading::bytes_at))]
 pub(crate) fn bytes_in(bytes: &[u8]) -> Result<(&[u8], &[u8]), ReadError>
     ensures { Gives (λ x. (x.0.now, x.1.now)) result (bytes_at bytes.now) }
 {
@@ -64,14 +68,14 @@ pub(crate) fn bytes_in(bytes: &[u8]) -> Result<(&[u8], &[u8]), ReadError>
 }
 
 /// The same, and the number stays before the bytes.
-#[tactic(auto, unfolding(crate::specs::FormReading::piece_at))]
+#[tactic(auto, unfolding(crate::specs::EncodingReading::piece_at))]
 pub(crate) fn piece_in(bytes: &[u8]) -> Result<(&[u8], &[u8]), ReadError>
     ensures { Gives (λ x. (x.0.now, x.1.now)) result (piece_at bytes.now) }
 {
     let (count, rest) = u64_at(bytes)?;
     let count = count as usize;
     if rest.len() < count {
-        return Err(ReadError::Fault(FormFault::Short));
+        return Err(ReadError::Fault(EncodingError::Short));
     }
     Ok(bytes.split_at(8 + count))
 }

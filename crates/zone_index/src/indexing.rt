@@ -2,11 +2,11 @@
 
 ghost use Rattle.std.specs.Prelude.{◌≡◌, ◌≢◌, ◌<◌, ◌++◌, ℕ, List, Some, IfErr, IfOk, length};
 ghost use Rattle.csv_records.specs.Records.{records_of};
-ghost use Rattle.zone_index.specs.Faults.{EndsFar, IfRefused, IsOfRecord, TellsOneOf};
+ghost use Rattle.zone_index.specs.Errors.{EndsFar, IfRefused, IsOfRecord, TellsOneOf};
 ghost use Rattle.zone_index.specs.Zones.{IsIndexOf, IsZoneOfText};
-ghost use Rattle.zone_index.specs.declared.faults.SearchFault.TheVariants.{CutShort, TooFar, Write as WriteFault};
+ghost use Rattle.zone_index.specs.declared.errors.SearchError.TheVariants.{CutShort, TooFar, Write as FailedWrite};
 
-use crate::faults::SearchFault;
+use crate::errors::SearchError;
 use crate::records::{Described, Describer};
 use crate::taking::take_records;
 use crate::zones::Zone;
@@ -18,7 +18,8 @@ use std::io::BufRead;
 pub struct Indexed {
     /// The zones.
     pub zones: Vec<Zone>,
-    /// How many fields stand as a null since their columns do not take them, as far as 64 bits count.
+    /// How many fields stand as a null since their columns do not take them, as far as 64 bits
+    /// count.
     pub nulls: u64,
 }
 
@@ -30,13 +31,13 @@ pub fn index_records<B: BufRead, D: Describer>(
     start: u64,
     describer: &D,
     reader: &mut B,
-) -> Result<Indexed, SearchFault>
+) -> Result<Indexed, SearchError>
     requires { 0 < size }
     ensures right { IfOk result (λ indexed. (before bytes : List ℕ) → length before ≡ start
         → B.remaining reader.old ≡ Some bytes
         → IsIndexOf (D.delimiter describer.now) (D.has_row describer.now) (D.Describes describer.now)
         start indexed.zones.items (before ++ bytes)) }
-    ensures reading { IfErr result (λ fault. fault ≢ WriteFault) }
+    ensures reading { IfErr result (λ fault. fault ≢ FailedWrite) }
     ensures uncut { IfErr result (λ fault. fault ≢ CutShort) }
     ensures far { IfErr result (λ fault. fault ≡ TooFar → EndsFar start (B.remaining reader.old)) }
     // The record that is told is one of those, and begins there.
@@ -57,21 +58,21 @@ pub fn index_records<B: BufRead, D: Describer>(
         let (zone, more) = zone_of(alloc, first, &text, describer)?;
         match first.checked_add(zone.length) {
             Some(next) => first = next,
-            None => return Err(SearchFault::TooFar),
+            None => return Err(SearchError::TooFar),
         }
         nulls = nulls.saturating_add(more);
         zones.push(zone)?;
     }
 }
 
-/// The zone of a text that begins here, and how many of its fields stand as a null since their columns
-/// do not take them.
+/// The zone of a text that begins here, and how many of its fields stand as a null since their
+/// columns do not take them.
 fn zone_of<D: Describer>(
     alloc: Global,
     first: u64,
     text: &[u8],
     describer: &D,
-) -> Result<(Zone, u64), SearchFault>
+) -> Result<(Zone, u64), SearchError>
     ensures zone { IfOk result (λ made. IsZoneOfText (D.delimiter describer.now) (D.has_row describer.now)
         (D.Describes describer.now) first text.now made.0) }
     ensures why { IfErr result IsOfRecord }

@@ -8,9 +8,9 @@
 
 mod blocks;
 mod counting;
-mod faults;
+mod encoding;
+mod errors;
 mod fields;
-mod form;
 mod indexing;
 mod lines;
 mod read_at;
@@ -25,8 +25,8 @@ mod zones;
 
 pub use blocks::Unread;
 pub use counting::count;
-pub use faults::{Cause, RecordFault, Refusal, SearchFault};
-pub use form::{Block, FormFault, Index, MAGIC, ReadError, Root, VERSION, WriteError};
+pub use encoding::{Block, EncodingError, Index, MAGIC, ReadError, Root, VERSION, WriteError};
+pub use errors::{Cause, RecordError, Refusal, SearchError};
 pub use indexing::{Indexed, index_records};
 pub use read_at::{Asked, Logged, ReadAt, fill_from};
 pub use reading::{read_blocks, read_root};

@@ -4,11 +4,11 @@ ghost use Rattle.std.specs.Prelude.{◌≡◌, ◌≢◌, ◌<◌, ◌≤◌, �
 ghost use Rattle.std.specs.Io.{ReadsAtMost};
 ghost use Rattle.std.specs.Io.Cursor.{cursor_inner};
 ghost use Rattle.zone_index.specs.Asking.{AsksOnce, AsksWithin, asked_at};
-ghost use Rattle.zone_index.specs.Faults.{IsOfStream};
+ghost use Rattle.zone_index.specs.Errors.{IsOfStream};
 ghost use Rattle.zone_index.specs.declared.read_at.Asked.{Asked};
-ghost use Rattle.zone_index.specs.declared.faults.SearchFault.TheVariants.{CutShort};
+ghost use Rattle.zone_index.specs.declared.errors.SearchError.TheVariants.{CutShort};
 
-use crate::faults::SearchFault;
+use crate::errors::SearchError;
 use std::fs::File;
 use std::io::{self, AsBytes, Cursor, ErrorKind, Read, Seek, SeekFrom};
 use std::os::unix::fs::FileExt;
@@ -89,7 +89,7 @@ impl<R: ReadAt> ReadAt for Logged<R> {
 /// Fills all there is room for with the bytes from this place on.
 ///
 /// `CutShort` where there are fewer bytes.
-pub fn fill_from<R: ReadAt>(reader: &mut R, at: u64, into: &mut [u8]) -> Result<(), SearchFault>
+pub fn fill_from<R: ReadAt>(reader: &mut R, at: u64, into: &mut [u8]) -> Result<(), SearchError>
     requires { at + length into.old < 2 ^ 64 }
     ensures filled { OnOk result (IfSome (R.bytes reader.old)
         (λ xs. into.new ≡ take (length into.old) (drop at xs))) }
@@ -102,9 +102,9 @@ pub fn fill_from<R: ReadAt>(reader: &mut R, at: u64, into: &mut [u8]) -> Result<
     let mut done = 0;
     while done < into.len() {
         match reader.read_at(at + done as u64, &mut into[done..]) {
-            Ok(0) => return Err(SearchFault::CutShort),
+            Ok(0) => return Err(SearchError::CutShort),
             Ok(count) => done += count,
-            Err(error) => return Err(SearchFault::of_read(error)),
+            Err(error) => return Err(SearchError::of_read(error)),
         }
     }
     Ok(())

@@ -2,19 +2,19 @@
 
 ghost use Rattle.std.specs.Prelude.{◌≡◌, ◌++◌, ℕ, List, IfErr, IfOk, Ok, map};
 ghost use Rattle.std.specs.List.{concat};
-ghost use Rattle.zone_index.specs.Form.{AddBlocks, FitsForm, IndexValue, block_value, blocks_of, index_form, index_value, root_form, root_of, root_value, wanted_of, zone_value, zone_values};
-ghost use Rattle.zone_index.specs.FormReading.{Gives, block_at, content_at, counted_at, file_at, index_at, many_at, root_at, signed_at, zone_at};
-ghost use Rattle.zone_index.specs.declared.form.ReadError.TheVariants.{Memory};
+ghost use Rattle.zone_index.specs.Encoding.{AddBlocks, FitsEncoding, IndexValue, block_value, blocks_of, index_encoding, index_value, root_encoding, root_of, root_value, wanted_of, zone_value, zone_values};
+ghost use Rattle.zone_index.specs.EncodingReading.{Gives, block_at, content_at, counted_at, file_at, index_at, many_at, root_at, signed_at, zone_at};
+ghost use Rattle.zone_index.specs.declared.encoding.ReadError.TheVariants.{Memory};
 
 use crate::blocks::{Unread, add_blocks};
+use crate::encoding::{Block, DIGEST, EncodingError, Index, MAGIC, ReadError, Root, VERSION};
 use crate::fields::{after_known, bytes_in, front_in, u64_at};
-use crate::form::{Block, DIGEST, FormFault, Index, MAGIC, ReadError, Root, VERSION};
 use crate::zones::Zone;
 use sha2::{Digest, Sha256};
 use std::alloc::Global;
 
 /// The bytes before a digest, if it is theirs, and what follows it.
-#[tactic(auto, unfolding(crate::specs::FormReading::signed_at))]
+#[tactic(auto, unfolding(crate::specs::EncodingReading::signed_at))]
 fn signed_in(bytes: &[u8]) -> Result<(&[u8], &[u8]), ReadError>
     ensures { Gives (λ x. (x.0.now, x.1.now)) result (signed_at bytes.now) }
 {
@@ -23,12 +23,12 @@ fn signed_in(bytes: &[u8]) -> Result<(&[u8], &[u8]), ReadError>
     if Sha256::digest(content).as_slice() == digest {
         Ok((content, after))
     } else {
-        Err(ReadError::Fault(FormFault::Damaged))
+        Err(ReadError::Fault(EncodingError::Damaged))
     }
 }
 
 /// A zone, without statistics.
-#[tactic(auto, unfolding(crate::specs::FormReading::zone_at))]
+#[tactic(auto, unfolding(crate::specs::EncodingReading::zone_at))]
 fn zone_in(alloc: Global, bytes: &[u8]) -> Result<(Zone, &[u8]), ReadError>
     ensures { Gives (λ x. (zone_value x.0, x.1.now)) result (zone_at bytes.now) }
 {
@@ -61,7 +61,7 @@ fn zones_in(alloc: Global, count: u64, bytes: &[u8]) -> Result<(Vec<Zone>, &[u8]
 }
 
 /// What is said of a block.
-#[tactic(auto, unfolding(crate::specs::FormReading::block_at))]
+#[tactic(auto, unfolding(crate::specs::EncodingReading::block_at))]
 fn block_in(alloc: Global, bytes: &[u8]) -> Result<(Block, &[u8]), ReadError>
     ensures { Gives (λ x. (block_value x.0, x.1.now)) result (block_at bytes.now) }
 {
@@ -89,7 +89,7 @@ fn blocks_in(alloc: Global, count: u64, bytes: &[u8]) -> Result<(Vec<Block>, &[u
 }
 
 /// What is said of the file: an index without zones.
-#[tactic(auto, unfolding(crate::specs::FormReading::file_at))]
+#[tactic(auto, unfolding(crate::specs::EncodingReading::file_at))]
 fn file_in(alloc: Global, bytes: &[u8]) -> Result<(Index, &[u8]), ReadError>
     ensures { Gives (λ x. (index_value x.0, x.1.now)) result (file_at bytes.now) }
 {
@@ -108,7 +108,7 @@ fn file_in(alloc: Global, bytes: &[u8]) -> Result<(Index, &[u8]), ReadError>
 }
 
 /// How many zones there are, and these.
-#[tactic(auto, unfolding(crate::specs::FormReading::counted_at))]
+#[tactic(auto, unfolding(crate::specs::EncodingReading::counted_at))]
 fn counted_zones_in(alloc: Global, bytes: &[u8]) -> Result<(Vec<Zone>, &[u8]), ReadError>
     ensures { Gives (λ x. (zone_values x.0.items, x.1.now)) result (counted_at zone_at bytes.now) }
 {
@@ -117,7 +117,7 @@ fn counted_zones_in(alloc: Global, bytes: &[u8]) -> Result<(Vec<Zone>, &[u8]), R
 }
 
 /// How many blocks there are, and what is said of these.
-#[tactic(auto, unfolding(crate::specs::FormReading::counted_at))]
+#[tactic(auto, unfolding(crate::specs::EncodingReading::counted_at))]
 fn counted_blocks_in(alloc: Global, bytes: &[u8]) -> Result<(Vec<Block>, &[u8]), ReadError>
     ensures { Gives (λ x. (map block_value x.0.items, x.1.now)) result (counted_at block_at bytes.now) }
 {
@@ -126,7 +126,7 @@ fn counted_blocks_in(alloc: Global, bytes: &[u8]) -> Result<(Vec<Block>, &[u8]),
 }
 
 /// The root whose content these bytes are.
-#[tactic(auto, unfolding(crate::specs::FormReading::content_at))]
+#[tactic(auto, unfolding(crate::specs::EncodingReading::content_at))]
 fn content_in(alloc: Global, bytes: &[u8]) -> Result<Root, ReadError>
     ensures { Gives root_value result (content_at bytes.now) }
 {
@@ -134,19 +134,19 @@ fn content_in(alloc: Global, bytes: &[u8]) -> Result<Root, ReadError>
     let (zones, rest) = counted_zones_in(alloc, rest)?;
     let (blocks, rest) = counted_blocks_in(alloc, rest)?;
     if !rest.is_empty() {
-        return Err(ReadError::Fault(FormFault::Trailing));
+        return Err(ReadError::Fault(EncodingError::Trailing));
     }
     index.zones = zones;
     Ok(Root { index, blocks })
 }
 
 /// The root, and the bytes of the blocks.
-#[tactic(auto, unfolding(crate::specs::FormReading::root_at))]
+#[tactic(auto, unfolding(crate::specs::EncodingReading::root_at))]
 fn root_in(alloc: Global, bytes: &[u8]) -> Result<(Root, &[u8]), ReadError>
     ensures { Gives (λ x. (root_value x.0, x.1.now)) result (root_at bytes.now) }
 {
-    let rest = after_known(FormFault::Magic, MAGIC, bytes)?;
-    let rest = after_known(FormFault::Version, VERSION, rest)?;
+    let rest = after_known(EncodingError::Magic, MAGIC, bytes)?;
+    let rest = after_known(EncodingError::Version, VERSION, rest)?;
     let (content, rest) = signed_in(rest)?;
     let root = content_in(alloc, content)?;
     Ok((root, rest))
@@ -154,15 +154,15 @@ fn root_in(alloc: Global, bytes: &[u8]) -> Result<(Root, &[u8]), ReadError>
 
 /// The root of an index, and the bytes of its blocks, which are not looked at.
 pub fn read_root(alloc: Global, bytes: &[u8]) -> Result<(Root, &[u8]), ReadError>
-    // What is read has this form.
-    ensures found { IfOk result (λ read. bytes.now ≡ root_form (root_value read.0) ++ read.1.now) }
+    // What is read has this encoding.
+    ensures found { IfOk result (λ read. bytes.now ≡ root_encoding (root_value read.0) ++ read.1.now) }
     // What was written is read, unless memory runs out.
-    ensures only { (n : ℕ) (x : IndexValue) (pieces : List (List (List ℕ))) → FitsForm n x pieces
-        → bytes.now ≡ index_form n x pieces → IfOk result (λ read.
+    ensures only { (n : ℕ) (x : IndexValue) (pieces : List (List (List ℕ))) → FitsEncoding n x pieces
+        → bytes.now ≡ index_encoding n x pieces → IfOk result (λ read.
         (root_value read.0 ≡ root_of x (blocks_of n pieces))
         × (read.1.now ≡ concat (blocks_of n pieces))) }
-    ensures memory { (n : ℕ) (x : IndexValue) (pieces : List (List (List ℕ))) → FitsForm n x pieces
-        → bytes.now ≡ index_form n x pieces → IfErr result (λ e. e ≡ Memory) }
+    ensures memory { (n : ℕ) (x : IndexValue) (pieces : List (List (List ℕ))) → FitsEncoding n x pieces
+        → bytes.now ≡ index_encoding n x pieces → IfErr result (λ e. e ≡ Memory) }
     // Which fault it is.
     ensures exact { Gives (λ read. (root_value read.0, read.1.now)) result (root_at bytes.now) }
 {
@@ -186,20 +186,20 @@ fn index_in<U: Unread>(
 
 /// The index of a root, with the statistics that its blocks have: these bytes.
 ///
-/// A block at whose place the list has `false` is not wanted. Its bytes are not looked at, and other
-/// pieces stand in place of its own.
+/// A block at whose place the list has `false` is not wanted. Its bytes are not looked at, and
+/// other pieces stand in place of its own.
 pub fn read_blocks<U: Unread>(
     root: Root,
     bytes: &[u8],
     wanted: &[bool],
     unread: &U,
 ) -> Result<Index, ReadError>
-    // What is read has this form.
+    // What is read has this encoding.
     ensures found { IfOk result (λ index. AddBlocks wanted.now (U.piece unread.now) 0
         (map block_value root.blocks.items) bytes.now
         (zone_values root.index.zones.items) (zone_values index.zones.items)) }
     // What was written is read, unless memory runs out.
-    ensures only { (n : ℕ) (x : IndexValue) (pieces : List (List (List ℕ))) → FitsForm n x pieces
+    ensures only { (n : ℕ) (x : IndexValue) (pieces : List (List (List ℕ))) → FitsEncoding n x pieces
         → root_value root ≡ root_of x (blocks_of n pieces) → bytes.now ≡ concat (blocks_of n pieces)
         → Gives index_value result (Ok (wanted_of wanted.now (U.piece unread.now) x pieces)) }
     // Which fault it is, and what is read.

@@ -3,13 +3,13 @@
 ghost use Rattle.std.specs.Prelude.{◌≡◌, ℕ, List, Bool, IfErr, IfOk, length, not, count_by};
 ghost use Rattle.std.specs.List.{AllPass};
 ghost use Rattle.csv_records.specs.Records.{records_of};
-ghost use Rattle.zone_index.specs.Faults.{IfRecordRefused, TellsOneOf, TellsRecord};
+ghost use Rattle.zone_index.specs.Errors.{IfRecordRefused, TellsOneOf, TellsRecord};
 ghost use Rattle.zone_index.specs.Records.{is_same};
-ghost use Rattle.zone_index.specs.declared.faults.Cause.{Cause};
+ghost use Rattle.zone_index.specs.declared.errors.Cause.{Cause};
 ghost use Rattle.zone_index.specs.declared.records.Decision.{Decision};
 ghost use Rattle.zone_index.specs.declared.records.Decision.TheVariants.{AllMatch, NoneMatch};
 
-use crate::faults::RecordFault;
+use crate::errors::RecordError;
 use csv_records::Delimiter;
 use std::alloc::{AllocError, Global};
 
@@ -33,8 +33,8 @@ pub struct Described {
     pub rows: u64,
     /// Statistics of the rows, in bytes.
     pub statistics: Vec<u8>,
-    /// How many fields of them stand as a null since their columns do not take them. An index does not
-    /// keep it.
+    /// How many fields of them stand as a null since their columns do not take them. An index does
+    /// not keep it.
     pub nulls: u64,
 }
 
@@ -57,7 +57,7 @@ pub trait Records {
 /// Describes the records of a zone.
 pub trait Describer: Records {
     /// What is known of the records of a text. `Refused` with the place of a record in the text.
-    fn describe(&self, alloc: Global, text: &[u8]) -> Result<Described, RecordFault>
+    fn describe(&self, alloc: Global, text: &[u8]) -> Result<Described, RecordError>
         ensures records { IfOk result (λ d. d.records ≡
             length (records_of (Self.delimiter self.now) text.now)) }
         ensures rows { IfOk result (λ d. d.rows ≡
@@ -87,7 +87,7 @@ pub trait Matcher: Records {
         alloc: Global,
         scratch: &mut Self::Scratch,
         line: &[u8],
-    ) -> Result<bool, RecordFault>
+    ) -> Result<bool, RecordError>
         ensures hit { IfOk result (λ hit. hit ≡ matches self.now line.now) }
         ensures refused { IfErr result (IfRecordRefused (TellsRecord (Self.Refuses self.now) 0 line.now)) };
 

@@ -5,13 +5,13 @@ ghost use Rattle.std.specs.Io.KnownBytes.{Appends};
 ghost use Rattle.csv_records.specs.Records.{records_of};
 ghost use Rattle.zone_index.specs.Answers.{AnswersFind};
 ghost use Rattle.zone_index.specs.Asking.{Asks, AsksWithin};
-ghost use Rattle.zone_index.specs.Faults.{IfRefused, IsOfReading, IsOfRecord, TellsOneOf, TellsRecord};
+ghost use Rattle.zone_index.specs.Errors.{IfRefused, IsOfReading, IsOfRecord, TellsOneOf, TellsRecord};
 ghost use Rattle.zone_index.specs.Sinks.{told, written_of};
 ghost use Rattle.zone_index.specs.Zones.{AsksOfZone, IsHeld, IsIndexOf, IsOfZone, IsWayOf, IsZoneOf, is_copy, is_search, is_skip, way_of, zone_bytes, zone_records};
-ghost use Rattle.zone_index.specs.declared.faults.SearchFault.TheVariants.{CutShort, TooFar, Write as WriteFault};
+ghost use Rattle.zone_index.specs.declared.errors.SearchError.TheVariants.{CutShort, TooFar, Write as FailedWrite};
 
 use crate::counting::one_more;
-use crate::faults::SearchFault;
+use crate::errors::SearchError;
 use crate::read_at::{ReadAt, fill_from};
 use crate::records::{Decision, Matcher};
 use crate::sinks::Sink;
@@ -52,8 +52,8 @@ impl Tally {
     }
 }
 
-/// Gives a sink the records of a file that match, in order, and writes them. The first record has the
-/// number `first`. Only the zones that may have one that matches are read.
+/// Gives a sink the records of a file that match, in order, and writes them. The first record has
+/// the number `first`. Only the zones that may have one that matches are read.
 pub fn find<R: ReadAt, M: Matcher, S: Sink>(
     alloc: Global,
     zones: &[Zone],
@@ -61,7 +61,7 @@ pub fn find<R: ReadAt, M: Matcher, S: Sink>(
     matcher: &M,
     reader: &mut R,
     sink: &mut S,
-) -> Result<Tally, SearchFault>
+) -> Result<Tally, SearchError>
     ensures answer { AnswersFind
         (IsIndexOf (M.delimiter matcher.now) (M.has_row matcher.now) (M.Describes matcher.now))
         (M.Refuses matcher.now) (M.delimiter matcher.now) (M.matches matcher.now) (M.decides matcher.now)
@@ -85,8 +85,8 @@ pub fn find<R: ReadAt, M: Matcher, S: Sink>(
     Ok(tally)
 }
 
-/// Gives a sink the records of a zone that match, has them written, and says what became of the zone and
-/// how many they are. The first record of the zone has this number.
+/// Gives a sink the records of a zone that match, has them written, and says what became of the
+/// zone and how many they are. The first record of the zone has this number.
 fn answer_zone<R: ReadAt, M: Matcher, S: Sink>(
     alloc: Global,
     zone: &Zone,
@@ -94,7 +94,7 @@ fn answer_zone<R: ReadAt, M: Matcher, S: Sink>(
     matcher: &M,
     reader: &mut R,
     sink: &mut S,
-) -> Result<(Way, u64), SearchFault>
+) -> Result<(Way, u64), SearchError>
     ensures written { OnOk result ((was : List ℕ) → IsHeld (R.bytes reader.old) was
         → IsZoneOf (M.delimiter matcher.now) (M.has_row matcher.now) (M.Describes matcher.now) was zone.now
         → Appends (S.contents sink.old) (S.contents sink.new) (written_of S.written_as (M.matches matcher.now)
@@ -105,7 +105,7 @@ fn answer_zone<R: ReadAt, M: Matcher, S: Sink>(
         → answer.1 ≡ count_by (M.matches matcher.now) (zone_records (M.delimiter matcher.now) was zone.now)) }
     ensures kept { R.bytes reader.new ≡ R.bytes reader.old }
     ensures asks { Asks (AsksOfZone (M.decides matcher.now) zone.now) (R.asked reader.old) (R.asked reader.new) }
-    ensures untouched { IfErr result (λ fault. fault ≢ WriteFault → S.contents sink.new ≡ S.contents sink.old) }
+    ensures untouched { IfErr result (λ fault. fault ≢ FailedWrite → S.contents sink.new ≡ S.contents sink.old) }
     ensures cut { IfErr result (λ fault. fault ≡ CutShort → IfSome (R.bytes reader.old)
         (λ bytes. length bytes < zone.now.first + zone.now.length)) }
     ensures far { IfErr result (λ fault. fault ≡ TooFar → 2 ^ 64 ≤ zone.now.first + zone.now.length) }
@@ -161,13 +161,13 @@ pub(crate) fn read_zone<R: ReadAt>(
     alloc: Global,
     zone: &Zone,
     reader: &mut R,
-) -> Result<Vec<u8>, SearchFault>
+) -> Result<Vec<u8>, SearchError>
     ensures read { IfOk result (λ piece. (was : List ℕ) → IsHeld (R.bytes reader.old) was
         → zone.now.first + zone.now.length ≤ length was → piece.items ≡ zone_bytes was zone.now) }
     ensures long { IfOk result (λ piece. length piece.items ≡ zone.now.length) }
     ensures kept { R.bytes reader.new ≡ R.bytes reader.old }
     ensures asks { AsksWithin (R.asked reader.old) (R.asked reader.new) zone.now.first (zone.now.first + zone.now.length) }
-    ensures reading { IfErr result (λ fault. fault ≢ WriteFault) }
+    ensures reading { IfErr result (λ fault. fault ≢ FailedWrite) }
     ensures why { IfErr result IsOfReading }
     ensures cut { IfErr result (λ fault. fault ≡ CutShort → IfSome (R.bytes reader.old)
         (λ bytes. length bytes < zone.now.first + zone.now.length)) }
@@ -176,7 +176,7 @@ pub(crate) fn read_zone<R: ReadAt>(
     let first = zone.first;
     let length = zone.length;
     if first > u64::MAX - length {
-        return Err(SearchFault::TooFar);
+        return Err(SearchError::TooFar);
     }
     let mut piece = vec![in alloc; 0u8; length as usize]?;
     fill_from(reader, first, &mut piece)?;
@@ -198,15 +198,15 @@ fn give_whole<S: Sink>(
     sink.all_matched(delimiter, number, text)
 }
 
-/// Gives a sink the records of a text that match. Says how many they are, and the number of the record
-/// after the text, the first of which stands at `start`.
+/// Gives a sink the records of a text that match. Says how many they are, and the number of the
+/// record after the text, the first of which stands at `start`.
 pub(crate) fn give_hits<M: Matcher, S: Sink>(
     alloc: Global,
     start: Position,
     text: &[u8],
     matcher: &M,
     sink: &mut S,
-) -> Result<(u64, u64), SearchFault>
+) -> Result<(u64, u64), SearchError>
     ensures taken { OnOk result (S.taken sink.new ≡ written_of S.written_as (M.matches matcher.now)
         start.number (records_of (M.delimiter matcher.now) text.now)) }
     ensures kept { S.contents sink.new ≡ S.contents sink.old }
@@ -261,7 +261,7 @@ pub(crate) fn is_hit<M: Matcher>(
     line: &[u8],
     matcher: &M,
     scratch: &mut M::Scratch,
-) -> Result<bool, SearchFault>
+) -> Result<bool, SearchError>
     ensures hit { IfOk result (λ hit. hit ≡ M.matches matcher.now line.now) }
     ensures why { IfErr result IsOfRecord }
     ensures refused { IfErr result (IfRefused (TellsRecord (M.Refuses matcher.now) place line.now)) }

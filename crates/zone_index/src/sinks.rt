@@ -4,9 +4,9 @@ ghost use Rattle.std.specs.Prelude.{◌≡◌, ◌++◌, ℕ, List, [], Bool, Op
 ghost use Rattle.std.specs.Io.KnownBytes.{Appends, Keeps};
 ghost use Rattle.csv_records.specs.Records.{records_of};
 ghost use Rattle.zone_index.specs.Sinks.{numbered_record, plain_record, written_of};
-ghost use Rattle.zone_index.specs.declared.faults.SearchFault.TheVariants.{Write as WriteFault};
+ghost use Rattle.zone_index.specs.declared.errors.SearchError.TheVariants.{Write as FailedWrite};
 
-use crate::faults::SearchFault;
+use crate::errors::SearchError;
 use csv_records::{Delimiter, cut_record};
 use std::alloc::{AllocError, Global};
 use std::fmt::Write as WriteText;
@@ -14,8 +14,8 @@ use std::io::Write;
 
 /// Takes the records that match, in order, and writes them.
 ///
-/// A search gives the records of a zone one after another, and then has them written: of a zone with a
-/// record that is refused, nothing is.
+/// A search gives the records of a zone one after another, and then has them written: of a zone
+/// with a record that is refused, nothing is.
 pub trait Sink {
     // What is written of the record that has this number.
     ghost written_as: { ℕ → List ℕ → List ℕ };
@@ -57,14 +57,14 @@ pub trait Sink {
     }
 
     /// Writes what was taken.
-    fn finish(&mut self) -> Result<(), SearchFault>
+    fn finish(&mut self) -> Result<(), SearchError>
         ensures written { OnOk result (Appends (contents self.old) (contents self.new) (taken self.old)) }
-        ensures fault { IfErr result (λ fault. fault ≡ WriteFault) };
+        ensures fault { IfErr result (λ fault. fault ≡ FailedWrite) };
 
     /// Has all that was written passed on.
-    fn flush(&mut self) -> Result<(), SearchFault>
+    fn flush(&mut self) -> Result<(), SearchError>
         ensures kept { Keeps (contents self.old) (contents self.new) }
-        ensures fault { IfErr result (λ fault. fault ≡ WriteFault) };
+        ensures fault { IfErr result (λ fault. fault ≡ FailedWrite) };
 }
 
 /// Writes the records that match as they stand.
@@ -117,11 +117,11 @@ impl<W: Write> Sink for PlainSink<W> {
         }
     }
 
-    fn finish(&mut self) -> Result<(), SearchFault> {
+    fn finish(&mut self) -> Result<(), SearchError> {
         write_out(&mut self.writer, &self.lines)
     }
 
-    fn flush(&mut self) -> Result<(), SearchFault> {
+    fn flush(&mut self) -> Result<(), SearchError> {
         flush_out(&mut self.writer)
     }
 }
@@ -165,11 +165,11 @@ impl<W: Write> Sink for NumberedSink<W> {
         push_numbered(number, line, &mut self.digits, &mut self.lines)
     }
 
-    fn finish(&mut self) -> Result<(), SearchFault> {
+    fn finish(&mut self) -> Result<(), SearchError> {
         write_out(&mut self.writer, &self.lines)
     }
 
-    fn flush(&mut self) -> Result<(), SearchFault> {
+    fn flush(&mut self) -> Result<(), SearchError> {
         flush_out(&mut self.writer)
     }
 }
@@ -190,18 +190,18 @@ fn push_numbered(
 }
 
 /// Writes all bytes.
-fn write_out<W: Write>(writer: &mut W, output: &[u8]) -> Result<(), SearchFault>
+fn write_out<W: Write>(writer: &mut W, output: &[u8]) -> Result<(), SearchError>
     ensures written { OnOk result
         (Appends (W.contents writer.old) (W.contents writer.new) output.now) }
-    ensures fault { IfErr result (λ fault. fault ≡ WriteFault) }
+    ensures fault { IfErr result (λ fault. fault ≡ FailedWrite) }
 {
-    writer.write_all(output).map_err(|_| SearchFault::Write)
+    writer.write_all(output).map_err(|_| SearchError::Write)
 }
 
 /// Flushes the writer.
-fn flush_out<W: Write>(writer: &mut W) -> Result<(), SearchFault>
+fn flush_out<W: Write>(writer: &mut W) -> Result<(), SearchError>
     ensures kept { Keeps (W.contents writer.old) (W.contents writer.new) }
-    ensures fault { IfErr result (λ fault. fault ≡ WriteFault) }
+    ensures fault { IfErr result (λ fault. fault ≡ FailedWrite) }
 {
-    writer.flush().map_err(|_| SearchFault::Write)
+    writer.flush().map_err(|_| SearchError::Write)
 }

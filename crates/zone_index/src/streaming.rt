@@ -3,13 +3,13 @@
 ghost use Rattle.std.specs.Prelude.{◌≡◌, ◌≢◌, ◌<◌, ◌++◌, ℕ, List, Some, IfErr, IfOk, OnOk, count_by};
 ghost use Rattle.std.specs.Io.KnownBytes.{Appends};
 ghost use Rattle.csv_records.specs.Records.{records_of};
-ghost use Rattle.zone_index.specs.Faults.{EndsFar, IfRefused, TellsOneOf};
+ghost use Rattle.zone_index.specs.Errors.{EndsFar, IfRefused, TellsOneOf};
 ghost use Rattle.zone_index.specs.Records.{kept_of};
 ghost use Rattle.zone_index.specs.Sinks.{IsPlain, written_of};
-ghost use Rattle.zone_index.specs.declared.faults.SearchFault.TheVariants.{CutShort, TooFar, Write as WriteFault};
+ghost use Rattle.zone_index.specs.declared.errors.SearchError.TheVariants.{CutShort, TooFar, Write as FailedWrite};
 
 use crate::counting::count_in;
-use crate::faults::SearchFault;
+use crate::errors::SearchError;
 use crate::records::Matcher;
 use crate::search::give_hits;
 use crate::sinks::Sink;
@@ -18,8 +18,9 @@ use crate::zones::Position;
 use std::alloc::Global;
 use std::io::BufRead;
 
-/// Gives a sink the records that a reader has left and that match, in order, and writes them. Says how
-/// many they are. So many records are in memory at a time. The first one that is left stands at `start`.
+/// Gives a sink the records that a reader has left and that match, in order, and writes them. Says
+/// how many they are. So many records are in memory at a time. The first one that is left stands at
+/// `start`.
 pub fn find_rest<B: BufRead, M: Matcher, S: Sink>(
     alloc: Global,
     size: u64,
@@ -27,7 +28,7 @@ pub fn find_rest<B: BufRead, M: Matcher, S: Sink>(
     matcher: &M,
     reader: &mut B,
     sink: &mut S,
-) -> Result<u64, SearchFault>
+) -> Result<u64, SearchError>
     requires { 0 < size }
     ensures written { OnOk result ((bytes : List ℕ) → B.remaining reader.old ≡ Some bytes
         → Appends (S.contents sink.old) (S.contents sink.new) (written_of S.written_as (M.matches matcher.now)
@@ -37,8 +38,9 @@ pub fn find_rest<B: BufRead, M: Matcher, S: Sink>(
         (kept_of (M.delimiter matcher.now) (M.matches matcher.now) bytes)) }
     ensures found { IfOk result (λ found. (bytes : List ℕ) → B.remaining reader.old ≡ Some bytes
         → found ≡ count_by (M.matches matcher.now) (records_of (M.delimiter matcher.now) bytes)) }
-    // After a fault other than one of the writer, those of the first records that match were written.
-    ensures partial { IfErr result (λ fault. fault ≢ WriteFault → (bytes : List ℕ)
+    // After a fault other than one of the writer, those of the first records that match were
+    // written.
+    ensures partial { IfErr result (λ fault. fault ≢ FailedWrite → (bytes : List ℕ)
         → B.remaining reader.old ≡ Some bytes
         → (first others : List (List ℕ)) × (records_of (M.delimiter matcher.now) bytes ≡ first ++ others)
         × Appends (S.contents sink.old) (S.contents sink.new)
@@ -68,7 +70,7 @@ pub fn find_rest<B: BufRead, M: Matcher, S: Sink>(
         let (hits, next) = give_hits(alloc, position, &text, matcher, sink)?;
         match passed.checked_add(text.len() as u64) {
             Some(sum) => passed = sum,
-            None => return Err(SearchFault::TooFar),
+            None => return Err(SearchError::TooFar),
         }
         found += hits;
         number = next;
@@ -84,11 +86,11 @@ pub fn count_rest<B: BufRead, M: Matcher>(
     start: u64,
     matcher: &M,
     reader: &mut B,
-) -> Result<u64, SearchFault>
+) -> Result<u64, SearchError>
     requires { 0 < size }
     ensures counted { IfOk result (λ n. (bytes : List ℕ) → B.remaining reader.old ≡ Some bytes
         → n ≡ count_by (M.matches matcher.now) (records_of (M.delimiter matcher.now) bytes)) }
-    ensures reading { IfErr result (λ fault. fault ≢ WriteFault) }
+    ensures reading { IfErr result (λ fault. fault ≢ FailedWrite) }
     ensures uncut { IfErr result (λ fault. fault ≢ CutShort) }
     ensures far { IfErr result (λ fault. fault ≡ TooFar → EndsFar 0 (B.remaining reader.old)) }
     // The record that is told is one of those, and begins there.
@@ -108,7 +110,7 @@ pub fn count_rest<B: BufRead, M: Matcher>(
         let hits = count_in(alloc, start.saturating_add(passed), &text, matcher)?;
         match passed.checked_add(text.len() as u64) {
             Some(sum) => passed = sum,
-            None => return Err(SearchFault::TooFar),
+            None => return Err(SearchError::TooFar),
         }
         total += hits;
     }

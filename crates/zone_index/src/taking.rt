@@ -5,10 +5,10 @@ ghost use Rattle.std.specs.Io.{StartsWith, appended_bytes};
 ghost use Rattle.std.specs.Io.KnownBytes.{Consumes};
 ghost use Rattle.csv_records.specs.Records.{is_start, state_at};
 ghost use Rattle.csv_records.specs.declared.states.RecordState.TheVariants.{StartRecord};
-ghost use Rattle.zone_index.specs.Faults.{IsOfStream};
+ghost use Rattle.zone_index.specs.Errors.{IsOfStream};
 ghost use Rattle.zone_index.specs.Taking.{AreWhole, IsTaken};
 
-use crate::faults::SearchFault;
+use crate::errors::SearchError;
 use crate::lines::read_line;
 use csv_records::{Delimiter, RecordState, plain_end, state_after_line};
 use std::io::{self, BufRead, ErrorKind};
@@ -19,7 +19,7 @@ pub fn take_records<B: BufRead>(
     size: u64,
     text: &mut Vec<u8>,
     reader: &mut B,
-) -> Result<(), SearchFault>
+) -> Result<(), SearchError>
     requires fresh { text.old.items ≡ [] }
     requires some { 0 < size }
     ensures taken { OnOk result ((bytes : List ℕ) → B.remaining reader.old ≡ Some bytes
@@ -36,7 +36,7 @@ pub fn take_records<B: BufRead>(
         match read_line(reader, text) {
             Ok(0) => return Ok(()),
             Ok(_) => {}
-            Err(error) => return Err(SearchFault::of_read(error)),
+            Err(error) => return Err(SearchError::of_read(error)),
         }
         state = state_after_line(delimiter, state, &text[before..]);
         taken = counted(taken, state);
@@ -56,15 +56,15 @@ fn counted(taken: u64, state: RecordState) -> u64
     }
 }
 
-/// Takes the records without a quote that the reader has at hand, up to so many, where one may start
-/// here. Says how many they are.
+/// Takes the records without a quote that the reader has at hand, up to so many, where one may
+/// start here. Says how many they are.
 fn take_plain<B: BufRead>(
     delimiter: Delimiter,
     state: RecordState,
     most: u64,
     text: &mut Vec<u8>,
     reader: &mut B,
-) -> Result<u64, SearchFault>
+) -> Result<u64, SearchError>
     ensures few { IfOk result (λ n. n ≤ most) }
     ensures fresh { IfOk result (λ n. 0 < n → state ≡ StartRecord) }
     ensures appends { OnOk result (StartsWith text.new.items text.old.items) }
@@ -77,14 +77,14 @@ fn take_plain<B: BufRead>(
     match state {
         RecordState::StartRecord => match append_plain(delimiter, most, text, reader) {
             Ok(count) => Ok(count),
-            Err(error) => Err(SearchFault::of_read(error)),
+            Err(error) => Err(SearchError::of_read(error)),
         },
         _ => Ok(0),
     }
 }
 
-/// Appends the records without a quote that the reader has at hand, up to so many, and says how many
-/// they are.
+/// Appends the records without a quote that the reader has at hand, up to so many, and says how
+/// many they are.
 fn append_plain<B: BufRead>(
     delimiter: Delimiter,
     most: u64,
@@ -113,8 +113,8 @@ fn append_plain<B: BufRead>(
     Ok(count)
 }
 
-/// How many bytes the first records have, up to so many and to the first that has a quote or no line
-/// feed, and how many these are.
+/// How many bytes the first records have, up to so many and to the first that has a quote or no
+/// line feed, and how many these are.
 fn plain_front(delimiter: Delimiter, most: u64, bytes: &[u8]) -> (usize, u64)
     ensures within { result.0 ≤ length bytes.now }
     ensures few { result.1 ≤ most }

@@ -4,12 +4,12 @@ ghost use Rattle.std.specs.Prelude.{◌≡◌, ◌++◌, ◌<◌, ◌^◌, ℕ, 
 ghost use Rattle.std.specs.Int.{to_le_bytes, w64};
 ghost use Rattle.std.specs.List.{AllByRecursion, concat, flat_map};
 ghost use Rattle.sha2.specs.Sha256.{sha256};
-ghost use Rattle.zone_index.specs.Form.{AreDealt, FitsContent, FitsFile, FitsForm, FitsZone, HavePieces, block_form, block_of, blocks_of, bytes_form, content_form, file_form, index_form, index_value, root_of, zone_form, zone_value, zone_values};
-ghost use Rattle.zone_index.specs.FormReading.{Gives, dealt_at};
-ghost use Rattle.zone_index.specs.declared.form.WriteError.TheVariants.{Pieces};
+ghost use Rattle.zone_index.specs.Encoding.{AreDealt, FitsContent, FitsFile, FitsEncoding, FitsZone, HavePieces, block_encoding, block_of, blocks_of, bytes_encoding, content_encoding, file_encoding, index_encoding, index_value, root_of, zone_encoding, zone_value, zone_values};
+ghost use Rattle.zone_index.specs.EncodingReading.{Gives, dealt_at};
+ghost use Rattle.zone_index.specs.declared.encoding.WriteError.TheVariants.{Pieces};
 
+use crate::encoding::{EncodingError, Index, MAGIC, ReadError, VERSION, WriteError};
 use crate::fields::piece_in;
-use crate::form::{FormFault, Index, MAGIC, ReadError, VERSION, WriteError};
 use crate::zones::Zone;
 use sha2::{Digest, Sha256};
 use std::alloc::{AllocError, Global};
@@ -24,7 +24,7 @@ fn push_number(output: &mut Vec<u8>, number: u64) -> Result<(), AllocError>
 
 /// Appends bytes, after how many they are.
 fn push_bytes(output: &mut Vec<u8>, bytes: &[u8]) -> Result<(), AllocError>
-    ensures pushed { OnOk result (output.new.items ≡ output.old.items ++ bytes_form bytes.now) }
+    ensures pushed { OnOk result (output.new.items ≡ output.old.items ++ bytes_encoding bytes.now) }
     ensures fits { length bytes.now < 2 ^ 64 }
 {
     push_number(output, bytes.len() as u64)?;
@@ -33,7 +33,7 @@ fn push_bytes(output: &mut Vec<u8>, bytes: &[u8]) -> Result<(), AllocError>
 
 /// Appends a zone, without statistics.
 fn push_zone(output: &mut Vec<u8>, zone: &Zone) -> Result<(), AllocError>
-    ensures pushed { OnOk result (output.new.items ≡ output.old.items ++ zone_form (zone_value zone.now)) }
+    ensures pushed { OnOk result (output.new.items ≡ output.old.items ++ zone_encoding (zone_value zone.now)) }
     ensures fits { OnOk result (FitsZone (zone_value zone.now)) }
 {
     push_number(output, zone.first)?;
@@ -46,7 +46,7 @@ fn push_zone(output: &mut Vec<u8>, zone: &Zone) -> Result<(), AllocError>
 /// Appends what is said of the file.
 fn push_file(output: &mut Vec<u8>, index: &Index) -> Result<(), AllocError>
     ensures pushed { OnOk result (output.new.items ≡
-        output.old.items ++ file_form (index_value index.now)) }
+        output.old.items ++ file_encoding (index_value index.now)) }
     ensures fits { OnOk result (FitsFile (index_value index.now)) }
 {
     push_number(output, index.file_length)?;
@@ -59,7 +59,7 @@ fn push_file(output: &mut Vec<u8>, index: &Index) -> Result<(), AllocError>
 /// Appends zones.
 fn push_zones(output: &mut Vec<u8>, zones: &[Zone]) -> Result<(), AllocError>
     ensures pushed { OnOk result (output.new.items ≡
-        output.old.items ++ flat_map zone_form (zone_values zones.now)) }
+        output.old.items ++ flat_map zone_encoding (zone_values zones.now)) }
     ensures fits { OnOk result (AllByRecursion FitsZone (zone_values zones.now)) }
 {
     for zone in zones {
@@ -70,7 +70,7 @@ fn push_zones(output: &mut Vec<u8>, zones: &[Zone]) -> Result<(), AllocError>
 
 /// Appends what the root says of a block.
 fn push_block(output: &mut Vec<u8>, bytes: &[u8]) -> Result<(), AllocError>
-    ensures pushed { OnOk result (output.new.items ≡ output.old.items ++ block_form (block_of bytes.now)) }
+    ensures pushed { OnOk result (output.new.items ≡ output.old.items ++ block_encoding (block_of bytes.now)) }
     ensures fits { length bytes.now < 2 ^ 64 }
 {
     push_number(output, bytes.len() as u64)?;
@@ -80,7 +80,7 @@ fn push_block(output: &mut Vec<u8>, bytes: &[u8]) -> Result<(), AllocError>
 /// Appends what the root says of blocks.
 fn push_blocks(output: &mut Vec<u8>, blocks: &[Vec<u8>]) -> Result<(), AllocError>
     ensures pushed { OnOk result (output.new.items ≡
-        output.old.items ++ flat_map block_form (map block_of (map (λ b. b.items) blocks.now))) }
+        output.old.items ++ flat_map block_encoding (map block_of (map (λ b. b.items) blocks.now))) }
     ensures fits { OnOk result (AllByRecursion (λ b. length b < 2 ^ 64) (map (λ b. b.items) blocks.now)) }
 {
     for block in blocks {
@@ -92,7 +92,7 @@ fn push_blocks(output: &mut Vec<u8>, blocks: &[Vec<u8>]) -> Result<(), AllocErro
 /// Appends how many zones there are, and these.
 fn push_counted_zones(output: &mut Vec<u8>, zones: &[Zone]) -> Result<(), AllocError>
     ensures pushed { OnOk result (output.new.items ≡ output.old.items
-        ++ (to_le_bytes w64 (length zones.now) ++ flat_map zone_form (zone_values zones.now))) }
+        ++ (to_le_bytes w64 (length zones.now) ++ flat_map zone_encoding (zone_values zones.now))) }
     ensures count { length zones.now < 2 ^ 64 }
     ensures fits { OnOk result (AllByRecursion FitsZone (zone_values zones.now)) }
 {
@@ -104,7 +104,7 @@ fn push_counted_zones(output: &mut Vec<u8>, zones: &[Zone]) -> Result<(), AllocE
 fn push_counted_blocks(output: &mut Vec<u8>, blocks: &[Vec<u8>]) -> Result<(), AllocError>
     ensures pushed { OnOk result (output.new.items ≡ output.old.items
         ++ (to_le_bytes w64 (length blocks.now)
-        ++ flat_map block_form (map block_of (map (λ b. b.items) blocks.now)))) }
+        ++ flat_map block_encoding (map block_of (map (λ b. b.items) blocks.now)))) }
     ensures count { length blocks.now < 2 ^ 64 }
     ensures fits { OnOk result (AllByRecursion (λ b. length b < 2 ^ 64) (map (λ b. b.items) blocks.now)) }
 {
@@ -114,7 +114,7 @@ fn push_counted_blocks(output: &mut Vec<u8>, blocks: &[Vec<u8>]) -> Result<(), A
 
 /// The content of the root.
 fn content_of(alloc: Global, index: &Index, blocks: &[Vec<u8>]) -> Result<Vec<u8>, AllocError>
-    ensures content { IfOk result (λ v. v.items ≡ content_form
+    ensures content { IfOk result (λ v. v.items ≡ content_encoding
         (root_of (index_value index.now) (map (λ b. b.items) blocks.now))) }
     ensures fits { OnOk result (FitsContent (index_value index.now) (map (λ b. b.items) blocks.now)) }
 {
@@ -141,7 +141,7 @@ fn deal(bytes: &[u8], blocks: &mut [Vec<u8>]) -> Result<(), ReadError>
     if rest.is_empty() {
         Ok(())
     } else {
-        Err(ReadError::Fault(FormFault::Trailing))
+        Err(ReadError::Fault(EncodingError::Trailing))
     }
 }
 
@@ -189,19 +189,20 @@ fn push_all(output: &mut Vec<u8>, blocks: &[Vec<u8>]) -> Result<(), AllocError>
 /// Appends what is signed after its length, and its digest.
 fn push_signed(output: &mut Vec<u8>, content: &[u8]) -> Result<(), AllocError>
     ensures pushed { OnOk result (output.new.items ≡
-        output.old.items ++ (bytes_form content.now ++ sha256 content.now)) }
+        output.old.items ++ (bytes_encoding content.now ++ sha256 content.now)) }
     ensures fits { length content.now < 2 ^ 64 }
 {
     push_bytes(output, content)?;
     output.extend_from_slice(&Sha256::digest(content))
 }
 
-/// The form of an index, the statistics of whose zones are so many pieces, each after its length.
+/// The encoding of an index, the statistics of whose zones are so many pieces, each after its
+/// length.
 pub fn write_index(alloc: Global, columns: usize, index: &Index) -> Result<Vec<u8>, WriteError>
-    // It is the form of these pieces, and so is read back.
+    // It is the encoding of these pieces, and so is read back.
     ensures written { IfOk result (λ v. (pieces : List (List (List ℕ)))
-        × FitsForm columns (index_value index.now) pieces
-        × (v.items ≡ index_form columns (index_value index.now) pieces)) }
+        × FitsEncoding columns (index_value index.now) pieces
+        × (v.items ≡ index_encoding columns (index_value index.now) pieces)) }
     // It is refused only if they are no such pieces.
     ensures refused { IfErr result (λ e. e ≡ Pieces → (pieces : List (List (List ℕ)))
         → ¬ (HavePieces columns (zone_values index.now.zones.items) pieces)) }

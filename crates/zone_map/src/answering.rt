@@ -7,7 +7,7 @@ use std::alloc::Global;
 use std::fs::File;
 use std::io::BufRead;
 use zone_index::{
-    Index, Logged, Position, SearchFault, Sink, Tally, count_rest, find_rest, number_after,
+    Index, Logged, Position, SearchError, Sink, Tally, count_rest, find_rest, number_after,
 };
 
 /// How many records of a stream are in memory at a time.
@@ -30,8 +30,8 @@ pub fn first_row(start: u64) -> Position {
     }
 }
 
-/// Gives a sink the records that match: those of the zones of an index, and those of the file from a
-/// place on.
+/// Gives a sink the records that match: those of the zones of an index, and those of the file from
+/// a place on.
 pub fn find_indexed<S: Sink>(
     alloc: Global,
     index: &Index,
@@ -39,7 +39,7 @@ pub fn find_indexed<S: Sink>(
     rest: Option<u64>,
     reader: &mut Logged<File>,
     sink: &mut S,
-) -> Result<Found, SearchFault> {
+) -> Result<Found, SearchError> {
     let first = first_row(index.start).number;
     let tally = find_rows(
         alloc,
@@ -70,14 +70,15 @@ pub fn find_indexed<S: Sink>(
     })
 }
 
-/// Counts the records that match: those of the zones of an index, and those of the file from a place on.
+/// Counts the records that match: those of the zones of an index, and those of the file from a
+/// place on.
 pub fn count_indexed(
     alloc: Global,
     index: &Index,
     sought: &Sought,
     rest: Option<u64>,
     reader: &mut Logged<File>,
-) -> Result<Found, SearchFault> {
+) -> Result<Found, SearchError> {
     let rows = count_rows(alloc, &sought.schema, &sought.filter, &index.zones, reader)?;
     let more = match rest {
         Some(place) => {
@@ -92,15 +93,15 @@ pub fn count_indexed(
     })
 }
 
-/// Gives a sink the records of a stream that match, and says how many they are. The first one stands
-/// here.
+/// Gives a sink the records of a stream that match, and says how many they are. The first one
+/// stands here.
 pub fn find_stream<B: BufRead, S: Sink>(
     alloc: Global,
     start: Position,
     matcher: &RowFilter<'_>,
     reader: &mut B,
     sink: &mut S,
-) -> Result<u64, SearchFault> {
+) -> Result<u64, SearchError> {
     find_rest(alloc, PIECE, start, matcher, reader, sink)
 }
 
@@ -110,6 +111,6 @@ pub fn count_stream<B: BufRead>(
     start: u64,
     matcher: &RowFilter<'_>,
     reader: &mut B,
-) -> Result<u64, SearchFault> {
+) -> Result<u64, SearchError> {
     count_rest(alloc, PIECE, start, matcher, reader)
 }

@@ -1,6 +1,6 @@
 //! Columns: their names and kinds, as words and as a text.
 
-use crate::program_faults::ProgramFault;
+use crate::program_errors::ProgramError;
 use record_rows::{ColumnType, Kind};
 use std::alloc::{AllocError, Global};
 use std::fmt::Write;
@@ -16,7 +16,7 @@ pub struct NamedColumn {
 }
 
 /// The columns that a text lists, as `id i64, "first name" utf8?`.
-pub fn columns_in(alloc: Global, text: &str) -> Result<Vec<NamedColumn>, ProgramFault> {
+pub fn columns_in(alloc: Global, text: &str) -> Result<Vec<NamedColumn>, ProgramError> {
     let mut columns = Vec::new(alloc);
     let mut part = String::new(alloc);
     for piece in text.split(',') {
@@ -35,7 +35,7 @@ fn add_piece(
     piece: &str,
     part: &mut String,
     columns: &mut Vec<NamedColumn>,
-) -> Result<(), ProgramFault> {
+) -> Result<(), ProgramError> {
     part.push_str(piece)?;
     if has_open_quote(part) {
         part.push(',')?;
@@ -62,7 +62,7 @@ fn add_column(
     alloc: Global,
     text: &str,
     columns: &mut Vec<NamedColumn>,
-) -> Result<(), ProgramFault> {
+) -> Result<(), ProgramError> {
     match column_in(alloc, text)? {
         Some(column) => {
             if stands_in(columns, &column.name) {
@@ -81,15 +81,15 @@ pub fn stands_in(columns: &[NamedColumn], name: &str) -> bool {
 }
 
 /// The fault of a text that is no column.
-fn columns_fault(alloc: Global, text: &str) -> ProgramFault {
-    ProgramFault::made(format!(in alloc;
+fn columns_fault(alloc: Global, text: &str) -> ProgramError {
+    ProgramError::made(format!(in alloc;
         "--columns: {text:?} is no column: a name and a kind, as 'city utf8?'"
     ))
 }
 
 /// The fault of a name that two columns have.
-fn two_columns_fault(alloc: Global, name: &str) -> ProgramFault {
-    ProgramFault::made(format!(in alloc; "--columns: two columns have the name {name:?}"))
+fn two_columns_fault(alloc: Global, name: &str) -> ProgramError {
+    ProgramError::made(format!(in alloc; "--columns: two columns have the name {name:?}"))
 }
 
 /// The column that a name and a kind are.

@@ -1,11 +1,11 @@
 //! Files and their indexes.
 
-use crate::program_faults::{FileFault, ProgramFault};
+use crate::program_errors::{FileError, ProgramError};
 use std::alloc::{AllocError, Global};
 use std::fs::{self, File, Metadata};
 use std::io::{self, BufReader, Read, Seek, SeekFrom, Write};
 use std::time::UNIX_EPOCH;
-use zone_index::{Index, SearchFault, WriteError, write_index};
+use zone_index::{Index, SearchError, WriteError, write_index};
 
 /// How long a file is, and when it was changed last.
 #[derive(Clone, Copy, PartialEq, Eq)]
@@ -27,10 +27,10 @@ fn with_ending(alloc: Global, name: &str, ending: &str) -> Result<String, AllocE
 }
 
 /// Opens a file.
-pub fn open_file(rt: &HostRuntime, name: &str) -> Result<File, ProgramFault> {
+pub fn open_file(rt: &HostRuntime, name: &str) -> Result<File, ProgramError> {
     match File::open(rt, name) {
         Ok(file) => Ok(file),
-        Err(error) => Err(ProgramFault::of_file(rt.alloc(), name, FileFault::System(error))),
+        Err(error) => Err(ProgramError::of_file(rt.alloc(), name, FileError::System(error))),
     }
 }
 
@@ -47,16 +47,16 @@ pub fn from_place<R: Read + Seek + Drop>(
     alloc: Global,
     file: R,
     place: u64,
-) -> Result<BufReader<R>, SearchFault> {
+) -> Result<BufReader<R>, SearchError> {
     let file = at_place(file, place)?;
     Ok(buffered(alloc, file)?)
 }
 
 /// A file from this place on.
-pub fn at_place<R: Seek + Drop>(mut file: R, place: u64) -> Result<R, SearchFault> {
+pub fn at_place<R: Seek + Drop>(mut file: R, place: u64) -> Result<R, SearchError> {
     match file.seek(SeekFrom::Start(place)) {
         Ok(_) => Ok(file),
-        Err(_) => Err(SearchFault::Read),
+        Err(_) => Err(SearchError::Read),
     }
 }
 
@@ -72,13 +72,13 @@ fn changed(metadata: &Metadata) -> u64 {
 }
 
 /// How long an open file is, and when it was changed last.
-pub fn stamp_of(alloc: Global, name: &str, file: &File) -> Result<Stamp, ProgramFault> {
+pub fn stamp_of(alloc: Global, name: &str, file: &File) -> Result<Stamp, ProgramError> {
     match file.metadata() {
         Ok(metadata) => Ok(Stamp {
             length: metadata.len(),
             changed: changed(&metadata),
         }),
-        Err(error) => Err(ProgramFault::of_file(alloc, name, FileFault::System(error))),
+        Err(error) => Err(ProgramError::of_file(alloc, name, FileError::System(error))),
     }
 }
 
@@ -88,27 +88,27 @@ pub fn save(
     file: &str,
     columns: usize,
     index: &Index,
-) -> Result<(), ProgramFault> {
+) -> Result<(), ProgramError> {
     let name = index_name(rt.alloc(), file)?;
     match write_index(rt.alloc(), columns, index) {
         Ok(bytes) => save_bytes(rt, &name, &bytes),
-        Err(WriteError::Memory) => Err(ProgramFault::from(AllocError)),
-        Err(WriteError::Pieces) => Err(ProgramFault::of_file(
+        Err(WriteError::Memory) => Err(ProgramError::from(AllocError)),
+        Err(WriteError::Pieces) => Err(ProgramError::of_file(
             rt.alloc(),
             &name,
-            FileFault::OtherIndex,
+            FileError::OtherIndex,
         )),
     }
 }
 
 /// Writes a file: first one of another name, which then takes this name.
-fn save_bytes(rt: &HostRuntime, name: &str, bytes: &[u8]) -> Result<(), ProgramFault> {
+fn save_bytes(rt: &HostRuntime, name: &str, bytes: &[u8]) -> Result<(), ProgramError> {
     let temporary = with_ending(rt.alloc(), name, ".new")?;
     match save_as(rt, &temporary, name, bytes) {
         Ok(()) => Ok(()),
         Err(error) => {
             let _ = fs::remove_file(rt, temporary.as_str());
-            Err(ProgramFault::of_file(rt.alloc(), name, FileFault::System(error)))
+            Err(ProgramError::of_file(rt.alloc(), name, FileError::System(error)))
         }
     }
 }

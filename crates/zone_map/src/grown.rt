@@ -1,12 +1,12 @@
 //! Files that grew since they were indexed.
 
 use crate::files::stamp_of;
-use crate::program_faults::{FileFault, ProgramFault};
+use crate::program_errors::{FileError, ProgramError};
 use csv_records::{RecordState, state_after_line};
 use record_search::{RowDescriber, Schema, index_rows};
 use std::alloc::Global;
 use std::fs::File;
-use zone_index::{Index, SearchFault, Zone, fill_from};
+use zone_index::{Index, SearchError, Zone, fill_from};
 
 /// Where the last zone ends.
 pub fn end_of(start: u64, zones: &[Zone]) -> u64 {
@@ -26,11 +26,11 @@ pub fn grown_end(
     index: &Index,
     describer: &RowDescriber<'_>,
     file: &mut File,
-) -> Result<u64, ProgramFault> {
+) -> Result<u64, ProgramError> {
     let now = stamp_of(rt.alloc(), name, file)?;
     let end = end_of(index.start, &index.zones);
     if now.length < end {
-        return Err(ProgramFault::of_file(rt.alloc(), name, FileFault::Changed));
+        return Err(ProgramError::of_file(rt.alloc(), name, FileError::Changed));
     }
     let is_same = match index.zones.last() {
         Some(zone) => is_same_zone(rt.alloc(), describer, zone, file)?,
@@ -39,7 +39,7 @@ pub fn grown_end(
     if is_same && (now.length == end || ends_record(rt.alloc(), index, describer.schema, file)?) {
         Ok(end)
     } else {
-        Err(ProgramFault::of_file(rt.alloc(), name, FileFault::Changed))
+        Err(ProgramError::of_file(rt.alloc(), name, FileError::Changed))
     }
 }
 
@@ -49,9 +49,9 @@ fn bytes_at(
     file: &mut File,
     first: u64,
     length: u64,
-) -> Result<Vec<u8>, SearchFault> {
+) -> Result<Vec<u8>, SearchError> {
     if first > u64::MAX - length {
-        return Err(SearchFault::TooFar);
+        return Err(SearchError::TooFar);
     }
     let mut text = vec![in alloc; 0u8; length as usize]?;
     fill_from(file, first, &mut text)?;
@@ -64,12 +64,12 @@ fn is_same_zone(
     describer: &RowDescriber<'_>,
     zone: &Zone,
     file: &mut File,
-) -> Result<bool, SearchFault> {
+) -> Result<bool, SearchError> {
     let text = bytes_at(alloc, file, zone.first, zone.length)?;
     let size = zone.records.max(1);
     match index_rows(alloc, describer, size, zone.first, &mut text.as_slice()) {
         Ok(indexed) => Ok(is_only_zone(&indexed.zones, zone)),
-        Err(SearchFault::Refused(_)) => Ok(false),
+        Err(SearchError::Refused(_)) => Ok(false),
         Err(fault) => Err(fault),
     }
 }
@@ -92,7 +92,7 @@ fn ends_record(
     index: &Index,
     schema: &Schema,
     file: &mut File,
-) -> Result<bool, SearchFault> {
+) -> Result<bool, SearchError> {
     let (first, length) = match index.zones.last() {
         Some(zone) => (zone.first, zone.length),
         None => (0, index.start),

@@ -7,7 +7,7 @@ use crate::grown::{end_of, grown_end};
 use crate::loading::{Loaded, load_there};
 use crate::locating::located;
 use crate::preparing::{Prepared, prepare};
-use crate::program_faults::{FileFault, ProgramFault};
+use crate::program_errors::{FileError, ProgramError};
 use crate::setup::{Numbers, Setup};
 use crate::watching::Watched;
 use record_search::{RowDescriber, Schema, index_rows};
@@ -26,9 +26,9 @@ struct Unfinished {
 }
 
 /// Writes the index of a file.
-pub fn index_file(rt: &HostRuntime, request: &IndexRequest<'_>) -> Result<ExitCode, ProgramFault> {
+pub fn index_file(rt: &HostRuntime, request: &IndexRequest<'_>) -> Result<ExitCode, ProgramError> {
     if request.file == "-" {
-        return Err(ProgramFault::Fixed("an index is of a file, and not of standard input"));
+        return Err(ProgramError::Fixed("an index is of a file, and not of standard input"));
     }
     let mut file = open_file(rt, request.file)?;
     let unfinished = begun(rt, request, &mut file)?;
@@ -41,7 +41,7 @@ fn begun(
     rt: &HostRuntime,
     request: &IndexRequest<'_>,
     file: &mut File,
-) -> Result<Unfinished, ProgramFault> {
+) -> Result<Unfinished, ProgramError> {
     if request.appends {
         extended(rt, request.file, file)
     } else {
@@ -54,11 +54,11 @@ fn made(
     rt: &HostRuntime,
     request: &IndexRequest<'_>,
     file: &File,
-) -> Result<Unfinished, ProgramFault> {
+) -> Result<Unfinished, ProgramError> {
     let mut reader = from_place(rt.alloc(), file, 0)?;
     let prepared = prepare(rt.alloc(), &request.reading, &mut reader)?;
     if request.reading.has_header && prepared.start == 0 {
-        return Err(ProgramFault::of_file(rt.alloc(), request.file, FileFault::NoHeader));
+        return Err(ProgramError::of_file(rt.alloc(), request.file, FileError::NoHeader));
     }
     let Prepared {
         setup,
@@ -90,7 +90,7 @@ fn with_sizes(setup: Setup, request: &IndexRequest<'_>) -> Setup {
 }
 
 /// An index without zones, of a file whose header has so many bytes.
-fn without_zones(alloc: Global, setup: Setup, start: u64) -> Result<Loaded, ProgramFault> {
+fn without_zones(alloc: Global, setup: Setup, start: u64) -> Result<Loaded, ProgramError> {
     let index = Index {
         file_length: 0,
         changed: 0,
@@ -102,7 +102,7 @@ fn without_zones(alloc: Global, setup: Setup, start: u64) -> Result<Loaded, Prog
 }
 
 /// The index of a file that grew, with the zones that are full.
-fn extended(rt: &HostRuntime, name: &str, file: &mut File) -> Result<Unfinished, ProgramFault> {
+fn extended(rt: &HostRuntime, name: &str, file: &mut File) -> Result<Unfinished, ProgramError> {
     let mut loaded = load_there(rt, name)?;
     let end = grown_by(rt, name, &loaded, file)?;
     let place = open_place(&mut loaded.index, loaded.setup.numbers.zone_rows, end);
@@ -115,7 +115,7 @@ fn grown_by(
     name: &str,
     loaded: &Loaded,
     file: &mut File,
-) -> Result<u64, ProgramFault> {
+) -> Result<u64, ProgramError> {
     let schema = loaded.setup.schema(rt.alloc())?;
     let describer = RowDescriber {
         schema: &schema,
@@ -143,7 +143,7 @@ fn finish(
     name: &str,
     file: &File,
     unfinished: Unfinished,
-) -> Result<(), ProgramFault> {
+) -> Result<(), ProgramError> {
     let Unfinished { mut loaded, place } = unfinished;
     let schema = loaded.setup.schema(rt.alloc())?;
     let nulls = add_zones(rt, name, file, &schema, place, &mut loaded)?;
@@ -154,8 +154,8 @@ fn finish(
     Ok(())
 }
 
-/// Adds the zones of a file from this place on, and what the file is then. Says how many of its fields
-/// were taken as nulls.
+/// Adds the zones of a file from this place on, and what the file is then. Says how many of its
+/// fields were taken as nulls.
 fn add_zones(
     rt: &HostRuntime,
     name: &str,
@@ -163,7 +163,7 @@ fn add_zones(
     schema: &Schema,
     place: u64,
     loaded: &mut Loaded,
-) -> Result<u64, ProgramFault> {
+) -> Result<u64, ProgramError> {
     let before = stamp_of(rt.alloc(), name, file)?;
     let left = before.length.saturating_sub(place);
     let Indexed { mut zones, nulls } = zones_from(
@@ -177,7 +177,7 @@ fn add_zones(
     )?;
     let after = stamp_of(rt.alloc(), name, file)?;
     if before != after || end_of(place, &zones) != before.length {
-        return Err(ProgramFault::of_file(rt.alloc(), name, FileFault::Changing));
+        return Err(ProgramError::of_file(rt.alloc(), name, FileError::Changing));
     }
     loaded.index.zones.append(&mut zones)?;
     loaded.index.file_length = before.length;
@@ -194,7 +194,7 @@ fn zones_from(
     place: u64,
     left: u64,
     setup: &Setup,
-) -> Result<Indexed, ProgramFault> {
+) -> Result<Indexed, ProgramError> {
     let file = at_place(file, place)?;
     let mut reader = buffered(rt.alloc(), Watched::telling(file, rt.stderr(), left))?;
     let size = setup.numbers.zone_rows.max(1);

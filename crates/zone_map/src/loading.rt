@@ -3,7 +3,7 @@
 use crate::column_words::columns_text;
 use crate::commands::SearchRequest;
 use crate::files::index_name;
-use crate::program_faults::{BadFilter, FileFault, ProgramFault};
+use crate::program_errors::{BadFilter, FileError, ProgramError};
 use crate::setup::Setup;
 use filter_sql::{ParseError, parse};
 use record_search::{NAMED_COLUMNS, RowDescriber, RowFilter, RowsAlone, Schema, named_columns};
@@ -23,25 +23,25 @@ pub struct Loaded {
 }
 
 /// The index of a file that has one.
-pub fn load_there(rt: &HostRuntime, file: &str) -> Result<Loaded, ProgramFault> {
+pub fn load_there(rt: &HostRuntime, file: &str) -> Result<Loaded, ProgramError> {
     let name = index_name(rt.alloc(), file)?;
     match bytes_of(rt, &name)? {
         Some(bytes) => loaded_in(rt.alloc(), &name, &bytes),
-        None => Err(ProgramFault::of_file(rt.alloc(), file, FileFault::NoIndex)),
+        None => Err(ProgramError::of_file(rt.alloc(), file, FileError::NoIndex)),
     }
 }
 
 /// The bytes of a file, if it is there.
-fn bytes_of(rt: &HostRuntime, name: &str) -> Result<Option<Vec<u8>>, ProgramFault> {
+fn bytes_of(rt: &HostRuntime, name: &str) -> Result<Option<Vec<u8>>, ProgramError> {
     match fs::read(rt, name) {
         Ok(bytes) => Ok(Some(bytes)),
         Err(error) if error.kind() == ErrorKind::NotFound => Ok(None),
-        Err(error) => Err(ProgramFault::of_file(rt.alloc(), name, FileFault::System(error))),
+        Err(error) => Err(ProgramError::of_file(rt.alloc(), name, FileError::System(error))),
     }
 }
 
 /// The index that these bytes are, which a file of this name has.
-fn loaded_in(alloc: Global, name: &str, bytes: &[u8]) -> Result<Loaded, ProgramFault> {
+fn loaded_in(alloc: Global, name: &str, bytes: &[u8]) -> Result<Loaded, ProgramError> {
     let (root, blocks) = root_in(alloc, name, bytes)?;
     let setup = setup_of(alloc, name, &root)?;
     let index = index_in(alloc, name, root, blocks, &[])?;
@@ -53,7 +53,7 @@ fn root_in<'a>(
     alloc: Global,
     name: &str,
     bytes: &'a [u8],
-) -> Result<(Root, &'a [u8]), ProgramFault> {
+) -> Result<(Root, &'a [u8]), ProgramError> {
     match read_root(alloc, bytes) {
         Ok(read) => Ok(read),
         Err(error) => Err(bad_index(alloc, name, error)),
@@ -67,7 +67,7 @@ fn index_in(
     root: Root,
     blocks: &[u8],
     wanted: &[bool],
-) -> Result<Index, ProgramFault> {
+) -> Result<Index, ProgramError> {
     match read_blocks(root, blocks, wanted, &RowsAlone) {
         Ok(index) => Ok(index),
         Err(error) => Err(bad_index(alloc, name, error)),
@@ -75,19 +75,19 @@ fn index_in(
 }
 
 /// The fault of an index that was not read.
-fn bad_index(alloc: Global, name: &str, error: ReadError) -> ProgramFault {
+fn bad_index(alloc: Global, name: &str, error: ReadError) -> ProgramError {
     match error {
-        ReadError::Memory => ProgramFault::from(AllocError),
-        ReadError::Fault(fault) => ProgramFault::of_file(alloc, name, FileFault::BadIndex(fault)),
+        ReadError::Memory => ProgramError::from(AllocError),
+        ReadError::Fault(fault) => ProgramError::of_file(alloc, name, FileError::BadIndex(fault)),
     }
 }
 
 /// What an index keeps beside its zones, if this program wrote that.
-fn setup_of(alloc: Global, name: &str, root: &Root) -> Result<Setup, ProgramFault> {
+fn setup_of(alloc: Global, name: &str, root: &Root) -> Result<Setup, ProgramError> {
     match Setup::from_text(alloc, &root.index.setup) {
         Ok(Some(setup)) => Ok(setup),
-        Ok(None) => Err(ProgramFault::of_file(alloc, name, FileFault::OtherIndex)),
-        Err(error) => Err(ProgramFault::from(error)),
+        Ok(None) => Err(ProgramError::of_file(alloc, name, FileError::OtherIndex)),
+        Err(error) => Err(ProgramError::from(error)),
     }
 }
 
@@ -107,7 +107,7 @@ pub struct Searched {
 pub fn load(
     rt: &HostRuntime,
     request: &SearchRequest<'_>,
-) -> Result<Option<Searched>, ProgramFault> {
+) -> Result<Option<Searched>, ProgramError> {
     let name = index_name(rt.alloc(), request.file)?;
     match bytes_of(rt, &name)? {
         Some(bytes) => {
@@ -124,7 +124,7 @@ fn searched_in(
     request: &SearchRequest<'_>,
     name: &str,
     bytes: &[u8],
-) -> Result<Searched, ProgramFault> {
+) -> Result<Searched, ProgramError> {
     let (root, blocks) = root_in(alloc, name, bytes)?;
     match sought_by(alloc, request, name, &root) {
         Ok(sought) => searched_by(alloc, request, name, root, blocks, sought),
@@ -141,7 +141,7 @@ fn sought_by(
     request: &SearchRequest<'_>,
     name: &str,
     root: &Root,
-) -> Result<Sought, ProgramFault> {
+) -> Result<Sought, ProgramError> {
     let setup = setup_of(alloc, name, root)?;
     Sought::from_text(alloc, setup, request.filter)
 }
@@ -154,7 +154,7 @@ fn searched_by(
     root: Root,
     blocks: &[u8],
     sought: Sought,
-) -> Result<Searched, ProgramFault> {
+) -> Result<Searched, ProgramError> {
     let wanted = columns_wanted(request, &sought.filter);
     match index_in(alloc, name, root, blocks, &wanted) {
         Ok(index) => Ok(Searched { index, sought }),
@@ -187,7 +187,7 @@ pub struct Sought {
 
 impl Sought {
     /// The filter that a text is over the columns of a setup.
-    pub fn from_text(alloc: Global, setup: Setup, text: &str) -> Result<Sought, ProgramFault> {
+    pub fn from_text(alloc: Global, setup: Setup, text: &str) -> Result<Sought, ProgramError> {
         match filter_in(alloc, &setup, text) {
             Ok(filter) => Sought::of_filter(alloc, setup, filter),
             Err(fault) => {
@@ -198,7 +198,7 @@ impl Sought {
     }
 
     /// This filter over the columns of a setup.
-    fn of_filter(alloc: Global, setup: Setup, filter: Filter) -> Result<Sought, ProgramFault> {
+    fn of_filter(alloc: Global, setup: Setup, filter: Filter) -> Result<Sought, ProgramError> {
         match setup.schema(alloc) {
             Ok(schema) => Ok(Sought {
                 setup,
@@ -230,7 +230,7 @@ impl Sought {
 }
 
 /// The filter that a text is over the columns of a setup.
-fn filter_in(alloc: Global, setup: &Setup, text: &str) -> Result<Filter, ProgramFault> {
+fn filter_in(alloc: Global, setup: &Setup, text: &str) -> Result<Filter, ProgramError> {
     let columns = setup.filter_columns(alloc)?;
     match parse(alloc, text, &columns) {
         Ok(filter) => Ok(filter),
@@ -239,7 +239,7 @@ fn filter_in(alloc: Global, setup: &Setup, text: &str) -> Result<Filter, Program
 }
 
 /// The fault of a filter over the columns of a setup.
-fn filter_fault(alloc: Global, setup: &Setup, text: &str, error: ParseError) -> ProgramFault {
+fn filter_fault(alloc: Global, setup: &Setup, text: &str, error: ParseError) -> ProgramError {
     match columns_text(alloc, &setup.columns) {
         Ok(columns) => {
             let bad = BadFilter {
@@ -247,8 +247,8 @@ fn filter_fault(alloc: Global, setup: &Setup, text: &str, error: ParseError) -> 
                 columns: &columns,
                 error,
             };
-            ProgramFault::made(format!(in alloc; "{bad}"))
+            ProgramError::made(format!(in alloc; "{bad}"))
         }
-        Err(error) => ProgramFault::from(error),
+        Err(error) => ProgramError::from(error),
     }
 }

@@ -1,32 +1,32 @@
 //! Where a record stands that has no row.
 
 use crate::column_words::NamedColumn;
-use crate::program_faults::{BadRecord, ProgramFault, RecordPlace, search_fault_text};
+use crate::program_errors::{BadRecord, ProgramError, RecordPlace, search_fault_text};
 use std::fs::File;
 use std::io::{self, Read};
-use zone_index::SearchFault;
+use zone_index::SearchError;
 
 /// How many bytes are read at a time.
 const PIECE: usize = 65536;
 
-/// The fault of a search in a file, or in standard input without a file's name. Of a record it tells
-/// the line in the file, and the column.
+/// The fault of a search in a file, or in standard input without a file's name. Of a record it
+/// tells the line in the file, and the column.
 pub fn located(
     rt: &HostRuntime,
     file: Option<&str>,
     columns: &[NamedColumn],
-    fault: &SearchFault,
-) -> ProgramFault {
+    fault: &SearchError,
+) -> ProgramError {
     match fault {
-        SearchFault::Refused(refusal) => {
+        SearchError::Refused(refusal) => {
             let bad = BadRecord {
                 place: record_place(rt, file, refusal.place),
                 columns,
                 cause: &refusal.cause,
             };
-            ProgramFault::made(format!(in rt.alloc(); "{bad}"))
+            ProgramError::made(format!(in rt.alloc(); "{bad}"))
         }
-        _ => ProgramFault::Fixed(search_fault_text(fault)),
+        _ => ProgramError::Fixed(search_fault_text(fault)),
     }
 }
 

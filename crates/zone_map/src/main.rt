@@ -13,7 +13,7 @@ mod indexing;
 mod loading;
 mod locating;
 mod preparing;
-mod program_faults;
+mod program_errors;
 mod searching;
 mod setup;
 mod showing;
@@ -21,7 +21,7 @@ mod streams;
 mod watching;
 
 pub use commands::{Asked, asked_in};
-pub use program_faults::ProgramFault;
+pub use program_errors::ProgramError;
 use std::process::ExitCode;
 use std::{env, io};
 

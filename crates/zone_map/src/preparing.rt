@@ -3,12 +3,12 @@
 use crate::column_words::{NamedColumn, columns_in};
 use crate::commands::Reading;
 use crate::guessing::guess_columns;
-use crate::program_faults::ProgramFault;
+use crate::program_errors::ProgramError;
 use crate::setup::{Numbers, Setup, delimiter_in};
 use csv_records::Delimiter;
 use std::alloc::Global;
 use std::io::BufRead;
-use zone_index::{SearchFault, take_records};
+use zone_index::{SearchError, take_records};
 
 /// How many records columns are guessed from.
 const GUESSED_FROM: u64 = 1000;
@@ -29,7 +29,7 @@ pub fn prepare<B: BufRead>(
     alloc: Global,
     reading: &Reading<'_>,
     reader: &mut B,
-) -> Result<Prepared, ProgramFault> {
+) -> Result<Prepared, ProgramError> {
     let delimiter = delimiter_in(reading.delimiter)?;
     let header = first_records(alloc, delimiter, u64::from(reading.has_header), reader)?;
     let guessed_from = if reading.columns.is_none() {
@@ -58,7 +58,7 @@ fn first_records<B: BufRead>(
     delimiter: Delimiter,
     count: u64,
     reader: &mut B,
-) -> Result<Vec<u8>, SearchFault> {
+) -> Result<Vec<u8>, SearchError> {
     let mut text = Vec::new(alloc);
     if count > 0 {
         take_records(delimiter, count, &mut text, reader)?;
@@ -73,7 +73,7 @@ fn columns_of(
     delimiter: Delimiter,
     header: &[u8],
     first: &[u8],
-) -> Result<Vec<NamedColumn>, ProgramFault> {
+) -> Result<Vec<NamedColumn>, ProgramError> {
     match reading.columns {
         Some(text) => columns_in(alloc, text),
         None => Ok(guess_columns(alloc, delimiter, header, first)?),

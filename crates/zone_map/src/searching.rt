@@ -6,27 +6,27 @@ use crate::files::{Stamp, buffered, open_file, stamp_of};
 use crate::grown::grown_end;
 use crate::loading::{Searched, load};
 use crate::locating::located;
-use crate::program_faults::{FileFault, ProgramFault};
+use crate::program_errors::{FileError, ProgramError};
 use crate::streams::{flushed, output, search_stream};
 use crate::watching::Watched;
 use std::alloc::Global;
 use std::fs::File;
 use std::io::Read;
 use std::process::ExitCode;
-use zone_index::{Asked, Logged, NumberedSink, PlainSink, SearchFault, Sink, Tally};
+use zone_index::{Asked, Logged, NumberedSink, PlainSink, SearchError, Sink, Tally};
 
 /// The status if no row was found.
 const NONE_FOUND: u8 = 1;
 
 /// Writes the rows that match, or how many there are.
-pub fn search(rt: &HostRuntime, request: &SearchRequest<'_>) -> Result<ExitCode, ProgramFault> {
+pub fn search(rt: &HostRuntime, request: &SearchRequest<'_>) -> Result<ExitCode, ProgramError> {
     let found = if request.file == "-" {
         search_whole(rt, request, None, rt.stdin())?
     } else {
         search_file(rt, request)?
     };
     if request.wanted == Wanted::Count && rt.println(found).is_err() {
-        return Err(ProgramFault::from(SearchFault::Write));
+        return Err(ProgramError::from(SearchError::Write));
     }
     Ok(status(found))
 }
@@ -41,7 +41,7 @@ fn status(found: u64) -> ExitCode {
 }
 
 /// Searches a file by its index, or whole if it has none.
-fn search_file(rt: &HostRuntime, request: &SearchRequest<'_>) -> Result<u64, ProgramFault> {
+fn search_file(rt: &HostRuntime, request: &SearchRequest<'_>) -> Result<u64, ProgramError> {
     if request.is_whole || request.reading.is_said() {
         let file = open_file(rt, request.file)?;
         return search_whole(rt, request, Some(request.file), file);
@@ -73,7 +73,7 @@ fn search_whole<R: Read + Drop>(
     request: &SearchRequest<'_>,
     file: Option<&str>,
     source: R,
-) -> Result<u64, ProgramFault> {
+) -> Result<u64, ProgramError> {
     let mut reader = buffered(rt.alloc(), Watched::silent(source))?;
     let found = search_stream(rt, request, file, &mut reader)?;
     if request.tells {
@@ -88,7 +88,7 @@ fn search_indexed(
     rt: &HostRuntime,
     request: &SearchRequest<'_>,
     searched: &Searched,
-) -> Result<u64, ProgramFault> {
+) -> Result<u64, ProgramError> {
     let mut file = open_file(rt, request.file)?;
     let before = stamp_of(rt.alloc(), request.file, &file)?;
     let rest = rest_of(rt, request, searched, before, &mut file)?;
@@ -119,7 +119,7 @@ fn answer_indexed(
     searched: &Searched,
     rest: Option<u64>,
     reader: &mut Logged<File>,
-) -> Result<Found, SearchFault> {
+) -> Result<Found, SearchError> {
     let alloc = rt.alloc();
     match wanted {
         Wanted::Rows => write_found(
@@ -149,7 +149,7 @@ fn write_found<S: Sink + Drop>(
     rest: Option<u64>,
     reader: &mut Logged<File>,
     mut sink: S,
-) -> Result<Found, SearchFault> {
+) -> Result<Found, SearchError> {
     let Searched { index, sought } = searched;
     let found = find_indexed(alloc, index, sought, rest, reader, &mut sink);
     flushed(found, sink.flush())
@@ -213,7 +213,7 @@ fn rest_of(
     searched: &Searched,
     now: Stamp,
     file: &mut File,
-) -> Result<Option<u64>, ProgramFault> {
+) -> Result<Option<u64>, ProgramError> {
     let Searched { index, sought } = searched;
     let then = Stamp {
         length: index.file_length,
@@ -223,7 +223,7 @@ fn rest_of(
         return Ok(None);
     }
     if !request.may_have_grown {
-        return Err(ProgramFault::of_file(rt.alloc(), request.file, FileFault::Changed));
+        return Err(ProgramError::of_file(rt.alloc(), request.file, FileError::Changed));
     }
     let end = grown_end(rt, request.file, index, &sought.describer(), file)?;
     Ok(if end < now.length { Some(end) } else { None })
@@ -235,11 +235,11 @@ fn stays(
     request: &SearchRequest<'_>,
     before: Stamp,
     file: &File,
-) -> Result<(), ProgramFault> {
+) -> Result<(), ProgramError> {
     let after = stamp_of(rt.alloc(), request.file, file)?;
     if before == after || (request.may_have_grown && before.length <= after.length) {
         Ok(())
     } else {
-        Err(ProgramFault::of_file(rt.alloc(), request.file, FileFault::Changing))
+        Err(ProgramError::of_file(rt.alloc(), request.file, FileError::Changing))
     }
 }

@@ -1,7 +1,7 @@
 //! How a file is read, in words and in the bytes of its index.
 
 use crate::column_words::{NamedColumn, column_of, is_name, push_kind};
-use crate::program_faults::ProgramFault;
+use crate::program_errors::ProgramError;
 use csv_records::Delimiter;
 use filter_sql::Column;
 use record_rows::ColumnType;
@@ -70,9 +70,9 @@ impl Setup {
     }
 
     /// The schema.
-    pub fn schema(&self, alloc: Global) -> Result<Schema, ProgramFault> {
+    pub fn schema(&self, alloc: Global) -> Result<Schema, ProgramError> {
         let Some(delimiter) = Delimiter::new(self.numbers.delimiter) else {
-            return Err(ProgramFault::Fixed(DELIMITERS));
+            return Err(ProgramError::Fixed(DELIMITERS));
         };
         let mut columns = Vec::new(alloc);
         for named in &self.columns {
@@ -147,15 +147,15 @@ fn column_of_line(line: &str) -> Option<(ColumnType, &str)> {
 }
 
 /// The delimiter that a word says: one byte, `tab`, or `none`. Without a word it is a comma.
-pub fn delimiter_in(word: Option<&str>) -> Result<Delimiter, ProgramFault> {
+pub fn delimiter_in(word: Option<&str>) -> Result<Delimiter, ProgramError> {
     let byte = match word.unwrap_or(",").as_bytes() {
         [byte] => *byte,
         b"tab" => b'\t',
         b"none" => NO_DELIMITER,
-        _ => return Err(ProgramFault::Fixed(DELIMITERS)),
+        _ => return Err(ProgramError::Fixed(DELIMITERS)),
     };
     match Delimiter::new(byte) {
         Some(delimiter) => Ok(delimiter),
-        None => Err(ProgramFault::Fixed(DELIMITERS)),
+        None => Err(ProgramError::Fixed(DELIMITERS)),
     }
 }

@@ -2,7 +2,7 @@
 
 use crate::column_words::{NamedColumn, columns_text};
 use crate::loading::{Loaded, load_there};
-use crate::program_faults::ProgramFault;
+use crate::program_errors::ProgramError;
 use crate::streams::{flushed, output};
 use record_rows::ColumnType;
 use record_search::read_statistics;
@@ -11,16 +11,16 @@ use std::fmt::Write as WriteText;
 use std::io::Write;
 use std::process::ExitCode;
 use vortex_statistics::{Bound, ColumnStatistics};
-use zone_index::{SearchFault, Zone};
+use zone_index::{SearchError, Zone};
 
-/// Writes what an index is of, and each zone: its place, its bytes, records and rows, and the bounds
-/// of its columns.
-pub fn show(rt: &HostRuntime, file: &str) -> Result<ExitCode, ProgramFault> {
+/// Writes what an index is of, and each zone: its place, its bytes, records and rows, and the
+/// bounds of its columns.
+pub fn show(rt: &HostRuntime, file: &str) -> Result<ExitCode, ProgramError> {
     let loaded = load_there(rt, file)?;
     let schema = loaded.setup.schema(rt.alloc())?;
     let mut writer = output(rt)?;
     let done = show_zones(rt.alloc(), &loaded, &schema.columns, &mut writer);
-    flushed(done, writer.flush().map_err(|_| SearchFault::Write))?;
+    flushed(done, writer.flush().map_err(|_| SearchError::Write))?;
     Ok(ExitCode::SUCCESS)
 }
 
@@ -30,7 +30,7 @@ fn show_zones<W: Write>(
     loaded: &Loaded,
     types: &[ColumnType],
     writer: &mut W,
-) -> Result<(), SearchFault> {
+) -> Result<(), SearchError> {
     write_text(&heading(alloc, loaded)?, writer)?;
     for (place, zone) in loaded.index.zones.iter().enumerate() {
         let number = place.saturating_add(1);
@@ -43,10 +43,10 @@ fn show_zones<W: Write>(
 }
 
 /// Writes a text.
-fn write_text<W: Write>(text: &str, writer: &mut W) -> Result<(), SearchFault> {
+fn write_text<W: Write>(text: &str, writer: &mut W) -> Result<(), SearchError> {
     match writer.write_all(text.as_bytes()) {
         Ok(()) => Ok(()),
-        Err(_) => Err(SearchFault::Write),
+        Err(_) => Err(SearchError::Write),
     }
 }
 

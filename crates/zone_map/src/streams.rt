@@ -6,13 +6,13 @@ use crate::commands::{SearchRequest, Wanted};
 use crate::loading::Sought;
 use crate::locating::located;
 use crate::preparing::{Prepared, prepare};
-use crate::program_faults::ProgramFault;
+use crate::program_errors::ProgramError;
 use crate::setup::{NO_DELIMITER, Numbers, Setup};
 use record_rows::{ColumnType, Kind};
 use std::alloc::Global;
 use std::io::{BufRead, BufWriter, Read, Stdout};
 use vortex_dtype::Nullability;
-use zone_index::{NumberedSink, PlainSink, SearchFault, Sink};
+use zone_index::{NumberedSink, PlainSink, SearchError, Sink};
 
 /// Answers a search of a whole stream, and says how many rows match.
 pub fn search_stream<B: BufRead>(
@@ -20,7 +20,7 @@ pub fn search_stream<B: BufRead>(
     request: &SearchRequest<'_>,
     file: Option<&str>,
     reader: &mut B,
-) -> Result<u64, ProgramFault> {
+) -> Result<u64, ProgramError> {
     let Prepared {
         setup,
         start,
@@ -34,14 +34,15 @@ pub fn search_stream<B: BufRead>(
     }
 }
 
-/// Answers a search of all that a stream has left, on standard output. The header has so many bytes.
+/// Answers a search of all that a stream has left, on standard output. The header has so many
+/// bytes.
 fn answer_stream<B: BufRead>(
     rt: &HostRuntime,
     wanted: Wanted,
     sought: &Sought,
     start: u64,
     reader: &mut B,
-) -> Result<u64, SearchFault> {
+) -> Result<u64, SearchError> {
     let alloc = rt.alloc();
     match wanted {
         Wanted::Rows => write_stream(
@@ -71,7 +72,7 @@ fn write_stream<B: BufRead, S: Sink + Drop>(
     start: u64,
     reader: &mut B,
     mut sink: S,
-) -> Result<u64, SearchFault> {
+) -> Result<u64, SearchError> {
     let found = find_stream(
         alloc,
         first_row(start),
@@ -88,7 +89,7 @@ fn sought_in(
     rt: &HostRuntime,
     request: &SearchRequest<'_>,
     setup: Setup,
-) -> Result<Sought, ProgramFault> {
+) -> Result<Sought, ProgramError> {
     match Sought::from_text(rt.alloc(), setup, request.filter) {
         Ok(sought) => {
             tell_columns(rt, request, &sought.setup);
@@ -113,7 +114,7 @@ fn sought_in(
 }
 
 /// What is sought in whole lines.
-fn sought_in_lines(alloc: Global, filter: &str) -> Result<Sought, ProgramFault> {
+fn sought_in_lines(alloc: Global, filter: &str) -> Result<Sought, ProgramError> {
     let lines = lines_setup(alloc)?;
     Sought::from_text(alloc, lines, filter)
 }
@@ -128,7 +129,7 @@ fn tell_columns(rt: &HostRuntime, request: &SearchRequest<'_>, setup: &Setup) {
 }
 
 /// Whole lines as one column.
-fn lines_setup(alloc: Global) -> Result<Setup, ProgramFault> {
+fn lines_setup(alloc: Global) -> Result<Setup, ProgramError> {
     let line = NamedColumn {
         name: String::from_str(alloc, "line")?,
         column: ColumnType {
@@ -147,18 +148,18 @@ fn lines_setup(alloc: Global) -> Result<Setup, ProgramFault> {
 }
 
 /// Standard output, through a buffer.
-pub fn output(rt: &HostRuntime) -> Result<BufWriter<Stdout>, SearchFault> {
+pub fn output(rt: &HostRuntime) -> Result<BufWriter<Stdout>, SearchError> {
     match BufWriter::new(rt.alloc(), rt.stdout()) {
         Ok(writer) => Ok(writer),
-        Err(_) => Err(SearchFault::Memory),
+        Err(_) => Err(SearchError::Memory),
     }
 }
 
 /// What was done, once the output is flushed, which is flushed after a fault, too.
 pub fn flushed<T: Drop>(
-    done: Result<T, SearchFault>,
-    flush: Result<(), SearchFault>,
-) -> Result<T, SearchFault> {
+    done: Result<T, SearchError>,
+    flush: Result<(), SearchError>,
+) -> Result<T, SearchError> {
     match flush {
         Ok(()) => done,
         Err(fault) => {

@@ -62,7 +62,7 @@ fn write_refusal(out: &mut Output, refusal: RowError) {
     match refusal {
         RowError::OutOfMemory => out.word("OutOfMemory"),
         RowError::HasVariant => out.word("HasVariant"),
-        RowError::BadKey { place } => {
+        RowError::BadKey { offset: place } => {
             out.word("BadKey");
             write_count(out, place);
         }

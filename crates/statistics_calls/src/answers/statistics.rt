@@ -79,7 +79,7 @@ fn write_refusal(out: &mut Output, refusal: StatisticsError) {
         StatisticsError::OutOfMemory => out.word("OutOfMemory"),
         StatisticsError::TooManyRows => out.word("TooManyRows"),
         StatisticsError::HasVariant => out.word("HasVariant"),
-        StatisticsError::BadBytes { place } => {
+        StatisticsError::BadBytes { offset: place } => {
             out.word("BadBytes");
             write_count(out, place);
         }

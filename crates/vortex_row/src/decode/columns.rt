@@ -57,7 +57,7 @@ fn read_column(
     match answer {
         Ok(()) => Ok(taken),
         Err(Fault::NoMemory) => Err(RowError::OutOfMemory),
-        Err(Fault::Bad) => Err(RowError::BadKey { place: taken }),
+        Err(Fault::Bad) => Err(RowError::BadKey { offset: taken }),
     }
 }
 
@@ -166,7 +166,9 @@ fn decode_at(
 {
     match decode_column(alloc, dtype, options, bytes_from(bytes, place)) {
         Ok((scalar, taken)) => Ok((scalar, place + taken)),
-        Err(RowError::BadKey { place: bad }) => Err(RowError::BadKey { place: place + bad }),
+        Err(RowError::BadKey { offset: bad }) => Err(RowError::BadKey {
+            offset: place + bad,
+        }),
         Err(error) => Err(error),
     }
 }

@@ -2,7 +2,7 @@ use Rattle.std.proofs.Common.{[], ◌≡◌, ◌<◌, ◌≤◌, arith, ℕ, ℤ
 use Rattle.std.proofs.lemmas.Int.{ints}
 use Rattle.std.specs.Int.{w128}
 use Rattle.arrow_columns.specs.Integers.{IsOfKind, integer_of}
-use Rattle.arrow_columns.proofs.RoomSteps.{all_within, both_passed, on_true}
+use Rattle.arrow_columns.proofs.BufferSteps.{all_within, both_passed, on_true}
 use Rattle.arrow_columns.proofs.casts.all_fit.Goals as goal
 use mir.Val.{of_z, to_z}
 

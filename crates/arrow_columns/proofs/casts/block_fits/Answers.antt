@@ -4,7 +4,7 @@ use Rattle.std.proofs.lemmas.List.{get_or_read}
 use Rattle.std.specs.Int.{w128}
 use Rattle.arrow_columns.specs.Integers.{IsOfKind, integer_of}
 use Rattle.arrow_columns.proofs.CellLists.{through_number}
-use Rattle.arrow_columns.proofs.RoomSteps.{both_passed, on_true}
+use Rattle.arrow_columns.proofs.BufferSteps.{both_passed, on_true}
 use Rattle.arrow_columns.proofs.casts.block_fits.Goals as goal
 use mir.Val.{of_z, to_z}
 

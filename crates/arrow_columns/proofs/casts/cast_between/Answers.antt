@@ -7,7 +7,7 @@ use Rattle.arrow_columns.specs.Columns.{end_of}
 use Rattle.arrow_columns.specs.Integers.{integer_of, item_at}
 use Rattle.arrow_columns.proofs.BufferItems.{item_is}
 use Rattle.arrow_columns.proofs.CellLists.{values_alike}
-use Rattle.arrow_columns.proofs.RoomSteps.{cast_given, first_without_given, front_given}
+use Rattle.arrow_columns.proofs.BufferSteps.{cast_given, first_without_given, front_given}
 use Rattle.arrow_columns.proofs.casts.cast_between.Goals as goal
 
 pub write_by-requires : goal.write_by-requires
@@ -24,7 +24,7 @@ write_by-requires g c =
             omega arith,
             (
               omega (arith, within, c.as_chunks.ensures.front_len),
-              (c.requires.rows.1, subst (λ k. k * g.row.M ≤ length c.args.room.now) count c.requires.room),
+              (c.requires.rows.1, subst (λ k. k * g.row.M ≤ length c.args.buffer.now) count c.requires.buffer),
             ),
           ),
         ),
@@ -62,8 +62,8 @@ returns-in-Some-clause-front g c =
     (λ k l. ap (integer_of g.T.Integer.kind) (item_is g.row.N n column.values.now items k c.as_chunks.ensures.front l)) in
     let found = c.in-Some.ensures.found in
     let m : ℕ = c.in-Some.i - column.offset in
-    λ once. subst (λ cells. (row : ℕ) (cell : Option ℤ) → slice_get (take m cells) row ≡ Some cell → integer_of g.U.Integer.kind (item_at g.row.M c.write_by.new.room row) ≡ unwrap_or cell (pos 0)) alike
-    (front_given (cell_at column.validity.now F) column.offset count m (λ k. integer_of g.U.Integer.kind (item_at g.row.M c.write_by.new.room k)) (omega (arith, found.0, found.1)) (c.in-Some.ensures.front once))
+    λ once. subst (λ cells. (row : ℕ) (cell : Option ℤ) → slice_get (take m cells) row ≡ Some cell → integer_of g.U.Integer.kind (item_at g.row.M c.write_by.new.buffer row) ≡ unwrap_or cell (pos 0)) alike
+    (front_given (cell_at column.validity.now F) column.offset count m (λ k. integer_of g.U.Integer.kind (item_at g.row.M c.write_by.new.buffer k)) (omega (arith, found.0, found.1)) (c.in-Some.ensures.front once))
 
 pub returns-in-None-clause-cast : goal.returns-in-None-clause-cast
 returns-in-None-clause-cast g c =
@@ -77,5 +77,5 @@ returns-in-None-clause-cast g c =
     let alike : map (cell_at column.validity.now F) (range_with_len column.offset count) ≡ map (cell_at column.validity.now G) (range_with_len column.offset column.length) =
     values_alike column.validity.now F G column.offset count column.length n (omega arith) (omega (arith, within))
     (λ k l. ap (integer_of g.T.Integer.kind) (item_is g.row.N n column.values.now items k c.as_chunks.ensures.front l)) in
-    subst (λ cells. (row : ℕ) (cell : Option ℤ) → slice_get cells row ≡ Some cell → integer_of g.U.Integer.kind (item_at g.row.M c.write_by.new.room row) ≡ unwrap_or cell (pos 0)) alike
-    (cast_given (cell_at column.validity.now F) column.offset count (λ k. integer_of g.U.Integer.kind (item_at g.row.M c.write_by.new.room k)) c.in-None.ensures.written)
+    subst (λ cells. (row : ℕ) (cell : Option ℤ) → slice_get cells row ≡ Some cell → integer_of g.U.Integer.kind (item_at g.row.M c.write_by.new.buffer row) ≡ unwrap_or cell (pos 0)) alike
+    (cast_given (cell_at column.validity.now F) column.offset count (λ k. integer_of g.U.Integer.kind (item_at g.row.M c.write_by.new.buffer k)) c.in-None.ensures.written)

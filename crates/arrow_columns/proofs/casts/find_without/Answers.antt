@@ -6,7 +6,7 @@ use Rattle.std.specs.Option.{IfSome}
 use Rattle.arrow_columns.specs.Cells.{cell_at}
 use Rattle.arrow_columns.specs.Integers.{IsOfKind, integer_of}
 use Rattle.arrow_columns.proofs.CellLists.{null_cell, through_number, valid_cell}
-use Rattle.arrow_columns.proofs.RoomSteps.{passed}
+use Rattle.arrow_columns.proofs.BufferSteps.{passed}
 use Rattle.arrow_columns.proofs.RowSteps.{at_null, at_value}
 use Rattle.arrow_columns.proofs.casts.find_without.Goals as goal
 use Rattle.arrow_columns.proofs.casts.find_without.Goals.{else-is_row_valid-via-else-is_row_valid, else-is_row_valid-via-then-is_row_valid+else-not-fits}

@@ -5,7 +5,7 @@ use Rattle.std.proofs.lemmas.List.{get_or_read}
 use Rattle.std.specs.Int.{w128}
 use Rattle.arrow_columns.specs.Integers.{IsOfKind, integer_of, item_at}
 use Rattle.arrow_columns.proofs.CellLists.{through_number}
-use Rattle.arrow_columns.proofs.RoomSteps.{alike_further}
+use Rattle.arrow_columns.proofs.BufferSteps.{alike_further}
 use Rattle.arrow_columns.proofs.casts.write_block.Goals as goal
 use mir.Val.{of_z, to_z}
 
@@ -32,8 +32,8 @@ loop-k-preserved g c =
     let within : k < c.loop-j.j = omega arith in
     let further : (at + 1) * M ≤ (start + 16 - from) * M = mul-le-mul_right M (omega arith) in
     record {
-      written = λ n l. below_more (λ n. number (item_at M c.put.new.room n) ≡ V (from + n)) at
+      written = λ n l. below_more (λ n. number (item_at M c.put.new.buffer n) ≡ V (from + n)) at
           (λ j b. ap number (c.put.ensures.before j b) ∙ c.loop-k.invariant.written j (omega arith))
           (ap number c.put.ensures.here ∙ c.loop-j.invariant.read k within ∙ ap V place) n (omega arith);
-      rest = alike_further ((at + 1) * M) ((start + 16 - from) * M) c.put.new.room c.loop-k.room further c.put.ensures.after ∙ c.loop-k.invariant.rest;
+      rest = alike_further ((at + 1) * M) ((start + 16 - from) * M) c.put.new.buffer c.loop-k.buffer further c.put.ensures.after ∙ c.loop-k.invariant.rest;
     }

@@ -11,6 +11,6 @@ invariant-loop-j g l = record {
 
 abbrev pub invariant-loop-k : goal.invariant-loop-k
 invariant-loop-k g l = record {
-  written : AreWritten g.U.Integer.kind g.row.M (cell_of_item g.T.Integer.kind [] l.span.items.now) l.span.from (l.start + l.k) l.room;
-  rest : drop ((l.start + 16 - l.span.from) * g.row.M) l.room ≡ drop ((l.start + 16 - l.span.from) * g.row.M) l.initial.room;
+  written : AreWritten g.U.Integer.kind g.row.M (cell_of_item g.T.Integer.kind [] l.span.items.now) l.span.from (l.start + l.k) l.buffer;
+  rest : drop ((l.start + 16 - l.span.from) * g.row.M) l.buffer ≡ drop ((l.start + 16 - l.span.from) * g.row.M) l.initial.buffer;
 }

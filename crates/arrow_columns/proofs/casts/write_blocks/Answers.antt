@@ -4,7 +4,7 @@ use Rattle.std.specs.Option.{IfSome}
 use Rattle.arrow_columns.specs.Casts.{AreWritten}
 use Rattle.arrow_columns.specs.Cells.{cell_at}
 use Rattle.arrow_columns.specs.Integers.{IsOfKind, integer_of}
-use Rattle.arrow_columns.proofs.RoomSteps.{alike_further, more_rows}
+use Rattle.arrow_columns.proofs.BufferSteps.{alike_further, more_rows}
 use Rattle.arrow_columns.proofs.casts.write_blocks.Goals as goal
 
 pub loop-b-preserved : goal.loop-b-preserved
@@ -20,7 +20,7 @@ loop-b-preserved g c =
     record {
       fit = subst (λ (e : ℕ). (k : ℕ) → k < e → from ≤ k → IfSome (C k) (IsOfKind g.U.Integer.kind)) next
           (more_rows (λ k. IfSome (C k) (IsOfKind g.U.Integer.kind)) from start 16 c.loop-b.invariant.fit c.if-not-block_fits.ensures);
-      written = subst (λ (e : ℕ). AreWritten g.U.Integer.kind M C from e c.write_block.new.room) next c.write_block.ensures.written;
-      rest = subst (λ (n : ℕ). drop (n * M) c.write_block.new.room ≡ drop (n * M) c.loop-b.room) count c.write_block.ensures.rest
-          ∙ alike_further (16 * c.loop-b.b * M) (16 * (c.loop-b.b + 1) * M) c.loop-b.room c.args.room.now far c.loop-b.invariant.rest;
+      written = subst (λ (e : ℕ). AreWritten g.U.Integer.kind M C from e c.write_block.new.buffer) next c.write_block.ensures.written;
+      rest = subst (λ (n : ℕ). drop (n * M) c.write_block.new.buffer ≡ drop (n * M) c.loop-b.buffer) count c.write_block.ensures.rest
+          ∙ alike_further (16 * c.loop-b.b * M) (16 * (c.loop-b.b + 1) * M) c.loop-b.buffer c.args.buffer.now far c.loop-b.invariant.rest;
     }

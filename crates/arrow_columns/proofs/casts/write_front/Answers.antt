@@ -3,7 +3,7 @@ use Rattle.std.proofs.Math.Nat.{mul-le-mul_right}
 use Rattle.arrow_columns.specs.Casts.{AllFit}
 use Rattle.arrow_columns.specs.Cells.{cell_at}
 use Rattle.arrow_columns.specs.Integers.{integer_of}
-use Rattle.arrow_columns.proofs.RoomSteps.{fit_before, stop_within}
+use Rattle.arrow_columns.proofs.BufferSteps.{fit_before, stop_within}
 use Rattle.arrow_columns.proofs.casts.write_front.Goals as goal
 
 pub write_rows-requires : goal.write_rows-requires
@@ -19,7 +19,7 @@ write_rows-requires g c =
     let within = stop_within kind C from end found c.requires.range c.first_without-found.ensures in
     let after : from ≤ stop = omega (arith, is, within.0) in
     let below : stop ≤ end = omega (arith, is, within.1) in
-    let room : (stop - from) * g.row.M ≤ (end - from) * g.row.M = mul-le-mul_right g.row.M (omega arith) in
+    let buffer : (stop - from) * g.row.M ≤ (end - from) * g.row.M = mul-le-mul_right g.row.M (omega arith) in
     let fit : AllFit kind C from stop = subst (AllFit kind C from) (sym is) (fit_before kind C from end found c.first_without-found.ensures) in (
       omega (arith, c.requires.narrow),
       (
@@ -32,7 +32,7 @@ write_rows-requires g c =
               omega (arith, below, c.requires.items),
               (
                 λ bitmap. omega (arith, below, c.requires.bits bitmap),
-                (omega (arith, room, c.requires.room), fit),
+                (omega (arith, buffer, c.requires.buffer), fit),
               ),
             ),
           ),

@@ -3,7 +3,7 @@ use Rattle.std.proofs.Math.Nat.{mul-le-mul_right}
 use Rattle.arrow_columns.specs.Casts.{AllFit}
 use Rattle.arrow_columns.specs.Cells.{cell_at}
 use Rattle.arrow_columns.specs.Integers.{integer_of}
-use Rattle.arrow_columns.proofs.RoomSteps.{alike_further, fit_before, found_after, stop_within}
+use Rattle.arrow_columns.proofs.BufferSteps.{alike_further, fit_before, found_after, stop_within}
 use Rattle.arrow_columns.proofs.casts.write_front_by_blocks.Goals as goal
 
 pub write_by_rows-requires : goal.write_by_rows-requires
@@ -20,7 +20,7 @@ write_by_rows-requires g c =
     let within = stop_within kind C start end found c.write_blocks-start.ensures.end c.find_without-found.ensures in
     let after : start ≤ stop = omega (arith, is, within.0) in
     let below : stop ≤ end = omega (arith, is, within.1) in
-    let room : (stop - from) * g.row.M ≤ (end - from) * g.row.M = mul-le-mul_right g.row.M (omega arith) in
+    let buffer : (stop - from) * g.row.M ≤ (end - from) * g.row.M = mul-le-mul_right g.row.M (omega arith) in
     let fit : AllFit kind C from stop =
     subst (AllFit kind C from) (sym is) (fit_before kind C from end found (found_after kind C from start end found c.write_blocks-start.ensures.from c.write_blocks-start.ensures.fit c.find_without-found.ensures)) in (
       omega (arith, c.requires.narrow),
@@ -37,7 +37,7 @@ write_by_rows-requires g c =
                 (
                   search rules,
                   (
-                    omega (arith, room, c.requires.room, c.write_blocks-start.auto.room),
+                    omega (arith, buffer, c.requires.buffer, c.write_blocks-start.auto.buffer),
                     (fit, c.write_blocks-start.ensures.written),
                   ),
                 ),
@@ -65,5 +65,5 @@ returns-clause-rest g c =
     let stop : ℕ = unwrap_or found end in
     let within = stop_within g.U.Integer.kind (cell_at [] V) start end found c.write_blocks-start.ensures.end c.find_without-found.ensures in
     let further : (start - from) * M ≤ (stop - from) * M = mul-le-mul_right M (omega (arith, within.0)) in
-    subst (λ (s : ℕ). drop ((s - from) * M) c.write_by_rows.new.room ≡ drop ((s - from) * M) c.write_blocks-start.new.room) c.unwrap_or-end.ensures c.write_by_rows.ensures.rest
-    ∙ alike_further ((start - from) * M) ((stop - from) * M) c.write_blocks-start.new.room c.args.room.now further c.write_blocks-start.ensures.rest
+    subst (λ (s : ℕ). drop ((s - from) * M) c.write_by_rows.new.buffer ≡ drop ((s - from) * M) c.write_blocks-start.new.buffer) c.unwrap_or-end.ensures c.write_by_rows.ensures.rest
+    ∙ alike_further ((start - from) * M) ((stop - from) * M) c.write_blocks-start.new.buffer c.args.buffer.now further c.write_blocks-start.ensures.rest

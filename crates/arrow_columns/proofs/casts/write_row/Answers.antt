@@ -5,7 +5,7 @@ use Rattle.std.proofs.lemmas.List.{get_or_read}
 use Rattle.arrow_columns.specs.Cells.{cell_at}
 use Rattle.arrow_columns.specs.Integers.{integer_of, item_at}
 use Rattle.arrow_columns.proofs.CellLists.{through_number}
-use Rattle.arrow_columns.proofs.RoomSteps.{alike_further, value_or_zero}
+use Rattle.arrow_columns.proofs.BufferSteps.{alike_further, value_or_zero}
 use Rattle.arrow_columns.proofs.casts.write_row.Goals as goal
 
 pub returns-clause-written : goal.returns-clause-written
@@ -17,7 +17,7 @@ returns-clause-written g c =
     let M : ℕ = g.row.M in
     let number = integer_of g.U.Integer.kind in
     let place : i ≡ from + (i - from) = omega arith in
-    λ k l. below_more (λ k. number (item_at M c.put.new.room k) ≡ unwrap_or (C (from + k)) (pos 0)) (i - from)
+    λ k l. below_more (λ k. number (item_at M c.put.new.buffer k) ≡ unwrap_or (C (from + k)) (pos 0)) (i - from)
     (λ j b. ap number (c.put.ensures.before j b) ∙ c.requires.written j b)
     (ap number c.put.ensures.here ∙ c.bytes_or_zero-bytes.ensures
     ∙ value_or_zero c.args.span.validity.now V i c.is_row_valid.result _ c.is_row_valid.ensures
@@ -31,4 +31,4 @@ returns-clause-rest g c =
     let from : ℕ = c.args.span.from in
     let i : ℕ = c.args.i in
     let further : (i - from + 1) * M ≤ (c.args.span.end - from) * M = mul-le-mul_right M (omega arith) in
-    alike_further ((i - from + 1) * M) ((c.args.span.end - from) * M) c.put.new.room c.args.room.now further c.put.ensures.after
+    alike_further ((i - from + 1) * M) ((c.args.span.end - from) * M) c.put.new.buffer c.args.buffer.now further c.put.ensures.after

@@ -1,5 +1,5 @@
 use Rattle.std.proofs.Common.{◌<◌, MatchOption, subst, sym}
-use Rattle.arrow_columns.specs.Faults.{AreTextRows, IsTextRow}
+use Rattle.arrow_columns.specs.Errors.{AreTextRows, IsTextRow}
 use Rattle.arrow_columns.proofs.checking.first_bad_string.Goals as goal
 
 pub returns-in-Bits32 : goal.returns-in-Bits32

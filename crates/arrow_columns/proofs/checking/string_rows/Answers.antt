@@ -1,6 +1,6 @@
 use Rattle.std.proofs.Common.{◌<◌, ℕ, subst}
 use Rattle.arrow_columns.specs.Columns.{IsByteColumn}
-use Rattle.arrow_columns.specs.Faults.{AreTextRows, IsTextRow}
+use Rattle.arrow_columns.specs.Errors.{AreTextRows, IsTextRow}
 use Rattle.arrow_columns.proofs.checking.string_rows.Goals as goal
 
 pub returns-in-Some-clause-fault : goal.returns-in-Some-clause-fault

@@ -1,4 +1,4 @@
--- The types are those of the kinds, and the rooms begin with the column.
+-- The types are those of the kinds, and the buffers begin with the column.
 use Rattle.std.proofs.Common.{◌∙◌, ap, map}
 use Rattle.vortex_dtype.specs.TypeOf.{type_of}
 use Rattle.column_keys.proofs.GivenSteps.{typed}

@@ -7,5 +7,5 @@ use Rattle.column_keys.proofs.table.write_row_keys.Given as goal
 
 abbrev pub invariant-loop-row : goal.invariant-loop-row
 invariant-loop-row l =
-    AreRowKeys (options_of l.columns) (table_of l.columns) l.row l.offsets l.room × (slice_index l.offsets l.row ≡ l.place) × (l.place ≡ keys_length (options_of l.columns) (table_of l.columns) l.row)
+    AreRowKeys (options_of l.columns) (table_of l.columns) l.row l.offsets l.buffer × (slice_index l.offsets l.row ≡ l.place) × (l.place ≡ keys_length (options_of l.columns) (table_of l.columns) l.row)
     × (drop (l.row_count + 1) l.offsets ≡ drop (l.row_count + 1) l.initial.offsets)

@@ -8,7 +8,7 @@ use Rattle.column_cells.specs.Types.{ptype_of_kind}
 use Rattle.column_keys.specs.Cells.{count_in}
 use Rattle.column_keys.specs.Layout.{is_present}
 use Rattle.column_keys.proofs.BitSteps.{bit-clear, bits-done, bits-more, bits-none}
-use Rattle.column_keys.proofs.NumberSteps.{integers-done, integers-more, integers-none, number-fits, number-room}
+use Rattle.column_keys.proofs.NumberSteps.{integers-done, integers-more, integers-none, number-fits, number-buffer}
 use Rattle.column_keys.proofs.CellColumns.{keys-refused, some-done, some-more, some-none}
 use Rattle.column_keys.proofs.WriteSteps.{same-cell}
 use Rattle.column_keys.proofs.writing.write_integers.Goals as goal
@@ -30,7 +30,7 @@ number_or_zero-requires c =
 
 pub put_number-requires : goal.put_number-requires
 put_number-requires c =
-    number-room c.args.kind _ c.loop-row.row (count_in c.args.keys.now) (length c.loop-row.values) (c.number_or_zero.ensures.typed ∙ c.ptype_of-ptype.ensures) (omega (arith, c.loop-row-test.true, c.key_count-row-end.ensures)) (omega (arith, c.requires.values, c.loop-row.auto.values))
+    number-buffer c.args.kind _ c.loop-row.row (count_in c.args.keys.now) (length c.loop-row.values) (c.number_or_zero.ensures.typed ∙ c.ptype_of-ptype.ensures) (omega (arith, c.loop-row-test.true, c.key_count-row-end.ensures)) (omega (arith, c.requires.values, c.loop-row.auto.values))
 
 pub loop-row-preserved : goal.loop-row-preserved
 loop-row-preserved c =

@@ -29,7 +29,7 @@ loop-row-preserved c =
     record {
       cells = cells-more keys c.loop-row.row c.loop-row.total _ _ d c.loop-row.invariant.cells c.in_ok-cell.ensures.cell (ap length c.bytes_or_none-bytes.ensures) c.saturating_add-total.ensures;
       bits = bits-more is_present keys c.loop-row.row c.loop-row.validity c.put_bit.new.bitmap d _ same c.loop-row.invariant.bits c.is_present.ensures c.put_bit.ensures.bit c.put_bit.ensures.others;
-      strings = strings-kept keys c.loop-row.row c.loop-row.total c.saturating_add-total.result c.args.room c.loop-row.values.items c.put_bytes-kept.new.values.items _ c.loop-row.offsets d inside c.requires.room same c.loop-row.invariant.strings c.bytes_or_none-bytes.ensures c.saturating_add-total.ensures c.in_ok-kept.ensures;
+      strings = strings-kept keys c.loop-row.row c.loop-row.total c.saturating_add-total.result c.args.buffer c.loop-row.values.items c.put_bytes-kept.new.values.items _ c.loop-row.offsets d inside c.requires.buffer same c.loop-row.invariant.strings c.bytes_or_none-bytes.ensures c.saturating_add-total.ensures c.in_ok-kept.ensures;
     }
 
 pub returns-clause-read : goal.returns-clause-read

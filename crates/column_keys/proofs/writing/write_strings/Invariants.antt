@@ -1,4 +1,4 @@
--- The cells, the bits and the strings so far; these as long as the room holds them.
+-- The cells, the bits and the strings so far; these as long as the buffer holds them.
 use Rattle.std.proofs.Common.{◌≤◌}
 use Rattle.column_keys.specs.Layout.{is_present}
 use Rattle.column_keys.proofs.BitSteps.{AreBitsBefore}
@@ -10,5 +10,5 @@ abbrev pub invariant-loop-row : goal.invariant-loop-row
 invariant-loop-row l = record {
   cells : AreCellsBefore l.keys l.row l.total;
   bits : AreBitsBefore is_present l.keys l.row l.validity;
-  strings : l.total ≤ l.fn.room → AreStringsBefore l.keys l.row l.total l.values.items l.offsets;
+  strings : l.total ≤ l.fn.buffer → AreStringsBefore l.keys l.row l.total l.values.items l.offsets;
 }

@@ -1,20 +1,20 @@
--- No piece, no form, and a column more.
+-- No piece, no encoding, and a column more.
 use Rattle.std.proofs.Common.{◌≡◌, ◌+◌, Some, arith, map, rules, set, take}
 use Rattle.vortex_statistics.specs.Statistics.{known}
 use Rattle.zone_index.proofs.ReadSteps.{is_set}
 use Rattle.record_search.specs.Decoding.{piece_in}
 use Rattle.record_search.proofs.DescribeLaws.{some_column}
-use Rattle.record_search.proofs.ReadColumns.{column_read, no_form, no_piece}
+use Rattle.record_search.proofs.ReadColumns.{column_read, no_encoding, no_piece}
 use Rattle.record_search.proofs.reading.read_all.Goals as goal
 
 pub returns-in_default : goal.returns-in_default
 returns-in_default c =
     no_piece c.args.columns.now c.loop-place.place some_column (map known (take c.loop-place.place c.loop-place.all)) c.args.bytes.now c.loop-place.rest.now c.loop-place-test.true (search rules) c.loop-place.invariant
 
-pub returns-then-not-is_form : goal.returns-then-not-is_form
-returns-then-not-is_form c =
+pub returns-then-not-is_encoding : goal.returns-then-not-is_encoding
+returns-then-not-is_encoding c =
     let cut : Some (c.in-Some.piece.now, c.in-Some.after.now) ≡ piece_in c.loop-place.rest.now = search rules in
-    no_form c.args.columns.now c.loop-place.place _ (map known (take c.loop-place.place c.loop-place.all)) c.args.bytes.now c.loop-place.rest.now c.in-Some.piece.now c.in-Some.after.now c.loop-place-test.true cut (rw c.if-not-is_form.true at c.in_ok-is_form.ensures) c.loop-place.invariant
+    no_encoding c.args.columns.now c.loop-place.place _ (map known (take c.loop-place.place c.loop-place.all)) c.args.bytes.now c.loop-place.rest.now c.in-Some.piece.now c.in-Some.after.now c.loop-place-test.true cut (rw c.if-not-is_encoding.true at c.in_ok-is_encoding.ensures) c.loop-place.invariant
 
 pub loop-place-preserved : goal.loop-place-preserved
 loop-place-preserved c =
@@ -23,4 +23,4 @@ loop-place-preserved c =
     let read = c.read_column.new.statistics in
     let cut : Some (c.in-Some.piece.now, c.in-Some.after.now) ≡ piece_in c.loop-place.rest.now = search rules in
     let more = (is_set all place read read (omega (arith, c.loop-place-test.true, c.loop-place.auto.all, c.requires))).front in
-    column_read c.args.columns.now place _ (take place all) (take (place + 1) (set all place read)) read c.args.bytes.now c.loop-place.rest.now c.in-Some.piece.now c.in-Some.after.now c.loop-place-test.true cut (rw c.if-not-is_form.false at c.in_ok-is_form.ensures) more c.loop-place.invariant
+    column_read c.args.columns.now place _ (take place all) (take (place + 1) (set all place read)) read c.args.bytes.now c.loop-place.rest.now c.in-Some.piece.now c.in-Some.after.now c.loop-place-test.true cut (rw c.if-not-is_encoding.false at c.in_ok-is_encoding.ensures) more c.loop-place.invariant

@@ -1,4 +1,4 @@
--- Statistics are read exactly where the bytes are their form.
+-- Statistics are read exactly where the bytes are their encoding.
 use Rattle.vortex_dtype.specs.TypeOf.{type_of}
 use Rattle.vortex_statistics.specs.Statistics.{known}
 use Rattle.record_search.proofs.DecodeLaws.{none_read, read_found}

@@ -13,7 +13,7 @@ use Rattle.column_keys.specs.Laws.{AreColumnsOf, ColumnsComeBack}
 use Rattle.column_keys.specs.Layout.{IsColumnOf, offsets_length}
 use Rattle.arrow_columns.specs.Bitmaps.{bitmap_length}
 use Rattle.column_keys.specs.Types.{HasTypes, type_at_code, types_of_codes}
-use Rattle.column_keys.specs.declared.faults.KeysFault.{KeysFault}
+use Rattle.column_keys.specs.declared.errors.KeysError.{KeysError}
 use Rattle.column_keys.proofs.GivenSteps.{plain-codes}
 use Rattle.scalar_tests.proofs.columns_of_keys.read_back.Goals as goal
 
@@ -30,7 +30,7 @@ came-back law codes options which bytes offsets count validity values places typ
           (subst (λ cells. IsColumnOf it.kind cells (take (bitmap_length (key_count offsets)) validity) (take count values) (take (offsets_length it.kind (key_count offsets)) places)) same it.column),
     )
 
-read-back : ColumnsComeBack → (codes options : List ℕ) (which : ℕ) (bytes offsets validity values places : List ℕ) (r : Result ℕ KeysFault) → OnOk r (HasTypes codes options which) → IfOk r (λ count. IsColumnOfKeys codes options which bytes offsets count validity values places)
+read-back : ColumnsComeBack → (codes options : List ℕ) (which : ℕ) (bytes offsets validity values places : List ℕ) (r : Result ℕ KeysError) → OnOk r (HasTypes codes options which) → IfOk r (λ count. IsColumnOfKeys codes options which bytes offsets count validity values places)
     → IfOk r (λ count. (table : List (List Content)) (rows : ℕ) → AreColumnsOf (types_of_codes codes) rows table → AreRowKeys (map options_in options) table rows offsets bytes → length offsets ≡ rows + 1 → which < length table
     → (kind : Kind) × (kind_at (slice_index codes which) ≡ Some kind) × IsColumnOf kind (get_or table which []) (take (bitmap_length rows) validity) (take count values) (take (offsets_length kind rows) places))
 read-back law codes options which bytes offsets validity values places (Ok count) types it = came-back law codes options which bytes offsets count validity values places types it

@@ -1,11 +1,11 @@
 -- What was written is read.
 use Rattle.std.proofs.Common.{◌≡◌, ℕ, List, Bool, Result, Ok, Err, IfOk}
-use Rattle.statistics_bytes.specs.Form.{form}
+use Rattle.statistics_bytes.specs.Encoding.{encoding}
 use Rattle.record_search.specs.Searched.{rows_alone}
-use Rattle.zone_index.specs.Form.{FitsForm, IndexValue, index_form, index_value, wanted_of}
-use Rattle.zone_index.specs.FormReading.{Gives}
-use Rattle.zone_index.specs.declared.form.Index.{Index}
-use Rattle.zone_index.specs.declared.form.ReadError.{ReadError}
+use Rattle.zone_index.specs.Encoding.{FitsEncoding, IndexValue, index_encoding, index_value, wanted_of}
+use Rattle.zone_index.specs.EncodingReading.{Gives}
+use Rattle.zone_index.specs.declared.encoding.Index.{Index}
+use Rattle.zone_index.specs.declared.encoding.ReadError.{ReadError}
 use Rattle.scalar_tests.proofs.indexes.read_wanted.Goals as goal
 
 is_value : (x : IndexValue) (read : Result Index ReadError) → Gives index_value read (Ok x) → IfOk read (λ kept. index_value kept ≡ x)
@@ -13,9 +13,9 @@ is_value x (Ok kept) gives = cc
 is_value x (Err e) gives = tt
 
 wanted_back : (wanted : List Bool) (bytes : List ℕ) (read : Result Index ReadError)
-    → ((n : ℕ) (x : IndexValue) (pieces : List (List (List ℕ))) → FitsForm n x pieces → bytes ≡ index_form n x pieces → Gives index_value read (Ok (wanted_of wanted (λ rows. form (rows_alone rows)) x pieces)))
-    → IfOk read (λ kept. (n : ℕ) (x : IndexValue) (pieces : List (List (List ℕ))) → FitsForm n x pieces → bytes ≡ index_form n x pieces → index_value kept ≡ wanted_of wanted (λ rows. form (rows_alone rows)) x pieces)
-wanted_back wanted bytes (Ok kept) h = λ n x pieces fits e. is_value (wanted_of wanted (λ rows. form (rows_alone rows)) x pieces) (Ok kept) (h n x pieces fits e)
+    → ((n : ℕ) (x : IndexValue) (pieces : List (List (List ℕ))) → FitsEncoding n x pieces → bytes ≡ index_encoding n x pieces → Gives index_value read (Ok (wanted_of wanted (λ rows. encoding (rows_alone rows)) x pieces)))
+    → IfOk read (λ kept. (n : ℕ) (x : IndexValue) (pieces : List (List (List ℕ))) → FitsEncoding n x pieces → bytes ≡ index_encoding n x pieces → index_value kept ≡ wanted_of wanted (λ rows. encoding (rows_alone rows)) x pieces)
+wanted_back wanted bytes (Ok kept) h = λ n x pieces fits e. is_value (wanted_of wanted (λ rows. encoding (rows_alone rows)) x pieces) (Ok kept) (h n x pieces fits e)
 wanted_back wanted bytes (Err e) h = tt
 
 pub returns : goal.returns

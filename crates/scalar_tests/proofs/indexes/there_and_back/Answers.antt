@@ -1,15 +1,15 @@
 use Rattle.std.proofs.Common.{◌≡◌, ◌∙◌, ℕ, List, Bool, Result, Ok, Err, IfOk, ap, subst, sym}
-use Rattle.statistics_bytes.specs.Form.{form}
+use Rattle.statistics_bytes.specs.Encoding.{encoding}
 use Rattle.record_search.specs.Laws.{IndexesAreReadBack}
 use Rattle.record_search.specs.Searched.{IsRowIndex, rows_alone}
 use Rattle.record_rows.specs.declared.schema.Schema.{Schema}
-use Rattle.zone_index.specs.Form.{FitsForm, IndexValue, index_form, index_value, wanted_of}
-use Rattle.zone_index.specs.declared.form.Index.{Index}
-use Rattle.zone_index.specs.declared.form.ReadError.{ReadError}
+use Rattle.zone_index.specs.Encoding.{FitsEncoding, IndexValue, index_encoding, index_value, wanted_of}
+use Rattle.zone_index.specs.declared.encoding.Index.{Index}
+use Rattle.zone_index.specs.declared.encoding.ReadError.{ReadError}
 use Rattle.scalar_tests.proofs.indexes.there_and_back.Goals as goal
 
-right-again : (n : ℕ) (given : Index) (wanted : List Bool) (bytes : List ℕ) (read : Result Index ReadError) → IndexesAreReadBack → (pieces : List (List (List ℕ))) × FitsForm n (index_value given) pieces × (bytes ≡ index_form n (index_value given) pieces)
-    → IfOk read (λ kept. (m : ℕ) (x : IndexValue) (pieces : List (List (List ℕ))) → FitsForm m x pieces → bytes ≡ index_form m x pieces → index_value kept ≡ wanted_of wanted (λ rows. form (rows_alone rows)) x pieces)
+right-again : (n : ℕ) (given : Index) (wanted : List Bool) (bytes : List ℕ) (read : Result Index ReadError) → IndexesAreReadBack → (pieces : List (List (List ℕ))) × FitsEncoding n (index_value given) pieces × (bytes ≡ index_encoding n (index_value given) pieces)
+    → IfOk read (λ kept. (m : ℕ) (x : IndexValue) (pieces : List (List (List ℕ))) → FitsEncoding m x pieces → bytes ≡ index_encoding m x pieces → index_value kept ≡ wanted_of wanted (λ rows. encoding (rows_alone rows)) x pieces)
     → IfOk read (λ kept. (s : Schema) (file : List ℕ) → IsRowIndex s given.start given.zones.items file → IsRowIndex s kept.start kept.zones.items file)
 right-again n given wanted bytes (Ok kept) law written read = λ s file right. law s n written.0 wanted given kept file written.1 (read n (index_value given) written.0 written.1 written.2) right
 right-again n given wanted bytes (Err e) law written read = tt
@@ -17,4 +17,4 @@ right-again n given wanted bytes (Err e) law written read = tt
 pub returns : goal.returns
 returns c =
     right-again c.args.columns c.args.index.now c.args.wanted.now c.in_ok-bytes.bytes.items c.read_wanted.result c.indexes_are_read_back.ensures c.in_ok-bytes.ensures.written
-    (subst (λ (b : List ℕ). IfOk c.read_wanted.result (λ kept. (m : ℕ) (x : IndexValue) (pieces : List (List (List ℕ))) → FitsForm m x pieces → b ≡ index_form m x pieces → index_value kept ≡ wanted_of c.args.wanted.now (λ rows. form (rows_alone rows)) x pieces)) c.deref.ensures.value c.read_wanted.ensures)
+    (subst (λ (b : List ℕ). IfOk c.read_wanted.result (λ kept. (m : ℕ) (x : IndexValue) (pieces : List (List (List ℕ))) → FitsEncoding m x pieces → b ≡ index_encoding m x pieces → index_value kept ≡ wanted_of c.args.wanted.now (λ rows. encoding (rows_alone rows)) x pieces)) c.deref.ensures.value c.read_wanted.ensures)

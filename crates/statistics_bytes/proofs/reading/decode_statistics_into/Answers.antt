@@ -5,7 +5,7 @@ use Rattle.statistics_bytes.proofs.reading.decode_statistics_into.Goals as goal
 
 pub returns-clause-whole : goal.returns-clause-whole
 returns-clause-whole c =
-    reads_into c.keys_are_apart.ensures c.values_have_no_typed.ensures (type_of c.args.dtype.now) c.args.bytes.now c.read_form.new.statistics c.read_form.result c.read_form.ensures.read c.read_form.ensures.refused
+    reads_into c.keys_are_apart.ensures c.values_have_no_typed.ensures (type_of c.args.dtype.now) c.args.bytes.now c.read_encoding.new.statistics c.read_encoding.result c.read_encoding.ensures.read c.read_encoding.ensures.refused
 
 pub returns-clause-right : goal.returns-clause-right
-returns-clause-right c = right_into c.keys_are_apart.ensures c.values_have_no_typed.ensures (type_of c.args.dtype.now) c.args.bytes.now c.read_form.new.statistics c.read_form.result c.read_form.ensures.read
+returns-clause-right c = right_into c.keys_are_apart.ensures c.values_have_no_typed.ensures (type_of c.args.dtype.now) c.args.bytes.now c.read_encoding.new.statistics c.read_encoding.result c.read_encoding.ensures.read

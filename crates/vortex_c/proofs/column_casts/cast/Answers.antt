@@ -9,14 +9,14 @@ pub returns-in-Ok-cast-clause-cast : goal.returns-in-Ok-cast-clause-cast
 returns-in-Ok-cast-clause-cast c =
     let rows = c.in-Ok.given.rows in
     let into = c.in-Ok.given.into in
-    let fits : c.args.column.length * width_of into ≤ length c.cast.new.room = omega (arith, c.in-Ok.ensures.fits, c.cast.auto.room) in
+    let fits : c.args.column.length * width_of into ≤ length c.cast.new.buffer = omega (arith, c.in-Ok.ensures.fits, c.cast.auto.buffer) in
     record {
       from = rows.kind;
       into = into;
       kinds = c.in-Ok.ensures.kinds;
       is_column = subst (λ (column : Column). IsIntegerColumn rows.kind column) c.in-Ok.ensures.column rows.is_column;
       fits = fits;
-      cast = subst (λ (column : Column). AreCastTo into (integer_cells rows.kind column) c.cast.new.room) c.in-Ok.ensures.column c.in-Ok-cast.ensures.cast;
+      cast = subst (λ (column : Column). AreCastTo into (integer_cells rows.kind column) c.cast.new.buffer) c.in-Ok.ensures.column c.in-Ok-cast.ensures.cast;
     }
 
 pub returns-in-Err-cast-clause-refused : goal.returns-in-Err-cast-clause-refused

@@ -9,14 +9,14 @@ pub returns-in-Ok-cast_front-clause-cast : goal.returns-in-Ok-cast_front-clause-
 returns-in-Ok-cast_front-clause-cast c =
     let rows = c.in-Ok.given.rows in
     let into = c.in-Ok.given.into in
-    let fits : c.args.column.length * width_of into ≤ length c.cast_front.new.room = omega (arith, c.in-Ok.ensures.fits, c.cast_front.auto.room) in
+    let fits : c.args.column.length * width_of into ≤ length c.cast_front.new.buffer = omega (arith, c.in-Ok.ensures.fits, c.cast_front.auto.buffer) in
     record {
       from = rows.kind;
       into = into;
       kinds = c.in-Ok.ensures.kinds;
       is_column = subst (λ (column : Column). IsIntegerColumn rows.kind column) c.in-Ok.ensures.column rows.is_column;
       fits = fits;
-      cast = subst (λ (column : Column). AreCastTo into (integer_cells rows.kind column) c.cast_front.new.room) c.in-Ok.ensures.column c.in-Ok-cast_front.ensures.cast;
+      cast = subst (λ (column : Column). AreCastTo into (integer_cells rows.kind column) c.cast_front.new.buffer) c.in-Ok.ensures.column c.in-Ok-cast_front.ensures.cast;
     }
 
 pub returns-in-Err-cast_front-clause-refused : goal.returns-in-Err-cast_front-clause-refused
@@ -37,13 +37,13 @@ returns-in-Err-cast_front-clause-left c =
     let rows = c.in-Ok.given.rows in
     let into = c.in-Ok.given.into in
     let row = c.in-Err-cast_front.fault.row in
-    let room = c.cast_front.new.room in (
+    let buffer = c.cast_front.new.buffer in (
       record {
         from = rows.kind;
         into = into;
         kinds = c.in-Ok.ensures.kinds;
         is_column = subst (λ (column : Column). IsIntegerColumn rows.kind column) c.in-Ok.ensures.column rows.is_column;
-        cast = subst (λ (column : Column). AreCastTo into (take row (integer_cells rows.kind column)) room) c.in-Ok.ensures.column c.in-Err-cast_front.ensures.front;
+        cast = subst (λ (column : Column). AreCastTo into (take row (integer_cells rows.kind column)) buffer) c.in-Ok.ensures.column c.in-Err-cast_front.ensures.front;
       },
       search rules,
     )

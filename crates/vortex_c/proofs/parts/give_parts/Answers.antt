@@ -9,7 +9,7 @@ returns-clause-given c = λ g.
     let s = known c.args.statistics.now in
     let lower = c.part_of_bound-lower in
     let upper = c.part_of_bound-upper in
-    parts_given c.args.kind s c.as_slice-lower_bytes.result.now c.as_slice-upper_bytes.result.now c.write_both.new.lower_room c.write_both.new.upper_room _
+    parts_given c.args.kind s c.as_slice-lower_bytes.result.now c.as_slice-upper_bytes.result.now c.write_both.new.lower_buffer c.write_both.new.upper_buffer _
     (record {
       rows = refl;
       nulls = count_told s.null_count _ _ (search rules) (search rules);

@@ -1,14 +1,14 @@
--- The form is given, or its length, or nothing.
+-- The encoding is given, or its length, or nothing.
 use Rattle.std.proofs.Common.{rules}
 use Rattle.vortex_c.specs.Statistics.{IsMergedAt}
-use Rattle.vortex_c.proofs.PartSteps.{form_answered, form_unanswered}
+use Rattle.vortex_c.proofs.PartSteps.{encoding_answered, encoding_unanswered}
 use Rattle.vortex_c.proofs.statistics.doqallin_merge_statistics.Goals as goal
 
 pub returns-in-Ok-clause-answer : goal.returns-in-Ok-clause-answer
 returns-in-Ok-clause-answer c =
-    let merged : IsMergedAt c.args.kind c.args.one.now c.args.other.now c.in-Ok.bytes.items = record { kind = c.in-Some.kind; is_kind = search rules; merged = c.in-Ok.ensures.form } in
-    form_answered (IsMergedAt c.args.kind c.args.one.now c.args.other.now) c.in-Ok.bytes.items c.as_slice.result.now _ _ _ _ _ merged c.as_slice.ensures.value
+    let merged : IsMergedAt c.args.kind c.args.one.now c.args.other.now c.in-Ok.bytes.items = record { kind = c.in-Some.kind; is_kind = search rules; merged = c.in-Ok.ensures.encoding } in
+    encoding_answered (IsMergedAt c.args.kind c.args.one.now c.args.other.now) c.in-Ok.bytes.items c.as_slice.result.now _ _ _ _ _ merged c.as_slice.ensures.value
     c.give.ensures.statuses c.give.ensures.count c.give.ensures.within c.give.ensures.given c.give.ensures.rest c.give.ensures.small c.give.ensures.kept
 
 pub returns-in-Err-clause-answer : goal.returns-in-Err-clause-answer
-returns-in-Err-clause-answer c = form_unanswered (IsMergedAt c.args.kind c.args.one.now c.args.other.now) _ _ _ c.tell_merge.ensures.refused
+returns-in-Err-clause-answer c = encoding_unanswered (IsMergedAt c.args.kind c.args.one.now c.args.other.now) _ _ _ c.tell_merge.ensures.refused

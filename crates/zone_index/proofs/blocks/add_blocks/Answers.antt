@@ -1,7 +1,7 @@
 -- A block more, the first fault, and nothing but blocks.
 use Rattle.std.proofs.Common.{arith, refl}
 use Rattle.std.proofs.lemmas.Result.{err_from_is_err_and}
-use Rattle.zone_index.specs.Form.{zone_values}
+use Rattle.zone_index.specs.Encoding.{zone_values}
 use Rattle.zone_index.proofs.ReadSteps.{added_done, added_fails, added_more, added_trails, front_fails}
 use Rattle.zone_index.proofs.blocks.add_blocks.Goals as goal
 

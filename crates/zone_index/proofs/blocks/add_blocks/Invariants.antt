@@ -1,5 +1,5 @@
 -- What is still added gives what all does.
-use Rattle.zone_index.specs.Form.{zone_values}
+use Rattle.zone_index.specs.Encoding.{zone_values}
 use Rattle.zone_index.proofs.ReadSteps.{AreAddedSoFar}
 use Rattle.zone_index.proofs.blocks.add_blocks.Given as goal
 

@@ -1,7 +1,7 @@
 -- A piece more, the first fault, and nothing but pieces.
 use Rattle.std.proofs.Common.{List, ℕ, ap, arith, get_or}
 use Rattle.std.proofs.lemmas.Result.{err_from_is_err_and}
-use Rattle.zone_index.specs.Form.{with_statistics, zone_value}
+use Rattle.zone_index.specs.Encoding.{with_statistics, zone_value}
 use Rattle.zone_index.proofs.ReadSteps.{dealt_begins, dealt_done, dealt_fails, dealt_more, dealt_trails}
 use Rattle.zone_index.proofs.blocks.add_pieces.Goals as goal
 

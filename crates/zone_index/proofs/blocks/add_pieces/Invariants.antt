@@ -1,5 +1,5 @@
 -- What was dealt and what is still dealt are what all gives.
-use Rattle.zone_index.specs.Form.{with_statistics, zone_value}
+use Rattle.zone_index.specs.Encoding.{with_statistics, zone_value}
 use Rattle.zone_index.proofs.ReadSteps.{IsDealtSoFar}
 use Rattle.zone_index.proofs.blocks.add_pieces.Given as goal
 

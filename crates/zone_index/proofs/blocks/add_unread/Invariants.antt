@@ -1,6 +1,6 @@
 -- What was passed has a piece more, and what is to come gets one.
 use Rattle.std.proofs.Common.{◌≡◌, ◌++◌, map, take, drop}
-use Rattle.zone_index.specs.Form.{with_unread, zone_value, zone_values}
+use Rattle.zone_index.specs.Encoding.{with_unread, zone_value, zone_values}
 use Rattle.zone_index.proofs.blocks.add_unread.Given as goal
 
 abbrev pub invariant-loop-zone : goal.invariant-loop-zone

@@ -1,8 +1,8 @@
 -- One more, the first fault, and all of them.
 use Rattle.std.proofs.Common.{map}
 use Rattle.std.proofs.lemmas.Result.{err_from_is_err_and}
-use Rattle.zone_index.specs.Form.{block_value}
-use Rattle.zone_index.specs.FormReading.{many_at, block_at}
+use Rattle.zone_index.specs.Encoding.{block_value}
+use Rattle.zone_index.specs.EncodingReading.{many_at, block_at}
 use Rattle.zone_index.proofs.ReadSteps.{goes_on, ends, is_done}
 use Rattle.zone_index.proofs.WriteSteps.{values_push}
 use Rattle.zone_index.proofs.reading.blocks_in.Goals as goal

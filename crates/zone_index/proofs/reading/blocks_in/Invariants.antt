@@ -1,7 +1,7 @@
 -- What was read and what is still read are what all gives.
 use Rattle.std.proofs.Common.{◌≡◌, ◌-◌, map}
-use Rattle.zone_index.specs.Form.{block_value}
-use Rattle.zone_index.specs.FormReading.{many_at, block_at}
+use Rattle.zone_index.specs.Encoding.{block_value}
+use Rattle.zone_index.specs.EncodingReading.{many_at, block_at}
 use Rattle.zone_index.proofs.ReadSteps.{with_front}
 use Rattle.zone_index.proofs.reading.blocks_in.Given as goal
 

@@ -1,6 +1,6 @@
 -- The two laws, of what was read.
 use Rattle.std.proofs.Common.{arith}
-use Rattle.zone_index.specs.Form.{root_value}
+use Rattle.zone_index.specs.Encoding.{root_value}
 use Rattle.zone_index.proofs.BlockLaws.{index_again, index_found}
 use Rattle.zone_index.proofs.reading.read_blocks.Goals as goal
 

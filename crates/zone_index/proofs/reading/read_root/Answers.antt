@@ -1,6 +1,6 @@
 -- The two laws, of what was read.
 use Rattle.std.proofs.Common.{arith}
-use Rattle.zone_index.proofs.FormLaws.{is_found, is_read, memory_alone}
+use Rattle.zone_index.proofs.EncodingLaws.{is_found, is_read, memory_alone}
 use Rattle.zone_index.proofs.reading.read_root.Goals as goal
 
 pub returns-clause-found : goal.returns-clause-found

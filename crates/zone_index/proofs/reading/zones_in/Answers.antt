@@ -1,7 +1,7 @@
 -- One more, the first fault, and all of them.
 use Rattle.std.proofs.lemmas.Result.{err_from_is_err_and}
-use Rattle.zone_index.specs.Form.{zone_value, zone_values}
-use Rattle.zone_index.specs.FormReading.{many_at, zone_at}
+use Rattle.zone_index.specs.Encoding.{zone_value, zone_values}
+use Rattle.zone_index.specs.EncodingReading.{many_at, zone_at}
 use Rattle.zone_index.proofs.ReadSteps.{goes_on, ends, is_done}
 use Rattle.zone_index.proofs.WriteSteps.{values_push}
 use Rattle.zone_index.proofs.reading.zones_in.Goals as goal

@@ -1,8 +1,8 @@
 -- A zone more, and one whose statistics are no pieces.
 use Rattle.std.proofs.Common.{◌≡◌, ◌+◌, ℕ, List, Vec, Err, ap, arith, drop, length, map, rules, subst, sym, take, take_at}
 use Rattle.std.specs.Global.{Global}
-use Rattle.zone_index.specs.Form.{AreDealt, zone_value, zone_values}
-use Rattle.zone_index.specs.FormReading.{dealt_at}
+use Rattle.zone_index.specs.Encoding.{AreDealt, zone_value, zone_values}
+use Rattle.zone_index.specs.EncodingReading.{dealt_at}
 use Rattle.zone_index.proofs.WriteSteps.{AreBlocks, all_taken, append, blocks_with, no_pieces, none_yet, taken_more}
 use Rattle.zone_index.proofs.writing.blocks_of.Goals as goal
 

@@ -1,6 +1,6 @@
 -- The pieces of the zones so far.
 use Rattle.std.proofs.Common.{map, take}
-use Rattle.zone_index.specs.Form.{zone_values}
+use Rattle.zone_index.specs.Encoding.{zone_values}
 use Rattle.zone_index.proofs.WriteSteps.{AreBlocks}
 use Rattle.zone_index.proofs.writing.blocks_of.Given as goal
 

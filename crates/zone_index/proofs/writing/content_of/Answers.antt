@@ -4,7 +4,7 @@ use Rattle.std.proofs.lemmas.List.{length-map}
 use Rattle.std.specs.Global.{Global}
 use Rattle.std.specs.Int.{to_le_bytes, w64}
 use Rattle.std.specs.List.{AllByRecursion, flat_map}
-use Rattle.zone_index.specs.Form.{FitsZone, index_value, zone_form, zone_value, zone_values}
+use Rattle.zone_index.specs.Encoding.{FitsZone, index_value, zone_encoding, zone_value, zone_values}
 use Rattle.zone_index.specs.declared.zones.Zone.{Zone}
 use Rattle.zone_index.proofs.WriteSteps.{content_whole}
 use Rattle.zone_index.proofs.writing.content_of.Goals as goal
@@ -17,7 +17,7 @@ returns-clause-content c =
     let zones = c.args.index.now.zones.items in
     let blocks = c.args.blocks.now in
     content_whole (index_value c.args.index.now) (map view blocks) (length zones) (length blocks) c.new-output.result.items c.push_file.new.output.items c.push_counted_zones.new.output.items _ (sym (length-map zones zone_value)) (sym (length-map blocks view)) c.new-output.ensures.items c.in_ok-push_file.ensures.pushed
-    (c.in_ok-push_counted_zones.ensures.pushed ∙ ap (λ (zs : List Zone). c.push_file.new.output.items ++ (to_le_bytes w64 (length zs) ++ flat_map zone_form (zone_values zs))) c.deref.ensures.value) c.in_ok-push_counted_blocks.ensures.pushed
+    (c.in_ok-push_counted_zones.ensures.pushed ∙ ap (λ (zs : List Zone). c.push_file.new.output.items ++ (to_le_bytes w64 (length zs) ++ flat_map zone_encoding (zone_values zs))) c.deref.ensures.value) c.in_ok-push_counted_blocks.ensures.pushed
 
 pub returns-clause-fits : goal.returns-clause-fits
 returns-clause-fits c =

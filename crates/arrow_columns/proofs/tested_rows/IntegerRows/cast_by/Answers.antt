@@ -11,7 +11,7 @@ returns-in-U8-clause-fault c =
 
 pub returns-in-U8-clause-front : goal.returns-in-U8-clause-front
 returns-in-U8-clause-front c =
-    subst (λ (k : IntegerKind). c.args.extent ≡ Front → IfErr c.cast_from.result (λ fault. AreCastTo c.args.to (take fault.row (integer_cells k c.args.self.now.column)) c.cast_from.new.room)) (sym c.in-U8.is) c.cast_from.ensures.front
+    subst (λ (k : IntegerKind). c.args.extent ≡ Front → IfErr c.cast_from.result (λ fault. AreCastTo c.args.to (take fault.row (integer_cells k c.args.self.now.column)) c.cast_from.new.buffer)) (sym c.in-U8.is) c.cast_from.ensures.front
 
 pub returns-in-U16-clause-fault : goal.returns-in-U16-clause-fault
 returns-in-U16-clause-fault c =
@@ -19,7 +19,7 @@ returns-in-U16-clause-fault c =
 
 pub returns-in-U16-clause-front : goal.returns-in-U16-clause-front
 returns-in-U16-clause-front c =
-    subst (λ (k : IntegerKind). c.args.extent ≡ Front → IfErr c.cast_from-in-U16.result (λ fault. AreCastTo c.args.to (take fault.row (integer_cells k c.args.self.now.column)) c.cast_from-in-U16.new.room)) (sym c.in-U16.is) c.cast_from-in-U16.ensures.front
+    subst (λ (k : IntegerKind). c.args.extent ≡ Front → IfErr c.cast_from-in-U16.result (λ fault. AreCastTo c.args.to (take fault.row (integer_cells k c.args.self.now.column)) c.cast_from-in-U16.new.buffer)) (sym c.in-U16.is) c.cast_from-in-U16.ensures.front
 
 pub returns-in-U32-clause-fault : goal.returns-in-U32-clause-fault
 returns-in-U32-clause-fault c =
@@ -27,7 +27,7 @@ returns-in-U32-clause-fault c =
 
 pub returns-in-U32-clause-front : goal.returns-in-U32-clause-front
 returns-in-U32-clause-front c =
-    subst (λ (k : IntegerKind). c.args.extent ≡ Front → IfErr c.cast_from-in-U32.result (λ fault. AreCastTo c.args.to (take fault.row (integer_cells k c.args.self.now.column)) c.cast_from-in-U32.new.room)) (sym c.in-U32.is) c.cast_from-in-U32.ensures.front
+    subst (λ (k : IntegerKind). c.args.extent ≡ Front → IfErr c.cast_from-in-U32.result (λ fault. AreCastTo c.args.to (take fault.row (integer_cells k c.args.self.now.column)) c.cast_from-in-U32.new.buffer)) (sym c.in-U32.is) c.cast_from-in-U32.ensures.front
 
 pub returns-in-U64-clause-fault : goal.returns-in-U64-clause-fault
 returns-in-U64-clause-fault c =
@@ -35,7 +35,7 @@ returns-in-U64-clause-fault c =
 
 pub returns-in-U64-clause-front : goal.returns-in-U64-clause-front
 returns-in-U64-clause-front c =
-    subst (λ (k : IntegerKind). c.args.extent ≡ Front → IfErr c.cast_from-in-U64.result (λ fault. AreCastTo c.args.to (take fault.row (integer_cells k c.args.self.now.column)) c.cast_from-in-U64.new.room)) (sym c.in-U64.is) c.cast_from-in-U64.ensures.front
+    subst (λ (k : IntegerKind). c.args.extent ≡ Front → IfErr c.cast_from-in-U64.result (λ fault. AreCastTo c.args.to (take fault.row (integer_cells k c.args.self.now.column)) c.cast_from-in-U64.new.buffer)) (sym c.in-U64.is) c.cast_from-in-U64.ensures.front
 
 pub returns-in-I8-clause-fault : goal.returns-in-I8-clause-fault
 returns-in-I8-clause-fault c =
@@ -43,7 +43,7 @@ returns-in-I8-clause-fault c =
 
 pub returns-in-I8-clause-front : goal.returns-in-I8-clause-front
 returns-in-I8-clause-front c =
-    subst (λ (k : IntegerKind). c.args.extent ≡ Front → IfErr c.cast_from-in-I8.result (λ fault. AreCastTo c.args.to (take fault.row (integer_cells k c.args.self.now.column)) c.cast_from-in-I8.new.room)) (sym c.in-I8.is) c.cast_from-in-I8.ensures.front
+    subst (λ (k : IntegerKind). c.args.extent ≡ Front → IfErr c.cast_from-in-I8.result (λ fault. AreCastTo c.args.to (take fault.row (integer_cells k c.args.self.now.column)) c.cast_from-in-I8.new.buffer)) (sym c.in-I8.is) c.cast_from-in-I8.ensures.front
 
 pub returns-in-I16-clause-fault : goal.returns-in-I16-clause-fault
 returns-in-I16-clause-fault c =
@@ -51,7 +51,7 @@ returns-in-I16-clause-fault c =
 
 pub returns-in-I16-clause-front : goal.returns-in-I16-clause-front
 returns-in-I16-clause-front c =
-    subst (λ (k : IntegerKind). c.args.extent ≡ Front → IfErr c.cast_from-in-I16.result (λ fault. AreCastTo c.args.to (take fault.row (integer_cells k c.args.self.now.column)) c.cast_from-in-I16.new.room)) (sym c.in-I16.is) c.cast_from-in-I16.ensures.front
+    subst (λ (k : IntegerKind). c.args.extent ≡ Front → IfErr c.cast_from-in-I16.result (λ fault. AreCastTo c.args.to (take fault.row (integer_cells k c.args.self.now.column)) c.cast_from-in-I16.new.buffer)) (sym c.in-I16.is) c.cast_from-in-I16.ensures.front
 
 pub returns-in-I32-clause-fault : goal.returns-in-I32-clause-fault
 returns-in-I32-clause-fault c =
@@ -59,7 +59,7 @@ returns-in-I32-clause-fault c =
 
 pub returns-in-I32-clause-front : goal.returns-in-I32-clause-front
 returns-in-I32-clause-front c =
-    subst (λ (k : IntegerKind). c.args.extent ≡ Front → IfErr c.cast_from-in-I32.result (λ fault. AreCastTo c.args.to (take fault.row (integer_cells k c.args.self.now.column)) c.cast_from-in-I32.new.room)) (sym c.in-I32.is) c.cast_from-in-I32.ensures.front
+    subst (λ (k : IntegerKind). c.args.extent ≡ Front → IfErr c.cast_from-in-I32.result (λ fault. AreCastTo c.args.to (take fault.row (integer_cells k c.args.self.now.column)) c.cast_from-in-I32.new.buffer)) (sym c.in-I32.is) c.cast_from-in-I32.ensures.front
 
 pub returns-in-I64-clause-fault : goal.returns-in-I64-clause-fault
 returns-in-I64-clause-fault c =
@@ -67,4 +67,4 @@ returns-in-I64-clause-fault c =
 
 pub returns-in-I64-clause-front : goal.returns-in-I64-clause-front
 returns-in-I64-clause-front c =
-    subst (λ (k : IntegerKind). c.args.extent ≡ Front → IfErr c.cast_from-in-I64.result (λ fault. AreCastTo c.args.to (take fault.row (integer_cells k c.args.self.now.column)) c.cast_from-in-I64.new.room)) (sym c.in-I64.is) c.cast_from-in-I64.ensures.front
+    subst (λ (k : IntegerKind). c.args.extent ≡ Front → IfErr c.cast_from-in-I64.result (λ fault. AreCastTo c.args.to (take fault.row (integer_cells k c.args.self.now.column)) c.cast_from-in-I64.new.buffer)) (sym c.in-I64.is) c.cast_from-in-I64.ensures.front

@@ -12,8 +12,8 @@ observe_text-requires-clause-many c = omega (arith, ap length c.deref_mut.ensure
 pub observe_text-requires-clause-fresh : goal.observe_text-requires-clause-fresh
 observe_text-requires-clause-fresh c = subst (AreAllComplete 0 []) (sym c.deref_mut.ensures.value) c.in_ok-columns.ensures.1
 
-pub forms_of-requires : goal.forms_of-requires
-forms_of-requires c =
+pub encodings_of-requires : goal.encodings_of-requires
+encodings_of-requires c =
     let slice = c.observe_text.new.statistics in
     let vector = c.in_ok-columns.columns in
     let held : length slice ≡ vector.len = c.observe_text.auto.statistics ∙ c.deref_mut.ensures.len in

@@ -1,4 +1,4 @@
--- The length, the version, the flags and the count are the form.
+-- The length, the version, the flags and the count are the encoding.
 use Rattle.std.proofs.Common.{refl}
 use Rattle.record_search.proofs.LessIndex.{alone_pushed}
 use Rattle.record_search.proofs.unread.RowsAloneUnread.append_piece.Goals as goal

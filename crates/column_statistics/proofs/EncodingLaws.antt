@@ -1,0 +1,171 @@
+-- Statistics of columns of one type: as encodings, and merged.
+use Rattle.std.proofs.Common.{◌∙◌, ◌⊎◌, inl, inr, List, ap, ◌≡◌, ℕ, ◌+◌, ◌<◌, ◌^◌, Bool, true, false, nat_lt, Option, Some, None, IfSome, Ordering, Less, Equal, Greater, arith, refl, subst, sym, if◌then◌else◌, option_map}
+use Rattle.std.proofs.lemmas.Bool.Decides.{nat_tests}
+use Rattle.arrow_columns.specs.Kinds.{kind_at}
+use Rattle.arrow_columns.specs.declared.columns.Column.{Column}
+use Rattle.arrow_columns.specs.declared.kinds.Kind.{Kind}
+use Rattle.arrow_columns.specs.declared.kinds.Kind.TheVariants.{Binary, Boolean, Integer, LargeBinary, LargeUtf8, Null, Utf8}
+use Rattle.column_cells.specs.Types.{type_at, type_of_column, type_of_kind}
+use Rattle.vortex_dtype.specs.TypeTree.{TypeTree}
+use Rattle.vortex_value.specs.Validity.{Valid}
+use Rattle.vortex_value.specs.TypesWithin.{HasNoVariant}
+use Rattle.vortex_value.specs.Values.Scalars.{scalar_raw}
+use Rattle.vortex_cells.specs.Cells.{cell_order, order_from_above}
+use Rattle.statistics_bytes.specs.EncodingSteps.{HasNoVariantIn, HasNoVariants}
+use Rattle.vortex_statistics.specs.Merging.{AreRightTogether, bound_of_both, bound_order, merged, outer_by, sum_of}
+use Rattle.vortex_statistics.specs.Statistics.{Known, KnownBound, known, known_bound, may_be_value}
+use Rattle.vortex_statistics.specs.declared.column_statistics.Bound.{Bound}
+use Rattle.vortex_statistics.specs.declared.column_statistics.ColumnStatistics.{ColumnStatistics}
+use Rattle.statistics_bytes.specs.Encoding.{AreOf, IsBoundOf, IsHeldBound, IsHeldKnown, encoding}
+use Rattle.statistics_bytes.specs.EncodingAnswers.{SaysBound}
+use Rattle.vortex_statistics.specs.declared.error.StatisticsError.{StatisticsError}
+use Rattle.vortex_statistics.specs.declared.error.StatisticsError.TheVariants.{BadBytes, HasVariant, OutOfMemory as Memory}
+use Rattle.column_statistics.specs.Errors.{IsColumnStatisticsError}
+use Rattle.column_statistics.specs.Encodings.{IsEncodingAs, IsEncodingError, IsMergeError, IsMergedEncoding, IsReadError, IsWrongAt, fault_of_piece, read_fault}
+use Rattle.column_statistics.specs.declared.errors.MergeError.{MergeError}
+use Rattle.column_statistics.specs.declared.errors.ReadError.{ReadError}
+use Rattle.column_statistics.specs.declared.errors.ReadError.TheVariants as read
+use Rattle.column_statistics.specs.declared.errors.ColumnStatisticsError.{ColumnStatisticsError}
+use Rattle.column_statistics.specs.declared.errors.ColumnStatisticsError.TheVariants.{OutOfMemory, Unreadable}
+use Rattle.column_statistics.specs.Cells.{HasBoundsIn, IsBoundIn}
+
+-- ---- types of columns
+
+pub no_variant : (kind : Kind) → HasNoVariant (type_of_kind kind)
+no_variant (Integer kind) = tt
+no_variant Boolean = tt
+no_variant Utf8 = tt
+no_variant LargeUtf8 = tt
+no_variant Binary = tt
+no_variant LargeBinary = tt
+no_variant Null = tt
+
+no_variant_at : (kind : Option Kind) → HasNoVariant (type_at kind)
+no_variant_at None = tt
+no_variant_at (Some kind) = no_variant kind
+
+pub no_variant_in : (column : Column) → HasNoVariant (type_of_column column)
+no_variant_in column = no_variant_at (kind_at column.kind)
+
+-- ---- statistics of a type
+
+bound_without : (t : TypeTree) (b : Option Bound) → HasNoVariant t → IfSome b (IsBoundIn t) → HasNoVariantIn (option_map known_bound b)
+bound_without t None n h = tt
+bound_without t (Some b) n h = subst HasNoVariant (sym h.typed) n
+
+pub without_variants : (t : TypeTree) (s : ColumnStatistics) → HasNoVariant t → HasBoundsIn t s → HasNoVariants (known s)
+without_variants t s n h = record {
+  lower = bound_without t s.lower n h.lower;
+  upper = bound_without t s.upper n h.upper;
+}
+
+bound_of_type : (t : TypeTree) (b : Option Bound) → HasNoVariant t → IfSome b (IsBoundIn t) → IsHeldBound (option_map known_bound b) → IsBoundOf t (option_map known_bound b)
+bound_of_type t None n h k = tt
+bound_of_type t (Some b) n h k = record {
+  typed = h.typed;
+  ordered = n;
+  value = scalar_raw b.value;
+  is_value = record { valid = subst (λ u. Valid u (scalar_raw b.value)) h.typed h.valid; held = k };
+  is = refl;
+}
+
+pub are_of : (t : TypeTree) (s : ColumnStatistics) → HasNoVariant t → HasBoundsIn t s → IsHeldKnown (known s) → AreOf t (known s)
+are_of t s n h k = record {
+  rows = k.rows;
+  nulls = k.nulls;
+  lower = bound_of_type t s.lower n h.lower k.lower;
+  upper = bound_of_type t s.upper n h.upper k.upper;
+}
+
+-- ---- of two pieces
+
+module _ (t : TypeTree) where
+  outer_of : (o : Option Ordering) (a b : Option KnownBound) → IsBoundOf t a → IsBoundOf t b → IsBoundOf t (outer_by o a b)
+  outer_of None a b h k = tt
+  outer_of (Some Less) a b h k = h
+  outer_of (Some Greater) a b h k = k
+  outer_of (Some Equal) None b h k = tt
+  outer_of (Some Equal) (Some a) None h k = tt
+  outer_of (Some Equal) (Some a) (Some b) h k = h
+
+  both_of : (o : Option Ordering) (p q : Bool) (a b : Option KnownBound) → IsBoundOf t a → IsBoundOf t b → IsBoundOf t (bound_of_both o p q a b)
+  both_of o true true a b h k = outer_of o a b h k
+  both_of o true false a b h k = h
+  both_of o false true a b h k = k
+  both_of o false false None b h k = k
+  both_of o false false (Some a) b h k = h
+
+  small_sum : (m n : Option ℕ) → IfSome (sum_of m n) (λ k. k < 2 ^ 64)
+  small_sum None n = tt
+  small_sum (Some m) None = tt
+  small_sum (Some m) (Some n) = by_test (nat_lt (m + n) (2 ^ 64)) refl
+    where
+      by_test : (b : Bool) → nat_lt (m + n) (2 ^ 64) ≡ b → IfSome (if b then Some (m + n) else None) (λ k. k < 2 ^ 64)
+      by_test true e = grind (arith, nat_tests)
+      by_test false e = tt
+
+  pub merged_of : (s u : Known) → AreOf t s → AreOf t u → s.row_count + u.row_count < 2 ^ 64 → AreOf t (merged s u)
+  merged_of s u h k l = record {
+    rows = l;
+    nulls = small_sum s.null_count u.null_count;
+    lower = both_of (bound_order cell_order s.lower u.lower) (may_be_value s) (may_be_value u) s.lower u.lower h.lower k.lower;
+    upper = both_of (bound_order order_from_above s.upper u.upper) (may_be_value s) (may_be_value u) s.upper u.upper h.upper k.upper;
+  }
+
+-- what is of a type has keys, if the type has
+key_bound : (t : TypeTree) (b : Option KnownBound) → IsBoundOf t b → HasNoVariantIn b
+key_bound t None h = tt
+key_bound t (Some b) h = subst HasNoVariant (sym h.typed) h.ordered
+
+pub keyed : (t : TypeTree) (s : Known) → AreOf t s → HasNoVariants s
+keyed t s h = record { lower = key_bound t s.lower h.lower; upper = key_bound t s.upper h.upper }
+
+-- ---- what a function below answered, in the words of the function above
+
+pub encoding_fault : (column : Column) (fault : ColumnStatisticsError) → IsColumnStatisticsError column fault → IsEncodingError column fault
+encoding_fault column OutOfMemory h = h.0
+encoding_fault column (Unreadable fault) h = h
+
+-- what was read of bytes, of a type that is this one
+pub as_encoding : (t u : TypeTree) (bytes : List ℕ) (s : Known) → t ≡ u → AreOf t s → bytes ≡ encoding s → IsEncodingAs u bytes s
+as_encoding t u bytes s e h f = record { of_type = subst (λ v. AreOf v s) e h; is = f }
+
+-- why bytes are not read, of a type that is this one, in which no variant stands
+pub not_read : (t u : TypeTree) (bytes : List ℕ) (e : StatisticsError) (told : ReadError) → t ≡ u → HasNoVariant u → told ≡ read_fault e
+    → (e ≡ HasVariant → (¬ (HasNoVariant t)) × SaysBound bytes) → ((place : ℕ) → e ≡ BadBytes place → IsWrongAt t bytes place)
+    → ((e ≡ HasVariant) ⊎ (((e ≡ Memory) × SaysBound bytes) ⊎ ((place : ℕ) × (e ≡ BadBytes place)))) → IsReadError u bytes told
+not_read t u bytes e told q n f variant bad (inl h) = absurd ((variant h).0 (subst HasNoVariant (sym q) n))
+not_read t u bytes e told q n f variant bad (inr (inl h)) = subst (IsReadError u bytes) (sym (f ∙ ap read_fault h.0)) h.1
+not_read t u bytes e told q n f variant bad (inr (inr h)) =
+    subst (IsReadError u bytes) (sym (f ∙ ap read_fault h.1)) (subst (λ v. IsWrongAt v bytes h.0) q (bad h.0 h.1))
+
+-- both pieces, which are encodings
+pub merged_keyed : (t : TypeTree) (one other : List ℕ) (s u m : Known) → IsEncodingAs t one s → IsEncodingAs t other u → s.row_count + u.row_count < 2 ^ 64 → m ≡ merged s u → HasNoVariants m
+merged_keyed t one other s u m h k l e = subst HasNoVariants (sym e) (keyed t (merged s u) (merged_of t s u h.of_type k.of_type l))
+
+pub merged_encoding_of : (t : TypeTree) (one other bytes : List ℕ) (s u m : Known) → IsEncodingAs t one s → IsEncodingAs t other u → s.row_count + u.row_count < 2 ^ 64
+    → m ≡ merged s u → AreRightTogether s u m → bytes ≡ encoding m → IsMergedEncoding t one other bytes
+merged_encoding_of t one other bytes s u m h k l e r f = record {
+  first = s;
+  second = u;
+  is_first = h;
+  is_second = k;
+  together = subst (AreRightTogether s u) e r;
+  both = record { of_type = merged_of t s u h.of_type k.of_type l; is = f ∙ ap encoding e };
+}
+
+pub first_wrong : (t : TypeTree) (one other : List ℕ) (fault : ReadError) (told : MergeError) → told ≡ fault_of_piece 0 fault → IsReadError t one fault → IsMergeError t one other told
+first_wrong t one other fault told e h = subst (IsMergeError t one other) (sym e) (by_fault fault h)
+  where
+    by_fault : (fault : ReadError) → IsReadError t one fault → IsMergeError t one other (fault_of_piece 0 fault)
+    by_fault read.OutOfMemory k = tt
+    by_fault (read.BadBytes place) k = inl (refl, k)
+
+pub second_wrong : (t : TypeTree) (one other : List ℕ) (s : Known) (fault : ReadError) (told : MergeError) → told ≡ fault_of_piece 1 fault → IsEncodingAs t one s → IsReadError t other fault → IsMergeError t one other told
+second_wrong t one other s fault told e f h = subst (IsMergeError t one other) (sym e) (by_fault fault h)
+  where
+    by_fault : (fault : ReadError) → IsReadError t other fault → IsMergeError t one other (fault_of_piece 1 fault)
+    by_fault read.OutOfMemory k = tt
+    by_fault (read.BadBytes place) k = inr (refl, record { statistics = s; of_type = f.of_type; is = f.is }, k)
+
+pub ruleset shown = (without_variants, no_variant, no_variant_in, encoding_fault)

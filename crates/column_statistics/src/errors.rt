@@ -1,0 +1,34 @@
+//! Why a column has no statistics, and why bytes are none.
+
+use arrow_columns::ColumnError;
+
+/// Why a column has no statistics.
+#[derive(Clone, Copy, Debug, PartialEq, Eq)]
+pub enum ColumnStatisticsError {
+    /// An allocation was refused.
+    OutOfMemory,
+    /// The column cannot be read.
+    Unreadable(ColumnError),
+}
+
+/// Why bytes are read as no statistics.
+#[derive(Clone, Copy, Debug, PartialEq, Eq)]
+pub enum ReadError {
+    /// An allocation was refused.
+    OutOfMemory,
+    /// They are no encoding of statistics of the type: the place of the first byte that none has
+    /// there, or of the end if they end too early.
+    BadBytes { offset: usize },
+}
+
+/// Why the statistics of two pieces are not merged.
+#[derive(Clone, Copy, Debug, PartialEq, Eq)]
+pub enum MergeError {
+    /// An allocation was refused.
+    OutOfMemory,
+    /// There are more rows than 64 bits can count.
+    TooManyRows,
+    /// The bytes of piece 0 or 1 are no encoding of statistics of the type: the first such piece,
+    /// and the place in it.
+    BadBytes { piece: usize, offset: usize },
+}

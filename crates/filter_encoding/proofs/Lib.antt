@@ -1,0 +1,10 @@
+pub mod EncodingLaws
+pub mod HeadLaws
+pub mod ListLaws
+pub mod LiteralLaws
+pub mod NodeLaws
+pub mod PlaceLaws
+pub mod ReadSteps
+pub mod Stuck
+pub mod TypeLaws
+pub mod WriteSteps

@@ -1,0 +1,24 @@
+-- What reading an encoding answers: the prepared filter that was written, or the first byte that no encoding has there.
+use Rattle.std.specs.Prelude.{◌≡◌, ℕ, suc, ◌<◌, ◌≤◌, List, length, take, Result, MatchResult}
+use Rattle.statistics_bytes.specs.EncodingAnswers.{MayGoOn}
+use Rattle.filter_encoding.specs.Encoding.{HasEncoding, Prepared, encoding, prepared}
+use Rattle.filter_encoding.specs.Strings.{IsEncodingOf}
+use Rattle.filter_encoding.specs.declared.error.FilterEncodingError.{FilterEncodingError}
+use Rattle.filter_encoding.specs.declared.error.FilterEncodingError.TheVariants.{OutOfMemory}
+use Rattle.filter_encoding.specs.declared.prepared.PreparedFilter.{PreparedFilter}
+
+-- the encoding of a prepared filter in which at most n connectives nest
+abbrev pub IsEncoding : ℕ → List ℕ → Type 0
+IsEncoding n = IsEncodingOf encoding (HasEncoding n)
+
+-- The bytes are none of the strings, and this is the place of the first byte that none has: those before begin one, and with
+-- it they begin none. If the bytes end too early, it is the place after them.
+pub record IsFirstWrong (IsOne : List ℕ → Type 0) (bytes : List ℕ) (place : ℕ) : Type 0 where
+  pub within : place ≤ length bytes
+  pub before : MayGoOn IsOne (take place bytes)
+  pub wrong : place < length bytes → ¬ (MayGoOn IsOne (take (suc place) bytes))
+  pub none : ¬ (IsOne bytes)
+
+-- exactly this prepared filter is read, or there is no memory
+abbrev pub ReadsAs : Prepared → Result PreparedFilter FilterEncodingError → Type 0
+ReadsAs p r = MatchResult r (λ q. prepared q ≡ p) (λ e. e ≡ OutOfMemory)

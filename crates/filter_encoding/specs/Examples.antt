@@ -1,0 +1,60 @@
+-- Worked cases of the encoding, each a theorem.
+use Rattle.std.specs.Prelude.{◌≡◌, ℕ, pos, negsuc, [], ◌∷◌, ◌++◌, None, refl}
+use Rattle.vortex_dtype.specs.TypeTree.{bool_type, integer_type, null_type, utf8_type}
+use Rattle.vortex_dtype.specs.declared.nullability.Nullability.TheVariants.{NonNullable, Nullable}
+use Rattle.vortex_dtype.specs.declared.ptype.PType.TheVariants.{I8, I32, U8}
+use Rattle.vortex_value.specs.Values.Content.{null, text, whole}
+use Rattle.vortex_cells.specs.Cells.{Cell}
+use Rattle.vortex_filter.specs.declared.operator.CompareOperator.TheVariants.{Gte}
+use Rattle.vortex_filter.specs.declared.truth.Truth.TheVariants.{True}
+use Rattle.vortex_filter.specs.Formula.{both, comparison, constant, membership, negation, null_test, prefix_test}
+use Rattle.filter_encoding.specs.Encoding.{Prepared, encoding, literal_bytes, node_bytes, type_byte}
+use Rattle.filter_encoding.specs.Lists.{count_bytes}
+use Rattle.filter_encoding.specs.Steps.{type_at}
+
+-- a place, and a count, take 8 bytes
+place_of_second : count_bytes 1 ≡ 0 ∷ 0 ∷ 0 ∷ 0 ∷ 0 ∷ 0 ∷ 0 ∷ 1 ∷ []
+place_of_second = refl
+
+-- 16 more for a type that takes a null
+plain_and_nullable : type_byte (integer_type I32 NonNullable) ∷ type_byte (integer_type I32 Nullable) ∷ type_byte null_type ∷ [] ≡ 6 ∷ 22 ∷ 29 ∷ []
+plain_and_nullable = refl
+
+-- there is no type with the bytes 10 and 12
+no_such_type : type_at 10 ≡ None
+no_such_type = refl
+
+-- the i8 -1, and a null of a bool
+minus_one : literal_bytes (record { typed = integer_type I8 NonNullable; content = whole (negsuc 0) }) ≡ 4 ∷ 11 ∷ 254 ∷ []
+minus_one = refl
+
+no_bool : literal_bytes (record { typed = bool_type Nullable; content = null }) ≡ 24 ∷ 1 ∷ []
+no_bool = refl
+
+-- true; and: the first column is not null
+always : node_bytes (constant True) ≡ 2 ∷ []
+always = refl
+
+not_null : node_bytes (negation (null_test 0)) ≡ 15 ∷ 9 ∷ count_bytes 0
+not_null = refl
+
+-- in a list of two u8, 0 and 7
+abbrev small : ℕ → Cell
+small n = record { typed = integer_type U8 NonNullable; content = whole (pos n) }
+
+one_of_two : node_bytes (membership 0 (small 0 ∷ small 7 ∷ [])) ≡ 10 ∷ (count_bytes 0 ++ (count_bytes 2 ++ 0 ∷ 12 ∷ 0 ∷ 13 ∷ 7 ∷ []))
+one_of_two = refl
+
+-- x >= 10 and name like 'ab%', over the columns x, an i32, and name, a string
+abbrev ten : Cell
+ten = record { typed = integer_type I32 NonNullable; content = whole (pos 10) }
+
+abbrev beginning : Cell
+beginning = record { typed = utf8_type NonNullable; content = text (97 ∷ 98 ∷ []) }
+
+abbrev from_ten : Prepared
+from_ten = record { types = integer_type I32 Nullable ∷ utf8_type Nullable ∷ []; filter = both (comparison 0 Gte ten) (prefix_test 1 beginning) }
+
+worked : encoding from_ten ≡
+    1 ∷ 0 ∷ 0 ∷ 0 ∷ 0 ∷ 0 ∷ 0 ∷ 0 ∷ 2 ∷ 22 ∷ 25 ∷ 13 ∷ 6 ∷ 0 ∷ 0 ∷ 0 ∷ 0 ∷ 0 ∷ 0 ∷ 0 ∷ 0 ∷ 6 ∷ 13 ∷ 10 ∷ 12 ∷ 0 ∷ 0 ∷ 0 ∷ 0 ∷ 0 ∷ 0 ∷ 0 ∷ 1 ∷ 9 ∷ 21 ∷ 97 ∷ 98 ∷ 0 ∷ []
+worked = refl

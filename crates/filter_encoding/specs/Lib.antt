@@ -1,0 +1,7 @@
+pub mod Answers
+pub mod Examples
+pub mod Encoding
+pub mod Lists
+pub mod Steps
+pub mod Strings
+pub mod Words

@@ -1,0 +1,33 @@
+//! Why a filter was not written or not read.
+
+ghost use Rattle.std.specs.Prelude.{◌≡◌};
+ghost use Rattle.filter_encoding.specs.declared.error.FilterEncodingError.TheVariants.{OutOfMemory};
+
+use std::alloc::AllocError;
+use thiserror::Error;
+
+/// Why a filter was not written or not read. What `Display` writes is for people and is not
+/// promised.
+#[derive(Clone, Copy, Debug, PartialEq, Eq, Error)]
+pub enum FilterEncodingError {
+    /// An allocation was refused.
+    #[error("out of memory")]
+    OutOfMemory,
+    /// A column or a literal is of a type that has no byte, such as a list, or the filter nests too
+    /// deep.
+    #[error("no encoding")]
+    NoEncoding,
+    /// The bytes are no encoding: the place of the first byte that no encoding has there, or of the
+    /// end if they end too early.
+    #[error("no encoding of a filter: byte {offset}")]
+    BadBytes { offset: usize },
+}
+
+/// Out of memory, whatever was asked for.
+impl From<AllocError> for FilterEncodingError {
+    ghost from_gives = { λ _ e. e ≡ OutOfMemory };
+
+    fn from(_error: AllocError) -> FilterEncodingError {
+        FilterEncodingError::OutOfMemory
+    }
+}

@@ -1,0 +1,235 @@
+//! A prepared filter from its encoding in bytes.
+
+ghost use Rattle.std.specs.Prelude.{◌≡◌, ◌≢◌, ◌∷◌, ◌⊎◌, ◌<◌, ◌≤◌, ℕ, List, Err, IfErr, IfOk, MatchResult};
+ghost use Rattle.filter_encoding.specs.Words.{AreValid, BadBytes, HasEncoding, IsFirstWrong, IsEncoding, IsNode, OutOfMemory, Prepared, Reads, ReadsAs, ReadsBehind, ReadsBoth, encoding, formula, left, literals_of, node_bytes, operator_byte, prepared};
+
+use crate::error::FilterEncodingError;
+use crate::heads::{Head, read_head};
+use crate::literals::{read_literal, read_literals};
+use crate::places::read_place;
+use crate::prepared::PreparedFilter;
+use crate::reader::{Fault, Reader};
+use crate::types::read_types;
+use crate::writing::VERSION;
+use std::alloc::Global;
+use vortex_filter::{CompareOperator, Filter};
+
+/// The prepared filter that has this encoding, in which at most `depth` connectives nest.
+///
+/// `BadBytes` if the bytes are not, whole, the encoding of such a filter: its place is that of the
+/// first byte that no such encoding has there, or of the end if they end too early. `OutOfMemory`
+/// may come in place of each answer. Each literal of the filter is valid for its type.
+pub fn read_filter(
+    alloc: Global,
+    depth: usize,
+    bytes: &[u8],
+) -> Result<PreparedFilter, FilterEncodingError>
+    ensures read { IfOk result
+        (λ p. HasEncoding depth (prepared p) × (bytes.now ≡ encoding (prepared p))) }
+    ensures valid { IfOk result (λ p. AreValid (literals_of p.filter)) }
+    ensures whole { (p : Prepared) → HasEncoding depth p → bytes.now ≡ encoding p → ReadsAs p result }
+    ensures bad { (place : ℕ) → result ≡ Err (BadBytes place)
+        → IsFirstWrong (IsEncoding depth) bytes.now place }
+    ensures refused { IfErr result (λ e. (e ≡ OutOfMemory)
+        ⊎ ((place : ℕ) × (e ≡ BadBytes place))) }
+{
+    let mut reader = Reader { rest: bytes };
+    let answer = read_encoding(alloc, depth, &mut reader);
+    let taken = bytes.len().saturating_sub(reader.rest.len());
+    match answer {
+        Ok(prepared) => whole_or_bad(prepared, taken, bytes.len()),
+        Err(Fault::NoMemory) => Err(FilterEncodingError::OutOfMemory),
+        Err(Fault::Bad) => Err(FilterEncodingError::BadBytes { offset: taken }),
+    }
+}
+
+/// The prepared filter, if its encoding was all of the bytes.
+fn whole_or_bad(
+    prepared: PreparedFilter,
+    taken: usize,
+    length: usize,
+) -> Result<PreparedFilter, FilterEncodingError>
+    ensures { MatchResult result
+        (λ p. (p ≡ prepared) × (length ≤ taken))
+        (λ e. (e ≡ BadBytes taken) × (taken < length)) }
+{
+    if taken < length {
+        drop(prepared);
+        return Err(FilterEncodingError::BadBytes { offset: taken });
+    }
+    Ok(prepared)
+}
+
+/// The prepared filter with whose encoding the bytes begin.
+fn read_encoding(
+    alloc: Global,
+    depth: usize,
+    reader: &mut Reader<'_>,
+) -> Result<PreparedFilter, Fault>
+    ensures read { Reads encoding (HasEncoding depth) prepared result (left reader.old) (left reader.new) }
+    ensures valid { IfOk result (λ p. AreValid (literals_of p.filter)) }
+{
+    read_version(reader)?;
+    let columns = read_types(alloc, reader)?;
+    match read_node(alloc, depth, reader) {
+        Ok(filter) => Ok(PreparedFilter { columns, filter }),
+        Err(fault) => {
+            drop(columns);
+            Err(fault)
+        }
+    }
+}
+
+/// Takes the version.
+fn read_version(reader: &mut Reader<'_>) -> Result<(), Fault>
+    ensures { MatchResult result
+        (λ _. left reader.old ≡ 1 ∷ left reader.new)
+        (λ e. (left reader.new ≡ left reader.old)
+        × ((bs : List ℕ) → left reader.old ≢ 1 ∷ bs)) }
+{
+    if reader.takes(VERSION) {
+        Ok(())
+    } else {
+        Err(Fault::Bad)
+    }
+}
+
+/// The next filter, in which at most so many connectives nest.
+#[cycle(filters)]
+#[tactic(auto, using(vortex_filter::proofs::LiteralSteps::valid))]
+fn read_node(alloc: Global, depth: usize, reader: &mut Reader<'_>) -> Result<Filter, Fault>
+    ensures read { Reads node_bytes (IsNode depth) formula
+        result (left reader.old) (left reader.new) }
+    ensures valid { IfOk result (λ f. AreValid (literals_of f)) }
+{
+    let head = read_head(depth, reader)?;
+    match head {
+        Head::Constant(truth) => Ok(Filter::Constant(truth)),
+        Head::Compare(operator) => read_comparison(alloc, operator, reader),
+        Head::IsNull => read_null_test(reader),
+        Head::In => read_membership(alloc, reader),
+        Head::Between => read_range(alloc, reader),
+        Head::StartsWith => read_prefix(alloc, reader),
+        Head::And => {
+            let (left, right) = read_parts(alloc, depth - 1, reader)?;
+            Ok(Filter::And(left, right))
+        }
+        Head::Or => {
+            let (one, other) = read_parts(alloc, depth - 1, reader)?;
+            Ok(Filter::Or(one, other))
+        }
+        Head::Not => {
+            let inner = read_part(alloc, depth - 1, reader)?;
+            Ok(Filter::Not(inner))
+        }
+    }
+}
+
+/// The next filter, in a box.
+#[cycle(filters)]
+#[tactic(auto, using(vortex_filter::proofs::LiteralSteps::valid))]
+fn read_part(alloc: Global, depth: usize, reader: &mut Reader<'_>) -> Result<Box<Filter>, Fault>
+    ensures read { Reads node_bytes (IsNode depth) (λ part. formula part.value)
+        result (left reader.old) (left reader.new) }
+    ensures valid { IfOk result (λ part. AreValid (literals_of part.value)) }
+{
+    let filter = read_node(alloc, depth, reader)?;
+    Ok(Box::new(alloc, filter)?)
+}
+
+/// The next two filters, in boxes.
+#[cycle(filters)]
+#[tactic(auto, using(vortex_filter::proofs::LiteralSteps::valid))]
+fn read_parts(
+    alloc: Global,
+    depth: usize,
+    reader: &mut Reader<'_>,
+) -> Result<(Box<Filter>, Box<Filter>), Fault>
+    ensures read { ReadsBoth depth result (left reader.old) (left reader.new) }
+    ensures valid { IfOk result (λ parts. AreValid (literals_of parts.0.value)
+        × AreValid (literals_of parts.1.value)) }
+{
+    let left = read_part(alloc, depth, reader)?;
+    match read_part(alloc, depth, reader) {
+        Ok(right) => Ok((left, right)),
+        Err(fault) => {
+            drop(left);
+            Err(fault)
+        }
+    }
+}
+
+// ---- tests
+
+/// A comparison, after its first byte.
+#[tactic(auto, using(vortex_filter::proofs::LiteralSteps::valid))]
+fn read_comparison(
+    alloc: Global,
+    operator: CompareOperator,
+    reader: &mut Reader<'_>,
+) -> Result<Filter, Fault>
+    ensures read { (n : ℕ) → ReadsBehind (operator_byte operator) n
+        result (left reader.old) (left reader.new) }
+    ensures valid { IfOk result (λ f. AreValid (literals_of f)) }
+{
+    let column = read_place(reader)?;
+    let literal = read_literal(alloc, reader)?;
+    Ok(Filter::Compare {
+        column,
+        operator,
+        literal,
+    })
+}
+
+/// A test for null, after its first byte.
+#[tactic(auto, using(vortex_filter::proofs::LiteralSteps::valid))]
+fn read_null_test(reader: &mut Reader<'_>) -> Result<Filter, Fault>
+    ensures read { (n : ℕ) → ReadsBehind 9 n result (left reader.old) (left reader.new) }
+    ensures valid { IfOk result (λ f. AreValid (literals_of f)) }
+{
+    let column = read_place(reader)?;
+    Ok(Filter::IsNull { column })
+}
+
+/// Whether a cell is equal to one of several literals, after its first byte.
+#[tactic(auto, using(vortex_filter::proofs::LiteralSteps::valid))]
+fn read_membership(alloc: Global, reader: &mut Reader<'_>) -> Result<Filter, Fault>
+    ensures read { (n : ℕ) → ReadsBehind 10 n result (left reader.old) (left reader.new) }
+    ensures valid { IfOk result (λ f. AreValid (literals_of f)) }
+{
+    let column = read_place(reader)?;
+    let literals = read_literals(alloc, reader)?;
+    Ok(Filter::In { column, literals })
+}
+
+/// Whether a cell is from one literal up to another, after its first byte.
+#[tactic(auto, using(vortex_filter::proofs::LiteralSteps::valid))]
+fn read_range(alloc: Global, reader: &mut Reader<'_>) -> Result<Filter, Fault>
+    ensures read { (n : ℕ) → ReadsBehind 11 n result (left reader.old) (left reader.new) }
+    ensures valid { IfOk result (λ f. AreValid (literals_of f)) }
+{
+    let column = read_place(reader)?;
+    let lower = read_literal(alloc, reader)?;
+    match read_literal(alloc, reader) {
+        Ok(upper) => Ok(Filter::Between {
+            column,
+            lower,
+            upper,
+        }),
+        Err(fault) => {
+            drop(lower);
+            Err(fault)
+        }
+    }
+}
+
+/// Whether a cell begins with a literal, after its first byte.
+#[tactic(auto, using(vortex_filter::proofs::LiteralSteps::valid))]
+fn read_prefix(alloc: Global, reader: &mut Reader<'_>) -> Result<Filter, Fault>
+    ensures read { (n : ℕ) → ReadsBehind 12 n result (left reader.old) (left reader.new) }
+    ensures valid { IfOk result (λ f. AreValid (literals_of f)) }
+{
+    let column = read_place(reader)?;
+    let prefix = read_literal(alloc, reader)?;
+    Ok(Filter::StartsWith { column, prefix })
+}

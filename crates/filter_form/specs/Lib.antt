@@ -1,7 +1,0 @@
-pub mod Answers
-pub mod Examples
-pub mod Form
-pub mod Lists
-pub mod Steps
-pub mod Strings
-pub mod Words
