@@ -1,8 +1,8 @@
 -- What callers are told of a column that cannot be read.
 use Rattle.std.specs.Prelude.{ℕ}
-use Rattle.arrow_columns.specs.declared.faults.Buffer.TheVariants.{Offsets, Validity, Values}
-use Rattle.arrow_columns.specs.declared.faults.ColumnError.{ColumnError}
-use Rattle.arrow_columns.specs.declared.faults.ColumnError.TheVariants.{BadOffsets, NotUtf8, TooManyRows, TooShort, UnknownKind}
+use Rattle.arrow_columns.specs.declared.errors.Buffer.TheVariants.{Offsets, Validity, Values}
+use Rattle.arrow_columns.specs.declared.errors.ColumnError.{ColumnError}
+use Rattle.arrow_columns.specs.declared.errors.ColumnError.TheVariants.{BadOffsets, NotUtf8, TooManyRows, TooShort, UnknownKind}
 use Rattle.vortex_c.specs.declared.status.TheConstants.{BAD_OFFSETS, NOT_UTF8, TOO_MANY_ROWS, TOO_SHORT, UNKNOWN_KIND}
 
 -- the status

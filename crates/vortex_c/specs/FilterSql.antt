@@ -7,7 +7,7 @@ use Rattle.column_cells.specs.Types.{type_at}
 use Rattle.filter_encoding.specs.Encoding.{CanBeWritten, Prepared, encoding}
 use Rattle.vortex_dtype.specs.TypeTree.{TypeTree}
 use Rattle.filter_sql.specs.Columns.{ColumnTree}
-use Rattle.filter_sql.specs.Errors.{IsPlaced, place_of}
+use Rattle.filter_sql.specs.Faults.{IsPlaced, place_of}
 use Rattle.vortex_filter.specs.Formula.{Formula}
 use Rattle.filter_sql.specs.Parsing.{IsSqlWithin, RefusesSqlWithin}
 use Rattle.filter_sql.specs.declared.error.Expected.{Expected}

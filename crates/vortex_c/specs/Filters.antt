@@ -5,10 +5,10 @@ use Rattle.column_filters.specs.Masks.{IsMask, matching}
 use Rattle.column_filters.specs.Tables.{AreColumnsOf, IsMaskError, cells_of_columns}
 use Rattle.arrow_columns.specs.Columns.{rows_in}
 use Rattle.column_filters.specs.Zones.{AreOutcomes, RefusesZones}
-use Rattle.column_filters.specs.declared.faults.MaskError.{MaskError}
-use Rattle.column_filters.specs.declared.faults.MaskError.TheVariants as mask
-use Rattle.column_filters.specs.declared.faults.ZoneError.{ZoneError}
-use Rattle.column_filters.specs.declared.faults.ZoneError.TheVariants as zone
+use Rattle.column_filters.specs.declared.errors.MaskError.{MaskError}
+use Rattle.column_filters.specs.declared.errors.MaskError.TheVariants as mask
+use Rattle.column_filters.specs.declared.errors.ZoneError.{ZoneError}
+use Rattle.column_filters.specs.declared.errors.ZoneError.TheVariants as zone
 use Rattle.filter_encoding.specs.Answers.{IsFirstWrong, IsEncoding}
 use Rattle.filter_encoding.specs.Encoding.{HasEncoding, Prepared, encoding}
 use Rattle.filter_encoding.specs.declared.error.FilterEncodingError.{FilterEncodingError}

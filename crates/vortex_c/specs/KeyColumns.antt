@@ -1,8 +1,8 @@
 -- What callers are told of a column of keys.
 use Rattle.std.specs.Prelude.{◌≡◌, ℕ, List, length}
 use Rattle.column_keys.specs.Answers.{IsRefusal}
-use Rattle.column_keys.specs.declared.faults.KeysError.{KeysError}
-use Rattle.column_keys.specs.declared.faults.KeysError.TheVariants.{BadBytes, BadOffsets, BadOptions, BufferTooSmall, OutOfMemory, UnknownKind, WrongLength}
+use Rattle.column_keys.specs.declared.errors.KeysError.{KeysError}
+use Rattle.column_keys.specs.declared.errors.KeysError.TheVariants.{BadBytes, BadOffsets, BadOptions, BufferTooSmall, OutOfMemory, UnknownKind, WrongLength}
 use Rattle.vortex_c.specs.declared.fault.Fault.{Fault}
 use Rattle.vortex_c.specs.declared.status.TheConstants.{BAD_BYTES, BAD_OFFSETS, BAD_OPTIONS, NO_MEMORY, BUFFER_TOO_SMALL, UNKNOWN_KIND, WRONG_LENGTH}
 

@@ -7,8 +7,8 @@ use Rattle.vortex_value.specs.Values.Content.{Content, null}
 use Rattle.vortex_statistics.specs.Statistics.{Known, KnownBound}
 use Rattle.column_statistics.specs.Encodings.{IsEncodingAs, IsReadError}
 use Rattle.column_statistics.specs.Items.{IsItemOf}
-use Rattle.column_statistics.specs.declared.faults.ReadError.{ReadError}
-use Rattle.column_statistics.specs.declared.faults.ReadError.TheVariants.{BadBytes, OutOfMemory}
+use Rattle.column_statistics.specs.declared.errors.ReadError.{ReadError}
+use Rattle.column_statistics.specs.declared.errors.ReadError.TheVariants.{BadBytes, OutOfMemory}
 use Rattle.vortex_c.specs.Statistics.{SaysNoKind}
 use Rattle.vortex_c.specs.declared.fault.Fault.{Fault}
 use Rattle.vortex_c.specs.declared.parts.StatisticsParts.{StatisticsParts}

@@ -5,8 +5,8 @@ use Rattle.vortex_value.specs.Size.{capped}
 use Rattle.column_keys.specs.Keys.{AreRowKeys, keys_length}
 use Rattle.column_keys.specs.Tables.{contents_in, options_in}
 use Rattle.arrow_columns.specs.Columns.{rows_in}
-use Rattle.column_keys.specs.declared.faults.TableError.{TableError}
-use Rattle.column_keys.specs.declared.faults.TableError.TheVariants.{BadOptions, OutOfMemory, Unreadable, WrongCount, WrongLength}
+use Rattle.column_keys.specs.declared.errors.TableError.{TableError}
+use Rattle.column_keys.specs.declared.errors.TableError.TheVariants.{BadOptions, OutOfMemory, Unreadable, WrongCount, WrongLength}
 use Rattle.vortex_c.specs.ColumnErrors.{place_in_column, status_of_column}
 use Rattle.vortex_c.specs.declared.fault.Fault.{Fault}
 use Rattle.vortex_c.specs.declared.status.TheConstants.{BAD_OPTIONS, NO_MEMORY, WRONG_LENGTH}

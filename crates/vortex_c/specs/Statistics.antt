@@ -5,10 +5,10 @@ use Rattle.arrow_columns.specs.declared.columns.Column.{Column}
 use Rattle.arrow_columns.specs.declared.kinds.Kind.{Kind}
 use Rattle.column_cells.specs.Types.{type_of_kind}
 use Rattle.column_statistics.specs.Encodings.{IsEncodingError, IsMergeError, IsMergedEncoding}
-use Rattle.column_statistics.specs.declared.faults.MergeError.{MergeError}
-use Rattle.column_statistics.specs.declared.faults.MergeError.TheVariants as merge
-use Rattle.column_statistics.specs.declared.faults.ColumnStatisticsError.{ColumnStatisticsError}
-use Rattle.column_statistics.specs.declared.faults.ColumnStatisticsError.TheVariants as column
+use Rattle.column_statistics.specs.declared.errors.MergeError.{MergeError}
+use Rattle.column_statistics.specs.declared.errors.MergeError.TheVariants as merge
+use Rattle.column_statistics.specs.declared.errors.ColumnStatisticsError.{ColumnStatisticsError}
+use Rattle.column_statistics.specs.declared.errors.ColumnStatisticsError.TheVariants as column
 use Rattle.vortex_c.specs.ColumnErrors.{place_in_column, status_of_column}
 use Rattle.vortex_c.specs.declared.fault.Fault.{Fault}
 use Rattle.vortex_c.specs.declared.status.TheConstants.{BAD_BYTES, NO_MEMORY, TOO_MANY_ROWS, UNKNOWN_KIND}
