@@ -62,9 +62,9 @@ pub(crate) fn read_cell(alloc: Global, keys: &RowKeys, row: usize) -> Result<Sca
     let start = keys.offsets[row] as usize;
     let (mut cells, taken) = match decode_row_key(alloc, keys.dtypes, keys.options, key) {
         Ok(decoded) => decoded,
-        Err(RowError::BadKey { offset: place }) => {
+        Err(RowError::BadKey { offset: bad }) => {
             return Err(KeysError::BadBytes {
-                place: start + place,
+                offset: start + bad,
             });
         }
         Err(_) => return Err(KeysError::OutOfMemory),
@@ -72,7 +72,7 @@ pub(crate) fn read_cell(alloc: Global, keys: &RowKeys, row: usize) -> Result<Sca
     if taken < key.len() {
         drop(cells);
         return Err(KeysError::BadBytes {
-            place: start + taken,
+            offset: start + taken,
         });
     }
     Ok(take_cell(&mut cells, keys.which))
