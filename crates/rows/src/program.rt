@@ -31,7 +31,7 @@ pub fn run<R: Read, W: Write>(
     ensures rows { OnOk result (IfSome (R.remaining reader.old) (λ input.
         Appends (W.contents writer.old) (W.contents writer.new) (rows_of input))) }
     ensures end { OnOk result (IsAtEnd (R.remaining reader.new)) }
-    // After a fault other than one of the writer, nothing was written.
+    // After an error other than one of the writer, nothing was written.
     ensures untouched { IfErr result (λ e. e ≢ RowsError.Write → writer.new ≡ writer.old) }
 {
     let output = rows(alloc, reader)?;

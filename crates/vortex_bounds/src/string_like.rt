@@ -64,7 +64,7 @@ impl StringLike for String {
         let Some(next) = next_char(last) else {
             return Err(IncrementError::Last(self));
         };
-        // The room is made first, so that the string can still be handed back.
+        // Capacity is reserved first, so that the string can still be handed back.
         if self
             .reserve(next.len_utf8().saturating_sub(last.len_utf8()))
             .is_err()

@@ -105,7 +105,7 @@ pub fn find_stream<B: BufRead, S: Sink>(
     find_rest(alloc, PIECE, start, matcher, reader, sink)
 }
 
-/// Counts the records of a stream that match, the first of which stands at this place.
+/// Counts the records of a stream that match, the first of which stands at this offset.
 pub fn count_stream<B: BufRead>(
     alloc: Global,
     start: u64,

@@ -87,7 +87,7 @@ pub(super) fn cast_number(number: &PValue, target: &DType) -> Result<ScalarValue
     Ok(ScalarValue::Primitive(number))
 }
 
-/// Appends a part, or drops it if there is no memory. Mostly there is room for it.
+/// Appends a part, or drops it if there is no memory. Mostly there is capacity for it.
 #[inline(always)]
 pub(super) fn push(
     part: Option<ScalarValue>,
@@ -105,7 +105,7 @@ pub(super) fn push(
     }
 }
 
-/// Appends a part to a list that may have no room for it.
+/// Appends a part to a list that may have no capacity for it.
 #[inline(never)]
 fn push_more(part: Option<ScalarValue>, made: &mut Vec<Option<ScalarValue>>) -> Result<(), Refusal>
     ensures { MatchResult result
