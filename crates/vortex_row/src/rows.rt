@@ -182,7 +182,7 @@ fn extend_for_row(values: &[ScalarRef<'_>], out: &mut Vec<u8>) -> Result<(), Row
     extend(row_length(values), out)
 }
 
-/// Writes the key of a row of as many values as there are options, from a place on.
+/// Writes the key of a row of as many values as there are options, from an offset on.
 fn put_columns(
     values: &[ScalarRef<'_>],
     options: &[SortOptions],

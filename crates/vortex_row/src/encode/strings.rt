@@ -1,4 +1,4 @@
-//! Keys of strings, written into a slice from a place on.
+//! Keys of strings, written into a slice from an offset on.
 
 ghost use Rattle.std.specs.Prelude.{[], ◌++◌, ◌<◌, ◌≡◌, ◌≤◌, ◌∷◌, MatchOption, drop, length, slice_index, take};
 ghost use Rattle.vortex_row.specs.Words.{AreBytes, HasSlot, Writes, escape, escaped, inverted};
