@@ -27,7 +27,7 @@ IsBytes-take n bytes h i =
     ]
 
 -- the value of a step that did not fail
-pub bind_ok : {A B : Type 0} (r : Result An EncodingError) (f : A → Result B EncodingError) (y : B) → (r >>= f) ≡ Ok y → (x : A) × (r ≡ Ok x) × (f x ≡ Ok y)
+pub bind_ok : {A B : Type 0} (r : Result A EncodingError) (f : A → Result B EncodingError) (y : B) → (r >>= f) ≡ Ok y → (x : A) × (r ≡ Ok x) × (f x ≡ Ok y)
 bind_ok (Ok x) f y e = (x, refl, e)
 bind_ok (Err d) f y e = absurd cc
 
@@ -36,13 +36,13 @@ pub guard_ok : {A : Type 0} (b : Bool) (d : EncodingError) (x y : A) → cond b 
 guard_ok true d x y e = absurd cc
 guard_ok false d x y e = (refl, cc)
 
-abbrev done : {A : Type 0} → A → Result An EncodingError
+abbrev done : {A : Type 0} → A → Result A EncodingError
 done x = Ok x
 
 pub ok_is : {A : Type 0} (x y : A) → done x ≡ done y → x ≡ y
 ok_is x y e = cc
 
-pub not_both : {A : Type 0} (r : Result An EncodingError) (f : EncodingError) (x : A) → r ≡ Err f → r ≡ Ok x → ⊥
+pub not_both : {A : Type 0} (r : Result A EncodingError) (f : EncodingError) (x : A) → r ≡ Err f → r ≡ Ok x → ⊥
 not_both (Ok y) f x e g = absurd cc
 not_both (Err h) f x e g = absurd cc
 

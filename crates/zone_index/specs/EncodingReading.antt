@@ -12,7 +12,7 @@ use Rattle.zone_index.specs.Encoding.{BlockValue, IndexValue, RootValue, ZoneVal
 
 infixl 10 ◌>>=◌
 -- what reads on, if nothing was wrong so far
-abbrev pub ◌>>=◌ : {A B : Type 0} → Result An EncodingError → (A → Result B EncodingError) → Result B EncodingError
+abbrev pub ◌>>=◌ : {A B : Type 0} → Result A EncodingError → (A → Result B EncodingError) → Result B EncodingError
 (Ok x) >>= f = f x
 (Err e) >>= f = Err e
 
