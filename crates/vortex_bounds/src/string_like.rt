@@ -1,7 +1,9 @@
 //! Strings that can be incremented.
 
-ghost use Rattle.std.specs.Prelude.{◌≡◌, ◌+◌, ◌≤◌, ◌++◌, List, ℕ, length, encode_utf8, IfErr, IfOk, IsOk, MatchOption, MatchResult, string_bytes};
-ghost use Rattle.vortex_bounds.specs.Words.{EndsWith, HandsBack, HasNoNext, HasNoNextOfWidth, IsLast, IsOfNoNext, IsScalar, IsStuck, IsSuccessor, IsSuccessorOfLength, len_utf8};
+ghost use Rattle.std.specs.Prelude.{◌≡◌, ◌+◌, ◌≤◌, ◌++◌, List, ℕ, length, encode_utf8, IfErr, IfOk, IsOk, MatchOption};
+ghost use Rattle.std.specs.Prelude.{MatchResult, string_bytes};
+ghost use Rattle.vortex_bounds.specs.Words.{EndsWith, HandsBack, HasNoNext, HasNoNextOfWidth, IsLast, IsOfNoNext};
+ghost use Rattle.vortex_bounds.specs.Words.{IsScalar, IsStuck, IsSuccessor, IsSuccessorOfLength, len_utf8};
 
 use arrayvec::ArrayString;
 use std::alloc::Global;
