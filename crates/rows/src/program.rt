@@ -1,7 +1,8 @@
 //! The whole program: from the input to the rows that are written.
 
 ghost use Rattle.std.specs.Prelude.{◌≡◌, ◌≢◌, ◌++◌, ◌∷◌, [], Some, IfErr, IfOk, IfSome, OnOk};
-ghost use Rattle.rows.specs.Words.{Appends, GoesOn, IsAtEnd, bound_request, cast, hex_named, ptype_of, request_in, request_text, row_text, rows_of, whole_of};
+ghost use Rattle.rows.specs.Words.{Appends, GoesOn, IsAtEnd, bound_request, cast, hex_named, ptype_of, request_in};
+ghost use Rattle.rows.specs.Words.{request_text, row_text, rows_of, whole_of};
 
 use crate::answers::{bound_at, number_in_ptype};
 use crate::commands::{Command, Side, command_in};
