@@ -222,7 +222,7 @@ static struct doqallin_fault fault;
 
 static int at_fault(size_t column, size_t place) { return fault.column == column && fault.place == place; }
 
-// Nothing is written but a fault, if there is one.
+// Nothing is written but an error, if there is one.
 static int no_keys(const uint64_t *starts) { return count == 77 && is_kept(buffer, 0) && starts[0] == 9 && starts[2] == 9; }
 
 static void row_keys(void) {
@@ -265,7 +265,7 @@ static void row_keys(void) {
     CHECK(doqallin_row_keys(two, 0, BYTES(""), starts, 3, buffer, BUFFER, &count, &fault) == DOQALLIN_GIVEN && count == 0 && starts[0] == 0);
 }
 
-// The column `which` of keys of these kinds, into buffers of `values` and `starts` bytes and offsets; and that nothing but a fault is
+// The column `which` of keys of these kinds, into buffers of `values` and `starts` bytes and offsets; and that nothing but an error is
 // written.
 static uint64_t starts[3];
 
@@ -386,7 +386,7 @@ static void merged_statistics(void) {
     CHECK(doqallin_merge_statistics(DOQALLIN_I32, six + 1, 21, three, 21, buffer, BUFFER, &count, &fault) == DOQALLIN_BAD_BYTES && at_fault(0, 0));
     CHECK(doqallin_merge_statistics(DOQALLIN_UTF8, three, 22, three, 22, buffer, BUFFER, &count, &fault) == DOQALLIN_BAD_BYTES && at_fault(0, 18));
     CHECK(doqallin_merge_statistics(DOQALLIN_I32, most, 10, three, 22, buffer, BUFFER, &count, &fault) == DOQALLIN_TOO_MANY_ROWS && at_fault(0, 0));
-    // Bytes that are no form are told before rows that are too many.
+    // Bytes that are no encoding are told before rows that are too many.
     CHECK(doqallin_merge_statistics(DOQALLIN_I32, most, 10, three, 1, buffer, BUFFER, &count, &fault) == DOQALLIN_BAD_BYTES && at_fault(1, 1));
     CHECK(doqallin_merge_statistics(14, three, 22, three, 22, buffer, BUFFER, &count, &fault) == DOQALLIN_UNKNOWN_KIND && at_fault(0, 0));
     CHECK(nothing_given());
@@ -445,7 +445,7 @@ static void read_statistics(void) {
     CHECK(read_as(14, three, 22, BUFFER, BUFFER) == DOQALLIN_UNKNOWN_KIND && none_read(0));
 }
 
-// A filter over n, an i16, and s, a string; and its form.
+// A filter over n, an i16, and s, a string; and its encoding.
 static const struct doqallin_named_kind schema[] = {{(const uint8_t *)"n", 1, DOQALLIN_I16}, {(const uint8_t *)"s", 1, DOQALLIN_UTF8}};
 static struct doqallin_mistake mistake;
 static uint8_t form[64];
@@ -476,7 +476,7 @@ static void prepared_filters(void) {
     CHECK(doqallin_prepare_filter(BYTES("\xff"), wrong, 2, 256, buffer, BUFFER, &count, &mistake) == DOQALLIN_NOT_UTF8 && at_mistake(1, 0));
     wrong[0].kind = 14;
     CHECK(doqallin_prepare_filter(BYTES("\xff"), wrong, 2, 256, buffer, BUFFER, &count, &mistake) == DOQALLIN_UNKNOWN_KIND && at_mistake(0, 0));
-    // 256 levels are read. A number that the type lacks takes two more in the form.
+    // 256 levels are read. A number that the type lacks takes two more in the encoding.
     char deep[256 * 4 + 12];
     for (int i = 0; i < 256; i++) memcpy(deep + 4 * i, "not ", 4);
     memcpy(deep + 1024, "n < 99999", 10);
@@ -577,7 +577,7 @@ static void calls(void) {
 
 #define LONG "0123456789012345678901234567"
 
-// The form of the filter "b = true", of a column of booleans.
+// The encoding of the filter "b = true", of a column of booleans.
 static const uint8_t is_true[] = {1, 0, 0, 0, 0, 0, 0, 0, 1, 24, 3, 0, 0, 0, 0, 0, 0, 0, 0, 8, 3};
 
 // The calls that take memory: of bounds at more than 22 bytes, of a line that makes lists, of keys, of statistics, of filters, and of
@@ -611,7 +611,7 @@ static void say(const char *line) {
     if (write(2, line, strlen(line)) < 0) exit(2);
 }
 
-// Of what was given: 0 if it is the bound, the cast list, the key, the statistics, the form, the mask or the outcomes; 3 if it says
+// Of what was given: 0 if it is the bound, the cast list, the key, the statistics, the encoding, the mask or the outcomes; 3 if it says
 // that the cast found no memory; 1 otherwise.
 static int given(int which) {
     if (which == 4) return holds(buffer, count, "list(i64):[1i64, 2i64]") ? 0 : holds(buffer, count, "OutOfMemory") ? 3 : 1;

@@ -19,7 +19,7 @@ static const struct way { const char *before, *after; size_t levels; } ways[] = 
     {"not ", "", 1}, {"(", ")", 1}, {"n = 1 and ", "", 1}, {"s = 'b' or ", "", 1},
     {"n = 1 and not (", ")", 3}, {"(n is null or s like 'c%' and ", ")", 3},
 };
-// A number that the type lacks nests up to 3 deeper in the form.
+// A number that the type lacks nests up to 3 deeper in the encoding.
 static const char *const tests[] = {"n between 1 and 2", "s in ('a', 'b', null)", "n < 99999"};
 #define COUNT_OF(items) (sizeof items / sizeof *items)
 

@@ -109,7 +109,7 @@ class Filter:
     `or`, `not`. `schema` has the kind of each column that it may name: integers, `bool`, `utf8`, `binary`.
 
     Raises BadFilter with the place of a mistake. More than `depth` connectives and parentheses that nest are one: each level
-    takes room on the stack.
+    takes stack.
 
     >>> wanted = Filter("city = 'Oslo' and fare >= 10", {"city": "utf8?", "fare": "u32"})
     >>> zone = {"city": statistics(["Bergen", "Moss"]), "fare": statistics([3, 12], of="u32")}

@@ -151,7 +151,7 @@ column_of_row_keys = _declare(
 )
 
 
-# Most answers have room in this.
+# A buffer of this size holds most answers.
 _Answer = c_char * 256
 
 

@@ -112,7 +112,7 @@ pub struct Filter {
 impl Filter {
     /// Reads a filter, in the words of docs/FILTERS.md, over columns of these names and kinds.
     ///
-    /// At most 32 connectives and parentheses may nest: each level takes room on the stack.
+    /// At most 32 connectives and parentheses may nest: each level takes stack.
     pub fn parse(text: &str, columns: &[(&str, Kind)]) -> Result<Filter, FilterError> {
         Filter::parse_within(text, columns, DEPTH)
     }
@@ -261,7 +261,7 @@ impl Filter {
         }
     }
 
-    /// The prepared filter in its stable form.
+    /// The prepared filter in its stable encoding.
     #[must_use]
     pub fn as_bytes(&self) -> &[u8] {
         &self.bytes

@@ -31,7 +31,7 @@ impl FromStr for Kind {
     }
 }
 
-/// The places of a byte in a text, outside of its quotes. A quote that is doubled within quotes ends them and begins others.
+/// The offsets of a byte in a text, outside of its quotes. A quote that is doubled within quotes ends them and begins others.
 fn places(text: &str, of: u8) -> impl Iterator<Item = usize> {
     let mut open = None;
     text.bytes().enumerate().filter_map(move |(place, byte)| {

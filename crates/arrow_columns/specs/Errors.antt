@@ -24,7 +24,7 @@ IsRowsError column (TooShort Offsets) = ⊥
 IsRowsError column (BadOffsets row) = ⊥
 IsRowsError column (NotUtf8 row) = ⊥
 
--- what its values have, if the rest has no fault
+-- what its values have, if the rest has no error
 abbrev pub IsIntegerError : IntegerKind → Column → ColumnError → Type 0
 IsIntegerError kind column UnknownKind = ⊥
 IsIntegerError kind column TooManyRows = IsRowsError column TooManyRows

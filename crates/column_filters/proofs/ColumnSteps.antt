@@ -69,7 +69,7 @@ sound-more columns types k d rows here all one j other less got = by_place (case
         let found : get_or columns k d ≡ other = got-is columns k d other here (subst (λ n. slice_get columns n ≡ Some other) at got) in
         subst (λ c. IsSound c (slice_index_or types j null_type) (rows_in columns)) found (subst (λ n. IsSound (get_or columns k d) (slice_index_or types n null_type) (rows_in columns)) (sym at) one.sound)
 
--- a fault of a column is one of the table
+-- an error of a column is one of the table
 
 pub table-fault : (columns : List Column) (types : List TypeTree) (k : ℕ) (d : Column) (fault : MaskError) → length columns ≡ length types → k < length columns → AreSoundBefore columns types k
     → IsErrorAt k (get_or columns k d) (get_or types k null_type) (rows_in columns) fault → IsTableError columns types fault

@@ -70,7 +70,7 @@ pub record AreOutcomes (f : Formula) (types : List TypeTree) (bytes offsets done
 
 -- ---- refusals
 
--- the fault of a piece that is refused so
+-- the error of a piece that is refused so
 abbrev pub fault_of_piece : ℕ → StatisticsError → ZoneError
 fault_of_piece piece (refusals.BadBytes place) = BadBytes piece place
 fault_of_piece piece refusals.HasVariant = HasVariant piece

@@ -49,7 +49,7 @@ fn read_column<'a>(
 /// The rows of columns of these types.
 ///
 /// `WrongCount` exactly if there are not as many columns as types, before all else. Then the first
-/// column with a fault says it: `Unreadable`, `TypesDiffer` for cells of another type, up to
+/// column with an error gives it: `Unreadable`, `TypesDiffer` for cells of another type, up to
 /// nullability, and `WrongLength` for another number of rows than the first. `OutOfMemory` may come
 /// in place of these.
 #[tactic(auto, using(crate::proofs::ColumnSteps::shown))]

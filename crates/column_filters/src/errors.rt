@@ -5,7 +5,7 @@ ghost use Rattle.std.specs.Prelude.{◌≡◌};
 use arrow_columns::ColumnError;
 use std::alloc::{AllocError, AllocFailed};
 
-/// Why there is no mask of rows. Of several columns it is the first with a fault.
+/// Why there is no mask of rows. Of several columns it is the first with an error.
 #[derive(Clone, Copy, Debug, PartialEq, Eq)]
 pub enum MaskError {
     /// An allocation was refused.
@@ -23,7 +23,7 @@ pub enum MaskError {
 }
 
 /// Why there are no outcomes of zones. A piece is what is said of one column in one zone. Pieces
-/// count from 0, zone by zone. Of several it is the first with a fault.
+/// count from 0, zone by zone. Of several it is the first with an error.
 #[derive(Clone, Copy, Debug, PartialEq, Eq)]
 pub enum ZoneError {
     /// An allocation was refused.
@@ -33,7 +33,7 @@ pub enum ZoneError {
     /// The offsets of the piece go down, or past the end of the statistics.
     BadOffsets { piece: usize },
     /// The piece is no encoding of statistics of its column's type, and says no bound of one with a
-    /// variant: the place in it of the first byte that none has there.
+    /// variant: the offset in it of the first byte that none has there.
     BadBytes { piece: usize, offset: usize },
     /// The piece says a bound of a column in whose type a variant stands.
     HasVariant { piece: usize },

@@ -179,7 +179,7 @@ fn read_piece(
     }
 }
 
-/// The fault of a piece that was not read.
+/// The error of a piece that was not read.
 fn fault_of_piece(piece: usize, refusal: StatisticsError) -> ZoneError
     ensures { result ≡ fault_of_piece piece refusal }
 {

@@ -46,6 +46,6 @@ bits-done of_cell keys row bitmap at all cells are = record {
   zeros = λ k g l. all.1 k (omega (arith, g, at, are.count));
 }
 
--- the bit of the next row is still 0, and there is room for it
+-- the bit of the next row is still 0, and the buffer holds it
 pub bit-clear : (of_cell : Content → Bool) (keys : RowKeys) (row : ℕ) (bitmap : List ℕ) → AreBitsBefore of_cell keys row bitmap → bit_of bitmap row ≡ false
 bit-clear of_cell keys row bitmap all = all.1 row (omega arith)

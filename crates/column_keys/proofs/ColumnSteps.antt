@@ -49,7 +49,7 @@ sound-more columns options k d read here all one j other less got = by_place (ca
         let found : get_or columns k d ≡ other = got-is columns k d other here (subst (λ n. slice_get columns n ≡ Some other) at got) in
         subst (λ c. IsSound c (slice_index options j) (rows_in columns)) found (subst (λ n. IsSound (get_or columns k d) (slice_index options n) (rows_in columns)) (sym at) one.sound)
 
--- a fault of a column is one of the table
+-- an error of a column is one of the table
 
 pub table-fault : (columns : List Column) (options : List ℕ) (k : ℕ) (d : Column) (fault : TableError) → length options ≡ length columns → k < length columns → AreSoundBefore columns options k
     → IsErrorAt k (get_or columns k d) (get_or options k 0) (rows_in columns) fault → IsTableError columns options fault

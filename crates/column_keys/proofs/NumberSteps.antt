@@ -116,7 +116,7 @@ integers-more kind keys row values now d p z same all typed is fits here before 
 pub integers-done : (kind : IntegerKind) (keys : RowKeys) (row : ℕ) (values : List ℕ) → row ≡ count_in keys → AreIntegersBefore kind keys row values → (cells : List Content) → AreCells keys cells → AreIntegers kind cells values
 integers-done kind keys row values at all cells are k l = all k (get_or cells k null) (omega (arith, l, at, are.count)) (are.each k l)
 
--- there is room for the integer of a row
+-- the buffer holds the integer of a row
 pub number-buffer : (kind : IntegerKind) (p : PType) (row count size : ℕ) → p ≡ ptype_of_kind kind → row < count → count * width_of kind ≤ size → (row + 1) * byte_width_of p ≤ size
 number-buffer kind p row count size typed l buffer =
     let width : byte_width_of p ≡ width_of kind = ap byte_width_of typed ∙ width-is kind in

@@ -18,7 +18,7 @@ pub record GoesOnAfter (IsOne : List ℕ → Type 0) (bytes : List ℕ) (place :
   pub more : rest ≢ []
   pub at : place ≡ length key
 
--- the bytes are no key of a row of the types: the place of the first byte that none has there, or of the first after one
+-- the bytes are no key of a row of the types: the offset of the first byte that none has there, or of the first after one
 abbrev pub IsWrongKey : List SortOptions → TypeTrees → List ℕ → ℕ → Type 0
 IsWrongKey options types bytes place = IsFirstBad (IsRowKeyOf options types) (Unit {0}) bytes place ⊎ GoesOnAfter (IsRowKeyOf options types) bytes place
 

@@ -65,7 +65,7 @@ fn key_column<'a>(
 /// The columns of a table, each with its byte of options.
 ///
 /// `WrongCount` exactly if there are not as many options as columns, before all else. Then the
-/// first column with a fault says it: `Unreadable`, `BadOptions` for a byte above 3, and
+/// first column with an error gives it: `Unreadable`, `BadOptions` for a byte above 3, and
 /// `WrongLength` for another number of rows than the first. `OutOfMemory` may come in place of
 /// these.
 #[tactic(auto, using(crate::proofs::ColumnSteps::shown))]

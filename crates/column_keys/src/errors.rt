@@ -5,7 +5,7 @@ ghost use Rattle.std.specs.Prelude.{◌≡◌};
 use arrow_columns::ColumnError;
 use std::alloc::{AllocError, AllocFailed};
 
-/// Why a table has no keys. Of several columns it is the first with a fault.
+/// Why a table has no keys. Of several columns it is the first with an error.
 #[derive(Clone, Copy, Debug, PartialEq, Eq)]
 pub enum TableError {
     /// An allocation was refused.
@@ -31,7 +31,8 @@ impl From<AllocError> for TableError {
     }
 }
 
-/// Why keys of rows give no column. Of several kinds, options or keys it is the first with a fault.
+/// Why keys of rows give no column. Of several kinds, options or keys it is the first with an
+/// error.
 #[derive(Clone, Copy, Debug, PartialEq, Eq)]
 pub enum KeysError {
     /// An allocation was refused.
@@ -44,7 +45,7 @@ pub enum KeysError {
     BadOptions { column: usize },
     /// The offsets of the key go down, or past the end of the bytes.
     BadOffsets { row: usize },
-    /// The place among all bytes of the first that no key of a row has there, or of the end of a
+    /// The offset among all bytes of the first that no key of a row has there, or of the end of a
     /// key that ends too early.
     BadBytes { offset: usize },
     /// A buffer is too short for the column, whose values have so many bytes: that number is the

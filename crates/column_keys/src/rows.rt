@@ -6,7 +6,7 @@ use crate::columns::KeyColumn;
 use crate::values::value_at;
 use vortex_row::write_plain_key;
 
-/// Writes the key of a row from this place on, and answers the place after it.
+/// Writes the key of a row from this offset on, and answers the offset after it.
 pub(crate) fn write_row(columns: &[KeyColumn], row: usize, start: usize, buffer: &mut [u8]) -> usize
     requires row { HasRow columns.now row }
     requires buffer { HasSlot buffer.old start (key_of_row (options_of columns.now) (table_of columns.now) row) }

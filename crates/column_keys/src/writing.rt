@@ -55,7 +55,7 @@ pub(crate) fn offsets_length(kind: Kind, count: usize) -> usize
 /// Tests all keys, and counts the bytes of the strings that the column has. It is the greatest
 /// `usize` if there are more.
 ///
-/// The first key with a fault says it: `BadOffsets` if its offsets go down or past the end of the
+/// The first key with an error gives it: `BadOffsets` if its offsets go down or past the end of the
 /// bytes, and `BadBytes` if it is no key of a row of the types. `OutOfMemory` may come in place of
 /// these.
 fn check_keys(alloc: Global, keys: &RowKeys) -> Result<usize, KeysError>
@@ -93,7 +93,7 @@ pub(crate) fn values_length(alloc: Global, keys: &RowKeys, kind: Kind) -> Result
 /// an empty string for a null. Only a column of strings or bytes has offsets, of 64 bits each.
 /// Strings are kept as long as they have no more bytes than the buffer.
 ///
-/// The first key with a fault says it, as by `check_keys`.
+/// The first key with an error gives it, as by `check_keys`.
 pub(crate) fn read_column(
     alloc: Global,
     keys: &RowKeys,

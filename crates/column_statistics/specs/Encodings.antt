@@ -41,7 +41,7 @@ pub record IsEncodingAs (t : TypeTree) (bytes : List ℕ) (s : Known) : Type 0 w
   pub of_type : AreOf t s
   pub is : bytes ≡ encoding s
 
--- the bytes are no encoding of statistics of the type, and this is the place of the first byte that none has there
+-- the bytes are no encoding of statistics of the type, and this is the offset of the first byte that none has there
 abbrev pub IsWrongAt : TypeTree → List ℕ → ℕ → Type 0
 IsWrongAt t bytes place = IsFirstWrong (IsEncodingOf t) (SaysBound bytes → HasValues t) bytes place
 
@@ -76,7 +76,7 @@ pub record HaveTooManyRows (t : TypeTree) (one other : List ℕ) : Type 0 where
   pub is_second : IsEncodingAs t other second
   pub many : 2 ^ 64 ≤ first.row_count + second.row_count
 
--- why two pieces are not merged: of those that are no encoding the first, by its number and place
+-- why two pieces are not merged: of those that are no encoding the first, by its number and offset
 abbrev pub IsMergeError : TypeTree → List ℕ → List ℕ → MergeError → Type 0
 IsMergeError t one other merge.OutOfMemory = Unit {0}
 IsMergeError t one other merge.TooManyRows = HaveTooManyRows t one other

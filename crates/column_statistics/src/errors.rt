@@ -16,7 +16,7 @@ pub enum ColumnStatisticsError {
 pub enum ReadError {
     /// An allocation was refused.
     OutOfMemory,
-    /// They are no encoding of statistics of the type: the place of the first byte that none has
+    /// They are no encoding of statistics of the type: the offset of the first byte that none has
     /// there, or of the end if they end too early.
     BadBytes { offset: usize },
 }
@@ -29,6 +29,6 @@ pub enum MergeError {
     /// There are more rows than 64 bits can count.
     TooManyRows,
     /// The bytes of piece 0 or 1 are no encoding of statistics of the type: the first such piece,
-    /// and the place in it.
+    /// and the offset in it.
     BadBytes { piece: usize, offset: usize },
 }

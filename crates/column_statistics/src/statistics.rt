@@ -15,7 +15,7 @@ use vortex_value::Scalar;
 
 /// The statistics of a column, whose bounds are cut to `limit` bytes if they are strings or bytes.
 ///
-/// The buffers are tested once, and a column that cannot be read is refused with its fault. The
+/// The buffers are tested once, and a column that cannot be read is refused with its error. The
 /// least and the greatest value are found in one pass. `OutOfMemory` only for a string, or bytes,
 /// of more than 22 bytes.
 pub fn statistics_of(

@@ -60,7 +60,7 @@ no_feed d s [] plain = refl
 no_feed d s (x ∷ xs) plain =
     rw (ne_eqb x 10 (plain 0 (omega arith))) (ap (onto_first x) (no_feed d (step (config_of d) s x).0 xs (plain_rest x xs plain)))
 
--- the bytes before a place belong to the first record, and lead to this state
+-- the bytes before an offset belong to the first record, and lead to this state
 pub record Passed (d : ℕ) (text : List ℕ) (end : ℕ) (s : State) : Type 0 where
   pub within : end ≤ length text
   pub records : records_of d text ≡ onto_all (take end text) (records_from d s (drop end text))

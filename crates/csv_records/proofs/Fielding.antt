@@ -14,7 +14,7 @@ use Rattle.csv_records.specs.Rows.{Field, config_of, field_rows, is_line_end, is
 use Rattle.csv_records.specs.declared.fields.Follows.{Follows}
 use Rattle.csv_records.specs.declared.fields.Follows.TheVariants.{Another, Nothing, Bytes}
 
--- from the first of two places the rows are those from the second
+-- from the first of two offsets the rows are those from the second
 pub record Leads (d : ℕ) (s : State) (t : List ℕ) (q : Bool) (xs : List ℕ) (r : State) (u : List ℕ) (p : Bool) (ys : List ℕ) : Type 0 where
   pub rows : rows_from d s t q xs ≡ rows_from d r u p ys
   pub whole : is_whole_from d s xs ≡ is_whole_from d r ys

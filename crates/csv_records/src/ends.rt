@@ -31,7 +31,7 @@ pub(crate) fn first_end(delimiter: Delimiter, text: &[u8]) -> Option<usize>
     end_among(delimiter, text, last)
 }
 
-/// The first of them among the sixteen bytes at this place.
+/// The first of them among the sixteen bytes at this offset.
 #[inline(always)]
 fn end_among(delimiter: Delimiter, text: &[u8], place: usize) -> Option<usize>
     requires { place + 16 ≤ length text.now }

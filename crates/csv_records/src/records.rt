@@ -28,7 +28,7 @@ pub fn cut_record(delimiter: Delimiter, text: &[u8]) -> (&[u8], &[u8])
     }
 }
 
-/// The place behind the line feed that ends the first record.
+/// The offset behind the line feed that ends the first record.
 fn record_end(delimiter: Delimiter, text: &[u8]) -> Option<usize>
     ensures within { IfSome result (λ end. (0 < end) × (end ≤ length text.now)) }
     ensures cut { IfSome result (λ end. records_of delimiter.byte text.now ≡
@@ -50,7 +50,8 @@ fn record_end(delimiter: Delimiter, text: &[u8]) -> Option<usize>
     None
 }
 
-/// The place behind the first line feed, if no quote stands before it: the first record ends there.
+/// The offset behind the first line feed, if no quote stands before it: the first record ends
+/// there.
 pub fn plain_end(delimiter: Delimiter, text: &[u8]) -> Option<usize>
     ensures within { IfSome result (λ end. (0 < end) × (end ≤ length text.now)) }
     // Whatever stands behind it: it ends with its line feed, and another record may start there.

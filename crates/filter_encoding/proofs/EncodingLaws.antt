@@ -127,7 +127,7 @@ stuck_wrong Is bytes place within stuck =
       none = λ one. stuck.none bytes (drop place bytes) [] one (alike_itself (drop place bytes)) (sym stuck.split ∙ sym (append-nil bytes));
     }
 
--- what is left is what comes from a place on
+-- what is left is what comes from an offset on
 place_of : (done bytes now : List ℕ) (left place : ℕ) → bytes ≡ done ++ now → length now ≡ left → place ≡ length bytes - left → (place ≡ length done) × (place ≤ length bytes) × (drop place bytes ≡ now)
 place_of done bytes now left place split rest is =
     let long : length bytes ≡ length done + length now = ap length split ∙ length-append done now in

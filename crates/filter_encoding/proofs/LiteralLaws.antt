@@ -132,7 +132,7 @@ inside zero (x ∷ xs) b now e = let first : x ≡ b = cc in (omega arith, ap (�
 inside (suc n) [] b now e = absurd (cc)
 inside (suc n) (x ∷ xs) b now e = let w = inside n xs b now e in (omega (arith, w.0), ap (λ ys. x ∷ ys) w.1)
 
--- the place where no key goes on is where the bytes are stuck
+-- the offset where no key goes on is where the bytes are stuck
 pub bad_stuck : (IsOne Is : List ℕ → Type 0) (all : Type 0) (bytes : List ℕ) (place : ℕ) → ((s : List ℕ) → IsOne s → Is s) → ((s : List ℕ) → Is s → IsOne s) → all → IsFirstBad IsOne all bytes place
     → IsStuck Is bytes (drop place bytes)
 bad_stuck IsOne Is all bytes place to from a bad =

@@ -1,4 +1,4 @@
--- How strings that go on after each other are put together, and the places where none goes on.
+-- How strings that go on after each other are put together, and the offsets where none goes on.
 use Rattle.std.proofs.Common.{◌≡◌, ℕ, List, [], ◌∷◌, ◌++◌, refl, sym, subst, ap, ◌∙◌, append_assoc}
 use Rattle.filter_encoding.specs.Strings.{BeginAlike, IsEncodingOf, IsStuck, Then}
 

@@ -11,8 +11,8 @@ use Rattle.filter_encoding.specs.declared.prepared.PreparedFilter.{PreparedFilte
 abbrev pub IsEncoding : ℕ → List ℕ → Type 0
 IsEncoding n = IsEncodingOf encoding (HasEncoding n)
 
--- The bytes are none of the strings, and this is the place of the first byte that none has: those before begin one, and with
--- it they begin none. If the bytes end too early, it is the place after them.
+-- The bytes are none of the strings, and this is the offset of the first byte that none has: those before begin one,
+-- and with it they begin none. If the bytes end too early, it is the offset after them.
 pub record IsFirstWrong (IsOne : List ℕ → Type 0) (bytes : List ℕ) (place : ℕ) : Type 0 where
   pub within : place ≤ length bytes
   pub before : MayGoOn IsOne (take place bytes)

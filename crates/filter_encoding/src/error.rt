@@ -17,8 +17,8 @@ pub enum FilterEncodingError {
     /// deep.
     #[error("no encoding")]
     NoEncoding,
-    /// The bytes are no encoding: the place of the first byte that no encoding has there, or of the
-    /// end if they end too early.
+    /// The bytes are no encoding: the offset of the first byte that no encoding has there, or of
+    /// the end if they end too early.
     #[error("no encoding of a filter: byte {offset}")]
     BadBytes { offset: usize },
 }

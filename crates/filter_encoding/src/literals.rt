@@ -18,7 +18,7 @@ use vortex_value::{Scalar, ScalarRef};
 enum Found {
     /// The key of this value, and how many bytes it has.
     Value(Scalar, usize),
-    /// No key: the place of the first byte that no key has there, or of the end.
+    /// No key: the offset of the first byte that no key has there, or of the end.
     Wrong(usize),
     /// An allocation was refused.
     NoMemory,

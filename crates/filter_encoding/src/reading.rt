@@ -16,7 +16,7 @@ use vortex_filter::{CompareOperator, Filter};
 
 /// The prepared filter that has this encoding, in which at most `depth` connectives nest.
 ///
-/// `BadBytes` if the bytes are not, whole, the encoding of such a filter: its place is that of the
+/// `BadBytes` if the bytes are not, whole, the encoding of such a filter: its offset is that of the
 /// first byte that no such encoding has there, or of the end if they end too early. `OutOfMemory`
 /// may come in place of each answer. Each literal of the filter is valid for its type.
 pub fn read_filter(

@@ -22,7 +22,7 @@ use Rattle.filter_sql.proofs.FitLaws.{filter_fits}
 use Rattle.filter_sql.proofs.PrintLaws.{text_means}
 use Rattle.filter_sql.proofs.ReadLaws.{filter_is, filter_read, no_filter}
 
--- the place of each token lies in the text
+-- the offset of each token lies in the text
 pub place_there : (end : ℕ) (ps : List Placed) (i : ℕ) (p : Placed) → AllByRecursion (λ (p : Placed). p.place ≤ end) ps → slice_get ps i ≡ Some p → p.place ≤ end
 place_there end [] i p all e = absurd cc
 place_there end (q ∷ ps) zero p all e = let same : Some q ≡ Some p = e in let is : q ≡ p = cc in subst (λ (r : Placed). r.place ≤ end) is all.0

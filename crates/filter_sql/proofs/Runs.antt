@@ -32,7 +32,7 @@ pub items_more : (placed : List Placed) (p : Placed) → items (placed ++ p ∷ 
 items_more [] p = refl
 items_more (q ∷ placed) p = ap (λ (l : List Item). record { token = token_tree q.token; place = q.place } ∷ l) (items_more placed p)
 
--- the tokens of a text without their places
+-- the tokens of a text without their offsets
 abbrev pub Reads : List ℕ → List TokenTree → Type 0
 Reads text [] = text ≡ []
 Reads text (t ∷ ts) = (after : List ℕ) × (token_at text ≡ Ok (t, after)) × Reads (trimmed after) ts
@@ -69,7 +69,7 @@ no_fault end text (item ∷ items) rest e (t ∷ ts) (word, after, front, place,
     let same = same_token text item.token t after next (front_again text item.token word after front) again in
     no_fault end (trimmed after) items rest e ts more some none (subst (λ (l : List ℕ). Reads (trimmed l) ts) (sym same.1) others)
 
--- every place is one of the text
+-- every offset is one of the text
 pub placed_within : (end : ℕ) (text : List ℕ) (placed : List Placed) (rest : List ℕ) → Leads end text (items placed) rest → AllByRecursion (λ (p : Placed). p.place ≤ end) placed
 placed_within end text [] rest same = tt
 placed_within end text (p ∷ placed) rest (word, after, front, place, more) = (omega arith, placed_within end (trimmed after) placed rest more)

@@ -3,7 +3,7 @@ use Rattle.std.specs.Prelude.{ℕ, ◌≤◌, Option, Some, None, IfSome}
 use Rattle.filter_sql.specs.declared.error.ParseError.{ParseError}
 use Rattle.filter_sql.specs.declared.error.ParseError.TheVariants.{OutOfMemory, Expected, NoColumn, TypesDiffer, NoLiteral, NumberTooLong, BadText, TooDeep}
 
--- the place of a fault, if it has one
+-- the offset of a fault, if it has one
 abbrev pub place_of : ParseError → Option ℕ
 place_of OutOfMemory = None
 place_of (Expected place expected) = Some place

@@ -139,7 +139,7 @@ token_at text =
     let second = slice_index text 1 in
     cut_after (mark_of first second) text (other_at first second text)
 
--- the fault, at its place
+-- the fault, at its offset
 abbrev pub fault_at : Fault → ℕ → ParseError
 fault_at OutOfMemory place = errors.OutOfMemory
 fault_at NumberTooLong place = errors.NumberTooLong place

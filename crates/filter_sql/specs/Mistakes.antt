@@ -98,7 +98,7 @@ escape_mistake ts = chosen (after_keyword keywords.Escape ts) (λ us. expected u
 abbrev pub text_cause : TypeTree → List ℕ → Cause
 text_cause t bs = if is_utf8 bs then other_type t else causes.Expected expects.Prefix
 
--- behind `like`: a pattern that is none of a prefix is told at its place, once it is known whether a byte escapes
+-- behind `like`: a pattern that is none of a prefix is told at its offset, once it is known whether a byte escapes
 unfoldable pub like_mistake : TypeTree → List TokenTree → Fault
 like_mistake t ts =
     chosen (string_at ts)
@@ -194,7 +194,7 @@ filter_mistake columns n ts =
 
 -- ---- mistakes of a text
 
--- the error of a cause at a place
+-- the error of a cause at an offset
 abbrev pub caused : ℕ → Cause → ParseError
 caused place (causes.Expected what) = errors.Expected place what
 caused place causes.NoColumn = errors.NoColumn place
@@ -202,7 +202,7 @@ caused place causes.TypesDiffer = errors.TypesDiffer place
 caused place causes.NoLiteral = errors.NoLiteral place
 caused place causes.TooDeep = errors.TooDeep place
 
--- the place of the token where so many are left, or the end
+-- the offset of the token where so many are left, or the end
 abbrev pub place_where : List Item → ℕ → ℕ → ℕ
 place_where items end left = chosen (slice_get items (length items - left)) (λ (i : Item). i.place) end
 
@@ -211,7 +211,7 @@ abbrev pub error_of : List Item → ℕ → Fault → ParseError
 error_of items end faults.NoMemory = errors.OutOfMemory
 error_of items end (faults.At left cause) = caused (place_where items end left) cause
 
--- an error that came for want of memory, or with the mistake and its place, and nothing is read of the tokens
+-- an error that came for want of memory, or with the mistake and its offset, and nothing is read of the tokens
 abbrev pub IsFaultIn : {Y : Type 0} → List Item → ℕ → Option Y → Fault → ParseError → Type 0
 IsFaultIn items end read mistake errors.OutOfMemory = Unit {0}
 IsFaultIn items end read mistake e = (read ≡ None) × (e ≡ error_of items end mistake)

@@ -33,14 +33,15 @@ pub record IsSqlWithin (room : ℕ) (columns : List ColumnTree) (sql : List ℕ)
   pub are : AreItemsOf sql items
   pub means : IsFilter columns levels.Or room (tokens_in items) f
 
--- the tokens of the text are no filter in which at most so many nest, and e tells the first mistake, at its place
+-- the tokens of the text are no filter in which at most so many nest, and e tells the first mistake, at its offset
 pub record IsNoSqlWithin (room : ℕ) (columns : List ColumnTree) (sql : List ℕ) (e : ParseError) : Type 0 where
   pub items : List Item
   pub are : AreItemsOf sql items
   pub none : (f : Formula) → IsFilter columns levels.Or room (tokens_in items) f → ⊥
   pub told : e ≡ error_of items (length sql) (filter_mistake columns room (tokens_in items))
 
--- when a text in which so many may nest is refused so: memory ran out, or no token begins at a place, or its tokens are no filter
+-- when a text in which so many may nest is refused so: memory ran out, or no token begins at an offset, or its tokens
+-- are no filter
 abbrev pub RefusesSqlWithin : ℕ → List ColumnTree → List ℕ → ParseError → Type 0
 RefusesSqlWithin room columns sql errors.OutOfMemory = Unit {0}
 RefusesSqlWithin room columns sql (errors.BadText place) = IsRefusal sql (errors.BadText place)

@@ -10,7 +10,7 @@ use Rattle.filter_sql.specs.declared.token.Placed.{Placed}
 use Rattle.filter_sql.specs.Tokens.{IsFront, TokenTree, token_tree}
 use Rattle.filter_sql.specs.Lexing.{token_at}
 
--- a token and its place
+-- a token and its offset
 pub record Item : Type 0 where
   pub token : TokenTree
   pub place : ℕ
@@ -22,7 +22,7 @@ items placed = map (λ p. record { token = token_tree p.token; place = p.place }
 abbrev pub trimmed : List ℕ → List ℕ
 trimmed text = drop (prefix_len is_ascii_whitespace text) text
 
--- the text is the end of one of this length; it begins with these tokens at their places, with white space
+-- the text is the end of one of this length; it begins with these tokens at their offsets, with white space
 -- between them, and then comes the rest
 abbrev pub Leads : ℕ → List ℕ → List Item → List ℕ → Type 0
 Leads end text [] rest = text ≡ rest
@@ -33,7 +33,7 @@ Leads end text (item ∷ items) rest =
 abbrev pub AreItemsOf : List ℕ → List Item → Type 0
 AreItemsOf text items = Leads (length text) (trimmed text) items []
 
--- up to this place the text is tokens, and no token begins there
+-- up to this offset the text is tokens, and no token begins there
 pub record StopsAt (text : List ℕ) (fault : Fault) (place : ℕ) : Type 0 where
   pub items : List Item
   pub rest : List ℕ
@@ -43,7 +43,7 @@ pub record StopsAt (text : List ℕ) (fault : Fault) (place : ℕ) : Type 0 wher
   pub none : (t : TokenTree) (word after : List ℕ) → IsFront rest t word after → ⊥
   pub why : token_at rest ≡ Err fault
 
--- the text was refused for want of memory, or at a place where no token begins
+-- the text was refused for want of memory, or at an offset where no token begins
 abbrev pub IsRefusal : List ℕ → ParseError → Type 0
 IsRefusal text errors.OutOfMemory = Unit {0}
 IsRefusal text (errors.BadText place) = StopsAt text BadText place

@@ -47,7 +47,7 @@ token_tree tokens.Open = opening
 token_tree tokens.Close = closing
 token_tree tokens.Comma = comma
 
--- the trees of tokens with their places
+-- the trees of tokens with their offsets
 abbrev pub trees : List Placed → List TokenTree
 trees placed = map (λ p. token_tree p.token) placed
 

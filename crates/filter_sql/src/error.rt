@@ -47,8 +47,8 @@ pub enum Expected {
     End,
 }
 
-/// Why text is no filter. A place is one of a byte of the text, or its end. Texts are for people and
-/// are not promised.
+/// Why text is no filter. An offset is that of a byte of the text, or its end. Texts are for people
+/// and are not promised.
 #[derive(Clone, Copy, Debug, PartialEq, Eq, Error)]
 pub enum ParseError {
     /// An allocation was refused.
@@ -99,7 +99,7 @@ impl ParseError {
     ghost use Rattle.std.specs.Prelude.{◌≡◌};
     ghost use Rattle.filter_sql.specs.Faults.{place_of};
 
-    /// The place in the text, if the error has one.
+    /// The offset in the text, if the error has one.
     pub fn offset(&self) -> Option<usize>
         ensures { result ≡ place_of self.now }
     {

@@ -285,7 +285,7 @@ fn first_token(alloc: Global, text: &str) -> Result<(Token, &str), Fault>
     }
 }
 
-/// The fault, at its place.
+/// The fault, at its offset.
 fn at(fault: Fault, place: usize) -> ParseError
     ensures { result ≡ fault_at fault place }
 {
@@ -296,7 +296,7 @@ fn at(fault: Fault, place: usize) -> ParseError
     }
 }
 
-/// The tokens of the text, each with its place.
+/// The tokens of the text, each with its offset.
 pub(crate) fn lex(alloc: Global, text: &str) -> Result<Vec<Placed>, ParseError>
     ensures found { IfOk result (λ placed. AreItemsOf text.now (items placed.items)) }
     ensures refused { IfErr result (IsRefusal text.now) }

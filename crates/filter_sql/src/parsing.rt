@@ -63,7 +63,7 @@ pub fn parse(alloc: Global, text: &str, columns: &[Column]) -> Result<Filter, Pa
 
 /// As `parse`, but at most `depth` connectives and parentheses may nest.
 ///
-/// Each level takes room on the stack, of this call and of all that later walk the filter.
+/// Each level takes stack, of this call and of all that later walk the filter.
 /// `TooDeep` if more nest.
 pub fn parse_within(
     alloc: Global,
@@ -123,7 +123,7 @@ fn placed(fault: Fault, tokens: &[Placed], end: usize) -> ParseError
     }
 }
 
-/// The error at a place.
+/// The error at an offset.
 fn caused(place: usize, cause: Cause) -> ParseError
     ensures { result ≡ caused place cause }
 {
@@ -139,7 +139,7 @@ fn caused(place: usize, cause: Cause) -> ParseError
     }
 }
 
-/// The place where so many tokens are left.
+/// The offset where so many tokens are left.
 #[tactic(auto, using(crate::proofs::ParseSteps::places))]
 fn place_at(tokens: &[Placed], left: usize, end: usize) -> usize
     requires { AllByRecursion (λ p. p.place ≤ end) tokens.now }

@@ -42,7 +42,7 @@ pub(crate) enum Token {
     Comma,
 }
 
-/// A token, and the place of its first byte in the text.
+/// A token, and the offset of its first byte in the text.
 #[derive(Debug, Drop)]
 pub(crate) struct Placed {
     pub(crate) token: Token,

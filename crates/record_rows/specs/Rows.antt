@@ -109,7 +109,7 @@ pub record ReachesPast (place : ℕ) (old new : List Scalar) : Type 0 where
 abbrev pub IsStrict : Bool → ColumnType → Type 0
 IsStrict lenient column = (lenient ≡ false) ⊎ (column.nullability ≡ NonNullable)
 
--- the fault of a word at this column, unless memory ran out
+-- the error of a word at this column, unless memory ran out
 abbrev pub IsWordError : ℕ → List ℕ → RowReadError → Type 0
 IsWordError place word errors.Memory = Unit {0}
 IsWordError place word (errors.Word column found) = (column ≡ place) × (found.items ≡ word)

@@ -53,7 +53,7 @@ fn is_short_ascii(word: &[u8]) -> bool
     true
 }
 
-/// Whether each of the sixteen bytes at this place is of ASCII.
+/// Whether each of the sixteen bytes at this offset is of ASCII.
 #[inline(always)]
 fn are_ascii(word: &[u8], place: usize) -> bool
     requires { place + 16 ≤ length word.now }

@@ -21,7 +21,7 @@ use vortex_value::ScalarRef;
 /// row. After a refusal some cells may have been observed.
 ///
 /// If the schema is lenient, a field that its column does not take is a null if the column takes
-/// nulls. The answer is how many of them there are. The buffer is room that is used again.
+/// nulls. The answer is how many of them there are. The buffer is used again.
 pub fn observe_record(
     alloc: Global,
     schema: &Schema,

@@ -65,7 +65,7 @@ fn may_be_null(is_lenient: bool, column: ColumnType) -> bool
     }
 }
 
-/// The fault of a field that its column does not take.
+/// The error of a field that its column does not take.
 fn word_fault(alloc: Global, field: &ColumnField<'_>) -> RowReadError
     ensures { IsWordError field.now.place field.now.word.now result }
 {

@@ -60,7 +60,7 @@ pub fn split_records<'a>(
     Ok(records)
 }
 
-/// Whether a record may start at this place. Then the rows of the text are those of what is before
+/// Whether a record may start at this offset. Then the rows of the text are those of what is before
 /// and of what follows.
 pub fn may_cut(delimiter: Delimiter, text: &[u8], place: usize) -> bool
     requires { place ≤ length text.now }

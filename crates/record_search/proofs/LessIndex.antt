@@ -94,7 +94,7 @@ less_described wanted n m cs rows z ps few is are h =
 
 -- ---- zones
 
--- a zone that says the same of its place and its records
+-- a zone that says the same of its offset and its records
 pub record IsLess (wanted : List Bool) (m : ℕ) (x y : Zone) : Type 0 where
   pub first : x.first ≡ y.first
   pub long : x.length ≡ y.length
@@ -145,7 +145,7 @@ follow_less wanted m at end (x ∷ xs) (y ∷ ys) e h =
     let long : at + y.length ≡ at + x.length = ap (λ (n : ℕ). at + n) (sym e.0.long) in
     (e.0.first ∙ h.0, subst (λ (n : ℕ). Follow n xs end) long (follow_less wanted m (at + y.length) end xs ys e.1 h.1))
 
--- the records of a zone are those of its place
+-- the records of a zone are those of its offset
 records_same : (wanted : List Bool) (m d : ℕ) (bytes : List ℕ) (x y : Zone) → IsLess wanted m x y → zone_records d bytes x ≡ zone_records d bytes y
 records_same wanted m d bytes x y e = ap₂ (λ (n f : ℕ). records_of d (take n (drop f bytes))) e.long e.first
 

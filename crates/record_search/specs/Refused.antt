@@ -17,7 +17,7 @@ RefusesRecord s line (causes.Word column word) = IsRefused s.is_lenient s.column
 RefusesRecord s line causes.FieldCount = HasOtherCount s.columns.items (rows_of s.delimiter.byte line)
 RefusesRecord s line causes.LoneReturn = is_whole s.delimiter.byte line ≡ false
 
--- the fault of a row, of a record that begins at this place
+-- the error of a row, of a record that begins at this offset
 abbrev pub fault_at_place : ℕ → RowReadError → RecordError
 fault_at_place place row_faults.Memory = record_faults.Memory
 fault_at_place place (row_faults.Word column word) = record_faults.Refused (record { place = place; cause = causes.Word column word })

@@ -139,7 +139,8 @@ columns_of s = s.columns.items
 abbrev pub records_under : Schema → List ℕ → List (List ℕ)
 records_under s bytes = records_of s.delimiter.byte bytes
 
--- the zones are right for the bytes, from a place on: they cover all records, and the statistics of each are right for its rows
+-- the zones are right for the bytes, from an offset on: they cover all records, and the statistics of each are right
+-- for its rows
 abbrev pub IsRowIndex : Schema → ℕ → List Zone → List ℕ → Type 0
 IsRowIndex s start zones bytes = IsIndexOf s.delimiter.byte (has_row s) (DescribeRows s) start zones bytes
 

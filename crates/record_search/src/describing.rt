@@ -101,7 +101,7 @@ fn observe_text(
     Ok((records, rows, nulls))
 }
 
-/// Observes the row of a record, which begins at this place, and says whether it has one, and how
+/// Observes the row of a record, which begins at this offset, and says whether it has one, and how
 /// many nulls stand in place of fields.
 fn observe_line(
     alloc: Global,

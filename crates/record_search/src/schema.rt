@@ -9,7 +9,7 @@ use std::alloc::Global;
 use vortex_value::Scalar;
 use zone_index::{Cause, RecordError, Refusal};
 
-/// The row of a record, which stands at this place; `None` where it has none, as an empty line.
+/// The row of a record, which stands at this offset; `None` where it has none, as an empty line.
 /// `Refused` where the columns do not take it.
 pub fn row_of_record(
     alloc: Global,
@@ -49,7 +49,7 @@ pub(crate) fn cells_of_record(
     }
 }
 
-/// The fault of a record that stands at this place.
+/// The error of a record that stands at this offset.
 pub(crate) fn record_fault(place: u64, fault: RowReadError) -> RecordError
     ensures { result ≡ fault_at_place place fault }
 {

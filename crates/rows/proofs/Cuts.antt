@@ -1,4 +1,4 @@
--- A text is cut into lines, and a line into words, at the first place of a byte.
+-- A text is cut into lines, and a line into words, at the first offset of a byte.
 use Rattle.std.proofs.Common.{◌≡◌, ◌≢◌, ℕ, ◌==◌, ◌<◌, ◌+◌, suc, zero, List, [], ◌∷◌, length, get_or, take, drop, refl, sym, ◌∙◌, subst, arith, add-one}
 use Rattle.std.proofs.lemmas.Bool.{eq-eqb, ne_eqb}
 use Rattle.std.proofs.lemmas.Grind.{get_or_default_zero}

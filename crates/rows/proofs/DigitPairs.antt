@@ -1,5 +1,5 @@
--- Pairs of hexadecimal digits that are read into just the room that they need.
-use Rattle.std.proofs.Common.{◌≡◌, ℕ, ◌+◌, ◌*◌, ◌/◌, ◌%◌, ◌<◌, ◌≤◌, Option, None, Some, Result, Ok, Err, List, length, slice_index, slice_set, take, drop, refl, arith}
+-- Pairs of hexadecimal digits that are read into just the bytes that they need.
+use Rattle.std.proofs.Common.{◌≡◌, ℕ, ◌+◌, ◌*◌, ◌/◌, ◌%◌, ◌<◌, ◌≤◌, Option, None, Some, Ok, Err, List, length, slice_index, slice_set, take, drop, refl, arith}
 use Rattle.std.specs.Prelude.{MatchResult}
 use Rattle.hex.specs.Hex.{decode_pairs, decode_sized, hex_digit_value, pair_value}
 use Rattle.hex.specs.declared.error.FromHexError.{FromHexError}

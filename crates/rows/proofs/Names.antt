@@ -103,12 +103,12 @@ name_length text w v ws k e named =
     inr (count, λ space. plain 2 inside (sym (begins.same 2 inside) ∙ space)))
     (two_or_three k)
 
--- before a space in the third place a name ends there
+-- before a space at offset 2 a name ends there
 pub ends_at_two : (text : List ℕ) → 2 < length text → get_or text 2 0 ≡ 32 → IsNameEnd text 2
 ends_at_two text inside space w v ws k e named =
     ⊎_elim (λ two. two.0) (λ three. absurd (three.1 space)) (name_length text w v ws k e named)
 
--- without a space in the third place a name ends after it
+-- without a space at offset 2 a name ends after it
 pub ends_at_three : (text : List ℕ) → (2 < length text → get_or text 2 0 ≢ 32) → IsNameEnd text 3
 ends_at_three text other w v ws k e named =
     ⊎_elim (λ two. absurd (other two.1 two.2)) (λ three. three.0) (name_length text w v ws k e named)

@@ -167,7 +167,7 @@ no_space text k inside every j below is =
     let other : is_ascii_digit (get_or (take k text) j 0) ≡ false = rw at refl in
     false≢true (sym (list_all_at is_ascii_digit (take k text) j 0 (omega (arith, length-take-le k text inside)) other) ∙ every)
 
--- the word before the space at place k is this number
+-- the word before the space at offset k is this number
 first_says : (text : List ℕ) (k n : ℕ) → k < length text → 0 < k → k ≤ 20 → get_or text k 0 ≡ 32 → list_all is_ascii_digit (take k text) ≡ true → n ≡ digits_value 10 (take k text) → FirstSays natural_named text n (drop (k + 1) text)
 unfolding natural_named is_natural all_digits
 first_says text k n inside some few space every number =

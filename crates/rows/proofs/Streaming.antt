@@ -45,7 +45,7 @@ lines_cut (b ∷ bs) more = by_test (b == 10) refl (has_line bs) (lines_cut bs m
 rows_cut : (text more : List ℕ) → rows_of (text ++ 10 ∷ more) ≡ rows_of (text ++ 10 ∷ []) ++ rows_of more
 rows_cut text more = ap (flat_map _) (lines_cut text more) ∙ flat_map-append _ (lines_of (text ++ 10 ∷ [])) (lines_of more)
 
--- the piece up to its line feed at place k
+-- the piece up to its line feed at offset k
 to_feed : (piece : List ℕ) (k : ℕ) → k < length piece → get_or piece k 0 ≡ 10 → take (k + 1) piece ≡ take k piece ++ 10 ∷ []
 to_feed piece k inside is = take_more piece k 0 inside ∙ ap (λ (b : ℕ). take k piece ++ b ∷ []) is
 

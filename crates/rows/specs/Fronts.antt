@@ -24,6 +24,6 @@ pub record LeadingDigits (most : ℕ) (text : List ℕ) (n k : ℕ) : Type 0 whe
   pub number : n ≡ digits_value 10 (take k text)
   pub ended : k < most → k < length text → is_ascii_digit (slice_index text k) ≡ false
 
--- if the line has several words and the first names a PType, that word ends at this place
+-- if the line has several words and the first names a PType, that word ends at this offset
 abbrev pub IsNameEnd : List ℕ → ℕ → Type 0
 IsNameEnd text end = (w v : List ℕ) (ws : List (List ℕ)) (k : PType) → words_of text ≡ w ∷ v ∷ ws → ptype_named w ≡ Some k → length w ≡ end

@@ -1,7 +1,10 @@
 //! The answers of commands.
 
 ghost use Rattle.std.specs.Prelude.{◌≡◌, ◌≤◌, IfOk, IsOk, MatchOption};
-ghost use Rattle.rows.specs.Words.{InRange, IsBytesValue, IsInteger, IsIntegerValue, IsNumber, IsValid, Lower, NonNullable, Upper, binary_type, bound, bound_text, integer_type, ptype_of, raw_bytes, raw_integer, request_text, scalar_content, scalar_raw, scalar_type, whole, whole_of};
+ghost use Rattle.rows.specs.Words.{InRange, IsBytesValue, IsInteger, IsIntegerValue, IsNumber, IsValid, Lower};
+ghost use Rattle.rows.specs.Words.{NonNullable, Upper, binary_type, bound, bound_text, integer_type, ptype_of};
+ghost use Rattle.rows.specs.Words.{raw_bytes, raw_integer, request_text, scalar_content, scalar_raw, scalar_type};
+ghost use Rattle.rows.specs.Words.{whole, whole_of};
 
 use crate::commands::Side;
 use std::alloc::{AllocError, Global};

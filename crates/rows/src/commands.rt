@@ -2,7 +2,8 @@
 #![tactic(auto, using(crate::proofs::Operands::no_command, crate::proofs::Operands::more_than_two, crate::proofs::Operands::casts))]
 
 ghost use Rattle.std.specs.Prelude.{◌≡◌, Some};
-ghost use Rattle.rows.specs.Words.{asked_by, bound_operands, cast_operands, cast_request, ptype_named, request_in, words_of};
+ghost use Rattle.rows.specs.Words.{asked_by, bound_operands, cast_operands, cast_request, ptype_named, request_in};
+ghost use Rattle.rows.specs.Words.{words_of};
 
 use crate::numbers::{cut_number, cut_ptype, ptype_named, size_named};
 use crate::words::{after_word, cut_word};

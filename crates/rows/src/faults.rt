@@ -1,4 +1,4 @@
-//! The faults that stop a program.
+//! The errors that stop a program.
 
 ghost use Rattle.std.specs.Prelude.{◌≡◌};
 ghost use Rattle.rows.specs.Words.{Memory, fault_text};
@@ -25,7 +25,7 @@ impl From<AllocError> for RowsError {
     }
 }
 
-/// What the program writes on standard error after this fault.
+/// What the program writes on standard error after this error.
 pub fn fault_line(fault: &RowsError) -> &'static str
     ensures { result.now ≡ fault_text fault.now }
 {

@@ -2,7 +2,8 @@
 #![tactic(auto, using(crate::proofs::Names::ends, crate::proofs::Names::cuts, crate::proofs::Numerals::digits, crate::proofs::Numerals::some_size, crate::proofs::Numerals::signs, crate::proofs::Numerals::naturals, crate::proofs::Numerals::one_digit_more))]
 
 ghost use Rattle.std.specs.Prelude.{◌≡◌, IfNone, IfSome, ◌<◌, ◌^◌};
-ghost use Rattle.rows.specs.Words.{FirstSays, FirstSaysNone, IsNameEnd, LeadingDigits, natural_named, number_named, ptype_named, size_named};
+ghost use Rattle.rows.specs.Words.{FirstSays, FirstSaysNone, IsNameEnd, LeadingDigits, natural_named, number_named};
+ghost use Rattle.rows.specs.Words.{ptype_named, size_named};
 
 use vortex_dtype::PType;
 

@@ -1,7 +1,8 @@
 //! The rows of answers.
 
 ghost use Rattle.std.specs.Prelude.{◌≡◌, ◌++◌, ◌∷◌, [], OnOk, codes};
-ghost use Rattle.rows.specs.Words.{bound_text, cast_text, encode_lower, ptype_text, pvalue_text, signed_decimal, whole_of};
+ghost use Rattle.rows.specs.Words.{bound_text, cast_text, encode_lower, ptype_text, pvalue_text, signed_decimal};
+ghost use Rattle.rows.specs.Words.{whole_of};
 
 use hex::encode_to_slice;
 use itoa::Buffer;

@@ -1,7 +1,8 @@
 //! The whole program: from the input to the rows that are written.
 
 ghost use Rattle.std.specs.Prelude.{◌≡◌, ◌≢◌, ◌++◌, ◌∷◌, [], Some, IfErr, IfOk, IfSome, OnOk};
-ghost use Rattle.rows.specs.Words.{Appends, GoesOn, IsAtEnd, bound_request, cast, hex_named, ptype_of, request_in, request_text, row_text, rows_of, whole_of};
+ghost use Rattle.rows.specs.Words.{Appends, GoesOn, IsAtEnd, bound_request, cast, hex_named, ptype_of, request_in};
+ghost use Rattle.rows.specs.Words.{request_text, row_text, rows_of, whole_of};
 
 use crate::answers::{bound_at, number_in_ptype};
 use crate::commands::{Command, Side, command_in};
@@ -31,7 +32,7 @@ pub fn run<R: Read, W: Write>(
     ensures rows { OnOk result (IfSome (R.remaining reader.old) (λ input.
         Appends (W.contents writer.old) (W.contents writer.new) (rows_of input))) }
     ensures end { OnOk result (IsAtEnd (R.remaining reader.new)) }
-    // After a fault other than one of the writer, nothing was written.
+    // After an error other than one of the writer, nothing was written.
     ensures untouched { IfErr result (λ e. e ≢ RowsError.Write → writer.new ≡ writer.old) }
 {
     let output = rows(alloc, reader)?;

@@ -18,7 +18,7 @@ pub fn first_line(text: &[u8]) -> (&[u8], &[u8])
     }
 }
 
-/// The place of the first line feed, if there is one. The iterator finds a near one sooner than
+/// The offset of the first line feed, if there is one. The iterator finds a near one sooner than
 /// `memchr` does.
 fn line_end(text: &[u8]) -> Option<usize>
     ensures within { IfSome result (λ i. i < length text.now) }
@@ -38,7 +38,7 @@ pub fn cut_word(text: &[u8]) -> Option<(&[u8], &[u8])>
     Some((&text[..end], &text[end + 1..]))
 }
 
-/// The place of the first space, if there is one. Words are short, so it goes byte by byte.
+/// The offset of the first space, if there is one. Words are short, so it goes byte by byte.
 fn word_end(text: &[u8]) -> Option<usize>
     ensures within { IfSome result (λ i. i < length text.now) }
     ensures found { IfSome result (λ i. slice_index text.now i ≡ 32) }

@@ -120,7 +120,7 @@ fn of_list(alloc: Global, call: OfList, given: &Given) -> CallResult {
     }
 }
 
-/// The items that an iterator gave. Their room is allocated first, so that a later refusal is an
+/// The items that an iterator gave. Their memory is allocated first, so that a later refusal is an
 /// item's.
 #[derive(Drop)]
 struct Items<T> {
@@ -148,7 +148,7 @@ impl<T: Drop> Items<T> {
         self.seen = self.seen.saturating_add(1);
         self.is_wrong = self.is_wrong || !is_lent;
         match item {
-            // Never out of memory: the room was allocated.
+            // Never out of memory: the memory was allocated.
             Ok(item) => drop(self.items.push(item)),
             Err(refusal) => {
                 self.refused = self.refused.saturating_add(1);

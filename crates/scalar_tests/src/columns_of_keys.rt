@@ -16,7 +16,7 @@ use column_keys::{KeysError, column_of_keys};
 use std::alloc::Global;
 
 /// Reads a column back as `column_of_keys` does. If the keys are those of a table's rows, then the
-/// rooms begin with the column of the table, cell for cell.
+/// buffers begin with the column of the table, cell for cell.
 pub fn read_back(
     alloc: Global,
     kinds: &[u8],

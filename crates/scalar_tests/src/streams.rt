@@ -99,7 +99,7 @@ impl Write for Filling {
     }
 }
 
-/// Whether 18 bytes are written whole. If not, asserts that the fault is that of a write.
+/// Whether 18 bytes are written whole. If not, asserts that the error is that of a write.
 fn is_written(rt: &impl Abort, left: u32, flushes: bool) -> bool {
     let mut writer = Filling { left, flushes };
     match write_out(&mut writer, b"bad line\nbad line\n") {

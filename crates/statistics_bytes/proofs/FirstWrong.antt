@@ -42,7 +42,7 @@ pub record BeginsWith (IsKey : List ℕ → Type 0) (bs : List ℕ) : Type 0 whe
   pub is_key : IsKey key
   pub is : bs ≡ key ++ rest
 
--- a place where no key goes on is one where none of the strings does that begin with a key
+-- an offset where no key goes on is one where none of the strings does that begin with a key
 pub where_bad : (IsKey Is : List ℕ → Type 0) (has_values : Type 0) (bytes : List ℕ) (p : ℕ) → ((k : List ℕ) → IsKey k → MayGoOn Is k) → ((q : List ℕ) → Is q → BeginsWith IsKey q)
     → IsFirstBad IsKey has_values bytes p → IsFirstWrong Is has_values bytes p
 where_bad IsKey Is has_values bytes p go begin h = record {

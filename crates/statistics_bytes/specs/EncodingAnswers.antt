@@ -18,8 +18,8 @@ pub record MayGoOn (IsOne : List ℕ → Type 0) (bytes : List ℕ) : Type 0 whe
   pub more : List ℕ
   pub is_one : IsOne (bytes ++ more)
 
--- The bytes are none of the strings, and this is the place of the first byte that none has: those before may begin one, if
--- the types have values, and with it they may not. If the bytes end too early, it is the place after them.
+-- The bytes are none of the strings, and this is the offset of the first byte that none has: those before may begin one, if
+-- the types have values, and with it they may not. If the bytes end too early, it is the offset after them.
 pub record IsFirstWrong (IsOne : List ℕ → Type 0) (has_values : Type 0) (bytes : List ℕ) (place : ℕ) : Type 0 where
   pub within : place ≤ length bytes
   pub before : has_values → MayGoOn IsOne (take place bytes)

@@ -113,7 +113,7 @@ pub record IsBoundRead (t : TypeTree) (state : BoundState) (b : Option KnownBoun
   pub state_is : state_of b ≡ state
   pub is : old ≡ bound_bytes b ++ now
 
--- the same, from a place of the bytes to the next one
+-- the same, from an offset of the bytes to the next one
 pub record IsBoundReadAt (t : TypeTree) (state : BoundState) (b : Option KnownBound) (bytes : List ℕ) (place next : ℕ) : Type 0 where
   pub within : next ≤ length bytes
   pub after : next ≡ place + length (bound_bytes b)
@@ -127,12 +127,12 @@ pub record AreBoundsRead (t : TypeTree) (flags : Flags) (lower upper : Option Kn
   pub upper_state : state_of upper ≡ flags.upper
   pub is : bytes ≡ bound_bytes lower ++ bound_bytes upper
 
--- why no key was read of a bound that is there: there is no memory, or the place after start where no key goes on
+-- why no key was read of a bound that is there: there is no memory, or the offset after start where no key goes on
 abbrev pub IsBadBound : TypeTree → BoundState → ℕ → List ℕ → StatisticsError → Type 0
 IsBadBound t state start old e = ((e ≡ OutOfMemory) × (is_there state ≡ true))
     ⊎ ((place : ℕ) × (e ≡ BadBytes (start + place)) × (is_there state ≡ true) × IsFirstBad (IsKeyOf ascending t) (UnionsHaveVariants t) old place)
 
--- why bytes are refused that should be one of the strings: there is no memory, which some take, or the place after start of
+-- why bytes are refused that should be one of the strings: there is no memory, which some take, or the offset after start of
 -- the first wrong byte
 abbrev pub IsRefusal : (List ℕ → Type 0) → Type 0 → Type 0 → ℕ → List ℕ → StatisticsError → Type 0
 IsRefusal Is may_take has_values start bytes e = ((e ≡ OutOfMemory) × may_take) ⊎ ((place : ℕ) × (e ≡ BadBytes (start + place)) × IsFirstWrong Is has_values bytes place)

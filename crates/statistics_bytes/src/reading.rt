@@ -19,7 +19,7 @@ use vortex_value::Scalar;
 ///
 /// `HasVariant` exactly if a variant stands in the type, at any depth, and the bytes begin with the
 /// version and with flags that say a bound. Else `BadBytes` if the bytes are not, whole, the
-/// encoding of statistics of the type. Its place is that of the first byte that no such encoding
+/// encoding of statistics of the type. Its offset is that of the first byte that no such encoding
 /// has there, or of the end if they end too early. `OutOfMemory` may come in place of each answer
 /// but `HasVariant`, only if the bytes begin so.
 pub fn decode_statistics(
@@ -256,7 +256,7 @@ fn read_last_bound(
     Ok(())
 }
 
-/// Puts a bound from a place on, if there is one, in the place of this one. The place after it.
+/// Puts a bound from an offset on, if there is one, in the place of this one. The offset after it.
 #[inline(always)]
 fn read_bound(
     alloc: Global,
@@ -289,7 +289,7 @@ fn read_bound(
     }
 }
 
-/// The bytes from this place on.
+/// The bytes from this offset on.
 fn bytes_from(bytes: &[u8], place: usize) -> &[u8]
     requires { place ≤ length bytes.now }
     ensures { result.now ≡ drop place bytes.now }
@@ -297,7 +297,7 @@ fn bytes_from(bytes: &[u8], place: usize) -> &[u8]
     &bytes[place..]
 }
 
-/// Puts a bound that is there, from a place on, in the place of this one. The place after it.
+/// Puts a bound that is there, from an offset on, in the place of this one. The offset after it.
 #[inline(always)]
 fn read_there(
     alloc: Global,
@@ -320,7 +320,7 @@ fn read_there(
     }
 }
 
-/// Puts a bound that is there, from a place on, where none is. The place after it.
+/// Puts a bound that is there, from an offset on, where none is. The offset after it.
 #[inline(never)]
 fn read_first(
     alloc: Global,
@@ -349,7 +349,7 @@ fn read_first(
     Ok(end)
 }
 
-/// Puts a bound that is there, from a place on, over this one. The place after it.
+/// Puts a bound that is there, from an offset on, over this one. The offset after it.
 #[tactic(auto, using(crate::proofs::ReadSteps::states))]
 fn read_value(
     alloc: Global,

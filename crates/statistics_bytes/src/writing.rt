@@ -16,8 +16,8 @@ pub(crate) const VERSION: u8 = 1;
 /// Appends the encoding of statistics in bytes, and nothing else.
 ///
 /// `HasVariant` exactly if a variant stands in the type of a bound, at any depth. Else
-/// `OutOfMemory` is the only refusal, and never comes if `out` has room for the encoding. After a
-/// refusal `out` has the bytes that it had. The bounds need not be valid for their types.
+/// `OutOfMemory` is the only refusal, and never comes if `out` has capacity for the encoding. After
+/// a refusal `out` has the bytes that it had. The bounds need not be valid for their types.
 pub fn append_statistics(
     statistics: &ColumnStatistics,
     out: &mut Vec<u8>,

@@ -1,4 +1,4 @@
--- There is room for the key of a plain value where as many bytes are as are counted.
+-- There is capacity for the key of a plain value where as many bytes are as are counted.
 use Rattle.std.proofs.Common.{◌≡◌, ℕ, ◌-◌, ◌≤◌, Bool, true, false, List, length, refl, ap, ◌∙◌, arith}
 use Rattle.std.specs.Global.{Vec}
 use Rattle.std.specs.Vec.{vec_len}

@@ -24,7 +24,7 @@ pub enum Input {
     Columns,
     /// The scalars of rows, one row after another, in brackets.
     Rows,
-    /// Room for a key. No word of the line stands for it.
+    /// A buffer for a key. No word of the line stands for it.
     Room,
 }
 
@@ -132,7 +132,7 @@ fn read_columns<T: Item>(tokens: &mut Tokens<'_>, options: &mut Vec<SortOptions>
     contents
 }
 
-/// Room for a key or an encoding, made before the call.
+/// A buffer for a key or an encoding, made before the call.
 pub fn room(tokens: &mut Tokens<'_>) -> Vec<u8> {
     let room = Vec::with_capacity(tokens.alloc, 4096);
     let made = tokens.made(room.map_err(VortexError::from));

@@ -74,7 +74,7 @@ const OF_ROWS: [Named<OfRows, Input>; 3] = [
     ),
 ];
 
-/// The keys that are appended where there is room.
+/// The keys that are appended where there is capacity.
 #[derive(Clone, Copy)]
 enum InRoom {
     Key,

@@ -181,7 +181,7 @@ fn observe(
     Ok(take_statistics(&mut given.statistics))
 }
 
-/// The encoding in bytes, appended where there is room.
+/// The encoding in bytes, appended where there is capacity.
 fn bytes_in_room(alloc: Global, given: &mut StatisticsInputs) -> StatisticsResult {
     let mut bytes = replace(&mut given.room, Vec::new(alloc));
     let outcome = append_statistics(&given.statistics, &mut bytes);

@@ -32,7 +32,7 @@ pub enum Input {
     NextPiece,
     /// Types and statistics, with semicolons between them. The type of the first is the column's.
     Pieces,
-    /// Room for an encoding in bytes. No word of the line stands for it.
+    /// A buffer for an encoding in bytes. No word of the line stands for it.
     Room,
 }
 

@@ -18,8 +18,8 @@ pub trait IntoScalar: NativeDType {
 
     /// The scalar of the value. Its type is the column type of `Self`, `NativeDType::dtype`.
     ///
-    /// `OutOfMemory` is the only refusal: a string or bytes become a buffer, and a vector needs room
-    /// for its elements and its type.
+    /// `OutOfMemory` is the only refusal: a string or bytes become a buffer, and a vector needs
+    /// memory for its elements and its type.
     fn try_into_scalar(self, alloc: Global) -> Result<Scalar, VortexError>
         ensures { MatchResult result
             (IsMadeValid Self.native_type (given self))

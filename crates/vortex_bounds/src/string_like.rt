@@ -1,7 +1,9 @@
 //! Strings that can be incremented.
 
-ghost use Rattle.std.specs.Prelude.{◌≡◌, ◌+◌, ◌≤◌, ◌++◌, List, ℕ, length, encode_utf8, IfErr, IfOk, IsOk, MatchOption, MatchResult, string_bytes};
-ghost use Rattle.vortex_bounds.specs.Words.{EndsWith, HandsBack, HasNoNext, HasNoNextOfWidth, IsLast, IsOfNoNext, IsScalar, IsStuck, IsSuccessor, IsSuccessorOfLength, len_utf8};
+ghost use Rattle.std.specs.Prelude.{◌≡◌, ◌+◌, ◌≤◌, ◌++◌, List, ℕ, length, encode_utf8, IfErr, IfOk, IsOk, MatchOption};
+ghost use Rattle.std.specs.Prelude.{MatchResult, string_bytes};
+ghost use Rattle.vortex_bounds.specs.Words.{EndsWith, HandsBack, HasNoNext, HasNoNextOfWidth, IsLast, IsOfNoNext};
+ghost use Rattle.vortex_bounds.specs.Words.{IsScalar, IsStuck, IsSuccessor, IsSuccessorOfLength, len_utf8};
 
 use arrayvec::ArrayString;
 use std::alloc::Global;
@@ -64,7 +66,7 @@ impl StringLike for String {
         let Some(next) = next_char(last) else {
             return Err(IncrementError::Last(self));
         };
-        // The room is made first, so that the string can still be handed back.
+        // Capacity is reserved first, so that the string can still be handed back.
         if self
             .reserve(next.len_utf8().saturating_sub(last.len_utf8()))
             .is_err()

@@ -1,7 +1,7 @@
 //! Lower and upper bounds of scalars by truncation.
 
 ghost use Rattle.std.specs.Prelude.{◌≡◌, ◌≤◌, ℕ, List, Some, length, IfErr, IfOk, IsOk, MatchOption, MatchResult, refl};
-ghost use Rattle.vortex_bounds.specs.Words.{Below, GivesOrNoMemory, HasNoTextUpper, HasNoUpper, IsLower, IsLowerAnswer, IsMadeOf, IsTextLower, IsTextUpper, IsTypeOfKind, IsUpper, IsUpperAnswer, IsValid, MayHold, NotAbove, Nullability, OutOfMemory, RawTree, TypeTree, WrongKind, absent, binary_type, content, nat_cmp, next_string, nullability_of, order, raw_bytes, raw_text, scalar_raw, scalar_type, slice_cmp, utf8_type};
+ghost use Rattle.vortex_bounds.specs.Words as Spec;
 
 use crate::increment_bytes::increment_bytes;
 use crate::laws::items_are_bytes;
@@ -19,10 +19,10 @@ pub trait ScalarTruncation: Drop {
     ghost bytes: { Self → List ℕ };
 
     /// The type of its scalar, by nullability.
-    ghost type_at: { Nullability → TypeTree };
+    ghost type_at: { Spec.Nullability → Spec.TypeTree };
 
     /// The raw value of its scalar, by its bytes.
-    ghost raw_at: { List ℕ → RawTree };
+    ghost raw_at: { List ℕ → Spec.RawTree };
 
     /// For the bytes of a value and a length: these bytes are the best lower bound.
     ghost IsBestLower: { List ℕ → ℕ → List ℕ → Type 0 };
@@ -38,11 +38,11 @@ pub trait ScalarTruncation: Drop {
     /// `WrongKind` exactly if the type, or a raw value that is not null, does not fit `Self`. An
     /// extension type never fits.
     fn from_scalar(scalar: Scalar) -> Result<Option<Self>, VortexError>
-        ensures typed { IfOk result (λ _. IsTypeOfKind type_at (scalar_type scalar)) }
-        ensures value { IfOk result (λ o. MatchOption o (scalar_raw scalar ≡ absent)
-            (λ v. scalar_raw scalar ≡ raw_at (bytes v))) }
-        ensures refused { IfErr result (λ e. (e ≡ WrongKind)
-            × ¬ (IsTypeOfKind type_at (scalar_type scalar) × MayHold raw_at (scalar_raw scalar))) };
+        ensures typed { IfOk result (λ _. Spec.IsTypeOfKind type_at (Spec.scalar_type scalar)) }
+        ensures value { IfOk result (λ o. MatchOption o (Spec.scalar_raw scalar ≡ Spec.absent)
+            (λ v. Spec.scalar_raw scalar ≡ raw_at (bytes v))) }
+        ensures refused { IfErr result (λ e. (e ≡ Spec.WrongKind)
+            × ¬ (Spec.IsTypeOfKind type_at (Spec.scalar_type scalar) × Spec.MayHold raw_at (Spec.scalar_raw scalar))) };
 
     /// The length of the value in bytes.
     fn len(&self) -> usize
@@ -50,15 +50,15 @@ pub trait ScalarTruncation: Drop {
 
     /// The scalar of the value, with this nullability. Takes no memory.
     fn into_scalar(self, nullability: Nullability) -> Scalar
-        ensures made { IsMadeOf (type_at nullability) (raw_at (bytes self)) result }
-        ensures valid { IsValid result };
+        ensures made { Spec.IsMadeOf (type_at nullability) (raw_at (bytes self)) result }
+        ensures valid { Spec.IsValid result };
 
     /// The best lower bound of at most `max_length` bytes: not above this value.
     ///
     /// `OutOfMemory` only if `max_length` is above 22.
     fn lower_bound(self, alloc: Global, max_length: usize) -> Result<Self, VortexError>
         requires { max_length ≤ length (bytes self) }
-        ensures given { GivesOrNoMemory
+        ensures given { Spec.GivesOrNoMemory
             (λ bound. IsBestLower (bytes self) max_length (bytes bound)) result }
         ensures inline { max_length ≤ INLINE_BYTES → IsOk result };
 
@@ -70,21 +70,21 @@ pub trait ScalarTruncation: Drop {
         ensures given { MatchResult result
             (λ o. MatchOption o (HasNoBestUpper (bytes self) max_length)
             (λ bound. IsBestUpper (bytes self) max_length (bytes bound)))
-            (λ e. e ≡ OutOfMemory) }
+            (λ e. e ≡ Spec.OutOfMemory) }
         ensures inline { max_length ≤ INLINE_BYTES → IsOk result };
 
     /// The type at a nullability has that nullability.
-    ghost type_law: { (n : Nullability) → nullability_of (type_at n) ≡ n };
+    ghost type_law: { (n : Spec.Nullability) → Spec.nullability_of (type_at n) ≡ n };
 
     /// Scalars are ordered as their bytes are.
     ghost order_law: { (b c : List ℕ)
-        → order (content (raw_at b)) (content (raw_at c)) ≡ Some (slice_cmp nat_cmp b c) };
+        → Spec.order (Spec.content (raw_at b)) (Spec.content (raw_at c)) ≡ Some (Spec.slice_cmp Spec.nat_cmp b c) };
 
     /// A lower bound is not above what it bounds.
-    ghost lower_law: { (b : List ℕ) (n : ℕ) (r : List ℕ) → IsBestLower b n r → NotAbove r b };
+    ghost lower_law: { (b : List ℕ) (n : ℕ) (r : List ℕ) → IsBestLower b n r → Spec.NotAbove r b };
 
     /// An upper bound is above what it bounds.
-    ghost upper_law: { (b : List ℕ) (n : ℕ) (r : List ℕ) → IsBestUpper b n r → Below b r };
+    ghost upper_law: { (b : List ℕ) (n : ℕ) (r : List ℕ) → IsBestUpper b n r → Spec.Below b r };
 }
 
 /// The value if it has at most `max_length` bytes, else its lower bound: as a scalar, with `true`
@@ -98,7 +98,7 @@ pub fn lower_bound<T: ScalarTruncation>(
     max_length: usize,
     nullability: Nullability,
 ) -> Result<Option<(Scalar, bool)>, VortexError>
-    ensures { IsLowerAnswer T.IsBestLower T.raw_at T.type_at T.bytes
+    ensures { Spec.IsLowerAnswer T.IsBestLower T.raw_at T.type_at T.bytes
         value max_length nullability result }
 {
     let Some(value) = value else {
@@ -122,7 +122,7 @@ pub fn upper_bound<T: ScalarTruncation>(
     max_length: usize,
     nullability: Nullability,
 ) -> Result<Option<(Scalar, bool)>, VortexError>
-    ensures { IsUpperAnswer T.IsBestUpper T.HasNoBestUpper T.raw_at T.type_at T.bytes
+    ensures { Spec.IsUpperAnswer T.IsBestUpper T.HasNoBestUpper T.raw_at T.type_at T.bytes
         value max_length nullability result }
 {
     let Some(value) = value else {
@@ -142,15 +142,15 @@ pub fn upper_bound<T: ScalarTruncation>(
 impl ScalarTruncation for ByteBuffer {
     ghost bytes = { λ buffer. buffer };
 
-    ghost type_at = { binary_type };
+    ghost type_at = { Spec.binary_type };
 
-    ghost raw_at = { raw_bytes };
+    ghost raw_at = { Spec.raw_bytes };
 
-    ghost IsBestLower = { IsLower };
+    ghost IsBestLower = { Spec.IsLower };
 
-    ghost IsBestUpper = { IsUpper };
+    ghost IsBestUpper = { Spec.IsUpper };
 
-    ghost HasNoBestUpper = { HasNoUpper };
+    ghost HasNoBestUpper = { Spec.HasNoUpper };
 
     fn from_scalar(scalar: Scalar) -> Result<Option<ByteBuffer>, VortexError> {
         Option::<ByteBuffer>::try_from(scalar)
@@ -193,15 +193,15 @@ impl ScalarTruncation for ByteBuffer {
 impl ScalarTruncation for BufferString {
     ghost bytes = { λ text. text };
 
-    ghost type_at = { utf8_type };
+    ghost type_at = { Spec.utf8_type };
 
-    ghost raw_at = { raw_text };
+    ghost raw_at = { Spec.raw_text };
 
-    ghost IsBestLower = { IsTextLower };
+    ghost IsBestLower = { Spec.IsTextLower };
 
-    ghost IsBestUpper = { IsTextUpper };
+    ghost IsBestUpper = { Spec.IsTextUpper };
 
-    ghost HasNoBestUpper = { HasNoTextUpper };
+    ghost HasNoBestUpper = { Spec.HasNoTextUpper };
 
     fn from_scalar(scalar: Scalar) -> Result<Option<BufferString>, VortexError> {
         Option::<BufferString>::try_from(scalar)
@@ -242,7 +242,7 @@ impl ScalarTruncation for BufferString {
 
 /// The next bytes of the same length; `None` if each byte is 255. At most 22 bytes take no memory.
 fn next_bytes(alloc: Global, bytes: &[u8]) -> Result<Option<ByteBuffer>, VortexError>
-    ensures given { GivesOrNoMemory (λ next. next ≡ next_string bytes.now) result }
+    ensures given { Spec.GivesOrNoMemory (λ next. next ≡ Spec.next_string bytes.now) result }
     ensures inline { length bytes.now ≤ INLINE_BYTES → IsOk result }
 {
     if let Ok(mut short) = ArrayVec::<u8, INLINE_BYTES>::try_from(bytes) {
@@ -263,7 +263,7 @@ fn next_bytes(alloc: Global, bytes: &[u8]) -> Result<Option<ByteBuffer>, VortexE
 /// The longest beginning of whole characters that has at most `max_length` bytes. Takes no memory
 /// if that is at most 22.
 fn text_prefix(text: BufferString, max_length: usize) -> Result<BufferString, VortexError>
-    ensures given { GivesOrNoMemory (λ r. IsTextLower text max_length r) result }
+    ensures given { Spec.GivesOrNoMemory (λ r. Spec.IsTextLower text max_length r) result }
     ensures inline { max_length ≤ INLINE_BYTES → IsOk result }
 {
     let end = text.as_str().floor_char_boundary(max_length);

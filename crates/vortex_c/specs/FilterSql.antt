@@ -80,7 +80,7 @@ abbrev pub IsColumnsError : List NamedKind → SqlError → Type 0
 IsColumnsError columns OutOfMemory = Unit {0}
 IsColumnsError columns fault = (k : ℕ) × (column : NamedKind) × (slice_get columns k ≡ Some column) × AreNamedBefore columns k × IsColumnError k column fault
 
--- the fault of words that are refused so
+-- the error of words that are refused so
 abbrev pub fault_of_words : ParseError → SqlError
 fault_of_words errors.OutOfMemory = OutOfMemory
 fault_of_words cause = NoFilter cause

@@ -47,7 +47,7 @@ status_of_merge merge.OutOfMemory = NO_MEMORY
 status_of_merge merge.TooManyRows = TOO_MANY_ROWS
 status_of_merge (merge.BadBytes piece place) = BAD_BYTES
 
--- where that is told to be, if it was there before: the piece, and the place in it
+-- where that is told to be, if it was there before: the piece, and the offset in it
 abbrev pub fault_of_merge : Fault → MergeError → Fault
 fault_of_merge before merge.OutOfMemory = before
 fault_of_merge before merge.TooManyRows = record { column = 0; place = 0 }

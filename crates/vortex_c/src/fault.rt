@@ -30,7 +30,7 @@ pub(crate) fn status_of_column(fault: ColumnError) -> u32
     }
 }
 
-/// Where in a column the fault is: its row, or its buffer, and else 0.
+/// Where in a column the error is: its row, or its buffer, and else 0.
 pub(crate) fn place_in_column(fault: ColumnError) -> usize
     ensures { result ≡ place_in_column fault }
 {

@@ -17,7 +17,8 @@ use std::alloc::Global;
 /// Memory is asked for the columns, and none for each row.
 ///
 /// - `BUFFER_TOO_SMALL`: `count` says how many bytes the keys have, or that it is the greatest
-///   `usize` or more. There is less room, or not an offset for each row and one more.
+///   `usize` or more. The buffer has fewer bytes, or there is not an offset for each row and one
+///   more.
 /// - `WRONG_LENGTH`: the options are not as many as the columns, and `fault` has the number of
 ///   columns; or a column has another number of rows than the first.
 /// - `BAD_OPTIONS`: a byte of options is above 3.

@@ -165,7 +165,7 @@ fn parse(
     }
 }
 
-/// The fault of words that are refused so.
+/// The error of words that are refused so.
 fn fault_of_words(cause: ParseError) -> SqlError
     ensures { result ≡ fault_of_words cause }
 {

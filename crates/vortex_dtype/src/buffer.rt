@@ -1,8 +1,11 @@
 //! Shared, immutable bytes and strings. A contract sees each as its list of bytes.
 
-ghost use Rattle.std.specs.Prelude.{◌≡◌, ◌≤◌, ◌==◌, [], length, slice_range, IfOk, IsOk, IsUtf8, nat_eq, refl, string_bytes, Some};
+ghost use Rattle.std.specs.Prelude.{◌≡◌, ◌≤◌, ◌==◌, [], length, slice_range, IfOk, IsOk, IsUtf8, nat_eq, refl};
+ghost use Rattle.std.specs.Prelude.{string_bytes, Some};
 ghost use Rattle.std.specs.Hash as fed;
-ghost use Rattle.vortex_dtype.specs.Words.{GivesOrNoMemory, IsCharBoundary, IsTextOf, hashing, nat_cmp, nat_list_cmp_total, nat_list_eq_equiv, partial_equiv_from_equiv, pointwise, rules, slice_cmp, texts_po, texts_ties};
+ghost use Rattle.vortex_dtype.specs.Words.{GivesOrNoMemory, IsCharBoundary, IsTextOf, hashing, nat_cmp};
+ghost use Rattle.vortex_dtype.specs.Words.{nat_list_cmp_total, nat_list_eq_equiv, partial_equiv_from_equiv, pointwise};
+ghost use Rattle.vortex_dtype.specs.Words.{rules, slice_cmp, texts_po, texts_ties};
 
 use crate::error::VortexError;
 use arrayvec::ArrayVec;

@@ -1,6 +1,8 @@
 //! Laws of types, each the contract of a function that does nothing.
 
-ghost use Rattle.vortex_dtype.specs.Laws.{AgreesWithHash, EqualityDecides, EqualityIsEquivalence, EqualsBy, SameIsEquivalence, NullableIsSame, PlacesAreInverse, SameFeedSame, TreesByVariant};
+ghost use Rattle.vortex_dtype.specs.Laws.{AgreesWithHash, EqualityDecides, EqualityIsEquivalence, EqualsBy};
+ghost use Rattle.vortex_dtype.specs.Laws.{SameIsEquivalence, NullableIsSame, PlacesAreInverse, SameFeedSame};
+ghost use Rattle.vortex_dtype.specs.Laws.{TreesByVariant};
 ghost use Rattle.vortex_dtype.specs.Words.{ext_of, fields_of, map_of, type_of, variants_of};
 
 use crate::types::{DType, ExtDType, MapDType, StructFields, UnionVariants};

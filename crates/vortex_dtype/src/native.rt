@@ -1,7 +1,9 @@
 //! The column types of Rust types.
 
 ghost use Rattle.std.specs.Prelude.{◌≡◌};
-ghost use Rattle.vortex_dtype.specs.Words.{GivesOrNoMemory, I16, I32, I64, I8, NonNullable, TypeTree, U16, U32, U64, U8, as_nullable, binary_type, bool_type, integer_type, list_type, type_of, utf8_type};
+ghost use Rattle.vortex_dtype.specs.Words.{GivesOrNoMemory, I16, I32, I64, I8, NonNullable, TypeTree, U16, U32, U64};
+ghost use Rattle.vortex_dtype.specs.Words.{U8, as_nullable, binary_type, bool_type, integer_type, list_type, type_of};
+ghost use Rattle.vortex_dtype.specs.Words.{utf8_type};
 
 use crate::buffer::{BufferString, ByteBuffer};
 use crate::error::VortexError;

@@ -1,7 +1,11 @@
 //! The type of a scalar, and the parts that types are made of.
 
 ghost use Rattle.std.specs.Prelude.{◌≡◌, ◌↔◌, IfOk, IsTrue, MatchResult, option_map, fold};
-ghost use Rattle.vortex_dtype.specs.Words.{IsFlat, OutOfMemory, RefusesOrNoMemory, Same, as_nullable, element_in, erase, ext_of, extension_in, fields_in, fields_of, is_binary_type, is_extension_type, is_map_type, is_nullable, is_union_type, is_utf8_type, key_cause, map_in, map_of, map_type, nullability_of, tree_feed, type_of, variants_in, variants_of};
+ghost use Rattle.vortex_dtype.specs.Words.{IsFlat, OutOfMemory, RefusesOrNoMemory, Same, as_nullable, element_in};
+ghost use Rattle.vortex_dtype.specs.Words.{erase, ext_of, extension_in, fields_in, fields_of, is_binary_type};
+ghost use Rattle.vortex_dtype.specs.Words.{is_extension_type, is_map_type, is_nullable, is_union_type, is_utf8_type};
+ghost use Rattle.vortex_dtype.specs.Words.{key_cause, map_in, map_of, map_type, nullability_of, tree_feed, type_of};
+ghost use Rattle.vortex_dtype.specs.Words.{variants_in, variants_of};
 
 use crate::buffer::{BufferString, ByteBuffer};
 use crate::error::VortexError;

@@ -1,7 +1,9 @@
 //! Views of bytes.
 
 ghost use Rattle.std.specs.Prelude.{◌≡◌, ◌≢◌, ◌==◌, Err, IsTrue, MatchOption, Some, length, option_map};
-ghost use Rattle.vortex_leaves.specs.Words.{AnswersRefView, GivesView, IsRefOf, absent, is_binary_type, lent_raw, may_be_bytes, raw_bytes, ref_bytes, ref_raw, ref_type, scalar_raw, scalar_type, type_of};
+ghost use Rattle.vortex_leaves.specs.Words.{AnswersRefView, GivesView, IsRefOf, absent, is_binary_type, lent_raw};
+ghost use Rattle.vortex_leaves.specs.Words.{may_be_bytes, raw_bytes, ref_bytes, ref_raw, ref_type, scalar_raw};
+ghost use Rattle.vortex_leaves.specs.Words.{scalar_type, type_of};
 
 use std::alloc::Global;
 use vortex_dtype::{ByteBuffer, DType, VortexError};

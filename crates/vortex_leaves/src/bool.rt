@@ -1,7 +1,8 @@
 //! Views of booleans.
 
 ghost use Rattle.std.specs.Prelude.{◌≡◌, ◌≢◌, Err, IsTrue, MatchOption};
-ghost use Rattle.vortex_leaves.specs.Words.{AnswersView, GivesView, IsMadeOf, IsValid, absent, is_bool_type, lent_raw, may_be_truth, opposite, raw_bool, scalar_raw, scalar_type, type_of};
+ghost use Rattle.vortex_leaves.specs.Words.{AnswersView, GivesView, IsMadeOf, IsValid, absent, is_bool_type, lent_raw};
+ghost use Rattle.vortex_leaves.specs.Words.{may_be_truth, opposite, raw_bool, scalar_raw, scalar_type, type_of};
 
 use std::alloc::Global;
 use vortex_dtype::{DType, VortexError};

@@ -4,7 +4,9 @@
 //! `specs/`, and its proof is the law's proof.
 
 ghost use Rattle.vortex_leaves.specs.Words.{AgreesWithHash, EqualsByTypeAndContent, IsEquivalence, OrderAgrees};
-ghost use Rattle.vortex_leaves.specs.ViewWords.{bool_view_content, bool_view_type, bytes_view_content, bytes_view_type, number_view_content, number_view_type, text_view_content, text_view_type};
+ghost use Rattle.vortex_leaves.specs.ViewWords.{bool_view_content, bool_view_type, bytes_view_content, bytes_view_type};
+ghost use Rattle.vortex_leaves.specs.ViewWords.{number_view_content, number_view_type, text_view_content};
+ghost use Rattle.vortex_leaves.specs.ViewWords.{text_view_type};
 
 use crate::binary::BinaryScalar;
 use crate::bool::BoolScalar;

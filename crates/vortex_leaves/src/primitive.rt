@@ -1,8 +1,12 @@
 //! Views of integers.
 
-ghost use Rattle.std.specs.Prelude.{◌≡◌, ◌≢◌, ◌↔◌, Err, IfErr, IfOk, IsOk, IsSome, IsSomeAnd, MatchOption, MatchResult, Some, IfSome, option_map};
+ghost use Rattle.std.specs.Prelude.{◌≡◌, ◌≢◌, ◌↔◌, Err, IfErr, IfOk, IsOk, IsSome, IsSomeAnd, MatchOption, MatchResult};
+ghost use Rattle.std.specs.Prelude.{Some, IfSome, option_map};
 ghost use Rattle.std.proofs.Props.{props};
-ghost use Rattle.vortex_leaves.specs.Words.{GivesView, HoldsNumber, InRange, IsMadeOf, IsValid, RefusesNumber, Valid, absent, content, in_ptype_of, integer_type, is_zero_of, lent_raw, nullability_of, ptype_in, ptype_of, raw_integer, scalar_raw, scalar_type, type_of, whole_of};
+ghost use Rattle.vortex_leaves.specs.Words.{GivesView, HoldsNumber, InRange, IsMadeOf, IsValid, RefusesNumber, Valid};
+ghost use Rattle.vortex_leaves.specs.Words.{absent, content, in_ptype_of, integer_type, is_zero_of, lent_raw};
+ghost use Rattle.vortex_leaves.specs.Words.{nullability_of, ptype_in, ptype_of, raw_integer, scalar_raw, scalar_type};
+ghost use Rattle.vortex_leaves.specs.Words.{type_of, whole_of};
 
 use std::alloc::Global;
 use vortex_dtype::{DType, PType, VortexError};
@@ -26,7 +30,8 @@ pub struct PrimitiveScalar<'a> {
 }
 
 impl<'a> PrimitiveScalar<'a> {
-    ghost use Rattle.vortex_leaves.specs.ViewWords.{IsNumberViewOf, IsValidNumberView, number_view_ptype, number_view_raw, number_view_type, view_number};
+    ghost use Rattle.vortex_leaves.specs.ViewWords.{IsNumberViewOf, IsValidNumberView, number_view_ptype};
+    ghost use Rattle.vortex_leaves.specs.ViewWords.{number_view_raw, number_view_type, view_number};
 
     /// The view of a type and a raw value. `None` is the null. An integer of another `PType` is
     /// taken as the same number of the type's `PType`.

@@ -1,7 +1,9 @@
 //! The laws of the numbers of each `PType`, and of equality, order and hash. A law does
 //! nothing when it runs.
 
-ghost use Rattle.vortex_pvalue.specs.Words.{AgreesWithHash, AgreesWithOrder, EqualsByNumber, InRange, IsEquivalence, RangeIsInterval, ReinterpretsBack, TestIsRange, WrappedExists, WrappedIsUnique, ptype_of, whole_of};
+ghost use Rattle.vortex_pvalue.specs.Words.{AgreesWithHash, AgreesWithOrder, EqualsByNumber, InRange, IsEquivalence};
+ghost use Rattle.vortex_pvalue.specs.Words.{RangeIsInterval, ReinterpretsBack, TestIsRange, WrappedExists};
+ghost use Rattle.vortex_pvalue.specs.Words.{WrappedIsUnique, ptype_of, whole_of};
 
 use crate::natives::NativePType;
 use crate::pvalues::PValue;

@@ -2,7 +2,9 @@
 
 ghost use Rattle.std.specs.Prelude.{◌≡◌, ◌↔◌, IsTrue, MatchOption, MatchResult, Some, pos, length, ◌≤◌};
 ghost use Rattle.std.specs.Hash as fed;
-ghost use Rattle.vortex_pvalue.specs.Words.{InRange, IsNumber, array_vec_len, as_partial_cmp, byte_width_of, bytes_of, comparing, greatest_of, hashing, int_cmp, int_eq, least_of, on, other_sign, ptype_of, pvalue_text, rules, whole_of, wrapped};
+ghost use Rattle.vortex_pvalue.specs.Words.{InRange, IsNumber, array_vec_len, as_partial_cmp, byte_width_of, bytes_of};
+ghost use Rattle.vortex_pvalue.specs.Words.{comparing, greatest_of, hashing, int_cmp, int_eq, least_of, on, other_sign};
+ghost use Rattle.vortex_pvalue.specs.Words.{ptype_of, pvalue_text, rules, whole_of, wrapped};
 
 use crate::laws::is_in_range;
 use crate::natives::NativePType;

@@ -120,7 +120,7 @@ column-stuck has o t bytes now h other stuck =
       front = λ s zs rest k alike e. null-or-value o t bytes other s zs rest k.value k.plain k.is alike e;
     }) here
 
--- what is left is what comes from a place on
+-- what is left is what comes from an offset on
 pub place-of : (has : Type 0) (Is : List ℕ → Type 0) (bytes now : List ℕ) (left place : ℕ) → IsStuck has Is bytes now → length now ≡ left → place ≡ length bytes - left
     → (place ≤ length bytes) × IsStuck has Is bytes (drop place bytes)
 place-of has Is bytes now left place stuck rest is =

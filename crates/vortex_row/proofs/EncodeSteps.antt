@@ -85,7 +85,7 @@ escape-two zero h = refl
 escape-two (suc zero) h = refl
 escape-two (suc (suc b)) h = absurd (omega arith)
 
--- a string of which the bytes before a place are written as one each
+-- a string of which the bytes before an offset are written as one each
 
 pub plain-step : (bs : List ℕ) (i : ℕ) → i < length bs → 2 ≤ get_or bs i 0 → take i bs ++ escaped (drop i bs) ≡ take (i + 1) bs ++ escaped (drop (i + 1) bs)
 plain-step [] i h more = absurd (omega arith)

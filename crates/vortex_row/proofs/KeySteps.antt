@@ -12,7 +12,7 @@ use Rattle.vortex_row.specs.Steps.{HasAppended}
 use Rattle.vortex_row.specs.declared.options.SortOptions.{SortOptions}
 use Rattle.vortex_row.proofs.EncodeSteps.{key_with-length}
 
--- as many bytes as are counted are room for them all, since no `Vec` is as large as the greatest number
+-- as many bytes as are counted hold them all, since no `Vec` is as large as the greatest number
 pub all-slot : (bytes : List ℕ) (n start : ℕ) (out : Vec ℕ) → length bytes ≡ n → start + capped n ≤ vec_len out → HasSlot out.items start bytes
 all-slot bytes n start out e h =
     let small = out.small in

@@ -134,7 +134,7 @@ escaped-plain (b ∷ bs) h =
     let first : 1 < b = h 0 (omega arith) in
     ap₂ (λ xs ys. xs ++ ys) (escape-plain b first) (escaped-plain bs (λ k less. h (suc k) (omega arith)))
 
--- the byte at a place, written as one or as two, and the rest
+-- the byte at an offset, written as one or as two, and the rest
 
 pub single-at : (bs : List ℕ) (i b : ℕ) → i < length bs → b ≡ get_or bs i b → 2 ≤ b → length (escaped (drop i bs)) ≡ 1 + length (escaped (drop (i + 1) bs))
 single-at bs i b h is more = rw (drop_more bs i b h, ← is, escape-plain b more) (omega arith)

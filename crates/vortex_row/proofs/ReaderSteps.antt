@@ -20,7 +20,7 @@ drop-inverted true zero bs = refl
 drop-inverted true (suc n) [] = refl
 drop-inverted true (suc n) (b ∷ bs) = drop-inverted true n bs
 
--- the bytes up to a place, and from it on
+-- the bytes up to an offset, and from it on
 
 pub take-then : (n : ℕ) (xs : List ℕ) → xs ≡ take n xs ++ drop n xs
 take-then zero xs = refl

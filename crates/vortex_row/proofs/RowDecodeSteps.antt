@@ -144,7 +144,7 @@ column-stops os ts xs bytes o more t types taken now so stuck =
     (stuck-same (AllHaveValues ts) (AllHaveValues (type_then t types)) (AreColumnKeys (o ∷ more) (type_then t types)) (AreColumnKeys (o ∷ more) (type_then t types)) (drop taken bytes) now so.has (λ s h. h) (λ s h. h)
     (stuck-within (AllHaveValues (type_then t types)) (HasValues t) (IsColumnKey o t) (AreColumnKeys (o ∷ more) (type_then t types)) (drop taken bytes) now (λ a. a.0) (begin-column o more t types (drop taken bytes)) stuck)))
 
--- a column is refused, at a place that counts from the row's first byte
+-- a column is refused, at an offset that counts from the row's first byte
 pub columns-refused : (os : List SortOptions) (ts : List DType) (i : ℕ) (xs : List Scalar) (bytes : List ℕ) (o : SortOptions) (t : DType) (taken : ℕ) (e : RowError) → i < length ts → i < length os → t ≡ get_or ts i t → o ≡ get_or os i o
     → ColumnsSoFar os (dtype_trees ts) xs bytes (drop i os) (dtype_trees (drop i ts)) taken → IsRefusalAt (HasValues (type_of t)) (IsColumnKey o (type_of t)) bytes taken e
     → IsRefusal (AllHaveValues (dtype_trees ts)) (AreColumnKeys os (dtype_trees ts)) bytes e
@@ -164,7 +164,7 @@ columns-within os ts xs bytes more types taken so =
     let count = so.count in
     omega arith
 
--- the place after a column
+-- the offset after a column
 
 pub column-fits : (o : SortOptions) (t : TypeTree) (v : RawTree) (bytes : List ℕ) (place n : ℕ) → place ≤ length bytes → HasColumn o t v (drop place bytes) n → place + n ≤ length bytes
 column-fits o t v bytes place n h column =

@@ -49,7 +49,7 @@ writes-then bs cs p q r x y z a c =
 pub writes-after_one : (b : ℕ) (bs : List ℕ) (p q r : ℕ) (x y z : List ℕ) → Writes (b ∷ []) p q x y → Writes bs q r y z → Writes (b ∷ bs) p r x z
 writes-after_one b bs p q r x y z a c = writes-then (b ∷ []) bs p q r x y z a c
 
--- the room that is left
+-- the bytes that are left
 
 pub slot-after_one : (b : ℕ) (bs : List ℕ) (p q : ℕ) (x y : List ℕ) → HasSlot x p (b ∷ bs) → Writes (b ∷ []) p q x y → HasSlot y q bs
 slot-after_one b bs p q x y h w =

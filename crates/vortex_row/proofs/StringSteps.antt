@@ -134,7 +134,7 @@ not_special (suc (suc b)) h = omega arith
 
 -- texts
 
--- strings with one escaped form are one
+-- strings with one escaped encoding are one
 same-string : (bs cs xs ys : List ℕ) → AreBytes bs → AreBytes cs → escaped bs ++ xs ≡ escaped cs ++ ys → bs ≡ cs
 same-string bs cs xs ys h k e =
     let one = key-apart (string bs) (string cs) xs ys tt h k (ap (λ zs. 22 ∷ zs) e) in

@@ -1,4 +1,4 @@
--- How the strings that go on after each other are put together, and the places where none goes on.
+-- How the strings that go on after each other are put together, and the offsets where none goes on.
 use Rattle.std.proofs.Common.{◌≡◌, ℕ, ◌⊎◌, Bool, true, false, inl, inr, List, [], ◌∷◌, ◌++◌, refl, sym, subst, ap, ◌∙◌, append_assoc, append-nil, arith}
 use Rattle.vortex_row.specs.Held.{AreBytes}
 use Rattle.vortex_row.specs.Keys.{inverted}
@@ -27,7 +27,7 @@ continue-then p q Is Rest More one two = record {
       two.split x zs rest is_rest f;
 }
 
--- places where none goes on
+-- offsets where none goes on
 
 pub alike-through : (done now zs old : List ℕ) → old ≡ done ++ now → BeginAlike now zs → BeginAlike old (done ++ zs)
 alike-through [] now zs old e h = subst (λ xs. BeginAlike xs zs) (sym e) h

@@ -115,7 +115,7 @@ low_gives b c h = (grind (arith, nat_tests), (grind (arith, nat_tests), grind (a
 high_gives : (b c : ℕ) → c ≤ highest_after b → (c ≤ 191) × ((b ≡ 237 → c ≤ 159) × (b ≡ 244 → c ≤ 143))
 high_gives b c h = (grind (arith, nat_tests), (grind (arith, nat_tests), grind (arith, nat_tests)))
 
--- each form of a character, from its first byte on
+-- each encoding of a character, from its first byte on
 
 two_on : (b : ℕ) (xs : List ℕ) → OfTwo b xs → (194 ≤ b) × (b < 224) × Completes 1 (lowest_after b) (highest_after b) xs
 two_on b xs h =
@@ -218,7 +218,7 @@ four_back b (d ∷ f ∷ g ∷ xs) h k p =
     four_bytes : (x y z r u v w s : ℕ) → x ≡ u → y ≡ v → z ≡ w → r ≡ s → x ∷ y ∷ z ∷ r ∷ [] ≡ u ∷ v ∷ w ∷ s ∷ []
     four_bytes x y z r u v w s h k l m = cc
 
--- which of the forms it is, by the first byte
+-- which of the encodings it is, by the first byte
 
 between : (b m n j k : ℕ) (A : Type 0) → m ≤ b → b < n → j ≤ b → b < k → n ≤ j ⊎ k ≤ m → A
 between b m n j k A p q r s h = elim h [ inl x ↦ absurd (omega arith) | inr x ↦ absurd (omega arith) ]

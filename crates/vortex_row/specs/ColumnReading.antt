@@ -25,7 +25,7 @@ pub record HasColumn (o : SortOptions) (t : TypeTree) (v : RawTree) (bytes : Lis
   pub is : bytes ≡ key_with o (content v) ++ drop n bytes
   pub count : n ≡ length (key_with o (content v))
 
--- why bytes are refused: no memory, or a place from which they go on as no string does
+-- why bytes are refused: no memory, or an offset from which they go on as no string does
 abbrev pub IsRefusal : Type 0 → (List ℕ → Type 0) → List ℕ → RowError → Type 0
 IsRefusal has_values Is bytes e = (e ≡ OutOfMemory) ⊎ ((place : ℕ) × (e ≡ BadKey place) × (place ≤ length bytes) × IsStuck has_values Is bytes (drop place bytes))
 
@@ -57,14 +57,14 @@ pub record HasRow (os : List SortOptions) (ts : TypeTrees) (xs : List Scalar) (b
   pub is : bytes ≡ scalars_key os xs ++ drop n bytes
   pub count : n ≡ length (scalars_key os xs)
 
--- the bytes from a place on begin with the key of the value of x, a scalar of the type; next is the place after it
+-- the bytes from an offset on begin with the key of the value of x, a scalar of the type; next is the offset after it
 pub record HasColumnAt (o : SortOptions) (t : TypeTree) (x : Scalar) (bytes : List ℕ) (place next : ℕ) : Type 0 where
   pub typed : scalar_type x ≡ t
   pub width : ℕ
   pub column : HasColumn o t (scalar_raw x) (drop place bytes) width
   pub after : next ≡ place + width
 
--- why bytes from a place on are refused; the place of a bad byte counts from their first
+-- why bytes from an offset on are refused; the offset of a bad byte counts from their first
 abbrev pub IsRefusalAt : Type 0 → (List ℕ → Type 0) → List ℕ → ℕ → RowError → Type 0
 IsRefusalAt has_values Is bytes start e =
     (e ≡ OutOfMemory) ⊎ ((place : ℕ) × (e ≡ BadKey (start + place)) × (place ≤ length (drop start bytes)) × IsStuck has_values Is (drop start bytes) (drop place (drop start bytes)))

@@ -56,8 +56,8 @@ pub record MayBegin (IsOne : List ℕ → Type 0) (bytes : List ℕ) : Type 0 wh
   pub is_one : IsOne key
   pub is : bytes ++ more ≡ key ++ rest
 
--- the place of the first byte that none of the keys has: those before may begin a key, if each type has values, and with
--- it they may not. If the bytes end too early, it is the place after them
+-- the offset of the first byte that none of the keys has: those before may begin a key, if each type has values, and with
+-- it they may not. If the bytes end too early, it is the offset after them
 pub record IsFirstBad (IsOne : List ℕ → Type 0) (has_values : Type 0) (bytes : List ℕ) (place : ℕ) : Type 0 where
   pub within : place ≤ length bytes
   pub before : has_values → MayBegin IsOne (take place bytes)

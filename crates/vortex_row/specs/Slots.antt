@@ -1,11 +1,11 @@
--- What the steps of the encoder do to a slice that they write into, from a place on.
+-- What the steps of the encoder do to a slice that they write into, from an offset on.
 use Rattle.std.specs.Prelude.{◌≡◌, ℕ, ◌+◌, ◌≤◌, List, ◌++◌, length, take}
 
--- there is room for these bytes from the place on
+-- these bytes fit from the offset on
 abbrev pub HasSlot : List ℕ → ℕ → List ℕ → Type 0
 HasSlot room place bytes = place + length bytes ≤ length room
 
--- just these bytes are written, from a place to the next, and what is before them stays
+-- just these bytes are written, from an offset to the next, and what is before them stays
 pub record Writes (bytes : List ℕ) (place next : ℕ) (before after : List ℕ) : Type 0 where
   pub items : take next after ≡ take place before ++ bytes
   pub next' : next ≡ place + length bytes

@@ -5,11 +5,11 @@ use Rattle.std.specs.Vec.{vec_len, vec_capacity}
 use Rattle.vortex_value.specs.Values.Content.{Content}
 use Rattle.vortex_row.specs.Keys.{downward_key, key, number_bytes, upward_key}
 
--- there is room for these bytes
+-- there is capacity for these bytes
 abbrev pub HasRoom : Vec ℕ → List ℕ → Type 0
 HasRoom out bytes = vec_len out + length bytes ≤ vec_capacity out
 
--- just these bytes are appended, in the room that there was
+-- just these bytes are appended, and no capacity is lost
 pub record Appends (bytes : List ℕ) (before after : Vec ℕ) : Type 0 where
   pub items : after.items ≡ before.items ++ bytes
   pub count : vec_len after ≡ vec_len before + length bytes

@@ -18,20 +18,20 @@ Completes zero low high bs = IsUtf8 bs
 Completes (suc n) low high [] = ⊥
 Completes (suc n) low high (b ∷ bs) = (low ≤ b) × (b ≤ high) × Completes n 128 191 bs
 
--- the escaped form of a string of this kind, and its end
+-- the escaped encoding of a string of this kind, and its end
 pub record IsEscaped (IsOne : List ℕ → Type 0) (bs : List ℕ) : Type 0 where
   pub string : List ℕ
   pub kind : IsOne string
   pub bytes : AreBytes string
   pub is : bs ≡ escaped string
 
--- the bytes begin with the escaped form of this string, which is one of the kind, and go on with now
+-- the bytes begin with the escaped encoding of this string, which is one of the kind, and go on with now
 pub record HasString (IsOne : List ℕ → Type 0) (string old now : List ℕ) : Type 0 where
   pub kind : IsOne string
   pub bytes : AreBytes string
   pub is : old ≡ escaped string ++ now
 
--- each byte before the place is a character of ASCII above 1
+-- each byte before the offset is a character of ASCII above 1
 abbrev pub AreCharacters : List ℕ → ℕ → Type 0
 AreCharacters bs place = (k : ℕ) → k < place → (2 ≤ get_or bs k 0) × (get_or bs k 0 < 128)
 

@@ -25,7 +25,7 @@ use vortex_value::laws::one_value;
 /// how many bytes its key has. What follows the key does not matter.
 ///
 /// `HasVariant` exactly if a variant stands in the type, at any depth. Else `BadKey` if the bytes
-/// begin with no key of a value of the type: its place is that of the first byte that no such key
+/// begin with no key of a value of the type: its offset is that of the first byte that no such key
 /// has there, or of the end if they end too early. `OutOfMemory` may come in place of each answer
 /// but `HasVariant`.
 #[tactic(auto, using(crate::proofs::DecodeSteps::answers))]
@@ -89,7 +89,7 @@ pub fn decode_key_into(
 ///
 /// `WrongLength` exactly if there are not as many types as options, before all else; then
 /// `HasVariant` exactly if a variant stands in one of the types, at any depth. Else `BadKey` if the
-/// bytes begin with no key of a row of values of the types: its place is that of the first byte
+/// bytes begin with no key of a row of values of the types: its offset is that of the first byte
 /// that no such key has there, or of the end if they end too early. `OutOfMemory` may come in place
 /// of each answer but the first two refusals.
 #[tactic(auto, using(crate::proofs::RowDecodeSteps::answers))]

@@ -1,4 +1,4 @@
-//! Keys, written into a slice from a place on. Each part of a key has one function here, which
+//! Keys, written into a slice from an offset on. Each part of a key has one function here, which
 //! scalars and plain values share.
 
 mod bytes;

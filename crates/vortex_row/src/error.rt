@@ -15,8 +15,8 @@ pub enum RowError {
     /// A variant stands in the type, so its values have no order and no key.
     #[error("a variant stands in the type")]
     HasVariant,
-    /// The bytes begin with no key of the type: the place of the first byte that none has there, or
-    /// of the end if they end too early.
+    /// The bytes begin with no key of the type: the offset of the first byte that none has there,
+    /// or of the end if they end too early.
     #[error("no key of the type: byte {offset}")]
     BadKey { offset: usize },
     /// The row has another number of values than there are columns.

@@ -30,7 +30,7 @@ pub fn key_length(value: ScalarRef<'_>) -> usize
 /// What is appended before a key is written there.
 static ZEROS: [u8; 1024] = [0; 1024];
 
-/// Appends so many zeros, in room that was taken.
+/// Appends so many zeros, in capacity that was reserved.
 fn append_zeros(count: usize, out: &mut Vec<u8>)
     requires { vec_len out.old + count ≤ vec_capacity out.old }
     ensures { HasAppended count out.old out.new }
@@ -45,7 +45,7 @@ fn append_zeros(count: usize, out: &mut Vec<u8>)
     }
 }
 
-/// Takes room for so many bytes more, and appends as many. `OutOfMemory` if there is none.
+/// Reserves memory for so many bytes more, and appends as many. `OutOfMemory` if there is none.
 pub(crate) fn extend(count: usize, out: &mut Vec<u8>) -> Result<(), RowError>
     ensures appended { OnOk result (HasAppended count out.old out.new) }
     ensures refused { IfErr result
@@ -60,8 +60,8 @@ pub(crate) fn extend(count: usize, out: &mut Vec<u8>) -> Result<(), RowError>
 /// Appends the key of a scalar, in a column that is sorted so, and nothing else.
 ///
 /// `HasVariant` exactly if a variant stands in the type, at any depth. Else `OutOfMemory` is the
-/// only refusal, and never comes if `out` has room for the key. After a refusal `out` has the bytes
-/// that it had. The value need not be valid for the type.
+/// only refusal, and never comes if `out` has capacity for the key. After a refusal `out` has the
+/// bytes that it had. The value need not be valid for the type.
 pub fn append_key(
     value: ScalarRef<'_>,
     options: SortOptions,

@@ -42,8 +42,8 @@ pub fn plain_key_length(value: PlainValue<'_>) -> usize
     }
 }
 
-/// Writes the key of a value in a column that is sorted so from this place on, and answers the
-/// place after it. What stands before the place stays, and what comes after the key may be
+/// Writes the key of a value in a column that is sorted so from this offset on, and answers the
+/// offset after it. What stands before the offset stays, and what comes after the key may be
 /// overwritten.
 #[inline(always)]
 #[tactic(auto, using(crate::proofs::SlotSteps::plain))]

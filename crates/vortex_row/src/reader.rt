@@ -78,7 +78,7 @@ pub(crate) fn are_bytes(bytes: &[u8])
     let _ = bytes;
 }
 
-/// The bytes before this place.
+/// The bytes before this offset.
 #[inline(always)]
 pub(crate) fn bytes_to(bytes: &[u8], place: usize) -> &[u8]
     requires { place ≤ length bytes.now }
@@ -87,7 +87,7 @@ pub(crate) fn bytes_to(bytes: &[u8], place: usize) -> &[u8]
     &bytes[..place]
 }
 
-/// The bytes from this place on.
+/// The bytes from this offset on.
 #[inline(always)]
 pub(crate) fn bytes_from(bytes: &[u8], place: usize) -> &[u8]
     requires { place ≤ length bytes.now }

@@ -17,8 +17,8 @@ use vortex_value::ScalarRef;
 ///
 /// `WrongLength` exactly if there are not as many values as options, before all else; then
 /// `HasVariant` exactly if a variant stands in the type of one of the values. Else `OutOfMemory` is
-/// the only refusal, and never comes if `out` has room for the key. After a refusal `out` has the
-/// bytes that it had. [`RowEncoder`] looks for variants once for many rows.
+/// the only refusal, and never comes if `out` has capacity for the key. After a refusal `out` has
+/// the bytes that it had. [`RowEncoder`] looks for variants once for many rows.
 pub fn append_row_key(
     values: &[ScalarRef<'_>],
     options: &[SortOptions],
@@ -96,8 +96,8 @@ impl<'a> RowEncoder<'a> {
     /// column of its place. Values of the columns' types have no variants.
     ///
     /// `WrongLength` exactly if there are not as many values as columns. Else `OutOfMemory` is the
-    /// only refusal, and never comes if `out` has room for the key. After a refusal `out` has the
-    /// bytes that it had.
+    /// only refusal, and never comes if `out` has capacity for the key. After a refusal `out` has
+    /// the bytes that it had.
     pub fn append(&self, values: &[ScalarRef<'_>], out: &mut Vec<u8>) -> Result<(), RowError>
         ensures appended { OnOk result (out.new.items
             ≡ out.old.items ++ row_key (encoder_options self.now) (map ref_content values.now)) }
@@ -165,7 +165,7 @@ fn row_bound(values: &[ScalarRef<'_>]) -> usize
 }
 
 /// Appends no fewer bytes than the key of a row has. It counts the bytes of the key only if there
-/// may be too little room, since a count reads each byte of a string. For a string of 16 bytes and
+/// may be too little, since a count reads each byte of a string. For a string of 16 bytes and
 /// a number a count takes 111 instructions, and the bound that mostly stands for it takes 43.
 fn extend_for_row(values: &[ScalarRef<'_>], out: &mut Vec<u8>) -> Result<(), RowError>
     ensures begins { OnOk result (take (vec_len out.old) out.new.items ≡ out.old.items) }
@@ -182,7 +182,7 @@ fn extend_for_row(values: &[ScalarRef<'_>], out: &mut Vec<u8>) -> Result<(), Row
     extend(row_length(values), out)
 }
 
-/// Writes the key of a row of as many values as there are options, from a place on.
+/// Writes the key of a row of as many values as there are options, from an offset on.
 fn put_columns(
     values: &[ScalarRef<'_>],
     options: &[SortOptions],

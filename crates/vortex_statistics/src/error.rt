@@ -19,8 +19,8 @@ pub enum StatisticsError {
     /// alone.
     #[error("a variant stands in the type")]
     HasVariant,
-    /// The bytes are no form of statistics of the type: the place of the first byte that none has
-    /// there, or of the end if they end too early. Of the calls of `statistics_bytes` alone.
+    /// The bytes are no encoding of statistics of the type: the offset of the first byte that none
+    /// has there, or of the end if they end too early. Of the calls of `statistics_bytes` alone.
     #[error("no form of statistics of the type: byte {offset}")]
     BadBytes { offset: usize },
 }

@@ -14,8 +14,8 @@ use Rattle.vortex_value.specs.Breaches.{Found, HasSteps, count_types, first, her
 use Rattle.vortex_value.specs.Steps.Faults.{Checks, HasPath, Shows}
 use Rattle.vortex_value.specs.Values.RawOf.{raw_of, value_trees}
 use Rattle.vortex_value.specs.Values.RawTree.{raw_tuple, no_raws, count}
-use Rattle.vortex_value.specs.declared.validate.Fault.{Fault}
-use Rattle.vortex_value.specs.declared.validate.Fault.TheVariants.{NoMemory, NoPath, First}
+use Rattle.vortex_value.specs.declared.validate.ValidityError.{ValidityError}
+use Rattle.vortex_value.specs.declared.validate.ValidityError.TheVariants.{NoMemory, NoPath, First}
 use Rattle.vortex_value.specs.declared.validate.Trace.{Trace}
 use Rattle.vortex_value.specs.declared.values.ScalarValue.{ScalarValue}
 use Rattle.vortex_dtype.specs.Lemmas.TypeLaws.{is_nullable-storage}
@@ -26,7 +26,7 @@ pub count_types-as_type_trees : (ts : List TypeTree) → count_types (as_type_tr
 count_types-as_type_trees [] = refl
 count_types-as_type_trees (t ∷ ts) = ap suc (count_types-as_type_trees ts)
 
-pub Shows-more : (kept : Bool) (f : Fault) (fs gs : List Found) → Shows kept f fs → Shows kept f (fs ++ gs)
+pub Shows-more : (kept : Bool) (f : ValidityError) (fs gs : List Found) → Shows kept f fs → Shows kept f (fs ++ gs)
 Shows-more kept NoMemory [] gs h = absurd h
 Shows-more kept NoMemory (f ∷ fs) gs h = h
 Shows-more kept NoPath [] gs h = absurd (h.1 refl)
@@ -105,7 +105,7 @@ pub entry_with : (k w : TypeTree) (vs : List (Option ScalarValue)) (x : Option S
     → breaches_of_entry k w (raw_tuple (value_trees vs)) ≡ under Key (breaches k (raw_of x)) ++ under Value (breaches w (raw_of (get_or vs 1 None)))
 entry_with k w vs x two a = entry_of k w vs x (get_or vs 1 None) two a (get_or_default vs 1 None (get_or vs 1 None) (omega arith))
 
-pub Shows-some : (kept : Bool) (f : Fault) (fs : List Found) → Shows kept f fs → fs ≢ []
+pub Shows-some : (kept : Bool) (f : ValidityError) (fs : List Found) → Shows kept f fs → fs ≢ []
 Shows-some kept NoMemory fs h = some-steps fs h
 Shows-some kept NoPath fs h = h.1
 Shows-some kept (First steps breach) fs h = some-first fs _ h
@@ -125,12 +125,12 @@ pub Checks-part : (path : Option Global) (r : Bool) (before after : Trace) (step
 Checks-part path true before after step fs gs part h = absurd (Shows-some (is_some path) before.fault fs part (none-under step fs h.1))
 Checks-part path false before after step fs gs part h = Shows-more (is_some path) after.fault (under step fs) gs h
 
-Shows-path : (f : Fault) (fs : List Found) → Shows true f fs → HasPath f
+Shows-path : (f : ValidityError) (fs : List Found) → Shows true f fs → HasPath f
 Shows-path NoMemory fs h = tt
 Shows-path NoPath fs h = cc
 Shows-path (First steps breach) fs h = tt
 
--- a check that keeps the path leaves no fault without one
+-- a check that keeps the path leaves no error without one
 pub Checks-path : (alloc : Global) (trace : Trace) (fs : List Found) → Checks (Some alloc) false trace fs → HasPath trace.fault
 Checks-path alloc trace fs h = Shows-path trace.fault fs h
 

@@ -19,7 +19,8 @@
 #![tactic(auto, using(crate::proofs::CastCode::shown))]
 
 ghost use Rattle.std.specs.Prelude.{◌≡◌, MatchResult, None, Some};
-ghost use Rattle.vortex_value.specs.Words.{AnswersCast, IsMadeOf, IsValid, IsValidRef, as_nullable, integer_type, number_to, ref_raw, ref_type, scalar_raw, scalar_type, type_of, whole_of};
+ghost use Rattle.vortex_value.specs.Words.{AnswersCast, IsMadeOf, IsValid, IsValidRef, as_nullable, integer_type};
+ghost use Rattle.vortex_value.specs.Words.{number_to, ref_raw, ref_type, scalar_raw, scalar_type, type_of, whole_of};
 
 use crate::refs::ScalarRef;
 use crate::scalars::{Scalar, with_type};

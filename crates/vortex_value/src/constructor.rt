@@ -1,7 +1,13 @@
 //! Makers of scalars: each answers a valid scalar of the stated type, or refuses by name.
 
-ghost use Rattle.std.specs.Prelude.{◌≡◌, ◌≢◌, ◌↔◌, None, Err, IsOk, IfOk, IfErr, IsUtf8, MatchResult, Some, false, true};
-ghost use Rattle.vortex_value.specs.Words.{IsFlat, IsMadeOf, IsNullable, IsValid, NonNullable, OutOfMemory, Refuses, RefusesExactly, RefusesOrNoMemory, Valid, absent, as_nullable, binary_type, bool_type, breaches, child_cause, ext_of, extension_over, inside_cause, integer_type, is_absent, ptype_of, raw_bool, raw_bytes, raw_integer, raw_of, raw_text, raw_union, raw_variant, scalar_raw, scalar_type, type_of, union_cause, union_of, utf8_type, variant_type, variants_of, whole_of};
+ghost use Rattle.std.specs.Prelude.{◌≡◌, ◌≢◌, ◌↔◌, None, Err, IsOk, IfOk, IfErr, IsUtf8, MatchResult, Some, false};
+ghost use Rattle.std.specs.Prelude.{true};
+ghost use Rattle.vortex_value.specs.Words.{IsFlat, IsMadeOf, IsNullable, IsValid, NonNullable, OutOfMemory, Refuses};
+ghost use Rattle.vortex_value.specs.Words.{RefusesExactly, RefusesOrNoMemory, Valid, absent, as_nullable, binary_type};
+ghost use Rattle.vortex_value.specs.Words.{bool_type, breaches, child_cause, ext_of, extension_over, inside_cause};
+ghost use Rattle.vortex_value.specs.Words.{integer_type, is_absent, ptype_of, raw_bool, raw_bytes, raw_integer, raw_of};
+ghost use Rattle.vortex_value.specs.Words.{raw_text, raw_union, raw_variant, scalar_raw, scalar_type, type_of};
+ghost use Rattle.vortex_value.specs.Words.{union_cause, union_of, utf8_type, variant_type, variants_of, whole_of};
 
 use crate::scalars::Scalar;
 use crate::storage::variant_with;

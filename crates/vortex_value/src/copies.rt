@@ -17,7 +17,11 @@
 ghost use Rattle.std.specs.Prelude.{◌≡◌, ◌<◌, IfOk, MatchResult, None, Some, false, map, option_map};
 ghost use Rattle.vortex_dtype.specs.TypeOf.{struct_type_of};
 ghost use Rattle.vortex_dtype.specs.TypeTree.{list_type};
-ghost use Rattle.vortex_value.specs.Words.{Adds, IsFlat, OutOfMemory, TakesNoMemory, absent, binary_type, bool_type, fields_of, integer_type, is_none, lent_raw, null_type, option_copied, ptype_of, raw_bool, raw_bytes, raw_integer, raw_of, raw_text, raw_tuple, raw_variant, type_of, union_tree, utf8_type, value_tree, value_trees, variant_tree, vec_capacity, vec_len, whole_of};
+ghost use Rattle.vortex_value.specs.Words.{Adds, IsFlat, OutOfMemory, TakesNoMemory, absent, binary_type, bool_type};
+ghost use Rattle.vortex_value.specs.Words.{fields_of, integer_type, is_none, lent_raw, null_type, option_copied};
+ghost use Rattle.vortex_value.specs.Words.{ptype_of, raw_bool, raw_bytes, raw_integer, raw_of, raw_text, raw_tuple};
+ghost use Rattle.vortex_value.specs.Words.{raw_variant, type_of, union_tree, utf8_type, value_tree, value_trees};
+ghost use Rattle.vortex_value.specs.Words.{variant_tree, vec_capacity, vec_len, whole_of};
 
 use crate::scalars::{Scalar, with_type};
 use crate::unions::UnionValue;

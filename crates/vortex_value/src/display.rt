@@ -2,7 +2,12 @@
 #![tactic(auto, using(crate::proofs::TextSteps::shown))]
 
 ghost use Rattle.std.specs.Prelude.{◌≡◌, ◌++◌, ◌⊎◌, [], IfNone, IfSome, IsTrue, None, Some, codes, false, slice_get};
-ghost use Rattle.vortex_value.specs.Words.{RawTree, WritesOnOk, as_type_trees, between, element_texts, entry_text, entry_texts, field_at, field_texts, fields_of, in_braces, in_brackets, in_parentheses, is_valid, joined, lent_raw, map_of, raw_text_of, raw_texts, raw_tuple, raw_union, ref_raw, ref_type, scalar_raw, scalar_type, storage, text_at, text_of, type_of, union_tree, value_tree, value_trees, variant_tree};
+ghost use Rattle.vortex_value.specs.Words.{RawTree, WritesOnOk, as_type_trees, between, element_texts, entry_text};
+ghost use Rattle.vortex_value.specs.Words.{entry_texts, field_at, field_texts, fields_of, in_braces, in_brackets};
+ghost use Rattle.vortex_value.specs.Words.{in_parentheses, is_valid, joined, lent_raw, map_of, raw_text_of, raw_texts};
+ghost use Rattle.vortex_value.specs.Words.{raw_tuple, raw_union, ref_raw, ref_type, scalar_raw, scalar_type, storage};
+ghost use Rattle.vortex_value.specs.Words.{text_at, text_of, type_of, union_tree, value_tree, value_trees};
+ghost use Rattle.vortex_value.specs.Words.{variant_tree};
 
 use crate::refs::ScalarRef;
 use crate::scalars::Scalar;

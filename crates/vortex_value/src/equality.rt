@@ -3,7 +3,9 @@
 
 ghost use Rattle.std.specs.Prelude.{◌≡◌, ◌&&◌};
 ghost use Rattle.std.proofs.lemmas.Cmp.{on_equiv};
-ghost use Rattle.vortex_value.specs.Words.{all_equal, content, contents, equal, lent_raw, partial_equiv_from_equiv, same_type, scalar_content, scalar_type, type_of, typed, union_tree, value_tree, value_trees, variant_tree};
+ghost use Rattle.vortex_value.specs.Words.{all_equal, content, contents, equal, lent_raw, partial_equiv_from_equiv};
+ghost use Rattle.vortex_value.specs.Words.{same_type, scalar_content, scalar_type, type_of, typed, union_tree};
+ghost use Rattle.vortex_value.specs.Words.{value_tree, value_trees, variant_tree};
 ghost use Rattle.vortex_value.specs.Lemmas.EqualityLaws.{equal-equiv};
 
 use crate::scalars::Scalar;

@@ -2,7 +2,9 @@
 #![tactic(auto, using(crate::proofs::HashSteps::shown))]
 
 ghost use Rattle.std.specs.Prelude.{◌≡◌, fold};
-ghost use Rattle.vortex_value.specs.Words.{and-Alike, content, content_feed, contents, counted_feed, lent_raw, on_Alike, scalar_content, scalar_type, typed_feed, union_tree, value_tree, value_trees};
+ghost use Rattle.vortex_value.specs.Words.{and-Alike, content, content_feed, contents, counted_feed, lent_raw};
+ghost use Rattle.vortex_value.specs.Words.{on_Alike, scalar_content, scalar_type, typed_feed, union_tree, value_tree};
+ghost use Rattle.vortex_value.specs.Words.{value_trees};
 ghost use Rattle.vortex_value.specs.Lemmas.HashLaws.{content_feed-Alike, type_feed-Alike};
 
 use crate::scalars::Scalar;

@@ -3,8 +3,16 @@
 //! These functions do nothing when they run. The contract of each is a law over the definitions in
 //! `specs/`, and its proof is the law's proof.
 
-ghost use Rattle.vortex_value.specs.Words.{AgreesWhere, AgreesWithHash, DefaultExists, EqualFeedSame, EqualityAgreesWithoutTyped, EqualityIsAnEquivalence, EqualityIsDecided, EqualsByContent, EqualsByTypeAndContent, HasNoVariant, IsEquivalence, IsReversed, IsTransitive, IsValid, IsValidRef, OneValue, ScalarsReinterpretBack, SizeIsSum, ValidExactlyWithoutBreach, ValidityIsDecided, ZeroIsZero, content, order, ref_content, ref_order, ref_type, scalar_content, scalar_order, scalar_type, union_tree, value_tree};
-ghost use Rattle.vortex_value.specs.Laws.CastLaws.{CallsAreChains, CastsKeepScalars, ChainsAgree, ChainsKeepValues, IntoNullableAndBack, NoCallFurther, NoWayRound, NullableCastsBack, ThereAndBack};
+ghost use Rattle.vortex_value.specs.Words.{AgreesWhere, AgreesWithHash, DefaultExists, EqualFeedSame};
+ghost use Rattle.vortex_value.specs.Words.{EqualityAgreesWithoutTyped, EqualityIsAnEquivalence, EqualityIsDecided};
+ghost use Rattle.vortex_value.specs.Words.{EqualsByContent, EqualsByTypeAndContent, HasNoVariant, IsEquivalence};
+ghost use Rattle.vortex_value.specs.Words.{IsReversed, IsTransitive, IsValid, IsValidRef, OneValue};
+ghost use Rattle.vortex_value.specs.Words.{ScalarsReinterpretBack, SizeIsSum, ValidExactlyWithoutBreach};
+ghost use Rattle.vortex_value.specs.Words.{ValidityIsDecided, ZeroIsZero, content, order, ref_content, ref_order};
+ghost use Rattle.vortex_value.specs.Words.{ref_type, scalar_content, scalar_order, scalar_type, union_tree, value_tree};
+ghost use Rattle.vortex_value.specs.Laws.CastLaws.{CallsAreChains, CastsKeepScalars, ChainsAgree, ChainsKeepValues};
+ghost use Rattle.vortex_value.specs.Laws.CastLaws.{IntoNullableAndBack, NoCallFurther, NoWayRound, NullableCastsBack};
+ghost use Rattle.vortex_value.specs.Laws.CastLaws.{ThereAndBack};
 ghost use Rattle.vortex_value.specs.Laws.HasContent.{HasByCases};
 ghost use Rattle.vortex_value.specs.Laws.ZeroCases.{DefaultByCases, ZeroByCases};
 

@@ -2,7 +2,8 @@
 #![tactic(auto, using(crate::proofs::OrderSteps::shown))]
 
 ghost use Rattle.std.specs.Prelude.{◌≡◌, Some, length};
-ghost use Rattle.vortex_value.specs.Words.{content, contents, lent_raw, nat_cmp, order, orders, scalar_order, union_tree, value_tree, value_trees};
+ghost use Rattle.vortex_value.specs.Words.{content, contents, lent_raw, nat_cmp, order, orders, scalar_order};
+ghost use Rattle.vortex_value.specs.Words.{union_tree, value_tree, value_trees};
 
 use crate::refs::ScalarRef;
 use crate::scalars::Scalar;

@@ -2,7 +2,10 @@
 
 ghost use Rattle.std.specs.Prelude.{◌≡◌, ◌≢◌, ◌↔◌, ◌&&◌, Err, IfErr, IfOk, IsOk};
 ghost use Rattle.std.proofs.lemmas.Cmp.{on_equiv};
-ghost use Rattle.vortex_value.specs.Words.{IsFlat, IsMadeOf, IsRefOf, IsValid, IsValidRef, Refuses, Valid, and-Alike, breaches, equal, is_absent, lent_raw, on_Alike, partial_equiv_from_equiv, ref_content, ref_order, ref_raw, ref_type, same_type, scalar_raw, scalar_type, type_of, typed, typed_feed};
+ghost use Rattle.vortex_value.specs.Words.{IsFlat, IsMadeOf, IsRefOf, IsValid, IsValidRef, Refuses, Valid, and-Alike};
+ghost use Rattle.vortex_value.specs.Words.{breaches, equal, is_absent, lent_raw, on_Alike, partial_equiv_from_equiv};
+ghost use Rattle.vortex_value.specs.Words.{ref_content, ref_order, ref_raw, ref_type, same_type, scalar_raw};
+ghost use Rattle.vortex_value.specs.Words.{scalar_type, type_of, typed, typed_feed};
 ghost use Rattle.vortex_value.specs.Lemmas.EqualityLaws.{equal-equiv};
 ghost use Rattle.vortex_value.specs.Lemmas.HashLaws.{content_feed-Alike, type_feed-Alike};
 

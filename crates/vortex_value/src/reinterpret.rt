@@ -1,7 +1,8 @@
 //! Integer scalars as another integer type of the same width.
 
 ghost use Rattle.std.specs.Prelude.{◌≡◌, ◌↔◌, IfErr, IfOk, IsOk, IsSome};
-ghost use Rattle.vortex_value.specs.Words.{IsAsWide, IsMadeOf, IsValid, in_ptype, ptype_in, reinterpreted, scalar_raw, scalar_type};
+ghost use Rattle.vortex_value.specs.Words.{IsAsWide, IsMadeOf, IsValid, in_ptype, ptype_in, reinterpreted, scalar_raw};
+ghost use Rattle.vortex_value.specs.Words.{scalar_type};
 
 use crate::scalars::Scalar;
 use crate::values::ScalarValue;

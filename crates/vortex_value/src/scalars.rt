@@ -21,7 +21,8 @@ pub struct Scalar {
 }
 
 impl Scalar {
-    ghost use Rattle.vortex_value.specs.Words.{EqualContents, IsFlat, IsMadeOf, IsValid, Same, is_absent, option_copied, scalar_content, scalar_raw, scalar_type};
+    ghost use Rattle.vortex_value.specs.Words.{EqualContents, IsFlat, IsMadeOf, IsValid, Same, is_absent};
+    ghost use Rattle.vortex_value.specs.Words.{option_copied, scalar_content, scalar_raw, scalar_type};
 
     /// The type.
     pub fn dtype(&self) -> &DType

@@ -2,7 +2,9 @@
 #![tactic(auto, using(crate::proofs::SizeSteps::shown))]
 
 ghost use Rattle.std.specs.Prelude.{◌≡◌, option_map};
-ghost use Rattle.vortex_value.specs.Words.{as_type_trees, capped, child_size, dtype_trees, elements_size, entries_size, entry_size, fields_size, lent_raw, map_of, raw_of, raw_tuple, scalar_raw, scalar_type, size_of, type_of, type_with, value_trees, variants_of};
+ghost use Rattle.vortex_value.specs.Words.{as_type_trees, capped, child_size, dtype_trees, elements_size, entries_size};
+ghost use Rattle.vortex_value.specs.Words.{entry_size, fields_size, lent_raw, map_of, raw_of, raw_tuple, scalar_raw};
+ghost use Rattle.vortex_value.specs.Words.{scalar_type, size_of, type_of, type_with, value_trees, variants_of};
 
 use crate::scalars::Scalar;
 use crate::storage::{storage_of, variant_with};

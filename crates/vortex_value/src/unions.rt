@@ -21,7 +21,8 @@ pub struct UnionValue {
 
 #[tactic(auto, using(crate::proofs::ValueSteps::shown))]
 impl UnionValue {
-    ghost use Rattle.vortex_value.specs.Words.{OutOfMemory, is_absent, is_none, lent_raw, raw_of, raw_union, union_tree};
+    ghost use Rattle.vortex_value.specs.Words.{OutOfMemory, is_absent, is_none, lent_raw, raw_of, raw_union};
+    ghost use Rattle.vortex_value.specs.Words.{union_tree};
 
     /// The value of the variant with this id.
     ///

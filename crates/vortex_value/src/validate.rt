@@ -1,8 +1,14 @@
 //! Which raw values are valid for a type, and the path to the first breach of one that is not.
 #![tactic(auto, using(crate::proofs::ValidSteps::shown))]
 
-ghost use Rattle.std.specs.Prelude.{◌≡◌, ◌≢◌, ◌↔◌, Bool, Err, List, Option, IfErr, IsOk, IsTrue, false, option_map, true};
-ghost use Rattle.vortex_value.specs.Words.{Checks, Found, Global, HasPath, IsFlat, NonNullable, Refuses, Shows, Valid, as_type_trees, breaches, breaches_at, breaches_of_entry, child_breaches, dtype_trees, element_breaches, entry_breaches, field_breaches, here, integer_type, is_leaf, is_some, lent_raw, map_of, raw_of, raw_tuple, type_of, type_with, under, value_tree, value_trees, variant_tree, variant_type, variants_of};
+ghost use Rattle.std.specs.Prelude.{◌≡◌, ◌≢◌, ◌↔◌, Bool, Err, List, Option, IfErr, IsOk, IsTrue, false, option_map};
+ghost use Rattle.std.specs.Prelude.{true};
+ghost use Rattle.vortex_value.specs.Words.{Checks, Found, Global, HasPath, IsFlat, NonNullable, Refuses, Shows, Valid};
+ghost use Rattle.vortex_value.specs.Words.{as_type_trees, breaches, breaches_at, breaches_of_entry, child_breaches};
+ghost use Rattle.vortex_value.specs.Words.{dtype_trees, element_breaches, entry_breaches, field_breaches, here};
+ghost use Rattle.vortex_value.specs.Words.{integer_type, is_leaf, is_some, lent_raw, map_of, raw_of, raw_tuple};
+ghost use Rattle.vortex_value.specs.Words.{type_of, type_with, under, value_tree, value_trees, variant_tree};
+ghost use Rattle.vortex_value.specs.Words.{variant_type, variants_of};
 
 use crate::scalars::Scalar;
 use crate::storage::{storage_of, variant_with};
@@ -16,7 +22,7 @@ use vortex_dtype::{
 
 /// Why a raw value is not valid.
 #[derive(Drop)]
-enum Fault {
+enum ValidityError {
     /// There is no memory for the steps of the path.
     NoMemory,
     /// The check keeps no path, or there is no breach yet.
@@ -26,29 +32,29 @@ enum Fault {
 }
 
 /// A breach of the value itself, with an empty path if there is memory for the steps to come.
-fn breach_here(alloc: Option<Global>, breach: Breach) -> Fault
+fn breach_here(alloc: Option<Global>, breach: Breach) -> ValidityError
     ensures { Shows (is_some alloc) result (here breach) }
 {
     match alloc {
-        Some(alloc) => Fault::First {
+        Some(alloc) => ValidityError::First {
             steps: Vec::new(alloc),
             breach,
         },
-        None => Fault::NoPath,
+        None => ValidityError::NoPath,
     }
 }
 
 /// The breach as it is seen from one level up: the path has one step more.
-fn add_step(fault: Fault, step: Step) -> Fault
+fn add_step(fault: ValidityError, step: Step) -> ValidityError
     ensures { (kept : Bool) (fs : List Found)
         → Shows kept fault fs → Shows kept result (under step fs) }
 {
     match fault {
-        Fault::NoMemory => Fault::NoMemory,
-        Fault::NoPath => Fault::NoPath,
-        Fault::First { mut steps, breach } => match steps.push(step) {
-            Ok(()) => Fault::First { steps, breach },
-            Err(_) => Fault::NoMemory,
+        ValidityError::NoMemory => ValidityError::NoMemory,
+        ValidityError::NoPath => ValidityError::NoPath,
+        ValidityError::First { mut steps, breach } => match steps.push(step) {
+            Ok(()) => ValidityError::First { steps, breach },
+            Err(_) => ValidityError::NoMemory,
         },
     }
 }
@@ -59,7 +65,7 @@ struct Trace {
     /// The memory for the steps of the path; `None` if no path is kept.
     alloc: Option<Global>,
     /// Why the value is not valid, once that is known.
-    fault: Fault,
+    fault: ValidityError,
 }
 
 impl Trace {
@@ -69,7 +75,7 @@ impl Trace {
     {
         Trace {
             alloc,
-            fault: Fault::NoPath,
+            fault: ValidityError::NoPath,
         }
     }
 
@@ -88,7 +94,7 @@ impl Trace {
         ensures { (alloc : Option Global) (fs : List Found)
             → Checks alloc false self.old fs → Checks alloc result self.new (under step fs) }
     {
-        let fault = mem::replace(&mut self.fault, Fault::NoMemory);
+        let fault = mem::replace(&mut self.fault, ValidityError::NoMemory);
         self.fault = add_step(fault, step);
         false
     }
@@ -101,9 +107,9 @@ fn refusal(trace: Trace) -> VortexError
 {
     let Trace { alloc: _, fault } = trace;
     match fault {
-        Fault::NoMemory => VortexError::OutOfMemory,
-        Fault::NoPath => unreachable!(),
-        Fault::First { mut steps, breach } => {
+        ValidityError::NoMemory => VortexError::OutOfMemory,
+        ValidityError::NoPath => unreachable!(),
+        ValidityError::First { mut steps, breach } => {
             steps.reverse();
             VortexError::Invalid {
                 path: Path::of(steps),

@@ -35,7 +35,10 @@ pub enum ScalarValue {
 /// here it is a `requires`, and upstream's calls of the same names panic at another variant.
 #[tactic(auto, using(crate::proofs::ValueSteps::shown))]
 impl ScalarValue {
-    ghost use Rattle.vortex_value.specs.Words.{IsBoolValue, IsBytesValue, IsIntegerValue, IsTextValue, IsTupleValue, IsUnionValue, IsVariantValue, OutOfMemory, TakesNoMemory, ptype_of, raw_bool, raw_bytes, raw_integer, raw_text, raw_tuple, union_tree, value_tree, value_trees, variant_tree, whole_of};
+    ghost use Rattle.vortex_value.specs.Words.{IsBoolValue, IsBytesValue, IsIntegerValue, IsTextValue, IsTupleValue};
+    ghost use Rattle.vortex_value.specs.Words.{IsUnionValue, IsVariantValue, OutOfMemory, TakesNoMemory, ptype_of};
+    ghost use Rattle.vortex_value.specs.Words.{raw_bool, raw_bytes, raw_integer, raw_text, raw_tuple, union_tree};
+    ghost use Rattle.vortex_value.specs.Words.{value_tree, value_trees, variant_tree, whole_of};
 
     /// The truth value. The caller knows that it is one.
     pub fn as_bool(&self) -> bool

@@ -1,10 +1,16 @@
 //! The zero and the default of a type, and whether a scalar is zero.
 #![tactic(auto, using(crate::proofs::ZeroSteps::shown))]
 
-ghost use Rattle.std.specs.Prelude.{◌≡◌, ◌&&◌, [], IfErr, IfOk, IsOk, IsSome, MatchResult, false, length, option_map, pos, unwrap_or};
+ghost use Rattle.std.specs.Prelude.{◌≡◌, ◌&&◌, [], IfErr, IfOk, IsOk, IsSome, MatchResult, false, length, option_map};
+ghost use Rattle.std.specs.Prelude.{pos, unwrap_or};
 ghost use Rattle.vortex_dtype.specs.declared.nullability.Nullability.{Nullability};
 ghost use Rattle.vortex_dtype.specs.declared.ptype.PType.{PType};
-ghost use Rattle.vortex_value.specs.Words.{EachFills, FillFields, Fills, FillsFirst, IsFlat, IsTheOneOf, OutOfMemory, as_type_trees, child_filling, content, contents, default_of, dtype_trees, each_zero, fields_zero, filling, fillings, first_of, int_eq, integer_type, is_nullable, is_some, is_zero_of, lent_raw, of_first, of_inner, places_of, raw_of, scalar_content, scalar_type, type_of, union_tree, value_trees, variants_of, whole_of, zero_of};
+ghost use Rattle.vortex_value.specs.Words.{EachFills, FillFields, Fills, FillsFirst, IsFlat, IsTheOneOf, OutOfMemory};
+ghost use Rattle.vortex_value.specs.Words.{as_type_trees, child_filling, content, contents, default_of, dtype_trees};
+ghost use Rattle.vortex_value.specs.Words.{each_zero, fields_zero, filling, fillings, first_of, int_eq, integer_type};
+ghost use Rattle.vortex_value.specs.Words.{is_nullable, is_some, is_zero_of, lent_raw, of_first, of_inner, places_of};
+ghost use Rattle.vortex_value.specs.Words.{raw_of, scalar_content, scalar_type, type_of, union_tree, value_trees};
+ghost use Rattle.vortex_value.specs.Words.{variants_of, whole_of, zero_of};
 
 use crate::scalars::{Scalar, with_type};
 use crate::storage::{first_variant, storage_of};

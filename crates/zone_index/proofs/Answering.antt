@@ -30,7 +30,7 @@ long_piece bytes was f zero agree p long = refl
 long_piece bytes was f (suc n) agree p long =
     same_piece bytes was f (suc n) agree p (omega (arith, length-take (suc n) (drop f bytes), length-drop f bytes))
 
--- the same bytes at the same place
+-- the same bytes at the same offset
 held_piece : (known : Option (List ℕ)) (was piece : List ℕ) (z : Zone) (held : IsHeld known was) → z.first + z.length ≤ length was → piece ≡ take z.length (drop z.first held.bytes) → length piece ≡ z.length → piece ≡ zone_bytes was z
 held_piece known was piece z held inside is long =
     is ∙ long_piece held.bytes was z.first z.length held.agree inside (sym (ap length is) ∙ long)

@@ -10,7 +10,7 @@ use Rattle.zone_index.specs.Taking.{IsTaken}
 use Rattle.zone_index.specs.Zones.{Follow, IsIndexOf, IsZoneOf, IsZoneOfText, zone_bytes, zone_records}
 use Rattle.zone_index.specs.declared.zones.Zone.{Zone}
 
--- an index of the bytes so far: those from the start up to this place, and the rest is left
+-- an index of the bytes so far: those from the start up to this offset, and the rest is left
 pub record IsBegun (d : ℕ) (has_row : List ℕ → Bool) (Describes : List ℕ → List (List ℕ) → Type 0) (start : ℕ) (zones : List Zone) (bytes : List ℕ) (left : Option (List ℕ)) (at : ℕ) : Type 0 where
   pub before : List ℕ
   pub rest : List ℕ
@@ -71,7 +71,7 @@ more d has_row Describes start zones bytes text left next at z b t new =
       right = All-push (IsZoneOf d has_row Describes bytes) zones z b.right zone;
     }
 
--- the same, where text, zones, place and delimiter go by other names
+-- the same, where text, zones, offset and delimiter go by other names
 pub more_at : (d e : ℕ) (has_row : List ℕ → Bool) (Describes : List ℕ → List (List ℕ) → Type 0) (start : ℕ) (zones new : List Zone) (bytes text view : List ℕ) (left next : Option (List ℕ)) (at end : ℕ) (z : Zone) (b : IsBegun d has_row Describes start zones bytes left at)
     → e ≡ d → IsTaken e b.rest text next → view ≡ text → IsZoneOfText d has_row Describes at view z → new ≡ zones ++ z ∷ [] → end ≡ at + z.length → IsBegun d has_row Describes start new bytes next end
 more_at d e has_row Describes start zones new bytes text view left next at end z b by t same zone new_is end_is =

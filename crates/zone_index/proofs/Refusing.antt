@@ -89,7 +89,7 @@ told_in_text R d first place text rest line after r h cut is told =
       told = record { begins = told.begins ∙ is ∙ here; cause = told.cause };
     }
 
--- the same of a fault, where the text begins at the first place
+-- the same of an error, where the text begins at offset 0
 pub refused_in_text : (R : List ℕ → Cause → Type 0) (d place : ℕ) (text rest line after : List ℕ) (f : RecordError) → IsReached d text rest → records_of d rest ≡ line ∷ records_of d after
     → place ≡ min (0 + (length text - length rest)) (2 ^ 64 - 1) → IfRecordRefused (TellsRecord R place line) f → IfRecordRefused (TellsOneOf R 0 (records_of d text)) f
 refused_in_text R d place text rest line after record_faults.Memory reached cut is h = tt
@@ -141,7 +141,7 @@ told_in_index R d has_row Describes was start zones i z r inside is index h =
     subst (λ (l : List (List ℕ)). TellsOneOf R start l r) (sym index.records)
     (told_in_zone R d has_row Describes was start (length was) zones i z r inside index.follow index.right (subst (λ (y : Zone). TellsOneOf R y.first (zone_records d was y) r) is h))
 
--- the same of a fault, where the reader has the bytes that it had
+-- the same of an error, where the reader has the bytes that it had
 pub refused_in_zone : (R : List ℕ → Cause → Type 0) (d : ℕ) (has_row : List ℕ → Bool) (Describes : List ℕ → List (List ℕ) → Type 0) (old now : Option (List ℕ)) (zones : List Zone) (i : ℕ) (z : Zone) (f : SearchError) → i < length zones → z ≡ get_or zones i z → now ≡ old
     → IfRefused (λ r. (was : List ℕ) → IsHeld now was → z.first + z.length ≤ length was → TellsOneOf R z.first (zone_records d was z) r) f
     → IfRefused (λ r. (was : List ℕ) (start : ℕ) → IsHeld old was → IsIndexOf d has_row Describes start zones was → TellsOneOf R start (records_of d (drop start was)) r) f

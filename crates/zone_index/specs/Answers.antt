@@ -21,8 +21,8 @@ pub record StopsRightly (IsIndex : ℕ → List Zone → List ℕ → Type 0) (R
   pub refused : IfRefused (λ refusal. (was : List ℕ) (start : ℕ) → IsHeld known was → IsIndex start zones was → TellsOneOf Refuses start (records_of delimiter (drop start was)) refusal) fault
 
 -- r answers a search by these zones, which gives a sink the records that match; the first of all records has this number. What is
--- said of the bytes that the index is right for holds where those that the reader has are these, fewer or more. After a fault
--- other than one of the writer, what is found in the first zones was written, and nothing of the next one
+-- said of the bytes that the index is right for holds where those that the reader has are these, fewer or more. After
+-- an error other than one of the writer, what is found in the first zones was written, and nothing of the next one
 pub record AnswersFind (IsIndex : ℕ → List Zone → List ℕ → Type 0) (Refuses : List ℕ → Cause → Type 0) (delimiter : ℕ) (matches : List ℕ → Bool) (decides : List ℕ → Decision) (written_as : ℕ → List ℕ → List ℕ) (first : ℕ) (zones : List Zone) (known old new : Option (List ℕ)) (r : Result Tally SearchError) : Type 0 where
   pub written : OnOk r ((was : List ℕ) (start : ℕ) → IsHeld known was → IsIndex start zones was → Appends old new (written_of written_as matches first (records_of delimiter (drop start was))))
   pub plain : OnOk r (IsPlain written_as → (was : List ℕ) (start : ℕ) → IsHeld known was → IsIndex start zones was → Appends old new (kept_of delimiter matches (drop start was)))

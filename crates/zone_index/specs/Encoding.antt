@@ -68,7 +68,7 @@ block_encoding b = to_le_bytes w64 b.length ++ b.digest
 abbrev pub counted_encoding : {A : Type 0} → (A → List ℕ) → List A → List ℕ
 counted_encoding encoding xs = to_le_bytes w64 (length xs) ++ flat_map encoding xs
 
--- the length of the file and its change, the first place, and the setup
+-- the length of the file and its change, the first offset, and the setup
 abbrev pub file_encoding : IndexValue → List ℕ
 file_encoding x = to_le_bytes w64 x.file_length ++ (to_le_bytes w64 x.changed ++ (to_le_bytes w64 x.start ++ bytes_encoding x.setup))
 

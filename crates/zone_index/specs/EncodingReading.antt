@@ -1,4 +1,4 @@
--- Reading the encoding from left to right, with the first fault that is met.
+-- Reading the encoding from left to right, with the first error that is met.
 use Rattle.std.specs.Prelude.{◌≡◌, ◌+◌, ℕ, zero, suc, Bool, true, false, List, [], ◌∷◌, length, take, drop, Result, Ok, Err, nat_lt, ◌==◌, if◌then◌else◌}
 use Rattle.std.specs.Int.{Width, w32, w64, byte_len, from_le_bytes}
 use Rattle.std.specs.Str.{bytes_eq}
@@ -16,7 +16,7 @@ abbrev pub ◌>>=◌ : {A B : Type 0} → Result A EncodingError → (A → Resu
 (Ok x) >>= f = f x
 (Err e) >>= f = Err e
 
--- memory ran out, or reading meets this fault
+-- memory ran out, or reading meets this error
 abbrev pub Fails : {Y : Type 0} → ReadError → Result Y EncodingError → Type 0
 Fails errors.Memory read = Unit {0}
 Fails (errors.Fault f) read = read ≡ Err f

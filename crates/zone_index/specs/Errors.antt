@@ -8,12 +8,12 @@ use Rattle.zone_index.specs.declared.errors.RecordError.{RecordError}
 use Rattle.zone_index.specs.declared.errors.RecordError.TheVariants as record_faults
 use Rattle.zone_index.specs.declared.errors.Refusal.{Refusal}
 
--- the fault, where the bytes that a record was given in stand at this place
+-- the error, where the bytes that a record was given in stand at this offset
 abbrev pub fault_at : ℕ → RecordError → SearchError
 fault_at first record_faults.Memory = errors.Memory
 fault_at first (record_faults.Refused refusal) = errors.Refused (record refusal { place = min (refusal.place + first) (2 ^ 64 - 1) })
 
--- a fault of a record, and of no reader or writer
+-- an error of a record, and of no reader or writer
 abbrev pub IsOfRecord : SearchError → Type 0
 IsOfRecord errors.Memory = Unit {0}
 IsOfRecord (errors.Refused refusal) = Unit {0}
@@ -22,7 +22,7 @@ IsOfRecord errors.CutShort = ⊥
 IsOfRecord errors.TooFar = ⊥
 IsOfRecord errors.Write = ⊥
 
--- a fault of reading, and of no record or writer
+-- an error of reading, and of no record or writer
 abbrev pub IsOfReading : SearchError → Type 0
 IsOfReading errors.Read = Unit {0}
 IsOfReading errors.CutShort = Unit {0}
@@ -40,7 +40,7 @@ IsOfStream errors.TooFar = ⊥
 IsOfStream errors.Write = ⊥
 IsOfStream (errors.Refused refusal) = ⊥
 
--- what a stream has left, from this place on, ends at 2^64 or behind it
+-- what a stream has left, from this offset on, ends at 2^64 or behind it
 abbrev pub EndsFar : ℕ → Option (List ℕ) → Type 0
 EndsFar start left = (bytes : List ℕ) → left ≡ Some bytes → 2 ^ 64 ≤ start + length bytes
 
@@ -57,12 +57,12 @@ abbrev pub IfRecordRefused : (Refusal → Type 0) → RecordError → Type 0
 IfRecordRefused P (record_faults.Refused refusal) = P refusal
 IfRecordRefused P record_faults.Memory = Unit {0}
 
--- it tells that this record is refused, which begins at this place
+-- it tells that this record is refused, which begins at this offset
 pub record TellsRecord (Refuses : List ℕ → Cause → Type 0) (place : ℕ) (line : List ℕ) (refusal : Refusal) : Type 0 where
   pub begins : refusal.place ≡ place
   pub cause : Refuses line refusal.cause
 
--- it tells one of these records, of which the first begins at this place, as far as 64 bits tell
+-- it tells one of these records, of which the first begins at this offset, as far as 64 bits tell
 pub record TellsOneOf (Refuses : List ℕ → Cause → Type 0) (first : ℕ) (records : List (List ℕ)) (refusal : Refusal) : Type 0 where
   pub before : List (List ℕ)
   pub line : List ℕ

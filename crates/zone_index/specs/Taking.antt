@@ -12,6 +12,6 @@ pub record IsTaken (delimiter : ℕ) (bytes text : List ℕ) (left : Option (Lis
   pub parts : bytes ≡ text ++ rest
   pub records : records_of delimiter bytes ≡ records_of delimiter text ++ records_of delimiter rest
 
--- no bytes, or whole records, after a place where one may start; another may start behind them
+-- no bytes, or whole records, after an offset where one may start; another may start behind them
 abbrev pub AreWhole : ℕ → State → List ℕ → Type 0
 AreWhole delimiter s bytes = (bytes ≡ []) ⊎ ((s ≡ st.StartRecord) × EndsRecord delimiter bytes)

@@ -39,7 +39,8 @@ abbrev pub Follow : ℕ → List Zone → ℕ → Type 0
 Follow at [] end = at ≡ end
 Follow at (z ∷ zones) end = (z.first ≡ at) × Follow (at + z.length) zones end
 
--- the zones cover the bytes from a place on, one after another; their records are those of the bytes, in order; each zone is right
+-- the zones cover the bytes from an offset on, one after another; their records are those of the bytes, in order; each
+-- zone is right
 pub record IsIndexOf (delimiter : ℕ) (has_row : List ℕ → Bool) (Describes : List ℕ → List (List ℕ) → Type 0) (start : ℕ) (zones : List Zone) (bytes : List ℕ) : Type 0 where
   pub follow : Follow start zones (length bytes)
   pub records : records_of delimiter (drop start bytes) ≡ flat_map (zone_records delimiter bytes) zones

@@ -29,7 +29,7 @@ pub struct Index {
     pub changed: u64,
     /// How its records are read: bytes whose meaning is the caller's.
     pub setup: Vec<u8>,
-    /// The place of the first zone.
+    /// The offset of the first zone.
     pub start: u64,
     /// The zones.
     pub zones: Vec<Zone>,
@@ -53,7 +53,7 @@ pub struct Root {
     pub blocks: Vec<Block>,
 }
 
-/// What is wrong with the bytes: the first fault from left to right.
+/// What is wrong with the bytes: the first error from left to right.
 #[derive(Clone, Copy, Debug, PartialEq, Eq)]
 pub enum EncodingError {
     /// A field passes the end.

@@ -43,13 +43,13 @@ pub enum SearchError {
     Read,
     /// The file ends before a zone that the index has.
     CutShort,
-    /// A place or a number is past all that 64 bits can tell.
+    /// An offset or a number is past all that 64 bits can tell.
     TooFar,
     /// A write failed.
     Write,
     /// No memory was left.
     Memory,
-    /// A record has no row. Its place counts from the beginning of the file.
+    /// A record has no row. Its offset counts from the beginning of the file.
     Refused(Refusal),
 }
 
@@ -62,7 +62,7 @@ impl From<AllocError> for RecordError {
     }
 }
 
-/// The same, of a value that found no room.
+/// The same, of a value that found no memory.
 impl<T: Drop> From<AllocFailed<T>> for RecordError {
     ghost from_gives = { λ _ fault. fault ≡ NoMemory };
 
@@ -80,7 +80,7 @@ impl From<AllocError> for SearchError {
     }
 }
 
-/// The same, of a value that found no room.
+/// The same, of a value that found no memory.
 impl<T: Drop> From<AllocFailed<T>> for SearchError {
     ghost from_gives = { λ _ fault. fault ≡ Memory };
 

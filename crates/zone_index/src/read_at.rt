@@ -1,4 +1,4 @@
-//! Readers whose bytes have places.
+//! Readers whose bytes have offsets.
 
 ghost use Rattle.std.specs.Prelude.{◌≡◌, ◌≢◌, ◌<◌, ◌≤◌, ◌+◌, ◌++◌, ◌∷◌, ◌^◌, [], ℕ, List, Option, Some, None, IfErr, IfOk, IfSome, OnErr, OnOk, drop, length, take};
 ghost use Rattle.std.specs.Io.{ReadsAtMost};
@@ -13,23 +13,24 @@ use std::fs::File;
 use std::io::{self, AsBytes, Cursor, ErrorKind, Read, Seek, SeekFrom};
 use std::os::unix::fs::FileExt;
 
-/// What was asked of a reader: so many bytes from a place on.
+/// What was asked of a reader: so many bytes from an offset on.
 #[derive(Clone, Copy, Debug, PartialEq, Eq)]
 pub struct Asked {
-    /// The place.
+    /// The offset.
     pub place: u64,
     /// How many bytes.
     pub length: u64,
 }
 
-/// What can be read from any place.
+/// What can be read from any offset.
 pub trait ReadAt {
     // All its bytes, where they are known.
     ghost bytes: { Self → Option (List ℕ) } = { λ _. None };
     // What it was asked for so far, where that is known.
     ghost asked: { Self → Option (List Asked) } = { λ _. None };
 
-    /// Reads some bytes from this place on: as many as came, none only at the end or with no room.
+    /// Reads some bytes from this offset on: as many as came, none only at the end or with an empty
+    /// buffer.
     fn read_at(&mut self, at: u64, into: &mut [u8]) -> io::Result<usize>
         ensures bound { ReadsAtMost result into.new }
         ensures given { IfOk result (λ n. IfSome (bytes self.old)
@@ -86,7 +87,7 @@ impl<R: ReadAt> ReadAt for Logged<R> {
     }
 }
 
-/// Fills all there is room for with the bytes from this place on.
+/// Fills the buffer with the bytes from this offset on.
 ///
 /// `CutShort` where there are fewer bytes.
 pub fn fill_from<R: ReadAt>(reader: &mut R, at: u64, into: &mut [u8]) -> Result<(), SearchError>

@@ -163,7 +163,7 @@ pub fn read_root(alloc: Global, bytes: &[u8]) -> Result<(Root, &[u8]), ReadError
         × (read.1.now ≡ concat (blocks_of n pieces))) }
     ensures memory { (n : ℕ) (x : IndexValue) (pieces : List (List (List ℕ))) → FitsEncoding n x pieces
         → bytes.now ≡ index_encoding n x pieces → IfErr result (λ e. e ≡ Memory) }
-    // Which fault it is.
+    // Which error it is.
     ensures exact { Gives (λ read. (root_value read.0, read.1.now)) result (root_at bytes.now) }
 {
     root_in(alloc, bytes)
@@ -202,7 +202,7 @@ pub fn read_blocks<U: Unread>(
     ensures only { (n : ℕ) (x : IndexValue) (pieces : List (List (List ℕ))) → FitsEncoding n x pieces
         → root_value root ≡ root_of x (blocks_of n pieces) → bytes.now ≡ concat (blocks_of n pieces)
         → Gives index_value result (Ok (wanted_of wanted.now (U.piece unread.now) x pieces)) }
-    // Which fault it is, and what is read.
+    // Which error it is, and what is read.
     ensures exact { Gives index_value result
         (index_at wanted.now (U.piece unread.now) (root_value root) bytes.now) }
 {

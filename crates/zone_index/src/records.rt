@@ -56,7 +56,7 @@ pub trait Records {
 
 /// Describes the records of a zone.
 pub trait Describer: Records {
-    /// What is known of the records of a text. `Refused` with the place of a record in the text.
+    /// What is known of the records of a text. `Refused` with the offset of a record in the text.
     fn describe(&self, alloc: Global, text: &[u8]) -> Result<Described, RecordError>
         ensures records { IfOk result (λ d. d.records ≡
             length (records_of (Self.delimiter self.now) text.now)) }
@@ -75,13 +75,13 @@ pub trait Matcher: Records {
     // What statistics decide.
     ghost decides: { Self → List ℕ → Decision };
 
-    /// Room that is used again from record to record. What stands in it does not matter.
+    /// A buffer that is used again from record to record. What stands in it does not matter.
     type Scratch: Drop;
 
-    /// Such room, with nothing in it.
+    /// Such a buffer, with nothing in it.
     fn scratch(&self, alloc: Global) -> Self::Scratch;
 
-    /// Whether a record has a row, which matches. `Refused` with the place 0.
+    /// Whether a record has a row, which matches. `Refused` with the offset 0.
     fn is_match(
         &self,
         alloc: Global,

@@ -254,7 +254,7 @@ fn give_record<S: Sink>(
     }
 }
 
-/// Whether a record matches, which begins at this place.
+/// Whether a record matches, which begins at this offset.
 pub(crate) fn is_hit<M: Matcher>(
     alloc: Global,
     place: u64,

@@ -133,7 +133,7 @@ pub struct NumberedSink<W> {
     pub writer: W,
     /// Those that were taken and not written.
     pub lines: Vec<u8>,
-    /// Room for a number.
+    /// A buffer for a number.
     pub digits: String,
 }
 

@@ -38,7 +38,7 @@ pub fn find_rest<B: BufRead, M: Matcher, S: Sink>(
         (kept_of (M.delimiter matcher.now) (M.matches matcher.now) bytes)) }
     ensures found { IfOk result (λ found. (bytes : List ℕ) → B.remaining reader.old ≡ Some bytes
         → found ≡ count_by (M.matches matcher.now) (records_of (M.delimiter matcher.now) bytes)) }
-    // After a fault other than one of the writer, those of the first records that match were
+    // After an error other than one of the writer, those of the first records that match were
     // written.
     ensures partial { IfErr result (λ fault. fault ≢ FailedWrite → (bytes : List ℕ)
         → B.remaining reader.old ≡ Some bytes

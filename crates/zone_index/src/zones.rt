@@ -6,7 +6,7 @@ ghost use Rattle.zone_index.specs.Sinks.{told};
 /// A zone: records that stand one after another, and what is known of them.
 #[derive(Debug, Drop)]
 pub struct Zone {
-    /// The place of its first byte.
+    /// The offset of its first byte.
     pub first: u64,
     /// How many bytes it has.
     pub length: u64,
@@ -29,10 +29,10 @@ pub enum Way {
     Search,
 }
 
-/// Where a record stands: the place of its first byte, and its number.
+/// Where a record stands: the offset of its first byte, and its number.
 #[derive(Clone, Copy, Debug, PartialEq, Eq)]
 pub struct Position {
-    /// The place.
+    /// The offset.
     pub place: u64,
     /// The number.
     pub number: u64,

@@ -31,7 +31,7 @@ pub fn first_row(start: u64) -> Position {
 }
 
 /// Gives a sink the records that match: those of the zones of an index, and those of the file from
-/// a place on.
+/// an offset on.
 pub fn find_indexed<S: Sink>(
     alloc: Global,
     index: &Index,
@@ -70,8 +70,8 @@ pub fn find_indexed<S: Sink>(
     })
 }
 
-/// Counts the records that match: those of the zones of an index, and those of the file from a
-/// place on.
+/// Counts the records that match: those of the zones of an index, and those of the file from an
+/// offset on.
 pub fn count_indexed(
     alloc: Global,
     index: &Index,
@@ -105,7 +105,7 @@ pub fn find_stream<B: BufRead, S: Sink>(
     find_rest(alloc, PIECE, start, matcher, reader, sink)
 }
 
-/// Counts the records of a stream that match, the first of which stands at this place.
+/// Counts the records of a stream that match, the first of which stands at this offset.
 pub fn count_stream<B: BufRead>(
     alloc: Global,
     start: u64,

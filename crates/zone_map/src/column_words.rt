@@ -80,14 +80,14 @@ pub fn stands_in(columns: &[NamedColumn], name: &str) -> bool {
     columns.iter().any(|column| column.name.as_str() == name)
 }
 
-/// The fault of a text that is no column.
+/// The error of a text that is no column.
 fn columns_fault(alloc: Global, text: &str) -> ProgramError {
     ProgramError::made(format!(in alloc;
         "--columns: {text:?} is no column: a name and a kind, as 'city utf8?'"
     ))
 }
 
-/// The fault of a name that two columns have.
+/// The error of a name that two columns have.
 fn two_columns_fault(alloc: Global, name: &str) -> ProgramError {
     ProgramError::made(format!(in alloc; "--columns: two columns have the name {name:?}"))
 }

@@ -42,7 +42,7 @@ pub fn buffered<R: Read + Drop>(alloc: Global, reader: R) -> Result<BufReader<R>
     }
 }
 
-/// A file from this place on, through a buffer.
+/// A file from this offset on, through a buffer.
 pub fn from_place<R: Read + Seek + Drop>(
     alloc: Global,
     file: R,
@@ -52,7 +52,7 @@ pub fn from_place<R: Read + Seek + Drop>(
     Ok(buffered(alloc, file)?)
 }
 
-/// A file from this place on.
+/// A file from this offset on.
 pub fn at_place<R: Seek + Drop>(mut file: R, place: u64) -> Result<R, SearchError> {
     match file.seek(SeekFrom::Start(place)) {
         Ok(_) => Ok(file),

@@ -43,7 +43,7 @@ pub fn grown_end(
     }
 }
 
-/// The bytes of a file from this place on, so many.
+/// The bytes of a file from this offset on, so many.
 fn bytes_at(
     alloc: Global,
     file: &mut File,

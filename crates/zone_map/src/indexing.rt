@@ -16,12 +16,12 @@ use std::fs::File;
 use std::process::ExitCode;
 use zone_index::{Index, Indexed};
 
-/// An index that is to have the zones from a place on.
+/// An index that is to have the zones from an offset on.
 #[derive(Drop)]
 struct Unfinished {
-    /// The index, with the zones before the place.
+    /// The index, with the zones before the offset.
     loaded: Loaded,
-    /// The place.
+    /// The offset.
     place: u64,
 }
 
@@ -154,7 +154,7 @@ fn finish(
     Ok(())
 }
 
-/// Adds the zones of a file from this place on, and what the file is then. Says how many of its
+/// Adds the zones of a file from this offset on, and what the file is then. Says how many of its
 /// fields were taken as nulls.
 fn add_zones(
     rt: &HostRuntime,
@@ -185,7 +185,7 @@ fn add_zones(
     Ok(nulls)
 }
 
-/// The zones of a file from this place on, of which so many bytes are left.
+/// The zones of a file from this offset on, of which so many bytes are left.
 fn zones_from(
     rt: &HostRuntime,
     name: &str,

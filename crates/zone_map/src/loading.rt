@@ -74,7 +74,7 @@ fn index_in(
     }
 }
 
-/// The fault of an index that was not read.
+/// The error of an index that was not read.
 fn bad_index(alloc: Global, name: &str, error: ReadError) -> ProgramError {
     match error {
         ReadError::Memory => ProgramError::from(AllocError),
@@ -238,7 +238,7 @@ fn filter_in(alloc: Global, setup: &Setup, text: &str) -> Result<Filter, Program
     }
 }
 
-/// The fault of a filter over the columns of a setup.
+/// The error of a filter over the columns of a setup.
 fn filter_fault(alloc: Global, setup: &Setup, text: &str, error: ParseError) -> ProgramError {
     match columns_text(alloc, &setup.columns) {
         Ok(columns) => {

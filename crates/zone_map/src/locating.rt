@@ -9,7 +9,7 @@ use zone_index::SearchError;
 /// How many bytes are read at a time.
 const PIECE: usize = 65536;
 
-/// The fault of a search in a file, or in standard input without a file's name. Of a record it
+/// The error of a search in a file, or in standard input without a file's name. Of a record it
 /// tells the line in the file, and the column.
 pub fn located(
     rt: &HostRuntime,

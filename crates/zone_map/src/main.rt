@@ -25,7 +25,7 @@ pub use program_errors::ProgramError;
 use std::process::ExitCode;
 use std::{env, io};
 
-/// The status after a fault, which is told on standard error.
+/// The status after an error, which is told on standard error.
 const FAILED: u8 = 2;
 
 /// Does what the command line asks.
@@ -55,7 +55,7 @@ fn words_given(rt: &HostRuntime) -> io::Result<Vec<String>> {
     Ok(env::args(rt)?.collect(rt.alloc())?)
 }
 
-/// Does what is asked. A fault is told on standard error.
+/// Does what is asked. An error is told on standard error.
 fn answer(rt: &HostRuntime, asked: &Asked<'_>) -> ExitCode {
     let done = match asked {
         Asked::Index(request) => indexing::index_file(rt, request),

@@ -20,7 +20,7 @@ pub enum ProgramError {
 const NO_MEMORY: &str = "out of memory";
 
 impl ProgramError {
-    /// The fault of a text, if there was memory for it.
+    /// The error of a text, if there was memory for it.
     pub fn made(text: Result<String, AllocError>) -> ProgramError {
         match text {
             Ok(text) => ProgramError::Made(text),
@@ -28,7 +28,7 @@ impl ProgramError {
         }
     }
 
-    /// The fault of a file with this name.
+    /// The error of a file with this name.
     pub fn of_file(alloc: Global, name: &str, fault: FileError) -> ProgramError {
         ProgramError::made(format!(in alloc; "{name}: {fault}"))
     }
@@ -46,14 +46,14 @@ impl<T: Drop> From<AllocFailed<T>> for ProgramError {
     }
 }
 
-/// Without the place of a record that has no row.
+/// Without the offset of a record that has no row.
 impl From<SearchError> for ProgramError {
     fn from(fault: SearchError) -> ProgramError {
         ProgramError::Fixed(search_fault_text(&fault))
     }
 }
 
-/// What a fault of a search says.
+/// What an error of a search says.
 pub fn search_fault_text(fault: &SearchError) -> &'static str {
     match fault {
         SearchError::Read => "read failed",
@@ -138,7 +138,7 @@ pub struct BadFilter<'a> {
     pub error: ParseError,
 }
 
-/// The line of the filter that is wrong, and below it what is wrong, at its place.
+/// The line of the filter that is wrong, and below it what is wrong, at its offset.
 impl Display for BadFilter<'_> {
     fn fmt<W: Write>(&self, f: &mut Formatter<W>) -> fmt::Result {
         let Some(place) = self.error.offset() else {
@@ -153,7 +153,7 @@ impl Display for BadFilter<'_> {
     }
 }
 
-/// Writes the line of a text that has this place, and on the next line a blank for each character
+/// Writes the line of a text that has this offset, and on the next line a blank for each character
 /// before it.
 fn write_pointed<W: Write>(f: &mut Formatter<W>, text: &str, place: usize) -> fmt::Result {
     let (before, after) = text.split_at_checked(place).unwrap_or((text, ""));

@@ -112,7 +112,7 @@ fn search_indexed(
     }
 }
 
-/// Answers a search by an index, and of what is new from a place on, on standard output.
+/// Answers a search by an index, and of what is new from an offset on, on standard output.
 fn answer_indexed(
     rt: &HostRuntime,
     wanted: Wanted,

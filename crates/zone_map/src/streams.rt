@@ -155,7 +155,7 @@ pub fn output(rt: &HostRuntime) -> Result<BufWriter<Stdout>, SearchError> {
     }
 }
 
-/// What was done, once the output is flushed, which is flushed after a fault, too.
+/// What was done, once the output is flushed, which is flushed after an error, too.
 pub fn flushed<T: Drop>(
     done: Result<T, SearchError>,
     flush: Result<(), SearchError>,

@@ -1,7 +1,10 @@
 //! Copies of types and of their parts.
 
 ghost use Rattle.std.specs.Prelude.{◌≡◌, ◌<◌, IfOk, MatchResult, map};
-ghost use Rattle.vortex_dtype.specs.Words.{Adds, GivesOrNoMemory, IsFlat, OutOfMemory, ext_of, extension_type_of, fields_of, fixed_size_list_type, integer_type, list_type, lists_of, map_of, map_type_of, struct_type_of, type_of, union_type_of, utf8_type, variants_of, vec_capacity, vec_len};
+ghost use Rattle.vortex_dtype.specs.Words.{Adds, GivesOrNoMemory, IsFlat, OutOfMemory, ext_of, extension_type_of};
+ghost use Rattle.vortex_dtype.specs.Words.{fields_of, fixed_size_list_type, integer_type, list_type, lists_of, map_of};
+ghost use Rattle.vortex_dtype.specs.Words.{map_type_of, struct_type_of, type_of, union_type_of, utf8_type, variants_of};
+ghost use Rattle.vortex_dtype.specs.Words.{vec_capacity, vec_len};
 
 use super::{DType, ExtDType, FieldLists, HeldFields, MapDType, StructFields, UnionVariants};
 use crate::error::VortexError;

@@ -1,8 +1,11 @@
 //! Equality of types and of their parts, with and without nullability: one recursion for both.
 
 ghost use Rattle.std.specs.Prelude.{◌≡◌, true};
-ghost use Rattle.vortex_dtype.specs.Lemmas.TypeLaws.{tree_eq-equiv, equiv-from_Decides, map_eq-Decides, fields_eq-Decides, variants_eq-Decides, ext_eq-Decides};
-ghost use Rattle.vortex_dtype.specs.Words.{dtype_trees, ext_eq, ext_of, fields_eq, fields_of, keep, lists_of, map_eq, map_of, nullability_eq, on, on_equiv, partial_equiv_from_equiv, tree_eq, trees_eq, trim, trim_all, type_of, variants_eq, variants_of};
+ghost use Rattle.vortex_dtype.specs.Lemmas.TypeLaws.{tree_eq-equiv, equiv-from_Decides, map_eq-Decides};
+ghost use Rattle.vortex_dtype.specs.Lemmas.TypeLaws.{fields_eq-Decides, variants_eq-Decides, ext_eq-Decides};
+ghost use Rattle.vortex_dtype.specs.Words.{dtype_trees, ext_eq, ext_of, fields_eq, fields_of, keep, lists_of, map_eq};
+ghost use Rattle.vortex_dtype.specs.Words.{map_of, nullability_eq, on, on_equiv, partial_equiv_from_equiv, tree_eq};
+ghost use Rattle.vortex_dtype.specs.Words.{trees_eq, trim, trim_all, type_of, variants_eq, variants_of};
 
 use super::{DType, ExtDType, FieldLists, MapDType, StructFields, UnionVariants};
 use crate::nullability::Nullability;

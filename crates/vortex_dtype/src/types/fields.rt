@@ -1,7 +1,9 @@
 //! The fields of structs.
 
 ghost use Rattle.std.specs.Prelude.{◌≡◌, ◌<◌, IfOk, IsOkAnd, length, option_map, slice_get, position, map, false};
-ghost use Rattle.vortex_dtype.specs.Words.{GivesOrNoMemory, IsProjection, RefusesOrNoMemory, bytes_eq, field_index, fields_of, lists_of, misses_a_name, names_in, project_cause, size-FieldLists, size-StructFields, type_named, type_of};
+ghost use Rattle.vortex_dtype.specs.Words.{GivesOrNoMemory, IsProjection, RefusesOrNoMemory, bytes_eq, field_index};
+ghost use Rattle.vortex_dtype.specs.Words.{fields_of, lists_of, misses_a_name, names_in, project_cause};
+ghost use Rattle.vortex_dtype.specs.Words.{size-FieldLists, size-StructFields, type_named, type_of};
 
 use super::copies::copy_fields;
 use super::{DType, FieldLists, HeldFields, StructFields};

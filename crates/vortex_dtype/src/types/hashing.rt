@@ -1,8 +1,11 @@
 //! What types and their parts feed a hasher, with and without nullability: one recursion for both.
 
 ghost use Rattle.std.specs.Prelude.{◌≡◌, fold, true};
-ghost use Rattle.vortex_dtype.specs.Lemmas.TypeLaws.{tree_eq-same, map_eq-Decides, fields_eq-Decides, variants_eq-Decides, ext_eq-Decides};
-ghost use Rattle.vortex_dtype.specs.Words.{ap, dtype_trees, ext_feed, ext_of, fields_feed, fields_of, keep, lists_of, map_feed, map_of, nullability_feed, tree_feed, trees_feed, trim, trim_all, type_of, variant_number, variants_feed, variants_of};
+ghost use Rattle.vortex_dtype.specs.Lemmas.TypeLaws.{tree_eq-same, map_eq-Decides, fields_eq-Decides};
+ghost use Rattle.vortex_dtype.specs.Lemmas.TypeLaws.{variants_eq-Decides, ext_eq-Decides};
+ghost use Rattle.vortex_dtype.specs.Words.{ap, dtype_trees, ext_feed, ext_of, fields_feed, fields_of, keep, lists_of};
+ghost use Rattle.vortex_dtype.specs.Words.{map_feed, map_of, nullability_feed, tree_feed, trees_feed, trim, trim_all};
+ghost use Rattle.vortex_dtype.specs.Words.{type_of, variant_number, variants_feed, variants_of};
 
 use super::{DType, ExtDType, FieldLists, MapDType, StructFields, UnionVariants};
 use crate::nullability::Nullability;

@@ -1,7 +1,8 @@
 //! The variants of unions, and their ids.
 
 ghost use Rattle.std.specs.Prelude.{◌≡◌, ◌==◌, ◌<◌, IfOk, Some, length, option_map, position, slice_get, map};
-ghost use Rattle.vortex_dtype.specs.Words.{GivesOrNoMemory, RefusesExactly, YieldsFirst, ids_left, item_count, names_in, repeats, type_of, variants_cause, variants_of};
+ghost use Rattle.vortex_dtype.specs.Words.{GivesOrNoMemory, RefusesExactly, YieldsFirst, ids_left, item_count};
+ghost use Rattle.vortex_dtype.specs.Words.{names_in, repeats, type_of, variants_cause, variants_of};
 
 use super::copies::copy_variants;
 use super::fields::dtype_at;

@@ -2,7 +2,8 @@
 
 ghost use Rattle.std.specs.Prelude.{Some};
 ghost use Rattle.std.specs.Ordering.{on};
-ghost use Rattle.vortex_leaves.specs.Words.{bytes_cmp, partial_equiv_from_equiv, ref_alike, ref_equal, ref_equiv, ref_feed, ref_order, ref_text};
+ghost use Rattle.vortex_leaves.specs.Words.{bytes_cmp, partial_equiv_from_equiv, ref_alike, ref_equal, ref_equiv};
+ghost use Rattle.vortex_leaves.specs.Words.{ref_feed, ref_order, ref_text};
 ghost use Rattle.vortex_leaves.specs.ViewWords.{bytes_order, bytes_ref};
 
 use super::BinaryScalar;

@@ -1,8 +1,10 @@
 //! Equality, order, hash and text of views of booleans.
 
 ghost use Rattle.std.specs.Prelude.{◌&&◌, Some};
-ghost use Rattle.vortex_leaves.specs.Words.{equal, partial_equiv_from_equiv, same_type, text_of, typed_feed, typed_order, view_alike, view_equiv};
-ghost use Rattle.vortex_leaves.specs.ViewWords.{bool_order, bool_view_cmp, bool_view_content, bool_view_raw, bool_view_type};
+ghost use Rattle.vortex_leaves.specs.Words.{equal, partial_equiv_from_equiv, same_type, text_of, typed_feed};
+ghost use Rattle.vortex_leaves.specs.Words.{typed_order, view_alike, view_equiv};
+ghost use Rattle.vortex_leaves.specs.ViewWords.{bool_order, bool_view_cmp, bool_view_content, bool_view_raw};
+ghost use Rattle.vortex_leaves.specs.ViewWords.{bool_view_type};
 
 use super::BoolScalar;
 use std::cmp::Ordering;

@@ -1,8 +1,10 @@
 //! Checked arithmetic on views of integers.
 
 ghost use Rattle.std.specs.Prelude.{◌≡◌, ◌≢◌, MatchOption, None, Some};
-ghost use Rattle.vortex_leaves.specs.Words.{Add, IsNumber, PType, Sub, numeric_type, outcome, ptype_in, type_of, whole_of, within};
-ghost use Rattle.vortex_leaves.specs.ViewWords.{AreOfOneType, IsOutcome, number_view_ptype, number_view_type, view_arithmetic};
+ghost use Rattle.vortex_leaves.specs.Words.{Add, IsNumber, PType, Sub, numeric_type, outcome, ptype_in, type_of};
+ghost use Rattle.vortex_leaves.specs.Words.{whole_of, within};
+ghost use Rattle.vortex_leaves.specs.ViewWords.{AreOfOneType, IsOutcome, number_view_ptype, number_view_type};
+ghost use Rattle.vortex_leaves.specs.ViewWords.{view_arithmetic};
 
 use super::PrimitiveScalar;
 use std::ops::{Add, Sub};

@@ -1,7 +1,8 @@
 //! Equality, order, hash and text of views of integers.
 
 ghost use Rattle.std.specs.Prelude.{◌&&◌, Some};
-ghost use Rattle.vortex_leaves.specs.Words.{equal, partial_equiv_from_equiv, same_type, text_of, typed_feed, typed_order, view_alike, view_equiv};
+ghost use Rattle.vortex_leaves.specs.Words.{equal, partial_equiv_from_equiv, same_type, text_of, typed_feed};
+ghost use Rattle.vortex_leaves.specs.Words.{typed_order, view_alike, view_equiv};
 ghost use Rattle.vortex_leaves.specs.ViewWords.{number_order, number_view_content, number_view_raw, number_view_type};
 
 use super::PrimitiveScalar;

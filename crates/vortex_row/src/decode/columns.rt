@@ -148,8 +148,8 @@ pub(super) fn decode_column(
     }
 }
 
-/// The scalar of the type that the bytes from a place on begin with the key of, and the place after
-/// that key.
+/// The scalar of the type that the bytes from an offset on begin with the key of, and the offset
+/// after that key.
 #[tactic(auto, using(crate::proofs::RowDecodeSteps::places))]
 fn decode_at(
     alloc: Global,

@@ -91,7 +91,7 @@ fn form_after(head: u8, ptype: PType) -> Option<Form>
 }
 
 /// The number of so many bytes, the highest first, that is up to the limit and does not begin with
-/// 0. Else the place of the first byte that such a number does not have.
+/// 0. Else the offset of the first byte that such a number does not have.
 #[inline(never)]
 fn magnitude_by_bytes(bytes: &[u8], invert: bool, width: u8, limit: u64) -> Result<u64, usize>
     requires { width ≤ 8 }

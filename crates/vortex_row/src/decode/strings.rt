@@ -17,8 +17,8 @@ use vortex_dtype::{BufferString, ByteBuffer};
 /// In fewer bytes than this the end of a text is looked for byte by byte.
 const SHORT: usize = 32;
 
-/// The string whose escaped form the bytes begin with, if no byte of it is written as two. `None`
-/// says nothing.
+/// The string whose escaped encoding the bytes begin with, if no byte of it is written as two.
+/// `None` says nothing.
 fn plain_string(bytes: &[u8]) -> Option<&[u8]>
     ensures { IfSome result (λ string. HasString IsAny string.now bytes.now
         (drop (length string.now + 1) bytes.now)) }
@@ -31,7 +31,7 @@ fn plain_string(bytes: &[u8]) -> Option<&[u8]>
     }
 }
 
-/// The place of the first byte that is no character of ASCII above 1.
+/// The offset of the first byte that is no character of ASCII above 1.
 #[inline(always)]
 fn ascii_end(bytes: &[u8]) -> Option<usize>
     ensures within { IfSome result (λ end. end < length bytes.now) }
@@ -55,8 +55,8 @@ fn ascii(bytes: &[u8]) -> &str
     unsafe { str::from_utf8_unchecked(bytes) }
 }
 
-/// The text whose escaped form the bytes begin with, if it has characters of ASCII above 1 alone.
-/// `None` says nothing.
+/// The text whose escaped encoding the bytes begin with, if it has characters of ASCII above 1
+/// alone. `None` says nothing.
 #[inline(always)]
 fn ascii_text(bytes: &[u8]) -> Option<&str>
     ensures { IfSome result (λ text. HasString IsUtf8 text.now bytes.now
@@ -70,8 +70,8 @@ fn ascii_text(bytes: &[u8]) -> Option<&str>
     }
 }
 
-/// The text whose escaped form the bytes begin with, if no byte of it is written as two. `None` says
-/// nothing.
+/// The text whose escaped encoding the bytes begin with, if no byte of it is written as two. `None`
+/// says nothing.
 #[tactic(auto, using(crate::proofs::StringSteps::texts))]
 #[inline(always)]
 fn plain_text(bytes: &[u8]) -> Option<&str>

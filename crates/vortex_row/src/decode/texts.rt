@@ -91,8 +91,8 @@ fn after(next: Next, byte: u8) -> Option<Next>
     }
 }
 
-/// The place of the first byte that cannot come in the escaped form of a text, or of its end if
-/// none is there.
+/// The offset of the first byte that cannot come in the escaped encoding of a text, or of its end
+/// if none is there.
 pub(super) fn first_bad(bytes: &[u8], invert: bool) -> usize
     ensures within { result ≤ length bytes.now }
     ensures bad { IsStuck (Unit {0}) (IsEscaped IsUtf8) (inverted invert bytes.now)

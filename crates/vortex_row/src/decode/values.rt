@@ -40,7 +40,7 @@ fn push(part: Option<ScalarValue>, parts: &mut Vec<Option<ScalarValue>>) -> Resu
     }
 }
 
-/// Puts a part to the others, in room that has to be taken first.
+/// Puts a part to the others, in capacity that has to be reserved first.
 #[inline(never)]
 fn push_more(part: Option<ScalarValue>, parts: &mut Vec<Option<ScalarValue>>) -> Result<(), Fault>
     ensures { MatchResult result

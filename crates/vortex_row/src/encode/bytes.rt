@@ -1,4 +1,4 @@
-//! Bytes that are written into a slice from a place on.
+//! Bytes that are written into a slice from an offset on.
 
 ghost use Rattle.std.specs.Prelude.{[], ◌++◌, ◌-◌, ◌≡◌, ◌≤◌, ◌∷◌, take, drop, true, length};
 ghost use Rattle.vortex_row.specs.Words.{HasSlot, Writes, inverted};
@@ -35,7 +35,7 @@ fn invert(bytes: &mut [u8])
     }
 }
 
-/// Inverts each byte from this place to that.
+/// Inverts each byte from this offset to that.
 pub(crate) fn invert_between(start: usize, end: usize, room: &mut [u8])
     requires order { start ≤ end }
     requires within { end ≤ length room.old }

@@ -1,4 +1,4 @@
-//! Keys of numbers, written into a slice from a place on.
+//! Keys of numbers, written into a slice from an offset on.
 
 ghost use Rattle.std.specs.Prelude.{◌≡◌, ◌≤◌, ◌∷◌, drop, pos};
 ghost use Rattle.vortex_row.specs.Words.{HasSlot, IsWhole, Writes, big_endian, inverted, side_byte, side_key, whole_key, whole_of};
@@ -61,7 +61,7 @@ fn side_byte(is_below: bool, unused: usize) -> u8
 }
 
 /// Writes a number's first byte, and after it its eight bytes but those that are not used. They
-/// are written at once if there is room for all eight, the used ones first.
+/// are written at once if all eight fit, the used ones first.
 #[inline(always)]
 #[tactic(auto, using(crate::proofs::SlotSteps::numbers))]
 fn put_used(first: u8, number: u64, unused: usize, place: usize, room: &mut [u8]) -> usize

@@ -1,4 +1,4 @@
-//! Keys of strings, written into a slice from a place on.
+//! Keys of strings, written into a slice from an offset on.
 
 ghost use Rattle.std.specs.Prelude.{[], ◌++◌, ◌<◌, ◌≡◌, ◌≤◌, ◌∷◌, MatchOption, drop, length, slice_index, take};
 ghost use Rattle.vortex_row.specs.Words.{AreBytes, HasSlot, Writes, escape, escaped, inverted};
@@ -17,7 +17,7 @@ fn put_doubled(byte: u8, place: usize, room: &mut [u8]) -> usize
     put_all(&[ESCAPE, byte + 1], place, room)
 }
 
-/// The place of the first byte that is written as two, if there is one.
+/// The offset of the first byte that is written as two, if there is one.
 #[tactic(auto, using(crate::proofs::EncodeSteps::doubled))]
 fn doubled_place(bytes: &[u8]) -> Option<usize>
     ensures { MatchOption result

@@ -7,12 +7,12 @@ use Rattle.vortex_dtype.specs.TypeTree.{TypeTree, bool_type, integer_type, utf8_
 use Rattle.vortex_pvalue.specs.Numbers.{in_range}
 use Rattle.vortex_value.specs.Breaches.{Found, HasSteps, first}
 use Rattle.vortex_value.specs.Values.RawTree.{RawTree, raw_bool, raw_integer, raw_text, raw_bytes}
-use Rattle.vortex_value.specs.declared.validate.Fault.{Fault}
-use Rattle.vortex_value.specs.declared.validate.Fault.TheVariants.{NoMemory, NoPath, First}
+use Rattle.vortex_value.specs.declared.validate.ValidityError.{ValidityError}
+use Rattle.vortex_value.specs.declared.validate.ValidityError.TheVariants.{NoMemory, NoPath, First}
 use Rattle.vortex_value.specs.declared.validate.Trace.{Trace}
 
--- the fault is the first of these breaches, or there was no memory for the steps to it; or there is one, and no path is kept
-abbrev pub Shows : Bool → Fault → List Found → Type 0
+-- the error is the first of these breaches, or there was no memory for the steps to it; or there is one, and no path is kept
+abbrev pub Shows : Bool → ValidityError → List Found → Type 0
 Shows kept NoMemory fs = HasSteps (first fs)
 Shows kept NoPath fs = (kept ≡ false) × (fs ≢ [])
 Shows kept (First steps breach) fs = first fs ≡ Some (reverse steps.items, breach)
@@ -22,8 +22,8 @@ abbrev pub Checks : Option Global → Bool → Trace → List Found → Type 0
 Checks alloc true trace fs = (trace.alloc ≡ alloc) × (fs ≡ [])
 Checks alloc false trace fs = Shows (is_some alloc) trace.fault fs
 
--- the fault is not that no path is kept
-abbrev pub HasPath : Fault → Type 0
+-- the error is not that no path is kept
+abbrev pub HasPath : ValidityError → Type 0
 HasPath NoPath = ⊥
 HasPath _ = Unit {0}
 

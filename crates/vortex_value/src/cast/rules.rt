@@ -1,7 +1,9 @@
 //! What the cast table asks of two types, and of a value that is kept as it is.
 
 ghost use Rattle.std.specs.Prelude.{◌≡◌, ◌==◌, option_map};
-ghost use Rattle.vortex_value.specs.Words.{IsBareTarget, accepts, bytes_eq, count, may_unwrap, map_of, option_copied, sorts, keeps_its_kind, takes_null, type_of, types_with, value_tree, value_trees, variants_of};
+ghost use Rattle.vortex_value.specs.Words.{IsBareTarget, accepts, bytes_eq, count, may_unwrap, map_of, option_copied};
+ghost use Rattle.vortex_value.specs.Words.{sorts, keeps_its_kind, takes_null, type_of, types_with, value_tree};
+ghost use Rattle.vortex_value.specs.Words.{value_trees, variants_of};
 
 use crate::equality::same_types;
 use crate::scalars::Scalar;

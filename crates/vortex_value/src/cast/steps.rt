@@ -1,7 +1,10 @@
 //! The steps of a cast that go no further down than the value.
 
 ghost use Rattle.std.specs.Prelude.{◌≡◌, ◌++◌, [], ◌∷◌, IfErr, MatchResult, option_map};
-ghost use Rattle.vortex_value.specs.Words.{Appends, Impossible, Makes, NoMemory, OutOfMemoryOnlyIfMakeable, FlatNeverOutOfMemory, leaf_to, unwrapped, number_to, ptype_of, raw_integer, raw_of, raw_text, raw_union, type_of, union_tree, value_tree, variant_tree, whole_of};
+ghost use Rattle.vortex_value.specs.Words.{Appends, Impossible, Makes, NoMemory, OutOfMemoryOnlyIfMakeable};
+ghost use Rattle.vortex_value.specs.Words.{FlatNeverOutOfMemory, leaf_to, unwrapped, number_to, ptype_of, raw_integer};
+ghost use Rattle.vortex_value.specs.Words.{raw_of, raw_text, raw_union, type_of, union_tree, value_tree, variant_tree};
+ghost use Rattle.vortex_value.specs.Words.{whole_of};
 
 use super::refusals::Refusal;
 use super::rules::{accepts, keeps_its_kind, may_unwrap};
@@ -87,7 +90,7 @@ pub(super) fn cast_number(number: &PValue, target: &DType) -> Result<ScalarValue
     Ok(ScalarValue::Primitive(number))
 }
 
-/// Appends a part, or drops it if there is no memory. Mostly there is room for it.
+/// Appends a part, or drops it if there is no memory. Mostly there is capacity for it.
 #[inline(always)]
 pub(super) fn push(
     part: Option<ScalarValue>,
@@ -105,7 +108,7 @@ pub(super) fn push(
     }
 }
 
-/// Appends a part to a list that may have no room for it.
+/// Appends a part to a list that may have no capacity for it.
 #[inline(never)]
 fn push_more(part: Option<ScalarValue>, made: &mut Vec<Option<ScalarValue>>) -> Result<(), Refusal>
     ensures { MatchResult result

@@ -8,7 +8,11 @@
 //! caller lends, it would be 1.8, 1.3, 1.3, 1.2 and 1.06 times.
 
 ghost use Rattle.std.specs.Prelude.{option_map};
-ghost use Rattle.vortex_value.specs.Words.{Appends, IsBareTarget, Makes, MakesParts, LeafOutOfMemoryOnlyIfMakeable, FlatNeverOutOfMemory, WholeOutOfMemoryOnlyIfMakeable, bare_to, cast_to, count, dtype_trees, each_to, entries_to, entry_to, fields_to, lent_raw, map_of, map_to, option_copied, parts_to, raw_of, raw_tuple, sized, type_of, union_tree, value_tree, value_trees};
+ghost use Rattle.vortex_value.specs.Words.{Appends, IsBareTarget, Makes, MakesParts, LeafOutOfMemoryOnlyIfMakeable};
+ghost use Rattle.vortex_value.specs.Words.{FlatNeverOutOfMemory, WholeOutOfMemoryOnlyIfMakeable, bare_to, cast_to};
+ghost use Rattle.vortex_value.specs.Words.{count, dtype_trees, each_to, entries_to, entry_to, fields_to, lent_raw};
+ghost use Rattle.vortex_value.specs.Words.{map_of, map_to, option_copied, parts_to, raw_of, raw_tuple, sized, type_of};
+ghost use Rattle.vortex_value.specs.Words.{union_tree, value_tree, value_trees};
 
 use super::refusals::Refusal;
 use super::rules::{are_as_many, bare_target, takes_null, types_with, would_claim_sorted};

@@ -1,7 +1,9 @@
 //! Makers of lists and of lists of a fixed size.
 
 ghost use Rattle.std.specs.Prelude.{◌≡◌, None, Some, length, IfOk, IfErr, MatchResult};
-ghost use Rattle.vortex_value.specs.Words.{All, GivesOrNoMemory, IsMadeOf, IsValid, OutOfMemory, RefusesOrNoMemory, child_trees, count_cause, fixed_size_list_type, list_cause, list_type, no_raws, raw_of, raw_tuple, type_of, wrong_place};
+ghost use Rattle.vortex_value.specs.Words.{All, GivesOrNoMemory, IsMadeOf, IsValid, OutOfMemory, RefusesOrNoMemory};
+ghost use Rattle.vortex_value.specs.Words.{child_trees, count_cause, fixed_size_list_type, list_cause, list_type};
+ghost use Rattle.vortex_value.specs.Words.{no_raws, raw_of, raw_tuple, type_of, wrong_place};
 
 use crate::scalars::Scalar;
 use crate::values::ScalarValue;

@@ -1,7 +1,10 @@
 //! Makers of maps.
 
 ghost use Rattle.std.specs.Prelude.{◌≡◌, IfOk, IfErr, IsErrAnd, MatchOption};
-ghost use Rattle.vortex_value.specs.Words.{GivesOnly, IsFinite, IsMadeOf, IsRefusedAtLast, IsValid, IsValidEntry, MadeOfItems, RefusesAtLast, RefusesOrNoMemory, SomeRun, WholeRun, WrongKind, entries_cause, entry_cause, is_entry_of, map_cause, map_in, map_of, raw_entries, raw_entry, raw_of, raw_tuple, type_of};
+ghost use Rattle.vortex_value.specs.Words.{GivesOnly, IsFinite, IsMadeOf, IsRefusedAtLast, IsValid, IsValidEntry};
+ghost use Rattle.vortex_value.specs.Words.{MadeOfItems, RefusesAtLast, RefusesOrNoMemory, SomeRun, WholeRun, WrongKind};
+ghost use Rattle.vortex_value.specs.Words.{entries_cause, entry_cause, is_entry_of, map_cause, map_in, map_of};
+ghost use Rattle.vortex_value.specs.Words.{raw_entries, raw_entry, raw_of, raw_tuple, type_of};
 
 use crate::scalars::Scalar;
 use crate::values::ScalarValue;

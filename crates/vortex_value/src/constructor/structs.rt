@@ -1,7 +1,10 @@
 //! The maker of structs.
 
 ghost use Rattle.std.specs.Prelude.{◌≡◌, ◌⊎◌, not, position, IfOk, IfErr, IsErrAnd, MatchOption};
-ghost use Rattle.vortex_value.specs.Words.{GivesOnly, IsFinite, IsMadeOf, IsValid, MadeOfItems, OutOfMemory, RefusesExactly, RefusesItems, RefusesOrNoMemory, WholeRun, WrongKind, child_trees, fields_cause, fields_in, fields_of, raw_of, raw_tuple, scalar_type, struct_cause, tree_eq, type_of, zip};
+ghost use Rattle.vortex_value.specs.Words.{GivesOnly, IsFinite, IsMadeOf, IsValid, MadeOfItems, OutOfMemory};
+ghost use Rattle.vortex_value.specs.Words.{RefusesExactly, RefusesItems, RefusesOrNoMemory, WholeRun, WrongKind};
+ghost use Rattle.vortex_value.specs.Words.{child_trees, fields_cause, fields_in, fields_of, raw_of, raw_tuple};
+ghost use Rattle.vortex_value.specs.Words.{scalar_type, struct_cause, tree_eq, type_of, zip};
 
 use super::lists::tuple_of;
 use crate::scalars::Scalar;

@@ -1,7 +1,10 @@
 //! Truth values, strings and bytes out of scalars, valid or not. The impls for `ScalarRef` are of
 //! this port alone.
 
-ghost use Rattle.vortex_value.specs.Words.{ShortNeverOutOfMemory, Takes, TakesCopy, bytes_in, given_option, or_none, raw_bool, raw_bytes, raw_of, raw_text, ref_raw, ref_type, scalar_raw, scalar_type, taken_bool, taken_bytes, taken_option_bool, taken_option_bytes, taken_option_text, taken_text, text_in};
+ghost use Rattle.vortex_value.specs.Words.{ShortNeverOutOfMemory, Takes, TakesCopy, bytes_in, given_option, or_none};
+ghost use Rattle.vortex_value.specs.Words.{raw_bool, raw_bytes, raw_of, raw_text, ref_raw, ref_type, scalar_raw};
+ghost use Rattle.vortex_value.specs.Words.{scalar_type, taken_bool, taken_bytes, taken_option_bool, taken_option_bytes};
+ghost use Rattle.vortex_value.specs.Words.{taken_option_text, taken_text, text_in};
 
 use crate::refs::ScalarRef;
 use crate::scalars::Scalar;

@@ -1,7 +1,8 @@
 //! Raw values and scalars of truth values, strings and bytes.
 
 ghost use Rattle.std.specs.Prelude.{◌≡◌};
-ghost use Rattle.vortex_value.specs.Words.{IsMadeValid, NonNullable, Nullable, binary_type, bool_type, given_option, raw_bool, raw_bytes, raw_text, utf8_type, value_tree};
+ghost use Rattle.vortex_value.specs.Words.{IsMadeValid, NonNullable, Nullable, binary_type, bool_type, given_option};
+ghost use Rattle.vortex_value.specs.Words.{raw_bool, raw_bytes, raw_text, utf8_type, value_tree};
 
 use crate::scalars::Scalar;
 use crate::values::ScalarValue;

@@ -2,7 +2,10 @@
 //! and for `usize`. The impls for each of the eight stand in `from_integers`.
 
 ghost use Rattle.std.specs.Prelude.{◌≡◌};
-ghost use Rattle.vortex_value.specs.Words.{IsMadeValid, NonNullable, Nullable, Takes, U64, given_number, given_option, given_usize, integer_type, lent_raw, number_in, or_none, ptype_of, raw_integer, ref_raw, ref_type, scalar_raw, scalar_type, taken_number, taken_option_number, taken_option_usize, taken_usize, value_tree, whole_of};
+ghost use Rattle.vortex_value.specs.Words.{IsMadeValid, NonNullable, Nullable, Takes, U64, given_number, given_option};
+ghost use Rattle.vortex_value.specs.Words.{given_usize, integer_type, lent_raw, number_in, or_none, ptype_of};
+ghost use Rattle.vortex_value.specs.Words.{raw_integer, ref_raw, ref_type, scalar_raw, scalar_type, taken_number};
+ghost use Rattle.vortex_value.specs.Words.{taken_option_number, taken_option_usize, taken_usize, value_tree, whole_of};
 
 use crate::refs::ScalarRef;
 use crate::scalars::Scalar;

@@ -1,7 +1,9 @@
 //! How truth values, strings and bytes are printed, and what stands between parts.
 
 ghost use Rattle.std.specs.Prelude.{◌≡◌, ◌++◌, IsTrue, codes, drop, encode_utf8, length, map, take};
-ghost use Rattle.vortex_value.specs.Words.{WritesOnOk, before_at, chars, encode_utf8_all, escaped, escaped_char, flat_map, hexadecimal, in_quotes, joined, null_text, shortened, truth_text, two_digits};
+ghost use Rattle.vortex_value.specs.Words.{WritesOnOk, before_at, chars, encode_utf8_all, escaped, escaped_char};
+ghost use Rattle.vortex_value.specs.Words.{flat_map, hexadecimal, in_quotes, joined, null_text, shortened, truth_text};
+ghost use Rattle.vortex_value.specs.Words.{two_digits};
 
 use std::fmt::{self, Formatter, Write};
 use vortex_dtype::FieldName;

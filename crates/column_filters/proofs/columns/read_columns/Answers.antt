@@ -1,4 +1,4 @@
--- One column more, and the first fault.
+-- One column more, and the first error.
 use Rattle.std.proofs.Common.{arith, map}
 use Rattle.vortex_dtype.specs.TypeOf.{type_of}
 use Rattle.column_filters.proofs.ColumnSteps.{read-more, read_typed, sound-more, table-fault-typed, table-refused}

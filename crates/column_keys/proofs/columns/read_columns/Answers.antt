@@ -1,4 +1,4 @@
--- One column more, and the first fault.
+-- One column more, and the first error.
 use Rattle.std.proofs.Common.{arith}
 use Rattle.column_keys.proofs.ColumnSteps.{read-more, sound-more, table-fault, table-refused}
 use Rattle.column_keys.proofs.columns.read_columns.Goals as goal

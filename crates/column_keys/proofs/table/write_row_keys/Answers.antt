@@ -1,4 +1,4 @@
--- There is room for a row more, and its key and offset are written.
+-- The buffers hold a row more, and its key and offset are written.
 use Rattle.std.proofs.Common.{◌+◌, ◌<◌, ◌∙◌, arith, length}
 use Rattle.std.proofs.lemmas.List.{drop-set-lt, get_or-set_same, length-set}
 use Rattle.column_keys.proofs.TableSteps.{keys-more, place-more, row-slot}

@@ -1,4 +1,4 @@
--- The first place is where the line ends.
+-- The first offset is where the line ends.
 use Rattle.rows.proofs.Places.{ends}
 use Rattle.rows.proofs.words.line_end.Goals as goal
 

@@ -1,4 +1,4 @@
--- A number has as much room inverted or not.
+-- A number takes as many bytes inverted or not.
 use Rattle.std.proofs.Common.{rules, subst}
 use Rattle.vortex_row.specs.Columns.{key_with}
 use Rattle.vortex_row.specs.Keys.{whole_key}

@@ -1,4 +1,4 @@
--- What was appended is room for the row.
+-- What was appended holds the row.
 use Rattle.std.proofs.Common.{map, subst, sym}
 use Rattle.vortex_value.specs.Values.Refs.{ref_content}
 use Rattle.vortex_row.specs.Columns.{row_key}

@@ -6,7 +6,8 @@
 //! those for `ScalarRef` are of this port alone.
 
 ghost use Rattle.std.specs.Prelude.{pos};
-ghost use Rattle.vortex_value.specs.Words.{I16, I32, I64, I8, Takes, U16, U32, U64, U8, given_number, number_in, ref_raw, ref_type, scalar_raw, scalar_type, taken_number, value_tree};
+ghost use Rattle.vortex_value.specs.Words.{I16, I32, I64, I8, Takes, U16, U32, U64, U8, given_number, number_in};
+ghost use Rattle.vortex_value.specs.Words.{ref_raw, ref_type, scalar_raw, scalar_type, taken_number, value_tree};
 
 use super::take_number;
 use crate::refs::ScalarRef;

@@ -1,4 +1,4 @@
--- A block more, the first fault, and nothing but blocks.
+-- A block more, the first error, and nothing but blocks.
 use Rattle.std.proofs.Common.{arith, refl}
 use Rattle.std.proofs.lemmas.Result.{err_from_is_err_and}
 use Rattle.zone_index.specs.Encoding.{zone_values}

@@ -1,4 +1,4 @@
--- A piece more, the first fault, and nothing but pieces.
+-- A piece more, the first error, and nothing but pieces.
 use Rattle.std.proofs.Common.{List, ℕ, ap, arith, get_or}
 use Rattle.std.proofs.lemmas.Result.{err_from_is_err_and}
 use Rattle.zone_index.specs.Encoding.{with_statistics, zone_value}

@@ -1,4 +1,4 @@
--- One more, the first fault, and all of them.
+-- One more, the first error, and all of them.
 use Rattle.std.proofs.lemmas.Result.{err_from_is_err_and}
 use Rattle.zone_index.specs.Encoding.{zone_value, zone_values}
 use Rattle.zone_index.specs.EncodingReading.{many_at, zone_at}

@@ -1,4 +1,4 @@
--- A piece more, the end, and a fault.
+-- A piece more, the end, and an error.
 use Rattle.std.proofs.Common.{rules, arith, ◌≡◌, []}
 use Rattle.std.proofs.lemmas.Grind.{common_steps}
 use Rattle.std.proofs.lemmas.List.{nil_from_length}

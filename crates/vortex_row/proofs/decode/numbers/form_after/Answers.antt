@@ -1,4 +1,4 @@
--- The form is the one of the side of 0 that the first byte says, if a number there has as many bytes.
+-- The encoding is the one of the side of 0 that the first byte says, if a number there has as many bytes.
 use Rattle.std.proofs.Common.{◌<◌, ◌^◌, rules}
 use Rattle.vortex_row.proofs.NumberForms.{goes-down, goes-up, none-down, none-up}
 use Rattle.vortex_row.proofs.decode.numbers.form_after.Goals as goal

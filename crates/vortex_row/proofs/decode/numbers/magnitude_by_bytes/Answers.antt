@@ -1,4 +1,4 @@
--- Each byte so far is one of the number's, and the one at the place is of none up to the limit.
+-- Each byte so far is one of the number's, and the one at the offset is of none up to the limit.
 use Rattle.std.proofs.Common.{◌≡◌, ◌<◌, inl, inr, sym, ◌∙◌, rules, arith, subst, suc, ◌+◌, ◌*◌}
 use Rattle.vortex_row.specs.Keys.{inverted}
 use Rattle.vortex_row.proofs.NumberSteps.{Began, began-all, began-fits, began-more, began-none, number-bad, number-ends}

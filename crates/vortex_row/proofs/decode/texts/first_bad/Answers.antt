@@ -1,4 +1,4 @@
--- Each byte so far comes next in a text, and the one at the place does not, or the text is whole.
+-- Each byte so far comes next in a text, and the one at the offset does not, or the text is whole.
 use Rattle.std.proofs.Common.{inl, length, sym, ◌∙◌, arith}
 use Rattle.vortex_row.specs.Keys.{inverted}
 use Rattle.vortex_row.proofs.ReaderSteps.{inverted-at}
