@@ -1,5 +1,5 @@
 -- Whole records are taken from the front of a stream.
-use Rattle.std.specs.Prelude.{◌≡◌, ◌⊎◌, ℕ, List, [], ◌++◌, Option, Some}
+use Rattle.std.specs.Prelude.{◌≡◌, ◌⊎◌, ℕ, List, [], ◌++◌, Option, Some, length}
 use Rattle.csv.specs.declared.parser.State.{State}
 use Rattle.csv.specs.declared.parser.State.TheVariants as st
 use Rattle.csv_records.specs.Lemmas.RecordLaws.{EndsRecord}
@@ -12,6 +12,6 @@ pub record IsTaken (delimiter : ℕ) (bytes text : List ℕ) (left : Option (Lis
   pub parts : bytes ≡ text ++ rest
   pub records : records_of delimiter bytes ≡ records_of delimiter text ++ records_of delimiter rest
 
--- no bytes, or whole records, after an offset where one may start; another may start behind them
-abbrev pub AreWhole : ℕ → State → List ℕ → Type 0
-AreWhole delimiter s bytes = (bytes ≡ []) ⊎ ((s ≡ st.StartRecord) × EndsRecord delimiter bytes)
+-- so many whole records, after an offset where one may start; another may start behind them. Or no bytes, and none
+abbrev pub AreWhole : ℕ → State → ℕ → List ℕ → Type 0
+AreWhole delimiter s count bytes = ((bytes ≡ []) × (count ≡ 0)) ⊎ ((s ≡ st.StartRecord) × EndsRecord delimiter bytes × (length (records_of delimiter bytes) ≡ count))

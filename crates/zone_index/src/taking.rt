@@ -1,9 +1,9 @@
 //! Zones of whole records are read from a stream.
 
-ghost use Rattle.std.specs.Prelude.{◌≡◌, ◌<◌, ◌≤◌, ◌+◌, ◌-◌, ◌^◌, ℕ, List, [], Some, IfErr, IfOk, OnOk, length, take, if◌then◌else◌};
+ghost use Rattle.std.specs.Prelude.{◌≡◌, ◌<◌, ◌≤◌, ◌+◌, ◌-◌, ◌^◌, ℕ, List, [], Some, IfErr, IfOk, OnOk, length, min, take, if◌then◌else◌};
 ghost use Rattle.std.specs.Io.{StartsWith, appended_bytes};
 ghost use Rattle.std.specs.Io.KnownBytes.{Consumes};
-ghost use Rattle.csv_records.specs.Records.{is_start, state_at};
+ghost use Rattle.csv_records.specs.Records.{is_start, records_of, state_at};
 ghost use Rattle.csv_records.specs.declared.states.RecordState.TheVariants.{StartRecord};
 ghost use Rattle.zone_index.specs.Errors.{IsOfStream};
 ghost use Rattle.zone_index.specs.Taking.{AreWhole, IsTaken};
@@ -24,6 +24,10 @@ pub fn take_records<B: BufRead>(
     requires some { 0 < size }
     ensures taken { OnOk result ((bytes : List ℕ) → B.remaining reader.old ≡ Some bytes
         → IsTaken delimiter.byte bytes text.new.items (B.remaining reader.new)) }
+    // So many records, or all that were left.
+    ensures many { OnOk result ((bytes : List ℕ) → B.remaining reader.old ≡ Some bytes
+        → length (records_of delimiter.byte text.new.items) ≡
+        min size (length (records_of delimiter.byte bytes))) }
     // Nothing was taken only where nothing was left.
     ensures ended { OnOk result ((bytes : List ℕ) → B.remaining reader.old ≡ Some bytes
         → text.new.items ≡ [] → bytes ≡ []) }
@@ -70,7 +74,7 @@ fn take_plain<B: BufRead>(
     ensures appends { OnOk result (StartsWith text.new.items text.old.items) }
     ensures bytes { OnOk result (Consumes (B.remaining reader.old) (B.remaining reader.new)
         (appended_bytes text.old.items text.new.items)) }
-    ensures whole { OnOk result (AreWhole delimiter.byte (state_at state)
+    ensures whole { IfOk result (λ n. AreWhole delimiter.byte (state_at state) n
         (appended_bytes text.old.items text.new.items)) }
     ensures why { IfErr result IsOfStream }
 {
@@ -95,7 +99,8 @@ fn append_plain<B: BufRead>(
     ensures appends { StartsWith text.new.items text.old.items }
     ensures bytes { Consumes (B.remaining reader.old) (B.remaining reader.new)
         (appended_bytes text.old.items text.new.items) }
-    ensures whole { AreWhole delimiter.byte (state_at StartRecord) (appended_bytes text.old.items text.new.items) }
+    ensures whole { IfOk result (λ n. AreWhole delimiter.byte (state_at StartRecord) n
+        (appended_bytes text.old.items text.new.items)) }
 {
     let available = match reader.fill_buf() {
         Ok(available) => available,
@@ -118,7 +123,7 @@ fn append_plain<B: BufRead>(
 fn plain_front(delimiter: Delimiter, most: u64, bytes: &[u8]) -> (usize, u64)
     ensures within { result.0 ≤ length bytes.now }
     ensures few { result.1 ≤ most }
-    ensures whole { AreWhole delimiter.byte (state_at StartRecord) (take result.0 bytes.now) }
+    ensures whole { AreWhole delimiter.byte (state_at StartRecord) result.1 (take result.0 bytes.now) }
 {
     let mut end = 0;
     let mut count = 0;

@@ -1,5 +1,5 @@
 -- The first records that the reader has at hand, or none.
-use Rattle.std.proofs.Common.{◌≡◌, drop, sym, ap, subst, ◌∙◌, rules, length, le_refl, drop_of_length-le, [], inl}
+use Rattle.std.proofs.Common.{◌≡◌, drop, sym, ap, subst, ◌∙◌, rules, length, le_refl, drop_of_length-le, []}
 use Rattle.std.specs.Io.{appended_bytes}
 use Rattle.std.specs.Io.KnownBytes.{Consumes}
 use Rattle.std.specs.Io.BufRead.{FillKeeps}
@@ -14,7 +14,7 @@ pub returns-in_err-extend_from_slice : goal.returns-in_err-extend_from_slice
 returns-in_err-extend_from_slice g c =
     let items = c.in_err-extend_from_slice.ensures.items in
     let none : appended_bytes c.args.text.now.items c.extend_from_slice.new.self.items ≡ [] = ap (drop (length c.args.text.now.items)) items ∙ drop_of_length-le c.args.text.now.items (le_refl _) in
-    record { few = search rules; appends = starts_with_of_eq _ _ items; bytes = subst (Consumes _ _) (sym none) (Consumes-kept _ _ _ [] (Consumes-nil _) c.fill_buf.follows.holds-at-none.0); whole = inl none }
+    record { few = search rules; appends = starts_with_of_eq _ _ items; bytes = subst (Consumes _ _) (sym none) (Consumes-kept _ _ _ [] (Consumes-nil _) c.fill_buf.follows.holds-at-none.0); whole = search rules }
 
 pub returns : goal.returns
 returns g c =
@@ -28,5 +28,5 @@ returns g c =
       few = front.ensures.few;
       appends = starts_with_of_append _ _ _ items;
       bytes = subst (Consumes _ _) tail moved.0;
-      whole = subst (AreWhole c.args.delimiter.byte StartRecord) tail front.ensures.whole;
+      whole = subst (AreWhole c.args.delimiter.byte StartRecord front.result.1) tail front.ensures.whole;
     }

@@ -6,7 +6,7 @@ use Rattle.zone_index.proofs.taking.take_records.Given as goal
 
 abbrev pub invariant-loop-taken : goal.invariant-loop-taken
 invariant-loop-taken g l = record {
-  text : (bytes : List ℕ) → g.B.Read.remaining l.initial.reader ≡ Some bytes → Taking l.delimiter.byte bytes l.text.items (g.B.Read.remaining l.reader) (state_at l.state);
+  text : (bytes : List ℕ) → g.B.Read.remaining l.initial.reader ≡ Some bytes → Taking l.delimiter.byte bytes l.text.items (g.B.Read.remaining l.reader) (state_at l.state) l.taken;
   few : l.taken ≤ l.size;
   some : 0 < l.taken → 0 < vec_len l.text;
   whole : l.taken ≡ l.size → is_start (state_at l.state) ≡ true;
