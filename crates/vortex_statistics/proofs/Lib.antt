@@ -6,5 +6,7 @@ pub mod LooseLaws
 pub mod MergeLaws
 pub mod ObserveLaws
 pub mod ObserveSteps
+pub mod RepeatedLaws
 pub mod ShortLaws
 pub mod TruncateLaws
+pub mod ValidLaws

@@ -2,6 +2,7 @@
 use Rattle.std.specs.Prelude.{◌≡◌, ℕ, Bool, true, nat_lt, List, length, count_by, Option, Some, None, IfSome, IsSome, is_some, option_map}
 use Rattle.std.specs.declared.cmp.Ordering.{Ordering}
 use Rattle.std.specs.declared.cmp.Ordering.TheVariants.{Equal}
+use Rattle.vortex_value.specs.Values.Scalars.{IsValid}
 use Rattle.vortex_cells.specs.Cells.{AllCompare, Cell, HasValue, IsUpTo, cell_of, cell_order, is_null_cell, order_from_above}
 use Rattle.vortex_statistics.specs.declared.column_statistics.Bound.{Bound}
 use Rattle.vortex_statistics.specs.declared.column_statistics.ColumnStatistics.{ColumnStatistics}
@@ -34,6 +35,17 @@ known s = record {
 -- the statistics of no rows
 abbrev pub empty_statistics : ColumnStatistics
 empty_statistics = record { row_count = 0; null_count = Some 0; lower = None; upper = None }
+
+-- ---- valid bounds
+
+-- the bound, if there is one, is a valid scalar
+abbrev pub IsValidBound : Option Bound → Type 0
+IsValidBound b = IfSome b (λ b. IsValid b.value)
+
+-- so are both: each has a raw value of its type, and a number that of its integer type
+pub record HasValidBounds (s : ColumnStatistics) : Type 0 where
+  pub lower : IsValidBound s.lower
+  pub upper : IsValidBound s.upper
 
 -- ---- right statistics
 

@@ -1,7 +1,8 @@
 //! The statistics of values that are at hand.
 
-ghost use Rattle.std.specs.Prelude.{◌≡◌, ◌<◌, IfErr, IfOk, map, replicate};
-ghost use Rattle.vortex_statistics.specs.Words.{AreComplete, MayTakeMemory, OutOfMemory, SomeMayTakeMemory, cell_of, known};
+ghost use Rattle.std.specs.List.{All};
+ghost use Rattle.std.specs.Prelude.{◌≡◌, ◌<◌, IfErr, IfOk, fold, map, replicate};
+ghost use Rattle.vortex_statistics.specs.Words.{AreComplete, HasValidBounds, IsValid, MayTakeMemory, OutOfMemory, SomeMayTakeMemory, cell_of, known, nothing, observed};
 
 use crate::column_statistics::ColumnStatistics;
 use crate::error::StatisticsError;
@@ -17,7 +18,10 @@ impl ColumnStatistics {
     /// `OutOfMemory` is its only refusal, and only if a value is not null, and is not a valid one of
     /// a type whose values take no memory, as an integer.
     pub fn of(alloc: Global, values: &[Scalar]) -> Result<ColumnStatistics, StatisticsError>
+        ensures value { IfOk result
+            (λ s. known s ≡ fold observed nothing (map cell_of values.now)) }
         ensures complete { IfOk result (λ s. AreComplete (known s) (map cell_of values.now)) }
+        ensures valid { IfOk result (λ s. All IsValid values.now → HasValidBounds s) }
         ensures refused { IfErr result
             (λ e. (e ≡ OutOfMemory) × SomeMayTakeMemory values.now) }
     {
@@ -38,8 +42,11 @@ impl ColumnStatistics {
         value: &Scalar,
         rows: u64,
     ) -> Result<ColumnStatistics, StatisticsError>
+        ensures value { IfOk result
+            (λ s. known s ≡ fold observed nothing (replicate rows (cell_of value.now))) }
         ensures complete { IfOk result
             (λ s. AreComplete (known s) (replicate rows (cell_of value.now))) }
+        ensures valid { IfOk result (λ s. IsValid value.now → HasValidBounds s) }
         ensures refused { IfErr result
             (λ e. (e ≡ OutOfMemory) × (0 < rows) × MayTakeMemory value.now) }
     {

@@ -1,7 +1,8 @@
 //! The statistics of two pieces of a column together.
 
 ghost use Rattle.std.specs.Prelude.{◌≡◌, ◌+◌, ◌<◌, ◌≤◌, ◌^◌, false, IfErr, IfOk, fold, map, option_map};
-ghost use Rattle.vortex_statistics.specs.Words.{AreCompleteTogether, AreRightForAll, AreRightTogether, TooManyRows, bound_of_both, bound_order, cell_order, empty_statistics, joined, known, known_bound, merged, nothing, option_copied, outer_by, rows_of, sum_of};
+ghost use Rattle.std.specs.List.{All};
+ghost use Rattle.vortex_statistics.specs.Words.{AreCompleteTogether, AreRightForAll, AreRightTogether, HasValidBounds, IsValidBound, TooManyRows, bound_of_both, bound_order, cell_order, empty_statistics, joined, known, known_bound, merged, nothing, option_copied, outer_by, rows_of, sum_of};
 
 use crate::column_statistics::{Bound, ColumnStatistics};
 use crate::error::StatisticsError;
@@ -22,6 +23,8 @@ impl ColumnStatistics {
             (λ u. AreRightTogether (known self) (known other) (known u)) }
         ensures complete { IfOk result
             (λ u. AreCompleteTogether (known self) (known other) (known u)) }
+        ensures valid { IfOk result
+            (λ u. HasValidBounds self → HasValidBounds other → HasValidBounds u) }
         ensures fits { IfOk result (λ _. self.row_count + other.row_count < 2 ^ 64) }
         ensures refused { IfErr result
             (λ e. (e ≡ TooManyRows) × (2 ^ 64 ≤ self.row_count + other.row_count)) }
@@ -65,6 +68,7 @@ impl ColumnStatistics {
     pub fn merge_all(pieces: Vec<ColumnStatistics>) -> Result<ColumnStatistics, StatisticsError>
         ensures value { IfOk result (λ s. known s ≡ fold merged nothing (map known pieces.items)) }
         ensures right { IfOk result (λ s. AreRightForAll (map known pieces.items) (known s)) }
+        ensures valid { IfOk result (λ s. All HasValidBounds pieces.items → HasValidBounds s) }
         ensures fits { IfOk result (λ _. rows_of pieces.items < 2 ^ 64) }
         ensures refused { IfErr result
             (λ e. (e ≡ TooManyRows) × (2 ^ 64 ≤ rows_of pieces.items)) }
@@ -109,6 +113,7 @@ fn merge_bounds(
     ensures value { option_map known_bound result
         ≡ bound_of_both order has_values others_have_values
         (option_map known_bound bound) (option_map known_bound other) }
+    ensures valid { IsValidBound bound → IsValidBound other → IsValidBound result }
     ensures onto_none { has_values ≡ false → bound ≡ None → result ≡ other }
     ensures with_none { others_have_values ≡ false → other ≡ None → result ≡ bound }
 {
@@ -128,8 +133,9 @@ fn merge_bounds(
 
 /// The outer one of two bounds that compare so; `None` if they do not compare.
 fn outer(order: Option<Ordering>, bound: Option<Bound>, other: Option<Bound>) -> Option<Bound>
-    ensures { option_map known_bound result
+    ensures value { option_map known_bound result
         ≡ outer_by order (option_map known_bound bound) (option_map known_bound other) }
+    ensures valid { IsValidBound bound → IsValidBound other → IsValidBound result }
 {
     match order {
         Some(Ordering::Less) => {
@@ -150,8 +156,9 @@ fn outer(order: Option<Ordering>, bound: Option<Bound>, other: Option<Bound>) ->
 
 /// The first of two equal bounds, exact if one is.
 fn join(bound: Option<Bound>, other: Option<Bound>) -> Option<Bound>
-    ensures { option_map known_bound result
+    ensures value { option_map known_bound result
         ≡ joined (option_map known_bound bound) (option_map known_bound other) }
+    ensures valid { IsValidBound bound → IsValidBound result }
 {
     let Some(bound) = bound else {
         drop(other);

@@ -1,7 +1,7 @@
 //! The statistics of cells and one cell more.
 
 ghost use Rattle.std.specs.Prelude.{◌≡◌, ◌⊎◌, ◌+◌, ◌<◌, ◌^◌, Some, false, true, IfErr, IfOk, OnErr, OnOk, option_map};
-ghost use Rattle.vortex_statistics.specs.Words.{Cell, IsCompleteWith, IsFlatValue, IsRightWith, OutOfMemory, RefusesCell, after, cell_of_ref, change_by, change_of, exact_bound, known, known_bound, lower_change, observed, order_from_above, ref_raw, ref_type, replaces, replacing, upper_change};
+ghost use Rattle.vortex_statistics.specs.Words.{Cell, HasValidBounds, IsCompleteWith, IsFlatValue, IsRightWith, IsValid, IsValidBound, IsValidRef, OutOfMemory, RefusesCell, after, cell_of_ref, change_by, change_of, exact_bound, known, known_bound, lower_change, observed, order_from_above, ref_raw, ref_type, replaces, replacing, upper_change};
 
 use crate::column_statistics::{Bound, ColumnStatistics};
 use crate::error::StatisticsError;
@@ -26,6 +26,8 @@ impl ColumnStatistics {
             (IsRightWith (known self.old) (cell_of_ref value.entry) (known self.new)) }
         ensures complete { OnOk result
             (IsCompleteWith (known self.old) (cell_of_ref value.entry) (known self.new)) }
+        ensures valid { OnOk result
+            (IsValidRef value.entry → HasValidBounds self.old → HasValidBounds self.new) }
         ensures fits { OnOk result (self.old.row_count + 1 < 2 ^ 64) }
         ensures refused { IfErr result (RefusesCell (known self.old) value.entry) }
         ensures unchanged { OnErr result (self.new ≡ self.old) }
@@ -59,6 +61,8 @@ impl ColumnStatistics {
             ≡ after below (option_map known_bound self.old.lower) (cell_of_ref value.entry)) }
         ensures upper { OnOk result (option_map known_bound self.new.upper
             ≡ after above (option_map known_bound self.old.upper) (cell_of_ref value.entry)) }
+        ensures valid { OnOk result
+            (IsValidRef value.entry → HasValidBounds self.old → HasValidBounds self.new) }
         ensures rows { self.new.row_count ≡ self.old.row_count }
         ensures nulls { self.new.null_count ≡ self.old.null_count }
         ensures refused { IfErr result (λ e. (e ≡ OutOfMemory)
@@ -175,6 +179,8 @@ fn replace_both(
         ≡ Some (exact_bound (cell_of_ref value.entry))) }
     ensures upper { OnOk result (option_map known_bound upper.new
         ≡ Some (exact_bound (cell_of_ref value.entry))) }
+    ensures valid { OnOk result (IsValidRef value.entry
+        → IsValidBound lower.new × IsValidBound upper.new) }
     ensures refused { IfErr result (λ e. (e ≡ OutOfMemory)
         × ¬ (IsFlatValue (ref_type value.entry) (ref_raw value.entry))) }
     ensures lower_stays { OnErr result (lower.new ≡ lower.old) }
@@ -201,6 +207,7 @@ fn replace(
 ) -> Result<(), StatisticsError>
     ensures made { OnOk result (option_map known_bound bound.new
         ≡ Some (exact_bound (cell_of_ref value.entry))) }
+    ensures valid { OnOk result (IsValidRef value.entry → IsValidBound bound.new) }
     ensures refused { IfErr result (λ e. (e ≡ OutOfMemory)
         × ¬ (IsFlatValue (ref_type value.entry) (ref_raw value.entry))) }
     ensures unchanged { OnErr result (bound.new ≡ bound.old) }
@@ -210,9 +217,11 @@ fn replace(
 }
 
 /// A copy of a value, as a bound.
+#[tactic(auto, using(crate::proofs::ValidLaws::copies))]
 fn copied(alloc: Global, value: ScalarRef<'_>) -> Result<Bound, StatisticsError>
     ensures made { IfOk result (λ bound. known_bound bound
         ≡ exact_bound (cell_of_ref value.entry)) }
+    ensures valid { IfOk result (λ bound. IsValidRef value.entry → IsValid bound.value) }
     ensures refused { IfErr result (λ e. (e ≡ OutOfMemory)
         × ¬ (IsFlatValue (ref_type value.entry) (ref_raw value.entry))) }
 {
@@ -232,8 +241,9 @@ fn copied(alloc: Global, value: ScalarRef<'_>) -> Result<Bound, StatisticsError>
 #[inline(always)]
 fn change_in_place(bound: &mut Option<Bound>, change: Change)
     requires { replaces change ≡ false }
-    ensures { (x : Cell) → option_map known_bound bound.new
+    ensures changed { (x : Cell) → option_map known_bound bound.new
         ≡ after change (option_map known_bound bound.old) x }
+    ensures valid { IsValidBound bound.old → IsValidBound bound.new }
 {
     match change {
         Change::Keep => {}

@@ -2,7 +2,7 @@
 
 ghost use Rattle.std.specs.Prelude.{◌≡◌, ◌⊎◌, ◌&&◌, List, false, not, IfErr, IfOk};
 ghost use Rattle.vortex_cells.specs.Cells.{Cell};
-ghost use Rattle.vortex_statistics.specs.Words.{AreRight, AreTruncated, HasShortBounds, IsBestAnswer, IsCutAt, IsLong, IsLongRaw, IsOutOfMemoryAt, IsTruncated, IsTruncatedLower, IsTruncatedUpper, IsTypeOfKind, MayHold, is_absent, kind_of, known, scalar_raw, scalar_type};
+ghost use Rattle.vortex_statistics.specs.Words.{AreRight, AreTruncated, HasShortBounds, HasValidBounds, IsBestAnswer, IsCutAt, IsLong, IsLongRaw, IsOutOfMemoryAt, IsTruncated, IsTruncatedLower, IsTruncatedUpper, IsTypeOfKind, MayHold, is_absent, kind_of, known, scalar_raw, scalar_type};
 
 use crate::column_statistics::{Bound, ColumnStatistics};
 use crate::error::StatisticsError;
@@ -25,6 +25,7 @@ impl ColumnStatistics {
         ensures right { IfOk result (λ t. (cells : List Cell)
             → AreRight (known self) cells → AreRight (known t) cells) }
         ensures short { IfOk result (HasShortBounds n) }
+        ensures valid { IfOk result (λ t. HasValidBounds self → HasValidBounds t) }
         ensures refused { IfErr result
             (IsOutOfMemoryAt n (IsLong n self.lower ⊎ IsLong n self.upper)) }
     {

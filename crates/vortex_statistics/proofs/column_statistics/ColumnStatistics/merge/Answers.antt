@@ -29,3 +29,9 @@ returns-clause-complete c =
     let same : merged (known c.args.self) (known c.args.other) ≡ known made = search rules in
     let fits : c.args.self.row_count + c.args.other.row_count < 2 ^ 64 = search rules in
     subst P same (merged_complete c.order_is_reversed.ensures.contents c.order_is_transitive.ensures.contents (known c.args.self) (known c.args.other) fits)
+
+pub returns-clause-valid : goal.returns-clause-valid
+returns-clause-valid c = λ one other. record {
+  lower = c.merge_bounds.ensures.valid one.lower other.lower;
+  upper = c.merge_bounds-2.ensures.valid one.upper other.upper;
+}

@@ -1,8 +1,10 @@
 use Rattle.std.proofs.Common.{◌≡◌, ◌+◌, ◌≤◌, ◌^◌, List, [], ◌∷◌, length, fold, map, refl, sym, ap, subst, ◌∙◌, arith}
+use Rattle.std.specs.List.{All}
+use Rattle.std.proofs.lemmas.List.Elements.{All-head, All-tail}
 use Rattle.std.proofs.lemmas.List.Sums.{sum_by-cons}
 use Rattle.std.proofs.lemmas.Result.{err_from_is_err_and}
 use Rattle.vortex_statistics.specs.Merging.{AreRightForAll, merged, nothing, rows_of}
-use Rattle.vortex_statistics.specs.Statistics.{Known, known}
+use Rattle.vortex_statistics.specs.Statistics.{HasValidBounds, Known, known}
 use Rattle.vortex_statistics.specs.declared.column_statistics.ColumnStatistics.{ColumnStatistics}
 use Rattle.vortex_statistics.specs.declared.error.StatisticsError.TheVariants.{TooManyRows}
 use Rattle.vortex_statistics.proofs.MergeLaws.{all_right}
@@ -25,6 +27,7 @@ loop-piece-init c =
       merged = ap (λ s. fold merged s (map known c.into_iter-piece-iterator.result.rest.items)) first ∙ ap (λ xs. fold merged nothing (map known xs)) items;
       rows = omega (arith, none, all);
       fits = omega (arith, none);
+      valid = λ all. (subst HasValidBounds (sym c.empty-total.ensures.value) (record { lower = tt; upper = tt }), subst (All HasValidBounds) (sym items) all);
     }
 
 pub loop-piece-preserved : goal.loop-piece-preserved
@@ -37,6 +40,10 @@ loop-piece-preserved c =
       merged = ap (λ s. fold merged s (map known c.next.new.self.rest.items)) value ∙ ap (λ xs. fold merged (known c.loop-piece.total) (map known xs)) (sym items) ∙ c.loop-piece.invariant.merged;
       rows = omega (arith, counted, left, c.loop-piece.invariant.rows);
       fits = omega (arith, counted, c.in_ok-total.ensures.fits);
+      valid = λ all.
+          let before = c.loop-piece.invariant.valid all in
+          let next : All HasValidBounds (c.in-Some.piece ∷ c.next.new.self.rest.items) = subst (All HasValidBounds) items before.1 in
+          (c.in_ok-total.ensures.valid before.0 (All-head HasValidBounds c.in-Some.piece c.next.new.self.rest.items next), All-tail HasValidBounds c.in-Some.piece c.next.new.self.rest.items next);
     }
 
 pub returns-clause-value : goal.returns-clause-value
@@ -62,3 +69,6 @@ returns-in_err-total-clause-refused c =
     let all : 2 ^ 64 ≤ rows_of c.args.pieces.items = omega (arith, left, many, c.loop-piece.invariant.rows) in
     let why : (c.in_err-total.field-0.0 ≡ TooManyRows) × (2 ^ 64 ≤ rows_of c.args.pieces.items) = (c.in_err-total.ensures.refused.0, all) in
     let p = err_from_is_err_and c.from_residual.result c.from_residual.ensures.1 in rw (p.1, p.2) why
+
+pub returns-clause-valid : goal.returns-clause-valid
+returns-clause-valid c = λ all. (c.loop-piece.invariant.valid all).0

@@ -64,3 +64,10 @@ returns-clause-complete c = λ cells h.
     let fits : c.args.self.now.row_count + 1 < 2 ^ 64 = search rules in
     subst P (sym (returns-clause-value c))
     (observed_complete c.order_is_reversed.ensures.contents c.order_is_transitive.ensures.contents (known c.args.self.now) cells (cell_of_ref c.args.value) fits h)
+
+pub returns-then-is_null-clause-valid : goal.returns-then-is_null-clause-valid
+returns-then-is_null-clause-valid c = λ _ h. record { lower = h.lower; upper = h.upper }
+
+pub returns-clause-valid : goal.returns-clause-valid
+returns-clause-valid c = λ valid h.
+    let now = c.in_ok-change_bounds.ensures.valid valid h in record { lower = now.lower; upper = now.upper }
