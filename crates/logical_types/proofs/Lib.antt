@@ -1,0 +1,4 @@
+mod DateWords
+mod DecimalsBack
+mod DecimalsExact
+mod FloatWords

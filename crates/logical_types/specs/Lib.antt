@@ -1,0 +1,4 @@
+pub mod Days
+pub mod DecimalWorth
+pub mod Decimals
+pub mod Floats
