@@ -2,3 +2,4 @@ mod DateWords
 mod DecimalsBack
 mod DecimalsExact
 mod FloatWords
+mod TimestampWords

@@ -2,3 +2,4 @@ pub mod Days
 pub mod DecimalWorth
 pub mod Decimals
 pub mod Floats
+pub mod Times
