@@ -2,4 +2,5 @@ mod DateWords
 mod DecimalsBack
 mod DecimalsExact
 mod FloatWords
+mod OneValue
 mod TimestampWords

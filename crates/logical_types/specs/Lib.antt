@@ -3,3 +3,4 @@ pub mod DecimalWorth
 pub mod Decimals
 pub mod Floats
 pub mod Times
+pub mod Words

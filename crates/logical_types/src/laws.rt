@@ -4,9 +4,9 @@
 ghost use Rattle.std.specs.Prelude.{◌≡◌, ◌<◌, ℕ, ℤ, List, Some, unsigned_abs};
 ghost use Rattle.logical_types.specs.DecimalWorth.{IsWorth};
 ghost use Rattle.logical_types.specs.Decimals.{decimal_text, decimal_value};
-ghost use Rattle.logical_types.specs.Times.{IsTimestampWord};
+ghost use Rattle.logical_types.specs.Words.{Writes};
 
-use crate::times::TimeUnit;
+use crate::logical::LogicalType;
 
 /// What is written of a number is read as that number.
 pub fn decimals_read_back(limit: u64, scale: u8, number: i64)
@@ -22,11 +22,9 @@ pub fn decimals_are_exact(limit: u64, scale: u8)
     let _ = scale;
 }
 
-/// A word is of one timestamp: so what is written is read as the same.
-pub fn a_word_is_of_one_timestamp(unit: TimeUnit, is_zoned: bool)
-    ensures { (word : List ℕ) (y z : ℤ) → IsTimestampWord unit is_zoned word y
-        → IsTimestampWord unit is_zoned word z → y ≡ z }
+/// A word writes one value of a type: so what is written is read as the same.
+pub fn a_word_is_of_one_value(logical: LogicalType)
+    ensures { (word : List ℕ) (y z : ℤ) → Writes logical word y → Writes logical word z → y ≡ z }
 {
-    let _ = unit;
-    let _ = is_zoned;
+    let _ = logical;
 }
