@@ -36,6 +36,7 @@ abbrev pub sized_text : ℕ → List ℕ → ℕ → List ℕ
 sized_text zero point n = decimal n ++ point
 sized_text (suc places) point n = sized_text places point (n / 10) ++ (48 + n % 10) ∷ []
 
+-- the point, if the scale has a place behind it
 abbrev pub point_text : ℕ → List ℕ
 point_text scale = if scale == 0 then [] else 46 ∷ []
 

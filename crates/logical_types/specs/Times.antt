@@ -30,10 +30,12 @@ moment_at false p t None None = Some (parts_nanos p.date t)
 moment_at true p t (Some offset) None = Some (parts_nanos p.date t -ℤ nanos_of_seconds (piece_seconds offset))
 moment_at _ _ _ _ _ = None
 
+-- the same of pieces whose time may be missing
 abbrev pub moment_of_time : Bool → PiecesParts → Option TimeParts → Option ℤ
 moment_of_time is_zoned p None = None
 moment_of_time is_zoned p (Some t) = moment_at is_zoned p t p.offset p.zone
 
+-- the same of what the kit reads
 abbrev pub moment_of_pieces : Bool → Result PiecesParts Error → Option ℤ
 moment_of_pieces is_zoned (Err e) = None
 moment_of_pieces is_zoned (Ok p) = moment_of_time is_zoned p p.time
