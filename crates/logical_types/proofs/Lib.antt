@@ -1,0 +1,6 @@
+mod DateWords
+mod DecimalsBack
+mod DecimalsExact
+mod FloatWords
+mod OneValue
+mod TimestampWords

@@ -1,0 +1,5 @@
+use Rattle.logical_types.proofs.DecimalsExact.{exact}
+use Rattle.logical_types.proofs.laws.decimals_are_exact.Goals as goal
+
+pub returns : goal.returns
+returns c = exact c.args.limit c.args.scale

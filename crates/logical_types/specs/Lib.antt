@@ -1,0 +1,6 @@
+pub mod Days
+pub mod DecimalWorth
+pub mod Decimals
+pub mod Floats
+pub mod Times
+pub mod Words
