@@ -5,7 +5,7 @@
 A column is what has Arrow data (`__arrow_c_array__` or `__arrow_c_stream__`, as pyarrow, polars, DuckDB and pandas have), a
 buffer of integers (as a numpy array is), or a list. Arrow data and buffers are read where they lie.
 
-Statistics of a column are its counts of rows and nulls, and bounds. Those of parts give those of the whole, in any order:
+Statistics of a column are its counts of rows and nulls, and bounds. Those of parts give those of the whole, in any grouping:
 
 >>> first, second = statistics(["Bergen", "Moss"]), statistics(["Oslo", None])
 >>> first | second

@@ -30,7 +30,7 @@ impl std::error::Error for StatisticsError {}
 
 /// How many rows a column has, how many are null, and bounds of the others.
 ///
-/// A bound that is exact is a value of the column; else it is only a bound. Statistics of parts, merged in any order, are
+/// A bound that is exact is a value of the column; else it is only a bound. Statistics of parts, merged in any grouping, are
 /// those of the whole.
 ///
 /// ```

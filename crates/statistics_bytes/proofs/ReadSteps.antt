@@ -7,7 +7,8 @@ use Rattle.std.proofs.lemmas.Bool.{false≢true}
 use Rattle.std.proofs.lemmas.List.{append_assoc, drop_at, drop_more, length-drop}
 use Rattle.vortex_dtype.specs.TypeTree.{TypeTree}
 use Rattle.vortex_value.specs.TypesWithin.{HasNoVariant, UnionsHaveVariants}
-use Rattle.vortex_value.specs.Values.Scalars.{scalar_content, scalar_raw}
+use Rattle.vortex_value.specs.Validity.{Valid}
+use Rattle.vortex_value.specs.Values.Scalars.{IsValid, scalar_content, scalar_raw}
 use Rattle.vortex_value.specs.declared.scalars.Scalar.{Scalar}
 use Rattle.vortex_row.specs.Decoded.{IsDecoded, IsFirstBad, IsKeyOf}
 use Rattle.vortex_row.specs.Held.{AreBytes}
@@ -63,6 +64,10 @@ weaker Is has less bytes p f h = record { within = h.within; before = λ v. h.be
 pub ruleset states = (state-there)
 
 -- ---- one bound
+
+-- the scalar of a key is valid
+pub key_valid : (o : SortOptions) (t : TypeTree) (bytes : List ℕ) (x : Scalar) (n : ℕ) → IsDecoded o t bytes x n → IsValid x
+key_valid o t bytes x n h = subst (λ u. Valid u (scalar_raw x)) (sym h.typed) h.begins.value.valid
 
 -- the key of a bound was read
 pub key_read : (o : SortOptions) (t : TypeTree) (exact : Bool) (x : Scalar) (bytes : List ℕ) (place n : ℕ) → o ≡ ascending → HasNoVariant t → place ≤ length bytes → IsDecoded o t (drop place bytes) x n

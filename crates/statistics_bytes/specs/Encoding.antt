@@ -106,3 +106,7 @@ IsUntypedBound b = IfSome b (λ b. HasNoTyped b.value.content)
 -- the bounds of one.
 abbrev pub EncodingsAreApart : Type 0
 EncodingsAreApart = (s t : Known) (xs ys : List ℕ) → IsHeldKnown s → IsHeldKnown t → IsUntypedBound s.lower → IsUntypedBound s.upper → encoding s ++ xs ≡ encoding t ++ ys → SaySame s t × (xs ≡ ys)
+
+-- two statistics of one type that have one encoding are the same
+abbrev pub EncodingsTellStatistics : Type 0
+EncodingsTellStatistics = (t : TypeTree) (s u : Known) → AreOf t s → AreOf t u → encoding s ≡ encoding u → s ≡ u

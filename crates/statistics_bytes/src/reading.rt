@@ -2,7 +2,7 @@
 
 ghost use Rattle.std.specs.Prelude.{◌≡◌, ◌≢◌, ◌++◌, ◌∷◌, ◌+◌, ◌<◌, ◌≤◌, ◌^◌, ◌↔◌, ◌⊎◌, ℕ, List, [], Err, IfErr, IfOk, MatchOption, OnOk, Some, drop, length, option_map, true};
 ghost use Rattle.vortex_statistics.specs.Statistics.{Known};
-ghost use Rattle.statistics_bytes.specs.Words.{AreBoundKeys, AreBoundsRead, AreOf, BadBytes, HasNoVariant, HasValues, HasVariant, IsBadBound, IsBadEncoding, IsBoundKey, IsBoundRead, IsBoundReadAt, IsCountsRead, IsFirstWrong, IsEncodingOf, IsRefusal, IsWrongStart, OutOfMemory, ReadsAs, ReadsInto, ReadsRight, SaysBound, UnionsHaveVariants, count_bytes, counts_length, flags_byte, encoding, has_bound, is_there, known, known_bound, state_at, type_of};
+ghost use Rattle.statistics_bytes.specs.Words.{AreBoundKeys, AreBoundsRead, AreOf, BadBytes, HasNoVariant, HasValidBounds, HasValues, HasVariant, IsBadBound, IsBadEncoding, IsBoundKey, IsBoundRead, IsBoundReadAt, IsCountsRead, IsFirstWrong, IsEncodingOf, IsRefusal, IsValid, IsValidBound, IsWrongStart, OutOfMemory, ReadsAs, ReadsInto, ReadsRight, SaysBound, UnionsHaveVariants, count_bytes, counts_length, flags_byte, encoding, has_bound, is_there, known, known_bound, state_at, type_of};
 
 use crate::flags::{BoundState, Flags, flags_from};
 use crate::writing::{VERSION, ascending, expect_keys};
@@ -29,6 +29,7 @@ pub fn decode_statistics(
 ) -> Result<ColumnStatistics, StatisticsError>
     ensures read { IfOk result (λ s. AreOf (type_of dtype.now) (known s)
         × (bytes.now ≡ encoding (known s))) }
+    ensures valid { IfOk result HasValidBounds }
     ensures whole { (s : Known) → AreOf (type_of dtype.now) s → bytes.now ≡ encoding s
         → ReadsAs s result }
     ensures right { IfOk result
@@ -65,6 +66,7 @@ pub fn decode_statistics_into(
 ) -> Result<(), StatisticsError>
     ensures read { OnOk result (AreOf (type_of dtype.now) (known statistics.new)
         × (bytes.now ≡ encoding (known statistics.new))) }
+    ensures valid { OnOk result (HasValidBounds statistics.new) }
     ensures whole { (s : Known) → AreOf (type_of dtype.now) s → bytes.now ≡ encoding s
         → ReadsInto s (known statistics.new) result }
     ensures right { OnOk result
@@ -92,6 +94,7 @@ fn read_encoding(
 ) -> Result<(), StatisticsError>
     ensures read { OnOk result (AreOf (type_of dtype.now) (known statistics.new)
         × (bytes.now ≡ encoding (known statistics.new))) }
+    ensures valid { OnOk result (HasValidBounds statistics.new) }
     ensures refused { IfErr result (IsBadEncoding (type_of dtype.now) bytes.now) }
     ensures ordered { result ≢ Err HasVariant → SaysBound bytes.now
         → HasNoVariant (type_of dtype.now) }
@@ -218,6 +221,7 @@ fn read_bounds(
     ensures read { OnOk result (AreBoundsRead (type_of dtype.now) flags
         (option_map known_bound lower.new) (option_map known_bound upper.new)
         (drop place bytes.now)) }
+    ensures valid { OnOk result (IsValidBound lower.new × IsValidBound upper.new) }
     ensures refused { IfErr result (IsRefusal
         (AreBoundKeys (type_of dtype.now) flags.lower flags.upper) (has_bound flags ≡ true)
         (has_bound flags ≡ true → UnionsHaveVariants (type_of dtype.now))
@@ -243,6 +247,7 @@ fn read_last_bound(
     requires ordered { is_there state ≡ true → HasNoVariant (type_of dtype.now) }
     ensures read { OnOk result (IsBoundRead (type_of dtype.now) state
         (option_map known_bound bound.new) (drop place bytes.now) []) }
+    ensures valid { OnOk result (IsValidBound bound.new) }
     ensures refused { IfErr result (IsRefusal (IsBoundKey (type_of dtype.now) state) (is_there state ≡ true)
         (is_there state ≡ true → UnionsHaveVariants (type_of dtype.now))
         place (drop place bytes.now)) }
@@ -270,6 +275,7 @@ fn read_bound(
     requires ordered { is_there state ≡ true → HasNoVariant (type_of dtype.now) }
     ensures read { IfOk result (λ next. IsBoundReadAt (type_of dtype.now) state
         (option_map known_bound bound.new) bytes.now place next) }
+    ensures valid { OnOk result (IsValidBound bound.new) }
     ensures refused { IfErr result
         (IsBadBound (type_of dtype.now) state place (drop place bytes.now)) }
 {
@@ -311,6 +317,7 @@ fn read_there(
     requires ordered { HasNoVariant (type_of dtype.now) }
     ensures read { IfOk result (λ next. IsBoundReadAt (type_of dtype.now) (state_at is_exact)
         (option_map known_bound bound.new) bytes.now place next) }
+    ensures valid { OnOk result (IsValidBound bound.new) }
     ensures refused { IfErr result
         (IsBadBound (type_of dtype.now) (state_at is_exact) place (drop place bytes.now)) }
 {
@@ -334,6 +341,7 @@ fn read_first(
     requires ordered { HasNoVariant (type_of dtype.now) }
     ensures read { IfOk result (λ next. IsBoundReadAt (type_of dtype.now) (state_at is_exact)
         (option_map known_bound bound.new) bytes.now place next) }
+    ensures valid { OnOk result (IsValidBound bound.new) }
     ensures refused { IfErr result
         (IsBadBound (type_of dtype.now) (state_at is_exact) place (drop place bytes.now)) }
 {
@@ -363,6 +371,7 @@ fn read_value(
     requires ordered { HasNoVariant (type_of dtype.now) }
     ensures read { IfOk result (λ next. IsBoundReadAt (type_of dtype.now) (state_at is_exact)
         (Some (known_bound bound.new)) bytes.now place next) }
+    ensures valid { OnOk result (IsValid bound.new.value) }
     ensures refused { IfErr result
         (IsBadBound (type_of dtype.now) (state_at is_exact) place (drop place bytes.now)) }
 {
