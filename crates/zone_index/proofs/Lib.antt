@@ -10,5 +10,6 @@ pub mod ReadSteps
 pub mod Refusing
 pub mod Rests
 pub mod Sinking
+pub mod Sizing
 pub mod TakeMore
 pub mod WriteSteps

@@ -1,5 +1,5 @@
 -- Zones of the records of a file, and when an index is right.
-use Rattle.std.specs.Prelude.{◌≡◌, ◌≤◌, ◌+◌, ◌==◌, ℕ, List, [], ◌∷◌, Bool, true, false, not, Option, Some, drop, length, take, count_by, Contains, if◌then◌else◌}
+use Rattle.std.specs.Prelude.{◌≡◌, ◌<◌, ◌≤◌, ◌+◌, ◌==◌, ℕ, List, [], ◌∷◌, Bool, true, false, not, Option, Some, drop, length, take, count_by, Contains, if◌then◌else◌}
 use Rattle.std.specs.List.{All, AllPass, flat_map}
 use Rattle.csv_records.specs.Records.{records_of}
 use Rattle.zone_index.specs.Records.{kept_of}
@@ -45,6 +45,12 @@ pub record IsIndexOf (delimiter : ℕ) (has_row : List ℕ → Bool) (Describes 
   pub follow : Follow start zones (length bytes)
   pub records : records_of delimiter (drop start bytes) ≡ flat_map (zone_records delimiter bytes) zones
   pub right : All (IsZoneOf delimiter has_row Describes bytes) zones
+
+-- each zone but the last has so many records; the last one has some, and no more
+abbrev pub HaveSizes : ℕ → List Zone → Type 0
+HaveSizes size [] = Unit {0}
+HaveSizes size (z ∷ []) = (0 < z.records) × (z.records ≤ size)
+HaveSizes size (z ∷ y ∷ zones) = (z.records ≡ size) × HaveSizes size (y ∷ zones)
 
 -- as far as both go they are the same: a file that was cut since, or that grew
 abbrev pub Agree : List ℕ → List ℕ → Type 0

@@ -3,7 +3,7 @@
 ghost use Rattle.std.specs.Prelude.{◌≡◌, ◌≢◌, ◌<◌, ◌++◌, ℕ, List, Some, IfErr, IfOk, length};
 ghost use Rattle.csv_records.specs.Records.{records_of};
 ghost use Rattle.zone_index.specs.Errors.{EndsFar, IfRefused, IsOfRecord, TellsOneOf};
-ghost use Rattle.zone_index.specs.Zones.{IsIndexOf, IsZoneOfText};
+ghost use Rattle.zone_index.specs.Zones.{HaveSizes, IsIndexOf, IsZoneOfText};
 ghost use Rattle.zone_index.specs.declared.errors.SearchError.TheVariants.{CutShort, TooFar, Write as FailedWrite};
 
 use crate::errors::SearchError;
@@ -37,6 +37,8 @@ pub fn index_records<B: BufRead, D: Describer>(
         → B.remaining reader.old ≡ Some bytes
         → IsIndexOf (D.delimiter describer.now) (D.has_row describer.now) (D.Describes describer.now)
         start indexed.zones.items (before ++ bytes)) }
+    ensures sizes { IfOk result (λ indexed. (bytes : List ℕ) → B.remaining reader.old ≡ Some bytes
+        → HaveSizes size indexed.zones.items) }
     ensures reading { IfErr result (λ fault. fault ≢ FailedWrite) }
     ensures uncut { IfErr result (λ fault. fault ≢ CutShort) }
     ensures far { IfErr result (λ fault. fault ≡ TooFar → EndsFar start (B.remaining reader.old)) }
