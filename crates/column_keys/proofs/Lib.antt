@@ -9,6 +9,7 @@ mod ReadSteps
 mod RowLaws
 mod RowSteps
 mod StringSteps
+mod TableLaws
 mod TableSteps
 mod TypeSteps
 mod ValueSteps
