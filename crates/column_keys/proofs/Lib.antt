@@ -4,6 +4,7 @@ mod CellSteps
 mod ColumnSteps
 pub mod GivenSteps
 mod LawSteps
+mod NullSteps
 mod NumberSteps
 mod ReadSteps
 mod RowLaws
