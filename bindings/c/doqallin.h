@@ -70,7 +70,8 @@ enum { DOQALLIN_BOOL = 8, DOQALLIN_UTF8, DOQALLIN_LARGE_UTF8, DOQALLIN_BINARY, D
 
 /* A column as the Arrow C data interface lays it out: rows offset to offset + length of its buffers. `validity` has a bit for
  * each row, 0 where it is null, or no byte if none is. `values` are the integers, bits, or the bytes of all rows. `offsets` are
- * of strings and bytes alone. A column without rows may have no bytes in a buffer. Buffers may have any alignment. */
+ * of strings and bytes alone. A column without rows may have no bytes in a buffer, if its offset is 0.
+ * Buffers may have any alignment. */
 struct doqallin_column {
     uint8_t kind;
     const uint8_t *validity;
@@ -177,7 +178,8 @@ uint32_t doqallin_column_bounds_text(const uint8_t *bytes, size_t bytes_length, 
 
 /* The keys of the rows of some columns (docs/KEYS.md): bytes that compare as the rows do, column by column. The key of row k is
  * the bytes of the buffer from offsets_buffer[k] to offsets_buffer[k + 1]. A column has a byte of options: 1 for greater values
- * first, 2 for nulls first, or the sum. Of several mistakes the first column's is told, and nothing of the buffer is written.
+ * first, 2 for nulls first, or the sum. Of several mistakes the first column's is told, if there are as many options as columns.
+ * Then nothing of the buffers is written.
  * GIVEN: the keys have the first *count bytes of the buffer; those after it are as they were.
  * BUFFER_TOO_SMALL: *count, which is all that is written, is how many bytes the keys have: above buffer_length, or
  * offsets_buffer lacks one for each row and one more. A call without a buffer asks for it.

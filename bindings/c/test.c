@@ -263,6 +263,9 @@ static void row_keys(void) {
     CHECK(doqallin_row_keys(two, 2, BYTES("\0\1"), starts, 3, buffer, BUFFER, &count, &fault) == DOQALLIN_UNKNOWN_KIND && at_fault(0, 0));
     CHECK(no_keys(starts));
     CHECK(doqallin_row_keys(two, 0, BYTES(""), starts, 3, buffer, BUFFER, &count, &fault) == DOQALLIN_GIVEN && count == 0 && starts[0] == 0);
+    // Nulls need no memory, and are not counted one by one.
+    two[0] = (struct doqallin_column){DOQALLIN_NULL, valid, 0, numbers, 0, ends, 0, 0, SIZE_MAX};
+    CHECK(doqallin_row_keys(two, 1, BYTES("\2"), starts, 3, buffer, BUFFER, &count, &fault) == DOQALLIN_BUFFER_TOO_SMALL && count == SIZE_MAX);
 }
 
 // The column `which` of keys of these kinds, into buffers of `values` and `starts` bytes and offsets; and that nothing but an error is

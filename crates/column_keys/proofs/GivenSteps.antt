@@ -24,7 +24,7 @@ use Rattle.column_keys.specs.declared.keys.RowKeys.{RowKeys}
 
 -- ---- the types are plain
 
-plain-kind : (o : Option Kind) → HasNoVariant (type_at o)
+pub plain-kind : (o : Option Kind) → HasNoVariant (type_at o)
 plain-kind None = tt
 plain-kind (Some (Integer kind)) = tt
 plain-kind (Some Boolean) = tt

@@ -4,11 +4,13 @@ mod CellSteps
 mod ColumnSteps
 pub mod GivenSteps
 mod LawSteps
+mod NullSteps
 mod NumberSteps
 mod ReadSteps
 mod RowLaws
 mod RowSteps
 mod StringSteps
+mod TableLaws
 mod TableSteps
 mod TypeSteps
 mod ValueSteps

@@ -8,7 +8,7 @@ pub use Rattle.column_keys.specs.Answers.{IsColumnOfKeys, IsRefusal, offsets_len
 pub use Rattle.column_keys.specs.Cells.{AreCells, AreCellsOf, AreTyped, HasCell, IsPlaced, count_in, key_at, key_count, type_in, types_in}
 pub use Rattle.column_keys.specs.Errors.{IsRowReadError, Refuses, RefusesKeys}
 pub use Rattle.column_keys.specs.Keys.{AreRowKeys, column_length, key_of_row, keys_length, row_of}
-pub use Rattle.column_keys.specs.Laws.{ColumnsComeBack}
+pub use Rattle.column_keys.specs.Laws.{ColumnsComeBack, TablesComeBack}
 pub use Rattle.column_keys.specs.Layout.{AreBits, AreIntegers, AreStrings, IsColumnOf, bytes_in, bytes_length, contents_written, fixed_length, is_present, number_in, offsets_length, truth_in, values_length}
 pub use Rattle.column_keys.specs.Tables.{AreReadFrom, AreSoundBefore, HasRow, HaveRows, IsErrorAt, IsReadFrom, IsTableError, contents_in, options_in, options_of, table_of}
 pub use Rattle.arrow_columns.specs.Columns.{rows_in}
