@@ -12,6 +12,7 @@ mod guessing;
 mod indexing;
 mod loading;
 mod locating;
+mod names;
 mod preparing;
 mod program_errors;
 mod searching;
