@@ -9,6 +9,7 @@ mod commands;
 mod files;
 mod grown;
 mod guessing;
+mod index_files;
 mod indexing;
 mod loading;
 mod locating;
@@ -19,6 +20,7 @@ mod searching;
 mod setup;
 mod showing;
 mod streams;
+mod telling;
 mod watching;
 
 pub use commands::{Asked, asked_in};
