@@ -1,11 +1,12 @@
 //! What is wanted of the records that match is written or counted.
 
-use crate::files::from_place;
+use crate::files::{at_place, buffered};
 use crate::loading::Sought;
+use crate::watching::Watched;
 use record_search::{RowFilter, count_rows, find_rows};
 use std::alloc::Global;
 use std::fs::File;
-use std::io::BufRead;
+use std::io::{BufRead, BufReader};
 use zone_index::{
     Index, Logged, Position, SearchError, Sink, Tally, count_rest, find_rest, number_after,
 };
@@ -20,6 +21,22 @@ pub struct Found {
     pub tally: Option<Tally>,
     /// How many rows match, as far as 64 bits count.
     pub rows: u64,
+    /// How many bytes were read of what is new, as far as 64 bits count.
+    pub new_bytes: u64,
+}
+
+/// What was found in bytes that are new.
+#[derive(Clone, Copy)]
+struct FoundNew {
+    /// How many rows match.
+    rows: u64,
+    /// How many bytes were read.
+    bytes: u64,
+}
+
+impl FoundNew {
+    /// What is found where nothing is new.
+    const NOTHING: FoundNew = FoundNew { rows: 0, bytes: 0 };
 }
 
 /// The first record that is a row, if so many bytes of a header stand before it.
@@ -50,24 +67,33 @@ pub fn find_indexed<S: Sink>(
         reader,
         sink,
     )?;
-    let more = match rest {
+    let new = match rest {
         Some(place) => {
             let number = number_after(first, &index.zones);
-            let mut file = from_place(alloc, &reader.reader, place)?;
-            find_stream(
-                alloc,
-                Position { place, number },
-                &sought.matcher(),
-                &mut file,
-                sink,
-            )?
+            let mut file = watched_from(alloc, &reader.reader, place)?;
+            let start = Position { place, number };
+            let rows = find_stream(alloc, start, &sought.matcher(), &mut file, sink)?;
+            FoundNew {
+                rows,
+                bytes: file.get_ref().count,
+            }
         }
-        None => 0,
+        None => FoundNew::NOTHING,
     };
     Ok(Found {
         tally: Some(tally),
-        rows: tally.found.saturating_add(more),
+        rows: tally.found.saturating_add(new.rows),
+        new_bytes: new.bytes,
     })
+}
+
+/// A file from this offset on, through a buffer, with its bytes counted.
+fn watched_from<'a>(
+    alloc: Global,
+    file: &'a File,
+    place: u64,
+) -> Result<BufReader<Watched<&'a File>>, SearchError> {
+    Ok(buffered(alloc, Watched::silent(at_place(file, place)?))?)
 }
 
 /// Counts the records that match: those of the zones of an index, and those of the file from an
@@ -80,16 +106,21 @@ pub fn count_indexed(
     reader: &mut Logged<File>,
 ) -> Result<Found, SearchError> {
     let rows = count_rows(alloc, &sought.schema, &sought.filter, &index.zones, reader)?;
-    let more = match rest {
+    let new = match rest {
         Some(place) => {
-            let mut file = from_place(alloc, &reader.reader, place)?;
-            count_stream(alloc, place, &sought.matcher(), &mut file)?
+            let mut file = watched_from(alloc, &reader.reader, place)?;
+            let rows = count_stream(alloc, place, &sought.matcher(), &mut file)?;
+            FoundNew {
+                rows,
+                bytes: file.get_ref().count,
+            }
         }
-        None => 0,
+        None => FoundNew::NOTHING,
     };
     Ok(Found {
         tally: None,
-        rows: rows.saturating_add(more),
+        rows: rows.saturating_add(new.rows),
+        new_bytes: new.bytes,
     })
 }
 

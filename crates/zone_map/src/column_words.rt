@@ -1,5 +1,6 @@
 //! Columns: their names and kinds, as words and as a text.
 
+use crate::names::is_name;
 use crate::program_errors::ProgramError;
 use record_rows::{ColumnType, Kind};
 use std::alloc::{AllocError, Global};
@@ -65,7 +66,7 @@ fn add_column(
 ) -> Result<(), ProgramError> {
     match column_in(alloc, text)? {
         Some(column) => {
-            if stands_in(columns, &column.name) {
+            if columns.iter().any(|other| other.name == column.name) {
                 return Err(two_columns_fault(alloc, &column.name));
             }
             columns.push(column)?;
@@ -73,11 +74,6 @@ fn add_column(
         }
         None => Err(columns_fault(alloc, text)),
     }
-}
-
-/// Whether a column has this name.
-pub fn stands_in(columns: &[NamedColumn], name: &str) -> bool {
-    columns.iter().any(|column| column.name.as_str() == name)
 }
 
 /// The error of a text that is no column.
@@ -121,11 +117,6 @@ fn name_in(alloc: Global, text: &str) -> Result<Option<String>, AllocError> {
     } else {
         Ok(None)
     }
-}
-
-/// Whether a column may have this name.
-pub fn is_name(text: &str) -> bool {
-    !text.is_empty() && text.bytes().all(|byte| byte != b'\n')
 }
 
 /// The columns as a text that `columns_in` reads.

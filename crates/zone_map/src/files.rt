@@ -3,9 +3,12 @@
 use crate::program_errors::{FileError, ProgramError};
 use std::alloc::{AllocError, Global};
 use std::fs::{self, File, Metadata};
-use std::io::{self, BufReader, Read, Seek, SeekFrom, Write};
+use std::io::{self, BufReader, ErrorKind, Read, Seek, SeekFrom, Write};
 use std::time::UNIX_EPOCH;
 use zone_index::{Index, SearchError, WriteError, write_index};
+
+/// How many names are tried for a new file.
+const NAMES_TRIED: u32 = 1000;
 
 /// How long a file is, and when it was changed last.
 #[derive(Clone, Copy, PartialEq, Eq)]
@@ -18,12 +21,7 @@ pub struct Stamp {
 
 /// The name of the index of a file.
 pub fn index_name(alloc: Global, file: &str) -> Result<String, AllocError> {
-    with_ending(alloc, file, ".zones")
-}
-
-/// A name with this behind it.
-fn with_ending(alloc: Global, name: &str, ending: &str) -> Result<String, AllocError> {
-    format!(in alloc; "{name}{ending}")
+    format!(in alloc; "{file}.zones")
 }
 
 /// Opens a file.
@@ -101,21 +99,46 @@ pub fn save(
     }
 }
 
-/// Writes a file: first one of another name, which then takes this name.
+/// Writes a file of this name, whole or not at all.
 fn save_bytes(rt: &HostRuntime, name: &str, bytes: &[u8]) -> Result<(), ProgramError> {
-    let temporary = with_ending(rt.alloc(), name, ".new")?;
-    match save_as(rt, &temporary, name, bytes) {
+    match replace(rt, name, bytes) {
         Ok(()) => Ok(()),
-        Err(error) => {
-            let _ = fs::remove_file(rt, temporary.as_str());
-            Err(ProgramError::of_file(rt.alloc(), name, FileError::System(error)))
-        }
+        Err(error) => Err(ProgramError::of_file(rt.alloc(), name, FileError::System(error))),
     }
 }
 
-/// Writes and syncs a file, and then gives it its name.
-fn save_as(rt: &HostRuntime, temporary: &str, name: &str, bytes: &[u8]) -> io::Result<()> {
-    let mut output = File::create(rt, temporary)?;
+/// Writes a new file, which then takes this name. Where that fails, the new file is removed.
+fn replace(rt: &HostRuntime, name: &str, bytes: &[u8]) -> io::Result<()> {
+    let (temporary, output) = new_file(rt, name)?;
+    let done = write_as(rt, output, &temporary, name, bytes);
+    if done.is_err() {
+        let _ = fs::remove_file(rt, temporary.as_str());
+    }
+    done
+}
+
+/// A file that no one else has, beside one of this name, and its own name. Nothing that stands there
+/// is opened, a link neither.
+fn new_file(rt: &HostRuntime, name: &str) -> io::Result<(String, File)> {
+    for number in 1..=NAMES_TRIED {
+        let temporary = format!(in rt.alloc(); "{name}.new{number}")?;
+        match File::create_new(rt, temporary.as_str()) {
+            Ok(file) => return Ok((temporary, file)),
+            Err(error) if error.kind() == ErrorKind::AlreadyExists => {}
+            Err(error) => return Err(error),
+        }
+    }
+    Err(io::Error::from(ErrorKind::AlreadyExists))
+}
+
+/// Writes and syncs a new file, and then gives it its name.
+fn write_as(
+    rt: &HostRuntime,
+    mut output: File,
+    temporary: &str,
+    name: &str,
+    bytes: &[u8],
+) -> io::Result<()> {
     output.write_all(bytes)?;
     output.sync_all()?;
     fs::rename(rt, temporary, name)

@@ -1,12 +1,9 @@
 //! Files that grew since they were indexed.
 
-use crate::files::stamp_of;
-use crate::program_errors::{FileError, ProgramError};
-use csv_records::{RecordState, state_after_line};
-use record_search::{RowDescriber, Schema, index_rows};
+use csv_records::{Delimiter, RecordState, state_after_line};
+use record_search::{RowDescriber, index_rows};
 use std::alloc::Global;
-use std::fs::File;
-use zone_index::{Index, SearchError, Zone, fill_from};
+use zone_index::{Index, ReadAt, SearchError, Zone, fill_from};
 
 /// Where the last zone ends.
 pub fn end_of(start: u64, zones: &[Zone]) -> u64 {
@@ -16,37 +13,49 @@ pub fn end_of(start: u64, zones: &[Zone]) -> u64 {
     }
 }
 
-/// Where a file was indexed to that is said to have only grown.
+/// Where a file was indexed to that only grew, and that has so many bytes now.
 ///
-/// `Changed` if it is shorter now, if its last zone is another, or if the index ends inside of a
-/// record.
-pub fn grown_end(
-    rt: &HostRuntime,
-    name: &str,
+/// `None` if it is shorter now, if its last zone is another, or if the index ends inside of a record.
+pub fn grown_end<R: ReadAt>(
+    alloc: Global,
+    length: u64,
     index: &Index,
     describer: &RowDescriber<'_>,
-    file: &mut File,
-) -> Result<u64, ProgramError> {
-    let now = stamp_of(rt.alloc(), name, file)?;
+    reader: &mut R,
+) -> Result<Option<u64>, SearchError> {
     let end = end_of(index.start, &index.zones);
-    if now.length < end {
-        return Err(ProgramError::of_file(rt.alloc(), name, FileError::Changed));
+    if length < end {
+        return Ok(None);
     }
+    let text = last_part(alloc, index, reader)?;
     let is_same = match index.zones.last() {
-        Some(zone) => is_same_zone(rt.alloc(), describer, zone, file)?,
+        Some(zone) => is_same_zone(alloc, describer, zone, &text)?,
         None => true,
     };
-    if is_same && (now.length == end || ends_record(rt.alloc(), index, describer.schema, file)?) {
-        Ok(end)
+    if is_same && (length == end || ends_record(describer.schema.delimiter, &text)) {
+        Ok(Some(end))
     } else {
-        Err(ProgramError::of_file(rt.alloc(), name, FileError::Changed))
+        Ok(None)
     }
 }
 
-/// The bytes of a file from this offset on, so many.
-fn bytes_at(
+/// The bytes of the last zone, or of the header where there is no zone.
+fn last_part<R: ReadAt>(
     alloc: Global,
-    file: &mut File,
+    index: &Index,
+    reader: &mut R,
+) -> Result<Vec<u8>, SearchError> {
+    let (first, length) = match index.zones.last() {
+        Some(zone) => (zone.first, zone.length),
+        None => (0, index.start),
+    };
+    bytes_at(alloc, reader, first, length)
+}
+
+/// The bytes of a file from this place on, so many.
+fn bytes_at<R: ReadAt>(
+    alloc: Global,
+    reader: &mut R,
     first: u64,
     length: u64,
 ) -> Result<Vec<u8>, SearchError> {
@@ -54,20 +63,19 @@ fn bytes_at(
         return Err(SearchError::TooFar);
     }
     let mut text = vec![in alloc; 0u8; length as usize]?;
-    fill_from(file, first, &mut text)?;
+    fill_from(reader, first, &mut text)?;
     Ok(text)
 }
 
-/// Whether a zone has the records, rows and statistics that the index has of it.
+/// Whether a zone of this text has the records, rows and statistics that the index has of it.
 fn is_same_zone(
     alloc: Global,
     describer: &RowDescriber<'_>,
     zone: &Zone,
-    file: &mut File,
+    mut text: &[u8],
 ) -> Result<bool, SearchError> {
-    let text = bytes_at(alloc, file, zone.first, zone.length)?;
     let size = zone.records.max(1);
-    match index_rows(alloc, describer, size, zone.first, &mut text.as_slice()) {
+    match index_rows(alloc, describer, size, zone.first, &mut text) {
         Ok(indexed) => Ok(is_only_zone(&indexed.zones, zone)),
         Err(SearchError::Refused(_)) => Ok(false),
         Err(fault) => Err(fault),
@@ -86,18 +94,14 @@ fn is_only_zone(zones: &[Zone], zone: &Zone) -> bool {
     }
 }
 
-/// Whether a record may start where an index ends.
-fn ends_record(
-    alloc: Global,
-    index: &Index,
-    schema: &Schema,
-    file: &mut File,
-) -> Result<bool, SearchError> {
-    let (first, length) = match index.zones.last() {
-        Some(zone) => (zone.first, zone.length),
-        None => (0, index.start),
-    };
-    let text = bytes_at(alloc, file, first, length)?;
-    let state = state_after_line(schema.delimiter, RecordState::StartRecord, &text);
-    Ok(state == RecordState::StartRecord)
+/// Whether a record may start behind a text that begins where one does.
+fn ends_record(delimiter: Delimiter, text: &[u8]) -> bool {
+    match state_after_line(delimiter, RecordState::StartRecord, text) {
+        RecordState::StartRecord => true,
+        RecordState::AfterCr
+        | RecordState::StartField
+        | RecordState::InField
+        | RecordState::InQuoted
+        | RecordState::AfterQuote => false,
+    }
 }

@@ -1,6 +1,10 @@
 //! Columns are guessed from the first records.
 
-use crate::column_words::{NamedColumn, is_name, stands_in};
+ghost use Rattle.std.specs.Prelude.{◌<◌, IfOk, IsSome};
+ghost use Rattle.zone_map.specs.Guesses.{left_of};
+
+use crate::column_words::NamedColumn;
+use crate::names::names_for;
 use crate::setup::NO_DELIMITER;
 use csv_records::{Delimiter, Follows, cut_field, cut_record, row_start};
 use record_rows::{ColumnType, Kind};
@@ -11,7 +15,7 @@ use vortex_dtype::{Nullability, PType};
 /// What the words of a column are, as far as they were seen.
 #[derive(Clone, Copy)]
 struct Guess {
-    /// Whether there was one with a byte.
+    /// Whether there was one that is no null.
     is_seen: bool,
     /// Whether each is a number of an i64, written as such numbers are.
     fits_signed: bool,
@@ -27,12 +31,12 @@ impl Guess {
         fits_unsigned: true,
     };
 
-    /// What is known after one more word.
-    fn after(self, word: &[u8]) -> Guess {
-        if word.is_empty() {
+    /// What is known after one more field. One without a byte and without quotes is a null.
+    fn after(self, field: SeenField<'_>) -> Guess {
+        if field.word.is_empty() && !field.is_quoted {
             return self;
         }
-        let (is_signed, is_unsigned) = numbers_of(word);
+        let (is_signed, is_unsigned) = numbers_of(field.word);
         Guess {
             is_seen: true,
             fits_signed: self.fits_signed && is_signed,
@@ -72,6 +76,58 @@ fn numbers_of(word: &[u8]) -> (bool, bool) {
     }
 }
 
+/// A field that was seen.
+#[derive(Clone, Copy)]
+struct SeenField<'a> {
+    /// Its bytes.
+    word: &'a [u8],
+    /// Whether it began with a quote.
+    is_quoted: bool,
+}
+
+/// The fields of a record, one after another.
+#[derive(Clone, Copy)]
+struct Fields<'a> {
+    /// The byte between two of them.
+    delimiter: Delimiter,
+    /// What follows those that were read.
+    follows: Follows<'a>,
+}
+
+impl<'a> Fields<'a> {
+    /// Those of this record; none where it has no row, as an empty line.
+    fn of(delimiter: Delimiter, line: &'a [u8]) -> Fields<'a> {
+        let row = row_start(line);
+        let follows = if row.is_empty() {
+            Follows::Nothing
+        } else {
+            Follows::Another(row)
+        };
+        Fields { delimiter, follows }
+    }
+
+    /// The next field, if there is one. The buffer takes the bytes of one in quotes.
+    fn next_field<'b>(
+        &mut self,
+        buffer: &'b mut Vec<u8>,
+    ) -> Result<Option<SeenField<'b>>, AllocError>
+    where
+        'a: 'b,
+        ensures { IfOk result (λ field. IsSome field
+            → left_of self.new.follows < left_of self.old.follows) }
+    {
+        let Follows::Another(rest) = self.follows else {
+            return Ok(None);
+        };
+        let cut = cut_field(self.delimiter, rest, buffer)?;
+        self.follows = cut.follows;
+        Ok(Some(SeenField {
+            word: if cut.is_quoted { buffer } else { cut.bare },
+            is_quoted: cut.is_quoted,
+        }))
+    }
+}
+
 /// The columns of records: named by the header, if it has names, and with kinds that fit these
 /// records. All take nulls.
 pub fn guess_columns(
@@ -81,13 +137,12 @@ pub fn guess_columns(
     records: &[u8],
 ) -> Result<Vec<NamedColumn>, AllocError> {
     let guesses = guesses_of(alloc, delimiter, records)?;
-    let names = names_of(alloc, delimiter, header)?;
-    let count = guesses.len().max(names.len()).max(1);
+    let given = names_in(alloc, delimiter, header)?;
+    let count = guesses.len().max(given.len()).max(1);
+    let names = names_for(alloc, delimiter.byte != NO_DELIMITER, count, &given)?;
     let mut columns = Vec::new(alloc);
-    for place in 0..count {
+    for (place, name) in names.into_iter().enumerate() {
         let guess = guesses.get(place).copied().unwrap_or(Guess::FIRST);
-        let given = names.get(place).map_or("", |name| name.as_str());
-        let name = name_at(alloc, delimiter, place, given, &columns)?;
         let column = ColumnType {
             kind: guess.kind(),
             nullability: Nullability::Nullable,
@@ -97,40 +152,13 @@ pub fn guess_columns(
     Ok(columns)
 }
 
-/// The name of the column at this place: the given one if it may stand there, else its number.
-fn name_at(
-    alloc: Global,
-    delimiter: Delimiter,
-    place: usize,
-    given: &str,
-    columns: &[NamedColumn],
-) -> Result<String, AllocError> {
-    if is_name(given) && !stands_in(columns, given) {
-        return String::from_str(alloc, given);
-    }
-    if delimiter.byte == NO_DELIMITER {
-        return String::from_str(alloc, "line");
-    }
-    format!(in alloc; "${}", place.saturating_add(1))
-}
-
-/// The fields of the header, as far as they are UTF-8; none if it has no row.
-fn names_of(alloc: Global, delimiter: Delimiter, header: &[u8]) -> Result<Vec<String>, AllocError> {
+/// The fields of the header: none if it has no row. One that is not UTF-8 is empty.
+fn names_in(alloc: Global, delimiter: Delimiter, header: &[u8]) -> Result<Vec<String>, AllocError> {
     let mut names = Vec::new(alloc);
     let mut buffer = Vec::new(alloc);
-    let mut rest = row_start(header);
-    while !rest.is_empty() {
-        let cut = cut_field(delimiter, rest, &mut buffer)?;
-        let word = if cut.is_quoted {
-            buffer.as_slice()
-        } else {
-            cut.bare
-        };
-        names.push(String::from_str(alloc, str::from_utf8(word).unwrap_or(""))?)?;
-        match cut.follows {
-            Follows::Another(next) => rest = next,
-            Follows::Nothing | Follows::Bytes => return Ok(names),
-        }
+    let mut fields = Fields::of(delimiter, header);
+    while let Some(field) = fields.next_field(&mut buffer)? {
+        names.push(String::from_str(alloc, str::from_utf8(field.word).unwrap_or(""))?)?;
     }
     Ok(names)
 }
@@ -145,8 +173,7 @@ fn guesses_of(
     let mut rest = records;
     while !rest.is_empty() {
         let (line, after) = cut_record(delimiter, rest);
-        let is_first = guesses.is_empty();
-        guess_record(alloc, delimiter, line, is_first, &mut guesses)?;
+        guess_record(alloc, delimiter, line, &mut guesses)?;
         rest = after;
     }
     Ok(guesses)
@@ -157,32 +184,19 @@ fn guess_record(
     alloc: Global,
     delimiter: Delimiter,
     line: &[u8],
-    is_first: bool,
     guesses: &mut Vec<Guess>,
 ) -> Result<(), AllocError> {
-    let mut buffer = Vec::new(alloc);
+    let is_first = guesses.is_empty();
     let mut place = 0usize;
-    let mut rest = row_start(line);
-    while !rest.is_empty() {
-        let cut = cut_field(delimiter, rest, &mut buffer)?;
-        let word = if cut.is_quoted {
-            buffer.as_slice()
-        } else {
-            cut.bare
-        };
+    let mut buffer = Vec::new(alloc);
+    let mut fields = Fields::of(delimiter, line);
+    while let Some(field) = fields.next_field(&mut buffer)? {
         if is_first {
-            guesses.push(Guess::FIRST.after(word))?;
+            guesses.push(Guess::FIRST.after(field))?;
         } else if let Some(guess) = guesses.get_mut(place) {
-            *guess = guess.after(word);
+            *guess = guess.after(field);
         }
         place = place.saturating_add(1);
-        match cut.follows {
-            Follows::Another(next) => rest = next,
-            Follows::Nothing | Follows::Bytes => return Ok(()),
-        }
-    }
-    if is_first && place > 0 {
-        guesses.push(Guess::FIRST)?;
     }
     Ok(())
 }

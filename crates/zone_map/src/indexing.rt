@@ -121,7 +121,11 @@ fn grown_by(
         schema: &schema,
         bound_length: loaded.setup.numbers.bound_length,
     };
-    grown_end(rt, name, &loaded.index, &describer, file)
+    let now = stamp_of(rt.alloc(), name, file)?;
+    match grown_end(rt.alloc(), now.length, &loaded.index, &describer, file)? {
+        Some(end) => Ok(end),
+        None => Err(ProgramError::of_file(rt.alloc(), name, FileError::Changed)),
+    }
 }
 
 /// Where the next zone begins, without a last one of fewer records, which is taken away.

@@ -2,16 +2,17 @@
 
 use crate::column_words::columns_text;
 use crate::commands::SearchRequest;
-use crate::files::index_name;
+use crate::files::{index_name, stamp_of};
+use crate::index_files::{IndexError, IndexFile};
 use crate::program_errors::{BadFilter, FileError, ProgramError};
 use crate::setup::Setup;
 use filter_sql::{ParseError, parse};
-use record_search::{NAMED_COLUMNS, RowDescriber, RowFilter, RowsAlone, Schema, named_columns};
+use record_search::{RowDescriber, RowFilter, Schema};
 use std::alloc::{AllocError, Global};
-use std::fs;
+use std::fs::File;
 use std::io::ErrorKind;
 use vortex_filter::Filter;
-use zone_index::{Index, ReadError, Root, read_blocks, read_root};
+use zone_index::{Index, ReadAt, ReadError, Root};
 
 /// An index, and how its file is read.
 #[derive(Drop)]
@@ -25,61 +26,72 @@ pub struct Loaded {
 /// The index of a file that has one.
 pub fn load_there(rt: &HostRuntime, file: &str) -> Result<Loaded, ProgramError> {
     let name = index_name(rt.alloc(), file)?;
-    match bytes_of(rt, &name)? {
-        Some(bytes) => loaded_in(rt.alloc(), &name, &bytes),
+    match open_index(rt, &name)? {
+        Some(mut file) => loaded_from(rt.alloc(), &name, &mut file),
         None => Err(ProgramError::of_file(rt.alloc(), file, FileError::NoIndex)),
     }
 }
 
-/// The bytes of a file, if it is there.
-fn bytes_of(rt: &HostRuntime, name: &str) -> Result<Option<Vec<u8>>, ProgramError> {
-    match fs::read(rt, name) {
-        Ok(bytes) => Ok(Some(bytes)),
+/// The file of an index, if it is there.
+fn open_index(rt: &HostRuntime, name: &str) -> Result<Option<IndexFile<File>>, ProgramError> {
+    match File::open(rt, name) {
+        Ok(file) => {
+            let length = stamp_of(rt.alloc(), name, &file)?.length;
+            Ok(Some(IndexFile::new(file, length)))
+        }
         Err(error) if error.kind() == ErrorKind::NotFound => Ok(None),
         Err(error) => Err(ProgramError::of_file(rt.alloc(), name, FileError::System(error))),
     }
 }
 
-/// The index that these bytes are, which a file of this name has.
-fn loaded_in(alloc: Global, name: &str, bytes: &[u8]) -> Result<Loaded, ProgramError> {
-    let (root, blocks) = root_in(alloc, name, bytes)?;
+/// The index that a file of this name is, with all its statistics.
+fn loaded_from<R: ReadAt>(
+    alloc: Global,
+    name: &str,
+    file: &mut IndexFile<R>,
+) -> Result<Loaded, ProgramError> {
+    let (root, start) = root_from(alloc, name, file)?;
     let setup = setup_of(alloc, name, &root)?;
-    let index = index_in(alloc, name, root, blocks, &[])?;
+    let index = index_from(alloc, name, file, root, start, &[])?;
     Ok(Loaded { index, setup })
 }
 
-/// The root of the index that these bytes are, and the bytes of its blocks.
-fn root_in<'a>(
+/// The root of the index that a file of this name is, and the place of its first block.
+fn root_from<R: ReadAt>(
     alloc: Global,
     name: &str,
-    bytes: &'a [u8],
-) -> Result<(Root, &'a [u8]), ProgramError> {
-    match read_root(alloc, bytes) {
+    file: &mut IndexFile<R>,
+) -> Result<(Root, u64), ProgramError> {
+    match file.root(alloc) {
         Ok(read) => Ok(read),
-        Err(error) => Err(bad_index(alloc, name, error)),
+        Err(fault) => Err(bad_index(alloc, name, fault)),
     }
 }
 
-/// The index of a root, with the statistics of the columns that are wanted.
-fn index_in(
+/// The index of a root whose first block begins at this place, with the statistics of the columns that
+/// are wanted.
+fn index_from<R: ReadAt>(
     alloc: Global,
     name: &str,
+    file: &mut IndexFile<R>,
     root: Root,
-    blocks: &[u8],
+    start: u64,
     wanted: &[bool],
 ) -> Result<Index, ProgramError> {
-    match read_blocks(root, blocks, wanted, &RowsAlone) {
+    match file.index(alloc, root, start, wanted) {
         Ok(index) => Ok(index),
-        Err(error) => Err(bad_index(alloc, name, error)),
+        Err(fault) => Err(bad_index(alloc, name, fault)),
     }
 }
 
 /// The error of an index that was not read.
-fn bad_index(alloc: Global, name: &str, error: ReadError) -> ProgramError {
-    match error {
-        ReadError::Memory => ProgramError::from(AllocError),
-        ReadError::Fault(fault) => ProgramError::of_file(alloc, name, FileError::BadIndex(fault)),
-    }
+fn bad_index(alloc: Global, name: &str, fault: IndexError) -> ProgramError {
+    let fault = match fault {
+        IndexError::System(error) => FileError::System(error),
+        IndexError::Read(ReadError::Fault(fault)) => FileError::BadIndex(fault),
+        IndexError::Read(ReadError::Memory) => return ProgramError::from(AllocError),
+    };
+    ProgramError::of_file(alloc, name, fault)
 }
 
 /// What an index keeps beside its zones, if this program wrote that.
@@ -96,6 +108,8 @@ fn setup_of(alloc: Global, name: &str, root: &Root) -> Result<Setup, ProgramErro
 pub struct Searched {
     /// The index.
     pub index: Index,
+    /// How many bytes of its file were read.
+    pub read: u64,
     /// What is sought.
     pub sought: Sought,
 }
@@ -109,69 +123,44 @@ pub fn load(
     request: &SearchRequest<'_>,
 ) -> Result<Option<Searched>, ProgramError> {
     let name = index_name(rt.alloc(), request.file)?;
-    match bytes_of(rt, &name)? {
-        Some(bytes) => {
-            let searched = searched_in(rt.alloc(), request, &name, &bytes)?;
+    match open_index(rt, &name)? {
+        Some(mut file) => {
+            let searched = searched_from(rt.alloc(), request, &name, &mut file)?;
             Ok(Some(searched))
         }
         None => Ok(None),
     }
 }
 
-/// The index that these bytes are, which a file of this name has, and what a request seeks.
-fn searched_in(
+/// The index that a file of this name is, and what a request seeks.
+fn searched_from<R: ReadAt>(
     alloc: Global,
     request: &SearchRequest<'_>,
     name: &str,
-    bytes: &[u8],
+    file: &mut IndexFile<R>,
 ) -> Result<Searched, ProgramError> {
-    let (root, blocks) = root_in(alloc, name, bytes)?;
-    match sought_by(alloc, request, name, &root) {
-        Ok(sought) => searched_by(alloc, request, name, root, blocks, sought),
-        Err(fault) => {
-            drop(root);
-            Err(fault)
-        }
-    }
+    let (root, start) = root_from(alloc, name, file)?;
+    let setup = setup_of(alloc, name, &root)?;
+    let sought = Sought::from_text(alloc, setup, request.filter)?;
+    let wanted = columns_wanted(alloc, request, &sought)?;
+    let index = index_from(alloc, name, file, root, start, &wanted)?;
+    Ok(Searched {
+        index,
+        read: file.read,
+        sought,
+    })
 }
 
-/// What a request seeks by the index of a root.
-fn sought_by(
+/// Whether the statistics of each column are wanted: those of the columns that the filter names, and
+/// all where the file may have grown.
+fn columns_wanted(
     alloc: Global,
     request: &SearchRequest<'_>,
-    name: &str,
-    root: &Root,
-) -> Result<Sought, ProgramError> {
-    let setup = setup_of(alloc, name, root)?;
-    Sought::from_text(alloc, setup, request.filter)
-}
-
-/// The index of a root, with the statistics that a request wants, and what it seeks.
-fn searched_by(
-    alloc: Global,
-    request: &SearchRequest<'_>,
-    name: &str,
-    root: Root,
-    blocks: &[u8],
-    sought: Sought,
-) -> Result<Searched, ProgramError> {
-    let wanted = columns_wanted(request, &sought.filter);
-    match index_in(alloc, name, root, blocks, &wanted) {
-        Ok(index) => Ok(Searched { index, sought }),
-        Err(fault) => {
-            drop(sought);
-            Err(fault)
-        }
-    }
-}
-
-/// The columns whose statistics a request wants: all where the file may have grown.
-fn columns_wanted(request: &SearchRequest<'_>, filter: &Filter) -> [bool; NAMED_COLUMNS] {
-    if request.may_have_grown {
-        [true; NAMED_COLUMNS]
-    } else {
-        named_columns(filter)
-    }
+    sought: &Sought,
+) -> Result<Vec<bool>, AllocError> {
+    let mut wanted = vec![in alloc; request.may_have_grown; sought.setup.columns.len()]?;
+    sought.filter.mark_columns(&mut wanted);
+    Ok(wanted)
 }
 
 /// What is sought: how records are rows, and which rows match.

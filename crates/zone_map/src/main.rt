@@ -9,15 +9,18 @@ mod commands;
 mod files;
 mod grown;
 mod guessing;
+mod index_files;
 mod indexing;
 mod loading;
 mod locating;
+mod names;
 mod preparing;
 mod program_errors;
 mod searching;
 mod setup;
 mod showing;
 mod streams;
+mod telling;
 mod watching;
 
 pub use commands::{Asked, asked_in};

@@ -8,12 +8,13 @@ use crate::loading::{Searched, load};
 use crate::locating::located;
 use crate::program_errors::{FileError, ProgramError};
 use crate::streams::{flushed, output, search_stream};
+use crate::telling::Told;
 use crate::watching::Watched;
 use std::alloc::Global;
 use std::fs::File;
 use std::io::Read;
 use std::process::ExitCode;
-use zone_index::{Asked, Logged, NumberedSink, PlainSink, SearchError, Sink, Tally};
+use zone_index::{Logged, NumberedSink, PlainSink, SearchError, Sink};
 
 /// The status if no row was found.
 const NONE_FOUND: u8 = 1;
@@ -89,19 +90,17 @@ fn search_indexed(
     request: &SearchRequest<'_>,
     searched: &Searched,
 ) -> Result<u64, ProgramError> {
-    let mut file = open_file(rt, request.file)?;
+    let file = open_file(rt, request.file)?;
     let before = stamp_of(rt.alloc(), request.file, &file)?;
-    let rest = rest_of(rt, request, searched, before, &mut file)?;
     let mut reader = with_log(rt.alloc(), file);
+    let rest = rest_of(rt, request, searched, before, &mut reader)?;
+    let compared = reader.asked.len();
     match answer_indexed(rt, request.wanted, searched, rest, &mut reader) {
         Ok(found) => {
-            tell_zones(
-                rt,
-                request,
-                searched.index.zones.len(),
-                found.tally,
-                &reader.asked,
-            );
+            if request.tells {
+                let told = Told::of(searched, found, rest, &reader.asked, compared);
+                let _ = eprintln!(rt; "{told}");
+            }
             stays(rt, request, before, &reader.reader)?;
             Ok(found.rows)
         }
@@ -150,7 +149,11 @@ fn write_found<S: Sink + Drop>(
     reader: &mut Logged<File>,
     mut sink: S,
 ) -> Result<Found, SearchError> {
-    let Searched { index, sought } = searched;
+    let Searched {
+        index,
+        read: _,
+        sought,
+    } = searched;
     let found = find_indexed(alloc, index, sought, rest, reader, &mut sink);
     flushed(found, sink.flush())
 }
@@ -163,47 +166,6 @@ fn with_log(alloc: Global, file: File) -> Logged<File> {
     }
 }
 
-/// Tells on standard error what became of the zones, and how many bytes were asked for, if that is
-/// wanted.
-fn tell_zones(
-    rt: &HostRuntime,
-    request: &SearchRequest<'_>,
-    zones: usize,
-    tally: Option<Tally>,
-    asked: &[Asked],
-) {
-    if !request.tells {
-        return;
-    }
-    let read = bytes_asked(asked);
-    match tally {
-        Some(
-            Tally {
-                skipped,
-                copied,
-                searched,
-                found: _,
-            },
-        ) => {
-            let _ = eprintln!(rt;
-                "zones {zones}, skipped {skipped}, copied {copied}, searched {searched}, bytes read {read}"
-            );
-        }
-        None => {
-            let _ = eprintln!(rt; "zones {zones}, bytes read {read}");
-        }
-    }
-}
-
-/// How many bytes were asked for, as far as 64 bits count.
-fn bytes_asked(asked: &[Asked]) -> u64 {
-    let mut read = 0u64;
-    for one in asked {
-        read = read.saturating_add(one.length);
-    }
-    read
-}
-
 /// Where the bytes begin that are new since the file was indexed, if there are any.
 ///
 /// `Changed` if the file changed, and it is not said or not so that it only grew.
@@ -212,9 +174,13 @@ fn rest_of(
     request: &SearchRequest<'_>,
     searched: &Searched,
     now: Stamp,
-    file: &mut File,
+    reader: &mut Logged<File>,
 ) -> Result<Option<u64>, ProgramError> {
-    let Searched { index, sought } = searched;
+    let Searched {
+        index,
+        read: _,
+        sought,
+    } = searched;
     let then = Stamp {
         length: index.file_length,
         changed: index.changed,
@@ -225,8 +191,10 @@ fn rest_of(
     if !request.may_have_grown {
         return Err(ProgramError::of_file(rt.alloc(), request.file, FileError::Changed));
     }
-    let end = grown_end(rt, request.file, index, &sought.describer(), file)?;
-    Ok(if end < now.length { Some(end) } else { None })
+    match grown_end(rt.alloc(), now.length, index, &sought.describer(), reader)? {
+        Some(end) => Ok(if end < now.length { Some(end) } else { None }),
+        None => Err(ProgramError::of_file(rt.alloc(), request.file, FileError::Changed)),
+    }
 }
 
 /// Refuses what was found in a file that changed since. One that may grow may do so.

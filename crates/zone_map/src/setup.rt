@@ -1,6 +1,7 @@
 //! How a file is read, in words and in the bytes of its index.
 
-use crate::column_words::{NamedColumn, column_of, is_name, push_kind};
+use crate::column_words::{NamedColumn, column_of, push_kind};
+use crate::names::is_name;
 use crate::program_errors::ProgramError;
 use csv_records::Delimiter;
 use filter_sql::Column;

@@ -1,6 +1,6 @@
 -- What is left gets shorter.
-use Rattle.std.proofs.Common.{length}
+use Rattle.zone_map.specs.Guesses.{left_of}
 use Rattle.zone_map.proofs.guessing.guess_record.Given as goal
 
-abbrev pub decreases-loop-rest : goal.decreases-loop-rest
-decreases-loop-rest l = length l.rest
+abbrev pub decreases-loop-buffer : goal.decreases-loop-buffer
+decreases-loop-buffer l = left_of l.fields.follows

@@ -1,0 +1,6 @@
+-- What is left gets shorter.
+use Rattle.zone_map.specs.Guesses.{left_of}
+use Rattle.zone_map.proofs.guessing.names_in.Given as goal
+
+abbrev pub decreases-loop-buffer : goal.decreases-loop-buffer
+decreases-loop-buffer l = left_of l.fields.follows

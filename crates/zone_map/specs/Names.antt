@@ -1,0 +1,26 @@
+-- The names of columns.
+use Rattle.std.specs.Prelude.{◌≡◌, ◌≢◌, ◌<◌, ◌+◌, ◌⊎◌, ◌++◌, ◌∷◌, ℕ, min, List, [], Bool, All, Contains, codes, length, map, replicate, slice_index_or, string_bytes, take, if◌then◌else◌}
+use Rattle.std.specs.Fmt.{decimal}
+use Rattle.std.specs.declared.string.String.{String}
+use Rattle.std.specs.Global.{Global}
+
+-- the bytes of names
+abbrev pub texts : List (String Global) → List (List ℕ)
+texts names = map string_bytes names
+
+-- a column may have this name: it has a byte, and no line feed
+pub record IsName (name : List ℕ) : Type 0 where
+  pub some : 0 < length name
+  pub one_line : All (λ b. b ≢ 10) name
+
+-- the name of a column without one: its number behind $, or the word for whole lines
+abbrev pub made_up : Bool → ℕ → List ℕ
+made_up are_divided place = if are_divided then 36 ∷ decimal (min (place + 1) (18446744073709551615)) else codes "line"
+
+-- the name is the first one with so many _ behind it, and the first that none of these is
+pub record IsFirstFree (first : List ℕ) (given names : List (List ℕ)) (name : List ℕ) : Type 0 where
+  pub count : ℕ
+  pub is : name ≡ first ++ replicate count 95
+  pub least : (n : ℕ) → n < count → Contains given (first ++ replicate n 95) ⊎ Contains names (first ++ replicate n 95)
+  pub new : ¬ (Contains given name)
+  pub other : ¬ (Contains names name)

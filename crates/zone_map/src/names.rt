@@ -1,0 +1,99 @@
+//! The names of columns.
+
+ghost use Rattle.std.specs.Prelude.{◌≡◌, IfOk, MatchBool, Contains, string_bytes};
+ghost use Rattle.zone_map.specs.Names.{IsFirstFree, IsName, made_up, texts};
+
+use std::alloc::{AllocError, Global};
+
+/// Whether a column may have this name: one with a byte, and without a line feed.
+pub fn is_name(text: &str) -> bool
+    ensures { MatchBool result (IsName text.now) (¬ (IsName text.now)) }
+{
+    if text.is_empty() {
+        return false;
+    }
+    for byte in text.as_bytes() {
+        if *byte == b'\n' {
+            return false;
+        }
+    }
+    true
+}
+
+/// Whether this name is one of these.
+pub fn stands_in(names: &[String], name: &str) -> bool
+    ensures { MatchBool result (Contains (texts names.now) name.now) (¬ (Contains (texts names.now) name.now)) }
+{
+    for one in names {
+        if one.as_str() == name {
+            return true;
+        }
+    }
+    false
+}
+
+/// The names of so many columns, of which some are given. Each given one is kept that may be a name and
+/// that no column before has. Another column has its number behind `$`, or `line` where lines are not
+/// divided; and as many `_` behind that as make a name that no other column has.
+pub fn names_for(
+    alloc: Global,
+    are_divided: bool,
+    count: usize,
+    given: &[String],
+) -> Result<Vec<String>, AllocError> {
+    let mut names = Vec::new(alloc);
+    for place in 0..count {
+        let name = name_at(alloc, are_divided, place, given, &names)?;
+        names.push(name)?;
+    }
+    Ok(names)
+}
+
+/// The name of the column at this place, where the columns before it have these names.
+fn name_at(
+    alloc: Global,
+    are_divided: bool,
+    place: usize,
+    given: &[String],
+    names: &[String],
+) -> Result<String, AllocError> {
+    match given_name(place, given, names) {
+        Some(name) => String::from_str(alloc, name),
+        None => free_name(first_name(alloc, are_divided, place)?, given, names),
+    }
+}
+
+/// The name that is given for this place, if it is one, and none of those before it.
+fn given_name<'a>(place: usize, given: &'a [String], names: &[String]) -> Option<&'a str> {
+    if place >= given.len() {
+        return None;
+    }
+    let name = given[place].as_str();
+    if is_name(name) && !stands_in(names, name) {
+        Some(name)
+    } else {
+        None
+    }
+}
+
+/// The name of the column at this place where none is given, unless another column has that.
+fn first_name(alloc: Global, are_divided: bool, place: usize) -> Result<String, AllocError>
+    ensures { IfOk result (λ name. string_bytes name ≡ made_up are_divided place) }
+{
+    if are_divided {
+        format!(in alloc; "${}", place.saturating_add(1))
+    } else {
+        String::from_str(alloc, "line")
+    }
+}
+
+/// The name with as many `_` behind it as make it another one than all of these.
+fn free_name(first: String, given: &[String], names: &[String]) -> Result<String, AllocError>
+    ensures { IfOk result (λ name. IsFirstFree (string_bytes first) (texts given.now) (texts names.now) (string_bytes name)) }
+{
+    let mut name = first;
+    while stands_in(given, &name) || stands_in(names, &name) {
+        name.push('_')?;
+    }
+    Ok(name)
+}

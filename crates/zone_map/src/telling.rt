@@ -1,0 +1,98 @@
+//! What a search by an index did is told.
+
+use crate::answering::Found;
+use crate::loading::Searched;
+use std::fmt::{self, Display, Formatter, Write};
+use zone_index::{Asked, Tally, Zone};
+
+/// What a search by an index did.
+#[derive(Clone, Copy)]
+pub struct Told {
+    /// How many zones the index has.
+    zones: usize,
+    /// What became of them, if that was counted.
+    tally: Option<Tally>,
+    /// How many of them were read.
+    zones_read: usize,
+    /// How many bytes were read of what is new since the file was indexed, if anything is.
+    new_bytes: Option<u64>,
+    /// How many bytes of the file were read.
+    bytes: u64,
+    /// How many bytes of the index were read.
+    index_bytes: u64,
+}
+
+impl Told {
+    /// What was done to find this. So many of the questions to the file stood before the search, to
+    /// compare the last zone. New bytes stand from `rest` on, if there are any.
+    pub fn of(
+        searched: &Searched,
+        found: Found,
+        rest: Option<u64>,
+        asked: &[Asked],
+        compared: usize,
+    ) -> Told {
+        let zones = &searched.index.zones;
+        Told {
+            zones: zones.len(),
+            tally: found.tally,
+            zones_read: zones_asked(zones, asked.get(compared..).unwrap_or(&[])),
+            new_bytes: rest.map(|_| found.new_bytes),
+            bytes: bytes_asked(asked).saturating_add(found.new_bytes),
+            index_bytes: searched.read,
+        }
+    }
+}
+
+/// What became of the zones, and how many bytes were read.
+impl Display for Told {
+    fn fmt<W: Write>(&self, f: &mut Formatter<W>) -> fmt::Result {
+        write!(f, "zones {}", self.zones)?;
+        match self.tally {
+            Some(
+                Tally {
+                    skipped,
+                    copied,
+                    searched,
+                    found: _,
+                },
+            ) => write!(
+                f,
+                ", skipped {skipped}, copied {copied}, searched {searched}"
+            )?,
+            None => write!(f, ", searched {}", self.zones_read)?,
+        }
+        if let Some(bytes) = self.new_bytes {
+            write!(f, ", new bytes {bytes}")?;
+        }
+        write!(
+            f,
+            ", bytes read {}, index bytes {}",
+            self.bytes, self.index_bytes
+        )
+    }
+}
+
+/// How many of these zones, which stand one behind another, were asked for: the first byte of each.
+fn zones_asked(zones: &[Zone], asked: &[Asked]) -> usize {
+    asked
+        .iter()
+        .filter(|one| begins_zone(zones, one.place))
+        .count()
+}
+
+/// Whether a zone begins at this place.
+fn begins_zone(zones: &[Zone], place: u64) -> bool {
+    zones
+        .binary_search_by_key(&place, |zone| zone.first)
+        .is_ok()
+}
+
+/// How many bytes were asked for, as far as 64 bits count.
+fn bytes_asked(asked: &[Asked]) -> u64 {
+    let mut read = 0u64;
+    for one in asked {
+        read = read.saturating_add(one.length);
+    }
+    read
+}
