@@ -24,9 +24,9 @@ pub fn read_back(
     offsets: &[u64],
     bytes: &[u8],
     which: usize,
-    validity_room: &mut [u8],
-    values_room: &mut [u8],
-    offsets_room: &mut [u64],
+    validity_buffer: &mut [u8],
+    values_buffer: &mut [u8],
+    offsets_buffer: &mut [u64],
 ) -> Result<usize, KeysError>
     ensures { IfOk result (λ count. (table : List (List Content)) (rows : ℕ)
         → AreColumnsOf (types_of_codes kinds.now) rows table
@@ -34,8 +34,8 @@ pub fn read_back(
         → length offsets.now ≡ rows + 1 → which < length table
         → (kind : Kind) × (kind_at (slice_index kinds.now which) ≡ Some kind)
         × IsColumnOf kind (slice_index_or table which [])
-        (take (bitmap_length rows) validity_room.new) (take count values_room.new)
-        (take (offsets_length kind rows) offsets_room.new)) }
+        (take (bitmap_length rows) validity_buffer.new) (take count values_buffer.new)
+        (take (offsets_length kind rows) offsets_buffer.new)) }
 {
     columns_come_back();
     column_of_keys(
@@ -45,8 +45,8 @@ pub fn read_back(
         offsets,
         bytes,
         which,
-        validity_room,
-        values_room,
-        offsets_room,
+        validity_buffer,
+        values_buffer,
+        offsets_buffer,
     )
 }

@@ -38,4 +38,4 @@ read-back law codes options which bytes offsets validity values places (Err e) t
 
 pub returns : goal.returns
 returns c =
-    read-back c.columns_come_back.ensures c.args.kinds.now c.args.options.now c.args.which c.args.bytes.now c.args.offsets.now c.column_of_keys.new.validity_room c.column_of_keys.new.values_room c.column_of_keys.new.offsets_room c.column_of_keys.result c.column_of_keys.ensures.sound c.column_of_keys.ensures.column
+    read-back c.columns_come_back.ensures c.args.kinds.now c.args.options.now c.args.which c.args.bytes.now c.args.offsets.now c.column_of_keys.new.validity_buffer c.column_of_keys.new.values_buffer c.column_of_keys.new.offsets_buffer c.column_of_keys.result c.column_of_keys.ensures.sound c.column_of_keys.ensures.column
