@@ -83,7 +83,7 @@ tests_are : (f : Filter) → TestsAre f
 tests_are = ind-Filter TestsAre (λ x y is. subst (λ z. TestsAre (roll-Filter z)) is (by_layer _ (λ e. e.0) (λ e. e.1) y))
 
 pub count_is : (f : Filter) → length (tests (formula f)) ≡ length (literal_tests f)
-count_is f = ap length (tests_are f) ∙ length-map cell_test (literal_tests f)
+count_is f = ap length (tests_are f) ∙ length-map (literal_tests f) cell_test
 
 -- ---- which columns they have
 
