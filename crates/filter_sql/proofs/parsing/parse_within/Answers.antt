@@ -10,23 +10,23 @@ use Rattle.filter_sql.proofs.parsing.parse_within.Goals as goal
 pub returns-in_err-lexed-clause-printed : goal.returns-in_err-lexed-clause-printed
 returns-in_err-lexed-clause-printed c = λ names f readable deep is.
     let p = err_from_is_err_and c.from_residual.result c.from_residual.ensures.1 in
-    rw (p.1, p.2) c.in_err-lexed.ensures
+    rw (p.1, p.2) c.in_err-lexed.ensures.refused
 
 pub filter_in-requires : goal.filter_in-requires
 filter_in-requires c = rw c.deref.ensures.value c.in_ok-lexed.ensures.places
 
 pub returns-clause-read : goal.returns-clause-read
 returns-clause-read c =
-    result_is_sql c.args.depth (column_trees c.args.columns.now) c.args.text.now c.deref.result.now _ (rw c.deref.ensures.value c.in_ok-lexed.ensures.found) c.filter_in.result c.filter_in.ensures.whole c.filter_in.ensures.given
+    result_is_sql c.args.depth (column_trees c.args.columns.now) c.args.text.now c.deref.result.now c.in_ok-lexed.lexed.ending (rw c.deref.ensures.value c.in_ok-lexed.ensures.found) c.filter_in.result c.filter_in.ensures.whole c.filter_in.ensures.given
 
 pub returns-clause-printed : goal.returns-clause-printed
 returns-clause-printed c = λ names f readable deep is.
-    result_reads_back c.args.depth (column_trees c.args.columns.now) names c.deref.result.now _ f readable deep
+    result_reads_back c.args.depth (column_trees c.args.columns.now) names c.deref.result.now c.in_ok-lexed.lexed.ending f readable deep
     (rw c.deref.ensures.value (c.in_ok-lexed.ensures.canonical (tokens_of names f) (text_tokens (column_trees c.args.columns.now) names f c.args.depth readable deep) is)) c.filter_in.result c.filter_in.ensures.given c.filter_in.ensures.refused
 
 pub returns-clause-refused : goal.returns-clause-refused
 returns-clause-refused c =
-    result_refuses c.args.depth (column_trees c.args.columns.now) c.args.text.now c.deref.result.now _ (rw c.deref.ensures.value c.in_ok-lexed.ensures.found) c.filter_in.result c.filter_in.ensures.refused
+    result_refuses c.args.depth (column_trees c.args.columns.now) c.args.text.now c.deref.result.now c.in_ok-lexed.lexed.ending (rw c.deref.ensures.value c.in_ok-lexed.ensures.found) c.filter_in.result c.filter_in.ensures.refused
 
 pub returns-clause-placed : goal.returns-clause-placed
 returns-clause-placed c = result_placed _ _ c.filter_in.result c.in_ok-lexed.ensures.place c.filter_in.ensures.placed
@@ -35,4 +35,4 @@ pub returns-in_err-lexed-clause-fits : goal.returns-in_err-lexed-clause-fits
 returns-in_err-lexed-clause-fits c = λ ordered. let p = err_from_is_err_and c.from_residual.result c.from_residual.ensures.1 in rw p.1 tt
 
 pub returns-clause-fits : goal.returns-clause-fits
-returns-clause-fits c = λ ordered. result_fits c.args.depth (column_trees c.args.columns.now) c.deref.result.now _ ordered c.filter_in.result c.filter_in.ensures.given
+returns-clause-fits c = λ ordered. result_fits c.args.depth (column_trees c.args.columns.now) c.deref.result.now c.in_ok-lexed.lexed.ending ordered c.filter_in.result c.filter_in.ensures.given
