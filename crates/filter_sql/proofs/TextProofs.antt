@@ -1,5 +1,5 @@
 -- A text has one list of tokens, and these have one formula.
-use Rattle.std.proofs.Common.{◌≡◌, ◌≢◌, ℕ, zero, suc, ◌+◌, ◌≤◌, List, [], ◌∷◌, Option, Some, None, refl, sym, subst, ◌∙◌, length, arith}
+use Rattle.std.proofs.Common.{◌≡◌, ℕ, zero, suc, ◌+◌, ◌≤◌, List, [], ◌∷◌, Option, Some, None, refl, sym, subst, ◌∙◌, length, arith}
 use Rattle.filter_sql.specs.declared.error.ParseError.{ParseError}
 use Rattle.filter_sql.specs.declared.error.ParseError.TheVariants as errors
 use Rattle.filter_sql.specs.declared.lex.Fault.{Fault as Unread}
@@ -8,7 +8,7 @@ use Rattle.filter_sql.specs.declared.print.Level.TheVariants as levels
 use Rattle.vortex_filter.specs.Formula.{Formula}
 use Rattle.filter_sql.specs.Columns.{ColumnTree}
 use Rattle.filter_sql.specs.Grammar.{IsFilter, predicate, group, not_filter, one_operand, and_filter, one_conjunction, or_filter}
-use Rattle.filter_sql.specs.Parsing.{IsNoSqlWithin, IsSqlWithin, RefusesSqlWithin, tokens_in}
+use Rattle.filter_sql.specs.Parsing.{IsNoSqlWithin, IsSqlWithin, tokens_in}
 use Rattle.filter_sql.specs.Reading.{filter_at}
 use Rattle.filter_sql.specs.TextLaws.{RefusedTextsSayNone, TextsSayOneFilter}
 use Rattle.filter_sql.specs.Texts.{AreItemsOf, EndsFor, Item, Leads, trimmed}

@@ -1,5 +1,5 @@
 -- The tests of each kind of filter, and that they are those of its formula.
-use Rattle.std.proofs.Common.{◌≡◌, inl, inr, ℕ, Vec, Global, Box, List, [], ◌∷◌, ◌++◌, map, length, refl, sym, subst, ap, ap₂, ◌∙◌, rules}
+use Rattle.std.proofs.Common.{◌≡◌, inl, ℕ, Vec, Global, Box, List, [], ◌∷◌, ◌++◌, map, length, refl, sym, subst, ap, ap₂, ◌∙◌, rules}
 use Rattle.std.specs.List.{AllByRecursion}
 use Rattle.std.proofs.lemmas.List.{length-map, map-append}
 use Rattle.vortex_dtype.specs.TypeTree.{TypeTree}

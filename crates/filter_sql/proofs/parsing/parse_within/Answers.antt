@@ -1,5 +1,4 @@
 -- What the lexer gives and what is read of its tokens, together.
-use Rattle.std.proofs.Common.{◌≡◌}
 use Rattle.std.proofs.lemmas.Result.{err_from_is_err_and}
 use Rattle.filter_sql.specs.Columns.{column_trees}
 use Rattle.filter_sql.specs.Printing.{tokens_of}
