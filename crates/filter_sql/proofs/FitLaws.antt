@@ -109,7 +109,7 @@ column_is_there columns name k t e = there_by columns k t (or_numbered name (nam
 
 -- ---- tests
 
-fit_append : (types : List TypeTree) (xs ys : List Test) → AllFit IsOfType types xs → AllFit IsOfType types ys → AllFit IsOfType types (xs ++ ys)
+fit_append : (types : List TypeTree) (xs ys : List (Test Cell)) → AllFit IsOfType types xs → AllFit IsOfType types ys → AllFit IsOfType types (xs ++ ys)
 fit_append types [] ys a b = b
 fit_append types (x ∷ xs) ys a b = (a.0, fit_append types xs ys a.1 b)
 

@@ -15,4 +15,5 @@ pub mod ReadSteps
 pub mod Runs
 pub mod Taken
 pub mod TestSteps
+pub mod TextProofs
 pub mod Words

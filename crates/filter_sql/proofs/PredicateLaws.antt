@@ -7,7 +7,6 @@ use Rattle.vortex_cells.specs.Cells.{Cell}
 use Rattle.vortex_filter.specs.declared.operator.CompareOperator.{CompareOperator}
 use Rattle.filter_sql.specs.declared.print.Level.TheVariants as levels
 use Rattle.filter_sql.specs.declared.token.Keyword.TheVariants.{And, Not, In, Is, Null, Between, Like, Escape, StartsWith}
-use Rattle.vortex_filter.specs.declared.truth.Truth.TheVariants as truths
 use Rattle.filter_sql.specs.Columns.{ColumnTree, column_named}
 use Rattle.vortex_filter.specs.Formula.{Formula, null_test, membership, prefix_test, negation}
 use Rattle.filter_sql.specs.Literals.{LiteralTree, exactly, lacking, literal_of, comparison_of, range_of, cells_of, member_of, holds_strings, pattern_prefix}

@@ -1,6 +1,7 @@
 -- Tokens one after the other.
-use Rattle.std.proofs.Common.{◌≡◌, ℕ, ◌+◌, ◌<◌, ◌≤◌, List, [], ◌∷◌, ◌++◌, Ok, Err, length, map, refl, sym, ap, subst, ◌∙◌, arith}
-use Rattle.std.specs.List.{AllByRecursion}
+use Rattle.std.proofs.Common.{◌≡◌, ℕ, ◌+◌, ◌-◌, ◌<◌, ◌≤◌, List, [], ◌∷◌, ◌++◌, Ok, Err, length, map, refl, sym, ap, subst, ◌∙◌, arith, length-append, length-drop}
+use Rattle.std.specs.Char.{is_ascii_whitespace}
+use Rattle.std.specs.List.{AllByRecursion, prefix_len}
 use Rattle.filter_sql.specs.Tokens.{IsFront, TokenTree, token_tree, trees}
 use Rattle.filter_sql.specs.Lexing.{Cut, mark_of, token_at}
 use Rattle.filter_sql.specs.declared.lex.Fault.TheVariants.{BadText}
@@ -73,6 +74,22 @@ no_fault end text (item ∷ items) rest e (t ∷ ts) (word, after, front, place,
 pub placed_within : (end : ℕ) (text : List ℕ) (placed : List Placed) (rest : List ℕ) → Leads end text (items placed) rest → AllByRecursion (λ (p : Placed). p.place ≤ end) placed
 placed_within end text [] rest same = tt
 placed_within end text (p ∷ placed) rest (word, after, front, place, more) = (omega arith, placed_within end (trimmed after) placed rest more)
+
+-- tokens lead to what is no longer
+leads_shorter : (end : ℕ) (text : List ℕ) (placed : List Placed) (rest : List ℕ) → Leads end text (items placed) rest → length rest ≤ length text
+leads_shorter end text [] rest same = let size : length text ≡ length rest = ap length same in omega arith
+leads_shorter end text (p ∷ placed) rest (word, after, front, place, more) =
+    let shorter = leads_shorter end (trimmed after) placed rest more in
+    let whole : length text ≡ length word + length after = ap length front.whole ∙ length-append word after in
+    let cut : length (trimmed after) ≡ length after - prefix_len is_ascii_whitespace after = length-drop (prefix_len is_ascii_whitespace after) after in
+    omega arith
+
+-- every place is one before the rest
+pub placed_before : (end : ℕ) (text : List ℕ) (placed : List Placed) (rest : List ℕ) (place : ℕ) → Leads end text (items placed) rest → place + length rest ≡ end → AllByRecursion (λ (p : Placed). p.place ≤ place) placed
+placed_before end text [] rest place same here = tt
+placed_before end text (p ∷ placed) rest place (word, after, front, at, more) here =
+    let shorter = leads_shorter end text (p ∷ placed) rest (word, after, front, at, more) in
+    (omega arith, placed_before end (trimmed after) placed rest place more here)
 
 trees_are : (placed : List Placed) → trees_of (items placed) ≡ trees placed
 trees_are [] = refl

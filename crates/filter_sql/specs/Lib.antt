@@ -9,6 +9,7 @@ pub mod Pieces
 pub mod Printing
 pub mod Reading
 pub mod SqlExamples
+pub mod TextLaws
 pub mod Texts
 pub mod Tokens
 pub mod Words

@@ -1,11 +1,13 @@
 -- What is wrong with tokens of which nothing is read: the first mistake from the front, and how many tokens are left there.
-use Rattle.std.specs.Prelude.{◌≡◌, ◌-◌, ℕ, zero, suc, List, [], ◌∷◌, length, Option, Some, None, Result, Ok, Err, if◌then◌else◌, slice_get}
+use Rattle.std.specs.Prelude.{◌≡◌, ◌==◌, ◌-◌, ℕ, zero, suc, List, [], ◌∷◌, length, Option, Some, None, Result, Ok, Err, if◌then◌else◌, slice_get}
 use Rattle.std.specs.Str.{is_utf8}
 use Rattle.vortex_dtype.specs.TypeTree.{TypeTree, bool_type, integer_type, utf8_type, binary_type}
 use Rattle.filter_sql.specs.declared.error.Expected.{Expected}
 use Rattle.filter_sql.specs.declared.error.Expected.TheVariants as expects
 use Rattle.filter_sql.specs.declared.error.ParseError.{ParseError}
 use Rattle.filter_sql.specs.declared.error.ParseError.TheVariants as errors
+use Rattle.filter_sql.specs.declared.lex.Ending.{Ending}
+use Rattle.filter_sql.specs.declared.lex.Fault.{Fault as Unread}
 use Rattle.filter_sql.specs.declared.parsing.fault.Cause.{Cause}
 use Rattle.filter_sql.specs.declared.parsing.fault.Cause.TheVariants as causes
 use Rattle.filter_sql.specs.declared.parsing.fault.Fault.{Fault}
@@ -13,7 +15,9 @@ use Rattle.filter_sql.specs.declared.parsing.fault.Fault.TheVariants as faults
 use Rattle.filter_sql.specs.declared.print.Level.{Level}
 use Rattle.filter_sql.specs.declared.print.Level.TheVariants as levels
 use Rattle.filter_sql.specs.declared.token.Keyword.TheVariants as keywords
+use Rattle.vortex_filter.specs.declared.filter.Filter.{Filter}
 use Rattle.filter_sql.specs.Columns.{ColumnTree, column_named}
+use Rattle.filter_sql.specs.Lexing.{fault_at}
 use Rattle.filter_sql.specs.Literals.{LiteralTree, literal_of, holds_strings, pattern_prefix}
 use Rattle.filter_sql.specs.Reading.{Read, after_closing, after_comma, after_keyword, after_opening, chosen, conjunction_of, disjunction_of, escape_at, literal_at, name_at, operand_of, operator_at, predicate_at, reads, string_at}
 use Rattle.filter_sql.specs.Texts.{Item}
@@ -206,12 +210,24 @@ caused place causes.TooDeep = errors.TooDeep place
 abbrev pub place_where : List Item → ℕ → ℕ → ℕ
 place_where items end left = chosen (slice_get items (length items - left)) (λ (i : Item). i.place) end
 
--- the error of a fault in a text with these tokens and this end
-abbrev pub error_of : List Item → ℕ → Fault → ParseError
-error_of items end faults.NoMemory = errors.OutOfMemory
-error_of items end (faults.At left cause) = caused (place_where items end left) cause
+-- The error of a mistake where so many tokens are left. Behind the last token it is that no token begins there, unless the
+-- text ends.
+abbrev pub error_at : List Item → ℕ → Option Unread → ℕ → Cause → ParseError
+error_at items end None left cause = caused (place_where items end left) cause
+error_at items end (Some fault) left cause = if left == 0 then fault_at fault end else caused (place_where items end left) cause
 
--- an error that came for want of memory, or with the mistake and its offset, and nothing is read of the tokens
-abbrev pub IsFaultIn : {Y : Type 0} → List Item → ℕ → Option Y → Fault → ParseError → Type 0
-IsFaultIn items end read mistake errors.OutOfMemory = Unit {0}
-IsFaultIn items end read mistake e = (read ≡ None) × (e ≡ error_of items end mistake)
+-- the error of a fault in a text whose tokens these are, and end so
+abbrev pub error_of : List Item → Ending → Fault → ParseError
+error_of items ending faults.NoMemory = errors.OutOfMemory
+error_of items ending (faults.At left cause) = error_at items ending.place ending.fault left cause
+
+-- the filter that tokens are, if the text ends with them
+abbrev pub if_whole : ℕ → Option Unread → Filter → Result Filter ParseError
+if_whole end None filter = Ok filter
+if_whole end (Some fault) filter = Err (fault_at fault end)
+
+-- an error that came for want of memory, or with the mistake and its offset; if the text ends with the tokens, nothing is read of
+-- them
+abbrev pub IsFaultIn : {Y : Type 0} → List Item → Ending → Option Y → Fault → ParseError → Type 0
+IsFaultIn items ending read mistake errors.OutOfMemory = Unit {0}
+IsFaultIn items ending read mistake e = (ending.fault ≡ None → read ≡ None) × (e ≡ error_of items ending mistake)

@@ -1,5 +1,5 @@
 -- When a text is a filter, when it is refused, and which filters are read from their own text.
-use Rattle.std.specs.Prelude.{◌≡◌, ◌⊎◌, ◌<◌, ℕ, ℤ, suc, max, true, false, Bool, List, length, map, Result, MatchResult, Some, slice_get}
+use Rattle.std.specs.Prelude.{◌≡◌, ◌⊎◌, ◌<◌, ℕ, ℤ, suc, max, true, false, Bool, List, map, Result, MatchResult, None, Some, slice_get}
 use Rattle.std.specs.List.{AllByRecursion}
 use Rattle.std.specs.Str.{IsUtf8}
 use Rattle.vortex_dtype.specs.TypeTree.{TypeTree, bool_type, integer_type, utf8_type, binary_type}
@@ -9,6 +9,7 @@ use Rattle.vortex_cells.specs.Cells.{Cell}
 use Rattle.vortex_filter.specs.declared.filter.Filter.{Filter}
 use Rattle.filter_sql.specs.declared.error.ParseError.{ParseError}
 use Rattle.filter_sql.specs.declared.error.ParseError.TheVariants as errors
+use Rattle.filter_sql.specs.declared.lex.Ending.{Ending}
 use Rattle.filter_sql.specs.declared.print.Level.{Level}
 use Rattle.filter_sql.specs.declared.print.Level.TheVariants as levels
 use Rattle.filter_sql.specs.Columns.{ColumnTree, column_named}
@@ -17,7 +18,7 @@ use Rattle.filter_sql.specs.Grammar.{IsFilter}
 use Rattle.filter_sql.specs.Literals.{null_cell, truth_cell, number_cell, text_cell, bytes_cell, holds_strings}
 use Rattle.filter_sql.specs.Mistakes.{error_of, filter_mistake}
 use Rattle.filter_sql.specs.Printing.{column_name, groups_and, groups_or}
-use Rattle.filter_sql.specs.Texts.{Item, AreItemsOf, IsRefusal}
+use Rattle.filter_sql.specs.Texts.{Item, AreItemsOf, EndsAt}
 use Rattle.filter_sql.specs.Tokens.{TokenTree}
 
 -- how many connectives and parentheses may nest in a text, if nobody says
@@ -33,19 +34,20 @@ pub record IsSqlWithin (room : ℕ) (columns : List ColumnTree) (sql : List ℕ)
   pub are : AreItemsOf sql items
   pub means : IsFilter columns levels.Or room (tokens_in items) f
 
--- the tokens of the text are no filter in which at most so many nest, and e tells the first mistake, at its offset
+-- The text is no filter in which at most so many nest: the text ends with its tokens, and they are none, or it goes on
+-- where no token begins. And e tells the first mistake, at its offset: that of the tokens if it is at one of them, or
+-- that no token begins behind them.
 pub record IsNoSqlWithin (room : ℕ) (columns : List ColumnTree) (sql : List ℕ) (e : ParseError) : Type 0 where
   pub items : List Item
-  pub are : AreItemsOf sql items
-  pub none : (f : Formula) → IsFilter columns levels.Or room (tokens_in items) f → ⊥
-  pub told : e ≡ error_of items (length sql) (filter_mistake columns room (tokens_in items))
+  pub ending : Ending
+  pub ends : EndsAt sql items ending
+  pub none : ending.fault ≡ None → (f : Formula) → IsFilter columns levels.Or room (tokens_in items) f → ⊥
+  pub told : e ≡ error_of items ending (filter_mistake columns room (tokens_in items))
 
--- when a text in which so many may nest is refused so: memory ran out, or no token begins at an offset, or its tokens
--- are no filter
+-- when a text in which so many may nest is refused so: memory ran out, or it is no filter, and this is its first
+-- mistake
 abbrev pub RefusesSqlWithin : ℕ → List ColumnTree → List ℕ → ParseError → Type 0
 RefusesSqlWithin room columns sql errors.OutOfMemory = Unit {0}
-RefusesSqlWithin room columns sql (errors.BadText place) = IsRefusal sql (errors.BadText place)
-RefusesSqlWithin room columns sql (errors.NumberTooLong place) = IsRefusal sql (errors.NumberTooLong place)
 RefusesSqlWithin room columns sql e = IsNoSqlWithin room columns sql e
 
 -- the text is a filter with this formula

@@ -1,9 +1,12 @@
 -- The tokens of a whole text.
-use Rattle.std.specs.Prelude.{◌≡◌, ◌<◌, ◌+◌, ℕ, List, [], ◌∷◌, map, length, drop, Err}
+use Rattle.std.specs.Prelude.{◌≡◌, ◌<◌, ◌+◌, ℕ, List, [], ◌∷◌, map, length, drop, Option, Some, None, Result, Ok, Err, Vec}
+use Rattle.std.specs.Global.{Global}
 use Rattle.std.specs.Char.{is_ascii_whitespace}
 use Rattle.std.specs.List.{prefix_len}
 use Rattle.filter_sql.specs.declared.lex.Fault.{Fault}
-use Rattle.filter_sql.specs.declared.lex.Fault.TheVariants.{BadText, NumberTooLong}
+use Rattle.filter_sql.specs.declared.lex.Fault.TheVariants.{OutOfMemory}
+use Rattle.filter_sql.specs.declared.lex.Ending.{Ending}
+use Rattle.filter_sql.specs.declared.lex.Lexed.{Lexed}
 use Rattle.filter_sql.specs.declared.error.ParseError.{ParseError}
 use Rattle.filter_sql.specs.declared.error.ParseError.TheVariants as errors
 use Rattle.filter_sql.specs.declared.token.Placed.{Placed}
@@ -33,9 +36,8 @@ Leads end text (item ∷ items) rest =
 abbrev pub AreItemsOf : List ℕ → List Item → Type 0
 AreItemsOf text items = Leads (length text) (trimmed text) items []
 
--- up to this offset the text is tokens, and no token begins there
-pub record StopsAt (text : List ℕ) (fault : Fault) (place : ℕ) : Type 0 where
-  pub items : List Item
+-- the text goes on behind these tokens, and for this fault no token begins at the offset where it does
+pub record StopsAt (text : List ℕ) (items : List Item) (fault : Fault) (place : ℕ) : Type 0 where
   pub rest : List ℕ
   pub read : Leads (length text) (trimmed text) items rest
   pub here : place + length rest ≡ length text
@@ -43,9 +45,15 @@ pub record StopsAt (text : List ℕ) (fault : Fault) (place : ℕ) : Type 0 wher
   pub none : (t : TokenTree) (word after : List ℕ) → IsFront rest t word after → ⊥
   pub why : token_at rest ≡ Err fault
 
--- the text was refused for want of memory, or at an offset where no token begins
-abbrev pub IsRefusal : List ℕ → ParseError → Type 0
-IsRefusal text errors.OutOfMemory = Unit {0}
-IsRefusal text (errors.BadText place) = StopsAt text BadText place
-IsRefusal text (errors.NumberTooLong place) = StopsAt text NumberTooLong place
-IsRefusal text _ = ⊥
+abbrev pub EndsFor : List ℕ → List Item → ℕ → Option Fault → Type 0
+EndsFor text items place None = AreItemsOf text items × (place ≡ length text)
+EndsFor text items place (Some fault) = StopsAt text items fault place
+
+-- the tokens of the text end so: with the text, or before what is no token
+abbrev pub EndsAt : List ℕ → List Item → Ending → Type 0
+EndsAt text items ending = EndsFor text items ending.place ending.fault
+
+-- the tokens before an offset where none was read, unless it was for want of memory
+abbrev pub stopped : Vec Placed Global → ℕ → Fault → Result Lexed ParseError
+stopped tokens place OutOfMemory = Err errors.OutOfMemory
+stopped tokens place fault = Ok (record { tokens = tokens; ending = record { place = place; fault = Some fault } })

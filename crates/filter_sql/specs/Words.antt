@@ -11,7 +11,7 @@ pub use Rattle.vortex_filter.specs.Formula.{formula, negation}
 pub use Rattle.filter_sql.specs.Lexing.{Gives, fault_at, quoted_at, quoted_token, view}
 pub use Rattle.filter_sql.specs.Pieces.{and_text, column_text, comparison_text, escape_text, group_text, like_text, literal_text, literals_text, membership_text, null_test_text, or_text, patterned, prefix_text, quotable, range_text, starts_with_text, text_at}
 pub use Rattle.filter_sql.specs.Printing.{constant_keyword, is_special, names_of, prefix_pattern, sql_text}
-pub use Rattle.filter_sql.specs.Texts.{AreItemsOf, IsRefusal, items}
+pub use Rattle.filter_sql.specs.Texts.{EndsAt, items, stopped}
 pub use Rattle.filter_sql.specs.Tokens.{AreTokens, TokenTree, canonical, doubled, is_word_byte, is_word_start, keyword_text, name_token, operator_text, quoted, token_tree, trees}
 pub use Rattle.vortex_cells.specs.Cells.{cell_of}
 pub use Rattle.vortex_value.specs.Texts.{two_digits}

@@ -1,11 +1,11 @@
 //! Cuts SQL text into tokens.
 #![tactic(auto, using(crate::proofs::Cuts::cuts))]
 
-ghost use Rattle.std.specs.Prelude.{◌≡◌, ◌≢◌, ◌+◌, ◌-◌, true, Ok, ◌<◌, ◌≤◌, drop, get_or, length, take, List, IfErr, IfOk, IfSome, IfNone, MatchResult, option_map};
+ghost use Rattle.std.specs.Prelude.{◌≡◌, ◌≢◌, ◌+◌, ◌-◌, true, Ok, ◌<◌, ◌≤◌, drop, get_or, length, take, List, IfErr, IfOk, IfSome, IfNone, None, option_map};
 ghost use Rattle.std.specs.List.{AllByRecursion, prefix_len};
 ghost use Rattle.std.specs.Char.{is_ascii_digit};
 ghost use Rattle.std.specs.Str.{IsUtf8};
-ghost use Rattle.filter_sql.specs.Words.{AreItemsOf, AreTokens, IsPlaced, IsRefusal, TokenTree, canonical, fault_at, items, trees, Gives, name_token, quoted_token, string_bytes, bytes_at, integer_at, is_word_byte, is_word_start, keyword_named, keyword_text, mark_of, parameter_at, quoted_at, signed_at, token_at, token_tree, unquoted_at, view, word_at};
+ghost use Rattle.filter_sql.specs.Words.{AreTokens, EndsAt, TokenTree, canonical, fault_at, items, stopped, trees, Gives, name_token, quoted_token, string_bytes, bytes_at, integer_at, is_word_byte, is_word_start, keyword_named, keyword_text, mark_of, parameter_at, quoted_at, signed_at, token_at, token_tree, unquoted_at, view, word_at};
 
 use crate::error::ParseError;
 use crate::token::{Keyword, Placed, Token};
@@ -286,7 +286,7 @@ fn first_token(alloc: Global, text: &str) -> Result<(Token, &str), Fault>
 }
 
 /// The fault, at its offset.
-fn at(fault: Fault, place: usize) -> ParseError
+pub(crate) fn at(fault: Fault, place: usize) -> ParseError
     ensures { result ≡ fault_at fault place }
 {
     match fault {
@@ -296,14 +296,50 @@ fn at(fault: Fault, place: usize) -> ParseError
     }
 }
 
-/// The tokens of the text, each with its offset.
-pub(crate) fn lex(alloc: Global, text: &str) -> Result<Vec<Placed>, ParseError>
-    ensures found { IfOk result (λ placed. AreItemsOf text.now (items placed.items)) }
-    ensures refused { IfErr result (IsRefusal text.now) }
+/// Where the tokens of a text end: with the text, or before what is no token.
+#[derive(Clone, Copy, Debug)]
+pub(crate) struct Ending {
+    pub(crate) place: usize,
+    /// Why no token begins there, if the text does not end.
+    pub(crate) fault: Option<Fault>,
+}
+
+/// The tokens of a text from the front, and where they end.
+#[derive(Debug, Drop)]
+pub(crate) struct Lexed {
+    pub(crate) tokens: Vec<Placed>,
+    pub(crate) ending: Ending,
+}
+
+/// The tokens before an offset where none was read.
+fn stopped(tokens: Vec<Placed>, place: usize, fault: Fault) -> Result<Lexed, ParseError>
+    ensures { result ≡ stopped tokens place fault }
+{
+    match fault {
+        Fault::OutOfMemory => {
+            drop(tokens);
+            Err(ParseError::OutOfMemory)
+        }
+        Fault::NumberTooLong | Fault::BadText => Ok(Lexed {
+            tokens,
+            ending: Ending {
+                place,
+                fault: Some(fault),
+            },
+        }),
+    }
+}
+
+/// The tokens of the text, each with its offset, up to its end or to the first offset where none
+/// begins.
+pub(crate) fn lex(alloc: Global, text: &str) -> Result<Lexed, ParseError>
+    ensures found { IfOk result (λ lexed. EndsAt text.now (items lexed.tokens.items) lexed.ending) }
+    ensures refused { IfErr result (λ e. e ≡ ParseError.OutOfMemory) }
     ensures canonical { (ts : List TokenTree) → AreTokens ts → text.now ≡ canonical ts →
-        MatchResult result (λ placed. trees placed.items ≡ ts) (λ e. e ≡ ParseError.OutOfMemory) }
-    ensures places { IfOk result (λ placed. AllByRecursion (λ p. p.place ≤ length text.now) placed.items) }
-    ensures place { IfErr result (IsPlaced (length text.now)) }
+        IfOk result (λ lexed. (trees lexed.tokens.items ≡ ts) × (lexed.ending.fault ≡ None)) }
+    ensures places { IfOk result (λ lexed.
+        AllByRecursion (λ p. p.place ≤ lexed.ending.place) lexed.tokens.items) }
+    ensures place { IfOk result (λ lexed. lexed.ending.place ≤ length text.now) }
 {
     let mut placed = Vec::new(alloc);
     let mut rest = text.trim_ascii_start();
@@ -314,8 +350,14 @@ pub(crate) fn lex(alloc: Global, text: &str) -> Result<Vec<Placed>, ParseError>
                 placed.push(Placed { token, place })?;
                 rest = after.trim_ascii_start();
             }
-            Err(fault) => return Err(at(fault, place)),
+            Err(fault) => return stopped(placed, place, fault),
         }
     }
-    Ok(placed)
+    Ok(Lexed {
+        tokens: placed,
+        ending: Ending {
+            place: text.len(),
+            fault: None,
+        },
+    })
 }

@@ -5,6 +5,7 @@
 
 mod column;
 mod error;
+pub mod laws;
 mod lex;
 mod parsing;
 mod print;

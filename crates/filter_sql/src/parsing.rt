@@ -9,7 +9,7 @@ mod literals;
 mod predicates;
 mod tokens;
 
-ghost use Rattle.std.specs.Prelude.{◌≡◌, ◌≤◌, ℕ, List, IfErr, IfOk, Some, length};
+ghost use Rattle.std.specs.Prelude.{◌≡◌, ◌≤◌, ℕ, List, IfErr, IfOk, None, OnOk, Some, length};
 ghost use Rattle.std.specs.List.{AllByRecursion};
 ghost use Rattle.vortex_filter.specs.Checking.{FitsColumns};
 ghost use Rattle.filter_sql.specs.Columns.{column_trees};
@@ -18,14 +18,14 @@ ghost use Rattle.vortex_filter.specs.FilterLiterals.{AreValid, literals_of};
 ghost use Rattle.vortex_filter.specs.Formula.{Formula, formula};
 ghost use Rattle.filter_sql.specs.Parsing.{AllOrdered, IsReadable, IsSql, IsSqlWithin, ReadsAs, RefusesSql, RefusesSqlWithin, depth, depth as text_depth, types_of};
 ghost use Rattle.filter_sql.specs.Printing.{sql_text};
-ghost use Rattle.filter_sql.specs.Mistakes.{IsFaultIn, caused, error_of, filter_mistake, place_where};
+ghost use Rattle.filter_sql.specs.Mistakes.{IsFaultIn, caused, error_at, error_of, filter_mistake, if_whole, place_where};
 ghost use Rattle.filter_sql.specs.Reading.{filter_at};
 ghost use Rattle.filter_sql.specs.Texts.{items};
 ghost use Rattle.filter_sql.specs.Tokens.{trees};
 
 use crate::column::Column;
 use crate::error::ParseError;
-use crate::lex::lex;
+use crate::lex::{Ending, Fault as Unread, at, lex};
 use crate::token::Placed;
 use fault::{Cause, Fault};
 use filters::filter_of;
@@ -41,7 +41,8 @@ pub const MAX_DEPTH: usize = 256;
 /// first column, and so on. A literal takes the column's type. A number that the type lacks
 /// makes a comparison what it is for each value: True or False, and Unknown for a null.
 ///
-/// `TooDeep` if more than `MAX_DEPTH` connectives and parentheses nest.
+/// `TooDeep` if more than `MAX_DEPTH` connectives and parentheses nest. Of several mistakes the
+/// first one from the front is told.
 pub fn parse(alloc: Global, text: &str, columns: &[Column]) -> Result<Filter, ParseError>
     // What is read is what the grammar says.
     ensures read { IfOk result (λ filter.
@@ -83,43 +84,77 @@ pub fn parse_within(
         (RefusesSqlWithin depth (column_trees columns.now) text.now) }
     ensures placed { IfErr result (IsPlaced (length text.now)) }
 {
-    let tokens = lex(alloc, text)?;
-    filter_in(alloc, columns, &tokens, text.len(), depth)
+    let lexed = lex(alloc, text)?;
+    filter_in(alloc, columns, &lexed.tokens, lexed.ending, depth)
 }
 
-/// The filter that the tokens of a text of this length are.
+/// The filter that the tokens of a text are, if it ends with them.
 fn filter_in(
     alloc: Global,
     columns: &[Column],
     tokens: &[Placed],
-    end: usize,
+    ending: Ending,
     depth: usize,
 ) -> Result<Filter, ParseError>
-    requires { AllByRecursion (λ p. p.place ≤ end) tokens.now }
+    requires { AllByRecursion (λ p. p.place ≤ ending.place) tokens.now }
+    ensures whole { OnOk result (ending.fault ≡ None) }
     ensures given { IfOk result (λ filter.
         filter_at (column_trees columns.now) depth (trees tokens.now) ≡ Some (formula filter)) }
     ensures valid { IfOk result (λ filter. AreValid (literals_of filter)) }
     ensures refused { IfErr result
-        (IsFaultIn (items tokens.now) end
+        (IsFaultIn (items tokens.now) ending
         (filter_at (column_trees columns.now) depth (trees tokens.now))
         (filter_mistake (column_trees columns.now) depth (trees tokens.now))) }
-    ensures placed { IfErr result (IsPlaced end) }
+    ensures placed { IfErr result (IsPlaced ending.place) }
 {
     match filter_of(alloc, columns, tokens, depth) {
-        Ok(filter) => Ok(filter),
-        Err(fault) => Err(placed(fault, tokens, end)),
+        Ok(filter) => ended(filter, ending),
+        Err(fault) => Err(placed(fault, tokens, ending)),
     }
 }
 
-/// The error for a fault among the tokens of a text of this length.
-fn placed(fault: Fault, tokens: &[Placed], end: usize) -> ParseError
-    requires { AllByRecursion (λ p. p.place ≤ end) tokens.now }
-    ensures error { result ≡ error_of (items tokens.now) end fault }
-    ensures placed { IsPlaced end result }
+/// The filter, if the text ends behind it.
+fn ended(filter: Filter, ending: Ending) -> Result<Filter, ParseError>
+    ensures { result ≡ if_whole ending.place ending.fault filter }
+{
+    match ending.fault {
+        None => Ok(filter),
+        Some(fault) => {
+            drop(filter);
+            Err(at(fault, ending.place))
+        }
+    }
+}
+
+/// The error for a fault among the tokens of a text, which end so.
+fn placed(fault: Fault, tokens: &[Placed], ending: Ending) -> ParseError
+    requires { AllByRecursion (λ p. p.place ≤ ending.place) tokens.now }
+    ensures error { result ≡ error_of (items tokens.now) ending fault }
+    ensures placed { IsPlaced ending.place result }
 {
     match fault {
         Fault::NoMemory => ParseError::OutOfMemory,
-        Fault::At(left, cause) => caused(place_at(tokens, left, end), cause),
+        Fault::At(left, cause) => mistake_at(left, cause, tokens, ending.place, ending.fault),
+    }
+}
+
+/// The error of a mistake where so many tokens are left, before an end where no token begins for
+/// this fault.
+#[tactic(auto, using(crate::proofs::ParseSteps::mistakes))]
+fn mistake_at(
+    left: usize,
+    cause: Cause,
+    tokens: &[Placed],
+    end: usize,
+    fault: Option<Unread>,
+) -> ParseError
+    requires { AllByRecursion (λ p. p.place ≤ end) tokens.now }
+    ensures error { result ≡ error_at (items tokens.now) end fault left cause }
+    ensures placed { IsPlaced end result }
+{
+    match fault {
+        Some(fault) if left == 0 => at(fault, end),
+        _ => caused(place_at(tokens, left, end), cause),
     }
 }
 

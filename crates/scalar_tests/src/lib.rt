@@ -8,6 +8,7 @@
 pub mod columns_of_keys;
 pub mod fillings;
 pub mod filter_laws;
+pub mod filter_texts;
 #[cfg(test)]
 mod fixtures;
 #[cfg(test)]

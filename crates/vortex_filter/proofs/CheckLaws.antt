@@ -23,13 +23,13 @@ capped_sum m n = omega arith
 
 -- ---- several tests
 
-module _ (P : TypeTree → Cell → Type 0) (columns : List TypeTree) where
-  pub fit_both : (ps qs : List Test) → AllFit P columns ps → AllFit P columns qs → AllFit P columns (ps ++ qs)
+module _ {X : Type 0} (P : TypeTree → X → Type 0) (columns : List TypeTree) where
+  pub fit_both : (ps qs : List (Test X)) → AllFit P columns ps → AllFit P columns qs → AllFit P columns (ps ++ qs)
   fit_both [] qs h k = k
   fit_both (p ∷ ps) qs h k = (h.0, fit_both ps qs h.1 k)
 
   -- the first of the front is the first
-  pub refuses_front : (ps qs : List Test) (e : FilterError) → RefusesFirst P columns ps e → RefusesFirst P columns (ps ++ qs) e
+  pub refuses_front : (ps qs : List (Test X)) (e : FilterError) → RefusesFirst P columns ps e → RefusesFirst P columns (ps ++ qs) e
   refuses_front ps qs e r = record {
     before = r.before;
     test = r.test;
@@ -39,14 +39,14 @@ module _ (P : TypeTree → Cell → Type 0) (columns : List TypeTree) where
     cause = r.cause;
   }
 
-  moved : (count : ℕ) (front number : ℕ) (test : Test) (e : FilterError) → count ≡ capped front → Refuses P columns (capped number) test e → Refuses P columns (capped (front + number)) test (behind count e)
+  moved : (count : ℕ) (front number : ℕ) (test : Test X) (e : FilterError) → count ≡ capped front → Refuses P columns (capped number) test e → Refuses P columns (capped (front + number)) test (behind count e)
   moved count front number test OutOfMemory h r = absurd r
   moved count front number test (NoColumn n k) h r = (ap capped (ap (λ m. m + n) h ∙ ap (λ m. capped front + m) r.0) ∙ capped_sum front number, r.1, r.2)
   moved count front number test (HasVariant n k) h r = (ap capped (ap (λ m. m + n) h ∙ ap (λ m. capped front + m) r.0) ∙ capped_sum front number, r.1, r.2)
   moved count front number test (TypesDiffer n k) h r = (ap capped (ap (λ m. m + n) h ∙ ap (λ m. capped front + m) r.0) ∙ capped_sum front number, r.1, r.2)
 
   -- if each of the front fits, the first of the rest is the first
-  pub refuses_behind : (ps qs : List Test) (count : ℕ) (e : FilterError) → count ≡ capped (length ps) → AllFit P columns ps → RefusesFirst P columns qs e → RefusesFirst P columns (ps ++ qs) (behind count e)
+  pub refuses_behind : (ps qs : List (Test X)) (count : ℕ) (e : FilterError) → count ≡ capped (length ps) → AllFit P columns ps → RefusesFirst P columns qs e → RefusesFirst P columns (ps ++ qs) (behind count e)
   refuses_behind ps qs count e h k r = record {
     before = ps ++ r.before;
     test = r.test;
@@ -62,34 +62,34 @@ module _ (P : TypeTree → Cell → Type 0) (columns : List TypeTree) where
   same_column Q None t e h = absurd h
   same_column Q (Some s) t e h = subst Q (same_Some s t e) h
 
-  never_refused : (number : ℕ) (test : Test) (e : FilterError) → Fits P columns test → Refuses P columns number test e → ⊥
+  never_refused : (number : ℕ) (test : Test X) (e : FilterError) → Fits P columns test → Refuses P columns number test e → ⊥
   never_refused number test OutOfMemory f r = r
   never_refused number test (NoColumn n k) f r = none-some f.dtype (sym r.2 ∙ f.there)
   never_refused number test (HasVariant n k) f r = same_column (λ t. ¬ (IsOrderedFor test.demand t)) (slice_get columns test.column) f.dtype f.there r.2 f.ordered
   never_refused number test (TypesDiffer n k) f r = (same_column (λ t. IsOrderedFor test.demand t × ¬ (Suits P test.demand t)) (slice_get columns test.column) f.dtype f.there r.2).1 f.suits
 
-  fit_in : (before : List Test) (test : Test) (after : List Test) → AllFit P columns (before ++ test ∷ after) → Fits P columns test
+  fit_in : (before : List (Test X)) (test : Test X) (after : List (Test X)) → AllFit P columns (before ++ test ∷ after) → Fits P columns test
   fit_in [] test after h = h.0
   fit_in (t ∷ before) test after h = fit_in before test after h.1
 
-  pub not_both : (ts : List Test) (e : FilterError) → AllFit P columns ts → RefusesFirst P columns ts e → ⊥
+  pub not_both : (ts : List (Test X)) (e : FilterError) → AllFit P columns ts → RefusesFirst P columns ts e → ⊥
   not_both ts e h r = never_refused (capped (length r.before)) r.test e (fit_in r.before r.test r.after (subst (AllFit P columns) r.parts h)) r.cause
 
   -- ---- one test
 
-  pub fit_one : (k : ℕ) (d : Demand) (t : TypeTree) → slice_get columns k ≡ Some t → IsOrderedFor d t → Suits P d t → AllFit P columns (record { column = k; demand = d } ∷ [])
+  pub fit_one : (k : ℕ) (d : Demand X) (t : TypeTree) → slice_get columns k ≡ Some t → IsOrderedFor d t → Suits P d t → AllFit P columns (record { column = k; demand = d } ∷ [])
   fit_one k d t e o s = (record { dtype = t; there = e; ordered = o; suits = s }, tt)
 
-  pub refuses_one : (k : ℕ) (d : Demand) (e : FilterError) → Refuses P columns 0 (record { column = k; demand = d }) e → RefusesFirst P columns (record { column = k; demand = d } ∷ []) e
+  pub refuses_one : (k : ℕ) (d : Demand X) (e : FilterError) → Refuses P columns 0 (record { column = k; demand = d }) e → RefusesFirst P columns (record { column = k; demand = d } ∷ []) e
   refuses_one k d e r = record { before = []; test = record { column = k; demand = d }; after = []; parts = refl; fit = tt; cause = r }
 
 -- ---- what the code answers
 
 -- a filter with these tests is taken if each fits, and else refused for the first that does not
-abbrev pub Answers : {T : Type 0} → (TypeTree → Cell → Type 0) → List TypeTree → List Test → Result T FilterError → Type 0
+abbrev pub Answers : {T : Type 0} → (TypeTree → Cell → Type 0) → List TypeTree → List (Test Cell) → Result T FilterError → Type 0
 Answers P columns ts r = MatchResult r (λ _. AllFit P columns ts) (RefusesFirst P columns ts)
 
-pub answers_both : (P : TypeTree → Cell → Type 0) (columns : List TypeTree) (ps qs : List Test) (r s : Result (Unit {0}) FilterError) → Answers P columns ps r → Answers P columns qs s
+pub answers_both : (P : TypeTree → Cell → Type 0) (columns : List TypeTree) (ps qs : List (Test Cell)) (r s : Result (Unit {0}) FilterError) → Answers P columns ps r → Answers P columns qs s
     → Answers P columns (ps ++ qs) (answer_of_both (capped (length ps)) r s)
 answers_both P columns ps qs (Err e) s h k = refuses_front P columns ps qs e h
 answers_both P columns ps qs (Ok x) (Err e) h k = refuses_behind P columns ps qs (capped (length ps)) e refl h k
@@ -111,25 +111,25 @@ strings_test (utf8_type n) = ((λ e. tt), (λ e. absurd (false≢true (sym e))))
 strings_test (binary_type n) = ((λ e. tt), (λ e. absurd (false≢true (sym e))))
 strings_test _ = ((λ e. absurd (false≢true e)), (λ e h. h))
 
-suits_test : (d : Demand) (t : TypeTree) → (suits d t ≡ true → Suits IsOfType d t) × (suits d t ≡ false → ¬ (Suits IsOfType d t))
+suits_test : (d : Demand Cell) (t : TypeTree) → (suits d t ≡ true → Suits IsOfType d t) × (suits d t ≡ false → ¬ (Suits IsOfType d t))
 suits_test nothing t = ((λ e. tt), (λ e. absurd (false≢true (sym e))))
 suits_test (comparing xs) t = all_test t xs
 suits_test (beginning p) t = both_true (holds_strings t) (same_type t p.typed) (HoldsStrings t) (Same t p.typed) (strings_test t) (same_test t p.typed)
 
-pub order_test : (d : Demand) (t : TypeTree) → (lacks_order d t ≡ false → IsOrderedFor d t) × (lacks_order d t ≡ true → ¬ (IsOrderedFor d t))
+pub order_test : (d : Demand Cell) (t : TypeTree) → (lacks_order d t ≡ false → IsOrderedFor d t) × (lacks_order d t ≡ true → ¬ (IsOrderedFor d t))
 order_test nothing t = ((λ e. tt), (λ e. absurd (false≢true e)))
 order_test (comparing xs) t = (none-from_test t, (λ e h. true≢false (sym e ∙ test-from_none t h)))
 order_test (beginning p) t = (none-from_test t, (λ e h. true≢false (sym e ∙ test-from_none t h)))
 
 -- a test is refused at its column
-pub test_refused : (P : TypeTree → Cell → Type 0) (columns : List TypeTree) (k : ℕ) (d : Demand) (o : Option TypeTree) (e : FilterError) → slice_get columns k ≡ o
+pub test_refused : (P : TypeTree → Cell → Type 0) (columns : List TypeTree) (k : ℕ) (d : Demand Cell) (o : Option TypeTree) (e : FilterError) → slice_get columns k ≡ o
     → Refuses P columns 0 (record { column = k; demand = d }) e → RefusesFirst P columns (record { column = k; demand = d } ∷ []) e
 test_refused P columns k d o e h r = refuses_one P columns k d e r
 
 abbrev fine : Result (Unit {0}) FilterError
 fine = Ok tt
 
-test_answers : (columns : List TypeTree) (k : ℕ) (d : Demand) (o : Option TypeTree) → slice_get columns k ≡ o → Answers IsOfType columns (record { column = k; demand = d } ∷ []) (checked_test o d k)
+test_answers : (columns : List TypeTree) (k : ℕ) (d : Demand Cell) (o : Option TypeTree) → slice_get columns k ≡ o → Answers IsOfType columns (record { column = k; demand = d } ∷ []) (checked_test o d k)
 test_answers columns k d None h = refuses_one IsOfType columns k d (NoColumn 0 k) (refl, refl, h)
 test_answers columns k d (Some t) h = by_order (lacks_order d t) refl
   where

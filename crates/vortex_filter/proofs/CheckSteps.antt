@@ -33,7 +33,7 @@ all_are t [] = refl
 all_are t (x ∷ xs) = ap (λ b. same_type t (scalar_type x) && b) (all_are t xs)
 
 -- the counts of two parts
-pub count_of_both : (ps qs : List Test) → capped (length (ps ++ qs)) ≡ capped (capped (length ps) + capped (length qs))
+pub count_of_both : {X : Type 0} (ps qs : List (Test X)) → capped (length (ps ++ qs)) ≡ capped (capped (length ps) + capped (length qs))
 count_of_both ps qs = ap capped (length-append ps qs) ∙ sym (capped_sum (length ps) (length qs))
 
 pub ruleset counts = (count_of_both, formula-Constant, formula-Compare, formula-IsNull, formula-In, formula-Between, formula-StartsWith, formula-And, formula-Or, formula-Not)

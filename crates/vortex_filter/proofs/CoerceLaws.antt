@@ -25,7 +25,7 @@ use Rattle.vortex_filter.specs.declared.operator.CompareOperator.TheVariants.{Eq
 use Rattle.vortex_filter.specs.declared.truth.Truth.{Truth}
 use Rattle.vortex_filter.specs.declared.truth.Truth.TheVariants.{False, Unknown, True}
 use Rattle.vortex_filter.specs.Checking.{AllFit, IsOfType, Test, tests}
-use Rattle.vortex_filter.specs.Coercing.{IsCoercible, by_column, coerced, coerced_cell, coerced_comparison, coerced_range, for_values, kept_cells, lacks, lacks_number, membership_of, side}
+use Rattle.vortex_filter.specs.Coercing.{by_column, coerced, coerced_cell, coerced_comparison, coerced_range, for_values, kept_cells, lacks, lacks_number, membership_of, side}
 use Rattle.vortex_filter.specs.Formula.{Formula, constant, comparison, null_test, membership, range, prefix_test, both, either, negation, cell_at, compare_truth, member_truth, order_truth, truth}
 use Rattle.vortex_filter.specs.Operators.{holds}
 use Rattle.vortex_filter.specs.Prefixes.{begins, begins_truth, prefix_truth}
@@ -337,15 +337,19 @@ membership_truth nullable t k (x ∷ xs) row m = by_cell m (either_way (is_null_
 
 -- ---- formulas
 
-pub fits_left : (P : TypeTree → Cell → Type 0) (columns : List TypeTree) (ps qs : List Test) → AllFit P columns (ps ++ qs) → AllFit P columns ps
+-- of any literal: only the column of a test counts
+abbrev pub AnyLiteral : TypeTree → Cell → Type 0
+AnyLiteral t x = Unit {0}
+
+pub fits_left : (P : TypeTree → Cell → Type 0) (columns : List TypeTree) (ps qs : List (Test Cell)) → AllFit P columns (ps ++ qs) → AllFit P columns ps
 fits_left P columns [] qs h = tt
 fits_left P columns (p ∷ ps) qs h = (h.0, fits_left P columns ps qs h.1)
 
-pub fits_right : (P : TypeTree → Cell → Type 0) (columns : List TypeTree) (ps qs : List Test) → AllFit P columns (ps ++ qs) → AllFit P columns qs
+pub fits_right : (P : TypeTree → Cell → Type 0) (columns : List TypeTree) (ps qs : List (Test Cell)) → AllFit P columns (ps ++ qs) → AllFit P columns qs
 fits_right P columns [] qs h = h
 fits_right P columns (p ∷ ps) qs h = fits_right P columns ps qs h.1
 
-pub coerced_truth : NullableIsSame → (columns : List TypeTree) (f : Formula) (row : List Cell) → IsRowOf columns row → AllFit IsCoercible columns (tests f) → truth (coerced columns f) row ≡ content_truth f row
+pub coerced_truth : NullableIsSame → (columns : List TypeTree) (f : Formula) (row : List Cell) → IsRowOf columns row → AllFit AnyLiteral columns (tests f) → truth (coerced columns f) row ≡ content_truth f row
 coerced_truth nullable columns (constant t) row r h = refl
 coerced_truth nullable columns (comparison k op x) row r h =
     ap (λ o. truth (by_column o (comparison k op x) (λ t. coerced_comparison t k op x)) row) h.0.there
@@ -365,9 +369,9 @@ coerced_truth nullable columns (prefix_test k p) row r h =
     ∙ cast_prefix nullable h.0.dtype (cell_at row k) p (cell_is_of columns row k h.0.dtype r h.0.there)
     ∙ sym (ap (λ c. prefix_truth c (untyped_cell p)) (untyped_at row k))
 coerced_truth nullable columns (both f g) row r h =
-    ap₂ truth_and (coerced_truth nullable columns f row r (fits_left IsCoercible columns (tests f) (tests g) h)) (coerced_truth nullable columns g row r (fits_right IsCoercible columns (tests f) (tests g) h))
+    ap₂ truth_and (coerced_truth nullable columns f row r (fits_left AnyLiteral columns (tests f) (tests g) h)) (coerced_truth nullable columns g row r (fits_right AnyLiteral columns (tests f) (tests g) h))
 coerced_truth nullable columns (either f g) row r h =
-    ap₂ truth_or (coerced_truth nullable columns f row r (fits_left IsCoercible columns (tests f) (tests g) h)) (coerced_truth nullable columns g row r (fits_right IsCoercible columns (tests f) (tests g) h))
+    ap₂ truth_or (coerced_truth nullable columns f row r (fits_left AnyLiteral columns (tests f) (tests g) h)) (coerced_truth nullable columns g row r (fits_right AnyLiteral columns (tests f) (tests g) h))
 coerced_truth nullable columns (negation f) row r h = ap truth_not (coerced_truth nullable columns f row r h)
 
 -- ---- a coerced formula fits
@@ -405,7 +409,7 @@ module _ (nullable : NullableIsSame) (columns : List TypeTree) (k : ℕ) (t : Ty
     membership_fits (x ∷ xs) [] h = settled_fits false
     membership_fits xs (y ∷ ys) h = (record { dtype = t; there = there; ordered = ordered; suits = h }, tt)
 
-pub coerced_fits : NullableIsSame → (columns : List TypeTree) (f : Formula) → AllFit IsCoercible columns (tests f) → AllFit IsOfType columns (tests (coerced columns f))
+pub coerced_fits : NullableIsSame → (columns : List TypeTree) (f : Formula) → AllFit AnyLiteral columns (tests f) → AllFit IsOfType columns (tests (coerced columns f))
 coerced_fits nullable columns (constant t) h = tt
 coerced_fits nullable columns (comparison k op x) h =
     subst (λ o. AllFit IsOfType columns (tests (by_column o (comparison k op x) (λ t. coerced_comparison t k op x)))) (sym h.0.there) (comparison_fits nullable columns k h.0.dtype h.0.there h.0.ordered op x)
@@ -419,7 +423,7 @@ coerced_fits nullable columns (prefix_test k p) h =
     subst (λ o. AllFit IsOfType columns (tests (by_column o (prefix_test k p) (λ t. prefix_test k (coerced_cell t p))))) (sym h.0.there)
     (record { dtype = h.0.dtype; there = h.0.there; ordered = h.0.ordered; suits = (h.0.suits.0, coerced_same nullable h.0.dtype p) }, tt)
 coerced_fits nullable columns (both f g) h =
-    fit_both IsOfType columns (tests (coerced columns f)) (tests (coerced columns g)) (coerced_fits nullable columns f (fits_left IsCoercible columns (tests f) (tests g) h)) (coerced_fits nullable columns g (fits_right IsCoercible columns (tests f) (tests g) h))
+    fit_both IsOfType columns (tests (coerced columns f)) (tests (coerced columns g)) (coerced_fits nullable columns f (fits_left AnyLiteral columns (tests f) (tests g) h)) (coerced_fits nullable columns g (fits_right AnyLiteral columns (tests f) (tests g) h))
 coerced_fits nullable columns (either f g) h =
-    fit_both IsOfType columns (tests (coerced columns f)) (tests (coerced columns g)) (coerced_fits nullable columns f (fits_left IsCoercible columns (tests f) (tests g) h)) (coerced_fits nullable columns g (fits_right IsCoercible columns (tests f) (tests g) h))
+    fit_both IsOfType columns (tests (coerced columns f)) (tests (coerced columns g)) (coerced_fits nullable columns f (fits_left AnyLiteral columns (tests f) (tests g) h)) (coerced_fits nullable columns g (fits_right AnyLiteral columns (tests f) (tests g) h))
 coerced_fits nullable columns (negation f) h = coerced_fits nullable columns f h

@@ -5,7 +5,7 @@ use Rattle.std.specs.List.{AllByRecursion, filter, slice_get}
 use Rattle.std.specs.Option.{IsSomeAnd}
 use Rattle.std.proofs.lemmas.Bool.{false≢true}
 use Rattle.std.proofs.lemmas.Bool.Decides.{nat_tests}
-use Rattle.std.proofs.lemmas.List.{map-append, take_all}
+use Rattle.std.proofs.lemmas.List.{map-append, take_all, take_more}
 use Rattle.std.proofs.lemmas.Result.{err_from_is_err_and}
 use Rattle.vortex_dtype.specs.TypeOf.{type_of}
 use Rattle.vortex_dtype.specs.TypeTree.{TypeTree, as_nullable, binary_type, integer_type, utf8_type}
@@ -29,7 +29,6 @@ use Rattle.vortex_value.specs.Values.Content.{Content, whole}
 use Rattle.vortex_value.specs.Values.Scalars.{IsValid, scalar_content, scalar_raw, scalar_type}
 use Rattle.vortex_value.specs.declared.scalars.Scalar.{Scalar}
 use Rattle.vortex_cells.specs.Cells.{Cell, cell_of}
-use Rattle.vortex_cells.proofs.CellLaws.{cells_more}
 use Rattle.vortex_filter.specs.declared.error.FilterError.{FilterError}
 use Rattle.vortex_filter.specs.declared.error.FilterError.TheVariants.{OutOfMemory, NoColumn, HasVariant, TypesDiffer}
 use Rattle.vortex_filter.specs.declared.filter.Filter.{Filter, Constant, Compare, IsNull, In, Between, StartsWith, And, Or}
@@ -37,20 +36,21 @@ use Rattle.vortex_filter.specs.declared.operator.CompareOperator.{CompareOperato
 use Rattle.vortex_filter.specs.declared.operator.CompareOperator.TheVariants.{Gte, Lte}
 use Rattle.vortex_filter.specs.declared.truth.Truth.{Truth}
 use Rattle.vortex_filter.specs.CheckSteps.{answer_behind, behind, holds_strings}
-use Rattle.vortex_filter.specs.Checking.{AllFit, Demand, FitsColumns, IsOrderedFor, RefusesFirst, Suits, beginning, comparing, nothing, tests}
-use Rattle.vortex_filter.specs.Coerces.{Coerces, CoercesLiteral, CoercesLiterals, CoercesTest, GivesOrdered, Pushes, RefusesLiterals, all_left_out, integer_in, lacks_of, number_in, side_of, with_cell}
+use Rattle.vortex_filter.specs.Checking.{AllFit, Demand, FitsColumns, IsOrderedFor, RefusesFirst, Suits, Test, asks, beginning, comparing, nothing, tests}
+use Rattle.vortex_filter.specs.Coerces.{Coerces, CoercesLiteral, CoercesLiterals, CoercesTest, GivesOrdered, MayHave, Pushes, RefusesLiterals, TellsEnds, TellsLacking, all_left_out, integer_in, lacks_of, number_in, side_of, with_cell}
 use Rattle.vortex_filter.specs.Coercing.{IsCoercible, by_column, coerced, coerced_cell, coerced_comparison, coerced_range, for_values, kept_cells, lacks, lacks_number, membership_of, side}
 use Rattle.vortex_filter.specs.Formula.{Formula, constant, comparison, null_test, membership, range, prefix_test, both, either, negation, formula, truth}
-use Rattle.vortex_filter.specs.FilterLiterals.{AreValid, exactly_of, literals_of}
+use Rattle.vortex_filter.specs.FilterLiterals.{AreValid, exactly_of, literal_tests, literals_of}
 use Rattle.vortex_filter.specs.Makes.{Makes, OfParts}
 use Rattle.vortex_filter.specs.Operators.{holds}
 use Rattle.vortex_filter.specs.Rows.{IsRowOf, content_truth}
 use Rattle.vortex_cells.specs.Variants.{has_variant}
-use Rattle.vortex_filter.proofs.CheckLaws.{fit_both, fit_one, refuses_behind, refuses_front, refuses_one, strings_test}
+use Rattle.vortex_filter.proofs.CheckLaws.{fit_both, fit_one, not_both, refuses_behind, refuses_front, refuses_one, strings_test}
 use Rattle.vortex_filter.proofs.CoerceLaws.{NullableIsSame, coerced_fits, coerced_truth}
 use Rattle.vortex_filter.proofs.FitProofs.{coerced_itself}
 use Rattle.vortex_filter.proofs.LiteralSteps.{constant_valid, copy_valid, literals-And, literals-Between, literals-Compare, literals-Constant, literals-In, literals-IsNull, literals-Not, literals-Or, literals-StartsWith, valid_left, valid_right, valid_same, valid_with}
 use Rattle.vortex_filter.proofs.Steps.{formula-And, formula-Between, formula-Compare, formula-Constant, formula-In, formula-IsNull, formula-Not, formula-Or, formula-StartsWith}
+use Rattle.vortex_filter.proofs.TestSteps.{coercible_columns, count_is, fitting_coercible, tests-And, tests-Between, tests-Compare, tests-Constant, tests-In, tests-IsNull, tests-Not, tests-Or, tests-StartsWith}
 use Rattle.vortex_cells.proofs.VariantSteps.{none-from_test, test-from_none}
 
 -- ---- connectives
@@ -59,136 +59,130 @@ use Rattle.vortex_cells.proofs.VariantSteps.{none-from_test, test-from_none}
 abbrev Joins : Result Filter FilterError → Result Filter FilterError → Result Filter FilterError → Type 0
 Joins l r s = OfParts (λ a b. IfOk s (λ x. literals_of x ≡ literals_of a ++ literals_of b)) (λ e. s ≡ Err e) l r
 
-module _ (columns : List TypeTree) (join : Formula → Formula → Formula) (f g : Formula) (ls rs : List Scalar)
-    (parts : tests (join f g) ≡ tests f ++ tests g) (made : coerced columns (join f g) ≡ join (coerced columns f) (coerced columns g)) where
-  refused_here : (e : FilterError) → (e ≡ OutOfMemory) ⊎ (AreValid (ls ++ rs) → RefusesFirst IsCoercible columns (tests f ++ tests g) e) → (s : Result Filter FilterError) → s ≡ Err e → Coerces columns (join f g) (AreValid (ls ++ rs)) s
-  refused_here e h s w = subst (Coerces columns (join f g) (AreValid (ls ++ rs))) (sym w) (there h)
-    where
-      there : (e ≡ OutOfMemory) ⊎ (AreValid (ls ++ rs) → RefusesFirst IsCoercible columns (tests f ++ tests g) e) → Coerces columns (join f g) (AreValid (ls ++ rs)) (Err e)
-      there (inl o) = inl o
-      there (inr p) = inr (λ v. subst (λ ts. RefusesFirst IsCoercible columns ts e) (sym parts) (p v))
+module _ (columns : List TypeTree) (join : Formula → Formula → Formula) (f g : Formula) (ps qs : List (Test Scalar)) (ls rs : List Scalar) (made : coerced columns (join f g) ≡ join (coerced columns f) (coerced columns g)) where
+  refused_here : (e : FilterError) → (e ≡ OutOfMemory) ⊎ RefusesFirst IsCoercible columns (ps ++ qs) e → (s : Result Filter FilterError) → s ≡ Err e → Coerces columns (join f g) (ps ++ qs) (ls ++ rs) s
+  refused_here e h s w = subst (Coerces columns (join f g) (ps ++ qs) (ls ++ rs)) (sym w) h
 
-  made_here : (a b : Filter) (s : Result Filter FilterError) → Coerces columns f (AreValid ls) (Ok a) → Coerces columns g (AreValid rs) (Ok b)
-      → Makes (join (formula a) (formula b)) s → IfOk s (λ x. literals_of x ≡ literals_of a ++ literals_of b) → Coerces columns (join f g) (AreValid (ls ++ rs)) s
+  made_here : (a b : Filter) (s : Result Filter FilterError) → Coerces columns f ps ls (Ok a) → Coerces columns g qs rs (Ok b)
+      → Makes (join (formula a) (formula b)) s → IfOk s (λ x. literals_of x ≡ literals_of a ++ literals_of b) → Coerces columns (join f g) (ps ++ qs) (ls ++ rs) s
   made_here a b (Ok x) h k w m = (
     w ∙ ap₂ join h.0 k.0 ∙ sym made,
-    subst (AllFit IsCoercible columns) (sym parts) (fit_both IsCoercible columns (tests f) (tests g) h.1 k.1),
+    fit_both IsCoercible columns ps qs h.1 k.1,
     λ v. valid_with (literals_of x) (literals_of a) (literals_of b) m (h.2 (valid_left ls rs v)) (k.2 (valid_right ls rs v)),
   )
   made_here a b (Err e) h k w m = inl w
 
-  joined_coerces : (l r s : Result Filter FilterError) → Coerces columns f (AreValid ls) l → Coerces columns g (AreValid rs) r
-      → OfParts (λ a b. Makes (join (formula a) (formula b)) s) (λ e. s ≡ Err e) l (answer_behind (capped (length (tests f))) r)
-      → Joins l (answer_behind (capped (length (tests f))) r) s → Coerces columns (join f g) (AreValid (ls ++ rs)) s
-  joined_coerces (Err e) r s (inl o) k w m = refused_here e (inl o) s w
-  joined_coerces (Err e) r s (inr p) k w m = refused_here e (inr (λ v. refuses_front IsCoercible columns (tests f) (tests g) e (p (valid_left ls rs v)))) s w
-  joined_coerces (Ok a) (Err e) s h (inl o) w m = refused_here (behind (capped (length (tests f))) e) (inl (ap (behind (capped (length (tests f)))) o)) s w
-  joined_coerces (Ok a) (Err e) s h (inr p) w m =
-      refused_here (behind (capped (length (tests f))) e) (inr (λ v. refuses_behind IsCoercible columns (tests f) (tests g) (capped (length (tests f))) e refl h.1 (p (valid_right ls rs v)))) s w
-  joined_coerces (Ok a) (Ok b) s h k w m = made_here a b s h k w m
+  joined_coerces : (n : ℕ) → n ≡ capped (length ps) → (l r s : Result Filter FilterError) → Coerces columns f ps ls l → Coerces columns g qs rs r
+      → OfParts (λ a b. Makes (join (formula a) (formula b)) s) (λ e. s ≡ Err e) l (answer_behind n r)
+      → Joins l (answer_behind n r) s → Coerces columns (join f g) (ps ++ qs) (ls ++ rs) s
+  joined_coerces n c (Err e) r s (inl o) k w m = refused_here e (inl o) s w
+  joined_coerces n c (Err e) r s (inr p) k w m = refused_here e (inr (refuses_front IsCoercible columns ps qs e p)) s w
+  joined_coerces n c (Ok a) (Err e) s h (inl o) w m = refused_here (behind n e) (inl (ap (behind n) o)) s w
+  joined_coerces n c (Ok a) (Err e) s h (inr p) w m = refused_here (behind n e) (inr (refuses_behind IsCoercible columns ps qs n e c h.1 p)) s w
+  joined_coerces n c (Ok a) (Ok b) s h k w m = made_here a b s h k w m
 
-pub both_coerces : (columns : List TypeTree) (f g : Formula) (ls rs : List Scalar) (l r m s : Result Filter FilterError) → Coerces columns f (AreValid ls) l → Coerces columns g (AreValid rs) r
-    → m ≡ answer_behind (capped (length (tests f))) r → OfParts (λ a b. Makes (both (formula a) (formula b)) s) (λ e. s ≡ Err e) l m → Joins l m s → Coerces columns (both f g) (AreValid (ls ++ rs)) s
-both_coerces columns f g ls rs l r m s h k e w j =
-    joined_coerces columns both f g ls rs refl refl l r s h k (subst (OfParts (λ a b. Makes (both (formula a) (formula b)) s) (λ d. s ≡ Err d) l) e w) (subst (λ q. Joins l q s) e j)
-
-pub either_coerces : (columns : List TypeTree) (f g : Formula) (ls rs : List Scalar) (l r m s : Result Filter FilterError) → Coerces columns f (AreValid ls) l → Coerces columns g (AreValid rs) r
-    → m ≡ answer_behind (capped (length (tests f))) r → OfParts (λ a b. Makes (either (formula a) (formula b)) s) (λ e. s ≡ Err e) l m → Joins l m s → Coerces columns (either f g) (AreValid (ls ++ rs)) s
-either_coerces columns f g ls rs l r m s h k e w j =
-    joined_coerces columns either f g ls rs refl refl l r s h k (subst (OfParts (λ a b. Makes (either (formula a) (formula b)) s) (λ d. s ≡ Err d) l) e w) (subst (λ q. Joins l q s) e j)
+-- how many tests stand in a filter
+counted : (a f : Filter) → a ≡ f → capped (length (tests (formula a))) ≡ capped (length (literal_tests f))
+counted a f d = ap (λ x. capped (length (tests (formula x)))) d ∙ ap capped (count_is f)
 
 module _ (columns : List TypeTree) (F : Filter) (f g : Box Filter Global) (a a' b : Filter) (l r m s : Result Filter FilterError) where
+  -- what a part is, of the filter that the code borrows
+  part_at : (x y : Filter) (q : Result Filter FilterError) → x ≡ y → Coerces columns (formula x) (literal_tests x) (literals_of x) q → Coerces columns (formula y) (literal_tests y) (literals_of y) q
+  part_at x y q d h = subst (λ z. Coerces columns (formula z) (literal_tests z) (literals_of z) q) d h
+
+  whole_at : (p : Formula) (ts : List (Test Scalar)) (vs : List Scalar) (x : Filter) → F ≡ x → formula x ≡ p → literal_tests x ≡ ts → literals_of x ≡ vs → Coerces columns p ts vs s → Coerces columns (formula F) (literal_tests F) (literals_of F) s
+  whole_at p ts vs x q e t v h =
+      subst (λ z. Coerces columns (formula z) (literal_tests z) (literals_of z) s) (sym q)
+      (subst (λ p. Coerces columns p (literal_tests x) (literals_of x) s) (sym e)
+      (subst (λ ts. Coerces columns p ts (literals_of x) s) (sym t)
+      (subst (λ vs. Coerces columns p ts vs s) (sym v) h)))
+
   -- both, as the code borrows its parts
-  pub both_at : F ≡ And f g → a ≡ f.value → a' ≡ f.value → b ≡ g.value → Coerces columns (formula a) (AreValid (literals_of a)) l → Coerces columns (formula b) (AreValid (literals_of b)) r
-      → m ≡ answer_behind (capped (length (tests (formula a')))) r → OfParts (λ x y. Makes (both (formula x) (formula y)) s) (λ e. s ≡ Err e) l m → Joins l m s → Coerces columns (formula F) (AreValid (literals_of F)) s
+  pub both_at : F ≡ And f g → a ≡ f.value → a' ≡ f.value → b ≡ g.value → Coerces columns (formula a) (literal_tests a) (literals_of a) l → Coerces columns (formula b) (literal_tests b) (literals_of b) r
+      → m ≡ answer_behind (capped (length (tests (formula a')))) r → OfParts (λ x y. Makes (both (formula x) (formula y)) s) (λ e. s ≡ Err e) l m → Joins l m s
+      → Coerces columns (formula F) (literal_tests F) (literals_of F) s
   both_at q da da' db h k e w j =
-      subst (λ x. Coerces columns (formula x) (AreValid (literals_of x)) s) (sym q)
-      (subst (λ p. Coerces columns p (AreValid (literals_of (And f g))) s) (sym (formula-And f g))
-      (subst (λ vs. Coerces columns (both (formula f.value) (formula g.value)) (AreValid vs) s) (sym (literals-And f g))
-      (both_coerces columns (formula f.value) (formula g.value) (literals_of f.value) (literals_of g.value) l r m s
-      (subst (λ x. Coerces columns (formula x) (AreValid (literals_of x)) l) da h) (subst (λ x. Coerces columns (formula x) (AreValid (literals_of x)) r) db k)
-      (e ∙ ap (λ x. answer_behind (capped (length (tests (formula x)))) r) da') w j)))
+      whole_at (both (formula f.value) (formula g.value)) (literal_tests f.value ++ literal_tests g.value) (literals_of f.value ++ literals_of g.value) (And f g) q (formula-And f g) (tests-And f g) (literals-And f g)
+      (joined_coerces columns both (formula f.value) (formula g.value) (literal_tests f.value) (literal_tests g.value) (literals_of f.value) (literals_of g.value) refl
+      (capped (length (tests (formula a')))) (counted a' f.value da') l r s (part_at a f.value l da h) (part_at b g.value r db k)
+      (subst (OfParts (λ x y. Makes (both (formula x) (formula y)) s) (λ d. s ≡ Err d) l) e w) (subst (λ q. Joins l q s) e j))
 
-  pub either_at : F ≡ Or f g → a ≡ f.value → a' ≡ f.value → b ≡ g.value → Coerces columns (formula a) (AreValid (literals_of a)) l → Coerces columns (formula b) (AreValid (literals_of b)) r
-      → m ≡ answer_behind (capped (length (tests (formula a')))) r → OfParts (λ x y. Makes (either (formula x) (formula y)) s) (λ e. s ≡ Err e) l m → Joins l m s → Coerces columns (formula F) (AreValid (literals_of F)) s
+  pub either_at : F ≡ Or f g → a ≡ f.value → a' ≡ f.value → b ≡ g.value → Coerces columns (formula a) (literal_tests a) (literals_of a) l → Coerces columns (formula b) (literal_tests b) (literals_of b) r
+      → m ≡ answer_behind (capped (length (tests (formula a')))) r → OfParts (λ x y. Makes (either (formula x) (formula y)) s) (λ e. s ≡ Err e) l m → Joins l m s
+      → Coerces columns (formula F) (literal_tests F) (literals_of F) s
   either_at q da da' db h k e w j =
-      subst (λ x. Coerces columns (formula x) (AreValid (literals_of x)) s) (sym q)
-      (subst (λ p. Coerces columns p (AreValid (literals_of (Or f g))) s) (sym (formula-Or f g))
-      (subst (λ vs. Coerces columns (either (formula f.value) (formula g.value)) (AreValid vs) s) (sym (literals-Or f g))
-      (either_coerces columns (formula f.value) (formula g.value) (literals_of f.value) (literals_of g.value) l r m s
-      (subst (λ x. Coerces columns (formula x) (AreValid (literals_of x)) l) da h) (subst (λ x. Coerces columns (formula x) (AreValid (literals_of x)) r) db k)
-      (e ∙ ap (λ x. answer_behind (capped (length (tests (formula x)))) r) da') w j)))
+      whole_at (either (formula f.value) (formula g.value)) (literal_tests f.value ++ literal_tests g.value) (literals_of f.value ++ literals_of g.value) (Or f g) q (formula-Or f g) (tests-Or f g) (literals-Or f g)
+      (joined_coerces columns either (formula f.value) (formula g.value) (literal_tests f.value) (literal_tests g.value) (literals_of f.value) (literals_of g.value) refl
+      (capped (length (tests (formula a')))) (counted a' f.value da') l r s (part_at a f.value l da h) (part_at b g.value r db k)
+      (subst (OfParts (λ x y. Makes (either (formula x) (formula y)) s) (λ d. s ≡ Err d) l) e w) (subst (λ q. Joins l q s) e j))
 
-pub negation_coerces : (columns : List TypeTree) (f : Formula) (ls : List Scalar) (l s : Result Filter FilterError) → Coerces columns f (AreValid ls) l → MatchResult l (λ a. Makes (negation (formula a)) s) (λ e. s ≡ Err e)
-    → MatchResult l (λ a. IfOk s (λ x. literals_of x ≡ literals_of a)) (λ e. s ≡ Err e) → Coerces columns (negation f) (AreValid ls) s
-negation_coerces columns f ls (Err e) s h w m = subst (Coerces columns (negation f) (AreValid ls)) (sym w) h
-negation_coerces columns f ls (Ok a) (Ok x) h w m = (w ∙ ap negation h.0, h.1, λ v. valid_same (literals_of x) (literals_of a) m (h.2 v))
-negation_coerces columns f ls (Ok a) (Err e) h w m = inl w
+pub negation_coerces : (columns : List TypeTree) (f : Formula) (ts : List (Test Scalar)) (ls : List Scalar) (l s : Result Filter FilterError) → Coerces columns f ts ls l → MatchResult l (λ a. Makes (negation (formula a)) s) (λ e. s ≡ Err e)
+    → MatchResult l (λ a. IfOk s (λ x. literals_of x ≡ literals_of a)) (λ e. s ≡ Err e) → Coerces columns (negation f) ts ls s
+negation_coerces columns f ts ls (Err e) s h w m = subst (Coerces columns (negation f) ts ls) (sym w) h
+negation_coerces columns f ts ls (Ok a) (Ok x) h w m = (w ∙ ap negation h.0, h.1, λ v. valid_same (literals_of x) (literals_of a) m (h.2 v))
+negation_coerces columns f ts ls (Ok a) (Err e) h w m = inl w
 
-pub constant_coerces : (columns : List TypeTree) (t : Truth) → Coerces columns (constant t) (AreValid []) (Ok (Constant t))
+pub constant_coerces : (columns : List TypeTree) (t : Truth) → Coerces columns (constant t) [] [] (Ok (Constant t))
 constant_coerces columns t = (formula-Constant t, tt, λ v. constant_valid t)
 
-pub ruleset shown = (both_coerces, either_coerces, negation_coerces, constant_coerces, formula-Constant, formula-Compare, formula-IsNull, formula-In, formula-Between, formula-StartsWith, formula-And, formula-Or, formula-Not, literals-Constant, literals-Compare, literals-IsNull, literals-In, literals-Between, literals-StartsWith, literals-And, literals-Or, literals-Not)
+pub ruleset shown = (negation_coerces, constant_coerces, formula-Constant, formula-Compare, formula-IsNull, formula-In, formula-Between, formula-StartsWith, formula-And, formula-Or, formula-Not, literals-Constant, literals-Compare, literals-IsNull, literals-In, literals-Between, literals-StartsWith, literals-And, literals-Or, literals-Not, tests-Constant, tests-Compare, tests-IsNull, tests-In, tests-Between, tests-StartsWith, tests-And, tests-Or, tests-Not)
 
 -- ---- a test and its column
 
-module _ (columns : List TypeTree) (f : Formula) (k : ℕ) (d : Demand) (g : TypeTree → Formula) (vs : List Scalar)
-    (one : tests f ≡ record { column = k; demand = d } ∷ []) (made : coerced columns f ≡ by_column (slice_get columns k) f g) where
-  test_coerces : (t : TypeTree) (r : Result Filter FilterError) → slice_get columns k ≡ Some t → IsOrderedFor d t → CoercesTest t d (g t) (AreValid vs) k r → Coerces columns f (AreValid vs) r
-  test_coerces t (Ok x) e o h = (h.0 ∙ sym (made ∙ ap (λ c. by_column c f g) e), subst (AllFit IsCoercible columns) (sym one) (fit_one IsCoercible columns k d t e o h.1), h.2)
+module _ (columns : List TypeTree) (f : Formula) (k : ℕ) (d : Demand Scalar) (g : TypeTree → Formula) (vs : List Scalar) (made : coerced columns f ≡ by_column (slice_get columns k) f g) where
+  test_coerces : (t : TypeTree) (r : Result Filter FilterError) → slice_get columns k ≡ Some t → IsOrderedFor d t → CoercesTest t d (g t) vs k r → Coerces columns f (asks k d) vs r
+  test_coerces t (Ok x) e o h = (h.0 ∙ sym (made ∙ ap (λ c. by_column c f g) e), fit_one IsCoercible columns k d t e o h.1, h.2)
   test_coerces t (Err x) e o (inl m) = inl m
   test_coerces t (Err x) e o (inr p) =
-      inr (λ v. subst (λ ts. RefusesFirst IsCoercible columns ts x) (sym one) (subst (RefusesFirst IsCoercible columns (record { column = k; demand = d } ∷ [])) (sym p.0)
-      (refuses_one IsCoercible columns k d (TypesDiffer 0 k) (refl, refl, subst (λ c. IsSomeAnd c (λ t. IsOrderedFor d t × ¬ (Suits IsCoercible d t))) (sym e) (o, p.1 v)))))
+      inr (subst (RefusesFirst IsCoercible columns (asks k d)) (sym p.0)
+      (refuses_one IsCoercible columns k d (TypesDiffer 0 k) (refl, refl, subst (λ c. IsSomeAnd c (λ t. IsOrderedFor d t × ¬ (Suits IsCoercible d t))) (sym e) (o, p.1))))
 
   test_refused : (e : FilterError) → ((t : TypeTree) → IsOrderedFor d t → HasNoVariant t)
-      → ((e ≡ NoColumn 0 k) × (slice_get columns k ≡ None)) ⊎ ((t : TypeTree) × (e ≡ HasVariant 0 k) × (slice_get columns k ≡ Some t) × ¬ (HasNoVariant t)) → Coerces columns f (AreValid vs) (Err e)
-  test_refused e o (inl p) =
-      inr (λ v. subst (λ ts. RefusesFirst IsCoercible columns ts e) (sym one) (subst (RefusesFirst IsCoercible columns (record { column = k; demand = d } ∷ [])) (sym p.0)
-      (refuses_one IsCoercible columns k d (NoColumn 0 k) (refl, refl, p.1))))
+      → ((e ≡ NoColumn 0 k) × (slice_get columns k ≡ None)) ⊎ ((t : TypeTree) × (e ≡ HasVariant 0 k) × (slice_get columns k ≡ Some t) × ¬ (HasNoVariant t)) → Coerces columns f (asks k d) vs (Err e)
+  test_refused e o (inl p) = inr (subst (RefusesFirst IsCoercible columns (asks k d)) (sym p.0) (refuses_one IsCoercible columns k d (NoColumn 0 k) (refl, refl, p.1)))
   test_refused e o (inr p) =
-      inr (λ v. subst (λ ts. RefusesFirst IsCoercible columns ts e) (sym one) (subst (RefusesFirst IsCoercible columns (record { column = k; demand = d } ∷ [])) (sym p.1)
-      (refuses_one IsCoercible columns k d (HasVariant 0 k) (refl, refl, subst (λ c. IsSomeAnd c (λ t. ¬ (IsOrderedFor d t))) (sym p.2) (λ h. p.3 (o p.0 h))))))
+      inr (subst (RefusesFirst IsCoercible columns (asks k d)) (sym p.1)
+      (refuses_one IsCoercible columns k d (HasVariant 0 k) (refl, refl, subst (λ c. IsSomeAnd c (λ t. ¬ (IsOrderedFor d t))) (sym p.2) (λ h. p.3 (o p.0 h)))))
 
 module _ (columns : List TypeTree) (k : ℕ) (t : TypeTree) (r : Result Filter FilterError) where
-  pub comparison_column : (op : CompareOperator) (x : Cell) (vs : List Scalar) → (slice_get columns k ≡ Some t) × HasNoVariant t → CoercesTest t (comparing (x ∷ [])) (coerced_comparison t k op x) (AreValid vs) k r
-      → Coerces columns (comparison k op x) (AreValid vs) r
-  comparison_column op x vs e h = test_coerces columns (comparison k op x) k (comparing (x ∷ [])) (λ t. coerced_comparison t k op x) vs refl refl t r e.0 e.1 h
+  pub comparison_column : (op : CompareOperator) (x : Scalar) → (slice_get columns k ≡ Some t) × HasNoVariant t → CoercesTest t (comparing (x ∷ [])) (coerced_comparison t k op (cell_of x)) (x ∷ []) k r
+      → Coerces columns (comparison k op (cell_of x)) (asks k (comparing (x ∷ []))) (x ∷ []) r
+  comparison_column op x e h = test_coerces columns (comparison k op (cell_of x)) k (comparing (x ∷ [])) (λ t. coerced_comparison t k op (cell_of x)) (x ∷ []) refl t r e.0 e.1 h
 
-  pub membership_column : (xs : List Cell) (vs : List Scalar) → (slice_get columns k ≡ Some t) × HasNoVariant t → CoercesTest t (comparing xs) (membership_of k (kept_cells t xs) xs) (AreValid vs) k r
-      → Coerces columns (membership k xs) (AreValid vs) r
-  membership_column xs vs e h = test_coerces columns (membership k xs) k (comparing xs) (λ t. membership_of k (kept_cells t xs) xs) vs refl refl t r e.0 e.1 h
+  pub membership_column : (xs : List Scalar) → (slice_get columns k ≡ Some t) × HasNoVariant t → CoercesTest t (comparing xs) (membership_of k (kept_cells t (map cell_of xs)) (map cell_of xs)) xs k r
+      → Coerces columns (membership k (map cell_of xs)) (asks k (comparing xs)) xs r
+  membership_column xs e h = test_coerces columns (membership k (map cell_of xs)) k (comparing xs) (λ t. membership_of k (kept_cells t (map cell_of xs)) (map cell_of xs)) xs refl t r e.0 e.1 h
 
-  pub range_column : (x y : Cell) (vs : List Scalar) → (slice_get columns k ≡ Some t) × HasNoVariant t → CoercesTest t (comparing (x ∷ y ∷ [])) (coerced_range t k x y) (AreValid vs) k r
-      → Coerces columns (range k x y) (AreValid vs) r
-  range_column x y vs e h = test_coerces columns (range k x y) k (comparing (x ∷ y ∷ [])) (λ t. coerced_range t k x y) vs refl refl t r e.0 e.1 h
+  pub range_column : (x y : Scalar) → (slice_get columns k ≡ Some t) × HasNoVariant t → CoercesTest t (comparing (x ∷ y ∷ [])) (coerced_range t k (cell_of x) (cell_of y)) (x ∷ y ∷ []) k r
+      → Coerces columns (range k (cell_of x) (cell_of y)) (asks k (comparing (x ∷ y ∷ []))) (x ∷ y ∷ []) r
+  range_column x y e h = test_coerces columns (range k (cell_of x) (cell_of y)) k (comparing (x ∷ y ∷ [])) (λ t. coerced_range t k (cell_of x) (cell_of y)) (x ∷ y ∷ []) refl t r e.0 e.1 h
 
-  pub prefix_column : (p : Cell) (vs : List Scalar) → (slice_get columns k ≡ Some t) × HasNoVariant t → CoercesTest t (beginning p) (prefix_test k (coerced_cell t p)) (AreValid vs) k r
-      → Coerces columns (prefix_test k p) (AreValid vs) r
-  prefix_column p vs e h = test_coerces columns (prefix_test k p) k (beginning p) (λ t. prefix_test k (coerced_cell t p)) vs refl refl t r e.0 e.1 h
+  pub prefix_column : (p : Scalar) → (slice_get columns k ≡ Some t) × HasNoVariant t → CoercesTest t (beginning p) (prefix_test k (coerced_cell t (cell_of p))) (p ∷ []) k r
+      → Coerces columns (prefix_test k (cell_of p)) (asks k (beginning p)) (p ∷ []) r
+  prefix_column p e h = test_coerces columns (prefix_test k (cell_of p)) k (beginning p) (λ t. prefix_test k (coerced_cell t (cell_of p))) (p ∷ []) refl t r e.0 e.1 h
 
 -- the column is not there, or a variant stands in its type
 abbrev pub NoOrdered : List TypeTree → ℕ → FilterError → Type 0
 NoOrdered columns k e = ((e ≡ NoColumn 0 k) × (slice_get columns k ≡ None)) ⊎ ((t : TypeTree) × (e ≡ HasVariant 0 k) × (slice_get columns k ≡ Some t) × ¬ (HasNoVariant t))
 
-module _ (columns : List TypeTree) (k : ℕ) (e : FilterError) (vs : List Scalar) where
-  pub comparison_refused : (op : CompareOperator) (x : Cell) → NoOrdered columns k e → Coerces columns (comparison k op x) (AreValid vs) (Err e)
-  comparison_refused op x h = test_refused columns (comparison k op x) k (comparing (x ∷ [])) (λ t. coerced_comparison t k op x) vs refl refl e (λ t o. o) h
+module _ (columns : List TypeTree) (k : ℕ) (e : FilterError) where
+  pub comparison_refused : (op : CompareOperator) (x : Scalar) → NoOrdered columns k e → Coerces columns (comparison k op (cell_of x)) (asks k (comparing (x ∷ []))) (x ∷ []) (Err e)
+  comparison_refused op x h = test_refused columns (comparison k op (cell_of x)) k (comparing (x ∷ [])) (λ t. coerced_comparison t k op (cell_of x)) (x ∷ []) refl e (λ t o. o) h
 
-  pub membership_refused : (xs : List Cell) → NoOrdered columns k e → Coerces columns (membership k xs) (AreValid vs) (Err e)
-  membership_refused xs h = test_refused columns (membership k xs) k (comparing xs) (λ t. membership_of k (kept_cells t xs) xs) vs refl refl e (λ t o. o) h
+  pub membership_refused : (xs : List Scalar) → NoOrdered columns k e → Coerces columns (membership k (map cell_of xs)) (asks k (comparing xs)) xs (Err e)
+  membership_refused xs h = test_refused columns (membership k (map cell_of xs)) k (comparing xs) (λ t. membership_of k (kept_cells t (map cell_of xs)) (map cell_of xs)) xs refl e (λ t o. o) h
 
-  pub range_refused : (x y : Cell) → NoOrdered columns k e → Coerces columns (range k x y) (AreValid vs) (Err e)
-  range_refused x y h = test_refused columns (range k x y) k (comparing (x ∷ y ∷ [])) (λ t. coerced_range t k x y) vs refl refl e (λ t o. o) h
+  pub range_refused : (x y : Scalar) → NoOrdered columns k e → Coerces columns (range k (cell_of x) (cell_of y)) (asks k (comparing (x ∷ y ∷ []))) (x ∷ y ∷ []) (Err e)
+  range_refused x y h = test_refused columns (range k (cell_of x) (cell_of y)) k (comparing (x ∷ y ∷ [])) (λ t. coerced_range t k (cell_of x) (cell_of y)) (x ∷ y ∷ []) refl e (λ t o. o) h
 
-  pub prefix_refused : (p : Cell) → NoOrdered columns k e → Coerces columns (prefix_test k p) (AreValid vs) (Err e)
-  prefix_refused p h = test_refused columns (prefix_test k p) k (beginning p) (λ t. prefix_test k (coerced_cell t p)) vs refl refl e (λ t o. o) h
+  pub prefix_refused : (p : Scalar) → NoOrdered columns k e → Coerces columns (prefix_test k (cell_of p)) (asks k (beginning p)) (p ∷ []) (Err e)
+  prefix_refused p h = test_refused columns (prefix_test k (cell_of p)) k (beginning p) (λ t. prefix_test k (coerced_cell t (cell_of p))) (p ∷ []) refl e (λ t o. o) h
 
-pub null_there : (columns : List TypeTree) (k : ℕ) (t : TypeTree) → Some t ≡ slice_get columns k → Coerces columns (null_test k) (AreValid []) (Ok (IsNull k))
-null_there columns k t e = (formula-IsNull k, (record { dtype = t; there = sym e; ordered = tt; suits = tt }, tt), λ v. valid_same (literals_of (IsNull k)) [] (literals-IsNull k) tt)
+pub null_there : (columns : List TypeTree) (k : ℕ) (t : TypeTree) → Some t ≡ slice_get columns k → Coerces columns (null_test k) (asks k nothing) [] (Ok (IsNull k))
+null_there columns k t e = (formula-IsNull k, fit_one IsCoercible columns k nothing t (sym e) tt tt, λ v. valid_same (literals_of (IsNull k)) [] (literals-IsNull k) tt)
 
-pub null_absent : (columns : List TypeTree) (k : ℕ) → None ≡ slice_get columns k → Coerces columns (null_test k) (AreValid []) (Err (NoColumn 0 k))
-null_absent columns k e = inr (λ v. refuses_one IsCoercible columns k nothing (NoColumn 0 k) (refl, refl, sym e))
+pub null_absent : (columns : List TypeTree) (k : ℕ) → None ≡ slice_get columns k → Coerces columns (null_test k) (asks k nothing) [] (Err (NoColumn 0 k))
+null_absent columns k e = inr (refuses_one IsCoercible columns k nothing (NoColumn 0 k) (refl, refl, sym e))
 
 pub ruleset columns = (comparison_column, membership_column, range_column, prefix_column, comparison_refused, membership_refused, range_refused, prefix_refused, null_there, null_absent, formula-IsNull)
 
@@ -211,27 +205,33 @@ pub ruleset levels = (type_of-List, type_of-FixedSizeList, type_of-Map, type_of-
 
 -- ---- comparisons
 
-module _ (t : TypeTree) (k : ℕ) (op : CompareOperator) (x : Cell) where
-  pub lacking_comparison : (vs : List Scalar) (b : Bool) (r : Result Filter FilterError) → lacks t x ≡ true → b ≡ holds op (side x.content) → Makes (for_values b k) r → IfOk r (λ g. literals_of g ≡ [])
-      → CoercesTest t (comparing (x ∷ [])) (coerced_comparison t k op x) (AreValid vs) k r
-  lacking_comparison vs b (Ok g) l e m n = (
-    m ∙ ap (λ c. for_values c k) e ∙ sym (ap (λ c. cond c (for_values (holds op (side x.content)) k) (comparison k op (coerced_cell t x))) l),
-    (inr (inl l), tt),
+-- what a literal is made
+abbrev pub IsKeptAs : TypeTree → Scalar → Scalar → Type 0
+IsKeptAs t x y = (cell_of y ≡ coerced_cell t (cell_of x)) × (lacks t (cell_of x) ≡ false) × IsCoercible t x × (IsValid x → IsValid y)
+
+module _ (t : TypeTree) (k : ℕ) (op : CompareOperator) (x : Scalar) where
+  abbrev settled : Formula
+  settled = for_values (holds op (side (scalar_content x))) k
+
+  pub lacking_comparison : (w b : Bool) (r : Result Filter FilterError) → TellsLacking t x w → w ≡ true → b ≡ holds op (side (scalar_content x)) → Makes (for_values b k) r → IfOk r (λ g. literals_of g ≡ [])
+      → CoercesTest t (comparing (x ∷ [])) (coerced_comparison t k op (cell_of x)) (x ∷ []) k r
+  lacking_comparison w b (Ok g) l is e m n = (
+    m ∙ ap (λ c. for_values c k) e ∙ sym (ap (λ c. cond c settled (comparison k op (coerced_cell t (cell_of x)))) (l.0 is).1),
+    (inr ((l.0 is).0, inl (l.0 is).1), tt),
     λ v. valid_same (literals_of g) [] n tt,
   )
-  lacking_comparison vs b (Err e) l h m n = inl m
+  lacking_comparison w b (Err e) l is h m n = inl m
 
-  pub kept_comparison : (v y : Scalar) → lacks t x ≡ false → (cell_of y ≡ coerced_cell t x) × IsCoercible t x × (IsValid v → IsValid y)
-      → CoercesTest t (comparing (x ∷ [])) (coerced_comparison t k op x) (AreValid (v ∷ [])) k (Ok (Compare k op y))
-  kept_comparison v y l h = (
-    formula-Compare k op y ∙ ap (comparison k op) h.0 ∙ sym (ap (λ c. cond c (for_values (holds op (side x.content)) k) (comparison k op (coerced_cell t x))) l),
-    (h.1, tt),
-    λ w. valid_same (literals_of (Compare k op y)) (y ∷ []) (literals-Compare k op y) (h.2 w.0, tt),
+  pub kept_comparison : (y : Scalar) → IsKeptAs t x y → CoercesTest t (comparing (x ∷ [])) (coerced_comparison t k op (cell_of x)) (x ∷ []) k (Ok (Compare k op y))
+  kept_comparison y h = (
+    formula-Compare k op y ∙ ap (comparison k op) h.0 ∙ sym (ap (λ c. cond c settled (comparison k op (coerced_cell t (cell_of x)))) h.1),
+    (h.2, tt),
+    λ w. valid_same (literals_of (Compare k op y)) (y ∷ []) (literals-Compare k op y) (h.3 w.0, tt),
   )
 
-  pub refused_comparison : (v : Scalar) (e : FilterError) → RefusesLiterals k (IsCoercible t x) (IsValid v) e → CoercesTest t (comparing (x ∷ [])) (coerced_comparison t k op x) (AreValid (v ∷ [])) k (Err e)
-  refused_comparison v e (inl o) = inl o
-  refused_comparison v e (inr p) = inr (p.0, λ a s. p.1 a.0 s.0)
+  pub refused_comparison : (e : FilterError) → RefusesLiterals k (IsCoercible t x) e → CoercesTest t (comparing (x ∷ [])) (coerced_comparison t k op (cell_of x)) (x ∷ []) k (Err e)
+  refused_comparison e (inl o) = inl o
+  refused_comparison e (inr p) = inr (p.0, λ s. p.1 s.0)
 
 pub ruleset comparisons = (lacking_comparison, kept_comparison, refused_comparison)
 
@@ -254,98 +254,107 @@ member_form k [] [] = refl
 member_form k [] (x ∷ xs) = refl
 member_form k (y ∷ ks) xs = refl
 
-module _ (t : TypeTree) (k : ℕ) (xs : List Cell) (vs : List Scalar) where
-  pub none_kept : (ys : List Scalar) (r : Result Filter FilterError) → (map cell_of ys ≡ kept_cells t xs) × AllByRecursion (IsCoercible t) xs × (AreValid vs → AreValid ys) → all_left_out (map cell_of ys) xs ≡ true → Makes (for_values false k) r
-      → IfOk r (λ g. literals_of g ≡ []) → CoercesTest t (comparing xs) (membership_of k (kept_cells t xs) xs) (AreValid vs) k r
+module _ (t : TypeTree) (k : ℕ) (xs : List Scalar) where
+  pub none_kept : (ys : List Scalar) (r : Result Filter FilterError) → (map cell_of ys ≡ kept_cells t (map cell_of xs)) × AllByRecursion (IsCoercible t) xs × (AreValid xs → AreValid ys) → all_left_out (map cell_of ys) (map cell_of xs) ≡ true → Makes (for_values false k) r
+      → IfOk r (λ g. literals_of g ≡ []) → CoercesTest t (comparing xs) (membership_of k (kept_cells t (map cell_of xs)) (map cell_of xs)) xs k r
   none_kept ys (Ok g) h e m n = (
-    m ∙ sym (ap (λ c. cond c (for_values false k) (membership k (map cell_of ys))) e) ∙ sym (member_form k (map cell_of ys) xs) ∙ ap (λ zs. membership_of k zs xs) h.0,
+    m ∙ sym (ap (λ c. cond c (for_values false k) (membership k (map cell_of ys))) e) ∙ sym (member_form k (map cell_of ys) (map cell_of xs)) ∙ ap (λ zs. membership_of k zs (map cell_of xs)) h.0,
     h.1,
     λ v. valid_same (literals_of g) [] n tt,
   )
   none_kept ys (Err d) h e m n = inl m
 
-  pub some_kept : (ys : Vec Scalar Global) → (map cell_of ys.items ≡ kept_cells t xs) × AllByRecursion (IsCoercible t) xs × (AreValid vs → AreValid ys.items) → all_left_out (map cell_of ys.items) xs ≡ false
-      → CoercesTest t (comparing xs) (membership_of k (kept_cells t xs) xs) (AreValid vs) k (Ok (In k ys))
+  pub some_kept : (ys : Vec Scalar Global) → (map cell_of ys.items ≡ kept_cells t (map cell_of xs)) × AllByRecursion (IsCoercible t) xs × (AreValid xs → AreValid ys.items) → all_left_out (map cell_of ys.items) (map cell_of xs) ≡ false
+      → CoercesTest t (comparing xs) (membership_of k (kept_cells t (map cell_of xs)) (map cell_of xs)) xs k (Ok (In k ys))
   some_kept ys h e = (
-    formula-In k ys ∙ sym (ap (λ c. cond c (for_values false k) (membership k (map cell_of ys.items))) e) ∙ sym (member_form k (map cell_of ys.items) xs) ∙ ap (λ zs. membership_of k zs xs) h.0,
+    formula-In k ys ∙ sym (ap (λ c. cond c (for_values false k) (membership k (map cell_of ys.items))) e) ∙ sym (member_form k (map cell_of ys.items) (map cell_of xs)) ∙ ap (λ zs. membership_of k zs (map cell_of xs)) h.0,
     h.1,
     λ v. valid_same (literals_of (In k ys)) ys.items (literals-In k ys) (h.2 v),
   )
 
-  pub refused_membership : (e : FilterError) → RefusesLiterals k (AllByRecursion (IsCoercible t) xs) (AreValid vs) e → CoercesTest t (comparing xs) (membership_of k (kept_cells t xs) xs) (AreValid vs) k (Err e)
+  pub refused_membership : (e : FilterError) → RefusesLiterals k (AllByRecursion (IsCoercible t) xs) e → CoercesTest t (comparing xs) (membership_of k (kept_cells t (map cell_of xs)) (map cell_of xs)) xs k (Err e)
   refused_membership e h = h
 
 pub ruleset memberships = (none_kept, some_kept, refused_membership)
 
 -- ---- ranges
 
-or_left : (a b : Bool) → (a || b) ≡ false → a ≡ false
-or_left false b e = refl
-or_left true b e = absurd (false≢true (sym e))
+or_first : (a b : Bool) → a ≡ true → (a || b) ≡ true
+or_first true b e = refl
+or_first false b e = absurd (false≢true e)
 
-or_right : (a b : Bool) → (a || b) ≡ false → b ≡ false
-or_right false b e = e
-or_right true b e = absurd (false≢true (sym e))
+or_second : (a b : Bool) → b ≡ true → (a || b) ≡ true
+or_second true b e = refl
+or_second false b e = e
 
-module _ (t : TypeTree) (k : ℕ) (x y : Cell) where
-  pub lower_there : (lacks t x || lacks t y) ≡ false → lacks t x ≡ false
-  lower_there e = or_left (lacks t x) (lacks t y) e
+or_none : (a b : Bool) → a ≡ false → b ≡ false → (a || b) ≡ false
+or_none true b e h = absurd (false≢true (sym e))
+or_none false b e h = h
 
-  pub upper_there : (lacks t x || lacks t y) ≡ false → lacks t y ≡ false
-  upper_there e = or_right (lacks t x) (lacks t y) e
+pub first_end : (t : TypeTree) (x y : Scalar) (b : Bool) → TellsLacking t x b → b ≡ true → TellsEnds t x y b
+first_end t x y b h e = ((λ _. or_first (lacks t (cell_of x)) (lacks t (cell_of y)) (h.0 e).1), (λ f. absurd (false≢true (sym f ∙ e))))
 
-  pub kept_range : (vs : List Scalar) (r : Result Filter FilterError) → (lacks t x || lacks t y) ≡ false → CoercesTest t (comparing (x ∷ y ∷ [])) (range k (coerced_cell t x) (coerced_cell t y)) (AreValid vs) k r
-      → CoercesTest t (comparing (x ∷ y ∷ [])) (coerced_range t k x y) (AreValid vs) k r
-  kept_range vs r e h =
-      subst (λ f. CoercesTest t (comparing (x ∷ y ∷ [])) f (AreValid vs) k r) (sym (ap (λ c. cond c (both (coerced_comparison t k Gte x) (coerced_comparison t k Lte y)) (range k (coerced_cell t x) (coerced_cell t y))) e)) h
+pub second_end : (t : TypeTree) (x y : Scalar) (a b : Bool) → TellsLacking t x a → a ≡ false → TellsLacking t y b → TellsEnds t x y b
+second_end t x y a b h e m = ((λ i. or_second (lacks t (cell_of x)) (lacks t (cell_of y)) (m.0 i).1), (λ f. (h.1 e, m.1 f)))
 
-  module _ (v w : Scalar) where
-    refused_range : (e : FilterError) (f : Formula) → RefusesLiterals k (AllByRecursion (IsCoercible t) (x ∷ y ∷ [])) (AreValid (v ∷ w ∷ [])) e → (s : Result Filter FilterError) → s ≡ Err e
-        → CoercesTest t (comparing (x ∷ y ∷ [])) f (AreValid (v ∷ w ∷ [])) k s
-    refused_range e f h s q = subst (CoercesTest t (comparing (x ∷ y ∷ [])) f (AreValid (v ∷ w ∷ [])) k) (sym q) h
+module _ (t : TypeTree) (k : ℕ) (x y : Scalar) where
+  abbrev lacks_an_end : Bool
+  lacks_an_end = lacks t (cell_of x) || lacks t (cell_of y)
 
-    first_refused : (e : FilterError) → RefusesLiterals k (AllByRecursion (IsCoercible t) (x ∷ [])) (AreValid (v ∷ [])) e → RefusesLiterals k (AllByRecursion (IsCoercible t) (x ∷ y ∷ [])) (AreValid (v ∷ w ∷ [])) e
-    first_refused e (inl o) = inl o
-    first_refused e (inr p) = inr (p.0, λ a s. p.1 (a.0, tt) (s.0, tt))
+  abbrev halves : Formula
+  halves = both (coerced_comparison t k Gte (cell_of x)) (coerced_comparison t k Lte (cell_of y))
 
-    second_refused : (e : FilterError) → RefusesLiterals k (AllByRecursion (IsCoercible t) (y ∷ [])) (AreValid (w ∷ [])) e → RefusesLiterals k (AllByRecursion (IsCoercible t) (x ∷ y ∷ [])) (AreValid (v ∷ w ∷ [])) e
-    second_refused e (inl o) = inl o
-    second_refused e (inr p) = inr (p.0, λ a s. p.1 a.1 s.1)
+  abbrev cast_range : Formula
+  cast_range = range k (coerced_cell t (cell_of x)) (coerced_cell t (cell_of y))
 
-    made_range : (a b : Filter) (s : Result Filter FilterError) → (lacks t x || lacks t y) ≡ true → CoercesTest t (comparing (x ∷ [])) (coerced_comparison t k Gte x) (AreValid (v ∷ [])) k (Ok a)
-        → CoercesTest t (comparing (y ∷ [])) (coerced_comparison t k Lte y) (AreValid (w ∷ [])) k (Ok b) → Makes (both (formula a) (formula b)) s → IfOk s (λ g. literals_of g ≡ literals_of a ++ literals_of b)
-        → CoercesTest t (comparing (x ∷ y ∷ [])) (coerced_range t k x y) (AreValid (v ∷ w ∷ [])) k s
-    made_range a b (Ok g) e h m q n = (
-      q ∙ ap₂ both h.0 m.0 ∙ sym (ap (λ c. cond c (both (coerced_comparison t k Gte x) (coerced_comparison t k Lte y)) (range k (coerced_cell t x) (coerced_cell t y))) e),
-      (h.1.0, m.1),
-      λ z. valid_with (literals_of g) (literals_of a) (literals_of b) n (h.2 (z.0, tt)) (m.2 z.1),
-    )
-    made_range a b (Err d) e h m q n = inl q
+  abbrev made_of_both : Formula
+  made_of_both = coerced_range t k (cell_of x) (cell_of y)
 
-    pub lacking_range : (l r s : Result Filter FilterError) → (lacks t x || lacks t y) ≡ true → CoercesTest t (comparing (x ∷ [])) (coerced_comparison t k Gte x) (AreValid (v ∷ [])) k l
-        → CoercesTest t (comparing (y ∷ [])) (coerced_comparison t k Lte y) (AreValid (w ∷ [])) k r → OfParts (λ a b. Makes (both (formula a) (formula b)) s) (λ e. s ≡ Err e) l r → Joins l r s
-        → CoercesTest t (comparing (x ∷ y ∷ [])) (coerced_range t k x y) (AreValid (v ∷ w ∷ [])) k s
-    lacking_range (Err e) r s lk h m q n = refused_range e (coerced_range t k x y) (first_refused e h) s q
-    lacking_range (Ok a) (Err e) s lk h m q n = refused_range e (coerced_range t k x y) (second_refused e m) s q
-    lacking_range (Ok a) (Ok b) s lk h m q n = made_range a b s lk h m q n
+  refused_range : (e : FilterError) → RefusesLiterals k (AllByRecursion (IsCoercible t) (x ∷ y ∷ [])) e → (s : Result Filter FilterError) → s ≡ Err e
+      → CoercesTest t (comparing (x ∷ y ∷ [])) made_of_both (x ∷ y ∷ []) k s
+  refused_range e h s q = subst (CoercesTest t (comparing (x ∷ y ∷ [])) made_of_both (x ∷ y ∷ []) k) (sym q) h
 
-    pub refused_lower : (e : FilterError) (f : Formula) → RefusesLiterals k (IsCoercible t x) (IsValid v) e → CoercesTest t (comparing (x ∷ y ∷ [])) f (AreValid (v ∷ w ∷ [])) k (Err e)
-    refused_lower e f (inl o) = inl o
-    refused_lower e f (inr p) = inr (p.0, λ a s. p.1 a.0 s.0)
+  first_refused : (e : FilterError) → RefusesLiterals k (AllByRecursion (IsCoercible t) (x ∷ [])) e → RefusesLiterals k (AllByRecursion (IsCoercible t) (x ∷ y ∷ [])) e
+  first_refused e (inl o) = inl o
+  first_refused e (inr p) = inr (p.0, λ s. p.1 (s.0, tt))
 
-    pub refused_upper : (e : FilterError) (f : Formula) → RefusesLiterals k (IsCoercible t y) (IsValid w) e → CoercesTest t (comparing (x ∷ y ∷ [])) f (AreValid (v ∷ w ∷ [])) k (Err e)
-    refused_upper e f (inl o) = inl o
-    refused_upper e f (inr p) = inr (p.0, λ a s. p.1 a.1.0 s.1.0)
+  second_refused : (e : FilterError) → RefusesLiterals k (AllByRecursion (IsCoercible t) (y ∷ [])) e → RefusesLiterals k (AllByRecursion (IsCoercible t) (x ∷ y ∷ [])) e
+  second_refused e (inl o) = inl o
+  second_refused e (inr p) = inr (p.0, λ s. p.1 s.1)
 
-  pub kept_ends : (v w a b : Scalar) → (cell_of a ≡ coerced_cell t x) × IsCoercible t x × (IsValid v → IsValid a) → (cell_of b ≡ coerced_cell t y) × IsCoercible t y × (IsValid w → IsValid b)
-      → CoercesTest t (comparing (x ∷ y ∷ [])) (range k (coerced_cell t x) (coerced_cell t y)) (AreValid (v ∷ w ∷ [])) k (Ok (Between k a b))
-  kept_ends v w a b h m = (
-    formula-Between k a b ∙ ap₂ (range k) h.0 m.0,
-    (h.1, (m.1, tt)),
-    λ z. valid_same (literals_of (Between k a b)) (a ∷ b ∷ []) (literals-Between k a b) (h.2 z.0, (m.2 z.1.0, tt)),
+  made_range : (a b : Filter) (s : Result Filter FilterError) → lacks_an_end ≡ true → CoercesTest t (comparing (x ∷ [])) (coerced_comparison t k Gte (cell_of x)) (x ∷ []) k (Ok a)
+      → CoercesTest t (comparing (y ∷ [])) (coerced_comparison t k Lte (cell_of y)) (y ∷ []) k (Ok b) → Makes (both (formula a) (formula b)) s → IfOk s (λ g. literals_of g ≡ literals_of a ++ literals_of b)
+      → CoercesTest t (comparing (x ∷ y ∷ [])) made_of_both (x ∷ y ∷ []) k s
+  made_range a b (Ok g) e h m q n = (
+    q ∙ ap₂ both h.0 m.0 ∙ sym (ap (λ c. cond c halves cast_range) e),
+    (h.1.0, m.1),
+    λ z. valid_with (literals_of g) (literals_of a) (literals_of b) n (h.2 (z.0, tt)) (m.2 z.1),
+  )
+  made_range a b (Err d) e h m q n = inl q
+
+  pub lacking_range : (l r s : Result Filter FilterError) → lacks_an_end ≡ true → CoercesTest t (comparing (x ∷ [])) (coerced_comparison t k Gte (cell_of x)) (x ∷ []) k l
+      → CoercesTest t (comparing (y ∷ [])) (coerced_comparison t k Lte (cell_of y)) (y ∷ []) k r → OfParts (λ a b. Makes (both (formula a) (formula b)) s) (λ e. s ≡ Err e) l r → Joins l r s
+      → CoercesTest t (comparing (x ∷ y ∷ [])) made_of_both (x ∷ y ∷ []) k s
+  lacking_range (Err e) r s lk h m q n = refused_range e (first_refused e h) s q
+  lacking_range (Ok a) (Err e) s lk h m q n = refused_range e (second_refused e m) s q
+  lacking_range (Ok a) (Ok b) s lk h m q n = made_range a b s lk h m q n
+
+  pub refused_lower : (e : FilterError) → RefusesLiterals k (IsCoercible t x) e → CoercesTest t (comparing (x ∷ y ∷ [])) made_of_both (x ∷ y ∷ []) k (Err e)
+  refused_lower e (inl o) = inl o
+  refused_lower e (inr p) = inr (p.0, λ s. p.1 s.0)
+
+  pub refused_upper : (e : FilterError) → RefusesLiterals k (IsCoercible t y) e → CoercesTest t (comparing (x ∷ y ∷ [])) made_of_both (x ∷ y ∷ []) k (Err e)
+  refused_upper e (inl o) = inl o
+  refused_upper e (inr p) = inr (p.0, λ s. p.1 s.1.0)
+
+  pub kept_ends : (a b : Scalar) → IsKeptAs t x a → IsKeptAs t y b → CoercesTest t (comparing (x ∷ y ∷ [])) made_of_both (x ∷ y ∷ []) k (Ok (Between k a b))
+  kept_ends a b h m = (
+    formula-Between k a b ∙ ap₂ (range k) h.0 m.0 ∙ sym (ap (λ c. cond c halves cast_range) (or_none (lacks t (cell_of x)) (lacks t (cell_of y)) h.1 m.1)),
+    (h.2, (m.2, tt)),
+    λ z. valid_same (literals_of (Between k a b)) (a ∷ b ∷ []) (literals-Between k a b) (h.3 z.0, (m.3 z.1.0, tt)),
   )
 
-pub ruleset ranges = (lower_there, upper_there, kept_range, lacking_range, refused_lower, refused_upper, kept_ends)
+pub ruleset ranges = (lacking_range, refused_lower, refused_upper, kept_ends)
 
 -- ---- prefixes
 
@@ -353,26 +362,28 @@ never_lacked : (b : Bool) → cond b false false ≡ false
 never_lacked true = refl
 never_lacked false = refl
 
-pub lacks_no_string : (t : TypeTree) (p : Cell) → holds_strings t ≡ true → lacks t p ≡ false
-lacks_no_string (utf8_type n) p e = never_lacked (same_type (utf8_type n) p.typed)
-lacks_no_string (binary_type n) p e = never_lacked (same_type (binary_type n) p.typed)
-lacks_no_string _ p e = absurd (false≢true e)
+no_string : (t : TypeTree) (p : Cell) → holds_strings t ≡ true → lacks t p ≡ false
+no_string (utf8_type n) p e = never_lacked (same_type (utf8_type n) p.typed)
+no_string (binary_type n) p e = never_lacked (same_type (binary_type n) p.typed)
+no_string _ p e = absurd (false≢true e)
 
-module _ (t : TypeTree) (k : ℕ) (p : Cell) where
-  pub no_strings : (f : Formula) (vs : List Scalar) → holds_strings t ≡ false → CoercesTest t (beginning p) f (AreValid vs) k (Err (TypesDiffer 0 k))
-  no_strings f vs e = inr (refl, λ a s. (strings_test t).1 e s.0)
+pub lacks_no_string : (t : TypeTree) (p : Scalar) → holds_strings t ≡ true → MayHave t p
+lacks_no_string t p e v = no_string t (cell_of p) e
 
-  pub kept_prefix : (v y : Scalar) → holds_strings t ≡ true → (cell_of y ≡ coerced_cell t p) × IsCoercible t p × (IsValid v → IsValid y)
-      → CoercesTest t (beginning p) (prefix_test k (coerced_cell t p)) (AreValid (v ∷ [])) k (Ok (StartsWith k y))
-  kept_prefix v y e h = (
+module _ (t : TypeTree) (k : ℕ) (p : Scalar) where
+  pub no_strings : (f : Formula) → holds_strings t ≡ false → CoercesTest t (beginning p) f (p ∷ []) k (Err (TypesDiffer 0 k))
+  no_strings f e = inr (refl, λ s. (strings_test t).1 e s.0)
+
+  pub kept_prefix : (y : Scalar) → holds_strings t ≡ true → IsKeptAs t p y → CoercesTest t (beginning p) (prefix_test k (coerced_cell t (cell_of p))) (p ∷ []) k (Ok (StartsWith k y))
+  kept_prefix y e h = (
     formula-StartsWith k y ∙ ap (prefix_test k) h.0,
-    ((strings_test t).0 e, h.1),
-    λ w. valid_same (literals_of (StartsWith k y)) (y ∷ []) (literals-StartsWith k y) (h.2 w.0, tt),
+    ((strings_test t).0 e, h.2),
+    λ w. valid_same (literals_of (StartsWith k y)) (y ∷ []) (literals-StartsWith k y) (h.3 w.0, tt),
   )
 
-  pub refused_prefix : (v : Scalar) (e : FilterError) (f : Formula) → RefusesLiterals k (IsCoercible t p) (IsValid v) e → CoercesTest t (beginning p) f (AreValid (v ∷ [])) k (Err e)
-  refused_prefix v e f (inl o) = inl o
-  refused_prefix v e f (inr q) = inr (q.0, λ a s. q.1 a.0 s.1)
+  pub refused_prefix : (e : FilterError) (f : Formula) → RefusesLiterals k (IsCoercible t p) e → CoercesTest t (beginning p) f (p ∷ []) k (Err e)
+  refused_prefix e f (inl o) = inl o
+  refused_prefix e f (inr q) = inr (q.0, λ s. q.1 s.1)
 
 pub ruleset prefixes = (lacks_no_string, no_strings, kept_prefix, refused_prefix)
 
@@ -382,77 +393,82 @@ abbrev cell_from : TypeTree → Content → Cell
 cell_from t c = record { typed = t; content = c }
 
 module _ (t : TypeTree) (k : ℕ) (l : Scalar) where
-  pub copied_literal : (r : Result Scalar FilterError) → same_type t (scalar_type l) ≡ true → MatchResult r (λ y. cell_of y ≡ cell_of l) (λ e. e ≡ OutOfMemory) → IfOk r (λ y. exactly_of y ≡ exactly_of l)
-      → CoercesLiteral t (cell_of l) (IsValid l) k r
-  copied_literal (Ok y) e h m =
-      (h ∙ sym (ap (λ b. cond b (cell_of l) (cell_from (as_nullable t) (scalar_content l))) e), inl ((same_type-Decides t (scalar_type l)).0 e), copy_valid l y m)
+  pub copied_literal : (r : Result Scalar FilterError) → same_type t (scalar_type l) ≡ true → MatchResult r (λ y. cell_of y ≡ cell_of l) (λ e. e ≡ OutOfMemory) → IfOk r (λ y. exactly_of y ≡ exactly_of l) → CoercesLiteral t l k r
+  copied_literal (Ok y) e h m = (
+    h ∙ sym (ap (λ b. cond b (cell_of l) (cell_from (as_nullable t) (scalar_content l))) e),
+    ap (λ b. cond b false (lacks_number t (scalar_type l) (scalar_content l))) e,
+    inl ((same_type-Decides t (scalar_type l)).0 e),
+    copy_valid l y m,
+  )
   copied_literal (Err d) e h m = inl h
 
-  pub invalid_literal : (b : Bool) → IsTrue b ↔ IsValid l → b ≡ false → CoercesLiteral t (cell_of l) (IsValid l) k (Err (TypesDiffer 0 k))
-  invalid_literal b h e = inr (refl, λ v. absurd (false≢true (sym e ∙ h.1 v)))
+  never_other : same_type t (scalar_type l) ≡ false → (IsValid l → ¬ ((lacks t (cell_of l) ≡ true) ⊎ CanCast (scalar_type l) (as_nullable t) (scalar_content l))) → ¬ (IsCoercible t l)
+  never_other e n (inl s) = false≢true (sym e ∙ (same_type-Decides t (scalar_type l)).1 s)
+  never_other e n (inr c) = n c.0 c.1
 
-  never_other : same_type t (scalar_type l) ≡ false → lacks t (cell_of l) ≡ false → ¬ (CanCast (scalar_type l) (as_nullable t) (scalar_content l)) → ¬ (IsCoercible t (cell_of l))
-  never_other e h n (inl s) = false≢true (sym e ∙ (same_type-Decides t (scalar_type l)).1 s)
-  never_other e h n (inr (inl m)) = false≢true (sym h ∙ m)
-  never_other e h n (inr (inr c)) = n c
+  pub invalid_literal : (b : Bool) → same_type t (scalar_type l) ≡ false → IsTrue b ↔ IsValid l → b ≡ false → CoercesLiteral t l k (Err (TypesDiffer 0 k))
+  invalid_literal b s h e = inr (refl, never_other s (λ v c. false≢true (sym e ∙ h.1 v)))
 
-  pub cast_made : (u : TypeTree) (y : Scalar) → u ≡ as_nullable t → same_type t (scalar_type l) ≡ false → AnswersCast (scalar_type l) u (scalar_raw l) (Ok y) → CoercesLiteral t (cell_of l) (IsValid l) k (Ok y)
-  cast_made u y q e a =
-      (ap₂ cell_from (a.one.typed ∙ q) a.one.same ∙ sym (ap (λ b. cond b (cell_of l) (cell_from (as_nullable t) (scalar_content l))) e), inr (inr (subst (λ s. CanCast (scalar_type l) s (scalar_content l)) q a.succeeds_only)), λ v. a.one.valid)
+  pub cast_made : (u : TypeTree) (y : Scalar) → IsValid l → u ≡ as_nullable t → same_type t (scalar_type l) ≡ false → lacks t (cell_of l) ≡ false → AnswersCast (scalar_type l) u (scalar_raw l) (Ok y) → CoercesLiteral t l k (Ok y)
+  cast_made u y v q e m a = (
+    ap₂ cell_from (a.one.typed ∙ q) a.one.same ∙ sym (ap (λ b. cond b (cell_of l) (cell_from (as_nullable t) (scalar_content l))) e),
+    m,
+    inr (v, inr (subst (λ s. CanCast (scalar_type l) s (scalar_content l)) q a.succeeds_only)),
+    λ v. a.one.valid,
+  )
 
   not_possible : (u : TypeTree) (p : Type 0) (e : VortexError) → e ≢ why.OutOfMemory → RefusesCast u p e → ¬ p
   not_possible u p why.CannotCast n h = h
   not_possible u p why.OutOfMemory n h = absurd (n refl)
   not_possible u p _ n h = absurd h
 
+  no_cast : lacks t (cell_of l) ≡ false → ¬ (CanCast (scalar_type l) (as_nullable t) (scalar_content l)) → ¬ ((lacks t (cell_of l) ≡ true) ⊎ CanCast (scalar_type l) (as_nullable t) (scalar_content l))
+  no_cast h n (inl m) = false≢true (sym h ∙ m)
+  no_cast h n (inr c) = n c
+
   pub cast_refused : (u : TypeTree) (e : VortexError) (d : FilterError) → u ≡ as_nullable t → same_type t (scalar_type l) ≡ false → lacks t (cell_of l) ≡ false → AnswersCast (scalar_type l) u (scalar_raw l) (Err e)
-      → ((e ≡ why.OutOfMemory) × (d ≡ OutOfMemory)) ⊎ ((e ≢ why.OutOfMemory) × (d ≡ TypesDiffer 0 k)) → CoercesLiteral t (cell_of l) (IsValid l) k (Err d)
+      → ((e ≡ why.OutOfMemory) × (d ≡ OutOfMemory)) ⊎ ((e ≢ why.OutOfMemory) × (d ≡ TypesDiffer 0 k)) → CoercesLiteral t l k (Err d)
   cast_refused u e d q s h a (inl m) = inl m.1
   cast_refused u e d q s h a (inr m) =
-      inr (m.1, λ v. never_other s h (subst (λ w. ¬ (CanCast (scalar_type l) w (scalar_content l))) q (not_possible u (CanCast (scalar_type l) u (scalar_content l)) e m.0 a.refuses_only)))
+      inr (m.1, never_other s (λ v. no_cast h (subst (λ w. ¬ (CanCast (scalar_type l) w (scalar_content l))) q (not_possible u (CanCast (scalar_type l) u (scalar_content l)) e m.0 a.refuses_only))))
 
 -- ---- several literals
 
-module _ (t : TypeTree) (k : ℕ) (x : Cell) (v : Scalar) (zs : List Scalar) where
-  pub lacking_pushed : lacks t x ≡ true → (map cell_of zs ≡ with_cell t x (map cell_of zs)) × IsCoercible t x × (IsValid v → AreValid zs → AreValid zs)
-  lacking_pushed e = (sym (ap (λ b. cond b (map cell_of zs) (map cell_of zs ++ coerced_cell t x ∷ [])) e), inr (inl e), λ a b. b)
+module _ (t : TypeTree) (k : ℕ) (x : Scalar) (zs : List Scalar) where
+  pub lacking_pushed : (w : Bool) → TellsLacking t x w → w ≡ true → (map cell_of zs ≡ with_cell t (cell_of x) (map cell_of zs)) × IsCoercible t x × (IsValid x → AreValid zs → AreValid zs)
+  lacking_pushed w l e = (sym (ap (λ b. cond b (map cell_of zs) (map cell_of zs ++ coerced_cell t (cell_of x) ∷ [])) (l.0 e).1), inr ((l.0 e).0, inl (l.0 e).1), λ a b. b)
 
-  pub kept_pushed : (y : Scalar) (after : List Scalar) (r : Result (Unit {0}) FilterError) → lacks t x ≡ false → (cell_of y ≡ coerced_cell t x) × IsCoercible t x × (IsValid v → IsValid y)
-      → MatchResult r (λ _. after ≡ zs ++ y ∷ []) (λ e. e ≡ OutOfMemory) → Pushes t x (IsValid v) k zs after r
-  kept_pushed y after (Ok u) e h p = (
-    ap (map cell_of) p ∙ map-append cell_of zs (y ∷ []) ∙ ap (λ c. map cell_of zs ++ c ∷ []) h.0 ∙ sym (ap (λ b. cond b (map cell_of zs) (map cell_of zs ++ coerced_cell t x ∷ [])) e),
-    h.1,
-    λ a b. valid_with after zs (y ∷ []) p b (h.2 a, tt),
+  pub kept_pushed : (y : Scalar) (after : List Scalar) (r : Result (Unit {0}) FilterError) → IsKeptAs t x y → MatchResult r (λ _. after ≡ zs ++ y ∷ []) (λ e. e ≡ OutOfMemory) → Pushes t x k zs after r
+  kept_pushed y after (Ok u) h p = (
+    ap (map cell_of) p ∙ map-append cell_of zs (y ∷ []) ∙ ap (λ c. map cell_of zs ++ c ∷ []) h.0 ∙ sym (ap (λ b. cond b (map cell_of zs) (map cell_of zs ++ coerced_cell t (cell_of x) ∷ [])) h.1),
+    h.2,
+    λ a b. valid_with after zs (y ∷ []) p b (h.3 a, tt),
   )
-  kept_pushed y after (Err d) e h p = inl p
+  kept_pushed y after (Err d) h p = inl p
 
 pub ruleset pushes = (lacking_pushed, kept_pushed)
 
-at_place : (P : Cell → Type 0) (xs : List Scalar) (i : ℕ) (d : Scalar) → i < length xs → AllByRecursion P (map cell_of xs) → P (cell_of (get_or xs i d))
-at_place P [] i d h a = absurd (omega arith)
-at_place P (x ∷ xs) zero d h a = a.0
-at_place P (x ∷ xs) (suc i) d h a = at_place P xs i d (omega arith) a.1
+pub holds_at : (P : Scalar → Type 0) (xs : List Scalar) (i : ℕ) (d : Scalar) → i < length xs → AllByRecursion P xs → P (get_or xs i d)
+holds_at P [] i d h a = absurd (omega arith)
+holds_at P (x ∷ xs) zero d h a = a.0
+holds_at P (x ∷ xs) (suc i) d h a = holds_at P xs i d (omega arith) a.1
 
-pub valid_at : (xs : List Scalar) (i : ℕ) (d : Scalar) → i < length xs → AreValid xs → IsValid (get_or xs i d)
-valid_at [] i d h a = absurd (omega arith)
-valid_at (x ∷ xs) zero d h a = a.0
-valid_at (x ∷ xs) (suc i) d h a = valid_at xs i d (omega arith) a.1
-
-pub item_refused : (t : TypeTree) (k : ℕ) (xs : List Scalar) (i : ℕ) (x : Scalar) (e : FilterError) → i < length xs → x ≡ get_or xs i x → RefusesLiterals k (IsCoercible t (cell_of x)) (IsValid x) e
-    → RefusesLiterals k (AllByRecursion (IsCoercible t) (map cell_of xs)) (AreValid xs) e
+pub item_refused : (t : TypeTree) (k : ℕ) (xs : List Scalar) (i : ℕ) (x : Scalar) (e : FilterError) → i < length xs → x ≡ get_or xs i x → RefusesLiterals k (IsCoercible t x) e → RefusesLiterals k (AllByRecursion (IsCoercible t) xs) e
 item_refused t k xs i x e h q (inl o) = inl o
-item_refused t k xs i x e h q (inr p) =
-    inr (p.0, λ a s. p.1 (subst IsValid (sym q) (valid_at xs i x h a)) (subst (λ y. IsCoercible t (cell_of y)) (sym q) (at_place (IsCoercible t) xs i x h s)))
+item_refused t k xs i x e h q (inr p) = inr (p.0, λ s. p.1 (subst (IsCoercible t) (sym q) (holds_at (IsCoercible t) xs i x h s)))
 
-pub passed_literals : (t : TypeTree) (k : ℕ) (xs : List Scalar) (r : Result (Vec Scalar Global) FilterError) (e : FilterError) → IsErrAnd r (λ d. d ≡ e) → RefusesLiterals k (AllByRecursion (IsCoercible t) (map cell_of xs)) (AreValid xs) e
-    → CoercesLiterals t (map cell_of xs) (AreValid xs) k r
+pub passed_literals : (t : TypeTree) (k : ℕ) (xs : List Scalar) (r : Result (Vec Scalar Global) FilterError) (e : FilterError) → IsErrAnd r (λ d. d ≡ e) → RefusesLiterals k (AllByRecursion (IsCoercible t) xs) e
+    → CoercesLiterals t xs k r
 passed_literals t k xs r e h w =
     let p = err_from_is_err_and r h in
-    subst (CoercesLiterals t (map cell_of xs) (AreValid xs) k) (sym p.1) (subst (RefusesLiterals k (AllByRecursion (IsCoercible t) (map cell_of xs)) (AreValid xs)) (sym p.2) w)
+    subst (CoercesLiterals t xs k) (sym p.1) (subst (RefusesLiterals k (AllByRecursion (IsCoercible t) xs)) (sym p.2) w)
+
+one_more : (xs : List Scalar) (i : ℕ) (x : Scalar) → i < length xs → x ≡ get_or xs i x → take (i + 1) xs ≡ take i xs ++ x ∷ []
+one_more xs i x h e = take_more xs i x h ∙ ap (λ y. take i xs ++ (y ∷ [])) (sym e)
 
 -- the literals so far that the type does not lack
-pub record IsKept (t : TypeTree) (ks xs : List Cell) : Type 0 where
-  pub cells : ks ≡ kept_cells t xs
+pub record IsKept (t : TypeTree) (ks : List Cell) (xs : List Scalar) : Type 0 where
+  pub cells : ks ≡ kept_cells t (map cell_of xs)
   pub coercible : AllByRecursion (IsCoercible t) xs
 
 -- one cell more at the end
@@ -474,19 +490,21 @@ kept_more t (y ∷ xs) x = by_test (lacks t y) (kept_more t xs x)
     by_test true h = h
     by_test false h = ap (λ zs. coerced_cell t y ∷ zs) h ∙ in_front (lacks t x) (kept_cells t xs)
 
-coercible_more : (t : TypeTree) (xs : List Cell) (x : Cell) → AllByRecursion (IsCoercible t) xs → IsCoercible t x → AllByRecursion (IsCoercible t) (xs ++ x ∷ [])
+coercible_more : (t : TypeTree) (xs : List Scalar) (x : Scalar) → AllByRecursion (IsCoercible t) xs → IsCoercible t x → AllByRecursion (IsCoercible t) (xs ++ x ∷ [])
 coercible_more t [] x a h = (h, tt)
 coercible_more t (y ∷ xs) x a h = (a.0, coercible_more t xs x a.1 h)
 
-pub kept_step : (t : TypeTree) (xs : List Scalar) (i : ℕ) (x : Scalar) (before after : List Cell) → i < length xs → x ≡ get_or xs i x → IsKept t before (map cell_of (take i xs)) → (after ≡ with_cell t (cell_of x) before) × IsCoercible t (cell_of x)
-    → IsKept t after (map cell_of (take (i + 1) xs))
+pub kept_step : (t : TypeTree) (xs : List Scalar) (i : ℕ) (x : Scalar) (before after : List Cell) → i < length xs → x ≡ get_or xs i x → IsKept t before (take i xs) → (after ≡ with_cell t (cell_of x) before) × IsCoercible t x
+    → IsKept t after (take (i + 1) xs)
 kept_step t xs i x before after h q a p =
-    subst (IsKept t after) (sym (cells_more xs i x h q))
-    (record { cells = p.0 ∙ ap (with_cell t (cell_of x)) a.cells ∙ sym (kept_more t (map cell_of (take i xs)) (cell_of x)); coercible = coercible_more t (map cell_of (take i xs)) (cell_of x) a.coercible p.1 })
+    subst (IsKept t after) (sym (one_more xs i x h q)) (record {
+      cells = p.0 ∙ ap (with_cell t (cell_of x)) a.cells ∙ sym (kept_more t (map cell_of (take i xs)) (cell_of x)) ∙ ap (kept_cells t) (sym (map-append cell_of (take i xs) (x ∷ [])));
+      coercible = coercible_more t (take i xs) x a.coercible p.1;
+    })
 
-pub kept_whole : (t : TypeTree) (xs : List Scalar) (i : ℕ) (ks : List Cell) → length xs ≤ i → IsKept t ks (map cell_of (take i xs)) → (ks ≡ kept_cells t (map cell_of xs)) × AllByRecursion (IsCoercible t) (map cell_of xs)
+pub kept_whole : (t : TypeTree) (xs : List Scalar) (i : ℕ) (ks : List Cell) → length xs ≤ i → IsKept t ks (take i xs) → (ks ≡ kept_cells t (map cell_of xs)) × AllByRecursion (IsCoercible t) xs
 kept_whole t xs i ks h a =
-    let p : IsKept t ks (map cell_of xs) = subst (λ ys. IsKept t ks (map cell_of ys)) (take_all i xs h) a in (p.cells, p.coercible)
+    let p : IsKept t ks xs = subst (λ ys. IsKept t ks ys) (take_all i xs h) a in (p.cells, p.coercible)
 
 pub ruleset literals = (copied_literal, invalid_literal, cast_made, cast_refused)
 
@@ -495,10 +513,19 @@ pub ruleset literals = (copied_literal, invalid_literal, cast_made, cast_refused
 pub lacks_same : (t : TypeTree) (x : Cell) → same_type t x.typed ≡ true → false ≡ lacks t x
 lacks_same t x e = sym (ap (λ b. cond b false (lacks_number t x.typed x.content)) e)
 
+-- a literal that the type lacks, if it is valid
+pub lacking_valid : (t : TypeTree) (l : Scalar) (a b : Bool) → a ≡ lacks t (cell_of l) → a ≡ true → IsTrue b ↔ IsValid l → TellsLacking t l b
+lacking_valid t l a b h e v = ((λ i. (v.0 i, sym h ∙ e)), (λ f w. absurd (false≢true (sym f ∙ v.1 w))))
+
+pub lacking_none : (t : TypeTree) (l : Scalar) (a : Bool) → a ≡ lacks t (cell_of l) → a ≡ false → TellsLacking t l a
+lacking_none t l a h e = ((λ i. absurd (false≢true (sym e ∙ i))), (λ f w. sym h ∙ e))
+
 pub lacks_other : (t : TypeTree) (x : Cell) (b : Bool) → same_type t x.typed ≡ false → b ≡ lacks_number t x.typed x.content → b ≡ lacks t x
 lacks_other t x b e h = h ∙ sym (ap (λ b. cond b false (lacks_number t x.typed x.content)) e)
 
 pub ruleset lacking = (lacks_same, lacks_other)
+
+pub ruleset tells = (lacking_valid, lacking_none, first_end, second_end)
 
 lacks_content : (k : PType) (l : PType) (m n : Nullability) (c : Content) → lacks_of (Some k) (Some l) (number_in c) ≡ lacks_number (integer_type k m) (integer_type l n) c
 lacks_content k l m n (whole z) = refl
@@ -532,32 +559,43 @@ side_is c o r h e = e ∙ ap side_of h ∙ side_at c
 
 -- ---- the whole filter
 
-module _ (columns : List TypeTree) (f : Formula) (vs : List Scalar) where
-  pub value_coerced : (r : Result Filter FilterError) → Coerces columns f (AreValid vs) r → IfOk r (λ g. formula g ≡ coerced columns f)
+-- a filter that fits is refused only for want of memory
+fitting_refused : (columns : List TypeTree) (F : Filter) (e : FilterError) → FitsColumns columns (formula F) → (e ≡ OutOfMemory) ⊎ RefusesFirst IsCoercible columns (literal_tests F) e → e ≡ OutOfMemory
+fitting_refused columns F e h (inl o) = o
+fitting_refused columns F e h (inr p) = absurd (not_both IsCoercible columns (literal_tests F) e (fitting_coercible columns F h) p)
+
+module _ (columns : List TypeTree) (F : Filter) where
+  abbrev pub IsCoerced : Result Filter FilterError → Type 0
+  IsCoerced r = Coerces columns (formula F) (literal_tests F) (literals_of F) r
+
+  pub value_coerced : (r : Result Filter FilterError) → IsCoerced r → IfOk r (λ g. formula g ≡ coerced columns (formula F))
   value_coerced (Ok g) h = h.0
   value_coerced (Err e) h = tt
 
-  pub fits_coerced : NullableIsSame → (r : Result Filter FilterError) → Coerces columns f (AreValid vs) r → IfOk r (λ g. FitsColumns columns (formula g))
-  fits_coerced n (Ok g) h = subst (FitsColumns columns) (sym h.0) (coerced_fits n columns f h.1)
+  pub fits_coerced : NullableIsSame → (r : Result Filter FilterError) → IsCoerced r → IfOk r (λ g. FitsColumns columns (formula g))
+  fits_coerced n (Ok g) h = subst (FitsColumns columns) (sym h.0) (coerced_fits n columns (formula F) (coercible_columns columns F h.1))
   fits_coerced n (Err e) h = tt
 
-  pub same_coerced : NullableIsSame → (r : Result Filter FilterError) → Coerces columns f (AreValid vs) r → IfOk r (λ g. (row : List Cell) → IsRowOf columns row → truth (formula g) row ≡ content_truth f row)
-  same_coerced n (Ok g) h = λ row i. ap (λ p. truth p row) h.0 ∙ coerced_truth n columns f row i h.1
+  pub same_coerced : NullableIsSame → (r : Result Filter FilterError) → IsCoerced r → IfOk r (λ g. (row : List Cell) → IsRowOf columns row → truth (formula g) row ≡ content_truth (formula F) row)
+  same_coerced n (Ok g) h = λ row i. ap (λ p. truth p row) h.0 ∙ coerced_truth n columns (formula F) row i (coercible_columns columns F h.1)
   same_coerced n (Err e) h = tt
 
-  pub unchanged_coerced : (r : Result Filter FilterError) → Coerces columns f (AreValid vs) r → FitsColumns columns f → IfOk r (λ g. formula g ≡ f)
-  unchanged_coerced (Ok g) h i = h.0 ∙ coerced_itself columns f i
+  pub unchanged_coerced : (r : Result Filter FilterError) → IsCoerced r → FitsColumns columns (formula F) → IfOk r (λ g. formula g ≡ formula F)
+  unchanged_coerced (Ok g) h i = h.0 ∙ coerced_itself columns (formula F) i
   unchanged_coerced (Err e) h i = tt
 
-  pub valid_coerced : (r : Result Filter FilterError) → Coerces columns f (AreValid vs) r → AreValid vs → IfOk r (λ g. AreValid (literals_of g))
+  pub fitting_coerced : (r : Result Filter FilterError) → IsCoerced r → FitsColumns columns (formula F) → IfErr r (λ e. e ≡ OutOfMemory)
+  fitting_coerced (Ok g) h i = tt
+  fitting_coerced (Err e) h i = fitting_refused columns F e i h
+
+  pub valid_coerced : (r : Result Filter FilterError) → IsCoerced r → AreValid (literals_of F) → IfOk r (λ g. AreValid (literals_of g))
   valid_coerced (Ok g) h v = h.2 v
   valid_coerced (Err e) h v = tt
 
-  pub only_coerced : (r : Result Filter FilterError) → Coerces columns f (AreValid vs) r → OnOk r (AllFit IsCoercible columns (tests f))
+  pub only_coerced : (r : Result Filter FilterError) → IsCoerced r → OnOk r (AllFit IsCoercible columns (literal_tests F))
   only_coerced (Ok g) h = h.1
   only_coerced (Err e) h = tt
 
-  pub refused_coerced : (r : Result Filter FilterError) → Coerces columns f (AreValid vs) r → AreValid vs → IfErr r (λ e. (e ≡ OutOfMemory) ⊎ RefusesFirst IsCoercible columns (tests f) e)
-  refused_coerced (Ok g) h v = tt
-  refused_coerced (Err e) (inl o) v = inl o
-  refused_coerced (Err e) (inr p) v = inr (p v)
+  pub refused_coerced : (r : Result Filter FilterError) → IsCoerced r → IfErr r (λ e. (e ≡ OutOfMemory) ⊎ RefusesFirst IsCoercible columns (literal_tests F) e)
+  refused_coerced (Ok g) h = tt
+  refused_coerced (Err e) h = h

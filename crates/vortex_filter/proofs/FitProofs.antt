@@ -16,13 +16,13 @@ use Rattle.vortex_filter.specs.declared.operator.CompareOperator.{CompareOperato
 use Rattle.vortex_filter.specs.declared.operator.CompareOperator.TheVariants.{Gte, Lte}
 use Rattle.vortex_filter.specs.declared.truth.Truth.TheVariants.{Unknown}
 use Rattle.vortex_filter.specs.Checking.{AllFit, Demand, FitsColumns, IsOfType, Suits, Test, beginning, comparing, nothing, tests}
-use Rattle.vortex_filter.specs.Coercing.{IsCoercible, by_column, coerced, coerced_cell, coerced_comparison, coerced_range, for_values, kept_cells, lacks, lacks_number, membership_of, side}
+use Rattle.vortex_filter.specs.Coercing.{by_column, coerced, coerced_cell, coerced_comparison, coerced_range, for_values, kept_cells, lacks, lacks_number, membership_of, side}
 use Rattle.vortex_filter.specs.FitLaws.{FittingComparesContents, IsPlainType, UnknownForNulls, UnknownWithoutOrder}
 use Rattle.vortex_filter.specs.Formula.{Formula, constant, comparison, null_test, membership, range, prefix_test, both, either, negation, cell_at, order_truth, truth}
 use Rattle.vortex_filter.specs.Operators.{holds}
 use Rattle.vortex_filter.specs.Rows.{IsCellOf, IsRowOf}
 use Rattle.vortex_filter.specs.Truths.{truth_of}
-use Rattle.vortex_filter.proofs.CoerceLaws.{NullableIsSame, coerced_truth, fits_left, fits_right}
+use Rattle.vortex_filter.proofs.CoerceLaws.{AnyLiteral, NullableIsSame, coerced_truth, fits_left, fits_right}
 
 -- ---- literals of the type are left as they are
 
@@ -65,23 +65,23 @@ coerced_itself columns (both f g) h = ap₂ both (coerced_itself columns f (fits
 coerced_itself columns (either f g) h = ap₂ either (coerced_itself columns f (fits_left IsOfType columns (tests f) (tests g) h)) (coerced_itself columns g (fits_right IsOfType columns (tests f) (tests g) h))
 coerced_itself columns (negation f) h = ap negation (coerced_itself columns f h)
 
--- ---- what fits can be coerced
+-- ---- what fits has its columns
 
-suits_more : (d : Demand) (t : TypeTree) → Suits IsOfType d t → Suits IsCoercible d t
-suits_more nothing t h = tt
-suits_more (comparing xs) t h = each xs h
+suits_any : (d : Demand Cell) (t : TypeTree) → Suits IsOfType d t → Suits AnyLiteral d t
+suits_any nothing t h = tt
+suits_any (comparing xs) t h = each xs
   where
-    each : (xs : List Cell) → AllByRecursion (IsOfType t) xs → AllByRecursion (IsCoercible t) xs
-    each [] h = tt
-    each (x ∷ xs) h = (inl h.0, each xs h.1)
-suits_more (beginning p) t h = (h.0, inl h.1)
+    each : (xs : List Cell) → AllByRecursion (AnyLiteral t) xs
+    each [] = tt
+    each (x ∷ xs) = (tt, each xs)
+suits_any (beginning p) t h = (h.0, tt)
 
-pub fits_more : (columns : List TypeTree) (ts : List Test) → AllFit IsOfType columns ts → AllFit IsCoercible columns ts
-fits_more columns [] h = tt
-fits_more columns (test ∷ ts) h = (record { dtype = h.0.dtype; there = h.0.there; ordered = h.0.ordered; suits = suits_more test.demand h.0.dtype h.0.suits }, fits_more columns ts h.1)
+fits_any : (columns : List TypeTree) (ts : List (Test Cell)) → AllFit IsOfType columns ts → AllFit AnyLiteral columns ts
+fits_any columns [] h = tt
+fits_any columns (test ∷ ts) h = (record { dtype = h.0.dtype; there = h.0.there; ordered = h.0.ordered; suits = suits_any test.demand h.0.dtype h.0.suits }, fits_any columns ts h.1)
 
 pub compares_contents : NullableIsSame → FittingComparesContents
-compares_contents nullable columns f row h r = sym (ap (λ g. truth g row) (coerced_itself columns f h)) ∙ coerced_truth nullable columns f row r (fits_more columns (tests f) h)
+compares_contents nullable columns f row h r = sym (ap (λ g. truth g row) (coerced_itself columns f h)) ∙ coerced_truth nullable columns f row r (fits_any columns (tests f) h)
 
 -- ---- when a comparison is Unknown
 

@@ -10,3 +10,4 @@ pub mod Loops
 pub mod MakeSteps
 pub mod PrefixSteps
 pub mod Steps
+pub mod TestSteps

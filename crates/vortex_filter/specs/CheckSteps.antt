@@ -9,6 +9,7 @@ use Rattle.vortex_filter.specs.declared.error.FilterError.{FilterError}
 use Rattle.vortex_filter.specs.declared.error.FilterError.TheVariants.{OutOfMemory, NoColumn, HasVariant, TypesDiffer}
 use Rattle.vortex_filter.specs.Checking.{Demand, beginning, comparing, nothing, tests}
 use Rattle.vortex_filter.specs.Formula.{Formula, constant, comparison, null_test, membership, range, prefix_test, both, either, negation}
+use Rattle.vortex_cells.specs.Cells.{Cell}
 use Rattle.vortex_cells.specs.Variants.{has_variant}
 
 -- whether the type holds strings, or bytes
@@ -16,19 +17,19 @@ abbrev pub holds_strings : TypeTree → Bool
 holds_strings t = is_utf8_type t || is_binary_type t
 
 -- whether the literals are of the type, and what may begin with one is a string, or bytes
-abbrev pub suits : Demand → TypeTree → Bool
+abbrev pub suits : Demand Cell → TypeTree → Bool
 suits nothing t = true
 suits (comparing xs) t = list_all (λ x. same_type t x.typed) xs
 suits (beginning p) t = holds_strings t && same_type t p.typed
 
 -- whether an order is wanted of the type's values, and there is none
-abbrev pub lacks_order : Demand → TypeTree → Bool
+abbrev pub lacks_order : Demand Cell → TypeTree → Bool
 lacks_order nothing t = false
 lacks_order (comparing xs) t = has_variant t
 lacks_order (beginning p) t = has_variant t
 
 -- the answer for one test, by its column's type
-abbrev pub checked_test : Option TypeTree → Demand → ℕ → Result (Unit {0}) FilterError
+abbrev pub checked_test : Option TypeTree → Demand Cell → ℕ → Result (Unit {0}) FilterError
 checked_test None d k = Err (NoColumn 0 k)
 checked_test (Some t) d k = if lacks_order d t then Err (HasVariant 0 k) else (if suits d t then Ok tt else Err (TypesDiffer 0 k))
 

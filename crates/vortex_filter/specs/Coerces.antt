@@ -1,5 +1,5 @@
 -- What a call answers that coerces a filter or a part of one.
-use Rattle.std.specs.Prelude.{◌≡◌, ◌⊎◌, ℕ, ℤ, pos, Bool, true, false, not, List, [], ◌∷◌, ◌++◌, map, if◌then◌else◌, Option, Some, None, Result, MatchResult, slice_get, Vec}
+use Rattle.std.specs.Prelude.{◌≡◌, ◌⊎◌, ℕ, ℤ, pos, Bool, true, false, not, ◌||◌, List, [], ◌∷◌, ◌++◌, map, if◌then◌else◌, Option, Some, None, Result, MatchResult, slice_get, Vec}
 use Rattle.std.specs.Borrow.{Bor}
 use Rattle.std.specs.Global.{Global}
 use Rattle.std.specs.List.{AllByRecursion}
@@ -19,40 +19,53 @@ use Rattle.vortex_cells.specs.Cells.{Cell, cell_of}
 use Rattle.vortex_filter.specs.declared.error.FilterError.{FilterError}
 use Rattle.vortex_filter.specs.declared.error.FilterError.TheVariants.{OutOfMemory, NoColumn, HasVariant, TypesDiffer}
 use Rattle.vortex_filter.specs.declared.filter.Filter.{Filter}
-use Rattle.vortex_filter.specs.Checking.{AllFit, Demand, RefusesFirst, Suits, tests}
+use Rattle.vortex_filter.specs.Checking.{AllFit, Demand, RefusesFirst, Suits, Test}
 use Rattle.vortex_filter.specs.Coercing.{IsCoercible, coerced, coerced_cell, kept_cells, lacks}
 use Rattle.vortex_filter.specs.FilterLiterals.{AreValid, literals_of}
 use Rattle.vortex_filter.specs.Formula.{Formula, formula}
 
--- a filter, if each literal can be made one of its column's type, with valid literals if these are; else it is out of memory,
--- or, if the literals are valid, the first test is refused that has one which cannot
-abbrev pub Coerces : List TypeTree → Formula → Type 0 → Result Filter FilterError → Type 0
-Coerces columns f valid r =
-    MatchResult r (λ g. (formula g ≡ coerced columns f) × AllFit IsCoercible columns (tests f) × (valid → AreValid (literals_of g))) (λ e. (e ≡ OutOfMemory) ⊎ (valid → RefusesFirst IsCoercible columns (tests f) e))
+-- a filter of these tests with these literals is one with this formula coerced, if each literal can be made one of its
+-- column's type, and has valid literals if these are; else it is out of memory, or the first test is refused with a literal
+-- that cannot
+abbrev pub Coerces : List TypeTree → Formula → List (Test Scalar) → List Scalar → Result Filter FilterError → Type 0
+Coerces columns f ts literals r =
+    MatchResult r (λ g. (formula g ≡ coerced columns f) × AllFit IsCoercible columns ts × (AreValid literals → AreValid (literals_of g))) (λ e. (e ≡ OutOfMemory) ⊎ RefusesFirst IsCoercible columns ts e)
 
--- the refusal of a column k whose literals have not the property, if they are valid
-abbrev pub RefusesLiterals : ℕ → Type 0 → Type 0 → FilterError → Type 0
-RefusesLiterals k property valid e = (e ≡ OutOfMemory) ⊎ ((e ≡ TypesDiffer 0 k) × (valid → ¬ property))
+-- the refusal of a column k whose literals have not the property
+abbrev pub RefusesLiterals : ℕ → Type 0 → FilterError → Type 0
+RefusesLiterals k property e = (e ≡ OutOfMemory) ⊎ ((e ≡ TypesDiffer 0 k) × ¬ property)
 
 -- the same for one test of column k, of the type t
-abbrev pub CoercesTest : TypeTree → Demand → Formula → Type 0 → ℕ → Result Filter FilterError → Type 0
-CoercesTest t d f valid k r = MatchResult r (λ g. (formula g ≡ f) × Suits IsCoercible d t × (valid → AreValid (literals_of g))) (RefusesLiterals k (Suits IsCoercible d t) valid)
+abbrev pub CoercesTest : TypeTree → Demand Scalar → Formula → List Scalar → ℕ → Result Filter FilterError → Type 0
+CoercesTest t d f literals k r = MatchResult r (λ g. (formula g ≡ f) × Suits IsCoercible d t × (AreValid literals → AreValid (literals_of g))) (RefusesLiterals k (Suits IsCoercible d t))
+
+-- if the literal is valid, the type does not lack it
+abbrev pub MayHave : TypeTree → Scalar → Type 0
+MayHave t x = IsValid x → lacks t (cell_of x) ≡ false
+
+-- whether the type lacks the literal, if it is valid
+abbrev pub TellsLacking : TypeTree → Scalar → Bool → Type 0
+TellsLacking t x b = (b ≡ true → IsValid x × (lacks t (cell_of x) ≡ true)) × (b ≡ false → MayHave t x)
+
+-- whether the type lacks one of two literals, if it is valid
+abbrev pub TellsEnds : TypeTree → Scalar → Scalar → Bool → Type 0
+TellsEnds t x y b = (b ≡ true → (lacks t (cell_of x) || lacks t (cell_of y)) ≡ true) × (b ≡ false → MayHave t x × MayHave t y)
 
 -- the same for one literal that the type does not lack
-abbrev pub CoercesLiteral : TypeTree → Cell → Type 0 → ℕ → Result Scalar FilterError → Type 0
-CoercesLiteral t x valid k r = MatchResult r (λ y. (cell_of y ≡ coerced_cell t x) × IsCoercible t x × (valid → IsValid y)) (RefusesLiterals k (IsCoercible t x) valid)
+abbrev pub CoercesLiteral : TypeTree → Scalar → ℕ → Result Scalar FilterError → Type 0
+CoercesLiteral t x k r = MatchResult r (λ y. (cell_of y ≡ coerced_cell t (cell_of x)) × (lacks t (cell_of x) ≡ false) × IsCoercible t x × (IsValid x → IsValid y)) (RefusesLiterals k (IsCoercible t x))
 
 -- the same for several literals, of which those that the type lacks are left out
-abbrev pub CoercesLiterals : TypeTree → List Cell → Type 0 → ℕ → Result (Vec Scalar Global) FilterError → Type 0
-CoercesLiterals t xs valid k r = MatchResult r (λ ys. (map cell_of ys.items ≡ kept_cells t xs) × AllByRecursion (IsCoercible t) xs × (valid → AreValid ys.items)) (RefusesLiterals k (AllByRecursion (IsCoercible t) xs) valid)
+abbrev pub CoercesLiterals : TypeTree → List Scalar → ℕ → Result (Vec Scalar Global) FilterError → Type 0
+CoercesLiterals t xs k r = MatchResult r (λ ys. (map cell_of ys.items ≡ kept_cells t (map cell_of xs)) × AllByRecursion (IsCoercible t) xs × (AreValid xs → AreValid ys.items)) (RefusesLiterals k (AllByRecursion (IsCoercible t) xs))
 
 -- the cells with one more, unless the type lacks it
 abbrev pub with_cell : TypeTree → Cell → List Cell → List Cell
 with_cell t x ks = if lacks t x then ks else ks ++ coerced_cell t x ∷ []
 
 -- one literal more is kept, unless the type lacks it
-abbrev pub Pushes : TypeTree → Cell → Type 0 → ℕ → List Scalar → List Scalar → Result (Unit {0}) FilterError → Type 0
-Pushes t x valid k before after r = MatchResult r (λ _. (map cell_of after ≡ with_cell t x (map cell_of before)) × IsCoercible t x × (valid → AreValid before → AreValid after)) (RefusesLiterals k (IsCoercible t x) valid)
+abbrev pub Pushes : TypeTree → Scalar → ℕ → List Scalar → List Scalar → Result (Unit {0}) FilterError → Type 0
+Pushes t x k before after r = MatchResult r (λ _. (map cell_of after ≡ with_cell t (cell_of x) (map cell_of before)) × IsCoercible t x × (IsValid x → AreValid before → AreValid after)) (RefusesLiterals k (IsCoercible t x))
 
 -- the type of a column whose values have an order; else the column is not there, or a variant stands in its type
 abbrev pub GivesOrdered : List TypeTree → ℕ → Result (Bor DType) FilterError → Type 0

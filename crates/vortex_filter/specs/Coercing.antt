@@ -8,7 +8,9 @@ use Rattle.vortex_pvalue.specs.Numbers.{in_range}
 use Rattle.vortex_value.specs.Casts.{CanCast}
 use Rattle.vortex_value.specs.Equality.{same_type}
 use Rattle.vortex_value.specs.Values.Content.{Content, whole}
-use Rattle.vortex_cells.specs.Cells.{Cell}
+use Rattle.vortex_value.specs.Values.Scalars.{IsValid, scalar_content, scalar_type}
+use Rattle.vortex_value.specs.declared.scalars.Scalar.{Scalar}
+use Rattle.vortex_cells.specs.Cells.{Cell, cell_of}
 use Rattle.vortex_filter.specs.declared.operator.CompareOperator.{CompareOperator}
 use Rattle.vortex_filter.specs.declared.operator.CompareOperator.TheVariants.{Gte, Lte}
 use Rattle.vortex_filter.specs.declared.truth.Truth.TheVariants.{Unknown}
@@ -30,10 +32,10 @@ lacks t x = if same_type t x.typed then false else lacks_number t x.typed x.cont
 abbrev pub coerced_cell : TypeTree → Cell → Cell
 coerced_cell t x = if same_type t x.typed then x else record { typed = as_nullable t; content = x.content }
 
--- the literal is of the column's type up to nullability; or it is an integer that the type lacks; or the cast to the type,
--- made nullable, is possible
-abbrev pub IsCoercible : TypeTree → Cell → Type 0
-IsCoercible t x = Same t x.typed ⊎ ((lacks t x ≡ true) ⊎ CanCast x.typed (as_nullable t) x.content)
+-- the literal is of the column's type up to nullability; or it is valid for its own type, and an integer that the column's
+-- lacks, or one with a cast to the column's, made nullable
+abbrev pub IsCoercible : TypeTree → Scalar → Type 0
+IsCoercible t x = Same t (scalar_type x) ⊎ (IsValid x × ((lacks t (cell_of x) ≡ true) ⊎ CanCast (scalar_type x) (as_nullable t) (scalar_content x)))
 
 -- ---- what a test with such a literal is
 

@@ -1,4 +1,4 @@
--- The literals of a filter, as scalars.
+-- The literals and the tests of a filter, with its literals as scalars.
 use Rattle.std.specs.Prelude.{◌≡◌, List, [], ◌∷◌, ◌++◌, map, IfOk, Result}
 use Rattle.std.specs.List.{AllByRecursion}
 use Rattle.vortex_dtype.specs.TypeTree.{TypeTree}
@@ -8,6 +8,7 @@ use Rattle.vortex_value.specs.declared.scalars.Scalar.{Scalar}
 use Rattle.vortex_filter.specs.declared.error.FilterError.{FilterError}
 use Rattle.vortex_filter.specs.declared.filter.Filter.{Filter, fold-Filter}
 use Rattle.vortex_filter.specs.declared.filter.Filter.TheOpen.{Filter-F}
+use Rattle.vortex_filter.specs.Checking.{Test, asks, beginning, comparing, nothing}
 use Rattle.vortex_filter.specs.Formula.{formula}
 
 -- the literals of a variant, from those of its parts
@@ -25,6 +26,22 @@ literals_step (Filter-F.Not f) = f.value
 -- the literals of a filter, in reading order
 abbrev pub literals_of : Filter → List Scalar
 literals_of = fold-Filter (List Scalar) literals_step
+
+-- the tests of a variant, from those of its parts
+abbrev pub literal_tests_step : Filter-F (List (Test Scalar)) → List (Test Scalar)
+literal_tests_step (Filter-F.Constant t) = []
+literal_tests_step (Filter-F.Compare column op literal) = asks column (comparing (literal ∷ []))
+literal_tests_step (Filter-F.IsNull column) = asks column nothing
+literal_tests_step (Filter-F.In column literals) = asks column (comparing literals.items)
+literal_tests_step (Filter-F.Between column lower upper) = asks column (comparing (lower ∷ upper ∷ []))
+literal_tests_step (Filter-F.StartsWith column prefix) = asks column (beginning prefix)
+literal_tests_step (Filter-F.And f g) = f.value ++ g.value
+literal_tests_step (Filter-F.Or f g) = f.value ++ g.value
+literal_tests_step (Filter-F.Not f) = f.value
+
+-- the tests of a filter, in reading order, with its literals as scalars
+abbrev pub literal_tests : Filter → List (Test Scalar)
+literal_tests = fold-Filter (List (Test Scalar)) literal_tests_step
 
 -- ---- validity
 

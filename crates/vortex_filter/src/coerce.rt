@@ -1,13 +1,13 @@
 //! A filter with its literals cast to the types of the columns.
 
-ghost use Rattle.std.specs.Prelude.{◌≡◌, ◌≢◌, ◌⊎◌, ◌↔◌, ◌∷◌, ◌++◌, [], false, not, ◌||◌, IfErr, IfOk, IsTrue, List, MatchResult, OnOk, map};
-ghost use Rattle.vortex_filter.specs.Coerces.{Coerces, CoercesLiteral, CoercesLiterals, CoercesTest, GivesOrdered, Pushes, all_left_out, integer_in, lacks_of, number_in, side_of};
+ghost use Rattle.std.specs.Prelude.{◌≡◌, ◌≢◌, ◌⊎◌, ◌↔◌, ◌∷◌, ◌++◌, [], false, not, IfErr, IfOk, IsTrue, List, MatchResult, OnOk, map};
+ghost use Rattle.vortex_filter.specs.Coerces.{Coerces, CoercesLiteral, CoercesLiterals, CoercesTest, GivesOrdered, MayHave, Pushes, TellsEnds, TellsLacking, all_left_out, integer_in, lacks_of, number_in, side_of};
 ghost use Rattle.vortex_filter.specs.Coercing.{IsCoercible, coerced, coerced_comparison, coerced_cell, coerced_range, for_values, kept_cells, lacks, lacks_number, membership_of, side};
-ghost use Rattle.vortex_filter.specs.Checking.{AllFit, beginning, comparing};
-ghost use Rattle.vortex_filter.specs.FilterLiterals.{AreValid, literals_of};
+ghost use Rattle.vortex_filter.specs.Checking.{AllFit, asks, beginning, comparing, nothing};
+ghost use Rattle.vortex_filter.specs.FilterLiterals.{AreValid, literal_tests, literals_of};
 ghost use Rattle.vortex_filter.specs.Makes.{Makes};
 ghost use Rattle.vortex_filter.specs.Rows.{IsRowOf, content_truth};
-ghost use Rattle.vortex_filter.specs.Words.{Cell, FitsColumns, IsValid, OutOfMemory, RefusesFirst, as_nullable, cell_of, comparison, formula, in_range, membership, null_test, prefix_test, range, same_type, scalar_content, scalar_type, tests, truth, type_of};
+ghost use Rattle.vortex_filter.specs.Words.{Cell, FitsColumns, IsValid, OutOfMemory, RefusesFirst, as_nullable, cell_of, comparison, formula, in_range, membership, null_test, prefix_test, range, same_type, scalar_content, scalar_type, truth, type_of};
 
 use crate::building::{conjoin, disjoin, negate};
 use crate::check::{behind, holds_strings, is_of_type, type_at};
@@ -34,9 +34,11 @@ impl Filter {
     /// alone. A filter that passes `check` is copied as it is.
     ///
     /// It is refused for the first test, in reading order, with a literal that cannot be cast, or
-    /// whose column is not there or has values without an order. A literal that is not valid for its
-    /// own type counts as one that cannot be cast. Of valid literals it makes valid ones.
-    /// `OutOfMemory` may come in place of each answer.
+    /// whose column is not there or has values without an order. A literal of another type than the
+    /// column's that is not valid for its own counts as one that cannot be cast. Of valid literals it
+    /// makes valid ones. `OutOfMemory` may come in place of each answer, and is the only refusal of a
+    /// filter that passes `check`.
+    ///
     /// It borrows the filter: casts are new scalars anyway, and so nothing is lost if it is refused.
     pub fn coerce(&self, alloc: Global, columns: &[DType]) -> Result<Filter, FilterError>
         ensures value { IfOk result (λ made.
@@ -48,12 +50,14 @@ impl Filter {
             → truth (formula made) row ≡ content_truth (formula self.now) row) }
         ensures unchanged { FitsColumns (map type_of columns.now) (formula self.now)
             → IfOk result (λ made. formula made ≡ formula self.now) }
+        ensures fitting { FitsColumns (map type_of columns.now) (formula self.now)
+            → IfErr result (λ e. e ≡ OutOfMemory) }
         ensures valid { AreValid (literals_of self.now) → IfOk result (λ made.
             AreValid (literals_of made)) }
         ensures only { OnOk result
-            (AllFit IsCoercible (map type_of columns.now) (tests (formula self.now))) }
-        ensures refused { AreValid (literals_of self.now) → IfErr result (λ e. (e ≡ OutOfMemory)
-            ⊎ RefusesFirst IsCoercible (map type_of columns.now) (tests (formula self.now)) e) }
+            (AllFit IsCoercible (map type_of columns.now) (literal_tests self.now)) }
+        ensures refused { IfErr result (λ e. (e ≡ OutOfMemory)
+            ⊎ RefusesFirst IsCoercible (map type_of columns.now) (literal_tests self.now) e) }
     {
         nullable_is_the_same();
         coerce_filter(alloc, self, columns)
@@ -63,7 +67,7 @@ impl Filter {
 #[tactic(auto, using(crate::proofs::CoerceSteps::shown))]
 fn coerce_filter(alloc: Global, filter: &Filter, columns: &[DType]) -> Result<Filter, FilterError>
     ensures { Coerces (map type_of columns.now) (formula filter.now)
-        (AreValid (literals_of filter.now)) result }
+        (literal_tests filter.now) (literals_of filter.now) result }
 {
     match filter {
         Filter::Constant(truth) => Ok(Filter::Constant(*truth)),
@@ -102,7 +106,7 @@ fn coerce_filter(alloc: Global, filter: &Filter, columns: &[DType]) -> Result<Fi
 #[tactic(auto, using(crate::proofs::CoerceSteps::columns))]
 #[inline(never)]
 fn coerce_null_test(column: usize, columns: &[DType]) -> Result<Filter, FilterError>
-    ensures { Coerces (map type_of columns.now) (null_test column) (AreValid []) result }
+    ensures { Coerces (map type_of columns.now) (null_test column) (asks column nothing) [] result }
 {
     match type_at(column, columns) {
         Some(_) => Ok(Filter::IsNull { column }),
@@ -120,7 +124,8 @@ fn coerce_comparison(
     columns: &[DType],
 ) -> Result<Filter, FilterError>
     ensures { Coerces (map type_of columns.now)
-        (comparison column operator (cell_of literal.now)) (AreValid (literal.now ∷ [])) result }
+        (comparison column operator (cell_of literal.now))
+        (asks column (comparing (literal.now ∷ []))) (literal.now ∷ []) result }
 {
     match ordered_type(column, columns) {
         Ok(dtype) => comparison_in(alloc, dtype, column, operator, literal),
@@ -137,7 +142,8 @@ fn coerce_membership(
     columns: &[DType],
 ) -> Result<Filter, FilterError>
     ensures { Coerces (map type_of columns.now)
-        (membership column (map cell_of literals.now)) (AreValid literals.now) result }
+        (membership column (map cell_of literals.now))
+        (asks column (comparing literals.now)) literals.now result }
 {
     match ordered_type(column, columns) {
         Ok(dtype) => membership_in(alloc, dtype, column, literals),
@@ -156,7 +162,7 @@ fn coerce_range(
 ) -> Result<Filter, FilterError>
     ensures { Coerces (map type_of columns.now)
         (range column (cell_of lower.now) (cell_of upper.now))
-        (AreValid (lower.now ∷ upper.now ∷ [])) result }
+        (asks column (comparing (lower.now ∷ upper.now ∷ []))) (lower.now ∷ upper.now ∷ []) result }
 {
     match ordered_type(column, columns) {
         Ok(dtype) => range_in(alloc, dtype, column, lower, upper),
@@ -173,7 +179,8 @@ fn coerce_prefix(
     columns: &[DType],
 ) -> Result<Filter, FilterError>
     ensures { Coerces (map type_of columns.now)
-        (prefix_test column (cell_of prefix.now)) (AreValid (prefix.now ∷ [])) result }
+        (prefix_test column (cell_of prefix.now))
+        (asks column (beginning prefix.now)) (prefix.now ∷ []) result }
 {
     match ordered_type(column, columns) {
         Ok(dtype) => prefix_in(alloc, dtype, column, prefix),
@@ -205,11 +212,11 @@ fn comparison_in(
     operator: CompareOperator,
     literal: &Scalar,
 ) -> Result<Filter, FilterError>
-    ensures { CoercesTest (type_of dtype.now) (comparing (cell_of literal.now ∷ []))
+    ensures { CoercesTest (type_of dtype.now) (comparing (literal.now ∷ []))
         (coerced_comparison (type_of dtype.now) column operator (cell_of literal.now))
-        (AreValid (literal.now ∷ [])) column result }
+        (literal.now ∷ []) column result }
 {
-    if lacks(dtype, literal) {
+    if is_lacking(dtype, literal) {
         return for_values(alloc, operator.holds(side(literal)), column);
     }
     match cast_literal(alloc, dtype, column, literal) {
@@ -229,10 +236,10 @@ fn membership_in(
     column: usize,
     literals: &[Scalar],
 ) -> Result<Filter, FilterError>
-    ensures { CoercesTest (type_of dtype.now) (comparing (map cell_of literals.now))
+    ensures { CoercesTest (type_of dtype.now) (comparing literals.now)
         (membership_of column
         (kept_cells (type_of dtype.now) (map cell_of literals.now)) (map cell_of literals.now))
-        (AreValid literals.now) column result }
+        literals.now column result }
 {
     match cast_literals(alloc, dtype, column, literals) {
         Ok(kept) => {
@@ -265,9 +272,9 @@ fn range_in(
     upper: &Scalar,
 ) -> Result<Filter, FilterError>
     ensures { CoercesTest (type_of dtype.now)
-        (comparing (cell_of lower.now ∷ cell_of upper.now ∷ []))
+        (comparing (lower.now ∷ upper.now ∷ []))
         (coerced_range (type_of dtype.now) column (cell_of lower.now) (cell_of upper.now))
-        (AreValid (lower.now ∷ upper.now ∷ [])) column result }
+        (lower.now ∷ upper.now ∷ []) column result }
 {
     if lacks_an_end(dtype, lower, upper) {
         let from = comparison_in(alloc, dtype, column, CompareOperator::Gte, lower);
@@ -278,11 +285,11 @@ fn range_in(
 }
 
 /// Whether the type lacks an end of a range.
+#[tactic(auto, using(crate::proofs::CoerceSteps::tells))]
 fn lacks_an_end(dtype: &DType, lower: &Scalar, upper: &Scalar) -> bool
-    ensures { result ≡ (lacks (type_of dtype.now) (cell_of lower.now)
-        || lacks (type_of dtype.now) (cell_of upper.now)) }
+    ensures { TellsEnds (type_of dtype.now) lower.now upper.now result }
 {
-    lacks(dtype, lower) || lacks(dtype, upper)
+    is_lacking(dtype, lower) || is_lacking(dtype, upper)
 }
 
 /// The range between two literals that the type does not lack.
@@ -294,13 +301,12 @@ fn cast_range(
     lower: &Scalar,
     upper: &Scalar,
 ) -> Result<Filter, FilterError>
-    requires { (lacks (type_of dtype.now) (cell_of lower.now)
-        || lacks (type_of dtype.now) (cell_of upper.now)) ≡ false }
+    requires lower { MayHave (type_of dtype.now) lower.now }
+    requires upper { MayHave (type_of dtype.now) upper.now }
     ensures { CoercesTest (type_of dtype.now)
-        (comparing (cell_of lower.now ∷ cell_of upper.now ∷ []))
-        (range column (coerced_cell (type_of dtype.now) (cell_of lower.now))
-        (coerced_cell (type_of dtype.now) (cell_of upper.now)))
-        (AreValid (lower.now ∷ upper.now ∷ [])) column result }
+        (comparing (lower.now ∷ upper.now ∷ []))
+        (coerced_range (type_of dtype.now) column (cell_of lower.now) (cell_of upper.now))
+        (lower.now ∷ upper.now ∷ []) column result }
 {
     match cast_literal(alloc, dtype, column, lower) {
         Ok(lower) => match cast_literal(alloc, dtype, column, upper) {
@@ -325,9 +331,9 @@ fn prefix_in(
     column: usize,
     prefix: &Scalar,
 ) -> Result<Filter, FilterError>
-    ensures { CoercesTest (type_of dtype.now) (beginning (cell_of prefix.now))
+    ensures { CoercesTest (type_of dtype.now) (beginning prefix.now)
         (prefix_test column (coerced_cell (type_of dtype.now) (cell_of prefix.now)))
-        (AreValid (prefix.now ∷ [])) column result }
+        (prefix.now ∷ []) column result }
 {
     if holds_strings(dtype) {
         return match cast_literal(alloc, dtype, column, prefix) {
@@ -361,8 +367,7 @@ fn cast_literals(
     column: usize,
     literals: &[Scalar],
 ) -> Result<Vec<Scalar>, FilterError>
-    ensures { CoercesLiterals (type_of dtype.now) (map cell_of literals.now)
-        (AreValid literals.now) column result }
+    ensures { CoercesLiterals (type_of dtype.now) literals.now column result }
 {
     let mut kept = Vec::with_capacity(alloc, literals.len())?;
     for literal in literals {
@@ -380,10 +385,10 @@ fn push_cast(
     literal: &Scalar,
     kept: &mut Vec<Scalar>,
 ) -> Result<(), FilterError>
-    ensures { Pushes (type_of dtype.now) (cell_of literal.now) (IsValid literal.now) column
+    ensures { Pushes (type_of dtype.now) literal.now column
         kept.old.items kept.new.items result }
 {
-    if lacks(dtype, literal) {
+    if is_lacking(dtype, literal) {
         return Ok(());
     }
     match cast_literal(alloc, dtype, column, literal) {
@@ -414,9 +419,8 @@ fn cast_literal(
     column: usize,
     literal: &Scalar,
 ) -> Result<Scalar, FilterError>
-    requires { lacks (type_of dtype.now) (cell_of literal.now) ≡ false }
-    ensures { CoercesLiteral (type_of dtype.now) (cell_of literal.now)
-        (IsValid literal.now) column result }
+    requires { MayHave (type_of dtype.now) literal.now }
+    ensures { CoercesLiteral (type_of dtype.now) literal.now column result }
 {
     if is_of_type(literal, dtype) {
         return copy_scalar(alloc, literal);
@@ -438,8 +442,7 @@ fn cast_valid(
     requires valid { IsValid literal.now }
     requires other { same_type (type_of dtype.now) (scalar_type literal.now) ≡ false }
     requires has { lacks (type_of dtype.now) (cell_of literal.now) ≡ false }
-    ensures { CoercesLiteral (type_of dtype.now) (cell_of literal.now)
-        (IsValid literal.now) column result }
+    ensures { CoercesLiteral (type_of dtype.now) literal.now column result }
 {
     let target = match nullable(alloc, dtype) {
         Ok(target) => target,
@@ -494,6 +497,15 @@ fn refusal(cause: VortexError, column: usize) -> FilterError
 }
 
 // ---- numbers that a type lacks
+
+/// Whether the literal is a valid integer of another type than the column's, which does not have
+/// it.
+#[tactic(auto, using(crate::proofs::CoerceSteps::tells))]
+fn is_lacking(dtype: &DType, literal: &Scalar) -> bool
+    ensures { TellsLacking (type_of dtype.now) literal.now result }
+{
+    lacks(dtype, literal) && is_valid(literal)
+}
 
 /// Whether the literal is an integer of another type than the column's, which does not have it.
 #[tactic(auto, using(crate::proofs::CoerceSteps::lacking))]

@@ -2,7 +2,7 @@ use Rattle.std.proofs.Common.{◌<◌, length, map, subst, sym, arith}
 use Rattle.vortex_dtype.specs.TypeOf.{type_of}
 use Rattle.vortex_value.specs.Values.Scalars.{IsValid}
 use Rattle.vortex_cells.specs.Cells.{cell_of}
-use Rattle.vortex_filter.proofs.CoerceSteps.{item_refused, kept_step, kept_whole, passed_literals, valid_at}
+use Rattle.vortex_filter.proofs.CoerceSteps.{holds_at, item_refused, kept_step, kept_whole, passed_literals}
 use Rattle.vortex_filter.proofs.coerce.cast_literals.Goals as goal
 
 pub loop-literal-preserved : goal.loop-literal-preserved
@@ -10,7 +10,7 @@ loop-literal-preserved c =
     let pushed = c.in_ok-push_cast.ensures in
     let before : c.loop-literal.literal-index < length c.args.literals.now = omega arith in (
       kept_step (type_of c.args.dtype.now) c.args.literals.now c.loop-literal.literal-index c.literal-item.result (map cell_of c.loop-literal.kept.items) (map cell_of c.push_cast.new.kept.items) before c.literal-item.is c.loop-literal.invariant.0 (pushed.0, pushed.1),
-      λ v. pushed.2 (subst IsValid (sym c.literal-item.is) (valid_at c.args.literals.now c.loop-literal.literal-index c.literal-item.result before v)) (c.loop-literal.invariant.1 v),
+      λ v. pushed.2 (subst IsValid (sym c.literal-item.is) (holds_at IsValid c.args.literals.now c.loop-literal.literal-index c.literal-item.result before v)) (c.loop-literal.invariant.1 v),
     )
 
 pub returns-in_err-push_cast : goal.returns-in_err-push_cast

@@ -1,0 +1,15 @@
+-- What a text says as a filter, whoever reads it.
+use Rattle.std.specs.Prelude.{◌≡◌, ◌≢◌, ℕ, List}
+use Rattle.vortex_filter.specs.Formula.{Formula}
+use Rattle.filter_sql.specs.declared.error.ParseError.{ParseError}
+use Rattle.filter_sql.specs.declared.error.ParseError.TheVariants.{OutOfMemory}
+use Rattle.filter_sql.specs.Columns.{ColumnTree}
+use Rattle.filter_sql.specs.Parsing.{IsSqlWithin, RefusesSqlWithin}
+
+-- A text is one filter at most, however deep it is read.
+abbrev pub TextsSayOneFilter : Type 0
+TextsSayOneFilter = (m n : ℕ) (columns : List ColumnTree) (sql : List ℕ) (f g : Formula) → IsSqlWithin m columns sql f → IsSqlWithin n columns sql g → f ≡ g
+
+-- A text that is refused for a mistake is no filter.
+abbrev pub RefusedTextsSayNone : Type 0
+RefusedTextsSayNone = (n : ℕ) (columns : List ColumnTree) (sql : List ℕ) (e : ParseError) (f : Formula) → e ≢ OutOfMemory → RefusesSqlWithin n columns sql e → ¬ (IsSqlWithin n columns sql f)

@@ -1,0 +1,13 @@
+//! The laws of texts: what holds of all of them, whatever calls read them.
+//!
+//! These functions do nothing when they run. The contract of each is a law over the definitions in
+//! `specs/`, and its proof is the law's proof.
+
+ghost use Rattle.filter_sql.specs.TextLaws.{RefusedTextsSayNone, TextsSayOneFilter};
+
+/// A text is one filter at most: its tokens are the only ones that it has, and they have one
+/// formula, however deep it may nest. A text that is refused for a mistake is none.
+pub fn texts_say_one_filter()
+    ensures one { TextsSayOneFilter }
+    ensures none { RefusedTextsSayNone }
+{}
