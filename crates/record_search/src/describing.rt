@@ -3,11 +3,11 @@
 ghost use Rattle.std.specs.Prelude.{◌≡◌, ◌++◌, ◌<◌, ◌^◌, List, [], IfErr, IfOk, OnOk, length};
 ghost use Rattle.std.specs.Int.{to_le_bytes, w64};
 ghost use Rattle.csv_records.specs.Records.{records_of};
-ghost use Rattle.record_search.specs.Words.{AreAllComplete, AreDescribed, AreRowsOf, Cell, DescribeRows, IfRecordRefused, IsHeldKnown, ObservesRow, PushesCut, RefusesRecord, TellsOneOf, TellsRecord, bytes_encoding, encoding, has_row, known, row_under, rows_under};
+ghost use Rattle.record_search.specs.Words.{AreAllComplete, AreDescribed, AreRowsOf, Cell, DescribeRows, IfRecordRefused, IsHeldKnown, ObservesRow, PushesCut, RefusesRecord, SomeIsFull, TellsOneOf, TellsRecord, bytes_encoding, encoding, has_row, known, row_under, rows_under};
 
 use crate::schema::{Schema, record_fault};
 use csv_records::{Delimiter, cut_record};
-use record_rows::observe_record;
+use record_rows::{ObserveError, observe_record};
 use statistics_bytes::append_statistics;
 use std::alloc::{AllocError, Global};
 use vortex_statistics::ColumnStatistics;
@@ -111,7 +111,8 @@ fn observe_line(
     buffer: &mut Vec<u8>,
     statistics: &mut [ColumnStatistics],
 ) -> Result<(bool, u64), RecordError>
-    requires { length statistics.old ≡ length schema.now.columns.items }
+    requires many { length statistics.old ≡ length schema.now.columns.items }
+    requires few { ¬ (SomeIsFull statistics.old) }
     ensures observed { IfOk result (λ seen. ObservesRow seen.0 (row_under schema.now line.now)
         statistics.old statistics.new) }
     ensures length { length statistics.new ≡ length statistics.old }
@@ -119,7 +120,8 @@ fn observe_line(
 {
     match observe_record(alloc, schema, line, buffer, statistics) {
         Ok(nulls) => Ok((nulls.is_some(), nulls.unwrap_or(0) as u64)),
-        Err(fault) => Err(record_fault(place, fault)),
+        Err(ObserveError::Row(error)) => Err(record_fault(place, error)),
+        Err(ObserveError::TooManyRows) => unreachable!(),
     }
 }
 

@@ -1,11 +1,10 @@
 -- A cell of which no scalar is made, and one of which one is.
 use Rattle.std.proofs.Common.{◌≡◌, subst}
 use Rattle.vortex_cells.specs.Cells.{Cell, cell_of, cell_of_ref}
-use Rattle.vortex_statistics.specs.Observing.{IsCompleteWith}
 use Rattle.vortex_statistics.specs.Statistics.{known}
 use Rattle.vortex_cells.proofs.CellLaws.{ref_cell}
 use Rattle.vortex_statistics.specs.declared.column_statistics.ColumnStatistics.{ColumnStatistics}
-use Rattle.record_rows.specs.Observed.{ObservesField}
+use Rattle.record_rows.specs.Observed.{ObservesCell, ObservesField}
 use Rattle.record_rows.specs.Walks.{field_of}
 use Rattle.record_rows.proofs.Within.{cell_observed}
 use Rattle.record_rows.proofs.observing.observe_field.Goals as goal
@@ -21,5 +20,5 @@ returns-in-Ok-clause-observed c =
     let old = known c.observe_in_place.new.statistics in
     let same : cell_of_ref c.of.result ≡ cell_of cell = ref_cell cell c.of.result c.of.ensures.made in
     let observed = cell_observed c.args.is_lenient f.column (field_of f) cell c.in_ok-cell.flag old (known c.observe.new.self) c.in_ok-cell.ensures.taken
-    (subst (λ (x : Cell). IsCompleteWith old x (known c.observe.new.self)) same c.in-Ok.ensures.complete) in
+    (subst (λ (x : Cell). ObservesCell old x (known c.observe.new.self)) same (record { is = c.in-Ok.ensures.value; right = c.in-Ok.ensures.right; complete = c.in-Ok.ensures.complete })) in
     subst (λ (s : ColumnStatistics). ObservesField c.args.is_lenient f.column (field_of f) (known s) (known c.observe.new.self) c.in_ok-cell.flag) kept observed
