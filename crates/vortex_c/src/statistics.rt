@@ -62,7 +62,8 @@ fn tell_encoding(refusal: ColumnStatisticsError, fault: &mut Fault) -> u32
 /// - `BAD_BYTES`: a piece is no encoding of statistics of the kind. `fault` says which, 0 or 1, and
 ///   the first byte that none has there.
 /// - `TOO_MANY_ROWS`: 64 bits do not count the rows of both.
-/// - `NO_MEMORY`: `fault` is not written.
+/// - `NO_MEMORY`: only if a piece says a bound, the second one after a first that is an encoding, or
+///   if both can be merged. `fault` is not written.
 #[unsafe(no_mangle)]
 pub extern "C" fn doqallin_merge_statistics(
     alloc: Global,
