@@ -4,4 +4,5 @@ mod KeySteps
 mod KeysCounted
 mod ListCasts
 mod MergeSteps
+mod PieceSteps
 mod ReadBack
