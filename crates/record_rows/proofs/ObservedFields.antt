@@ -6,7 +6,7 @@ use Rattle.std.proofs.lemmas.List.{drop-set-lt, map-append, take_more_set}
 use Rattle.csv_records.specs.Rows.{Field, field_rows, rows_of}
 use Rattle.record_rows.proofs.Reading.{refused_push}
 use Rattle.record_rows.proofs.Walking.{word_refused}
-use Rattle.record_rows.specs.Observed.{AreObserved, IsFull, IsNotObserved, IsObserved, IsStep, ObservesField, SomeIsFull, Step}
+use Rattle.record_rows.specs.Observed.{AreObserved, IsFull, IsNotObserved, IsObserved, IsStep, KeepsValid, ObservesField, SomeIsFull, Step}
 use Rattle.record_rows.specs.Rows.{RefusesFields, RefusesWord, refused_of}
 use Rattle.record_rows.specs.Walks.{HasWalked, IsNext, ReadsNext, field_of}
 use Rattle.record_rows.specs.declared.errors.ObserveError.{ObserveError}
@@ -43,9 +43,9 @@ untouched l columns i old new steps s within before =
 
 -- a column more
 step_more : (l : Bool) (columns : List ColumnType) (i : ℕ) (old new after : List ColumnStatistics) (steps : List Step) (k : ColumnType) (f : Field) (s t : ColumnStatistics) (b : Bool) → i < length columns → length old ≡ length columns → Stepped l columns i old new steps
-    → s ≡ get_or new i s → after ≡ set new i t → (h : ObservesField l (get_or columns i k) f (known s) (known t) b)
+    → s ≡ get_or new i s → after ≡ set new i t → KeepsValid s t → (h : ObservesField l (get_or columns i k) f (known s) (known t) b)
     → Stepped l columns (i + 1) old after (steps ++ record { column = get_or columns i k; field = f; content = h.0; flag = b; old = s; new = t } ∷ [])
-step_more l columns i old new after steps k f s t b inside long before at put h =
+step_more l columns i old new after steps k f s t b inside long before at put valid h =
     let column = get_or columns i k in
     let step : Step = record { column = column; field = f; content = h.0; flag = b; old = s; new = t } in
     let one : i + 1 ≡ suc i = omega arith in
@@ -58,7 +58,7 @@ step_more l columns i old new after steps k f s t b inside long before at put h 
       new_are = ap (take (i + 1)) put ∙ take_more_set new i t reaches ∙ ap (λ (xs : List ColumnStatistics). xs ++ t ∷ []) before.new_are ∙ sym (map-append (λ (p : Step). p.new) steps (step ∷ []));
       others = ap (drop (i + 1)) put ∙ drop-set-lt (i + 1) new i t (omega arith) ∙ ap (λ (n : ℕ). drop n new) one ∙ same.1 ∙ ap (λ (n : ℕ). drop n old) (sym one);
       long = ap length put ∙ length-set new i t ∙ before.long;
-      each = all_push (IsStep l) steps step before.each (h.1, h.2);
+      each = all_push (IsStep l) steps step before.each (h.1, h.2, valid);
     }
 
 -- the fields so far are observed
@@ -78,8 +78,8 @@ begun d l columns bytes walk old h = record {
 
 -- a field more
 pub more : (d : ℕ) (l : Bool) (columns : List ColumnType) (bytes : List ℕ) (old_walk walk : FieldWalk) (next : ColumnField) (old new after : List ColumnStatistics) (s t : ColumnStatistics) (b : Bool) (n m : ℕ) → length old ≡ length columns → (h : Begun d l columns bytes old_walk old new n)
-    → IsNext d columns bytes walk (map (λ (p : Step). p.field) h.steps) next → s ≡ get_or new next.place s → after ≡ set new next.place t → ObservesField l next.column (field_of next) (known s) (known t) b → m ≡ n + cond b 1 0 → Begun d l columns bytes walk old after m
-more d l columns bytes old_walk walk next old new after s t b n m long h is at put observes counted =
+    → IsNext d columns bytes walk (map (λ (p : Step). p.field) h.steps) next → s ≡ get_or new next.place s → after ≡ set new next.place t → KeepsValid s t → ObservesField l next.column (field_of next) (known s) (known t) b → m ≡ n + cond b 1 0 → Begun d l columns bytes walk old after m
+more d l columns bytes old_walk walk next old new after s t b n m long h is at put valid observes counted =
     let fields = map (λ (p : Step). p.field) h.steps in
     let i = next.place in
     let here : old_walk.place ≡ i = h.walked.place ∙ sym is.place in
@@ -90,7 +90,7 @@ more d l columns bytes old_walk walk next old new after s t b n m long h is at p
     record {
       steps = h.steps ++ step ∷ [];
       walked = subst (HasWalked d columns bytes walk) (sym (map-append (λ (p : Step). p.field) h.steps (step ∷ []))) is.walked;
-      stepped = subst (λ (k : ℕ). Stepped l columns k old after (h.steps ++ step ∷ [])) moved (step_more l columns i old new after h.steps next.column (field_of next) s t b is.within long stepped at put seen);
+      stepped = subst (λ (k : ℕ). Stepped l columns k old after (h.steps ++ step ∷ [])) moved (step_more l columns i old new after h.steps next.column (field_of next) s t b is.within long stepped at put valid seen);
       count = refused_push (map (λ (p : Step). p.flag) h.steps) b n m h.count counted ∙ ap refused_of (sym (map-append (λ (p : Step). p.flag) h.steps (step ∷ [])));
     }
 

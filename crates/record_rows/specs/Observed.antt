@@ -1,5 +1,5 @@
 -- The statistics of columns and one record more.
-use Rattle.std.specs.Prelude.{◌≡◌, ◌⊎◌, ◌+◌, ◌≤◌, ◌^◌, ℕ, ℤ, List, [], ◌∷◌, Bool, false, true, Contains, Option, Some, IsUtf8, map}
+use Rattle.std.specs.Prelude.{◌≡◌, ◌⊎◌, ◌+◌, ◌<◌, ◌≤◌, ◌^◌, ℕ, ℤ, List, [], ◌∷◌, Bool, false, true, Contains, Option, Some, IsUtf8, map}
 use Rattle.std.specs.List.{AllByRecursion}
 use Rattle.std.specs.declared.cmp.Ordering.{Ordering}
 use Rattle.std.specs.declared.cmp.Ordering.TheVariants.{Equal, Less}
@@ -15,13 +15,14 @@ use Rattle.vortex_dtype.specs.TypeTree.{integer_type, utf8_type}
 use Rattle.vortex_dtype.specs.declared.nullability.Nullability.{Nullability}
 use Rattle.vortex_dtype.specs.declared.nullability.Nullability.TheVariants.{Nullable}
 use Rattle.vortex_dtype.specs.declared.ptype.PType.{PType}
-use Rattle.vortex_pvalue.specs.Whole.{whole_of}
+use Rattle.vortex_pvalue.specs.Whole.{ptype_of, whole_of}
 use Rattle.vortex_pvalue.specs.declared.pvalues.PValue.{PValue}
 use Rattle.vortex_cells.specs.Cells.{Cell, cell_order, order_from_above}
 use Rattle.vortex_statistics.specs.Observing.{IsCompleteWith, IsRightWith, bound_after, observed}
-use Rattle.vortex_statistics.specs.Statistics.{Known, KnownBound, known}
+use Rattle.vortex_statistics.specs.Statistics.{HasValidBounds, Known, KnownBound, known}
 use Rattle.vortex_statistics.specs.declared.column_statistics.ColumnStatistics.{ColumnStatistics}
 use Rattle.vortex_value.specs.Values.Content.{Content, null, text, whole}
+use Rattle.vortex_value.specs.Values.RawTree.{RawTree, raw_integer}
 
 -- ---- the cells of a record
 
@@ -34,15 +35,20 @@ IsTakenAs lenient column f c true = (lenient ≡ true) × HasNoCell column f × 
 abbrev pub cell_in : ColumnType → Content → Cell
 cell_in column c = record { typed = column_type column; content = c }
 
--- t is what is known of the cells of s and of x: it is right if s is, and complete if s is
+-- t is what is known of the cells of s and of x, whose row 64 bits count: it is right if s is, and complete if s is
 pub record ObservesCell (s : Known) (x : Cell) (t : Known) : Type 0 where
   pub is : t ≡ observed s x
+  pub fits : s.row_count + 1 < 2 ^ 64
   pub right : IsRightWith s x t
   pub complete : IsCompleteWith s x t
 
 -- t is what is known of the cells of s and of that of a field
 abbrev pub ObservesField : Bool → ColumnType → Field → Known → Known → Bool → Type 0
 ObservesField lenient column f s t flag = (c : Content) × IsTakenAs lenient column f c flag × ObservesCell s (cell_in column c) t
+
+-- the bounds of t are valid if those of s are
+abbrev pub KeepsValid : ColumnStatistics → ColumnStatistics → Type 0
+KeepsValid s t = HasValidBounds s → HasValidBounds t
 
 -- a column at a record: its field there and the content of this, or a null in its place, and its statistics before and after
 pub record Step : Type 0 where
@@ -53,9 +59,9 @@ pub record Step : Type 0 where
   pub old : ColumnStatistics
   pub new : ColumnStatistics
 
--- the content is that of the field, and the statistics observe it
+-- the content is that of the field, and the statistics observe it; their bounds stay valid
 abbrev pub IsStep : Bool → Step → Type 0
-IsStep lenient s = IsTakenAs lenient s.column s.field s.content s.flag × ObservesCell (known s.old) (cell_in s.column s.content) (known s.new)
+IsStep lenient s = IsTakenAs lenient s.column s.field s.content s.flag × ObservesCell (known s.old) (cell_in s.column s.content) (known s.new) × KeepsValid s.old s.new
 
 -- these fields are observed, each by the statistics of its column, and so many nulls stand in place of a cell
 pub record AreFieldsObserved (lenient : Bool) (columns : List ColumnType) (fields : List Field) (old new : List ColumnStatistics) (refused : ℕ) : Type 0 where
@@ -107,6 +113,10 @@ TakesWord column word lower old new = (c : Content) × Means column.kind word c 
 -- the same for a number of the type
 abbrev pub TakesInteger : PType → Nullability → List ℕ → KnownBound → KnownBound → KnownBound → Type 0
 TakesInteger ptype n word lower old new = (z : ℤ) × IsIntegerWord ptype word z × TakesCell lower old new (record { typed = integer_type ptype n; content = whole z })
+
+-- the raw value of a number
+abbrev pub raw_of_number : PValue → RawTree
+raw_of_number number = raw_integer (ptype_of number) (whole_of number)
 
 -- new is the upper bound after a number
 abbrev pub RaisesTo : PValue → PType → Nullability → KnownBound → KnownBound → Type 0

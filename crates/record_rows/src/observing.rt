@@ -1,8 +1,8 @@
 //! The fields of a record are observed, each by the statistics of its column.
 
-ghost use Rattle.std.specs.Prelude.{◌≡◌, [], IfErr, IfOk, MatchOption, length};
+ghost use Rattle.std.specs.Prelude.{◌≡◌, [], IfErr, IfOk, MatchOption, OnOk, length};
 ghost use Rattle.csv_records.specs.Rows.{rows_of};
-ghost use Rattle.record_rows.specs.Observed.{AreObserved, IsFull, IsNotObserved, IsObserved, ObservesField, SomeIsFull};
+ghost use Rattle.record_rows.specs.Observed.{AreObserved, IsFull, IsNotObserved, IsObserved, KeepsValid, ObservesField, SomeIsFull};
 ghost use Rattle.record_rows.specs.Rows.{Refuses, RefusesFields, RefusesWord};
 ghost use Rattle.record_rows.specs.Walks.{field_of};
 ghost use Rattle.vortex_statistics.specs.Statistics.{known};
@@ -18,7 +18,8 @@ use vortex_statistics::{ColumnStatistics, StatisticsError};
 use vortex_value::ScalarRef;
 
 /// Observes the row of a record, each cell by the statistics of its column; `None` if it has no
-/// row. What they say then, they say of the record too: they are right if they were.
+/// row. What they say then, they say of the record too: they are right if they were, and their bounds
+/// are valid scalars if they were.
 ///
 /// `TooManyRows` only if the statistics of a column count as many rows as 64 bits can. After a
 /// refusal some cells may have been observed.
@@ -87,6 +88,7 @@ fn observe_field(
 ) -> Result<bool, ObserveError>
     ensures observed { IfOk result (ObservesField is_lenient field.now.column (field_of field.now)
         (known statistics.old) (known statistics.new)) }
+    ensures valid { OnOk result (KeepsValid statistics.old statistics.new) }
     ensures refused { IfErr result (IsNotObserved (RefusesWord is_lenient field.now.column
         field.now.place (field_of field.now)) (IsFull statistics.old)) }
 {

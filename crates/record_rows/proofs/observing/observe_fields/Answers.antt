@@ -56,7 +56,7 @@ loop-field-preserved c =
     let i = c.in-Some.field.place in
     let within : i < length c.loop-field.statistics = omega (arith, c.requires, b.stepped.long, is.within) in (
       more s.delimiter.byte s.is_lenient s.columns.items c.args.text.now c.loop-field.walk c.next_field.new.self c.in-Some.field c.args.statistics.now c.loop-field.statistics (set c.loop-field.statistics i c.observe_field.new.statistics) (get_or c.loop-field.statistics i c.index-statistics-field.result) c.observe_field.new.statistics c.in_ok-flag.flag c.loop-field.refused c.one_more-refused.result
-          c.requires b is (get_or_default c.loop-field.statistics i c.index-statistics-field.result _ within) refl c.in_ok-flag.ensures.observed c.one_more-refused.ensures,
+          c.requires b is (get_or_default c.loop-field.statistics i c.index-statistics-field.result _ within) refl c.in_ok-flag.ensures.valid c.in_ok-flag.ensures.observed c.one_more-refused.ensures,
       omega (arith, one_at_most c.in_ok-flag.flag, c.one_more-refused.ensures, moves.0, c.loop-field.invariant.1),
     )
 
