@@ -1,5 +1,5 @@
 -- The parts of statistics, as callers are told them.
-use Rattle.std.specs.Prelude.{◌≡◌, ◌⊎◌, ℕ, Bool, true, false, List, [], length, Option, Some, None}
+use Rattle.std.specs.Prelude.{◌≡◌, ◌≤◌, ◌⊎◌, ℕ, Bool, true, false, List, [], length, Option, Some, None}
 use Rattle.arrow_columns.specs.Kinds.{kind_at}
 use Rattle.arrow_columns.specs.declared.kinds.Kind.{Kind}
 use Rattle.column_cells.specs.Types.{type_of_kind}
@@ -52,6 +52,10 @@ pub record ArePartsAt (code : ℕ) (bytes lower upper : List ℕ) (p : Statistic
   pub is_encoding : IsEncodingAs (type_of_kind kind) bytes statistics
   pub right : ReadsRight (type_of_kind kind) bytes statistics
   pub parts : AreParts kind statistics lower upper p
+
+-- the buffer is long enough for a bound that these bytes say: it has 8 bytes, and as many as these
+abbrev pub SufficesFor : List ℕ → List ℕ → Type 0
+SufficesFor bytes buffer = (8 ≤ length buffer) × (length bytes ≤ length buffer)
 
 -- the status of bytes that are not read
 abbrev pub status_of_read : ReadError → ℕ
