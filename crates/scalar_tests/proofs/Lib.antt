@@ -1,3 +1,4 @@
+mod ColumnRows
 mod FilterSteps
 mod GivenZeros
 mod KeySteps

@@ -44,7 +44,10 @@ pub fn statistics_of_pieces(
     let Ok(both) = merged_encoding(alloc, kind, &one, &other) else {
         return None;
     };
-    read_encoding(alloc, kind, &both).ok()
+    match read_encoding(alloc, kind, &both) {
+        Ok(statistics) => Some(statistics),
+        Err(_) => None,
+    }
 }
 
 /// Whether both pieces can be skipped by the filter. If so, it matches none of their cells.

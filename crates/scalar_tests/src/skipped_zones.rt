@@ -1,11 +1,16 @@
 //! Zones that are skipped by their bytes of outcomes.
 
-ghost use Rattle.std.specs.Prelude.{◌≡◌, ℕ, List, Contains, false, true};
+ghost use Rattle.std.specs.Prelude.{◌≡◌, ◌<◌, ℕ, List, Contains, false, map, true};
+ghost use Rattle.arrow_columns.specs.Columns.{rows_in};
+ghost use Rattle.arrow_columns.specs.declared.columns.Column.{Column};
+ghost use Rattle.column_cells.specs.Types.{type_of_column};
 ghost use Rattle.vortex_dtype.specs.TypeTree.{TypeTree};
 ghost use Rattle.vortex_cells.specs.Cells.{Cell};
 ghost use Rattle.vortex_filter.specs.Formula.{Formula, is_match};
+ghost use Rattle.column_filters.specs.Masks.{matching};
+ghost use Rattle.column_filters.specs.Tables.{AreColumnsOf, cells_of_columns};
 ghost use Rattle.column_filters.specs.Zones.{ArePiecesRight, IsOutcome};
-ghost use Rattle.scalar_tests.specs.Pieces.{AreWrittenRight};
+ghost use Rattle.scalar_tests.specs.Pieces.{ArePiecesOf, AreWrittenRight};
 
 use column_filters::laws::outcomes_cover_rows;
 use column_statistics::laws::encodings_stay_right;
@@ -32,4 +37,17 @@ pub fn can_skip_written(byte: u8) -> bool
 {
     encodings_stay_right();
     can_be_skipped(byte)
+}
+
+/// Whether a zone of columns can be skipped whose pieces are right for them. If so, the filter matches
+/// none of their rows: the mask of the columns has no bit.
+pub fn can_skip_columns(byte: u8) -> bool
+    ensures { (f : Formula) (columns : List Column) (bytes offsets : List ℕ) (p : ℕ)
+        → AreColumnsOf columns (map type_of_column columns)
+        → ArePiecesOf columns bytes offsets p
+        → IsOutcome f (map type_of_column columns) bytes offsets p byte
+        → (row : ℕ) → row < rows_in columns → result ≡ true
+        → matching f (cells_of_columns columns) row ≡ false }
+{
+    can_skip_written(byte)
 }
