@@ -220,7 +220,8 @@ uint32_t doqallin_column_of_row_keys(const uint8_t *kinds, size_t kinds_length, 
  * without a buffer asks for it.
  * UNKNOWN_KIND, TOO_MANY_ROWS, TOO_SHORT, BAD_OFFSETS, NOT_UTF8: the column cannot be read, for what is at fault->place.
  * fault->column is 0.
- * NO_MEMORY: memory is asked for the encoding, and for a least and a greatest value of more than 22 bytes; none for each row. */
+ * NO_MEMORY: only if the column can be read. No clause says more; in the code, memory is asked for the encoding, and for a least
+ * and a greatest value of more than 22 bytes, and none for each row. */
 uint32_t doqallin_column_statistics(const struct doqallin_column *column, size_t max_length, uint8_t *buffer,
                                     size_t buffer_length, size_t *count, struct doqallin_fault *fault);
 
