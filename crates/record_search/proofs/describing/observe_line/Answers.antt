@@ -1,4 +1,8 @@
 -- The row that is observed is the record's, and what is told of one that is refused.
+use Rattle.std.proofs.Common.{subst}
+use Rattle.record_rows.specs.Observed.{IsNotObserved, SomeIsFull}
+use Rattle.record_rows.specs.Rows.{Refuses}
+use Rattle.record_rows.specs.declared.errors.ObserveError.{ObserveError}
 use Rattle.record_search.proofs.ObserveLaws.{row_observed}
 use Rattle.record_search.proofs.RefusedLaws.{row_refused}
 use Rattle.record_search.proofs.describing.observe_line.Goals as goal
@@ -8,5 +12,8 @@ returns-in-Ok-clause-observed c =
     let s = c.args.schema.now in
     rw c.is_some.ensures (row_observed s.delimiter.byte s.is_lenient s.columns.items c.args.line.now c.args.statistics.now c.observe_record.new.statistics c.in-Ok.nulls c.in-Ok.ensures.observed)
 
-pub returns-in-Err-clause-refused : goal.returns-in-Err-clause-refused
-returns-in-Err-clause-refused c = rw c.record_fault.ensures (row_refused c.args.schema.now c.args.place c.args.line.now c.in-Err.fault c.in-Err.ensures.refused)
+pub returns-in-Err-Row-clause-refused : goal.returns-in-Err-Row-clause-refused
+returns-in-Err-Row-clause-refused c =
+    let s = c.args.schema.now in
+    let why = subst (λ (e : ObserveError). IsNotObserved (Refuses s.delimiter.byte s.is_lenient s.columns.items c.args.line.now) (SomeIsFull c.args.statistics.now) e) c.in-Err-Row.field-0-is c.in-Err-Row.ensures.refused in
+    rw c.record_fault.ensures (row_refused s c.args.place c.args.line.now c.in-Err-Row.error why)
