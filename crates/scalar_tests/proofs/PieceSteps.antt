@@ -1,5 +1,5 @@
 -- Steps of the callers that write, merge and read the statistics of pieces of a column.
-use Rattle.std.proofs.Common.{◌≡◌, ◌≢◌, ◌++◌, ◌+◌, ◌∙◌, ◌<◌, ℕ, zero, suc, List, [], ◌∷◌, Contains, Option, Some, None, arith, ap, get_or, length, map, refl, slice_get, subst, sym}
+use Rattle.std.proofs.Common.{◌≡◌, ◌≢◌, ◌++◌, ◌+◌, ◌∙◌, ◌<◌, ℕ, zero, suc, List, [], ◌∷◌, Bool, true, false, not, Contains, Option, Some, None, arith, ap, get_or, length, map, refl, slice_get, subst, sym}
 use Rattle.std.proofs.Math.ListN.{get_or-map}
 use Rattle.std.proofs.lemmas.List.{length-map}
 use Rattle.arrow_columns.specs.Kinds.{kind_at}
@@ -30,6 +30,14 @@ both_right law kind first second n one other both s f g h k merged is =
     let t : TypeTree = type_of_kind kind in
     law.read t both (cells_of_column first ++ cells_of_column second) s
     (law.merged t one other both (cells_of_column first) (cells_of_column second) (right_of law kind first n one f h) (right_of law kind second n other g k) merged) is
+
+-- what is merged of slices is merged of their bytes
+pub merged_of : (t : TypeTree) (one other x y both : List ℕ) → x ≡ one → y ≡ other → IsMergedEncoding t x y both → IsMergedEncoding t one other both
+merged_of t one other x y both e f h = subst (λ bs. IsMergedEncoding t bs other both) e (subst (λ bs. IsMergedEncoding t x bs both) f h)
+
+pub skipped_no : (b : Bool) → not b ≡ true → b ≡ false
+skipped_no true e = absurd cc
+skipped_no false e = refl
 
 said : (t : TypeTree) (bytes : List ℕ) (s : Known) → bytes ≢ [] → Says t bytes s → IsEncodingAs t bytes s
 said t [] s some h = absurd (some refl)
