@@ -220,7 +220,8 @@ uint32_t doqallin_column_of_row_keys(const uint8_t *kinds, size_t kinds_length, 
  * without a buffer asks for it.
  * UNKNOWN_KIND, TOO_MANY_ROWS, TOO_SHORT, BAD_OFFSETS, NOT_UTF8: the column cannot be read, for what is at fault->place.
  * fault->column is 0.
- * NO_MEMORY: memory is asked for the encoding, and for a least and a greatest value of more than 22 bytes; none for each row. */
+ * NO_MEMORY: only if the column can be read. No clause says more; in the code, memory is asked for the encoding, and for a least
+ * and a greatest value of more than 22 bytes, and none for each row. */
 uint32_t doqallin_column_statistics(const struct doqallin_column *column, size_t max_length, uint8_t *buffer,
                                     size_t buffer_length, size_t *count, struct doqallin_fault *fault);
 
@@ -231,7 +232,8 @@ uint32_t doqallin_column_statistics(const struct doqallin_column *column, size_t
  * BAD_BYTES: fault->column is 0 or 1, the first piece that is no encoding of statistics of the kind. fault->place is its first
  * byte that no such encoding has there, or its length if it ends too early.
  * TOO_MANY_ROWS: both are such encodings, and 64 bits do not count the rows of both. fault->column and fault->place are 0.
- * NO_MEMORY: may come in place of all but UNKNOWN_KIND. */
+ * NO_MEMORY: only if the first piece says a bound; or if it is such an encoding, and the second says one; or if both can be
+ * merged. */
 uint32_t doqallin_merge_statistics(uint8_t kind, const uint8_t *one, size_t one_length, const uint8_t *other,
                                    size_t other_length, uint8_t *buffer, size_t buffer_length, size_t *count,
                                    struct doqallin_fault *fault);
@@ -250,10 +252,10 @@ struct doqallin_statistics_parts {
     bool upper_is_exact;
 };
 
-/* The statistics of a column of this kind that have this encoding. No value is below the lower bound, or above the upper one. A
- * bound that is an integer has its bytes in a buffer of the kind, the low one first. A bool is a byte, 0 or 1, and strings and
- * bytes are as they are. In bytes from anywhere a bound may be null: it is told as none, which says less. Two buffers of 8
- * bytes, or of bytes_length if that is more, suffice.
+/* The statistics of a column of this kind that have this encoding. If they were written of a column, no value of it is below the
+ * lower bound, or above the upper one. A bound that is an integer has its bytes in a buffer of the kind, the low one first. A
+ * bool is a byte, 0 or 1, and strings and bytes are as they are. In bytes from anywhere a bound may be null: it is told as none,
+ * which says less. Two buffers of 8 bytes, or of bytes_length if that is more, suffice.
  * GIVEN: the bounds are in the first bytes of the buffers, as *parts says; the bytes after them are as they were.
  * BUFFER_TOO_SMALL: a buffer has fewer bytes than its bound; *parts says all the same, how many bytes each bound has too.
  * UNKNOWN_KIND: exactly if `kind` is of no kind. fault->column and fault->place are 0.

@@ -13,7 +13,7 @@ use Rattle.vortex_value.specs.Values.Scalars.{scalar_raw}
 use Rattle.vortex_cells.specs.Cells.{cell_order, order_from_above}
 use Rattle.statistics_bytes.specs.EncodingSteps.{HasNoVariantIn, HasNoVariants}
 use Rattle.vortex_statistics.specs.Merging.{AreRightTogether, bound_of_both, bound_order, merged, outer_by, sum_of}
-use Rattle.vortex_statistics.specs.Statistics.{Known, KnownBound, known, known_bound, may_be_value}
+use Rattle.vortex_statistics.specs.Statistics.{HasValidBounds, IsValidBound, Known, KnownBound, known, known_bound, may_be_value}
 use Rattle.vortex_statistics.specs.declared.column_statistics.Bound.{Bound}
 use Rattle.vortex_statistics.specs.declared.column_statistics.ColumnStatistics.{ColumnStatistics}
 use Rattle.statistics_bytes.specs.Encoding.{AreOf, IsBoundOf, IsHeldBound, IsHeldKnown, encoding}
@@ -158,14 +158,22 @@ pub first_wrong : (t : TypeTree) (one other : List ℕ) (fault : ReadError) (tol
 first_wrong t one other fault told e h = subst (IsMergeError t one other) (sym e) (by_fault fault h)
   where
     by_fault : (fault : ReadError) → IsReadError t one fault → IsMergeError t one other (fault_of_piece 0 fault)
-    by_fault read.OutOfMemory k = tt
+    by_fault read.OutOfMemory k = inl k
     by_fault (read.BadBytes place) k = inl (refl, k)
 
 pub second_wrong : (t : TypeTree) (one other : List ℕ) (s : Known) (fault : ReadError) (told : MergeError) → told ≡ fault_of_piece 1 fault → IsEncodingAs t one s → IsReadError t other fault → IsMergeError t one other told
 second_wrong t one other s fault told e f h = subst (IsMergeError t one other) (sym e) (by_fault fault h)
   where
     by_fault : (fault : ReadError) → IsReadError t other fault → IsMergeError t one other (fault_of_piece 1 fault)
-    by_fault read.OutOfMemory k = tt
+    by_fault read.OutOfMemory k = inr (inl (record { statistics = s; of_type = f.of_type; is = f.is }, k))
     by_fault (read.BadBytes place) k = inr (refl, record { statistics = s; of_type = f.of_type; is = f.is }, k)
+
+-- the bounds are values of the type
+bound_in : (t : TypeTree) (b : Option Bound) → IsBoundOf t (option_map known_bound b) → IsValidBound b → IfSome b (IsBoundIn t)
+bound_in t None of valid = tt
+bound_in t (Some b) of valid = record { typed = of.typed; valid = valid }
+
+pub bounds_in : (t : TypeTree) (s : ColumnStatistics) → AreOf t (known s) → HasValidBounds s → HasBoundsIn t s
+bounds_in t s of valid = record { lower = bound_in t s.lower of.lower valid.lower; upper = bound_in t s.upper of.upper valid.upper }
 
 pub ruleset shown = (without_variants, no_variant, no_variant_in, encoding_fault)

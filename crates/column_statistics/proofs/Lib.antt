@@ -5,3 +5,4 @@ mod EncodingLaws
 mod IntegerRanges
 mod ItemLaws
 mod KindLaws
+mod RightLaws

@@ -1,5 +1,5 @@
 -- Statistics of columns as bytes, and why there are none.
-use Rattle.std.specs.Prelude.{◌≡◌, ◌⊎◌, ℕ, ◌+◌, ◌^◌, ◌≤◌, List}
+use Rattle.std.specs.Prelude.{◌≡◌, ◌⊎◌, ℕ, ◌+◌, ◌<◌, ◌^◌, ◌≤◌, List}
 use Rattle.arrow_columns.specs.Errors.{IsErrorOf}
 use Rattle.arrow_columns.specs.declared.columns.Column.{Column}
 use Rattle.column_cells.specs.Types.{type_of_column}
@@ -7,7 +7,7 @@ use Rattle.vortex_dtype.specs.TypeTree.{TypeTree}
 use Rattle.statistics_bytes.specs.Encoding.{AreOf, IsEncodingOf, encoding}
 use Rattle.statistics_bytes.specs.EncodingAnswers.{HasValues, IsFirstWrong, SaysBound}
 use Rattle.vortex_statistics.specs.Merging.{AreRightTogether, merged}
-use Rattle.vortex_statistics.specs.Statistics.{Known, known}
+use Rattle.vortex_statistics.specs.Statistics.{AreRight, Known, known}
 use Rattle.vortex_statistics.specs.declared.column_statistics.ColumnStatistics.{ColumnStatistics}
 use Rattle.vortex_statistics.specs.declared.error.StatisticsError.{StatisticsError}
 use Rattle.vortex_statistics.specs.declared.error.StatisticsError.TheVariants as any
@@ -22,10 +22,11 @@ use Rattle.column_statistics.specs.declared.errors.ColumnStatisticsError.TheVari
 
 -- ---- of a column
 
--- the encoding of all that can be said of a column, with bounds that are cut to n bytes
+-- the encoding of all that can be said of a column, with bounds that are cut to n bytes: it is right for the column's cells
 pub record IsColumnEncoding (column : Column) (n : ℕ) (bytes : List ℕ) : Type 0 where
   pub statistics : ColumnStatistics
   pub cut : AreCutStatistics n (cells_of_column column) statistics
+  pub right : AreRight (known statistics) (cells_of_column column)
   pub of_type : AreOf (type_of_column column) (known statistics)
   pub is : bytes ≡ encoding (known statistics)
 
@@ -76,9 +77,22 @@ pub record HaveTooManyRows (t : TypeTree) (one other : List ℕ) : Type 0 where
   pub is_second : IsEncodingAs t other second
   pub many : 2 ^ 64 ≤ first.row_count + second.row_count
 
--- why two pieces are not merged: of those that are no encoding the first, by its number and offset
+-- both pieces are encodings, and 64 bits count their rows together
+pub record CanBeMerged (t : TypeTree) (one other : List ℕ) : Type 0 where
+  pub first : Known
+  pub second : Known
+  pub is_first : IsEncodingAs t one first
+  pub is_second : IsEncodingAs t other second
+  pub few : first.row_count + second.row_count < 2 ^ 64
+
+-- what takes memory: a bound that the first piece says; if that is an encoding, one that the second says; and if both can be
+-- merged, the encoding of both
+abbrev pub TakesMemory : TypeTree → List ℕ → List ℕ → Type 0
+TakesMemory t one other = SaysBound one ⊎ ((IsEncodingOf t one × SaysBound other) ⊎ CanBeMerged t one other)
+
+-- why two pieces are not merged: of those that are no encoding the first, by its number and offset; or there is no memory
 abbrev pub IsMergeError : TypeTree → List ℕ → List ℕ → MergeError → Type 0
-IsMergeError t one other merge.OutOfMemory = Unit {0}
+IsMergeError t one other merge.OutOfMemory = TakesMemory t one other
 IsMergeError t one other merge.TooManyRows = HaveTooManyRows t one other
 IsMergeError t one other (merge.BadBytes piece place) =
     ((piece ≡ 0) × IsWrongAt t one place) ⊎ ((piece ≡ 1) × IsEncodingOf t one × IsWrongAt t other place)

@@ -4,4 +4,5 @@ pub mod Extremes
 pub mod Errors
 pub mod Encodings
 pub mod Items
+pub mod Laws
 pub mod Words

@@ -19,3 +19,4 @@ pub use Rattle.column_statistics.specs.Extremes.{AreExtremesAt, AreExtremesOf, A
 pub use Rattle.column_statistics.specs.Errors.{HasLong, IsReadable, IsColumnStatisticsError}
 pub use Rattle.column_statistics.specs.Encodings.{IsColumnEncoding, IsEncodingAs, IsEncodingError, IsMergeError, IsMergedEncoding, IsReadError, fault_of_piece, read_fault}
 pub use Rattle.column_statistics.specs.Items.{IsItemOf, bytes_of_item}
+pub use Rattle.column_statistics.specs.Laws.{EncodingsStayRight}

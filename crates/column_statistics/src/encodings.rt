@@ -2,7 +2,7 @@
 
 ghost use Rattle.std.specs.Prelude.{◌≡◌, IfErr, IfOk, IfSome};
 ghost use Rattle.vortex_statistics.specs.Statistics.{Known};
-ghost use Rattle.column_statistics.specs.Words.{HasNoVariants, IsColumnEncoding, IsEncodingAs, IsEncodingError, IsHeldKnown, IsMergeError, IsMergedEncoding, IsReadError, ReadsRight, fault_of_piece, encoding, known, read_fault, type_of_kind};
+ghost use Rattle.column_statistics.specs.Words.{HasBoundsIn, HasNoVariants, IsColumnEncoding, IsEncodingAs, IsEncodingError, IsHeldKnown, IsMergeError, IsMergedEncoding, IsReadError, ReadsRight, fault_of_piece, encoding, known, read_fault, type_of_kind};
 
 use crate::errors::{ColumnStatisticsError, MergeError, ReadError};
 use crate::statistics::statistics_of;
@@ -37,8 +37,9 @@ pub fn column_encoding(
 /// The statistics of a piece of a column and then of another, in their stable encoding, of the
 /// encodings of both. The kind is that of the column.
 ///
-/// `BadBytes` has the first piece that is no encoding, before `TooManyRows`. `OutOfMemory` may come
-/// in place of each answer.
+/// `BadBytes` has the first piece that is no encoding, before `TooManyRows`. `OutOfMemory` comes only
+/// in place of what takes memory: the bounds of the first piece, those of the second if the first is
+/// an encoding, and the bytes of both if they can be merged.
 #[tactic(auto, using(crate::proofs::EncodingLaws::shown))]
 pub fn merged_encoding(
     alloc: Global,
@@ -72,13 +73,14 @@ pub fn merged_encoding(
 }
 
 /// The statistics of a column of this kind that have this encoding: its counts, its bounds, and
-/// whether each is exact.
+/// whether each is exact. The bounds are valid values of the column's type.
 ///
 /// `BadBytes` comes only if they are no such encoding, and `OutOfMemory` only if they say a bound.
 /// In bytes from anywhere a bound may be null.
 #[tactic(auto, using(crate::proofs::EncodingLaws::shown))]
 pub fn read_encoding(alloc: Global, kind: Kind, bytes: &[u8]) -> Result<ColumnStatistics, ReadError>
     ensures read { IfOk result (λ s. IsEncodingAs (type_of_kind kind) bytes.now (known s)) }
+    ensures typed { IfOk result (HasBoundsIn (type_of_kind kind)) }
     ensures whole { (s : Known) → IsEncodingAs (type_of_kind kind) bytes.now s
         → IfOk result (λ t. known t ≡ s) }
     ensures right { IfOk result

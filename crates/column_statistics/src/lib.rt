@@ -8,6 +8,7 @@ mod encodings;
 mod errors;
 mod extremes;
 mod items;
+pub mod laws;
 mod statistics;
 
 pub use encodings::{column_encoding, merged_encoding, read_encoding};

@@ -5,9 +5,13 @@ use Rattle.std.proofs.lemmas.Grind.{take_at_read}
 use Rattle.std.proofs.lemmas.List.{drop-set-lt, map-append, take-append-drop, take_more_set}
 use Rattle.csv_records.specs.Rows.{Field, field_rows, rows_of}
 use Rattle.record_rows.proofs.Reading.{none_taken, refused_push}
-use Rattle.record_rows.specs.Observed.{AreObserved, IsObserved, IsStep, IsTakenAs, ObservesField, Step}
-use Rattle.record_rows.specs.Rows.{Takes, refused_of}
+use Rattle.record_rows.proofs.Walking.{word_refused}
+use Rattle.record_rows.specs.Observed.{AreObserved, IsFull, IsNotObserved, IsObserved, IsStep, IsTakenAs, KeepsValid, ObservesField, SomeIsFull, Step}
+use Rattle.record_rows.specs.Rows.{RefusesFields, RefusesWord, Takes, refused_of}
 use Rattle.record_rows.specs.Walks.{AreTaken, HasWalked, IsNext, ReadsNext, field_of}
+use Rattle.record_rows.specs.declared.errors.ObserveError.{ObserveError}
+use Rattle.record_rows.specs.declared.errors.ObserveError.TheVariants.{Row, TooManyRows}
+use Rattle.record_rows.specs.declared.errors.RowReadError.{RowReadError}
 use Rattle.record_rows.specs.declared.fields.ColumnField.{ColumnField}
 use Rattle.record_rows.specs.declared.fields.FieldWalk.{FieldWalk}
 use Rattle.record_rows.specs.declared.schema.ColumnType.{ColumnType}
@@ -31,25 +35,31 @@ pub record Stepped (l : Bool) (columns : List ColumnType) (i : ℕ) (old new : L
 first_same : (xs ys : List ColumnStatistics) (x y : ColumnStatistics) → x ∷ xs ≡ y ∷ ys → (x ≡ y) × (xs ≡ ys)
 first_same xs ys x y e = (cc, cc)
 
+-- the statistics of this column and of those behind it are as they were
+untouched : (l : Bool) (columns : List ColumnType) (i : ℕ) (old new : List ColumnStatistics) (steps : List Step) (s : ColumnStatistics) → i < length old → Stepped l columns i old new steps
+    → (get_or new i s ≡ get_or old i s) × (drop (suc i) new ≡ drop (suc i) old)
+untouched l columns i old new steps s within before =
+    let reaches : i < length new = omega (arith, before.long) in
+    first_same _ _ (get_or new i s) (get_or old i s) (sym (drop-cons new i s reaches) ∙ before.others ∙ drop-cons old i s within)
+
 -- a column more
 step_more : (l : Bool) (columns : List ColumnType) (i : ℕ) (old new after : List ColumnStatistics) (steps : List Step) (k : ColumnType) (f : Field) (s t : ColumnStatistics) (b : Bool) → i < length columns → length old ≡ length columns → Stepped l columns i old new steps
-    → s ≡ get_or new i s → after ≡ set new i t → (h : ObservesField l (get_or columns i k) f (known s) (known t) b)
+    → s ≡ get_or new i s → after ≡ set new i t → KeepsValid s t → (h : ObservesField l (get_or columns i k) f (known s) (known t) b)
     → Stepped l columns (i + 1) old after (steps ++ record { column = get_or columns i k; field = f; content = h.0; flag = b; old = s; new = t } ∷ [])
-step_more l columns i old new after steps k f s t b inside long before at put h =
+step_more l columns i old new after steps k f s t b inside long before at put valid h =
     let column = get_or columns i k in
     let step : Step = record { column = column; field = f; content = h.0; flag = b; old = s; new = t } in
     let one : i + 1 ≡ suc i = omega arith in
     let within : i < length old = omega arith in
     let reaches : i < length new = omega (arith, before.long) in
-    let heads : get_or new i s ∷ drop (suc i) new ≡ get_or old i s ∷ drop (suc i) old = sym (drop-cons new i s reaches) ∙ before.others ∙ drop-cons old i s within in
-    let same = first_same _ _ (get_or new i s) (get_or old i s) heads in
+    let same = untouched l columns i old new steps s within before in
     record {
       columns_are = (take_at_read columns i k inside).1 ∙ ap (λ (cs : List ColumnType). cs ++ column ∷ []) before.columns_are ∙ sym (map-append (λ (p : Step). p.column) steps (step ∷ []));
       old_are = (take_at_read old i s within).1 ∙ ap (λ (x : ColumnStatistics). take i old ++ x ∷ []) (sym (at ∙ same.0)) ∙ ap (λ (xs : List ColumnStatistics). xs ++ s ∷ []) before.old_are ∙ sym (map-append (λ (p : Step). p.old) steps (step ∷ []));
       new_are = ap (take (i + 1)) put ∙ take_more_set new i t reaches ∙ ap (λ (xs : List ColumnStatistics). xs ++ t ∷ []) before.new_are ∙ sym (map-append (λ (p : Step). p.new) steps (step ∷ []));
       others = ap (drop (i + 1)) put ∙ drop-set-lt (i + 1) new i t (omega arith) ∙ ap (λ (n : ℕ). drop n new) one ∙ same.1 ∙ ap (λ (n : ℕ). drop n old) (sym one);
       long = ap length put ∙ length-set new i t ∙ before.long;
-      each = all_push (IsStep l) steps step before.each (h.1, h.2);
+      each = all_push (IsStep l) steps step before.each (h.1, h.2, valid);
     }
 
 -- the fields so far are observed
@@ -69,8 +79,8 @@ begun d l columns bytes walk old h = record {
 
 -- a field more
 pub more : (d : ℕ) (l : Bool) (columns : List ColumnType) (bytes : List ℕ) (old_walk walk : FieldWalk) (next : ColumnField) (old new after : List ColumnStatistics) (s t : ColumnStatistics) (b : Bool) (n m : ℕ) → length old ≡ length columns → (h : Begun d l columns bytes old_walk old new n)
-    → IsNext d columns bytes walk (map (λ (p : Step). p.field) h.steps) next → s ≡ get_or new next.place s → after ≡ set new next.place t → ObservesField l next.column (field_of next) (known s) (known t) b → m ≡ n + cond b 1 0 → Begun d l columns bytes walk old after m
-more d l columns bytes old_walk walk next old new after s t b n m long h is at put observes counted =
+    → IsNext d columns bytes walk (map (λ (p : Step). p.field) h.steps) next → s ≡ get_or new next.place s → after ≡ set new next.place t → KeepsValid s t → ObservesField l next.column (field_of next) (known s) (known t) b → m ≡ n + cond b 1 0 → Begun d l columns bytes walk old after m
+more d l columns bytes old_walk walk next old new after s t b n m long h is at put valid observes counted =
     let fields = map (λ (p : Step). p.field) h.steps in
     let i = next.place in
     let here : old_walk.place ≡ i = h.walked.place ∙ sym is.place in
@@ -81,7 +91,7 @@ more d l columns bytes old_walk walk next old new after s t b n m long h is at p
     record {
       steps = h.steps ++ step ∷ [];
       walked = subst (HasWalked d columns bytes walk) (sym (map-append (λ (p : Step). p.field) h.steps (step ∷ []))) is.walked;
-      stepped = subst (λ (k : ℕ). Stepped l columns k old after (h.steps ++ step ∷ [])) moved (step_more l columns i old new after h.steps next.column (field_of next) s t b is.within long stepped at put seen);
+      stepped = subst (λ (k : ℕ). Stepped l columns k old after (h.steps ++ step ∷ [])) moved (step_more l columns i old new after h.steps next.column (field_of next) s t b is.within long stepped at put valid seen);
       count = refused_push (map (λ (p : Step). p.flag) h.steps) b n m h.count counted ∙ ap refused_of (sym (map-append (λ (p : Step). p.flag) h.steps (step ∷ [])));
     }
 
@@ -99,6 +109,16 @@ begun_taken d l columns bytes walk old new n h =
     let i = walk.place in
     let parts : map (λ (p : Step). p.column) h.steps ++ drop i columns ≡ columns = ap (λ (cs : List ColumnType). cs ++ drop i columns) (sym h.stepped.columns_are) ∙ take-append-drop i columns in
     subst (λ (cs : List ColumnType). AreTaken l cs (map (λ (p : Step). p.field) h.steps)) parts (steps_taken l h.steps (drop i columns) h.stepped.each)
+-- a column whose field is not observed: its statistics are full, if that is why
+pub not_observed : (d : ℕ) (l : Bool) (columns : List ColumnType) (bytes : List ℕ) (old_walk walk : FieldWalk) (next : ColumnField) (old new : List ColumnStatistics) (s : ColumnStatistics) (n : ℕ) (e : ObserveError) → length old ≡ length columns → (h : Begun d l columns bytes old_walk old new n)
+    → IsNext d columns bytes walk (map (λ (p : Step). p.field) h.steps) next → s ≡ get_or new next.place s → IsNotObserved (RefusesWord l next.column next.place (field_of next)) (IsFull s) e → IsNotObserved (RefusesFields d l columns bytes) (SomeIsFull old) e
+not_observed d l columns bytes old_walk walk next old new s n (Row error) long h is at why = word_refused d l columns bytes walk (map (λ (p : Step). p.field) h.steps) next error is (begun_taken d l columns bytes old_walk old new n h) why
+not_observed d l columns bytes old_walk walk next old new s n TooManyRows long h is at why =
+    let i = next.place in
+    let here : old_walk.place ≡ i = h.walked.place ∙ sym is.place in
+    let stepped : Stepped l columns i old new h.steps = subst (λ (k : ℕ). Stepped l columns k old new h.steps) here h.stepped in
+    let within : i < length old = omega (arith, long, is.within) in
+    (s, (i, within, sym (at ∙ (untouched l columns i old new h.steps s within stepped).0)), why)
 
 -- behind the last one
 pub ended : (d : ℕ) (l : Bool) (columns : List ColumnType) (bytes : List ℕ) (walk last : FieldWalk) (old new : List ColumnStatistics) (n : ℕ) → length old ≡ length columns → (h : Begun d l columns bytes walk old new n) → ReadsNext d columns bytes last (map (λ (p : Step). p.field) h.steps) None
@@ -120,3 +140,8 @@ ended d l columns bytes walk last old new n long h none =
 
 pub observed_line : (d : ℕ) (l : Bool) (columns : List ColumnType) (line start : List ℕ) (old new : List ColumnStatistics) (n : ℕ) → rows_of d line ≡ field_rows d start → AreObserved d l columns start old new n → IsObserved d l columns line old new n
 observed_line d l columns line start old new n same h = (h.0, same ∙ h.1, h.2)
+
+-- the same refusal, whose reason is told of something else
+pub told_of : (Before After : RowReadError → Type 0) (full : Type 0) (e : ObserveError) → ((error : RowReadError) → Before error → After error) → IsNotObserved Before full e → IsNotObserved After full e
+told_of Before After full (Row error) f why = f error why
+told_of Before After full TooManyRows f why = why

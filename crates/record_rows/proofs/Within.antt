@@ -1,5 +1,5 @@
 -- Words whose cells are observed without a scalar of them.
-use Rattle.std.proofs.Common.{◌≡◌, ◌≢◌, ◌<◌, ◌+◌, ◌^◌, ◌&&◌, inl, inr, ℕ, ℤ, List, [], ◌∷◌, ◌++◌, Bool, true, false, ◌==◌, Option, Some, Ordering, refl, sym, ap, ◌∙◌, subst, length, arith, rules}
+use Rattle.std.proofs.Common.{◌≡◌, ◌≢◌, ◌<◌, ◌+◌, ◌^◌, ◌&&◌, ◌⊎◌, inl, inr, ℕ, ℤ, List, [], ◌∷◌, ◌++◌, Bool, true, false, ◌==◌, Option, Some, Ordering, refl, sym, ap, ◌∙◌, subst, length, arith, rules}
 use Rattle.std.proofs.lemmas.Bool.{ne_eqb}
 use Rattle.std.proofs.lemmas.Cmp.{int_ranked}
 use Rattle.std.specs.Ordering.{int_cmp}
@@ -16,21 +16,25 @@ use Rattle.vortex_dtype.specs.declared.nullability.Nullability.TheVariants.{NonN
 use Rattle.vortex_dtype.specs.declared.ptype.PType.{PType}
 use Rattle.vortex_dtype.specs.declared.types.DType.{the_lemmas as dtype_lemmas}
 use Rattle.vortex_dtype.specs.declared.types.DType.TheVariants as dtypes
+use Rattle.vortex_pvalue.specs.Conversions.{IsNumber}
+use Rattle.vortex_pvalue.specs.Numbers.{InRange}
 use Rattle.vortex_pvalue.specs.Whole.{whole_of}
 use Rattle.vortex_pvalue.specs.declared.pvalues.PValue.{PValue}
 use Rattle.vortex_cells.specs.Cells.{Cell, cell_of, cell_order, is_null_cell, is_null_content, order_from_above}
-use Rattle.vortex_statistics.specs.Observing.{IsCompleteWith, bound_after, bound_at, bound_with, is_below_some, observed}
-use Rattle.vortex_statistics.specs.Statistics.{AreComplete, Known, KnownBound, may_be_value}
-use Rattle.vortex_statistics.proofs.ObserveLaws.{observed_complete}
+use Rattle.vortex_statistics.specs.Observing.{bound_after, bound_at, bound_with, is_below_some, observed}
+use Rattle.vortex_statistics.specs.Statistics.{AreComplete, AreRight, Known, KnownBound, may_be_value}
+use Rattle.vortex_statistics.specs.declared.column_statistics.Bound.{Bound}
+use Rattle.vortex_statistics.proofs.ObserveLaws.{observed_complete, observed_right}
 use Rattle.vortex_value.specs.Equality.{same_type}
 use Rattle.vortex_value.specs.Lemmas.EqualityLaws.{same_type-Decides}
 use Rattle.vortex_value.specs.Order.{IsReversed, IsTransitive, order}
+use Rattle.vortex_value.specs.Validity.{Valid}
 use Rattle.vortex_value.specs.Values.Content.{Content, text, whole}
-use Rattle.vortex_value.specs.Values.Scalars.{scalar_content, scalar_type}
+use Rattle.vortex_value.specs.Values.Scalars.{IsMadeOf, IsValid, scalar_content, scalar_raw, scalar_type}
 use Rattle.vortex_value.specs.declared.scalars.Scalar.{Scalar}
 use Rattle.vortex_value.specs.declared.values.ScalarValue.{the_lemmas as value_lemmas}
 use Rattle.vortex_value.specs.declared.values.ScalarValue.TheVariants as values
-use Rattle.record_rows.specs.Observed.{IsTakenAs, IsTextInside, Keeps, ObservesField, ObservesWord, RaisesTo, TakesCell, TakesInteger, TakesWord, cell_in}
+use Rattle.record_rows.specs.Observed.{IsTakenAs, IsTextInside, Keeps, ObservesCell, ObservesField, ObservesWord, RaisesTo, TakesCell, TakesInteger, TakesWord, cell_in, raw_of_number}
 
 -- ---- orders
 
@@ -51,6 +55,15 @@ number_cell p n v = record { typed = integer_type p n; content = whole (whole_of
 
 pub number_scalar : (p : PType) (n : Nullability) (v : PValue) (x : Scalar) → x.dtype ≡ dtypes.Primitive p n → x.value ≡ Some (values.Primitive v) → cell_of x ≡ number_cell p n v
 number_scalar p n v x typed is = rw (typed, is) (search (rules, dtype_lemmas, value_lemmas))
+
+number_valid : (p : PType) (n : Nullability) (z : ℤ) (v : PValue) (x : Scalar) → IsNumber p z v → IsMadeOf (integer_type p n) (raw_of_number v) x → IsValid x
+number_valid p n z v x number made =
+    subst (λ (u : TypeTree). Valid u (scalar_raw x)) (sym made.typed)
+    (subst (Valid (integer_type p n)) (sym made.value) (number.0, subst (InRange p) (sym number.1) number.2))
+
+pub bound_valid : (p : PType) (n : Nullability) (z : ℤ) (v : PValue) (old new : Bound) → IsNumber p z v → (new ≡ old) ⊎ IsMadeOf (integer_type p n) (raw_of_number v) new.value → IsValid old.value → IsValid new.value
+bound_valid p n z v old new number (inl same) valid = subst (λ (b : Bound). IsValid b.value) (sym same) valid
+bound_valid p n z v old new number (inr made) valid = number_valid p n z v new.value number made
 
 from_above : (p : PType) (n : Nullability) (a v : PValue) → order_from_above (number_cell p n a) (number_cell p n v) ≡ Some (int_cmp (whole_of v) (whole_of a))
 from_above p n a v = number_order p n n (whole_of v) (whole_of a)
@@ -95,9 +108,15 @@ taken s l u v x lower_is upper_is there valued h =
     let high : bound_after order_from_above s.upper x ≡ Some v = rw upper_is h.1 in
     rw (there, valued, not_below s l x lower_is h.0, low, high) refl
 
-counted : IsReversed order → IsTransitive order → (s t : Known) (l u v : KnownBound) (x : Cell) → s.row_count + 1 < 2 ^ 64 → s.lower ≡ Some l → s.upper ≡ Some u → is_null_cell x ≡ false → may_be_value s ≡ true → TakesCell l u v x → t ≡ with_upper s v → IsCompleteWith s x t
-counted reversed transitive s t l u v x fits lower_is upper_is there valued h is = λ cells complete.
-    subst (λ (k : Known). AreComplete k (cells ++ x ∷ [])) (taken s l u v x lower_is upper_is there valued h ∙ sym is) (observed_complete reversed transitive s cells x fits complete)
+counted : IsReversed order → IsTransitive order → (s t : Known) (l u v : KnownBound) (x : Cell) → s.row_count + 1 < 2 ^ 64 → s.lower ≡ Some l → s.upper ≡ Some u → is_null_cell x ≡ false → may_be_value s ≡ true → TakesCell l u v x → t ≡ with_upper s v → ObservesCell s x t
+counted reversed transitive s t l u v x fits lower_is upper_is there valued h is =
+    let same : observed s x ≡ t = taken s l u v x lower_is upper_is there valued h ∙ sym is in
+    record {
+      is = sym same;
+      fits = fits;
+      right = λ cells right. subst (λ (k : Known). AreRight k (cells ++ x ∷ [])) same (observed_right reversed transitive s cells x right);
+      complete = λ cells complete. subst (λ (k : Known). AreComplete k (cells ++ x ∷ [])) same (observed_complete reversed transitive s cells x fits complete);
+    }
 
 -- ---- a word that is observed in place
 
@@ -129,10 +148,14 @@ stands_as : (l : Bool) (column : ColumnType) (f : Field) (x : Scalar) (b : Bool)
 stands_as l column f x false h = (h.content, h.typed)
 stands_as l column f x true h = ((h.asked, h.none, h.takes, h.content), h.typed)
 
-pub cell_observed : (l : Bool) (column : ColumnType) (f : Field) (x : Scalar) (b : Bool) (s t : Known) → IsTaken l column f x b → IsCompleteWith s (cell_of x) t → ObservesField l column f s t b
-cell_observed l column f x b s t h complete =
+pub taken_valid : (l : Bool) (column : ColumnType) (f : Field) (x : Scalar) (b : Bool) → IsTaken l column f x b → IsValid x
+taken_valid l column f x false h = h.valid
+taken_valid l column f x true h = h.valid
+
+pub cell_observed : (l : Bool) (column : ColumnType) (f : Field) (x : Scalar) (b : Bool) (s t : Known) → IsTaken l column f x b → ObservesCell s (cell_of x) t → ObservesField l column f s t b
+cell_observed l column f x b s t h observes =
     let p = stands_as l column f x b h in
-    (scalar_content x, p.0, subst (λ (k : TypeTree). IsCompleteWith s (record { typed = k; content = scalar_content x }) t) p.1 complete)
+    (scalar_content x, p.0, subst (λ (k : TypeTree). ObservesCell s (record { typed = k; content = scalar_content x }) t) p.1 observes)
 
 pub some_length : (xs : List ℕ) (b : Bool) → b ≡ (length xs == 0) → b ≡ false → 0 < length xs
 some_length [] b e none = absurd cc

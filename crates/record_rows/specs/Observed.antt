@@ -1,5 +1,5 @@
 -- The statistics of columns and one record more.
-use Rattle.std.specs.Prelude.{◌≡◌, ◌⊎◌, ℕ, ℤ, List, [], ◌∷◌, Bool, false, true, Option, Some, IsUtf8, map}
+use Rattle.std.specs.Prelude.{◌≡◌, ◌⊎◌, ◌+◌, ◌<◌, ◌≤◌, ◌^◌, ℕ, ℤ, List, [], ◌∷◌, Bool, false, true, Contains, Option, Some, IsUtf8, map}
 use Rattle.std.specs.List.{AllByRecursion}
 use Rattle.std.specs.declared.cmp.Ordering.{Ordering}
 use Rattle.std.specs.declared.cmp.Ordering.TheVariants.{Equal, Less}
@@ -7,18 +7,22 @@ use Rattle.csv_records.specs.Rows.{Field, field_rows, rows_of}
 use Rattle.record_rows.specs.Cells.{HasNoCell, IsContent, Means, column_type}
 use Rattle.record_rows.specs.Rows.{refused_of}
 use Rattle.record_rows.specs.Words.{IsIntegerWord}
+use Rattle.record_rows.specs.declared.errors.ObserveError.{ObserveError}
+use Rattle.record_rows.specs.declared.errors.ObserveError.TheVariants.{Row, TooManyRows}
+use Rattle.record_rows.specs.declared.errors.RowReadError.{RowReadError}
 use Rattle.record_rows.specs.declared.schema.ColumnType.{ColumnType}
 use Rattle.vortex_dtype.specs.TypeTree.{integer_type, utf8_type}
 use Rattle.vortex_dtype.specs.declared.nullability.Nullability.{Nullability}
 use Rattle.vortex_dtype.specs.declared.nullability.Nullability.TheVariants.{Nullable}
 use Rattle.vortex_dtype.specs.declared.ptype.PType.{PType}
-use Rattle.vortex_pvalue.specs.Whole.{whole_of}
+use Rattle.vortex_pvalue.specs.Whole.{ptype_of, whole_of}
 use Rattle.vortex_pvalue.specs.declared.pvalues.PValue.{PValue}
 use Rattle.vortex_cells.specs.Cells.{Cell, cell_order, order_from_above}
-use Rattle.vortex_statistics.specs.Observing.{IsCompleteWith, bound_after}
-use Rattle.vortex_statistics.specs.Statistics.{Known, KnownBound, known}
+use Rattle.vortex_statistics.specs.Observing.{IsCompleteWith, IsRightWith, bound_after, observed}
+use Rattle.vortex_statistics.specs.Statistics.{HasValidBounds, Known, KnownBound, known}
 use Rattle.vortex_statistics.specs.declared.column_statistics.ColumnStatistics.{ColumnStatistics}
 use Rattle.vortex_value.specs.Values.Content.{Content, null, text, whole}
+use Rattle.vortex_value.specs.Values.RawTree.{RawTree, raw_integer}
 
 -- ---- the cells of a record
 
@@ -31,9 +35,20 @@ IsTakenAs lenient column f c true = (lenient ≡ true) × HasNoCell column f × 
 abbrev pub cell_in : ColumnType → Content → Cell
 cell_in column c = record { typed = column_type column; content = c }
 
--- t is complete for the cells of s and that of a field
+-- t is what is known of the cells of s and of x, whose row 64 bits count: it is right if s is, and complete if s is
+pub record ObservesCell (s : Known) (x : Cell) (t : Known) : Type 0 where
+  pub is : t ≡ observed s x
+  pub fits : s.row_count + 1 < 2 ^ 64
+  pub right : IsRightWith s x t
+  pub complete : IsCompleteWith s x t
+
+-- t is what is known of the cells of s and of that of a field
 abbrev pub ObservesField : Bool → ColumnType → Field → Known → Known → Bool → Type 0
-ObservesField lenient column f s t flag = (c : Content) × IsTakenAs lenient column f c flag × IsCompleteWith s (cell_in column c) t
+ObservesField lenient column f s t flag = (c : Content) × IsTakenAs lenient column f c flag × ObservesCell s (cell_in column c) t
+
+-- the bounds of t are valid if those of s are
+abbrev pub KeepsValid : ColumnStatistics → ColumnStatistics → Type 0
+KeepsValid s t = HasValidBounds s → HasValidBounds t
 
 -- a column at a record: its field there and the content of this, or a null in its place, and its statistics before and after
 pub record Step : Type 0 where
@@ -44,9 +59,9 @@ pub record Step : Type 0 where
   pub old : ColumnStatistics
   pub new : ColumnStatistics
 
--- the content is that of the field, and the statistics are complete with it
+-- the content is that of the field, and the statistics observe it; their bounds stay valid
 abbrev pub IsStep : Bool → Step → Type 0
-IsStep lenient s = IsTakenAs lenient s.column s.field s.content s.flag × IsCompleteWith (known s.old) (cell_in s.column s.content) (known s.new)
+IsStep lenient s = IsTakenAs lenient s.column s.field s.content s.flag × ObservesCell (known s.old) (cell_in s.column s.content) (known s.new) × KeepsValid s.old s.new
 
 -- these fields are observed, each by the statistics of its column, and so many nulls stand in place of a cell
 pub record AreFieldsObserved (lenient : Bool) (columns : List ColumnType) (fields : List Field) (old new : List ColumnStatistics) (refused : ℕ) : Type 0 where
@@ -66,6 +81,21 @@ AreObserved delimiter lenient columns bytes old new refused = (fields : List Fie
 abbrev pub IsObserved : ℕ → Bool → List ColumnType → List ℕ → List ColumnStatistics → List ColumnStatistics → ℕ → Type 0
 IsObserved delimiter lenient columns line old new refused = (fields : List Field) × (rows_of delimiter line ≡ fields ∷ []) × AreFieldsObserved lenient columns fields old new refused
 
+-- ---- refusals
+
+-- the statistics count as many rows as 64 bits can
+abbrev pub IsFull : ColumnStatistics → Type 0
+IsFull s = 2 ^ 64 ≤ s.row_count + 1
+
+-- those of some column do
+abbrev pub SomeIsFull : List ColumnStatistics → Type 0
+SomeIsFull statistics = (s : ColumnStatistics) × Contains statistics s × IsFull s
+
+-- why a row is not observed: there is none for such a reason, or statistics are full
+abbrev pub IsNotObserved : (RowReadError → Type 0) → Type 0 → ObserveError → Type 0
+IsNotObserved Refused full (Row error) = Refused error
+IsNotObserved Refused full TooManyRows = full
+
 -- ---- words that are observed in place
 
 -- the cell compares with the bound and is not past it in this order; it is equal to it only if it is exact
@@ -84,6 +114,10 @@ TakesWord column word lower old new = (c : Content) × Means column.kind word c 
 abbrev pub TakesInteger : PType → Nullability → List ℕ → KnownBound → KnownBound → KnownBound → Type 0
 TakesInteger ptype n word lower old new = (z : ℤ) × IsIntegerWord ptype word z × TakesCell lower old new (record { typed = integer_type ptype n; content = whole z })
 
+-- the raw value of a number
+abbrev pub raw_of_number : PValue → RawTree
+raw_of_number number = raw_integer (ptype_of number) (whole_of number)
+
 -- new is the upper bound after a number
 abbrev pub RaisesTo : PValue → PType → Nullability → KnownBound → KnownBound → Type 0
 RaisesTo number ptype n old new = bound_after order_from_above (Some old) (record { typed = integer_type ptype n; content = whole (whole_of number) }) ≡ Some new
@@ -92,7 +126,7 @@ RaisesTo number ptype n old new = bound_after order_from_above (Some old) (recor
 abbrev pub IsTextInside : List ℕ → KnownBound → KnownBound → Type 0
 IsTextInside word lower upper = IsUtf8 word × ((n : Nullability) → let x : Cell = record { typed = utf8_type n; content = text word } in Keeps cell_order lower x × Keeps order_from_above upper x)
 
--- t is complete for the cells of s and that of the word, in quotes or not
+-- t is what is known of the cells of s and of that of the word, in quotes or not
 abbrev pub ObservesWord : ColumnType → List ℕ → Known → Known → Type 0
 ObservesWord column word s t = (lenient is_quoted : Bool) → ObservesField lenient column (record { text = word; is_quoted = is_quoted }) s t false
 

@@ -1,7 +1,8 @@
-//! Why a record has no row.
+//! Why a record has no row, and why its row is not observed.
 
 ghost use Rattle.std.specs.Prelude.{◌≡◌};
 ghost use Rattle.record_rows.specs.declared.errors.RowReadError.TheVariants.{Memory};
+ghost use Rattle.record_rows.specs.declared.errors.ObserveError.TheVariants.{Row};
 
 use std::alloc::{AllocError, AllocFailed};
 
@@ -31,5 +32,22 @@ impl<T: Drop> From<AllocFailed<T>> for RowReadError {
 
     fn from(_error: AllocFailed<T>) -> RowReadError {
         RowReadError::Memory
+    }
+}
+
+/// Why the row of a record is not observed.
+#[derive(Debug, Drop)]
+pub enum ObserveError {
+    /// The record has no row under the columns.
+    Row(RowReadError),
+    /// The statistics of a column count as many rows as 64 bits can.
+    TooManyRows,
+}
+
+impl From<RowReadError> for ObserveError {
+    ghost from_gives = { λ error observed. observed ≡ Row error };
+
+    fn from(error: RowReadError) -> ObserveError {
+        ObserveError::Row(error)
     }
 }

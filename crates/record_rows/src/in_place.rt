@@ -2,8 +2,10 @@
 
 ghost use Rattle.std.specs.Prelude.{◌≡◌, ◌≢◌, ◌⊎◌, Some, IfSome, false, true};
 ghost use Rattle.std.specs.declared.cmp.Ordering.TheVariants.{Equal, Less};
-ghost use Rattle.record_rows.specs.Observed.{IsNumberBound, IsTextBound, IsTextInside, ObservesWord, RaisesTo, TakesInteger, TakesWord};
+ghost use Rattle.record_rows.specs.Observed.{IsNumberBound, IsTextBound, IsTextInside, KeepsValid, ObservesWord, RaisesTo, TakesInteger, TakesWord, raw_of_number};
+ghost use Rattle.vortex_dtype.specs.TypeTree.{integer_type};
 ghost use Rattle.vortex_statistics.specs.Statistics.{known, known_bound};
+ghost use Rattle.vortex_value.specs.Values.Scalars.{IsMadeOf, IsValid};
 
 use crate::ascii::is_text;
 use crate::schema::{ColumnType, Kind};
@@ -24,6 +26,7 @@ pub(crate) fn observe_in_place(
 ) -> bool
     ensures observed { result ≡ true →
         ObservesWord column word.now (known statistics.old) (known statistics.new) }
+    ensures valid { KeepsValid statistics.old statistics.new }
     ensures unchanged { result ≡ false → statistics.new ≡ statistics.old }
 {
     order_is_reversed();
@@ -52,6 +55,7 @@ pub(crate) fn observe_in_place(
 fn take_word(column: ColumnType, word: &[u8], lower: &Bound, upper: &mut Bound) -> bool
     ensures taken { result ≡ true → TakesWord column word.now
         (known_bound lower.now) (known_bound upper.old) (known_bound upper.new) }
+    ensures valid { IsValid upper.old.value → IsValid upper.new.value }
     ensures unchanged { result ≡ false → upper.new ≡ upper.old }
 {
     match column.kind {
@@ -72,6 +76,7 @@ fn take_integer(
 ) -> bool
     ensures taken { result ≡ true → TakesInteger ptype nullability word.now
         (known_bound lower.now) (known_bound upper.old) (known_bound upper.new) }
+    ensures valid { IsValid upper.old.value → IsValid upper.new.value }
     ensures unchanged { result ≡ false → upper.new ≡ upper.old }
 {
     let Some(least) = number_of(lower, ptype) else {
@@ -88,6 +93,8 @@ fn take_integer(
 fn raise_to(number: PValue, ptype: PType, nullability: Nullability, upper: &mut Bound) -> bool
     ensures raised { result ≡ true →
         RaisesTo number ptype nullability (known_bound upper.old) (known_bound upper.new) }
+    ensures made { (upper.new ≡ upper.old)
+        ⊎ IsMadeOf (integer_type ptype nullability) (raw_of_number number) upper.new.value }
     ensures unchanged { result ≡ false → upper.new ≡ upper.old }
 {
     match (&upper.value.dtype, &mut upper.value.value) {

@@ -17,7 +17,7 @@ mod taking;
 mod texts;
 mod words;
 
-pub use errors::RowReadError;
+pub use errors::{ObserveError, RowReadError};
 pub use observing::observe_record;
 pub use rows::{read_cells, read_row};
 pub use schema::{ColumnType, Kind, Schema, dtype_of};

@@ -1,24 +1,28 @@
 //! The fields of a record are observed, each by the statistics of its column.
 
-ghost use Rattle.std.specs.Prelude.{◌≡◌, [], IfErr, IfOk, MatchOption, length};
+ghost use Rattle.std.specs.Prelude.{◌≡◌, [], IfErr, IfOk, MatchOption, OnOk, length};
 ghost use Rattle.csv_records.specs.Rows.{rows_of};
-ghost use Rattle.record_rows.specs.Observed.{AreObserved, IsObserved, ObservesField};
+ghost use Rattle.record_rows.specs.Observed.{AreObserved, IsFull, IsNotObserved, IsObserved, KeepsValid, ObservesField, SomeIsFull};
 ghost use Rattle.record_rows.specs.Rows.{Refuses, RefusesFields, RefusesWord};
 ghost use Rattle.record_rows.specs.Walks.{field_of};
 ghost use Rattle.vortex_statistics.specs.Statistics.{known};
 
-use crate::errors::RowReadError;
+use crate::errors::{ObserveError, RowReadError};
 use crate::fields::{ColumnField, FieldWalk};
 use crate::in_place::observe_in_place;
 use crate::schema::Schema;
 use crate::taking::{one_more, take_field};
 use csv_records::row_start;
 use std::alloc::Global;
-use vortex_statistics::ColumnStatistics;
+use vortex_statistics::{ColumnStatistics, StatisticsError};
 use vortex_value::ScalarRef;
 
 /// Observes the row of a record, each cell by the statistics of its column; `None` if it has no
-/// row. After a refusal some cells may have been observed.
+/// row. What they say then, they say of the record too: they are right if they were, and their bounds
+/// are valid scalars if they were.
+///
+/// `TooManyRows` only if the statistics of a column count as many rows as 64 bits can. After a
+/// refusal some cells may have been observed.
 ///
 /// If the schema is lenient, a field that its column does not take is a null if the column takes
 /// nulls. The answer is how many of them there are. The buffer is used again.
@@ -28,15 +32,15 @@ pub fn observe_record(
     line: &[u8],
     buffer: &mut Vec<u8>,
     statistics: &mut [ColumnStatistics],
-) -> Result<Option<usize>, RowReadError>
+) -> Result<Option<usize>, ObserveError>
     requires { length statistics.old ≡ length schema.now.columns.items }
     ensures observed { IfOk result (λ refused. MatchOption refused
         ((rows_of schema.now.delimiter.byte line.now ≡ []) × (statistics.new ≡ statistics.old))
         (IsObserved schema.now.delimiter.byte schema.now.is_lenient schema.now.columns.items line.now
         statistics.old statistics.new)) }
     ensures length { length statistics.new ≡ length statistics.old }
-    ensures refused { IfErr result
-        (Refuses schema.now.delimiter.byte schema.now.is_lenient schema.now.columns.items line.now) }
+    ensures refused { IfErr result (IsNotObserved (Refuses schema.now.delimiter.byte
+        schema.now.is_lenient schema.now.columns.items line.now) (SomeIsFull statistics.old)) }
 {
     let start = row_start(line);
     if start.is_empty() {
@@ -53,13 +57,13 @@ fn observe_fields(
     text: &[u8],
     buffer: &mut Vec<u8>,
     statistics: &mut [ColumnStatistics],
-) -> Result<usize, RowReadError>
+) -> Result<usize, ObserveError>
     requires { length statistics.old ≡ length schema.now.columns.items }
     ensures fields { IfOk result (AreObserved schema.now.delimiter.byte schema.now.is_lenient
         schema.now.columns.items text.now statistics.old statistics.new) }
     ensures length { length statistics.new ≡ length statistics.old }
-    ensures refused { IfErr result (RefusesFields schema.now.delimiter.byte schema.now.is_lenient
-        schema.now.columns.items text.now) }
+    ensures refused { IfErr result (IsNotObserved (RefusesFields schema.now.delimiter.byte
+        schema.now.is_lenient schema.now.columns.items text.now) (SomeIsFull statistics.old)) }
 {
     let mut refused = 0;
     let mut walk = FieldWalk::of(schema, text);
@@ -81,10 +85,12 @@ fn observe_field(
     is_lenient: bool,
     field: &ColumnField<'_>,
     statistics: &mut ColumnStatistics,
-) -> Result<bool, RowReadError>
+) -> Result<bool, ObserveError>
     ensures observed { IfOk result (ObservesField is_lenient field.now.column (field_of field.now)
         (known statistics.old) (known statistics.new)) }
-    ensures refused { IfErr result (RefusesWord is_lenient field.now.column field.now.place (field_of field.now)) }
+    ensures valid { OnOk result (KeepsValid statistics.old statistics.new) }
+    ensures refused { IfErr result (IsNotObserved (RefusesWord is_lenient field.now.column
+        field.now.place (field_of field.now)) (IsFull statistics.old)) }
 {
     if observe_in_place(field.column, field.word, statistics) {
         return Ok(false);
@@ -92,6 +98,7 @@ fn observe_field(
     let (cell, flag) = take_field(alloc, is_lenient, field)?;
     match statistics.observe(alloc, ScalarRef::of(&cell)) {
         Ok(()) => Ok(flag),
-        Err(_) => Err(RowReadError::Memory),
+        Err(StatisticsError::TooManyRows) => Err(ObserveError::TooManyRows),
+        Err(_) => Err(ObserveError::Row(RowReadError::Memory)),
     }
 }

@@ -1,17 +1,17 @@
 -- The rows of records are observed, one after another.
-use Rattle.std.proofs.Common.{◌≡◌, ◌<◌, ◌≤◌, ◌+◌, ◌^◌, ◌++◌, ℕ, zero, suc, List, [], ◌∷◌, Bool, true, false, if◌then◌else◌, Option, None, Some, Result, Ok, Err, MatchOption, is_none, is_some, unwrap_or, refl, sym, ap, ◌∙◌, subst, length, map, take, arith, append_assoc, append-nil, length-append}
+use Rattle.std.proofs.Common.{◌≡◌, ◌<◌, ◌≤◌, ◌+◌, ◌^◌, ◌++◌, ℕ, zero, suc, List, [], ◌∷◌, Bool, true, false, if◌then◌else◌, Option, None, Some, Result, Ok, Err, MatchOption, is_none, is_some, unwrap_or, refl, sym, ap, ◌∙◌, subst, get_or, length, map, take, arith, append_assoc, append-nil, length-append}
 use Rattle.std.specs.Int.{from_bool}
 use Rattle.std.specs.List.{AllByRecursion, filter_map, sum_by}
 use Rattle.std.specs.Prelude.{OnOk}
 use Rattle.csv_records.specs.Records.{records_of}
-use Rattle.std.proofs.lemmas.List.{map-append}
+use Rattle.std.proofs.lemmas.List.{length-map, map-append}
 use Rattle.std.proofs.lemmas.List.Sums.{sum_by-append}
 use Rattle.csv_records.specs.Rows.{Field, rows_of}
 use Rattle.record_rows.specs.Cells.{is_null_field}
 use Rattle.record_rows.specs.Rows.{refused_of}
 use Rattle.record_rows.specs.declared.schema.ColumnType.{ColumnType}
 use Rattle.record_rows.specs.declared.schema.Schema.{Schema}
-use Rattle.record_rows.specs.Observed.{AreFieldsObserved, IsObserved, IsStep, IsTakenAs, Step, cell_in}
+use Rattle.record_rows.specs.Observed.{AreFieldsObserved, IsObserved, IsStep, IsTakenAs, SomeIsFull, Step, cell_in}
 use Rattle.vortex_filter.specs.Formula.{cell_at}
 use Rattle.filter_pruning.specs.Pruning.{column}
 use Rattle.vortex_cells.specs.Cells.{Cell}
@@ -43,7 +43,7 @@ step_cells l (s ∷ steps) h = rw (content_taken l s.column s.field s.content s.
 
 steps_with : (l : Bool) (steps : List Step) → AllByRecursion (IsStep l) steps → AreAllWith (map (λ s. s.old) steps) (map step_cell steps) (map (λ s. s.new) steps)
 steps_with l [] h = tt
-steps_with l (s ∷ steps) h = (h.0.1, steps_with l steps h.1)
+steps_with l (s ∷ steps) h = (h.0.1.complete, steps_with l steps h.1)
 
 fields_observed : (l : Bool) (columns : List ColumnType) (fields : List Field) (old new : List ColumnStatistics) (n : ℕ) (h : AreFieldsObserved l columns fields old new n) → (cells_of l columns fields ≡ Some (map step_cell h.steps)) × AreAllWith old (map step_cell h.steps) new
 fields_observed l columns fields old new n h = (
@@ -155,6 +155,17 @@ pub record Seen (h : List ℕ → Option (List Cell)) (d : ℕ) (text rest : Lis
   pub all : seen ++ filter_map h (records_of d rest) ≡ filter_map h (records_of d text)
   pub count : rows ≡ length seen
   pub complete : AreAllComplete 0 seen statistics
+
+rows_counted : (k : ℕ) (rows : List (List Cell)) (ss : List ColumnStatistics) (i : ℕ) (s : ColumnStatistics) → AreAllComplete k rows ss → i < length ss → get_or ss i s ≡ s → s.row_count ≡ length rows
+rows_counted k rows [] i s h within is = absurd (omega (arith, within))
+rows_counted k rows (t ∷ ss) zero s h within is = subst (λ (x : ColumnStatistics). x.row_count ≡ length rows) is (h.0.right.rows ∙ length-map rows (λ (row : List Cell). cell_at row k))
+rows_counted k rows (t ∷ ss) (suc i) s h within is = rows_counted (suc k) rows ss i s h.1 (omega (arith, within)) is
+
+-- the statistics of fewer rows than 64 bits count are not full
+pub not_full : (h : List ℕ → Option (List Cell)) (d : ℕ) (text rest : List ℕ) (rows : ℕ) (statistics : List ColumnStatistics) → Seen h d text rest rows statistics → rows + 1 < 2 ^ 64 → ¬ (SomeIsFull statistics)
+not_full h d text rest rows statistics seen few full =
+    let count : full.0.row_count ≡ length seen.seen = rows_counted 0 seen.seen statistics full.1.0 full.0 seen.complete full.1.1 full.1.2 in
+    omega (arith, count, seen.count, few, full.2)
 
 -- one row at most
 pub at_most_one : (b : Bool) (n : ℕ) → n ≡ from_bool b → n ≤ 1

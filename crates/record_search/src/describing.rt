@@ -3,11 +3,11 @@
 ghost use Rattle.std.specs.Prelude.{◌≡◌, ◌++◌, ◌<◌, ◌^◌, List, [], IfErr, IfOk, None, OnOk, false, length, sum_by, true};
 ghost use Rattle.std.specs.Int.{to_le_bytes, w64};
 ghost use Rattle.csv_records.specs.Records.{records_of};
-ghost use Rattle.record_search.specs.Words.{AreAllComplete, AreDescribed, AreDescribedFully, AreRowsOf, Cell, DescribeRows, DescribeRowsFully, IfRecordRefused, IsHeldKnown, ObservesRow, PushesCut, RefusesRecord, TellsOffset, TellsOneOf, TellsRecord, before_refused, bytes_encoding, encoding, has_row, is_refused, known, nulls_under, row_under, rows_under, told};
+ghost use Rattle.record_search.specs.Words.{AreAllComplete, AreDescribed, AreDescribedFully, AreRowsOf, Cell, DescribeRows, DescribeRowsFully, IfRecordRefused, IsHeldKnown, ObservesRow, PushesCut, RefusesRecord, SomeIsFull, TellsOffset, TellsOneOf, TellsRecord, before_refused, bytes_encoding, encoding, has_row, is_refused, known, nulls_under, row_under, rows_under, told};
 
 use crate::schema::{Schema, record_fault};
 use csv_records::{Delimiter, cut_record};
-use record_rows::observe_record;
+use record_rows::{ObserveError, observe_record};
 use statistics_bytes::append_statistics;
 use std::alloc::{AllocError, Global};
 use vortex_statistics::ColumnStatistics;
@@ -123,7 +123,8 @@ fn observe_line(
     buffer: &mut Vec<u8>,
     statistics: &mut [ColumnStatistics],
 ) -> Result<(bool, u64), RecordError>
-    requires { length statistics.old ≡ length schema.now.columns.items }
+    requires many { length statistics.old ≡ length schema.now.columns.items }
+    requires few { ¬ (SomeIsFull statistics.old) }
     ensures observed { IfOk result (λ seen. ObservesRow seen.0 (row_under schema.now line.now)
         statistics.old statistics.new) }
     ensures nulls { IfOk result (λ seen. seen.1 ≡ nulls_under schema.now line.now) }
@@ -134,7 +135,8 @@ fn observe_line(
 {
     match observe_record(alloc, schema, line, buffer, statistics) {
         Ok(nulls) => Ok((nulls.is_some(), nulls.unwrap_or(0) as u64)),
-        Err(fault) => Err(record_fault(place, fault)),
+        Err(ObserveError::Row(error)) => Err(record_fault(place, error)),
+        Err(ObserveError::TooManyRows) => unreachable!(),
     }
 }
 

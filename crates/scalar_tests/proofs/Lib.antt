@@ -1,7 +1,9 @@
+mod ColumnRows
 mod FilterSteps
 mod GivenZeros
 mod KeySteps
 mod KeysCounted
 mod ListCasts
 mod MergeSteps
+mod PieceSteps
 mod ReadBack

@@ -5,6 +5,7 @@
 //! proved once.
 #![tactic(auto)]
 
+pub mod column_pieces;
 pub mod columns_of_keys;
 pub mod fillings;
 pub mod filter_laws;

@@ -20,9 +20,10 @@ enum Call {
     MayBeValue,
     Bytes,
     FromBytes,
+    CastLower,
 }
 
-const CALLS: [Named<Call, Input>; 7] = [
+const CALLS: [Named<Call, Input>; 8] = [
     (
         "statistics",
         Call::Statistics,
@@ -41,6 +42,11 @@ const CALLS: [Named<Call, Input>; 7] = [
         "from_statistics_bytes",
         Call::FromBytes,
         &[Input::Type, Input::Bytes],
+    ),
+    (
+        "cast_lower_bound",
+        Call::CastLower,
+        &[Input::Type, Input::Bytes, Input::Target],
     ),
 ];
 
@@ -124,6 +130,7 @@ fn answer_of(alloc: Global, call: Call, given: &StatisticsInputs) -> StatisticsR
             let bytes = given.bytes.as_slice();
             column_answer(dtype, decode_statistics(alloc, &given.dtype, bytes))
         }
+        Call::CastLower => cast_lower(alloc, given),
         Call::MayBeNull => Ok(StatisticsAnswer::Truth(given.statistics.may_be_null())),
         Call::MayBeValue => Ok(StatisticsAnswer::Truth(given.statistics.may_be_value())),
         Call::Bytes => {
@@ -131,6 +138,21 @@ fn answer_of(alloc: Global, call: Call, given: &StatisticsInputs) -> StatisticsR
             let outcome = append_statistics(&given.statistics, &mut bytes);
             bytes_answer(outcome, bytes)
         }
+    }
+}
+
+/// The lower bound that the bytes say, cast to the target. What is read is valid, so nothing tests it.
+fn cast_lower(alloc: Global, given: &StatisticsInputs) -> StatisticsResult {
+    let bytes = given.bytes.as_slice();
+    match decode_statistics(alloc, &given.dtype, bytes) {
+        Ok(statistics) => match &statistics.lower {
+            Some(lower) => {
+                let cast = lower.value.cast(alloc, &given.target);
+                cast.map(StatisticsAnswer::Scalar)
+            }
+            None => Ok(StatisticsAnswer::NoBound),
+        },
+        Err(refusal) => refused(refusal),
     }
 }
 

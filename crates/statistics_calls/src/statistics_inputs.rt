@@ -17,6 +17,8 @@ use vortex_value::{Scalar, ScalarValue};
 pub enum Input {
     Scalar,
     Type,
+    /// The type that a bound is cast to.
+    Target,
     Bytes,
     /// A count of rows, or a length in bytes.
     Number,
@@ -41,6 +43,8 @@ pub enum Input {
 pub struct StatisticsInputs {
     pub scalar: Scalar,
     pub dtype: DType,
+    /// The type that a bound is cast to.
+    pub target: DType,
     pub bytes: ByteBuffer,
     pub number: u64,
     pub scalars: Vec<Scalar>,
@@ -61,6 +65,7 @@ impl Inputs for StatisticsInputs {
         StatisticsInputs {
             scalar: no_scalar(),
             dtype: DType::Null,
+            target: DType::Null,
             bytes: no_bytes(alloc),
             number: 0,
             scalars: Vec::new(alloc),
@@ -95,6 +100,7 @@ impl Inputs for StatisticsInputs {
             && same_raws(&self.values, &copy.values)
             && same_statistics(&self.statistics, &copy.statistics)
             && self.dtype == copy.dtype
+            && self.target == copy.target
             && self.bytes == copy.bytes
     }
 }
@@ -105,6 +111,7 @@ fn read_argument(given: &mut StatisticsInputs, input: Input, tokens: &mut Tokens
     match input {
         Input::Scalar => put(&mut given.scalar, read_scalar(tokens)),
         Input::Type => put(&mut given.dtype, read_type(tokens)),
+        Input::Target => put(&mut given.target, read_type(tokens)),
         Input::Bytes => put(&mut given.bytes, read_bytes(tokens)),
         Input::Number => given.number = read_natural(tokens, u64::MAX),
         Input::Scalars => put(&mut given.scalars, read_list(tokens)),

@@ -4,6 +4,7 @@ mod ColumnEnds
 mod ColumnOrder
 mod FilterSteps
 mod KeySteps
+mod Lengths
 mod PartSteps
 mod SqlSteps
 mod Truncations

@@ -1,5 +1,5 @@
 -- Steps of the exports for statistics.
-use Rattle.std.proofs.Common.{◌≡◌, ◌≢◌, ◌∙◌, ◌<◌, ◌≤◌, ℕ, Bool, true, List, drop, length, take, Option, Some, None, is_some, option_map, unwrap_or, ap, inl, inr, refl, subst, sym}
+use Rattle.std.proofs.Common.{◌≡◌, ◌≢◌, ◌∙◌, ◌<◌, ◌≤◌, ◌⊎◌, ℕ, Bool, true, List, drop, length, take, Option, Some, None, is_some, option_map, unwrap_or, ap, arith, inl, inr, refl, subst, sym}
 use Rattle.arrow_columns.specs.declared.kinds.Kind.{Kind}
 use Rattle.arrow_columns.specs.declared.kinds.Kind.TheVariants.{Binary, Boolean, Integer, LargeBinary, LargeUtf8, Null, Utf8}
 use Rattle.vortex_value.specs.Values.Content.{Content, null, sequence, string, tagged, text, truth, typed, whole}
@@ -84,3 +84,7 @@ parts_given kind s lower upper lower_buffer upper_buffer p h e f =
     let l : take p.lower_length lower_buffer ≡ lower = ap (λ n. take n lower_buffer) h.lower_length ∙ e in
     let u : take p.upper_length upper_buffer ≡ upper = ap (λ n. take n upper_buffer) h.upper_length ∙ f in
     subst (λ bs. AreParts kind s bs (take p.upper_length upper_buffer) p) (sym l) (subst (λ bs. AreParts kind s lower bs p) (sym u) h)
+
+pub not_small : (m n k l : ℕ) → (k ≤ m) × (l ≤ n) → ¬ ((m < k) ⊎ (n < l))
+not_small m n k l fit (inl less) = absurd (omega (arith, fit.0, less))
+not_small m n k l fit (inr less) = absurd (omega (arith, fit.1, less))

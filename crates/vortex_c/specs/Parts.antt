@@ -1,9 +1,10 @@
 -- The parts of statistics, as callers are told them.
-use Rattle.std.specs.Prelude.{◌≡◌, ◌⊎◌, ℕ, Bool, true, false, List, [], length, Option, Some, None}
+use Rattle.std.specs.Prelude.{◌≡◌, ◌≤◌, ◌⊎◌, ℕ, Bool, true, false, List, [], length, Option, Some, None}
 use Rattle.arrow_columns.specs.Kinds.{kind_at}
 use Rattle.arrow_columns.specs.declared.kinds.Kind.{Kind}
 use Rattle.column_cells.specs.Types.{type_of_kind}
 use Rattle.vortex_value.specs.Values.Content.{Content, null}
+use Rattle.statistics_bytes.specs.EncodingAnswers.{ReadsRight}
 use Rattle.vortex_statistics.specs.Statistics.{Known, KnownBound}
 use Rattle.column_statistics.specs.Encodings.{IsEncodingAs, IsReadError}
 use Rattle.column_statistics.specs.Items.{IsItemOf}
@@ -42,13 +43,19 @@ pub record AreParts (kind : Kind) (s : Known) (lower upper : List ℕ) (p : Stat
   pub lower_length : p.lower_length ≡ length lower
   pub upper_length : p.upper_length ≡ length upper
 
--- these are the parts of the statistics that have this encoding, of a column of the kind with this code
+-- these are the parts of the statistics that have this encoding, of a column of the kind with this code; they are right for all
+-- that the written ones were right for
 pub record ArePartsAt (code : ℕ) (bytes lower upper : List ℕ) (p : StatisticsParts) : Type 0 where
   pub kind : Kind
   pub is_kind : kind_at code ≡ Some kind
   pub statistics : Known
   pub is_encoding : IsEncodingAs (type_of_kind kind) bytes statistics
+  pub right : ReadsRight (type_of_kind kind) bytes statistics
   pub parts : AreParts kind statistics lower upper p
+
+-- the buffer is long enough for a bound that these bytes say: it has 8 bytes, and as many as these
+abbrev pub SufficesFor : List ℕ → List ℕ → Type 0
+SufficesFor bytes buffer = (8 ≤ length buffer) × (length bytes ≤ length buffer)
 
 -- the status of bytes that are not read
 abbrev pub status_of_read : ReadError → ℕ

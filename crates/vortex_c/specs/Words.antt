@@ -27,7 +27,7 @@ pub use Rattle.vortex_c.specs.ColumnErrors.{place_in_column, status_of_column}
 pub use Rattle.vortex_c.specs.Columns.{AreEndsText, HasEndNoText, HasValue, IsColumn, IsGreatestAt, IsLeastAt, some_where, value_at}
 pub use Rattle.vortex_c.specs.EncodingAnswers.{AnswersEncoding, HasAnswer}
 pub use Rattle.vortex_c.specs.Integers.{IsCastOf, IsInteger, IsNotCast, number_in, ptype_at}
-pub use Rattle.vortex_c.specs.Parts.{AreParts, ArePartsAt, IsBoundTold, SaysWhyNotRead, fault_of_read, status_of_read}
+pub use Rattle.vortex_c.specs.Parts.{AreParts, ArePartsAt, IsBoundTold, SaysWhyNotRead, SufficesFor, fault_of_read, status_of_read}
 pub use Rattle.vortex_c.specs.RowKeys.{AreAllKeys, all_keys_length, fault_of_table, status_of_table}
 pub use Rattle.vortex_c.specs.Statistics.{IsMergedAt, SaysWhyNoEncoding, SaysWhyNotMerged, fault_of_encoding, fault_of_merge, status_of_encoding, status_of_merge}
 pub use Rattle.vortex_c.specs.UpperAnswers.{AnswersUpper}

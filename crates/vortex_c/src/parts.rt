@@ -2,7 +2,7 @@
 
 ghost use Rattle.std.specs.Prelude.{◌≡◌, ◌≢◌, ◌<◌, ◌≤◌, ◌⊎◌, ℕ, List, drop, length, option_map, take};
 ghost use Rattle.vortex_c.specs.Words.{AreOf, AreParts, ArePartsAt, HasAnswer, IsBoundOf, IsBoundTold};
-ghost use Rattle.vortex_c.specs.Words.{SaysWhyNotRead, bytes_of_item, fault_of_read, known, known_bound};
+ghost use Rattle.vortex_c.specs.Words.{SaysWhyNotRead, SufficesFor, bytes_of_item, fault_of_read, known, known_bound};
 ghost use Rattle.vortex_c.specs.Words.{status_of_read, type_of_kind};
 
 use crate::columns::write_both;
@@ -41,7 +41,8 @@ pub struct StatisticsParts {
 /// each written to its buffer.
 ///
 /// An integer has its bytes in a buffer, the low one first. A boolean is a byte, 0 or 1. In bytes
-/// from anywhere a bound may be null: it is told as none, which says less.
+/// from anywhere a bound may be null: it is told as none, which says less. Buffers of 8 bytes, or of
+/// as many as the encoding if that is more, suffice.
 ///
 /// - `BUFFER_TOO_SMALL`: a buffer is too small. `parts` is written all the same.
 /// - `UNKNOWN_KIND`: the code is of no kind.
@@ -65,6 +66,8 @@ pub extern "C" fn doqallin_read_statistics(
         × (parts.new.upper_length ≤ length upper_buffer.old) }
     ensures small { result ≡ BUFFER_TOO_SMALL → (length lower_buffer.old < parts.new.lower_length)
         ⊎ (length upper_buffer.old < parts.new.upper_length) }
+    ensures enough { SufficesFor bytes.now lower_buffer.old
+        × SufficesFor bytes.now upper_buffer.old → result ≢ BUFFER_TOO_SMALL }
     ensures needed { result ≡ BUFFER_TOO_SMALL
         → (lower upper : List ℕ) × ArePartsAt kind bytes.now lower upper parts.new }
     ensures refused { (HasAnswer result)

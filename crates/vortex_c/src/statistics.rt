@@ -1,6 +1,6 @@
 //! The statistics of columns, in their stable encoding.
 
-ghost use Rattle.std.specs.Prelude.{◌≡◌, ◌⊎◌};
+ghost use Rattle.std.specs.Prelude.{◌≡◌, ◌≢◌, ◌+◌, ◌≤◌, ◌⊎◌, length};
 ghost use Rattle.vortex_c.specs.Words.{AnswersEncoding, HasAnswer, IsColumnEncoding, IsMergedAt, SaysWhyNoEncoding};
 ghost use Rattle.vortex_c.specs.Words.{SaysWhyNotMerged, fault_of_encoding, fault_of_merge, status_of_encoding};
 ghost use Rattle.vortex_c.specs.Words.{status_of_merge};
@@ -55,14 +55,15 @@ fn tell_encoding(refusal: ColumnStatisticsError, fault: &mut Fault) -> u32
 }
 
 /// The statistics of a piece of a column of this kind and then of another, in their stable
-/// encoding, of the encodings of both.
+/// encoding, of the encodings of both. A buffer of the lengths of both suffices.
 ///
 /// - `BUFFER_TOO_SMALL`: `count` says how many bytes the encoding has.
 /// - `UNKNOWN_KIND`: the code is of no kind.
 /// - `BAD_BYTES`: a piece is no encoding of statistics of the kind. `fault` says which, 0 or 1, and
 ///   the first byte that none has there.
 /// - `TOO_MANY_ROWS`: 64 bits do not count the rows of both.
-/// - `NO_MEMORY`: `fault` is not written.
+/// - `NO_MEMORY`: only if a piece says a bound, the second one after a first that is an encoding, or
+///   if both can be merged. `fault` is not written.
 #[unsafe(no_mangle)]
 pub extern "C" fn doqallin_merge_statistics(
     alloc: Global,
@@ -75,6 +76,8 @@ pub extern "C" fn doqallin_merge_statistics(
 ) -> u32
     ensures answer { AnswersEncoding (IsMergedAt kind one.now other.now)
         buffer.old buffer.new count.old count.new result }
+    ensures enough { length one.now + length other.now ≤ length buffer.old
+        → result ≢ BUFFER_TOO_SMALL }
     ensures refused { (HasAnswer result)
         ⊎ SaysWhyNotMerged kind one.now other.now fault.old fault.new result }
     ensures kept_fault { HasAnswer result → fault.new ≡ fault.old }

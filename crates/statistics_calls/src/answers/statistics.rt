@@ -2,16 +2,20 @@
 
 use crate::read::TypedStatistics;
 use case_lines::{
-    Output, WriteAnswer, truth_word, write_bytes, write_count, write_raw, write_type,
+    Output, WriteAnswer, truth_word, write_bytes, write_count, write_raw, write_scalar, write_type,
 };
 use vortex_dtype::DType;
 use vortex_statistics::{Bound, StatisticsError};
+use vortex_value::Scalar;
 
 /// What a call of statistics answers.
 #[derive(Drop)]
 pub enum StatisticsAnswer {
     Statistics(TypedStatistics),
     Truth(bool),
+    Scalar(Scalar),
+    /// There is no such bound.
+    NoBound,
     /// Statistics as bytes.
     Bytes(Vec<u8>),
     /// The call refused, but left a part of the bytes.
@@ -24,6 +28,8 @@ impl WriteAnswer for StatisticsAnswer {
         match self {
             StatisticsAnswer::Statistics(column) => write_statistics(out, column),
             StatisticsAnswer::Truth(is_true) => out.word(truth_word(*is_true)),
+            StatisticsAnswer::Scalar(scalar) => write_scalar(out, scalar),
+            StatisticsAnswer::NoBound => out.word("none"),
             StatisticsAnswer::Bytes(bytes) => write_bytes(out, bytes),
             StatisticsAnswer::Changed => out.word("changed"),
             StatisticsAnswer::Refused(refusal) => write_refusal(out, *refusal),

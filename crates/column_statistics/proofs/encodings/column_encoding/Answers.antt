@@ -9,6 +9,7 @@ returns-in-Some-clause-encoding c =
     record {
       statistics = s;
       cut = c.in-Ok.ensures.statistics;
+      right = c.in-Ok.ensures.right;
       of_type = are_of (type_of_column column) s (no_variant_in column) c.in-Ok.ensures.typed c.in-Some.ensures.held;
       is = c.in-Some.ensures.written;
     }

@@ -1,3 +1,4 @@
+use Rattle.std.proofs.Common.{inr}
 use Rattle.column_cells.specs.Types.{type_of_kind}
 use Rattle.vortex_statistics.specs.Statistics.{known}
 use Rattle.column_statistics.proofs.EncodingLaws.{first_wrong, merged_encoding_of, merged_keyed, second_wrong}
@@ -31,3 +32,12 @@ returns-in-Err-merge-clause-refused c = record {
   is_second = c.in-Ok-read_encoding.ensures.read;
   many = c.in-Err-merge.ensures.refused.1;
 }
+
+pub returns-clause-refused : goal.returns-clause-refused
+returns-clause-refused c = inr (inr (record {
+  first = known c.in-Ok.first;
+  second = known c.in-Ok-read_encoding.second;
+  is_first = c.in-Ok.ensures.read;
+  is_second = c.in-Ok-read_encoding.ensures.read;
+  few = c.in-Ok-merge.ensures.fits;
+}))

@@ -1,15 +1,22 @@
 -- A record more, and one that is refused.
-use Rattle.std.proofs.Common.{◌∙◌, ◌+◌, ℕ, arith, ap, length, refl, rules}
+use Rattle.std.proofs.Common.{◌∙◌, ◌+◌, ◌<◌, ◌^◌, ℕ, arith, ap, length, refl, rules}
 use Rattle.std.proofs.lemmas.Result.{err_from_is_err_and}
 use Rattle.zone_index.proofs.Refusing.{reached_more, reached_none, refused_in_text}
 use Rattle.zone_index.proofs.Sifting.{first_in_records, sifted_all, sifted_more, sifted_none}
 use Rattle.record_search.specs.Refused.{RefusesRecord}
 use Rattle.record_search.specs.Searched.{is_refused, nulls_under, row_under}
-use Rattle.record_search.proofs.ObserveLaws.{at_most_one, no_bytes, nulls_all, nulls_more, nulls_none, seen_all, seen_more, seen_none}
+use Rattle.record_search.proofs.ObserveLaws.{at_most_one, no_bytes, not_full, nulls_all, nulls_more, nulls_none, seen_all, seen_more, seen_none}
 use Rattle.record_search.proofs.describing.observe_text.Goals as goal
 
 pub loop-rest-init : goal.loop-rest-init
 loop-rest-init c = (search rules, seen_none _ _ _ _ c.requires.fresh, search rules, search rules, search rules, reached_none _ _, nulls_none _ _ _, sifted_none _ _ _)
+
+pub observe_line-requires-clause-few : goal.observe_line-requires-clause-few
+observe_line-requires-clause-few c =
+    let s = c.args.schema.now in
+    let some : 0 < length c.loop-rest.rest.now = search rules in
+    let few : c.loop-rest.rows + 1 < 2 ^ 64 = search rules in
+    not_full (row_under s) s.delimiter.byte c.args.text.now c.loop-rest.rest.now c.loop-rest.rows c.loop-rest.statistics c.loop-rest.invariant.1 few
 
 pub loop-rest-preserved : goal.loop-rest-preserved
 loop-rest-preserved c =
