@@ -7,8 +7,8 @@
  *
  * Link with -ldoqallin. One call, doqallin_call, is in a library of its own: link with -ldoqallin_call for it.
  *
- * A string is UTF-8. A call that can do other than succeed answers a status. What its comment does not name under a status
- * is not written then.
+ * A string is UTF-8. A call that can do other than succeed answers a status. If its comment names a field of `fault` or of
+ * `mistake` under a status, that is written then, and the field that is not named is 0. What it does not name is not written.
  *
  * What the caller owes, at each call:
  * - A pointer is not null and is aligned for its type, even if its length is 0.
@@ -42,14 +42,14 @@ enum {
     DOQALLIN_GIVEN = 0,         /* what was asked for is written */
     DOQALLIN_NONE = 1,          /* there is no such value, or the cast is refused */
     DOQALLIN_NO_MEMORY = 2,     /* an allocation was refused */
-    DOQALLIN_BUFFER_TOO_SMALL = 3,       /* a buffer is too small: the lengths that are needed are written, and nothing else */
+    DOQALLIN_BUFFER_TOO_SMALL = 3, /* a buffer is too small: the lengths that are needed are written, and nothing else */
     DOQALLIN_NOT_UTF8 = 4,      /* bytes that are to be a string are not UTF-8 */
     DOQALLIN_NOT_A_NUMBER = 5,  /* a code names no integer type, or the bits stand for no number of the type */
     DOQALLIN_BAD_OFFSETS = 6,   /* offsets go down, or past the end of the bytes */
     DOQALLIN_UNKNOWN_KIND = 7,  /* a code is of no kind that the call takes */
     DOQALLIN_TOO_MANY_ROWS = 8, /* offset and length of a column, or the rows of two pieces, are together 2^64 or more */
     DOQALLIN_TOO_SHORT = 9,     /* a buffer of a column is too short for its rows */
-    DOQALLIN_BAD_BYTES = 10,    /* bytes are not of the form that is read */
+    DOQALLIN_BAD_BYTES = 10,    /* bytes are not of the encoding that is read */
     DOQALLIN_BAD_FILTER = 11,   /* words are no filter */
     DOQALLIN_WRONG_LENGTH = 12, /* numbers of columns, of rows or of options differ that are to be equal */
     DOQALLIN_BAD_OPTIONS = 13   /* a byte stands for no options */
@@ -157,7 +157,7 @@ struct doqallin_bound_lengths {
 
 /* The lower bound at n bytes of a column's least value, and the upper bound of its greatest one. Value k is the bytes from
  * offsets[k] to offsets[k + 1], so that m values have m + 1 offsets; the first offset may be above 0. Two buffers of
- * min(n, bytes_length) bytes suffice. Takes linear time, and no memory for each value.
+ * min(n, bytes_length) bytes suffice.
  * GIVEN: the bounds are in the first bytes of the buffers, as `lengths` says; the bytes after them are as they were.
  * NONE: exactly if there is no value (fewer than 2 offsets).
  * BUFFER_TOO_SMALL: a buffer has fewer bytes than its bound; `lengths` says how many each bound has.
@@ -177,26 +177,27 @@ uint32_t doqallin_column_bounds_text(const uint8_t *bytes, size_t bytes_length, 
 
 /* The keys of the rows of some columns (docs/KEYS.md): bytes that compare as the rows do, column by column. The key of row k is
  * the bytes of the buffer from offsets_buffer[k] to offsets_buffer[k + 1]. A column has a byte of options: 1 for greater values
- * first, 2 for nulls first, or the sum. Of several mistakes the first column's is told, and nothing of the buffer is written.
+ * first, 2 for nulls first, or the sum. If several statuses but GIVEN fit, the first of these comes: WRONG_LENGTH of the options,
+ * the mistake of the first column that has one, BUFFER_TOO_SMALL.
  * GIVEN: the keys have the first *count bytes of the buffer; those after it are as they were.
- * BUFFER_TOO_SMALL: *count, which is all that is written, is how many bytes the keys have: above buffer_length, or offsets_buffer has not a
- * place for each row and one more. A call without a buffer asks for it.
+ * BUFFER_TOO_SMALL: *count, which is all that is written, is how many bytes the keys have: above buffer_length, or
+ * offsets_buffer lacks one for each row and one more. A call without a buffer asks for it.
  * WRONG_LENGTH: the options are not as many as the columns, and fault->column is the number of columns; or that column has
  * another number of rows than the first.
  * BAD_OPTIONS: the byte of fault->column is above 3.
  * UNKNOWN_KIND, TOO_MANY_ROWS, TOO_SHORT, BAD_OFFSETS, NOT_UTF8: fault->column cannot be read, for what is at fault->place.
- * NO_MEMORY: memory is asked for each column, and none for its rows. */
+ * NO_MEMORY: memory is asked for each column. */
 uint32_t doqallin_row_keys(const struct doqallin_column *columns, size_t column_count, const uint8_t *options,
                            size_t options_length, uint64_t *offsets_buffer, size_t offsets_buffer_length, uint8_t *buffer,
                            size_t buffer_length, size_t *count, struct doqallin_fault *fault);
 
-/* One column of the rows whose keys these are, in Arrow's layout: the column `which` of columns of these kinds, by their codes, each
- * with its byte of options, as doqallin_row_keys has them. The key of row k goes from offsets[k] to offsets[k + 1], so that n rows
- * have n + 1 offsets; no rows may have none. Keys may come from anywhere: each is tested first.
- * GIVEN: validity_buffer has a bit for each row, 0 for a null, in its first (n + 7) / 8 bytes. values_buffer begins with the *count
- * bytes of the values: items of the kind, 0 for a null; bits of booleans; or the bytes of all strings, none for a null. Of strings
- * and bytes offsets_buffer begins with n + 1 offsets, of 64 bits each, also for the kinds with offsets of 32 bits; of other kinds it
- * is not written. What follows stays as it was.
+/* One column of the rows whose keys these are, in Arrow's layout: the column `which` of columns of these kinds, by their codes,
+ * each with its byte of options, as doqallin_row_keys has them. The key of row k goes from offsets[k] to offsets[k + 1], so
+ * that n rows have n + 1 offsets; no rows may have none. Keys may come from anywhere: each is tested first.
+ * GIVEN: validity_buffer has a bit for each row, 0 for a null, in its first (n + 7) / 8 bytes. values_buffer begins with the
+ * *count bytes of the values: items of the kind, 0 for a null; bits of booleans; or the bytes of all strings, none for a null.
+ * Of strings and bytes offsets_buffer begins with n + 1 offsets, of 64 bits each, also for the kinds with offsets of 32 bits;
+ * of other kinds it is not written. What follows stays as it was.
  * BUFFER_TOO_SMALL: a buffer is too short. *count, which is all that is written, says how many bytes the values have.
  * WRONG_LENGTH: the options are not as many as the kinds, or there is no column `which`. fault->column is the number of kinds.
  * BAD_OPTIONS: the byte of fault->column is above 3. UNKNOWN_KIND: the code of fault->column is of no kind.
@@ -211,24 +212,25 @@ uint32_t doqallin_column_of_row_keys(const uint8_t *kinds, size_t kinds_length, 
                                      size_t values_buffer_length, uint64_t *offsets_buffer, size_t offsets_buffer_length,
                                      size_t *count, struct doqallin_fault *fault);
 
-/* The statistics of a column in their stable form (docs/STATISTICS.md): its counts, and its least and its greatest value. If
+/* The statistics of a column in their stable encoding (docs/STATISTICS.md): its counts, and its least and its greatest value. If
  * these are strings or bytes, they are cut to max_length bytes: then they are bounds, and no values.
- * GIVEN: the form has the first *count bytes of the buffer; those after it are as they were.
- * BUFFER_TOO_SMALL: *count, which is all that is written, is how many bytes the form has: above buffer_length. A call without a buffer asks
- * for it.
+ * GIVEN: the encoding has the first *count bytes of the buffer; those after it are as they were.
+ * BUFFER_TOO_SMALL: *count, which is all that is written, is how many bytes the encoding has: above buffer_length. A call
+ * without a buffer asks for it.
  * UNKNOWN_KIND, TOO_MANY_ROWS, TOO_SHORT, BAD_OFFSETS, NOT_UTF8: the column cannot be read, for what is at fault->place.
  * fault->column is 0.
- * NO_MEMORY: memory is asked for the form, and for a least and a greatest value of more than 22 bytes; none for each row. */
+ * NO_MEMORY: memory is asked for the encoding, and for a least and a greatest value: it may come of each column that
+ * can be read, and of no other. */
 uint32_t doqallin_column_statistics(const struct doqallin_column *column, size_t max_length, uint8_t *buffer,
                                     size_t buffer_length, size_t *count, struct doqallin_fault *fault);
 
-/* The statistics of a piece of a column and then of another one, of the forms of both. `kind` is that of the column. If those of
- * each piece are right, so are these, and pieces may be merged in any grouping. A buffer of both lengths suffices.
+/* The statistics of a piece of a column and then of another one, of the encodings of both. `kind` is that of the column. If
+ * those of each piece are right, so are these, and pieces may be merged in any grouping.
  * GIVEN, BUFFER_TOO_SMALL: as from doqallin_column_statistics.
  * UNKNOWN_KIND: exactly if `kind` is of no kind. fault->column and fault->place are 0.
- * BAD_BYTES: fault->column is 0 or 1, the first piece that is no form of statistics of the kind. fault->place is its first byte
- * that no such form has there, or its length if it ends too early.
- * TOO_MANY_ROWS: both are such forms, and 64 bits do not count the rows of both. fault->column and fault->place are 0.
+ * BAD_BYTES: fault->column is 0 or 1, the first piece that is no encoding of statistics of the kind. fault->place is its first
+ * byte that no such encoding has there, or its length if it ends too early.
+ * TOO_MANY_ROWS: both are such encodings, and 64 bits do not count the rows of both. fault->column and fault->place are 0.
  * NO_MEMORY: may come in place of all but UNKNOWN_KIND. */
 uint32_t doqallin_merge_statistics(uint8_t kind, const uint8_t *one, size_t one_length, const uint8_t *other,
                                    size_t other_length, uint8_t *buffer, size_t buffer_length, size_t *count,
@@ -248,15 +250,15 @@ struct doqallin_statistics_parts {
     bool upper_is_exact;
 };
 
-/* The statistics of a column of this kind that have this form. No value is below the lower bound, or above the upper one. A bound
- * that is an integer has its bytes in a buffer of the kind, the low one first. A bool is a byte, 0 or 1, and strings and bytes
- * are as they are. In bytes from anywhere a bound may be null: it is told as none, which says less. Two buffers of 8 bytes, or of
- * bytes_length if that is more, suffice.
+/* The statistics of a column of this kind that have this encoding. If they are right for a
+ * column, no value of it is below the lower bound, or above the upper one. A bound that is an integer has its bytes in a buffer
+ * of the kind, the low one first. A bool is a byte, 0 or 1, and strings and bytes are as they are. In bytes from anywhere a bound
+ * may be null: it is told as none, which says less.
  * GIVEN: the bounds are in the first bytes of the buffers, as *parts says; the bytes after them are as they were.
  * BUFFER_TOO_SMALL: a buffer has fewer bytes than its bound; *parts says all the same, how many bytes each bound has too.
  * UNKNOWN_KIND: exactly if `kind` is of no kind. fault->column and fault->place are 0.
- * BAD_BYTES: the bytes are no form of statistics of the kind. fault->place is the first byte that no such form has there, or
- * bytes_length if they end too early. fault->column is 0.
+ * BAD_BYTES: the bytes are no encoding of statistics of the kind. fault->place is the first byte that no such encoding has
+ * there, or bytes_length if they end too early. fault->column is 0.
  * NO_MEMORY: only if the bytes say that there is a bound. */
 uint32_t doqallin_read_statistics(uint8_t kind, const uint8_t *bytes, size_t bytes_length, uint8_t *lower_buffer,
                                   size_t lower_buffer_length, uint8_t *upper_buffer, size_t upper_buffer_length,
@@ -295,55 +297,56 @@ enum {
     DOQALLIN_TOO_DEEP            /* more connectives and parentheses nest than may */
 };
 
-/* A filter in SQL's words (docs/FILTERS.md), over columns by name and kind, prepared to bytes in their stable form
- * (docs/FILTER_ENCODING.md). The calls below take these. At most `depth` connectives and parentheses may nest in the words, and
- * connectives in the form: 32 suffice for most. If several statuses but GIVEN fit, the first of these comes:
+/* A filter in SQL's words (docs/FILTERS.md), over columns by name and kind, prepared to bytes in their stable encoding
+ * (docs/FILTER_ENCODING.md). The calls below take these, at the same `depth`: so many connectives and parentheses may nest in the
+ * words, and 4 connectives more in the encoding. 32 suffice for most. If several statuses but GIVEN fit, the first of these comes:
  * UNKNOWN_KIND, NOT_UTF8: of the columns the first that is of no kind, or has a name that is not UTF-8, is mistake->place.
- * NOT_UTF8: the words are not, and mistake->place is column_count.
+ * NOT_UTF8: the words are not, and mistake->place is column_count. These two come exactly so, however little memory there is.
  * BAD_FILTER: mistake->place is the byte of the words where something else had to come, or their length, and
- * mistake->expected says what. A filter whose form nests too deep has DOQALLIN_TOO_DEEP at 0: a test with a number that its
- * column's type lacks nests up to 3 deeper there.
- * BUFFER_TOO_SMALL: *count, which is all that is written, is how many bytes the form has: above buffer_length. A call without a buffer asks
- * for it.
- * GIVEN: the form has the first *count bytes of the buffer; those after it are as they were.
- * NO_MEMORY: may come in place of all but GIVEN and BUFFER_TOO_SMALL. */
+ * mistake->expected says what. A filter whose encoding nests too deep has DOQALLIN_TOO_DEEP at 0. A test nests none in the words,
+ * and up to 4 there; and a connective in the left one of two operands nests there, but not in the words.
+ * BUFFER_TOO_SMALL: *count, which is all that is written, is how many bytes the encoding has: above buffer_length. A call
+ * without a buffer asks for it.
+ * GIVEN: the encoding has the first *count bytes of the buffer; those after it are as they were.
+ * NO_MEMORY: may come in place of BAD_FILTER, BUFFER_TOO_SMALL and GIVEN. */
 uint32_t doqallin_prepare_filter(const uint8_t *words, size_t words_length, const struct doqallin_named_kind *columns,
                                  size_t column_count, size_t depth, uint8_t *buffer, size_t buffer_length, size_t *count,
                                  struct doqallin_mistake *mistake);
 
 /* What a prepared filter can be on the rows of zones, by their statistics: a byte of `outcomes` for each zone. It is 1 if the
  * filter can be false on a row, plus 2 if it can be unknown, plus 4 if it can be true. A piece is the statistics of one column
- * in one zone, in their stable form (docs/STATISTICS.md): piece k is the bytes from offsets[k] to offsets[k + 1]. Pieces stand
- * zone by zone, one for each column that the filter was prepared for. An empty piece leaves all open. `depth` is how many
- * connectives may nest in the filter: as many as it was prepared with suffice.
+ * in one zone, in their stable encoding (docs/STATISTICS.md): piece k is the bytes from offsets[k] to offsets[k + 1]. Pieces stand
+ * zone by zone, one for each column that the filter was prepared for. An empty piece leaves all open. `depth` is that with
+ * which the filter was prepared, or more: the encoding may nest 4 deeper.
  * GIVEN: each zone has its byte. Under each other status the outcomes may have any bytes, and the first of these comes:
- * BAD_BYTES: the filter is no form that nests so deep at most. fault->column is offsets_length, and fault->place its first byte
- * that no such form has there, or its length if it ends too early.
+ * BAD_BYTES: the filter is no encoding that nests so deep at most. fault->column is offsets_length, and fault->place its first
+ * byte that no such encoding has there, or its length if it ends too early.
  * WRONG_LENGTH: exactly if there are not as many offsets as pieces, and one more. fault->column is offsets_length.
  * BAD_OFFSETS: an offset of the piece fault->column is below the one before it, or past the end of the statistics.
- * BAD_BYTES: the piece fault->column is no form of statistics of its column's kind; fault->place is as above, in the piece. Of
+ * BAD_BYTES: the piece fault->column is no encoding of statistics of its column's kind; fault->place is as above, in the piece. Of
  * the last two the first piece decides.
  * NO_MEMORY: memory is asked for the filter, and for one zone at a time. */
 uint32_t doqallin_filter_outcomes(const uint8_t *filter, size_t filter_length, const uint8_t *statistics,
                                   size_t statistics_length, const uint64_t *offsets, size_t offsets_length, size_t depth,
                                   uint8_t *outcomes, size_t outcomes_length, struct doqallin_fault *fault);
 
-/* Which rows match a prepared filter: a bit for each, 1 if the filter is true of it, from the least significant bit on. The
- * columns are those that it was prepared for, in their order; strings and bytes may have either width of offsets. `depth` is as
- * above. Whoever prepares a filter for the columns that it names alone need pass no others.
+/* Which of row_count rows match a prepared filter: a bit for each, 1 if the filter is true of it, from the least significant bit
+ * on. The columns are those that it was prepared for, in their order, and each has so many rows; strings and bytes may have
+ * either width of offsets. `depth` is as above. Whoever prepares a filter for the columns that it names alone need pass no
+ * others; one that names none is the same on each row.
  * GIVEN: the buffer begins with the bits of the rows. Those after them in their last byte are 0, and the bytes after it are as
  * they were. Of the others the first of these comes:
- * BAD_BYTES: the filter is no form that nests so deep at most. fault->column is column_count, and fault->place its first byte
- * that no such form has there, or its length if it ends too early.
+ * BAD_BYTES: the filter is no encoding that nests so deep at most. fault->column is column_count, and fault->place its first byte
+ * that no such encoding has there, or its length if it ends too early.
  * WRONG_LENGTH: exactly if the columns are not as many as the filter's. fault->column is column_count.
  * UNKNOWN_KIND, TOO_MANY_ROWS, TOO_SHORT, BAD_OFFSETS, NOT_UTF8: fault->column cannot be read, for what is at fault->place.
  * UNKNOWN_KIND: fault->column is of another kind than the filter's, and fault->place is 1.
- * WRONG_LENGTH: fault->column has another number of rows than the first. Of the last three the first column decides.
- * BUFFER_TOO_SMALL: exactly if the buffer has fewer bytes than (rows + 7) / 8. Here nothing is written.
+ * WRONG_LENGTH: fault->column has another number of rows than row_count. Of the last three the first column decides.
+ * BUFFER_TOO_SMALL: exactly if the buffer has fewer bytes than a bit for each row takes. Here nothing is written.
  * NO_MEMORY: memory is asked for the filter, for each column, and for values of more than 22 bytes. The bits may then say
  * anything. */
 uint32_t doqallin_filter_mask(const uint8_t *filter, size_t filter_length, const struct doqallin_column *columns,
-                              size_t column_count, size_t depth, uint8_t *buffer, size_t buffer_length,
+                              size_t column_count, size_t row_count, size_t depth, uint8_t *buffer, size_t buffer_length,
                               struct doqallin_fault *fault);
 
 /* Nearly any call of the library, by a line of text. In the library doqallin_call.
@@ -353,12 +356,12 @@ uint32_t doqallin_filter_mask(const uint8_t *filter, size_t filter_length, const
  * than 32 connectives and parentheses in a filter.
  * GIVEN: the answer is in the first *count bytes of the buffer, and is UTF-8; those after it are as they were. No clause says
  * which answer comes: the stored cases are run.
- * BUFFER_TOO_SMALL: *count, above buffer_length, is how many bytes the whole answer has. A buffer of no bytes asks for it. That the next
- * call has the same answer, and so fits in that buffer, is tested alone.
+ * BUFFER_TOO_SMALL: *count, above buffer_length, is how many bytes the whole answer has. A buffer of no bytes asks for it. That
+ * the next call has the same answer, and so fits in that buffer, is tested alone.
  * NO_MEMORY: there is no memory to read the line or to write the answer. If the call itself finds none, the answer is
  * `OutOfMemory`.
- * Stack: 40 kilobytes and 2.3 more for each level that nests, or, if that is more, 20 and 3.1 more for each level. So no line of 32
- * levels ends a process on a thread of 128 kilobytes. */
+ * Stack: 40 kilobytes and 2.3 more for each level that nests, or, if that is more, 20 and 3.1 more for each level. So no line
+ * of 32 levels ends a process on a thread of 128 kilobytes. */
 uint32_t doqallin_call(const uint8_t *line, size_t line_length, uint8_t *buffer, size_t buffer_length, size_t *count);
 
 /* The same, for lines that nest at most `depth` deep. */

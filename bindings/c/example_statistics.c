@@ -21,7 +21,7 @@ int main(void) {
     struct doqallin_column first = {DOQALLIN_UTF8, NOTHING, BYTES("BergenMoss"), (const uint8_t *)first_ends, sizeof first_ends, 0, 2};
     struct doqallin_column second = {DOQALLIN_UTF8, BYTES("\1"), BYTES("Oslo"), (const uint8_t *)second_ends, sizeof second_ends, 0, 2};
 
-    // Bounds of at most 4 bytes: a form of 18 bytes, and of two keys of at most 10.
+    // Bounds of at most 4 bytes: an encoding of 18 bytes, and of two keys of at most 10.
     uint8_t one[40], other[40], both[80];
     size_t one_length, other_length, length;
     need(doqallin_column_statistics(&first, 4, one, sizeof one, &one_length, &fault));

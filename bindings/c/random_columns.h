@@ -136,7 +136,7 @@ static inline size_t put(size_t at, unsigned byte, uint8_t option) {
     return at + 1;
 }
 
-// Writes the key of a row at this place; returns its end.
+// Writes the key of a row at this offset; returns its end.
 static inline size_t plain_key(const struct doqallin_column *of, size_t row, uint8_t option, size_t at) {
     if (!is_valid(of, row)) return put(at, option & 2 ? 1 : 255, 0);
     if (of->kind == DOQALLIN_BOOL) return put(at, 2 + is_bit(of->values, of->offset + row), option);

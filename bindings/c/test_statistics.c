@@ -1,6 +1,6 @@
 // SPDX-License-Identifier: Apache-2.0
 // Statistics of random columns, beside plain C: `test_statistics COUNT` makes so many, with a page behind each buffer that nobody
-// may read, and `test_statistics COUNT malloc` with memory of its own for each. Their forms are read, merged, and read again with
+// may read, and `test_statistics COUNT malloc` with memory of its own for each. Their encodings are read, merged, and read again with
 // any bytes changed.
 #include "random_columns.h"
 
@@ -81,7 +81,7 @@ static size_t put_bound(size_t at, uint8_t kind, const struct bound *of) {
     return of->is_there ? plain_key(&one, 0, 2, at) : at;
 }
 
-// Writes the form of the statistics; returns its length.
+// Writes the encoding of the statistics; returns its length.
 static size_t plain_form(uint8_t kind, const struct statistics *of) {
     size_t at = put(0, 1, 0);
     at = put(at, 1 + 2 * of->lower.is_there + 4 * of->lower.is_exact + 8 * of->upper.is_there + 16 * of->upper.is_exact, 0);
@@ -157,7 +157,7 @@ static void of_pieces(const struct doqallin_column *some, size_t most, const uin
     CHECK(is_cut ? !memcmp(buffer + 2, form + 2, 16) : count == length && !memcmp(buffer, form, length));
 }
 
-// A form with bytes changed, or cut short: it is read, or the first byte is told that is not of the form.
+// An encoding with bytes changed, or cut short: it is read, or the first byte is told that is not of it.
 static uint32_t of_any_bytes(uint8_t kind, const uint8_t *form, size_t length) {
     uint8_t changed[BUFFER];
     static const uint8_t likely[] = {0, 1, 2, 12, 13, 21, 22, 31, 255};

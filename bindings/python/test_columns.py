@@ -433,7 +433,7 @@ class OfKeys(Released):
             self.assertEqual([key.hex() for key in row_keys(given)], ["0d02157800", "0d0101"])
         self.assertEqual(row_keys([]).to_list(), [])
         self.assertEqual(row_keys([[], []]).to_list(), [])
-        # A slice of much memory asks room for its own rows alone.
+        # A slice of much memory asks a buffer for its own rows alone.
         whole = column(["a" * 1000] * 1000)
         self.assertEqual(row_keys([whole[500:501]]).to_list(), [b"\x15" + b"a" * 1000 + b"\0"])
         self.assertEqual(row_keys([["\0" * 1000] * 9]).to_list(), [b"\x15" + b"\1\1" * 1000 + b"\0"] * 9)

@@ -164,7 +164,7 @@ class TooShort(DoqallinError, ValueError):
 
 
 class BadBytes(DoqallinError, ValueError):
-    """Bytes are not of the form that is read. `place` is the first such byte."""
+    """Bytes are not of the encoding that is read. `place` is the first such byte."""
 
 
 class BadFilter(DoqallinError, ValueError):

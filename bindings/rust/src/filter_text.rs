@@ -31,7 +31,7 @@ impl FromStr for Kind {
     }
 }
 
-/// The places of a byte in a text, outside of its quotes. A quote that is doubled within quotes ends them and begins others.
+/// The offsets of a byte in a text, outside of its quotes. A quote that is doubled within quotes ends them and begins others.
 fn places(text: &str, of: u8) -> impl Iterator<Item = usize> {
     let mut open = None;
     text.bytes().enumerate().filter_map(move |(place, byte)| {
@@ -63,7 +63,7 @@ fn named(text: &str) -> Option<(String, Kind)> {
 /// let wanted: doqallin::Filter = "fare >= 10 and \"the city\" = 'Oslo'; fare u32, \"the city\" utf8?".parse()?;
 /// let fares = doqallin::Column::integers(&[12u32, 3]);
 /// let cities = doqallin::Column::utf8(b"OsloOslo", &[0, 4, 8]);
-/// assert_eq!(wanted.mask(&[fares, cities])?, [true, false]);
+/// assert_eq!(wanted.mask(&[fares, cities], 2)?, [true, false]);
 /// # Ok::<(), doqallin::FilterError>(())
 /// ```
 impl FromStr for Filter {

@@ -86,7 +86,7 @@ pub fn row_keys(columns: &[Column<'_>], options: &[SortOptions]) -> Result<RowKe
     let mut bytes = Vec::<u8>::with_capacity(length);
     loop {
         let mut count = 0;
-        // SAFETY: each pointer and length are of one slice, or of what a vector has room for. `count` and `fault` are places of
+        // SAFETY: each pointer and length are of one slice, or of a vector's capacity. `count` and `fault` are places of
         // their own.
         let status = unsafe {
             raw::doqallin_row_keys(
@@ -257,7 +257,7 @@ pub struct OwnedColumn {
 }
 
 impl OwnedColumn {
-    /// Room for a column of so many rows, whose strings have at most so many bytes together.
+    /// Buffers for a column of so many rows, whose strings have at most so many bytes together.
     fn buffer_for(kind: Kind, length: usize, bytes: usize) -> OwnedColumn {
         let bitmap = length.div_ceil(8);
         let (values, offsets) = match (kind, kind.width()) {

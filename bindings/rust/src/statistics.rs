@@ -8,7 +8,7 @@ use std::fmt;
 /// Why there are no statistics.
 #[derive(Clone, Copy, Debug, PartialEq, Eq)]
 pub enum StatisticsError {
-    /// Bytes are not the form of statistics of the kind: this one is the first such byte.
+    /// Bytes are not the encoding of statistics of the kind: this one is the first such byte.
     BadBytes(usize),
     /// 64 bits do not count the rows.
     TooManyRows,
@@ -155,7 +155,7 @@ impl Statistics {
         }
     }
 
-    /// The stable form, for a file or another program.
+    /// The stable encoding, for a file or another program.
     #[must_use]
     pub fn as_bytes(&self) -> &[u8] {
         &self.bytes

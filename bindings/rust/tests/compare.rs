@@ -289,7 +289,7 @@ fn columns_of_texts() {
     }
 }
 
-/// Offsets that are any numbers, small ones mostly: each is answered as its first fault asks.
+/// Offsets that are any numbers, small ones mostly: each is answered as its first error asks.
 #[test]
 fn hostile_offsets() {
     let mut random = Random(0x66_6666);
