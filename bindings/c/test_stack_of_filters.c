@@ -19,8 +19,8 @@ static const struct way { const char *before, *after; size_t levels; } ways[] = 
     {"not ", "", 1}, {"(", ")", 1}, {"n = 1 and ", "", 1}, {"s = 'b' or ", "", 1},
     {"n = 1 and not (", ")", 3}, {"(n is null or s like 'c%' and ", ")", 3},
 };
-// A number that the type lacks nests up to 3 deeper in the encoding.
-static const char *const tests[] = {"n between 1 and 2", "s in ('a', 'b', null)", "n < 99999"};
+// The last nests none in the words, and 4 in the encoding.
+static const char *const tests[] = {"n between 1 and 2", "s in ('a', 'b', null)", "n not between -99999 and 99999"};
 #define COUNT_OF(items) (sizeof items / sizeof *items)
 
 static char words[1 << 14];
@@ -51,7 +51,7 @@ static void *mask(void *unused) {
         {DOQALLIN_UTF8, numbers, 0, TEXT("0123456789012345678901234567890"), ends, sizeof ends, 0, 2},
     };
     struct doqallin_fault fault;
-    status = doqallin_filter_mask(form, form_length, two, 2, depth, buffer, sizeof buffer, &fault);
+    status = doqallin_filter_mask(form, form_length, two, 2, 2, depth, buffer, sizeof buffer, &fault);
     return unused;
 }
 
@@ -65,7 +65,7 @@ static void measure(void *(*call)(void *), uint8_t *stack, size_t size) {
 
 // All calls of the filter that nests so deep in this way.
 static void filter(const struct way *way, const char *test, uint8_t *stack, size_t size) {
-    size_t times = (depth - 3) / way->levels, at = 0;
+    size_t times = depth / way->levels, at = 0;
     for (size_t i = 0; i < times; i++) at += (size_t)sprintf(words + at, "%s", way->before);
     at += (size_t)sprintf(words + at, "%s", test);
     for (size_t i = 0; i < times; i++) at += (size_t)sprintf(words + at, "%s", way->after);
