@@ -70,7 +70,7 @@ enum { DOQALLIN_BOOL = 8, DOQALLIN_UTF8, DOQALLIN_LARGE_UTF8, DOQALLIN_BINARY, D
 
 /* A column as the Arrow C data interface lays it out: rows offset to offset + length of its buffers. `validity` has a bit for
  * each row, 0 where it is null, or no byte if none is. `values` are the integers, bits, or the bytes of all rows. `offsets` are
- * of strings and bytes alone. A column without rows may have no bytes in a buffer, if its offset is 0.
+ * of strings and bytes alone. A column without rows may have any offset, and no bytes in a buffer.
  * Buffers may have any alignment. */
 struct doqallin_column {
     uint8_t kind;
@@ -94,7 +94,8 @@ struct doqallin_fault {
 /* Casts a column of integers to the type `to`, all rows or none. Takes no memory. If several statuses fit, the first of
  * these comes:
  * UNKNOWN_KIND: exactly if a code is not below 8: `to` with fault->column 1, and else column->kind with 0. fault->place is 0.
- * TOO_MANY_ROWS: exactly if column->offset + column->length is 2^64 or more. fault->column and fault->place are 0.
+ * TOO_MANY_ROWS: exactly if there is a row and column->offset + column->length is 2^64 or more. fault->column and fault->place
+ * are 0.
  * TOO_SHORT: exactly if a buffer is too short: fault->place is 0 for the validity, 1 for the values. fault->column is 0.
  * BUFFER_TOO_SMALL: exactly if the buffer has fewer bytes than column->length times the width of `to`. Here nothing is written.
  * NONE: exactly if that type lacks the number of a row that is not null: fault->place is the first. fault->column is 0.

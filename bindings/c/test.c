@@ -89,6 +89,10 @@ static void column_casts(void) {
     CHECK(casts_to(column, DOQALLIN_U8, 2, DOQALLIN_GIVEN, 77, 78, 2) && !memcmp(buffer, "\5\0", 2));
     column.length = 0;
     CHECK(casts_to(column, DOQALLIN_U8, 0, DOQALLIN_GIVEN, 77, 78, 0));
+    // Without rows an offset means nothing, and neither do buffers.
+    column.offset = SIZE_MAX, column.values_length = 0;
+    CHECK(casts_to(column, DOQALLIN_U8, 0, DOQALLIN_GIVEN, 77, 78, 0));
+    column = rows;
     // Without a bitmap no row is null.
     column.length = 3, column.validity_length = 0;
     CHECK(casts_to(column, DOQALLIN_I8, BUFFER, DOQALLIN_GIVEN, 77, 78, 3) && !memcmp(buffer, "\5\xff\xfe", 3));

@@ -582,7 +582,7 @@ fn columns_that_differ_in_length() {
 
 /// What the test of a column says: by its buffers alone.
 fn plain_fault(of: &Layout, offset: usize, length: usize) -> Option<ColumnFault> {
-    if of.kind == Kind::Null {
+    if of.kind == Kind::Null || length == 0 {
         return None;
     }
     let Some(end) = offset.checked_add(length) else {
@@ -602,7 +602,7 @@ fn plain_fault(of: &Layout, offset: usize, length: usize) -> Option<ColumnFault>
         return is_short(&of.values, 8, 1).then_some(ColumnFault::TooShort(Buffer::Values));
     }
     let size = offset_width(of.kind);
-    if length > 0 && (of.offsets.len() as u128) < (end as u128 + 1) * size as u128 {
+    if (of.offsets.len() as u128) < (end as u128 + 1) * size as u128 {
         return Some(ColumnFault::TooShort(Buffer::Offsets));
     }
     let at = |place: usize| {

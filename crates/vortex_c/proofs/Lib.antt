@@ -6,5 +6,6 @@ mod FilterSteps
 mod KeySteps
 mod PartSteps
 mod SqlSteps
+mod StartSteps
 mod Truncations
 mod ZoneAnswers
