@@ -21,7 +21,7 @@
  *
  * Stack: a call takes at most 6 kilobytes of it, or 12 of statistics, whatever it is given. That was measured, on x86-64; no
  * contract speaks of stack. doqallin_call says what it takes. Calls of filters take more for each level that nests, of
- * which `depth` is the greatest number: with 32 none ends a process on a thread of 128 kilobytes. */
+ * which `depth` says how many there may be: with 32 none ends a process on a thread of 256 kilobytes. */
 #ifndef DOQALLIN_H
 #define DOQALLIN_H
 #include <stdbool.h>

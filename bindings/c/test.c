@@ -532,7 +532,7 @@ static void filter_rows(void) {
     CHECK(doqallin_filter_mask(form, form_length, two, 2, 0, 32, other, 0, &fault) == DOQALLIN_GIVEN);
 }
 
-// Of no columns the caller says how many rows there are. An encoding may nest 4 deeper than the words.
+// Of no columns the caller says how many rows there are. Of words that nest n deep an encoding may nest 2 * n + 5 deep.
 static void filter_of_no_columns(void) {
     CHECK(doqallin_prepare_filter(BYTES("true"), schema, 0, 0, form, sizeof form, &form_length, &mistake) == DOQALLIN_GIVEN);
     fresh();
@@ -540,12 +540,12 @@ static void filter_of_no_columns(void) {
     CHECK(doqallin_filter_mask(form, form_length, no_columns, 0, 0, 0, other, 0, &fault) == DOQALLIN_GIVEN && is_kept(other, 0));
     CHECK(doqallin_filter_mask(form, form_length, no_columns, 0, 17, 0, other, 2, &fault) == DOQALLIN_BUFFER_TOO_SMALL && is_kept(other, 0));
     CHECK(doqallin_filter_mask(form, form_length, no_columns, 0, SIZE_MAX, 0, other, 2, &fault) == DOQALLIN_BUFFER_TOO_SMALL && is_kept(other, 0));
-    CHECK(doqallin_prepare_filter(BYTES("not not not not not true"), schema, 0, 5, form, sizeof form, &form_length, &mistake) == DOQALLIN_GIVEN);
+    CHECK(doqallin_prepare_filter(BYTES("not not not not not not false"), schema, 0, 6, form, sizeof form, &form_length, &mistake) == DOQALLIN_GIVEN);
     fresh();
     CHECK(doqallin_filter_mask(form, form_length, no_columns, 0, 3, 1, buffer, 1, &fault) == DOQALLIN_GIVEN && !buffer[0] && is_kept(buffer, 1));
-    CHECK(doqallin_filter_mask(form, form_length, no_columns, 0, 3, 0, other, 1, &fault) == DOQALLIN_BAD_BYTES && at_fault(0, 13));
+    CHECK(doqallin_filter_mask(form, form_length, no_columns, 0, 3, 0, other, 1, &fault) == DOQALLIN_BAD_BYTES && at_fault(0, 14));
     static const uint64_t starts[] = {0};
-    CHECK(doqallin_filter_outcomes(form, form_length, buffer, 0, starts, 1, 0, other, 1, &fault) == DOQALLIN_BAD_BYTES && at_fault(1, 13));
+    CHECK(doqallin_filter_outcomes(form, form_length, buffer, 0, starts, 1, 0, other, 1, &fault) == DOQALLIN_BAD_BYTES && at_fault(1, 14));
     CHECK(doqallin_filter_outcomes(form, form_length, buffer, 0, starts, 1, 1, buffer, 1, &fault) == DOQALLIN_GIVEN && buffer[0] == 1);
     CHECK(is_kept(other, 0));
 }
@@ -567,15 +567,19 @@ static void filters_that_nest(void) {
         static const uint64_t starts[] = {0, 0};
         CHECK(doqallin_filter_outcomes(encoding, length, buffer, 0, starts, 2, 32, buffer, 1, &fault) == DOQALLIN_GIVEN && buffer[0] & 1 << (part == 1 || part == 2 ? 2 : 0));
     }
-    // Here each level of the words is two of the encoding.
-    char words[2048] = "n = 1", deeper[2048];
-    for (int level = 1; level <= 5; level++) {
+    // Here each level of the words is two of the encoding, and the first is seven: no more can be.
+    char words[2048] = "not n not between -99999 and 99999 and n = 1 or n = 1", deeper[2048];
+    for (size_t level = 1; level <= 32; level++) {
+        size_t length;
+        CHECK(doqallin_prepare_filter((const uint8_t *)words, strlen(words), schema, 1, level - 1, encoding, sizeof encoding, &length, &mistake) == DOQALLIN_BAD_FILTER);
+        CHECK(mistake.expected == DOQALLIN_TOO_DEEP && mistake.place < strlen(words));
+        CHECK(doqallin_prepare_filter((const uint8_t *)words, strlen(words), schema, 1, level, encoding, sizeof encoding, &length, &mistake) == DOQALLIN_GIVEN);
+        static const uint8_t two[] = {2, 0}, none[] = {0};
+        struct doqallin_column n = {DOQALLIN_I16, none, 0, two, 2, none, 0, 0, 1};
+        CHECK(doqallin_filter_mask(encoding, length, &n, 1, 1, level, buffer, 1, &fault) == DOQALLIN_GIVEN && !buffer[0]);
+        CHECK(doqallin_filter_mask(encoding, length, &n, 1, 1, level - 1, buffer, 1, &fault) == DOQALLIN_BAD_BYTES && at_fault(1, fault.place) && fault.place < length);
         sprintf(deeper, "(%s) and n = 1 or n = 1", words);
         strcpy(words, deeper);
-        size_t length;
-        uint32_t status = doqallin_prepare_filter((const uint8_t *)words, strlen(words), schema, 1, level, encoding, sizeof encoding, &length, &mistake);
-        CHECK(level < 5 ? status == DOQALLIN_GIVEN : status == DOQALLIN_BAD_FILTER && at_mistake(0, DOQALLIN_TOO_DEEP));
-        if (level == 5) CHECK(doqallin_prepare_filter((const uint8_t *)words, strlen(words), schema, 1, 6, encoding, sizeof encoding, &length, &mistake) == DOQALLIN_GIVEN);
     }
 }
 

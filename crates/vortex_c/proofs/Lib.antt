@@ -4,6 +4,7 @@ mod ColumnEnds
 mod ColumnOrder
 mod FilterSteps
 mod KeySteps
+mod NestSteps
 mod PartSteps
 mod SqlSteps
 mod StartSteps

@@ -1,5 +1,5 @@
 -- Steps of preparing a filter.
-use Rattle.std.proofs.Common.{◌≡◌, ℕ, ◌+◌, ◌<◌, ◌≤◌, ◌⊎◌, inl, inr, List, [], ◌∷◌, ◌++◌, length, take, get_or, map, sym, subst, ap, ap₂, ◌∙◌, arith, Some, slice_get}
+use Rattle.std.proofs.Common.{◌≡◌, ℕ, ◌+◌, ◌^◌, ◌<◌, ◌≤◌, ◌⊎◌, inl, inr, List, [], ◌∷◌, ◌++◌, length, take, get_or, map, sym, subst, ap, ap₂, ◌∙◌, arith, Some, slice_get}
 use Rattle.std.specs.Global.{Global}
 use Rattle.std.specs.Prelude.{Err, IfErr, IfOk, IsErr, IsErrAnd, Ok, OnOk, Result, Vec}
 use Rattle.std.specs.Str.{IsUtf8}
@@ -20,6 +20,7 @@ use Rattle.filter_sql.specs.declared.column.Column.{Column}
 use Rattle.vortex_filter.specs.declared.filter.Filter.{Filter}
 use Rattle.filter_sql.specs.declared.error.ParseError.{ParseError}
 use Rattle.filter_sql.specs.declared.error.ParseError.TheVariants as errors
+use Rattle.vortex_c.proofs.NestSteps.{words-nest}
 use Rattle.vortex_c.specs.FilterSql.{AreNamed, AreNamedBefore, IsColumnError, IsColumnsError, IsNamed, IsPreparedFrom, IsSqlError, IsTextError, IsUnfit, WritesEncoding, encoding_depth, fault_of_words, prepared_of, tree_of_kind, trees_of_kinds, types_of_kinds}
 use Rattle.vortex_c.specs.declared.sql.NamedKind.{NamedKind}
 use Rattle.vortex_c.specs.declared.sql.SqlError.{SqlError}
@@ -164,9 +165,9 @@ module _ (n m : ℕ) (words text : List ℕ) (columns : List NamedKind) (f : For
   prepared-from (Ok bytes) h = record { named = all; filter = f; means = means; written = subst (λ k. HasEncoding k (prepared_of columns f)) depth h.0; is = h.1 }
   prepared-from (Err e) h = tt
 
-  pub encoding-fault : (r : Result (Vec ℕ Global) SqlError) → WritesEncoding m (prepared_of columns f) r → IfErr r (IsSqlError n words columns)
-  encoding-fault (Ok bytes) h = tt
-  encoding-fault (Err e) (inl none) = subst (IsSqlError n words columns) (sym none) (all, u.1)
-  encoding-fault (Err e) (inr deep) = subst (IsSqlError n words columns) (sym deep.0) (all, u.1, (f, means, λ can. deep.1 (subst (λ k. CanBeWritten k (prepared_of columns f)) (sym depth) can)))
+  pub encoding-fault : length words < 2 ^ 64 → length columns < 2 ^ 64 → (r : Result (Vec ℕ Global) SqlError) → WritesEncoding m (prepared_of columns f) r → IfErr r (IsSqlError n words columns)
+  encoding-fault short few (Ok bytes) h = tt
+  encoding-fault short few (Err e) (inl none) = subst (IsSqlError n words columns) (sym none) (all, u.1)
+  encoding-fault short few (Err e) (inr deep) = absurd (deep.1 (subst (λ k. CanBeWritten k (prepared_of columns f)) (sym depth) (words-nest n words columns f short few means)))
 
 pub ruleset shown = (named-before-none, named-all, named-at, trees-all, types-all, words-fault, encoding-along)

@@ -1,5 +1,5 @@
 -- What callers are told of filters that are prepared from SQL's words.
-use Rattle.std.specs.Prelude.{◌≡◌, ◌≢◌, ◌⊎◌, ℕ, ◌+◌, ◌-◌, ◌^◌, ◌<◌, min, List, length, map, slice_get, Some, None, MatchResult, Result, Vec, unwrap_or}
+use Rattle.std.specs.Prelude.{◌≡◌, ◌≢◌, ◌⊎◌, ℕ, ◌+◌, ◌-◌, ◌*◌, ◌^◌, ◌<◌, min, List, length, map, slice_get, Some, None, MatchResult, Result, Vec, unwrap_or}
 use Rattle.std.specs.Global.{Global}
 use Rattle.std.specs.Str.{IsUtf8}
 use Rattle.arrow_columns.specs.Kinds.{kind_at}
@@ -51,10 +51,10 @@ AreNamed columns = AreNamedBefore columns (length columns)
 abbrev pub prepared_of : List NamedKind → Formula → Prepared
 prepared_of columns f = record { types = types_of_kinds columns; filter = f }
 
--- how many connectives may nest in an encoding if n may nest in the words: a test nests none in these, and up to 4 in that. More
--- than 64 bits count cannot be asked for.
+-- how many connectives nest at most in an encoding if n connectives and parentheses nest in the words: a test nests none in
+-- these and up to 4 in that, and so does the left one of two operands. More than 64 bits count is never asked for.
 abbrev pub encoding_depth : ℕ → ℕ
-encoding_depth n = min (n + 4) (2 ^ 64 - 1)
+encoding_depth n = min (2 * n + 5) (2 ^ 64 - 1)
 
 -- the bytes are the encoding of the filter that the words are, over these columns. At most n connectives and parentheses nest in
 -- the words. The encoding can be read back.
@@ -103,18 +103,14 @@ IsTextError n trees text (NoFilter errors.OutOfMemory) = ⊥
 IsTextError n trees text (NoFilter cause) = RefusesSqlWithin n trees text cause × IsPlaced (length text) cause
 IsTextError n trees text _ = ⊥
 
--- the filter that the words are nests too deep
-abbrev pub NestsTooDeep : ℕ → List ℕ → List NamedKind → Type 0
-NestsTooDeep n words columns = (f : Formula) × IsSqlWithin n (trees_of_kinds columns) words f × ¬ (CanBeWritten (encoding_depth n) (prepared_of columns f))
-
--- why there is no encoding of the filter that the words are
+-- why there is no encoding of the filter that the words are: each filter of words has one, at the depth that goes with theirs
 abbrev pub IsSqlError : ℕ → List ℕ → List NamedKind → SqlError → Type 0
 IsSqlError n words columns OutOfMemory = AreNamed columns × IsUtf8 words
 IsSqlError n words columns (NotAKind place) = IsUnfit words columns (NotAKind place)
 IsSqlError n words columns (NameNotUtf8 place) = IsUnfit words columns (NameNotUtf8 place)
 IsSqlError n words columns NotUtf8 = IsUnfit words columns NotUtf8
 IsSqlError n words columns (NoFilter cause) = AreNamed columns × IsUtf8 words × IsTextError n (trees_of_kinds columns) words (NoFilter cause)
-IsSqlError n words columns NoEncoding = AreNamed columns × IsUtf8 words × NestsTooDeep n words columns
+IsSqlError n words columns NoEncoding = ⊥
 
 abbrev pub status_of_sql : SqlError → ℕ
 status_of_sql OutOfMemory = NO_MEMORY

@@ -40,8 +40,8 @@ pub(crate) enum ZonesError {
 /// prepared for none, each row has the same bit. Memory is asked for the filter, for the columns,
 /// and for strings and bytes above 22 bytes.
 ///
-/// `depth` is how deep the words might nest that the filter was prepared from; the encoding may nest
-/// 4 deeper.
+/// `depth` is how deep the words might nest that the filter was prepared from: `2 * depth + 5`
+/// connectives may nest in the encoding.
 ///
 /// - `BAD_BYTES`: the filter is no encoding that nests so deep at most. `fault` has the number of
 ///   columns, and the first byte that none has there.
@@ -139,8 +139,8 @@ fn mask_by(
 /// An empty piece leaves all cells open. Memory is asked for the filter, and for the bounds of a
 /// zone.
 ///
-/// `depth` is how deep the words might nest that the filter was prepared from; the encoding may nest
-/// 4 deeper. After another status than `GIVEN` the outcomes may be any bytes.
+/// `depth` is how deep the words might nest that the filter was prepared from: `2 * depth + 5`
+/// connectives may nest in the encoding. After another status than `GIVEN` the outcomes may be any bytes.
 ///
 /// - `BAD_BYTES`: a piece is no encoding of statistics of its column's kind. `fault.column` is the
 ///   piece, and `fault.place` its first byte that none has there. If the filter is no encoding

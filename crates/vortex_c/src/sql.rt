@@ -55,7 +55,7 @@ pub(crate) enum SqlError {
     NotUtf8,
     /// The words are no filter.
     NoFilter(ParseError),
-    /// The filter nests too deep to have an encoding.
+    /// The filter has no encoding at the depth that was asked for.
     NoEncoding,
 }
 
@@ -83,15 +83,16 @@ impl<T: Drop> From<AllocFailed<T>> for SqlError {
 
 /// Reads a filter from SQL's words, over columns by name and kind, and writes its stable encoding
 /// with the types of the columns. The other calls on filters take these bytes. At most `depth`
-/// connectives and parentheses may nest in the words, and 4 connectives more in the encoding.
+/// connectives and parentheses may nest in the words. A filter of words that nest n deep nests at
+/// most 2n + 5 deep in the encoding, and the other calls read so much.
 ///
 /// - `BUFFER_TOO_SMALL`: `count` says how many bytes the encoding has.
 /// - `UNKNOWN_KIND`: the code of a column is of no kind. `mistake.place` is the column.
 /// - `NOT_UTF8`: a name is not UTF-8, and `mistake.place` is its column; or the words are not, and
 ///   it is the number of columns. These two are found before memory is asked for.
 /// - `BAD_FILTER`: the words are no filter. `mistake.place` is the byte at which something else had
-///   to come, and `mistake.expected` is the code of what. If the encoding of the filter nests too
-///   deep, the place is 0.
+///   to come, and `mistake.expected` is the code of what. If words can be read at this depth, their
+///   filter has an encoding.
 /// - `NO_MEMORY`: `mistake` is not written.
 #[unsafe(no_mangle)]
 pub extern "C" fn doqallin_prepare_filter(
@@ -125,6 +126,9 @@ fn prepare(
     ensures prepared { IfOk result (λ bytes. IsPreparedFrom depth words.now columns.now bytes.items) }
     ensures refused { IfErr result (IsSqlError depth words.now columns.now) }
 {
+    // What the proof has of lengths is that 64 bits count them.
+    let _length = words.len();
+    let _count = columns.len();
     let text = text_of(words, columns)?;
     let filter = filter_of(alloc, text, columns, depth)?;
     encoding_of(alloc, &filter, columns, encoding_depth(depth))
