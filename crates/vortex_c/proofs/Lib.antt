@@ -5,7 +5,9 @@ mod ColumnOrder
 mod FilterSteps
 mod KeySteps
 mod Lengths
+mod NestSteps
 mod PartSteps
 mod SqlSteps
+mod StartSteps
 mod Truncations
 mod ZoneAnswers
