@@ -1,21 +1,22 @@
 //! A filter with its literals cast to the types of the columns.
 
-ghost use Rattle.std.specs.Prelude.{◌≡◌, ◌≢◌, ◌⊎◌, ◌↔◌, ◌∷◌, ◌++◌, [], false, not, IfErr, IfOk, IsTrue, List, MatchResult, OnOk, map};
-ghost use Rattle.vortex_filter.specs.Coerces.{Coerces, CoercesLiteral, CoercesLiterals, CoercesTest, GivesOrdered, MayHave, Pushes, TellsEnds, TellsLacking, all_left_out, integer_in, lacks_of, number_in, side_of};
-ghost use Rattle.vortex_filter.specs.Coercing.{IsCoercible, coerced, coerced_comparison, coerced_cell, coerced_range, for_values, kept_cells, lacks, lacks_number, membership_of, side};
+ghost use Rattle.std.specs.Prelude.{◌≡◌, ◌≢◌, ◌⊎◌, ◌↔◌, ◌∷◌, [], false, not, IfErr, IfOk, IsTrue, List, OnOk, map};
+ghost use Rattle.vortex_filter.specs.Coerces.{CastsLiteral, Coerces, CoercesLiteral, CoercesLiterals, CoercesTest, GivesOrdered, MayHave, TellsLacking, integer_in, lacks_of, number_in, side_of};
+ghost use Rattle.vortex_filter.specs.Coercing.{IsCoercible, coerced, coerced_cell, lacks, lacks_number, position_in, side};
 ghost use Rattle.vortex_filter.specs.Checking.{AllFit, asks, beginning, comparing, nothing};
 ghost use Rattle.vortex_filter.specs.FilterLiterals.{AreValid, literal_tests, literals_of};
-ghost use Rattle.vortex_filter.specs.Makes.{Makes};
+ghost use Rattle.vortex_filter.specs.Positions.{comparison_of, member_among, range_of};
 ghost use Rattle.vortex_filter.specs.Rows.{IsRowOf, content_truth};
-ghost use Rattle.vortex_filter.specs.Words.{Cell, FitsColumns, IsValid, OutOfMemory, RefusesFirst, as_nullable, cell_of, comparison, formula, in_range, membership, null_test, prefix_test, range, same_type, scalar_content, scalar_type, truth, type_of};
+ghost use Rattle.vortex_filter.specs.Words.{Cell, FitsColumns, IsValid, OutOfMemory, RefusesFirst, cell_of, comparison, formula, in_range, membership, null_test, prefix_test, range, same_type, scalar_content, scalar_type, truth, type_of};
 
 use crate::building::{conjoin, disjoin, negate};
 use crate::check::{behind, holds_strings, is_of_type, type_at};
 use crate::copies::copy_scalar;
 use crate::error::FilterError;
 use crate::filter::Filter;
+use crate::literals::{Position, nullable};
 use crate::operator::CompareOperator;
-use crate::truth::Truth;
+use crate::positions::{comparison_of, member_of, range_of, with_position};
 use std::alloc::Global;
 use std::cmp::Ordering;
 use vortex_cells::has_variant;
@@ -204,7 +205,6 @@ fn ordered_type(column: usize, columns: &[DType]) -> Result<&DType, FilterError>
 
 // ---- tests of a column of a type
 
-#[tactic(auto, using(crate::proofs::CoerceSteps::comparisons))]
 fn comparison_in(
     alloc: Global,
     dtype: &DType,
@@ -213,23 +213,15 @@ fn comparison_in(
     literal: &Scalar,
 ) -> Result<Filter, FilterError>
     ensures { CoercesTest (type_of dtype.now) (comparing (literal.now ∷ []))
-        (coerced_comparison (type_of dtype.now) column operator (cell_of literal.now))
+        (comparison_of column operator (position_in (type_of dtype.now) (cell_of literal.now)))
         (literal.now ∷ []) column result }
 {
-    if is_lacking(dtype, literal) {
-        return for_values(alloc, operator.holds(side(literal)), column);
-    }
-    match cast_literal(alloc, dtype, column, literal) {
-        Ok(literal) => Ok(Filter::Compare {
-            column,
-            operator,
-            literal,
-        }),
+    match position_in(alloc, dtype, column, literal) {
+        Ok(position) => comparison_of(alloc, column, operator, position),
         Err(cause) => Err(cause),
     }
 }
 
-#[tactic(auto, using(crate::proofs::CoerceSteps::memberships))]
 fn membership_in(
     alloc: Global,
     dtype: &DType,
@@ -237,33 +229,21 @@ fn membership_in(
     literals: &[Scalar],
 ) -> Result<Filter, FilterError>
     ensures { CoercesTest (type_of dtype.now) (comparing literals.now)
-        (membership_of column
-        (kept_cells (type_of dtype.now) (map cell_of literals.now)) (map cell_of literals.now))
+        (member_among column (map (position_in (type_of dtype.now)) (map cell_of literals.now)))
         literals.now column result }
 {
-    match cast_literals(alloc, dtype, column, literals) {
-        Ok(kept) => {
-            if are_all_left_out(&kept, literals) {
-                drop(kept);
-                return for_values(alloc, false, column);
-            }
-            Ok(Filter::In {
-                column,
-                literals: kept,
-            })
-        }
+    if literals.is_empty() {
+        return Ok(Filter::In {
+            column,
+            literals: Vec::new(alloc),
+        });
+    }
+    match kept_literals(alloc, dtype, column, literals) {
+        Ok(kept) => member_of(alloc, column, kept),
         Err(cause) => Err(cause),
     }
 }
 
-/// Whether none of several literals was kept.
-fn are_all_left_out(kept: &[Scalar], literals: &[Scalar]) -> bool
-    ensures { result ≡ all_left_out (map cell_of kept.now) (map cell_of literals.now) }
-{
-    kept.is_empty() && !literals.is_empty()
-}
-
-#[tactic(auto, using(crate::proofs::CoerceSteps::ranges))]
 fn range_in(
     alloc: Global,
     dtype: &DType,
@@ -273,50 +253,15 @@ fn range_in(
 ) -> Result<Filter, FilterError>
     ensures { CoercesTest (type_of dtype.now)
         (comparing (lower.now ∷ upper.now ∷ []))
-        (coerced_range (type_of dtype.now) column (cell_of lower.now) (cell_of upper.now))
+        (range_of column (position_in (type_of dtype.now) (cell_of lower.now))
+        (position_in (type_of dtype.now) (cell_of upper.now)))
         (lower.now ∷ upper.now ∷ []) column result }
 {
-    if lacks_an_end(dtype, lower, upper) {
-        let from = comparison_in(alloc, dtype, column, CompareOperator::Gte, lower);
-        let to = comparison_in(alloc, dtype, column, CompareOperator::Lte, upper);
-        return conjoin(alloc, from, to);
-    }
-    cast_range(alloc, dtype, column, lower, upper)
-}
-
-/// Whether the type lacks an end of a range.
-#[tactic(auto, using(crate::proofs::CoerceSteps::tells))]
-fn lacks_an_end(dtype: &DType, lower: &Scalar, upper: &Scalar) -> bool
-    ensures { TellsEnds (type_of dtype.now) lower.now upper.now result }
-{
-    is_lacking(dtype, lower) || is_lacking(dtype, upper)
-}
-
-/// The range between two literals that the type does not lack.
-#[tactic(auto, using(crate::proofs::CoerceSteps::ranges))]
-fn cast_range(
-    alloc: Global,
-    dtype: &DType,
-    column: usize,
-    lower: &Scalar,
-    upper: &Scalar,
-) -> Result<Filter, FilterError>
-    requires lower { MayHave (type_of dtype.now) lower.now }
-    requires upper { MayHave (type_of dtype.now) upper.now }
-    ensures { CoercesTest (type_of dtype.now)
-        (comparing (lower.now ∷ upper.now ∷ []))
-        (coerced_range (type_of dtype.now) column (cell_of lower.now) (cell_of upper.now))
-        (lower.now ∷ upper.now ∷ []) column result }
-{
-    match cast_literal(alloc, dtype, column, lower) {
-        Ok(lower) => match cast_literal(alloc, dtype, column, upper) {
-            Ok(upper) => Ok(Filter::Between {
-                column,
-                lower,
-                upper,
-            }),
+    match position_in(alloc, dtype, column, lower) {
+        Ok(from) => match position_in(alloc, dtype, column, upper) {
+            Ok(to) => range_of(alloc, column, from, to),
             Err(cause) => {
-                drop(lower);
+                drop(from);
                 Err(cause)
             }
         },
@@ -344,24 +289,10 @@ fn prefix_in(
     Err(FilterError::TypesDiffer { test: 0, column })
 }
 
-/// A filter with one truth for each value of the column, and Unknown for a null.
-fn for_values(alloc: Global, holds: bool, column: usize) -> Result<Filter, FilterError>
-    ensures made { Makes (for_values holds column) result }
-    ensures literals { IfOk result (λ f. literals_of f ≡ []) }
-{
-    let is_null = Ok(Filter::IsNull { column });
-    let unknown = Ok(Filter::Constant(Truth::Unknown));
-    if holds {
-        disjoin(alloc, negate(alloc, is_null), unknown)
-    } else {
-        conjoin(alloc, is_null, unknown)
-    }
-}
-
 // ---- literals
 
 /// The literals that the type does not lack, each as one of the type.
-fn cast_literals(
+fn kept_literals(
     alloc: Global,
     dtype: &DType,
     column: usize,
@@ -371,43 +302,28 @@ fn cast_literals(
 {
     let mut kept = Vec::with_capacity(alloc, literals.len())?;
     for literal in literals {
-        push_cast(alloc, dtype, column, literal, &mut kept)?;
+        let position = position_in(alloc, dtype, column, literal)?;
+        kept = with_position(kept, position)?;
     }
     Ok(kept)
 }
 
-/// Appends a literal as one of the type, unless the type lacks it.
-#[tactic(auto, using(crate::proofs::CoerceSteps::pushes))]
-fn push_cast(
+/// Where a literal stands among the values of the type.
+#[tactic(auto, using(crate::proofs::CoerceSteps::positions))]
+fn position_in(
     alloc: Global,
     dtype: &DType,
     column: usize,
     literal: &Scalar,
-    kept: &mut Vec<Scalar>,
-) -> Result<(), FilterError>
-    ensures { Pushes (type_of dtype.now) literal.now column
-        kept.old.items kept.new.items result }
+) -> Result<Position, FilterError>
+    ensures { CoercesLiteral (type_of dtype.now) literal.now column result }
 {
     if is_lacking(dtype, literal) {
-        return Ok(());
+        return Ok(Position::Lacking(side(literal)));
     }
     match cast_literal(alloc, dtype, column, literal) {
-        Ok(made) => push(made, kept),
+        Ok(made) => Ok(Position::Exactly(made)),
         Err(cause) => Err(cause),
-    }
-}
-
-fn push(made: Scalar, kept: &mut Vec<Scalar>) -> Result<(), FilterError>
-    ensures { MatchResult result
-        (λ _. kept.new.items ≡ kept.old.items ++ made ∷ [])
-        (λ e. e ≡ OutOfMemory) }
-{
-    match kept.push(made) {
-        Ok(()) => Ok(()),
-        Err(refused) => {
-            drop(refused);
-            Err(FilterError::OutOfMemory)
-        }
     }
 }
 
@@ -420,7 +336,7 @@ fn cast_literal(
     literal: &Scalar,
 ) -> Result<Scalar, FilterError>
     requires { MayHave (type_of dtype.now) literal.now }
-    ensures { CoercesLiteral (type_of dtype.now) literal.now column result }
+    ensures { CastsLiteral (type_of dtype.now) literal.now column result }
 {
     if is_of_type(literal, dtype) {
         return copy_scalar(alloc, literal);
@@ -442,7 +358,7 @@ fn cast_valid(
     requires valid { IsValid literal.now }
     requires other { same_type (type_of dtype.now) (scalar_type literal.now) ≡ false }
     requires has { lacks (type_of dtype.now) (cell_of literal.now) ≡ false }
-    ensures { CoercesLiteral (type_of dtype.now) literal.now column result }
+    ensures { CastsLiteral (type_of dtype.now) literal.now column result }
 {
     let target = match nullable(alloc, dtype) {
         Ok(target) => target,
@@ -465,21 +381,6 @@ fn is_valid(scalar: &Scalar) -> bool
     ensures { IsTrue result ↔ IsValid scalar.now }
 {
     Scalar::is_compatible(&scalar.dtype, scalar.value.as_ref())
-}
-
-/// The type, made nullable.
-fn nullable(alloc: Global, dtype: &DType) -> Result<DType, FilterError>
-    ensures { MatchResult result
-        (λ made. type_of made ≡ as_nullable (type_of dtype.now))
-        (λ e. e ≡ OutOfMemory) }
-{
-    match dtype.clone(alloc) {
-        Ok(copy) => Ok(copy.as_nullable()),
-        Err(cause) => {
-            drop(cause);
-            Err(FilterError::OutOfMemory)
-        }
-    }
 }
 
 /// Why a cast was refused.
@@ -508,7 +409,7 @@ fn is_lacking(dtype: &DType, literal: &Scalar) -> bool
 }
 
 /// Whether the literal is an integer of another type than the column's, which does not have it.
-#[tactic(auto, using(crate::proofs::CoerceSteps::lacking))]
+#[tactic(auto, using(crate::proofs::CoerceSteps::lacks_by))]
 fn lacks(dtype: &DType, literal: &Scalar) -> bool
     ensures { result ≡ lacks (type_of dtype.now) (cell_of literal.now) }
 {
