@@ -1,9 +1,0 @@
--- The type, made nullable, takes a null.
-use Rattle.std.proofs.Common.{subst, sym}
-use Rattle.vortex_dtype.specs.TypeOf.{type_of}
-use Rattle.vortex_dtype.specs.TypeTree.{IsNullable}
-use Rattle.vortex_value.proofs.MakerLaws.{takes_null}
-use Rattle.filter_sql.proofs.parsing.literals.null_literal.Goals as goal
-
-pub null-requires : goal.null-requires
-null-requires c = subst IsNullable (sym c.as_nullable.ensures) (takes_null (type_of c.in_ok-copy.copy))
