@@ -1,8 +1,9 @@
 -- Steps of coercing a filter.
-use Rattle.std.proofs.Common.{◌≡◌, ◌≢◌, ◌⊎◌, ◌↔◌, inl, inr, ℕ, zero, suc, ◌+◌, ◌<◌, ◌≤◌, ℤ, Bool, true, false, not, ◌==◌, cond, IsTrue, List, [], ◌∷◌, ◌++◌, length, map, take, get_or, Vec, Global, Box, Option, Some, None, Result, Ok, Err, IfErr, IfOk, IsErrAnd, MatchResult, OnOk, Ordering, refl, sym, subst, ap, ap₂, ◌∙◌, arith}
+use Rattle.std.proofs.Common.{◌≡◌, ◌≢◌, ◌⊎◌, ◌↔◌, inl, inr, ℕ, zero, suc, ◌+◌, ◌<◌, ◌≤◌, ℤ, pos, Bool, true, false, not, ◌==◌, cond, IsTrue, List, [], ◌∷◌, ◌++◌, length, map, take, get_or, Vec, Global, Box, Option, Some, None, Result, Ok, Err, IfErr, IfOk, IsErrAnd, MatchResult, OnOk, Ordering, refl, sym, subst, ap, ap₂, ◌∙◌, arith}
 use Rattle.std.specs.Borrow.{Bor}
 use Rattle.std.specs.List.{AllByRecursion, slice_get}
 use Rattle.std.specs.Option.{IsSomeAnd}
+use Rattle.std.specs.Ordering.{int_cmp}
 use Rattle.std.proofs.lemmas.Bool.{false≢true}
 use Rattle.std.proofs.lemmas.Bool.Decides.{nat_tests}
 use Rattle.std.proofs.lemmas.List.{map-append, take_all, take_more}
@@ -31,24 +32,24 @@ use Rattle.vortex_value.specs.declared.scalars.Scalar.{Scalar}
 use Rattle.vortex_cells.specs.Cells.{Cell, cell_of}
 use Rattle.vortex_filter.specs.declared.error.FilterError.{FilterError}
 use Rattle.vortex_filter.specs.declared.error.FilterError.TheVariants.{OutOfMemory, NoColumn, HasVariant, TypesDiffer}
-use Rattle.vortex_filter.specs.declared.filter.Filter.{Filter, Constant, IsNull, In, StartsWith, And, Or}
+use Rattle.vortex_filter.specs.declared.filter.Filter.{Filter, Constant, IsNull, In, And, Or}
 use Rattle.vortex_filter.specs.declared.literals.Position.{Position}
 use Rattle.vortex_filter.specs.declared.literals.Position.TheVariants.{Exactly, Lacking}
 use Rattle.vortex_filter.specs.declared.operator.CompareOperator.{CompareOperator}
 use Rattle.vortex_filter.specs.declared.truth.Truth.{Truth}
 use Rattle.vortex_filter.specs.CheckSteps.{answer_behind, behind, holds_strings}
 use Rattle.vortex_filter.specs.Checking.{AllFit, Demand, FitsColumns, IsOrderedFor, RefusesFirst, Suits, Test, asks, beginning, comparing, nothing, tests}
-use Rattle.vortex_filter.specs.Coerces.{CastsLiteral, Coerces, CoercesLiteral, CoercesLiterals, CoercesTest, GivesOrdered, MayHave, RefusesLiterals, StandsAt, TellsLacking, integer_in, lacks_of, number_in, side_of}
+use Rattle.vortex_filter.specs.Coerces.{Coerces, CoercesLiteral, CoercesLiterals, CoercesTest, GivesOrdered, RefusesLiterals, StandsAt, integer_in, lacking_of, lacking_order, number_in, number_lacking}
 use Rattle.vortex_filter.specs.Coercing.{IsCoercible, by_column, coerced, coerced_cell, lacks, lacks_number, position_in, side}
 use Rattle.vortex_filter.specs.Formula.{Formula, constant, comparison, null_test, membership, range, prefix_test, both, either, negation, formula, truth}
 use Rattle.vortex_filter.specs.FilterLiterals.{AreValid, exactly_of, literal_tests, literals_of}
 use Rattle.vortex_filter.specs.Makes.{Makes, OfParts}
-use Rattle.vortex_filter.specs.Positions.{PositionTree, exactly, lacking, cells_of, comparison_of, member_among, member_of, position_tree, range_of, scalars_of}
+use Rattle.vortex_filter.specs.Positions.{PositionTree, exactly, lacking, cells_of, comparison_of, member_among, member_of, position_tree, prefix_of, range_of, scalars_of}
 use Rattle.vortex_filter.specs.Rows.{IsRowOf, content_truth}
 use Rattle.vortex_cells.specs.Variants.{has_variant}
 use Rattle.vortex_filter.proofs.CheckLaws.{fit_both, fit_one, not_both, refuses_behind, refuses_front, refuses_one, strings_test}
 use Rattle.vortex_filter.proofs.CoerceLaws.{NullableIsSame, coerced_fits, coerced_truth}
-use Rattle.vortex_filter.proofs.FitProofs.{coerced_itself}
+use Rattle.vortex_filter.proofs.FitProofs.{coerced_itself, fitting_position}
 use Rattle.vortex_filter.proofs.LiteralSteps.{constant_valid, copy_valid, literals-And, literals-Between, literals-Compare, literals-Constant, literals-In, literals-IsNull, literals-Not, literals-Or, literals-StartsWith, valid_left, valid_right, valid_same, valid_with}
 use Rattle.vortex_filter.proofs.Steps.{formula-And, formula-Between, formula-Compare, formula-Constant, formula-In, formula-IsNull, formula-Not, formula-Or, formula-StartsWith}
 use Rattle.vortex_filter.proofs.TestSteps.{coercible_columns, count_is, fitting_coercible, tests-And, tests-Between, tests-Compare, tests-Constant, tests-In, tests-IsNull, tests-Not, tests-Or, tests-StartsWith}
@@ -206,26 +207,76 @@ pub ruleset levels = (type_of-List, type_of-FixedSizeList, type_of-Map, type_of-
 
 -- ---- where a literal stands
 
--- what a literal is made
-abbrev pub IsKeptAs : TypeTree → Scalar → Scalar → Type 0
-IsKeptAs t x y = (cell_of y ≡ coerced_cell t (cell_of x)) × (lacks t (cell_of x) ≡ false) × IsCoercible t x × (IsValid x → IsValid y)
+abbrev cell_from : TypeTree → Content → Cell
+cell_from t c = record { typed = t; content = c }
 
-module _ (t : TypeTree) (k : ℕ) (x : Scalar) where
-  pub lacking_stands : (w : Bool) (o : Ordering) → TellsLacking t x w → w ≡ true → o ≡ side (scalar_content x) → CoercesLiteral t x k (Ok (Lacking o))
-  lacking_stands w o l is e = (
-    ap lacking e ∙ sym (ap (λ c. cond c (lacking (side (scalar_content x))) (exactly (coerced_cell t (cell_of x)))) (l.0 is).1),
-    inr ((l.0 is).0, inl (l.0 is).1),
-    λ v. tt,
+-- what lacks nothing, or is lacking in this order
+lacked_by : (b : Bool) (s o : Ordering) → cond b (Some s) None ≡ Some o → (b ≡ true) × (s ≡ o)
+lacked_by true s o e = let same : s ≡ o = cc in (refl, same)
+lacked_by false s o e = absurd cc
+
+had_by : (b : Bool) (s : Ordering) → None ≡ cond b (Some s) None → b ≡ false
+had_by true s e = absurd cc
+had_by false s e = refl
+
+module _ (t : TypeTree) (k : ℕ) (l : Scalar) where
+  abbrev is_lacked : Bool
+  is_lacked = lacks_number t (scalar_type l) (scalar_content l)
+
+  -- of another type, the literal is lacked if its number is
+  lacks_other : same_type t (scalar_type l) ≡ false → lacks t (cell_of l) ≡ is_lacked
+  lacks_other e = ap (λ b. cond b false is_lacked) e
+
+  stands_by : (b : Bool) → lacks t (cell_of l) ≡ b → position_in t (cell_of l) ≡ cond b (lacking (side (scalar_content l))) (exactly (coerced_cell t (cell_of l)))
+  stands_by b e = ap (λ c. cond c (lacking (side (scalar_content l))) (exactly (coerced_cell t (cell_of l)))) e
+
+  pub copied_stands : (y : Scalar) → same_type t (scalar_type l) ≡ true → cell_of y ≡ cell_of l → exactly_of y ≡ exactly_of l → CoercesLiteral t l k (Ok (Exactly y))
+  copied_stands y e h m =
+      let same = (same_type-Decides t (scalar_type l)).0 e in
+      (ap exactly h ∙ sym (fitting_position t (cell_of l) same), inl same, λ v. (copy_valid l y m v, tt))
+
+  pub lacking_stands : (o : Ordering) → IsValid l → same_type t (scalar_type l) ≡ false → Some o ≡ lacking_order t (scalar_type l) (scalar_content l) → CoercesLiteral t l k (Ok (Lacking o))
+  lacking_stands o v e q =
+      let lacked = lacked_by is_lacked (side (scalar_content l)) o (sym q) in
+      let has_none = lacks_other e ∙ lacked.0 in
+      (ap lacking (sym lacked.1) ∙ sym (stands_by true has_none), inr (v, inl has_none), λ w. tt)
+
+  -- what is not lacked, the type has
+  pub has_literal : same_type t (scalar_type l) ≡ false → None ≡ lacking_order t (scalar_type l) (scalar_content l) → lacks t (cell_of l) ≡ false
+  has_literal e q = lacks_other e ∙ had_by is_lacked (side (scalar_content l)) q
+
+  never_other : same_type t (scalar_type l) ≡ false → (IsValid l → ¬ ((lacks t (cell_of l) ≡ true) ⊎ CanCast (scalar_type l) (as_nullable t) (scalar_content l))) → ¬ (IsCoercible t l)
+  never_other e n (inl s) = false≢true (sym e ∙ (same_type-Decides t (scalar_type l)).1 s)
+  never_other e n (inr c) = n c.0 c.1
+
+  pub invalid_stands : (b : Bool) → same_type t (scalar_type l) ≡ false → IsTrue b ↔ IsValid l → b ≡ false → CoercesLiteral t l k (Err (TypesDiffer 0 k))
+  invalid_stands b s h e = inr (refl, never_other s (λ v c. false≢true (sym e ∙ h.1 v)))
+
+  pub cast_made : (u : TypeTree) (y : Scalar) → IsValid l → u ≡ as_nullable t → same_type t (scalar_type l) ≡ false → lacks t (cell_of l) ≡ false → AnswersCast (scalar_type l) u (scalar_raw l) (Ok y) → CoercesLiteral t l k (Ok (Exactly y))
+  cast_made u y v q e m a = (
+    ap exactly (ap₂ cell_from (a.one.typed ∙ q) a.one.same ∙ sym (ap (λ b. cond b (cell_of l) (cell_from (as_nullable t) (scalar_content l))) e)) ∙ sym (stands_by false m),
+    inr (v, inr (subst (λ s. CanCast (scalar_type l) s (scalar_content l)) q a.succeeds_only)),
+    λ v. (a.one.valid, tt),
   )
 
-  pub kept_stands : (y : Scalar) → IsKeptAs t x y → CoercesLiteral t x k (Ok (Exactly y))
-  kept_stands y h = (
-    ap exactly h.0 ∙ sym (ap (λ c. cond c (lacking (side (scalar_content x))) (exactly (coerced_cell t (cell_of x)))) h.1),
-    h.2,
-    λ v. (h.3 v, tt),
-  )
+  not_possible : (u : TypeTree) (p : Type 0) (e : VortexError) → e ≢ why.OutOfMemory → RefusesCast u p e → ¬ p
+  not_possible u p why.CannotCast n h = h
+  not_possible u p why.OutOfMemory n h = absurd (n refl)
+  not_possible u p _ n h = absurd h
 
-pub ruleset positions = (lacking_stands, kept_stands)
+  no_cast : lacks t (cell_of l) ≡ false → ¬ (CanCast (scalar_type l) (as_nullable t) (scalar_content l)) → ¬ ((lacks t (cell_of l) ≡ true) ⊎ CanCast (scalar_type l) (as_nullable t) (scalar_content l))
+  no_cast h n (inl m) = false≢true (sym h ∙ m)
+  no_cast h n (inr c) = n c
+
+  pub cast_refused : (u : TypeTree) (e : VortexError) (d : FilterError) → u ≡ as_nullable t → same_type t (scalar_type l) ≡ false → lacks t (cell_of l) ≡ false → AnswersCast (scalar_type l) u (scalar_raw l) (Err e)
+      → ((e ≡ why.OutOfMemory) × (d ≡ OutOfMemory)) ⊎ ((e ≢ why.OutOfMemory) × (d ≡ TypesDiffer 0 k)) → CoercesLiteral t l k (Err d)
+  cast_refused u e d q s h a (inl m) = inl m.1
+  cast_refused u e d q s h a (inr m) =
+      inr (m.1, never_other s (λ v. no_cast h (subst (λ w. ¬ (CanCast (scalar_type l) w (scalar_content l))) q (not_possible u (CanCast (scalar_type l) u (scalar_content l)) e m.0 a.refuses_only))))
+
+pub ruleset casts = (cast_made, cast_refused)
+
+pub ruleset positions = (lacking_stands, has_literal)
 
 -- ---- tests
 
@@ -282,70 +333,29 @@ no_string (utf8_type n) p e = never_lacked (same_type (utf8_type n) p.typed)
 no_string (binary_type n) p e = never_lacked (same_type (binary_type n) p.typed)
 no_string _ p e = absurd (false≢true e)
 
-pub lacks_no_string : (t : TypeTree) (p : Scalar) → holds_strings t ≡ true → MayHave t p
-lacks_no_string t p e v = no_string t (cell_of p) e
-
 module _ (t : TypeTree) (k : ℕ) (p : Scalar) where
   pub no_strings : (f : Formula) → holds_strings t ≡ false → CoercesTest t (beginning p) f (p ∷ []) k (Err (TypesDiffer 0 k))
   no_strings f e = inr (refl, λ s. (strings_test t).1 e s.0)
 
-  pub kept_prefix : (y : Scalar) → holds_strings t ≡ true → IsKeptAs t p y → CoercesTest t (beginning p) (prefix_test k (coerced_cell t (cell_of p))) (p ∷ []) k (Ok (StartsWith k y))
-  kept_prefix y e h = (
-    formula-StartsWith k y ∙ ap (prefix_test k) h.0,
-    ((strings_test t).0 e, h.2),
-    λ w. valid_same (literals_of (StartsWith k y)) (y ∷ []) (literals-StartsWith k y) (h.3 w.0, tt),
-  )
+  -- a string stands at its cast
+  prefix_made : (q : Position) (o : Option Formula) → holds_strings t ≡ true → StandsAt t p q → o ≡ prefix_of k (position_tree q) → o ≡ Some (prefix_test k (coerced_cell t (cell_of p)))
+  prefix_made q o e h made = made ∙ ap (prefix_of k) (h.0 ∙ stands_by t k p false (no_string t (cell_of p) e))
 
-  pub refused_prefix : (e : FilterError) (f : Formula) → RefusesLiterals k (IsCoercible t p) e → CoercesTest t (beginning p) f (p ∷ []) k (Err e)
-  refused_prefix e f (inl o) = inl o
-  refused_prefix e f (inr q) = inr (q.0, λ s. q.1 s.1)
+  pub prefix_stands : (q : Position) (g : Filter) → holds_strings t ≡ true → StandsAt t p q → Some (formula g) ≡ prefix_of k (position_tree q) → literals_of g ≡ scalars_of q
+      → CoercesTest t (beginning p) (prefix_test k (coerced_cell t (cell_of p))) (p ∷ []) k (Ok g)
+  prefix_stands q g e h made n =
+      let is : Some (formula g) ≡ Some (prefix_test k (coerced_cell t (cell_of p))) = prefix_made q (Some (formula g)) e h made in
+      let same : formula g ≡ prefix_test k (coerced_cell t (cell_of p)) = cc in
+      (same, ((strings_test t).0 e, h.1), λ w. valid_same (literals_of g) (scalars_of q) n (h.2 w.0))
 
-pub ruleset prefixes = (lacks_no_string, no_strings, kept_prefix, refused_prefix)
+  pub prefix_never : (q : Position) → holds_strings t ≡ true → StandsAt t p q → None ≡ prefix_of k (position_tree q) → ⊥
+  prefix_never q e h made = let is : None ≡ Some (prefix_test k (coerced_cell t (cell_of p))) = prefix_made q None e h made in absurd cc
 
--- ---- one literal
+  pub prefix_stops : (e : FilterError) → RefusesLiterals k (IsCoercible t p) e → CoercesTest t (beginning p) (prefix_test k (coerced_cell t (cell_of p))) (p ∷ []) k (Err e)
+  prefix_stops e (inl o) = inl o
+  prefix_stops e (inr q) = inr (q.0, λ s. q.1 s.1)
 
-abbrev cell_from : TypeTree → Content → Cell
-cell_from t c = record { typed = t; content = c }
-
-module _ (t : TypeTree) (k : ℕ) (l : Scalar) where
-  pub copied_literal : (r : Result Scalar FilterError) → same_type t (scalar_type l) ≡ true → MatchResult r (λ y. cell_of y ≡ cell_of l) (λ e. e ≡ OutOfMemory) → IfOk r (λ y. exactly_of y ≡ exactly_of l) → CastsLiteral t l k r
-  copied_literal (Ok y) e h m = (
-    h ∙ sym (ap (λ b. cond b (cell_of l) (cell_from (as_nullable t) (scalar_content l))) e),
-    ap (λ b. cond b false (lacks_number t (scalar_type l) (scalar_content l))) e,
-    inl ((same_type-Decides t (scalar_type l)).0 e),
-    copy_valid l y m,
-  )
-  copied_literal (Err d) e h m = inl h
-
-  never_other : same_type t (scalar_type l) ≡ false → (IsValid l → ¬ ((lacks t (cell_of l) ≡ true) ⊎ CanCast (scalar_type l) (as_nullable t) (scalar_content l))) → ¬ (IsCoercible t l)
-  never_other e n (inl s) = false≢true (sym e ∙ (same_type-Decides t (scalar_type l)).1 s)
-  never_other e n (inr c) = n c.0 c.1
-
-  pub invalid_literal : (b : Bool) → same_type t (scalar_type l) ≡ false → IsTrue b ↔ IsValid l → b ≡ false → CastsLiteral t l k (Err (TypesDiffer 0 k))
-  invalid_literal b s h e = inr (refl, never_other s (λ v c. false≢true (sym e ∙ h.1 v)))
-
-  pub cast_made : (u : TypeTree) (y : Scalar) → IsValid l → u ≡ as_nullable t → same_type t (scalar_type l) ≡ false → lacks t (cell_of l) ≡ false → AnswersCast (scalar_type l) u (scalar_raw l) (Ok y) → CastsLiteral t l k (Ok y)
-  cast_made u y v q e m a = (
-    ap₂ cell_from (a.one.typed ∙ q) a.one.same ∙ sym (ap (λ b. cond b (cell_of l) (cell_from (as_nullable t) (scalar_content l))) e),
-    m,
-    inr (v, inr (subst (λ s. CanCast (scalar_type l) s (scalar_content l)) q a.succeeds_only)),
-    λ v. a.one.valid,
-  )
-
-  not_possible : (u : TypeTree) (p : Type 0) (e : VortexError) → e ≢ why.OutOfMemory → RefusesCast u p e → ¬ p
-  not_possible u p why.CannotCast n h = h
-  not_possible u p why.OutOfMemory n h = absurd (n refl)
-  not_possible u p _ n h = absurd h
-
-  no_cast : lacks t (cell_of l) ≡ false → ¬ (CanCast (scalar_type l) (as_nullable t) (scalar_content l)) → ¬ ((lacks t (cell_of l) ≡ true) ⊎ CanCast (scalar_type l) (as_nullable t) (scalar_content l))
-  no_cast h n (inl m) = false≢true (sym h ∙ m)
-  no_cast h n (inr c) = n c
-
-  pub cast_refused : (u : TypeTree) (e : VortexError) (d : FilterError) → u ≡ as_nullable t → same_type t (scalar_type l) ≡ false → lacks t (cell_of l) ≡ false → AnswersCast (scalar_type l) u (scalar_raw l) (Err e)
-      → ((e ≡ why.OutOfMemory) × (d ≡ OutOfMemory)) ⊎ ((e ≢ why.OutOfMemory) × (d ≡ TypesDiffer 0 k)) → CastsLiteral t l k (Err d)
-  cast_refused u e d q s h a (inl m) = inl m.1
-  cast_refused u e d q s h a (inr m) =
-      inr (m.1, never_other s (λ v. no_cast h (subst (λ w. ¬ (CanCast (scalar_type l) w (scalar_content l))) q (not_possible u (CanCast (scalar_type l) u (scalar_content l)) e m.0 a.refuses_only))))
+pub ruleset prefixes = (no_strings)
 
 -- ---- several literals
 
@@ -394,56 +404,34 @@ pub kept_whole : (t : TypeTree) (xs : List Scalar) (i : ℕ) (ks : List Cell) �
 kept_whole t xs i ks h a =
     let p : IsKept t ks xs = subst (λ ys. IsKept t ks ys) (take_all i xs h) a in (p.cells, p.coercible)
 
-pub ruleset literals = (copied_literal, invalid_literal, cast_made, cast_refused)
-
 -- ---- numbers
 
-pub lacks_same : (t : TypeTree) (x : Cell) → same_type t x.typed ≡ true → false ≡ lacks t x
-lacks_same t x e = sym (ap (λ b. cond b false (lacks_number t x.typed x.content)) e)
+lacking_content : (k l : PType) (m n : Nullability) (c : Content) → lacking_of (Some k) (Some l) (number_in c) ≡ lacking_order (integer_type k m) (integer_type l n) c
+lacking_content k l m n (whole z) = by_range (in_range k z)
+  where
+    by_range : (b : Bool) → cond b None (Some (side (whole z))) ≡ cond (not b) (Some (side (whole z))) None
+    by_range true = refl
+    by_range false = refl
+lacking_content k l m n _ = refl
 
--- a literal that the type lacks, if it is valid
-pub lacking_valid : (t : TypeTree) (l : Scalar) (a b : Bool) → a ≡ lacks t (cell_of l) → a ≡ true → IsTrue b ↔ IsValid l → TellsLacking t l b
-lacking_valid t l a b h e v = ((λ i. (v.0 i, sym h ∙ e)), (λ f w. absurd (false≢true (sym f ∙ v.1 w))))
+lacking_literal : (k : PType) (m : Nullability) (u : TypeTree) (c : Content) → lacking_of (Some k) (integer_in u) (number_in c) ≡ lacking_order (integer_type k m) u c
+lacking_literal k m (integer_type l n) c = lacking_content k l m n c
+lacking_literal k m _ c = refl
 
-pub lacking_none : (t : TypeTree) (l : Scalar) (a : Bool) → a ≡ lacks t (cell_of l) → a ≡ false → TellsLacking t l a
-lacking_none t l a h e = ((λ i. absurd (false≢true (sym e ∙ i))), (λ f w. sym h ∙ e))
+lacking_column : (t u : TypeTree) (c : Content) → lacking_of (integer_in t) (integer_in u) (number_in c) ≡ lacking_order t u c
+lacking_column (integer_type k m) u c = lacking_literal k m u c
+lacking_column _ u c = refl
 
-pub lacks_other : (t : TypeTree) (x : Cell) (b : Bool) → same_type t x.typed ≡ false → b ≡ lacks_number t x.typed x.content → b ≡ lacks t x
-lacks_other t x b e h = h ∙ sym (ap (λ b. cond b false (lacks_number t x.typed x.content)) e)
+pub lacking_is : (t u : TypeTree) (c : Content) (o p : Option PType) (z : Option ℤ) (r : Option Ordering) → o ≡ integer_in t → p ≡ integer_in u → z ≡ number_in c → r ≡ lacking_of o p z → r ≡ lacking_order t u c
+lacking_is t u c o p z r h k m e = e ∙ ap (λ o. lacking_of o p z) h ∙ ap (λ p. lacking_of (integer_in t) p z) k ∙ ap (lacking_of (integer_in t) (integer_in u)) m ∙ lacking_column t u c
 
-pub ruleset lacks_by = (lacks_same, lacks_other)
+pub number_there : (k : PType) (z : ℤ) (v : PValue) → IsNumber k z v → None ≡ number_lacking k z
+number_there k z v n = sym (ap (λ b. cond b None (Some (int_cmp (pos 0) z))) (in_range_true k z n.2))
 
-pub ruleset tells = (lacking_valid, lacking_none)
-
-lacks_content : (k : PType) (l : PType) (m n : Nullability) (c : Content) → lacks_of (Some k) (Some l) (number_in c) ≡ lacks_number (integer_type k m) (integer_type l n) c
-lacks_content k l m n (whole z) = refl
-lacks_content k l m n _ = refl
-
-lacks_literal : (k : PType) (m : Nullability) (u : TypeTree) (c : Content) → lacks_of (Some k) (integer_in u) (number_in c) ≡ lacks_number (integer_type k m) u c
-lacks_literal k m (integer_type l n) c = lacks_content k l m n c
-lacks_literal k m _ c = refl
-
-lacks_column : (t u : TypeTree) (c : Content) → lacks_of (integer_in t) (integer_in u) (number_in c) ≡ lacks_number t u c
-lacks_column (integer_type k m) u c = lacks_literal k m u c
-lacks_column _ u c = refl
-
-pub lacks_number_is : (t u : TypeTree) (c : Content) (o p : Option PType) (z : Option ℤ) (b : Bool) → o ≡ integer_in t → p ≡ integer_in u → z ≡ number_in c → b ≡ lacks_of o p z → b ≡ lacks_number t u c
-lacks_number_is t u c o p z b h k m e = e ∙ ap (λ o. lacks_of o p z) h ∙ ap (λ p. lacks_of (integer_in t) p z) k ∙ ap (lacks_of (integer_in t) (integer_in u)) m ∙ lacks_column t u c
-
-pub number_there : (k : PType) (z : ℤ) (v : PValue) → IsNumber k z v → false ≡ not (in_range k z)
-number_there k z v n = sym (ap not (in_range_true k z n.2))
-
-pub number_absent : (k : PType) (z : ℤ) → ¬ (InRange k z) → true ≡ not (in_range k z)
-number_absent k z n = sym (ap not (in_range_false k z n))
+pub number_absent : (k : PType) (z : ℤ) → ¬ (InRange k z) → Some (int_cmp (pos 0) z) ≡ number_lacking k z
+number_absent k z n = sym (ap (λ b. cond b None (Some (int_cmp (pos 0) z))) (in_range_false k z n))
 
 pub ruleset ranges_of = (number_there, number_absent)
-
-side_at : (c : Content) → side_of (number_in c) ≡ side c
-side_at (whole z) = refl
-side_at _ = refl
-
-pub side_is : (c : Content) (o : Option ℤ) (r : Ordering) → o ≡ number_in c → r ≡ side_of o → r ≡ side c
-side_is c o r h e = e ∙ ap side_of h ∙ side_at c
 
 -- ---- the whole filter
 

@@ -32,7 +32,7 @@ fitting_cell t x s = ap (λ b. cond b x (record { typed = as_nullable t; content
 fitting_there : (t : TypeTree) (x : Cell) → Same t x.typed → lacks t x ≡ false
 fitting_there t x s = ap (λ b. cond b false (lacks_number t x.typed x.content)) ((same_type-Decides t x.typed).1 s)
 
-fitting_position : (t : TypeTree) (x : Cell) → Same t x.typed → position_in t x ≡ exactly x
+pub fitting_position : (t : TypeTree) (x : Cell) → Same t x.typed → position_in t x ≡ exactly x
 fitting_position t x s = ap (λ b. cond b (lacking (side x.content)) (exactly (coerced_cell t x))) (fitting_there t x s) ∙ ap exactly (fitting_cell t x s)
 
 fitting_cells : (t : TypeTree) (xs : List Cell) → AllByRecursion (IsOfType t) xs → cells_of (map (position_in t) xs) ≡ xs

@@ -1,11 +1,10 @@
 -- What a call answers that coerces a filter or a part of one.
-use Rattle.std.specs.Prelude.{◌≡◌, ◌⊎◌, ℕ, ℤ, pos, Bool, true, false, not, List, map, Option, Some, None, Result, MatchResult, slice_get, Vec}
+use Rattle.std.specs.Prelude.{◌≡◌, ◌⊎◌, ℕ, ℤ, pos, List, map, if◌then◌else◌, Option, Some, None, Result, MatchResult, slice_get, Vec}
 use Rattle.std.specs.Borrow.{Bor}
 use Rattle.std.specs.Global.{Global}
 use Rattle.std.specs.List.{AllByRecursion}
 use Rattle.std.specs.Ordering.{int_cmp}
 use Rattle.std.specs.declared.cmp.Ordering.{Ordering}
-use Rattle.std.specs.declared.cmp.Ordering.TheVariants.{Equal}
 use Rattle.vortex_dtype.specs.TypeOf.{type_of}
 use Rattle.vortex_dtype.specs.TypeTree.{TypeTree, integer_type}
 use Rattle.vortex_dtype.specs.declared.ptype.PType.{PType}
@@ -21,7 +20,7 @@ use Rattle.vortex_filter.specs.declared.error.FilterError.TheVariants.{OutOfMemo
 use Rattle.vortex_filter.specs.declared.filter.Filter.{Filter}
 use Rattle.vortex_filter.specs.declared.literals.Position.{Position}
 use Rattle.vortex_filter.specs.Checking.{AllFit, Demand, RefusesFirst, Suits, Test}
-use Rattle.vortex_filter.specs.Coercing.{IsCoercible, coerced, coerced_cell, lacks, position_in}
+use Rattle.vortex_filter.specs.Coercing.{IsCoercible, coerced, lacks_number, position_in, side}
 use Rattle.vortex_filter.specs.FilterLiterals.{AreValid, literals_of}
 use Rattle.vortex_filter.specs.Formula.{Formula, formula}
 use Rattle.vortex_filter.specs.Positions.{cells_of, position_tree, scalars_of}
@@ -40,18 +39,6 @@ RefusesLiterals k property e = (e ≡ OutOfMemory) ⊎ ((e ≡ TypesDiffer 0 k) 
 -- the same for one test of column k, of the type t
 abbrev pub CoercesTest : TypeTree → Demand Scalar → Formula → List Scalar → ℕ → Result Filter FilterError → Type 0
 CoercesTest t d f literals k r = MatchResult r (λ g. (formula g ≡ f) × Suits IsCoercible d t × (AreValid literals → AreValid (literals_of g))) (RefusesLiterals k (Suits IsCoercible d t))
-
--- if the literal is valid, the type does not lack it
-abbrev pub MayHave : TypeTree → Scalar → Type 0
-MayHave t x = IsValid x → lacks t (cell_of x) ≡ false
-
--- whether the type lacks the literal, if it is valid
-abbrev pub TellsLacking : TypeTree → Scalar → Bool → Type 0
-TellsLacking t x b = (b ≡ true → IsValid x × (lacks t (cell_of x) ≡ true)) × (b ≡ false → MayHave t x)
-
--- the same for one literal that the type does not lack
-abbrev pub CastsLiteral : TypeTree → Scalar → ℕ → Result Scalar FilterError → Type 0
-CastsLiteral t x k r = MatchResult r (λ y. (cell_of y ≡ coerced_cell t (cell_of x)) × (lacks t (cell_of x) ≡ false) × IsCoercible t x × (IsValid x → IsValid y)) (RefusesLiterals k (IsCoercible t x))
 
 -- where a literal stands, with a valid scalar if it is valid
 abbrev pub StandsAt : TypeTree → Scalar → Position → Type 0
@@ -83,12 +70,15 @@ abbrev pub number_in : Content → Option ℤ
 number_in (whole z) = Some z
 number_in _ = None
 
--- whether both are integer types, and the first does not have the number
-abbrev pub lacks_of : Option PType → Option PType → Option ℤ → Bool
-lacks_of (Some k) (Some l) (Some z) = not (in_range k z)
-lacks_of _ _ _ = false
+-- how each number of an integer type stands to one that the type lacks
+abbrev pub number_lacking : PType → ℤ → Option Ordering
+number_lacking k z = if in_range k z then None else Some (int_cmp (pos 0) z)
 
--- how 0 stands to the number, if there is one
-abbrev pub side_of : Option ℤ → Ordering
-side_of None = Equal
-side_of (Some z) = int_cmp (pos 0) z
+-- the same, if both are integer types and there is a number
+abbrev pub lacking_of : Option PType → Option PType → Option ℤ → Option Ordering
+lacking_of (Some k) (Some l) (Some z) = number_lacking k z
+lacking_of _ _ _ = None
+
+-- how each number of a type stands to a literal of another, if that is an integer which the type lacks
+abbrev pub lacking_order : TypeTree → TypeTree → Content → Option Ordering
+lacking_order t u c = if lacks_number t u c then Some (side c) else None

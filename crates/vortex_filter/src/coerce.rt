@@ -1,13 +1,13 @@
 //! A filter with its literals cast to the types of the columns.
 
-ghost use Rattle.std.specs.Prelude.{◌≡◌, ◌≢◌, ◌⊎◌, ◌↔◌, ◌∷◌, [], false, not, IfErr, IfOk, IsTrue, List, OnOk, map};
-ghost use Rattle.vortex_filter.specs.Coerces.{CastsLiteral, Coerces, CoercesLiteral, CoercesLiterals, CoercesTest, GivesOrdered, MayHave, TellsLacking, integer_in, lacks_of, number_in, side_of};
-ghost use Rattle.vortex_filter.specs.Coercing.{IsCoercible, coerced, coerced_cell, lacks, lacks_number, position_in, side};
+ghost use Rattle.std.specs.Prelude.{◌≡◌, ◌≢◌, ◌⊎◌, ◌↔◌, ◌∷◌, [], false, IfErr, IfOk, IsTrue, List, OnOk, map};
+ghost use Rattle.vortex_filter.specs.Coerces.{Coerces, CoercesLiteral, CoercesLiterals, CoercesTest, GivesOrdered, integer_in, lacking_of, lacking_order, number_in, number_lacking};
+ghost use Rattle.vortex_filter.specs.Coercing.{IsCoercible, coerced, coerced_cell, lacks, position_in};
 ghost use Rattle.vortex_filter.specs.Checking.{AllFit, asks, beginning, comparing, nothing};
 ghost use Rattle.vortex_filter.specs.FilterLiterals.{AreValid, literal_tests, literals_of};
 ghost use Rattle.vortex_filter.specs.Positions.{comparison_of, member_among, range_of};
 ghost use Rattle.vortex_filter.specs.Rows.{IsRowOf, content_truth};
-ghost use Rattle.vortex_filter.specs.Words.{Cell, FitsColumns, IsValid, OutOfMemory, RefusesFirst, cell_of, comparison, formula, in_range, membership, null_test, prefix_test, range, same_type, scalar_content, scalar_type, truth, type_of};
+ghost use Rattle.vortex_filter.specs.Words.{Cell, FitsColumns, IsValid, OutOfMemory, RefusesFirst, cell_of, comparison, formula, membership, null_test, prefix_test, range, same_type, scalar_content, scalar_type, truth, type_of};
 
 use crate::building::{conjoin, disjoin, negate};
 use crate::check::{behind, holds_strings, is_of_type, type_at};
@@ -16,7 +16,7 @@ use crate::error::FilterError;
 use crate::filter::Filter;
 use crate::literals::{Position, nullable};
 use crate::operator::CompareOperator;
-use crate::positions::{comparison_of, member_of, range_of, with_position};
+use crate::positions::{comparison_of, member_of, prefix_of, range_of, with_position};
 use std::alloc::Global;
 use std::cmp::Ordering;
 use vortex_cells::has_variant;
@@ -281,8 +281,11 @@ fn prefix_in(
         (prefix.now ∷ []) column result }
 {
     if holds_strings(dtype) {
-        return match cast_literal(alloc, dtype, column, prefix) {
-            Ok(prefix) => Ok(Filter::StartsWith { column, prefix }),
+        return match position_in(alloc, dtype, column, prefix) {
+            Ok(position) => match prefix_of(column, position) {
+                Some(filter) => Ok(filter),
+                None => Err(FilterError::TypesDiffer { test: 0, column }),
+            },
             Err(cause) => Err(cause),
         };
     }
@@ -308,7 +311,8 @@ fn kept_literals(
     Ok(kept)
 }
 
-/// Where a literal stands among the values of the type.
+/// Where a literal stands among the values of the type: at a copy if it is of the type up to
+/// nullability, at a number that the type lacks, or else at its cast.
 #[tactic(auto, using(crate::proofs::CoerceSteps::positions))]
 fn position_in(
     alloc: Global,
@@ -318,47 +322,33 @@ fn position_in(
 ) -> Result<Position, FilterError>
     ensures { CoercesLiteral (type_of dtype.now) literal.now column result }
 {
-    if is_lacking(dtype, literal) {
-        return Ok(Position::Lacking(side(literal)));
-    }
-    match cast_literal(alloc, dtype, column, literal) {
-        Ok(made) => Ok(Position::Exactly(made)),
-        Err(cause) => Err(cause),
-    }
-}
-
-/// A literal as one of the type: a copy if it is of the type up to nullability, and else its cast.
-#[tactic(auto, using(crate::proofs::CoerceSteps::literals))]
-fn cast_literal(
-    alloc: Global,
-    dtype: &DType,
-    column: usize,
-    literal: &Scalar,
-) -> Result<Scalar, FilterError>
-    requires { MayHave (type_of dtype.now) literal.now }
-    ensures { CastsLiteral (type_of dtype.now) literal.now column result }
-{
     if is_of_type(literal, dtype) {
-        return copy_scalar(alloc, literal);
+        return match copy_scalar(alloc, literal) {
+            Ok(copy) => Ok(Position::Exactly(copy)),
+            Err(cause) => Err(cause),
+        };
     }
-    if is_valid(literal) {
-        return cast_valid(alloc, dtype, column, literal);
+    if !is_valid(literal) {
+        return Err(FilterError::TypesDiffer { test: 0, column });
     }
-    Err(FilterError::TypesDiffer { test: 0, column })
+    match lacking(dtype, literal) {
+        Some(order) => Ok(Position::Lacking(order)),
+        None => cast_valid(alloc, dtype, column, literal),
+    }
 }
 
 /// The cast of a valid literal to the type, made nullable.
-#[tactic(auto, using(crate::proofs::CoerceSteps::literals))]
+#[tactic(auto, using(crate::proofs::CoerceSteps::casts))]
 fn cast_valid(
     alloc: Global,
     dtype: &DType,
     column: usize,
     literal: &Scalar,
-) -> Result<Scalar, FilterError>
+) -> Result<Position, FilterError>
     requires valid { IsValid literal.now }
     requires other { same_type (type_of dtype.now) (scalar_type literal.now) ≡ false }
     requires has { lacks (type_of dtype.now) (cell_of literal.now) ≡ false }
-    ensures { CastsLiteral (type_of dtype.now) literal.now column result }
+    ensures { CoercesLiteral (type_of dtype.now) literal.now column result }
 {
     let target = match nullable(alloc, dtype) {
         Ok(target) => target,
@@ -367,7 +357,7 @@ fn cast_valid(
     match literal.cast(alloc, &target) {
         Ok(made) => {
             drop(target);
-            Ok(made)
+            Ok(Position::Exactly(made))
         }
         Err(cause) => {
             drop(target);
@@ -399,55 +389,40 @@ fn refusal(cause: VortexError, column: usize) -> FilterError
 
 // ---- numbers that a type lacks
 
-/// Whether the literal is a valid integer of another type than the column's, which does not have
-/// it.
-#[tactic(auto, using(crate::proofs::CoerceSteps::tells))]
-fn is_lacking(dtype: &DType, literal: &Scalar) -> bool
-    ensures { TellsLacking (type_of dtype.now) literal.now result }
-{
-    lacks(dtype, literal) && is_valid(literal)
-}
-
-/// Whether the literal is an integer of another type than the column's, which does not have it.
-#[tactic(auto, using(crate::proofs::CoerceSteps::lacks_by))]
-fn lacks(dtype: &DType, literal: &Scalar) -> bool
-    ensures { result ≡ lacks (type_of dtype.now) (cell_of literal.now) }
-{
-    if is_of_type(literal, dtype) {
-        return false;
-    }
-    lacks_number(dtype, literal)
-}
-
-/// Whether both are of integer types, and the column's does not have the number.
-#[tactic(auto, using(crate::proofs::CoerceSteps::lacks_number_is))]
-fn lacks_number(dtype: &DType, literal: &Scalar) -> bool
+/// How each number of the type stands to the literal, if that is an integer which the type lacks.
+#[tactic(auto, using(crate::proofs::CoerceSteps::lacking_is))]
+fn lacking(dtype: &DType, literal: &Scalar) -> Option<Ordering>
     ensures { result
-        ≡ lacks_number (type_of dtype.now) (scalar_type literal.now) (scalar_content literal.now) }
+        ≡ lacking_order (type_of dtype.now) (scalar_type literal.now) (scalar_content literal.now) }
 {
-    lacks_of(
+    lacking_of(
         integer_type(dtype),
         integer_type(&literal.dtype),
         number(literal),
     )
 }
 
-fn lacks_of(column: Option<PType>, literal: Option<PType>, number: Option<i128>) -> bool
-    ensures { result ≡ lacks_of column literal number }
+fn lacking_of(
+    column: Option<PType>,
+    literal: Option<PType>,
+    number: Option<i128>,
+) -> Option<Ordering>
+    ensures { result ≡ lacking_of column literal number }
 {
     match (column, literal, number) {
-        (Some(ptype), Some(_), Some(number)) => is_out_of_range(ptype, number),
-        _ => false,
+        (Some(ptype), Some(_), Some(number)) => number_lacking(ptype, number),
+        _ => None,
     }
 }
 
+/// As 0 does.
 #[tactic(auto, using(crate::proofs::CoerceSteps::ranges_of))]
-fn is_out_of_range(ptype: PType, number: i128) -> bool
-    ensures { result ≡ not (in_range ptype number) }
+fn number_lacking(ptype: PType, number: i128) -> Option<Ordering>
+    ensures { result ≡ number_lacking ptype number }
 {
     match PValue::from_whole(number, ptype) {
-        Some(_) => false,
-        None => true,
+        Some(_) => None,
+        None => Some(0i128.cmp(&number)),
     }
 }
 
@@ -469,22 +444,5 @@ fn number(scalar: &Scalar) -> Option<i128>
     match scalar.value() {
         Some(ScalarValue::Primitive(number)) => Some(number.whole()),
         _ => None,
-    }
-}
-
-/// How each number of a type stands to a literal that the type lacks: as 0 does.
-#[tactic(auto, using(crate::proofs::CoerceSteps::side_is))]
-fn side(literal: &Scalar) -> Ordering
-    ensures { result ≡ side (scalar_content literal.now) }
-{
-    side_of(number(literal))
-}
-
-fn side_of(number: Option<i128>) -> Ordering
-    ensures { result ≡ side_of number }
-{
-    match number {
-        Some(number) => 0i128.cmp(&number),
-        None => Ordering::Equal,
     }
 }
