@@ -1,26 +1,27 @@
 -- A filter that is read fits the types of the columns.
-use Rattle.std.proofs.Common.{◌≡◌, ℕ, Bool, true, false, cond, List, [], ◌∷◌, ◌++◌, Option, Some, None, refl, ap, subst, ◌∙◌}
-use Rattle.std.specs.Prelude.{slice_get, option_map}
-use Rattle.std.specs.List.{AllByRecursion}
+use Rattle.std.proofs.Common.{◌≡◌, ℕ, ℤ, pos, Bool, true, false, cond, List, [], ◌∷◌, ◌++◌, Option, Some, None, refl, ap, subst, ◌∙◌}
+use Rattle.std.specs.Prelude.{option_and_then, option_map, slice_get}
+use Rattle.std.specs.Ordering.{int_cmp}
 use Rattle.std.proofs.lemmas.Option.{slice_get-map}
 use Rattle.vortex_dtype.specs.TypeTree.{TypeTree, Same, as_nullable, bool_type, integer_type, utf8_type, binary_type, extension_type}
+use Rattle.vortex_dtype.specs.declared.nullability.Nullability.{Nullability}
 use Rattle.vortex_dtype.specs.declared.ptype.PType.{PType}
 use Rattle.vortex_pvalue.specs.Numbers.{in_range}
 use Rattle.vortex_value.specs.TypesWithin.{HasNoVariant}
 use Rattle.vortex_cells.specs.Cells.{Cell}
-use Rattle.vortex_filter.specs.declared.operator.CompareOperator.{CompareOperator}
-use Rattle.vortex_filter.specs.declared.operator.CompareOperator.TheVariants.{Gte, Lte}
 use Rattle.filter_sql.specs.declared.print.Level.{Level}
-use Rattle.filter_sql.specs.declared.token.Keyword.{Keyword}
-use Rattle.filter_sql.specs.declared.token.Keyword.TheVariants as keywords
-use Rattle.vortex_filter.specs.Checking.{Test, tests, comparing, HoldsStrings, IsOfType, AllFit, FitsColumns}
+use Rattle.vortex_filter.specs.Checking.{Test, tests, HoldsStrings, IsOfType, AllFit, FitsColumns}
+use Rattle.vortex_filter.specs.CheckSteps.{holds_strings}
 use Rattle.filter_sql.specs.Columns.{ColumnTree, column_named, column_there, typed_place, or_numbered, named_place}
-use Rattle.vortex_filter.specs.Formula.{Formula, null_test, prefix_test, both}
-use Rattle.filter_sql.specs.Grammar.{AreLiterals, one_literal, more_literals, IsTest, in_nothing, in_literals, between_literals, like_pattern, like_escaped, IsCondition, compares, is_null, is_not_null, bare_test, not_test, IsPredicate, says_true, says_false, says_null, on_column, prefix_call, IsFilter, predicate, group, not_filter, one_operand, and_filter, one_conjunction, or_filter}
-use Rattle.filter_sql.specs.Literals.{LiteralTree, exactly, lacking, literal_of, keyword_literal, truth_literal, integer_literal, signed, string_literal, bytes_literal, null_cell, truth_cell, number_cell, text_cell, bytes_cell, comparison_of, range_of, cells_of, member_of, never, always, holds_strings, order_to_lacking}
-use Rattle.vortex_filter.specs.Operators.{holds}
+use Rattle.vortex_filter.specs.Formula.{Formula, negation, null_test, prefix_test}
+use Rattle.filter_sql.specs.Grammar.{IsPredicate, says_true, says_false, says_null, on_column, prefix_call, IsFilter, predicate, group, not_filter, one_operand, and_filter, one_conjunction, or_filter}
+use Rattle.vortex_filter.specs.Literals.{LiteralTree, null_literal, truth_literal, number_literal, text_literal, bytes_literal, bytes_cell, bytes_in, null_cell, number_cell, number_in, number_position, position_of, text_cell, text_in, truth_cell, truth_in}
+use Rattle.vortex_filter.specs.Positions.{PositionTree, exactly, lacking, comparison_of, member_among, prefix_of, range_of}
+use Rattle.filter_sql.specs.Literals.{Condition, compared, missing, listed, between, begun, denied, formula_in, positions_of}
 use Rattle.filter_sql.specs.Parsing.{types_of, AllOrdered}
-use Rattle.filter_sql.specs.Tokens.{TokenTree, keyword_token, integer_token, string_token, bytes_token}
+use Rattle.filter_sql.specs.Tokens.{TokenTree}
+use Rattle.vortex_filter.proofs.PositionLaws.{CellFits, CellsFit, comparison_fits, membership_fits, nothing_fits, prefix_fits, range_fits}
+use Rattle.filter_sql.proofs.ConditionSteps.{bind_some, guard_some, map_some, stand_parts}
 
 -- ---- literals
 
@@ -28,62 +29,39 @@ as_nullable_fits : (t : TypeTree) → Same t (as_nullable t)
 as_nullable_fits (extension_type id metadata t) = ap (extension_type id metadata) (as_nullable_fits t)
 as_nullable_fits _ = refl
 
-exactly_is : (x y : Cell) → Some (exactly x) ≡ Some (exactly y) → x ≡ y
-exactly_is x y e = cc
+fits_as : (t : TypeTree) (p q : PositionTree) → Some p ≡ Some q → CellFits t p → CellFits t q
+fits_as t p q e fits = let same : p ≡ q = cc in subst (CellFits t) same fits
 
-fits_as : (t : TypeTree) (x y : Cell) → Some (exactly x) ≡ Some (exactly y) → IsOfType t x → IsOfType t y
-fits_as t x y e fits = subst (λ (z : Cell). IsOfType t z) (exactly_is x y e) fits
+truth_fits : (t : TypeTree) (b : Bool) (p : PositionTree) → truth_in t b ≡ Some p → CellFits t p
+truth_fits (bool_type n) b p e = fits_as (bool_type n) (exactly (truth_cell b)) p e refl
+truth_fits _ b p e = absurd cc
 
-truth_fits : (t : TypeTree) (b : Bool) (x : Cell) → truth_literal t b ≡ Some (exactly x) → IsOfType t x
-truth_fits (bool_type n) b x e = fits_as (bool_type n) (truth_cell b) x e refl
-truth_fits _ b x e = absurd cc
+number_by : (k : PType) (n : Nullability) (z : ℤ) (inside : Bool) → CellFits (integer_type k n) (cond inside (exactly (number_cell k z)) (lacking (int_cmp (pos 0) z)))
+number_by k n z true = refl
+number_by k n z false = tt
 
-keyword_fits : (t : TypeTree) (k : Keyword) (x : Cell) → keyword_literal t k ≡ Some (exactly x) → IsOfType t x
-keyword_fits t keywords.Null x e = fits_as t (null_cell t) x e (as_nullable_fits t)
-keyword_fits t keywords.True x e = truth_fits t true x e
-keyword_fits t keywords.False x e = truth_fits t false x e
-keyword_fits t _ x e = absurd cc
+number_fits : (t : TypeTree) (z : ℤ) (p : PositionTree) → number_in t z ≡ Some p → CellFits t p
+number_fits (integer_type k n) z p e = fits_as (integer_type k n) (number_position k z) p e (number_by k n z (in_range k z))
+number_fits _ z p e = absurd cc
 
-number_fits : (k : PType) (n : _) (negative : Bool) (z : _) (inside : Bool) (x : Cell) → Some (cond inside (exactly (number_cell k z)) (lacking negative)) ≡ Some (exactly x) → IsOfType (integer_type k n) x
-number_fits k n negative z true x e = fits_as (integer_type k n) (number_cell k z) x e refl
-number_fits k n negative z false x e = absurd cc
+text_fits : (t : TypeTree) (bs : List ℕ) (p : PositionTree) → text_in t bs ≡ Some p → CellFits t p
+text_fits (utf8_type n) bs p e = fits_as (utf8_type n) (exactly (text_cell bs)) p e refl
+text_fits _ bs p e = absurd cc
 
-integer_fits : (t : TypeTree) (negative : Bool) (m : ℕ) (x : Cell) → integer_literal t negative m ≡ Some (exactly x) → IsOfType t x
-integer_fits (integer_type k n) negative m x e = number_fits k n negative (signed negative m) (in_range k (signed negative m)) x e
-integer_fits _ negative m x e = absurd cc
+bytes_fit : (t : TypeTree) (bs : List ℕ) (p : PositionTree) → bytes_in t bs ≡ Some p → CellFits t p
+bytes_fit (binary_type n) bs p e = fits_as (binary_type n) (exactly (bytes_cell bs)) p e refl
+bytes_fit _ bs p e = absurd cc
 
-string_fits : (t : TypeTree) (bs : List ℕ) (x : Cell) → string_literal t bs ≡ Some (exactly x) → IsOfType t x
-string_fits (utf8_type n) bs x e = fits_as (utf8_type n) (text_cell bs) x e refl
-string_fits _ bs x e = absurd cc
+pub literal_fits : (t : TypeTree) (l : LiteralTree) (p : PositionTree) → position_of t l ≡ Some p → CellFits t p
+literal_fits t null_literal p e = fits_as t (exactly (null_cell t)) p e (as_nullable_fits t)
+literal_fits t (truth_literal b) p e = truth_fits t b p e
+literal_fits t (number_literal z) p e = number_fits t z p e
+literal_fits t (text_literal bs) p e = text_fits t bs p e
+literal_fits t (bytes_literal bs) p e = bytes_fit t bs p e
 
-bytes_fit : (t : TypeTree) (bs : List ℕ) (x : Cell) → bytes_literal t bs ≡ Some (exactly x) → IsOfType t x
-bytes_fit (binary_type n) bs x e = fits_as (binary_type n) (bytes_cell bs) x e refl
-bytes_fit _ bs x e = absurd cc
-
-pub literal_fits : (t : TypeTree) (token : TokenTree) (x : Cell) → literal_of t token ≡ Some (exactly x) → IsOfType t x
-unfolding literal_of
-literal_fits t (keyword_token k) x e = keyword_fits t k x e
-literal_fits t (integer_token negative m) x e = integer_fits t negative m x e
-literal_fits t (string_token bs) x e = string_fits t bs x e
-literal_fits t (bytes_token bs) x e = bytes_fit t bs x e
-literal_fits t _ x e = absurd cc
-
--- what a literal says, if it is a cell, fits
-abbrev LiteralFits : TypeTree → LiteralTree → Type 0
-LiteralFits t (exactly x) = IsOfType t x
-LiteralFits t (lacking b) = Unit {0}
-
-said_fits : (t : TypeTree) (token : TokenTree) (l : LiteralTree) → literal_of t token ≡ Some l → LiteralFits t l
-said_fits t token (exactly x) e = literal_fits t token x e
-said_fits t token (lacking b) e = tt
-
-one_more : (t : TypeTree) (l : LiteralTree) (ls : List LiteralTree) → LiteralFits t l → AllByRecursion (IsOfType t) (cells_of ls) → AllByRecursion (IsOfType t) (cells_of (l ∷ ls))
-one_more t (exactly x) ls fits all = (fits, all)
-one_more t (lacking b) ls fits all = all
-
-literals_fit : (t : TypeTree) {ts : List TokenTree} {ls : List LiteralTree} → AreLiterals t ts ls → AllByRecursion (IsOfType t) (cells_of ls)
-literals_fit t (one_literal {x} {l} said) = one_more t l [] (said_fits t x l said) tt
-literals_fit t (more_literals {x} {l} {ts} {ls} said more) = one_more t l ls (said_fits t x l said) (literals_fit t more)
+literals_fit : (t : TypeTree) (ls : List LiteralTree) (ps : List PositionTree) → positions_of t ls ≡ Some ps → CellsFit t ps
+literals_fit t [] ps e = let same : [] ≡ ps = cc in subst (CellsFit t) same tt
+literals_fit t (l ∷ ls) ps e = let p = stand_parts t l ls ps e in subst (CellsFit t) p.whole (literal_fits t l p.first p.stands, literals_fit t ls p.others p.stand)
 
 -- ---- columns
 
@@ -118,72 +96,37 @@ strings_held (utf8_type n) e = tt
 strings_held (binary_type n) e = tt
 strings_held _ e = absurd cc
 
--- only a column of strings has a string as its literal
-text_strings_of : (t : TypeTree) (bs : List ℕ) (x : Cell) → string_literal t bs ≡ Some (exactly x) → HoldsStrings t
-text_strings_of (utf8_type n) bs x e = tt
-text_strings_of _ bs x e = absurd cc
-
-text_strings : (t : TypeTree) (bs : List ℕ) (x : Cell) → literal_of t (string_token bs) ≡ Some (exactly x) → HoldsStrings t
-unfolding literal_of
-text_strings t bs x e = text_strings_of t bs x e
-
 module _ (types : List TypeTree) (k : ℕ) (t : TypeTree) (there : slice_get types k ≡ Some t) (ordered : HasNoVariant t) where
-  nothing_fits : FitsColumns types (null_test k)
-  nothing_fits = (record { dtype = t; there = there; ordered = tt; suits = tt }, tt)
+  prefixed_fits : (p : PositionTree) (f : Formula) → HoldsStrings t → CellFits t p → prefix_of k p ≡ Some f → FitsColumns types f
+  prefixed_fits (exactly x) f strings fits e = let same : prefix_test k x ≡ f = cc in subst (FitsColumns types) same (prefix_fits types k t there ordered x strings fits)
+  prefixed_fits (lacking o) f strings fits e = absurd cc
 
-  literals_suit : (xs : List Cell) → AllByRecursion (IsOfType t) xs → AllFit IsOfType types (record { column = k; demand = comparing xs } ∷ [])
-  literals_suit xs all = (record { dtype = t; there = there; ordered = ordered; suits = all }, tt)
-
-  prefix_fits : (x : Cell) → HoldsStrings t → IsOfType t x → FitsColumns types (prefix_test k x)
-  prefix_fits x strings fits = (record { dtype = t; there = there; ordered = ordered; suits = (strings, fits) }, tt)
-
-  lacking_fits : (b : Bool) → FitsColumns types (cond b (always k) (never k))
-  lacking_fits true = nothing_fits
-  lacking_fits false = nothing_fits
-
-  comparison_fits : (op : CompareOperator) (l : LiteralTree) → LiteralFits t l → FitsColumns types (comparison_of k op l)
-  comparison_fits op (exactly x) fits = literals_suit (x ∷ []) (fits, tt)
-  comparison_fits op (lacking b) fits = lacking_fits (holds op (order_to_lacking b))
-
-  halves_fit : (lower upper : LiteralTree) → LiteralFits t lower → LiteralFits t upper → FitsColumns types (both (comparison_of k Gte lower) (comparison_of k Lte upper))
-  halves_fit lower upper low high = fit_append types (tests (comparison_of k Gte lower)) (tests (comparison_of k Lte upper)) (comparison_fits Gte lower low) (comparison_fits Lte upper high)
-
-  range_fits : (lower upper : LiteralTree) → LiteralFits t lower → LiteralFits t upper → FitsColumns types (range_of k lower upper)
-  range_fits (exactly x) (exactly y) low high = literals_suit (x ∷ y ∷ []) (low, (high, tt))
-  range_fits (exactly x) (lacking b) low high = halves_fit (exactly x) (lacking b) low high
-  range_fits (lacking b) (exactly y) low high = halves_fit (lacking b) (exactly y) low high
-  range_fits (lacking b) (lacking c) low high = halves_fit (lacking b) (lacking c) low high
-
-  member_fits : (xs : List Cell) → AllByRecursion (IsOfType t) xs → FitsColumns types (member_of k xs)
-  member_fits [] all = nothing_fits
-  member_fits (x ∷ xs) all = literals_suit (x ∷ xs) all
-
-  like_fits : (bs : List ℕ) (x : Cell) → literal_of t (string_token bs) ≡ Some (exactly x) → FitsColumns types (prefix_test k x)
-  like_fits bs x said = prefix_fits x (text_strings t bs x said) (literal_fits t (string_token bs) x said)
-
-  test_fits : {ts : List TokenTree} {f : Formula} → IsTest k t ts f → FitsColumns types f
-  test_fits in_nothing = literals_suit [] tt
-  test_fits (in_literals {ts} {ls} l) = member_fits (cells_of ls) (literals_fit t l)
-  test_fits (between_literals {x} {y} {lower} {upper} low high) = range_fits lower upper (said_fits t x lower low) (said_fits t y upper high)
-  test_fits (like_pattern {pattern} {bs} {x} p u l) = like_fits bs x l
-  test_fits (like_escaped {pattern} {bs} {x} p u l) = like_fits bs x l
-
-  condition_fits : {ts : List TokenTree} {f : Formula} → IsCondition k t ts f → FitsColumns types f
-  condition_fits (compares {op} {x} {l} said) = comparison_fits op l (said_fits t x l said)
-  condition_fits is_null = nothing_fits
-  condition_fits is_not_null = nothing_fits
-  condition_fits (bare_test d) = test_fits d
-  condition_fits (not_test d) = test_fits d
+  -- what is written of a column fits it
+  condition_fits : (c : Condition) (f : Formula) → formula_in k t c ≡ Some f → FitsColumns types f
+  condition_fits (compared op l) f e =
+      let m = map_some (position_of t l) (comparison_of k op) f e in
+      subst (FitsColumns types) m.2 (comparison_fits types k t there ordered op m.0 (literal_fits t l m.0 m.1))
+  condition_fits missing f e = let same : null_test k ≡ f = cc in subst (FitsColumns types) same (nothing_fits types k t there)
+  condition_fits (listed ls) f e =
+      let m = map_some (positions_of t ls) (member_among k) f e in
+      subst (FitsColumns types) m.2 (membership_fits types k t there ordered m.0 (literals_fit t ls m.0 m.1))
+  condition_fits (between lower upper) f e =
+      let a = bind_some (position_of t lower) (λ p. option_map (range_of k p) (position_of t upper)) f e in
+      let b = map_some (position_of t upper) (range_of k a.0) f a.2 in
+      subst (FitsColumns types) b.2 (range_fits types k t there ordered a.0 b.0 (literal_fits t lower a.0 a.1) (literal_fits t upper b.0 b.1))
+  condition_fits (begun l) f e =
+      let g = guard_some (holds_strings t) (option_and_then (prefix_of k) (position_of t l)) f e in
+      let a = bind_some (position_of t l) (prefix_of k) f g.1 in
+      prefixed_fits a.0 f (strings_held t g.0) (literal_fits t l a.0 a.1) a.2
+  condition_fits (denied c) f e = let m = map_some (formula_in k t c) negation f e in subst (FitsColumns types) m.2 (condition_fits c m.0 m.1)
 
 module _ (columns : List ColumnTree) (ordered : AllOrdered columns) where
   predicate_fits : {ts : List TokenTree} {f : Formula} → IsPredicate columns ts f → FitsColumns (types_of columns) f
   predicate_fits says_true = tt
   predicate_fits says_false = tt
   predicate_fits says_null = tt
-  predicate_fits (on_column {name} {k} {t} {ts} {f} named d) = let there = column_is_there columns name k t named in condition_fits (types_of columns) k t there (ordered k t there) d
-  predicate_fits (prefix_call {name} {k} {t} {x} {prefix} named strings said) =
-      let there = column_is_there columns name k t named in
-      prefix_fits (types_of columns) k t there (ordered k t there) prefix (strings_held t strings) (literal_fits t x prefix said)
+  predicate_fits (on_column {name} {k} {t} {ts} {c} {f} named d e) = let there = column_is_there columns name k t named in condition_fits (types_of columns) k t there (ordered k t there) c f e
+  predicate_fits (prefix_call {name} {k} {t} {x} {l} {f} named said e) = let there = column_is_there columns name k t named in condition_fits (types_of columns) k t there (ordered k t there) (begun l) f e
 
   -- a filter of the grammar fits
   pub filter_fits : {l : Level} {n : ℕ} {ts : List TokenTree} {f : Formula} → IsFilter columns l n ts f → FitsColumns (types_of columns) f

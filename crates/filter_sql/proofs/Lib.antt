@@ -2,6 +2,7 @@ pub mod Again
 pub mod Canonical
 pub mod Characters
 pub mod ColumnSteps
+pub mod ConditionSteps
 pub mod Cuts
 pub mod FitLaws
 pub mod Lexed

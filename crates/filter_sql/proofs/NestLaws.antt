@@ -1,18 +1,23 @@
 -- How deep the filter that tokens are nests: of the left one of two operands more may nest than of the right one.
-use Rattle.std.proofs.Common.{ℕ, suc, ◌+◌, ◌*◌, ◌≤◌, max, Bool, true, false, cond, List, [], ◌∷◌, length, arith, length-append}
+use Rattle.std.proofs.Common.{◌≡◌, ℕ, suc, ◌+◌, ◌*◌, ◌≤◌, max, Bool, true, false, List, [], ◌∷◌, Some, length, arith, length-append, subst}
+use Rattle.std.specs.Prelude.{option_and_then, option_map}
 use Rattle.vortex_dtype.specs.TypeTree.{TypeTree}
 use Rattle.vortex_cells.specs.Cells.{Cell}
 use Rattle.vortex_filter.specs.declared.operator.CompareOperator.{CompareOperator}
 use Rattle.vortex_filter.specs.declared.operator.CompareOperator.TheVariants.{Gte, Lte}
-use Rattle.vortex_filter.specs.Formula.{Formula, both, either, negation}
+use Rattle.vortex_filter.specs.CheckSteps.{holds_strings}
+use Rattle.vortex_filter.specs.Formula.{Formula, both, either, negation, null_test, prefix_test}
+use Rattle.vortex_filter.specs.Literals.{LiteralTree, position_of, text_literal}
 use Rattle.vortex_filter.specs.Operators.{holds}
+use Rattle.vortex_filter.specs.Positions.{PositionTree, exactly, lacking, cells_of, comparison_of, for_values, member_among, member_of, prefix_of, range_of}
 use Rattle.filter_sql.specs.declared.print.Level.{Level}
 use Rattle.filter_sql.specs.declared.print.Level.TheVariants as levels
 use Rattle.filter_sql.specs.declared.token.Keyword.TheVariants as keywords
 use Rattle.filter_sql.specs.Columns.{ColumnTree}
 use Rattle.filter_sql.specs.Grammar.{IsCondition, IsFilter, IsPredicate, IsTest, and_filter, bare_test, between_literals, compares, group, in_literals, in_nothing, is_not_null, is_null, like_escaped, like_pattern, not_filter, not_test, on_column, one_conjunction, one_operand, or_filter, predicate, prefix_call, says_false, says_null, says_true}
-use Rattle.filter_sql.specs.Literals.{LiteralTree, always, cells_of, comparison_of, exactly, lacking, member_of, never, order_to_lacking, range_of}
+use Rattle.filter_sql.specs.Literals.{Condition, begun, formula_in, missing, positions_of}
 use Rattle.filter_sql.specs.Tokens.{TokenTree, closing, keyword_token}
+use Rattle.filter_sql.proofs.ConditionSteps.{bind_some, guard_some, map_some}
 
 -- ---- how deep a formula nests
 
@@ -30,62 +35,120 @@ pub record IsLow (most : ℕ) (ts : List TokenTree) (f : Formula) : Type 0 where
   pub high : height f ≤ most
   pub tokens : height f ≤ length ts
 
-lacking-height : (k : ℕ) (b : Bool) → height (cond b (always k) (never k)) ≤ 2
+lacking-height : (k : ℕ) (b : Bool) → height (for_values b k) ≤ 2
 lacking-height k true = omega arith
 lacking-height k false = omega arith
 
-comparison-height : (k : ℕ) (op : CompareOperator) (l : LiteralTree) → height (comparison_of k op l) ≤ 2
+comparison-height : (k : ℕ) (op : CompareOperator) (p : PositionTree) → height (comparison_of k op p) ≤ 2
 comparison-height k op (exactly x) = omega arith
-comparison-height k op (lacking b) = lacking-height k (holds op (order_to_lacking b))
+comparison-height k op (lacking o) = lacking-height k (holds op o)
 
-halves-height : (k : ℕ) (lower upper : LiteralTree) → height (both (comparison_of k Gte lower) (comparison_of k Lte upper)) ≤ 3
+halves-height : (k : ℕ) (lower upper : PositionTree) → height (both (comparison_of k Gte lower) (comparison_of k Lte upper)) ≤ 3
 halves-height k lower upper =
     let low = comparison-height k Gte lower in
     let high = comparison-height k Lte upper in
     omega (arith, low, high)
 
-range-height : (k : ℕ) (lower upper : LiteralTree) → height (range_of k lower upper) ≤ 3
+range-height : (k : ℕ) (lower upper : PositionTree) → height (range_of k lower upper) ≤ 3
 range-height k (exactly x) (exactly y) = omega arith
-range-height k (exactly x) (lacking b) = halves-height k (exactly x) (lacking b)
-range-height k (lacking b) (exactly y) = halves-height k (lacking b) (exactly y)
-range-height k (lacking b) (lacking c) = halves-height k (lacking b) (lacking c)
+range-height k (exactly x) (lacking o) = halves-height k (exactly x) (lacking o)
+range-height k (lacking o) (exactly y) = halves-height k (lacking o) (exactly y)
+range-height k (lacking o) (lacking r) = halves-height k (lacking o) (lacking r)
 
 member-height : (k : ℕ) (xs : List Cell) → height (member_of k xs) ≤ 1
 member-height k [] = omega arith
 member-height k (x ∷ xs) = omega arith
 
-test-low : {k : ℕ} {t : TypeTree} {ts : List TokenTree} {f : Formula} → IsTest k t ts f → IsLow 3 ts f
-test-low in_nothing = record { high = omega arith; tokens = omega arith }
-test-low {k = k} (in_literals {ts} {ls} l) =
-    let low = member-height k (cells_of ls) in
-    record { high = omega (arith, low); tokens = omega (arith, low) }
-test-low {k = k} (between_literals {x} {y} {lower} {upper} p q) =
-    let low = range-height k lower upper in
-    record { high = low; tokens = omega (arith, low) }
-test-low (like_pattern p u l) = record { high = omega arith; tokens = omega arith }
-test-low (like_escaped p u l) = record { high = omega arith; tokens = omega arith }
+among-height : (k : ℕ) (ps : List PositionTree) → height (member_among k ps) ≤ 1
+among-height k [] = omega arith
+among-height k (p ∷ ps) = member-height k (cells_of (p ∷ ps))
 
-condition-low : {k : ℕ} {t : TypeTree} {ts : List TokenTree} {f : Formula} → IsCondition k t ts f → IsLow 4 ts f
-condition-low {k = k} (compares {op} {x} {l} said) =
-    let low = comparison-height k op l in
-    record { high = omega (arith, low); tokens = omega (arith, low) }
-condition-low is_null = record { high = omega arith; tokens = omega arith }
-condition-low is_not_null = record { high = omega arith; tokens = omega arith }
-condition-low (bare_test d) =
-    let low = test-low d in
-    record { high = omega (arith, low.high); tokens = low.tokens }
-condition-low (not_test d) =
-    let low = test-low d in
-    record { high = omega (arith, low.high); tokens = omega (arith, low.tokens) }
+prefix-height : (k : ℕ) (p : PositionTree) (f : Formula) → prefix_of k p ≡ Some f → height f ≤ 0
+prefix-height k (exactly x) f e = let same : prefix_test k x ≡ f = cc in subst (λ (g : Formula). height g ≤ 0) same (omega arith)
+prefix-height k (lacking o) f e = absurd cc
+
+begun-height : (k : ℕ) (t : TypeTree) (l : LiteralTree) (f : Formula) → formula_in k t (begun l) ≡ Some f → height f ≤ 0
+begun-height k t l f e =
+    let g = guard_some (holds_strings t) (option_and_then (prefix_of k) (position_of t l)) f e in
+    let a = bind_some (position_of t l) (prefix_of k) f g.1 in
+    prefix-height k a.0 f a.2
+
+module _ (k : ℕ) (t : TypeTree) where
+  listed-height : (ls : List LiteralTree) (f : Formula) → option_map (member_among k) (positions_of t ls) ≡ Some f → height f ≤ 1
+  listed-height ls f e =
+      let m = map_some (positions_of t ls) (member_among k) f e in
+      subst (λ (g : Formula). height g ≤ 1) m.2 (among-height k m.0)
+
+  between-height : (lower upper : LiteralTree) (f : Formula) → option_and_then (λ p. option_map (range_of k p) (position_of t upper)) (position_of t lower) ≡ Some f → height f ≤ 3
+  between-height lower upper f e =
+      let a = bind_some (position_of t lower) (λ p. option_map (range_of k p) (position_of t upper)) f e in
+      let b = map_some (position_of t upper) (range_of k a.0) f a.2 in
+      subst (λ (g : Formula). height g ≤ 3) b.2 (range-height k a.0 b.0)
+
+  compared-height : (op : CompareOperator) (l : LiteralTree) (f : Formula) → option_map (comparison_of k op) (position_of t l) ≡ Some f → height f ≤ 2
+  compared-height op l f e =
+      let m = map_some (position_of t l) (comparison_of k op) f e in
+      subst (λ (g : Formula). height g ≤ 2) m.2 (comparison-height k op m.0)
+
+  missing-height : (f : Formula) → formula_in k t missing ≡ Some f → height f ≤ 0
+  missing-height f e = let same : null_test k ≡ f = cc in subst (λ (g : Formula). height g ≤ 0) same (omega arith)
+
+  -- a formula that is denied nests one deeper
+  denied-height : (n : ℕ) (c : Condition) (f : Formula) → ((g : Formula) → formula_in k t c ≡ Some g → height g ≤ n) → option_map negation (formula_in k t c) ≡ Some f → height f ≤ suc n
+  denied-height n c f below e =
+      let m = map_some (formula_in k t c) negation f e in
+      let low = below m.0 m.1 in
+      subst (λ (g : Formula). height g ≤ suc n) m.2 (omega (arith, low))
+
+  test-low : {ts : List TokenTree} {c : Condition} → IsTest ts c → (f : Formula) → formula_in k t c ≡ Some f → IsLow 3 ts f
+  test-low in_nothing f e =
+      let low = listed-height [] f e in
+      record { high = omega (arith, low); tokens = omega (arith, low) }
+  test-low (in_literals {ts} {ls} l) f e =
+      let low = listed-height ls f e in
+      record { high = omega (arith, low); tokens = omega (arith, low) }
+  test-low (between_literals {x} {y} {lower} {upper} p q) f e =
+      let low = between-height lower upper f e in
+      record { high = low; tokens = omega (arith, low) }
+  test-low (like_pattern {pattern} {bs} p u) f e =
+      let low = begun-height k t (text_literal bs) f e in
+      record { high = omega (arith, low); tokens = omega (arith, low) }
+  test-low (like_escaped {pattern} {bs} p u) f e =
+      let low = begun-height k t (text_literal bs) f e in
+      record { high = omega (arith, low); tokens = omega (arith, low) }
+
+  -- a test, and one that is denied
+  denied-low : {ts : List TokenTree} {c : Condition} → IsTest ts c → (f : Formula) → option_map negation (formula_in k t c) ≡ Some f → IsLow 4 (keyword_token keywords.Not ∷ ts) f
+  denied-low {ts} {c} d f e =
+      let m = map_some (formula_in k t c) negation f e in
+      let low = test-low d m.0 m.1 in
+      subst (IsLow 4 (keyword_token keywords.Not ∷ ts)) m.2 (record { high = omega (arith, low.high); tokens = omega (arith, low.tokens) })
+
+  condition-low : {ts : List TokenTree} {c : Condition} → IsCondition ts c → (f : Formula) → formula_in k t c ≡ Some f → IsLow 4 ts f
+  condition-low (compares {op} {x} {l} said) f e =
+      let low = compared-height op l f e in
+      record { high = omega (arith, low); tokens = omega (arith, low) }
+  condition-low is_null f e =
+      let low = missing-height f e in
+      record { high = omega (arith, low); tokens = omega (arith, low) }
+  condition-low is_not_null f e =
+      let low = denied-height 0 missing f missing-height e in
+      record { high = omega (arith, low); tokens = omega (arith, low) }
+  condition-low (bare_test d) f e =
+      let low = test-low d f e in
+      record { high = omega (arith, low.high); tokens = low.tokens }
+  condition-low (not_test d) f e = denied-low d f e
 
 predicate-low : {columns : List ColumnTree} {ts : List TokenTree} {f : Formula} → IsPredicate columns ts f → IsLow 4 ts f
 predicate-low says_true = record { high = omega arith; tokens = omega arith }
 predicate-low says_false = record { high = omega arith; tokens = omega arith }
 predicate-low says_null = record { high = omega arith; tokens = omega arith }
-predicate-low (on_column named d) =
-    let low = condition-low d in
+predicate-low (on_column {name} {k} {t} {ts} {c} {f} named d e) =
+    let low = condition-low k t d f e in
     record { high = low.high; tokens = omega (arith, low.tokens) }
-predicate-low (prefix_call named strings said) = record { high = omega arith; tokens = omega arith }
+predicate-low (prefix_call {name} {k} {t} {x} {l} {f} named said e) =
+    let low = begun-height k t l f e in
+    record { high = omega (arith, low); tokens = omega (arith, low) }
 
 -- the most that a filter of a level can be, if so many connectives and parentheses nest in its tokens: of a left operand more may nest
 abbrev most : Level → ℕ → ℕ

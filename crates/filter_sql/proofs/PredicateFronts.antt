@@ -1,6 +1,6 @@
 -- What is read of predicates is in the grammar.
-use Rattle.std.proofs.Common.{◌≡◌, ◌⊎◌, inl, inr, ℕ, Bool, true, false, cond, List, [], ◌∷◌, ◌++◌, Option, Some, None, refl, sym, ap, subst, ◌∙◌, append_assoc}
-use Rattle.std.specs.Prelude.{option_and_then}
+use Rattle.std.proofs.Common.{◌≡◌, ◌⊎◌, inl, inr, ℕ, Bool, true, false, List, [], ◌∷◌, ◌++◌, Option, Some, None, refl, sym, ap, subst, ◌∙◌, append_assoc}
+use Rattle.std.specs.Prelude.{option_map}
 use Rattle.std.specs.Str.{bytes_eq, is_utf8}
 use Rattle.std.proofs.lemmas.List.{append-nil}
 use Rattle.std.proofs.lemmas.Slice.Eq.{bytes_eq-Decides}
@@ -10,28 +10,24 @@ use Rattle.vortex_filter.specs.declared.operator.CompareOperator.{CompareOperato
 use Rattle.filter_sql.specs.declared.token.Keyword.TheVariants.{And, Not, In, Is, Null, Between, Like, Escape, True, False, StartsWith}
 use Rattle.vortex_filter.specs.declared.truth.Truth.TheVariants as truths
 use Rattle.filter_sql.specs.Columns.{ColumnTree, column_named}
-use Rattle.vortex_filter.specs.Formula.{Formula, constant, null_test, membership, prefix_test, negation}
-use Rattle.filter_sql.specs.Literals.{LiteralTree, exactly, lacking, literal_of, comparison_of, range_of, cells_of, member_of, holds_strings, pattern_prefix}
+use Rattle.vortex_filter.specs.Formula.{Formula, constant, null_test, membership, negation}
+use Rattle.vortex_filter.specs.CheckSteps.{holds_strings}
+use Rattle.vortex_filter.specs.Literals.{LiteralTree, text_in, text_literal}
+use Rattle.vortex_filter.specs.Positions.{PositionTree, cells_of, comparison_of, member_among, member_of, prefix_of, range_of}
+use Rattle.filter_sql.specs.Literals.{Condition, compared, missing, listed, between, begun, denied, formula_in, pattern_prefix, positions_of}
 use Rattle.filter_sql.specs.Grammar.{AreLiterals, one_literal, more_literals, IsTest, in_nothing, in_literals, between_literals, like_pattern, like_escaped, IsCondition, compares, is_null, is_not_null, bare_test, not_test, IsPredicate, says_true, says_false, says_null, on_column, prefix_call}
 use Rattle.filter_sql.specs.Tokens.{TokenTree, keyword_token, name_token, string_token, operator_token, opening, closing, comma}
-use Rattle.filter_sql.specs.Reading.{◌>>=◌, chosen, Read, after_keyword, after_opening, after_closing, after_comma, operator_at, name_at, string_at, literal_at, preceded, more_cells, cells_at, members_from, members_at, range_at, backslash, escape_at, prefix_from, text_prefix, like_at, test_at, comparison_at, null_test_at, negated, condition_at, condition_of, prefix_of, prefix_call_at, constant_at, predicate_at}
+use Rattle.filter_sql.specs.Reading.{◌>>=◌, chosen, Read, after_keyword, after_opening, after_closing, after_comma, operator_at, name_at, string_at, position_at, token_position, preceded, more_cells, cells_at, members_from, members_at, range_at, backslash, escape_at, text_prefix, like_at, test_at, comparison_at, null_test_at, negated, condition_at, condition_of, prefix_in, prefix_call_at, constant_at, predicate_at}
+use Rattle.filter_sql.proofs.ConditionSteps.{begun_says, between_says, bind_some, guard_some, some_members, stand_more, text_strings, token_stands}
 use Rattle.filter_sql.proofs.TestSteps.{literal_came}
 use Rattle.filter_sql.proofs.PredicateLaws.{cells_front}
 use Rattle.filter_sql.proofs.Words.{keyword_came, opening_came, closing_came, comma_came, some_is}
 
 -- ---- steps that did not fail
 
-bind_some : {A B : Type 0} (o : Option A) (f : A → Option B) (y : B) → option_and_then f o ≡ Some y → (x : A) × (o ≡ Some x) × (f x ≡ Some y)
-bind_some None f y e = absurd cc
-bind_some (Some x) f y e = (x, refl, e)
-
 chosen_some : {A B : Type 0} (o : Option A) (f : A → Option B) (d : Option B) (y : B) → chosen o f d ≡ Some y → ((x : A) × (o ≡ Some x) × (f x ≡ Some y)) ⊎ (d ≡ Some y)
 chosen_some None f d y e = inr e
 chosen_some (Some x) f d y e = inl (x, refl, e)
-
-guard_some : {A : Type 0} (b : Bool) (x : Option A) (y : A) → cond b x None ≡ Some y → (b ≡ true) × (x ≡ Some y)
-guard_some true x y e = (refl, e)
-guard_some false x y e = absurd cc
 
 abbrev made : {A B : Type 0} → A → B → Option (A × B)
 made a b = Some (a, b)
@@ -63,9 +59,11 @@ string_came _ bs us e = absurd cc
 record CellsFront (t : TypeTree) (ts : List TokenTree) (cs : List Cell) (us : List TokenTree) : Type 0 where
   tokens : List TokenTree
   literals : List LiteralTree
+  positions : List PositionTree
   whole : ts ≡ tokens ++ closing ∷ us
-  are : AreLiterals t tokens literals
-  cells : cs ≡ cells_of literals
+  are : AreLiterals tokens literals
+  stand : positions_of t literals ≡ Some positions
+  cells : cs ≡ cells_of positions
 
 record CommaFront (t : TypeTree) (ts : List TokenTree) (cs : List Cell) (us : List TokenTree) : Type 0 where
   behind : List TokenTree
@@ -75,38 +73,46 @@ record CommaFront (t : TypeTree) (ts : List TokenTree) (cs : List Cell) (us : Li
 abbrev MoreFront : TypeTree → List TokenTree → List Cell → List TokenTree → Type 0
 MoreFront t ts cs us = ((ts ≡ closing ∷ us) × (cs ≡ [])) ⊎ CommaFront t ts cs us
 
-literal_first : (t : TypeTree) (x : TokenTree) (l : LiteralTree) (ts : List TokenTree) (ds : List Cell) (us : List TokenTree) → literal_of t x ≡ Some l → MoreFront t ts ds us → CellsFront t (x ∷ ts) (cells_of (l ∷ []) ++ ds) us
-literal_first t x l ts ds us said (inl end) = record {
-  tokens = x ∷ [];
-  literals = l ∷ [];
-  whole = ap (λ (r : List TokenTree). x ∷ r) end.0;
-  are = one_literal said;
-  cells = ap (λ (cs : List Cell). cells_of (l ∷ []) ++ cs) end.1 ∙ append-nil (cells_of (l ∷ []));
-}
-literal_first t x l ts ds us said (inr more) = record {
-  tokens = x ∷ comma ∷ more.front.tokens;
-  literals = l ∷ more.front.literals;
-  whole = ap (λ (r : List TokenTree). x ∷ r) (more.begins ∙ ap (λ (r : List TokenTree). comma ∷ r) more.front.whole);
-  are = more_literals said more.front.are;
-  cells = ap (λ (cs : List Cell). cells_of (l ∷ []) ++ cs) more.front.cells ∙ cells_front l more.front.literals;
-}
+literal_first : (t : TypeTree) (x : TokenTree) (p : PositionTree) (ts : List TokenTree) (ds : List Cell) (us : List TokenTree) → token_position t x ≡ Some p → MoreFront t ts ds us → CellsFront t (x ∷ ts) (cells_of (p ∷ []) ++ ds) us
+literal_first t x p ts ds us said (inl end) =
+    let s = token_stands t x p said in
+    record {
+      tokens = x ∷ [];
+      literals = s.0 ∷ [];
+      positions = p ∷ [];
+      whole = ap (λ (r : List TokenTree). x ∷ r) end.0;
+      are = one_literal {x = x} {l = s.0} s.1;
+      stand = stand_more t s.0 p [] [] s.2 refl;
+      cells = ap (λ (cs : List Cell). cells_of (p ∷ []) ++ cs) end.1 ∙ append-nil (cells_of (p ∷ []));
+    }
+literal_first t x p ts ds us said (inr more) =
+    let s = token_stands t x p said in
+    record {
+      tokens = x ∷ comma ∷ more.front.tokens;
+      literals = s.0 ∷ more.front.literals;
+      positions = p ∷ more.front.positions;
+      whole = ap (λ (r : List TokenTree). x ∷ r) (more.begins ∙ ap (λ (r : List TokenTree). comma ∷ r) more.front.whole);
+      are = more_literals {x = x} {l = s.0} {ts = more.front.tokens} {ls = more.front.literals} s.1 more.front.are;
+      stand = stand_more t s.0 p more.front.literals more.front.positions s.2 more.front.stand;
+      cells = ap (λ (cs : List Cell). cells_of (p ∷ []) ++ cs) more.front.cells ∙ cells_front p more.front.positions;
+    }
 
 record Preceded (t : TypeTree) (x : TokenTree) (r : Option (List Cell × List TokenTree)) (cs : List Cell) (us : List TokenTree) : Type 0 where
-  literal : LiteralTree
+  position : PositionTree
   more : List Cell
-  said : literal_of t x ≡ Some literal
+  said : token_position t x ≡ Some position
   read : r ≡ Some (more, us)
-  cells : cells_of (literal ∷ []) ++ more ≡ cs
+  cells : cells_of (position ∷ []) ++ more ≡ cs
 
-preceded_parts : (t : TypeTree) (x : TokenTree) (o : Option LiteralTree) (r : Option (List Cell × List TokenTree)) (cs : List Cell) (us : List TokenTree) → literal_of t x ≡ o → preceded o r ≡ Some (cs, us) → Preceded t x r cs us
+preceded_parts : (t : TypeTree) (x : TokenTree) (o : Option PositionTree) (r : Option (List Cell × List TokenTree)) (cs : List Cell) (us : List TokenTree) → token_position t x ≡ o → preceded o r ≡ Some (cs, us) → Preceded t x r cs us
 preceded_parts t x None r cs us said e = absurd cc
-preceded_parts t x (Some l) None cs us said e = absurd cc
-preceded_parts t x (Some l) (Some (ds, vs)) cs us said e =
-    let p = pair_parts (cells_of (l ∷ []) ++ ds) cs vs us e in
-    record { literal = l; more = ds; said = said; read = ap (λ (r : List TokenTree). Some (ds, r)) p.1; cells = p.0 }
+preceded_parts t x (Some p) None cs us said e = absurd cc
+preceded_parts t x (Some p) (Some (ds, vs)) cs us said e =
+    let q = pair_parts (cells_of (p ∷ []) ++ ds) cs vs us e in
+    record { position = p; more = ds; said = said; read = ap (λ (r : List TokenTree). Some (ds, r)) q.1; cells = q.0 }
 
 with_cells : (t : TypeTree) (ts : List TokenTree) (cs ds : List Cell) (us : List TokenTree) → ds ≡ cs → CellsFront t ts ds us → CellsFront t ts cs us
-with_cells t ts cs ds us same front = record { tokens = front.tokens; literals = front.literals; whole = front.whole; are = front.are; cells = sym same ∙ front.cells }
+with_cells t ts cs ds us same front = subst (λ (es : List Cell). CellsFront t ts es us) same front
 
 more_came : (t : TypeTree) (ts : List TokenTree) (cs : List Cell) (us : List TokenTree) → more_cells t ts ≡ Some (cs, us) → MoreFront t ts cs us
 unfolding more_cells
@@ -114,38 +120,42 @@ more_came t [] cs us e = absurd cc
 more_came t (closing ∷ ts) cs us e = let p = pair_parts [] cs ts us e in inl (ap (λ (r : List TokenTree). closing ∷ r) p.1, sym p.0)
 more_came t (comma ∷ []) cs us e = absurd cc
 more_came t (comma ∷ x ∷ ts) cs us e =
-    let p = preceded_parts t x (literal_of t x) (more_cells t ts) cs us refl e in
-    inr (record { behind = x ∷ ts; begins = refl; front = with_cells t (x ∷ ts) cs (cells_of (p.literal ∷ []) ++ p.more) us p.cells (literal_first t x p.literal ts p.more us p.said (more_came t ts p.more us p.read)) })
+    let p = preceded_parts t x (token_position t x) (more_cells t ts) cs us refl e in
+    inr (record { behind = x ∷ ts; begins = refl; front = with_cells t (x ∷ ts) cs (cells_of (p.position ∷ []) ++ p.more) us p.cells (literal_first t x p.position ts p.more us p.said (more_came t ts p.more us p.read)) })
 more_came t (_ ∷ ts) cs us e = absurd cc
 
 cells_came : (t : TypeTree) (ts : List TokenTree) (cs : List Cell) (us : List TokenTree) → cells_at t ts ≡ Some (cs, us) → CellsFront t ts cs us
 unfolding cells_at
 cells_came t [] cs us e = absurd cc
 cells_came t (x ∷ ts) cs us e =
-    let p = preceded_parts t x (literal_of t x) (more_cells t ts) cs us refl e in
-    with_cells t (x ∷ ts) cs (cells_of (p.literal ∷ []) ++ p.more) us p.cells (literal_first t x p.literal ts p.more us p.said (more_came t ts p.more us p.read))
+    let p = preceded_parts t x (token_position t x) (more_cells t ts) cs us refl e in
+    with_cells t (x ∷ ts) cs (cells_of (p.position ∷ []) ++ p.more) us p.cells (literal_first t x p.position ts p.more us p.said (more_came t ts p.more us p.read))
 
 -- ---- tests
 
+-- a front of the tokens is a test of column k, of type t, with this formula
 record TestFront (k : ℕ) (t : TypeTree) (ts : List TokenTree) (f : Formula) (rest : List TokenTree) : Type 0 where
   front : List TokenTree
+  condition : Condition
   whole : ts ≡ front ++ rest
-  means : IsTest k t front f
+  means : IsTest front condition
+  says : formula_in k t condition ≡ Some f
 
-test_with : (k : ℕ) (t : TypeTree) (ts front : List TokenTree) (g f : Formula) (us rest : List TokenTree) → ts ≡ front ++ us → IsTest k t front g → (g ≡ f) × (us ≡ rest) → TestFront k t ts f rest
-test_with k t ts front g f us rest whole means same = record { front = front; whole = whole ∙ ap (λ (r : List TokenTree). front ++ r) same.1; means = subst (λ (h : Formula). IsTest k t front h) same.0 means }
+test_with : (k : ℕ) (t : TypeTree) (ts front : List TokenTree) (c : Condition) (g f : Formula) (us rest : List TokenTree) → ts ≡ front ++ us → IsTest front c → formula_in k t c ≡ Some g → (g ≡ f) × (us ≡ rest) → TestFront k t ts f rest
+test_with k t ts front c g f us rest whole means says same =
+    record { front = front; condition = c; whole = whole ∙ ap (λ (r : List TokenTree). front ++ r) same.1; means = means; says = says ∙ ap (λ (h : Formula). Some h) same.0 }
 
 module _ (k : ℕ) (t : TypeTree) (f : Formula) (rest : List TokenTree) where
   members_parts : (ts us : List TokenTree) (after : Option (List TokenTree)) → ts ≡ keyword_token In ∷ opening ∷ us → after_closing us ≡ after → members_from k t us after ≡ Some (f, rest) → TestFront k t ts f rest
   members_parts ts us (Some vs) begins end e =
-      test_with k t ts (keyword_token In ∷ opening ∷ closing ∷ []) (membership k []) f vs rest (begins ∙ ap (λ (r : List TokenTree). keyword_token In ∷ opening ∷ r) (closing_came us vs end)) in_nothing (pair_parts (membership k []) f vs rest e)
+      test_with k t ts (keyword_token In ∷ opening ∷ closing ∷ []) (listed []) (membership k []) f vs rest (begins ∙ ap (λ (r : List TokenTree). keyword_token In ∷ opening ∷ r) (closing_came us vs end)) in_nothing refl (pair_parts (membership k []) f vs rest e)
   members_parts ts us None begins end e =
       let a = bind_some (cells_at t us) (λ x. Some (member_of k x.0, x.1)) (f, rest) e in
       let c = cells_came t us a.0.0 a.0.1 a.1 in
       let same = pair_parts (member_of k a.0.0) f a.0.1 rest a.2 in
-      test_with k t ts (keyword_token In ∷ opening ∷ (c.tokens ++ closing ∷ [])) (member_of k (cells_of c.literals)) f a.0.1 rest
+      test_with k t ts (keyword_token In ∷ opening ∷ (c.tokens ++ closing ∷ [])) (listed c.literals) (member_among k c.positions) f a.0.1 rest
       (begins ∙ ap (λ (r : List TokenTree). keyword_token In ∷ opening ∷ r) (c.whole ∙ sym (append_assoc c.tokens (closing ∷ []) a.0.1)))
-      (in_literals c.are) (ap (member_of k) (sym c.cells) ∙ same.0, same.1)
+      (in_literals {ts = c.tokens} {ls = c.literals} c.are) (ap (option_map (member_among k)) c.stand) (sym (some_members k t c.are c.positions c.stand) ∙ ap (member_of k) (sym c.cells) ∙ same.0, same.1)
 
   members_front : (ts us : List TokenTree) → ts ≡ keyword_token In ∷ us → members_at k t us ≡ Some (f, rest) → TestFront k t ts f rest
   unfolding members_at
@@ -156,15 +166,17 @@ module _ (k : ℕ) (t : TypeTree) (f : Formula) (rest : List TokenTree) where
   range_front : (ts us : List TokenTree) → ts ≡ keyword_token Between ∷ us → range_at k t us ≡ Some (f, rest) → TestFront k t ts f rest
   unfolding range_at
   range_front ts us begins e =
-      let a = bind_some (literal_at t us) (λ lower. after_keyword And lower.1 >>= λ vs. literal_at t vs >>= λ upper. Some (range_of k lower.0 upper.0, upper.1)) (f, rest) e in
-      let b = bind_some (after_keyword And a.0.1) (λ vs. literal_at t vs >>= λ upper. Some (range_of k a.0.0 upper.0, upper.1)) (f, rest) a.2 in
-      let c = bind_some (literal_at t b.0) (λ upper. Some (range_of k a.0.0 upper.0, upper.1)) (f, rest) b.2 in
+      let a = bind_some (position_at t us) (λ lower. after_keyword And lower.1 >>= λ vs. position_at t vs >>= λ upper. Some (range_of k lower.0 upper.0, upper.1)) (f, rest) e in
+      let b = bind_some (after_keyword And a.0.1) (λ vs. position_at t vs >>= λ upper. Some (range_of k a.0.0 upper.0, upper.1)) (f, rest) a.2 in
+      let c = bind_some (position_at t b.0) (λ upper. Some (range_of k a.0.0 upper.0, upper.1)) (f, rest) b.2 in
       let low = literal_came t us a.0.0 a.0.1 a.1 in
       let high = literal_came t b.0 c.0.0 c.0.1 c.1 in
+      let from = token_stands t low.token a.0.0 low.says in
+      let to = token_stands t high.token c.0.0 high.says in
       let word = keyword_came And a.0.1 b.0 b.1 in
-      test_with k t ts (keyword_token Between ∷ low.token ∷ keyword_token And ∷ high.token ∷ []) (range_of k a.0.0 c.0.0) f c.0.1 rest
+      test_with k t ts (keyword_token Between ∷ low.token ∷ keyword_token And ∷ high.token ∷ []) (between from.0 to.0) (range_of k a.0.0 c.0.0) f c.0.1 rest
       (begins ∙ ap (λ (r : List TokenTree). keyword_token Between ∷ r) (low.whole ∙ ap (λ (r : List TokenTree). low.token ∷ r) (word ∙ ap (λ (r : List TokenTree). keyword_token And ∷ r) high.whole)))
-      (between_literals low.says high.says) (pair_parts (range_of k a.0.0 c.0.0) f c.0.1 rest c.2)
+      (between_literals {x = low.token} {y = high.token} {lower = from.0} {upper = to.0} from.1 to.1) (between_says k t from.0 to.0 a.0.0 c.0.0 from.2 to.2) (pair_parts (range_of k a.0.0 c.0.0) f c.0.1 rest c.2)
 
 -- whether a backslash escapes, and what follows
 abbrev Escapes : List TokenTree → Bool → List TokenTree → Type 0
@@ -184,32 +196,26 @@ escape_came ts escapes us e =
     ]
 
 record TextPrefix (k : ℕ) (t : TypeTree) (bs : List ℕ) (f : Formula) : Type 0 where
-  cell : Cell
   utf8 : is_utf8 bs ≡ true
-  says : literal_of t (string_token bs) ≡ Some (exactly cell)
-  is : prefix_test k cell ≡ f
-
-prefix_by : (k : ℕ) (t : TypeTree) (bs : List ℕ) (f : Formula) (l : LiteralTree) → is_utf8 bs ≡ true → literal_of t (string_token bs) ≡ Some l → prefix_from k l ≡ Some f → TextPrefix k t bs f
-prefix_by k t bs f (exactly x) utf8 said e = record { cell = x; utf8 = utf8; says = said; is = some_is (prefix_test k x) f e }
-prefix_by k t bs f (lacking b) utf8 said e = absurd cc
+  says : formula_in k t (begun (text_literal bs)) ≡ Some f
 
 text_came : (k : ℕ) (t : TypeTree) (bs : List ℕ) (f : Formula) → text_prefix k t bs ≡ Some f → TextPrefix k t bs f
 unfolding text_prefix
 text_came k t bs f e =
-    let g = guard_some (is_utf8 bs) (literal_of t (string_token bs) >>= prefix_from k) f e in
-    let a = bind_some (literal_of t (string_token bs)) (prefix_from k) f g.1 in
-    prefix_by k t bs f a.0 g.0 a.1 a.2
+    let g = guard_some (is_utf8 bs) (text_in t bs >>= prefix_of k) f e in
+    let a = bind_some (text_in t bs) (prefix_of k) f g.1 in
+    record { utf8 = g.0; says = begun_says k t (text_literal bs) a.0 f (text_strings t bs a.0 a.1) a.1 a.2 }
 
 module _ (k : ℕ) (t : TypeTree) (f : Formula) (rest : List TokenTree) where
   like_by : (ts : List TokenTree) (pattern bs : List ℕ) (vs : List TokenTree) (escapes : Bool) (us : List TokenTree) (g : Formula) → ts ≡ keyword_token Like ∷ string_token pattern ∷ vs → Escapes vs escapes us → pattern_prefix escapes pattern ≡ Some bs → TextPrefix k t bs g → (g ≡ f) × (us ≡ rest) → TestFront k t ts f rest
   like_by ts pattern bs vs escapes us g begins (inl plain) prefix text same =
-      test_with k t ts (keyword_token Like ∷ string_token pattern ∷ []) (prefix_test k text.cell) f us rest
+      test_with k t ts (keyword_token Like ∷ string_token pattern ∷ []) (begun (text_literal bs)) g f us rest
       (begins ∙ ap (λ (r : List TokenTree). keyword_token Like ∷ string_token pattern ∷ r) plain.1)
-      (like_pattern (subst (λ (b : Bool). pattern_prefix b pattern ≡ Some bs) plain.0 prefix) text.utf8 text.says) (text.is ∙ same.0, same.1)
+      (like_pattern (subst (λ (b : Bool). pattern_prefix b pattern ≡ Some bs) plain.0 prefix) text.utf8) text.says same
   like_by ts pattern bs vs escapes us g begins (inr escaped) prefix text same =
-      test_with k t ts (keyword_token Like ∷ string_token pattern ∷ keyword_token Escape ∷ string_token (92 ∷ []) ∷ []) (prefix_test k text.cell) f us rest
+      test_with k t ts (keyword_token Like ∷ string_token pattern ∷ keyword_token Escape ∷ string_token (92 ∷ []) ∷ []) (begun (text_literal bs)) g f us rest
       (begins ∙ ap (λ (r : List TokenTree). keyword_token Like ∷ string_token pattern ∷ r) escaped.1)
-      (like_escaped (subst (λ (b : Bool). pattern_prefix b pattern ≡ Some bs) escaped.0 prefix) text.utf8 text.says) (text.is ∙ same.0, same.1)
+      (like_escaped (subst (λ (b : Bool). pattern_prefix b pattern ≡ Some bs) escaped.0 prefix) text.utf8) text.says same
 
   like_front : (ts us : List TokenTree) → ts ≡ keyword_token Like ∷ us → like_at k t us ≡ Some (f, rest) → TestFront k t ts f rest
   unfolding like_at
@@ -235,19 +241,23 @@ module _ (k : ℕ) (t : TypeTree) (f : Formula) (rest : List TokenTree) where
 
 record ConditionFront (k : ℕ) (t : TypeTree) (ts : List TokenTree) (f : Formula) (rest : List TokenTree) : Type 0 where
   front : List TokenTree
+  condition : Condition
   whole : ts ≡ front ++ rest
-  means : IsCondition k t front f
+  means : IsCondition front condition
+  says : formula_in k t condition ≡ Some f
 
-condition_with : (k : ℕ) (t : TypeTree) (ts front : List TokenTree) (g f : Formula) (us rest : List TokenTree) → ts ≡ front ++ us → IsCondition k t front g → (g ≡ f) × (us ≡ rest) → ConditionFront k t ts f rest
-condition_with k t ts front g f us rest whole means same = record { front = front; whole = whole ∙ ap (λ (r : List TokenTree). front ++ r) same.1; means = subst (λ (h : Formula). IsCondition k t front h) same.0 means }
+condition_with : (k : ℕ) (t : TypeTree) (ts front : List TokenTree) (c : Condition) (g f : Formula) (us rest : List TokenTree) → ts ≡ front ++ us → IsCondition front c → formula_in k t c ≡ Some g → (g ≡ f) × (us ≡ rest) → ConditionFront k t ts f rest
+condition_with k t ts front c g f us rest whole means says same =
+    record { front = front; condition = c; whole = whole ∙ ap (λ (r : List TokenTree). front ++ r) same.1; means = means; says = says ∙ ap (λ (h : Formula). Some h) same.0 }
 
 module _ (k : ℕ) (t : TypeTree) (f : Formula) (rest : List TokenTree) where
   comparison_front : (ts : List TokenTree) (op : CompareOperator) (us : List TokenTree) → ts ≡ operator_token op ∷ us → comparison_at k t op us ≡ Some (f, rest) → ConditionFront k t ts f rest
   unfolding comparison_at
   comparison_front ts op us begins e =
-      let a = bind_some (literal_at t us) (λ x. Some (comparison_of k op x.0, x.1)) (f, rest) e in
+      let a = bind_some (position_at t us) (λ x. Some (comparison_of k op x.0, x.1)) (f, rest) e in
       let l = literal_came t us a.0.0 a.0.1 a.1 in
-      condition_with k t ts (operator_token op ∷ l.token ∷ []) (comparison_of k op a.0.0) f a.0.1 rest (begins ∙ ap (λ (r : List TokenTree). operator_token op ∷ r) l.whole) (compares l.says) (pair_parts (comparison_of k op a.0.0) f a.0.1 rest a.2)
+      let s = token_stands t l.token a.0.0 l.says in
+      condition_with k t ts (operator_token op ∷ l.token ∷ []) (compared op s.0) (comparison_of k op a.0.0) f a.0.1 rest (begins ∙ ap (λ (r : List TokenTree). operator_token op ∷ r) l.whole) (compares {op = op} {x = l.token} {l = s.0} s.1) (ap (option_map (comparison_of k op)) s.2) (pair_parts (comparison_of k op a.0.0) f a.0.1 rest a.2)
 
   null_front : (ts us : List TokenTree) → ts ≡ keyword_token Is ∷ us → null_test_at k us ≡ Some (f, rest) → ConditionFront k t ts f rest
   unfolding null_test_at
@@ -255,24 +265,24 @@ module _ (k : ℕ) (t : TypeTree) (f : Formula) (rest : List TokenTree) where
       elim (chosen_some (after_keyword Not us) (λ vs. after_keyword Null vs >>= λ ws. Some (negation (null_test k), ws)) (after_keyword Null us >>= λ vs. Some (null_test k, vs)) (f, rest) e) [
         | inl p ↦
             let a = bind_some (after_keyword Null p.0) (λ ws. Some (negation (null_test k), ws)) (f, rest) p.2 in
-            condition_with k t ts (keyword_token Is ∷ keyword_token Not ∷ keyword_token Null ∷ []) (negation (null_test k)) f a.0 rest
+            condition_with k t ts (keyword_token Is ∷ keyword_token Not ∷ keyword_token Null ∷ []) (denied missing) (negation (null_test k)) f a.0 rest
             (begins ∙ ap (λ (r : List TokenTree). keyword_token Is ∷ r) (keyword_came Not us p.0 p.1 ∙ ap (λ (r : List TokenTree). keyword_token Not ∷ r) (keyword_came Null p.0 a.0 a.1)))
-            is_not_null (pair_parts (negation (null_test k)) f a.0 rest a.2)
+            is_not_null refl (pair_parts (negation (null_test k)) f a.0 rest a.2)
         | inr d ↦
             let a = bind_some (after_keyword Null us) (λ vs. Some (null_test k, vs)) (f, rest) d in
-            condition_with k t ts (keyword_token Is ∷ keyword_token Null ∷ []) (null_test k) f a.0 rest
+            condition_with k t ts (keyword_token Is ∷ keyword_token Null ∷ []) missing (null_test k) f a.0 rest
             (begins ∙ ap (λ (r : List TokenTree). keyword_token Is ∷ r) (keyword_came Null us a.0 a.1))
-            is_null (pair_parts (null_test k) f a.0 rest a.2)
+            is_null refl (pair_parts (null_test k) f a.0 rest a.2)
       ]
 
   not_front : (ts us : List TokenTree) (inner : Read) → ts ≡ keyword_token Not ∷ us → test_at k t us ≡ inner → negated inner ≡ Some (f, rest) → ConditionFront k t ts f rest
   not_front ts us None begins read e = absurd cc
   not_front ts us (Some (g, vs)) begins read e =
       let front = test_front k t g vs us read in
-      condition_with k t ts (keyword_token Not ∷ front.front) (negation g) f vs rest (begins ∙ ap (λ (r : List TokenTree). keyword_token Not ∷ r) front.whole) (not_test front.means) (pair_parts (negation g) f vs rest e)
+      condition_with k t ts (keyword_token Not ∷ front.front) (denied front.condition) (negation g) f vs rest (begins ∙ ap (λ (r : List TokenTree). keyword_token Not ∷ r) front.whole) (not_test {ts = front.front} {c = front.condition} front.means) (ap (option_map negation) front.says) (pair_parts (negation g) f vs rest e)
 
   bare_front : (ts : List TokenTree) → test_at k t ts ≡ Some (f, rest) → ConditionFront k t ts f rest
-  bare_front ts e = let front = test_front k t f rest ts e in record { front = front.front; whole = front.whole; means = bare_test front.means }
+  bare_front ts e = let front = test_front k t f rest ts e in record { front = front.front; condition = front.condition; whole = front.whole; means = bare_test {ts = front.front} {c = front.condition} front.means; says = front.says }
 
   condition_front : (ts : List TokenTree) → condition_at k t ts ≡ Some (f, rest) → ConditionFront k t ts f rest
   unfolding condition_at
@@ -299,43 +309,33 @@ pub record PredicateFront (columns : List ColumnTree) (ts : List TokenTree) (f :
 predicate_with : (columns : List ColumnTree) (ts front : List TokenTree) (g f : Formula) (us rest : List TokenTree) → ts ≡ front ++ us → IsPredicate columns front g → (g ≡ f) × (us ≡ rest) → PredicateFront columns ts f rest
 predicate_with columns ts front g f us rest whole means same = record { front = front; whole = whole ∙ ap (λ (r : List TokenTree). front ++ r) same.1; means = subst (λ (h : Formula). IsPredicate columns front h) same.0 means }
 
-record CallPrefix (k : ℕ) (t : TypeTree) (l : LiteralTree) (f : Formula) : Type 0 where
-  cell : Cell
-  strings : holds_strings t ≡ true
-  exact : l ≡ exactly cell
-  is : prefix_test k cell ≡ f
-
-call_by : (k : ℕ) (t : TypeTree) (l : LiteralTree) (f : Formula) → holds_strings t ≡ true → prefix_from k l ≡ Some f → CallPrefix k t l f
-call_by k t (exactly x) f strings e = record { cell = x; strings = strings; exact = refl; is = some_is (prefix_test k x) f e }
-call_by k t (lacking b) f strings e = absurd cc
-
-call_came : (k : ℕ) (t : TypeTree) (l : LiteralTree) (f : Formula) → prefix_of (k, t) l ≡ Some f → CallPrefix k t l f
-unfolding prefix_of
-call_came k t l f e = let g = guard_some (holds_strings t) (prefix_from k l) f e in call_by k t l f g.0 g.1
+call_came : (k : ℕ) (t : TypeTree) (p : PositionTree) (f : Formula) → prefix_in (k, t) p ≡ Some f → (holds_strings t ≡ true) × (prefix_of k p ≡ Some f)
+unfolding prefix_in
+call_came k t p f e = guard_some (holds_strings t) (prefix_of k p) f e
 
 module _ (columns : List ColumnTree) (f : Formula) (rest : List TokenTree) where
   on_column_front : (ts : List TokenTree) (name : List ℕ) (us : List TokenTree) (column : Option (ℕ × TypeTree)) → ts ≡ name_token name ∷ us → column_named columns name ≡ column → condition_of column us ≡ Some (f, rest) → PredicateFront columns ts f rest
   on_column_front ts name us None begins named e = absurd cc
   on_column_front ts name us (Some (k, t)) begins named e =
       let front = condition_front k t f rest us e in
-      record { front = name_token name ∷ front.front; whole = begins ∙ ap (λ (r : List TokenTree). name_token name ∷ r) front.whole; means = on_column named front.means }
+      record { front = name_token name ∷ front.front; whole = begins ∙ ap (λ (r : List TokenTree). name_token name ∷ r) front.whole; means = on_column {name = name} {k = k} {t = t} {ts = front.front} {c = front.condition} {f = f} named front.means front.says }
 
   call_front : (ts us : List TokenTree) → ts ≡ keyword_token StartsWith ∷ us → prefix_call_at columns us ≡ Some (f, rest) → PredicateFront columns ts f rest
   unfolding prefix_call_at
   call_front ts us begins e =
-      let a = bind_some (after_opening us) (λ vs. name_at vs >>= λ name. column_named columns name.0 >>= λ column. after_comma name.1 >>= λ ws. literal_at column.1 ws >>= λ prefix. after_closing prefix.1 >>= λ xs. prefix_of column prefix.0 >>= λ g. Some (g, xs)) (f, rest) e in
-      let b = bind_some (name_at a.0) (λ name. column_named columns name.0 >>= λ column. after_comma name.1 >>= λ ws. literal_at column.1 ws >>= λ prefix. after_closing prefix.1 >>= λ xs. prefix_of column prefix.0 >>= λ g. Some (g, xs)) (f, rest) a.2 in
-      let c = bind_some (column_named columns b.0.0) (λ column. after_comma b.0.1 >>= λ ws. literal_at column.1 ws >>= λ prefix. after_closing prefix.1 >>= λ xs. prefix_of column prefix.0 >>= λ g. Some (g, xs)) (f, rest) b.2 in
-      let d = bind_some (after_comma b.0.1) (λ ws. literal_at c.0.1 ws >>= λ prefix. after_closing prefix.1 >>= λ xs. prefix_of c.0 prefix.0 >>= λ g. Some (g, xs)) (f, rest) c.2 in
-      let l = bind_some (literal_at c.0.1 d.0) (λ prefix. after_closing prefix.1 >>= λ xs. prefix_of c.0 prefix.0 >>= λ g. Some (g, xs)) (f, rest) d.2 in
-      let m = bind_some (after_closing l.0.1) (λ xs. prefix_of c.0 l.0.0 >>= λ g. Some (g, xs)) (f, rest) l.2 in
-      let p = bind_some (prefix_of c.0 l.0.0) (λ g. Some (g, m.0)) (f, rest) m.2 in
+      let a = bind_some (after_opening us) (λ vs. name_at vs >>= λ name. column_named columns name.0 >>= λ column. after_comma name.1 >>= λ ws. position_at column.1 ws >>= λ prefix. after_closing prefix.1 >>= λ xs. prefix_in column prefix.0 >>= λ g. Some (g, xs)) (f, rest) e in
+      let b = bind_some (name_at a.0) (λ name. column_named columns name.0 >>= λ column. after_comma name.1 >>= λ ws. position_at column.1 ws >>= λ prefix. after_closing prefix.1 >>= λ xs. prefix_in column prefix.0 >>= λ g. Some (g, xs)) (f, rest) a.2 in
+      let c = bind_some (column_named columns b.0.0) (λ column. after_comma b.0.1 >>= λ ws. position_at column.1 ws >>= λ prefix. after_closing prefix.1 >>= λ xs. prefix_in column prefix.0 >>= λ g. Some (g, xs)) (f, rest) b.2 in
+      let d = bind_some (after_comma b.0.1) (λ ws. position_at c.0.1 ws >>= λ prefix. after_closing prefix.1 >>= λ xs. prefix_in c.0 prefix.0 >>= λ g. Some (g, xs)) (f, rest) c.2 in
+      let l = bind_some (position_at c.0.1 d.0) (λ prefix. after_closing prefix.1 >>= λ xs. prefix_in c.0 prefix.0 >>= λ g. Some (g, xs)) (f, rest) d.2 in
+      let m = bind_some (after_closing l.0.1) (λ xs. prefix_in c.0 l.0.0 >>= λ g. Some (g, xs)) (f, rest) l.2 in
+      let p = bind_some (prefix_in c.0 l.0.0) (λ g. Some (g, m.0)) (f, rest) m.2 in
       let came = literal_came c.0.1 d.0 l.0.0 l.0.1 l.1 in
       let call = call_came c.0.0 c.0.1 l.0.0 p.0 p.1 in
-      let same = pair_parts p.0 f m.0 rest p.2 in
-      predicate_with columns ts (keyword_token StartsWith ∷ opening ∷ name_token b.0.0 ∷ comma ∷ came.token ∷ closing ∷ []) (prefix_test c.0.0 call.cell) f m.0 rest
+      let s = token_stands c.0.1 came.token l.0.0 came.says in
+      predicate_with columns ts (keyword_token StartsWith ∷ opening ∷ name_token b.0.0 ∷ comma ∷ came.token ∷ closing ∷ []) p.0 f m.0 rest
       (begins ∙ ap (λ (r : List TokenTree). keyword_token StartsWith ∷ r) (opening_came us a.0 a.1 ∙ ap (λ (r : List TokenTree). opening ∷ r) (name_came a.0 b.0.0 b.0.1 b.1 ∙ ap (λ (r : List TokenTree). name_token b.0.0 ∷ r) (comma_came b.0.1 d.0 d.1 ∙ ap (λ (r : List TokenTree). comma ∷ r) (came.whole ∙ ap (λ (r : List TokenTree). came.token ∷ r) (closing_came l.0.1 m.0 m.1))))))
-      (prefix_call c.1 call.strings (came.says ∙ ap (λ (x : LiteralTree). Some x) call.exact)) (call.is ∙ same.0, same.1)
+      (prefix_call {name = b.0.0} {k = c.0.0} {t = c.0.1} {x = came.token} {l = s.0} {f = p.0} c.1 s.1 (begun_says c.0.0 c.0.1 s.0 l.0.0 p.0 call.0 s.2 call.1)) (pair_parts p.0 f m.0 rest p.2)
 
   constant_front : (ts : List TokenTree) → constant_at ts ≡ Some (f, rest) → PredicateFront columns ts f rest
   unfolding constant_at

@@ -1,5 +1,6 @@
 -- A printed filter is in the grammar.
 use Rattle.std.proofs.Common.{◌≡◌, ◌⊎◌, inl, inr, ◌≤◌, ◌<◌, ◌-◌, ◌^◌, ◌==◌, ◌||◌, ◌&&◌, ℕ, suc, max, ℤ, pos, negsuc, Bool, true, false, cond, List, [], ◌∷◌, ◌++◌, Some, refl, sym, ap, subst, ◌∙◌, arith}
+use Rattle.std.specs.Prelude.{option_map}
 use Rattle.std.specs.List.{AllByRecursion, flat_map, list_any}
 use Rattle.std.specs.Str.{IsUtf8}
 use Rattle.std.proofs.Math.Nat.{le-max_left, le-max_right}
@@ -19,10 +20,14 @@ use Rattle.vortex_filter.specs.declared.truth.Truth.TheVariants as truths
 use Rattle.filter_sql.specs.Columns.{ColumnTree}
 use Rattle.vortex_filter.specs.Formula.{Formula, constant, comparison, null_test, membership, range, prefix_test, both, either, negation}
 use Rattle.filter_sql.specs.Grammar.{AreLiterals, one_literal, more_literals, IsTest, in_nothing, in_literals, between_literals, like_pattern, like_escaped, IsCondition, compares, is_null, is_not_null, bare_test, not_test, IsPredicate, says_true, says_false, says_null, on_column, prefix_call, IsFilter, predicate, group, not_filter, one_operand, and_filter, one_conjunction, or_filter}
-use Rattle.filter_sql.specs.Literals.{LiteralTree, exactly, literal_of, cells_of, member_of, null_cell, truth_cell, number_cell, text_cell, bytes_cell, holds_strings, pattern_prefix, with_byte, is_wildcard}
+use Rattle.vortex_filter.specs.CheckSteps.{holds_strings}
+use Rattle.vortex_filter.specs.Literals.{LiteralTree, null_literal, truth_literal, number_literal, text_literal, bytes_literal, null_cell, truth_cell, number_cell, text_cell, bytes_cell, position_of}
+use Rattle.vortex_filter.specs.Positions.{PositionTree, exactly, cells_of, comparison_of, member_among, member_of}
+use Rattle.filter_sql.specs.Literals.{Condition, compared, missing, listed, between, begun, denied, formula_in, literal_of, pattern_prefix, positions_of, with_byte, is_wildcard}
 use Rattle.filter_sql.specs.Parsing.{IsValueLiteral, IsLiteral, IsFound, IsReadable, depth, depth_at}
 use Rattle.filter_sql.specs.Printing.{column_token, literal_token, literal_tokens, is_special, escaped_byte, prefix_pattern, prefix_tokens, tokens_at, tokens_of}
 use Rattle.filter_sql.specs.Tokens.{TokenTree, IsToken, AreTokens, keyword_token, string_token, opening, closing, comma}
+use Rattle.filter_sql.proofs.ConditionSteps.{begun_says, between_says, stand_more}
 use Rattle.filter_sql.proofs.TestSteps.{step_escape, step_plain}
 
 tokens_append : (ts us : List TokenTree) → AreTokens ts → AreTokens us → AreTokens (ts ++ us)
@@ -31,9 +36,11 @@ tokens_append (t ∷ ts) us a b = (a.0, tokens_append ts us a.1 b)
 
 -- ---- literals
 
--- the token of a literal says the literal
+-- the token of a literal is one that stands there
 record Said (t : TypeTree) (x : Cell) : Type 0 where
-  says : literal_of t (literal_token x) ≡ Some (exactly x)
+  literal : LiteralTree
+  says : literal_of (literal_token x) ≡ Some literal
+  stands : position_of t literal ≡ Some (exactly x)
   token : IsToken (literal_token x)
 
 passed_small : (k : PType) (n : ℕ) → in_range k (pos n) ≡ true → n < 2 ^ 64
@@ -58,28 +65,28 @@ passed_negative I64 n h = let small : n < 2 ^ 63 = ltb-true n (2 ^ 63) h in omeg
 
 number_printed : (k : PType) (z : ℤ) (n : _) → InRange k z → Said (integer_type k n) (number_cell k z)
 unfolding literal_of
-number_printed k (pos m) n inside = record { says = rw (in_range_true k (pos m) inside) refl; token = passed_small k m (in_range_true k (pos m) inside) }
-number_printed k (negsuc m) n inside = record { says = rw (in_range_true k (negsuc m) inside) refl; token = passed_negative k m (in_range_true k (negsuc m) inside) }
+number_printed k (pos m) n inside = record { literal = number_literal (pos m); says = refl; stands = rw (in_range_true k (pos m) inside) refl; token = passed_small k m (in_range_true k (pos m) inside) }
+number_printed k (negsuc m) n inside = record { literal = number_literal (negsuc m); says = refl; stands = rw (in_range_true k (negsuc m) inside) refl; token = passed_negative k m (in_range_true k (negsuc m) inside) }
 
 said_of : (t : TypeTree) (x y : Cell) → x ≡ y → Said t y → Said t x
 said_of t x y same said = subst (λ (z : Cell). Said t z) (sym same) said
 
 truth_printed : (b : Bool) (n : _) → Said (bool_type n) (truth_cell b)
 unfolding literal_of
-truth_printed true n = record { says = refl; token = tt }
-truth_printed false n = record { says = refl; token = tt }
+truth_printed true n = record { literal = truth_literal true; says = refl; stands = refl; token = tt }
+truth_printed false n = record { literal = truth_literal false; says = refl; stands = refl; token = tt }
 
 null_printed : (t : TypeTree) → Said t (null_cell t)
 unfolding literal_of
-null_printed t = record { says = refl; token = tt }
+null_printed t = record { literal = null_literal; says = refl; stands = refl; token = tt }
 
 text_printed : (bs : List ℕ) (n : _) → Said (utf8_type n) (text_cell bs)
 unfolding literal_of
-text_printed bs n = record { says = refl; token = tt }
+text_printed bs n = record { literal = text_literal bs; says = refl; stands = refl; token = tt }
 
 bytes_printed : (bs : List ℕ) (n : _) → AllByRecursion (λ b. b < 256) bs → Said (binary_type n) (bytes_cell bs)
 unfolding literal_of
-bytes_printed bs n small = record { says = refl; token = small }
+bytes_printed bs n small = record { literal = bytes_literal bs; says = refl; stands = refl; token = small }
 
 value_printed : (t : TypeTree) (x : Cell) → IsValueLiteral t x → Said t x
 value_printed (bool_type n) x v = said_of (bool_type n) x (truth_cell v.0) v.1 (truth_printed v.0 n)
@@ -94,7 +101,7 @@ literal_printed t x (inr v) = value_printed t x v
 
 -- ---- literals in parentheses
 
-abbrev exactlies : List Cell → List LiteralTree
+abbrev exactlies : List Cell → List PositionTree
 exactlies [] = []
 exactlies (x ∷ xs) = exactly x ∷ exactlies xs
 
@@ -102,9 +109,20 @@ cells_back : (xs : List Cell) → cells_of (exactlies xs) ≡ xs
 cells_back [] = refl
 cells_back (x ∷ xs) = ap (λ (ys : List Cell). x ∷ ys) (cells_back xs)
 
-literals_printed : (t : TypeTree) (x : Cell) (xs : List Cell) → AllByRecursion (IsLiteral t) (x ∷ xs) → AreLiterals t (literal_tokens (x ∷ xs)) (exactlies (x ∷ xs))
-literals_printed t x [] h = one_literal (literal_printed t x h.0).says
-literals_printed t x (y ∷ ys) h = more_literals (literal_printed t x h.0).says (literals_printed t y ys h.1)
+-- the tokens of cells are literals that stand there
+record SaidList (t : TypeTree) (xs : List Cell) : Type 0 where
+  literals : List LiteralTree
+  are : AreLiterals (literal_tokens xs) literals
+  stand : positions_of t literals ≡ Some (exactlies xs)
+
+literals_printed : (t : TypeTree) (x : Cell) (xs : List Cell) → AllByRecursion (IsLiteral t) (x ∷ xs) → SaidList t (x ∷ xs)
+literals_printed t x [] h =
+    let s = literal_printed t x h.0 in
+    record { literals = s.literal ∷ []; are = one_literal s.says; stand = stand_more t s.literal (exactly x) [] [] s.stands refl }
+literals_printed t x (y ∷ ys) h =
+    let s = literal_printed t x h.0 in
+    let more = literals_printed t y ys h.1 in
+    record { literals = s.literal ∷ more.literals; are = more_literals s.says more.are; stand = stand_more t s.literal (exactly x) more.literals (exactlies (y ∷ ys)) s.stands more.stand }
 
 literals_are_tokens : (t : TypeTree) (xs : List Cell) → AllByRecursion (IsLiteral t) xs → AreTokens (literal_tokens xs)
 literals_are_tokens t [] h = tt
@@ -114,11 +132,24 @@ literals_are_tokens t (x ∷ y ∷ ys) h = ((literal_printed t x h.0).token, (tt
 abbrev member_tokens : List Cell → List TokenTree
 member_tokens xs = keyword_token keywords.In ∷ opening ∷ (literal_tokens xs ++ closing ∷ [])
 
-members_printed : (k : ℕ) (t : TypeTree) (xs : List Cell) → AllByRecursion (IsLiteral t) xs → IsTest k t (member_tokens xs) (membership k xs)
-members_printed k t [] h = in_nothing
+-- tokens that are a test of column k, of type t, with this formula
+record PrintedTest (k : ℕ) (t : TypeTree) (ts : List TokenTree) (f : Formula) : Type 0 where
+  condition : Condition
+  means : IsTest ts condition
+  says : formula_in k t condition ≡ Some f
+
+members_printed : (k : ℕ) (t : TypeTree) (xs : List Cell) → AllByRecursion (IsLiteral t) xs → PrintedTest k t (member_tokens xs) (membership k xs)
+members_printed k t [] h = record { condition = listed []; means = in_nothing; says = refl }
 members_printed k t (x ∷ xs) h =
-    let d : IsTest k t (member_tokens (x ∷ xs)) (member_of k (cells_of (exactlies (x ∷ xs)))) = in_literals (literals_printed t x xs h) in
-    subst (λ (ys : List Cell). IsTest k t (member_tokens (x ∷ xs)) (member_of k ys)) (cells_back (x ∷ xs)) d
+    let said = literals_printed t x xs h in
+    record { condition = listed said.literals; means = in_literals said.are; says = ap (option_map (member_among k)) said.stand ∙ ap (λ (ys : List Cell). Some (member_of k ys)) (cells_back (x ∷ xs)) }
+
+range_printed : (k : ℕ) (t : TypeTree) (x y : Cell) → Said t x → Said t y → PrintedTest k t (keyword_token keywords.Between ∷ literal_token x ∷ keyword_token keywords.And ∷ literal_token y ∷ []) (range k x y)
+range_printed k t x y low high = record {
+  condition = between low.literal high.literal;
+  means = between_literals low.says high.says;
+  says = between_says k t low.literal high.literal (exactly x) (exactly y) low.stands high.stands;
+}
 
 members_are_tokens : (t : TypeTree) (xs : List Cell) → AllByRecursion (IsLiteral t) xs → AreTokens (member_tokens xs)
 members_are_tokens t xs h = (tt, (tt, tokens_append (literal_tokens xs) (closing ∷ []) (literals_are_tokens t xs h) (tt, tt)))
@@ -172,9 +203,9 @@ pattern_back escapes (b ∷ bs) h =
 abbrev like_with : Bool → List ℕ → List TokenTree
 like_with special bs = keyword_token keywords.Like ∷ string_token (prefix_pattern bs) ∷ cond special (keyword_token keywords.Escape ∷ string_token (92 ∷ []) ∷ []) []
 
-like_by : (k : ℕ) (n : _) (bs : List ℕ) (special : Bool) → list_any is_special bs ≡ special → IsUtf8 bs → IsTest k (utf8_type n) (like_with special bs) (prefix_test k (text_cell bs))
-like_by k n bs true is utf8 = like_escaped (pattern_back true bs (inl refl)) (is_utf8-from_IsUtf8 bs utf8) (text_printed bs n).says
-like_by k n bs false is utf8 = like_pattern (pattern_back false bs (inr is)) (is_utf8-from_IsUtf8 bs utf8) (text_printed bs n).says
+like_by : (k : ℕ) (n : _) (bs : List ℕ) (special : Bool) → list_any is_special bs ≡ special → IsUtf8 bs → PrintedTest k (utf8_type n) (like_with special bs) (prefix_test k (text_cell bs))
+like_by k n bs true is utf8 = record { condition = begun (text_literal bs); means = like_escaped (pattern_back true bs (inl refl)) (is_utf8-from_IsUtf8 bs utf8); says = refl }
+like_by k n bs false is utf8 = record { condition = begun (text_literal bs); means = like_pattern (pattern_back false bs (inr is)) (is_utf8-from_IsUtf8 bs utf8); says = refl }
 
 like_are_tokens : (special : Bool) (bs : List ℕ) → AreTokens (like_with special bs)
 like_are_tokens true bs = (tt, (tt, (tt, (tt, tt))))
@@ -189,13 +220,13 @@ module _ (columns : List ColumnTree) (names : List (List ℕ)) where
     tokens : AreTokens ts
 
   call_printed : (k : ℕ) (t : TypeTree) (x : Cell) → IsFound columns names k t → holds_strings t ≡ true → Said t x → PrintedPredicate (keyword_token keywords.StartsWith ∷ opening ∷ column_token names k ∷ comma ∷ literal_token x ∷ closing ∷ []) (prefix_test k x)
-  call_printed k t x found strings said = record { means = prefix_call found strings said.says; tokens = (tt, (tt, (tt, (tt, (said.token, (tt, tt)))))) }
+  call_printed k t x found strings said = record { means = prefix_call found said.says (begun_says k t said.literal (exactly x) (prefix_test k x) strings said.stands refl); tokens = (tt, (tt, (tt, (tt, (said.token, (tt, tt)))))) }
 
   abbrev PrintedPrefix : ℕ → Cell → Type 0
   PrintedPrefix k x = PrintedPredicate (prefix_tokens (column_token names k) x.content) (prefix_test k x)
 
   like_printed : (k : ℕ) (n : _) (bs : List ℕ) → IsFound columns names k (utf8_type n) → IsUtf8 bs → PrintedPrefix k (text_cell bs)
-  like_printed k n bs found utf8 = record { means = on_column found (bare_test (like_by k n bs (list_any is_special bs) refl utf8)); tokens = (tt, like_are_tokens (list_any is_special bs) bs) }
+  like_printed k n bs found utf8 = let test = like_by k n bs (list_any is_special bs) refl utf8 in record { means = on_column found (bare_test test.means) test.says; tokens = (tt, like_are_tokens (list_any is_special bs) bs) }
 
   prefix_at : (k : ℕ) (x y : Cell) → x ≡ y → PrintedPrefix k y → PrintedPrefix k x
   prefix_at k x y same printed = subst (λ (z : Cell). PrintedPrefix k z) (sym same) printed
@@ -223,8 +254,14 @@ module _ (columns : List ColumnTree) (names : List (List ℕ)) where
   plain : (l : Level) (n : ℕ) (ts : List TokenTree) (f : Formula) → PrintedPredicate ts f → Printed l n ts f
   plain l n ts f p = lifted l n ts f (record { means = predicate p.means; tokens = p.tokens })
 
-  conditional : (l : Level) (n k : ℕ) (t : TypeTree) (ts : List TokenTree) (f : Formula) → IsFound columns names k t → IsCondition k t ts f → AreTokens ts → Printed l n (column_token names k ∷ ts) f
-  conditional l n k t ts f found means tokens = plain l n (column_token names k ∷ ts) f (record { means = on_column found means; tokens = (tt, tokens) })
+  conditional : (l : Level) (n k : ℕ) (t : TypeTree) (ts : List TokenTree) (c : Condition) (f : Formula) → IsFound columns names k t → IsCondition ts c → formula_in k t c ≡ Some f → AreTokens ts → Printed l n (column_token names k ∷ ts) f
+  conditional l n k t ts c f found means says tokens = plain l n (column_token names k ∷ ts) f (record { means = on_column found means says; tokens = (tt, tokens) })
+
+  tested : (l : Level) (n k : ℕ) (t : TypeTree) (ts : List TokenTree) (f : Formula) → IsFound columns names k t → PrintedTest k t ts f → AreTokens ts → Printed l n (column_token names k ∷ ts) f
+  tested l n k t ts f found test tokens = conditional l n k t ts test.condition f found (bare_test test.means) test.says tokens
+
+  denied_test : (l : Level) (n k : ℕ) (t : TypeTree) (ts : List TokenTree) (f : Formula) → IsFound columns names k t → PrintedTest k t ts f → AreTokens ts → Printed l n (column_token names k ∷ keyword_token keywords.Not ∷ ts) (negation f)
+  denied_test l n k t ts f found test tokens = conditional l n k t (keyword_token keywords.Not ∷ ts) (denied test.condition) (negation f) found (not_test test.means) (ap (option_map negation) test.says) (tt, tokens)
 
   negated : (l : Level) (m : ℕ) (ts : List TokenTree) (f : Formula) → Printed levels.Not m ts f → Printed l (suc m) (keyword_token keywords.Not ∷ ts) (negation f)
   negated l m ts f p = lifted l (suc m) (keyword_token keywords.Not ∷ ts) (negation f) (record { means = not_filter p.means; tokens = (tt, p.tokens) })
@@ -312,22 +349,24 @@ module _ (columns : List ColumnTree) (names : List (List ℕ)) where
   -- a filter whose columns are found and whose literals are their types' is printed in the grammar
   printed : (f : Formula) → IsReadable columns names f → Prints f
   printed (constant t) r l n h = constant_printed t l n h
-  printed (comparison k op x) r l n h = let said = literal_printed r.0 x r.2 in conditional l n k r.0 _ (comparison k op x) r.1 (compares said.says) (tt, (said.token, tt))
-  printed (null_test k) r l n h = conditional l n k r.0 _ (null_test k) r.1 is_null (tt, (tt, tt))
-  printed (membership k xs) r l n h = conditional l n k r.0 (member_tokens xs) (membership k xs) r.1 (bare_test (members_printed k r.0 xs r.2)) (members_are_tokens r.0 xs r.2)
+  printed (comparison k op x) r l n h =
+      let said = literal_printed r.0 x r.2 in
+      conditional l n k r.0 _ (compared op said.literal) (comparison k op x) r.1 (compares said.says) (ap (option_map (comparison_of k op)) said.stands) (tt, (said.token, tt))
+  printed (null_test k) r l n h = conditional l n k r.0 _ missing (null_test k) r.1 is_null refl (tt, (tt, tt))
+  printed (membership k xs) r l n h = tested l n k r.0 (member_tokens xs) (membership k xs) r.1 (members_printed k r.0 xs r.2) (members_are_tokens r.0 xs r.2)
   printed (range k x y) r l n h =
       let low = literal_printed r.0 x r.2 in
       let high = literal_printed r.0 y r.3 in
-      conditional l n k r.0 _ (range k x y) r.1 (bare_test (between_literals low.says high.says)) (tt, (low.token, (tt, (high.token, tt))))
+      tested l n k r.0 _ (range k x y) r.1 (range_printed k r.0 x y low high) (tt, (low.token, (tt, (high.token, tt))))
   printed (prefix_test k x) r l n h = plain l n (prefix_tokens (column_token names k) x.content) (prefix_test k x) (prefix_printed k r.0 x r.1 r.2 r.3)
   printed (both f g) r l n h = and_printed f g (printed f r.0) (printed g r.1) l n h
   printed (either f g) r l n h = or_printed f g (printed f r.0) (printed g r.1) l n h
-  printed (negation (null_test k)) r l n h = conditional l n k r.0 _ (negation (null_test k)) r.1 is_not_null (tt, (tt, (tt, tt)))
-  printed (negation (membership k xs)) r l n h = conditional l n k r.0 (keyword_token keywords.Not ∷ member_tokens xs) (negation (membership k xs)) r.1 (not_test (members_printed k r.0 xs r.2)) (tt, members_are_tokens r.0 xs r.2)
+  printed (negation (null_test k)) r l n h = conditional l n k r.0 _ (denied missing) (negation (null_test k)) r.1 is_not_null refl (tt, (tt, (tt, tt)))
+  printed (negation (membership k xs)) r l n h = denied_test l n k r.0 (member_tokens xs) (membership k xs) r.1 (members_printed k r.0 xs r.2) (members_are_tokens r.0 xs r.2)
   printed (negation (range k x y)) r l n h =
       let low = literal_printed r.0 x r.2 in
       let high = literal_printed r.0 y r.3 in
-      conditional l n k r.0 _ (negation (range k x y)) r.1 (not_test (between_literals low.says high.says)) (tt, (tt, (low.token, (tt, (high.token, tt)))))
+      denied_test l n k r.0 _ (range k x y) r.1 (range_printed k r.0 x y low high) (tt, (low.token, (tt, (high.token, tt))))
   printed (negation (constant t)) r l n h = negation_printed (constant t) (printed (constant t) r) l n h
   printed (negation (comparison k op x)) r l n h = negation_printed (comparison k op x) (printed (comparison k op x) r) l n h
   printed (negation (prefix_test k x)) r l n h = negation_printed (prefix_test k x) (printed (prefix_test k x) r) l n h

@@ -12,10 +12,12 @@ use Rattle.filter_sql.specs.declared.parsing.fault.Fault.{Fault}
 use Rattle.filter_sql.specs.declared.parsing.fault.Fault.TheVariants as faults
 use Rattle.filter_sql.specs.declared.token.Placed.{Placed}
 use Rattle.vortex_filter.specs.Formula.{Formula, prefix_test}
-use Rattle.filter_sql.specs.Literals.{LiteralTree, exactly, literal_of, cells_of, string_literal, text_cell, pattern_prefix, with_byte, is_wildcard}
+use Rattle.vortex_filter.specs.Literals.{text_cell, text_in}
+use Rattle.vortex_filter.specs.Positions.{PositionTree, exactly, cells_of, prefix_of}
+use Rattle.filter_sql.specs.Literals.{pattern_prefix, with_byte, is_wildcard}
 use Rattle.filter_sql.specs.Tokens.{TokenTree, token_tree, trees, closing, comma}
 use Rattle.filter_sql.specs.Mistakes.{Fails, Gives, cells_mistake, expected, literal_mistake, more_mistake, text_cause, other_type}
-use Rattle.filter_sql.specs.Reading.{literal_at, literal_then, preceded, more_cells, cells_at, with_front, with_bytes, ending, after_comma, after_closing, text_prefix, prefix_from}
+use Rattle.filter_sql.specs.Reading.{position_then, position_at, token_position, preceded, more_cells, cells_at, with_front, with_bytes, ending, after_comma, after_closing, text_prefix}
 use Rattle.filter_sql.proofs.ReadSteps.{fails_on}
 
 some_is : {A : Type 0} (x y : A) → Some x ≡ Some y → x ≡ y
@@ -24,27 +26,27 @@ some_is x y e = cc
 -- ---- one literal
 
 -- a literal that was read is the first token
-pub record Came (t : TypeTree) (ts : List TokenTree) (l : LiteralTree) (us : List TokenTree) : Type 0 where
+pub record Came (t : TypeTree) (ts : List TokenTree) (l : PositionTree) (us : List TokenTree) : Type 0 where
   pub token : TokenTree
   pub whole : ts ≡ token ∷ us
-  pub says : literal_of t token ≡ Some l
+  pub says : token_position t token ≡ Some l
 
-came_from : (t : TypeTree) (x : TokenTree) (ts : List TokenTree) (l : LiteralTree) (us : List TokenTree) (o : Option LiteralTree) → literal_of t x ≡ o → literal_then o ts ≡ Some (l, us) → Came t (x ∷ ts) l us
+came_from : (t : TypeTree) (x : TokenTree) (ts : List TokenTree) (l : PositionTree) (us : List TokenTree) (o : Option PositionTree) → token_position t x ≡ o → position_then o ts ≡ Some (l, us) → Came t (x ∷ ts) l us
 came_from t x ts l us None said e = absurd cc
 came_from t x ts l us (Some m) said e =
-    let made : LiteralTree × List TokenTree = (m, ts) in
-    let asked : LiteralTree × List TokenTree = (l, us) in
+    let made : PositionTree × List TokenTree = (m, ts) in
+    let asked : PositionTree × List TokenTree = (l, us) in
     let same : made ≡ asked = some_is made asked e in
-    let first : m ≡ l = ap (λ (p : LiteralTree × List TokenTree). p.0) same in
-    let rest : ts ≡ us = ap (λ (p : LiteralTree × List TokenTree). p.1) same in
-    record { token = x; whole = ap (λ (r : List TokenTree). x ∷ r) rest; says = said ∙ ap (λ (m : LiteralTree). Some m) first }
+    let first : m ≡ l = ap (λ (p : PositionTree × List TokenTree). p.0) same in
+    let rest : ts ≡ us = ap (λ (p : PositionTree × List TokenTree). p.1) same in
+    record { token = x; whole = ap (λ (r : List TokenTree). x ∷ r) rest; says = said ∙ ap (λ (m : PositionTree). Some m) first }
 
-pub literal_came : (t : TypeTree) (ts : List TokenTree) (l : LiteralTree) (us : List TokenTree) → literal_at t ts ≡ Some (l, us) → Came t ts l us
-unfolding literal_at
+pub literal_came : (t : TypeTree) (ts : List TokenTree) (l : PositionTree) (us : List TokenTree) → position_at t ts ≡ Some (l, us) → Came t ts l us
+unfolding position_at
 literal_came t [] l us e = absurd cc
-literal_came t (x ∷ ts) l us e = came_from t x ts l us (literal_of t x) refl e
+literal_came t (x ∷ ts) l us e = came_from t x ts l us (token_position t x) refl e
 
-none_said : (o : Option LiteralTree) (ts : List TokenTree) (r : Option (List Cell × List TokenTree)) → literal_then o ts ≡ None → preceded o r ≡ None
+none_said : (o : Option PositionTree) (ts : List TokenTree) (r : Option (List Cell × List TokenTree)) → position_then o ts ≡ None → preceded o r ≡ None
 none_said None ts r e = refl
 none_said (Some l) ts r e = absurd cc
 
@@ -61,51 +63,51 @@ unfolding more_cells cells_at
 comma_more t [] = refl
 comma_more t (x ∷ ts) = refl
 
-cells_fail : (t : TypeTree) (ts : List TokenTree) → literal_at t ts ≡ None → cells_at t ts ≡ None
-unfolding literal_at cells_at
+cells_fail : (t : TypeTree) (ts : List TokenTree) → position_at t ts ≡ None → cells_at t ts ≡ None
+unfolding position_at cells_at
 cells_fail t [] e = refl
-cells_fail t (x ∷ ts) e = none_said (literal_of t x) ts (more_cells t ts) e
+cells_fail t (x ∷ ts) e = none_said (token_position t x) ts (more_cells t ts) e
 
-cells_wrong : (t : TypeTree) (ts : List TokenTree) → literal_at t ts ≡ None → cells_mistake t ts ≡ literal_mistake t ts
+cells_wrong : (t : TypeTree) (ts : List TokenTree) → position_at t ts ≡ None → cells_mistake t ts ≡ literal_mistake t ts
 unfolding cells_mistake
 cells_wrong t ts e = rw e refl
 
-pub cells_left_fail : (e : Fault) (t : TypeTree) (ts : List TokenTree) → Fails e (literal_at t ts) (literal_mistake t ts) → Fails e (cells_at t ts) (cells_mistake t ts)
+pub cells_left_fail : (e : Fault) (t : TypeTree) (ts : List TokenTree) → Fails e (position_at t ts) (literal_mistake t ts) → Fails e (cells_at t ts) (cells_mistake t ts)
 cells_left_fail e t ts failed = fails_on e _ _ _ _ (λ none. (cells_fail t ts none, cells_wrong t ts none)) failed
 
 -- behind the first literal
-pub cells_wrong_behind : (t : TypeTree) (ts : List TokenTree) (l : LiteralTree) (us : List TokenTree) → literal_at t ts ≡ Some (l, us) → cells_mistake t ts ≡ more_mistake t us
+pub cells_wrong_behind : (t : TypeTree) (ts : List TokenTree) (l : PositionTree) (us : List TokenTree) → position_at t ts ≡ Some (l, us) → cells_mistake t ts ≡ more_mistake t us
 unfolding cells_mistake
 cells_wrong_behind t ts l us e = rw e refl
 
 -- what is wrong behind a comma
-wrong_of_token : (t : TypeTree) (x : TokenTree) (us : List TokenTree) (l : LiteralTree) → literal_of t x ≡ Some l → more_mistake t (comma ∷ x ∷ us) ≡ more_mistake t us
+wrong_of_token : (t : TypeTree) (x : TokenTree) (us : List TokenTree) (l : PositionTree) → token_position t x ≡ Some l → more_mistake t (comma ∷ x ∷ us) ≡ more_mistake t us
 unfolding more_mistake
 wrong_of_token t x us l said = rw said refl
 
-wrong_goes_on : (t : TypeTree) (ts us : List TokenTree) (l : LiteralTree) → literal_at t ts ≡ Some (l, us) → more_mistake t (comma ∷ ts) ≡ more_mistake t us
+wrong_goes_on : (t : TypeTree) (ts us : List TokenTree) (l : PositionTree) → position_at t ts ≡ Some (l, us) → more_mistake t (comma ∷ ts) ≡ more_mistake t us
 wrong_goes_on t ts us l e = let c = literal_came t ts l us e in ap (λ (r : List TokenTree). more_mistake t (comma ∷ r)) c.whole ∙ wrong_of_token t c.token us l c.says
 
-no_literal_said : (t : TypeTree) (x : TokenTree) (ts : List TokenTree) (o : Option LiteralTree) → literal_of t x ≡ o → literal_then o ts ≡ None → more_mistake t (comma ∷ x ∷ ts) ≡ literal_mistake t (x ∷ ts)
+no_literal_said : (t : TypeTree) (x : TokenTree) (ts : List TokenTree) (o : Option PositionTree) → token_position t x ≡ o → position_then o ts ≡ None → more_mistake t (comma ∷ x ∷ ts) ≡ literal_mistake t (x ∷ ts)
 unfolding more_mistake
 no_literal_said t x ts None said e = rw said refl
 no_literal_said t x ts (Some l) said e = absurd cc
 
-wrong_here : (t : TypeTree) (ts : List TokenTree) → literal_at t ts ≡ None → more_mistake t (comma ∷ ts) ≡ literal_mistake t ts
-unfolding literal_at more_mistake
+wrong_here : (t : TypeTree) (ts : List TokenTree) → position_at t ts ≡ None → more_mistake t (comma ∷ ts) ≡ literal_mistake t ts
+unfolding position_at more_mistake
 wrong_here t [] e = refl
-wrong_here t (x ∷ ts) e = no_literal_said t x ts (literal_of t x) refl e
+wrong_here t (x ∷ ts) e = no_literal_said t x ts (token_position t x) refl e
 
-front_cells : (l : LiteralTree) (r : Option (List Cell × List TokenTree)) → preceded (Some l) r ≡ with_front (cells_of (l ∷ [])) r
+front_cells : (l : PositionTree) (r : Option (List Cell × List TokenTree)) → preceded (Some l) r ≡ with_front (cells_of (l ∷ [])) r
 front_cells l None = refl
 front_cells l (Some x) = refl
 
-cells_of_token : (t : TypeTree) (x : TokenTree) (us : List TokenTree) (l : LiteralTree) → literal_of t x ≡ Some l → cells_at t (x ∷ us) ≡ with_front (cells_of (l ∷ [])) (more_cells t us)
+cells_of_token : (t : TypeTree) (x : TokenTree) (us : List TokenTree) (l : PositionTree) → token_position t x ≡ Some l → cells_at t (x ∷ us) ≡ with_front (cells_of (l ∷ [])) (more_cells t us)
 unfolding cells_at
 cells_of_token t x us l said = rw said (front_cells l (more_cells t us))
 
 -- the first literal, and those behind it
-pub cells_begin : (t : TypeTree) (ts : List TokenTree) (l : LiteralTree) (us : List TokenTree) → literal_at t ts ≡ Some (l, us) → cells_at t ts ≡ with_front (cells_of (l ∷ [])) (more_cells t us)
+pub cells_begin : (t : TypeTree) (ts : List TokenTree) (l : PositionTree) (us : List TokenTree) → position_at t ts ≡ Some (l, us) → cells_at t ts ≡ with_front (cells_of (l ∷ [])) (more_cells t us)
 cells_begin t ts l us e = let c = literal_came t ts l us e in ap (cells_at t) c.whole ∙ cells_of_token t c.token us l c.says
 
 two_fronts : (front more : List Cell) (r : Option (List Cell × List TokenTree)) → with_front front (with_front more r) ≡ with_front (front ++ more) r
@@ -113,23 +115,23 @@ two_fronts front more None = refl
 two_fronts front more (Some x) = ap (λ (cs : List Cell). Some (cs, x.1)) (sym (append_assoc front more x.0))
 
 module _ (t : TypeTree) (front : List Cell) (ts : List TokenTree) (total : Option (List Cell × List TokenTree)) (so_far : with_front front (more_cells t ts) ≡ total) (wrong : Fault) (mistake : more_mistake t ts ≡ wrong) where
-  pub wrong_on : (us : List TokenTree) (l : LiteralTree) (vs : List TokenTree) → Some us ≡ after_comma ts → literal_at t us ≡ Some (l, vs) → more_mistake t vs ≡ wrong
+  pub wrong_on : (us : List TokenTree) (l : PositionTree) (vs : List TokenTree) → Some us ≡ after_comma ts → position_at t us ≡ Some (l, vs) → more_mistake t vs ≡ wrong
   wrong_on us l vs word read = sym (wrong_goes_on t us vs l read) ∙ sym (ap (more_mistake t) (comma_came ts us word)) ∙ mistake
 
-  pub goes_on : (us : List TokenTree) (l : LiteralTree) (vs : List TokenTree) (fronts : List Cell) → Some us ≡ after_comma ts → literal_at t us ≡ Some (l, vs) → fronts ≡ front ++ cells_of (l ∷ []) → with_front fronts (more_cells t vs) ≡ total
+  pub goes_on : (us : List TokenTree) (l : PositionTree) (vs : List TokenTree) (fronts : List Cell) → Some us ≡ after_comma ts → position_at t us ≡ Some (l, vs) → fronts ≡ front ++ cells_of (l ∷ []) → with_front fronts (more_cells t vs) ≡ total
   goes_on us l vs fronts word read made =
       let one : more_cells t ts ≡ with_front (cells_of (l ∷ [])) (more_cells t vs) = ap (more_cells t) (comma_came ts us word) ∙ comma_more t us ∙ cells_begin t us l vs read in
       ap (λ (cs : List Cell). with_front cs (more_cells t vs)) made ∙ sym (two_fronts front (cells_of (l ∷ [])) (more_cells t vs)) ∙ ap (with_front front) (sym one) ∙ so_far
 
-  none_ends : (us : List TokenTree) → Some us ≡ after_comma ts → literal_at t us ≡ None → total ≡ None
+  none_ends : (us : List TokenTree) → Some us ≡ after_comma ts → position_at t us ≡ None → total ≡ None
   none_ends us word none =
       let one : more_cells t ts ≡ None = ap (more_cells t) (comma_came ts us word) ∙ comma_more t us ∙ cells_fail t us none in
       sym so_far ∙ ap (with_front front) one
 
-  wrong_ends : (us : List TokenTree) → Some us ≡ after_comma ts → literal_at t us ≡ None → wrong ≡ literal_mistake t us
+  wrong_ends : (us : List TokenTree) → Some us ≡ after_comma ts → position_at t us ≡ None → wrong ≡ literal_mistake t us
   wrong_ends us word none = sym mistake ∙ ap (more_mistake t) (comma_came ts us word) ∙ wrong_here t us none
 
-  pub literal_fails : (e : Fault) (us : List TokenTree) → Some us ≡ after_comma ts → Fails e (literal_at t us) (literal_mistake t us) → Fails e total wrong
+  pub literal_fails : (e : Fault) (us : List TokenTree) → Some us ≡ after_comma ts → Fails e (position_at t us) (literal_mistake t us) → Fails e total wrong
   literal_fails e us word failed = fails_on e _ _ _ _ (λ none. (none_ends us word none, wrong_ends us word none)) failed
 
 no_end : (t : TypeTree) (ts : List TokenTree) → None ≡ after_comma ts → after_closing ts ≡ None → more_cells t ts ≡ None
@@ -160,7 +162,7 @@ module _ (t : TypeTree) (front : List Cell) (ts : List TokenTree) (total : Optio
   pub ends : (us : List TokenTree) → after_closing ts ≡ Some us → total ≡ Some (front, us)
   ends us e = sym so_far ∙ ap (with_front front) (closed_cells t ts us e) ∙ ap (λ (cs : List Cell). Some (cs, us)) (append-nil front)
 
-pub is_smaller : (t : TypeTree) (ps qs : List Placed) (us : List TokenTree) (l : LiteralTree) → Some us ≡ after_comma (trees ps) → literal_at t us ≡ Some (l, trees qs) → length qs < length ps
+pub is_smaller : (t : TypeTree) (ps qs : List Placed) (us : List TokenTree) (l : PositionTree) → Some us ≡ after_comma (trees ps) → position_at t us ≡ Some (l, trees qs) → length qs < length ps
 is_smaller t ps qs us l word read =
     let whole : trees ps ≡ comma ∷ us = comma_came (trees ps) us word in
     let c = literal_came t us l (trees qs) read in
@@ -180,18 +182,18 @@ module _ (k : ℕ) (t : TypeTree) (bs : List ℕ) where
   pub no_text : (IsUtf8 bs → ⊥) → text_prefix k t bs ≡ None
   no_text other = no_text_by (is_utf8 bs) refl other
 
-  pub text_is : (l : LiteralTree) → IsUtf8 bs → string_literal t bs ≡ Some l → text_prefix k t bs ≡ prefix_from k l
-  unfolding text_prefix literal_of
+  pub text_is : (l : PositionTree) → IsUtf8 bs → text_in t bs ≡ Some l → text_prefix k t bs ≡ prefix_of k l
+  unfolding text_prefix
   text_is l utf8 said = rw (is_utf8-from_IsUtf8 bs utf8, said) refl
 
-  text_none : IsUtf8 bs → string_literal t bs ≡ None → text_prefix k t bs ≡ None
-  unfolding text_prefix literal_of
+  text_none : IsUtf8 bs → text_in t bs ≡ None → text_prefix k t bs ≡ None
+  unfolding text_prefix
   text_none utf8 said = rw (is_utf8-from_IsUtf8 bs utf8, said) refl
 
   text_wrong : (left : ℕ) → IsUtf8 bs → faults.At left (text_cause t bs) ≡ faults.At left (other_type t)
   text_wrong left utf8 = rw (is_utf8-from_IsUtf8 bs utf8) refl
 
-  pub text_fails : (e : Fault) (left : ℕ) → IsUtf8 bs → Fails e (string_literal t bs) (faults.At left (other_type t)) → Fails e (text_prefix k t bs) (faults.At left (text_cause t bs))
+  pub text_fails : (e : Fault) (left : ℕ) → IsUtf8 bs → Fails e (text_in t bs) (faults.At left (other_type t)) → Fails e (text_prefix k t bs) (faults.At left (text_cause t bs))
   text_fails e left utf8 failed = fails_on e _ _ _ _ (λ none. (text_none utf8 none, text_wrong left utf8)) failed
 
   no_string_by : (left : ℕ) (b : Bool) → is_utf8 bs ≡ b → (IsUtf8 bs → ⊥) → faults.At left (text_cause t bs) ≡ faults.At left (causes.Expected expects.Prefix)
@@ -202,12 +204,12 @@ module _ (k : ℕ) (t : TypeTree) (bs : List ℕ) where
   pub no_string : (left : ℕ) → (IsUtf8 bs → ⊥) → (text_prefix k t bs ≡ None) × (faults.At left (text_cause t bs) ≡ faults.At left (causes.Expected expects.Prefix))
   no_string left other = (no_text other, no_string_by left (is_utf8 bs) refl other)
 
-string_is : (t : TypeTree) (bs : List ℕ) (l : LiteralTree) → string_literal t bs ≡ Some l → l ≡ exactly (text_cell bs)
-string_is (utf8_type n) bs l e = let made : LiteralTree = exactly (text_cell bs) in sym (some_is made l e)
+string_is : (t : TypeTree) (bs : List ℕ) (l : PositionTree) → text_in t bs ≡ Some l → l ≡ exactly (text_cell bs)
+string_is (utf8_type n) bs l e = let made : PositionTree = exactly (text_cell bs) in sym (some_is made l e)
 string_is _ bs l e = absurd cc
 
-same_prefix : (k : ℕ) (bs : List ℕ) (l : LiteralTree) → l ≡ exactly (text_cell bs) → prefix_from k l ≡ Some (prefix_test k (text_cell bs))
-same_prefix k bs l e = ap (prefix_from k) e
+same_prefix : (k : ℕ) (bs : List ℕ) (l : PositionTree) → l ≡ exactly (text_cell bs) → prefix_of k l ≡ Some (prefix_test k (text_cell bs))
+same_prefix k bs l e = ap (prefix_of k) e
 
 -- what is read is told as it is, whatever mistake there could be
 read_told : {X Y : Type 0} (view : X → Y) (r : Result X Fault) (read : Option Y) (y : Y) (m n : Fault) → read ≡ Some y → Gives view r read m → Gives view r read n
@@ -216,8 +218,8 @@ read_told view (Err faults.NoMemory) read y m n is given = tt
 read_told view (Err (faults.At left cause)) read y m n is given = let clash : None ≡ Some y = sym given.0 ∙ is in absurd cc
 
 -- a string is a prefix
-pub string_prefix : {X : Type 0} (view : X → Formula) (r : Result X Fault) (k : ℕ) (t : TypeTree) (bs : List ℕ) (l : LiteralTree) (m n : Fault) → string_literal t bs ≡ Some l → Gives view r (prefix_from k l) m → Gives view r (prefix_from k l) n
-string_prefix view r k t bs l m n said given = read_told view r (prefix_from k l) (prefix_test k (text_cell bs)) m n (same_prefix k bs l (string_is t bs l said)) given
+pub string_prefix : {X : Type 0} (view : X → Formula) (r : Result X Fault) (k : ℕ) (t : TypeTree) (bs : List ℕ) (l : PositionTree) (m n : Fault) → text_in t bs ≡ Some l → Gives view r (prefix_of k l) m → Gives view r (prefix_of k l) n
+string_prefix view r k t bs l m n said given = read_told view r (prefix_of k l) (prefix_test k (text_cell bs)) m n (same_prefix k bs l (string_is t bs l said)) given
 
 -- ---- patterns
 

@@ -2,45 +2,45 @@
 use Rattle.std.specs.Prelude.{◌≡◌, ℕ, suc, true, false, List, [], ◌∷◌, ◌++◌, Some}
 use Rattle.std.specs.Str.{is_utf8}
 use Rattle.vortex_dtype.specs.TypeTree.{TypeTree}
-use Rattle.vortex_cells.specs.Cells.{Cell}
 use Rattle.vortex_filter.specs.declared.operator.CompareOperator.{CompareOperator}
 use Rattle.filter_sql.specs.declared.print.Level.{Level}
 use Rattle.filter_sql.specs.declared.print.Level.TheVariants as levels
 use Rattle.filter_sql.specs.declared.token.Keyword.TheVariants as keywords
 use Rattle.vortex_filter.specs.declared.truth.Truth.TheVariants as truths
 use Rattle.filter_sql.specs.Columns.{ColumnTree, column_named}
-use Rattle.vortex_filter.specs.Formula.{Formula, constant, null_test, membership, prefix_test, both, either, negation}
-use Rattle.filter_sql.specs.Literals.{LiteralTree, exactly, literal_of, comparison_of, range_of, cells_of, member_of, holds_strings, pattern_prefix}
+use Rattle.vortex_filter.specs.Formula.{Formula, constant, both, either, negation}
+use Rattle.vortex_filter.specs.Literals.{LiteralTree, text_literal}
+use Rattle.filter_sql.specs.Literals.{Condition, compared, missing, listed, between, begun, denied, formula_in, literal_of, pattern_prefix}
 use Rattle.filter_sql.specs.Tokens.{TokenTree, keyword_token, name_token, string_token, operator_token, opening, closing, comma}
 
--- literals of a type with commas between them, one or more
-pub data AreLiterals (t : TypeTree) : List TokenTree → List LiteralTree → Type 0 where
-  one_literal : {x : TokenTree} {l : LiteralTree} → literal_of t x ≡ Some l → AreLiterals t (x ∷ []) (l ∷ [])
-  more_literals : {x : TokenTree} {l : LiteralTree} {ts : List TokenTree} {ls : List LiteralTree} → literal_of t x ≡ Some l → AreLiterals t ts ls → AreLiterals t (x ∷ comma ∷ ts) (l ∷ ls)
+-- literals with commas between them, one or more
+pub data AreLiterals : List TokenTree → List LiteralTree → Type 0 where
+  one_literal : {x : TokenTree} {l : LiteralTree} → literal_of x ≡ Some l → AreLiterals (x ∷ []) (l ∷ [])
+  more_literals : {x : TokenTree} {l : LiteralTree} {ts : List TokenTree} {ls : List LiteralTree} → literal_of x ≡ Some l → AreLiterals ts ls → AreLiterals (x ∷ comma ∷ ts) (l ∷ ls)
 
--- what may stand behind column k, of type t, or behind a `not` there
-pub data IsTest (k : ℕ) (t : TypeTree) : List TokenTree → Formula → Type 0 where
-  in_nothing : IsTest k t (keyword_token keywords.In ∷ opening ∷ closing ∷ []) (membership k [])
-  in_literals : {ts : List TokenTree} {ls : List LiteralTree} → AreLiterals t ts ls → IsTest k t (keyword_token keywords.In ∷ opening ∷ (ts ++ closing ∷ [])) (member_of k (cells_of ls))
-  between_literals : {x y : TokenTree} {lower upper : LiteralTree} → literal_of t x ≡ Some lower → literal_of t y ≡ Some upper → IsTest k t (keyword_token keywords.Between ∷ x ∷ keyword_token keywords.And ∷ y ∷ []) (range_of k lower upper)
-  like_pattern : {pattern bs : List ℕ} {x : Cell} → pattern_prefix false pattern ≡ Some bs → is_utf8 bs ≡ true → literal_of t (string_token bs) ≡ Some (exactly x) → IsTest k t (keyword_token keywords.Like ∷ string_token pattern ∷ []) (prefix_test k x)
-  like_escaped : {pattern bs : List ℕ} {x : Cell} → pattern_prefix true pattern ≡ Some bs → is_utf8 bs ≡ true → literal_of t (string_token bs) ≡ Some (exactly x) → IsTest k t (keyword_token keywords.Like ∷ string_token pattern ∷ keyword_token keywords.Escape ∷ string_token (92 ∷ []) ∷ []) (prefix_test k x)
+-- what may stand behind a column, or behind a `not` there
+pub data IsTest : List TokenTree → Condition → Type 0 where
+  in_nothing : IsTest (keyword_token keywords.In ∷ opening ∷ closing ∷ []) (listed [])
+  in_literals : {ts : List TokenTree} {ls : List LiteralTree} → AreLiterals ts ls → IsTest (keyword_token keywords.In ∷ opening ∷ (ts ++ closing ∷ [])) (listed ls)
+  between_literals : {x y : TokenTree} {lower upper : LiteralTree} → literal_of x ≡ Some lower → literal_of y ≡ Some upper → IsTest (keyword_token keywords.Between ∷ x ∷ keyword_token keywords.And ∷ y ∷ []) (between lower upper)
+  like_pattern : {pattern bs : List ℕ} → pattern_prefix false pattern ≡ Some bs → is_utf8 bs ≡ true → IsTest (keyword_token keywords.Like ∷ string_token pattern ∷ []) (begun (text_literal bs))
+  like_escaped : {pattern bs : List ℕ} → pattern_prefix true pattern ≡ Some bs → is_utf8 bs ≡ true → IsTest (keyword_token keywords.Like ∷ string_token pattern ∷ keyword_token keywords.Escape ∷ string_token (92 ∷ []) ∷ []) (begun (text_literal bs))
 
--- what may stand behind column k, of type t
-pub data IsCondition (k : ℕ) (t : TypeTree) : List TokenTree → Formula → Type 0 where
-  compares : {op : CompareOperator} {x : TokenTree} {l : LiteralTree} → literal_of t x ≡ Some l → IsCondition k t (operator_token op ∷ x ∷ []) (comparison_of k op l)
-  is_null : IsCondition k t (keyword_token keywords.Is ∷ keyword_token keywords.Null ∷ []) (null_test k)
-  is_not_null : IsCondition k t (keyword_token keywords.Is ∷ keyword_token keywords.Not ∷ keyword_token keywords.Null ∷ []) (negation (null_test k))
-  bare_test : {ts : List TokenTree} {f : Formula} → IsTest k t ts f → IsCondition k t ts f
-  not_test : {ts : List TokenTree} {f : Formula} → IsTest k t ts f → IsCondition k t (keyword_token keywords.Not ∷ ts) (negation f)
+-- what may stand behind a column
+pub data IsCondition : List TokenTree → Condition → Type 0 where
+  compares : {op : CompareOperator} {x : TokenTree} {l : LiteralTree} → literal_of x ≡ Some l → IsCondition (operator_token op ∷ x ∷ []) (compared op l)
+  is_null : IsCondition (keyword_token keywords.Is ∷ keyword_token keywords.Null ∷ []) missing
+  is_not_null : IsCondition (keyword_token keywords.Is ∷ keyword_token keywords.Not ∷ keyword_token keywords.Null ∷ []) (denied missing)
+  bare_test : {ts : List TokenTree} {c : Condition} → IsTest ts c → IsCondition ts c
+  not_test : {ts : List TokenTree} {c : Condition} → IsTest ts c → IsCondition (keyword_token keywords.Not ∷ ts) (denied c)
 
 -- a filter without connectives
 pub data IsPredicate (columns : List ColumnTree) : List TokenTree → Formula → Type 0 where
   says_true : IsPredicate columns (keyword_token keywords.True ∷ []) (constant truths.True)
   says_false : IsPredicate columns (keyword_token keywords.False ∷ []) (constant truths.False)
   says_null : IsPredicate columns (keyword_token keywords.Null ∷ []) (constant truths.Unknown)
-  on_column : {name : List ℕ} {k : ℕ} {t : TypeTree} {ts : List TokenTree} {f : Formula} → column_named columns name ≡ Some (k, t) → IsCondition k t ts f → IsPredicate columns (name_token name ∷ ts) f
-  prefix_call : {name : List ℕ} {k : ℕ} {t : TypeTree} {x : TokenTree} {prefix : Cell} → column_named columns name ≡ Some (k, t) → holds_strings t ≡ true → literal_of t x ≡ Some (exactly prefix) → IsPredicate columns (keyword_token keywords.StartsWith ∷ opening ∷ name_token name ∷ comma ∷ x ∷ closing ∷ []) (prefix_test k prefix)
+  on_column : {name : List ℕ} {k : ℕ} {t : TypeTree} {ts : List TokenTree} {c : Condition} {f : Formula} → column_named columns name ≡ Some (k, t) → IsCondition ts c → formula_in k t c ≡ Some f → IsPredicate columns (name_token name ∷ ts) f
+  prefix_call : {name : List ℕ} {k : ℕ} {t : TypeTree} {x : TokenTree} {l : LiteralTree} {f : Formula} → column_named columns name ≡ Some (k, t) → literal_of x ≡ Some l → formula_in k t (begun l) ≡ Some f → IsPredicate columns (keyword_token keywords.StartsWith ∷ opening ∷ name_token name ∷ comma ∷ x ∷ closing ∷ []) f
 
 -- Tokens that are a filter in a place where connectives of this level and tighter ones may stand bare, and its formula. At
 -- most n connectives and parentheses nest in them. `and` and `or` group to the right.

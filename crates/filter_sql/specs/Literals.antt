@@ -1,138 +1,68 @@
--- What a literal says in a column, and the formulas of tests with literals.
-use Rattle.std.specs.Prelude.{◌==◌, ◌&&◌, ◌||◌, ℕ, ℤ, pos, neg_ℤ, Bool, true, false, List, [], ◌∷◌, Option, Some, None, if◌then◌else◌}
-use Rattle.std.specs.declared.cmp.Ordering.{Ordering}
-use Rattle.std.specs.declared.cmp.Ordering.TheVariants.{Less, Greater}
+-- Which tokens are literals, what is written of a column, and which filter it is by the column's type.
+use Rattle.std.specs.Prelude.{◌==◌, ◌&&◌, ◌||◌, ℕ, ℤ, pos, neg_ℤ, Bool, true, false, List, [], ◌∷◌, Option, Some, None, option_and_then, if◌then◌else◌}
 use Rattle.std.specs.Option.{option_map}
-use Rattle.vortex_dtype.specs.Parts.{is_binary_type, is_utf8_type}
-use Rattle.vortex_dtype.specs.TypeTree.{TypeTree, as_nullable, bool_type, integer_type, utf8_type, binary_type}
-use Rattle.vortex_dtype.specs.declared.nullability.Nullability.TheVariants.{NonNullable}
-use Rattle.vortex_dtype.specs.declared.ptype.PType.{PType}
-use Rattle.vortex_pvalue.specs.Numbers.{in_range}
-use Rattle.vortex_value.specs.Values.Content.{null, truth, whole, text, string}
-use Rattle.vortex_value.specs.declared.scalars.Scalar.{Scalar}
-use Rattle.vortex_cells.specs.Cells.{Cell, cell_of}
+use Rattle.vortex_dtype.specs.TypeTree.{TypeTree}
 use Rattle.vortex_filter.specs.declared.operator.CompareOperator.{CompareOperator}
-use Rattle.vortex_filter.specs.declared.operator.CompareOperator.TheVariants.{Gte, Lte}
-use Rattle.filter_sql.specs.declared.parsing.literals.Literal.{Literal}
-use Rattle.filter_sql.specs.declared.parsing.literals.Literal.TheVariants as literals
 use Rattle.filter_sql.specs.declared.token.Keyword.{Keyword}
 use Rattle.filter_sql.specs.declared.token.Keyword.TheVariants as keywords
-use Rattle.vortex_filter.specs.declared.truth.Truth.TheVariants.{Unknown}
-use Rattle.vortex_filter.specs.Formula.{Formula, constant, comparison, null_test, membership, range, both, either, negation}
-use Rattle.vortex_filter.specs.Operators.{holds}
+use Rattle.vortex_filter.specs.CheckSteps.{holds_strings}
+use Rattle.vortex_filter.specs.Formula.{Formula, null_test, negation}
+use Rattle.vortex_filter.specs.Literals.{LiteralTree, null_literal, truth_literal, number_literal, text_literal, bytes_literal, position_of}
+use Rattle.vortex_filter.specs.Positions.{PositionTree, comparison_of, member_among, prefix_of, range_of}
 use Rattle.filter_sql.specs.Tokens.{TokenTree, keyword_token, integer_token, string_token, bytes_token}
 
 -- ---- literals
-
--- what a literal says in a column of a type
-pub data LiteralTree : Type 0 where
-  -- a cell of the type
-  exactly : Cell → LiteralTree
-  -- a number that the type lacks: whether it is below all that the type has, else it is above them
-  lacking : Bool → LiteralTree
-
-abbrev pub literal_tree : Literal → LiteralTree
-literal_tree (literals.Exactly x) = exactly (cell_of x)
-literal_tree (literals.Lacking is_below) = lacking is_below
-
--- the scalar that a literal in a text is; a number that the type lacks is none
-abbrev pub scalars_of : Literal → List Scalar
-scalars_of (literals.Exactly x) = x ∷ []
-scalars_of (literals.Lacking is_below) = []
-
--- a null in a column of this type
-abbrev pub null_cell : TypeTree → Cell
-null_cell t = record { typed = as_nullable t; content = null }
-
-abbrev pub truth_cell : Bool → Cell
-truth_cell b = record { typed = bool_type NonNullable; content = truth b }
-
-abbrev pub number_cell : PType → ℤ → Cell
-number_cell k z = record { typed = integer_type k NonNullable; content = whole z }
-
-abbrev pub text_cell : List ℕ → Cell
-text_cell bs = record { typed = utf8_type NonNullable; content = text bs }
-
-abbrev pub bytes_cell : List ℕ → Cell
-bytes_cell bs = record { typed = binary_type NonNullable; content = string bs }
-
-abbrev pub truth_literal : TypeTree → Bool → Option LiteralTree
-truth_literal (bool_type n) b = Some (exactly (truth_cell b))
-truth_literal _ b = None
-
-abbrev pub keyword_literal : TypeTree → Keyword → Option LiteralTree
-keyword_literal t keywords.Null = Some (exactly (null_cell t))
-keyword_literal t keywords.True = truth_literal t true
-keyword_literal t keywords.False = truth_literal t false
-keyword_literal t _ = None
 
 -- the number that a sign and digits say
 abbrev pub signed : Bool → ℕ → ℤ
 signed negative n = if negative then neg_ℤ (pos n) else pos n
 
-abbrev pub number_said : PType → Bool → ℤ → LiteralTree
-number_said k negative z = if in_range k z then exactly (number_cell k z) else lacking negative
+abbrev pub keyword_literal : Keyword → Option LiteralTree
+keyword_literal keywords.Null = Some null_literal
+keyword_literal keywords.True = Some (truth_literal true)
+keyword_literal keywords.False = Some (truth_literal false)
+keyword_literal _ = None
 
-abbrev pub integer_literal : TypeTree → Bool → ℕ → Option LiteralTree
-integer_literal (integer_type k n) negative m = Some (number_said k negative (signed negative m))
-integer_literal _ negative m = None
+-- the literal that a token is
+unfoldable pub literal_of : TokenTree → Option LiteralTree
+literal_of (keyword_token k) = keyword_literal k
+literal_of (integer_token negative m) = Some (number_literal (signed negative m))
+literal_of (string_token bs) = Some (text_literal bs)
+literal_of (bytes_token bs) = Some (bytes_literal bs)
+literal_of _ = None
 
-abbrev pub string_literal : TypeTree → List ℕ → Option LiteralTree
-string_literal (utf8_type n) bs = Some (exactly (text_cell bs))
-string_literal _ bs = None
+-- ---- conditions
 
-abbrev pub bytes_literal : TypeTree → List ℕ → Option LiteralTree
-bytes_literal (binary_type n) bs = Some (exactly (bytes_cell bs))
-bytes_literal _ bs = None
+-- what is written of a column
+pub data Condition : Type 0 where
+  -- how it stands to a literal
+  compared : CompareOperator → LiteralTree → Condition
+  -- that it is null
+  missing : Condition
+  -- that it is one of these
+  listed : List LiteralTree → Condition
+  -- that it lies between two
+  between : LiteralTree → LiteralTree → Condition
+  -- that it begins so
+  begun : LiteralTree → Condition
+  -- the opposite
+  denied : Condition → Condition
 
--- what a token says as a literal in a column of this type
-unfoldable pub literal_of : TypeTree → TokenTree → Option LiteralTree
-literal_of t (keyword_token k) = keyword_literal t k
-literal_of t (integer_token negative m) = integer_literal t negative m
-literal_of t (string_token bs) = string_literal t bs
-literal_of t (bytes_token bs) = bytes_literal t bs
-literal_of t _ = None
+-- where literals stand, if each is one of the type
+abbrev pub positions_of : TypeTree → List LiteralTree → Option (List PositionTree)
+positions_of t [] = Some []
+positions_of t (l ∷ ls) = option_and_then (λ p. option_map (λ ps. p ∷ ps) (positions_of t ls)) (position_of t l)
 
--- ---- tests with a number that the type lacks
+-- what is written of column k, of type t, if its literals are of the type
+abbrev pub formula_in : ℕ → TypeTree → Condition → Option Formula
+formula_in k t (compared op l) = option_map (comparison_of k op) (position_of t l)
+formula_in k t missing = Some (null_test k)
+formula_in k t (listed ls) = option_map (member_among k) (positions_of t ls)
+formula_in k t (between lower upper) = option_and_then (λ p. option_map (range_of k p) (position_of t upper)) (position_of t lower)
+formula_in k t (begun l) = if holds_strings t then option_and_then (prefix_of k) (position_of t l) else None
+formula_in k t (denied c) = option_map negation (formula_in k t c)
 
--- true of each value, and unknown of a null
-abbrev pub always : ℕ → Formula
-always k = either (negation (null_test k)) (constant Unknown)
-
--- false of each value, and unknown of a null
-abbrev pub never : ℕ → Formula
-never k = both (null_test k) (constant Unknown)
-
--- how each value of a type stands to a number that is below or above them all
-abbrev pub order_to_lacking : Bool → Ordering
-order_to_lacking is_below = if is_below then Greater else Less
-
--- what a comparison with a literal is
-abbrev pub comparison_of : ℕ → CompareOperator → LiteralTree → Formula
-comparison_of k op (exactly x) = comparison k op x
-comparison_of k op (lacking is_below) = if holds op (order_to_lacking is_below) then always k else never k
-
--- what a test is whether a cell lies between two literals
-abbrev pub range_of : ℕ → LiteralTree → LiteralTree → Formula
-range_of k (exactly x) (exactly y) = range k x y
-range_of k lower upper = both (comparison_of k Gte lower) (comparison_of k Lte upper)
-
--- the cells among literals
-abbrev pub cells_of : List LiteralTree → List Cell
-cells_of [] = []
-cells_of (exactly x ∷ ls) = x ∷ cells_of ls
-cells_of (lacking is_below ∷ ls) = cells_of ls
-
--- whether a cell is one of these: of none, false of each value and unknown of a null
-abbrev pub member_of : ℕ → List Cell → Formula
-member_of k [] = never k
-member_of k (x ∷ xs) = membership k (x ∷ xs)
-
--- ---- prefixes
-
--- whether values of the type can begin with a prefix
-abbrev pub holds_strings : TypeTree → Bool
-holds_strings t = is_utf8_type t || is_binary_type t
+-- ---- patterns
 
 -- % or _
 abbrev pub is_wildcard : ℕ → Bool

@@ -18,10 +18,12 @@ use Rattle.filter_sql.specs.declared.token.Keyword.TheVariants as keywords
 use Rattle.vortex_filter.specs.declared.filter.Filter.{Filter}
 use Rattle.filter_sql.specs.Columns.{ColumnTree, column_named}
 use Rattle.filter_sql.specs.Lexing.{fault_at}
-use Rattle.filter_sql.specs.Literals.{LiteralTree, literal_of, holds_strings, pattern_prefix}
-use Rattle.filter_sql.specs.Reading.{Read, after_closing, after_comma, after_keyword, after_opening, chosen, conjunction_of, disjunction_of, escape_at, literal_at, name_at, operand_of, operator_at, predicate_at, reads, string_at}
+use Rattle.vortex_filter.specs.CheckSteps.{holds_strings}
+use Rattle.vortex_filter.specs.Positions.{PositionTree}
+use Rattle.filter_sql.specs.Literals.{literal_of, pattern_prefix}
+use Rattle.filter_sql.specs.Reading.{Read, after_closing, after_comma, after_keyword, after_opening, chosen, conjunction_of, disjunction_of, escape_at, name_at, operand_of, operator_at, position_at, predicate_at, reads, string_at, token_position}
 use Rattle.filter_sql.specs.Texts.{Item}
-use Rattle.filter_sql.specs.Tokens.{TokenTree, keyword_token, integer_token, string_token, bytes_token, comma}
+use Rattle.filter_sql.specs.Tokens.{TokenTree, comma}
 
 -- ---- what a function gave, and what reading gives
 
@@ -54,14 +56,9 @@ other_type (utf8_type n) = causes.TypesDiffer
 other_type (binary_type n) = causes.TypesDiffer
 other_type _ = causes.NoLiteral
 
--- why a token is no literal of the type
+-- why a token is no literal of the type: it is one of other types, or none
 abbrev pub literal_cause : TypeTree → TokenTree → Cause
-literal_cause t (keyword_token keywords.True) = other_type t
-literal_cause t (keyword_token keywords.False) = other_type t
-literal_cause t (integer_token negative magnitude) = other_type t
-literal_cause t (string_token bs) = other_type t
-literal_cause t (bytes_token bs) = other_type t
-literal_cause t _ = causes.Expected expects.Literal
+literal_cause t x = chosen (literal_of x) (λ l. other_type t) (causes.Expected expects.Literal)
 
 unfoldable pub literal_mistake : TypeTree → List TokenTree → Fault
 literal_mistake t [] = expected [] expects.Literal
@@ -70,18 +67,18 @@ literal_mistake t (x ∷ ts) = faults.At (length (x ∷ ts)) (literal_cause t x)
 -- ---- tests
 
 -- what is wrong later if there is a literal, else what is wrong with it
-abbrev pub behind_literal : Option LiteralTree → Fault → Fault → Fault
+abbrev pub behind_literal : Option PositionTree → Fault → Fault → Fault
 behind_literal None later here = here
 behind_literal (Some l) later here = later
 
 -- behind the first literal in parentheses
 unfoldable pub more_mistake : TypeTree → List TokenTree → Fault
 more_mistake t (comma ∷ []) = literal_mistake t []
-more_mistake t (comma ∷ x ∷ ts) = behind_literal (literal_of t x) (more_mistake t ts) (literal_mistake t (x ∷ ts))
+more_mistake t (comma ∷ x ∷ ts) = behind_literal (token_position t x) (more_mistake t ts) (literal_mistake t (x ∷ ts))
 more_mistake t ts = expected ts expects.Closing
 
 unfoldable pub cells_mistake : TypeTree → List TokenTree → Fault
-cells_mistake t ts = chosen (literal_at t ts) (λ x. more_mistake t x.1) (literal_mistake t ts)
+cells_mistake t ts = chosen (position_at t ts) (λ x. more_mistake t x.1) (literal_mistake t ts)
 
 -- behind `in`
 unfoldable pub members_mistake : TypeTree → List TokenTree → Fault
@@ -90,7 +87,7 @@ members_mistake t ts = chosen (after_opening ts) (cells_mistake t) (expected ts 
 -- behind `between`
 unfoldable pub range_mistake : TypeTree → List TokenTree → Fault
 range_mistake t ts =
-    chosen (literal_at t ts)
+    chosen (position_at t ts)
     (λ lower. chosen (after_keyword keywords.And lower.1) (literal_mistake t) (expected lower.1 expects.And))
     (literal_mistake t ts)
 
@@ -141,7 +138,7 @@ prefix_call_mistake columns ts =
     (λ us. chosen (name_at us)
     (λ name. chosen (column_named columns name.0)
     (λ column. chosen (after_comma name.1)
-    (λ vs. chosen (literal_at column.1 vs)
+    (λ vs. chosen (position_at column.1 vs)
     (λ prefix. chosen (after_closing prefix.1) (λ ws. faults.At (length vs) (prefix_cause column.1)) (expected prefix.1 expects.Closing))
     (literal_mistake column.1 vs))
     (expected name.1 expects.Comma))

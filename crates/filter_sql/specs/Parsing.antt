@@ -15,7 +15,8 @@ use Rattle.filter_sql.specs.declared.print.Level.TheVariants as levels
 use Rattle.filter_sql.specs.Columns.{ColumnTree, column_named}
 use Rattle.vortex_filter.specs.Formula.{Formula, formula, constant, comparison, null_test, membership, range, prefix_test, both, either, negation}
 use Rattle.filter_sql.specs.Grammar.{IsFilter}
-use Rattle.filter_sql.specs.Literals.{null_cell, truth_cell, number_cell, text_cell, bytes_cell, holds_strings}
+use Rattle.vortex_filter.specs.CheckSteps.{holds_strings}
+use Rattle.vortex_filter.specs.Literals.{null_cell, truth_cell, number_cell, text_cell, bytes_cell}
 use Rattle.filter_sql.specs.Mistakes.{error_of, filter_mistake}
 use Rattle.filter_sql.specs.Printing.{column_name, groups_and, groups_or}
 use Rattle.filter_sql.specs.Texts.{Item, AreItemsOf, EndsAt}

@@ -10,8 +10,11 @@ use Rattle.filter_sql.specs.declared.token.Keyword.{Keyword}
 use Rattle.filter_sql.specs.declared.token.Keyword.TheVariants.{And, Or, Not, In, Is, Null, Between, Like, Escape, True, False, StartsWith}
 use Rattle.vortex_filter.specs.declared.truth.Truth.TheVariants as truths
 use Rattle.filter_sql.specs.Columns.{ColumnTree, column_named}
-use Rattle.vortex_filter.specs.Formula.{Formula, constant, null_test, membership, prefix_test, both, either, negation}
-use Rattle.filter_sql.specs.Literals.{LiteralTree, exactly, lacking, literal_of, comparison_of, range_of, cells_of, member_of, holds_strings, pattern_prefix}
+use Rattle.vortex_filter.specs.Formula.{Formula, constant, null_test, membership, both, either, negation}
+use Rattle.vortex_filter.specs.CheckSteps.{holds_strings}
+use Rattle.vortex_filter.specs.Literals.{position_of, text_in}
+use Rattle.vortex_filter.specs.Positions.{PositionTree, cells_of, comparison_of, member_of, prefix_of, range_of}
+use Rattle.filter_sql.specs.Literals.{literal_of, pattern_prefix}
 use Rattle.filter_sql.specs.Tokens.{TokenTree, keyword_token, name_token, string_token, operator_token, opening, closing, comma}
 
 infixl 10 ◌>>=◌
@@ -82,29 +85,35 @@ string_at _ = None
 
 -- ---- literals
 
-abbrev pub literal_then : Option LiteralTree → List TokenTree → Option (LiteralTree × List TokenTree)
-literal_then None ts = None
-literal_then (Some l) ts = Some (l, ts)
+-- where a token stands as a literal of a type
+unfoldable pub token_position : TypeTree → TokenTree → Option PositionTree
+token_position t x = literal_of x >>= position_of t
 
-unfoldable pub literal_at : TypeTree → List TokenTree → Option (LiteralTree × List TokenTree)
-literal_at t [] = None
-literal_at t (x ∷ ts) = literal_then (literal_of t x) ts
+-- what stands there, and what follows it
+abbrev pub position_then : Option PositionTree → List TokenTree → Option (PositionTree × List TokenTree)
+position_then None ts = None
+position_then (Some p) ts = Some (p, ts)
+
+-- where the literal that comes next stands, and what follows it
+unfoldable pub position_at : TypeTree → List TokenTree → Option (PositionTree × List TokenTree)
+position_at t [] = None
+position_at t (x ∷ ts) = position_then (token_position t x) ts
 
 -- a literal among others, and those after it
-abbrev pub preceded : Option LiteralTree → Option (List Cell × List TokenTree) → Option (List Cell × List TokenTree)
+abbrev pub preceded : Option PositionTree → Option (List Cell × List TokenTree) → Option (List Cell × List TokenTree)
 preceded None r = None
-preceded (Some l) None = None
-preceded (Some l) (Some x) = Some (cells_of (l ∷ []) ++ x.0, x.1)
+preceded (Some p) None = None
+preceded (Some p) (Some x) = Some (cells_of (p ∷ []) ++ x.0, x.1)
 
 -- the cells of the literals behind the first, up to the closing parenthesis
 unfoldable pub more_cells : TypeTree → List TokenTree → Option (List Cell × List TokenTree)
 more_cells t (closing ∷ ts) = Some ([], ts)
-more_cells t (comma ∷ x ∷ ts) = preceded (literal_of t x) (more_cells t ts)
+more_cells t (comma ∷ x ∷ ts) = preceded (token_position t x) (more_cells t ts)
 more_cells t _ = None
 
 unfoldable pub cells_at : TypeTree → List TokenTree → Option (List Cell × List TokenTree)
 cells_at t [] = None
-cells_at t (x ∷ ts) = preceded (literal_of t x) (more_cells t ts)
+cells_at t (x ∷ ts) = preceded (token_position t x) (more_cells t ts)
 
 -- what was read before, and what is still read
 abbrev pub with_front : List Cell → Option (List Cell × List TokenTree) → Option (List Cell × List TokenTree)
@@ -126,9 +135,9 @@ members_at k t ts = after_opening ts >>= λ us. members_from k t us (after_closi
 
 unfoldable pub range_at : ℕ → TypeTree → List TokenTree → Read
 range_at k t ts = do
-  lower ← literal_at t ts
+  lower ← position_at t ts
   us ← after_keyword And lower.1
-  upper ← literal_at t us
+  upper ← position_at t us
   Some (range_of k lower.0 upper.0, upper.1)
 
 -- the backslash behind `escape`
@@ -148,14 +157,9 @@ with_bytes front (Some bs) = Some (front ++ bs)
 abbrev pub ending : List ℕ → Option (List ℕ)
 ending bs = if bytes_eq bs (37 ∷ []) then Some [] else None
 
--- the test whether a column begins with a literal
-abbrev pub prefix_from : ℕ → LiteralTree → Option Formula
-prefix_from k (exactly x) = Some (prefix_test k x)
-prefix_from k (lacking is_below) = None
-
 -- bytes that are a prefix in a column of strings
 unfoldable pub text_prefix : ℕ → TypeTree → List ℕ → Option Formula
-text_prefix k t bs = if is_utf8 bs then (literal_of t (string_token bs) >>= prefix_from k) else None
+text_prefix k t bs = if is_utf8 bs then (text_in t bs >>= prefix_of k) else None
 
 unfoldable pub like_at : ℕ → TypeTree → List TokenTree → Read
 like_at k t ts = do
@@ -169,7 +173,7 @@ unfoldable pub test_at : ℕ → TypeTree → List TokenTree → Read
 test_at k t ts = chosen (after_keyword In ts) (members_at k t) (chosen (after_keyword Between ts) (range_at k t) (after_keyword Like ts >>= like_at k t))
 
 unfoldable pub comparison_at : ℕ → TypeTree → CompareOperator → List TokenTree → Read
-comparison_at k t op ts = literal_at t ts >>= λ x. Some (comparison_of k op x.0, x.1)
+comparison_at k t op ts = position_at t ts >>= λ x. Some (comparison_of k op x.0, x.1)
 
 -- what follows `is`
 unfoldable pub null_test_at : ℕ → List TokenTree → Read
@@ -189,8 +193,8 @@ abbrev pub condition_of : Option (ℕ × TypeTree) → List TokenTree → Read
 condition_of None ts = None
 condition_of (Some c) ts = condition_at c.0 c.1 ts
 
-unfoldable pub prefix_of : ℕ × TypeTree → LiteralTree → Option Formula
-prefix_of c l = if holds_strings c.1 then prefix_from c.0 l else None
+unfoldable pub prefix_in : ℕ × TypeTree → PositionTree → Option Formula
+prefix_in c p = if holds_strings c.1 then prefix_of c.0 p else None
 
 unfoldable pub prefix_call_at : List ColumnTree → List TokenTree → Read
 prefix_call_at columns ts = do
@@ -198,9 +202,9 @@ prefix_call_at columns ts = do
   name ← name_at us
   column ← column_named columns name.0
   vs ← after_comma name.1
-  prefix ← literal_at column.1 vs
+  prefix ← position_at column.1 vs
   ws ← after_closing prefix.1
-  f ← prefix_of column prefix.0
+  f ← prefix_in column prefix.0
   Some (f, ws)
 
 unfoldable pub constant_at : List TokenTree → Read

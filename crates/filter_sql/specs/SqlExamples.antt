@@ -1,10 +1,10 @@
 -- Worked cases of SQL text, each a theorem.
-use Rattle.std.specs.Prelude.{◌≡◌, ⊤, true, false, pos, negsuc, List, [], ◌∷◌, refl, codes, Ok, Err}
+use Rattle.std.specs.Prelude.{◌≡◌, ⊤, ℕ, true, false, pos, negsuc, List, [], ◌∷◌, refl, codes, Option, Some, None, Ok, Err}
 use Rattle.std.specs.Fmt.{digits}
 use Rattle.hex.specs.Hex.{decode_pairs, encode_with}
 use Rattle.vortex_dtype.specs.TypeTree.{integer_type, null_type}
-use Rattle.vortex_dtype.specs.declared.nullability.Nullability.TheVariants.{Nullable}
-use Rattle.vortex_dtype.specs.declared.ptype.PType.TheVariants.{I32}
+use Rattle.vortex_dtype.specs.declared.nullability.Nullability.TheVariants.{NonNullable, Nullable}
+use Rattle.vortex_dtype.specs.declared.ptype.PType.TheVariants.{I32, U8}
 use Rattle.vortex_cells.specs.Cells.{Cell}
 use Rattle.vortex_value.specs.Values.Content.{Content, null, whole, text, string}
 use Rattle.vortex_filter.specs.declared.operator.CompareOperator.TheVariants.{NotEq, Gte, Lt, Eq}
@@ -20,9 +20,10 @@ use Rattle.filter_sql.specs.Lexing.{bytes_at, integer_at, mark_of, parameter_at,
 use Rattle.filter_sql.specs.Tokens.{bytes_token, closing, integer_token, keyword_named, keyword_token, name_token, opening, operator_token, string_token}
 use Rattle.filter_sql.specs.Printing.{sql_text}
 use Rattle.filter_sql.specs.Columns.{ColumnTree, column_named, numbered_place}
-use Rattle.filter_sql.specs.Literals.{literal_of, pattern_prefix}
+use Rattle.vortex_filter.specs.Literals.{number_cell, number_literal, text_literal}
+use Rattle.filter_sql.specs.Literals.{Condition, between, compared, formula_in, listed, literal_of, pattern_prefix}
 use Rattle.filter_sql.specs.Mistakes.{cells_mistake, condition_mistake, conjunction_mistake, disjunction_mistake, escape_mistake, filter_mistake, group_mistake, like_mistake, literal_mistake, members_mistake, mistake_at, mistakes, more_mistake, operand_mistake, predicate_mistake, test_mistake}
-use Rattle.filter_sql.specs.Reading.{after_closing, after_comma, after_keyword, after_opening, and_from, cells_at, comparison_at, condition_at, conjunction_of, constant_at, disjunction_of, escape_at, group_of, like_at, literal_at, members_at, more_cells, name_at, operand_from, operand_of, operator_at, or_from, predicate_at, read_at, reads, string_at, test_at, text_prefix}
+use Rattle.filter_sql.specs.Reading.{after_closing, after_comma, after_keyword, after_opening, and_from, cells_at, comparison_at, condition_at, conjunction_of, constant_at, disjunction_of, escape_at, group_of, like_at, members_at, more_cells, name_at, operand_from, operand_of, operator_at, or_from, position_at, predicate_at, read_at, reads, string_at, test_at, text_prefix, token_position}
 
 -- what the proofs compute by
 unfoldable on_texts : ⊤
@@ -90,6 +91,23 @@ pub prefixes :
 unfolding on_texts
 prefixes = (refl, refl, refl)
 
+-- What is written of a column, by its type.
+
+abbrev of_byte : Condition → Option Formula
+of_byte = formula_in 0 (integer_type U8 NonNullable)
+
+abbrev byte : ℕ → Cell
+byte n = number_cell U8 (pos n)
+
+-- x < 300, x in (300, 1), x in (300), x between 0 and 300, and x = ''
+pub conditions :
+    (of_byte (compared Lt (number_literal (pos 300))) ≡ Some (either (negation (null_test 0)) (constant Unknown)))
+    × (of_byte (listed (number_literal (pos 300) ∷ number_literal (pos 1) ∷ [])) ≡ Some (membership 0 (byte 1 ∷ [])))
+    × (of_byte (listed (number_literal (pos 300) ∷ [])) ≡ Some (both (null_test 0) (constant Unknown)))
+    × (of_byte (between (number_literal (pos 0)) (number_literal (pos 300))) ≡ Some (both (comparison 0 Gte (byte 0)) (either (negation (null_test 0)) (constant Unknown))))
+    × (of_byte (compared Eq (text_literal [])) ≡ None)
+conditions = (refl, refl, refl, refl, refl)
+
 -- Mistakes, by how many tokens are left.
 
 abbrev pub one_column : List ColumnTree
@@ -97,7 +115,7 @@ one_column = record { name = codes "a"; typed = integer_type I32 Nullable } ∷ 
 
 -- what the proofs compute by
 unfoldable on_mistakes : ⊤
-unfolding after_closing after_comma after_keyword after_opening and_from cells_at cells_mistake column_named comparison_at condition_at condition_mistake conjunction_mistake conjunction_of constant_at disjunction_mistake disjunction_of escape_at escape_mistake filter_mistake group_mistake group_of like_at like_mistake literal_at literal_mistake literal_of members_at members_mistake mistake_at mistakes more_cells more_mistake name_at numbered_place operand_from operand_mistake operand_of operator_at or_from pattern_prefix predicate_at predicate_mistake read_at reads string_at test_at test_mistake text_prefix
+unfolding after_closing after_comma after_keyword after_opening and_from cells_at cells_mistake column_named comparison_at condition_at condition_mistake conjunction_mistake conjunction_of constant_at disjunction_mistake disjunction_of escape_at escape_mistake filter_mistake group_mistake group_of like_at like_mistake literal_mistake literal_of members_at members_mistake mistake_at mistakes more_cells more_mistake name_at numbered_place operand_from operand_mistake operand_of operator_at or_from pattern_prefix position_at predicate_at predicate_mistake read_at reads string_at test_at test_mistake text_prefix token_position
 on_mistakes = tt
 
 -- a 3

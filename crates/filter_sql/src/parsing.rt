@@ -4,7 +4,6 @@ mod columns;
 mod conditions;
 mod fault;
 mod filters;
-mod formulas;
 mod literals;
 mod predicates;
 mod tokens;

@@ -1,9 +1,9 @@
 -- How deep the encoding of a filter nests: a filter that words are has one, at the depth that goes with theirs.
-use Rattle.std.proofs.Common.{◌≡◌, ◌∙◌, ℕ, zero, suc, ◌+◌, ◌^◌, ◌<◌, ◌≤◌, Bool, true, false, cond, List, [], ◌∷◌, ◌++◌, length, Option, Some, None, arith, ap, refl, subst, sym, length-append, length-drop}
+use Rattle.std.proofs.Common.{◌≡◌, ◌∙◌, ℕ, zero, suc, ◌+◌, ◌^◌, ◌<◌, ◌≤◌, Bool, true, false, List, [], ◌∷◌, ◌++◌, length, Option, Some, None, arith, ap, refl, subst, sym, length-append, length-drop}
 use Rattle.std.specs.Char.{is_ascii_whitespace}
 use Rattle.std.specs.List.{AllByRecursion, prefix_len}
 use Rattle.std.specs.Option.{option_map}
-use Rattle.std.specs.Prelude.{slice_get}
+use Rattle.std.specs.Prelude.{option_and_then, slice_get}
 use Rattle.std.proofs.lemmas.List.{length-map}
 use Rattle.std.proofs.lemmas.Option.{slice_get-map, slice_get_within}
 use Rattle.arrow_columns.specs.Kinds.{kind_at}
@@ -15,15 +15,20 @@ use Rattle.vortex_cells.specs.Cells.{Cell}
 use Rattle.vortex_filter.specs.declared.operator.CompareOperator.{CompareOperator}
 use Rattle.vortex_filter.specs.declared.operator.CompareOperator.TheVariants.{Gte, Lte}
 use Rattle.vortex_filter.specs.Formula.{both, comparison, constant, either, Formula, membership, negation, null_test, prefix_test, range}
+use Rattle.vortex_filter.specs.CheckSteps.{holds_strings}
+use Rattle.vortex_filter.specs.Literals.{LiteralTree, position_of, text_literal}
 use Rattle.vortex_filter.specs.Operators.{holds}
+use Rattle.vortex_filter.specs.Positions.{cells_of, comparison_of, exactly, for_values, lacking, member_among, member_of, PositionTree, prefix_of, range_of}
+use Rattle.vortex_filter.proofs.PositionLaws.{CellFits}
 use Rattle.filter_encoding.specs.Encoding.{CanBeWritten, IsPlain, IsPlainCell, Nests}
 use Rattle.filter_encoding.specs.Lists.{AreListed, Fits}
 use Rattle.filter_sql.specs.Columns.{column_named, column_there, ColumnTree, named_place, or_numbered, typed_place}
 use Rattle.filter_sql.specs.Grammar.{and_filter, AreLiterals, bare_test, between_literals, compares, group, in_literals, in_nothing, is_not_null, is_null, IsCondition, IsFilter, IsPredicate, IsTest, like_escaped, like_pattern, more_literals, not_filter, not_test, on_column, one_conjunction, one_literal, one_operand, or_filter, predicate, prefix_call, says_false, says_null, says_true}
-use Rattle.filter_sql.specs.Literals.{always, cells_of, comparison_of, exactly, lacking, literal_of, LiteralTree, member_of, never, order_to_lacking, range_of}
+use Rattle.filter_sql.specs.Literals.{begun, Condition, formula_in, missing, positions_of}
 use Rattle.filter_sql.specs.Parsing.{IsSqlWithin, tokens_in, types_of}
 use Rattle.filter_sql.specs.Texts.{AreItemsOf, Item, Leads, trimmed}
-use Rattle.filter_sql.specs.Tokens.{closing, comma, string_token, TokenTree}
+use Rattle.filter_sql.specs.Tokens.{closing, comma, TokenTree}
+use Rattle.filter_sql.proofs.ConditionSteps.{bind_some, guard_some, map_some, some_members, stand_parts}
 use Rattle.filter_sql.proofs.FitLaws.{literal_fits}
 use Rattle.filter_sql.proofs.NestLaws.{height, whole-low}
 use Rattle.filter_sql.proofs.Runs.{front_again}
@@ -78,65 +83,97 @@ plain-back (utf8_type n) h = tt
 plain-back (binary_type n) h = tt
 plain-back _ h = absurd h
 
-literal-plain : (t : TypeTree) (token : TokenTree) (x : Cell) → IsPlain t → literal_of t token ≡ Some (exactly x) → IsPlainCell x
-literal-plain t token x h e = plain-back x.typed (subst IsPlain (literal_fits t token x e) (plain-erased t h))
-
--- what a literal says is of a type that has a byte, if it is a cell
-abbrev IsPlainSaid : LiteralTree → Type 0
+-- where a literal stands is a cell of a type that has a byte, or none
+abbrev IsPlainSaid : PositionTree → Type 0
 IsPlainSaid (exactly x) = IsPlainCell x
-IsPlainSaid (lacking b) = Unit {0}
+IsPlainSaid (lacking o) = Unit {0}
 
-said-plain : (t : TypeTree) (token : TokenTree) (l : LiteralTree) → IsPlain t → literal_of t token ≡ Some l → IsPlainSaid l
-said-plain t token (exactly x) h e = literal-plain t token x h e
-said-plain t token (lacking b) h e = tt
+stands-plain : (t : TypeTree) (p : PositionTree) → IsPlain t → CellFits t p → IsPlainSaid p
+stands-plain t (exactly x) h fits = plain-back x.typed (subst IsPlain fits (plain-erased t h))
+stands-plain t (lacking o) h fits = tt
+
+literal-plain : (t : TypeTree) (l : LiteralTree) (p : PositionTree) → IsPlain t → position_of t l ≡ Some p → IsPlainSaid p
+literal-plain t l p h e = stands-plain t p h (literal_fits t l p e)
 
 -- the cells of literals are of such types, and no more than there are tokens
 record AreFew (ts : List TokenTree) (xs : List Cell) : Type 0 where
   plain : AllByRecursion IsPlainCell xs
   count : length xs ≤ length ts
 
-one-more : (x : TokenTree) (ts us : List TokenTree) (l : LiteralTree) (ls : List LiteralTree) → length ts < length us → IsPlainSaid l → AreFew ts (cells_of ls) → AreFew us (cells_of (l ∷ ls))
-one-more x ts us (exactly y) ls less said few = record { plain = (said, few.plain); count = omega (arith, less, few.count) }
-one-more x ts us (lacking b) ls less said few = record { plain = few.plain; count = omega (arith, less, few.count) }
+one-more : (ts us : List TokenTree) (p : PositionTree) (ps : List PositionTree) → length ts < length us → IsPlainSaid p → AreFew ts (cells_of ps) → AreFew us (cells_of (p ∷ ps))
+one-more ts us (exactly x) ps less said few = record { plain = (said, few.plain); count = omega (arith, less, few.count) }
+one-more ts us (lacking o) ps less said few = record { plain = few.plain; count = omega (arith, less, few.count) }
 
-literals-few : {t : TypeTree} {ts : List TokenTree} {ls : List LiteralTree} → IsPlain t → AreLiterals t ts ls → AreFew ts (cells_of ls)
-literals-few {t = t} h (one_literal {x} {l} said) = one-more x [] (x ∷ []) l [] (omega arith) (said-plain t x l h said) (record { plain = tt; count = omega arith })
-literals-few {t = t} h (more_literals {x} {l} {ts} {ls} said more) = one-more x ts (x ∷ comma ∷ ts) l ls (omega arith) (said-plain t x l h said) (literals-few h more)
+none-few : (t : TypeTree) (ps : List PositionTree) → positions_of t [] ≡ Some ps → AreFew [] (cells_of ps)
+none-few t ps e = let same : [] ≡ ps = cc in subst (λ (qs : List PositionTree). AreFew [] (cells_of qs)) same (record { plain = tt; count = omega arith })
+
+literals-few : (t : TypeTree) {ts : List TokenTree} {ls : List LiteralTree} → IsPlain t → AreLiterals ts ls → (ps : List PositionTree) → positions_of t ls ≡ Some ps → AreFew ts (cells_of ps)
+literals-few t h (one_literal {x} {l} said) ps e =
+    let p = stand_parts t l [] ps e in
+    subst (λ (qs : List PositionTree). AreFew (x ∷ []) (cells_of qs)) p.whole (one-more [] (x ∷ []) p.first p.others (omega arith) (literal-plain t l p.first h p.stands) (none-few t p.others p.stand))
+literals-few t h (more_literals {x} {l} {ts} {ls} said more) ps e =
+    let p = stand_parts t l ls ps e in
+    subst (λ (qs : List PositionTree). AreFew (x ∷ comma ∷ ts) (cells_of qs)) p.whole (one-more ts (x ∷ comma ∷ ts) p.first p.others (omega arith) (literal-plain t l p.first h p.stands) (literals-few t h more p.others p.stand))
 
 module _ (k : ℕ) (t : TypeTree) (fits : Fits k) (plain : IsPlain t) where
-  lacking-form : (b : Bool) → HasForm (cond b (always k) (never k))
+  lacking-form : (b : Bool) → HasForm (for_values b k)
   lacking-form true = (fits, tt)
   lacking-form false = (fits, tt)
 
-  comparison-form : (op : CompareOperator) (l : LiteralTree) → IsPlainSaid l → HasForm (comparison_of k op l)
+  comparison-form : (op : CompareOperator) (p : PositionTree) → IsPlainSaid p → HasForm (comparison_of k op p)
   comparison-form op (exactly x) said = (fits, said)
-  comparison-form op (lacking b) said = lacking-form (holds op (order_to_lacking b))
+  comparison-form op (lacking o) said = lacking-form (holds op o)
 
-  range-form : (lower upper : LiteralTree) → IsPlainSaid lower → IsPlainSaid upper → HasForm (range_of k lower upper)
+  range-form : (lower upper : PositionTree) → IsPlainSaid lower → IsPlainSaid upper → HasForm (range_of k lower upper)
   range-form (exactly x) (exactly y) low high = (fits, (low, high))
-  range-form (exactly x) (lacking b) low high = (comparison-form Gte (exactly x) low, comparison-form Lte (lacking b) high)
-  range-form (lacking b) (exactly y) low high = (comparison-form Gte (lacking b) low, comparison-form Lte (exactly y) high)
-  range-form (lacking b) (lacking c) low high = (comparison-form Gte (lacking b) low, comparison-form Lte (lacking c) high)
+  range-form (exactly x) (lacking o) low high = (comparison-form Gte (exactly x) low, comparison-form Lte (lacking o) high)
+  range-form (lacking o) (exactly y) low high = (comparison-form Gte (lacking o) low, comparison-form Lte (exactly y) high)
+  range-form (lacking o) (lacking r) low high = (comparison-form Gte (lacking o) low, comparison-form Lte (lacking r) high)
 
   member-form : (xs : List Cell) → AllByRecursion IsPlainCell xs → length xs < 2 ^ 64 → HasForm (member_of k xs)
   member-form [] all few = (fits, tt)
   member-form (x ∷ xs) all few = (fits, record { fit = few; each = all })
 
-  test-form : {ts : List TokenTree} {f : Formula} → length ts < 2 ^ 64 → IsTest k t ts f → HasForm f
-  test-form few in_nothing = (fits, record { fit = omega arith; each = tt })
-  test-form few (in_literals {ts} {ls} l) =
-      let each = literals-few plain l in
-      member-form (cells_of ls) each.plain (omega (arith, few, each.count, length-append ts (closing ∷ [])))
-  test-form few (between_literals {x} {y} {lower} {upper} low high) = range-form lower upper (said-plain t x lower plain low) (said-plain t y upper plain high)
-  test-form few (like_pattern {pattern} {bs} {x} p u l) = (fits, literal-plain t (string_token bs) x plain l)
-  test-form few (like_escaped {pattern} {bs} {x} p u l) = (fits, literal-plain t (string_token bs) x plain l)
+  prefix-form : (p : PositionTree) (f : Formula) → IsPlainSaid p → prefix_of k p ≡ Some f → HasForm f
+  prefix-form (exactly x) f said e = let same : prefix_test k x ≡ f = cc in subst HasForm same (fits, said)
+  prefix-form (lacking o) f said e = absurd cc
 
-  condition-form : {ts : List TokenTree} {f : Formula} → length ts < 2 ^ 64 → IsCondition k t ts f → HasForm f
-  condition-form few (compares {op} {x} {l} said) = comparison-form op l (said-plain t x l plain said)
-  condition-form few is_null = fits
-  condition-form few is_not_null = fits
-  condition-form few (bare_test d) = test-form few d
-  condition-form few (not_test {ts} d) = test-form (omega (arith, few)) d
+  begun-form : (l : LiteralTree) (f : Formula) → formula_in k t (begun l) ≡ Some f → HasForm f
+  begun-form l f e =
+      let g = guard_some (holds_strings t) (option_and_then (prefix_of k) (position_of t l)) f e in
+      let a = bind_some (position_of t l) (prefix_of k) f g.1 in
+      prefix-form a.0 f (literal-plain t l a.0 plain a.1) a.2
+
+  test-form : {ts : List TokenTree} {c : Condition} → length ts < 2 ^ 64 → IsTest ts c → (f : Formula) → formula_in k t c ≡ Some f → HasForm f
+  test-form few in_nothing f e =
+      let m = map_some (positions_of t []) (member_among k) f e in
+      let none : [] ≡ m.0 = cc in
+      subst HasForm m.2 (subst (λ (ps : List PositionTree). HasForm (member_among k ps)) none (fits, record { fit = omega arith; each = tt }))
+  test-form few (in_literals {ts} {ls} l) f e =
+      let m = map_some (positions_of t ls) (member_among k) f e in
+      let each = literals-few t plain l m.0 m.1 in
+      let form = member-form (cells_of m.0) each.plain (omega (arith, few, each.count, length-append ts (closing ∷ []))) in
+      subst HasForm m.2 (subst HasForm (some_members k t l m.0 m.1) form)
+  test-form few (between_literals {x} {y} {lower} {upper} low high) f e =
+      let a = bind_some (position_of t lower) (λ p. option_map (range_of k p) (position_of t upper)) f e in
+      let b = map_some (position_of t upper) (range_of k a.0) f a.2 in
+      subst HasForm b.2 (range-form a.0 b.0 (literal-plain t lower a.0 plain a.1) (literal-plain t upper b.0 plain b.1))
+  test-form few (like_pattern {pattern} {bs} p u) f e = begun-form (text_literal bs) f e
+  test-form few (like_escaped {pattern} {bs} p u) f e = begun-form (text_literal bs) f e
+
+  condition-form : {ts : List TokenTree} {c : Condition} → length ts < 2 ^ 64 → IsCondition ts c → (f : Formula) → formula_in k t c ≡ Some f → HasForm f
+  condition-form few (compares {op} {x} {l} said) f e =
+      let m = map_some (position_of t l) (comparison_of k op) f e in
+      subst HasForm m.2 (comparison-form op m.0 (literal-plain t l m.0 plain m.1))
+  condition-form few is_null f e = let same : null_test k ≡ f = cc in subst HasForm same fits
+  condition-form few is_not_null f e =
+      let m = map_some (formula_in k t missing) negation f e in
+      let same : null_test k ≡ m.0 = cc in
+      subst HasForm m.2 (subst HasForm same fits)
+  condition-form few (bare_test d) f e = test-form few d f e
+  condition-form few (not_test {ts} {c} d) f e =
+      let m = map_some (formula_in k t c) negation f e in
+      subst HasForm m.2 (test-form (omega (arith, few)) d m.0 m.1)
 
 -- ---- its columns
 
@@ -181,12 +218,12 @@ module _ (columns : List ColumnTree) (plain : ArePlain columns) (few : length co
   predicate-form short says_true = tt
   predicate-form short says_false = tt
   predicate-form short says_null = tt
-  predicate-form short (on_column {name} {k} {t} {ts} {f} named d) =
+  predicate-form short (on_column {name} {k} {t} {ts} {c} {f} named d e) =
       let there = column-is-there columns name k t named in
-      condition-form k t (place-fits k t there) (plain k t there) (omega (arith, short)) d
-  predicate-form short (prefix_call {name} {k} {t} {x} {prefix} named strings said) =
+      condition-form k t (place-fits k t there) (plain k t there) (omega (arith, short)) d f e
+  predicate-form short (prefix_call {name} {k} {t} {x} {l} {f} named said e) =
       let there = column-is-there columns name k t named in
-      (place-fits k t there, literal-plain t x prefix (plain k t there) said)
+      begun-form k t (place-fits k t there) (plain k t there) l f e
 
   filter-form : {l : _} {n : ℕ} {ts : List TokenTree} {f : Formula} → length ts < 2 ^ 64 → IsFilter columns l n ts f → HasForm f
   filter-form short (predicate d) = predicate-form short d

@@ -1,6 +1,6 @@
 -- A coerced formula says what the formula says by contents, on rows of the columns' types, and fits the columns.
-use Rattle.std.proofs.Common.{◌≡◌, ◌⊎◌, inl, inr, ℕ, zero, suc, ℤ, pos, negsuc, ◌<◌, ◌^◌, Bool, true, false, not, ◌||◌, cond, List, [], ◌∷◌, ◌++◌, map, fold, Option, Some, None, Less, Greater, refl, sym, subst, ap, ap₂, ◌∙◌, option_map, ◌<ℤ◌, nat_lt, arith}
-use Rattle.std.specs.List.{AllByRecursion, filter, slice_get}
+use Rattle.std.proofs.Common.{◌≡◌, ◌⊎◌, inl, inr, ℕ, zero, suc, ℤ, pos, negsuc, ◌<◌, ◌^◌, Bool, true, false, ◌||◌, cond, List, [], ◌∷◌, ◌++◌, map, fold, Option, Some, None, Less, Greater, refl, sym, subst, ap, ap₂, ◌∙◌, option_map, ◌<ℤ◌, nat_lt, arith}
+use Rattle.std.specs.List.{slice_get}
 use Rattle.std.specs.Ordering.{int_cmp}
 use Rattle.std.specs.Cmp.{int_cmp_is}
 use Rattle.std.proofs.lemmas.Bool.{false≢true, not-true}
@@ -17,7 +17,6 @@ use Rattle.vortex_value.specs.Equality.{same_type}
 use Rattle.vortex_value.specs.Laws.HasContent.{HasContent}
 use Rattle.vortex_value.specs.Lemmas.EqualityLaws.{same_type-Decides}
 use Rattle.vortex_value.specs.Order.{order}
-use Rattle.vortex_value.specs.TypesWithin.{HasNoVariant}
 use Rattle.vortex_value.specs.Values.Content.{Content, null, whole}
 use Rattle.vortex_cells.specs.Cells.{Cell, cell_or_null, is_null_cell, is_null_content}
 use Rattle.vortex_filter.specs.declared.operator.CompareOperator.{CompareOperator}
@@ -25,13 +24,15 @@ use Rattle.vortex_filter.specs.declared.operator.CompareOperator.TheVariants.{Eq
 use Rattle.vortex_filter.specs.declared.truth.Truth.{Truth}
 use Rattle.vortex_filter.specs.declared.truth.Truth.TheVariants.{False, Unknown, True}
 use Rattle.vortex_filter.specs.Checking.{AllFit, IsOfType, Test, tests}
-use Rattle.vortex_filter.specs.Coercing.{by_column, coerced, coerced_cell, coerced_comparison, coerced_range, for_values, kept_cells, lacks, lacks_number, membership_of, side}
+use Rattle.vortex_filter.specs.Coercing.{by_column, coerced, coerced_cell, lacks, lacks_number, position_in, side}
 use Rattle.vortex_filter.specs.Formula.{Formula, constant, comparison, null_test, membership, range, prefix_test, both, either, negation, cell_at, compare_truth, member_truth, order_truth, truth}
 use Rattle.vortex_filter.specs.Operators.{holds}
+use Rattle.vortex_filter.specs.Positions.{PositionTree, exactly, lacking, cells_of, comparison_of, for_values, member_among, member_of, range_of}
 use Rattle.vortex_filter.specs.Prefixes.{begins, begins_truth, prefix_truth}
 use Rattle.vortex_filter.specs.Rows.{IsCellOf, IsRowOf, content_truth, untyped_cell}
 use Rattle.vortex_filter.specs.Truths.{truth_and, truth_not, truth_of, truth_or}
 use Rattle.vortex_filter.proofs.CheckLaws.{fit_both}
+use Rattle.vortex_filter.proofs.PositionLaws.{CellFits, CellsFit, comparison_fits, membership_fits, nothing_fits, prefix_fits, range_fits}
 
 -- ---- numbers that a type lacks
 
@@ -222,21 +223,24 @@ settled_truth t op k x row (inr o) l = by_null (either_way (is_null_cell (cell_a
 -- ---- each kind of test
 
 comparison_truth : NullableIsSame → (t : TypeTree) (op : CompareOperator) (k : ℕ) (x : Cell) (row : List Cell) → MayStandIn t (cell_at row k)
-    → truth (coerced_comparison t k op x) row ≡ compare_truth op (untyped_cell (cell_at row k)) (untyped_cell x)
+    → truth (comparison_of k op (position_in t x)) row ≡ compare_truth op (untyped_cell (cell_at row k)) (untyped_cell x)
 comparison_truth nullable t op k x row m = by_test (lacks t x) refl
   where
-    by_test : (b : Bool) → lacks t x ≡ b → truth (cond b (for_values (holds op (side x.content)) k) (comparison k op (coerced_cell t x))) row ≡ compare_truth op (untyped_cell (cell_at row k)) (untyped_cell x)
+    by_test : (b : Bool) → lacks t x ≡ b → truth (comparison_of k op (cond b (lacking (side x.content)) (exactly (coerced_cell t x)))) row ≡ compare_truth op (untyped_cell (cell_at row k)) (untyped_cell x)
     by_test true l = settled_truth t op k x row m l
     by_test false l = cast_truth nullable t op (cell_at row k) x m
 
+-- a range is two comparisons
+halves_truth : (k : ℕ) (p q : PositionTree) (row : List Cell) → truth (range_of k p q) row ≡ truth_and (truth (comparison_of k Gte p) row) (truth (comparison_of k Lte q) row)
+halves_truth k (exactly x) (exactly y) row = refl
+halves_truth k (exactly x) (lacking o) row = refl
+halves_truth k (lacking o) (exactly y) row = refl
+halves_truth k (lacking o) (lacking r) row = refl
+
 range_truth_is : NullableIsSame → (t : TypeTree) (k : ℕ) (x y : Cell) (row : List Cell) → MayStandIn t (cell_at row k)
-    → truth (coerced_range t k x y) row ≡ truth_and (compare_truth Gte (untyped_cell (cell_at row k)) (untyped_cell x)) (compare_truth Lte (untyped_cell (cell_at row k)) (untyped_cell y))
-range_truth_is nullable t k x y row m = by_test (lacks t x || lacks t y)
-  where
-    by_test : (b : Bool) → truth (cond b (both (coerced_comparison t k Gte x) (coerced_comparison t k Lte y)) (range k (coerced_cell t x) (coerced_cell t y))) row
-        ≡ truth_and (compare_truth Gte (untyped_cell (cell_at row k)) (untyped_cell x)) (compare_truth Lte (untyped_cell (cell_at row k)) (untyped_cell y))
-    by_test true = ap₂ truth_and (comparison_truth nullable t Gte k x row m) (comparison_truth nullable t Lte k y row m)
-    by_test false = ap₂ truth_and (cast_truth nullable t Gte (cell_at row k) x m) (cast_truth nullable t Lte (cell_at row k) y m)
+    → truth (range_of k (position_in t x) (position_in t y)) row ≡ truth_and (compare_truth Gte (untyped_cell (cell_at row k)) (untyped_cell x)) (compare_truth Lte (untyped_cell (cell_at row k)) (untyped_cell y))
+range_truth_is nullable t k x y row m =
+    halves_truth k (position_in t x) (position_in t y) row ∙ ap₂ truth_and (comparison_truth nullable t Gte k x row m) (comparison_truth nullable t Lte k y row m)
 
 -- ---- memberships
 
@@ -302,38 +306,38 @@ never_equal _ u x e = absurd (false≢true e)
 left_out : (t : TypeTree) (c x : Cell) → lacks t x ≡ true → IsCellOf t c → is_null_cell c ≡ false → compare_truth Eq (untyped_cell c) (untyped_cell x) ≡ False
 left_out t c x l o n = lacking_says Eq t c x l o n ∙ ap truth_of (never_equal t x.typed x.content (lacks_number_from t x l))
 
-kept_tally : NullableIsSame → (t : TypeTree) (c : Cell) → IsCellOf t c → is_null_cell c ≡ false → (acc : Truth) (xs : List Cell) → tally c acc (kept_cells t xs) ≡ tally (untyped_cell c) acc (map untyped_cell xs)
+kept_tally : NullableIsSame → (t : TypeTree) (c : Cell) → IsCellOf t c → is_null_cell c ≡ false → (acc : Truth) (xs : List Cell) → tally c acc (cells_of (map (position_in t) xs)) ≡ tally (untyped_cell c) acc (map untyped_cell xs)
 kept_tally nullable t c o n acc [] = refl
 kept_tally nullable t c o n acc (x ∷ xs) =
     by_test (lacks t x) refl (kept_tally nullable t c o n acc xs) (kept_tally nullable t c o n (truth_or acc (compare_truth Eq c (coerced_cell t x))) xs)
   where
-    by_test : (b : Bool) → lacks t x ≡ b → tally c acc (kept_cells t xs) ≡ tally (untyped_cell c) acc (map untyped_cell xs)
-        → tally c (truth_or acc (compare_truth Eq c (coerced_cell t x))) (kept_cells t xs) ≡ tally (untyped_cell c) (truth_or acc (compare_truth Eq c (coerced_cell t x))) (map untyped_cell xs)
-        → tally c acc (map (coerced_cell t) (cond (not b) (x ∷ filter (λ y. not (lacks t y)) xs) (filter (λ y. not (lacks t y)) xs))) ≡ tally (untyped_cell c) (truth_or acc (compare_truth Eq (untyped_cell c) (untyped_cell x))) (map untyped_cell xs)
+    by_test : (b : Bool) → lacks t x ≡ b → tally c acc (cells_of (map (position_in t) xs)) ≡ tally (untyped_cell c) acc (map untyped_cell xs)
+        → tally c (truth_or acc (compare_truth Eq c (coerced_cell t x))) (cells_of (map (position_in t) xs)) ≡ tally (untyped_cell c) (truth_or acc (compare_truth Eq c (coerced_cell t x))) (map untyped_cell xs)
+        → tally c acc (cells_of (cond b (lacking (side x.content)) (exactly (coerced_cell t x)) ∷ map (position_in t) xs)) ≡ tally (untyped_cell c) (truth_or acc (compare_truth Eq (untyped_cell c) (untyped_cell x))) (map untyped_cell xs)
     by_test true l h k = h ∙ ap (λ a. tally (untyped_cell c) a (map untyped_cell xs)) (sym (ap (truth_or acc) (left_out t c x l o n) ∙ or_false_is acc))
     by_test false l h k = k ∙ ap (λ a. tally (untyped_cell c) (truth_or acc a) (map untyped_cell xs)) (cast_truth nullable t Eq c x (inr o))
 
-member_null : (k : ℕ) (row : List Cell) (x : Cell) (xs kept : List Cell) → is_null_cell (cell_at row k) ≡ true → truth (membership_of k kept (x ∷ xs)) row ≡ Unknown
-member_null k row x xs [] n = settled_null false k row n
-member_null k row x xs (y ∷ ys) n = tally_null (cell_at row k) False (y ∷ ys) n
+member_null : (k : ℕ) (row : List Cell) (kept : List Cell) → is_null_cell (cell_at row k) ≡ true → truth (member_of k kept) row ≡ Unknown
+member_null k row [] n = settled_null false k row n
+member_null k row (y ∷ ys) n = tally_null (cell_at row k) False (y ∷ ys) n
 
-member_value : (k : ℕ) (row : List Cell) (x : Cell) (xs kept : List Cell) → is_null_cell (cell_at row k) ≡ false → truth (membership_of k kept (x ∷ xs)) row ≡ tally (cell_at row k) False kept
-member_value k row x xs [] n = settled_value false k row n
-member_value k row x xs (y ∷ ys) n = refl
+member_value : (k : ℕ) (row : List Cell) (kept : List Cell) → is_null_cell (cell_at row k) ≡ false → truth (member_of k kept) row ≡ tally (cell_at row k) False kept
+member_value k row [] n = settled_value false k row n
+member_value k row (y ∷ ys) n = refl
 
 membership_truth : NullableIsSame → (t : TypeTree) (k : ℕ) (xs : List Cell) (row : List Cell) → MayStandIn t (cell_at row k)
-    → truth (membership_of k (kept_cells t xs) xs) row ≡ member_truth (untyped_cell (cell_at row k)) (map untyped_cell xs)
+    → truth (member_among k (map (position_in t) xs)) row ≡ member_truth (untyped_cell (cell_at row k)) (map untyped_cell xs)
 membership_truth nullable t k [] row m = refl
 membership_truth nullable t k (x ∷ xs) row m = by_cell m (either_way (is_null_cell (cell_at row k)))
   where
-    of_null : is_null_cell (cell_at row k) ≡ true → truth (membership_of k (kept_cells t (x ∷ xs)) (x ∷ xs)) row ≡ member_truth (untyped_cell (cell_at row k)) (map untyped_cell (x ∷ xs))
-    of_null n = member_null k row x xs (kept_cells t (x ∷ xs)) n ∙ sym (tally_null (untyped_cell (cell_at row k)) False (map untyped_cell (x ∷ xs)) n)
+    of_null : is_null_cell (cell_at row k) ≡ true → truth (member_of k (cells_of (map (position_in t) (x ∷ xs)))) row ≡ member_truth (untyped_cell (cell_at row k)) (map untyped_cell (x ∷ xs))
+    of_null n = member_null k row (cells_of (map (position_in t) (x ∷ xs))) n ∙ sym (tally_null (untyped_cell (cell_at row k)) False (map untyped_cell (x ∷ xs)) n)
 
     by_cell : MayStandIn t (cell_at row k) → (is_null_cell (cell_at row k) ≡ true) ⊎ (is_null_cell (cell_at row k) ≡ false)
-        → truth (membership_of k (kept_cells t (x ∷ xs)) (x ∷ xs)) row ≡ member_truth (untyped_cell (cell_at row k)) (map untyped_cell (x ∷ xs))
+        → truth (member_of k (cells_of (map (position_in t) (x ∷ xs)))) row ≡ member_truth (untyped_cell (cell_at row k)) (map untyped_cell (x ∷ xs))
     by_cell (inl n) e = of_null n
     by_cell (inr o) (inl n) = of_null n
-    by_cell (inr o) (inr n) = member_value k row x xs (kept_cells t (x ∷ xs)) n ∙ kept_tally nullable t (cell_at row k) o n False (x ∷ xs)
+    by_cell (inr o) (inr n) = member_value k row (cells_of (map (position_in t) (x ∷ xs))) n ∙ kept_tally nullable t (cell_at row k) o n False (x ∷ xs)
 
 -- ---- formulas
 
@@ -352,16 +356,16 @@ fits_right P columns (p ∷ ps) qs h = fits_right P columns ps qs h.1
 pub coerced_truth : NullableIsSame → (columns : List TypeTree) (f : Formula) (row : List Cell) → IsRowOf columns row → AllFit AnyLiteral columns (tests f) → truth (coerced columns f) row ≡ content_truth f row
 coerced_truth nullable columns (constant t) row r h = refl
 coerced_truth nullable columns (comparison k op x) row r h =
-    ap (λ o. truth (by_column o (comparison k op x) (λ t. coerced_comparison t k op x)) row) h.0.there
+    ap (λ o. truth (by_column o (comparison k op x) (λ t. comparison_of k op (position_in t x))) row) h.0.there
     ∙ comparison_truth nullable h.0.dtype op k x row (cell_is_of columns row k h.0.dtype r h.0.there)
     ∙ sym (ap (λ c. compare_truth op c (untyped_cell x)) (untyped_at row k))
 coerced_truth nullable columns (null_test k) row r h = sym (ap (λ c. truth_of (is_null_cell c)) (untyped_at row k))
 coerced_truth nullable columns (membership k xs) row r h =
-    ap (λ o. truth (by_column o (membership k xs) (λ t. membership_of k (kept_cells t xs) xs)) row) h.0.there
+    ap (λ o. truth (by_column o (membership k xs) (λ t. member_among k (map (position_in t) xs))) row) h.0.there
     ∙ membership_truth nullable h.0.dtype k xs row (cell_is_of columns row k h.0.dtype r h.0.there)
     ∙ sym (ap (λ c. member_truth c (map untyped_cell xs)) (untyped_at row k))
 coerced_truth nullable columns (range k x y) row r h =
-    ap (λ o. truth (by_column o (range k x y) (λ t. coerced_range t k x y)) row) h.0.there
+    ap (λ o. truth (by_column o (range k x y) (λ t. range_of k (position_in t x) (position_in t y))) row) h.0.there
     ∙ range_truth_is nullable h.0.dtype k x y row (cell_is_of columns row k h.0.dtype r h.0.there)
     ∙ sym (ap (λ c. truth_and (compare_truth Gte c (untyped_cell x)) (compare_truth Lte c (untyped_cell y))) (untyped_at row k))
 coerced_truth nullable columns (prefix_test k p) row r h =
@@ -376,52 +380,31 @@ coerced_truth nullable columns (negation f) row r h = ap truth_not (coerced_trut
 
 -- ---- a coerced formula fits
 
-module _ (nullable : NullableIsSame) (columns : List TypeTree) (k : ℕ) (t : TypeTree) (there : slice_get columns k ≡ Some t) where
-  settled_fits : (b : Bool) → AllFit IsOfType columns (tests (for_values b k))
-  settled_fits true = (record { dtype = t; there = there; ordered = tt; suits = tt }, tt)
-  settled_fits false = (record { dtype = t; there = there; ordered = tt; suits = tt }, tt)
+position_fits : NullableIsSame → (t : TypeTree) (x : Cell) → CellFits t (position_in t x)
+position_fits nullable t x = by_test (lacks t x)
+  where
+    by_test : (b : Bool) → CellFits t (cond b (lacking (side x.content)) (exactly (coerced_cell t x)))
+    by_test true = tt
+    by_test false = coerced_same nullable t x
 
-  kept_are : (xs : List Cell) → AllByRecursion (IsOfType t) (kept_cells t xs)
-  kept_are [] = tt
-  kept_are (x ∷ xs) = by_test (lacks t x) (kept_are xs)
-    where
-      by_test : (b : Bool) → AllByRecursion (IsOfType t) (kept_cells t xs) → AllByRecursion (IsOfType t) (map (coerced_cell t) (cond (not b) (x ∷ filter (λ y. not (lacks t y)) xs) (filter (λ y. not (lacks t y)) xs)))
-      by_test true h = h
-      by_test false h = (coerced_same nullable t x, h)
-
-  module _ (ordered : HasNoVariant t) where
-    comparison_fits : (op : CompareOperator) (x : Cell) → AllFit IsOfType columns (tests (coerced_comparison t k op x))
-    comparison_fits op x = by_test (lacks t x)
-      where
-        by_test : (b : Bool) → AllFit IsOfType columns (tests (cond b (for_values (holds op (side x.content)) k) (comparison k op (coerced_cell t x))))
-        by_test true = settled_fits (holds op (side x.content))
-        by_test false = (record { dtype = t; there = there; ordered = ordered; suits = (coerced_same nullable t x, tt) }, tt)
-
-    range_fits : (x y : Cell) → AllFit IsOfType columns (tests (coerced_range t k x y))
-    range_fits x y = by_test (lacks t x || lacks t y)
-      where
-        by_test : (b : Bool) → AllFit IsOfType columns (tests (cond b (both (coerced_comparison t k Gte x) (coerced_comparison t k Lte y)) (range k (coerced_cell t x) (coerced_cell t y))))
-        by_test true = fit_both IsOfType columns (tests (coerced_comparison t k Gte x)) (tests (coerced_comparison t k Lte y)) (comparison_fits Gte x) (comparison_fits Lte y)
-        by_test false = (record { dtype = t; there = there; ordered = ordered; suits = (coerced_same nullable t x, (coerced_same nullable t y, tt)) }, tt)
-
-    membership_fits : (xs kept : List Cell) → AllByRecursion (IsOfType t) kept → AllFit IsOfType columns (tests (membership_of k kept xs))
-    membership_fits [] [] h = (record { dtype = t; there = there; ordered = ordered; suits = h }, tt)
-    membership_fits (x ∷ xs) [] h = settled_fits false
-    membership_fits xs (y ∷ ys) h = (record { dtype = t; there = there; ordered = ordered; suits = h }, tt)
+positions_fit : NullableIsSame → (t : TypeTree) (xs : List Cell) → CellsFit t (map (position_in t) xs)
+positions_fit nullable t [] = tt
+positions_fit nullable t (x ∷ xs) = (position_fits nullable t x, positions_fit nullable t xs)
 
 pub coerced_fits : NullableIsSame → (columns : List TypeTree) (f : Formula) → AllFit AnyLiteral columns (tests f) → AllFit IsOfType columns (tests (coerced columns f))
 coerced_fits nullable columns (constant t) h = tt
 coerced_fits nullable columns (comparison k op x) h =
-    subst (λ o. AllFit IsOfType columns (tests (by_column o (comparison k op x) (λ t. coerced_comparison t k op x)))) (sym h.0.there) (comparison_fits nullable columns k h.0.dtype h.0.there h.0.ordered op x)
-coerced_fits nullable columns (null_test k) h = (record { dtype = h.0.dtype; there = h.0.there; ordered = tt; suits = tt }, tt)
+    subst (λ o. AllFit IsOfType columns (tests (by_column o (comparison k op x) (λ t. comparison_of k op (position_in t x))))) (sym h.0.there) (comparison_fits columns k h.0.dtype h.0.there h.0.ordered op (position_in h.0.dtype x) (position_fits nullable h.0.dtype x))
+coerced_fits nullable columns (null_test k) h = nothing_fits columns k h.0.dtype h.0.there
 coerced_fits nullable columns (membership k xs) h =
-    subst (λ o. AllFit IsOfType columns (tests (by_column o (membership k xs) (λ t. membership_of k (kept_cells t xs) xs)))) (sym h.0.there)
-    (membership_fits nullable columns k h.0.dtype h.0.there h.0.ordered xs (kept_cells h.0.dtype xs) (kept_are nullable columns k h.0.dtype h.0.there xs))
+    subst (λ o. AllFit IsOfType columns (tests (by_column o (membership k xs) (λ t. member_among k (map (position_in t) xs))))) (sym h.0.there)
+    (membership_fits columns k h.0.dtype h.0.there h.0.ordered (map (position_in h.0.dtype) xs) (positions_fit nullable h.0.dtype xs))
 coerced_fits nullable columns (range k x y) h =
-    subst (λ o. AllFit IsOfType columns (tests (by_column o (range k x y) (λ t. coerced_range t k x y)))) (sym h.0.there) (range_fits nullable columns k h.0.dtype h.0.there h.0.ordered x y)
+    subst (λ o. AllFit IsOfType columns (tests (by_column o (range k x y) (λ t. range_of k (position_in t x) (position_in t y))))) (sym h.0.there)
+    (range_fits columns k h.0.dtype h.0.there h.0.ordered (position_in h.0.dtype x) (position_in h.0.dtype y) (position_fits nullable h.0.dtype x) (position_fits nullable h.0.dtype y))
 coerced_fits nullable columns (prefix_test k p) h =
     subst (λ o. AllFit IsOfType columns (tests (by_column o (prefix_test k p) (λ t. prefix_test k (coerced_cell t p))))) (sym h.0.there)
-    (record { dtype = h.0.dtype; there = h.0.there; ordered = h.0.ordered; suits = (h.0.suits.0, coerced_same nullable h.0.dtype p) }, tt)
+    (prefix_fits columns k h.0.dtype h.0.there h.0.ordered (coerced_cell h.0.dtype p) h.0.suits.0 (coerced_same nullable h.0.dtype p))
 coerced_fits nullable columns (both f g) h =
     fit_both IsOfType columns (tests (coerced columns f)) (tests (coerced columns g)) (coerced_fits nullable columns f (fits_left AnyLiteral columns (tests f) (tests g) h)) (coerced_fits nullable columns g (fits_right AnyLiteral columns (tests f) (tests g) h))
 coerced_fits nullable columns (either f g) h =

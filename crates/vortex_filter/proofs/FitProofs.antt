@@ -1,6 +1,6 @@
 -- A filter that fits is left as it is, and compares contents alone.
-use Rattle.std.proofs.Common.{◌≡◌, ◌≢◌, ◌⊎◌, ◌↔◌, inl, inr, ℕ, Bool, true, false, not, ◌||◌, cond, List, [], ◌∷◌, map, Option, Some, None, Ordering, refl, sym, subst, ap, ap₂, ◌∙◌}
-use Rattle.std.specs.List.{AllByRecursion, filter, slice_get}
+use Rattle.std.proofs.Common.{◌≡◌, ◌≢◌, ◌⊎◌, ◌↔◌, inl, inr, ℕ, Bool, true, false, ◌||◌, cond, List, [], ◌∷◌, map, Option, Some, None, Ordering, refl, sym, subst, ap, ap₂, ◌∙◌}
+use Rattle.std.specs.List.{AllByRecursion, slice_get}
 use Rattle.std.proofs.lemmas.Bool.{false≢true}
 use Rattle.std.proofs.lemmas.Option.{same_Some}
 use Rattle.vortex_dtype.specs.TypeTree.{TypeTree, Same, as_nullable, binary_type, bool_type, integer_type, utf8_type}
@@ -13,13 +13,13 @@ use Rattle.vortex_value.specs.Order.{order}
 use Rattle.vortex_value.specs.Values.Content.{Content, null, truth as truth_content, whole, text, string}
 use Rattle.vortex_cells.specs.Cells.{Cell, cell_or_null, is_null_cell, is_null_content}
 use Rattle.vortex_filter.specs.declared.operator.CompareOperator.{CompareOperator}
-use Rattle.vortex_filter.specs.declared.operator.CompareOperator.TheVariants.{Gte, Lte}
 use Rattle.vortex_filter.specs.declared.truth.Truth.TheVariants.{Unknown}
 use Rattle.vortex_filter.specs.Checking.{AllFit, Demand, FitsColumns, IsOfType, Suits, Test, beginning, comparing, nothing, tests}
-use Rattle.vortex_filter.specs.Coercing.{by_column, coerced, coerced_cell, coerced_comparison, coerced_range, for_values, kept_cells, lacks, lacks_number, membership_of, side}
+use Rattle.vortex_filter.specs.Coercing.{by_column, coerced, coerced_cell, lacks, lacks_number, position_in, side}
 use Rattle.vortex_filter.specs.FitLaws.{FittingComparesContents, IsPlainType, UnknownForNulls, UnknownWithoutOrder}
 use Rattle.vortex_filter.specs.Formula.{Formula, constant, comparison, null_test, membership, range, prefix_test, both, either, negation, cell_at, order_truth, truth}
 use Rattle.vortex_filter.specs.Operators.{holds}
+use Rattle.vortex_filter.specs.Positions.{exactly, lacking, cells_of, comparison_of, member_among, member_of, range_of}
 use Rattle.vortex_filter.specs.Rows.{IsCellOf, IsRowOf}
 use Rattle.vortex_filter.specs.Truths.{truth_of}
 use Rattle.vortex_filter.proofs.CoerceLaws.{AnyLiteral, NullableIsSame, coerced_truth, fits_left, fits_right}
@@ -32,32 +32,31 @@ fitting_cell t x s = ap (λ b. cond b x (record { typed = as_nullable t; content
 fitting_there : (t : TypeTree) (x : Cell) → Same t x.typed → lacks t x ≡ false
 fitting_there t x s = ap (λ b. cond b false (lacks_number t x.typed x.content)) ((same_type-Decides t x.typed).1 s)
 
-fitting_cells : (t : TypeTree) (xs : List Cell) → AllByRecursion (IsOfType t) xs → kept_cells t xs ≡ xs
-fitting_cells t [] h = refl
-fitting_cells t (x ∷ xs) h =
-    ap (λ b. map (coerced_cell t) (cond (not b) (x ∷ filter (λ y. not (lacks t y)) xs) (filter (λ y. not (lacks t y)) xs))) (fitting_there t x h.0)
-    ∙ ap₂ (λ y ys. y ∷ ys) (fitting_cell t x h.0) (fitting_cells t xs h.1)
+pub fitting_position : (t : TypeTree) (x : Cell) → Same t x.typed → position_in t x ≡ exactly x
+fitting_position t x s = ap (λ b. cond b (lacking (side x.content)) (exactly (coerced_cell t x))) (fitting_there t x s) ∙ ap exactly (fitting_cell t x s)
 
-membership_itself : (k : ℕ) (xs : List Cell) → membership_of k xs xs ≡ membership k xs
-membership_itself k [] = refl
-membership_itself k (x ∷ xs) = refl
+fitting_cells : (t : TypeTree) (xs : List Cell) → AllByRecursion (IsOfType t) xs → cells_of (map (position_in t) xs) ≡ xs
+fitting_cells t [] h = refl
+fitting_cells t (x ∷ xs) h = ap (λ p. cells_of (p ∷ map (position_in t) xs)) (fitting_position t x h.0) ∙ ap (λ ys. x ∷ ys) (fitting_cells t xs h.1)
+
+membership_itself : (t : TypeTree) (k : ℕ) (xs : List Cell) → AllByRecursion (IsOfType t) xs → member_among k (map (position_in t) xs) ≡ membership k xs
+membership_itself t k [] h = refl
+membership_itself t k (x ∷ xs) h = ap (member_of k) (fitting_cells t (x ∷ xs) h)
 
 pub coerced_itself : (columns : List TypeTree) (f : Formula) → FitsColumns columns f → coerced columns f ≡ f
 coerced_itself columns (constant t) h = refl
 coerced_itself columns (comparison k op x) h =
     let t : TypeTree = h.0.dtype in
-    ap (λ o. by_column o (comparison k op x) (λ t. coerced_comparison t k op x)) h.0.there
-    ∙ ap (λ b. cond b (for_values (holds op (side x.content)) k) (comparison k op (coerced_cell t x))) (fitting_there t x h.0.suits.0)
-    ∙ ap (comparison k op) (fitting_cell t x h.0.suits.0)
+    ap (λ o. by_column o (comparison k op x) (λ t. comparison_of k op (position_in t x))) h.0.there
+    ∙ ap (comparison_of k op) (fitting_position t x h.0.suits.0)
 coerced_itself columns (null_test k) h = refl
 coerced_itself columns (membership k xs) h =
     let t : TypeTree = h.0.dtype in
-    ap (λ o. by_column o (membership k xs) (λ t. membership_of k (kept_cells t xs) xs)) h.0.there ∙ ap (λ ys. membership_of k ys xs) (fitting_cells t xs h.0.suits) ∙ membership_itself k xs
+    ap (λ o. by_column o (membership k xs) (λ t. member_among k (map (position_in t) xs))) h.0.there ∙ membership_itself t k xs h.0.suits
 coerced_itself columns (range k x y) h =
     let t : TypeTree = h.0.dtype in
-    ap (λ o. by_column o (range k x y) (λ t. coerced_range t k x y)) h.0.there
-    ∙ ap₂ (λ a b. cond (a || b) (both (coerced_comparison t k Gte x) (coerced_comparison t k Lte y)) (range k (coerced_cell t x) (coerced_cell t y))) (fitting_there t x h.0.suits.0) (fitting_there t y h.0.suits.1.0)
-    ∙ ap₂ (range k) (fitting_cell t x h.0.suits.0) (fitting_cell t y h.0.suits.1.0)
+    ap (λ o. by_column o (range k x y) (λ t. range_of k (position_in t x) (position_in t y))) h.0.there
+    ∙ ap₂ (range_of k) (fitting_position t x h.0.suits.0) (fitting_position t y h.0.suits.1.0)
 coerced_itself columns (prefix_test k p) h =
     let t : TypeTree = h.0.dtype in
     ap (λ o. by_column o (prefix_test k p) (λ t. prefix_test k (coerced_cell t p))) h.0.there ∙ ap (prefix_test k) (fitting_cell t p h.0.suits.1)

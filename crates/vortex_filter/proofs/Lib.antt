@@ -8,6 +8,7 @@ pub mod LiteralLaws
 pub mod LiteralSteps
 pub mod Loops
 pub mod MakeSteps
+pub mod PositionLaws
 pub mod PrefixSteps
 pub mod Steps
 pub mod TestSteps

@@ -1,11 +1,10 @@
 -- What a call answers that coerces a filter or a part of one.
-use Rattle.std.specs.Prelude.{◌≡◌, ◌⊎◌, ℕ, ℤ, pos, Bool, true, false, not, ◌||◌, List, [], ◌∷◌, ◌++◌, map, if◌then◌else◌, Option, Some, None, Result, MatchResult, slice_get, Vec}
+use Rattle.std.specs.Prelude.{◌≡◌, ◌⊎◌, ℕ, ℤ, pos, List, map, if◌then◌else◌, Option, Some, None, Result, MatchResult, slice_get, Vec}
 use Rattle.std.specs.Borrow.{Bor}
 use Rattle.std.specs.Global.{Global}
 use Rattle.std.specs.List.{AllByRecursion}
 use Rattle.std.specs.Ordering.{int_cmp}
 use Rattle.std.specs.declared.cmp.Ordering.{Ordering}
-use Rattle.std.specs.declared.cmp.Ordering.TheVariants.{Equal}
 use Rattle.vortex_dtype.specs.TypeOf.{type_of}
 use Rattle.vortex_dtype.specs.TypeTree.{TypeTree, integer_type}
 use Rattle.vortex_dtype.specs.declared.ptype.PType.{PType}
@@ -15,14 +14,16 @@ use Rattle.vortex_value.specs.TypesWithin.{HasNoVariant}
 use Rattle.vortex_value.specs.Values.Content.{Content, whole}
 use Rattle.vortex_value.specs.Values.Scalars.{IsValid}
 use Rattle.vortex_value.specs.declared.scalars.Scalar.{Scalar}
-use Rattle.vortex_cells.specs.Cells.{Cell, cell_of}
+use Rattle.vortex_cells.specs.Cells.{cell_of}
 use Rattle.vortex_filter.specs.declared.error.FilterError.{FilterError}
 use Rattle.vortex_filter.specs.declared.error.FilterError.TheVariants.{OutOfMemory, NoColumn, HasVariant, TypesDiffer}
 use Rattle.vortex_filter.specs.declared.filter.Filter.{Filter}
+use Rattle.vortex_filter.specs.declared.literals.Position.{Position}
 use Rattle.vortex_filter.specs.Checking.{AllFit, Demand, RefusesFirst, Suits, Test}
-use Rattle.vortex_filter.specs.Coercing.{IsCoercible, coerced, coerced_cell, kept_cells, lacks}
+use Rattle.vortex_filter.specs.Coercing.{IsCoercible, coerced, lacks_number, position_in, side}
 use Rattle.vortex_filter.specs.FilterLiterals.{AreValid, literals_of}
 use Rattle.vortex_filter.specs.Formula.{Formula, formula}
+use Rattle.vortex_filter.specs.Positions.{cells_of, position_tree, scalars_of}
 
 -- a filter of these tests with these literals is one with this formula coerced, if each literal can be made one of its
 -- column's type, and has valid literals if these are; else it is out of memory, or the first test is refused with a literal
@@ -39,33 +40,17 @@ RefusesLiterals k property e = (e ≡ OutOfMemory) ⊎ ((e ≡ TypesDiffer 0 k) 
 abbrev pub CoercesTest : TypeTree → Demand Scalar → Formula → List Scalar → ℕ → Result Filter FilterError → Type 0
 CoercesTest t d f literals k r = MatchResult r (λ g. (formula g ≡ f) × Suits IsCoercible d t × (AreValid literals → AreValid (literals_of g))) (RefusesLiterals k (Suits IsCoercible d t))
 
--- if the literal is valid, the type does not lack it
-abbrev pub MayHave : TypeTree → Scalar → Type 0
-MayHave t x = IsValid x → lacks t (cell_of x) ≡ false
+-- where a literal stands, with a valid scalar if it is valid
+abbrev pub StandsAt : TypeTree → Scalar → Position → Type 0
+StandsAt t x p = (position_tree p ≡ position_in t (cell_of x)) × IsCoercible t x × (IsValid x → AreValid (scalars_of p))
 
--- whether the type lacks the literal, if it is valid
-abbrev pub TellsLacking : TypeTree → Scalar → Bool → Type 0
-TellsLacking t x b = (b ≡ true → IsValid x × (lacks t (cell_of x) ≡ true)) × (b ≡ false → MayHave t x)
-
--- whether the type lacks one of two literals, if it is valid
-abbrev pub TellsEnds : TypeTree → Scalar → Scalar → Bool → Type 0
-TellsEnds t x y b = (b ≡ true → (lacks t (cell_of x) || lacks t (cell_of y)) ≡ true) × (b ≡ false → MayHave t x × MayHave t y)
-
--- the same for one literal that the type does not lack
-abbrev pub CoercesLiteral : TypeTree → Scalar → ℕ → Result Scalar FilterError → Type 0
-CoercesLiteral t x k r = MatchResult r (λ y. (cell_of y ≡ coerced_cell t (cell_of x)) × (lacks t (cell_of x) ≡ false) × IsCoercible t x × (IsValid x → IsValid y)) (RefusesLiterals k (IsCoercible t x))
+-- the same for one literal
+abbrev pub CoercesLiteral : TypeTree → Scalar → ℕ → Result Position FilterError → Type 0
+CoercesLiteral t x k r = MatchResult r (StandsAt t x) (RefusesLiterals k (IsCoercible t x))
 
 -- the same for several literals, of which those that the type lacks are left out
 abbrev pub CoercesLiterals : TypeTree → List Scalar → ℕ → Result (Vec Scalar Global) FilterError → Type 0
-CoercesLiterals t xs k r = MatchResult r (λ ys. (map cell_of ys.items ≡ kept_cells t (map cell_of xs)) × AllByRecursion (IsCoercible t) xs × (AreValid xs → AreValid ys.items)) (RefusesLiterals k (AllByRecursion (IsCoercible t) xs))
-
--- the cells with one more, unless the type lacks it
-abbrev pub with_cell : TypeTree → Cell → List Cell → List Cell
-with_cell t x ks = if lacks t x then ks else ks ++ coerced_cell t x ∷ []
-
--- one literal more is kept, unless the type lacks it
-abbrev pub Pushes : TypeTree → Scalar → ℕ → List Scalar → List Scalar → Result (Unit {0}) FilterError → Type 0
-Pushes t x k before after r = MatchResult r (λ _. (map cell_of after ≡ with_cell t (cell_of x) (map cell_of before)) × IsCoercible t x × (IsValid x → AreValid before → AreValid after)) (RefusesLiterals k (IsCoercible t x))
+CoercesLiterals t xs k r = MatchResult r (λ ys. (map cell_of ys.items ≡ cells_of (map (position_in t) (map cell_of xs))) × AllByRecursion (IsCoercible t) xs × (AreValid xs → AreValid ys.items)) (RefusesLiterals k (AllByRecursion (IsCoercible t) xs))
 
 -- the type of a column whose values have an order; else the column is not there, or a variant stands in its type
 abbrev pub GivesOrdered : List TypeTree → ℕ → Result (Bor DType) FilterError → Type 0
@@ -85,17 +70,15 @@ abbrev pub number_in : Content → Option ℤ
 number_in (whole z) = Some z
 number_in _ = None
 
--- whether both are integer types, and the first does not have the number
-abbrev pub lacks_of : Option PType → Option PType → Option ℤ → Bool
-lacks_of (Some k) (Some l) (Some z) = not (in_range k z)
-lacks_of _ _ _ = false
+-- how each number of an integer type stands to one that the type lacks
+abbrev pub number_lacking : PType → ℤ → Option Ordering
+number_lacking k z = if in_range k z then None else Some (int_cmp (pos 0) z)
 
--- how 0 stands to the number, if there is one
-abbrev pub side_of : Option ℤ → Ordering
-side_of None = Equal
-side_of (Some z) = int_cmp (pos 0) z
+-- the same, if both are integer types and there is a number
+abbrev pub lacking_of : Option PType → Option PType → Option ℤ → Option Ordering
+lacking_of (Some k) (Some l) (Some z) = number_lacking k z
+lacking_of _ _ _ = None
 
--- whether none of several was kept
-abbrev pub all_left_out : List Cell → List Cell → Bool
-all_left_out [] (x ∷ xs) = true
-all_left_out _ _ = false
+-- how each number of a type stands to a literal of another, if that is an integer which the type lacks
+abbrev pub lacking_order : TypeTree → TypeTree → Content → Option Ordering
+lacking_order t u c = if lacks_number t u c then Some (side c) else None

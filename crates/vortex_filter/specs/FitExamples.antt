@@ -1,5 +1,6 @@
--- Worked cases of what fits the columns, of casts to their types, and of what is left on a zone, each a theorem.
-use Rattle.std.specs.Prelude.{◌≡◌, ℕ, pos, negsuc, [], ◌∷◌, refl}
+-- Worked cases of what fits the columns, of casts to their types, and of literals there, each a theorem.
+use Rattle.std.specs.Prelude.{◌≡◌, ℕ, pos, negsuc, [], ◌∷◌, Some, None, refl}
+use Rattle.std.specs.declared.cmp.Ordering.TheVariants.{Less, Greater}
 use Rattle.vortex_dtype.specs.TypeTree.{integer_type}
 use Rattle.vortex_dtype.specs.declared.nullability.Nullability.TheVariants.{NonNullable, Nullable}
 use Rattle.vortex_dtype.specs.declared.ptype.PType.TheVariants.{I16, I64, U8}
@@ -10,6 +11,8 @@ use Rattle.vortex_filter.specs.declared.truth.Truth.TheVariants.{Unknown, True}
 use Rattle.vortex_filter.specs.Checking.{comparing, nothing, tests}
 use Rattle.vortex_filter.specs.Coercing.{coerced}
 use Rattle.vortex_filter.specs.Formula.{Formula, both, comparison, constant, either, membership, negation, null_test, range}
+use Rattle.vortex_filter.specs.Literals.{null_literal, number_literal, text_literal, number_cell, position_of}
+use Rattle.vortex_filter.specs.Positions.{exactly, lacking}
 use Rattle.vortex_filter.specs.Rows.{content_truth}
 
 -- an i64 literal, and an i16 literal as a cast makes it
@@ -65,3 +68,22 @@ by_contents = refl
 
 null_by_contents : content_truth (comparison 0 Lt (long 100000)) (no_short ∷ []) ≡ Unknown
 null_by_contents = refl
+
+-- ---- literals as they are written
+
+-- a number of the type; 100000, which each i16 is below; and -1, which each u8 is above
+number_there : position_of (integer_type I16 Nullable) (number_literal (pos 5)) ≡ Some (exactly (number_cell I16 (pos 5)))
+number_there = refl
+
+number_above : position_of (integer_type I16 Nullable) (number_literal (pos 100000)) ≡ Some (lacking Less)
+number_above = refl
+
+number_below : position_of (integer_type U8 NonNullable) (number_literal (negsuc 0)) ≡ Some (lacking Greater)
+number_below = refl
+
+-- a null is of any type, made nullable, and a string of strings alone
+null_there : position_of (integer_type I16 NonNullable) null_literal ≡ Some (exactly no_short)
+null_there = refl
+
+text_of_number : position_of (integer_type I16 NonNullable) (text_literal []) ≡ None
+text_of_number = refl

@@ -8,9 +8,11 @@ pub mod FilterLiterals
 pub mod FitExamples
 pub mod FitLaws
 pub mod Formula
+pub mod Literals
 pub mod Makes
 pub mod Named
 pub mod Operators
+pub mod Positions
 pub mod Prefixes
 pub mod Rows
 pub mod Truths

@@ -1,6 +1,6 @@
 //! Filters that are made of filters.
 
-ghost use Rattle.std.specs.Prelude.{◌≡◌, ◌++◌, Err, IfErr, IfOk, MatchResult};
+ghost use Rattle.std.specs.Prelude.{◌≡◌, ◌++◌, Err, IfErr, IfOk, MatchResult, Ok};
 ghost use Rattle.vortex_filter.specs.FilterLiterals.{literals_of};
 ghost use Rattle.vortex_filter.specs.Makes.{Makes, OfParts};
 ghost use Rattle.vortex_filter.specs.Words.{OutOfMemory, both, either, formula, negation};
@@ -20,7 +20,7 @@ impl Filter {
         ensures refused { IfErr result (λ e. e ≡ OutOfMemory) }
     {
         let (left, right) = boxed_both(alloc, left, right)?;
-        Ok(Filter::And(left, right))
+        Ok(both(left, right))
     }
 
     /// Either filter: True if one of the two is, else Unknown if one is.
@@ -33,7 +33,7 @@ impl Filter {
         ensures refused { IfErr result (λ e. e ≡ OutOfMemory) }
     {
         let (left, right) = boxed_both(alloc, left, right)?;
-        Ok(Filter::Or(left, right))
+        Ok(either(left, right))
     }
 
     /// The negated filter: True for False, and False for True; Unknown stays.
@@ -44,8 +44,35 @@ impl Filter {
         ensures literals { IfOk result (λ f. literals_of f ≡ literals_of filter) }
         ensures refused { IfErr result (λ e. e ≡ OutOfMemory) }
     {
-        Ok(Filter::Not(Box::new(alloc, filter)?))
+        Ok(negation(boxed(alloc, filter)?))
     }
+}
+
+/// Both filters, which stand in boxes.
+#[tactic(auto, using(crate::proofs::Steps::shown, crate::proofs::LiteralSteps::literals))]
+pub fn both(left: Box<Filter>, right: Box<Filter>) -> Filter
+    ensures made { formula result ≡ both (formula left.value) (formula right.value) }
+    ensures literals { literals_of result ≡ literals_of left.value ++ literals_of right.value }
+{
+    Filter::And(left, right)
+}
+
+/// Either filter, which stand in boxes.
+#[tactic(auto, using(crate::proofs::Steps::shown, crate::proofs::LiteralSteps::literals))]
+pub fn either(left: Box<Filter>, right: Box<Filter>) -> Filter
+    ensures made { formula result ≡ either (formula left.value) (formula right.value) }
+    ensures literals { literals_of result ≡ literals_of left.value ++ literals_of right.value }
+{
+    Filter::Or(left, right)
+}
+
+/// The negated filter, which stands in a box.
+#[tactic(auto, using(crate::proofs::Steps::shown, crate::proofs::LiteralSteps::literals))]
+pub fn negation(inner: Box<Filter>) -> Filter
+    ensures made { formula result ≡ negation (formula inner.value) }
+    ensures literals { literals_of result ≡ literals_of inner.value }
+{
+    Filter::Not(inner)
 }
 
 /// Both parts together, if both were made; else the refusal of the first that was not.
@@ -62,8 +89,8 @@ pub fn conjoin(
         (λ f g. IfOk result (λ h. literals_of h ≡ literals_of f ++ literals_of g))
         (λ e. result ≡ Err e) left right }
 {
-    match boxed_parts(alloc, left, right) {
-        Ok((left, right)) => Ok(Filter::And(left, right)),
+    match parts(left, right) {
+        Ok((left, right)) => Filter::and(alloc, left, right),
         Err(cause) => Err(cause),
     }
 }
@@ -82,8 +109,8 @@ pub fn disjoin(
         (λ f g. IfOk result (λ h. literals_of h ≡ literals_of f ++ literals_of g))
         (λ e. result ≡ Err e) left right }
 {
-    match boxed_parts(alloc, left, right) {
-        Ok((left, right)) => Ok(Filter::Or(left, right)),
+    match parts(left, right) {
+        Ok((left, right)) => Filter::or(alloc, left, right),
         Err(cause) => Err(cause),
     }
 }
@@ -100,25 +127,21 @@ pub fn negate(alloc: Global, inner: Result<Filter, FilterError>) -> Result<Filte
         (λ e. result ≡ Err e) }
 {
     match inner {
-        Ok(inner) => Ok(Filter::Not(boxed(alloc, inner)?)),
+        Ok(inner) => Filter::not(alloc, inner),
         Err(cause) => Err(cause),
     }
 }
 
-/// Both parts in boxes, if both were made; else the refusal of the first that was not.
-fn boxed_parts(
-    alloc: Global,
+/// Both parts, if both were made; else the refusal of the first that was not.
+fn parts(
     left: Result<Filter, FilterError>,
     right: Result<Filter, FilterError>,
-) -> Result<(Box<Filter>, Box<Filter>), FilterError>
-    ensures { OfParts (λ f g. MatchResult result
-        (λ boxes. (boxes.0.value ≡ f) × (boxes.1.value ≡ g))
-        (λ e. e ≡ OutOfMemory))
-        (λ e. result ≡ Err e) left right }
+) -> Result<(Filter, Filter), FilterError>
+    ensures { OfParts (λ f g. result ≡ Ok (f, g)) (λ e. result ≡ Err e) left right }
 {
     match left {
         Ok(left) => match right {
-            Ok(right) => boxed_both(alloc, left, right),
+            Ok(right) => Ok((left, right)),
             Err(cause) => {
                 drop(left);
                 Err(cause)
@@ -131,6 +154,7 @@ fn boxed_parts(
     }
 }
 
+/// Both in boxes.
 fn boxed_both(
     alloc: Global,
     left: Filter,

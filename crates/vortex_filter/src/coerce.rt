@@ -1,21 +1,22 @@
 //! A filter with its literals cast to the types of the columns.
 
-ghost use Rattle.std.specs.Prelude.{◌≡◌, ◌≢◌, ◌⊎◌, ◌↔◌, ◌∷◌, ◌++◌, [], false, not, IfErr, IfOk, IsTrue, List, MatchResult, OnOk, map};
-ghost use Rattle.vortex_filter.specs.Coerces.{Coerces, CoercesLiteral, CoercesLiterals, CoercesTest, GivesOrdered, MayHave, Pushes, TellsEnds, TellsLacking, all_left_out, integer_in, lacks_of, number_in, side_of};
-ghost use Rattle.vortex_filter.specs.Coercing.{IsCoercible, coerced, coerced_comparison, coerced_cell, coerced_range, for_values, kept_cells, lacks, lacks_number, membership_of, side};
+ghost use Rattle.std.specs.Prelude.{◌≡◌, ◌≢◌, ◌⊎◌, ◌↔◌, ◌∷◌, [], false, IfErr, IfOk, IsTrue, List, OnOk, map};
+ghost use Rattle.vortex_filter.specs.Coerces.{Coerces, CoercesLiteral, CoercesLiterals, CoercesTest, GivesOrdered, integer_in, lacking_of, lacking_order, number_in, number_lacking};
+ghost use Rattle.vortex_filter.specs.Coercing.{IsCoercible, coerced, coerced_cell, lacks, position_in};
 ghost use Rattle.vortex_filter.specs.Checking.{AllFit, asks, beginning, comparing, nothing};
 ghost use Rattle.vortex_filter.specs.FilterLiterals.{AreValid, literal_tests, literals_of};
-ghost use Rattle.vortex_filter.specs.Makes.{Makes};
+ghost use Rattle.vortex_filter.specs.Positions.{comparison_of, member_among, range_of};
 ghost use Rattle.vortex_filter.specs.Rows.{IsRowOf, content_truth};
-ghost use Rattle.vortex_filter.specs.Words.{Cell, FitsColumns, IsValid, OutOfMemory, RefusesFirst, as_nullable, cell_of, comparison, formula, in_range, membership, null_test, prefix_test, range, same_type, scalar_content, scalar_type, truth, type_of};
+ghost use Rattle.vortex_filter.specs.Words.{Cell, FitsColumns, IsValid, OutOfMemory, RefusesFirst, cell_of, comparison, formula, membership, null_test, prefix_test, range, same_type, scalar_content, scalar_type, truth, type_of};
 
 use crate::building::{conjoin, disjoin, negate};
 use crate::check::{behind, holds_strings, is_of_type, type_at};
 use crate::copies::copy_scalar;
 use crate::error::FilterError;
 use crate::filter::Filter;
+use crate::literals::{Position, nullable};
 use crate::operator::CompareOperator;
-use crate::truth::Truth;
+use crate::positions::{comparison_of, member_of, prefix_of, range_of, with_position};
 use std::alloc::Global;
 use std::cmp::Ordering;
 use vortex_cells::has_variant;
@@ -204,7 +205,6 @@ fn ordered_type(column: usize, columns: &[DType]) -> Result<&DType, FilterError>
 
 // ---- tests of a column of a type
 
-#[tactic(auto, using(crate::proofs::CoerceSteps::comparisons))]
 fn comparison_in(
     alloc: Global,
     dtype: &DType,
@@ -213,23 +213,15 @@ fn comparison_in(
     literal: &Scalar,
 ) -> Result<Filter, FilterError>
     ensures { CoercesTest (type_of dtype.now) (comparing (literal.now ∷ []))
-        (coerced_comparison (type_of dtype.now) column operator (cell_of literal.now))
+        (comparison_of column operator (position_in (type_of dtype.now) (cell_of literal.now)))
         (literal.now ∷ []) column result }
 {
-    if is_lacking(dtype, literal) {
-        return for_values(alloc, operator.holds(side(literal)), column);
-    }
-    match cast_literal(alloc, dtype, column, literal) {
-        Ok(literal) => Ok(Filter::Compare {
-            column,
-            operator,
-            literal,
-        }),
+    match position_in(alloc, dtype, column, literal) {
+        Ok(position) => comparison_of(alloc, column, operator, position),
         Err(cause) => Err(cause),
     }
 }
 
-#[tactic(auto, using(crate::proofs::CoerceSteps::memberships))]
 fn membership_in(
     alloc: Global,
     dtype: &DType,
@@ -237,33 +229,21 @@ fn membership_in(
     literals: &[Scalar],
 ) -> Result<Filter, FilterError>
     ensures { CoercesTest (type_of dtype.now) (comparing literals.now)
-        (membership_of column
-        (kept_cells (type_of dtype.now) (map cell_of literals.now)) (map cell_of literals.now))
+        (member_among column (map (position_in (type_of dtype.now)) (map cell_of literals.now)))
         literals.now column result }
 {
-    match cast_literals(alloc, dtype, column, literals) {
-        Ok(kept) => {
-            if are_all_left_out(&kept, literals) {
-                drop(kept);
-                return for_values(alloc, false, column);
-            }
-            Ok(Filter::In {
-                column,
-                literals: kept,
-            })
-        }
+    if literals.is_empty() {
+        return Ok(Filter::In {
+            column,
+            literals: Vec::new(alloc),
+        });
+    }
+    match kept_literals(alloc, dtype, column, literals) {
+        Ok(kept) => member_of(alloc, column, kept),
         Err(cause) => Err(cause),
     }
 }
 
-/// Whether none of several literals was kept.
-fn are_all_left_out(kept: &[Scalar], literals: &[Scalar]) -> bool
-    ensures { result ≡ all_left_out (map cell_of kept.now) (map cell_of literals.now) }
-{
-    kept.is_empty() && !literals.is_empty()
-}
-
-#[tactic(auto, using(crate::proofs::CoerceSteps::ranges))]
 fn range_in(
     alloc: Global,
     dtype: &DType,
@@ -273,50 +253,15 @@ fn range_in(
 ) -> Result<Filter, FilterError>
     ensures { CoercesTest (type_of dtype.now)
         (comparing (lower.now ∷ upper.now ∷ []))
-        (coerced_range (type_of dtype.now) column (cell_of lower.now) (cell_of upper.now))
+        (range_of column (position_in (type_of dtype.now) (cell_of lower.now))
+        (position_in (type_of dtype.now) (cell_of upper.now)))
         (lower.now ∷ upper.now ∷ []) column result }
 {
-    if lacks_an_end(dtype, lower, upper) {
-        let from = comparison_in(alloc, dtype, column, CompareOperator::Gte, lower);
-        let to = comparison_in(alloc, dtype, column, CompareOperator::Lte, upper);
-        return conjoin(alloc, from, to);
-    }
-    cast_range(alloc, dtype, column, lower, upper)
-}
-
-/// Whether the type lacks an end of a range.
-#[tactic(auto, using(crate::proofs::CoerceSteps::tells))]
-fn lacks_an_end(dtype: &DType, lower: &Scalar, upper: &Scalar) -> bool
-    ensures { TellsEnds (type_of dtype.now) lower.now upper.now result }
-{
-    is_lacking(dtype, lower) || is_lacking(dtype, upper)
-}
-
-/// The range between two literals that the type does not lack.
-#[tactic(auto, using(crate::proofs::CoerceSteps::ranges))]
-fn cast_range(
-    alloc: Global,
-    dtype: &DType,
-    column: usize,
-    lower: &Scalar,
-    upper: &Scalar,
-) -> Result<Filter, FilterError>
-    requires lower { MayHave (type_of dtype.now) lower.now }
-    requires upper { MayHave (type_of dtype.now) upper.now }
-    ensures { CoercesTest (type_of dtype.now)
-        (comparing (lower.now ∷ upper.now ∷ []))
-        (coerced_range (type_of dtype.now) column (cell_of lower.now) (cell_of upper.now))
-        (lower.now ∷ upper.now ∷ []) column result }
-{
-    match cast_literal(alloc, dtype, column, lower) {
-        Ok(lower) => match cast_literal(alloc, dtype, column, upper) {
-            Ok(upper) => Ok(Filter::Between {
-                column,
-                lower,
-                upper,
-            }),
+    match position_in(alloc, dtype, column, lower) {
+        Ok(from) => match position_in(alloc, dtype, column, upper) {
+            Ok(to) => range_of(alloc, column, from, to),
             Err(cause) => {
-                drop(lower);
+                drop(from);
                 Err(cause)
             }
         },
@@ -336,32 +281,21 @@ fn prefix_in(
         (prefix.now ∷ []) column result }
 {
     if holds_strings(dtype) {
-        return match cast_literal(alloc, dtype, column, prefix) {
-            Ok(prefix) => Ok(Filter::StartsWith { column, prefix }),
+        return match position_in(alloc, dtype, column, prefix) {
+            Ok(position) => match prefix_of(column, position) {
+                Some(filter) => Ok(filter),
+                None => Err(FilterError::TypesDiffer { test: 0, column }),
+            },
             Err(cause) => Err(cause),
         };
     }
     Err(FilterError::TypesDiffer { test: 0, column })
 }
 
-/// A filter with one truth for each value of the column, and Unknown for a null.
-fn for_values(alloc: Global, holds: bool, column: usize) -> Result<Filter, FilterError>
-    ensures made { Makes (for_values holds column) result }
-    ensures literals { IfOk result (λ f. literals_of f ≡ []) }
-{
-    let is_null = Ok(Filter::IsNull { column });
-    let unknown = Ok(Filter::Constant(Truth::Unknown));
-    if holds {
-        disjoin(alloc, negate(alloc, is_null), unknown)
-    } else {
-        conjoin(alloc, is_null, unknown)
-    }
-}
-
 // ---- literals
 
 /// The literals that the type does not lack, each as one of the type.
-fn cast_literals(
+fn kept_literals(
     alloc: Global,
     dtype: &DType,
     column: usize,
@@ -371,74 +305,46 @@ fn cast_literals(
 {
     let mut kept = Vec::with_capacity(alloc, literals.len())?;
     for literal in literals {
-        push_cast(alloc, dtype, column, literal, &mut kept)?;
+        let position = position_in(alloc, dtype, column, literal)?;
+        kept = with_position(kept, position)?;
     }
     Ok(kept)
 }
 
-/// Appends a literal as one of the type, unless the type lacks it.
-#[tactic(auto, using(crate::proofs::CoerceSteps::pushes))]
-fn push_cast(
+/// Where a literal stands among the values of the type: at a copy if it is of the type up to
+/// nullability, at a number that the type lacks, or else at its cast.
+#[tactic(auto, using(crate::proofs::CoerceSteps::positions))]
+fn position_in(
     alloc: Global,
     dtype: &DType,
     column: usize,
     literal: &Scalar,
-    kept: &mut Vec<Scalar>,
-) -> Result<(), FilterError>
-    ensures { Pushes (type_of dtype.now) literal.now column
-        kept.old.items kept.new.items result }
-{
-    if is_lacking(dtype, literal) {
-        return Ok(());
-    }
-    match cast_literal(alloc, dtype, column, literal) {
-        Ok(made) => push(made, kept),
-        Err(cause) => Err(cause),
-    }
-}
-
-fn push(made: Scalar, kept: &mut Vec<Scalar>) -> Result<(), FilterError>
-    ensures { MatchResult result
-        (λ _. kept.new.items ≡ kept.old.items ++ made ∷ [])
-        (λ e. e ≡ OutOfMemory) }
-{
-    match kept.push(made) {
-        Ok(()) => Ok(()),
-        Err(refused) => {
-            drop(refused);
-            Err(FilterError::OutOfMemory)
-        }
-    }
-}
-
-/// A literal as one of the type: a copy if it is of the type up to nullability, and else its cast.
-#[tactic(auto, using(crate::proofs::CoerceSteps::literals))]
-fn cast_literal(
-    alloc: Global,
-    dtype: &DType,
-    column: usize,
-    literal: &Scalar,
-) -> Result<Scalar, FilterError>
-    requires { MayHave (type_of dtype.now) literal.now }
+) -> Result<Position, FilterError>
     ensures { CoercesLiteral (type_of dtype.now) literal.now column result }
 {
     if is_of_type(literal, dtype) {
-        return copy_scalar(alloc, literal);
+        return match copy_scalar(alloc, literal) {
+            Ok(copy) => Ok(Position::Exactly(copy)),
+            Err(cause) => Err(cause),
+        };
     }
-    if is_valid(literal) {
-        return cast_valid(alloc, dtype, column, literal);
+    if !is_valid(literal) {
+        return Err(FilterError::TypesDiffer { test: 0, column });
     }
-    Err(FilterError::TypesDiffer { test: 0, column })
+    match lacking(dtype, literal) {
+        Some(order) => Ok(Position::Lacking(order)),
+        None => cast_valid(alloc, dtype, column, literal),
+    }
 }
 
 /// The cast of a valid literal to the type, made nullable.
-#[tactic(auto, using(crate::proofs::CoerceSteps::literals))]
+#[tactic(auto, using(crate::proofs::CoerceSteps::casts))]
 fn cast_valid(
     alloc: Global,
     dtype: &DType,
     column: usize,
     literal: &Scalar,
-) -> Result<Scalar, FilterError>
+) -> Result<Position, FilterError>
     requires valid { IsValid literal.now }
     requires other { same_type (type_of dtype.now) (scalar_type literal.now) ≡ false }
     requires has { lacks (type_of dtype.now) (cell_of literal.now) ≡ false }
@@ -451,7 +357,7 @@ fn cast_valid(
     match literal.cast(alloc, &target) {
         Ok(made) => {
             drop(target);
-            Ok(made)
+            Ok(Position::Exactly(made))
         }
         Err(cause) => {
             drop(target);
@@ -465,21 +371,6 @@ fn is_valid(scalar: &Scalar) -> bool
     ensures { IsTrue result ↔ IsValid scalar.now }
 {
     Scalar::is_compatible(&scalar.dtype, scalar.value.as_ref())
-}
-
-/// The type, made nullable.
-fn nullable(alloc: Global, dtype: &DType) -> Result<DType, FilterError>
-    ensures { MatchResult result
-        (λ made. type_of made ≡ as_nullable (type_of dtype.now))
-        (λ e. e ≡ OutOfMemory) }
-{
-    match dtype.clone(alloc) {
-        Ok(copy) => Ok(copy.as_nullable()),
-        Err(cause) => {
-            drop(cause);
-            Err(FilterError::OutOfMemory)
-        }
-    }
 }
 
 /// Why a cast was refused.
@@ -498,55 +389,40 @@ fn refusal(cause: VortexError, column: usize) -> FilterError
 
 // ---- numbers that a type lacks
 
-/// Whether the literal is a valid integer of another type than the column's, which does not have
-/// it.
-#[tactic(auto, using(crate::proofs::CoerceSteps::tells))]
-fn is_lacking(dtype: &DType, literal: &Scalar) -> bool
-    ensures { TellsLacking (type_of dtype.now) literal.now result }
-{
-    lacks(dtype, literal) && is_valid(literal)
-}
-
-/// Whether the literal is an integer of another type than the column's, which does not have it.
-#[tactic(auto, using(crate::proofs::CoerceSteps::lacking))]
-fn lacks(dtype: &DType, literal: &Scalar) -> bool
-    ensures { result ≡ lacks (type_of dtype.now) (cell_of literal.now) }
-{
-    if is_of_type(literal, dtype) {
-        return false;
-    }
-    lacks_number(dtype, literal)
-}
-
-/// Whether both are of integer types, and the column's does not have the number.
-#[tactic(auto, using(crate::proofs::CoerceSteps::lacks_number_is))]
-fn lacks_number(dtype: &DType, literal: &Scalar) -> bool
+/// How each number of the type stands to the literal, if that is an integer which the type lacks.
+#[tactic(auto, using(crate::proofs::CoerceSteps::lacking_is))]
+fn lacking(dtype: &DType, literal: &Scalar) -> Option<Ordering>
     ensures { result
-        ≡ lacks_number (type_of dtype.now) (scalar_type literal.now) (scalar_content literal.now) }
+        ≡ lacking_order (type_of dtype.now) (scalar_type literal.now) (scalar_content literal.now) }
 {
-    lacks_of(
+    lacking_of(
         integer_type(dtype),
         integer_type(&literal.dtype),
         number(literal),
     )
 }
 
-fn lacks_of(column: Option<PType>, literal: Option<PType>, number: Option<i128>) -> bool
-    ensures { result ≡ lacks_of column literal number }
+fn lacking_of(
+    column: Option<PType>,
+    literal: Option<PType>,
+    number: Option<i128>,
+) -> Option<Ordering>
+    ensures { result ≡ lacking_of column literal number }
 {
     match (column, literal, number) {
-        (Some(ptype), Some(_), Some(number)) => is_out_of_range(ptype, number),
-        _ => false,
+        (Some(ptype), Some(_), Some(number)) => number_lacking(ptype, number),
+        _ => None,
     }
 }
 
+/// As 0 does.
 #[tactic(auto, using(crate::proofs::CoerceSteps::ranges_of))]
-fn is_out_of_range(ptype: PType, number: i128) -> bool
-    ensures { result ≡ not (in_range ptype number) }
+fn number_lacking(ptype: PType, number: i128) -> Option<Ordering>
+    ensures { result ≡ number_lacking ptype number }
 {
     match PValue::from_whole(number, ptype) {
-        Some(_) => false,
-        None => true,
+        Some(_) => None,
+        None => Some(0i128.cmp(&number)),
     }
 }
 
@@ -568,22 +444,5 @@ fn number(scalar: &Scalar) -> Option<i128>
     match scalar.value() {
         Some(ScalarValue::Primitive(number)) => Some(number.whole()),
         _ => None,
-    }
-}
-
-/// How each number of a type stands to a literal that the type lacks: as 0 does.
-#[tactic(auto, using(crate::proofs::CoerceSteps::side_is))]
-fn side(literal: &Scalar) -> Ordering
-    ensures { result ≡ side (scalar_content literal.now) }
-{
-    side_of(number(literal))
-}
-
-fn side_of(number: Option<i128>) -> Ordering
-    ensures { result ≡ side_of number }
-{
-    match number {
-        Some(number) => 0i128.cmp(&number),
-        None => Ordering::Equal,
     }
 }

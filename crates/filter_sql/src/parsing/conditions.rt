@@ -5,7 +5,7 @@ ghost use Rattle.std.specs.Str.{bytes_eq};
 ghost use Rattle.vortex_dtype.specs.TypeOf.{type_of};
 ghost use Rattle.vortex_cells.specs.Cells.{cell_of};
 ghost use Rattle.vortex_filter.specs.FilterLiterals.{AreValid, literals_of};
-ghost use Rattle.vortex_filter.specs.Formula.{formula};
+ghost use Rattle.vortex_filter.specs.Formula.{formula, membership};
 ghost use Rattle.filter_sql.specs.Literals.{is_wildcard, pattern_prefix, with_byte};
 ghost use Rattle.filter_sql.specs.Tokens.{trees};
 ghost use Rattle.filter_sql.specs.Mistakes.{Gives, cells_mistake, condition_mistake, escape_mistake, like_mistake, literal_mistake, members_mistake, more_mistake, null_test_mistake, range_mistake, test_mistake, text_cause};
@@ -14,10 +14,7 @@ ghost use Rattle.filter_sql.specs.Reading.{ending, with_front, cells_at, compari
 use crate::error::Expected;
 use crate::parsing::columns::Found;
 use crate::parsing::fault::{Cause, Fault};
-use crate::parsing::formulas::{
-    comparison, member, member_of_none, negation, null_test, prefix, range, with_literal,
-};
-use crate::parsing::literals::{literal_at, string_literal};
+use crate::parsing::literals::{position_at, position_in, prefix};
 use crate::parsing::tokens::{
     after_closing, after_comma, after_keyword, expect_closing, expect_keyword, expect_opening,
     expect_string, expected, operator_at, tokens_left,
@@ -25,7 +22,9 @@ use crate::parsing::tokens::{
 use crate::token::{Keyword, Placed};
 use std::alloc::Global;
 use vortex_dtype::DType;
-use vortex_filter::{CompareOperator, Filter};
+use vortex_filter::{
+    CompareOperator, Filter, Literal, comparison_of, member_of, range_of, with_position,
+};
 use vortex_value::Scalar;
 
 /// What follows the column's name.
@@ -34,11 +33,11 @@ pub(crate) fn condition<'a>(
     alloc: Global,
     column: Found<'_>,
     rest: &'a [Placed],
-) -> Result<(Box<Filter>, &'a [Placed]), Fault>
-    ensures read { Gives (λ x. (formula x.0.value, trees x.1.now)) result
+) -> Result<(Filter, &'a [Placed]), Fault>
+    ensures read { Gives (λ x. (formula x.0, trees x.1.now)) result
         (condition_at column.entry.place (type_of column.entry.dtype.now) (trees rest.now))
         (condition_mistake (type_of column.entry.dtype.now) (trees rest.now)) }
-    ensures valid { IfOk result (λ x. AreValid (literals_of x.0.value)) }
+    ensures valid { IfOk result (λ x. AreValid (literals_of x.0)) }
 {
     if let Some((operator, after)) = operator_at(rest) {
         return compared(alloc, column, operator, after);
@@ -50,7 +49,7 @@ pub(crate) fn condition<'a>(
         return test(alloc, column, rest);
     };
     let (inner, rest) = test(alloc, column, after)?;
-    Ok((negation(alloc, inner)?, rest))
+    Ok((Filter::not(alloc, inner)?, rest))
 }
 
 /// A comparison with the literal that comes next.
@@ -60,30 +59,29 @@ fn compared<'a>(
     column: Found<'_>,
     operator: CompareOperator,
     rest: &'a [Placed],
-) -> Result<(Box<Filter>, &'a [Placed]), Fault>
-    ensures read { Gives (λ x. (formula x.0.value, trees x.1.now)) result
+) -> Result<(Filter, &'a [Placed]), Fault>
+    ensures read { Gives (λ x. (formula x.0, trees x.1.now)) result
         (comparison_at column.entry.place (type_of column.entry.dtype.now) operator (trees rest.now))
         (literal_mistake (type_of column.entry.dtype.now) (trees rest.now)) }
-    ensures valid { IfOk result (λ x. AreValid (literals_of x.0.value)) }
+    ensures valid { IfOk result (λ x. AreValid (literals_of x.0)) }
 {
-    let (literal, rest) = literal_at(alloc, column.dtype, rest)?;
-    Ok((comparison(alloc, column.place, operator, literal)?, rest))
+    let (literal, rest) = position_at(alloc, column.dtype, rest)?;
+    Ok((comparison_of(alloc, column.place, operator, literal)?, rest))
 }
 
 /// What follows `is`: `null` or `not null`.
-#[tactic(auto, unfolding(crate::specs::Reading::null_test_at, crate::specs::Mistakes::null_test_mistake), using(vortex_filter::proofs::LiteralSteps::valid))]
-fn is_null(alloc: Global, column: usize, rest: &[Placed]) -> Result<(Box<Filter>, &[Placed]), Fault>
-    ensures read { Gives (λ x. (formula x.0.value, trees x.1.now)) result
+#[tactic(auto, unfolding(crate::specs::Reading::null_test_at, crate::specs::Mistakes::null_test_mistake), using(vortex_filter::proofs::Steps::shown, vortex_filter::proofs::LiteralSteps::valid))]
+fn is_null(alloc: Global, column: usize, rest: &[Placed]) -> Result<(Filter, &[Placed]), Fault>
+    ensures read { Gives (λ x. (formula x.0, trees x.1.now)) result
         (null_test_at column (trees rest.now)) (null_test_mistake (trees rest.now)) }
-    ensures valid { IfOk result (λ x. AreValid (literals_of x.0.value)) }
+    ensures valid { IfOk result (λ x. AreValid (literals_of x.0)) }
 {
     let Some(after) = after_keyword(rest, Keyword::Not) else {
         let rest = expect_keyword(rest, Keyword::Null, Expected::Null)?;
-        return Ok((null_test(alloc, column)?, rest));
+        return Ok((Filter::IsNull { column }, rest));
     };
     let rest = expect_keyword(after, Keyword::Null, Expected::Null)?;
-    let test = null_test(alloc, column)?;
-    Ok((negation(alloc, test)?, rest))
+    Ok((Filter::not(alloc, Filter::IsNull { column })?, rest))
 }
 
 /// `in`, `between` or `like`, and what follows.
@@ -92,11 +90,11 @@ fn test<'a>(
     alloc: Global,
     column: Found<'_>,
     rest: &'a [Placed],
-) -> Result<(Box<Filter>, &'a [Placed]), Fault>
-    ensures read { Gives (λ x. (formula x.0.value, trees x.1.now)) result
+) -> Result<(Filter, &'a [Placed]), Fault>
+    ensures read { Gives (λ x. (formula x.0, trees x.1.now)) result
         (test_at column.entry.place (type_of column.entry.dtype.now) (trees rest.now))
         (test_mistake (type_of column.entry.dtype.now) (trees rest.now)) }
-    ensures valid { IfOk result (λ x. AreValid (literals_of x.0.value)) }
+    ensures valid { IfOk result (λ x. AreValid (literals_of x.0)) }
 {
     if let Some(after) = after_keyword(rest, Keyword::In) {
         return members(alloc, column, after);
@@ -114,16 +112,16 @@ fn between<'a>(
     alloc: Global,
     column: Found<'_>,
     rest: &'a [Placed],
-) -> Result<(Box<Filter>, &'a [Placed]), Fault>
-    ensures read { Gives (λ x. (formula x.0.value, trees x.1.now)) result
+) -> Result<(Filter, &'a [Placed]), Fault>
+    ensures read { Gives (λ x. (formula x.0, trees x.1.now)) result
         (range_at column.entry.place (type_of column.entry.dtype.now) (trees rest.now))
         (range_mistake (type_of column.entry.dtype.now) (trees rest.now)) }
-    ensures valid { IfOk result (λ x. AreValid (literals_of x.0.value)) }
+    ensures valid { IfOk result (λ x. AreValid (literals_of x.0)) }
 {
-    let (lower, rest) = literal_at(alloc, column.dtype, rest)?;
+    let (lower, rest) = position_at(alloc, column.dtype, rest)?;
     let rest = expect_keyword(rest, Keyword::And, Expected::And)?;
-    let (upper, rest) = literal_at(alloc, column.dtype, rest)?;
-    Ok((range(alloc, column.place, lower, upper)?, rest))
+    let (upper, rest) = position_at(alloc, column.dtype, rest)?;
+    Ok((range_of(alloc, column.place, lower, upper)?, rest))
 }
 
 /// What follows `in`: literals in parentheses.
@@ -132,18 +130,30 @@ fn members<'a>(
     alloc: Global,
     column: Found<'_>,
     rest: &'a [Placed],
-) -> Result<(Box<Filter>, &'a [Placed]), Fault>
-    ensures read { Gives (λ x. (formula x.0.value, trees x.1.now)) result
+) -> Result<(Filter, &'a [Placed]), Fault>
+    ensures read { Gives (λ x. (formula x.0, trees x.1.now)) result
         (members_at column.entry.place (type_of column.entry.dtype.now) (trees rest.now))
         (members_mistake (type_of column.entry.dtype.now) (trees rest.now)) }
-    ensures valid { IfOk result (λ x. AreValid (literals_of x.0.value)) }
+    ensures valid { IfOk result (λ x. AreValid (literals_of x.0)) }
 {
     let rest = expect_opening(rest)?;
     if let Some(after) = after_closing(rest) {
-        return Ok((member_of_none(alloc, column.place)?, after));
+        return Ok((none_of(alloc, column.place), after));
     }
     let (literals, rest) = cells(alloc, column.dtype, rest)?;
-    Ok((member(alloc, column.place, literals)?, rest))
+    Ok((member_of(alloc, column.place, literals)?, rest))
+}
+
+/// Whether the column is one of no literals.
+#[tactic(auto, using(vortex_filter::proofs::Steps::shown, vortex_filter::proofs::LiteralSteps::literals))]
+fn none_of(alloc: Global, column: usize) -> Filter
+    ensures made { formula result ≡ membership column [] }
+    ensures literals { literals_of result ≡ [] }
+{
+    Filter::In {
+        column,
+        literals: Vec::new(alloc),
+    }
 }
 
 /// One literal or more with commas between them, to the closing parenthesis. Those that the type
@@ -159,8 +169,8 @@ fn cells<'a>(
         (cells_mistake (type_of dtype.now) (trees rest.now)) }
     ensures valid { IfOk result (λ x. AreValid x.0.items) }
 {
-    let (literal, rest) = literal_at(alloc, dtype, rest)?;
-    let literals = with_literal(Vec::new(alloc), literal)?;
+    let (literal, rest) = position_at(alloc, dtype, rest)?;
+    let literals = with_position(Vec::new(alloc), literal)?;
     more_cells(alloc, dtype, literals, rest)
 }
 
@@ -179,8 +189,8 @@ fn more_cells<'a>(
     let mut literals = literals;
     let mut rest = rest;
     while let Some(after) = after_comma(rest) {
-        let (literal, behind) = literal_at(alloc, dtype, after)?;
-        literals = with_literal(literals, literal)?;
+        let (literal, behind) = position_at(alloc, dtype, after)?;
+        literals = with_position(literals, literal)?;
         rest = behind;
     }
     let rest = expect_closing(rest)?;
@@ -193,11 +203,11 @@ fn like<'a>(
     alloc: Global,
     column: Found<'_>,
     rest: &'a [Placed],
-) -> Result<(Box<Filter>, &'a [Placed]), Fault>
-    ensures read { Gives (λ x. (formula x.0.value, trees x.1.now)) result
+) -> Result<(Filter, &'a [Placed]), Fault>
+    ensures read { Gives (λ x. (formula x.0, trees x.1.now)) result
         (like_at column.entry.place (type_of column.entry.dtype.now) (trees rest.now))
         (like_mistake (type_of column.entry.dtype.now) (trees rest.now)) }
-    ensures valid { IfOk result (λ x. AreValid (literals_of x.0.value)) }
+    ensures valid { IfOk result (λ x. AreValid (literals_of x.0)) }
 {
     let left = tokens_left(rest);
     let (pattern, rest) = expect_string(rest, Expected::Prefix)?;
@@ -293,15 +303,15 @@ fn text_prefix(
     column: Found<'_>,
     bytes: Vec<u8>,
     left: usize,
-) -> Result<Box<Filter>, Fault>
-    ensures read { Gives (λ f. formula f.value) result
+) -> Result<Filter, Fault>
+    ensures read { Gives (λ f. formula f) result
         (text_prefix column.entry.place (type_of column.entry.dtype.now) bytes.items)
         (Fault.At left (text_cause (type_of column.entry.dtype.now) bytes.items)) }
-    ensures valid { IfOk result (λ f. AreValid (literals_of f.value)) }
+    ensures valid { IfOk result (λ f. AreValid (literals_of f)) }
 {
     let Ok(text) = str::from_utf8(bytes.as_slice()) else {
         return Err(Fault::At(left, Cause::Expected(Expected::Prefix)));
     };
-    let literal = string_literal(alloc, column.dtype, text, left)?;
-    prefix(alloc, column.place, literal, left)
+    let literal = position_in(alloc, column.dtype, Literal::Text(text), left)?;
+    prefix(column.place, literal, left)
 }

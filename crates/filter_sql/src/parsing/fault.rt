@@ -5,7 +5,7 @@ ghost use Rattle.filter_sql.specs.declared.parsing.fault.Fault.TheVariants.{NoMe
 
 use crate::error::Expected;
 use std::alloc::{AllocError, AllocFailed};
-use vortex_dtype::VortexError;
+use vortex_filter::FilterError;
 
 /// What is wrong with a token.
 #[derive(Clone, Copy, Debug)]
@@ -49,11 +49,11 @@ impl<T: Drop> From<AllocFailed<T>> for Fault {
     }
 }
 
-/// Always `NoMemory`: the parser calls nothing of the crates below that can refuse for another cause.
-impl From<VortexError> for Fault {
+/// Always `NoMemory`: what the parser makes is refused for no other cause.
+impl From<FilterError> for Fault {
     ghost from_gives = { λ _ e. e ≡ NoMemory };
 
-    fn from(_error: VortexError) -> Fault {
+    fn from(_error: FilterError) -> Fault {
         Fault::NoMemory
     }
 }

@@ -11,12 +11,18 @@ ghost use Rattle.filter_sql.specs.Reading.{conjunction_of, disjunction_of, filte
 use crate::column::Column;
 use crate::error::Expected;
 use crate::parsing::fault::{Cause, Fault};
-use crate::parsing::formulas::{both, either, negation};
-use crate::parsing::predicates::predicate;
+use crate::parsing::predicates::boxed_predicate;
 use crate::parsing::tokens::{after_closing, after_keyword, after_opening, expected, tokens_left};
 use crate::token::{Keyword, Placed};
 use std::alloc::Global;
-use vortex_filter::Filter;
+use vortex_filter::{Filter, both, either, negation};
+
+/// A filter on the heap.
+fn boxed(alloc: Global, filter: Filter) -> Result<Box<Filter>, Fault>
+    ensures { MatchResult result (λ f. f.value ≡ filter) (λ e. e ≡ Fault.NoMemory) }
+{
+    Ok(Box::new(alloc, filter)?)
+}
 
 /// How deep what comes next may nest.
 fn deeper(rest: &[Placed], depth: usize) -> Result<usize, Fault>
@@ -54,7 +60,7 @@ pub(crate) fn disjunction<'a>(
     };
     let depth = deeper(after, depth)?;
     let (right, rest) = disjunction(alloc, columns, after, depth)?;
-    Ok((either(alloc, left, right)?, rest))
+    Ok((boxed(alloc, either(left, right))?, rest))
 }
 
 /// Filters with `and` between them, and what follows.
@@ -82,7 +88,7 @@ fn conjunction<'a>(
     };
     let depth = deeper(after, depth)?;
     let (right, rest) = conjunction(alloc, columns, after, depth)?;
-    Ok((both(alloc, left, right)?, rest))
+    Ok((boxed(alloc, both(left, right))?, rest))
 }
 
 /// A predicate, a filter in parentheses or one after `not`, and what follows.
@@ -107,7 +113,7 @@ fn operand<'a>(
     if let Some(after) = after_keyword(rest, Keyword::Not) {
         let depth = deeper(after, depth)?;
         let (inner, rest) = operand(alloc, columns, after, depth)?;
-        return Ok((negation(alloc, inner)?, rest));
+        return Ok((boxed(alloc, negation(inner))?, rest));
     }
     if let Some(after) = after_opening(rest) {
         let depth = deeper(after, depth)?;
@@ -117,7 +123,7 @@ fn operand<'a>(
         };
         return Ok((inner, rest));
     }
-    predicate(alloc, columns, rest)
+    boxed_predicate(alloc, columns, rest)
 }
 
 /// The filter that all of the tokens are.

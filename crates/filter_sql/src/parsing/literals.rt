@@ -1,145 +1,108 @@
-//! Literals in the type of a column.
+//! Literals, and where they stand among the values of a column's type.
 
-ghost use Rattle.std.specs.Prelude.{◌≡◌, IfErr, IfOk};
+ghost use Rattle.std.specs.Prelude.{◌≡◌, IfOk};
+ghost use Rattle.std.specs.Option.{option_map};
 ghost use Rattle.vortex_dtype.specs.TypeOf.{type_of};
-ghost use Rattle.vortex_filter.specs.FilterLiterals.{AreValid};
-ghost use Rattle.filter_sql.specs.Literals.{scalars_of, bytes_literal, exactly, integer_literal, keyword_literal, literal_of, literal_tree, null_cell, number_said, signed, string_literal, truth_literal};
-ghost use Rattle.filter_sql.specs.Tokens.{keyword_token, token_tree, trees};
+ghost use Rattle.vortex_filter.specs.FilterLiterals.{AreValid, literals_of};
+ghost use Rattle.vortex_filter.specs.Formula.{formula};
+ghost use Rattle.vortex_filter.specs.Literals.{literal_tree, position_of};
+ghost use Rattle.vortex_filter.specs.Positions.{position_tree, prefix_of, scalars_of};
+ghost use Rattle.filter_sql.specs.Literals.{keyword_literal, literal_of, signed};
+ghost use Rattle.filter_sql.specs.Tokens.{token_tree, trees};
 ghost use Rattle.filter_sql.specs.Mistakes.{Gives, literal_cause, literal_mistake, other_type};
-ghost use Rattle.filter_sql.specs.Reading.{literal_at};
+ghost use Rattle.filter_sql.specs.Reading.{position_at, token_position};
 
 use crate::error::Expected;
 use crate::parsing::fault::{Cause, Fault};
 use crate::parsing::tokens::{expected, tokens_left};
 use crate::token::{Keyword, Placed, Token};
 use std::alloc::Global;
-use vortex_dtype::{BufferString, ByteBuffer, DType, Nullability, PType};
-use vortex_pvalue::PValue;
-use vortex_value::{Scalar, ScalarValue};
+use vortex_dtype::DType;
+use vortex_filter::{Filter, Literal, Position, prefix_of};
 
-/// What a literal says in a column of a type.
-#[derive(Debug, Drop)]
-pub(crate) enum Literal {
-    /// A cell of the type.
-    Exactly(Scalar),
-    /// A number that the type lacks: below all that it has, or above them.
-    Lacking { is_below: bool },
-}
-
-/// The literal that comes next, in a column of the type, and what follows it.
-#[tactic(auto, unfolding(crate::specs::Reading::literal_at, crate::specs::Mistakes::literal_mistake))]
-pub(crate) fn literal_at<'a>(
+/// Where the literal that comes next stands among the values of the type, and what follows it.
+#[tactic(auto, unfolding(crate::specs::Reading::position_at, crate::specs::Mistakes::literal_mistake))]
+pub(crate) fn position_at<'a>(
     alloc: Global,
     dtype: &DType,
     rest: &'a [Placed],
-) -> Result<(Literal, &'a [Placed]), Fault>
-    ensures read { Gives (λ x. (literal_tree x.0, trees x.1.now)) result
-        (literal_at (type_of dtype.now) (trees rest.now))
+) -> Result<(Position, &'a [Placed]), Fault>
+    ensures read { Gives (λ x. (position_tree x.0, trees x.1.now)) result
+        (position_at (type_of dtype.now) (trees rest.now))
         (literal_mistake (type_of dtype.now) (trees rest.now)) }
     ensures valid { IfOk result (λ x. AreValid (scalars_of x.0)) }
 {
     let [first, after @ ..] = rest else {
         return Err(expected(rest, Expected::Literal));
     };
-    let literal = literal_of(alloc, dtype, &first.token, tokens_left(rest))?;
-    Ok((literal, after))
+    let position = token_position(alloc, dtype, &first.token, tokens_left(rest))?;
+    Ok((position, after))
 }
 
-/// What the token says as a literal, where so many tokens are left.
-#[tactic(auto, unfolding(crate::specs::Literals::literal_of))]
-fn literal_of(alloc: Global, dtype: &DType, token: &Token, left: usize) -> Result<Literal, Fault>
-    ensures read { Gives literal_tree result (literal_of (type_of dtype.now) (token_tree token.now))
+/// Where a token stands as a literal of the type. So many tokens are left.
+#[tactic(auto, unfolding(crate::specs::Reading::token_position))]
+fn token_position(
+    alloc: Global,
+    dtype: &DType,
+    token: &Token,
+    left: usize,
+) -> Result<Position, Fault>
+    ensures read { Gives position_tree result
+        (token_position (type_of dtype.now) (token_tree token.now))
         (Fault.At left (literal_cause (type_of dtype.now) (token_tree token.now))) }
-    ensures valid { IfOk result (λ l. AreValid (scalars_of l)) }
+    ensures valid { IfOk result (λ p. AreValid (scalars_of p)) }
+{
+    match literal_of(token) {
+        Some(literal) => position_in(alloc, dtype, literal, left),
+        None => Err(Fault::At(left, Cause::Expected(Expected::Literal))),
+    }
+}
+
+/// Where a literal stands among the values of the type. So many tokens are left.
+pub(crate) fn position_in(
+    alloc: Global,
+    dtype: &DType,
+    literal: Literal<'_>,
+    left: usize,
+) -> Result<Position, Fault>
+    ensures read { Gives position_tree result
+        (position_of (type_of dtype.now) (literal_tree literal.entry))
+        (Fault.At left (other_type (type_of dtype.now))) }
+    ensures valid { IfOk result (λ p. AreValid (scalars_of p)) }
+{
+    match literal.position(alloc, dtype) {
+        Ok(Some(position)) => Ok(position),
+        Ok(None) => Err(Fault::At(left, other_type(dtype))),
+        Err(_) => Err(Fault::NoMemory),
+    }
+}
+
+/// The literal that a token is.
+#[tactic(auto, unfolding(crate::specs::Literals::literal_of))]
+fn literal_of(token: &Token) -> Option<Literal<'_>>
+    ensures { option_map literal_tree result ≡ literal_of (token_tree token.now) }
 {
     match token {
-        Token::Keyword(keyword) => keyword_literal(alloc, dtype, *keyword, left),
+        Token::Keyword(keyword) => keyword_literal(*keyword),
         Token::Integer {
             is_negative,
             magnitude,
-        } => integer_literal(dtype, *is_negative, *magnitude, left),
-        Token::Text(text) => string_literal(alloc, dtype, text.as_str(), left),
-        Token::Bytes(bytes) => bytes_literal(alloc, dtype, bytes.as_slice(), left),
-        Token::Name(_) | Token::Operator(_) | Token::Open | Token::Close | Token::Comma => {
-            Err(Fault::At(left, Cause::Expected(Expected::Literal)))
-        }
+        } => Some(Literal::Number(signed(*is_negative, *magnitude))),
+        Token::Text(text) => Some(Literal::Text(text.as_str())),
+        Token::Bytes(bytes) => Some(Literal::Bytes(bytes.as_slice())),
+        Token::Name(_) | Token::Operator(_) | Token::Open | Token::Close | Token::Comma => None,
     }
 }
 
 /// `null`, `true` or `false`.
-fn keyword_literal(
-    alloc: Global,
-    dtype: &DType,
-    keyword: Keyword,
-    left: usize,
-) -> Result<Literal, Fault>
-    ensures read { Gives literal_tree result (keyword_literal (type_of dtype.now) keyword)
-        (Fault.At left (literal_cause (type_of dtype.now) (keyword_token keyword))) }
-    ensures valid { IfOk result (λ l. AreValid (scalars_of l)) }
+fn keyword_literal<'a>(keyword: Keyword) -> Option<Literal<'a>>
+    ensures { option_map literal_tree result ≡ keyword_literal keyword }
 {
     match keyword {
-        Keyword::Null => null_literal(alloc, dtype),
-        Keyword::True => truth_literal(dtype, true, left),
-        Keyword::False => truth_literal(dtype, false, left),
-        _ => Err(Fault::At(left, Cause::Expected(Expected::Literal))),
-    }
-}
-
-/// The null of any type.
-fn null_literal(alloc: Global, dtype: &DType) -> Result<Literal, Fault>
-    ensures made { IfOk result (λ l. literal_tree l ≡ exactly (null_cell (type_of dtype.now))) }
-    ensures refused { IfErr result (λ e. e ≡ Fault.NoMemory) }
-    ensures valid { IfOk result (λ l. AreValid (scalars_of l)) }
-{
-    let copy = dtype.clone(alloc)?;
-    Ok(Literal::Exactly(Scalar::null(copy.as_nullable())))
-}
-
-/// A truth value, in a column of truth values.
-fn truth_literal(dtype: &DType, truth: bool, left: usize) -> Result<Literal, Fault>
-    ensures read { Gives literal_tree result (truth_literal (type_of dtype.now) truth)
-        (Fault.At left (other_type (type_of dtype.now))) }
-    ensures valid { IfOk result (λ l. AreValid (scalars_of l)) }
-{
-    match dtype {
-        DType::Bool(_) => Ok(Literal::Exactly(Scalar::bool(truth, Nullability::NonNullable))),
-        _ => Err(Fault::At(left, other_type(dtype))),
-    }
-}
-
-/// A number, in a column of integers.
-fn integer_literal(
-    dtype: &DType,
-    is_negative: bool,
-    magnitude: u64,
-    left: usize,
-) -> Result<Literal, Fault>
-    ensures read { Gives literal_tree result
-        (integer_literal (type_of dtype.now) is_negative magnitude)
-        (Fault.At left (other_type (type_of dtype.now))) }
-    ensures valid { IfOk result (λ l. AreValid (scalars_of l)) }
-{
-    match dtype {
-        DType::Primitive(ptype, _) => Ok(number_said(*ptype, is_negative, magnitude)),
-        _ => Err(Fault::At(left, other_type(dtype))),
-    }
-}
-
-/// A number in a column of this integer type.
-fn number_said(ptype: PType, is_negative: bool, magnitude: u64) -> Literal
-    ensures said { literal_tree result
-        ≡ number_said ptype is_negative (signed is_negative magnitude) }
-    ensures valid { AreValid (scalars_of result) }
-{
-    let number = signed(is_negative, magnitude);
-    match PValue::from_whole(number, ptype) {
-        Some(value) => Literal::Exactly(Scalar {
-            dtype: DType::Primitive(ptype, Nullability::NonNullable),
-            value: Some(ScalarValue::Primitive(value)),
-        }),
-        None => Literal::Lacking {
-            is_below: is_negative,
-        },
+        Keyword::Null => Some(Literal::Null),
+        Keyword::True => Some(Literal::Bool(true)),
+        Keyword::False => Some(Literal::Bool(false)),
+        _ => None,
     }
 }
 
@@ -154,41 +117,6 @@ fn signed(is_negative: bool, magnitude: u64) -> i128
     }
 }
 
-/// A string, in a column of strings.
-pub(crate) fn string_literal(
-    alloc: Global,
-    dtype: &DType,
-    text: &str,
-    left: usize,
-) -> Result<Literal, Fault>
-    ensures read { Gives literal_tree result (string_literal (type_of dtype.now) text.now)
-        (Fault.At left (other_type (type_of dtype.now))) }
-    ensures valid { IfOk result (λ l. AreValid (scalars_of l)) }
-{
-    match dtype {
-        DType::Utf8(_) => {
-            let text = BufferString::from_str(alloc, text)?;
-            Ok(Literal::Exactly(Scalar::utf8(text, Nullability::NonNullable)))
-        }
-        _ => Err(Fault::At(left, other_type(dtype))),
-    }
-}
-
-/// Bytes, in a column of bytes.
-fn bytes_literal(alloc: Global, dtype: &DType, bytes: &[u8], left: usize) -> Result<Literal, Fault>
-    ensures read { Gives literal_tree result (bytes_literal (type_of dtype.now) bytes.now)
-        (Fault.At left (other_type (type_of dtype.now))) }
-    ensures valid { IfOk result (λ l. AreValid (scalars_of l)) }
-{
-    match dtype {
-        DType::Binary(_) => {
-            let bytes = ByteBuffer::from_slice(alloc, bytes)?;
-            Ok(Literal::Exactly(Scalar::binary(bytes, Nullability::NonNullable)))
-        }
-        _ => Err(Fault::At(left, other_type(dtype))),
-    }
-}
-
 /// Why a literal of another kind is none of the type: whether the type has literals.
 fn other_type(dtype: &DType) -> Cause
     ensures { result ≡ other_type (type_of dtype.now) }
@@ -198,5 +126,17 @@ fn other_type(dtype: &DType) -> Cause
             Cause::TypesDiffer
         }
         _ => Cause::NoLiteral,
+    }
+}
+
+/// Whether the column begins with the literal, where so many tokens are left.
+pub(crate) fn prefix(column: usize, literal: Position, left: usize) -> Result<Filter, Fault>
+    ensures read { Gives formula result (prefix_of column (position_tree literal))
+        (Fault.At left (Cause.Expected Expected.Prefix)) }
+    ensures literals { IfOk result (λ f. literals_of f ≡ scalars_of literal) }
+{
+    match prefix_of(column, literal) {
+        Some(filter) => Ok(filter),
+        None => Err(Fault::At(left, Cause::Expected(Expected::Prefix))),
     }
 }

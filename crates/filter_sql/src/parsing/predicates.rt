@@ -4,19 +4,19 @@ ghost use Rattle.std.specs.Prelude.{◌≡◌, IfOk};
 ghost use Rattle.vortex_dtype.specs.TypeOf.{type_of};
 ghost use Rattle.filter_sql.specs.Columns.{column_trees};
 ghost use Rattle.vortex_filter.specs.FilterLiterals.{AreValid, literals_of};
-ghost use Rattle.filter_sql.specs.Literals.{scalars_of, holds_strings, literal_tree};
+ghost use Rattle.vortex_filter.specs.CheckSteps.{holds_strings};
+ghost use Rattle.vortex_filter.specs.Positions.{position_tree, scalars_of};
 ghost use Rattle.vortex_filter.specs.Formula.{formula};
 ghost use Rattle.filter_sql.specs.Tokens.{trees};
 ghost use Rattle.filter_sql.specs.Mistakes.{Gives, expected, predicate_mistake, prefix_call_mistake, prefix_cause};
-ghost use Rattle.filter_sql.specs.Reading.{constant_at, predicate_at, prefix_call_at, prefix_of};
+ghost use Rattle.filter_sql.specs.Reading.{constant_at, predicate_at, prefix_call_at, prefix_in};
 
 use crate::column::Column;
 use crate::error::Expected;
 use crate::parsing::columns::{Found, expect_column};
 use crate::parsing::conditions::condition;
 use crate::parsing::fault::{Cause, Fault};
-use crate::parsing::formulas::{constant, prefix};
-use crate::parsing::literals::{Literal, literal_at};
+use crate::parsing::literals::{position_at, prefix};
 use crate::parsing::tokens::{
     after_keyword, expect_closing, expect_comma, expect_name, expect_opening, expected, name_at,
     tokens_left,
@@ -24,11 +24,13 @@ use crate::parsing::tokens::{
 use crate::token::{Keyword, Placed, Token};
 use std::alloc::Global;
 use vortex_dtype::DType;
-use vortex_filter::{Filter, Truth};
+use vortex_filter::{Filter, Position, Truth};
 
-/// A test of a column, `starts_with` or a constant, and what follows.
-#[tactic(auto, unfolding(crate::specs::Reading::predicate_at, crate::specs::Mistakes::predicate_mistake))]
-pub(crate) fn predicate<'a>(
+/// A predicate on the heap, and what follows. It is a call of its own, so that what it needs on the
+/// stack is not taken again at each level of a filter.
+#[tactic(auto, using(vortex_filter::proofs::LiteralSteps::valid))]
+#[inline(never)]
+pub(crate) fn boxed_predicate<'a>(
     alloc: Global,
     columns: &[Column],
     rest: &'a [Placed],
@@ -38,12 +40,28 @@ pub(crate) fn predicate<'a>(
         (predicate_mistake (column_trees columns.now) (trees rest.now)) }
     ensures valid { IfOk result (λ x. AreValid (literals_of x.0.value)) }
 {
+    let (filter, rest) = predicate(alloc, columns, rest)?;
+    Ok((Box::new(alloc, filter)?, rest))
+}
+
+/// A test of a column, `starts_with` or a constant, and what follows.
+#[tactic(auto, unfolding(crate::specs::Reading::predicate_at, crate::specs::Mistakes::predicate_mistake))]
+fn predicate<'a>(
+    alloc: Global,
+    columns: &[Column],
+    rest: &'a [Placed],
+) -> Result<(Filter, &'a [Placed]), Fault>
+    ensures read { Gives (λ x. (formula x.0, trees x.1.now)) result
+        (predicate_at (column_trees columns.now) (trees rest.now))
+        (predicate_mistake (column_trees columns.now) (trees rest.now)) }
+    ensures valid { IfOk result (λ x. AreValid (literals_of x.0)) }
+{
     if let Some((name, after)) = name_at(rest) {
         let column = expect_column(columns, name, tokens_left(rest))?;
         return condition(alloc, column, after);
     }
     let Some(after) = after_keyword(rest, Keyword::StartsWith) else {
-        return constant_at(alloc, rest);
+        return constant_at(rest);
     };
     prefix_call(alloc, columns, after)
 }
@@ -54,39 +72,31 @@ fn prefix_call<'a>(
     alloc: Global,
     columns: &[Column],
     rest: &'a [Placed],
-) -> Result<(Box<Filter>, &'a [Placed]), Fault>
-    ensures read { Gives (λ x. (formula x.0.value, trees x.1.now)) result
+) -> Result<(Filter, &'a [Placed]), Fault>
+    ensures read { Gives (λ x. (formula x.0, trees x.1.now)) result
         (prefix_call_at (column_trees columns.now) (trees rest.now))
         (prefix_call_mistake (column_trees columns.now) (trees rest.now)) }
-    ensures valid { IfOk result (λ x. AreValid (literals_of x.0.value)) }
+    ensures valid { IfOk result (λ x. AreValid (literals_of x.0)) }
 {
     let named = expect_opening(rest)?;
     let (name, rest) = expect_name(named)?;
     let column = expect_column(columns, name, tokens_left(named))?;
     let written = expect_comma(rest)?;
-    let (literal, rest) = literal_at(alloc, column.dtype, written)?;
+    let (literal, rest) = position_at(alloc, column.dtype, written)?;
     let rest = expect_closing(rest)?;
-    Ok((
-        prefix_of(alloc, column, literal, tokens_left(written))?,
-        rest,
-    ))
+    Ok((prefix_in(column, literal, tokens_left(written))?, rest))
 }
 
 /// Whether the column begins with the literal, where so many tokens are left.
-#[tactic(auto, unfolding(crate::specs::Reading::prefix_of))]
-fn prefix_of(
-    alloc: Global,
-    column: Found<'_>,
-    literal: Literal,
-    left: usize,
-) -> Result<Box<Filter>, Fault>
-    ensures read { Gives (λ f. formula f.value) result
-        (prefix_of (column.entry.place, type_of column.entry.dtype.now) (literal_tree literal))
+#[tactic(auto, unfolding(crate::specs::Reading::prefix_in))]
+fn prefix_in(column: Found<'_>, literal: Position, left: usize) -> Result<Filter, Fault>
+    ensures read { Gives formula result
+        (prefix_in (column.entry.place, type_of column.entry.dtype.now) (position_tree literal))
         (Fault.At left (prefix_cause (type_of column.entry.dtype.now))) }
-    ensures literals { IfOk result (λ f. literals_of f.value ≡ scalars_of literal) }
+    ensures literals { IfOk result (λ f. literals_of f ≡ scalars_of literal) }
 {
     if holds_strings(column.dtype) {
-        return prefix(alloc, column.place, literal, left);
+        return prefix(column.place, literal, left);
     }
     drop(literal);
     Err(Fault::At(left, Cause::TypesDiffer))
@@ -100,11 +110,11 @@ fn holds_strings(dtype: &DType) -> bool
 }
 
 /// `true`, `false` or `null`.
-#[tactic(auto, unfolding(crate::specs::Reading::constant_at), using(vortex_filter::proofs::LiteralSteps::valid))]
-fn constant_at(alloc: Global, rest: &[Placed]) -> Result<(Box<Filter>, &[Placed]), Fault>
-    ensures read { Gives (λ x. (formula x.0.value, trees x.1.now)) result
+#[tactic(auto, unfolding(crate::specs::Reading::constant_at), using(vortex_filter::proofs::Steps::shown, vortex_filter::proofs::LiteralSteps::valid))]
+fn constant_at(rest: &[Placed]) -> Result<(Filter, &[Placed]), Fault>
+    ensures read { Gives (λ x. (formula x.0, trees x.1.now)) result
         (constant_at (trees rest.now)) (expected (trees rest.now) Expected.Filter) }
-    ensures valid { IfOk result (λ x. AreValid (literals_of x.0.value)) }
+    ensures valid { IfOk result (λ x. AreValid (literals_of x.0)) }
 {
     let [first, after @ ..] = rest else {
         return Err(expected(rest, Expected::Filter));
@@ -115,5 +125,5 @@ fn constant_at(alloc: Global, rest: &[Placed]) -> Result<(Box<Filter>, &[Placed]
         Token::Keyword(Keyword::Null) => Truth::Unknown,
         _ => return Err(expected(rest, Expected::Filter)),
     };
-    Ok((constant(alloc, truth)?, after))
+    Ok((Filter::Constant(truth), after))
 }

@@ -1,14 +1,14 @@
 use Rattle.std.proofs.Common.{sym, ◌∙◌}
 use Rattle.vortex_dtype.specs.TypeOf.{type_of}
-use Rattle.vortex_cells.specs.Cells.{cell_of}
-use Rattle.vortex_filter.specs.Coercing.{coerced_cell}
-use Rattle.vortex_filter.specs.Formula.{prefix_test}
-use Rattle.vortex_filter.proofs.CoerceSteps.{kept_prefix, refused_prefix}
+use Rattle.vortex_filter.proofs.CoerceSteps.{prefix_never, prefix_stands, prefix_stops}
 use Rattle.vortex_filter.proofs.coerce.prefix_in.Goals as goal
 
-pub returns-in-Ok : goal.returns-in-Ok
-returns-in-Ok c = kept_prefix (type_of c.args.dtype.now) c.args.column c.args.prefix.now c.in-Ok.prefix (sym c.holds_strings.ensures ∙ c.if-holds_strings.true) c.in-Ok.ensures
+pub returns-in-Some : goal.returns-in-Some
+returns-in-Some c =
+    prefix_stands (type_of c.args.dtype.now) c.args.column c.args.prefix.now c.in-Ok.position c.in-Some.filter (sym c.holds_strings.ensures ∙ c.if-holds_strings.true) c.in-Ok.ensures c.in-Some.ensures.made c.in-Some.ensures.literals
+
+pub returns-in-None : goal.returns-in-None
+returns-in-None c = absurd (prefix_never (type_of c.args.dtype.now) c.args.column c.args.prefix.now c.in-Ok.position (sym c.holds_strings.ensures ∙ c.if-holds_strings.true) c.in-Ok.ensures c.in-None.ensures.made)
 
 pub returns-in-Err : goal.returns-in-Err
-returns-in-Err c =
-    refused_prefix (type_of c.args.dtype.now) c.args.column c.args.prefix.now c.in-Err.cause (prefix_test c.args.column (coerced_cell (type_of c.args.dtype.now) (cell_of c.args.prefix.now))) c.in-Err.ensures
+returns-in-Err c = prefix_stops (type_of c.args.dtype.now) c.args.column c.args.prefix.now c.in-Err.cause c.in-Err.ensures

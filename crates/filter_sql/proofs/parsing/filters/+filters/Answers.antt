@@ -1,5 +1,7 @@
 -- Each step of the code is a step of reading.
+use Rattle.std.proofs.Common.{ap, ◌∙◌}
 use Rattle.std.proofs.lemmas.Result.{err_from_is_err_and}
+use Rattle.vortex_filter.specs.Formula.{formula}
 use Rattle.filter_sql.specs.Tokens.{trees}
 use Rattle.filter_sql.specs.Columns.{column_trees}
 use Rattle.filter_sql.specs.Mistakes.{predicate_mistake}
@@ -26,7 +28,7 @@ disjunction-returns-in_err-right-clause-read t c =
     rw (p.1, p.2) (or_right_fails (predicate_at (column_trees c.args.columns.now)) (predicate_mistake (column_trees c.args.columns.now)) c.args.depth (trees c.args.rest.now) _ _ _ _ _ c.in_ok-left.ensures.read c.in-Some.ensures c.in_ok-depth.ensures c.in_err-right.ensures.read)
 
 pub disjunction-returns-clause-read : goal.disjunction-returns-clause-read
-disjunction-returns-clause-read t c = or_joined (predicate_at (column_trees c.args.columns.now)) (predicate_mistake (column_trees c.args.columns.now)) c.args.depth (trees c.args.rest.now) _ _ _ _ _ _ _ c.in_ok-left.ensures.read c.in-Some.ensures c.in_ok-depth.ensures c.in_ok-right.ensures.read c.in_ok-either.ensures.made
+disjunction-returns-clause-read t c = or_joined (predicate_at (column_trees c.args.columns.now)) (predicate_mistake (column_trees c.args.columns.now)) c.args.depth (trees c.args.rest.now) _ _ _ _ _ _ _ c.in_ok-left.ensures.read c.in-Some.ensures c.in_ok-depth.ensures c.in_ok-right.ensures.read (ap formula c.in_ok-boxed.ensures ∙ c.either.ensures.made)
 
 pub conjunction-returns-in_err-left-clause-read : goal.conjunction-returns-in_err-left-clause-read
 conjunction-returns-in_err-left-clause-read t c =
@@ -47,7 +49,7 @@ conjunction-returns-in_err-right-clause-read t c =
     rw (p.1, p.2) (and_right_fails (predicate_at (column_trees c.args.columns.now)) (predicate_mistake (column_trees c.args.columns.now)) c.args.depth (trees c.args.rest.now) _ _ _ _ _ c.in_ok-left.ensures.read c.in-Some.ensures c.in_ok-depth.ensures c.in_err-right.ensures.read)
 
 pub conjunction-returns-clause-read : goal.conjunction-returns-clause-read
-conjunction-returns-clause-read t c = and_joined (predicate_at (column_trees c.args.columns.now)) (predicate_mistake (column_trees c.args.columns.now)) c.args.depth (trees c.args.rest.now) _ _ _ _ _ _ _ c.in_ok-left.ensures.read c.in-Some.ensures c.in_ok-depth.ensures c.in_ok-right.ensures.read c.in_ok-both.ensures.made
+conjunction-returns-clause-read t c = and_joined (predicate_at (column_trees c.args.columns.now)) (predicate_mistake (column_trees c.args.columns.now)) c.args.depth (trees c.args.rest.now) _ _ _ _ _ _ _ c.in_ok-left.ensures.read c.in-Some.ensures c.in_ok-depth.ensures c.in_ok-right.ensures.read (ap formula c.in_ok-boxed.ensures ∙ c.both.ensures.made)
 
 pub operand-returns-in_err-depth-clause-read : goal.operand-returns-in_err-depth-clause-read
 operand-returns-in_err-depth-clause-read t c =
@@ -60,7 +62,7 @@ operand-returns-in_err-inner-clause-read t c =
     rw (p.1, p.2) (not_fails (predicate_at (column_trees c.args.columns.now)) (predicate_mistake (column_trees c.args.columns.now)) c.args.depth (trees c.args.rest.now) _ _ _ c.in-Some.ensures c.in_ok-depth.ensures c.in_err-inner.ensures.read)
 
 pub operand-returns-in-Some-clause-read : goal.operand-returns-in-Some-clause-read
-operand-returns-in-Some-clause-read t c = negated_is (predicate_at (column_trees c.args.columns.now)) (predicate_mistake (column_trees c.args.columns.now)) c.args.depth (trees c.args.rest.now) _ _ _ _ _ c.in-Some.ensures c.in_ok-depth.ensures c.in_ok-inner.ensures.read c.in_ok-negation.ensures.made
+operand-returns-in-Some-clause-read t c = negated_is (predicate_at (column_trees c.args.columns.now)) (predicate_mistake (column_trees c.args.columns.now)) c.args.depth (trees c.args.rest.now) _ _ _ _ _ c.in-Some.ensures c.in_ok-depth.ensures c.in_ok-inner.ensures.read (ap formula c.in_ok-boxed.ensures ∙ c.negation.ensures.made)
 
 pub operand-returns-in_err-depth-2-clause-read : goal.operand-returns-in_err-depth-2-clause-read
 operand-returns-in_err-depth-2-clause-read t c =
@@ -81,4 +83,4 @@ operand-returns-in-Some-after_opening-clause-read t c = group_is (predicate_at (
 pub operand-returns-clause-read : goal.operand-returns-clause-read
 operand-returns-clause-read t c =
     let pair = predicate_is (predicate_at (column_trees c.args.columns.now)) (predicate_mistake (column_trees c.args.columns.now)) c.args.depth (trees c.args.rest.now) c.in_default.ensures c.in_default-after_opening.ensures in
-    rw (pair.0, pair.1) c.predicate.ensures.read
+    rw (pair.0, pair.1) c.boxed_predicate.ensures.read

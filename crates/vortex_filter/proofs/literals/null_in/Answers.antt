@@ -3,7 +3,7 @@ use Rattle.std.proofs.Common.{subst, sym}
 use Rattle.vortex_dtype.specs.TypeOf.{type_of}
 use Rattle.vortex_dtype.specs.TypeTree.{IsNullable}
 use Rattle.vortex_value.proofs.MakerLaws.{takes_null}
-use Rattle.filter_sql.proofs.parsing.literals.null_literal.Goals as goal
+use Rattle.vortex_filter.proofs.literals.null_in.Goals as goal
 
 pub null-requires : goal.null-requires
-null-requires c = subst IsNullable (sym c.as_nullable.ensures) (takes_null (type_of c.in_ok-copy.copy))
+null-requires c = subst IsNullable (sym c.in-Ok.ensures) (takes_null (type_of c.args.dtype.now))
