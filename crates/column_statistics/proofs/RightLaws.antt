@@ -1,6 +1,5 @@
 -- What is written of columns, merged and read stays right.
-use Rattle.std.proofs.Common.{◌≡◌, ◌++◌, ◌∙◌, ℕ, List, sym, subst}
-use Rattle.arrow_columns.specs.declared.columns.Column.{Column}
+use Rattle.std.proofs.Common.{◌∙◌, ℕ, List, sym, subst}
 use Rattle.vortex_dtype.specs.TypeTree.{TypeTree}
 use Rattle.vortex_cells.specs.Cells.{Cell}
 use Rattle.statistics_bytes.specs.Encoding.{EncodingsTellStatistics}

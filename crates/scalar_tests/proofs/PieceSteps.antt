@@ -1,5 +1,5 @@
 -- Steps of the callers that write, merge and read the statistics of pieces of a column.
-use Rattle.std.proofs.Common.{◌≡◌, ◌≢◌, ◌++◌, ◌+◌, ◌∙◌, ◌<◌, ℕ, zero, suc, List, [], ◌∷◌, Bool, true, false, not, Contains, Option, Some, None, arith, ap, get_or, length, map, refl, slice_get, subst, sym}
+use Rattle.std.proofs.Common.{◌≡◌, ◌≢◌, ◌++◌, ◌+◌, ◌∙◌, ℕ, zero, suc, List, [], ◌∷◌, Bool, true, false, not, Contains, Some, arith, ap, get_or, map, refl, subst, sym}
 use Rattle.std.proofs.Math.ListN.{get_or-map}
 use Rattle.std.proofs.lemmas.List.{length-map}
 use Rattle.arrow_columns.specs.Kinds.{kind_at}
@@ -12,7 +12,7 @@ use Rattle.column_statistics.specs.Encodings.{IsColumnEncoding, IsEncodingAs, Is
 use Rattle.column_statistics.specs.Laws.{AreRightBytes, EncodingsStayRight}
 use Rattle.vortex_cells.specs.Cells.{Cell}
 use Rattle.vortex_dtype.specs.TypeTree.{TypeTree, null_type}
-use Rattle.vortex_filter.specs.Formula.{Formula, cell_at, truth}
+use Rattle.vortex_filter.specs.Formula.{Formula, truth}
 use Rattle.vortex_filter.specs.declared.truth.Truth.TheVariants.{True}
 use Rattle.vortex_statistics.specs.Statistics.{AreRight, Known}
 use Rattle.filter_pruning.specs.Pruning.{AreStatisticsOf, MatchesNoRow, column}

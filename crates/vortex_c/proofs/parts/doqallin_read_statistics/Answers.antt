@@ -1,4 +1,4 @@
-use Rattle.std.proofs.Common.{◌<◌, ◌≤◌, ◌⊎◌, arith, inl, inr, length, rules}
+use Rattle.std.proofs.Common.{inl, inr, rules}
 use Rattle.column_cells.specs.Types.{type_of_kind}
 use Rattle.vortex_statistics.specs.Statistics.{known}
 use Rattle.vortex_c.proofs.Lengths.{bounds_fit}
