@@ -7,8 +7,8 @@
  *
  * Link with -ldoqallin. One call, doqallin_call, is in a library of its own: link with -ldoqallin_call for it.
  *
- * A string is UTF-8. A call that can do other than succeed answers a status. What its comment does not name under a status
- * is not written then.
+ * A string is UTF-8. A call that can do other than succeed answers a status. If its comment names a field of `fault` or of
+ * `mistake` under a status, that is written then, and the field that is not named is 0. What it does not name is not written.
  *
  * What the caller owes, at each call:
  * - A pointer is not null and is aligned for its type, even if its length is 0.
@@ -21,7 +21,7 @@
  *
  * Stack: a call takes at most 6 kilobytes of it, or 12 of statistics, whatever it is given. That was measured, on x86-64; no
  * contract speaks of stack. doqallin_call says what it takes. Calls of filters take more for each level that nests, of
- * which `depth` is the greatest number: with 32 none ends a process on a thread of 128 kilobytes. */
+ * which `depth` says how many there may be: with 32 none ends a process on a thread of 256 kilobytes. */
 #ifndef DOQALLIN_H
 #define DOQALLIN_H
 #include <stdbool.h>
@@ -70,7 +70,7 @@ enum { DOQALLIN_BOOL = 8, DOQALLIN_UTF8, DOQALLIN_LARGE_UTF8, DOQALLIN_BINARY, D
 
 /* A column as the Arrow C data interface lays it out: rows offset to offset + length of its buffers. `validity` has a bit for
  * each row, 0 where it is null, or no byte if none is. `values` are the integers, bits, or the bytes of all rows. `offsets` are
- * of strings and bytes alone. A column without rows may have no bytes in a buffer, if its offset is 0.
+ * of strings and bytes alone. A column without rows may have any offset, and no bytes in a buffer.
  * Buffers may have any alignment. */
 struct doqallin_column {
     uint8_t kind;
@@ -94,7 +94,8 @@ struct doqallin_fault {
 /* Casts a column of integers to the type `to`, all rows or none. Takes no memory. If several statuses fit, the first of
  * these comes:
  * UNKNOWN_KIND: exactly if a code is not below 8: `to` with fault->column 1, and else column->kind with 0. fault->place is 0.
- * TOO_MANY_ROWS: exactly if column->offset + column->length is 2^64 or more. fault->column and fault->place are 0.
+ * TOO_MANY_ROWS: exactly if there is a row and column->offset + column->length is 2^64 or more. fault->column and fault->place
+ * are 0.
  * TOO_SHORT: exactly if a buffer is too short: fault->place is 0 for the validity, 1 for the values. fault->column is 0.
  * BUFFER_TOO_SMALL: exactly if the buffer has fewer bytes than column->length times the width of `to`. Here nothing is written.
  * NONE: exactly if that type lacks the number of a row that is not null: fault->place is the first. fault->column is 0.
@@ -158,7 +159,7 @@ struct doqallin_bound_lengths {
 
 /* The lower bound at n bytes of a column's least value, and the upper bound of its greatest one. Value k is the bytes from
  * offsets[k] to offsets[k + 1], so that m values have m + 1 offsets; the first offset may be above 0. Two buffers of
- * min(n, bytes_length) bytes suffice. Takes linear time, and no memory for each value.
+ * min(n, bytes_length) bytes suffice.
  * GIVEN: the bounds are in the first bytes of the buffers, as `lengths` says; the bytes after them are as they were.
  * NONE: exactly if there is no value (fewer than 2 offsets).
  * BUFFER_TOO_SMALL: a buffer has fewer bytes than its bound; `lengths` says how many each bound has.
@@ -178,8 +179,8 @@ uint32_t doqallin_column_bounds_text(const uint8_t *bytes, size_t bytes_length, 
 
 /* The keys of the rows of some columns (docs/KEYS.md): bytes that compare as the rows do, column by column. The key of row k is
  * the bytes of the buffer from offsets_buffer[k] to offsets_buffer[k + 1]. A column has a byte of options: 1 for greater values
- * first, 2 for nulls first, or the sum. Of several mistakes the first column's is told, if there are as many options as columns.
- * Then nothing of the buffers is written.
+ * first, 2 for nulls first, or the sum. If several statuses but GIVEN fit, the first of these comes: WRONG_LENGTH of the options,
+ * the mistake of the first column that has one, BUFFER_TOO_SMALL.
  * GIVEN: the keys have the first *count bytes of the buffer; those after it are as they were.
  * BUFFER_TOO_SMALL: *count, which is all that is written, is how many bytes the keys have: above buffer_length, or
  * offsets_buffer lacks one for each row and one more. A call without a buffer asks for it.
@@ -187,7 +188,7 @@ uint32_t doqallin_column_bounds_text(const uint8_t *bytes, size_t bytes_length, 
  * another number of rows than the first.
  * BAD_OPTIONS: the byte of fault->column is above 3.
  * UNKNOWN_KIND, TOO_MANY_ROWS, TOO_SHORT, BAD_OFFSETS, NOT_UTF8: fault->column cannot be read, for what is at fault->place.
- * NO_MEMORY: memory is asked for each column, and none for its rows. */
+ * NO_MEMORY: memory is asked for each column. */
 uint32_t doqallin_row_keys(const struct doqallin_column *columns, size_t column_count, const uint8_t *options,
                            size_t options_length, uint64_t *offsets_buffer, size_t offsets_buffer_length, uint8_t *buffer,
                            size_t buffer_length, size_t *count, struct doqallin_fault *fault);
@@ -220,12 +221,13 @@ uint32_t doqallin_column_of_row_keys(const uint8_t *kinds, size_t kinds_length, 
  * without a buffer asks for it.
  * UNKNOWN_KIND, TOO_MANY_ROWS, TOO_SHORT, BAD_OFFSETS, NOT_UTF8: the column cannot be read, for what is at fault->place.
  * fault->column is 0.
- * NO_MEMORY: memory is asked for the encoding, and for a least and a greatest value of more than 22 bytes; none for each row. */
+ * NO_MEMORY: memory is asked for the encoding, and for a least and a greatest value: it may come of each column that can be
+ * read, and of no other. */
 uint32_t doqallin_column_statistics(const struct doqallin_column *column, size_t max_length, uint8_t *buffer,
                                     size_t buffer_length, size_t *count, struct doqallin_fault *fault);
 
 /* The statistics of a piece of a column and then of another one, of the encodings of both. `kind` is that of the column. If
- * those of each piece are right, so are these, and pieces may be merged in any grouping. A buffer of both lengths suffices.
+ * those of each piece are right, so are these, and pieces may be merged in any grouping.
  * GIVEN, BUFFER_TOO_SMALL: as from doqallin_column_statistics.
  * UNKNOWN_KIND: exactly if `kind` is of no kind. fault->column and fault->place are 0.
  * BAD_BYTES: fault->column is 0 or 1, the first piece that is no encoding of statistics of the kind. fault->place is its first
@@ -250,10 +252,10 @@ struct doqallin_statistics_parts {
     bool upper_is_exact;
 };
 
-/* The statistics of a column of this kind that have this encoding. No value is below the lower bound, or above the upper one. A
- * bound that is an integer has its bytes in a buffer of the kind, the low one first. A bool is a byte, 0 or 1, and strings and
- * bytes are as they are. In bytes from anywhere a bound may be null: it is told as none, which says less. Two buffers of 8
- * bytes, or of bytes_length if that is more, suffice.
+/* The statistics of a column of this kind that have this encoding. If they are right for a column, no value of it is below the
+ * lower bound, or above the upper one. A bound that is an integer has its bytes in a buffer of the kind, the low one first. A bool
+ * is a byte, 0 or 1, and strings and bytes are as they are. In bytes from anywhere a bound may be null: it is told as none, which
+ * says less.
  * GIVEN: the bounds are in the first bytes of the buffers, as *parts says; the bytes after them are as they were.
  * BUFFER_TOO_SMALL: a buffer has fewer bytes than its bound; *parts says all the same, how many bytes each bound has too.
  * UNKNOWN_KIND: exactly if `kind` is of no kind. fault->column and fault->place are 0.
@@ -298,17 +300,17 @@ enum {
 };
 
 /* A filter in SQL's words (docs/FILTERS.md), over columns by name and kind, prepared to bytes in their stable encoding
- * (docs/FILTER_ENCODING.md). The calls below take these. At most `depth` connectives and parentheses may nest in the words, and
- * connectives in the encoding: 32 suffice for most. If several statuses but GIVEN fit, the first of these comes:
+ * (docs/FILTER_ENCODING.md). The calls below take these, at the same `depth`: so many connectives and parentheses may nest in
+ * the words. A filter of words that nest n deep nests at most 2 * n + 5 deep in the encoding, and the calls read so much. 32
+ * suffices for most. If several statuses but GIVEN fit, the first of these comes:
  * UNKNOWN_KIND, NOT_UTF8: of the columns the first that is of no kind, or has a name that is not UTF-8, is mistake->place.
- * NOT_UTF8: the words are not, and mistake->place is column_count.
+ * NOT_UTF8: the words are not, and mistake->place is column_count. These two come exactly so, however little memory there is.
  * BAD_FILTER: mistake->place is the byte of the words where something else had to come, or their length, and
- * mistake->expected says what. A filter whose encoding nests too deep has DOQALLIN_TOO_DEEP at 0: a test with a number that its
- * column's type lacks nests up to 3 deeper there.
+ * mistake->expected says what. If words can be read at this depth, so can their encoding.
  * BUFFER_TOO_SMALL: *count, which is all that is written, is how many bytes the encoding has: above buffer_length. A call
  * without a buffer asks for it.
  * GIVEN: the encoding has the first *count bytes of the buffer; those after it are as they were.
- * NO_MEMORY: may come in place of all but GIVEN and BUFFER_TOO_SMALL. */
+ * NO_MEMORY: may come in place of BAD_FILTER, BUFFER_TOO_SMALL and GIVEN. */
 uint32_t doqallin_prepare_filter(const uint8_t *words, size_t words_length, const struct doqallin_named_kind *columns,
                                  size_t column_count, size_t depth, uint8_t *buffer, size_t buffer_length, size_t *count,
                                  struct doqallin_mistake *mistake);
@@ -316,8 +318,8 @@ uint32_t doqallin_prepare_filter(const uint8_t *words, size_t words_length, cons
 /* What a prepared filter can be on the rows of zones, by their statistics: a byte of `outcomes` for each zone. It is 1 if the
  * filter can be false on a row, plus 2 if it can be unknown, plus 4 if it can be true. A piece is the statistics of one column
  * in one zone, in their stable encoding (docs/STATISTICS.md): piece k is the bytes from offsets[k] to offsets[k + 1]. Pieces stand
- * zone by zone, one for each column that the filter was prepared for. An empty piece leaves all open. `depth` is how many
- * connectives may nest in the filter: as many as it was prepared with suffice.
+ * zone by zone, one for each column that the filter was prepared for. An empty piece leaves all open. `depth` is that with
+ * which the filter was prepared, or more.
  * GIVEN: each zone has its byte. Under each other status the outcomes may have any bytes, and the first of these comes:
  * BAD_BYTES: the filter is no encoding that nests so deep at most. fault->column is offsets_length, and fault->place its first
  * byte that no such encoding has there, or its length if it ends too early.
@@ -330,9 +332,10 @@ uint32_t doqallin_filter_outcomes(const uint8_t *filter, size_t filter_length, c
                                   size_t statistics_length, const uint64_t *offsets, size_t offsets_length, size_t depth,
                                   uint8_t *outcomes, size_t outcomes_length, struct doqallin_fault *fault);
 
-/* Which rows match a prepared filter: a bit for each, 1 if the filter is true of it, from the least significant bit on. The
- * columns are those that it was prepared for, in their order; strings and bytes may have either width of offsets. `depth` is as
- * above. Whoever prepares a filter for the columns that it names alone need pass no others.
+/* Which of row_count rows match a prepared filter: a bit for each, 1 if the filter is true of it, from the least significant bit
+ * on. The columns are those that it was prepared for, in their order, and each has so many rows; strings and bytes may have
+ * either width of offsets. `depth` is as above. Whoever prepares a filter for the columns that it names alone need pass no
+ * others; one that names none is the same on each row.
  * GIVEN: the buffer begins with the bits of the rows. Those after them in their last byte are 0, and the bytes after it are as
  * they were. Of the others the first of these comes:
  * BAD_BYTES: the filter is no encoding that nests so deep at most. fault->column is column_count, and fault->place its first byte
@@ -340,12 +343,12 @@ uint32_t doqallin_filter_outcomes(const uint8_t *filter, size_t filter_length, c
  * WRONG_LENGTH: exactly if the columns are not as many as the filter's. fault->column is column_count.
  * UNKNOWN_KIND, TOO_MANY_ROWS, TOO_SHORT, BAD_OFFSETS, NOT_UTF8: fault->column cannot be read, for what is at fault->place.
  * UNKNOWN_KIND: fault->column is of another kind than the filter's, and fault->place is 1.
- * WRONG_LENGTH: fault->column has another number of rows than the first. Of the last three the first column decides.
- * BUFFER_TOO_SMALL: exactly if the buffer has fewer bytes than (rows + 7) / 8. Here nothing is written.
+ * WRONG_LENGTH: fault->column has another number of rows than row_count. Of the last three the first column decides.
+ * BUFFER_TOO_SMALL: exactly if the buffer has fewer bytes than a bit for each row takes. Here nothing is written.
  * NO_MEMORY: memory is asked for the filter, for each column, and for values of more than 22 bytes. The bits may then say
  * anything. */
 uint32_t doqallin_filter_mask(const uint8_t *filter, size_t filter_length, const struct doqallin_column *columns,
-                              size_t column_count, size_t depth, uint8_t *buffer, size_t buffer_length,
+                              size_t column_count, size_t row_count, size_t depth, uint8_t *buffer, size_t buffer_length,
                               struct doqallin_fault *fault);
 
 /* Nearly any call of the library, by a line of text. In the library doqallin_call.

@@ -43,7 +43,7 @@ int main(void) {
         printf("zone %d: %s\n", zone, outcomes[zone] & 4 ? "is read" : "is skipped");
         if (!(outcomes[zone] & 4)) continue;
         uint8_t mask;
-        need(doqallin_filter_mask(filter, filter_length, &zones[zone], 1, 32, &mask, 1, &fault));
+        need(doqallin_filter_mask(filter, filter_length, &zones[zone], 1, zones[zone].length, 32, &mask, 1, &fault));
         for (int row = 0; row < 3; row++)
             if (mask >> row & 1) printf("row %d: %u\n", row, fares[zone][row]);
     }

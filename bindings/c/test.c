@@ -89,6 +89,10 @@ static void column_casts(void) {
     CHECK(casts_to(column, DOQALLIN_U8, 2, DOQALLIN_GIVEN, 77, 78, 2) && !memcmp(buffer, "\5\0", 2));
     column.length = 0;
     CHECK(casts_to(column, DOQALLIN_U8, 0, DOQALLIN_GIVEN, 77, 78, 0));
+    // Without rows an offset means nothing, and neither do buffers.
+    column.offset = SIZE_MAX, column.values_length = 0;
+    CHECK(casts_to(column, DOQALLIN_U8, 0, DOQALLIN_GIVEN, 77, 78, 0));
+    column = rows;
     // Without a bitmap no row is null.
     column.length = 3, column.validity_length = 0;
     CHECK(casts_to(column, DOQALLIN_I8, BUFFER, DOQALLIN_GIVEN, 77, 78, 3) && !memcmp(buffer, "\5\xff\xfe", 3));
@@ -453,6 +457,7 @@ static const struct doqallin_named_kind schema[] = {{(const uint8_t *)"n", 1, DO
 static struct doqallin_mistake mistake;
 static uint8_t form[64];
 static size_t form_length;
+static const struct doqallin_column no_columns[1];
 
 static int at_mistake(size_t place, uint32_t expected) { return mistake.place == place && mistake.expected == expected; }
 
@@ -483,8 +488,7 @@ static void prepared_filters(void) {
     char deep[256 * 4 + 12];
     for (int i = 0; i < 256; i++) memcpy(deep + 4 * i, "not ", 4);
     memcpy(deep + 1024, "n < 99999", 10);
-    CHECK(prepare(deep, 1) == DOQALLIN_BAD_FILTER && at_mistake(0, DOQALLIN_TOO_DEEP));
-    CHECK(prepare(deep + 8, 1) == DOQALLIN_BUFFER_TOO_SMALL && count == 10 + 254 + 1 + 1 + 9 + 1);
+    CHECK(prepare(deep, 1) == DOQALLIN_BUFFER_TOO_SMALL && count == 10 + 256 + 1 + 1 + 9 + 1);
     memcpy(deep + 1024, "not true", 9);
     CHECK(prepare(deep, 1) == DOQALLIN_BAD_FILTER && at_mistake(1028, DOQALLIN_TOO_DEEP));
     CHECK(prepare("true", 0) == DOQALLIN_GIVEN && count == 10 && buffer[9] == 2 && is_kept(buffer, 10));
@@ -504,28 +508,79 @@ static void filter_rows(void) {
     CHECK(doqallin_prepare_filter(BYTES("n > 5 and s like 'a%'"), schema, 2, 256, form, sizeof form, &form_length, &mistake) == DOQALLIN_GIVEN);
     fault = (struct doqallin_fault){77, 78};
     fresh();
-    CHECK(doqallin_filter_mask(form, form_length, two, 2, 32, buffer, 1, &fault) == DOQALLIN_GIVEN && holds(buffer, 1, "\x08") && at_fault(77, 78));
-    CHECK(doqallin_filter_mask(form, form_length, two, 2, 32, other, 0, &fault) == DOQALLIN_BUFFER_TOO_SMALL && is_kept(other, 0) && at_fault(77, 78));
-    CHECK(doqallin_filter_mask(form, form_length, two, 2, 1, buffer, 1, &fault) == DOQALLIN_GIVEN && holds(buffer, 1, "\x08"));
-    CHECK(doqallin_filter_mask(form, form_length, two, 2, 0, other, 1, &fault) == DOQALLIN_BAD_BYTES && at_fault(2, 11));
-    CHECK(doqallin_filter_mask(form, form_length - 1, two, 2, 32, other, 1, &fault) == DOQALLIN_BAD_BYTES && at_fault(2, form_length - 1));
-    CHECK(doqallin_filter_mask(form, form_length, two, 1, 32, other, 1, &fault) == DOQALLIN_WRONG_LENGTH && at_fault(1, 0));
+    CHECK(doqallin_filter_mask(form, form_length, two, 2, 4, 32, buffer, 1, &fault) == DOQALLIN_GIVEN && holds(buffer, 1, "\x08") && at_fault(77, 78));
+    CHECK(doqallin_filter_mask(form, form_length, two, 2, 4, 32, other, 0, &fault) == DOQALLIN_BUFFER_TOO_SMALL && is_kept(other, 0) && at_fault(77, 78));
+    CHECK(doqallin_filter_mask(form, form_length, two, 2, 4, 1, buffer, 1, &fault) == DOQALLIN_GIVEN && holds(buffer, 1, "\x08"));
+    CHECK(doqallin_filter_mask(form, form_length - 1, two, 2, 4, 32, other, 1, &fault) == DOQALLIN_BAD_BYTES && at_fault(2, form_length - 1));
+    CHECK(doqallin_filter_mask(form, form_length, two, 1, 4, 32, other, 1, &fault) == DOQALLIN_WRONG_LENGTH && at_fault(1, 0));
     two[0].kind = DOQALLIN_U16;
-    CHECK(doqallin_filter_mask(form, form_length, two, 2, 32, other, 1, &fault) == DOQALLIN_UNKNOWN_KIND && at_fault(0, 1));
+    CHECK(doqallin_filter_mask(form, form_length, two, 2, 4, 32, other, 1, &fault) == DOQALLIN_UNKNOWN_KIND && at_fault(0, 1));
     two[0].kind = 14;
-    CHECK(doqallin_filter_mask(form, form_length, two, 2, 32, other, 1, &fault) == DOQALLIN_UNKNOWN_KIND && at_fault(0, 0));
+    CHECK(doqallin_filter_mask(form, form_length, two, 2, 4, 32, other, 1, &fault) == DOQALLIN_UNKNOWN_KIND && at_fault(0, 0));
     two[0].kind = DOQALLIN_I16;
+    CHECK(doqallin_filter_mask(form, form_length, two, 2, 5, 32, other, 1, &fault) == DOQALLIN_WRONG_LENGTH && at_fault(0, 0));
     two[1].length = 3;
-    CHECK(doqallin_filter_mask(form, form_length, two, 2, 32, other, 1, &fault) == DOQALLIN_WRONG_LENGTH && at_fault(1, 0));
+    CHECK(doqallin_filter_mask(form, form_length, two, 2, 4, 32, other, 1, &fault) == DOQALLIN_WRONG_LENGTH && at_fault(1, 0));
     two[1].offset = 2;
-    CHECK(doqallin_filter_mask(form, form_length, two, 2, 32, other, 1, &fault) == DOQALLIN_TOO_SHORT && at_fault(1, 2));
+    CHECK(doqallin_filter_mask(form, form_length, two, 2, 4, 32, other, 1, &fault) == DOQALLIN_TOO_SHORT && at_fault(1, 2));
     CHECK(is_kept(other, 0));
     // The rows from the third on, of which there are two.
     two[0].offset = two[1].offset = 2;
     two[0].length = two[1].length = 2;
-    CHECK(doqallin_filter_mask(form, form_length, two, 2, 32, buffer, 1, &fault) == DOQALLIN_GIVEN && holds(buffer, 1, "\x02"));
+    CHECK(doqallin_filter_mask(form, form_length, two, 2, 2, 32, buffer, 1, &fault) == DOQALLIN_GIVEN && holds(buffer, 1, "\x02"));
     two[0].length = two[1].length = 0;
-    CHECK(doqallin_filter_mask(form, form_length, two, 2, 32, other, 0, &fault) == DOQALLIN_GIVEN);
+    CHECK(doqallin_filter_mask(form, form_length, two, 2, 0, 32, other, 0, &fault) == DOQALLIN_GIVEN);
+}
+
+// Of no columns the caller says how many rows there are. Of words that nest n deep an encoding may nest 2 * n + 5 deep.
+static void filter_of_no_columns(void) {
+    CHECK(doqallin_prepare_filter(BYTES("true"), schema, 0, 0, form, sizeof form, &form_length, &mistake) == DOQALLIN_GIVEN);
+    fresh();
+    CHECK(doqallin_filter_mask(form, form_length, no_columns, 0, 10, 0, buffer, 2, &fault) == DOQALLIN_GIVEN && holds(buffer, 2, "\xff\x03"));
+    CHECK(doqallin_filter_mask(form, form_length, no_columns, 0, 0, 0, other, 0, &fault) == DOQALLIN_GIVEN && is_kept(other, 0));
+    CHECK(doqallin_filter_mask(form, form_length, no_columns, 0, 17, 0, other, 2, &fault) == DOQALLIN_BUFFER_TOO_SMALL && is_kept(other, 0));
+    CHECK(doqallin_filter_mask(form, form_length, no_columns, 0, SIZE_MAX, 0, other, 2, &fault) == DOQALLIN_BUFFER_TOO_SMALL && is_kept(other, 0));
+    CHECK(doqallin_prepare_filter(BYTES("not not not not not not false"), schema, 0, 6, form, sizeof form, &form_length, &mistake) == DOQALLIN_GIVEN);
+    fresh();
+    CHECK(doqallin_filter_mask(form, form_length, no_columns, 0, 3, 1, buffer, 1, &fault) == DOQALLIN_GIVEN && !buffer[0] && is_kept(buffer, 1));
+    CHECK(doqallin_filter_mask(form, form_length, no_columns, 0, 3, 0, other, 1, &fault) == DOQALLIN_BAD_BYTES && at_fault(0, 14));
+    static const uint64_t starts[] = {0};
+    CHECK(doqallin_filter_outcomes(form, form_length, buffer, 0, starts, 1, 0, other, 1, &fault) == DOQALLIN_BAD_BYTES && at_fault(1, 14));
+    CHECK(doqallin_filter_outcomes(form, form_length, buffer, 0, starts, 1, 1, buffer, 1, &fault) == DOQALLIN_GIVEN && buffer[0] == 1);
+    CHECK(is_kept(other, 0));
+}
+
+// A test that nests none in the words may nest 4 in the encoding.
+static void filters_that_nest(void) {
+    static const char *const parts[] = {"n = 1", "n is not null", "n not in (1)", "n not between -99999 and 99999"};
+    static uint8_t encoding[4096];
+    for (size_t part = 0; part < sizeof parts / sizeof *parts; part++) {
+        char words[2048] = "";
+        for (int i = 0; i < 33; i++) strcat(strcat(words, i ? " and " : ""), parts[part]);
+        size_t length;
+        CHECK(doqallin_prepare_filter((const uint8_t *)words, strlen(words), schema, 1, 31, encoding, sizeof encoding, &length, &mistake) == DOQALLIN_BAD_FILTER);
+        CHECK(mistake.expected == DOQALLIN_TOO_DEEP && mistake.place > 0);
+        CHECK(doqallin_prepare_filter((const uint8_t *)words, strlen(words), schema, 1, 32, encoding, sizeof encoding, &length, &mistake) == DOQALLIN_GIVEN);
+        static const uint8_t two[] = {2, 0}, none[] = {0};
+        struct doqallin_column n = {DOQALLIN_I16, none, 0, two, 2, none, 0, 0, 1};
+        CHECK(doqallin_filter_mask(encoding, length, &n, 1, 1, 32, buffer, 1, &fault) == DOQALLIN_GIVEN && buffer[0] == (part == 1 || part == 2));
+        static const uint64_t starts[] = {0, 0};
+        CHECK(doqallin_filter_outcomes(encoding, length, buffer, 0, starts, 2, 32, buffer, 1, &fault) == DOQALLIN_GIVEN && buffer[0] & 1 << (part == 1 || part == 2 ? 2 : 0));
+    }
+    // Here each level of the words is two of the encoding, and the first is seven: no more can be.
+    char words[2048] = "not n not between -99999 and 99999 and n = 1 or n = 1", deeper[2048];
+    for (size_t level = 1; level <= 32; level++) {
+        size_t length;
+        CHECK(doqallin_prepare_filter((const uint8_t *)words, strlen(words), schema, 1, level - 1, encoding, sizeof encoding, &length, &mistake) == DOQALLIN_BAD_FILTER);
+        CHECK(mistake.expected == DOQALLIN_TOO_DEEP && mistake.place < strlen(words));
+        CHECK(doqallin_prepare_filter((const uint8_t *)words, strlen(words), schema, 1, level, encoding, sizeof encoding, &length, &mistake) == DOQALLIN_GIVEN);
+        static const uint8_t two[] = {2, 0}, none[] = {0};
+        struct doqallin_column n = {DOQALLIN_I16, none, 0, two, 2, none, 0, 0, 1};
+        CHECK(doqallin_filter_mask(encoding, length, &n, 1, 1, level, buffer, 1, &fault) == DOQALLIN_GIVEN && !buffer[0]);
+        CHECK(doqallin_filter_mask(encoding, length, &n, 1, 1, level - 1, buffer, 1, &fault) == DOQALLIN_BAD_BYTES && at_fault(1, fault.place) && fault.place < length);
+        sprintf(deeper, "(%s) and n = 1 or n = 1", words);
+        strcpy(words, deeper);
+    }
 }
 
 static void filter_zones(void) {
@@ -544,7 +599,7 @@ static void filter_zones(void) {
     CHECK(doqallin_filter_outcomes(form, form_length, known, 62, starts, 5, 32, buffer, 2, &fault) == DOQALLIN_GIVEN && holds(buffer, 2, "\7\4") && at_fault(77, 78));
     CHECK(doqallin_filter_outcomes(form, form_length, known, 62, starts, 3, 32, buffer, 1, &fault) == DOQALLIN_GIVEN && buffer[0] == 7);
     CHECK(doqallin_filter_outcomes(form, form_length, known, 62, starts, 1, 32, buffer, 0, &fault) == DOQALLIN_GIVEN);
-    CHECK(doqallin_filter_outcomes(form, form_length, known, 62, starts, 5, 0, other, 2, &fault) == DOQALLIN_BAD_BYTES && at_fault(5, 11));
+    CHECK(doqallin_filter_outcomes(form, form_length, known, 62, starts, 5, 0, buffer, 2, &fault) == DOQALLIN_GIVEN);
     CHECK(doqallin_filter_outcomes(form, form_length - 1, known, 62, starts, 5, 32, buffer, 2, &fault) == DOQALLIN_BAD_BYTES && at_fault(5, form_length - 1));
     CHECK(doqallin_filter_outcomes(form, form_length, known, 62, starts, 4, 32, buffer, 2, &fault) == DOQALLIN_WRONG_LENGTH && at_fault(4, 0));
     CHECK(doqallin_filter_outcomes(form, form_length, known, 62, starts, 0, 32, buffer, 0, &fault) == DOQALLIN_WRONG_LENGTH && at_fault(0, 0));
@@ -602,7 +657,7 @@ static uint32_t take_memory(int which) {
     case 7: return doqallin_merge_statistics(DOQALLIN_I32, three, 22, three, 22, buffer, BUFFER, &count, &fault);
     case 8: return doqallin_read_statistics(DOQALLIN_UTF8, lowest, sizeof lowest, buffer, BUFFER, other, BUFFER, &parts, &fault);
     case 9: return doqallin_prepare_filter(BYTES("b = true"), flags, 1, 256, buffer, BUFFER, &count, &mistake);
-    case 10: return doqallin_filter_mask(is_true, sizeof is_true, &bools, 1, 32, buffer, 1, &fault);
+    case 10: return doqallin_filter_mask(is_true, sizeof is_true, &bools, 1, 1, 32, buffer, 1, &fault);
     case 11: return doqallin_filter_outcomes(is_true, sizeof is_true, buffer, 0, offsets_of_none, 2, 32, buffer, 1, &fault);
     case 12: return doqallin_column_of_row_keys(BYTES("\x09"), BYTES("\2"), ends_of_key, 2, BYTES("\x15" LONG "\0"), 0, other, BUFFER, buffer, BUFFER, starts, 3, &count, &fault);
     default: exit(2);
@@ -662,6 +717,8 @@ int main(int argc, char **argv) {
     read_statistics();
     prepared_filters();
     filter_rows();
+    filter_of_no_columns();
+    filters_that_nest();
     filter_zones();
     calls();
     printf("%d passed, %d failed\n", passed, failed);

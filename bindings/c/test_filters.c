@@ -69,36 +69,37 @@ static void prepare(const uint8_t *kinds) {
 static int type_of(uint8_t kind) { return is_text(kind) ? DOQALLIN_UTF8 : kind == DOQALLIN_LARGE_BINARY ? DOQALLIN_BINARY : kind; }
 
 // What a mask of two columns answers, with where the mistake is.
-static uint32_t plain_fault(const struct doqallin_column *two, const uint8_t *kinds, struct doqallin_fault *where) {
+static uint32_t plain_fault(const struct doqallin_column *two, const uint8_t *kinds, size_t rows, struct doqallin_fault *where) {
     for (where->column = 0; where->column < 2; where->column++) {
         uint32_t status = plain_check(&two[where->column], &where->place);
         if (status) return status;
         where->place = 1;
         if (type_of(two[where->column].kind) != type_of(kinds[where->column])) return DOQALLIN_UNKNOWN_KIND;
         where->place = 0;
-        if (two[where->column].length != two[0].length) return DOQALLIN_WRONG_LENGTH;
+        if (two[where->column].length != rows) return DOQALLIN_WRONG_LENGTH;
     }
     return DOQALLIN_GIVEN;
 }
 
 static uint32_t of_mask(const struct doqallin_column *two, const uint8_t *kinds) {
     struct doqallin_fault where;
-    uint32_t status = plain_fault(two, kinds, &where);
+    size_t rows = below(20) ? two[0].length : below(9);
+    uint32_t status = plain_fault(two, kinds, rows, &where);
     const uint8_t *filter = exactly(6, form, form_length);
     fresh();
     if (status) {
-        CHECK(doqallin_filter_mask(filter, form_length, two, 2, 256, buffer, BUFFER, &fault) == status);
+        CHECK(doqallin_filter_mask(filter, form_length, two, 2, rows, 256, buffer, BUFFER, &fault) == status);
         CHECK(fault.column == where.column && fault.place == where.place && is_kept(0, 0));
         return status;
     }
-    size_t rows = two[0].length, length = (rows + 7) / 8;
+    size_t length = (rows + 7) / 8;
     memset(wanted, 0, length);
     for (size_t row = 0; row < rows; row++) wanted[row / 8] |= (truth_at(two, row) == YES) << row % 8;
-    CHECK(doqallin_filter_mask(filter, form_length, two, 2, 256, buffer, length, &fault) == DOQALLIN_GIVEN);
+    CHECK(doqallin_filter_mask(filter, form_length, two, 2, rows, 256, buffer, length, &fault) == DOQALLIN_GIVEN);
     CHECK(!memcmp(buffer, wanted, length) && is_kept(length, 0) && fault.column == 77);
     fresh();
-    if (length) CHECK(doqallin_filter_mask(filter, form_length, two, 2, 256, buffer, length - 1, &fault) == DOQALLIN_BUFFER_TOO_SMALL && is_kept(0, 0));
-    CHECK(doqallin_filter_mask(filter, form_length, two, 1, 256, buffer, BUFFER, &fault) == DOQALLIN_WRONG_LENGTH && fault.column == 1 && is_kept(0, 0));
+    if (length) CHECK(doqallin_filter_mask(filter, form_length, two, 2, rows, 256, buffer, length - 1, &fault) == DOQALLIN_BUFFER_TOO_SMALL && is_kept(0, 0));
+    CHECK(doqallin_filter_mask(filter, form_length, two, 1, rows, 256, buffer, BUFFER, &fault) == DOQALLIN_WRONG_LENGTH && fault.column == 1 && is_kept(0, 0));
     return status;
 }
 
@@ -133,7 +134,7 @@ static uint32_t of_any_bytes(const struct doqallin_column *two) {
     const uint8_t *filter = exactly(6, form, length), *bytes = exactly(7, pieces, end);
     size_t many = below(4);
     fresh();
-    uint32_t status = doqallin_filter_mask(filter, length, two, 2, 256, buffer, BUFFER, &fault);
+    uint32_t status = doqallin_filter_mask(filter, length, two, 2, two[0].length, 256, buffer, BUFFER, &fault);
     CHECK(!status || status == DOQALLIN_BAD_BYTES || status == DOQALLIN_WRONG_LENGTH || status == DOQALLIN_UNKNOWN_KIND);
     CHECK(status != DOQALLIN_BAD_BYTES || (fault.column == 2 && fault.place <= length));
     uint32_t told = doqallin_filter_outcomes(filter, length, bytes, end, offsets, below(8) ? 5 : below(6), 256, zones, below(8) ? 2 : many % 3, &fault);

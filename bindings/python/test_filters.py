@@ -142,6 +142,23 @@ class OfFilters(Released):
             self.assertEqual(error.exception.place, 4 * (depth + 1))
         with self.assertRaises(doqallin.BadFilter):
             Filter("not " * 33 + "n = 1", {"n": "i64"})
+        # A test nests no level, whichever it is.
+        for part, is_true in [("n = 1", True), ("n is not null", True), ("n not in (1)", False), ("n not between -1 and 300", False)]:
+            wanted = Filter(" and ".join([part] * 33), {"n": "u8"})
+            self.assertEqual(wanted.mask({"n": [1, None]}).to_list(), [is_true, False], part)
+            self.assertEqual(wanted.may_match({"n": statistics([1], of="u8")}), is_true, part)
+
+    def test_no_columns(self) -> None:
+        source = random.Random(17)
+        parts = [struct_of(source, (layout(source, "l", values, "a"),), len(values)) for values in ([1, 5], [], [None, 7])]
+        for text, truth in [("true", True), ("false or null", False)]:
+            wanted = Filter(text, {})
+            self.assertEqual(wanted.mask({"a": range(10), "b": ["x"] * 10}).to_list(), [truth] * 10)
+            self.assertEqual(wanted.mask({"a": column(list(range(10)))}).to_list(), [truth] * 10)
+            self.assertEqual(wanted.mask({}).to_list(), [])
+            self.assertEqual(wanted.mask([4, 3, None]).to_list(), [truth] * 3)
+            self.assertEqual(wanted.mask(Chunks(parts[0], parts)).to_list(), [truth] * 4)
+            self.assertEqual(Filter(text, {"a": "i64"}).mask({"a": range(10)}).to_list(), [truth] * 10)
 
 
 if __name__ == "__main__":

@@ -8,7 +8,7 @@ import ctypes
 import enum
 import re
 from array import array
-from collections.abc import Iterable, Mapping, Sequence
+from collections.abc import Iterable, Mapping, Sequence, Sized
 from contextlib import closing
 from ctypes import byref, c_size_t
 from itertools import accumulate, compress
@@ -17,7 +17,7 @@ from typing import Any, overload
 from . import _library
 from ._columns import BOOL, KINDS, Column, buffer_of, code_of, joined
 from ._errors import BadFilter, NoColumn, at
-from ._library import BAD_BYTES, BAD_FILTER, BUFFER_TOO_SMALL, MAX_SIZE, Fault, Mistake, NamedKind, check_column, encoded, new_buffer, size
+from ._library import BAD_BYTES, BAD_FILTER, BUFFER_TOO_SMALL, Fault, Mistake, NamedKind, check_column, encoded, new_buffer, size
 from ._reading import column, each_batch, fitted, raw_columns
 from ._statistics import Statistics
 from ._types import DType
@@ -102,6 +102,13 @@ def _places(mask: bytes) -> list[int]:
     return [found.start() for found in re.finditer(b"\x01", mask)]
 
 
+def _row_count(columns: Iterable[Any]) -> int:
+    """How many rows columns have, by the first of them."""
+    for one in columns:
+        return len(one) if isinstance(one, Sized) else len(column(one))
+    return 0
+
+
 class Filter:
     """A filter of rows, as SQL's WHERE has it: it is true, false or unknown of a row, and a row matches only if it is true.
 
@@ -158,7 +165,7 @@ class Filter:
         data, offsets = zones._pieces(self._names)
         outcomes, fault = new_buffer(len(zones)), Fault()
         status = _library.filter_outcomes(
-            prepared, len(prepared), data, len(data), buffer_of(offsets).address, len(offsets), MAX_SIZE, outcomes, len(zones), byref(fault)
+            prepared, len(prepared), data, len(data), buffer_of(offsets).address, len(offsets), size(self.depth), outcomes, len(zones), byref(fault)
         )
         if status == BAD_BYTES and self._names:
             zone, place = divmod(fault.column, len(self._names))
@@ -192,27 +199,32 @@ class Filter:
     def mask(self, table: Any) -> Column:
         """A column of bools: whether each row matches. It takes an Arrow table or record batch, or a dict of columns by name.
 
-        Raises NoColumn if a column of the schema is not there, and KindsDiffer if one is of another kind.
+        There is a bit for each row of the table, also if the schema has no columns. Raises NoColumn if a column of the schema is
+        not there, and KindsDiffer if one is of another kind.
         """
         if isinstance(table, Mapping):
-            return self._of_batch({name: column(table[name], of) for name, of in self.schema.items() if name in table})
+            return self._of_batch({name: column(table[name], of) for name, of in self.schema.items() if name in table}, table.values())
         masks = []
         with closing(each_batch(table)) as each:
             for batch in each:
-                masks.append(self._of_batch(batch if isinstance(batch, dict) else {name: batch for name in self._names[:1]}))
+                if isinstance(batch, dict):
+                    masks.append(self._of_batch(batch, batch.values()))
+                else:
+                    masks.append(self._of_batch({name: batch for name in self._names[:1]}, [batch]))
                 del batch
         return joined(masks)
 
-    def _of_batch(self, batch: Mapping[str, Column]) -> Column:
+    def _of_batch(self, batch: Mapping[str, Column], all_columns: Iterable[Any]) -> Column:
+        """The mask of a batch, of whose columns these are all."""
         for name in self._names:
             if name not in batch:
                 raise NoColumn(f"there is no column {name!r}")
         each = [fitted(batch[name], of) for name, of in self.schema.items()]
         prepared, raws, fault = self._bytes(tuple(one._code for one in each)), raw_columns(each), Fault()
-        rows = len(each[0]) if each else 0
+        rows = len(each[0]) if each else _row_count(all_columns)
         length = (rows + 7) // 8
         buffer = new_buffer(length)
-        status = _library.filter_mask(prepared, len(prepared), raws, len(each), MAX_SIZE, buffer, length, byref(fault))
+        status = _library.filter_mask(prepared, len(prepared), raws, len(each), rows, size(self.depth), buffer, length, byref(fault))
         check_column(status, fault, f"column {self._names[fault.column]!r}: " if fault.column < len(self._names) else "")
         return Column._of(BOOL, rows, buffer_of(bytes(buffer)))
 

@@ -2,8 +2,9 @@
 # SPDX-FileCopyrightText: Copyright the Vortex contributors; ported to Rattle and changed
 """The proved libraries, and their exports as C sees them.
 
-The declarations are written by hand after crates/vortex_c and crates/vortex_call: nothing compares them with those crates. A
-slice crosses as a pointer and then a length, and a `bytes` lends its pointer, which is never null.
+The declarations are written by hand after crates/vortex_c and crates/vortex_call. `tests/definitions` compares the statuses with
+those crates, and the suites the rest. A slice crosses as a pointer and then a length, and a `bytes` lends its pointer, which is
+never null.
 """
 
 from __future__ import annotations
@@ -144,7 +145,7 @@ read_statistics = _declare("read_statistics", c_uint32, c_uint8, *_BYTES, *_SPAC
 cast_front = _declare("cast_front", c_uint32, _OUT, c_uint8, *_SPACE, _OUT)
 prepare_filter = _declare("prepare_filter", c_uint32, *_BYTES, *_SPACE, c_size_t, *_SPACE, _OUT, _OUT)
 filter_outcomes = _declare("filter_outcomes", c_uint32, *_BYTES, *_BYTES, *_SPACE, c_size_t, *_SPACE, _OUT)
-filter_mask = _declare("filter_mask", c_uint32, *_BYTES, *_SPACE, c_size_t, *_SPACE, _OUT)
+filter_mask = _declare("filter_mask", c_uint32, *_BYTES, *_SPACE, c_size_t, c_size_t, *_SPACE, _OUT)
 row_keys = _declare("row_keys", c_uint32, *_SPACE, *_BYTES, *_SPACE, *_SPACE, _OUT, _OUT)
 column_of_row_keys = _declare(
     "column_of_row_keys", c_uint32, *_BYTES, *_BYTES, *_SPACE, *_SPACE, c_size_t, *_SPACE, *_SPACE, *_SPACE, _OUT, _OUT

@@ -191,7 +191,7 @@ impl Item {
 /// A column, as Arrow lays it out. It borrows its memory, and nothing is copied on the way in.
 ///
 /// Nothing is asked of the buffers: a call tells of one that is too short, of offsets that go down, and of strings that are no
-/// UTF-8. Values under a null are never looked at.
+/// UTF-8. No answer depends on the values under nulls.
 ///
 /// ```
 /// use doqallin::{Column, SortOptions, cast_column, row_keys};

@@ -9,7 +9,7 @@ use std::fmt;
 /// How deep a filter may nest, if nobody says.
 const DEPTH: usize = 32;
 
-/// What `parse` prepared nests no deeper than it was told, so it is read whole.
+/// What `parse` prepared is read at the depth that it was told, and at any greater one.
 const WHOLE: usize = usize::MAX;
 
 /// Why there is no filter, or why it cannot be asked.
@@ -100,7 +100,7 @@ impl Outcomes {
 /// let (cities, fares) = (Column::utf8(b"osloskien", &[0, 4, 9]), Column::integers(&[12i64, 12]));
 /// let zone = [Some(&Statistics::of(&cities, 16)?), Some(&Statistics::of(&fares, 16)?)];
 /// assert!(wanted.outcomes(&zone)?.may_match());
-/// assert_eq!(wanted.mask(&[cities, fares])?, [true, false]);
+/// assert_eq!(wanted.mask(&[cities, fares], 2)?, [true, false]);
 /// # Ok::<(), Box<dyn std::error::Error>>(())
 /// ```
 #[derive(Clone, Debug, PartialEq, Eq)]
@@ -228,16 +228,16 @@ impl Filter {
             .collect())
     }
 
-    /// Whether each row matches. The columns are those of the filter, in their order.
-    pub fn mask(&self, columns: &[Column<'_>]) -> Result<Vec<bool>, FilterError> {
-        // A column that says more rows than its buffers have is refused, whatever the buffer.
-        let rows = columns
+    /// Whether each of so many rows matches. The columns are those of the filter, in their order, and each has so many rows. If
+    /// it was prepared for none, each row has the same answer.
+    pub fn mask(&self, columns: &[Column<'_>], rows: usize) -> Result<Vec<bool>, FilterError> {
+        // A column that has other rows, or says more than its buffers have, is refused, whatever the buffer.
+        let least = columns
             .iter()
             .map(Column::rows_in_memory)
-            .min()
-            .unwrap_or(0);
+            .fold(rows, usize::min);
         let raws = RawColumns::of(columns);
-        let mut buffer = vec![0u8; rows.div_ceil(8)];
+        let mut buffer = vec![0u8; least.div_ceil(8)];
         let mut fault = raw::Fault::default();
         // SAFETY: each pointer and length are of one slice; the buffer and `fault` are places of their own.
         let status = unsafe {
@@ -246,6 +246,7 @@ impl Filter {
                 self.bytes.len(),
                 raws.columns.as_ptr(),
                 raws.columns.len(),
+                rows,
                 WHOLE,
                 buffer.as_mut_ptr(),
                 buffer.len(),

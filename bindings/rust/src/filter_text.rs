@@ -63,7 +63,7 @@ fn named(text: &str) -> Option<(String, Kind)> {
 /// let wanted: doqallin::Filter = "fare >= 10 and \"the city\" = 'Oslo'; fare u32, \"the city\" utf8?".parse()?;
 /// let fares = doqallin::Column::integers(&[12u32, 3]);
 /// let cities = doqallin::Column::utf8(b"OsloOslo", &[0, 4, 8]);
-/// assert_eq!(wanted.mask(&[fares, cities])?, [true, false]);
+/// assert_eq!(wanted.mask(&[fares, cities], 2)?, [true, false]);
 /// # Ok::<(), doqallin::FilterError>(())
 /// ```
 impl FromStr for Filter {

@@ -14,7 +14,7 @@
 //! let known = [Statistics::of(&zones[0], 16)?, Statistics::of(&zones[1], 16)?];
 //! let wanted = Filter::parse("fare > 6", &[("fare", Kind::I64)])?;
 //! assert_eq!(wanted.prune([&[Some(&known[0])][..], &[Some(&known[1])]])?, [1]);
-//! assert_eq!(wanted.mask(&[zones[1]])?, [true, true]);
+//! assert_eq!(wanted.mask(&[zones[1]], 2)?, [true, true]);
 //!
 //! let (cities, fares) = (Column::utf8(b"osloskien", &[0, 4, 9]), Column::integers(&[12i64, 7]));
 //! let keys = row_keys(&[cities, fares], &[SortOptions::default(); 2])?;

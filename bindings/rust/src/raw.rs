@@ -1,7 +1,7 @@
 // SPDX-License-Identifier: Apache-2.0
 // SPDX-FileCopyrightText: Copyright the Vortex contributors; ported to Rattle and changed
-//! The exports of crates/vortex_c and crates/vortex_call as C sees them, written by hand: nothing compares them with those
-//! crates.
+//! The exports of crates/vortex_c and crates/vortex_call as C sees them, written by hand. `tests/definitions` compares the
+//! statuses with those crates, and the suites the rest.
 //!
 //! A slice crosses as a pointer and then a length. No call keeps a pointer, and none asks more than the header
 //! bindings/c/doqallin.h lists.
@@ -258,6 +258,7 @@ unsafe extern "C" {
         filter_length: usize,
         columns: *const ArrowColumn,
         column_count: usize,
+        row_count: usize,
         depth: usize,
         buffer: *mut u8,
         buffer_length: usize,

@@ -582,7 +582,7 @@ fn columns_that_differ_in_length() {
 
 /// What the test of a column says: by its buffers alone.
 fn plain_fault(of: &Layout, offset: usize, length: usize) -> Option<ColumnFault> {
-    if of.kind == Kind::Null {
+    if of.kind == Kind::Null || length == 0 {
         return None;
     }
     let Some(end) = offset.checked_add(length) else {
@@ -602,7 +602,7 @@ fn plain_fault(of: &Layout, offset: usize, length: usize) -> Option<ColumnFault>
         return is_short(&of.values, 8, 1).then_some(ColumnFault::TooShort(Buffer::Values));
     }
     let size = offset_width(of.kind);
-    if length > 0 && (of.offsets.len() as u128) < (end as u128 + 1) * size as u128 {
+    if (of.offsets.len() as u128) < (end as u128 + 1) * size as u128 {
         return Some(ColumnFault::TooShort(Buffer::Offsets));
     }
     let at = |place: usize| {
@@ -660,7 +660,7 @@ fn hostile_columns() {
             let found = Statistics::of(&column, 16).err();
             assert_eq!(found, wanted, "{kind:?} {offset} {length}");
             let filter = Filter::parse("x is null", &[("x", kind)]).unwrap();
-            let of_mask = filter.mask(&[column]).err();
+            let of_mask = filter.mask(&[column], length).err();
             let refused_rows = wanted.map(|fault| FilterError::Rows(RowsError::Column(0, fault)));
             assert_eq!(of_mask, refused_rows);
             let of_keys = row_keys(&[column], &[SortOptions::default()]).err();
@@ -728,7 +728,7 @@ fn filters_of_rows_and_zones() {
         let truths: Vec<Truth> = (0..length).map(truth).collect();
         let columns = [numbers.column(), texts.column()];
         let wanted: Vec<bool> = truths.iter().map(|truth| *truth == Some(true)).collect();
-        assert_eq!(filter.mask(&columns), Ok(wanted));
+        assert_eq!(filter.mask(&columns, length), Ok(wanted));
         let known = columns.map(|column| Statistics::of(&column, 2).unwrap());
         let zone = [random.one_in(9), random.one_in(9)];
         let zone: Vec<Option<&Statistics>> = known
@@ -783,13 +783,17 @@ fn mistakes_of_filters() {
         Err(FilterError::WrongLength)
     );
     assert_eq!(
-        filter.mask(&[]),
+        filter.mask(&[], 0),
         Err(FilterError::Rows(RowsError::WrongLength))
     );
     let numbers = Column::integers(&[1i64]);
-    assert_eq!(filter.mask(&[numbers]), Err(FilterError::KindsDiffer(0)));
+    assert_eq!(filter.mask(&[numbers], 1), Err(FilterError::KindsDiffer(0)));
     let large = Column::large_utf8(b"ab", &[0, 1, 2]);
-    assert_eq!(filter.mask(&[large]), Ok(vec![true, false]));
+    assert_eq!(filter.mask(&[large], 2), Ok(vec![true, false]));
+    assert_eq!(
+        filter.mask(&[large], 3),
+        Err(FilterError::Rows(RowsError::WrongLength))
+    );
     assert!(error_words(&bad).contains("zone 1"));
 }
 
@@ -808,11 +812,24 @@ fn filters_that_nest() {
         );
         let filter = Filter::parse_within(&text(depth), &schema, depth).unwrap();
         let is_even = depth % 2 == 0;
-        assert_eq!(filter.mask(&[column]), Ok(vec![is_even, !is_even]));
+        assert_eq!(filter.mask(&[column], 2), Ok(vec![is_even, !is_even]));
         assert!(filter.outcomes(&[None]).unwrap().may_match());
     }
+    let parts = ["n is not null"; 33].join(" and ");
+    let of_parts = Filter::parse(&parts, &schema).unwrap();
+    assert_eq!(of_parts.mask(&[column], 2), Ok(vec![true, true]));
     assert!(Filter::parse(&text(32), &schema).is_ok());
     assert!(Filter::parse(&text(33), &schema).is_err());
+}
+
+#[test]
+fn filters_of_no_columns() {
+    for (text, is_true) in [("true", true), ("null or false", false)] {
+        let filter = Filter::parse(text, &[]).unwrap();
+        for rows in [0, 1, 8, 10] {
+            assert_eq!(filter.mask(&[], rows), Ok(vec![is_true; rows]));
+        }
+    }
 }
 
 #[test]

@@ -6,7 +6,7 @@ use Rattle.std.proofs.lemmas.List.{get_or-map, get_or-replicate, length-map, len
 use Rattle.arrow_columns.specs.Bitmaps.{bit_of, is_valid}
 use Rattle.arrow_columns.specs.Cells.{cell_at}
 use Rattle.arrow_columns.specs.Checked.{AreRowsOf}
-use Rattle.arrow_columns.specs.Columns.{boolean_cells, byte_cells, integer_cells, offset_in}
+use Rattle.arrow_columns.specs.Columns.{boolean_cells, byte_cells, integer_cells, offset_in, with_start}
 use Rattle.arrow_columns.specs.Integers.{integer_of, item_at, width_of}
 use Rattle.arrow_columns.specs.Offsets.{bytes_between}
 use Rattle.arrow_columns.specs.Spans.{AreBytes}
@@ -24,7 +24,7 @@ use Rattle.column_cells.specs.Contents.{HasTexts, byte_contents, content_or_null
 use Rattle.column_cells.specs.Laws.{ContentsAreOfType, IsOfType}
 use Rattle.column_cells.specs.Types.{ptype_of_kind, type_of_column, type_of_rows}
 use Rattle.column_cells.proofs.CellLaws.{all_cells, of_value}
-use Rattle.column_cells.proofs.ContentLaws.{same_contents, same_type, texts_of}
+use Rattle.column_cells.proofs.ContentLaws.{same_contents, same_type, texts_of, with_cases}
 use Rattle.column_cells.proofs.KindRanges.{in_kind, item_bytes, range_bytes}
 
 -- what holds of each cell that is no null makes its content one of the type
@@ -85,11 +85,14 @@ row_of_type (Bytes rows) texts bytes row d l =
 row_of_type (Nulls count) texts bytes row d l =
     subst (IsOfType null_type) (sym (get_or-replicate count row null d (omega (arith, l, length-replicate count null)))) (record { value = absent; valid = refl; is = refl; bytes = tt })
 
+bytes_start : (column : Column) → AreBytes column.values.now → AreBytes (with_start column).values.now
+bytes_start column h = with_cases column (λ c. AreBytes c.values.now) (λ e. h) h
+
 row_bytes : (column : Column) (rows : Rows) → AreRowsOf column rows → AreBytes column.values.now → AreRowBytes rows
-row_bytes column (Integers rows) h bytes = subst (λ (c : Column). AreBytes c.values.now) (sym h.1) bytes
+row_bytes column (Integers rows) h bytes = subst (λ (c : Column). AreBytes c.values.now) (sym h.1) (bytes_start column bytes)
 row_bytes column (Booleans rows) h bytes = tt
-row_bytes column (Strings rows) h bytes = subst (λ (c : Column). AreBytes c.values.now) (sym h.1) bytes
-row_bytes column (Bytes rows) h bytes = subst (λ (c : Column). AreBytes c.values.now) (sym h.1) bytes
+row_bytes column (Strings rows) h bytes = subst (λ (c : Column). AreBytes c.values.now) (sym h.1) (bytes_start column bytes)
+row_bytes column (Bytes rows) h bytes = subst (λ (c : Column). AreBytes c.values.now) (sym h.1) (bytes_start column bytes)
 row_bytes column (Nulls count) h bytes = tt
 
 pub of_type : ContentsAreOfType

@@ -16,7 +16,6 @@ use Rattle.vortex_value.specs.Values.Content.{Content, null}
 use Rattle.vortex_cells.specs.Cells.{Cell}
 use Rattle.column_cells.specs.Contents.{HasTexts, contents_of_rows}
 use Rattle.column_filters.specs.Tables.{AreColumnsOf, AreReadFrom, AreSoundBefore, IsErrorAt, IsReadFrom, IsSound, IsTableError, cell_of_column, cell_of_rows, cells_of_columns, cells_of_rows}
-use Rattle.arrow_columns.specs.Columns.{rows_in}
 use Rattle.column_filters.specs.declared.errors.MaskError.{MaskError}
 use Rattle.column_filters.specs.declared.errors.MaskError.TheVariants.{BufferTooSmall, OutOfMemory, TypesDiffer, Unreadable, WrongCount, WrongLength}
 
@@ -33,11 +32,11 @@ fault_typed types k u column count fault l is h = subst (λ t. IsErrorAt k colum
 
 -- ---- columns, one by one
 
-pub read-none : (columns : List Column) (types : List TypeTree) → AreReadFrom columns types 0 []
-read-none columns types = record { cells = λ row. refl; rows = All-nil _ }
+pub read-none : (columns : List Column) (count : ℕ) → AreReadFrom columns count 0 []
+read-none columns count = record { cells = λ row. refl; rows = All-nil _ }
 
-pub sound-none : (columns : List Column) (types : List TypeTree) → AreSoundBefore columns types 0
-sound-none columns types j column less got = absurd (omega arith)
+pub sound-none : (columns : List Column) (types : List TypeTree) (count : ℕ) → AreSoundBefore columns types count 0
+sound-none columns types count j column less got = absurd (omega arith)
 
 -- one more
 
@@ -46,54 +45,54 @@ same-cell row column t count rows read =
     let cell : TypeTree → List Content → Cell = λ u xs. record { typed = u; content = slice_index_or xs row null } in
     ap₂ cell read.typed read.contents
 
-pub read-more : (columns : List Column) (types : List TypeTree) (k : ℕ) (d : Column) (table more : List Rows) (rows : Rows) → k < length columns
-    → AreReadFrom columns types k table → IsReadFrom (get_or columns k d) (get_or types k null_type) (rows_in columns) rows → more ≡ table ++ rows ∷ [] → AreReadFrom columns types (k + 1) more
-read-more columns types k d table more rows here all one e = record {
+pub read-more : (columns : List Column) (t : TypeTree) (count k : ℕ) (d : Column) (table more : List Rows) (rows : Rows) → k < length columns
+    → AreReadFrom columns count k table → IsReadFrom (get_or columns k d) t count rows → more ≡ table ++ rows ∷ [] → AreReadFrom columns count (k + 1) more
+read-more columns t count k d table more rows here all one e = record {
   cells = λ row.
-      ap (λ xs. cells_of_rows xs row) e ∙ map-append (cell_of_rows row) table (rows ∷ []) ∙ ap₂ (λ xs x. xs ++ x ∷ []) (all.cells row) (same-cell row (get_or columns k d) (get_or types k null_type) (rows_in columns) rows one)
+      ap (λ xs. cells_of_rows xs row) e ∙ map-append (cell_of_rows row) table (rows ∷ []) ∙ ap₂ (λ xs x. xs ++ x ∷ []) (all.cells row) (same-cell row (get_or columns k d) t count rows one)
       ∙ sym (map-append (cell_of_column row) (take k columns) (get_or columns k d ∷ [])) ∙ ap (λ xs. cells_of_columns xs row) (sym (take_more columns k d here));
-  rows = subst (λ t. All (λ r. (length (contents_of_rows r) ≡ rows_in columns) × HasTexts r) t) (sym e) (All-push (λ r. (length (contents_of_rows r) ≡ rows_in columns) × HasTexts r) table rows all.rows (ap length one.contents ∙ one.sound.even, one.texts));
+  rows = subst (λ t. All (λ r. (length (contents_of_rows r) ≡ count) × HasTexts r) t) (sym e) (All-push (λ r. (length (contents_of_rows r) ≡ count) × HasTexts r) table rows all.rows (ap length one.contents ∙ one.sound.even, one.texts));
 }
 
 got-is : (columns : List Column) (k : ℕ) (d other : Column) → k < length columns → slice_get columns k ≡ Some other → get_or columns k d ≡ other
 got-is columns k d other here got = same_Some (get_or columns k d) other (sym (slice_get-get_or columns k d here) ∙ got)
 
-pub sound-more : (columns : List Column) (types : List TypeTree) (k : ℕ) (d : Column) (rows : Rows) → k < length columns → AreSoundBefore columns types k → IsReadFrom (get_or columns k d) (get_or types k null_type) (rows_in columns) rows
-    → AreSoundBefore columns types (k + 1)
-sound-more columns types k d rows here all one j other less got = by_place (cases_lt j k)
+pub sound-more : (columns : List Column) (types : List TypeTree) (count k : ℕ) (d : Column) (rows : Rows) → k < length columns → AreSoundBefore columns types count k → IsReadFrom (get_or columns k d) (get_or types k null_type) count rows
+    → AreSoundBefore columns types count (k + 1)
+sound-more columns types count k d rows here all one j other less got = by_place (cases_lt j k)
   where
-    by_place : (j < k) ⊎ (k ≤ j) → IsSound other (slice_index_or types j null_type) (rows_in columns)
+    by_place : (j < k) ⊎ (k ≤ j) → IsSound other (slice_index_or types j null_type) count
     by_place (inl before) = all j other before got
     by_place (inr after) =
         let at : j ≡ k = omega arith in
         let found : get_or columns k d ≡ other = got-is columns k d other here (subst (λ n. slice_get columns n ≡ Some other) at got) in
-        subst (λ c. IsSound c (slice_index_or types j null_type) (rows_in columns)) found (subst (λ n. IsSound (get_or columns k d) (slice_index_or types n null_type) (rows_in columns)) (sym at) one.sound)
+        subst (λ c. IsSound c (slice_index_or types j null_type) count) found (subst (λ n. IsSound (get_or columns k d) (slice_index_or types n null_type) count) (sym at) one.sound)
 
 -- an error of a column is one of the table
 
-pub table-fault : (columns : List Column) (types : List TypeTree) (k : ℕ) (d : Column) (fault : MaskError) → length columns ≡ length types → k < length columns → AreSoundBefore columns types k
-    → IsErrorAt k (get_or columns k d) (get_or types k null_type) (rows_in columns) fault → IsTableError columns types fault
-table-fault columns types k d OutOfMemory counts here all h = tt
-table-fault columns types k d WrongCount counts here all h = absurd h
-table-fault columns types k d BufferTooSmall counts here all h = absurd h
-table-fault columns types k d (Unreadable place fault) counts here all h = (counts, (k, get_or columns k d, slice_get-get_or columns k d here, all, h))
-table-fault columns types k d (TypesDiffer place) counts here all h = (counts, (k, get_or columns k d, slice_get-get_or columns k d here, all, h))
-table-fault columns types k d (WrongLength place) counts here all h = (counts, (k, get_or columns k d, slice_get-get_or columns k d here, all, h))
+pub table-fault : (columns : List Column) (types : List TypeTree) (count k : ℕ) (d : Column) (fault : MaskError) → length columns ≡ length types → k < length columns → AreSoundBefore columns types count k
+    → IsErrorAt k (get_or columns k d) (get_or types k null_type) count fault → IsTableError columns types count fault
+table-fault columns types count k d OutOfMemory counts here all h = absurd h
+table-fault columns types count k d WrongCount counts here all h = absurd h
+table-fault columns types count k d BufferTooSmall counts here all h = absurd h
+table-fault columns types count k d (Unreadable place fault) counts here all h = (counts, (k, get_or columns k d, slice_get-get_or columns k d here, all, h))
+table-fault columns types count k d (TypesDiffer place) counts here all h = (counts, (k, get_or columns k d, slice_get-get_or columns k d here, all, h))
+table-fault columns types count k d (WrongLength place) counts here all h = (counts, (k, get_or columns k d, slice_get-get_or columns k d here, all, h))
 
-pub table-fault-typed : (columns : List Column) (types : List DType) (k : ℕ) (d : Column) (u : DType) (fault : MaskError) → length columns ≡ length types → k < length columns → u ≡ get_or types k u → AreSoundBefore columns (map type_of types) k
-    → IsErrorAt k (get_or columns k d) (type_of u) (rows_in columns) fault → IsTableError columns (map type_of types) fault
-table-fault-typed columns types k d u fault counts here is all h =
-    table-fault columns (map type_of types) k d fault (omega (arith, counts, length-map types type_of)) here all (fault_typed types k u (get_or columns k d) (rows_in columns) fault (omega arith) is h)
+pub table-fault-typed : (columns : List Column) (types : List DType) (count k : ℕ) (d : Column) (u : DType) (fault : MaskError) → length columns ≡ length types → k < length columns → u ≡ get_or types k u → AreSoundBefore columns (map type_of types) count k
+    → IsErrorAt k (get_or columns k d) (type_of u) count fault → IsTableError columns (map type_of types) count fault
+table-fault-typed columns types count k d u fault counts here is all h =
+    table-fault columns (map type_of types) count k d fault (omega (arith, counts, length-map types type_of)) here all (fault_typed types k u (get_or columns k d) count fault (omega arith) is h)
 
-pub table-refused : (columns : List Column) (types : List TypeTree) (r : Result (Vec Rows Global) MaskError) (e : MaskError) → IsErr r × IsErrAnd r (λ f. f ≡ e) → IsTableError columns types e → IfErr r (λ f. IsTableError columns types f)
-table-refused columns types (Ok p) e h k = tt
-table-refused columns types (Err f) e h k = subst (IsTableError columns types) (sym h.1) k
+pub table-refused : (columns : List Column) (types : List TypeTree) (count : ℕ) (r : Result (Vec Rows Global) MaskError) (e : MaskError) → IsErr r × IsErrAnd r (λ f. f ≡ e) → IsTableError columns types count e → IfErr r (λ f. IsTableError columns types count f)
+table-refused columns types count (Ok p) e h k = tt
+table-refused columns types count (Err f) e h k = subst (IsTableError columns types count) (sym h.1) k
 
 -- all columns are read
-pub columns-of : (columns : List Column) (types : List DType) → length columns ≡ length types → AreSoundBefore columns (map type_of types) (length columns) → AreColumnsOf columns (map type_of types)
-columns-of columns types counts sound = record { counts = counts ∙ sym (length-map types type_of); sound = sound }
+pub columns-of : (columns : List Column) (types : List DType) (count : ℕ) → length columns ≡ length types → AreSoundBefore columns (map type_of types) count (length columns) → AreColumnsOf columns (map type_of types) count
+columns-of columns types count counts sound = record { counts = counts ∙ sym (length-map types type_of); sound = sound }
 
-pub other-count : (columns : List Column) (types : List DType) → ¬ (length columns ≡ length types) → IsTableError columns (map type_of types) WrongCount
-other-count columns types differ counts = differ (counts ∙ length-map types type_of)
+pub other-count : (columns : List Column) (types : List DType) (count : ℕ) → ¬ (length columns ≡ length types) → IsTableError columns (map type_of types) count WrongCount
+other-count columns types count differ counts = differ (counts ∙ length-map types type_of)
 
 pub ruleset shown = (read-none, sound-none, columns-of, other-count)

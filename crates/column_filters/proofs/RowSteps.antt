@@ -14,8 +14,7 @@ use Rattle.vortex_filter.specs.Formula.{Formula, is_match}
 use Rattle.column_cells.specs.Contents.{HasTexts, contents_of_rows}
 use Rattle.column_cells.specs.Types.{type_of_rows}
 use Rattle.column_filters.specs.Masks.{IsMask, matching}
-use Rattle.column_filters.specs.Tables.{AreReadFrom, HasRow, HaveRows, IsMaskError, IsTableError, cell_of_rows, cells_of_columns, cells_of_rows}
-use Rattle.arrow_columns.specs.Columns.{rows_in}
+use Rattle.column_filters.specs.Tables.{AreColumnsOf, AreReadFrom, HasRow, HaveRows, IsMaskError, IsTableError, cell_of_rows, cells_of_columns, cells_of_rows}
 use Rattle.column_filters.specs.declared.errors.MaskError.{MaskError}
 use Rattle.column_filters.specs.declared.errors.MaskError.TheVariants.{BufferTooSmall, OutOfMemory, TypesDiffer, Unreadable, WrongCount, WrongLength}
 
@@ -45,18 +44,16 @@ pub cells-all : (columns : List Rows) (i row : ℕ) (items : List Scalar) → le
 cells-all columns i row items h all = all ∙ ap (λ xs. cells_of_rows xs row) (take_all i columns h)
 
 -- the mask of what was read is that of the columns
-pub mask-along : (f : Formula) (columns : List Column) (types : List TypeTree) (table : List Rows) (mask : List ℕ) → AreReadFrom columns types (length columns) table → IsMask (matching f (cells_of_rows table)) (rows_in columns) mask
-    → IsMask (matching f (cells_of_columns columns)) (rows_in columns) mask
-mask-along f columns types table mask read is = record {
+pub mask-along : (f : Formula) (columns : List Column) (count : ℕ) (table : List Rows) (mask : List ℕ) → AreReadFrom columns count (length columns) table → IsMask (matching f (cells_of_rows table)) count mask → IsMask (matching f (cells_of_columns columns)) count mask
+mask-along f columns count table mask read is = record {
   rows = λ row l. is.rows row l ∙ ap (is_match f) (read.cells row ∙ ap (λ xs. cells_of_columns xs row) (take_all (length columns) columns (omega arith)));
   zeros = is.zeros;
 }
 
-pub mask-told : (f : Formula) (columns : List Column) (types : List TypeTree) (table given : List Rows) (count : ℕ) (mask : List ℕ) (r : Result Unit MaskError) → given ≡ table → count ≡ rows_in columns → AreReadFrom columns types (length columns) table
-    → OnOk r (IsMask (matching f (cells_of_rows given)) count mask) → OnOk r (IsMask (matching f (cells_of_columns columns)) (rows_in columns) mask)
-mask-told f columns types table given count mask (Ok u) same counted read is =
-    mask-along f columns types table mask read (subst (λ n. IsMask (matching f (cells_of_rows table)) n mask) counted (subst (λ t. IsMask (matching f (cells_of_rows t)) count mask) same is))
-mask-told f columns types table given count mask (Err e) same counted read is = tt
+pub mask-told : (f : Formula) (columns : List Column) (count : ℕ) (table given : List Rows) (mask : List ℕ) (r : Result Unit MaskError) → given ≡ table → AreReadFrom columns count (length columns) table → OnOk r (IsMask (matching f (cells_of_rows given)) count mask)
+    → OnOk r (IsMask (matching f (cells_of_columns columns)) count mask)
+mask-told f columns count table given mask (Ok u) same read is = mask-along f columns count table mask read (subst (λ t. IsMask (matching f (cells_of_rows t)) count mask) same is)
+mask-told f columns count table given mask (Err e) same read is = tt
 
 -- what holds whatever the answer
 
@@ -70,21 +67,21 @@ if-err (Err e) P h = h e
 
 -- why there is no mask
 
-pub mask-fault : (columns : List Column) (types : List TypeTree) (size : ℕ) (e : MaskError) → IsTableError columns types e → IsMaskError columns types size e
-mask-fault columns types size OutOfMemory h = tt
-mask-fault columns types size WrongCount h = h
-mask-fault columns types size (Unreadable column fault) h = h
-mask-fault columns types size (TypesDiffer column) h = h
-mask-fault columns types size (WrongLength column) h = h
-mask-fault columns types size BufferTooSmall h = absurd h
+pub mask-fault : (columns : List Column) (types : List TypeTree) (count size : ℕ) (e : MaskError) → IsTableError columns types count e → IsMaskError columns types count size e
+mask-fault columns types count size OutOfMemory h = h
+mask-fault columns types count size WrongCount h = h
+mask-fault columns types count size (Unreadable column fault) h = h
+mask-fault columns types count size (TypesDiffer column) h = h
+mask-fault columns types count size (WrongLength column) h = h
+mask-fault columns types count size BufferTooSmall h = absurd h
 
-pub mask-refused : (columns : List Column) (types : List TypeTree) (size : ℕ) (r : Result Unit MaskError) (e : MaskError) → IsErr r × IsErrAnd r (λ f. f ≡ e) → IsTableError columns types e → IfErr r (IsMaskError columns types size)
-mask-refused columns types size (Ok u) e h k = tt
-mask-refused columns types size (Err f) e h k = subst (IsMaskError columns types size) (sym h.1) (mask-fault columns types size e k)
+pub mask-refused : (columns : List Column) (types : List TypeTree) (count size : ℕ) (r : Result Unit MaskError) (e : MaskError) → IsErr r × IsErrAnd r (λ f. f ≡ e) → IsTableError columns types count e → IfErr r (IsMaskError columns types count size)
+mask-refused columns types count size (Ok u) e h k = tt
+mask-refused columns types count size (Err f) e h k = subst (IsMaskError columns types count size) (sym h.1) (mask-fault columns types count size e k)
 
-pub memory-refused : (columns : List Column) (types : List TypeTree) (size : ℕ) (r : Result Unit MaskError) → IfErr r (λ e. e ≡ OutOfMemory) → IfErr r (IsMaskError columns types size)
-memory-refused columns types size (Ok u) h = tt
-memory-refused columns types size (Err e) h = subst (IsMaskError columns types size) (sym h) tt
+pub memory-refused : (columns : List Column) (types : List TypeTree) (count size : ℕ) (r : Result Unit MaskError) → AreColumnsOf columns types count → IfErr r (λ e. e ≡ OutOfMemory) → IfErr r (IsMaskError columns types count size)
+memory-refused columns types count size (Ok u) are h = tt
+memory-refused columns types count size (Err e) are h = subst (IsMaskError columns types count size) (sym h) are.counts
 
 pub memory-kept : (r : Result Unit MaskError) (P : Type 0) → IfErr r (λ e. e ≡ OutOfMemory) → IfErr r (λ e. e ≢ OutOfMemory → P)
 memory-kept (Ok u) P h = tt

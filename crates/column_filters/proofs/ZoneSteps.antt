@@ -40,13 +40,36 @@ abbrev refused_as : StatisticsError → Result Unit StatisticsError
 refused_as e = Err e
 
 -- an encoding that is refused
-pub bad_encoding : (t : TypeTree) (bytes offsets part : List ℕ) (p : ℕ) (e : StatisticsError) → IsPiece bytes offsets p → part ≡ piece_at bytes offsets p → 0 < length part
+-- why bytes may be refused
+abbrev pub IsCause : List ℕ → StatisticsError → Type 0
+IsCause part e = (e ≡ refusals.HasVariant) ⊎ (((e ≡ refusals.OutOfMemory) × SaysBound part) ⊎ ((offset : ℕ) × (e ≡ refusals.BadBytes offset)))
+
+memory_bound : (part : List ℕ) → IsCause part refusals.OutOfMemory → SaysBound part
+memory_bound part (inl variant) = absurd cc
+memory_bound part (inr (inl memory)) = memory.1
+memory_bound part (inr (inr wrong)) = absurd (no_memory wrong.0 wrong.1)
+  where
+    no_memory : (offset : ℕ) → refusals.OutOfMemory ≡ refusals.BadBytes offset → ⊥
+    no_memory offset e = cc
+
+never_many : (part : List ℕ) → IsCause part refusals.TooManyRows → ⊥
+never_many part (inl variant) = cc
+never_many part (inr (inl memory)) = no_memory memory.0
+  where
+    no_memory : refusals.TooManyRows ≡ refusals.OutOfMemory → ⊥
+    no_memory e = cc
+never_many part (inr (inr wrong)) = not_bytes wrong.0 wrong.1
+  where
+    not_bytes : (offset : ℕ) → refusals.TooManyRows ≡ refusals.BadBytes offset → ⊥
+    not_bytes offset e = cc
+
+pub bad_encoding : (t : TypeTree) (bytes offsets part : List ℕ) (p : ℕ) (e : StatisticsError) → IsPiece bytes offsets p → part ≡ piece_at bytes offsets p → 0 < length part → IsCause part e
     → (refused_as e ≡ refused_as refusals.HasVariant → SayVariant t part) → (SayVariant t part → refused_as e ≡ refused_as refusals.HasVariant)
     → ((place : ℕ) → refused_as e ≡ refused_as (refusals.BadBytes place) → IsFirstWrong (IsEncodingOf t) (SaysBound part → HasValues t) part place) → IsBadPiece t bytes offsets p (fault_of_piece p e)
-bad_encoding t bytes offsets part p refusals.OutOfMemory piece is some variant other bad = tt
-bad_encoding t bytes offsets part p refusals.TooManyRows piece is some variant other bad = tt
-bad_encoding t bytes offsets part p refusals.HasVariant piece is some variant other bad = (refl, piece, subst (SayVariant t) is (variant refl))
-bad_encoding t bytes offsets part p (refusals.BadBytes place) piece is some variant other bad =
+bad_encoding t bytes offsets part p refusals.OutOfMemory piece is some cause variant other bad = (piece, subst SaysBound is (memory_bound part cause))
+bad_encoding t bytes offsets part p refusals.TooManyRows piece is some cause variant other bad = absurd (never_many part cause)
+bad_encoding t bytes offsets part p refusals.HasVariant piece is some cause variant other bad = (refl, piece, subst (SayVariant t) is (variant refl))
+bad_encoding t bytes offsets part p (refusals.BadBytes place) piece is some cause variant other bad =
     let there : piece_at bytes offsets p ≢ [] = λ e. some_bytes (ap length (is ∙ e)) in
     let none : ¬ (SayVariant t part) = λ said. no_variant (other said) in
     (refl, piece, there, subst (λ xs. ¬ (SayVariant t xs)) is none, subst (λ xs. IsFirstWrong (IsEncodingOf t) (SaysBound xs → HasValues t) xs place) is (bad place refl))
@@ -93,11 +116,7 @@ said_before types bytes offsets p k said all j l = (get_or said j open_statistic
 
 zone_refused_by : (types : List TypeTree) (bytes offsets : List ℕ) (p k : ℕ) (said : List Known) (e : ZoneError) → k < length types → AreSaidSoFar types bytes offsets p k said → IsBadPiece (get_or types k null_type) bytes offsets (p + k) e
     → RefusesZone types bytes offsets p e
-zone_refused_by types bytes offsets p k said OutOfMemory l all bad = tt
-zone_refused_by types bytes offsets p k said WrongLength l all bad = absurd bad
-zone_refused_by types bytes offsets p k said (BadOffsets piece) l all bad = record { column = k; within = l; before = λ j less. (get_or said j open_statistics, all j less); cause = bad }
-zone_refused_by types bytes offsets p k said (BadBytes piece place) l all bad = record { column = k; within = l; before = λ j less. (get_or said j open_statistics, all j less); cause = bad }
-zone_refused_by types bytes offsets p k said (HasVariant piece) l all bad = record { column = k; within = l; before = λ j less. (get_or said j open_statistics, all j less); cause = bad }
+zone_refused_by types bytes offsets p k said e l all bad = record { column = k; within = l; before = λ j less. (get_or said j open_statistics, all j less); cause = bad }
 
 pub zone_refused : (columns : List DType) (bytes offsets : List ℕ) (p k : ℕ) (d : DType) (read : List ColumnStatistics) (r : Result Unit ZoneError) (e : ZoneError) → IsErr r × IsErrAnd r (λ f. f ≡ e) → k < length columns → d ≡ get_or columns k d
     → AreSaidSoFar (map type_of columns) bytes offsets p k (map known read) → IsBadPiece (type_of d) bytes offsets (p + k) e → IfErr r (RefusesZone (map type_of columns) bytes offsets p)
@@ -168,7 +187,7 @@ before_of f types bytes offsets zone done all z l =
 
 zones_refused_by : (types : List TypeTree) (bytes offsets : List ℕ) (zones zone : ℕ) (e : ZoneError) → AreEnough zones (length types) (length offsets) → zone < zones
     → ((z : ℕ) → z < zone → AreSaidBefore types bytes offsets (z * length types) (length types)) → RefusesZone types bytes offsets (zone * length types) e → RefusesZones types bytes offsets zones e
-zones_refused_by types bytes offsets zones zone OutOfMemory enough l before bad = tt
+zones_refused_by types bytes offsets zones zone OutOfMemory enough l before bad = enough
 zones_refused_by types bytes offsets zones zone WrongLength enough l before bad = absurd bad.cause
 zones_refused_by types bytes offsets zones zone (BadOffsets piece) enough l before bad = (enough, record { zone = zone; within = l; before = before; cause = bad })
 zones_refused_by types bytes offsets zones zone (BadBytes piece place) enough l before bad = (enough, record { zone = zone; within = l; before = before; cause = bad })
@@ -184,8 +203,10 @@ zones_refused f columns bytes offsets zones zone piece done (Err x) e h enough l
     subst (RefusesZones ts bytes offsets zones) (sym h.1)
     (zones_refused_by ts bytes offsets zones zone e (subst (λ m. AreEnough zones m (length offsets)) same enough) l (before_of f ts bytes offsets zone done all) (subst (λ p. RefusesZone ts bytes offsets p e) (at ∙ ap (λ m. zone * m) same) bad))
 
-pub memory_refused : (types : List TypeTree) (bytes offsets : List ℕ) (zones : ℕ) (r : Result Unit ZoneError) (e : ZoneError) → IsErr r × IsErrAnd r (λ f. f ≡ e) → e ≡ OutOfMemory → IfErr r (RefusesZones types bytes offsets zones)
-memory_refused types bytes offsets zones (Ok u) e h is = tt
-memory_refused types bytes offsets zones (Err f) e h is = subst (RefusesZones types bytes offsets zones) (sym (h.1 ∙ is)) tt
+pub memory_refused : (columns : List DType) (bytes offsets : List ℕ) (zones : ℕ) (r : Result Unit ZoneError) (e : ZoneError) → IsErr r × IsErrAnd r (λ f. f ≡ e) → AreEnough zones (length columns) (length offsets) → e ≡ OutOfMemory
+    → IfErr r (RefusesZones (map type_of columns) bytes offsets zones)
+memory_refused columns bytes offsets zones (Ok u) e h enough is = tt
+memory_refused columns bytes offsets zones (Err f) e h enough is =
+    subst (RefusesZones (map type_of columns) bytes offsets zones) (sym (h.1 ∙ is)) (subst (λ m. AreEnough zones m (length offsets)) (sym (length-map columns type_of)) enough)
 
 pub ruleset shown = (so_far-none, not_enough)

@@ -2,7 +2,6 @@
 use Rattle.std.specs.Prelude.{◌≡◌, ◌≢◌, ℕ, ◌<◌, List, [], ◌∷◌, length, map, slice_get, slice_index_or, Some, take}
 use Rattle.std.specs.List.{All}
 use Rattle.arrow_columns.specs.Checked.{AreRowsOf}
-use Rattle.arrow_columns.specs.Columns.{rows_in}
 use Rattle.arrow_columns.specs.Errors.{IsErrorOf}
 use Rattle.arrow_columns.specs.declared.columns.Column.{Column}
 use Rattle.arrow_columns.specs.declared.tested_rows.Rows.{Rows}
@@ -48,9 +47,9 @@ pub record IsReadFrom (column : Column) (t : TypeTree) (count : ℕ) (rows : Row
   pub contents : contents_of_rows rows ≡ contents_of_column column
   pub texts : HasTexts rows
 
--- the first columns are sound
-abbrev pub AreSoundBefore : List Column → List TypeTree → ℕ → Type 0
-AreSoundBefore columns types k = (j : ℕ) (column : Column) → j < k → slice_get columns j ≡ Some column → IsSound column (slice_index_or types j null_type) (rows_in columns)
+-- the first columns are sound, and have so many rows
+abbrev pub AreSoundBefore : List Column → List TypeTree → ℕ → ℕ → Type 0
+AreSoundBefore columns types count k = (j : ℕ) (column : Column) → j < k → slice_get columns j ≡ Some column → IsSound column (slice_index_or types j null_type) count
 
 -- each column has so many rows, and strings that are UTF-8
 abbrev pub HaveRows : List Rows → ℕ → Type 0
@@ -60,15 +59,15 @@ HaveRows columns count = All (λ rows. (length (contents_of_rows rows) ≡ count
 abbrev pub HasRow : List Rows → ℕ → Type 0
 HasRow columns row = All (λ rows. (row < length (contents_of_rows rows)) × HasTexts rows) columns
 
--- there are as many columns as types, and each is sound
-pub record AreColumnsOf (columns : List Column) (types : List TypeTree) : Type 0 where
+-- there are as many columns as types, and each is sound and has so many rows; of no columns there may be any number of rows
+pub record AreColumnsOf (columns : List Column) (types : List TypeTree) (count : ℕ) : Type 0 where
   pub counts : length columns ≡ length types
-  pub sound : AreSoundBefore columns types (length columns)
+  pub sound : AreSoundBefore columns types count (length columns)
 
--- these were read of the first columns
-pub record AreReadFrom (columns : List Column) (types : List TypeTree) (k : ℕ) (read : List Rows) : Type 0 where
+-- these were read of the first columns, and have so many rows
+pub record AreReadFrom (columns : List Column) (count k : ℕ) (read : List Rows) : Type 0 where
   pub cells : (row : ℕ) → cells_of_rows read row ≡ cells_of_columns (take k columns) row
-  pub rows : HaveRows read (rows_in columns)
+  pub rows : HaveRows read count
 
 -- why a column at a place is not sound: the first reason in this order
 abbrev pub IsErrorAt : ℕ → Column → TypeTree → ℕ → MaskError → Type 0
@@ -79,16 +78,16 @@ IsErrorAt k column t count (Unreadable place fault) = (place ≡ k) × IsErrorOf
 IsErrorAt k column t count (TypesDiffer place) = (place ≡ k) × ((rows : Rows) × AreRowsOf column rows) × ¬ (Same (type_of_column column) t)
 IsErrorAt k column t count (WrongLength place) = (place ≡ k) × ((rows : Rows) × AreRowsOf column rows) × Same (type_of_column column) t × ¬ (length (contents_of_column column) ≡ count)
 
--- why columns are not those of the types: the first that is not sound, if there are as many as types
-abbrev pub IsTableError : List Column → List TypeTree → MaskError → Type 0
-IsTableError columns types OutOfMemory = Unit {0}
-IsTableError columns types WrongCount = length columns ≢ length types
-IsTableError columns types BufferTooSmall = ⊥
-IsTableError columns types fault =
+-- why columns are not those of the types: the first that is not sound, if there are as many as types. Memory is asked only then.
+abbrev pub IsTableError : List Column → List TypeTree → ℕ → MaskError → Type 0
+IsTableError columns types count OutOfMemory = length columns ≡ length types
+IsTableError columns types count WrongCount = length columns ≢ length types
+IsTableError columns types count BufferTooSmall = ⊥
+IsTableError columns types count fault =
     (length columns ≡ length types)
-    × ((k : ℕ) × (column : Column) × (slice_get columns k ≡ Some column) × AreSoundBefore columns types k × IsErrorAt k column (slice_index_or types k null_type) (rows_in columns) fault)
+    × ((k : ℕ) × (column : Column) × (slice_get columns k ≡ Some column) × AreSoundBefore columns types count k × IsErrorAt k column (slice_index_or types k null_type) count fault)
 
 -- why there is no mask of so many bytes: for such a reason, or it is too short for the rows
-abbrev pub IsMaskError : List Column → List TypeTree → ℕ → MaskError → Type 0
-IsMaskError columns types size BufferTooSmall = AreColumnsOf columns types × (size < bitmap_length (rows_in columns))
-IsMaskError columns types size fault = IsTableError columns types fault
+abbrev pub IsMaskError : List Column → List TypeTree → ℕ → ℕ → MaskError → Type 0
+IsMaskError columns types count size BufferTooSmall = AreColumnsOf columns types count × (size < bitmap_length count)
+IsMaskError columns types count size fault = IsTableError columns types count fault

@@ -81,9 +81,10 @@ fault_of_piece piece refusals.TooManyRows = OutOfMemory
 abbrev pub SayVariant : TypeTree → List ℕ → Type 0
 SayVariant t part = (¬ (HasNoVariant t)) × SaysBound part
 
--- why a piece says nothing of a column of the type: if it says a bound of one with a variant, just that
+-- why a piece says nothing of a column of the type: if it says a bound of one with a variant, just that. Memory is asked for a
+-- bound alone.
 abbrev pub IsBadPiece : TypeTree → List ℕ → List ℕ → ℕ → ZoneError → Type 0
-IsBadPiece t bytes offsets p OutOfMemory = Unit {0}
+IsBadPiece t bytes offsets p OutOfMemory = IsPiece bytes offsets p × SaysBound (piece_at bytes offsets p)
 IsBadPiece t bytes offsets p WrongLength = ⊥
 IsBadPiece t bytes offsets p (BadOffsets piece) = (piece ≡ p) × ¬ (IsPiece bytes offsets p)
 IsBadPiece t bytes offsets p (BadBytes piece place) =
@@ -103,7 +104,6 @@ pub record IsBadZone (types : List TypeTree) (bytes offsets : List ℕ) (p : ℕ
 
 -- why a zone is refused, of whose columns the pieces from p on are to speak
 abbrev pub RefusesZone : List TypeTree → List ℕ → List ℕ → ℕ → ZoneError → Type 0
-RefusesZone types bytes offsets p OutOfMemory = Unit {0}
 RefusesZone types bytes offsets p e = IsBadZone types bytes offsets p e
 
 -- the first zone that is refused
@@ -113,9 +113,9 @@ pub record IsBadOfZones (types : List TypeTree) (bytes offsets : List ℕ) (zone
   pub before : (z : ℕ) → z < zone → AreSaidBefore types bytes offsets (z * length types) (length types)
   pub cause : RefusesZone types bytes offsets (zone * length types) e
 
--- why so many zones are refused
+-- why so many zones are refused. Memory is asked for a place for each column, if there are enough pieces, and then by a piece.
 abbrev pub RefusesZones : List TypeTree → List ℕ → List ℕ → ℕ → ZoneError → Type 0
-RefusesZones types bytes offsets zones OutOfMemory = Unit {0}
+RefusesZones types bytes offsets zones OutOfMemory = AreEnough zones (length types) (length offsets)
 RefusesZones types bytes offsets zones WrongLength = ¬ (AreEnough zones (length types) (length offsets))
 RefusesZones types bytes offsets zones e = AreEnough zones (length types) (length offsets) × IsBadOfZones types bytes offsets zones e
 

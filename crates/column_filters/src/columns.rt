@@ -2,10 +2,10 @@
 
 ghost use Rattle.std.specs.Prelude.{◌≡◌, ◌↔◌, IfErr, IfOk, IsTrue, OnOk, length, map};
 ghost use Rattle.column_filters.specs.Words.{AreColumnsOf, AreReadFrom, IsErrorAt, IsReadFrom, IsTableError, Same};
-ghost use Rattle.column_filters.specs.Words.{rows_in, type_of, type_of_rows};
+ghost use Rattle.column_filters.specs.Words.{type_of, type_of_rows};
 
 use crate::errors::MaskError;
-use arrow_columns::{Column, Rows, row_count_of};
+use arrow_columns::{Column, Rows};
 use column_cells::{dtype_of_rows, row_count, rows_of};
 use std::alloc::Global;
 use vortex_dtype::DType;
@@ -46,27 +46,28 @@ fn read_column<'a>(
     Ok(rows)
 }
 
-/// The rows of columns of these types.
+/// The rows of columns of these types, so many of each.
 ///
 /// `WrongCount` exactly if there are not as many columns as types, before all else. Then the first
 /// column with an error gives it: `Unreadable`, `TypesDiffer` for cells of another type, up to
-/// nullability, and `WrongLength` for another number of rows than the first. `OutOfMemory` may come
-/// in place of these.
+/// nullability, and `WrongLength` for another number of rows. `OutOfMemory` may come in place of
+/// these, but not of `WrongCount`.
 #[tactic(auto, using(crate::proofs::ColumnSteps::shown))]
 pub fn read_columns<'a>(
     alloc: Global,
     columns: &[Column<'a>],
     types: &[DType],
+    count: usize,
 ) -> Result<Vec<Rows<'a>>, MaskError>
-    ensures read { IfOk result (λ table. AreReadFrom columns.now (map type_of types.now)
-        (length columns.now) table.items) }
-    ensures sound { OnOk result (AreColumnsOf columns.now (map type_of types.now)) }
-    ensures fault { IfErr result (λ fault. IsTableError columns.now (map type_of types.now) fault) }
+    ensures read { IfOk result (λ table.
+        AreReadFrom columns.now count (length columns.now) table.items) }
+    ensures sound { OnOk result (AreColumnsOf columns.now (map type_of types.now) count) }
+    ensures fault { IfErr result
+        (λ fault. IsTableError columns.now (map type_of types.now) count fault) }
 {
     if columns.len() != types.len() {
         return Err(MaskError::WrongCount);
     }
-    let count = row_count_of(columns);
     let mut table = Vec::with_capacity(alloc, columns.len())?;
     for place in 0..columns.len() {
         let rows = read_column(place, columns[place], &types[place], count)?;

@@ -16,7 +16,7 @@ pub enum MaskError {
     Unreadable { column: usize, fault: ColumnError },
     /// The cells of the column are of another type, not only by nullability.
     TypesDiffer { column: usize },
-    /// The column has another number of rows than the first.
+    /// The column has another number of rows than was asked for.
     WrongLength { column: usize },
     /// The mask is too short for the rows.
     BufferTooSmall,

@@ -4,43 +4,43 @@ ghost use Rattle.std.specs.Prelude.{◌≡◌, ◌≢◌, ◌<◌, ◌≤◌, If
 ghost use Rattle.column_filters.specs.Words.{AreColumnsOf, HasRow, HasTexts, HaveRows, IsMask, IsMaskError};
 ghost use Rattle.column_filters.specs.Words.{OutOfMemory, cell_of, cell_of_rows, cells_of_columns, cells_of_rows};
 ghost use Rattle.column_filters.specs.Words.{contents_of_rows, formula, is_match, bitmap_length, matching};
-ghost use Rattle.column_filters.specs.Words.{rows_in, type_of};
+ghost use Rattle.column_filters.specs.Words.{type_of};
 
 use crate::bits::clear_bits;
 use crate::columns::read_columns;
 use crate::errors::MaskError;
-use arrow_columns::{Column, Rows, bitmap_length, put_bit, row_count_of};
+use arrow_columns::{Column, Rows, bitmap_length, put_bit};
 use column_cells::scalar_at;
 use std::alloc::Global;
 use vortex_dtype::DType;
 use vortex_filter::Filter;
 use vortex_value::Scalar;
 
-/// Writes which rows of columns of these types match: a bit for each, from the least significant
-/// one on. The bits after the last row are 0, and the bytes after them stay.
+/// Writes which of so many rows of columns of these types match: a bit for each, from the least
+/// significant one on. The bits after the last row are 0, and the bytes after them stay. Without
+/// columns the filter is the same on each row.
 ///
 /// It is refused as by `read_columns`, and with `BufferTooSmall` exactly if the columns can be
-/// read, and the mask has fewer bytes than `bitmap_length` of their rows. After `OutOfMemory` the
+/// read, and the mask has fewer bytes than `bitmap_length` of the rows. After `OutOfMemory` the
 /// bits may say anything, and after another refusal they stay.
 pub fn mask_of_columns(
     alloc: Global,
     filter: &Filter,
     types: &[DType],
     columns: &[Column],
+    count: usize,
     mask: &mut [u8],
 ) -> Result<(), MaskError>
     ensures masked { OnOk result
-        (IsMask (matching (formula filter.now) (cells_of_columns columns.now)) (rows_in columns.now) mask.new) }
-    ensures columns { OnOk result (AreColumnsOf columns.now (map type_of types.now)) }
-    ensures buffer { OnOk result (bitmap_length (rows_in columns.now) ≤ length mask.old) }
+        (IsMask (matching (formula filter.now) (cells_of_columns columns.now)) count mask.new) }
+    ensures columns { OnOk result (AreColumnsOf columns.now (map type_of types.now) count) }
+    ensures buffer { OnOk result (bitmap_length count ≤ length mask.old) }
     ensures refused { IfErr result
-        (IsMaskError columns.now (map type_of types.now) (length mask.old)) }
-    ensures rest { drop (bitmap_length (rows_in columns.now)) mask.new
-        ≡ drop (bitmap_length (rows_in columns.now)) mask.old }
+        (IsMaskError columns.now (map type_of types.now) count (length mask.old)) }
+    ensures rest { drop (bitmap_length count) mask.new ≡ drop (bitmap_length count) mask.old }
     ensures kept { IfErr result (λ e. e ≢ OutOfMemory → mask.new ≡ mask.old) }
 {
-    let rows = read_columns(alloc, columns, types)?;
-    let count = row_count_of(columns);
+    let rows = read_columns(alloc, columns, types, count)?;
     if mask.len() < bitmap_length(count) {
         return Err(MaskError::BufferTooSmall);
     }

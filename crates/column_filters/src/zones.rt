@@ -27,7 +27,7 @@ use vortex_statistics::{ColumnStatistics, StatisticsError};
 /// - `HasVariant`: a piece says a bound of a column with variants.
 /// - `BadBytes`: another piece is no encoding of statistics of its column's type. Of these three
 ///   the first piece decides.
-/// - `OutOfMemory`: for the statistics of a zone.
+/// - `OutOfMemory`: for the statistics of a zone. It never comes in place of `WrongLength`.
 ///
 /// After a refusal the outcomes may be any bytes.
 #[tactic(auto, using(crate::proofs::ZoneSteps::shown))]

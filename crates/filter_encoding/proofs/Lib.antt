@@ -5,6 +5,7 @@ pub mod LiteralLaws
 pub mod NodeLaws
 pub mod PlaceLaws
 pub mod ReadSteps
+pub mod ReadableLaws
 pub mod Stuck
 pub mod TypeLaws
 pub mod WriteSteps

@@ -4,7 +4,7 @@ use Rattle.std.specs.List.{AllByRecursion}
 use Rattle.std.specs.Prelude.{Err, Ok, Result}
 use Rattle.filter_encoding.specs.Lists.{AreListed, AreSo, Fits, count_bytes, each_bytes, listed}
 use Rattle.filter_encoding.specs.Strings.{HasRead, IsEncodingOf, IsStuck, Reads, Then}
-use Rattle.filter_encoding.specs.Steps.{Begins, Writes}
+use Rattle.filter_encoding.specs.Steps.{Appends, Begins}
 use Rattle.filter_encoding.specs.declared.error.FilterEncodingError.{FilterEncodingError}
 use Rattle.filter_encoding.specs.declared.reader.Fault.{Fault}
 use Rattle.filter_encoding.proofs.Stuck.{AreApart, GoesOn, encoding_of, stuck_later, stuck_within, then_begins}
@@ -201,14 +201,14 @@ list_answer counts f Is view n (Ok v) old mid now h g = list_read f Is n (map vi
 list_answer counts f Is view n (Err e) old mid now h g = λ bad. items_stuck counts f Is n old mid now h (g bad)
 
 -- a loop that writes: what is written and what is left are all
-pub record IsLeft {X : Type 0} (f : X → List ℕ) (Is : X → Type 0) (rest all : List X) (old now : List ℕ) : Type 0 where
+pub record IsLeft {X : Type 0} (f : X → List ℕ) (Known Is : X → Type 0) (rest all : List X) (old now : List ℕ) : Type 0 where
   pub bytes : now ++ each_bytes f rest ≡ old ++ each_bytes f all
-  pub all_are : AllByRecursion Is rest → AllByRecursion Is all
+  pub all_are : AllByRecursion Known rest → AllByRecursion Known all
   pub rest_are : AllByRecursion Is all → AllByRecursion Is rest
   pub begins : Begins old now
 
-pub left_start : {X : Type 0} (f : X → List ℕ) (Is : X → Type 0) (all : List X) (old : List ℕ) → IsLeft f Is all all old old
-left_start f Is all old = record { bytes = refl; all_are = λ h. h; rest_are = λ h. h; begins = record { more = []; is = sym (append-nil old) } }
+pub left_start : {X : Type 0} (f : X → List ℕ) (Known Is : X → Type 0) (all : List X) (old : List ℕ) → IsLeft f Known Is all all old old
+left_start f Known Is all old = record { bytes = refl; all_are = λ h. h; rest_are = λ h. h; begins = record { more = []; is = sym (append-nil old) } }
 
 -- the items from a place on, if it is there
 at_place : {A : Type 0} (i : ℕ) (items : List A) (x : A) → i < length items → x ≡ get_or items i x → drop i items ≡ x ∷ drop (suc i) items
@@ -216,23 +216,23 @@ at_place i [] x l e = absurd (omega arith)
 at_place zero (y ∷ items) x l e = ap (λ z. z ∷ items) (sym e)
 at_place (suc i) (y ∷ items) x l e = at_place i items x (omega arith) e
 
-pub left_more : {X A : Type 0} (f : X → List ℕ) (Is : X → Type 0) (view : A → X) (i j : ℕ) (items : List A) (x : A) (old mid now : List ℕ) → j ≡ suc i → i < length items → x ≡ get_or items i x
-    → IsLeft f Is (map view (drop i items)) (map view items) old mid → Is (view x) × (now ≡ mid ++ f (view x)) → IsLeft f Is (map view (drop j items)) (map view items) old now
-left_more f Is view i j items x old mid now next less is h g =
+pub left_more : {X A : Type 0} (f : X → List ℕ) (Known Is : X → Type 0) (view : A → X) (i j : ℕ) (items : List A) (x : A) (old mid now : List ℕ) → j ≡ suc i → i < length items → x ≡ get_or items i x
+    → IsLeft f Known Is (map view (drop i items)) (map view items) old mid → Known (view x) × (now ≡ mid ++ f (view x)) → IsLeft f Known Is (map view (drop j items)) (map view items) old now
+left_more f Known Is view i j items x old mid now next less is h g =
     let at : map view (drop i items) ≡ view x ∷ map view (drop (suc i) items) = ap (map view) (at_place i items x less is) in
     let after : map view (drop (suc i) items) ≡ map view (drop j items) = ap (λ k. map view (drop k items)) (sym next) in
-    subst (λ xs. IsLeft f Is xs (map view items) old now) after
+    subst (λ xs. IsLeft f Known Is xs (map view items) old now) after
     (record {
       bytes = ap (λ xs. xs ++ each_bytes f (map view (drop (suc i) items))) g.1 ∙ append_assoc mid (f (view x)) (each_bytes f (map view (drop (suc i) items))) ∙ ap (λ xs. mid ++ each_bytes f xs) (sym at) ∙ h.bytes;
-      all_are = λ r. h.all_are (subst (AllByRecursion Is) (sym at) (g.0, r));
+      all_are = λ r. h.all_are (subst (AllByRecursion Known) (sym at) (g.0, r));
       rest_are = λ a. (subst (AllByRecursion Is) at (h.rest_are a)).1;
       begins = record { more = h.begins.more ++ f (view x); is = g.1 ∙ ap (λ xs. xs ++ f (view x)) h.begins.is ∙ append_assoc old h.begins.more (f (view x)) };
     })
 
 -- one that may not be written
-pub left_item : {X A : Type 0} (f : X → List ℕ) (Is : X → Type 0) (view : A → X) (i : ℕ) (items : List A) (x : A) (old mid : List ℕ) → i < length items → x ≡ get_or items i x → IsLeft f Is (map view (drop i items)) (map view items) old mid
+pub left_item : {X A : Type 0} (f : X → List ℕ) (Known Is : X → Type 0) (view : A → X) (i : ℕ) (items : List A) (x : A) (old mid : List ℕ) → i < length items → x ≡ get_or items i x → IsLeft f Known Is (map view (drop i items)) (map view items) old mid
     → AllByRecursion Is (map view items) → Is (view x)
-left_item f Is view i items x old mid less is h a = (subst (AllByRecursion Is) (ap (map view) (at_place i items x less is)) (h.rest_are a)).0
+left_item f Known Is view i items x old mid less is h a = (subst (AllByRecursion Is) (ap (map view) (at_place i items x less is)) (h.rest_are a)).0
 
 none_left : {A : Type 0} (i : ℕ) (items : List A) → length items ≤ i → drop i items ≡ []
 none_left zero [] l = refl
@@ -240,11 +240,11 @@ none_left (suc i) [] l = refl
 none_left zero (x ∷ items) l = absurd (omega arith)
 none_left (suc i) (x ∷ items) l = none_left i items (omega arith)
 
-pub left_end : {X A : Type 0} (f : X → List ℕ) (Is : X → Type 0) (view : A → X) (i : ℕ) (items : List A) (old now : List ℕ) → length items ≤ i → IsLeft f Is (map view (drop i items)) (map view items) old now
-    → AllByRecursion Is (map view items) × (now ≡ old ++ each_bytes f (map view items))
-left_end f Is view i items old now l h =
+pub left_end : {X A : Type 0} (f : X → List ℕ) (Known Is : X → Type 0) (view : A → X) (i : ℕ) (items : List A) (old now : List ℕ) → length items ≤ i → IsLeft f Known Is (map view (drop i items)) (map view items) old now
+    → AllByRecursion Known (map view items) × (now ≡ old ++ each_bytes f (map view items))
+left_end f Known Is view i items old now l h =
     let none : map view (drop i items) ≡ [] = ap (map view) (none_left i items l) in
-    (h.all_are (subst (AllByRecursion Is) (sym none) tt), sym (append-nil now) ∙ ap (λ xs. now ++ each_bytes f xs) (sym none) ∙ h.bytes)
+    (h.all_are (subst (AllByRecursion Known) (sym none) tt), sym (append-nil now) ∙ ap (λ xs. now ++ each_bytes f xs) (sym none) ∙ h.bytes)
 
 -- ---- writing a list
 
@@ -255,10 +255,10 @@ length_map view (x ∷ items) = ap suc (length_map view items)
 pub fit_of : {X A : Type 0} (view : A → X) (items : List A) (n : ℕ) → n ≡ length items → Fits (length (map view items)) → Fits n
 fit_of view items n e fit = let same = length_map view items in omega arith
 
-pub list_written : {X A : Type 0} (f : X → List ℕ) (Is : X → Type 0) (view : A → X) (items : List A) (n : ℕ) (r : Result Unit FilterEncodingError) (old mid now : List ℕ) → n ≡ length items → Fits n × (mid ≡ old ++ count_bytes n)
-    → Writes (AllByRecursion Is (map view items)) (each_bytes f (map view items)) r mid now → Writes (AreListed Is (map view items)) (listed f (map view items)) r old now
-list_written f Is view items n r old mid now e w g =
+pub list_written : {X A : Type 0} (f : X → List ℕ) (Known Is : X → Type 0) (view : A → X) (items : List A) (n : ℕ) (r : Result Unit FilterEncodingError) (old mid now : List ℕ) → n ≡ length items → Fits n × (mid ≡ old ++ count_bytes n)
+    → Appends (AllByRecursion Known (map view items)) (AllByRecursion Is (map view items)) (each_bytes f (map view items)) r mid now → Appends (AreListed Known (map view items)) (AreListed Is (map view items)) (listed f (map view items)) r old now
+list_written f Known Is view items n r old mid now e w g =
     let same : n ≡ length (map view items) = e ∙ sym (length_map view items) in
     let fit : Fits (length (map view items)) = subst Fits same w.0 in
-    subst (λ k. Writes (AreListed Is (map view items)) (count_bytes k ++ each_bytes f (map view items)) r old now) same
-    (then_written (AllByRecursion Is (map view items)) (AreListed Is (map view items)) (count_bytes n) (each_bytes f (map view items)) r old mid now (λ a. record { fit = fit; each = a }) (λ a. a.each) w.1 g)
+    subst (λ k. Appends (AreListed Known (map view items)) (AreListed Is (map view items)) (count_bytes k ++ each_bytes f (map view items)) r old now) same
+    (then_written (AllByRecursion Known (map view items)) (AreListed Known (map view items)) (AllByRecursion Is (map view items)) (AreListed Is (map view items)) (count_bytes n) (each_bytes f (map view items)) r old mid now (λ a. record { fit = fit; each = a }) (λ a. a.each) w.1 g)

@@ -3,12 +3,13 @@ use Rattle.std.proofs.Common.{◌≡◌, ◌⊎◌, inl, inr, ℕ, List, [], ◌
 use Rattle.std.specs.Prelude.{Err, IfErr, IsErr, Ok, OnErr, OnOk, Result}
 use Rattle.std.specs.Result.{IsErrAnd}
 use Rattle.vortex_dtype.specs.TypeTree.{TypeTree}
+use Rattle.vortex_row.specs.Held.{IsHeld}
 use Rattle.vortex_row.specs.Keys.{key}
 use Rattle.vortex_cells.specs.Cells.{Cell}
 use Rattle.vortex_filter.specs.Formula.{Formula}
-use Rattle.filter_encoding.specs.Encoding.{CanBeWritten, IsPlain, IsPlainCell, Nests, Prepared, encoding, literal_bytes, node_bytes, type_byte, type_bytes}
+use Rattle.filter_encoding.specs.Encoding.{CanBeWritten, IsHeldCell, IsPlain, IsPlainCell, IsWritten, Nests, Prepared, encoding, literal_bytes, node_bytes, type_byte, type_bytes}
 use Rattle.filter_encoding.specs.Lists.{AreListed, listed}
-use Rattle.filter_encoding.specs.Steps.{Begins, IsRefused, Writes}
+use Rattle.filter_encoding.specs.Steps.{Appends, Begins, IsRefused}
 use Rattle.filter_encoding.specs.declared.error.FilterEncodingError.{FilterEncodingError}
 use Rattle.filter_encoding.specs.declared.error.FilterEncodingError.TheVariants.{BadBytes, NoEncoding, OutOfMemory}
 
@@ -25,69 +26,70 @@ pub begins_later : (xs old mid now : List ℕ) → mid ≡ old ++ xs → Begins 
 begins_later xs old mid now e h = record { more = xs ++ h.more; is = h.is ∙ ap (λ ys. ys ++ h.more) e ∙ append_assoc old xs h.more }
 
 -- a step, and what is written after it
-pub then_written : (Q R : Type 0) (xs ys : List ℕ) (r : Result Unit FilterEncodingError) (old mid now : List ℕ) → (Q → R) → (R → Q) → mid ≡ old ++ xs → Writes Q ys r mid now → Writes R (xs ++ ys) r old now
-then_written Q R xs ys (Ok u) old mid now to from e w = (to w.0, w.1 ∙ ap (λ zs. zs ++ ys) e ∙ append_assoc old xs ys)
-then_written Q R xs ys (Err d) old mid now to from e w = (refused_too Q R d from w.0, begins_later xs old mid now e w.1)
+pub then_written : (K L Q R : Type 0) (xs ys : List ℕ) (r : Result Unit FilterEncodingError) (old mid now : List ℕ) → (K → L) → (R → Q) → mid ≡ old ++ xs → Appends K Q ys r mid now → Appends L R (xs ++ ys) r old now
+then_written K L Q R xs ys (Ok u) old mid now to from e w = (to w.0, w.1 ∙ ap (λ zs. zs ++ ys) e ∙ append_assoc old xs ys)
+then_written K L Q R xs ys (Err d) old mid now to from e w = (refused_too Q R d from w.0, begins_later xs old mid now e w.1)
 
 -- a refusal that is passed on
-pub passed_on : (P R : Type 0) (bytes : List ℕ) (r : Result Unit FilterEncodingError) (e : FilterEncodingError) (old now : List ℕ) → IsErr r × IsErrAnd r (λ f. f ≡ e) → (R → P) → IsRefused P e → Begins old now → Writes R bytes r old now
-passed_on P R bytes (Ok u) e old now is part h b = absurd (true≢false (sym is.0))
-passed_on P R bytes (Err f) e old now is part h b = (refused_too P R f part (subst (IsRefused P) (sym is.1) h), b)
+pub passed_on : (K P R : Type 0) (bytes : List ℕ) (r : Result Unit FilterEncodingError) (e : FilterEncodingError) (old now : List ℕ) → IsErr r × IsErrAnd r (λ f. f ≡ e) → (R → P) → IsRefused P e → Begins old now → Appends K R bytes r old now
+passed_on K P R bytes (Ok u) e old now is part h b = absurd (true≢false (sym is.0))
+passed_on K P R bytes (Err f) e old now is part h b = (refused_too P R f part (subst (IsRefused P) (sym is.1) h), b)
 
 -- what is allowed alike, and has the same bytes
-pub written_as : (P Q : Type 0) (xs ys : List ℕ) (r : Result Unit FilterEncodingError) (old now : List ℕ) → (P → Q) → (Q → P) → xs ≡ ys → Writes P xs r old now → Writes Q ys r old now
-written_as P Q xs ys (Ok u) old now to from e w = (to w.0, w.1 ∙ ap (λ zs. old ++ zs) e)
-written_as P Q xs ys (Err d) old now to from e w = (refused_too P Q d from w.0, w.1)
+pub written_as : (K L P Q : Type 0) (xs ys : List ℕ) (r : Result Unit FilterEncodingError) (old now : List ℕ) → (K → L) → (Q → P) → xs ≡ ys → Appends K P xs r old now → Appends L Q ys r old now
+written_as K L P Q xs ys (Ok u) old now to from e w = (to w.0, w.1 ∙ ap (λ zs. old ++ zs) e)
+written_as K L P Q xs ys (Err d) old now to from e w = (refused_too P Q d from w.0, w.1)
 
 -- what was begun goes on
 pub begins_on : (old mid now : List ℕ) → Begins old mid → Begins mid now → Begins old now
 begins_on old mid now h g = begins_later h.more old mid now h.is g
 
 -- a key, after the byte of its type
-pub key_written : (x : Cell) (t : TypeTree) (r : Result Unit FilterEncodingError) (old mid now : List ℕ) → x.typed ≡ t → IsPlain t × (mid ≡ old ++ type_bytes t) → OnOk r (now ≡ mid ++ key x.content) → IfErr r (λ e. e ≡ OutOfMemory) → OnErr r (now ≡ mid)
-    → Writes (IsPlainCell x) (literal_bytes x) r old now
-key_written x t (Ok u) old mid now e w ok err same =
-    (subst IsPlain (sym e) w.0, ok ∙ ap (λ xs. xs ++ key x.content) w.1 ∙ append_assoc old (type_bytes t) (key x.content) ∙ ap (λ u. old ++ type_byte u ∷ key x.content) (sym e))
-key_written x t (Err d) old mid now e w ok err same =
+pub key_written : (x : Cell) (t : TypeTree) (r : Result Unit FilterEncodingError) (old mid now : List ℕ) → x.typed ≡ t → IsPlain t × (mid ≡ old ++ type_bytes t) → OnOk r (now ≡ mid ++ key x.content) → OnOk r (IsHeld x.content) → IfErr r (λ e. e ≡ OutOfMemory)
+    → OnErr r (now ≡ mid) → Appends (IsHeldCell x) (IsPlainCell x) (literal_bytes x) r old now
+key_written x t (Ok u) old mid now e w ok held err same =
+    (record { plain = subst IsPlain (sym e) w.0; held = held }, ok ∙ ap (λ xs. xs ++ key x.content) w.1 ∙ append_assoc old (type_bytes t) (key x.content) ∙ ap (λ u. old ++ type_byte u ∷ key x.content) (sym e))
+key_written x t (Err d) old mid now e w ok held err same =
     (subst (IsRefused (IsPlainCell x)) (sym err) tt, record { more = type_bytes t; is = same ∙ w.1 })
 
 -- ---- tests
 
 -- a test is written
-pub node_written : (n : ℕ) (P : Type 0) (xs : List ℕ) (f : Formula) (g : Formula) (r : Result Unit FilterEncodingError) (old now : List ℕ) → f ≡ g → (P → Nests IsPlainCell n g) → (Nests IsPlainCell n g → P) → xs ≡ node_bytes g → Writes P xs r old now
-    → Writes (Nests IsPlainCell n f) (node_bytes f) r old now
-node_written n P xs f g r old now e to from is w = subst (λ k. Writes (Nests IsPlainCell n k) (node_bytes k) r old now) (sym e) (written_as P (Nests IsPlainCell n g) xs (node_bytes g) r old now to from is w)
+pub node_written : (n : ℕ) (K P : Type 0) (xs : List ℕ) (f : Formula) (g : Formula) (r : Result Unit FilterEncodingError) (old now : List ℕ) → f ≡ g → (K → Nests IsHeldCell n g) → (Nests IsPlainCell n g → P) → xs ≡ node_bytes g → Appends K P xs r old now
+    → Appends (Nests IsHeldCell n f) (Nests IsPlainCell n f) (node_bytes f) r old now
+node_written n K P xs f g r old now e to from is w =
+    subst (λ k. Appends (Nests IsHeldCell n k) (Nests IsPlainCell n k) (node_bytes k) r old now) (sym e) (written_as K (Nests IsHeldCell n g) P (Nests IsPlainCell n g) xs (node_bytes g) r old now to from is w)
 
 -- ---- the whole
 
 pub encoding_written : (n : ℕ) (p : Prepared) (r : Result Unit FilterEncodingError) (old mid here now : List ℕ) → mid ≡ old ++ 1 ∷ [] → AreListed IsPlain p.types × (here ≡ mid ++ listed type_bytes p.types)
-    → Writes (Nests IsPlainCell n p.filter) (node_bytes p.filter) r here now → Writes (CanBeWritten n p) (encoding p) r old now
+    → Appends (Nests IsHeldCell n p.filter) (Nests IsPlainCell n p.filter) (node_bytes p.filter) r here now → Appends (IsWritten n p) (CanBeWritten n p) (encoding p) r old now
 encoding_written n p r old mid here now version types w =
     let at : here ≡ old ++ 1 ∷ listed type_bytes p.types = types.1 ∙ ap (λ xs. xs ++ listed type_bytes p.types) version ∙ append_assoc old (1 ∷ []) (listed type_bytes p.types) in
-    then_written (Nests IsPlainCell n p.filter) (CanBeWritten n p) (1 ∷ listed type_bytes p.types) (node_bytes p.filter) r old here now (λ f. record { types = types.0; filter = f }) (λ a. a.filter) at w
+    then_written (Nests IsHeldCell n p.filter) (IsWritten n p) (Nests IsPlainCell n p.filter) (CanBeWritten n p) (1 ∷ listed type_bytes p.types) (node_bytes p.filter) r old here now (λ f. record { types = types.0; filter = f }) (λ a. a.filter) at w
 
 -- what writing answers, clause by clause
-pub appended_of : (P : Type 0) (bytes : List ℕ) (r : Result Unit FilterEncodingError) (old now : List ℕ) → Writes P bytes r old now → OnOk r (now ≡ old ++ bytes)
-appended_of P bytes (Ok u) old now w = w.1
-appended_of P bytes (Err e) old now w = tt
+pub appended_of : (K P : Type 0) (bytes : List ℕ) (r : Result Unit FilterEncodingError) (old now : List ℕ) → Appends K P bytes r old now → OnOk r (now ≡ old ++ bytes)
+appended_of K P bytes (Ok u) old now w = w.1
+appended_of K P bytes (Err e) old now w = tt
 
-pub allowed_of : (P : Type 0) (bytes : List ℕ) (r : Result Unit FilterEncodingError) (old now : List ℕ) → Writes P bytes r old now → OnOk r P
-allowed_of P bytes (Ok u) old now w = w.0
-allowed_of P bytes (Err e) old now w = tt
+pub known_of : (K P Q : Type 0) (bytes : List ℕ) (r : Result Unit FilterEncodingError) (old now : List ℕ) → (K → Q) → Appends K P bytes r old now → OnOk r Q
+known_of K P Q bytes (Ok u) old now to w = to w.0
+known_of K P Q bytes (Err e) old now to w = tt
 
-pub no_encoding_of : (P : Type 0) (bytes : List ℕ) (r : Result Unit FilterEncodingError) (old now : List ℕ) → Writes P bytes r old now → r ≡ Err NoEncoding → ¬ P
-no_encoding_of P bytes (Ok u) old now w e = absurd (cc)
-no_encoding_of P bytes (Err d) old now w e = let same : d ≡ NoEncoding = cc in subst (IsRefused P) same w.0
+pub no_encoding_of : (K P : Type 0) (bytes : List ℕ) (r : Result Unit FilterEncodingError) (old now : List ℕ) → Appends K P bytes r old now → r ≡ Err NoEncoding → ¬ P
+no_encoding_of K P bytes (Ok u) old now w e = absurd (cc)
+no_encoding_of K P bytes (Err d) old now w e = let same : d ≡ NoEncoding = cc in subst (IsRefused P) same w.0
 
 cause_of : (P : Type 0) (d : FilterEncodingError) → IsRefused P d → (d ≡ NoEncoding) ⊎ (d ≡ OutOfMemory)
 cause_of P OutOfMemory h = inr refl
 cause_of P NoEncoding h = inl refl
 cause_of P (BadBytes place) h = absurd h
 
-pub refused_of : (P : Type 0) (bytes : List ℕ) (r : Result Unit FilterEncodingError) (old now : List ℕ) → Writes P bytes r old now → IfErr r (λ e. (e ≡ NoEncoding) ⊎ (e ≡ OutOfMemory))
-refused_of P bytes (Ok u) old now w = tt
-refused_of P bytes (Err d) old now w = cause_of P d w.0
+pub refused_of : (K P : Type 0) (bytes : List ℕ) (r : Result Unit FilterEncodingError) (old now : List ℕ) → Appends K P bytes r old now → IfErr r (λ e. (e ≡ NoEncoding) ⊎ (e ≡ OutOfMemory))
+refused_of K P bytes (Ok u) old now w = tt
+refused_of K P bytes (Err d) old now w = cause_of P d w.0
 
-pub begun_of : (P : Type 0) (bytes : List ℕ) (r : Result Unit FilterEncodingError) (old now : List ℕ) → Writes P bytes r old now → (more : List ℕ) × (now ≡ old ++ more)
-begun_of P bytes (Ok u) old now w = (bytes, w.1)
-begun_of P bytes (Err d) old now w = (w.1.more, w.1.is)
+pub begun_of : (K P : Type 0) (bytes : List ℕ) (r : Result Unit FilterEncodingError) (old now : List ℕ) → Appends K P bytes r old now → (more : List ℕ) × (now ≡ old ++ more)
+begun_of K P bytes (Ok u) old now w = (bytes, w.1)
+begun_of K P bytes (Err d) old now w = (w.1.more, w.1.is)

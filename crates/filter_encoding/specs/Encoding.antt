@@ -10,6 +10,7 @@ use Rattle.vortex_dtype.specs.declared.types.DType.{DType}
 use Rattle.vortex_value.specs.Values.Content.{content}
 use Rattle.vortex_value.specs.Values.RawTree.{RawTree}
 use Rattle.vortex_row.specs.Decoded.{IsValueOf}
+use Rattle.vortex_row.specs.Held.{IsHeld}
 use Rattle.vortex_row.specs.Keys.{key}
 use Rattle.vortex_cells.specs.Cells.{Cell}
 use Rattle.vortex_filter.specs.Formula.{Formula, formula, constant, comparison, null_test, membership, range, prefix_test, both, either, negation}
@@ -70,6 +71,11 @@ literal_bytes x = type_byte x.typed ∷ key x.content
 -- a literal of such a type
 abbrev pub IsPlainCell : Cell → Type 0
 IsPlainCell x = IsPlain x.typed
+
+-- a literal of such a type, with a content that memory can hold
+pub record IsHeldCell (x : Cell) : Type 0 where
+  pub plain : IsPlain x.typed
+  pub held : IsHeld x.content
 
 -- a literal of such a type, and a value of it
 pub record IsLiteral (x : Cell) : Type 0 where
@@ -144,6 +150,11 @@ encoding p = 1 ∷ (listed type_bytes p.types ++ node_bytes p.filter)
 pub record CanBeWritten (n : ℕ) (p : Prepared) : Type 0 where
   pub types : AreListed IsPlain p.types
   pub filter : Nests IsPlainCell n p.filter
+
+-- the same, and memory can hold the content of each literal
+pub record IsWritten (n : ℕ) (p : Prepared) : Type 0 where
+  pub types : AreListed IsPlain p.types
+  pub filter : Nests IsHeldCell n p.filter
 
 -- the same, and each literal is a value of its type
 pub record HasEncoding (n : ℕ) (p : Prepared) : Type 0 where

@@ -119,6 +119,10 @@ IsRefused allowed OutOfMemory = Unit {0}
 IsRefused allowed NoEncoding = ¬ allowed
 IsRefused allowed (BadBytes place) = ⊥
 
+-- the bytes are appended, and so much is known; or some bytes are, and there is no memory, or it is not allowed
+abbrev pub Appends : (known allowed : Type 0) → List ℕ → Result Unit FilterEncodingError → List ℕ → List ℕ → Type 0
+Appends known allowed bytes r old now = MatchResult r (λ u. known × (now ≡ old ++ bytes)) (λ e. IsRefused allowed e × Begins old now)
+
 -- the bytes are appended, and that is allowed; or some bytes are, and there is no memory, or it is not allowed
 abbrev pub Writes : Type 0 → List ℕ → Result Unit FilterEncodingError → List ℕ → List ℕ → Type 0
-Writes allowed bytes r old now = MatchResult r (λ u. allowed × (now ≡ old ++ bytes)) (λ e. IsRefused allowed e × Begins old now)
+Writes allowed bytes r old now = Appends allowed allowed bytes r old now

@@ -2,7 +2,10 @@
 
 ghost use Rattle.std.specs.Prelude.{◌≡◌, ◌++◌, IfErr, IfOk, OnErr, OnOk, map};
 ghost use Rattle.std.specs.List.{AllByRecursion};
-ghost use Rattle.filter_encoding.specs.Words.{AreListed, AreSo, AreValid, HasNoVariant, IsFound, IsLiteral, IsPlain, IsPlainCell, IsValid, OutOfMemory, Reads, ReadsKey, Writes, ascending, cell_of, each_bytes, key, left, listed, literal_bytes, scalar_content, scalar_type, type_of};
+ghost use Rattle.filter_encoding.specs.Words.{Appends, AreListed, AreSo, AreValid, HasNoVariant, IsFound, IsHeld};
+ghost use Rattle.filter_encoding.specs.Words.{IsHeldCell, IsLiteral, IsPlain, IsPlainCell, IsValid, OutOfMemory};
+ghost use Rattle.filter_encoding.specs.Words.{Reads, ReadsKey, ascending, cell_of, each_bytes, key, left, listed};
+ghost use Rattle.filter_encoding.specs.Words.{literal_bytes, scalar_content, scalar_type, type_of};
 
 use crate::error::FilterEncodingError;
 use crate::places::{append_place, read_place};
@@ -100,6 +103,7 @@ fn append_value(literal: &Scalar, out: &mut Vec<u8>) -> Result<(), FilterEncodin
     requires { HasNoVariant (scalar_type literal.now) }
     ensures appended { OnOk result
         (out.new.items ≡ out.old.items ++ key (scalar_content literal.now)) }
+    ensures held { OnOk result (IsHeld (scalar_content literal.now)) }
     ensures refused { IfErr result (λ e. e ≡ OutOfMemory) }
     ensures unchanged { OnErr result (out.new.items ≡ out.old.items) }
 {
@@ -111,8 +115,8 @@ fn append_value(literal: &Scalar, out: &mut Vec<u8>) -> Result<(), FilterEncodin
 
 /// Appends a literal.
 pub(crate) fn append_literal(literal: &Scalar, out: &mut Vec<u8>) -> Result<(), FilterEncodingError>
-    ensures { Writes (IsPlainCell (cell_of literal.now)) (literal_bytes (cell_of literal.now))
-        result out.old.items out.new.items }
+    ensures { Appends (IsHeldCell (cell_of literal.now)) (IsPlainCell (cell_of literal.now))
+        (literal_bytes (cell_of literal.now)) result out.old.items out.new.items }
 {
     append_type(literal.dtype(), out)?;
     append_value(literal, out)
@@ -123,7 +127,8 @@ pub(crate) fn append_literals(
     literals: &[Scalar],
     out: &mut Vec<u8>,
 ) -> Result<(), FilterEncodingError>
-    ensures { Writes (AreListed IsPlainCell (map cell_of literals.now))
+    ensures { Appends (AreListed IsHeldCell (map cell_of literals.now))
+        (AreListed IsPlainCell (map cell_of literals.now))
         (listed literal_bytes (map cell_of literals.now)) result out.old.items out.new.items }
 {
     append_place(literals.len(), out)?;
@@ -132,7 +137,8 @@ pub(crate) fn append_literals(
 
 /// Appends each literal.
 fn append_each(literals: &[Scalar], out: &mut Vec<u8>) -> Result<(), FilterEncodingError>
-    ensures { Writes (AllByRecursion IsPlainCell (map cell_of literals.now))
+    ensures { Appends (AllByRecursion IsHeldCell (map cell_of literals.now))
+        (AllByRecursion IsPlainCell (map cell_of literals.now))
         (each_bytes literal_bytes (map cell_of literals.now)) result out.old.items out.new.items }
 {
     for literal in literals {

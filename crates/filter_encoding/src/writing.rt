@@ -1,7 +1,11 @@
 //! The encoding of a prepared filter in bytes, appended.
 
 ghost use Rattle.std.specs.Prelude.{◌≡◌, ◌++◌, ◌+◌, ◌<◌, ◌∷◌, ◌⊎◌, [], ℕ, suc, Err, IfErr, List, MatchResult, OnErr, OnOk, map};
-ghost use Rattle.filter_encoding.specs.Words.{AreListed, Begins, CanBeWritten, Fits, IsPlainCell, IsRefused, Nests, NoEncoding, OutOfMemory, Writes, cell_of, count_bytes, encoding, formula, head_byte, listed, literal_bytes, node_bytes, operator_byte, parts_of};
+ghost use Rattle.filter_encoding.specs.Words.{Appends, AreListed, AreValid, Begins, CanBeWritten, Fits, HasEncoding};
+ghost use Rattle.filter_encoding.specs.Words.{IsHeldCell, IsPlainCell, IsRefused, IsWritten, Nests, NoEncoding};
+ghost use Rattle.filter_encoding.specs.Words.{OutOfMemory, Writes, cell_of, count_bytes, encoding, formula};
+ghost use Rattle.filter_encoding.specs.Words.{head_byte, listed, literal_bytes, literals_of, node_bytes};
+ghost use Rattle.filter_encoding.specs.Words.{operator_byte, parts_of};
 
 use crate::error::FilterEncodingError;
 use crate::heads::Head;
@@ -20,7 +24,8 @@ pub(crate) const VERSION: u8 = 1;
 /// `NoEncoding` only if a column or a literal is of a type other than integers, bool, strings,
 /// bytes and nulls, or if more than `depth` connectives nest. Such a filter is never written.
 /// `OutOfMemory` is the only other refusal. After a refusal `out` has the bytes that it had. The
-/// literals need not be valid for their types.
+/// literals need not be valid for their types. If they are, `read_filter` reads what is written, at
+/// the same depth.
 pub fn append_filter(
     filter: &Filter,
     columns: &[DType],
@@ -30,6 +35,8 @@ pub fn append_filter(
     ensures appended { OnOk result
         (out.new.items ≡ out.old.items ++ encoding (parts_of columns.now filter.now)) }
     ensures written { OnOk result (CanBeWritten depth (parts_of columns.now filter.now)) }
+    ensures readable { OnOk result (AreValid (literals_of filter.now)
+        → HasEncoding depth (parts_of columns.now filter.now)) }
     ensures no_encoding { result ≡ Err NoEncoding → ¬ (CanBeWritten depth (parts_of columns.now filter.now)) }
     ensures refused { IfErr result (λ e. (e ≡ NoEncoding) ⊎ (e ≡ OutOfMemory)) }
     ensures unchanged { OnErr result (out.new.items ≡ out.old.items) }
@@ -52,6 +59,8 @@ fn append_encoding(
     ensures appended { OnOk result
         (out.new.items ≡ out.old.items ++ encoding (parts_of columns.now filter.now)) }
     ensures written { OnOk result (CanBeWritten depth (parts_of columns.now filter.now)) }
+    ensures readable { OnOk result (AreValid (literals_of filter.now)
+        → HasEncoding depth (parts_of columns.now filter.now)) }
     ensures no_encoding { result ≡ Err NoEncoding → ¬ (CanBeWritten depth (parts_of columns.now filter.now)) }
     ensures refused { IfErr result (λ e. (e ≡ NoEncoding) ⊎ (e ≡ OutOfMemory)) }
     ensures begun { (more : List ℕ) × (out.new.items ≡ out.old.items ++ more) }
@@ -66,7 +75,8 @@ fn append_parts(
     depth: usize,
     out: &mut Vec<u8>,
 ) -> Result<(), FilterEncodingError>
-    ensures { Writes (CanBeWritten depth (parts_of columns.now filter.now))
+    ensures { Appends (IsWritten depth (parts_of columns.now filter.now))
+        (CanBeWritten depth (parts_of columns.now filter.now))
         (encoding (parts_of columns.now filter.now)) result out.old.items out.new.items }
 {
     append_byte(VERSION, out)?;
@@ -91,7 +101,8 @@ pub(crate) fn append_byte(byte: u8, out: &mut Vec<u8>) -> Result<(), FilterEncod
 
 /// Appends a filter in which at most so many connectives nest.
 fn append_node(filter: &Filter, depth: usize, out: &mut Vec<u8>) -> Result<(), FilterEncodingError>
-    ensures { Writes (Nests IsPlainCell depth (formula filter.now))
+    ensures { Appends (Nests IsHeldCell depth (formula filter.now))
+        (Nests IsPlainCell depth (formula filter.now))
         (node_bytes (formula filter.now)) result out.old.items out.new.items }
 {
     match filter {
@@ -161,7 +172,8 @@ fn append_comparison(
     literal: &Scalar,
     out: &mut Vec<u8>,
 ) -> Result<(), FilterEncodingError>
-    ensures { Writes (Fits column × IsPlainCell (cell_of literal.now))
+    ensures { Appends (Fits column × IsHeldCell (cell_of literal.now))
+        (Fits column × IsPlainCell (cell_of literal.now))
         (operator_byte operator ∷ (count_bytes column ++ literal_bytes (cell_of literal.now)))
         result out.old.items out.new.items }
 {
@@ -175,7 +187,8 @@ fn append_membership(
     literals: &[Scalar],
     out: &mut Vec<u8>,
 ) -> Result<(), FilterEncodingError>
-    ensures { Writes (Fits column × AreListed IsPlainCell (map cell_of literals.now))
+    ensures { Appends (Fits column × AreListed IsHeldCell (map cell_of literals.now))
+        (Fits column × AreListed IsPlainCell (map cell_of literals.now))
         (10 ∷ (count_bytes column ++ listed literal_bytes (map cell_of literals.now)))
         result out.old.items out.new.items }
 {
@@ -190,7 +203,8 @@ fn append_range(
     upper: &Scalar,
     out: &mut Vec<u8>,
 ) -> Result<(), FilterEncodingError>
-    ensures { Writes
+    ensures { Appends
+        (Fits column × (IsHeldCell (cell_of lower.now) × IsHeldCell (cell_of upper.now)))
         (Fits column × (IsPlainCell (cell_of lower.now) × IsPlainCell (cell_of upper.now)))
         (11 ∷ (count_bytes column
         ++ (literal_bytes (cell_of lower.now) ++ literal_bytes (cell_of upper.now))))
@@ -202,7 +216,8 @@ fn append_range(
 
 /// Appends both literals.
 fn append_ends(lower: &Scalar, upper: &Scalar, out: &mut Vec<u8>) -> Result<(), FilterEncodingError>
-    ensures { Writes (IsPlainCell (cell_of lower.now) × IsPlainCell (cell_of upper.now))
+    ensures { Appends (IsHeldCell (cell_of lower.now) × IsHeldCell (cell_of upper.now))
+        (IsPlainCell (cell_of lower.now) × IsPlainCell (cell_of upper.now))
         (literal_bytes (cell_of lower.now) ++ literal_bytes (cell_of upper.now))
         result out.old.items out.new.items }
 {
@@ -216,7 +231,8 @@ fn append_prefix(
     prefix: &Scalar,
     out: &mut Vec<u8>,
 ) -> Result<(), FilterEncodingError>
-    ensures { Writes (Fits column × IsPlainCell (cell_of prefix.now))
+    ensures { Appends (Fits column × IsHeldCell (cell_of prefix.now))
+        (Fits column × IsPlainCell (cell_of prefix.now))
         (12 ∷ (count_bytes column ++ literal_bytes (cell_of prefix.now)))
         result out.old.items out.new.items }
 {

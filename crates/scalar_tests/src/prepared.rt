@@ -3,7 +3,7 @@
 ghost use Rattle.std.specs.Prelude.{◌≡◌, ◌↔◌, ℕ, IfOk, map, true};
 ghost use Rattle.vortex_filter.specs.FilterLiterals.{AreValid, exactly_of, literals_of};
 ghost use Rattle.filter_encoding.specs.Answers.{ReadsAs};
-ghost use Rattle.filter_encoding.specs.Encoding.{HasEncoding, Prepared, encoding, prepared};
+ghost use Rattle.filter_encoding.specs.Encoding.{CanBeWritten, HasEncoding, Prepared, encoding, prepared};
 
 use filter_encoding::laws::encodings_are_apart;
 use filter_encoding::{FilterEncodingError, PreparedFilter, append_filter, read_filter};
@@ -21,17 +21,17 @@ pub fn are_same(one: &[u8], other: &[u8]) -> bool
     one == other
 }
 
-/// A prepared filter that is written as bytes and read back. What is read says the same, if the
-/// filter has an encoding. Valid literals come back as they were: each with its type and its raw
-/// value, the `PType` of an integer included.
+/// A prepared filter that is written as bytes and read back. If it can be written and its literals
+/// are valid, what is read says the same. The literals come back as they were: each with its type
+/// and its raw value, the `PType` of an integer included.
 pub fn there_and_back(
     alloc: Global,
     depth: usize,
     given: &PreparedFilter,
 ) -> Result<PreparedFilter, FilterEncodingError>
-    ensures same { HasEncoding depth (prepared given.now) → ReadsAs (prepared given.now) result }
-    ensures literals { HasEncoding depth (prepared given.now) → AreValid (literals_of given.now.filter)
-        → IfOk result (λ kept.
+    ensures same { CanBeWritten depth (prepared given.now) → AreValid (literals_of given.now.filter)
+        → ReadsAs (prepared given.now) result }
+    ensures literals { AreValid (literals_of given.now.filter) → IfOk result (λ kept.
         map exactly_of (literals_of kept.filter) ≡ map exactly_of (literals_of given.now.filter)) }
 {
     formulas_say_literals();

@@ -1,21 +1,23 @@
 -- Steps of asking a prepared filter.
-use Rattle.std.proofs.Common.{◌≡◌, ◌≢◌, ℕ, ◌⊎◌, inl, inr, List, map, subst, sym, ap}
+use Rattle.std.proofs.Common.{◌≡◌, ◌≢◌, ℕ, zero, suc, ◌≤◌, arith, ◌⊎◌, inl, inr, List, [], ◌++◌, map, refl, subst, sym, ap, ◌∙◌}
 use Rattle.arrow_columns.specs.declared.columns.Column.{Column}
 use Rattle.column_filters.specs.Masks.{IsMask, matching}
 use Rattle.column_filters.specs.Tables.{AreColumnsOf, IsMaskError, cells_of_columns}
-use Rattle.arrow_columns.specs.Columns.{rows_in}
 use Rattle.column_filters.specs.Zones.{AreOutcomes, RefusesZones}
 use Rattle.column_filters.specs.declared.errors.MaskError.{MaskError}
 use Rattle.column_filters.specs.declared.errors.MaskError.TheVariants as mask
 use Rattle.column_filters.specs.declared.errors.ZoneError.{ZoneError}
 use Rattle.filter_encoding.specs.Answers.{IsFirstWrong, IsEncoding}
-use Rattle.filter_encoding.specs.Encoding.{HasEncoding, encoding, prepared}
+use Rattle.filter_encoding.specs.Encoding.{EncodingsAreApart, HasEncoding, IsLiteral, Nests, Prepared, encoding, prepared}
 use Rattle.filter_encoding.specs.declared.error.FilterEncodingError.{FilterEncodingError}
-use Rattle.filter_encoding.specs.declared.error.FilterEncodingError.TheVariants.{BadBytes, OutOfMemory}
+use Rattle.filter_encoding.specs.declared.error.FilterEncodingError.TheVariants.{BadBytes, NoEncoding, OutOfMemory}
 use Rattle.filter_encoding.specs.declared.prepared.PreparedFilter.{PreparedFilter}
 use Rattle.vortex_dtype.specs.TypeOf.{type_of}
 use Rattle.vortex_dtype.specs.declared.types.DType.{DType}
-use Rattle.vortex_filter.specs.Formula.{formula}
+use Rattle.vortex_filter.specs.Formula.{Formula, constant, comparison, null_test, membership, range, prefix_test, both, either, negation, formula}
+use Rattle.vortex_c.specs.FilterLaws.{AreOfWords, FiltersAreOfWords}
+use Rattle.vortex_c.specs.FilterSql.{IsPreparedFrom, encoding_depth, prepared_of}
+use Rattle.vortex_c.specs.declared.sql.NamedKind.{NamedKind}
 use Rattle.vortex_c.specs.Filters.{AreFilterOutcomes, IsFilterMask, IsEncodingOf, IsRowsError, IsUnread, IsZonesError, status_of_mask}
 use Rattle.vortex_c.specs.declared.filters.RowsError.TheVariants as rows
 use Rattle.vortex_c.specs.declared.filters.ZonesError.TheVariants as zones
@@ -31,12 +33,12 @@ encoding-of n bytes q h = record { has_encoding = h.0; is = h.1 }
 
 -- rows
 
-pub mask-given : (n : ℕ) (bytes : List ℕ) (q : PreparedFilter) (given : List DType) (columns : List Column) (buffer : List ℕ) → given ≡ q.columns.items → IsEncodingOf n bytes (prepared q) → AreColumnsOf columns (map type_of given)
-    → IsMask (matching (formula q.filter) (cells_of_columns columns)) (rows_in columns) buffer → IsFilterMask n bytes columns buffer
-mask-given n bytes q given columns buffer same is_encoding are is = record { filter = prepared q; is_encoding = is_encoding; are_columns = subst (λ ts. AreColumnsOf columns (map type_of ts)) same are; mask = is }
+pub mask-given : (n : ℕ) (bytes : List ℕ) (q : PreparedFilter) (given : List DType) (columns : List Column) (count : ℕ) (buffer : List ℕ) → given ≡ q.columns.items → IsEncodingOf n bytes (prepared q) → AreColumnsOf columns (map type_of given) count
+    → IsMask (matching (formula q.filter) (cells_of_columns columns)) count buffer → IsFilterMask n bytes columns count buffer
+mask-given n bytes q given columns count buffer same is_encoding are is = record { filter = prepared q; is_encoding = is_encoding; are_columns = subst (λ ts. AreColumnsOf columns (map type_of ts) count) same are; mask = is }
 
-pub no-mask : (n : ℕ) (bytes : List ℕ) (q : PreparedFilter) (given : List DType) (columns : List Column) (size : ℕ) (e : MaskError) → given ≡ q.columns.items → IsEncodingOf n bytes (prepared q) → IsMaskError columns (map type_of given) size e → IsRowsError n bytes columns size (rows.NoMask e)
-no-mask n bytes q given columns size e same is_encoding fault = (prepared q, is_encoding, subst (λ ts. IsMaskError columns (map type_of ts) size e) same fault)
+pub no-mask : (n : ℕ) (bytes : List ℕ) (q : PreparedFilter) (given : List DType) (columns : List Column) (count size : ℕ) (e : MaskError) → given ≡ q.columns.items → IsEncodingOf n bytes (prepared q) → IsMaskError columns (map type_of given) count size e → IsRowsError n bytes columns count size (rows.NoMask e)
+no-mask n bytes q given columns count size e same is_encoding fault = (prepared q, is_encoding, subst (λ ts. IsMaskError columns (map type_of ts) count size e) same fault)
 
 pub kept-so : (e : MaskError) (P : Type 0) → (e ≢ mask.OutOfMemory → P) → status_of_mask e ≢ NO_MEMORY → P
 kept-so e P kept other = kept (λ same. other (ap status_of_mask same))
@@ -49,3 +51,45 @@ outcomes-given n bytes statistics offsets outcomes q given same is_encoding are 
 
 pub no-outcomes : (n : ℕ) (bytes statistics offsets : List ℕ) (count : ℕ) (q : PreparedFilter) (given : List DType) (e : ZoneError) → given ≡ q.columns.items → IsEncodingOf n bytes (prepared q) → RefusesZones (map type_of given) statistics offsets count e → IsZonesError n bytes statistics offsets count (zones.NoOutcomes e)
 no-outcomes n bytes statistics offsets count q given e same is_encoding fault = (prepared q, is_encoding, subst (λ ts. RefusesZones (map type_of ts) statistics offsets count e) same fault)
+
+-- filters of words
+
+-- what nests in so many levels nests in more
+deeper : (f : Formula) (n m : ℕ) → n ≤ m → Nests IsLiteral n f → Nests IsLiteral m f
+deeper (constant t) n m l h = tt
+deeper (comparison k op x) n m l h = h
+deeper (null_test k) n m l h = h
+deeper (membership k xs) n m l h = h
+deeper (range k x y) n m l h = h
+deeper (prefix_test k x) n m l h = h
+deeper (both f g) zero m l h = absurd h
+deeper (both f g) (suc n) zero l h = absurd (omega arith)
+deeper (both f g) (suc n) (suc m) l h = (deeper f n m (omega arith) h.0, deeper g n m (omega arith) h.1)
+deeper (either f g) zero m l h = absurd h
+deeper (either f g) (suc n) zero l h = absurd (omega arith)
+deeper (either f g) (suc n) (suc m) l h = (deeper f n m (omega arith) h.0, deeper g n m (omega arith) h.1)
+deeper (negation f) zero m l h = absurd h
+deeper (negation f) (suc n) zero l h = absurd (omega arith)
+deeper (negation f) (suc n) (suc m) l h = deeper f n m (omega arith) h
+
+module _ (law : EncodingsAreApart) (n : ℕ) (words : List ℕ) (named : List NamedKind) (bytes : List ℕ) (h : IsPreparedFrom n words named bytes) where
+  same_filter : (m : ℕ) (q : Prepared) → IsEncodingOf m bytes q → q ≡ prepared_of named h.filter
+  same_filter m q is = (law m (encoding_depth n) q (prepared_of named h.filter) [] [] is.has_encoding h.written (ap (λ xs. xs ++ []) (sym is.is ∙ h.is))).0
+
+  never_bad : (m : ℕ) → n ≤ m → (cause : FilterEncodingError) → IsUnread (encoding_depth m) bytes cause → cause ≡ OutOfMemory
+  never_bad m l OutOfMemory u = refl
+  never_bad m l NoEncoding u = absurd u
+  never_bad m l (BadBytes offset) u =
+      let deep : encoding_depth n ≤ encoding_depth m = omega arith in
+      absurd (u.none (record { value = prepared_of named h.filter; is_one = record { types = h.written.types; filter = deeper h.filter (encoding_depth n) (encoding_depth m) deep h.written.filter }; is = h.is }))
+
+  pub all_of_words : AreOfWords n words named bytes h
+  all_of_words = record {
+    read = never_bad;
+    columns = λ m columns count buffer g. subst (λ (q : Prepared). AreColumnsOf columns q.types count) (same_filter m g.filter g.is_encoding) g.are_columns;
+    mask = λ m columns count buffer g. subst (λ (q : Prepared). IsMask (matching q.filter (cells_of_columns columns)) count buffer) (same_filter m g.filter g.is_encoding) g.mask;
+    outcomes = λ m statistics offsets outcomes g. subst (λ (q : Prepared). AreOutcomes q.filter q.types statistics offsets outcomes) (same_filter m g.filter g.is_encoding) g.are_outcomes;
+  }
+
+pub of_words : EncodingsAreApart → FiltersAreOfWords
+of_words law n words named bytes h = all_of_words law n words named bytes h

@@ -4,7 +4,9 @@ mod ColumnEnds
 mod ColumnOrder
 mod FilterSteps
 mod KeySteps
+mod NestSteps
 mod PartSteps
 mod SqlSteps
+mod StartSteps
 mod Truncations
 mod ZoneAnswers

@@ -1,5 +1,5 @@
 -- Steps of preparing a filter.
-use Rattle.std.proofs.Common.{◌≡◌, ℕ, ◌+◌, ◌<◌, ◌≤◌, ◌⊎◌, inl, inr, List, [], ◌∷◌, ◌++◌, length, take, get_or, map, sym, subst, ap, ap₂, ◌∙◌, arith, Some, slice_get}
+use Rattle.std.proofs.Common.{◌≡◌, ℕ, ◌+◌, ◌^◌, ◌<◌, ◌≤◌, ◌⊎◌, inl, inr, List, [], ◌∷◌, ◌++◌, length, take, get_or, map, sym, subst, ap, ap₂, ◌∙◌, arith, Some, slice_get}
 use Rattle.std.specs.Global.{Global}
 use Rattle.std.specs.Prelude.{Err, IfErr, IfOk, IsErr, IsErrAnd, Ok, OnOk, Result, Vec}
 use Rattle.std.specs.Str.{IsUtf8}
@@ -8,7 +8,7 @@ use Rattle.std.proofs.lemmas.List.{map-append, take_all, take_more}
 use Rattle.std.proofs.lemmas.Option.{slice_get-get_or, same_Some}
 use Rattle.arrow_columns.specs.Kinds.{kind_at}
 use Rattle.column_cells.specs.Types.{type_at}
-use Rattle.filter_encoding.specs.Encoding.{Prepared, parts_of}
+use Rattle.filter_encoding.specs.Encoding.{CanBeWritten, HasEncoding, Prepared, parts_of}
 use Rattle.vortex_dtype.specs.TypeOf.{type_of}
 use Rattle.vortex_dtype.specs.TypeTree.{TypeTree}
 use Rattle.vortex_dtype.specs.declared.types.DType.{DType}
@@ -20,7 +20,8 @@ use Rattle.filter_sql.specs.declared.column.Column.{Column}
 use Rattle.vortex_filter.specs.declared.filter.Filter.{Filter}
 use Rattle.filter_sql.specs.declared.error.ParseError.{ParseError}
 use Rattle.filter_sql.specs.declared.error.ParseError.TheVariants as errors
-use Rattle.vortex_c.specs.FilterSql.{AreNamed, AreNamedBefore, IsColumnError, IsColumnsError, IsNamed, IsPreparedFrom, IsSqlError, IsWordsError, WritesEncoding, fault_of_words, prepared_of, tree_of_kind, trees_of_kinds, types_of_kinds}
+use Rattle.vortex_c.proofs.NestSteps.{words-nest}
+use Rattle.vortex_c.specs.FilterSql.{AreNamed, AreNamedBefore, IsColumnError, IsColumnsError, IsNamed, IsPreparedFrom, IsSqlError, IsTextError, IsUnfit, WritesEncoding, encoding_depth, fault_of_words, prepared_of, tree_of_kind, trees_of_kinds, types_of_kinds}
 use Rattle.vortex_c.specs.declared.sql.NamedKind.{NamedKind}
 use Rattle.vortex_c.specs.declared.sql.SqlError.{SqlError}
 use Rattle.vortex_c.specs.declared.sql.SqlError.TheVariants.{NameNotUtf8, NoFilter, NoEncoding, NotAKind, NotUtf8, OutOfMemory}
@@ -54,16 +55,23 @@ pub trees-all : (columns : List NamedKind) (k : ℕ) (named : List Column) → l
 trees-all columns k named h all = all ∙ ap trees_of_kinds (take_all k columns h)
 
 columns-fault : (columns : List NamedKind) (k : ℕ) (d : NamedKind) (e : SqlError) → k < length columns → AreNamedBefore columns k → IsColumnError k (get_or columns k d) e → IsColumnsError columns e
-columns-fault columns k d OutOfMemory here all h = tt
-columns-fault columns k d (NotAKind place) here all h = (k, get_or columns k d, slice_get-get_or columns k d here, all, h)
-columns-fault columns k d (NameNotUtf8 place) here all h = (k, get_or columns k d, slice_get-get_or columns k d here, all, h)
-columns-fault columns k d NotUtf8 here all h = absurd h
-columns-fault columns k d (NoFilter cause) here all h = absurd h
-columns-fault columns k d NoEncoding here all h = absurd h
+columns-fault columns k d e here all h = (k, get_or columns k d, slice_get-get_or columns k d here, all, h)
 
-pub columns-refused : (columns : List NamedKind) (k : ℕ) (d : NamedKind) (r : Result (Vec Column Global) SqlError) (e : SqlError) → IsErr r × IsErrAnd r (λ f. f ≡ e) → k < length columns → AreNamedBefore columns k → IsColumnError k (get_or columns k d) e → IfErr r (IsColumnsError columns)
+pub columns-refused : (columns : List NamedKind) (k : ℕ) (d : NamedKind) (r : Result Unit SqlError) (e : SqlError) → IsErr r × IsErrAnd r (λ f. f ≡ e) → k < length columns → AreNamedBefore columns k → IsColumnError k (get_or columns k d) e → IfErr r (IsColumnsError columns)
 columns-refused columns k d (Ok x) e h here all one = tt
 columns-refused columns k d (Err f) e h here all one = subst (IsColumnsError columns) (sym h.1) (columns-fault columns k d e here all one)
+
+-- a column with a kind and a name has no fault
+pub no-fault : (k : ℕ) (column : NamedKind) (e : SqlError) → IsNamed column → IsColumnError k column e → ⊥
+no-fault k column OutOfMemory named h = h
+no-fault k column (NotAKind place) named h = named.kind h.1
+no-fault k column (NameNotUtf8 place) named h = h.2 named.name
+no-fault k column NotUtf8 named h = h
+no-fault k column (NoFilter cause) named h = h
+no-fault k column NoEncoding named h = h
+
+pub named-at : (columns : List NamedKind) (k : ℕ) (d : NamedKind) → k < length columns → AreNamed columns → IsNamed (get_or columns k d)
+named-at columns k d here all = all k (get_or columns k d) here (slice_get-get_or columns k d here)
 
 -- ---- types, one by one
 
@@ -80,46 +88,63 @@ types-all columns k types h all = all ∙ ap types_of_kinds (take_all k columns 
 
 -- ---- words
 
-pub words-fault : (n : ℕ) (trees : List ColumnTree) (words : List ℕ) (e : ParseError) → IsUtf8 words → RefusesSqlWithin n trees words e → IsPlaced (length words) e → IsWordsError n trees words (fault_of_words e)
-words-fault n trees words errors.OutOfMemory u r p = tt
-words-fault n trees words (errors.Expected place expected) u r p = (u, r, p)
-words-fault n trees words (errors.NoColumn place) u r p = (u, r, p)
-words-fault n trees words (errors.TypesDiffer place) u r p = (u, r, p)
-words-fault n trees words (errors.NoLiteral place) u r p = (u, r, p)
-words-fault n trees words (errors.NumberTooLong place) u r p = (u, r, p)
-words-fault n trees words (errors.BadText place) u r p = (u, r, p)
-words-fault n trees words (errors.TooDeep place) u r p = (u, r, p)
+pub words-fault : (n : ℕ) (trees : List ColumnTree) (text : List ℕ) (e : ParseError) → RefusesSqlWithin n trees text e → IsPlaced (length text) e → IsTextError n trees text (fault_of_words e)
+words-fault n trees text errors.OutOfMemory r p = tt
+words-fault n trees text (errors.Expected offset expected) r p = (r, p)
+words-fault n trees text (errors.NoColumn offset) r p = (r, p)
+words-fault n trees text (errors.TypesDiffer offset) r p = (r, p)
+words-fault n trees text (errors.NoLiteral offset) r p = (r, p)
+words-fault n trees text (errors.NumberTooLong offset) r p = (r, p)
+words-fault n trees text (errors.BadText offset) r p = (r, p)
+words-fault n trees text (errors.TooDeep offset) r p = (r, p)
 
-of-columns : (n : ℕ) (words : List ℕ) (columns : List NamedKind) (e : SqlError) → IsColumnsError columns e → IsSqlError n words columns e
-of-columns n words columns OutOfMemory h = tt
-of-columns n words columns (NotAKind place) h = h
-of-columns n words columns (NameNotUtf8 place) h = h
-of-columns n words columns NotUtf8 h = absurd h.4
-of-columns n words columns (NoFilter cause) h = absurd h.4
-of-columns n words columns NoEncoding h = absurd h.4
+pub text-along : (n : ℕ) (trees others : List ColumnTree) (text : List ℕ) (r : Result Filter SqlError) → others ≡ trees → IfErr r (IsTextError n others text) → IfErr r (IsTextError n trees text)
+text-along n trees others text r is h = subst (λ ts. IfErr r (IsTextError n ts text)) is h
 
-of-words : (n : ℕ) (words : List ℕ) (columns : List NamedKind) (e : SqlError) → AreNamed columns → IsWordsError n (trees_of_kinds columns) words e → IsSqlError n words columns e
-of-words n words columns OutOfMemory all h = tt
-of-words n words columns (NotAKind place) all h = absurd h
-of-words n words columns (NameNotUtf8 place) all h = absurd h
-of-words n words columns NotUtf8 all h = (all, h)
-of-words n words columns (NoFilter cause) all h = (all, h)
-of-words n words columns NoEncoding all h = absurd h
+pub words-read : (n : ℕ) (text : List ℕ) (columns : List NamedKind) (trees : List ColumnTree) (r : Result Filter SqlError) → trees ≡ trees_of_kinds columns → IfOk r (λ filter. IsSqlWithin n trees text (formula filter)) → IfOk r (λ filter. IsSqlWithin n (trees_of_kinds columns) text (formula filter))
+words-read n text columns trees r is h = subst (λ ts. IfOk r (λ filter. IsSqlWithin n ts text (formula filter))) is h
 
-pub named-refused : (n : ℕ) (words : List ℕ) (columns : List NamedKind) (r : Result Filter SqlError) (e : SqlError) → IsErr r × IsErrAnd r (λ f. f ≡ e) → IsColumnsError columns e → IfErr r (IsSqlError n words columns)
-named-refused n words columns (Ok x) e h k = tt
-named-refused n words columns (Err f) e h k = subst (IsSqlError n words columns) (sym h.1) (of-columns n words columns e k)
+pub memory-text : (n : ℕ) (trees : List ColumnTree) (text : List ℕ) (r : Result Filter SqlError) (e : SqlError) → IsErr r × IsErrAnd r (λ f. f ≡ e) → e ≡ OutOfMemory → IfErr r (IsTextError n trees text)
+memory-text n trees text (Ok x) e h is = tt
+memory-text n trees text (Err f) e h is = subst (IsTextError n trees text) (sym (h.1 ∙ is)) tt
 
-pub words-refused : (n : ℕ) (words : List ℕ) (columns : List NamedKind) (trees : List ColumnTree) (r : Result Filter SqlError) → trees ≡ trees_of_kinds columns → AreNamed columns → IfErr r (IsWordsError n trees words) → IfErr r (IsSqlError n words columns)
-words-refused n words columns trees (Ok x) is all h = tt
-words-refused n words columns trees (Err e) is all h = of-words n words columns e all (subst (λ ts. IsWordsError n ts words e) is h)
+-- why columns or words are not as they are to be
+of-columns : (words : List ℕ) (columns : List NamedKind) (e : SqlError) → IsColumnsError columns e → IsUnfit words columns e
+of-columns words columns OutOfMemory h = absurd h.4
+of-columns words columns (NotAKind place) h = h
+of-columns words columns (NameNotUtf8 place) h = h
+of-columns words columns NotUtf8 h = absurd h.4
+of-columns words columns (NoFilter cause) h = absurd h.4
+of-columns words columns NoEncoding h = absurd h.4
 
-pub words-read : (n : ℕ) (words : List ℕ) (columns : List NamedKind) (trees : List ColumnTree) (r : Result Filter SqlError) → trees ≡ trees_of_kinds columns → IfOk r (λ filter. IsSqlWithin n trees words (formula filter)) → IfOk r (λ filter. IsSqlWithin n (trees_of_kinds columns) words (formula filter))
-words-read n words columns trees r is h = subst (λ ts. IfOk r (λ filter. IsSqlWithin n ts words (formula filter))) is h
+pub unfit-columns : {A : Type 0} (words : List ℕ) (columns : List NamedKind) (r : Result A SqlError) (e : SqlError) → IsErr r × IsErrAnd r (λ f. f ≡ e) → IsColumnsError columns e → IfErr r (IsUnfit words columns)
+unfit-columns words columns (Ok x) e h k = tt
+unfit-columns words columns (Err f) e h k = subst (IsUnfit words columns) (sym h.1) (of-columns words columns e k)
 
-pub filter-named : (r : Result Filter SqlError) (P : Type 0) → P → OnOk r P
-filter-named (Ok x) P h = h
-filter-named (Err e) P h = tt
+of-unfit : (n : ℕ) (words : List ℕ) (columns : List NamedKind) (e : SqlError) → IsUnfit words columns e → IsSqlError n words columns e
+of-unfit n words columns OutOfMemory h = absurd h
+of-unfit n words columns (NotAKind place) h = h
+of-unfit n words columns (NameNotUtf8 place) h = h
+of-unfit n words columns NotUtf8 h = h
+of-unfit n words columns (NoFilter cause) h = absurd h
+of-unfit n words columns NoEncoding h = absurd h
+
+of-text : (n : ℕ) (words : List ℕ) (columns : List NamedKind) (e : SqlError) → AreNamed columns → IsUtf8 words → IsTextError n (trees_of_kinds columns) words e → IsSqlError n words columns e
+of-text n words columns OutOfMemory all u h = (all, u)
+of-text n words columns (NotAKind place) all u h = absurd h
+of-text n words columns (NameNotUtf8 place) all u h = absurd h
+of-text n words columns NotUtf8 all u h = absurd h
+of-text n words columns (NoFilter cause) all u h = (all, u, h)
+of-text n words columns NoEncoding all u h = absurd h
+
+pub unfit-refused : (n : ℕ) (words : List ℕ) (columns : List NamedKind) (r : Result (Vec ℕ Global) SqlError) (e : SqlError) → IsErr r × IsErrAnd r (λ f. f ≡ e) → IsUnfit words columns e → IfErr r (IsSqlError n words columns)
+unfit-refused n words columns (Ok x) e h k = tt
+unfit-refused n words columns (Err f) e h k = subst (IsSqlError n words columns) (sym h.1) (of-unfit n words columns e k)
+
+pub text-refused : (n : ℕ) (words text : List ℕ) (columns : List NamedKind) (r : Result (Vec ℕ Global) SqlError) (e : SqlError) → IsErr r × IsErrAnd r (λ f. f ≡ e) → AreNamed columns → (text ≡ words) × IsUtf8 words → IsTextError n (trees_of_kinds columns) text e
+    → IfErr r (IsSqlError n words columns)
+text-refused n words text columns (Ok x) e h all u k = tt
+text-refused n words text columns (Err f) e h all u k = subst (IsSqlError n words columns) (sym h.1) (of-text n words columns e all u.1 (subst (λ ws. IsTextError n (trees_of_kinds columns) ws e) u.0 k))
 
 -- ---- encodings
 
@@ -132,17 +157,17 @@ pub encoding-refused : (n : ℕ) (p : Prepared) (r : Result (Vec ℕ Global) Sql
 encoding-refused n p (Ok x) e h is = absurd h.1
 encoding-refused n p (Err f) e h is = inl (h.1 ∙ is)
 
-pub prepared-from : (n : ℕ) (words : List ℕ) (columns : List NamedKind) (f : Formula) (r : Result (Vec ℕ Global) SqlError) → AreNamed columns → IsSqlWithin n (trees_of_kinds columns) words f → WritesEncoding n (prepared_of columns f) r → IfOk r (λ bytes. IsPreparedFrom n words columns bytes.items)
-prepared-from n words columns f (Ok bytes) all means h = record { named = all; filter = f; means = means; written = h.0; is = h.1 }
-prepared-from n words columns f (Err e) all means h = tt
+module _ (n m : ℕ) (words text : List ℕ) (columns : List NamedKind) (f : Formula) (depth : m ≡ encoding_depth n) (all : AreNamed columns) (u : (text ≡ words) × IsUtf8 words) (read : IsSqlWithin n (trees_of_kinds columns) text f) where
+  means : IsSqlWithin n (trees_of_kinds columns) words f
+  means = subst (λ ws. IsSqlWithin n (trees_of_kinds columns) ws f) u.0 read
 
-pub encoding-fault : (n : ℕ) (words : List ℕ) (columns : List NamedKind) (f : Formula) (r : Result (Vec ℕ Global) SqlError) → AreNamed columns → IsSqlWithin n (trees_of_kinds columns) words f → WritesEncoding n (prepared_of columns f) r → IfErr r (IsSqlError n words columns)
-encoding-fault n words columns f (Ok bytes) all means h = tt
-encoding-fault n words columns f (Err e) all means (inl none) = subst (IsSqlError n words columns) (sym none) tt
-encoding-fault n words columns f (Err e) all means (inr deep) = subst (IsSqlError n words columns) (sym deep.0) (all, (f, means, deep.1))
+  pub prepared-from : (r : Result (Vec ℕ Global) SqlError) → WritesEncoding m (prepared_of columns f) r → IfOk r (λ bytes. IsPreparedFrom n words columns bytes.items)
+  prepared-from (Ok bytes) h = record { named = all; filter = f; means = means; written = subst (λ k. HasEncoding k (prepared_of columns f)) depth h.0; is = h.1 }
+  prepared-from (Err e) h = tt
 
-pub filter-refused : (n : ℕ) (words : List ℕ) (columns : List NamedKind) (r : Result (Vec ℕ Global) SqlError) (e : SqlError) → IsErr r × IsErrAnd r (λ f. f ≡ e) → IsSqlError n words columns e → IfErr r (IsSqlError n words columns)
-filter-refused n words columns (Ok x) e h k = tt
-filter-refused n words columns (Err f) e h k = subst (IsSqlError n words columns) (sym h.1) k
+  pub encoding-fault : length words < 2 ^ 64 → length columns < 2 ^ 64 → (r : Result (Vec ℕ Global) SqlError) → WritesEncoding m (prepared_of columns f) r → IfErr r (IsSqlError n words columns)
+  encoding-fault short few (Ok bytes) h = tt
+  encoding-fault short few (Err e) (inl none) = subst (IsSqlError n words columns) (sym none) (all, u.1)
+  encoding-fault short few (Err e) (inr deep) = absurd (deep.1 (subst (λ k. CanBeWritten k (prepared_of columns f)) (sym depth) (words-nest n words columns f short few means)))
 
-pub ruleset shown = (named-before-none, trees-all, types-all, words-fault, encoding-along)
+pub ruleset shown = (named-before-none, named-all, named-at, trees-all, types-all, words-fault, encoding-along)

@@ -1,10 +1,10 @@
 -- What callers are told of filters that are prepared from SQL's words.
-use Rattle.std.specs.Prelude.{◌≡◌, ◌≢◌, ◌⊎◌, ℕ, ◌<◌, List, length, map, slice_get, Some, None, MatchResult, Result, Vec, unwrap_or}
+use Rattle.std.specs.Prelude.{◌≡◌, ◌≢◌, ◌⊎◌, ℕ, ◌+◌, ◌-◌, ◌*◌, ◌^◌, ◌<◌, min, List, length, map, slice_get, Some, None, MatchResult, Result, Vec, unwrap_or}
 use Rattle.std.specs.Global.{Global}
 use Rattle.std.specs.Str.{IsUtf8}
 use Rattle.arrow_columns.specs.Kinds.{kind_at}
 use Rattle.column_cells.specs.Types.{type_at}
-use Rattle.filter_encoding.specs.Encoding.{CanBeWritten, Prepared, encoding}
+use Rattle.filter_encoding.specs.Encoding.{CanBeWritten, HasEncoding, Prepared, encoding}
 use Rattle.vortex_dtype.specs.TypeTree.{TypeTree}
 use Rattle.filter_sql.specs.Columns.{ColumnTree}
 use Rattle.filter_sql.specs.Faults.{IsPlaced, place_of}
@@ -51,24 +51,29 @@ AreNamed columns = AreNamedBefore columns (length columns)
 abbrev pub prepared_of : List NamedKind → Formula → Prepared
 prepared_of columns f = record { types = types_of_kinds columns; filter = f }
 
--- the bytes are the encoding of the filter that the words are, over these columns; in both at most n connectives nest, and in the
--- words parentheses too
+-- how many connectives nest at most in an encoding if n connectives and parentheses nest in the words: a test nests none in
+-- these and up to 4 in that, and so does the left one of two operands. More than 64 bits count is never asked for.
+abbrev pub encoding_depth : ℕ → ℕ
+encoding_depth n = min (2 * n + 5) (2 ^ 64 - 1)
+
+-- the bytes are the encoding of the filter that the words are, over these columns. At most n connectives and parentheses nest in
+-- the words. The encoding can be read back.
 pub record IsPreparedFrom (n : ℕ) (words : List ℕ) (columns : List NamedKind) (bytes : List ℕ) : Type 0 where
   pub named : AreNamed columns
   pub filter : Formula
   pub means : IsSqlWithin n (trees_of_kinds columns) words filter
-  pub written : CanBeWritten n (prepared_of columns filter)
+  pub written : HasEncoding (encoding_depth n) (prepared_of columns filter)
   pub is : bytes ≡ encoding (prepared_of columns filter)
 
 -- the bytes are the encoding of what is prepared so, or there is no memory, or it has no encoding
 abbrev pub WritesEncoding : ℕ → Prepared → Result (Vec ℕ Global) SqlError → Type 0
-WritesEncoding n p r = MatchResult r (λ bytes. CanBeWritten n p × (bytes.items ≡ encoding p)) (λ e. (e ≡ OutOfMemory) ⊎ ((e ≡ NoEncoding) × ¬ (CanBeWritten n p)))
+WritesEncoding n p r = MatchResult r (λ bytes. HasEncoding n p × (bytes.items ≡ encoding p)) (λ e. (e ≡ OutOfMemory) ⊎ ((e ≡ NoEncoding) × ¬ (CanBeWritten n p)))
 
 -- ---- mistakes
 
 -- why a column at a place is not named: the first reason in this order
 abbrev pub IsColumnError : ℕ → NamedKind → SqlError → Type 0
-IsColumnError k column OutOfMemory = Unit {0}
+IsColumnError k column OutOfMemory = ⊥
 IsColumnError k column (NotAKind place) = (place ≡ k) × (kind_at column.kind ≡ None)
 IsColumnError k column (NameNotUtf8 place) = (place ≡ k) × (kind_at column.kind ≢ None) × ¬ (IsUtf8 column.name.now)
 IsColumnError k column NotUtf8 = ⊥
@@ -77,7 +82,6 @@ IsColumnError k column NoEncoding = ⊥
 
 -- why some column is not named: the first one that is not
 abbrev pub IsColumnsError : List NamedKind → SqlError → Type 0
-IsColumnsError columns OutOfMemory = Unit {0}
 IsColumnsError columns fault = (k : ℕ) × (column : NamedKind) × (slice_get columns k ≡ Some column) × AreNamedBefore columns k × IsColumnError k column fault
 
 -- the error of words that are refused so
@@ -85,22 +89,28 @@ abbrev pub fault_of_words : ParseError → SqlError
 fault_of_words errors.OutOfMemory = OutOfMemory
 fault_of_words cause = NoFilter cause
 
--- why words are no filter over such columns
-abbrev pub IsWordsError : ℕ → List ColumnTree → List ℕ → SqlError → Type 0
-IsWordsError n trees words OutOfMemory = Unit {0}
-IsWordsError n trees words NotUtf8 = ¬ (IsUtf8 words)
-IsWordsError n trees words (NoFilter errors.OutOfMemory) = ⊥
-IsWordsError n trees words (NoFilter cause) = IsUtf8 words × RefusesSqlWithin n trees words cause × IsPlaced (length words) cause
-IsWordsError n trees words _ = ⊥
+-- why the columns or the words are not as they are to be, which is tested before memory is asked for
+abbrev pub IsUnfit : List ℕ → List NamedKind → SqlError → Type 0
+IsUnfit words columns (NotAKind place) = IsColumnsError columns (NotAKind place)
+IsUnfit words columns (NameNotUtf8 place) = IsColumnsError columns (NameNotUtf8 place)
+IsUnfit words columns NotUtf8 = AreNamed columns × ¬ (IsUtf8 words)
+IsUnfit words columns _ = ⊥
 
--- why there is no encoding of the filter that the words are
+-- why a text is no filter over such columns
+abbrev pub IsTextError : ℕ → List ColumnTree → List ℕ → SqlError → Type 0
+IsTextError n trees text OutOfMemory = Unit {0}
+IsTextError n trees text (NoFilter errors.OutOfMemory) = ⊥
+IsTextError n trees text (NoFilter cause) = RefusesSqlWithin n trees text cause × IsPlaced (length text) cause
+IsTextError n trees text _ = ⊥
+
+-- why there is no encoding of the filter that the words are: each filter of words has one, at the depth that goes with theirs
 abbrev pub IsSqlError : ℕ → List ℕ → List NamedKind → SqlError → Type 0
-IsSqlError n words columns OutOfMemory = Unit {0}
-IsSqlError n words columns (NotAKind place) = IsColumnsError columns (NotAKind place)
-IsSqlError n words columns (NameNotUtf8 place) = IsColumnsError columns (NameNotUtf8 place)
-IsSqlError n words columns NotUtf8 = AreNamed columns × IsWordsError n (trees_of_kinds columns) words NotUtf8
-IsSqlError n words columns (NoFilter cause) = AreNamed columns × IsWordsError n (trees_of_kinds columns) words (NoFilter cause)
-IsSqlError n words columns NoEncoding = AreNamed columns × ((f : Formula) × IsSqlWithin n (trees_of_kinds columns) words f × ¬ (CanBeWritten n (prepared_of columns f)))
+IsSqlError n words columns OutOfMemory = AreNamed columns × IsUtf8 words
+IsSqlError n words columns (NotAKind place) = IsUnfit words columns (NotAKind place)
+IsSqlError n words columns (NameNotUtf8 place) = IsUnfit words columns (NameNotUtf8 place)
+IsSqlError n words columns NotUtf8 = IsUnfit words columns NotUtf8
+IsSqlError n words columns (NoFilter cause) = AreNamed columns × IsUtf8 words × IsTextError n (trees_of_kinds columns) words (NoFilter cause)
+IsSqlError n words columns NoEncoding = ⊥
 
 abbrev pub status_of_sql : SqlError → ℕ
 status_of_sql OutOfMemory = NO_MEMORY

@@ -3,7 +3,6 @@ use Rattle.std.specs.Prelude.{◌≡◌, ℕ, List, length}
 use Rattle.arrow_columns.specs.declared.columns.Column.{Column}
 use Rattle.column_filters.specs.Masks.{IsMask, matching}
 use Rattle.column_filters.specs.Tables.{AreColumnsOf, IsMaskError, cells_of_columns}
-use Rattle.arrow_columns.specs.Columns.{rows_in}
 use Rattle.column_filters.specs.Zones.{AreOutcomes, RefusesZones}
 use Rattle.column_filters.specs.declared.errors.MaskError.{MaskError}
 use Rattle.column_filters.specs.declared.errors.MaskError.TheVariants as mask
@@ -49,16 +48,16 @@ fault_of_encoding_fault column (BadBytes place) before = record { column = colum
 
 -- the bytes are a prepared filter in which at most n connectives nest, the columns are those that it speaks of, and the buffer begins with a bit for each row, which
 -- says whether the filter matches it
-pub record IsFilterMask (n : ℕ) (bytes : List ℕ) (columns : List Column) (buffer : List ℕ) : Type 0 where
+pub record IsFilterMask (n : ℕ) (bytes : List ℕ) (columns : List Column) (count : ℕ) (buffer : List ℕ) : Type 0 where
   pub filter : Prepared
   pub is_encoding : IsEncodingOf n bytes filter
-  pub are_columns : AreColumnsOf columns filter.types
-  pub mask : IsMask (matching filter.filter (cells_of_columns columns)) (rows_in columns) buffer
+  pub are_columns : AreColumnsOf columns filter.types count
+  pub mask : IsMask (matching filter.filter (cells_of_columns columns)) count buffer
 
--- why there is no mask in a buffer of so many bytes
-abbrev pub IsRowsError : ℕ → List ℕ → List Column → ℕ → RowsError → Type 0
-IsRowsError n bytes columns size (rows.Unread cause) = IsUnread n bytes cause
-IsRowsError n bytes columns size (rows.NoMask cause) = (p : Prepared) × IsEncodingOf n bytes p × IsMaskError columns p.types size cause
+-- why there is no mask of so many rows in a buffer of so many bytes
+abbrev pub IsRowsError : ℕ → List ℕ → List Column → (count size : ℕ) → RowsError → Type 0
+IsRowsError n bytes columns count size (rows.Unread cause) = IsUnread n bytes cause
+IsRowsError n bytes columns count size (rows.NoMask cause) = (p : Prepared) × IsEncodingOf n bytes p × IsMaskError columns p.types count size cause
 
 abbrev pub status_of_mask : MaskError → ℕ
 status_of_mask mask.OutOfMemory = NO_MEMORY
@@ -86,9 +85,9 @@ fault_of_rows columns (rows.Unread cause) before = fault_of_encoding_fault colum
 fault_of_rows columns (rows.NoMask cause) before = fault_of_mask columns cause before
 
 -- the call with this status wrote no mask for such a reason, and told where
-abbrev pub SaysWhyNoMask : ℕ → List ℕ → List Column → ℕ → Fault → Fault → ℕ → Type 0
-SaysWhyNoMask n bytes columns size before after status =
-    (reason : RowsError) × IsRowsError n bytes columns size reason × (status ≡ status_of_rows reason) × (after ≡ fault_of_rows (length columns) reason before)
+abbrev pub SaysWhyNoMask : ℕ → List ℕ → List Column → (count size : ℕ) → Fault → Fault → ℕ → Type 0
+SaysWhyNoMask n bytes columns count size before after status =
+    (reason : RowsError) × IsRowsError n bytes columns count size reason × (status ≡ status_of_rows reason) × (after ≡ fault_of_rows (length columns) reason before)
 
 -- ---- zones
 

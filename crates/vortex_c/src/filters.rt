@@ -1,12 +1,13 @@
 //! Prepared filters, asked of the rows of columns and of zones.
 
 ghost use Rattle.std.specs.Prelude.{◌≡◌, ◌≢◌, ◌≤◌, ℕ, IfErr, List, OnOk, drop, length};
-ghost use Rattle.vortex_c.specs.FilterWords.{AreFilterOutcomes, IsFilterMask, IsEncodingOf, IsRowsError, IsZonesError};
+ghost use Rattle.vortex_c.specs.FilterWords.{AreFilterOutcomes, IsEncodingOf, IsFilterMask, IsRowsError, IsZonesError};
 ghost use Rattle.vortex_c.specs.FilterWords.{SaysWhyNoMask, SaysWhyNoOutcomes, fault_of_encoding_fault, fault_of_mask};
 ghost use Rattle.vortex_c.specs.FilterWords.{fault_of_pieces, fault_of_rows, fault_of_zones, bitmap_length};
-ghost use Rattle.vortex_c.specs.FilterWords.{prepared, rows_in, status_of_encoding_fault, status_of_mask};
+ghost use Rattle.vortex_c.specs.FilterWords.{encoding_depth, prepared, status_of_encoding_fault, status_of_mask};
 ghost use Rattle.vortex_c.specs.FilterWords.{status_of_piece, status_of_rows, status_of_zones};
 
+use crate::depth::encoding_depth;
 use crate::fault::{Fault, at, place_in_column, status_of_column};
 use crate::status::{
     BAD_BYTES, BAD_OFFSETS, BUFFER_TOO_SMALL, GIVEN, NO_MEMORY, UNKNOWN_KIND, WRONG_LENGTH,
@@ -34,14 +35,18 @@ pub(crate) enum ZonesError {
     NoOutcomes(ZoneError),
 }
 
-/// Which rows of columns match a prepared filter: a bit for each, from the least significant one
-/// on. The columns are those that it was prepared for, in their order. Memory is asked for the
-/// filter, for the columns, and for strings and bytes above 22 bytes.
+/// Which of so many rows of columns match a prepared filter: a bit for each, from the least
+/// significant one on. The columns are those that it was prepared for, in their order. If it was
+/// prepared for none, each row has the same bit. Memory is asked for the filter, for the columns,
+/// and for strings and bytes above 22 bytes.
 ///
-/// - `BAD_BYTES`: the filter is no encoding in which at most `depth` connectives nest. `fault` has
-///   the number of columns, and the first byte that none has there.
+/// `depth` is how deep the words might nest that the filter was prepared from: `2 * depth + 5`
+/// connectives may nest in the encoding.
+///
+/// - `BAD_BYTES`: the filter is no encoding that nests so deep at most. `fault` has the number of
+///   columns, and the first byte that none has there.
 /// - `WRONG_LENGTH`: there are not as many columns as the filter has, and `fault` has their number;
-///   or a column has another number of rows than the first.
+///   or a column has another number of rows.
 /// - `UNKNOWN_KIND`: the kind of a column is none, or with place 1 is not the filter's.
 /// - `TOO_MANY_ROWS`, `TOO_SHORT`, `BAD_OFFSETS`, `NOT_UTF8`: a column cannot be read.
 /// - `BUFFER_TOO_SMALL`: the buffer has not a bit for each row. `fault` is not written.
@@ -51,22 +56,23 @@ pub extern "C" fn doqallin_filter_mask(
     alloc: Global,
     filter: &[u8],
     columns: &[Column],
+    count: usize,
     depth: usize,
     buffer: &mut [u8],
     fault: &mut Fault,
 ) -> u32
-    ensures given { result ≡ GIVEN → IsFilterMask depth filter.now columns.now buffer.new }
-    ensures within { result ≡ GIVEN → bitmap_length (rows_in columns.now) ≤ length buffer.old }
-    ensures refused { result ≢ GIVEN
-        → SaysWhyNoMask depth filter.now columns.now (length buffer.old) fault.old fault.new result }
+    ensures given { result ≡ GIVEN
+        → IsFilterMask (encoding_depth depth) filter.now columns.now count buffer.new }
+    ensures within { result ≡ GIVEN → bitmap_length count ≤ length buffer.old }
+    ensures refused { result ≢ GIVEN → SaysWhyNoMask (encoding_depth depth) filter.now columns.now
+        count (length buffer.old) fault.old fault.new result }
 
     // What is not said to be written stays.
-    ensures rest { drop (bitmap_length (rows_in columns.now)) buffer.new
-        ≡ drop (bitmap_length (rows_in columns.now)) buffer.old }
+    ensures rest { drop (bitmap_length count) buffer.new ≡ drop (bitmap_length count) buffer.old }
     ensures kept { result ≢ GIVEN → result ≢ NO_MEMORY → buffer.new ≡ buffer.old }
     ensures kept_fault { result ≡ GIVEN → fault.new ≡ fault.old }
 {
-    match write_rows(alloc, filter, columns, depth, buffer) {
+    match write_rows(alloc, filter, columns, count, encoding_depth(depth), buffer) {
         Ok(()) => GIVEN,
         Err(refusal) => tell_rows(refusal, columns.len(), fault),
     }
@@ -77,19 +83,20 @@ fn write_rows(
     alloc: Global,
     filter: &[u8],
     columns: &[Column],
+    count: usize,
     depth: usize,
     buffer: &mut [u8],
 ) -> Result<(), RowsError>
-    ensures mask { OnOk result (IsFilterMask depth filter.now columns.now buffer.new) }
-    ensures within { OnOk result (bitmap_length (rows_in columns.now) ≤ length buffer.old) }
-    ensures refused { IfErr result (IsRowsError depth filter.now columns.now (length buffer.old)) }
-    ensures rest { drop (bitmap_length (rows_in columns.now)) buffer.new
-        ≡ drop (bitmap_length (rows_in columns.now)) buffer.old }
+    ensures mask { OnOk result (IsFilterMask depth filter.now columns.now count buffer.new) }
+    ensures within { OnOk result (bitmap_length count ≤ length buffer.old) }
+    ensures refused { IfErr result
+        (IsRowsError depth filter.now columns.now count (length buffer.old)) }
+    ensures rest { drop (bitmap_length count) buffer.new ≡ drop (bitmap_length count) buffer.old }
     ensures kept { IfErr result
         (λ refusal. status_of_rows refusal ≢ NO_MEMORY → buffer.new ≡ buffer.old) }
 {
     match read_filter(alloc, depth, filter) {
-        Ok(prepared) => mask_by(alloc, &prepared, columns, buffer),
+        Ok(prepared) => mask_by(alloc, &prepared, columns, count, buffer),
         Err(cause) => Err(RowsError::Unread(cause)),
     }
 }
@@ -99,19 +106,26 @@ fn mask_by(
     alloc: Global,
     filter: &PreparedFilter,
     columns: &[Column],
+    count: usize,
     buffer: &mut [u8],
 ) -> Result<(), RowsError>
     ensures mask { (n : ℕ) (bytes : List ℕ) → IsEncodingOf n bytes (prepared filter.now)
-        → OnOk result (IsFilterMask n bytes columns.now buffer.new) }
-    ensures within { OnOk result (bitmap_length (rows_in columns.now) ≤ length buffer.old) }
+        → OnOk result (IsFilterMask n bytes columns.now count buffer.new) }
+    ensures within { OnOk result (bitmap_length count ≤ length buffer.old) }
     ensures refused { (n : ℕ) (bytes : List ℕ) → IsEncodingOf n bytes (prepared filter.now)
-        → IfErr result (IsRowsError n bytes columns.now (length buffer.old)) }
-    ensures rest { drop (bitmap_length (rows_in columns.now)) buffer.new
-        ≡ drop (bitmap_length (rows_in columns.now)) buffer.old }
+        → IfErr result (IsRowsError n bytes columns.now count (length buffer.old)) }
+    ensures rest { drop (bitmap_length count) buffer.new ≡ drop (bitmap_length count) buffer.old }
     ensures kept { IfErr result
         (λ refusal. status_of_rows refusal ≢ NO_MEMORY → buffer.new ≡ buffer.old) }
 {
-    match mask_of_columns(alloc, &filter.filter, &filter.columns, columns, buffer) {
+    match mask_of_columns(
+        alloc,
+        &filter.filter,
+        &filter.columns,
+        columns,
+        count,
+        buffer,
+    ) {
         Ok(()) => Ok(()),
         Err(cause) => Err(RowsError::NoMask(cause)),
     }
@@ -125,11 +139,12 @@ fn mask_by(
 /// An empty piece leaves all cells open. Memory is asked for the filter, and for the bounds of a
 /// zone.
 ///
-/// After another status than `GIVEN` the outcomes may be any bytes.
+/// `depth` is how deep the words might nest that the filter was prepared from: `2 * depth + 5`
+/// connectives may nest in the encoding. After another status than `GIVEN` the outcomes may be any bytes.
 ///
 /// - `BAD_BYTES`: a piece is no encoding of statistics of its column's kind. `fault.column` is the
-///   piece, and `fault.place` its first byte that none has there. If the filter is no encoding in
-///   which at most `depth` connectives nest, `fault.column` is the number of offsets.
+///   piece, and `fault.place` its first byte that none has there. If the filter is no encoding
+///   that nests so deep at most, `fault.column` is the number of offsets.
 /// - `WRONG_LENGTH`: there are not as many offsets as pieces, and one more. `fault.column` is their
 ///   number.
 /// - `BAD_OFFSETS`: the offsets of the piece `fault.column` go down, or past the end.
@@ -144,13 +159,20 @@ pub extern "C" fn doqallin_filter_outcomes(
     outcomes: &mut [u8],
     fault: &mut Fault,
 ) -> u32
-    ensures given { result ≡ GIVEN
-        → AreFilterOutcomes depth filter.now statistics.now offsets.now outcomes.new }
-    ensures refused { result ≢ GIVEN → SaysWhyNoOutcomes depth filter.now statistics.now offsets.now
-        (length outcomes.old) fault.old fault.new result }
+    ensures given { result ≡ GIVEN → AreFilterOutcomes (encoding_depth depth) filter.now
+        statistics.now offsets.now outcomes.new }
+    ensures refused { result ≢ GIVEN → SaysWhyNoOutcomes (encoding_depth depth) filter.now
+        statistics.now offsets.now (length outcomes.old) fault.old fault.new result }
     ensures kept_fault { result ≡ GIVEN → fault.new ≡ fault.old }
 {
-    match write_zones(alloc, filter, statistics, offsets, depth, outcomes) {
+    match write_zones(
+        alloc,
+        filter,
+        statistics,
+        offsets,
+        encoding_depth(depth),
+        outcomes,
+    ) {
         Ok(()) => GIVEN,
         Err(refusal) => tell_zones(refusal, offsets.len(), fault),
     }

@@ -8,11 +8,13 @@
 mod bounds;
 mod column_casts;
 mod columns;
+mod depth;
 mod fault;
 mod filters;
 mod integers;
 mod keys;
 mod keys_back;
+pub mod laws;
 mod parts;
 mod sql;
 mod statistics;

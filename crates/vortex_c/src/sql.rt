@@ -1,8 +1,9 @@
 //! Filters from SQL's words, prepared to bytes.
 
-ghost use Rattle.std.specs.Prelude.{◌≡◌, ◌⊎◌, IfErr, IfOk, OnOk, map};
-ghost use Rattle.vortex_c.specs.FilterWords.{AnswersEncoding, AreNamed, HasAnswer, IsColumnError, IsColumnsError};
-ghost use Rattle.vortex_c.specs.FilterWords.{IsNamed, IsPreparedFrom, IsSqlError, IsSqlWithin, IsWordsError};
+ghost use Rattle.std.specs.Prelude.{◌≡◌, ◌⊎◌, IfErr, IfOk, IsUtf8, OnOk, Some, map};
+ghost use Rattle.vortex_c.specs.FilterWords.{AnswersEncoding, AreNamed, AreValid, HasAnswer, IsColumnError};
+ghost use Rattle.vortex_c.specs.FilterWords.{IsColumnsError, IsNamed, IsPreparedFrom, IsSqlError, IsSqlWithin};
+ghost use Rattle.vortex_c.specs.FilterWords.{IsTextError, IsUnfit, encoding_depth, literals_of};
 ghost use Rattle.vortex_c.specs.FilterWords.{OutOfMemory, SaysWhyNotPrepared, WritesEncoding, code_of_expected};
 ghost use Rattle.vortex_c.specs.FilterWords.{code_of_mistake, column_tree, column_trees, fault_of_words, formula};
 ghost use Rattle.vortex_c.specs.FilterWords.{kind_at, mistake_of_sql, parts_of, place_of_mistake, prepared_of};
@@ -10,6 +11,7 @@ ghost use Rattle.vortex_c.specs.FilterWords.{status_of_sql, tree_of_kind, trees_
 ghost use Rattle.vortex_c.specs.FilterWords.{types_of_kinds};
 
 use crate::bounds::give;
+use crate::depth::encoding_depth;
 use crate::status::{BAD_FILTER, BUFFER_TOO_SMALL, GIVEN, NO_MEMORY, NOT_UTF8, UNKNOWN_KIND};
 use arrow_columns::Kind;
 use column_cells::dtype_of;
@@ -53,7 +55,7 @@ pub(crate) enum SqlError {
     NotUtf8,
     /// The words are no filter.
     NoFilter(ParseError),
-    /// The filter nests too deep to have an encoding.
+    /// The filter has no encoding at the depth that was asked for.
     NoEncoding,
 }
 
@@ -81,16 +83,16 @@ impl<T: Drop> From<AllocFailed<T>> for SqlError {
 
 /// Reads a filter from SQL's words, over columns by name and kind, and writes its stable encoding
 /// with the types of the columns. The other calls on filters take these bytes. At most `depth`
-/// connectives and parentheses may nest in the words, and at most `depth` connectives in the
-/// encoding.
+/// connectives and parentheses may nest in the words. A filter of words that nest n deep nests at
+/// most 2n + 5 deep in the encoding, and the other calls read so much.
 ///
 /// - `BUFFER_TOO_SMALL`: `count` says how many bytes the encoding has.
 /// - `UNKNOWN_KIND`: the code of a column is of no kind. `mistake.place` is the column.
 /// - `NOT_UTF8`: a name is not UTF-8, and `mistake.place` is its column; or the words are not, and
-///   it is the number of columns.
+///   it is the number of columns. These two are found before memory is asked for.
 /// - `BAD_FILTER`: the words are no filter. `mistake.place` is the byte at which something else had
-///   to come, and `mistake.expected` is the code of what. If the encoding of the filter nests too
-///   deep, the place is 0.
+///   to come, and `mistake.expected` is the code of what. If words can be read at this depth, their
+///   filter has an encoding.
 /// - `NO_MEMORY`: `mistake` is not written.
 #[unsafe(no_mangle)]
 pub extern "C" fn doqallin_prepare_filter(
@@ -124,41 +126,57 @@ fn prepare(
     ensures prepared { IfOk result (λ bytes. IsPreparedFrom depth words.now columns.now bytes.items) }
     ensures refused { IfErr result (IsSqlError depth words.now columns.now) }
 {
-    let filter = filter_of(alloc, words, columns, depth)?;
-    encoding_of(alloc, &filter, columns, depth)
+    // What the proof has of lengths is that 64 bits count them.
+    let _length = words.len();
+    let _count = columns.len();
+    let text = text_of(words, columns)?;
+    let filter = filter_of(alloc, text, columns, depth)?;
+    encoding_of(alloc, &filter, columns, encoding_depth(depth))
 }
 
-/// The filter that the words are.
+/// The words as text, if they are UTF-8 and each column has a kind and a name. Takes no memory.
+fn text_of<'a>(words: &'a [u8], columns: &[NamedKind]) -> Result<&'a str, SqlError>
+    ensures text { IfOk result (λ text. (text.now ≡ words.now) × IsUtf8 words.now) }
+    ensures named { OnOk result (AreNamed columns.now) }
+    ensures refused { IfErr result (IsUnfit words.now columns.now) }
+{
+    check_columns(columns)?;
+    match str::from_utf8(words) {
+        Ok(text) => Ok(text),
+        Err(_) => Err(SqlError::NotUtf8),
+    }
+}
+
+/// The filter that the text is.
 fn filter_of(
     alloc: Global,
-    words: &[u8],
+    text: &str,
     columns: &[NamedKind],
     depth: usize,
 ) -> Result<Filter, SqlError>
-    ensures named { OnOk result (AreNamed columns.now) }
+    requires { AreNamed columns.now }
     ensures read { IfOk result
-        (λ filter. IsSqlWithin depth (trees_of_kinds columns.now) words.now (formula filter)) }
-    ensures refused { IfErr result (IsSqlError depth words.now columns.now) }
+        (λ filter. IsSqlWithin depth (trees_of_kinds columns.now) text.now (formula filter)) }
+    ensures valid { IfOk result (λ filter. AreValid (literals_of filter)) }
+    ensures refused { IfErr result (IsTextError depth (trees_of_kinds columns.now) text.now) }
 {
     let named = named_columns(alloc, columns)?;
-    parse(alloc, words, &named, depth)
+    parse(alloc, text, &named, depth)
 }
 
-/// The filter that the words are, over these columns.
+/// The filter that the text is, over these columns.
 #[tactic(auto, using(crate::proofs::SqlSteps::shown))]
 fn parse(
     alloc: Global,
-    words: &[u8],
+    text: &str,
     named: &[FilterColumn],
     depth: usize,
 ) -> Result<Filter, SqlError>
     ensures read { IfOk result
-        (λ filter. IsSqlWithin depth (column_trees named.now) words.now (formula filter)) }
-    ensures refused { IfErr result (IsWordsError depth (column_trees named.now) words.now) }
+        (λ filter. IsSqlWithin depth (column_trees named.now) text.now (formula filter)) }
+    ensures valid { IfOk result (λ filter. AreValid (literals_of filter)) }
+    ensures refused { IfErr result (IsTextError depth (column_trees named.now) text.now) }
 {
-    let Ok(text) = str::from_utf8(words) else {
-        return Err(SqlError::NotUtf8);
-    };
     match parse_within(alloc, text, named, depth) {
         Ok(filter) => Ok(filter),
         Err(cause) => Err(fault_of_words(cause)),
@@ -175,12 +193,40 @@ fn fault_of_words(cause: ParseError) -> SqlError
     }
 }
 
+/// Whether each column has a kind and a name; else the first that has not, and why.
+#[tactic(auto, using(crate::proofs::SqlSteps::shown))]
+fn check_columns(columns: &[NamedKind]) -> Result<(), SqlError>
+    ensures named { OnOk result (AreNamed columns.now) }
+    ensures refused { IfErr result (IsColumnsError columns.now) }
+{
+    for place in 0..columns.len() {
+        let _ = kind_and_name(place, columns[place])?;
+    }
+    Ok(())
+}
+
+/// The kind and the name of the column at a place.
+fn kind_and_name<'a>(place: usize, column: NamedKind<'a>) -> Result<(Kind, &'a str), SqlError>
+    ensures kind { IfOk result (λ found. kind_at column.entry.kind ≡ Some found.0) }
+    ensures name { IfOk result (λ found. found.1.now ≡ column.entry.name.now) }
+    ensures sound { OnOk result (IsNamed column.entry) }
+    ensures refused { IfErr result (IsColumnError place column.entry) }
+{
+    let Some(kind) = Kind::from_code(column.kind) else {
+        return Err(SqlError::NotAKind(place));
+    };
+    let Ok(name) = str::from_utf8(column.name) else {
+        return Err(SqlError::NameNotUtf8(place));
+    };
+    Ok((kind, name))
+}
+
 /// The columns by name and type.
 #[tactic(auto, using(crate::proofs::SqlSteps::shown))]
 fn named_columns(alloc: Global, columns: &[NamedKind]) -> Result<Vec<FilterColumn>, SqlError>
+    requires { AreNamed columns.now }
     ensures named { IfOk result (λ named. column_trees named.items ≡ trees_of_kinds columns.now) }
-    ensures all { OnOk result (AreNamed columns.now) }
-    ensures refused { IfErr result (IsColumnsError columns.now) }
+    ensures refused { IfErr result (λ refusal. refusal ≡ OutOfMemory) }
 {
     let mut named = Vec::with_capacity(alloc, columns.len())?;
     for place in 0..columns.len() {
@@ -192,16 +238,11 @@ fn named_columns(alloc: Global, columns: &[NamedKind]) -> Result<Vec<FilterColum
 
 /// The column at a place, by name and type.
 fn named_column(alloc: Global, place: usize, column: NamedKind) -> Result<FilterColumn, SqlError>
+    requires { IsNamed column.entry }
     ensures named { IfOk result (λ named. column_tree named ≡ tree_of_kind column.entry) }
-    ensures sound { OnOk result (IsNamed column.entry) }
-    ensures refused { IfErr result (IsColumnError place column.entry) }
+    ensures refused { IfErr result (λ refusal. refusal ≡ OutOfMemory) }
 {
-    let Some(kind) = Kind::from_code(column.kind) else {
-        return Err(SqlError::NotAKind(place));
-    };
-    let Ok(name) = str::from_utf8(column.name) else {
-        return Err(SqlError::NameNotUtf8(place));
-    };
+    let (kind, name) = kind_and_name(place, column)?;
     let name = String::from_str(alloc, name)?;
     Ok(FilterColumn {
         name,
@@ -217,6 +258,7 @@ fn encoding_of(
     columns: &[NamedKind],
     depth: usize,
 ) -> Result<Vec<u8>, SqlError>
+    requires { AreValid (literals_of filter.now) }
     ensures { WritesEncoding depth (prepared_of columns.now (formula filter.now)) result }
 {
     let types = types_of(alloc, columns)?;
@@ -230,6 +272,7 @@ fn written(
     types: &[DType],
     depth: usize,
 ) -> Result<Vec<u8>, SqlError>
+    requires { AreValid (literals_of filter.now) }
     ensures { WritesEncoding depth (parts_of types.now filter.now) result }
 {
     let mut bytes = Vec::new(alloc);

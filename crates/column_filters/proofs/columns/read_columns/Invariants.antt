@@ -7,4 +7,4 @@ use Rattle.column_filters.proofs.columns.read_columns.Given as goal
 
 abbrev pub invariant-loop-place : goal.invariant-loop-place
 invariant-loop-place l =
-    AreReadFrom l.columns (map type_of l.types) l.place l.table.items × AreSoundBefore l.columns (map type_of l.types) l.place × (vec_len l.table ≡ l.place) × (length l.columns ≤ vec_capacity l.table)
+    AreReadFrom l.columns l.count l.place l.table.items × AreSoundBefore l.columns (map type_of l.types) l.count l.place × (vec_len l.table ≡ l.place) × (length l.columns ≤ vec_capacity l.table)

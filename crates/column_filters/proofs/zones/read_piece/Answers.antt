@@ -12,4 +12,4 @@ returns-in-Err-clause-refused c =
     let part = c.in_ok-bytes.bytes.now in
     let some : 0 < length part = first_of (search rules, grind (arith, nat_tests)) in
     subst (IsBadPiece t c.args.statistics.now c.args.offsets.now c.args.piece) (sym c.fault_of_piece.ensures)
-    (bad_encoding t c.args.statistics.now c.args.offsets.now part c.args.piece c.in-Err.refusal c.in_ok-bytes.ensures.0 c.in_ok-bytes.ensures.1 some c.in-Err.ensures.variant.0 c.in-Err.ensures.variant.1 c.in-Err.ensures.bad)
+    (bad_encoding t c.args.statistics.now c.args.offsets.now part c.args.piece c.in-Err.refusal c.in_ok-bytes.ensures.0 c.in_ok-bytes.ensures.1 some c.in-Err.ensures.refused c.in-Err.ensures.variant.0 c.in-Err.ensures.variant.1 c.in-Err.ensures.bad)

@@ -6,7 +6,7 @@ use Rattle.vortex_statistics.specs.declared.column_statistics.ColumnStatistics.{
 use Rattle.vortex_filter.specs.Formula.{formula}
 use Rattle.filter_pruning.specs.Outcomes.{outcomes}
 use Rattle.column_filters.specs.Zones.{outcomes_byte}
-use Rattle.column_filters.proofs.ZoneSteps.{AreOutcomesBefore, all_outcomes, next_zone, outcome_of, outcomes_more, outcomes_none, zone_there, zones_refused}
+use Rattle.column_filters.proofs.ZoneSteps.{AreOutcomesBefore, all_outcomes, memory_refused, next_zone, outcome_of, outcomes_more, outcomes_none, zone_there, zones_refused}
 use Rattle.column_filters.proofs.zones.write_outcomes.Goals as goal
 
 pub loop-zone-init : goal.loop-zone-init
@@ -42,3 +42,6 @@ pub returns-in_err-read_zone-clause-refused : goal.returns-in_err-read_zone-clau
 returns-in_err-read_zone-clause-refused c =
     zones_refused (formula c.args.filter.now) c.args.types.now c.args.statistics.now c.args.offsets.now (length c.args.outcomes.now) c.loop-zone.zone c.loop-zone.piece c.loop-zone.outcomes _ _ c.from_residual-in_err-read_zone.ensures c.requires c.loop-zone-test.true
     c.loop-zone.invariant.1 c.loop-zone.invariant.2 c.in_err-read_zone.ensures.refused
+
+pub returns-in_err-read-clause-refused : goal.returns-in_err-read-clause-refused
+returns-in_err-read-clause-refused c = memory_refused c.args.types.now c.args.statistics.now c.args.offsets.now (length c.args.outcomes.now) _ _ c.from_residual.ensures c.requires c.in_err-read.ensures.refused

@@ -6,4 +6,4 @@ use Rattle.filter_encoding.proofs.ListLaws.{IsLeft}
 use Rattle.filter_encoding.proofs.types.append_each.Given as goal
 
 abbrev pub invariant-loop-dtype : goal.invariant-loop-dtype
-invariant-loop-dtype l = IsLeft type_bytes IsPlain (map type_of (drop l.dtype-index l.dtypes)) (map type_of l.dtypes) l.initial.out.items l.out.items
+invariant-loop-dtype l = IsLeft type_bytes IsPlain IsPlain (map type_of (drop l.dtype-index l.dtypes)) (map type_of l.dtypes) l.initial.out.items l.out.items

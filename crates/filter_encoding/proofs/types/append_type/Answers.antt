@@ -6,7 +6,7 @@ use Rattle.filter_encoding.proofs.WriteSteps.{begins_itself, written_as}
 use Rattle.filter_encoding.proofs.types.append_type.Goals as goal
 
 pub returns-in-Some : goal.returns-in-Some
-returns-in-Some c = written_as (Unit {0}) (IsPlain (type_of c.args.dtype.now)) _ _ _ _ _ (λ u. c.in-Some.ensures.0) (λ h. tt) (ap (λ b. b ∷ []) c.in-Some.ensures.1) c.append_byte.ensures
+returns-in-Some c = written_as (Unit {0}) (IsPlain (type_of c.args.dtype.now)) (Unit {0}) (IsPlain (type_of c.args.dtype.now)) _ _ _ _ _ (λ u. c.in-Some.ensures.0) (λ h. tt) (ap (λ b. b ∷ []) c.in-Some.ensures.1) c.append_byte.ensures
 
 pub returns-in-None : goal.returns-in-None
 returns-in-None c = (c.in-None.ensures, begins_itself _)

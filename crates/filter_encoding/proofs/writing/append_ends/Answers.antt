@@ -1,14 +1,14 @@
 -- The lower end, and then the upper one.
 use Rattle.vortex_cells.specs.Cells.{cell_of}
-use Rattle.filter_encoding.specs.Encoding.{IsPlainCell}
+use Rattle.filter_encoding.specs.Encoding.{IsHeldCell, IsPlainCell}
 use Rattle.filter_encoding.proofs.WriteSteps.{passed_on, then_written}
 use Rattle.filter_encoding.proofs.writing.append_ends.Goals as goal
 
 pub returns-in_err-append_literal : goal.returns-in_err-append_literal
 returns-in_err-append_literal c =
     let w = c.in_err-append_literal.ensures in
-    passed_on (IsPlainCell (cell_of c.args.lower.now)) (IsPlainCell (cell_of c.args.lower.now) × IsPlainCell (cell_of c.args.upper.now)) _ _ _ _ _ c.from_residual.ensures (λ h. h.0) w.0 w.1
+    passed_on _ (IsPlainCell (cell_of c.args.lower.now)) (IsPlainCell (cell_of c.args.lower.now) × IsPlainCell (cell_of c.args.upper.now)) _ _ _ _ _ c.from_residual.ensures (λ h. h.0) w.0 w.1
 
 pub returns : goal.returns
 returns c =
-    then_written (IsPlainCell (cell_of c.args.upper.now)) (IsPlainCell (cell_of c.args.lower.now) × IsPlainCell (cell_of c.args.upper.now)) _ _ _ _ _ _ (λ q. (c.in_ok-append_literal.ensures.0, q)) (λ h. h.1) c.in_ok-append_literal.ensures.1 c.append_literal-2.ensures
+    then_written (IsHeldCell (cell_of c.args.upper.now)) (IsHeldCell (cell_of c.args.lower.now) × IsHeldCell (cell_of c.args.upper.now)) (IsPlainCell (cell_of c.args.upper.now)) (IsPlainCell (cell_of c.args.lower.now) × IsPlainCell (cell_of c.args.upper.now)) _ _ _ _ _ _ (λ q. (c.in_ok-append_literal.ensures.0, q)) (λ h. h.1) c.in_ok-append_literal.ensures.1 c.append_literal-2.ensures

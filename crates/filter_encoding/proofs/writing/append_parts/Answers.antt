@@ -9,12 +9,12 @@ use Rattle.filter_encoding.proofs.writing.append_parts.Goals as goal
 pub returns-in_err-append_byte : goal.returns-in_err-append_byte
 returns-in_err-append_byte c =
     let w = c.in_err-append_byte.ensures in
-    passed_on (Unit {0}) (CanBeWritten c.args.depth (parts_of c.args.columns.now c.args.filter.now)) _ _ _ _ _ c.from_residual.ensures (λ h. tt) w.0 w.1
+    passed_on _ (Unit {0}) (CanBeWritten c.args.depth (parts_of c.args.columns.now c.args.filter.now)) _ _ _ _ _ c.from_residual.ensures (λ h. tt) w.0 w.1
 
 pub returns-in_err-append_types : goal.returns-in_err-append_types
 returns-in_err-append_types c =
     let w = c.in_err-append_types.ensures in
-    passed_on (AreListed IsPlain (map type_of c.args.columns.now)) (CanBeWritten c.args.depth (parts_of c.args.columns.now c.args.filter.now)) _ _ _ _ _ c.from_residual-in_err-append_types.ensures (λ h. h.types) w.0
+    passed_on _ (AreListed IsPlain (map type_of c.args.columns.now)) (CanBeWritten c.args.depth (parts_of c.args.columns.now c.args.filter.now)) _ _ _ _ _ c.from_residual-in_err-append_types.ensures (λ h. h.types) w.0
     (begins_later (1 ∷ []) _ _ _ c.in_ok-append_byte.ensures.1 w.1)
 
 pub returns : goal.returns

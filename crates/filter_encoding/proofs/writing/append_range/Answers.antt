@@ -1,6 +1,6 @@
 -- The test, and then both ends.
 use Rattle.vortex_cells.specs.Cells.{cell_of}
-use Rattle.filter_encoding.specs.Encoding.{IsPlainCell}
+use Rattle.filter_encoding.specs.Encoding.{IsHeldCell, IsPlainCell}
 use Rattle.filter_encoding.specs.Lists.{Fits}
 use Rattle.filter_encoding.proofs.WriteSteps.{passed_on, then_written}
 use Rattle.filter_encoding.proofs.writing.append_range.Goals as goal
@@ -8,9 +8,9 @@ use Rattle.filter_encoding.proofs.writing.append_range.Goals as goal
 pub returns-in_err-append_test : goal.returns-in_err-append_test
 returns-in_err-append_test c =
     let w = c.in_err-append_test.ensures in
-    passed_on (Fits c.args.column) (Fits c.args.column × (IsPlainCell (cell_of c.args.lower.now) × IsPlainCell (cell_of c.args.upper.now))) _ _ _ _ _ c.from_residual.ensures (λ h. h.0) w.0 w.1
+    passed_on _ (Fits c.args.column) (Fits c.args.column × (IsPlainCell (cell_of c.args.lower.now) × IsPlainCell (cell_of c.args.upper.now))) _ _ _ _ _ c.from_residual.ensures (λ h. h.0) w.0 w.1
 
 pub returns : goal.returns
 returns c =
-    then_written (IsPlainCell (cell_of c.args.lower.now) × IsPlainCell (cell_of c.args.upper.now)) (Fits c.args.column × (IsPlainCell (cell_of c.args.lower.now) × IsPlainCell (cell_of c.args.upper.now))) _ _ _ _ _ _
+    then_written (IsHeldCell (cell_of c.args.lower.now) × IsHeldCell (cell_of c.args.upper.now)) (Fits c.args.column × (IsHeldCell (cell_of c.args.lower.now) × IsHeldCell (cell_of c.args.upper.now))) (IsPlainCell (cell_of c.args.lower.now) × IsPlainCell (cell_of c.args.upper.now)) (Fits c.args.column × (IsPlainCell (cell_of c.args.lower.now) × IsPlainCell (cell_of c.args.upper.now))) _ _ _ _ _ _
     (λ q. (c.in_ok-append_test.ensures.0, q)) (λ h. h.1) c.in_ok-append_test.ensures.1 c.append_ends.ensures

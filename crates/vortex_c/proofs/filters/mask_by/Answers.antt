@@ -4,10 +4,10 @@ use Rattle.vortex_c.proofs.FilterSteps.{kept-so, mask-given, no-mask}
 use Rattle.vortex_c.proofs.filters.mask_by.Goals as goal
 
 pub returns-in-Ok-clause-mask : goal.returns-in-Ok-clause-mask
-returns-in-Ok-clause-mask c = λ n bytes is_encoding. mask-given n bytes c.args.filter.now c.deref.result.now c.args.columns.now c.mask_of_columns.new.mask c.deref.ensures.value is_encoding c.in-Ok.ensures.columns c.in-Ok.ensures.masked
+returns-in-Ok-clause-mask c = λ n bytes is_encoding. mask-given n bytes c.args.filter.now c.deref.result.now c.args.columns.now c.args.count c.mask_of_columns.new.mask c.deref.ensures.value is_encoding c.in-Ok.ensures.columns c.in-Ok.ensures.masked
 
 pub returns-in-Err-clause-refused : goal.returns-in-Err-clause-refused
-returns-in-Err-clause-refused c = λ n bytes is_encoding. no-mask n bytes c.args.filter.now c.deref.result.now c.args.columns.now (length c.args.buffer.now) c.in-Err.cause c.deref.ensures.value is_encoding c.in-Err.ensures.refused
+returns-in-Err-clause-refused c = λ n bytes is_encoding. no-mask n bytes c.args.filter.now c.deref.result.now c.args.columns.now c.args.count (length c.args.buffer.now) c.in-Err.cause c.deref.ensures.value is_encoding c.in-Err.ensures.refused
 
 pub returns-in-Err-clause-kept : goal.returns-in-Err-clause-kept
 returns-in-Err-clause-kept c = kept-so c.in-Err.cause _ c.in-Err.ensures.kept

@@ -1,0 +1,381 @@
+-- How deep the encoding of a filter nests: a filter that words are has one, at the depth that goes with theirs.
+use Rattle.std.proofs.Common.{◌≡◌, ◌∙◌, ℕ, zero, suc, ◌+◌, ◌*◌, ◌^◌, ◌<◌, ◌≤◌, max, Bool, true, false, cond, List, [], ◌∷◌, ◌++◌, length, map, Option, Some, None, arith, ap, refl, subst, sym, length-append, length-drop}
+use Rattle.std.specs.Char.{is_ascii_whitespace}
+use Rattle.std.specs.List.{AllByRecursion, prefix_len}
+use Rattle.std.specs.Option.{option_map}
+use Rattle.std.specs.Prelude.{slice_get}
+use Rattle.std.proofs.lemmas.List.{length-map}
+use Rattle.std.proofs.lemmas.Option.{slice_get-map, slice_get_within}
+use Rattle.arrow_columns.specs.Kinds.{kind_at}
+use Rattle.arrow_columns.specs.declared.kinds.Kind.{Kind}
+use Rattle.arrow_columns.specs.declared.kinds.Kind.TheVariants.{Binary, Boolean, Integer, LargeBinary, LargeUtf8, Null, Utf8}
+use Rattle.column_cells.specs.Types.{type_at}
+use Rattle.vortex_dtype.specs.TypeTree.{TypeTree, as_nullable, binary_type, bool_type, integer_type, null_type, utf8_type}
+use Rattle.vortex_dtype.specs.declared.ptype.PType.{PType}
+use Rattle.vortex_pvalue.specs.Numbers.{in_range}
+use Rattle.vortex_cells.specs.Cells.{Cell}
+use Rattle.vortex_filter.specs.declared.operator.CompareOperator.{CompareOperator}
+use Rattle.vortex_filter.specs.declared.operator.CompareOperator.TheVariants.{Gte, Lte}
+use Rattle.vortex_filter.specs.Formula.{Formula, both, comparison, constant, either, membership, negation, null_test, prefix_test, range}
+use Rattle.vortex_filter.specs.Operators.{holds}
+use Rattle.filter_encoding.specs.Encoding.{CanBeWritten, IsPlain, IsPlainCell, Nests}
+use Rattle.filter_encoding.specs.Lists.{AreListed, Fits}
+use Rattle.filter_sql.specs.declared.print.Level.{Level}
+use Rattle.filter_sql.specs.declared.print.Level.TheVariants as levels
+use Rattle.filter_sql.specs.declared.token.Keyword.{Keyword}
+use Rattle.filter_sql.specs.declared.token.Keyword.TheVariants as keywords
+use Rattle.filter_sql.specs.Columns.{ColumnTree, column_named, column_there, named_place, or_numbered, typed_place}
+use Rattle.filter_sql.specs.Grammar.{AreLiterals, IsCondition, IsFilter, IsPredicate, IsTest, and_filter, bare_test, between_literals, compares, group, in_literals, in_nothing, is_not_null, is_null, like_escaped, like_pattern, more_literals, not_filter, not_test, on_column, one_conjunction, one_literal, one_operand, or_filter, predicate, prefix_call, says_false, says_null, says_true}
+use Rattle.filter_sql.specs.Literals.{LiteralTree, always, bytes_cell, bytes_literal, cells_of, comparison_of, exactly, integer_literal, keyword_literal, lacking, literal_of, member_of, never, null_cell, number_cell, order_to_lacking, range_of, signed, string_literal, text_cell, truth_cell, truth_literal}
+use Rattle.filter_sql.specs.Parsing.{IsSqlWithin, tokens_in, types_of}
+use Rattle.filter_sql.specs.Texts.{AreItemsOf, Item, Leads, trimmed}
+use Rattle.filter_sql.specs.Tokens.{TokenTree, bytes_token, closing, comma, integer_token, keyword_token, name_token, opening, string_token}
+use Rattle.filter_sql.proofs.Runs.{front_again}
+use Rattle.filter_sql.proofs.Taken.{token_shorter}
+use Rattle.vortex_c.specs.FilterSql.{encoding_depth, prepared_of, tree_of_kind, trees_of_kinds, types_of_kinds}
+use Rattle.vortex_c.specs.declared.sql.NamedKind.{NamedKind}
+
+-- ---- how deep a formula nests
+
+-- how many connectives nest in a formula
+abbrev height : Formula → ℕ
+height (both f g) = suc (max (height f) (height g))
+height (either f g) = suc (max (height f) (height g))
+height (negation f) = suc (height f)
+height _ = 0
+
+-- 8 bytes can hold each place and each number of literals, and these are of types that have bytes
+abbrev HasForm : Formula → Type 0
+HasForm (constant t) = Unit {0}
+HasForm (comparison k op x) = Fits k × IsPlainCell x
+HasForm (null_test k) = Fits k
+HasForm (membership k xs) = Fits k × AreListed IsPlainCell xs
+HasForm (range k x y) = Fits k × (IsPlainCell x × IsPlainCell y)
+HasForm (prefix_test k x) = Fits k × IsPlainCell x
+HasForm (both f g) = HasForm f × HasForm g
+HasForm (either f g) = HasForm f × HasForm g
+HasForm (negation f) = HasForm f
+
+nests : (f : Formula) (n : ℕ) → HasForm f → height f ≤ n → Nests IsPlainCell n f
+nests (constant t) n h l = tt
+nests (comparison k op x) n h l = h
+nests (null_test k) n h l = h
+nests (membership k xs) n h l = h
+nests (range k x y) n h l = h
+nests (prefix_test k x) n h l = h
+nests (both f g) zero h l = absurd (omega (arith, l))
+nests (both f g) (suc n) h l = (nests f n h.0 (omega (arith, l)), nests g n h.1 (omega (arith, l)))
+nests (either f g) zero h l = absurd (omega (arith, l))
+nests (either f g) (suc n) h l = (nests f n h.0 (omega (arith, l)), nests g n h.1 (omega (arith, l)))
+nests (negation f) zero h l = absurd (omega (arith, l))
+nests (negation f) (suc n) h l = nests f n h (omega (arith, l))
+
+-- ---- the height of a filter of the grammar
+
+-- at most so much, and no more than there are tokens
+record IsLow (most : ℕ) (ts : List TokenTree) (f : Formula) : Type 0 where
+  high : height f ≤ most
+  tokens : height f ≤ length ts
+
+lacking-height : (k : ℕ) (b : Bool) → height (cond b (always k) (never k)) ≤ 2
+lacking-height k true = omega arith
+lacking-height k false = omega arith
+
+comparison-height : (k : ℕ) (op : CompareOperator) (l : LiteralTree) → height (comparison_of k op l) ≤ 2
+comparison-height k op (exactly x) = omega arith
+comparison-height k op (lacking b) = lacking-height k (holds op (order_to_lacking b))
+
+halves-height : (k : ℕ) (lower upper : LiteralTree) → height (both (comparison_of k Gte lower) (comparison_of k Lte upper)) ≤ 3
+halves-height k lower upper =
+    let low = comparison-height k Gte lower in
+    let high = comparison-height k Lte upper in
+    omega (arith, low, high)
+
+range-height : (k : ℕ) (lower upper : LiteralTree) → height (range_of k lower upper) ≤ 3
+range-height k (exactly x) (exactly y) = omega arith
+range-height k (exactly x) (lacking b) = halves-height k (exactly x) (lacking b)
+range-height k (lacking b) (exactly y) = halves-height k (lacking b) (exactly y)
+range-height k (lacking b) (lacking c) = halves-height k (lacking b) (lacking c)
+
+member-height : (k : ℕ) (xs : List Cell) → height (member_of k xs) ≤ 1
+member-height k [] = omega arith
+member-height k (x ∷ xs) = omega arith
+
+test-low : {k : ℕ} {t : TypeTree} {ts : List TokenTree} {f : Formula} → IsTest k t ts f → IsLow 3 ts f
+test-low in_nothing = record { high = omega arith; tokens = omega arith }
+test-low {k = k} (in_literals {ts} {ls} l) =
+    let low = member-height k (cells_of ls) in
+    record { high = omega (arith, low); tokens = omega (arith, low) }
+test-low {k = k} (between_literals {x} {y} {lower} {upper} p q) =
+    let low = range-height k lower upper in
+    record { high = low; tokens = omega (arith, low) }
+test-low (like_pattern p u l) = record { high = omega arith; tokens = omega arith }
+test-low (like_escaped p u l) = record { high = omega arith; tokens = omega arith }
+
+condition-low : {k : ℕ} {t : TypeTree} {ts : List TokenTree} {f : Formula} → IsCondition k t ts f → IsLow 4 ts f
+condition-low {k = k} (compares {op} {x} {l} said) =
+    let low = comparison-height k op l in
+    record { high = omega (arith, low); tokens = omega (arith, low) }
+condition-low is_null = record { high = omega arith; tokens = omega arith }
+condition-low is_not_null = record { high = omega arith; tokens = omega arith }
+condition-low (bare_test d) =
+    let low = test-low d in
+    record { high = omega (arith, low.high); tokens = low.tokens }
+condition-low (not_test d) =
+    let low = test-low d in
+    record { high = omega (arith, low.high); tokens = omega (arith, low.tokens) }
+
+predicate-low : {columns : List ColumnTree} {ts : List TokenTree} {f : Formula} → IsPredicate columns ts f → IsLow 4 ts f
+predicate-low says_true = record { high = omega arith; tokens = omega arith }
+predicate-low says_false = record { high = omega arith; tokens = omega arith }
+predicate-low says_null = record { high = omega arith; tokens = omega arith }
+predicate-low (on_column named d) =
+    let low = condition-low d in
+    record { high = low.high; tokens = omega (arith, low.tokens) }
+predicate-low (prefix_call named strings said) = record { high = omega arith; tokens = omega arith }
+
+-- the most that a filter of a level can be, if so many connectives and parentheses nest in its tokens: of a left operand more may nest
+abbrev most : Level → ℕ → ℕ
+most levels.Not n = max 4 (2 * n + 3)
+most levels.And n = 2 * n + 4
+most levels.Or n = 2 * n + 5
+
+filter-low : {columns : List ColumnTree} {l : Level} {n : ℕ} {ts : List TokenTree} {f : Formula} → IsFilter columns l n ts f → IsLow (most l n) ts f
+filter-low (predicate {n} d) =
+    let low = predicate-low d in
+    record { high = omega (arith, low.high); tokens = low.tokens }
+filter-low (group {n} {ts} d) =
+    let low = filter-low d in
+    record { high = omega (arith, low.high); tokens = omega (arith, low.tokens, length-append ts (closing ∷ [])) }
+filter-low (not_filter {n} d) =
+    let low = filter-low d in
+    record { high = omega (arith, low.high); tokens = omega (arith, low.tokens) }
+filter-low (one_operand {n} d) =
+    let low = filter-low d in
+    record { high = omega (arith, low.high); tokens = low.tokens }
+filter-low (and_filter {n} {ts} {us} d e) =
+    let left = filter-low d in
+    let right = filter-low e in
+    record { high = omega (arith, left.high, right.high); tokens = omega (arith, left.tokens, right.tokens, length-append ts (keyword_token keywords.And ∷ us)) }
+filter-low (one_conjunction {n} d) =
+    let low = filter-low d in
+    record { high = omega (arith, low.high); tokens = low.tokens }
+filter-low (or_filter {n} {ts} {us} d e) =
+    let left = filter-low d in
+    let right = filter-low e in
+    record { high = omega (arith, left.high, right.high); tokens = omega (arith, left.tokens, right.tokens, length-append ts (keyword_token keywords.Or ∷ us)) }
+
+-- ---- its literals
+
+exactly-is : (x y : Cell) → Some (exactly x) ≡ Some (exactly y) → x ≡ y
+exactly-is x y e = cc
+
+same-plain : (x y : Cell) → Some (exactly x) ≡ Some (exactly y) → IsPlainCell x → IsPlainCell y
+same-plain x y e h = subst IsPlainCell (exactly-is x y e) h
+
+plain-null : (t : TypeTree) → IsPlain t → IsPlain (as_nullable t)
+plain-null null_type h = tt
+plain-null (bool_type n) h = tt
+plain-null (integer_type k n) h = tt
+plain-null (utf8_type n) h = tt
+plain-null (binary_type n) h = tt
+plain-null _ h = absurd h
+
+truth-plain : (t : TypeTree) (b : Bool) (x : Cell) → truth_literal t b ≡ Some (exactly x) → IsPlainCell x
+truth-plain (bool_type n) b x e = same-plain (truth_cell b) x e tt
+truth-plain _ b x e = absurd cc
+
+keyword-plain : (t : TypeTree) (k : Keyword) (x : Cell) → IsPlain t → keyword_literal t k ≡ Some (exactly x) → IsPlainCell x
+keyword-plain t keywords.Null x h e = same-plain (null_cell t) x e (plain-null t h)
+keyword-plain t keywords.True x h e = truth-plain t true x e
+keyword-plain t keywords.False x h e = truth-plain t false x e
+keyword-plain t _ x h e = absurd cc
+
+number-plain : (k : PType) (negative : Bool) (z : _) (inside : Bool) (x : Cell) → Some (cond inside (exactly (number_cell k z)) (lacking negative)) ≡ Some (exactly x) → IsPlainCell x
+number-plain k negative z true x e = same-plain (number_cell k z) x e tt
+number-plain k negative z false x e = absurd cc
+
+integer-plain : (t : TypeTree) (negative : Bool) (m : ℕ) (x : Cell) → integer_literal t negative m ≡ Some (exactly x) → IsPlainCell x
+integer-plain (integer_type k n) negative m x e = number-plain k negative (signed negative m) (in_range k (signed negative m)) x e
+integer-plain _ negative m x e = absurd cc
+
+string-plain : (t : TypeTree) (bs : List ℕ) (x : Cell) → string_literal t bs ≡ Some (exactly x) → IsPlainCell x
+string-plain (utf8_type n) bs x e = same-plain (text_cell bs) x e tt
+string-plain _ bs x e = absurd cc
+
+bytes-plain : (t : TypeTree) (bs : List ℕ) (x : Cell) → bytes_literal t bs ≡ Some (exactly x) → IsPlainCell x
+bytes-plain (binary_type n) bs x e = same-plain (bytes_cell bs) x e tt
+bytes-plain _ bs x e = absurd cc
+
+literal-plain : (t : TypeTree) (token : TokenTree) (x : Cell) → IsPlain t → literal_of t token ≡ Some (exactly x) → IsPlainCell x
+unfolding literal_of
+literal-plain t (keyword_token k) x h e = keyword-plain t k x h e
+literal-plain t (integer_token negative m) x h e = integer-plain t negative m x e
+literal-plain t (string_token bs) x h e = string-plain t bs x e
+literal-plain t (bytes_token bs) x h e = bytes-plain t bs x e
+literal-plain t _ x h e = absurd cc
+
+-- what a literal says is of a type that has a byte, if it is a cell
+abbrev IsPlainSaid : LiteralTree → Type 0
+IsPlainSaid (exactly x) = IsPlainCell x
+IsPlainSaid (lacking b) = Unit {0}
+
+said-plain : (t : TypeTree) (token : TokenTree) (l : LiteralTree) → IsPlain t → literal_of t token ≡ Some l → IsPlainSaid l
+said-plain t token (exactly x) h e = literal-plain t token x h e
+said-plain t token (lacking b) h e = tt
+
+-- the cells of literals are of such types, and no more than there are tokens
+record AreFew (ts : List TokenTree) (xs : List Cell) : Type 0 where
+  plain : AllByRecursion IsPlainCell xs
+  count : length xs ≤ length ts
+
+one-more : (x : TokenTree) (ts us : List TokenTree) (l : LiteralTree) (ls : List LiteralTree) → length ts < length us → IsPlainSaid l → AreFew ts (cells_of ls) → AreFew us (cells_of (l ∷ ls))
+one-more x ts us (exactly y) ls less said few = record { plain = (said, few.plain); count = omega (arith, less, few.count) }
+one-more x ts us (lacking b) ls less said few = record { plain = few.plain; count = omega (arith, less, few.count) }
+
+literals-few : {t : TypeTree} {ts : List TokenTree} {ls : List LiteralTree} → IsPlain t → AreLiterals t ts ls → AreFew ts (cells_of ls)
+literals-few {t = t} h (one_literal {x} {l} said) = one-more x [] (x ∷ []) l [] (omega arith) (said-plain t x l h said) (record { plain = tt; count = omega arith })
+literals-few {t = t} h (more_literals {x} {l} {ts} {ls} said more) = one-more x ts (x ∷ comma ∷ ts) l ls (omega arith) (said-plain t x l h said) (literals-few h more)
+
+module _ (k : ℕ) (t : TypeTree) (fits : Fits k) (plain : IsPlain t) where
+  lacking-form : (b : Bool) → HasForm (cond b (always k) (never k))
+  lacking-form true = (fits, tt)
+  lacking-form false = (fits, tt)
+
+  comparison-form : (op : CompareOperator) (l : LiteralTree) → IsPlainSaid l → HasForm (comparison_of k op l)
+  comparison-form op (exactly x) said = (fits, said)
+  comparison-form op (lacking b) said = lacking-form (holds op (order_to_lacking b))
+
+  range-form : (lower upper : LiteralTree) → IsPlainSaid lower → IsPlainSaid upper → HasForm (range_of k lower upper)
+  range-form (exactly x) (exactly y) low high = (fits, (low, high))
+  range-form (exactly x) (lacking b) low high = (comparison-form Gte (exactly x) low, comparison-form Lte (lacking b) high)
+  range-form (lacking b) (exactly y) low high = (comparison-form Gte (lacking b) low, comparison-form Lte (exactly y) high)
+  range-form (lacking b) (lacking c) low high = (comparison-form Gte (lacking b) low, comparison-form Lte (lacking c) high)
+
+  member-form : (xs : List Cell) → AllByRecursion IsPlainCell xs → length xs < 2 ^ 64 → HasForm (member_of k xs)
+  member-form [] all few = (fits, tt)
+  member-form (x ∷ xs) all few = (fits, record { fit = few; each = all })
+
+  test-form : {ts : List TokenTree} {f : Formula} → length ts < 2 ^ 64 → IsTest k t ts f → HasForm f
+  test-form few in_nothing = (fits, record { fit = omega arith; each = tt })
+  test-form few (in_literals {ts} {ls} l) =
+      let each = literals-few plain l in
+      member-form (cells_of ls) each.plain (omega (arith, few, each.count, length-append ts (closing ∷ [])))
+  test-form few (between_literals {x} {y} {lower} {upper} low high) = range-form lower upper (said-plain t x lower plain low) (said-plain t y upper plain high)
+  test-form few (like_pattern {pattern} {bs} {x} p u l) = (fits, literal-plain t (string_token bs) x plain l)
+  test-form few (like_escaped {pattern} {bs} {x} p u l) = (fits, literal-plain t (string_token bs) x plain l)
+
+  condition-form : {ts : List TokenTree} {f : Formula} → length ts < 2 ^ 64 → IsCondition k t ts f → HasForm f
+  condition-form few (compares {op} {x} {l} said) = comparison-form op l (said-plain t x l plain said)
+  condition-form few is_null = fits
+  condition-form few is_not_null = fits
+  condition-form few (bare_test d) = test-form few d
+  condition-form few (not_test {ts} d) = test-form (omega (arith, few)) d
+
+-- ---- its columns
+
+typed-there : (k j : ℕ) (t : TypeTree) (o : Option ColumnTree) → typed_place j o ≡ Some (k, t) → (j ≡ k) × (option_map (λ (c : ColumnTree). c.typed) o ≡ Some t)
+typed-there k j t None e = absurd cc
+typed-there k j t (Some c) e =
+    let made : ℕ × TypeTree = (j, c.typed) in
+    let asked : ℕ × TypeTree = (k, t) in
+    let same : Some made ≡ Some asked = e in
+    let is : made ≡ asked = cc in
+    (ap (λ (p : ℕ × TypeTree). p.0) is, ap (λ (p : ℕ × TypeTree). Some p.1) is)
+
+there-by : (columns : List ColumnTree) (k : ℕ) (t : TypeTree) (o : Option ℕ) → column_there columns o ≡ Some (k, t) → slice_get (types_of columns) k ≡ Some t
+there-by columns k t None e = absurd cc
+there-by columns k t (Some j) e =
+    let p = typed-there k j t (slice_get columns j) e in
+    let there : slice_get (types_of columns) j ≡ Some t = slice_get-map (λ (c : ColumnTree). c.typed) columns j ∙ p.1 in
+    subst (λ (i : ℕ). slice_get (types_of columns) i ≡ Some t) p.0 there
+
+column-is-there : (columns : List ColumnTree) (name : List ℕ) (k : ℕ) (t : TypeTree) → column_named columns name ≡ Some (k, t) → slice_get (types_of columns) k ≡ Some t
+unfolding column_named
+column-is-there columns name k t e = there-by columns k t (or_numbered name (named_place columns name)) e
+
+-- each column is of a type that has a byte
+abbrev ArePlain : List ColumnTree → Type 0
+ArePlain columns = (k : ℕ) (t : TypeTree) → slice_get (types_of columns) k ≡ Some t → IsPlain t
+
+module _ (columns : List ColumnTree) (plain : ArePlain columns) (few : length columns < 2 ^ 64) where
+  place-fits : (k : ℕ) (t : TypeTree) → slice_get (types_of columns) k ≡ Some t → Fits k
+  place-fits k t there =
+      let within = slice_get_within (types_of columns) k t there in
+      omega (arith, within, few, length-map columns (λ (c : ColumnTree). c.typed))
+
+  predicate-form : {ts : List TokenTree} {f : Formula} → length ts < 2 ^ 64 → IsPredicate columns ts f → HasForm f
+  predicate-form short says_true = tt
+  predicate-form short says_false = tt
+  predicate-form short says_null = tt
+  predicate-form short (on_column {name} {k} {t} {ts} {f} named d) =
+      let there = column-is-there columns name k t named in
+      condition-form k t (place-fits k t there) (plain k t there) (omega (arith, short)) d
+  predicate-form short (prefix_call {name} {k} {t} {x} {prefix} named strings said) =
+      let there = column-is-there columns name k t named in
+      (place-fits k t there, literal-plain t x prefix (plain k t there) said)
+
+  filter-form : {l : Level} {n : ℕ} {ts : List TokenTree} {f : Formula} → length ts < 2 ^ 64 → IsFilter columns l n ts f → HasForm f
+  filter-form short (predicate d) = predicate-form short d
+  filter-form short (group {n} {ts} d) = filter-form (omega (arith, short, length-append ts (closing ∷ []))) d
+  filter-form short (not_filter d) = filter-form (omega (arith, short)) d
+  filter-form short (one_operand d) = filter-form short d
+  filter-form short (and_filter {n} {ts} {us} d e) =
+      let all = length-append ts (keyword_token keywords.And ∷ us) in
+      (filter-form (omega (arith, short, all)) d, filter-form (omega (arith, short, all)) e)
+  filter-form short (one_conjunction d) = filter-form short d
+  filter-form short (or_filter {n} {ts} {us} d e) =
+      let all = length-append ts (keyword_token keywords.Or ∷ us) in
+      (filter-form (omega (arith, short, all)) d, filter-form (omega (arith, short, all)) e)
+
+-- ---- its tokens
+
+items-few : (end : ℕ) (text : List ℕ) (items : List Item) (rest : List ℕ) → Leads end text items rest → length items ≤ length text
+items-few end text [] rest h = omega arith
+items-few end text (item ∷ items) rest h =
+    let shorter = token_shorter text item.token h.1 (front_again text item.token h.0 h.1 h.2) in
+    let more = items-few end (trimmed h.1) items rest h.4 in
+    omega (arith, shorter, more, length-drop (prefix_len is_ascii_whitespace h.1) h.1)
+
+tokens-few : (text : List ℕ) (items : List Item) → AreItemsOf text items → length (tokens_in items) ≤ length text
+tokens-few text items h =
+    let few = items-few (length text) (trimmed text) items [] h in
+    omega (arith, few, length-drop (prefix_len is_ascii_whitespace text) text, length-map items (λ (i : Item). i.token))
+
+-- ---- filters of words, over columns by name and kind
+
+plain-kind : (o : Option Kind) → IsPlain (type_at o)
+plain-kind None = tt
+plain-kind (Some (Integer kind)) = tt
+plain-kind (Some Boolean) = tt
+plain-kind (Some Utf8) = tt
+plain-kind (Some LargeUtf8) = tt
+plain-kind (Some Binary) = tt
+plain-kind (Some LargeBinary) = tt
+plain-kind (Some Null) = tt
+
+plain-kinds : (named : List NamedKind) → AllByRecursion IsPlain (types_of_kinds named)
+plain-kinds [] = tt
+plain-kinds (column ∷ named) = (plain-kind (kind_at column.kind), plain-kinds named)
+
+plain-column : (k : ℕ) (t : TypeTree) (o : Option NamedKind) → option_map (λ (c : ColumnTree). c.typed) (option_map tree_of_kind o) ≡ Some t → IsPlain t
+plain-column k t None e = absurd cc
+plain-column k t (Some column) e =
+    let is : type_at (kind_at column.kind) ≡ t = cc in
+    subst IsPlain is (plain-kind (kind_at column.kind))
+
+plain-columns : (named : List NamedKind) → ArePlain (trees_of_kinds named)
+plain-columns named k t e =
+    plain-column k t (slice_get named k) (ap (option_map (λ (c : ColumnTree). c.typed)) (sym (slice_get-map tree_of_kind named k)) ∙ sym (slice_get-map (λ (c : ColumnTree). c.typed) (trees_of_kinds named) k) ∙ e)
+
+-- the filter that words are can be written at the depth that goes with theirs
+pub words-nest : (n : ℕ) (words : List ℕ) (named : List NamedKind) (f : Formula) → length words < 2 ^ 64 → length named < 2 ^ 64 → IsSqlWithin n (trees_of_kinds named) words f → CanBeWritten (encoding_depth n) (prepared_of named f)
+words-nest n words named f short few h =
+    let tokens = tokens-few words h.items h.are in
+    let low = filter-low h.means in
+    record {
+      types = record { fit = omega (arith, few, length-map named (λ (column : NamedKind). type_at (kind_at column.kind))); each = plain-kinds named };
+      filter = nests f (encoding_depth n)
+      (filter-form (trees_of_kinds named) (plain-columns named) (omega (arith, few, length-map named tree_of_kind)) (omega (arith, short, tokens)) h.means)
+      (omega (arith, low.high, low.tokens, tokens, short));
+    }
